@@ -1,0 +1,2 @@
+pub mod ItagLemmas
+pub mod ErasureLemmas

@@ -1,0 +1,85 @@
+-- Jobs as plain data: without where the boxes of their expressions lie in memory. Two jobs are the same where their plain data is.
+use Rattle.std.specs.Prelude.{◌≡◌, ℕ, ℤ, Bool, List, map, Option, option_map}
+use Rattle.flu_model.specs.declared.jobs.CellRef.{CellRef}
+use Rattle.flu_model.specs.declared.jobs.Op.{Op}
+use Rattle.flu_model.specs.declared.jobs.Piece.{Piece}
+use Rattle.flu_model.specs.declared.jobs.Expr.{Expr}
+use Rattle.flu_model.specs.declared.jobs.Expr.TheVariants.{Lit, Value, Key, Time, Read, Has, Neg', Not', Two'}
+use Rattle.flu_model.specs.declared.jobs.Act.{Act}
+use Rattle.flu_model.specs.declared.jobs.Act.TheVariants.{Add, Raise, Set, Clear, Emit, Flush}
+use Rattle.flu_model.specs.declared.jobs.Action.{Action}
+use Rattle.flu_model.specs.declared.jobs.Kind.{Kind}
+use Rattle.flu_model.specs.declared.jobs.Family.{Family}
+use Rattle.flu_model.specs.declared.jobs.Depend.{Depend}
+use Rattle.flu_model.specs.declared.jobs.Source.{Source}
+use Rattle.flu_model.specs.declared.jobs.Program.{Program}
+
+-- an expression as it is written
+pub data Term : Type 0 where
+  Literal : (n : ℤ) → Term
+  EventValue : Term
+  EventKey : Term
+  EventTime : Term
+  CellRead : (r : CellRef) → Term
+  CellHeld : (r : CellRef) → Term
+  Negative : (e : Term) → Term
+  Negation : (e : Term) → Term
+  Operation : (op : Op) (a b : Term) → Term
+
+abbrev pub term_of : Expr → Term
+term_of (Lit n) = Literal n
+term_of Value = EventValue
+term_of Key = EventKey
+term_of Time = EventTime
+term_of (Read r) = CellRead r
+term_of (Has r) = CellHeld r
+term_of (Neg' p e) = Negative (term_of e)
+term_of (Not' p e) = Negation (term_of e)
+term_of (Two' op p a q b) = Operation op (term_of a) (term_of b)
+
+-- what an action does, as it is written
+pub data Deed : Type 0 where
+  Adding : (r : CellRef) (e : Term) → Deed
+  Raising : (r : CellRef) (e : Term) → Deed
+  Setting : (r : CellRef) (e : Term) → Deed
+  Clearing : (r : CellRef) → Deed
+  Emitting : (ps : List Piece) → Deed
+  Flushing : (f : ℕ) (ps : List Piece) → Deed
+
+abbrev pub deed_of : Act → Deed
+deed_of (Add r e) = Adding r (term_of e)
+deed_of (Raise r e) = Raising r (term_of e)
+deed_of (Set r e) = Setting r (term_of e)
+deed_of (Clear r) = Clearing r
+deed_of (Emit ps) = Emitting ps
+deed_of (Flush f ps) = Flushing f ps
+
+pub record PlainAction : Type 0 where
+  pub deed : Deed
+  pub guard : Option Term
+
+abbrev pub plain_action : Action → PlainAction
+plain_action a = record { deed = deed_of a.act; guard = option_map term_of a.guard }
+
+pub record PlainKind : Type 0 where
+  pub name : List ℕ
+  pub keyed : Bool
+  pub has_value : Bool
+  pub actions : List PlainAction
+
+abbrev pub plain_kind : Kind → PlainKind
+plain_kind k = record { name = k.name; keyed = k.keyed; has_value = k.has_value; actions = map plain_action k.actions }
+
+-- a job as it is written
+pub record Job : Type 0 where
+  pub families : List Family
+  pub kinds : List PlainKind
+  pub depends : List Depend
+  pub sources : List Source
+
+abbrev pub job_of : Program → Job
+job_of p = record { families = p.families; kinds = map plain_kind p.kinds; depends = p.depends; sources = p.sources }
+
+-- two programs are the same job
+abbrev pub IsSameJob : Program → Program → Type 0
+IsSameJob p q = job_of p ≡ job_of q

@@ -1,0 +1,15 @@
+pub mod Contents
+pub mod Expressions
+pub mod Texts
+pub mod Listing
+pub mod Itags
+pub mod Rules
+pub mod Updates
+pub mod Modes
+pub mod Sorts
+pub mod Streaming
+pub mod Listed
+pub mod Merging
+pub mod Folding
+pub mod Reports
+pub mod Erasure

@@ -1,0 +1,239 @@
+-- The rules that every job keeps: its names, its shapes and its limits. Each is a test, which computes.
+use Rattle.std.specs.Prelude.{ℕ, ◌+◌, Bool, true, false, not, nat_lt, nat_le, ◌==◌, ◌&&◌, ◌||◌, Option, Some, None, List, [], ◌∷◌, ◌++◌, map, length, max, slice_get, codes}
+use Rattle.std.specs.List.{list_all, list_any}
+use Rattle.std.specs.Cmp.Lexicographic.{pointwise}
+use Rattle.flu_model.specs.declared.jobs.Sort.{Sort}
+use Rattle.flu_model.specs.declared.jobs.Sort.TheVariants.{Sum, Max, Last}
+use Rattle.flu_model.specs.declared.jobs.Family.{Family}
+use Rattle.flu_model.specs.declared.jobs.At.{At}
+use Rattle.flu_model.specs.declared.jobs.At.TheVariants.{Alone, OwnKey, Fixed}
+use Rattle.flu_model.specs.declared.jobs.CellRef.{CellRef}
+use Rattle.flu_model.specs.declared.jobs.Expr.{Expr}
+use Rattle.flu_model.specs.declared.jobs.Expr.TheVariants.{Lit, Value, Key, Time, Read, Has, Neg', Not', Two'}
+use Rattle.flu_model.specs.declared.jobs.Piece.{Piece}
+use Rattle.flu_model.specs.declared.jobs.Piece.TheVariants.{Plain, Value as ValueField, Key as KeyField, Time as TimeField, Read as ReadField, CellValue}
+use Rattle.flu_model.specs.declared.jobs.Act.{Act}
+use Rattle.flu_model.specs.declared.jobs.Act.TheVariants.{Add, Raise, Set, Clear, Emit, Flush}
+use Rattle.flu_model.specs.declared.jobs.Action.{Action}
+use Rattle.flu_model.specs.declared.jobs.Kind.{Kind}
+use Rattle.flu_model.specs.declared.jobs.Depend.{Depend}
+use Rattle.flu_model.specs.declared.jobs.Keys.{Keys}
+use Rattle.flu_model.specs.declared.jobs.Keys.TheVariants.{Alone as AloneKeys, One, Range}
+use Rattle.flu_model.specs.declared.jobs.TagRef.{TagRef}
+use Rattle.flu_model.specs.declared.jobs.Source.{Source}
+use Rattle.flu_model.specs.declared.events.Tag.{Tag}
+use Rattle.flu_model.specs.Contents.{key_count}
+use Rattle.flu_model.specs.Listing.{tags_of_source}
+
+-- ---- names
+abbrev pub is_letter : ℕ → Bool
+is_letter b = (nat_le 65 b && nat_le b 90) || (nat_le 97 b && nat_le b 122) || (b == 95)
+
+abbrev pub is_letter_or_digit : ℕ → Bool
+is_letter_or_digit b = is_letter b || (nat_le 48 b && nat_le b 57)
+
+abbrev pub is_same_text : List ℕ → List ℕ → Bool
+is_same_text a b = pointwise ◌==◌ a b
+
+abbrev pub reserved_words : List (List ℕ)
+reserved_words =
+    codes "cell" ∷ codes "tag" ∷ codes "depends" ∷ codes "on" ∷ codes "source" ∷ codes "keyed" ∷ codes "sum" ∷ codes "max" ∷ codes "last"
+    ∷ codes "int" ∷ codes "none" ∷ codes "same" ∷ codes "all" ∷ codes "rate" ∷ codes "add" ∷ codes "raise" ∷ codes "set" ∷ codes "clear"
+    ∷ codes "emit" ∷ codes "flush" ∷ codes "when" ∷ codes "value" ∷ codes "key" ∷ codes "time" ∷ codes "has" ∷ codes "and" ∷ codes "or"
+    ∷ codes "not" ∷ codes "beat" ∷ codes "end" ∷ codes "node" ∷ codes "version" ∷ codes "slack" ∷ []
+
+abbrev pub begins_with_letter : List ℕ → Bool
+begins_with_letter [] = false
+begins_with_letter (b ∷ bs) = is_letter b
+
+abbrev pub is_name : List ℕ → Bool
+is_name bs = begins_with_letter bs && list_all is_letter_or_digit bs && nat_le (length bs) 32 && not (list_any (is_same_text bs) reserved_words)
+
+abbrev pub are_distinct : {X : Type 0} → (X → X → Bool) → List X → Bool
+are_distinct same [] = true
+are_distinct same (x ∷ xs) = not (list_any (same x) xs) && are_distinct same xs
+
+-- ---- references, expressions and templates, each under a kind that is keyed or not and has a value or not
+abbrev pub key_fits : Bool → Bool → At → Bool
+key_fits family_keyed kind_keyed Alone = not family_keyed
+key_fits family_keyed kind_keyed OwnKey = family_keyed && kind_keyed
+key_fits family_keyed kind_keyed (Fixed k) = family_keyed && nat_lt k key_count
+
+abbrev pub is_sort : Sort → Sort → Bool
+is_sort Sum Sum = true
+is_sort Max Max = true
+is_sort Last Last = true
+is_sort _ _ = false
+
+abbrev pub family_fits : Option Family → Bool → At → Bool
+family_fits None kind_keyed at = false
+family_fits (Some f) kind_keyed at = key_fits f.keyed kind_keyed at
+
+abbrev pub has_sort : Option Family → Sort → Bool
+has_sort None sort = false
+has_sort (Some f) sort = is_sort f.sort sort
+
+abbrev pub is_keyed : Option Family → Bool
+is_keyed None = false
+is_keyed (Some f) = f.keyed
+
+abbrev pub ref_fits : List Family → Bool → CellRef → Bool
+ref_fits families kind_keyed r = family_fits (slice_get families r.family) kind_keyed r.at
+
+abbrev pub ref_has_sort : List Family → Sort → CellRef → Bool
+ref_has_sort families sort r = has_sort (slice_get families r.family) sort
+
+abbrev pub expr_fits : List Family → Bool → Bool → Expr → Bool
+expr_fits families keyed has_value (Lit n) = true
+expr_fits families keyed has_value Value = has_value
+expr_fits families keyed has_value Key = keyed
+expr_fits families keyed has_value Time = true
+expr_fits families keyed has_value (Read r) = ref_fits families keyed r
+expr_fits families keyed has_value (Has r) = ref_fits families keyed r
+expr_fits families keyed has_value (Neg' p e) = expr_fits families keyed has_value e
+expr_fits families keyed has_value (Not' p e) = expr_fits families keyed has_value e
+expr_fits families keyed has_value (Two' op p a q b) = expr_fits families keyed has_value a && expr_fits families keyed has_value b
+
+abbrev pub height : Expr → ℕ
+height (Lit n) = 1
+height Value = 1
+height Key = 1
+height Time = 1
+height (Read r) = 1
+height (Has r) = 1
+height (Neg' p e) = height e + 1
+height (Not' p e) = height e + 1
+height (Two' op p a q b) = max (height a) (height b) + 1
+
+abbrev pub is_good_expr : List Family → Bool → Bool → Expr → Bool
+is_good_expr families keyed has_value e = expr_fits families keyed has_value e && nat_le (height e) 32
+
+-- a byte that a text between quotes may have: no quote and no control character
+abbrev pub is_text_byte : ℕ → Bool
+is_text_byte b = not (b == 34) && nat_le 32 b && not (b == 127)
+
+-- a byte that stands for itself in a template: no brace
+abbrev pub is_plain_byte : ℕ → Bool
+is_plain_byte b = is_text_byte b && not (b == 123) && not (b == 125)
+
+abbrev pub is_plain : List ℕ → Bool
+is_plain t = nat_lt 0 (length t) && list_all is_plain_byte t
+
+abbrev pub emit_piece_fits : List Family → Bool → Bool → Piece → Bool
+emit_piece_fits families keyed has_value (Plain t) = is_plain t
+emit_piece_fits families keyed has_value ValueField = has_value
+emit_piece_fits families keyed has_value KeyField = keyed
+emit_piece_fits families keyed has_value TimeField = true
+emit_piece_fits families keyed has_value (ReadField r) = ref_fits families keyed r
+emit_piece_fits families keyed has_value CellValue = false
+
+abbrev pub flush_piece_fits : Bool → Piece → Bool
+flush_piece_fits has_value (Plain t) = is_plain t
+flush_piece_fits has_value ValueField = has_value
+flush_piece_fits has_value KeyField = true
+flush_piece_fits has_value TimeField = true
+flush_piece_fits has_value (ReadField r) = false
+flush_piece_fits has_value CellValue = true
+
+-- a plain piece is as long as it can be: none follows another, so that a template has one form
+abbrev pub follows_plain : List Piece → Bool
+follows_plain [] = false
+follows_plain (Plain t ∷ ps) = true
+follows_plain (ValueField ∷ ps) = false
+follows_plain (KeyField ∷ ps) = false
+follows_plain (TimeField ∷ ps) = false
+follows_plain (ReadField r ∷ ps) = false
+follows_plain (CellValue ∷ ps) = false
+
+abbrev pub are_apart : List Piece → Bool
+are_apart [] = true
+are_apart (Plain t ∷ ps) = not (follows_plain ps) && are_apart ps
+are_apart (ValueField ∷ ps) = are_apart ps
+are_apart (KeyField ∷ ps) = are_apart ps
+are_apart (TimeField ∷ ps) = are_apart ps
+are_apart (ReadField r ∷ ps) = are_apart ps
+are_apart (CellValue ∷ ps) = are_apart ps
+
+abbrev pub emit_template_fits : List Family → Bool → Bool → List Piece → Bool
+emit_template_fits families keyed has_value ps = list_all (emit_piece_fits families keyed has_value) ps && are_apart ps
+
+abbrev pub flush_template_fits : Bool → List Piece → Bool
+flush_template_fits has_value ps = list_all (flush_piece_fits has_value) ps && are_apart ps
+
+-- ---- actions and kinds
+abbrev pub act_fits : List Family → Bool → Bool → Act → Bool
+act_fits families keyed has_value (Add r e) = ref_fits families keyed r && ref_has_sort families Sum r && is_good_expr families keyed has_value e
+act_fits families keyed has_value (Raise r e) = ref_fits families keyed r && ref_has_sort families Max r && is_good_expr families keyed has_value e
+act_fits families keyed has_value (Set r e) = ref_fits families keyed r && ref_has_sort families Last r && is_good_expr families keyed has_value e
+act_fits families keyed has_value (Clear r) = ref_fits families keyed r
+act_fits families keyed has_value (Emit ps) = emit_template_fits families keyed has_value ps
+act_fits families keyed has_value (Flush f ps) = is_keyed (slice_get families f) && flush_template_fits has_value ps
+
+abbrev pub guard_fits : List Family → Bool → Bool → Option Expr → Bool
+guard_fits families keyed has_value None = true
+guard_fits families keyed has_value (Some e) = is_good_expr families keyed has_value e
+
+abbrev pub action_fits : List Family → Bool → Bool → Action → Bool
+action_fits families keyed has_value a = act_fits families keyed has_value a.act && guard_fits families keyed has_value a.guard
+
+abbrev pub kind_fits : List Family → Kind → Bool
+kind_fits families k = is_name k.name && nat_le (length k.actions) 32 && list_all (action_fits families k.keyed k.has_value) k.actions
+
+-- ---- dependencies and sources
+abbrev pub kind_is_keyed : Option Kind → Bool
+kind_is_keyed None = false
+kind_is_keyed (Some k) = k.keyed
+
+abbrev pub depend_fits : List Kind → Depend → Bool
+depend_fits kinds d =
+    nat_lt d.a (length kinds) && nat_lt d.b (length kinds)
+    && (not d.same || (kind_is_keyed (slice_get kinds d.a) && kind_is_keyed (slice_get kinds d.b)))
+
+abbrev pub keys_fit : Bool → Keys → Bool
+keys_fit keyed AloneKeys = not keyed
+keys_fit keyed (One k) = keyed && nat_lt k key_count
+keys_fit keyed (Range lo hi) = keyed && nat_le lo hi && nat_lt hi key_count
+
+abbrev pub listed_kind_fits : Option Kind → Keys → Bool
+listed_kind_fits None keys = false
+listed_kind_fits (Some k) keys = keys_fit k.keyed keys
+
+abbrev pub tag_ref_fits : List Kind → TagRef → Bool
+tag_ref_fits kinds r = listed_kind_fits (slice_get kinds r.kind) r.keys
+
+abbrev pub is_same_tag : Tag → Tag → Bool
+is_same_tag a b = (a.kind == b.kind) && (a.key == b.key)
+
+-- a file's name stands between quotes in a job text
+abbrev pub is_file_text : List ℕ → Bool
+is_file_text t = nat_lt 0 (length t) && nat_le (length t) 256 && list_all is_text_byte t
+
+abbrev pub source_fits : List Kind → Source → Bool
+source_fits kinds s =
+    is_name s.name && is_file_text s.file && nat_le s.rate 1000000000 && nat_lt 0 (length s.tags)
+    && list_all (tag_ref_fits kinds) s.tags && are_distinct is_same_tag (tags_of_source s)
+
+-- ---- the whole
+abbrev pub are_families : List Family → Bool
+are_families families = list_all (λ (f : Family). is_name f.name) families
+
+abbrev pub are_kinds : List Family → List Kind → Bool
+are_kinds families kinds = list_all (kind_fits families) kinds
+
+abbrev pub are_depends : List Kind → List Depend → Bool
+are_depends kinds depends = list_all (depend_fits kinds) depends
+
+abbrev pub are_sources : List Kind → List Source → Bool
+are_sources kinds sources = list_all (source_fits kinds) sources
+
+-- families, kinds and sources share one set of names
+abbrev pub have_own_names : List Family → List Kind → List Source → Bool
+have_own_names families kinds sources =
+    are_distinct is_same_text (map (λ (f : Family). f.name) families ++ map (λ (k : Kind). k.name) kinds ++ map (λ (s : Source). s.name) sources)
+
+abbrev pub have_own_files : List Source → Bool
+have_own_files sources = are_distinct is_same_text (map (λ (s : Source). s.file) sources)
+
+-- a tag of a declared kind, with a key in range
+abbrev pub tag_fits : List Kind → Tag → Bool
+tag_fits kinds t = nat_lt t.kind (length kinds) && nat_lt t.key key_count

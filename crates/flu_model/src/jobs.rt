@@ -1,0 +1,166 @@
+//! A job: its cells, its kinds of tags with their actions, its dependencies and its sources.
+
+ghost use Rattle.std.specs.Prelude.{◌≤◌, length, IsTrue};
+ghost use Rattle.flu_model.specs.Listing.{itags_of_sources};
+ghost use Rattle.flu_model.specs.Rules.{are_families, are_kinds, are_depends, are_sources, have_own_names, have_own_files};
+
+use crate::lists::List;
+use crate::words::{Name, Text};
+
+/// What the cells of a family hold: sums of 128 bits, maxima, or last values of 64 bits.
+#[derive(Clone, Copy, PartialEq, Eq, Debug)]
+pub enum Sort {
+    Sum,
+    Max,
+    Last,
+}
+
+/// A family of cells of one sort; a keyed one has a cell for each key from 0 to 65,535.
+#[derive(Debug, Drop)]
+pub struct Family {
+    pub name: Name,
+    pub keyed: bool,
+    pub sort: Sort,
+}
+
+/// Which cell of a family is meant: its only one, the one of the event's key, or the one of a number.
+#[derive(Clone, Copy, PartialEq, Eq, Debug)]
+pub enum At {
+    Alone,
+    OwnKey,
+    Fixed(u32),
+}
+
+/// A cell as an action names it.
+#[derive(Clone, Copy, PartialEq, Eq, Debug)]
+pub struct CellRef {
+    pub family: u32,
+    pub at: At,
+}
+
+/// An operator on two numbers.
+#[derive(Clone, Copy, PartialEq, Eq, Debug)]
+pub enum Op {
+    Plus,
+    Minus,
+    Times,
+    Less,
+    LessEq,
+    More,
+    MoreEq,
+    Same,
+    Differs,
+    Both,
+    Either,
+}
+
+/// An expression over the event and the cells: a signed number of 64 bits, where each result is clamped to that range.
+///
+/// `Read` gives what a cell holds, a sum clamped and a neutral cell as 0; `Has` is 1 where a cell is not neutral.
+/// Comparisons and `Not`, `Both`, `Either` give 0 or 1 and take every number but 0 as true.
+#[derive(Debug, Drop)]
+pub enum Expr {
+    Lit(i64),
+    Value,
+    Key,
+    Time,
+    Read(CellRef),
+    Has(CellRef),
+    Neg(Box<Expr>),
+    Not(Box<Expr>),
+    Two(Op, Box<Expr>, Box<Expr>),
+}
+
+/// A piece of the text that an action puts out: plain bytes, or a field that is filled in.
+///
+/// `CellValue` stands only in a flush, where `Key` is the flushed cell's key; `Read` stands only in an emit.
+#[derive(Debug, Drop)]
+pub enum Piece {
+    Plain(Text),
+    Value,
+    Key,
+    Time,
+    Read(CellRef),
+    CellValue,
+}
+
+/// What an action does: adds to a sum, raises a maximum, sets a last value, makes a cell neutral, puts out a text,
+/// or puts out a text for each cell of a family that is not neutral and makes all of them neutral.
+#[derive(Debug, Drop)]
+pub enum Act {
+    Add(CellRef, Expr),
+    Raise(CellRef, Expr),
+    Set(CellRef, Expr),
+    Clear(CellRef),
+    Emit(List<Piece>),
+    Flush(u32, List<Piece>),
+}
+
+/// An action, which is done only where its guard is not 0.
+#[derive(Debug, Drop)]
+pub struct Action {
+    pub act: Act,
+    pub guard: Option<Expr>,
+}
+
+/// A kind of tags; a keyed one has a tag for each key.
+#[derive(Debug, Drop)]
+pub struct Kind {
+    pub name: Name,
+    pub keyed: bool,
+    pub has_value: bool,
+    pub actions: List<Action>,
+}
+
+/// Two kinds that depend on each other, at all keys or at the same key.
+#[derive(Clone, Copy, PartialEq, Eq, Debug)]
+pub struct Depend {
+    pub a: u32,
+    pub b: u32,
+    pub same: bool,
+}
+
+/// The keys that a source lists of a kind.
+#[derive(Clone, Copy, PartialEq, Eq, Debug)]
+pub enum Keys {
+    Alone,
+    One(u32),
+    Range(u32, u32),
+}
+
+/// Tags of one kind that a source lists.
+#[derive(Clone, Copy, PartialEq, Eq, Debug)]
+pub struct TagRef {
+    pub kind: u32,
+    pub keys: Keys,
+}
+
+/// A source of events: a file by its name, with the tags that it lists, and how many events a second are to be
+/// expected of each, which serves plans alone.
+#[derive(Debug, Drop)]
+pub struct Source {
+    pub name: Name,
+    pub file: Text,
+    pub rate: u64,
+    pub tags: List<TagRef>,
+}
+
+/// A job. Its names, shapes and sizes keep the rules of the language (`docs/LANGUAGE.md`), so no caller can make another.
+#[derive(Debug, Drop)]
+pub struct Program {
+    pub families: List<Family>,
+    pub kinds: List<Kind>,
+    pub depends: List<Depend>,
+    pub sources: List<Source>,
+    pub ghost few_families: { length families ≤ 64 },
+    pub ghost few_kinds: { length kinds ≤ 64 },
+    pub ghost few_depends: { length depends ≤ 4096 },
+    pub ghost few_sources: { length sources ≤ 64 },
+    pub ghost few_itags: { length (itags_of_sources 0 sources) ≤ 256 },
+    pub ghost families_fit: { IsTrue (are_families families) },
+    pub ghost kinds_fit: { IsTrue (are_kinds families kinds) },
+    pub ghost depends_fit: { IsTrue (are_depends kinds depends) },
+    pub ghost sources_fit: { IsTrue (are_sources kinds sources) },
+    pub ghost own_names: { IsTrue (have_own_names families kinds sources) },
+    pub ghost own_files: { IsTrue (have_own_files sources) },
+}

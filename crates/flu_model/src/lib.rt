@@ -1,0 +1,23 @@
+//! The vocabulary of jobs, events and outputs, and the definitions of what a job means (`docs/MODEL.md`).
+#![tactic(auto)]
+
+pub mod events;
+pub mod itags;
+pub mod jobs;
+pub mod lists;
+pub mod modes;
+pub mod names;
+pub mod streams;
+pub mod words;
+
+pub use events::{Cell, Event, Itag, Item, Out, Outs, Tag, Worth, before};
+pub use itags::{itag_count, source_of, tag_of};
+pub use jobs::{
+    Act, Action, At, CellRef, Depend, Expr, Family, Keys, Kind, Op, Piece, Program, Sort, Source,
+    TagRef,
+};
+pub use lists::List;
+pub use modes::Mode;
+pub use names::tag_text;
+pub use streams::Streams;
+pub use words::{Name, Text};
