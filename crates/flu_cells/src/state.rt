@@ -1,0 +1,231 @@
+//! A state, which holds a value in each cell that is not neutral.
+
+ghost use Rattle.std.specs.BTreeMap as tree;
+ghost use Rattle.std.specs.List.{filter};
+ghost use Rattle.std.specs.Prelude.{◌≡◌, ◌<◌, ◌==◌, map, Some, None, OnOk, OnErr, IfOk, IsOk};
+ghost use Rattle.flu_model.specs.Contents.{nothing_held, with_worth, held_sum, added, raised, held_keys, key_count, join, joined_worth};
+ghost use Rattle.flu_cells.specs.Entries.{cell_cmp, contents_of, IsWithoutNeutral, HasKeysInRange, IsWorthKept};
+
+use crate::sets::CellSet;
+use flu_model::{Cell, Worth};
+use std::alloc::{AllocError, Global};
+use std::collections::BTreeMap;
+use std::mem;
+
+/// What each cell holds. A cell that is not there is neutral.
+#[derive(Drop)]
+pub struct State {
+    cells: BTreeMap<Cell, Worth>,
+    alloc: Global,
+    pub ghost without_neutral: { IsWithoutNeutral (contents_of cells) },
+    pub ghost keys_in_range: { HasKeysInRange (contents_of cells) },
+}
+
+impl State {
+    ghost use Rattle.flu_cells.specs.Holding.{held};
+    ghost use Rattle.flu_cells.specs.Sets.{within, outside};
+
+    /// The state in which every cell is neutral.
+    pub fn new(alloc: Global) -> State
+        ensures { held result ≡ nothing_held }
+    {
+        State {
+            cells: BTreeMap::new(alloc),
+            alloc,
+        }
+    }
+
+    /// What a cell holds.
+    pub fn get(&self, c: Cell) -> Option<Worth>
+        ensures { result ≡ held self.now c }
+    {
+        self.cells.get(&c).copied()
+    }
+
+    /// Adds to a sum, which wraps at the ends of its type.
+    pub fn add(&mut self, c: Cell, n: i128) -> Result<(), AllocError>
+        requires { c.key < key_count }
+        ensures ok { OnOk result (held self.new ≡ with_worth (held self.old) c (added (held self.old c) n)) }
+        ensures err { OnErr result (held self.new ≡ held self.old) }
+    {
+        self.hold(c, sum_with(self.get(c), n))
+    }
+
+    /// Raises a maximum.
+    pub fn raise(&mut self, c: Cell, v: i64) -> Result<(), AllocError>
+        requires { c.key < key_count }
+        ensures ok { OnOk result (held self.new ≡ with_worth (held self.old) c (raised (held self.old c) v)) }
+        ensures err { OnErr result (held self.new ≡ held self.old) }
+    {
+        self.hold(c, greatest_with(self.get(c), v))
+    }
+
+    /// Sets a last value.
+    pub fn put(&mut self, c: Cell, v: i64) -> Result<(), AllocError>
+        requires { c.key < key_count }
+        ensures ok { OnOk result (held self.new ≡ with_worth (held self.old) c (Some (Worth.Last v))) }
+        ensures err { OnErr result (held self.new ≡ held self.old) }
+    {
+        self.hold(c, Some(Worth::Last(v)))
+    }
+
+    /// Makes a cell neutral.
+    pub fn clear(&mut self, c: Cell)
+        ensures { held self.new ≡ with_worth (held self.old) c None }
+    {
+        self.cells.remove(&c);
+    }
+
+    /// The keys of a family whose cells are not neutral, rising.
+    pub fn keys(&self, family: u32) -> Result<Vec<u32>, AllocError>
+        ensures { IfOk result (λ v. v.items ≡ held_keys (held self.now) family) }
+    {
+        keys_of_family(self.alloc, &self.cells, family)
+    }
+
+    /// Joins another state to this one, which is the left one.
+    pub fn absorb(&mut self, other: State) -> Result<(), AllocError>
+        ensures ok { OnOk result (held self.new ≡ join (held self.old) (held other)) }
+        ensures empty { held other ≡ nothing_held → IsOk result }
+    {
+        let State {
+            mut cells,
+            alloc: _,
+        } = other;
+        while let Some((cell, theirs)) = cells.pop_first() {
+            self.hold(cell, joined(self.get(cell), theirs))?;
+        }
+        Ok(())
+    }
+
+    /// Takes out the cells of a set.
+    pub fn take_out(&mut self, wanted: &CellSet) -> Result<State, AllocError>
+        ensures taken { IfOk result (λ s. held s ≡ within wanted.now (held self.old)) }
+        ensures left { OnOk result (held self.new ≡ outside wanted.now (held self.old)) }
+    {
+        let all = mem::replace(self, State::new(self.alloc));
+        let State { mut cells, alloc } = all;
+        let mut taken = State::new(alloc);
+        while let Some((cell, worth)) = cells.pop_first() {
+            if wanted.has(cell) {
+                taken.hold(cell, Some(worth))?;
+            } else {
+                self.hold(cell, Some(worth))?;
+            }
+        }
+        Ok(taken)
+    }
+
+    /// An equal state.
+    pub fn copy(&self) -> Result<State, AllocError>
+        ensures { IfOk result (λ s. held s ≡ held self.now) }
+    {
+        Ok(State {
+            cells: self.cells.clone()?,
+            alloc: self.alloc,
+        })
+    }
+
+    // Sets what a cell holds.
+    fn hold(&mut self, c: Cell, w: Option<Worth>) -> Result<(), AllocError>
+        requires key { c.key < key_count }
+        requires kept { IsWorthKept w }
+        ensures ok { OnOk result (held self.new ≡ with_worth (held self.old) c w) }
+        ensures err { OnErr result (held self.new ≡ held self.old) }
+    {
+        match w {
+            Some(worth) => {
+                self.cells.insert(c, worth)?;
+                Ok(())
+            }
+            None => {
+                self.clear(c);
+                Ok(())
+            }
+        }
+    }
+}
+
+// The sum in a cell with a number added.
+fn sum_with(held: Option<Worth>, n: i128) -> Option<Worth>
+    ensures value { result ≡ added held n }
+    ensures kept { IsWorthKept result }
+{
+    match held {
+        Some(Worth::Sum(sum)) => sum_worth(sum.wrapping_add(n)),
+        _ => sum_worth(n),
+    }
+}
+
+// The greater of the maximum in a cell and a number.
+fn greatest_with(held: Option<Worth>, v: i64) -> Option<Worth>
+    ensures value { result ≡ raised held v }
+    ensures kept { IsWorthKept result }
+{
+    match held {
+        Some(Worth::Max(greatest)) => Some(Worth::Max(greatest.max(v))),
+        _ => Some(Worth::Max(v)),
+    }
+}
+
+// The join of what two states hold in a cell, where the right one holds something.
+fn joined(ours: Option<Worth>, theirs: Worth) -> Option<Worth>
+    requires ours { IsWorthKept ours }
+    requires theirs { IsWorthKept (Some theirs) }
+    ensures value { result ≡ joined_worth ours (Some theirs) }
+    ensures kept { IsWorthKept result }
+{
+    match ours {
+        None => Some(theirs),
+        Some(Worth::Sum(a)) => match theirs {
+            Worth::Sum(b) => sum_worth(a.wrapping_add(b)),
+            _ => ours,
+        },
+        Some(Worth::Max(a)) => match theirs {
+            Worth::Max(b) => Some(Worth::Max(a.max(b))),
+            _ => ours,
+        },
+        Some(Worth::Last(_)) => ours,
+    }
+}
+
+// A sum as a cell holds it.
+fn sum_worth(n: i128) -> Option<Worth>
+    ensures value { result ≡ held_sum n }
+    ensures kept { IsWorthKept result }
+{
+    if n == 0 { None } else { Some(Worth::Sum(n)) }
+}
+
+// The keys of a family's cells in a map, rising.
+fn keys_of_family(
+    alloc: Global,
+    cells: &BTreeMap<Cell, Worth>,
+    family: u32,
+) -> Result<Vec<u32>, AllocError>
+    ensures ordered { tree.IsOrdered cell_cmp cells.now }
+    ensures listed { IfOk result (λ v. v.items ≡ map (λ c. c.key) (filter (λ c. c.family == family) (tree.keys cells.now))) }
+{
+    cells
+        .keys()
+        .filter(|c| c.family == family)
+        .map(|c| c.key)
+        .collect(alloc)
+}
+
+#[cfg(test)]
+mod tests {
+    use super::*;
+    use std::test::Fail;
+
+    #[test]
+    fn a_sum_that_comes_back_to_zero_is_neutral(rt: HostRuntime) -> Result<(), Fail> {
+        let mut state = State::new(rt.alloc());
+        let count = Cell { family: 0, key: 0 };
+        state.add(count, 5)?;
+        assert_eq!(rt; state.get(count), Some(Worth::Sum(5)));
+        state.add(count, -5)?;
+        assert_eq!(rt; state.get(count), None);
+        Ok(())
+    }
+}

@@ -1,0 +1,4 @@
+pub mod Unique
+pub mod Runs
+pub mod Turns
+pub mod InRange

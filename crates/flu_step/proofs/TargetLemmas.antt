@@ -1,0 +1,101 @@
+-- The targets of a job's actions are in range, and what the writing calls leave.
+use Rattle.std.proofs.Common.{◌≡◌, ◌<◌, ℕ, Bool, true, Option, Some, None, Result, OnOk, List, refl, sym, ap, subst, ◌∙◌, arith, zero, suc, ◌+◌, [], ◌∷◌, ◌++◌, length, drop, get_or, drop-cons, add-one, append_assoc}
+use Rattle.std.proofs.lemmas.List.{map-append}
+use Rattle.std.specs.Prelude.{nat_lt, ◌&&◌, slice_get}
+use Rattle.std.specs.List.{list_all}
+use Rattle.std.proofs.lemmas.Grind.{common_steps}
+use Rattle.flu_model.specs.declared.events.Event.{Event}
+use Rattle.flu_model.specs.declared.events.Tag.{Tag}
+use Rattle.flu_model.specs.declared.events.Out.{Out}
+use Rattle.flu_model.specs.Folding.{outputs_at}
+use Rattle.flu_model.specs.declared.jobs.Kind.{Kind}
+use Rattle.flu_model.specs.declared.jobs.Program.{Program}
+use Rattle.flu_model.specs.Itags.{tag_of_itag}
+use Rattle.flu_model.specs.declared.jobs.Family.{Family}
+use Rattle.flu_model.specs.declared.jobs.At.{At}
+use Rattle.flu_model.specs.declared.jobs.At.TheVariants.{Alone, OwnKey, Fixed}
+use Rattle.flu_model.specs.declared.jobs.CellRef.{CellRef}
+use Rattle.flu_model.specs.declared.jobs.Act.{Act}
+use Rattle.flu_model.specs.declared.jobs.Act.TheVariants.{Add, Raise, Set, Clear, Emit, Flush}
+use Rattle.flu_model.specs.declared.jobs.Action.{Action}
+use Rattle.flu_model.specs.Contents.{Contents, key_count}
+use Rattle.flu_model.specs.Rules.{are_kinds, kind_fits, tag_fits, key_fits, family_fits, act_fits, action_fits}
+use Rattle.flu_model.specs.Expressions.{key_of}
+use Rattle.flu_model.specs.Updates.{Effect, actions_of, effect_of, effect_of_action, effect_of_actions}
+use Rattle.flu_lemmas.proofs.Tests.{all_at, and_left, and_right, lt_true, true_lt}
+use Rattle.flu_step.specs.Targets.{is_in_range, has_target_in_range}
+
+key_in_range : (family_keyed keyed : Bool) (at : At) (key : ℕ) → key_fits family_keyed keyed at ≡ true → key < key_count → nat_lt (key_of at key) key_count ≡ true
+key_in_range family_keyed keyed Alone key e lt = refl
+key_in_range family_keyed keyed OwnKey key e lt = lt_true key key_count lt
+key_in_range family_keyed keyed (Fixed k) key e lt = and_right family_keyed (nat_lt k key_count) e
+
+ref_in_range : (o : Option Family) (keyed : Bool) (r : CellRef) (key : ℕ) → family_fits o keyed r.at ≡ true → key < key_count → is_in_range r key ≡ true
+ref_in_range None keyed r key e lt = cc
+ref_in_range (Some f) keyed r key e lt = key_in_range f.keyed keyed r.at key e lt
+
+pub target_in_range : (families : List Family) (keyed has_value : Bool) (act : Act) (key : ℕ) → act_fits families keyed has_value act ≡ true → key < key_count → has_target_in_range act key ≡ true
+target_in_range families keyed has_value (Add r e) key fits lt = ref_in_range (slice_get families r.family) keyed r key (and_left _ _ (and_left _ _ fits)) lt
+target_in_range families keyed has_value (Raise r e) key fits lt = ref_in_range (slice_get families r.family) keyed r key (and_left _ _ (and_left _ _ fits)) lt
+target_in_range families keyed has_value (Set r e) key fits lt = ref_in_range (slice_get families r.family) keyed r key (and_left _ _ (and_left _ _ fits)) lt
+target_in_range families keyed has_value (Clear r) key fits lt = refl
+target_in_range families keyed has_value (Emit ps) key fits lt = refl
+target_in_range families keyed has_value (Flush f ps) key fits lt = refl
+
+pub on_ok_at : {T E : Type 0} (r : Result T E) (h x y : Contents) → OnOk r (h ≡ x) → x ≡ y → OnOk r (h ≡ y)
+on_ok_at r h x y e f = subst (λ z. OnOk r (h ≡ z)) f e
+
+-- the actions of a kind that a tag names
+pub kind_of_tag : (kinds : List Kind) (n : ℕ) (d : Kind) → n < length kinds → slice_get kinds n ≡ Some (get_or kinds n d)
+kind_of_tag [] n d lt = absurd (omega arith)
+kind_of_tag (k ∷ ks) zero d lt = refl
+kind_of_tag (k ∷ ks) (suc n) d lt = kind_of_tag ks n d (omega arith)
+
+-- one action first, and then the others
+pub effect-drop : (all : List Action) (s : Contents) (x : Event) (key i : ℕ) (d : Action) → i < length all
+    → effect_of_actions (drop i all) s x key
+    ≡ (let first = effect_of_action (get_or all i d) s x key in
+    let others = effect_of_actions (drop (i + 1) all) first.cells x key in
+    record { cells = others.cells; texts = first.texts ++ others.texts })
+effect-drop all s x key i d lt = ap (λ rest. effect_of_actions rest s x key) (drop-cons all i d lt) ∙ simp add-one
+
+-- one turn of the loop over the actions
+pub actions_turn : (all : List Action) (s t : Contents) (x : Event) (g : Tag) (i : ℕ) (a : Action) (outs more from : List Out) (whole : Effect)
+    → i < length all → a ≡ get_or all i a
+    → t ≡ (effect_of_action a s x g.key).cells
+    → more ≡ outs ++ outputs_at x.time g (effect_of_action a s x g.key).texts
+    → ((effect_of_actions (drop i all) s x g.key).cells ≡ whole.cells) × (outs ++ outputs_at x.time g (effect_of_actions (drop i all) s x g.key).texts ≡ from ++ outputs_at x.time g whole.texts)
+    → ((effect_of_actions (drop (i + 1) all) t x g.key).cells ≡ whole.cells) × (more ++ outputs_at x.time g (effect_of_actions (drop (i + 1) all) t x g.key).texts ≡ from ++ outputs_at x.time g whole.texts)
+actions_turn all s t x g i a outs more from whole lt is cells texts inv =
+    let first : Effect = effect_of_action a s x g.key in
+    let others : Effect = effect_of_actions (drop (i + 1) all) first.cells x g.key in
+    let step : effect_of_actions (drop i all) s x g.key ≡ record { cells = others.cells; texts = first.texts ++ others.texts } =
+    effect-drop all s x g.key i a lt ∙ (λ j. let f = effect_of_action (sym is j) s x g.key in let o = effect_of_actions (drop (i + 1) all) f.cells x g.key in record { cells = o.cells; texts = f.texts ++ o.texts }) in (
+      ap (λ u. (effect_of_actions (drop (i + 1) all) u x g.key).cells) cells ∙ sym (ap (λ e. e.cells) step) ∙ inv.0,
+      (λ j. texts j ++ outputs_at x.time g (effect_of_actions (drop (i + 1) all) (cells j) x g.key).texts)
+          ∙ append_assoc outs (outputs_at x.time g first.texts) (outputs_at x.time g others.texts)
+          ∙ ap (λ o. outs ++ o) (sym (map-append _ first.texts others.texts))
+          ∙ sym (ap (λ e. outs ++ outputs_at x.time g e.texts) step)
+          ∙ inv.1,
+    )
+
+pub targets_in_range : (families : List Family) (keyed has_value : Bool) (all : List Action) (key : ℕ) → list_all (action_fits families keyed has_value) all ≡ true → key < key_count → list_all (λ (a : Action). has_target_in_range a.act key) all ≡ true
+targets_in_range families keyed has_value [] key fits lt = refl
+targets_in_range families keyed has_value (a ∷ all) key fits lt =
+    ap (λ b. b && list_all (λ (a : Action). has_target_in_range a.act key) all) (target_in_range families keyed has_value a.act key (and_left _ _ (and_left _ _ fits)) lt)
+    ∙ targets_in_range families keyed has_value all key (and_right _ _ fits) lt
+
+-- what a tag's kind does, where the kind was read at the tag's place
+pub kind_targets : (families : List Family) (kinds : List Kind) (t : Tag) (k : Kind) → are_kinds families kinds ≡ true → tag_fits kinds t ≡ true → k ≡ get_or kinds t.kind k → list_all (λ (a : Action). has_target_in_range a.act t.key) k.actions ≡ true
+kind_targets families kinds t k fits small is =
+    let kind_lt : t.kind < length kinds = true_lt _ _ (and_left _ _ small) in
+    let key_lt : t.key < key_count = true_lt _ _ (and_right _ _ small) in
+    let one : kind_fits families k ≡ true = ap (kind_fits families) is ∙ all_at (kind_fits families) kinds t.kind k fits kind_lt in
+    targets_in_range families k.keyed k.has_value k.actions t.key (and_right _ _ one) key_lt
+
+pub effect-at : (p : Program) (s : Contents) (x : Event) (t : Tag) (k : Kind) → t ≡ tag_of_itag p x.itag → tag_fits p.kinds t ≡ true → k ≡ get_or p.kinds t.kind k → effect_of_actions k.actions s x t.key ≡ effect_of p s x
+effect-at p s x t k at small is =
+    let kind_lt : t.kind < length p.kinds = true_lt _ _ (and_left _ _ small) in
+    let found : slice_get p.kinds t.kind ≡ Some k = kind_of_tag p.kinds t.kind k kind_lt ∙ sym (ap Some is) in
+    sym (ap (λ o. effect_of_actions (actions_of o) s x t.key) found)
+    ∙ ap (λ u. effect_of_actions (actions_of (slice_get p.kinds u.kind)) s x u.key) at
