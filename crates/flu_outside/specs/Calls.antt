@@ -1,0 +1,33 @@
+-- The calls of an object in memory.
+use Rattle.std.specs.Prelude.{ℕ, ◌+◌, ◌-◌, ◌^◌, ◌==◌, min, Bool, List, [], ◌∷◌, ◌++◌}
+use Rattle.std.specs.List.{list_any}
+
+-- how many calls were made, which calls fail, counted from 1, and how many bytes a call moves at most
+pub record Calls : Type 0 where
+  pub made : ℕ
+  pub failing : List ℕ
+  pub piece : ℕ
+
+-- no call was made, none fails, and a call moves all that it can
+abbrev pub as_made : Calls
+as_made = record { made = 0; failing = []; piece = 2 ^ 64 - 1 }
+
+-- one more call fails
+abbrev pub with_failing : ℕ → Calls → Calls
+with_failing call calls = record calls { failing = calls.failing ++ call ∷ [] }
+
+-- a call moves at most so many bytes
+abbrev pub with_piece : ℕ → Calls → Calls
+with_piece most calls = record calls { piece = most }
+
+-- the number of the next call, counted up to 2^64 - 1
+abbrev pub next_call : Calls → ℕ
+next_call calls = min (calls.made + 1) (2 ^ 64 - 1)
+
+-- whether the next call fails
+abbrev pub next_fails : Calls → Bool
+next_fails calls = list_any (λ call. call == next_call calls) calls.failing
+
+-- one more call was made
+abbrev pub after_call : Calls → Calls
+after_call calls = record calls { made = next_call calls }

@@ -1,0 +1,6 @@
+pub mod Calls
+pub mod HonestFiles
+pub mod MemFiles
+pub mod MemSink
+pub mod Outside
+pub mod Shared

@@ -1,0 +1,19 @@
+//! The outside of the program: files, whose bytes are taken from the front, and a sink, which takes bytes.
+//!
+//! `Files` and `Sink` say what the program may rely on, whatever stands behind them. `MemFiles`,
+//! `HonestFiles` and `MemSink` hold their bytes in memory.
+#![tactic(auto)]
+
+mod files;
+mod honest_files;
+mod mem_files;
+mod mem_sink;
+mod rest;
+mod schedule;
+mod sink;
+
+pub use files::{Files, TakeFault};
+pub use honest_files::HonestFiles;
+pub use mem_files::MemFiles;
+pub use mem_sink::MemSink;
+pub use sink::{Failed, Sink};

@@ -1,0 +1,138 @@
+//! Files in memory, whose calls fail where one says.
+use crate::files::{Files, TakeFault};
+use crate::rest::Rest;
+use crate::schedule::Schedule;
+use std::alloc::{AllocError, Global};
+use std::collections::BTreeMap;
+
+/// A file: the bytes that it has left, and how often it failed.
+#[derive(Drop)]
+struct MemFile {
+    rest: Rest,
+    faults: u64,
+}
+
+/// Files in memory. A name that is not there fails, and so does each call of `take` that is set to fail.
+///
+/// Contracts see what each name has left (`left_of`), how often it failed (`counts_of`) and the calls
+/// of `take` (`calls_of`), all of `specs/MemFiles.antt`.
+#[derive(Drop)]
+pub struct MemFiles {
+    files: BTreeMap<String, MemFile>,
+    missing: u64,
+    schedule: Schedule,
+    alloc: Global,
+}
+
+impl MemFiles {
+    ghost use Rattle.std.specs.Prelude.{◌≡◌, ◌≢◌, ◌<◌, ◌≤◌, List, ℕ, None, Some, OnOk, OnErr};
+    ghost use Rattle.flu_outside.specs.Outside.{SameLeft, SameCounts};
+    ghost use Rattle.flu_outside.specs.Calls.{as_made, with_failing, with_piece};
+    ghost use Rattle.flu_outside.specs.MemFiles.{left_of, counts_of, calls_of};
+
+    /// No name is there, no call fails, and a take gives all that it can.
+    pub fn new(alloc: Global) -> MemFiles
+        ensures left { (name : List ℕ) → left_of result name ≡ None }
+        ensures counts { (name : List ℕ) → counts_of result name ≡ 0 }
+        ensures calls { calls_of result ≡ as_made }
+    {
+        MemFiles {
+            files: BTreeMap::new(alloc),
+            missing: 0,
+            schedule: Schedule::new(alloc),
+            alloc,
+        }
+    }
+
+    /// Gives a name these bytes, in place of those that it has. The name keeps its count: a new name
+    /// has the count that names share which are not there.
+    ///
+    /// An error leaves all unchanged.
+    pub fn add(&mut self, name: &str, bytes: Vec<u8>) -> Result<(), AllocError>
+        ensures holds { OnOk result (left_of self.new name.now ≡ Some bytes.items) }
+        ensures others { OnOk result ((n : List ℕ) → n ≢ name.now → left_of self.new n ≡ left_of self.old n) }
+        ensures refused { OnErr result (SameLeft (left_of self.old) (left_of self.new)) }
+        ensures counts { SameCounts (counts_of self.old) (counts_of self.new) }
+        ensures calls { calls_of self.new ≡ calls_of self.old }
+    {
+        let rest = Rest::of(bytes);
+        if let Some(file) = self.files.get_mut(name) {
+            file.rest = rest;
+            return Ok(());
+        }
+        let name = String::from_str(self.alloc, name)?;
+        let faults = self.missing;
+        self.files.insert(name, MemFile { rest, faults })?;
+        Ok(())
+    }
+
+    /// Lets a call of `take` fail, counted from 1. An error leaves all unchanged.
+    pub fn fail_at(&mut self, call: u64) -> Result<(), AllocError>
+        ensures set { OnOk result (calls_of self.new ≡ with_failing call (calls_of self.old)) }
+        ensures refused { OnErr result (calls_of self.new ≡ calls_of self.old) }
+        ensures left { SameLeft (left_of self.old) (left_of self.new) }
+        ensures counts { SameCounts (counts_of self.old) (counts_of self.new) }
+    {
+        self.schedule.fail_at(call)
+    }
+
+    /// Lets a take give at most so many bytes.
+    pub fn piece(&mut self, most: usize)
+        requires { 0 < most }
+        ensures set { calls_of self.new ≡ with_piece most (calls_of self.old) }
+        ensures left { SameLeft (left_of self.old) (left_of self.new) }
+        ensures counts { SameCounts (counts_of self.old) (counts_of self.new) }
+    {
+        self.schedule.set_piece(most);
+    }
+}
+
+impl Files for MemFiles {
+    ghost use Rattle.std.specs.Prelude.{◌≡◌, ◌<◌, ◌≤◌, ◌+◌, ◌-◌, ◌^◌, List, ℕ, [], length, min, Some, IfOk, OnOk, OnErr, IfErr, IsErrOf, is_ok, is_some, not, ◌&&◌, unwrap_or};
+    ghost use Rattle.flu_outside.specs.Outside.{Rose, Takes, SameLeft, SameCounts, CountApart};
+    ghost use Rattle.std.specs.BTreeMap.{get_by_text};
+    ghost use Rattle.flu_outside.specs.Shared.{share_one_count};
+    ghost use Rattle.flu_outside.specs.Calls.{next_fails, after_call};
+    ghost use Rattle.flu_outside.specs.MemFiles.{left_of, counts_of, calls_of};
+
+    ghost left = { λ m. Some (left_of m) };
+
+    ghost faults = { counts_of };
+
+    ghost shared = { λ m. share_one_count (λ f. f.rest) (λ f. f.faults) m.missing (get_by_text m.files) };
+
+    fn take(&mut self, name: &str, buf: &mut [u8]) -> Result<usize, TakeFault>
+        requires { 0 < length buf.old }
+
+        ensures bound { IfOk result (λ n. n ≤ length buf.old) }
+        ensures taken { IfOk result (λ n. Takes (left_of self.old) (left_of self.new) name.now n buf.new) }
+        ensures quiet { OnOk result (SameCounts (counts_of self.old) (counts_of self.new)) }
+
+        ensures kept { OnErr result (SameLeft (left_of self.old) (left_of self.new)) }
+        ensures failed { IsErrOf result TakeFault.Failed → Rose (counts_of self.old name.now) (counts_of self.new name.now) }
+        ensures no_memory { IsErrOf result TakeFault.NoMemory → SameCounts (counts_of self.old) (counts_of self.new) }
+
+        ensures counts { (n : List ℕ) → counts_of self.old n ≤ counts_of self.new n }
+        ensures others { (n : List ℕ) → CountApart (Some (left_of self.old)) name.now n → counts_of self.new n ≡ counts_of self.old n }
+
+        // It fails exactly where the call is set to fail or the name is not there, never for memory, and
+        // gives as many bytes as it can.
+        ensures succeeds { is_ok result ≡ (not (next_fails (calls_of self.old)) && is_some (left_of self.old name.now)) }
+        ensures fault { IfErr result (λ e. e ≡ TakeFault.Failed) }
+        ensures amount { IfOk result (λ n. n ≡ min (min (length buf.old) (calls_of self.old).piece) (length (unwrap_or (left_of self.old name.now) []))) }
+        ensures raised { OnErr result (counts_of self.new name.now ≡ min (counts_of self.old name.now + 1) (2 ^ 64 - 1)) }
+        ensures calls { calls_of self.new ≡ after_call (calls_of self.old) }
+    {
+        let fails = self.schedule.count();
+        let most = self.schedule.piece().min(buf.len());
+        let Some(file) = self.files.get_mut(name) else {
+            self.missing = self.missing.saturating_add(1);
+            return Err(TakeFault::Failed);
+        };
+        if fails {
+            file.faults = file.faults.saturating_add(1);
+            return Err(TakeFault::Failed);
+        }
+        Ok(file.rest.take_into(most, buf))
+    }
+}

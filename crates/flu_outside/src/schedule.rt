@@ -1,0 +1,72 @@
+//! When the calls of an object in memory fail, and how many bytes each moves.
+ghost use Rattle.std.specs.Prelude.{◌≡◌, ◌<◌, ◌++◌, [], ◌∷◌, OnOk, OnErr};
+ghost use Rattle.flu_outside.specs.Calls.{Calls, as_made, with_failing, with_piece, after_call, next_fails};
+
+use std::alloc::{AllocError, Global};
+use std::marker::Model;
+
+/// The calls of an object in memory, seen as the `Calls` of `specs/Calls.antt`.
+#[derive(Drop)]
+pub(crate) struct Schedule {
+    made: u64,
+    failing: Vec<u64>,
+    piece: usize,
+}
+
+impl Model for Schedule {
+    ghost use Rattle.std.specs.Prelude.{◌<◌};
+    ghost use Rattle.flu_outside.specs.Calls.{Calls};
+
+    ghost Value = { Calls };
+
+    ghost view = { λ s. record { made = s.made; failing = s.failing.items; piece = s.piece } };
+
+    ghost invariant = { λ s. 0 < s.piece };
+}
+
+impl Schedule {
+    /// No call was made, none fails, and no piece is too long.
+    pub(crate) fn new(alloc: Global) -> Schedule
+        ensures { result ≡ as_made }
+    {
+        Schedule {
+            made: 0,
+            failing: Vec::new(alloc),
+            piece: usize::MAX,
+        }
+    }
+
+    /// Lets a call fail, counted from 1.
+    pub(crate) fn fail_at(&mut self, call: u64) -> Result<(), AllocError>
+        ensures ok { OnOk result (self.new ≡ with_failing call self.old) }
+        ensures err { OnErr result (self.new ≡ self.old) }
+    {
+        self.failing.push(call)?;
+        Ok(())
+    }
+
+    /// Lets a call move at most so many bytes.
+    pub(crate) fn set_piece(&mut self, most: usize)
+        requires { 0 < most }
+        ensures { self.new ≡ with_piece most self.old }
+    {
+        self.piece = most;
+    }
+
+    /// At most so many bytes are moved by a call.
+    pub(crate) fn piece(&self) -> usize
+        ensures piece { result ≡ self.now.piece }
+        ensures some { 0 < result }
+    {
+        self.piece
+    }
+
+    /// Counts a call, and says whether it fails.
+    pub(crate) fn count(&mut self) -> bool
+        ensures fails { result ≡ next_fails self.old }
+        ensures counted { self.new ≡ after_call self.old }
+    {
+        self.made = self.made.saturating_add(1);
+        self.failing.contains(&self.made)
+    }
+}
