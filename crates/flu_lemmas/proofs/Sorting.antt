@@ -1,13 +1,14 @@
 -- A list that is put in order is sorted and a permutation, and where elements that compare equal are equal it is the only such list.
-use Rattle.std.proofs.Common.{◌≡◌, ◌<◌, ◌+◌, ℕ, zero, suc, Bool, true, false, cond, List, [], ◌∷◌, length, get_or, refl, sym, ap, ◌∙◌, arith}
+use Rattle.std.proofs.Common.{◌≡◌, ◌<◌, ◌+◌, ℕ, zero, suc, Bool, true, false, cond, List, [], ◌∷◌, map, length, get_or, refl, sym, ap, ◌∙◌, arith}
 use Rattle.std.specs.Prelude.{⊤, sum_by, Contains, IsSorted, IsPermutation}
 use Rattle.std.specs.Cmp.{IsTotalOrder, IsStrictWeakOrder}
 use Rattle.std.specs.List.{All, AllByRecursion}
 use Rattle.std.specs.List.Sorted.{IsSortedBy}
-use Rattle.std.specs.Ordering.{is_lt, ordering_reverse}
+use Rattle.std.specs.Ordering.{is_lt, ordering_reverse, ordering_then}
 use Rattle.std.specs.declared.cmp.Ordering.{Ordering}
 use Rattle.std.specs.declared.cmp.Ordering.TheVariants.{Less, Equal, Greater}
 use native.Mathlib.Numerals.{unary_clauses}
+use Rattle.std.proofs.lemmas.List.{get_or-map, length-map}
 use Rattle.std.proofs.lemmas.List.Elements.{recursion_from_All, All-contains_itself}
 use Rattle.std.proofs.lemmas.List.Sums.{sum_by-cons}
 use Rattle.std.proofs.lemmas.List.Sorted.{IsPermutation-refl, IsPermutation-sym, IsPermutation-trans, IsPermutation-cons, IsPermutation-middle, All-permutation, Contains-permutation, sum_by-IsPermutation, sorted_far, ranks_by}
@@ -90,6 +91,15 @@ in_order-sorted_by lt o xs = sorted_from_rising lt (in_order lt xs) (in_order-ri
 pub in_order-sorted : {X : Type 0} (cmp : X → X → Ordering) → IsTotalOrder cmp → (xs : List X) → IsSorted cmp (in_order (λ x y. is_lt (cmp x y)) xs)
 in_order-sorted cmp o xs = in_order-sorted_by (λ x y. is_lt (cmp x y)) (ranks_by o (λ x. x)) xs
 
+-- a list that is in order by what f gives of its elements
+pub sorted_map : {X Y : Type 0} (f : X → Y) (cmp : Y → Y → Ordering) (xs : List X) → IsSorted (λ x y. cmp (f x) (f y)) xs → IsSorted cmp (map f xs)
+sorted_map f cmp [] up = λ k d low high. absurd (omega arith)
+sorted_map f cmp (x ∷ xs) up = λ k d low high.
+    let size = length-map (x ∷ xs) f in
+    let next_inside : k + 1 < length (x ∷ xs) = omega arith in
+    let inside : k < length (x ∷ xs) = omega arith in
+    rw (get_or-map f (x ∷ xs) (k + 1) x d next_inside, get_or-map f (x ∷ xs) k x d inside) (up k x low next_inside)
+
 -- ---- the only sorted list of some elements
 sum_of_none : {X : Type 0} (f : X → ℕ) (xs : List X) → AllByRecursion (λ x. f x ≡ 0) xs → sum_by f xs ≡ 0
 sum_of_none f [] all = refl
@@ -159,3 +169,9 @@ in_order-only {X} cmp o xs ys ties up moved =
     let here : (x : X) → Contains ys x → Contains xs x = λ x. Contains-permutation ys xs x (IsPermutation-sym xs ys moved) in
     only_sorted cmp o ys zs (λ x y px py. ties x y (here x px) (here y py)) up (in_order-sorted cmp o xs)
     (IsPermutation-trans ys xs zs (IsPermutation-sym xs ys moved) (in_order-permutation (λ x y. is_lt (cmp x y)) xs))
+
+-- two orders, the one and then the other, tie where both tie
+pub both_equal : (a b : Ordering) → ordering_then a b ≡ Equal → (a ≡ Equal) × (b ≡ Equal)
+both_equal Less b e = cc
+both_equal Equal b e = (refl, e)
+both_equal Greater b e = cc
