@@ -1,2 +1,3 @@
 pub mod TagLemmas
 pub mod ReportLemmas
+pub mod WritingLemmas

@@ -4,5 +4,7 @@
 mod lines;
 mod report;
 mod tags;
+mod writing;
 
 pub use report::report_text;
+pub use writing::write_all;
