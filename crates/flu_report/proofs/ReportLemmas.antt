@@ -1,7 +1,6 @@
 -- The report that the definition asks for is the one that the plain program makes, and it goes by the outputs as a multiset.
-use Rattle.std.proofs.Common.{◌≡◌, ℕ, List, map, refl, sym, ap, ◌∙◌, IsPermutation}
+use Rattle.std.proofs.Common.{◌≡◌, ℕ, List, map, refl, ap, ◌∙◌, IsPermutation}
 use Rattle.std.specs.List.{flat_map}
-use Rattle.std.specs.Prelude.{Contains}
 use Rattle.std.specs.Cmp.{IsTotalOrder}
 use Rattle.std.specs.FinMap.{nat_cmp-IsAntisymmetric, slice_cmp-IsAntisymmetric}
 use Rattle.std.specs.Ordering.{nat_cmp, ordering_then, is_lt}
@@ -36,9 +35,9 @@ only_report p outs bytes r =
 -- the plain program makes a report of the outputs in any order
 pub report_in_any_order : (p : Program) (outs others : List Out) → IsPermutation outs others → IsReport p outs (report p others)
 report_in_any_order p outs others moved = record {
-    lines = in_order (λ a b. is_lt (line_cmp a b)) (map (line_of p) others);
-    all = IsPermutation-trans (map (line_of p) outs) (map (line_of p) others) _ (IsPermutation-map (line_of p) outs others moved)
-        (in_order-permutation (λ a b. is_lt (line_cmp a b)) (map (line_of p) others));
-    sorted = in_order-sorted line_cmp line_cmp-total (map (line_of p) others);
-    is = refl;
-  }
+  lines = in_order (λ a b. is_lt (line_cmp a b)) (map (line_of p) others);
+  all = IsPermutation-trans (map (line_of p) outs) (map (line_of p) others) _ (IsPermutation-map (line_of p) outs others moved)
+      (in_order-permutation (λ a b. is_lt (line_cmp a b)) (map (line_of p) others));
+  sorted = in_order-sorted line_cmp line_cmp-total (map (line_of p) others);
+  is = refl;
+}

@@ -13,9 +13,12 @@ told_weaker P Q (Some x) (Some y) h f = f x y h
 pub appends_part : (bytes rest old new : List ℕ) → 0 < length rest → length rest ≤ length bytes → new ++ rest ≡ old ++ bytes → AppendsPart bytes old new
 appends_part bytes rest old new some few e =
     let n : ℕ = length bytes - length rest in
-    let size : length new ≡ length old + (length bytes - length rest) = omega (arith, ap length e, length-append new rest, length-append old bytes) in
-    (n, omega arith, sym (take-append_seam new rest) ∙ ap (take (length new)) e ∙ ap (λ k. take k (old ++ bytes)) size
-          ∙ take-append-add old bytes (length bytes - length rest))
+    let size : length new ≡ length old + (length bytes - length rest) = omega (arith, ap length e, length-append new rest, length-append old bytes) in (
+      n,
+      omega arith,
+      sym (take-append_seam new rest) ∙ ap (take (length new)) e ∙ ap (λ k. take k (old ++ bytes)) size
+          ∙ take-append-add old bytes (length bytes - length rest),
+    )
 
 pub on_err : {T E : Type 0} (P : Type 0) (r : Result T E) → P → OnErr r P
 on_err P (Ok x) h = tt

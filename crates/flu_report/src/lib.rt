@@ -4,6 +4,8 @@
 mod lines;
 mod report;
 mod tags;
+#[cfg(test)]
+mod tests;
 mod writing;
 
 pub use report::report_text;

@@ -47,7 +47,11 @@ pub fn text_of(alloc: Global, entries: &[Entry]) -> Result<Text, AllocError>
 {
     let mut text = String::new(alloc);
     for entry in entries {
-        let Entry { time, tag, text: words } = entry;
+        let Entry {
+            time,
+            tag,
+            text: words,
+        } = entry;
         write!(text, "{time},{tag},{words}\n")?;
     }
     Ok(Text::of(text))

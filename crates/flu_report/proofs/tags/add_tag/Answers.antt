@@ -1,4 +1,4 @@
-use Rattle.std.proofs.Common.{subst, sym, Some, List, ℕ, ap, ◌∙◌}
+use Rattle.std.proofs.Common.{subst, Some, List, ℕ}
 use Rattle.std.specs.BTreeMap.{Updates}
 use Rattle.flu_report.specs.Tagging.{tag_cmp}
 use Rattle.flu_report.proofs.TagLemmas.{texts_more, stays_there}

@@ -12,6 +12,6 @@ returns-in_err-n-clause-part g c =
     let bytes = c.args.bytes.now in
     let some : 0 < length rest = grind (arith, common_steps) in
     let part : WhereTold (g.K.Sink.taken c.args.out.now) (g.K.Sink.taken c.loop-rest.out) (AppendsPart bytes) =
-        told_weaker (λ (old new : List ℕ). new ++ rest ≡ old ++ bytes) (AppendsPart bytes) _ _ c.loop-rest.invariant.told
-            (λ old new. appends_part bytes rest old new some c.loop-rest.invariant.size) in
+    told_weaker (λ (old new : List ℕ). new ++ rest ≡ old ++ bytes) (AppendsPart bytes) _ _ c.loop-rest.invariant.told
+    (λ old new. appends_part bytes rest old new some c.loop-rest.invariant.size) in
     on_err _ c.from_residual.result (subst (λ (taken : Option (List ℕ)). WhereTold (g.K.Sink.taken c.args.out.now) taken (AppendsPart bytes)) (sym c.in_err-n.ensures.kept) part)
