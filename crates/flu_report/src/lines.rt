@@ -1,0 +1,58 @@
+//! The lines of a report, whose tags and texts stand elsewhere.
+
+ghost use Rattle.std.specs.Prelude.{◌≡◌, IfOk, map};
+ghost use Rattle.std.specs.List.{flat_map, AllByRecursion};
+ghost use Rattle.std.specs.String.{string_bytes};
+ghost use Rattle.flu_model.specs.Reports.{line_bytes, line_of};
+ghost use Rattle.flu_report.specs.Tagging.{IsTagged};
+ghost use Rattle.flu_report.specs.Entries.{line_at};
+
+use crate::tags::text_in;
+use flu_model::{Out, Program, Tag, Text};
+use std::alloc::{AllocError, Global};
+use std::collections::BTreeMap;
+
+/// A line of a report.
+#[derive(Clone, Copy, PartialEq, Eq, PartialOrd, Ord, Drop)]
+pub struct Entry<'a> {
+    pub time: u64,
+    pub tag: &'a str,
+    pub text: &'a str,
+}
+
+/// The line of each output, in order, where the tags' texts are known.
+pub fn entries_of<'a>(
+    alloc: Global,
+    tags: &'a BTreeMap<Tag, Text>,
+    outs: &'a [Out],
+    p: &Program,
+) -> Result<Vec<Entry<'a>>, AllocError>
+    requires { IsTagged p.now tags.now outs.now }
+    ensures { IfOk result (λ v. map line_at v.items ≡ map (line_of p.now) outs.now) }
+{
+    let mut entries = Vec::new(alloc);
+    for out in outs {
+        entries.push(Entry {
+            time: out.time,
+            tag: text_in(tags, p, out.tag),
+            text: out.text.as_str(),
+        })?;
+    }
+    Ok(entries)
+}
+
+/// The lines, one after another.
+pub fn text_of(alloc: Global, entries: &[Entry]) -> Result<Text, AllocError>
+    ensures { IfOk result (λ t. t ≡ flat_map line_bytes (map line_at entries.now)) }
+{
+    let mut text = String::new(alloc);
+    for entry in entries {
+        let Entry {
+            time,
+            tag,
+            text: words,
+        } = entry;
+        write!(text, "{time},{tag},{words}\n")?;
+    }
+    Ok(Text::of(text))
+}
