@@ -13,6 +13,8 @@ mod names;
 mod sources;
 mod tags;
 mod templates;
+#[cfg(test)]
+mod tests;
 
 use crate::actions::kind_fits;
 use crate::distinct::{have_own_files, have_own_names};
@@ -27,8 +29,10 @@ const MOST_PARTS: usize = 64;
 /// The most dependencies of a job.
 const MOST_DEPENDS: usize = 4096;
 
-/// The job with these parts, where they keep the rules of the language; none where they break one. The parts may be any:
-/// their numbers are looked at before they are used, ranges of keys are not written out, and no tree is gone down further than it may be high.
+/// The job with these parts, where they keep the rules of the language (`docs/LANGUAGE.md`); none where they break one.
+///
+/// The parts may be any, so what the lists hold need not have been looked at before. It takes no memory: ranges of keys
+/// are not written out, and expressions are looked at no deeper than they may be high.
 pub fn program(
     families: List<Family>,
     kinds: List<Kind>,
