@@ -1,0 +1,4 @@
+pub mod General
+pub mod HeightLemmas
+pub mod DistinctLemmas
+pub mod TagLemmas

@@ -1,0 +1,21 @@
+-- The rules of the job language, all of them, as parts keep them.
+use Rattle.std.specs.Prelude.{◌≤◌, List, length, IsTrue}
+use Rattle.flu_model.specs.declared.jobs.Family.{Family}
+use Rattle.flu_model.specs.declared.jobs.Kind.{Kind}
+use Rattle.flu_model.specs.declared.jobs.Depend.{Depend}
+use Rattle.flu_model.specs.declared.jobs.Source.{Source}
+use Rattle.flu_model.specs.Listing.{itags_of_sources}
+use Rattle.flu_model.specs.Rules.{are_families, are_kinds, are_depends, are_sources, have_own_names, have_own_files}
+
+pub record KeepsRules (families : List Family) (kinds : List Kind) (depends : List Depend) (sources : List Source) : Type 0 where
+  pub few_families : length families ≤ 64
+  pub few_kinds : length kinds ≤ 64
+  pub few_depends : length depends ≤ 4096
+  pub few_sources : length sources ≤ 64
+  pub few_itags : length (itags_of_sources 0 sources) ≤ 256
+  pub families_fit : IsTrue (are_families families)
+  pub kinds_fit : IsTrue (are_kinds families kinds)
+  pub depends_fit : IsTrue (are_depends kinds depends)
+  pub sources_fit : IsTrue (are_sources kinds sources)
+  pub own_names : IsTrue (have_own_names families kinds sources)
+  pub own_files : IsTrue (have_own_files sources)

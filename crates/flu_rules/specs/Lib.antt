@@ -1,0 +1,3 @@
+pub mod Names
+pub mod Keys
+pub mod Kept

@@ -1,0 +1,86 @@
+//! Names and files that are to differ from each other.
+
+ghost use Rattle.std.specs.Prelude.{◌≡◌, []};
+ghost use Rattle.std.specs.List.{list_any};
+ghost use Rattle.flu_model.specs.Rules.{is_same_text, have_own_names, have_own_files};
+ghost use Rattle.flu_rules.specs.Names.{names_of};
+
+use flu_model::{Family, Kind, Source};
+
+/// Whether families, kinds and sources have names that all differ.
+pub fn have_own_names(families: &[Family], kinds: &[Kind], sources: &[Source]) -> bool
+    ensures { result ≡ have_own_names families.now kinds.now sources.now }
+{
+    for (index, family) in families.iter().enumerate() {
+        if is_declared(family.name.as_str(), &families[index + 1..], kinds, sources) {
+            return false;
+        }
+    }
+    kinds_have_own_names(kinds, sources)
+}
+
+fn kinds_have_own_names(kinds: &[Kind], sources: &[Source]) -> bool
+    ensures { result ≡ have_own_names [] kinds.now sources.now }
+{
+    for (index, kind) in kinds.iter().enumerate() {
+        if is_declared(kind.name.as_str(), &[], &kinds[index + 1..], sources) {
+            return false;
+        }
+    }
+    sources_have_own_names(sources)
+}
+
+fn sources_have_own_names(sources: &[Source]) -> bool
+    ensures { result ≡ have_own_names [] [] sources.now }
+{
+    for (index, source) in sources.iter().enumerate() {
+        if is_declared(source.name.as_str(), &[], &[], &sources[index + 1..]) {
+            return false;
+        }
+    }
+    true
+}
+
+// Whether one of these parts has the name.
+#[tactic(auto, using(crate::proofs::DistinctLemmas::declared))]
+fn is_declared(name: &str, families: &[Family], kinds: &[Kind], sources: &[Source]) -> bool
+    ensures { result ≡ list_any (is_same_text name.now) (names_of families.now kinds.now sources.now) }
+{
+    names_family(families, name) || names_kind(kinds, name) || names_source(sources, name)
+}
+
+/// Whether no two sources have one file.
+pub fn have_own_files(sources: &[Source]) -> bool
+    ensures { result ≡ have_own_files sources.now }
+{
+    for (index, source) in sources.iter().enumerate() {
+        if reads_file(&sources[index + 1..], source.file.as_str()) {
+            return false;
+        }
+    }
+    true
+}
+
+fn names_family(families: &[Family], name: &str) -> bool
+    ensures { result ≡ list_any (λ family. is_same_text name.now family.name) families.now }
+{
+    families.iter().any(|family| name == family.name.as_str())
+}
+
+fn names_kind(kinds: &[Kind], name: &str) -> bool
+    ensures { result ≡ list_any (λ kind. is_same_text name.now kind.name) kinds.now }
+{
+    kinds.iter().any(|kind| name == kind.name.as_str())
+}
+
+fn names_source(sources: &[Source], name: &str) -> bool
+    ensures { result ≡ list_any (λ source. is_same_text name.now source.name) sources.now }
+{
+    sources.iter().any(|source| name == source.name.as_str())
+}
+
+fn reads_file(sources: &[Source], file: &str) -> bool
+    ensures { result ≡ list_any (λ source. is_same_text file.now source.file) sources.now }
+{
+    sources.iter().any(|source| file == source.file.as_str())
+}
