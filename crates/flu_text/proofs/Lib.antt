@@ -1,0 +1,10 @@
+pub mod General
+pub mod Digits
+pub mod Tables
+pub mod Spelled
+pub mod Front
+pub mod Gaps
+pub mod Places
+pub mod Readings
+pub mod Spans
+pub mod Laid

@@ -1,0 +1,51 @@
+-- What holds of every text.
+use Rattle.std.specs.Prelude.{◌≡◌, ◌↔◌, ℕ, List, map, All, Ok, Err}
+use Rattle.std.specs.Str.{IsUtf8}
+use Rattle.flu_text.specs.declared.words.Token.{Token}
+use Rattle.flu_text.specs.Grammar.{bytes_of, AreTokens, IsFirstBadPlace, IsToken, IsSpan, IsInsideOfText, Rise}
+use Rattle.flu_text.specs.Reading.{reading}
+use Rattle.flu_text.specs.Layout.{Piece, layout, tokens_of, IsLaid}
+
+-- no text is tokens in two ways
+abbrev pub TokensAreUnique : Type 0
+TokensAreUnique = (text : List ℕ) (a b : List Token) → AreTokens text a → AreTokens text b → a ≡ b
+
+-- no text has two first bad places
+abbrev pub BadPlaceIsUnique : Type 0
+BadPlaceIsUnique = (text : List ℕ) (a b : ℕ) → IsFirstBadPlace text a → IsFirstBadPlace text b → a ≡ b
+
+-- no text that is tokens has a bad place
+abbrev pub TokensOrBadPlace : Type 0
+TokensOrBadPlace = (text : List ℕ) (ts : List Token) (place : ℕ) → AreTokens text ts → IsFirstBadPlace text place → ⊥
+
+-- the reading is the tokens exactly where the text is those tokens
+abbrev pub ReadingIsTokens : Type 0
+ReadingIsTokens = (text : List ℕ) (ts : List Token) → (reading text ≡ Ok ts) ↔ AreTokens text ts
+
+-- and a place exactly where that is the first bad one
+abbrev pub ReadingIsBadPlace : Type 0
+ReadingIsBadPlace = (text : List ℕ) (place : ℕ) → (reading text ≡ Err place) ↔ IsFirstBadPlace text place
+
+-- each token of a text stands in it
+abbrev pub EachIsToken : Type 0
+EachIsToken = (text : List ℕ) (ts : List Token) → AreTokens text ts → All (IsToken text) ts
+
+-- in a text that is UTF-8 the spans are within it and between its characters
+abbrev pub EachIsSpan : Type 0
+EachIsSpan = (text : List ℕ) (ts : List Token) → IsUtf8 text → AreTokens text ts → All (IsSpan text) ts
+
+-- and so is what stands between the quotes of its texts
+abbrev pub EachIsInside : Type 0
+EachIsInside = (text : List ℕ) (ts : List Token) → IsUtf8 text → AreTokens text ts → All (IsInsideOfText text) ts
+
+-- and the spans rise
+abbrev pub TokensRise : Type 0
+TokensRise = (text : List ℕ) (ts : List Token) → AreTokens text ts → Rise ts
+
+-- what is laid out as words is read as their tokens
+abbrev pub LayoutIsRead : Type 0
+LayoutIsRead = (ps : List Piece) → IsLaid ps → reading (layout ps) ≡ Ok (tokens_of 0 ps)
+
+-- and the bytes of those tokens are the spellings of the words
+abbrev pub LayoutIsSpelled : Type 0
+LayoutIsSpelled = (ps : List Piece) → map (bytes_of (layout ps)) (tokens_of 0 ps) ≡ map (λ p. p.spelling) ps

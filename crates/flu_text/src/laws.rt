@@ -1,0 +1,31 @@
+//! Laws of the lexical grammar, each the contract of a function that does nothing.
+
+ghost use Rattle.flu_text.specs.Laws.{TokensAreUnique, BadPlaceIsUnique, TokensOrBadPlace, ReadingIsTokens, ReadingIsBadPlace, EachIsToken, EachIsSpan, EachIsInside, TokensRise, LayoutIsRead, LayoutIsSpelled};
+
+/// A text has one reading: its tokens, or the first place where none begins.
+pub fn one_reading()
+    ensures tokens { TokensAreUnique }
+    ensures bad_place { BadPlaceIsUnique }
+    ensures either { TokensOrBadPlace }
+{}
+
+/// The computed reading is the grammar's.
+pub fn reading_is_exact()
+    ensures tokens { ReadingIsTokens }
+    ensures bad_place { ReadingIsBadPlace }
+{}
+
+/// Each token of a text stands in it, and in a text that is UTF-8 it begins and ends between characters, as does what stands
+/// between the quotes of a text.
+pub fn tokens_stand()
+    ensures each { EachIsToken }
+    ensures spans { EachIsSpan }
+    ensures inside { EachIsInside }
+    ensures rise { TokensRise }
+{}
+
+/// What is laid out as words with blanks between them is read as those words, each with its spelling.
+pub fn layout_is_read()
+    ensures tokens { LayoutIsRead }
+    ensures spellings { LayoutIsSpelled }
+{}

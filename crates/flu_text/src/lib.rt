@@ -1,0 +1,14 @@
+//! The tokens of the job and plan languages: names, reserved words, numbers, texts and marks, with blanks and comments
+//! between them.
+#![tactic(auto)]
+
+pub mod laws;
+mod lexeme;
+mod reading;
+mod words;
+
+pub use reading::{TextFault, tokens};
+pub use words::{Mark, Reserved, Token, Word};
+
+#[cfg(test)]
+mod tests;
