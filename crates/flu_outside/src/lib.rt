@@ -11,6 +11,8 @@ mod mem_sink;
 mod rest;
 mod schedule;
 mod sink;
+#[cfg(test)]
+mod tests;
 
 pub use files::{Files, TakeFault};
 pub use honest_files::HonestFiles;
