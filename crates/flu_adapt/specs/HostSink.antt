@@ -1,0 +1,7 @@
+-- What is known of a writer of the system.
+use Rattle.std.specs.Prelude.{ℕ}
+use Rattle.flu_adapt.specs.declared.host_sink.HostSink.{HostSink}
+
+-- how often it failed
+abbrev pub count_of : {W : Type 0} → HostSink W → ℕ
+count_of s = s.faults
