@@ -71,12 +71,15 @@ pieces_split (p ∷ ps) d some = ap (λ (l : List (Bor (List ℕ))). p.now ++ co
 -- ---- bytes of names
 -- a name's bytes are their front and what is left
 pub took_some : (name bytes buffer : List ℕ) (n : ℕ) (old now next : Contents) → TookFront name bytes old now → Takes now next name n buffer → TookSome name old next
-took_some name bytes buffer n old now next front takes = (bytes ++ take n takes.bytes, record {
-  front = λ rest e.
-      let is : Some rest ≡ Some (drop n takes.bytes) = sym e ∙ takes.left in
-      front.front takes.bytes takes.were ∙ ap (λ r. Some (bytes ++ r)) (sym (take-append-drop n takes.bytes)) ∙ ap Some (sym (append_assoc bytes (take n takes.bytes) (drop n takes.bytes))) ∙ ap (λ o. Some ((bytes ++ take n takes.bytes) ++ unwrap_or o [])) (sym is);
-  others = λ other apart. takes.others other apart ∙ front.others other apart;
-})
+took_some name bytes buffer n old now next front takes = (
+  bytes ++ take n takes.bytes,
+  record {
+    front = λ rest e.
+        let is : Some rest ≡ Some (drop n takes.bytes) = sym e ∙ takes.left in
+        front.front takes.bytes takes.were ∙ ap (λ r. Some (bytes ++ r)) (sym (take-append-drop n takes.bytes)) ∙ ap Some (sym (append_assoc bytes (take n takes.bytes) (drop n takes.bytes))) ∙ ap (λ o. Some ((bytes ++ take n takes.bytes) ++ unwrap_or o [])) (sym is);
+    others = λ other apart. takes.others other apart ∙ front.others other apart;
+  },
+)
 
 pub same_some : (name : List ℕ) (old now : Contents) → SameLeft old now → TookSome name old now
 same_some name old now same = ([], record { front = λ rest e. sym (same name) ∙ e; others = λ other apart. same other })

@@ -46,8 +46,11 @@ returns-in-Ok-clause-only g c =
 pub returns-in-Ok-clause-read_fault : goal.returns-in-Ok-clause-read_fault
 returns-in-Ok-clause-read_fault g c =
     let p = c.in-Ok.program in
-    λ e. (file_of p, file_is_read c.args.job.now p _ _ c.in-Ok.ensures.small,
-        rose_later _ _ _ (c.in-Ok.ensures.counts (file_of p)) (c.in-Err-report_of.ensures.read_fault e))
+    λ e. (
+      file_of p,
+      file_is_read c.args.job.now p _ _ c.in-Ok.ensures.small,
+      rose_later _ _ _ (c.in-Ok.ensures.counts (file_of p)) (c.in-Err-report_of.ensures.read_fault e),
+    )
 
 pub returns-clause-fronts : goal.returns-clause-fronts
 returns-clause-fronts g c = told_as (TookSome c.args.job.now) TookFronts _ _ c.in-Err.ensures.some (some_fronts c.args.job.now)

@@ -20,4 +20,3 @@ returns-clause-only g c =
     let old = g.F.Files.left c.args.files.now in
     let words = map string_bytes c.args.words.now in
     only_wider (IsReadName old c.in-Ok.job.now) (IsReadBy words old) _ _ (λ name. read_by words c.in-Ok.job.now name old c.in-Ok.ensures) c.in-Ok-fold_job.ensures.only
-
