@@ -1,6 +1,7 @@
 //! Files of the system.
 
-ghost use Rattle.std.specs.Prelude.{◌≡◌, ◌<◌, ◌≤◌, ◌+◌, ◌-◌, ◌^◌, length, min, None, refl, IfOk, IfErr, OnOk, OnErr, IsErrOf};
+ghost use Rattle.std.specs.Prelude.{◌≡◌, ◌<◌, ◌≤◌, ◌+◌, ◌-◌, ◌^◌, length, min, None, refl, IfOk, IfErr, OnOk, OnErr, IsErrOf, IsSome};
+ghost use Rattle.std.specs.BTreeMap.{get_by_text};
 ghost use Rattle.flu_outside.specs.Outside.{Rose};
 ghost use Rattle.std.specs.Io.KnownBytes.{ReadConsumes};
 
@@ -40,6 +41,7 @@ impl<R: rt::Files + AllocGlobal> HostFiles<R> {
         ensures raised { IsErrOf result TakeFault.Failed → count_of self.new ≡ min (count_of self.old + 1) (2 ^ 64 - 1) }
         ensures no_memory { IsErrOf result TakeFault.NoMemory → count_of self.new ≡ count_of self.old }
         ensures counts { count_of self.old ≤ count_of self.new }
+        ensures here { OnOk result (IsSome (get_by_text self.new.opened name.now)) }
     {
         let Ok(kept) = String::from_str(self.rt.alloc(), name) else {
             return Err(TakeFault::NoMemory);
@@ -78,7 +80,7 @@ impl<R: rt::Files + AllocGlobal> Files for HostFiles<R> {
         }
         match self.opened.get_mut(name) {
             Some(file) => read_some(file, buf, &mut self.faults),
-            None => Err(counted(&mut self.faults)),
+            None => unreachable!(),
         }
     }
 
