@@ -1,0 +1,9 @@
+pub mod Digits
+pub mod NameBytes
+pub mod RecordFields
+pub mod Told
+pub mod Cuts
+pub mod Scanning
+pub mod Alike
+pub mod Runs
+pub mod StepLemmas

@@ -1,0 +1,104 @@
+-- What one line does to what is still to be read.
+use Rattle.std.proofs.Common.{◌≡◌, ◌≢◌, ◌⊎◌, inl, inr, ℕ, ◌+◌, ◌^◌, ◌<◌, ◌≤◌, Bool, true, false, eqb, List, [], ◌∷◌, ◌++◌, length, take, drop, Option, Some, None, refl, sym, ap, ◌∙◌, append_assoc, arith}
+use Rattle.std.proofs.lemmas.Bool.{ne_eqb, lt-ltb}
+use Rattle.std.proofs.lemmas.Bool.Decides.{eqb_tells}
+use Rattle.std.proofs.lemmas.List.{append-nil}
+use Rattle.flu_outside.specs.Outside.{Contents, WhereTold}
+use Rattle.flu_rows.specs.declared.held.Found.{Found}
+use Rattle.flu_rows.specs.declared.held.Found.TheVariants.{Line as LineFound, Last, TooLong, End}
+use Rattle.flu_rows.specs.declared.line.Line.{Line}
+use Rattle.flu_rows.specs.declared.line.Line.TheVariants.{Blank, Bad as BadLine, Row as RowLine}
+use Rattle.flu_rows.specs.declared.rows.Next.{Next}
+use Rattle.flu_rows.specs.declared.rows.Next.TheVariants.{Row, Bad, TooManyLines, Done}
+use Rattle.flu_rows.specs.declared.rows.Step.{Step}
+use Rattle.flu_rows.specs.declared.rows.Step.TheVariants.{Skip, Give}
+use Rattle.flu_rows.specs.Filling.{line_len, KeepsBytes, IsFound, IsLast}
+use Rattle.flu_rows.specs.Lines.{lines_of, line_of, line_of_fields}
+use Rattle.flu_rows.specs.Reading.{read_line, read_lines, read_bytes}
+use Rattle.flu_rows.specs.Run.{GivesLine, ReadAlike}
+use Rattle.flu_rows.specs.Steps.{step_of, row_step, step_behind, BeginsWith, ReadsStep}
+use Rattle.flu_rows.specs.Taking.{bytes_left, IsReadOut}
+use Rattle.flu_rows.proofs.Alike.{line_of-alike}
+use Rattle.flu_rows.proofs.Cuts.{lines_of-cut, lines_of-line, lines_of-last, lines_of-long}
+use Rattle.flu_rows.proofs.Told.{told_same}
+
+-- where something was found but the end, a line stands there
+some_line : (now coming : List ℕ) (found : Found) → IsFound now found → found ≢ End → (found ≡ Last → coming ≡ []) → (bytes : List ℕ) × (lines : List (List ℕ)) × (lines_of (now ++ coming) ≡ bytes ∷ lines)
+some_line now coming (LineFound len) h ne last = (take (line_len now) now, lines_of (drop (line_len now + 1) now ++ coming), lines_of-line now coming (rw (← h.0) h.2))
+some_line now coming Last h ne last = (now, [], rw (last refl, append-nil now) (lines_of-last now h.0 h.1))
+some_line now coming TooLong h ne last = let k = lines_of-long 4096 now coming h in (k.0, k.1, k.2)
+some_line now coming End h ne last = absurd (ne refl)
+
+pub at_limit : (n : ℕ) (now coming : List ℕ) (found : Found) → IsFound now found → found ≢ End → (found ≡ Last → coming ≡ []) → n + 1 ≡ 2 ^ 32 → read_bytes n (now ++ coming) ≡ TooManyLines ∷ []
+unfolding read_lines
+at_limit n now coming found h ne last e = let k = some_line now coming found h ne last in rw (k.2, e) refl
+
+-- what is read of a line and of those behind it
+by_line : (line : Line) (number : ℕ) (others more : List Next) → (line ≢ BadLine → others ≡ more) → read_line line number others ≡ step_behind (step_of line number) more
+by_line Blank number others more h = h (λ e. cc)
+by_line BadLine number others more h = refl
+by_line (RowLine row) number others more h = ap (λ (ns : List Next). Row number row ∷ ns) (h (λ e. cc))
+
+pub at_line : (n : ℕ) (now after coming : List ℕ) (line : Line) → n + 1 ≢ 2 ^ 32 → BeginsWith (n + 1) line now after coming
+    → read_bytes n (now ++ coming) ≡ step_behind (step_of line (n + 1)) (read_bytes (n + 1) (after ++ coming))
+unfolding read_lines
+at_line n now after coming line ne k =
+    rw (k.2, ne_eqb (n + 1) (2 ^ 32) ne, k.3) (by_line line (n + 1) (read_lines (n + 1) k.1) (read_bytes (n + 1) (after ++ coming)) (λ good. ap (read_lines (n + 1)) (k.4 good)))
+
+pub line_of-long : (number : ℕ) (bytes : List ℕ) → 4096 < length bytes → line_of number bytes ≡ BadLine
+unfolding line_of
+line_of-long number bytes lt = rw (lt-ltb 4096 (length bytes) lt) refl
+
+-- a line of a run, and what is read behind it
+at_row : (n n' : ℕ) (old new coming : List ℕ) (fields : List (List ℕ)) → GivesLine old new fields → (n + 1 ≢ 2 ^ 32 → n' ≡ n + 1)
+    → read_bytes n (old ++ coming) ≡ step_behind (row_step n fields) (read_bytes n' (new ++ coming))
+unfolding read_lines
+at_row n n' old new coming fields g counts =
+    let front : old ++ coming ≡ g.line ++ (10 ∷ (new ++ coming)) = ap (λ (x : List ℕ). x ++ coming) g.front ∙ append_assoc g.line (10 ∷ new) coming in
+    elim (eqb_tells (n + 1) (2 ^ 32)) [
+      | inl hit ↦ rw (front, lines_of-cut g.line (new ++ coming) g.alike.one, hit.0) refl
+      | inr miss ↦
+          rw (front, lines_of-cut g.line (new ++ coming) g.alike.one, miss.0, counts miss.1, g.given, line_of-alike (n + 1) g.line g.alike)
+          (by_line (line_of_fields g.alike.fields) (n + 1) (read_bytes (n + 1) (new ++ coming)) (read_bytes (n + 1) (new ++ coming)) (λ good. refl))
+    ]
+
+-- the same, with bytes that are held behind the run
+pub at_held_row : (n n' : ℕ) (old new held coming : List ℕ) (fields : List (List ℕ)) → GivesLine old new fields → (n + 1 ≢ 2 ^ 32 → n' ≡ n + 1)
+    → read_bytes n ((old ++ held) ++ coming) ≡ step_behind (row_step n fields) (read_bytes n' ((new ++ held) ++ coming))
+at_held_row n n' old new held coming fields g counts =
+    rw (append_assoc old held coming, append_assoc new held coming) (at_row n n' old new (held ++ coming) fields g counts)
+
+pub at_run : (name : List ℕ) (a : Option Contents) (n n' : ℕ) (old new held : List ℕ) (fields : List (List ℕ)) → GivesLine old new fields → (n + 1 ≢ 2 ^ 32 → n' ≡ n + 1)
+    → WhereTold a a (ReadsStep name n (old ++ held) n' (new ++ held) (row_step n fields))
+at_run name a n n' old new held fields g counts = told_same (ReadsStep name n (old ++ held) n' (new ++ held) (row_step n fields)) a (λ x. at_held_row n n' old new held (bytes_left x name) fields g counts)
+
+-- a line that was found, at the files
+pub at_found : (name : List ℕ) (a b : Option Contents) (n n' : ℕ) (held now rest : List ℕ) (found : Found) (step : Step) → WhereTold a b (KeepsBytes name held now) → (IsLast found → IsReadOut name b)
+    → ((coming : List ℕ) → (found ≡ Last → coming ≡ []) → read_bytes n (now ++ coming) ≡ step_behind step (read_bytes n' (rest ++ coming)))
+    → WhereTold a b (ReadsStep name n held n' rest step)
+at_found name None None n n' held now rest found step keeps out reads = tt
+at_found name None (Some b) n n' held now rest found step keeps out reads = absurd keeps
+at_found name (Some a) None n n' held now rest found step keeps out reads = absurd keeps
+at_found name (Some a) (Some b) n n' held now rest found step keeps out reads =
+    rw (← keeps) (reads (bytes_left b name) (λ last. rw (out (inl last)) refl))
+
+pub at_end : (name : List ℕ) (a b : Option Contents) (n : ℕ) (held now : List ℕ) → WhereTold a b (KeepsBytes name held now) → now ≡ [] → IsReadOut name b
+    → WhereTold a b (ReadsStep name n held n now (Give (Done n)))
+unfolding read_lines lines_of
+at_end name None None n held now keeps none out = tt
+at_end name None (Some b) n held now keeps none out = absurd keeps
+at_end name (Some a) None n held now keeps none out = absurd keeps
+at_end name (Some a) (Some b) n held now keeps none out = rw (← keeps, none, out) refl
+
+-- one step more behind lines that were skipped
+pub steps_then : (name : List ℕ) (a b c : Option Contents) (n n' n2 : ℕ) (held held' held2 : List ℕ) (step : Step)
+    → WhereTold a b (ReadsStep name n held n' held' Skip) → WhereTold b c (ReadsStep name n' held' n2 held2 step) → WhereTold a c (ReadsStep name n held n2 held2 step)
+steps_then name None None None n n' n2 held held' held2 step p q = tt
+steps_then name None None (Some c) n n' n2 held held' held2 step p q = absurd q
+steps_then name None (Some b) c n n' n2 held held' held2 step p q = absurd p
+steps_then name (Some a) None c n n' n2 held held' held2 step p q = absurd p
+steps_then name (Some a) (Some b) None n n' n2 held held' held2 step p q = absurd q
+steps_then name (Some a) (Some b) (Some c) n n' n2 held held' held2 step p q = p ∙ q
+
+pub no_step : (name : List ℕ) (a : Option Contents) (n : ℕ) (held : List ℕ) → WhereTold a a (ReadsStep name n held n held Skip)
+no_step name a n held = told_same (ReadsStep name n held n held Skip) a (λ x. refl)

@@ -1,0 +1,19 @@
+use Rattle.std.proofs.Common.{◌≡◌, ◌-◌, length}
+use Rattle.flu_outside.specs.Outside.{WhereTold}
+use Rattle.flu_rows.specs.Filling.{line_len, KeepsBytes}
+use Rattle.flu_rows.specs.Taking.{TakesFrom, CountsOf}
+use Rattle.flu_rows.proofs.held.Held.fill.Given as goal
+
+abbrev pub invariant-loop-len : goal.invariant-loop-len
+invariant-loop-len g l =
+    let left = g.F.Files.left in
+    let faults = g.F.Files.faults in
+    record {
+      len : l.len ≡ line_len l.self;
+      bytes : WhereTold (left l.fn.files) (left l.files) (KeepsBytes l.file l.fn.self l.self);
+      taken : WhereTold (left l.fn.files) (left l.files) (TakesFrom l.file);
+      counts : CountsOf (left l.fn.files) l.file (faults l.fn.files) (faults l.files);
+    }
+
+abbrev pub decreases-loop-len : goal.decreases-loop-len
+decreases-loop-len g l = 4097 - length l.self

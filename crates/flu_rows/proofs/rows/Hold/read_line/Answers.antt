@@ -1,0 +1,22 @@
+use Rattle.std.proofs.Common.{◌≡◌, ◌+◌, ◌^◌, ◌++◌, List, ℕ, [], refl, sym, ap, ◌∙◌, inl, inr, rules, arith}
+use Rattle.std.proofs.lemmas.Result.{IfOk-weaker}
+use Rattle.csv.specs.Records.{fields_of}
+use Rattle.flu_outside.specs.Outside.{WhereTold}
+use Rattle.flu_rows.specs.Steps.{row_step, ReadsStep}
+use Rattle.flu_rows.proofs.StepLemmas.{at_run, at_end}
+use Rattle.flu_rows.proofs.rows.Hold.read_line.Goals as goal
+
+pub returns-then-found-clause-told : goal.returns-then-found-clause-told
+returns-then-found-clause-told g c =
+    let gives = rw c.if-found.true at c.in-Ok.ensures in
+    let n = c.args.self.now.lines in
+    IfOk-weaker c.step_of_row.result (λ step. step ≡ row_step n (fields_of c.next.new.row)) _
+    (λ step e. rw e (at_run c.args.file.now (g.F.Files.left c.args.files.now) n c.step_of_row.new.lines c.args.self.now.run c.next.new.self c.args.self.now.held (fields_of c.next.new.row) gives c.step_of_row.ensures.counts))
+    c.step_of_row.ensures.value
+
+pub returns-in-End-clause-told : goal.returns-in-End-clause-told
+returns-in-End-clause-told g c =
+    let none = rw c.if-found.false at c.in-Ok.ensures in
+    let found = rw c.in-End.is at c.in_ok-found.ensures.found in
+    let out = c.in_ok-found.ensures.last (inr c.in-End.is) in
+    rw (none.0, none.1) (at_end c.args.file.now (g.F.Files.left c.args.files.now) (g.F.Files.left c.fill.new.files) c.args.self.now.lines c.args.self.now.held c.fill.new.self c.in_ok-found.ensures.bytes found out)

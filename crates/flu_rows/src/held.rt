@@ -1,0 +1,168 @@
+//! The bytes that are held of a file.
+
+ghost use Rattle.std.specs.Prelude.{◌≡◌, ℕ, List, not, ◌==◌, ◌+◌, ◌≤◌, ◌<◌, [], ◌++◌, drop, length, IfOk, OnOk, IsErrOf};
+ghost use Rattle.std.specs.List.{prefix_len};
+ghost use Rattle.flu_outside.specs.Outside.{WhereTold, Rose};
+ghost use Rattle.flu_rows.specs.Filling.{line_len, KeepsBytes, IsFound, IsLast};
+ghost use Rattle.flu_rows.specs.Taking.{TakesFrom, CountsOf, IsReadOut};
+
+use crate::line::LONGEST_LINE;
+use flu_outside::{Files, TakeFault};
+use std::alloc::{AllocError, Global};
+use std::marker::Model;
+use thiserror::Error;
+
+/// Why no row came.
+#[derive(Clone, Copy, Debug, PartialEq, Eq, Error)]
+pub enum RowsFault {
+    /// Bytes could not be taken.
+    #[error("a read failed")]
+    ReadFault,
+    /// There was no memory.
+    #[error("out of memory")]
+    NoMemory,
+}
+
+/// How many bytes are asked for at once.
+const CHUNK: usize = 16_384;
+
+/// What stands at the front of the bytes that are held.
+#[derive(Clone, Copy)]
+pub(crate) enum Found {
+    /// A line of so many bytes, and its line feed.
+    Line(usize),
+    /// A line without a line feed, which ends the file.
+    Last,
+    /// More bytes than a line may have.
+    TooLong,
+    /// Nothing, and nothing is left.
+    End,
+}
+
+/// How many bytes stand before the first line feed.
+pub(crate) fn line_len(bytes: &[u8]) -> usize
+    ensures value { result ≡ line_len bytes.now }
+    ensures within { result ≤ length bytes.now }
+{
+    bytes.iter().take_while(|byte| **byte != b'\n').count()
+}
+
+/// Bytes of a file that were taken and are still to be read, which contracts see as their list.
+#[derive(Drop)]
+pub(crate) struct Held {
+    bytes: Vec<u8>,
+    at: usize,
+}
+
+impl Model for Held {
+    ghost use Rattle.std.specs.Prelude.{List, ℕ, ◌≤◌, drop, vec_len};
+
+    ghost Value = { List ℕ };
+
+    ghost view = { λ h. drop h.at h.bytes.items };
+
+    ghost invariant = { λ h. h.at ≤ vec_len h.bytes };
+}
+
+impl Held {
+    /// No bytes.
+    pub(crate) fn new(alloc: Global) -> Held
+        ensures { result ≡ [] }
+    {
+        Held {
+            bytes: Vec::new(alloc),
+            at: 0,
+        }
+    }
+
+    /// The bytes, from the front.
+    pub(crate) fn bytes(&self) -> &[u8]
+        ensures { result.now ≡ self.now }
+    {
+        &self.bytes[self.at..]
+    }
+
+    /// Lets bytes go from the front.
+    pub(crate) fn drop_front(&mut self, count: usize)
+        requires { count ≤ length self.old }
+        ensures { self.new ≡ drop count self.old }
+    {
+        self.at += count;
+    }
+
+    // Moves the bytes to the front of the buffer.
+    fn move_up(&mut self)
+        ensures { self.new ≡ self.old }
+    {
+        self.bytes.drain(..self.at);
+        self.at = 0;
+    }
+
+    // Puts bytes behind those that are held.
+    fn extend(&mut self, more: &[u8]) -> Result<(), AllocError>
+        ensures { OnOk result (self.new ≡ self.old ++ more.now) }
+    {
+        self.bytes.extend_from_slice(more)?;
+        Ok(())
+    }
+
+    // Takes some bytes of the file, or none where none are left.
+    #[inline(never)]
+    fn take_more<F: Files>(&mut self, file: &str, files: &mut F) -> Result<usize, RowsFault>
+        ensures bytes { OnOk result (WhereTold (F.left files.old) (F.left files.new) (KeepsBytes file.now self.old self.new)) }
+        ensures behind { IfOk result (λ count. (more : List ℕ) × (length more ≡ count) × (self.new ≡ self.old ++ more)) }
+        ensures end { IfOk result (λ count. count ≡ 0 → IsReadOut file.now (F.left files.new)) }
+        ensures taken { WhereTold (F.left files.old) (F.left files.new) (TakesFrom file.now) }
+        ensures counts { CountsOf (F.left files.old) file.now (F.faults files.old) (F.faults files.new) }
+        ensures cause { IsErrOf result RowsFault.ReadFault → Rose (F.faults files.old file.now) (F.faults files.new file.now) }
+    {
+        self.move_up();
+        let mut chunk = [0u8; CHUNK];
+        let count = match files.take(file, &mut chunk) {
+            Ok(count) => count,
+            Err(TakeFault::Failed) => return Err(RowsFault::ReadFault),
+            Err(TakeFault::NoMemory) => return Err(RowsFault::NoMemory),
+        };
+        if self.extend(&chunk[..count]).is_err() {
+            return Err(RowsFault::NoMemory);
+        }
+        Ok(count)
+    }
+
+    /// Takes bytes of the file until a line is held, or its end, or more than a line.
+    pub(crate) fn fill<F: Files>(&mut self, file: &str, files: &mut F) -> Result<Found, RowsFault>
+        ensures found { IfOk result (IsFound self.new) }
+        ensures last { IfOk result (λ found. IsLast found → IsReadOut file.now (F.left files.new)) }
+        ensures bytes { OnOk result (WhereTold (F.left files.old) (F.left files.new) (KeepsBytes file.now self.old self.new)) }
+        ensures taken { WhereTold (F.left files.old) (F.left files.new) (TakesFrom file.now) }
+        ensures counts { CountsOf (F.left files.old) file.now (F.faults files.old) (F.faults files.new) }
+        ensures cause { IsErrOf result RowsFault.ReadFault → Rose (F.faults files.old file.now) (F.faults files.new file.now) }
+    {
+        let mut len = line_len(self.bytes());
+        while len == self.bytes().len() && len <= LONGEST_LINE {
+            let count = self.take_more(file, files)?;
+            if count == 0 {
+                return Ok(self.found_at_end());
+            }
+            len += line_len(&self.bytes()[len..]);
+        }
+        Ok(if len > LONGEST_LINE {
+            Found::TooLong
+        } else {
+            Found::Line(len)
+        })
+    }
+
+    // What stands at the front where the file has nothing left.
+    fn found_at_end(&self) -> Found
+        requires one { line_len self.now ≡ length self.now }
+        requires short { length self.now ≤ 4096 }
+        ensures found { IsFound self.now result }
+    {
+        if self.bytes().is_empty() {
+            Found::End
+        } else {
+            Found::Last
+        }
+    }
+}

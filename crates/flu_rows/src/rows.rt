@@ -1,0 +1,225 @@
+//! The rows of a file.
+
+ghost use Rattle.std.specs.Prelude.{◌≡◌, ◌≢◌, ◌+◌, ◌^◌, ◌++◌, List, ℕ, [], IfOk, IsErrOf, Err};
+ghost use Rattle.csv.specs.Records.{fields_of};
+ghost use Rattle.flu_outside.specs.Outside.{WhereTold, Rose};
+ghost use Rattle.flu_rows.specs.Filling.{IsFound};
+ghost use Rattle.flu_rows.specs.Lines.{LineInRange};
+ghost use Rattle.flu_rows.specs.Reading.{ahead, front_of, then_behind, read_bytes, NextInRange, CountsLines, OnDone};
+ghost use Rattle.flu_rows.specs.Steps.{step_of, row_step, step_behind, BeginsWith, StepInRange, StepCounts, StepOnDone, ReadsStep};
+ghost use Rattle.flu_rows.specs.Taking.{TakesFrom, CountsOf, IsReadOut};
+
+use crate::held::{Found, Held, RowsFault};
+use crate::line::{Line, line_of, line_of_record};
+use crate::row::Row;
+use crate::run::Run;
+use csv::ByteRecord;
+use flu_model::Text;
+use flu_outside::Files;
+use std::alloc::{AllocError, Global};
+use std::marker::Model;
+
+/// What comes next in a file. Lines count from 1.
+#[derive(Debug, Drop)]
+pub enum Next {
+    /// A row, and the number of its line.
+    Row { line: u32, row: Row },
+    /// A line that is no row.
+    Bad { line: u32 },
+    /// A line with the number 4,294,967,296.
+    TooManyLines,
+    /// The end of the file, and how many lines it has.
+    Done { lines: u32 },
+}
+
+/// What one line gives.
+#[derive(Drop)]
+enum Step {
+    /// It is blank.
+    Skip,
+    Give(Next),
+}
+
+/// The rows of a file, read from its front, a line at a time.
+///
+/// Contracts see where it stands (`Place` of `specs/Reading.antt`).
+#[derive(Drop)]
+pub struct Rows {
+    file: Text,
+    hold: Hold,
+}
+
+impl Model for Rows {
+    ghost use Rattle.std.specs.Prelude.{◌++◌};
+    ghost use Rattle.flu_rows.specs.Reading.{Place};
+
+    ghost Value = { Place };
+
+    ghost view = { λ r. record { file = r.file; taken = r.hold.run ++ r.hold.held; lines = r.hold.lines } };
+}
+
+impl Rows {
+    /// The rows of a file of which nothing is read yet.
+    pub fn new(alloc: Global, file: &Text) -> Result<Rows, AllocError>
+        ensures { IfOk result (λ rows. rows ≡ front_of file.now) }
+    {
+        let file = Text::of(String::from_str(alloc, file.as_str())?);
+        Ok(Rows {
+            file,
+            hold: Hold {
+                alloc,
+                row: ByteRecord::new(alloc),
+                run: Run::none(),
+                held: Held::new(alloc),
+                lines: 0,
+            },
+        })
+    }
+
+    /// Reads the next line that is not blank.
+    ///
+    /// What a call gives after one that answered anything but a row is not promised to be of use.
+    pub fn next_row<F: Files>(&mut self, files: &mut F) -> Result<Next, RowsFault>
+        // What was still to be read is what comes next, and behind it what is still to be read now.
+        ensures told { IfOk result (λ next. WhereTold (F.left files.old) (F.left files.new) (λ old new. ahead self.old old ≡ then_behind next (ahead self.new new))) }
+        ensures end { IfOk result (λ next. OnDone next (IsReadOut self.old.file (F.left files.new))) }
+        ensures range { IfOk result NextInRange }
+        ensures lines { IfOk result (CountsLines self.old.lines self.new.lines) }
+        ensures same { self.new.file ≡ self.old.file }
+
+        // It takes bytes from the front of its file alone, and a read fault has its cause there.
+        ensures taken { WhereTold (F.left files.old) (F.left files.new) (TakesFrom self.old.file) }
+        ensures counts { CountsOf (F.left files.old) self.old.file (F.faults files.old) (F.faults files.new) }
+        ensures cause { IsErrOf result RowsFault.ReadFault → Rose (F.faults files.old self.old.file) (F.faults files.new self.old.file) }
+    {
+        loop {
+            match self.hold.read_line(self.file.as_str(), files)? {
+                Step::Skip => {}
+                Step::Give(next) => return Ok(next),
+            }
+        }
+    }
+}
+
+/// What is held of a file: a run of lines, the bytes behind it, how many lines were read, and a record to read into.
+#[derive(Drop)]
+struct Hold {
+    alloc: Global,
+    row: ByteRecord,
+    run: Run,
+    held: Held,
+    lines: u32,
+}
+
+impl Hold {
+    // Reads one line.
+    fn read_line<F: Files>(&mut self, file: &str, files: &mut F) -> Result<Step, RowsFault>
+        ensures told { IfOk result (λ step. WhereTold (F.left files.old) (F.left files.new) (ReadsStep file.now self.old.lines (self.old.run ++ self.old.held) self.new.lines (self.new.run ++ self.new.held) step)) }
+        ensures end { IfOk result (λ step. StepOnDone step (IsReadOut file.now (F.left files.new))) }
+        ensures range { IfOk result StepInRange }
+        ensures lines { IfOk result (StepCounts self.old.lines self.new.lines) }
+        ensures taken { WhereTold (F.left files.old) (F.left files.new) (TakesFrom file.now) }
+        ensures counts { CountsOf (F.left files.old) file.now (F.faults files.old) (F.faults files.new) }
+        ensures cause { IsErrOf result RowsFault.ReadFault → Rose (F.faults files.old file.now) (F.faults files.new file.now) }
+    {
+        let Ok(found) = self.run.next(&mut self.row) else {
+            return Err(RowsFault::NoMemory);
+        };
+        if found {
+            return step_of_row(self.alloc, &self.row, &mut self.lines);
+        }
+        let found = self.held.fill(file, files)?;
+        if let Found::End = found {
+            return Ok(Step::Give(Next::Done { lines: self.lines }));
+        }
+        self.read_held(found)
+    }
+
+    // Reads the line at the front of the bytes that are held.
+    fn read_held(&mut self, found: Found) -> Result<Step, RowsFault>
+        requires found { IsFound self.old.held found }
+        requires some { found ≢ Found.End }
+        requires none { self.old.run ≡ [] }
+        ensures told { IfOk result (λ step. (coming : List ℕ) → (found ≡ Found.Last → coming ≡ [])
+            → read_bytes self.old.lines (self.old.held ++ coming) ≡ step_behind step (read_bytes self.new.lines (self.new.run ++ self.new.held ++ coming))) }
+        ensures end { IfOk result (λ step. StepOnDone step ⊥) }
+        ensures range { IfOk result StepInRange }
+        ensures lines { IfOk result (StepCounts self.old.lines self.new.lines) }
+        ensures cause { result ≢ Err RowsFault.ReadFault }
+    {
+        let Ok(run) = Run::take(self.alloc, &mut self.held) else {
+            return Err(RowsFault::NoMemory);
+        };
+        self.run = run;
+        let Ok(again) = self.run.next(&mut self.row) else {
+            return Err(RowsFault::NoMemory);
+        };
+        if again {
+            return step_of_row(self.alloc, &self.row, &mut self.lines);
+        }
+        if self.lines == u32::MAX {
+            return Ok(Step::Give(Next::TooManyLines));
+        }
+        self.lines += 1;
+        let Ok(line) = take_line(self.alloc, self.lines, found, &mut self.held) else {
+            return Err(RowsFault::NoMemory);
+        };
+        Ok(step_of(line, self.lines))
+    }
+}
+
+// Takes the line that was found off the front.
+fn take_line(alloc: Global, number: u32, found: Found, held: &mut Held) -> Result<Line, AllocError>
+    requires found { IsFound held.old found }
+    requires some { found ≢ Found.End }
+    ensures line { IfOk result
+        (λ line. (coming : List ℕ) → (found ≡ Found.Last → coming ≡ []) → BeginsWith number line held.old held.new coming) }
+    ensures range { IfOk result LineInRange }
+{
+    match found {
+        Found::Line(len) => {
+            let line = line_of(alloc, number, &held.bytes()[..len])?;
+            held.drop_front(len + 1);
+            Ok(line)
+        }
+        Found::Last => {
+            let line = line_of(alloc, number, held.bytes())?;
+            held.drop_front(held.bytes().len());
+            Ok(line)
+        }
+        Found::TooLong => Ok(Line::Bad),
+        Found::End => unreachable!(),
+    }
+}
+
+// What a line with this record gives, which is one more.
+fn step_of_row(alloc: Global, row: &ByteRecord, lines: &mut u32) -> Result<Step, RowsFault>
+    ensures value { IfOk result (λ step. step ≡ row_step lines.old (fields_of row.now)) }
+    ensures range { IfOk result StepInRange }
+    ensures lines { IfOk result (StepCounts lines.old lines.new) }
+    ensures counts { lines.old + 1 ≢ 2 ^ 32 → lines.new ≡ lines.old + 1 }
+    ensures end { IfOk result (λ step. StepOnDone step ⊥) }
+    ensures cause { result ≢ Err RowsFault.ReadFault }
+{
+    if *lines == u32::MAX {
+        return Ok(Step::Give(Next::TooManyLines));
+    }
+    *lines += 1;
+    let Ok(line) = line_of_record(alloc, row) else {
+        return Err(RowsFault::NoMemory);
+    };
+    Ok(step_of(line, *lines))
+}
+
+// What the line of this number gives.
+fn step_of(line: Line, number: u32) -> Step
+    ensures value { result ≡ step_of line number }
+    ensures range { LineInRange line → StepInRange result }
+    ensures end { StepOnDone result ⊥ }
+{
+    match line {
+        Line::Blank => Step::Skip,
+        Line::Bad => Step::Give(Next::Bad { line: number }),
+        Line::Row(row) => Step::Give(Next::Row { line: number, row }),
+    }
+}
