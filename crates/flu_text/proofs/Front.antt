@@ -17,7 +17,8 @@ use Rattle.flu_text.specs.Spelling.{reserved_spelling, mark_spelling}
 use Rattle.flu_text.specs.Grammar.{is_name_start, is_name_byte, is_text_byte, Starts, IsLexeme, Identifier, Digits, Quoted, Punctuation, Spells}
 use Rattle.flu_text.specs.Lexeme.{reserved_of, name_at, number_of, number_at, text_at, mark_of, mark_at, word_at}
 use Rattle.flu_text.specs.Layout.{NotFirst, makes_longer, Ends}
-use Rattle.flu_text.proofs.General.{within_read, chosen, mapped, and_left, and_both, list_all-prefix_len, prefix_len-longest, prefix_len-take, prefix_len_some, take_one_more}
+use Rattle.flu_lemmas.proofs.Tests.{and_left, both}
+use Rattle.flu_lemmas.proofs.Prefixes.{within_read, chosen, mapped, list_all-prefix_len, prefix_len-longest, prefix_len-take, prefix_len_some, take_one_more}
 use Rattle.flu_text.proofs.Tables.{reserved_of-spelling, reserved_is, reserved_bytes, reserved_starts, mark_of-spelling, mark_len, mark_is, long_mark, longer_mark}
 use Rattle.flu_text.proofs.Spelled.{starts_from_first, mark_first, spelled_is_read}
 
@@ -271,7 +272,7 @@ starts-append p [] t starts = absurd starts
 starts-append p (b ∷ s) t starts = starts
 
 all-append : (p : ℕ → Bool) (s : List ℕ) (b : ℕ) → list_all p s ≡ true → p b ≡ true → list_all p (s ++ b ∷ []) ≡ true
-all-append p s b all e = list_all-append p s (b ∷ []) ∙ and_both (list_all p s) (p b && true) all (rw e refl)
+all-append p s b all e = list_all-append p s (b ∷ []) ∙ both (list_all p s) (p b && true) all (rw e refl)
 
 identifier_longer : (s : List ℕ) (b : ℕ) → Starts is_name_start s → list_all is_name_byte s ≡ true → is_name_byte b ≡ true → IsLexeme (s ++ b ∷ [])
 identifier_longer s b starts bytes e = Identifier (starts-append is_name_start s (b ∷ []) starts) (all-append is_name_byte s b bytes e)

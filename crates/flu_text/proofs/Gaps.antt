@@ -7,7 +7,7 @@ use Rattle.std.proofs.lemmas.Bool.Decides.{nat_tests}
 use Rattle.std.specs.Prelude.{not}
 use Rattle.flu_text.specs.Grammar.{is_blank, IsInComment, IsBlankOrComment, IsGap}
 use Rattle.flu_text.specs.Reading.{gap_len, next_place}
-use Rattle.flu_text.proofs.General.{drop_none, drop_one_more}
+use Rattle.flu_lemmas.proofs.Prefixes.{drop_none, drop_one_more}
 
 gap_len-drop : (in_comment : Bool) (bytes : List ℕ) (i : ℕ) → i < length bytes → gap_len in_comment (drop i bytes) ≡ gap_len in_comment (get_or bytes i 0 ∷ drop (i + 1) bytes)
 gap_len-drop in_comment bytes i lt = rw (add-one, drop-cons bytes i 0)

@@ -15,7 +15,7 @@ use Rattle.flu_text.specs.Lexeme.{word_at}
 use Rattle.flu_text.specs.Reading.{gap_len, next_place, token_at}
 use Rattle.flu_text.specs.Layout.{Piece, layout, tokens_of, IsLaid}
 use Rattle.flu_text.specs.Laws.{LayoutIsRead, LayoutIsSpelled}
-use Rattle.flu_text.proofs.General.{and_left}
+use Rattle.flu_lemmas.proofs.Tests.{and_left}
 use Rattle.flu_text.proofs.Tables.{reserved_starts, mark_len}
 use Rattle.flu_text.proofs.Spelled.{starts_from_first, mark_first, spelled_is_read}
 use Rattle.flu_text.proofs.Gaps.{gap_is}

@@ -7,7 +7,7 @@ use Rattle.flu_text.specs.declared.words.Token.{Token}
 use Rattle.flu_text.specs.Grammar.{is_name_start, Starts, IsLexeme, Spells, IsToken}
 use Rattle.flu_text.specs.Lexeme.{word_at}
 use Rattle.flu_text.specs.Reading.{token_at}
-use Rattle.flu_text.proofs.General.{mapped}
+use Rattle.flu_lemmas.proofs.Prefixes.{mapped}
 use Rattle.flu_text.proofs.Tables.{reserved_len, mark_len}
 use Rattle.flu_text.proofs.Spelled.{length-quoted}
 use Rattle.flu_text.proofs.Front.{IsFront, word_front, front_word}

@@ -16,7 +16,7 @@ use Rattle.flu_text.specs.declared.words.Token.{Token}
 use Rattle.flu_text.specs.Spelling.{reserved_spelling, mark_spelling}
 use Rattle.flu_text.specs.Grammar.{is_name_byte, IsText, Spells, IsToken, LeadsTo, IsSpan, IsInside, IsInsideOfText}
 use Rattle.flu_text.specs.Laws.{EachIsToken, EachIsSpan, EachIsInside, TokensRise}
-use Rattle.flu_text.proofs.General.{drop_one_more}
+use Rattle.flu_lemmas.proofs.Prefixes.{drop_one_more}
 use Rattle.flu_text.proofs.Tables.{each_mark, reserved_bytes}
 use Rattle.flu_text.proofs.Spelled.{end_quote, length-quoted}
 use Rattle.flu_text.proofs.Places.{spelled_some, token_rises}

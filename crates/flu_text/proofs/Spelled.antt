@@ -15,7 +15,8 @@ use Rattle.flu_text.specs.Spelling.{reserved_spelling, mark_spelling}
 use Rattle.flu_text.specs.Grammar.{quote, number_sign, is_blank, is_name_start, is_name_byte, is_text_byte, Starts, IsText, Spells}
 use Rattle.flu_text.specs.Lexeme.{reserved_of, name_at, number_of, number_at, text_at, mark_at, word_at}
 use Rattle.flu_text.specs.Layout.{NotFirst, makes_longer, Ends}
-use Rattle.flu_text.proofs.General.{and_left, and_right, not_true, first_and_rest}
+use Rattle.flu_lemmas.proofs.Tests.{and_left, and_right, not_true}
+use Rattle.flu_lemmas.proofs.Prefixes.{first_and_rest}
 use Rattle.flu_text.proofs.Tables.{reserved_is, reserved_of-spelling, reserved_bytes, reserved_starts, reserved_len, mark_of-spelling, mark_starts, mark_len}
 
 -- a run of bytes that all pass, before one that does not

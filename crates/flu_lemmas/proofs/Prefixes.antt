@@ -1,6 +1,7 @@
--- Lists, runs and choices.
+-- The front of a list that passes a test, what is found in a list, and choices.
 use Rattle.std.proofs.Common.{◌≡◌, ℕ, suc, ◌+◌, ◌<◌, ◌≤◌, Bool, true, false, cond, ◌&&◌, List, [], ◌∷◌, ◌++◌, length, get_or, take, drop, Option, Some, None, refl, sym, subst, ◌⊎◌, inl, inr, ◌∙◌, ap, add-zero, add-one, arith}
 use Rattle.std.specs.Prelude.{option_map, not}
+use Rattle.flu_lemmas.proofs.Tests.{and_left, and_right}
 use Rattle.std.specs.List.{AllPass, list_all, prefix_len, find}
 use Rattle.std.proofs.Math.Seq.{drop-cons}
 use Rattle.std.proofs.lemmas.Bool.{cases_lt}
@@ -29,17 +30,6 @@ find_passes p (y ∷ ys) x e =
       | inr h ↦ find_passes p ys x h.1
     ]
 
-pub and_left : (a b : Bool) → (a && b) ≡ true → a ≡ true
-and_left true b e = refl
-and_left false b e = e
-
-pub and_right : (a b : Bool) → (a && b) ≡ true → b ≡ true
-and_right true b e = e
-and_right false b e = absurd cc
-
-pub and_both : (a b : Bool) → a ≡ true → b ≡ true → (a && b) ≡ true
-and_both a b p q = rw (p, q) refl
-
 -- what is found passes each test that all elements pass
 pub find_all : {X : Type 0} (p q : X → Bool) (xs : List X) (x : X) → find p xs ≡ Some x → list_all q xs ≡ true → q x ≡ true
 find_all p q [] x e all = absurd cc
@@ -67,10 +57,6 @@ prefix_len-longest p (x ∷ xs) rest all =
 
 pub prefix_len_some : (p : ℕ → Bool) (b : ℕ) (bytes : List ℕ) → p b ≡ true → 0 < prefix_len p (b ∷ bytes)
 prefix_len_some p b bytes e = rw e (omega arith)
-
-pub not_true : (b : Bool) → not b ≡ true → b ≡ false
-not_true true e = absurd cc
-not_true false e = refl
 
 -- a list with an element is that element and the rest
 pub first_and_rest : (s : List ℕ) → 0 < length s → s ≡ get_or s 0 0 ∷ drop 1 s

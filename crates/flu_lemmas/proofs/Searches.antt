@@ -4,11 +4,6 @@ use Rattle.std.specs.Prelude.{nat_lt, nat_le, ◌==◌, ◌&&◌, ◌||◌, not,
 use Rattle.std.specs.List.{list_any, range_with_len}
 use Rattle.std.proofs.lemmas.Grind.{common_steps}
 
-pub same_tests : (a b : Bool) → (a ≡ true → b ≡ true) → (b ≡ true → a ≡ true) → a ≡ b
-same_tests true b f g = sym (f refl)
-same_tests false true f g = g refl
-same_tests false false f g = refl
-
 pub eq_true : (a b : ℕ) → a ≡ b → (a == b) ≡ true
 eq_true a b e = grind (arith, common_steps)
 
