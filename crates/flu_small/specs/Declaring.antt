@@ -1,5 +1,5 @@
 -- What the lines of a small job declare.
-use Rattle.std.specs.Prelude.{◌≡◌, ◌≢◌, ℕ, ◌<◌, ◌≤◌, List, [], ◌∷◌, ◌++◌, length, Bool, true, false, ◌||◌, Option, Some, None, position, is_some, slice_get, slice_set}
+use Rattle.std.specs.Prelude.{◌≡◌, ◌≢◌, ℕ, ◌<◌, ◌≤◌, List, [], ◌∷◌, ◌++◌, length, Bool, true, false, ◌||◌, Some, None, position, is_some, slice_get, slice_set}
 use Rattle.std.specs.List.{AllZip, AllPairs}
 use Rattle.std.specs.Str.{bytes_eq}
 use Rattle.flu_model.specs.declared.jobs.Program.{Program}

@@ -1,5 +1,5 @@
 -- Which names a call reads.
-use Rattle.std.proofs.Common.{◌≡◌, refl, sym, ap, ◌∙◌, subst, ℕ, ◌≤◌, List, map, Option, Some, None, Ok, inl, inr, arith}
+use Rattle.std.proofs.Common.{◌≡◌, refl, sym, ◌∙◌, subst, ℕ, ◌≤◌, List, Option, Some, None, Ok, inl, inr, arith}
 use Rattle.flu_outside.specs.Outside.{Contents, WhereTold, Rose}
 use Rattle.flu_model.specs.declared.jobs.Program.{Program}
 use Rattle.flu_small.specs.Declaring.{IsSmallJob}

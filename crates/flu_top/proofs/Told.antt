@@ -1,5 +1,5 @@
 -- Facts on what is told of the outside.
-use Rattle.std.proofs.Common.{◌≡◌, refl, sym, ap, ◌∙◌, subst, ℕ, ◌+◌, ◌-◌, ◌≤◌, List, [], ◌∷◌, ◌++◌, length, get_or, map, take, drop, Option, Some, None, unwrap_or, Bool, true, false, Result, Ok, Err, OnErr, OnOk, arith, append_assoc, append-nil, length-append}
+use Rattle.std.proofs.Common.{◌≡◌, refl, sym, ap, ◌∙◌, ℕ, ◌+◌, ◌-◌, ◌≤◌, List, [], ◌∷◌, ◌++◌, length, get_or, map, take, drop, Option, Some, None, unwrap_or, Bool, true, false, Result, Ok, Err, OnErr, OnOk, arith, append_assoc, append-nil, length-append}
 use Rattle.std.proofs.Math.Seq.{take-append-add}
 use denote.Bor.{Bor}
 use Rattle.std.specs.List.{concat}
@@ -7,9 +7,9 @@ use Rattle.std.specs.Str.{bytes_eq}
 use Rattle.std.proofs.lemmas.Bool.{false≢true}
 use Rattle.std.proofs.lemmas.List.{take-append-le, take-append-drop, take_all}
 use Rattle.std.proofs.lemmas.Slice.Eq.{bytes_eq-Decides}
-use Rattle.flu_outside.specs.Outside.{WhereTold, Contents, Takes, Appends, SameLeft}
+use Rattle.flu_outside.specs.Outside.{WhereTold, Contents, Takes, SameLeft}
 use Rattle.flu_report.specs.Writing.{AppendsAll, AppendsPart}
-use Rattle.flu_top.specs.Taking.{TookFront, TookAll, TookSome, TookFronts, TookOnly}
+use Rattle.flu_top.specs.Taking.{TookFront, TookAll, TookSome, TookFronts}
 
 pub told_then : {A : Type 0} (P Q R : A → A → Type 0) (a b c : Option A) → WhereTold a b P → WhereTold b c Q → ((x y z : A) → P x y → Q y z → R x z) → WhereTold a c R
 told_then P Q R None None None h k f = tt

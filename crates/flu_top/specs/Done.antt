@@ -1,5 +1,5 @@
 -- What a call that folds a job has done.
-use Rattle.std.specs.Prelude.{◌≡◌, ℕ, List, [], ◌++◌, slice_get, Option, Some, None, ⊤, ◌⊎◌, Result, Ok}
+use Rattle.std.specs.Prelude.{◌≡◌, ℕ, List, [], ◌++◌, slice_get, Option, Some, None, ⊤, ◌⊎◌, Ok}
 use Rattle.std.specs.Option.{option_map_or}
 use Rattle.flu_outside.specs.Outside.{Contents}
 use Rattle.flu_model.specs.declared.events.Item.{Item}

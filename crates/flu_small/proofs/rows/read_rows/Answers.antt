@@ -1,5 +1,5 @@
-use Rattle.std.proofs.Common.{◌≡◌, ◌<◌, ◌++◌, ◌∷◌, [], ℕ, List, refl, sym, ◌∙◌, ap, subst, length, length-append, append-nil, append_assoc, All, arith}
-use Rattle.std.specs.List.{flat_map, AllZip, AllPairs}
+use Rattle.std.proofs.Common.{◌<◌, ◌++◌, ◌∷◌, [], List, refl, ◌∙◌, ap, subst, length, length-append, append-nil, All, arith}
+use Rattle.std.specs.List.{flat_map}
 use Rattle.std.proofs.lemmas.List.Quantifiers.{all_pairs_push}
 use Rattle.std.proofs.lemmas.Bool.Decides.{nat_tests}
 use Rattle.flu_model.specs.declared.events.Event.{Event}

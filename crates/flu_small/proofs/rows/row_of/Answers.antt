@@ -1,4 +1,4 @@
-use Rattle.std.proofs.Common.{◌≡◌, sym, ◌∙◌, ap, subst, Bool, drop, codes, ◌∷◌, [], to_z, of_z, w64, arith}
+use Rattle.std.proofs.Common.{◌≡◌, sym, ◌∙◌, ap, subst, Bool, drop, ◌∷◌, [], to_z, of_z, w64, arith}
 use Rattle.std.proofs.lemmas.Int.{ints, to_z-of_z}
 use Rattle.csv.specs.Records.{fields_of}
 use Rattle.flu_small.specs.declared.rows.Row.{Row}

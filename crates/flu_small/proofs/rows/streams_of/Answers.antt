@@ -1,5 +1,3 @@
-use Rattle.std.proofs.Common.{◌≡◌, true, sym, ap, ◌∙◌, subst}
-use Rattle.flu_model.specs.Streaming.{are_streams}
 use Rattle.flu_small.specs.Rows as rows
 use Rattle.flu_small.proofs.Fields.{list_more}
 use Rattle.flu_small.proofs.Items.{are_streams-streams_of}

@@ -1,7 +1,7 @@
-use Rattle.std.proofs.Common.{◌≡◌, sym, ◌∙◌, ap, subst, Bool, drop, to_z, of_z, w64, arith}
+use Rattle.std.proofs.Common.{◌≡◌, sym, ◌∙◌, subst, Bool, drop, to_z, of_z, w64, arith}
 use Rattle.std.proofs.lemmas.Int.{ints, to_z-of_z}
 use Rattle.csv.specs.Records.{fields_of}
-use Rattle.flu_small.specs.Rows.{IsValueOf, IsValue}
+use Rattle.flu_small.specs.Rows.{IsValueOf}
 use Rattle.flu_small.proofs.Fields.{third_field}
 use Rattle.flu_small.proofs.rows.value_in.Goals as goal
 

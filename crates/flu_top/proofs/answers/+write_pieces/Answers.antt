@@ -1,4 +1,4 @@
-use Rattle.std.proofs.Common.{◌≡◌, List, ℕ, [], map, take, drop, length, get_or, ◌-◌, sym, subst}
+use Rattle.std.proofs.Common.{List, ℕ, [], map, take, drop, length, get_or, ◌-◌, sym, subst}
 use Rattle.std.specs.List.{concat}
 use Rattle.flu_outside.specs.Outside.{WhereTold}
 use Rattle.flu_report.specs.Writing.{AppendsAll, AppendsPart}

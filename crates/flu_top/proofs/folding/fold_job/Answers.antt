@@ -1,5 +1,5 @@
-use Rattle.std.proofs.Common.{◌≡◌, List, ℕ}
-use Rattle.flu_outside.specs.Outside.{Contents, WhereTold}
+use Rattle.std.proofs.Common.{List, ℕ}
+use Rattle.flu_outside.specs.Outside.{Contents}
 use Rattle.flu_top.specs.Taking.{TookAll, TookSome, TookFronts, TookOnly}
 use Rattle.flu_top.specs.Done.{IsFolded, IsRun, IsReadName, file_of}
 use Rattle.flu_top.proofs.Told.{told_then, told_as, some_fronts, fronts_then}

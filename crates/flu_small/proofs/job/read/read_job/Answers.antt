@@ -1,4 +1,4 @@
-use Rattle.std.proofs.Common.{◌≡◌, refl, sym, ap, ◌∙◌, [], ◌∷◌, ◌++◌, All, length, length-append, append-nil, subst, arith}
+use Rattle.std.proofs.Common.{refl, ap, ◌∙◌, [], ◌∷◌, ◌++◌, length, length-append, append-nil, subst, arith}
 use Rattle.std.proofs.lemmas.List.Elements.{All-push}
 use Rattle.flu_small.specs.Job.{spelled, IsDeclaration}
 use Rattle.std.specs.List.{flat_map}

@@ -1,9 +1,8 @@
-use Rattle.std.proofs.Common.{◌≡◌, refl, sym, ap, ◌∙◌, subst, ℕ, Bool, List, [], length, ◌<◌, Some, arith}
-use Rattle.std.specs.List.{AllZip, slice_get}
+use Rattle.std.proofs.Common.{◌≡◌, refl, sym, ap, ◌∙◌, subst, Bool, length, ◌<◌, arith}
+use Rattle.std.specs.List.{AllZip}
 use Rattle.std.proofs.lemmas.List.{get_or_default}
 use Rattle.std.proofs.lemmas.Option.{slice_get_read}
 use Rattle.std.proofs.lemmas.Bool.Decides.{nat_tests}
-use Rattle.flu_model.specs.declared.jobs.Kind.{Kind}
 use Rattle.flu_small.specs.Declaring.{MeansAct}
 use Rattle.flu_small.specs.Draft.{drafted}
 use Rattle.flu_small.proofs.Zips.{empty_list}

@@ -1,5 +1,4 @@
-use Rattle.std.proofs.Common.{◌≢◌, ◌==◌, ◌∷◌, [], ◌<◌, vec_len, ap, ◌∙◌, sym, length, length-append, arith}
-use Rattle.std.proofs.lemmas.List.Elements.{All-push}
+use Rattle.std.proofs.Common.{◌≢◌, ◌==◌, sym}
 use Rattle.std.proofs.lemmas.List.Quantifiers.{all_pairs_push}
 use Rattle.flu_model.specs.declared.jobs.TagRef.{TagRef}
 use Rattle.flu_small.specs.Declaring.{IsTag}

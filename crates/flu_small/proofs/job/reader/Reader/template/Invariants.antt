@@ -1,4 +1,4 @@
-use Rattle.std.proofs.Common.{◌≡◌, ◌++◌, All, codes}
+use Rattle.std.proofs.Common.{◌≡◌, ◌++◌, All}
 use Rattle.std.specs.List.{flat_map}
 use Rattle.flu_small.specs.Job.{piece_spelled, IsPiece}
 use Rattle.flu_small.proofs.job.reader.Reader.template.Given as goal
