@@ -1,0 +1,12 @@
+//! The streams of a job's sources, or the first fault of their rows (`docs/LANGUAGE.md`, "Rows").
+#![tactic(auto)]
+
+mod faults;
+mod gather;
+mod intake;
+mod items;
+mod source;
+mod tags;
+
+pub use faults::{GatherFault, SourceFault, Why};
+
