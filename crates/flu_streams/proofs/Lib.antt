@@ -2,3 +2,5 @@ pub mod Places
 pub mod Growing
 pub mod Befores
 pub mod Taken
+pub mod Gatherings
+pub mod Streamings

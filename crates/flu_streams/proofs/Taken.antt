@@ -52,17 +52,17 @@ one_option (Some y) = refl
 filter_one : {X Y : Type 0} (f : X → Option Y) (x : X) → filter_map f (x ∷ []) ≡ option_to_list (f x)
 filter_one f x = one_option (f x)
 
-filter_more : {X Y : Type 0} (f : X → Option Y) (xs : List X) (x : X) → filter_map f (xs ++ (x ∷ [])) ≡ filter_map f xs ++ option_to_list (f x)
+pub filter_more : {X Y : Type 0} (f : X → Option Y) (xs : List X) (x : X) → filter_map f (xs ++ (x ∷ [])) ≡ filter_map f xs ++ option_to_list (f x)
 filter_more f xs x = filter_map-append f xs (x ∷ []) ∙ ap (λ rest. filter_map f xs ++ rest) (filter_one f x)
 
 or-false : (b : Bool) → (b || false) ≡ b
 or-false true = refl
 or-false false = refl
 
-last_more : (rows : List Row) (row : Row) → last_time (rows ++ (row ∷ [])) ≡ or_else (time_in row) (last_time rows)
+pub last_more : (rows : List Row) (row : Row) → last_time (rows ++ (row ∷ [])) ≡ or_else (time_in row) (last_time rows)
 last_more rows row = ap last_of (filter_more time_in rows row) ∙ last_of-more (filter_map time_in rows) (time_in row)
 
-ended_more : (rows : List Row) (row : Row) → has_ended (rows ++ (row ∷ [])) ≡ (has_ended rows || is_end row)
+pub ended_more : (rows : List Row) (row : Row) → has_ended (rows ++ (row ∷ [])) ≡ (has_ended rows || is_end row)
 ended_more rows row = list_any-append is_end rows (row ∷ []) ∙ ap (λ b. has_ended rows || b) (or-false (is_end row))
 
 items_more : (itags : ℕ) (rows : List Row) (row : Row) → items_of itags (rows ++ (row ∷ [])) ≡ items_of itags rows + items_in itags row
@@ -112,7 +112,7 @@ fault_at_row : (kinds : List Kind) (s : Source) (number before : ℕ) (read : Li
 fault_at_row kinds s number before read intake row h = rw (h.ended, h.last, h.held) refl
 
 -- ---- a row that is taken in
-rows_more : (read : List Next) (line : ℕ) (row : Row) → rows_of (read ++ (RowNext line row ∷ [])) ≡ rows_of read ++ (row ∷ [])
+pub rows_more : (read : List Next) (line : ℕ) (row : Row) → rows_of (read ++ (RowNext line row ∷ [])) ≡ rows_of read ++ (row ∷ [])
 rows_more read line row = filter_more row_in read (RowNext line row)
 
 pub taken_more : (kinds : List Kind) (s : Source) (number before : ℕ) (read : List Next) (line : ℕ) (row : Row) (old new : Intake) → IsTakenIn kinds s number before read old → TakesIn kinds s row old new
@@ -185,7 +185,7 @@ done_if_none ended TooManyLines other e = absurd cc
 done_if_none true (Done lines) other e = (refl, λ fact h. h)
 done_if_none false (Done lines) other e = absurd cc
 
-no_row_more : (read : List Next) (next : Next) → IsNoRow next → rows_of (read ++ (next ∷ [])) ≡ rows_of read
+pub no_row_more : (read : List Next) (next : Next) → IsNoRow next → rows_of (read ++ (next ∷ [])) ≡ rows_of read
 no_row_more read (RowNext line row) other = absurd (other line row refl)
 no_row_more read (Bad line) other = filter_more row_in read (Bad line) ∙ append-nil (rows_of read)
 no_row_more read TooManyLines other = filter_more row_in read TooManyLines ∙ append-nil (rows_of read)

@@ -6,3 +6,4 @@ pub mod Files
 pub mod Lists
 pub mod Intake
 pub mod Source
+pub mod Gathering

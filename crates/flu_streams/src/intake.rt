@@ -78,6 +78,13 @@ impl Intake {
         }
     }
 
+    /// The lists of items.
+    pub(crate) fn into_lists(self) -> Vec<Vec<Item>>
+        ensures { result ≡ self.lists }
+    {
+        self.lists
+    }
+
     // Takes an event in, of the itag at this place.
     fn event(&mut self, place: u32, time: u64, value: i64) -> Result<(), Refusal>
         requires { place < vec_len self.old.lists }

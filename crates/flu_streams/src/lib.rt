@@ -3,6 +3,7 @@
 
 mod faults;
 mod gather;
+mod gathered;
 mod intake;
 mod items;
 mod source;

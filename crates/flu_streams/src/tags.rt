@@ -100,6 +100,18 @@ fn place_in(keys: &Keys, key: u32) -> Option<u32>
     }
 }
 
+/// How many tags are listed.
+pub(crate) fn tag_count(tags: &[TagRef]) -> u32
+    requires { length (flat_map listed_tags tags.now) ≤ 256 }
+    ensures { result ≡ length (flat_map listed_tags tags.now) }
+{
+    let mut count = 0;
+    for listed in tags {
+        count += key_count(&listed.keys);
+    }
+    count
+}
+
 // How many keys are listed.
 fn key_count(keys: &Keys) -> u32
     requires { length (listed_keys keys.now) ≤ 256 }
