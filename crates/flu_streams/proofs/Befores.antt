@@ -7,7 +7,7 @@ pub with_before-append : {X : Type 0} (before xs ys : List X) → with_before be
 with_before-append before [] ys = rw append-nil refl
 with_before-append before (x ∷ xs) ys =
     let more : with_before (before ++ x ∷ []) (xs ++ ys) ≡ with_before (before ++ x ∷ []) xs ++ with_before (before ++ (x ∷ xs)) ys =
-        rw (← append_assoc before (x ∷ []) xs) (with_before-append (before ++ x ∷ []) xs ys) in
+    rw (← append_assoc before (x ∷ []) xs) (with_before-append (before ++ x ∷ []) xs ys) in
     ap (λ rest. (before, x) ∷ rest) more
 
 or_else-assoc : {X : Type 0} (a b c : Option X) → or_else a (or_else b c) ≡ or_else (or_else a b) c

@@ -4,3 +4,4 @@ pub mod Befores
 pub mod Taken
 pub mod Gatherings
 pub mod Streamings
+pub mod Turns

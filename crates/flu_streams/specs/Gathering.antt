@@ -1,10 +1,10 @@
 -- How sources are read, one after another.
-use Rattle.std.specs.Prelude.{◌≡◌, ℕ, ◌+◌, Bool, true, Option, Some, None, List, [], ◌++◌, length, sum_by, vec_len, ⊤}
+use Rattle.std.specs.Prelude.{◌≡◌, ℕ, ◌+◌, ◌<◌, true, Option, Some, None, List, [], ◌++◌, length, sum_by, vec_len, ⊤}
 use Rattle.std.specs.List.{flat_map}
 use Rattle.flu_model.specs.declared.jobs.Kind.{Kind}
 use Rattle.flu_model.specs.declared.jobs.Source.{Source}
+use Rattle.flu_model.specs.declared.jobs.Program.{Program}
 use Rattle.flu_model.specs.declared.events.Item.{Item}
-use Rattle.flu_model.specs.Streaming.{are_streams}
 use Rattle.flu_outside.specs.Outside.{Contents, WhereTold}
 use Rattle.flu_rows.specs.declared.rows.Next.{Next}
 use Rattle.flu_rows.specs.Taking.{bytes_left}
@@ -16,7 +16,7 @@ use Rattle.flu_streams.specs.declared.source.Stop.TheVariants.{Defect, ReadFault
 use Rattle.flu_streams.specs.Before.{each_with_before, first_some}
 use Rattle.flu_streams.specs.Tags.{width}
 use Rattle.flu_streams.specs.Tests.{rows_of, has_ended, items_of, first_of, first_defect}
-use Rattle.flu_streams.specs.Good.{rows_in, items_held, fault_of_source, lists_of_rows}
+use Rattle.flu_streams.specs.Good.{rows_in, items_held, fault_of_source, first_fault, lists_of_rows}
 use Rattle.flu_streams.specs.Lists.{lists_in}
 use Rattle.flu_streams.specs.Source.{WasRead}
 use Rattle.flu_streams.specs.Files.{files_of, LeavesOthers}
@@ -55,3 +55,9 @@ pub record IsGathered (kinds : List Kind) (sources : List Source) (gathered : Ga
   pub lists : lists_in gathered.lists ≡ lists_of_sources kinds old sources
   pub held : gathered.held ≡ items_held old sources
   pub others : LeavesOthers (files_of sources) old new
+
+-- a fault of a source is the first of all, and names a declared source
+abbrev pub IsFirstFault : Program → Option Contents → Option Contents → GatherFault → Type 0
+IsFirstFault p left left' (SourceFaulty f) = (f.source < length p.sources) × WhereTold left left' (λ was now. first_fault p was ≡ Some f)
+IsFirstFault p left left' ReadFault = ⊤
+IsFirstFault p left left' NoMemory = ⊤

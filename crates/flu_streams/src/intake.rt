@@ -5,7 +5,7 @@ ghost use Rattle.std.specs.Prelude.{◌≡◌, ◌≤◌, ◌<◌, ◌+◌, fals
 use crate::faults::Why;
 use crate::items::{empty_lists, push_at, push_each};
 use crate::tags::place_of_event;
-use flu_model::{Event, Item, Itag, Kind, Source};
+use flu_model::{Event, Itag, Item, Kind, Source};
 use flu_rows::Row;
 use std::alloc::{AllocError, Global};
 
@@ -38,7 +38,12 @@ impl Intake {
     ghost use Rattle.flu_streams.specs.Intake.{IsEmpty, TakesIn, TakesEvent, TakesBeat, TakesEnd, IsRefusal, fault_at};
 
     /// Nothing of a source with so many itags, where so many items of other sources are held.
-    pub(crate) fn new(alloc: Global, first: u32, width: u32, held: u64) -> Result<Intake, AllocError>
+    pub(crate) fn new(
+        alloc: Global,
+        first: u32,
+        width: u32,
+        held: u64,
+    ) -> Result<Intake, AllocError>
         requires few { held ≤ 16777216 }
         requires numbered { first + width ≤ 256 }
         ensures { IfOk result (IsEmpty first width held) }

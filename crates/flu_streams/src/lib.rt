@@ -2,12 +2,12 @@
 #![tactic(auto)]
 
 mod faults;
-mod gather;
 mod gathered;
 mod intake;
 mod items;
+mod reading;
 mod source;
 mod tags;
 
 pub use faults::{GatherFault, SourceFault, Why};
-
+pub use reading::gather;

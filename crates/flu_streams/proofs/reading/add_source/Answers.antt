@@ -6,7 +6,7 @@ use Rattle.flu_streams.specs.Tags.{width}
 use Rattle.flu_streams.specs.Tests.{rows_of}
 use Rattle.flu_streams.specs.Good.{lists_of_rows}
 use Rattle.flu_streams.proofs.Gatherings.{lists_held}
-use Rattle.flu_streams.proofs.gather.add_source.Goals as goal
+use Rattle.flu_streams.proofs.reading.add_source.Goals as goal
 
 pub returns-clause-added : goal.returns-clause-added
 returns-clause-added g c =
