@@ -61,7 +61,7 @@ NextInRange (Done number) = ⊤
 -- the line of a row or of a bad row is the last that was read, and stands behind those that were read before; at the
 -- file's end as many were read
 abbrev pub CountsLines : ℕ → ℕ → Next → Type 0
-CountsLines before now (Row number row) = (before < number) × (now ≡ number)
+CountsLines before now (Row number row) = (before < number) × (now ≡ number) × (number < 2 ^ 32)
 CountsLines before now (Bad number) = (before < number) × (now ≡ number)
 CountsLines before now TooManyLines = now + 1 ≡ 2 ^ 32
 CountsLines before now (Done number) = (before ≤ number) × (now ≡ number)

@@ -45,7 +45,7 @@ StepInRange (Give next) = NextInRange next
 -- how many lines were read before a step and behind it
 abbrev pub StepCounts : ℕ → ℕ → Step → Type 0
 StepCounts before now Skip = (now ≡ before + 1) × (now < 2 ^ 32)
-StepCounts before now (Give (Row number row)) = (number ≡ before + 1) × (now ≡ number)
+StepCounts before now (Give (Row number row)) = (number ≡ before + 1) × (now ≡ number) × (number < 2 ^ 32)
 StepCounts before now (Give (Bad number)) = (number ≡ before + 1) × (now ≡ number)
 StepCounts before now (Give TooManyLines) = (now ≡ before) × (now + 1 ≡ 2 ^ 32)
 StepCounts before now (Give (Done number)) = (number ≡ before) × (now ≡ number)

@@ -1,0 +1,127 @@
+use Rattle.std.proofs.Common.{◌≡◌, ◌+◌, ◌<◌, ◌≤◌, ◌++◌, ◌∷◌, [], ℕ, List, length, take, drop, vec_len, Result, Err, refl, sym, ap, ◌∙◌, rules, arith}
+use Rattle.std.specs.Prelude.{sum_by, IsErrOf}
+use Rattle.std.proofs.lemmas.List.{take_all, length-map}
+use Rattle.std.proofs.lemmas.List.Sums.{sum_by-append}
+use Rattle.flu_model.specs.declared.jobs.Source.{Source}
+use Rattle.flu_model.specs.Listed.{listed}
+use Rattle.flu_outside.specs.Outside.{WhereTold}
+use Rattle.flu_rows.proofs.Told.{told_weaker, rose_behind}
+use Rattle.flu_streams.specs.declared.faults.GatherFault.TheVariants.{ReadFault}
+use Rattle.flu_streams.specs.Files.{files_of, LeavesOthers, CountsOfNames, AreReadOut}
+use Rattle.flu_streams.specs.Gathering.{IsGathered, IsFirstFault, lists_of_sources}
+use Rattle.flu_streams.specs.Good.{AreGood, lists_of}
+use Rattle.flu_streams.specs.Lists.{lists_in}
+use Rattle.flu_streams.specs.Tags.{width}
+use Rattle.flu_streams.proofs.Gatherings.{total_width, gathered_more, gathered_fault, streams_more, others_at, counts_at, there_more, counts_more, out_more, files_more, among_sources}
+use Rattle.flu_streams.proofs.Turns.{turn}
+use Rattle.flu_streams.proofs.reading.gather.Goals as goal
+
+err_same : {T E : Type 0} (r : Result T E) (x y : E) → r ≡ Err x → IsErrOf r y → x ≡ y
+err_same r x y is e = let same : Err x ≡ Err y = sym is ∙ e in cc
+
+pub add_source-requires-clause-numbered : goal.add_source-requires-clause-numbered
+add_source-requires-clause-numbered g c =
+    let p = c.args.p.now in
+    let s = c.source-item.result in
+    let t = turn p c.items-source-items.result.now c.loop-source.source-index s c.items-source-items.ensures c.loop-source-test.true c.source-item.is in
+    omega (arith, t.narrow, c.loop-source.invariant.len)
+
+pub returns-in-Err-clause-fault : goal.returns-in-Err-clause-fault
+returns-in-Err-clause-fault g c =
+    let left = g.F.Files.left in
+    let p = c.args.p.now in
+    let i = c.loop-source.source-index in
+    let s = c.source-item.result in
+    let t = turn p c.items-source-items.result.now i s c.items-source-items.ensures c.loop-source-test.true c.source-item.is in
+    gathered_fault p (take i p.sources) (drop (i + 1) p.sources) s c.loop-source.gathered c.loop-source.gathered.number c.in-Err.fault (left c.args.files.now) (left c.loop-source.files) (left c.add_source.new.files)
+    t.split (c.loop-source.invariant.number ∙ t.size) t.apart c.loop-source.invariant.told (rw c.items.ensures at c.in-Err.ensures.fault)
+
+pub returns-in-Err-clause-others : goal.returns-in-Err-clause-others
+returns-in-Err-clause-others g c =
+    let left = g.F.Files.left in
+    let p = c.args.p.now in
+    let i = c.loop-source.source-index in
+    let s = c.source-item.result in
+    let t = turn p c.items-source-items.result.now i s c.items-source-items.ensures c.loop-source-test.true c.source-item.is in
+    let k = others_at p.kinds (take i p.sources) (drop (i + 1) p.sources) s c.loop-source.gathered (left c.args.files.now) (left c.loop-source.files) (left c.add_source.new.files) c.loop-source.invariant.told c.in-Err.ensures.taken in
+    rw (← t.split) at k
+
+pub returns-in-Err-clause-counts : goal.returns-in-Err-clause-counts
+returns-in-Err-clause-counts g c =
+    let left = g.F.Files.left in
+    let faults = g.F.Files.faults in
+    let p = c.args.p.now in
+    let i = c.loop-source.source-index in
+    let s = c.source-item.result in
+    let t = turn p c.items-source-items.result.now i s c.items-source-items.ensures c.loop-source-test.true c.source-item.is in
+    let k = counts_at (take i p.sources) (drop (i + 1) p.sources) s (left c.args.files.now) (left c.loop-source.files) (faults c.args.files.now) (faults c.loop-source.files) (faults c.add_source.new.files) c.loop-source.invariant.there c.loop-source.invariant.counts c.in-Err.ensures.counts in
+    rw (← t.split) at k
+
+pub returns-in-Err-clause-cause : goal.returns-in-Err-clause-cause
+returns-in-Err-clause-cause g c = λ is_fault.
+    let faults = g.F.Files.faults in
+    let p = c.args.p.now in
+    let i = c.loop-source.source-index in
+    let s = c.source-item.result in
+    let t = turn p c.items-source-items.result.now i s c.items-source-items.ensures c.loop-source-test.true c.source-item.is in
+    let among = rw (← t.split) at (among_sources (take i p.sources) (drop (i + 1) p.sources) s) in
+    (s.file, among, rose_behind (faults c.args.files.now s.file) (faults c.loop-source.files s.file) (faults c.add_source.new.files s.file) (c.loop-source.invariant.counts.rise s.file) (c.add_source.ensures.cause (rw (c.in-Err.is, err_same (Err c.in-Err.fault) c.in-Err.fault ReadFault refl is_fault) refl)))
+
+pub loop-source-preserved : goal.loop-source-preserved
+loop-source-preserved g c =
+    let left = g.F.Files.left in
+    let faults = g.F.Files.faults in
+    let old = c.args.files.now in
+    let mid = c.loop-source.files in
+    let new = c.add_source.new.files in
+    let p = c.args.p.now in
+    let i = c.loop-source.source-index in
+    let s = c.source-item.result in
+    let earlier = take i p.sources in
+    let t = turn p c.items-source-items.result.now i s c.items-source-items.ensures c.loop-source-test.true c.source-item.is in
+    let adds = rw c.items.ensures at c.in_default.ensures.added in
+    let taken = c.in_default.ensures.taken in
+    let one : sum_by width (take (i + 1) p.sources) ≡ sum_by width earlier + width s = rw t.more (sum_by-append width earlier (s ∷ []) ∙ omega arith) in
+    let names : files_of (take (i + 1) p.sources) ≡ files_of earlier ++ (s.file ∷ []) = rw t.more (files_more earlier s) in
+    record {
+      number = omega (arith, adds.number, c.loop-source.invariant.number);
+      len = omega (arith, adds.len, one, c.loop-source.invariant.len);
+      streams = streams_more p.kinds s (left mid) (left new) c.loop-source.gathered c.add_source.new.gathered adds c.loop-source.invariant.streams;
+      told = rw t.more (gathered_more p.kinds earlier s c.loop-source.gathered c.add_source.new.gathered (left old) (left mid) (left new) c.loop-source.invariant.told adds taken c.loop-source.invariant.len t.apart);
+      out = rw names (out_more (files_of earlier) s.file (left mid) (left new) taken t.apart c.loop-source.invariant.out c.in_default.ensures.read_out);
+      counts = rw names (counts_more (left old) (left mid) (files_of earlier) s.file (faults old) (faults mid) (faults new) c.loop-source.invariant.there c.loop-source.invariant.counts c.in_default.ensures.counts);
+      there = there_more s.file (left old) (left mid) (left new) taken c.loop-source.invariant.there;
+    }
+
+pub returns-clause-good : goal.returns-clause-good
+returns-clause-good g c =
+    let left = g.F.Files.left in
+    let p = c.args.p.now in
+    let all : take c.loop-source.source-index p.sources ≡ p.sources = take_all c.loop-source.source-index p.sources (omega (arith, ap length c.items-source-items.ensures)) in
+    let told = rw all at c.loop-source.invariant.told in
+    told_weaker (IsGathered p.kinds p.sources c.loop-source.gathered) (λ old new. AreGood p old) (left c.args.files.now) (left c.loop-source.files) (λ x y k. k.good) told
+
+pub returns-clause-lists : goal.returns-clause-lists
+returns-clause-lists g c =
+    let left = g.F.Files.left in
+    let p = c.args.p.now in
+    let all : take c.loop-source.source-index p.sources ≡ p.sources = take_all c.loop-source.source-index p.sources (omega (arith, ap length c.items-source-items.ensures)) in
+    let told = rw all at c.loop-source.invariant.told in
+    let same : listed c.new-2.result ≡ lists_in c.loop-source.gathered.lists = c.new-2.ensures ∙ ap lists_in c.into_lists.ensures in
+    told_weaker (IsGathered p.kinds p.sources c.loop-source.gathered) (λ old new. listed c.new-2.result ≡ lists_of p old) (left c.args.files.now) (left c.loop-source.files) (λ x y k. same ∙ k.lists) told
+
+pub returns-clause-itags : goal.returns-clause-itags
+returns-clause-itags g c =
+    let p = c.args.p.now in
+    let all : take c.loop-source.source-index p.sources ≡ p.sources = take_all c.loop-source.source-index p.sources (omega (arith, ap length c.items-source-items.ensures)) in
+    let same : listed c.new-2.result ≡ lists_in c.loop-source.gathered.lists = c.new-2.ensures ∙ ap lists_in c.into_lists.ensures in
+    let len = rw all at c.loop-source.invariant.len in
+    rw same (simp length-map (omega (arith, len, c.loop-source.gathered.lists.ok.0, total_width 0 p.sources)))
+
+pub returns-clause-others : goal.returns-clause-others
+returns-clause-others g c =
+    let left = g.F.Files.left in
+    let p = c.args.p.now in
+    let all : take c.loop-source.source-index p.sources ≡ p.sources = take_all c.loop-source.source-index p.sources (omega (arith, ap length c.items-source-items.ensures)) in
+    let told = rw all at c.loop-source.invariant.told in
+    told_weaker (IsGathered p.kinds p.sources c.loop-source.gathered) (LeavesOthers (files_of p.sources)) (left c.args.files.now) (left c.loop-source.files) (λ x y k. k.others) told

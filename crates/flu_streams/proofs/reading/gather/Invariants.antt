@@ -1,0 +1,24 @@
+use Rattle.std.proofs.Common.{◌≡◌, ℕ, List, true, take, vec_len}
+use Rattle.std.specs.Prelude.{sum_by}
+use Rattle.flu_model.specs.Streaming.{are_streams}
+use Rattle.flu_outside.specs.Outside.{WhereTold, IsThere}
+use Rattle.flu_streams.specs.Files.{files_of, CountsOfNames, AreReadOut}
+use Rattle.flu_streams.specs.Gathering.{IsGathered}
+use Rattle.flu_streams.specs.Lists.{lists_in}
+use Rattle.flu_streams.specs.Tags.{width}
+use Rattle.flu_streams.proofs.reading.gather.Given as goal
+
+abbrev pub invariant-loop-source : goal.invariant-loop-source
+invariant-loop-source g l =
+    let left = g.F.Files.left in
+    let faults = g.F.Files.faults in
+    let earlier = take l.source-index l.p.sources in
+    record {
+      number : l.gathered.number ≡ l.source-index;
+      len : vec_len l.gathered.lists ≡ sum_by width earlier;
+      streams : are_streams 0 (lists_in l.gathered.lists) ≡ true;
+      told : WhereTold (left l.fn.files) (left l.files) (IsGathered l.p.kinds earlier l.gathered);
+      out : AreReadOut (files_of earlier) (left l.files);
+      counts : CountsOfNames (left l.fn.files) (files_of earlier) (faults l.fn.files) (faults l.files);
+      there : (n : List ℕ) → IsThere (left l.fn.files) n → IsThere (left l.files) n;
+    }

@@ -1,0 +1,19 @@
+use Rattle.std.proofs.Common.{◌≡◌, ◌-◌, ◌^◌, List}
+use Rattle.flu_outside.specs.Outside.{WhereTold}
+use Rattle.flu_rows.specs.Taking.{TakesFrom, CountsOf}
+use Rattle.flu_streams.specs.Source.{IsReading}
+use Rattle.flu_streams.proofs.source.read_source.Given as goal
+
+abbrev pub invariant-loop-next : goal.invariant-loop-next
+invariant-loop-next g l =
+    let left = g.F.Files.left in
+    let faults = g.F.Files.faults in
+    record {
+      file : l.rows.file ≡ l.source.file;
+      reading : IsReading l.kinds l.source l.first l.held l.intake l.rows (left l.fn.files) (left l.files);
+      taken : WhereTold (left l.fn.files) (left l.files) (TakesFrom l.source.file);
+      counts : CountsOf (left l.fn.files) l.source.file (faults l.fn.files) (faults l.files);
+    }
+
+abbrev pub decreases-loop-next : goal.decreases-loop-next
+decreases-loop-next g l = 2 ^ 32 - l.rows.lines

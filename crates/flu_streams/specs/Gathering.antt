@@ -1,0 +1,63 @@
+-- How sources are read, one after another.
+use Rattle.std.specs.Prelude.{◌≡◌, ℕ, ◌+◌, ◌<◌, true, Option, Some, None, List, [], ◌++◌, length, sum_by, vec_len, ⊤}
+use Rattle.std.specs.List.{flat_map}
+use Rattle.flu_model.specs.declared.jobs.Kind.{Kind}
+use Rattle.flu_model.specs.declared.jobs.Source.{Source}
+use Rattle.flu_model.specs.declared.jobs.Program.{Program}
+use Rattle.flu_model.specs.declared.events.Item.{Item}
+use Rattle.flu_outside.specs.Outside.{Contents, WhereTold}
+use Rattle.flu_rows.specs.declared.rows.Next.{Next}
+use Rattle.flu_rows.specs.Taking.{bytes_left}
+use Rattle.flu_streams.specs.declared.faults.GatherFault.{GatherFault}
+use Rattle.flu_streams.specs.declared.faults.GatherFault.TheVariants.{Source as SourceFaulty, ReadFault, NoMemory}
+use Rattle.flu_streams.specs.declared.gathered.Gathered.{Gathered}
+use Rattle.flu_streams.specs.declared.source.Stop.{Stop}
+use Rattle.flu_streams.specs.declared.source.Stop.TheVariants.{Defect, ReadFault as ReadStop, NoMemory as NoMemoryStop}
+use Rattle.flu_streams.specs.Before.{each_with_before, first_some}
+use Rattle.flu_streams.specs.Tags.{width}
+use Rattle.flu_streams.specs.Tests.{rows_of, has_ended, items_of, first_of, first_defect}
+use Rattle.flu_streams.specs.Good.{rows_in, items_held, fault_of_source, first_fault, lists_of_rows}
+use Rattle.flu_streams.specs.Lists.{lists_in}
+use Rattle.flu_streams.specs.Source.{WasRead}
+use Rattle.flu_streams.specs.Files.{files_of, LeavesOthers}
+
+-- one source more was read to its end, and has no defect
+pub record AddsSource (kinds : List Kind) (s : Source) (left left' : Option Contents) (old new : Gathered) : Type 0 where
+  pub read : List Next
+  pub passes : first_of kinds s old.held read ≡ None
+  pub ended : has_ended (rows_of read) ≡ true
+  pub told : WhereTold left left' (λ was now. WasRead s read [] was)
+  pub lists : lists_in new.lists ≡ lists_in old.lists ++ lists_of_rows kinds s (vec_len old.lists) (rows_of read)
+  pub len : vec_len new.lists ≡ vec_len old.lists + width s
+  pub held : new.held ≡ old.held + items_of (width s) (rows_of read)
+  pub number : new.number ≡ old.number + 1
+
+abbrev pub fault_of_stop : ℕ → Stop → GatherFault
+fault_of_stop number (Defect row why) = SourceFaulty (record { source = number; row = row; why = why })
+fault_of_stop number ReadStop = ReadFault
+fault_of_stop number NoMemoryStop = NoMemory
+
+-- a fault of a source is that of this one, by its first defect
+abbrev pub IsFaultOf : List Kind → Source → ℕ → ℕ → Option Contents → Option Contents → GatherFault → Type 0
+IsFaultOf kinds s number held left left' (SourceFaulty f) =
+    (f.source ≡ number) × WhereTold left left' (λ was now. first_defect kinds s held (bytes_left was s.file) ≡ Some (f.row, f.why))
+IsFaultOf kinds s number held left left' ReadFault = ⊤
+IsFaultOf kinds s number held left left' NoMemory = ⊤
+
+-- the lists of some sources that stand first
+abbrev pub lists_of_sources : List Kind → Contents → List Source → List (List Item)
+lists_of_sources kinds left sources =
+    flat_map (λ e. lists_of_rows kinds e.1 (sum_by width e.0) (rows_in left e.1)) (each_with_before sources)
+
+-- what was read of these sources, and what it did to the files
+pub record IsGathered (kinds : List Kind) (sources : List Source) (gathered : Gathered) (old new : Contents) : Type 0 where
+  pub good : first_some (λ e. fault_of_source kinds old e.0 e.1) (each_with_before sources) ≡ None
+  pub lists : lists_in gathered.lists ≡ lists_of_sources kinds old sources
+  pub held : gathered.held ≡ items_held old sources
+  pub others : LeavesOthers (files_of sources) old new
+
+-- a fault of a source is the first of all, and names a declared source
+abbrev pub IsFirstFault : Program → Option Contents → Option Contents → GatherFault → Type 0
+IsFirstFault p left left' (SourceFaulty f) = (f.source < length p.sources) × WhereTold left left' (λ was now. first_fault p was ≡ Some f)
+IsFirstFault p left left' ReadFault = ⊤
+IsFirstFault p left left' NoMemory = ⊤

@@ -1,0 +1,115 @@
+-- The tests that the lines of a source are to pass, and its first defect (`docs/LANGUAGE.md`, "Rows").
+use Rattle.std.specs.Prelude.{ℕ, ℤ, ◌+◌, ◌-◌, ◌^◌, Bool, true, false, not, nat_lt, nat_le, Option, Some, None, is_none, option_map, List, [], ◌∷◌, ◌++◌, length, slice_get, if◌then◌else◌, sum_by}
+use Rattle.std.specs.List.{list_any, filter_map}
+use Rattle.flu_model.specs.declared.jobs.Kind.{Kind}
+use Rattle.flu_model.specs.declared.jobs.Source.{Source}
+use Rattle.flu_rows.specs.declared.row.Row.{Row}
+use Rattle.flu_rows.specs.declared.row.Row.TheVariants.{Event, Beat, End}
+use Rattle.flu_rows.specs.declared.rows.Next.{Next}
+use Rattle.flu_rows.specs.declared.rows.Next.TheVariants.{Row as RowNext, Bad, TooManyLines, Done}
+use Rattle.flu_rows.specs.Reading.{read_file}
+use Rattle.flu_streams.specs.declared.faults.Why.{Why}
+use Rattle.flu_streams.specs.declared.faults.Why.TheVariants.{BadRow, UnknownTag, Disordered, Unclosed, AfterEnd, TooMany}
+use Rattle.flu_streams.specs.Before.{each_with_before, first_some}
+use Rattle.flu_streams.specs.Tags.{place_named, value_fits, width}
+
+-- ---- what stands in some rows
+abbrev pub row_in : Next → Option Row
+row_in (RowNext line row) = Some row
+row_in (Bad line) = None
+row_in TooManyLines = None
+row_in (Done lines) = None
+
+-- the rows that were read
+abbrev pub rows_of : List Next → List Row
+rows_of read = filter_map row_in read
+
+abbrev pub is_end : Row → Bool
+is_end (Event time name key value) = false
+is_end (Beat time) = false
+is_end End = true
+
+abbrev pub has_ended : List Row → Bool
+has_ended rows = list_any is_end rows
+
+abbrev pub time_in : Row → Option ℕ
+time_in (Event time name key value) = Some time
+time_in (Beat time) = Some time
+time_in End = None
+
+-- the last time of some rows, events and heartbeats together
+abbrev pub last_of : List ℕ → Option ℕ
+last_of times = slice_get times (length times - 1)
+
+abbrev pub last_time : List Row → Option ℕ
+last_time rows = last_of (filter_map time_in rows)
+
+-- how many items a row has in a source of so many itags: an event is one, and a heartbeat is one for each itag
+abbrev pub items_in : ℕ → Row → ℕ
+items_in itags (Event time name key value) = 1
+items_in itags (Beat time) = itags
+items_in itags End = 0
+
+abbrev pub items_of : ℕ → List Row → ℕ
+items_of itags rows = sum_by (items_in itags) rows
+
+-- ---- the tests
+abbrev pub where_true : Bool → Why → Option Why
+where_true true why = Some why
+where_true false why = None
+
+-- what an event breaks by its tag and its value alone
+abbrev pub faults_of_event : List Kind → Source → List ℕ → Option ℕ → Option ℤ → Option Why
+faults_of_event kinds s name key value =
+    first_some (λ test. test) (where_true (is_none (place_named kinds s name key)) UnknownTag ∷ where_true (not (value_fits kinds name value)) BadRow ∷ [])
+
+-- the source lists the tag
+abbrev pub test_tag : List Kind → Source → Row → Option Why
+test_tag kinds s (Event time name key value) = where_true (is_none (place_named kinds s name key)) UnknownTag
+test_tag kinds s (Beat time) = None
+test_tag kinds s End = None
+
+-- a value is there exactly where the kind has one
+abbrev pub test_value : List Kind → Row → Option Why
+test_value kinds (Event time name key value) = where_true (not (value_fits kinds name value)) BadRow
+test_value kinds (Beat time) = None
+test_value kinds End = None
+
+-- the time is greater than the last one
+abbrev pub test_times : Option ℕ → Option ℕ → Option Why
+test_times (Some last) (Some time) = where_true (nat_le time last) (Disordered last time)
+test_times (Some last) None = None
+test_times None time = None
+
+abbrev pub test_time : Option ℕ → Row → Option Why
+test_time last row = test_times last (time_in row)
+
+-- no more than 16,777,216 items are held
+abbrev pub test_items : ℕ → ℕ → Row → Option Why
+test_items itags held row = where_true (nat_lt 16777216 (held + items_in itags row)) (TooMany 16777217)
+
+-- the tests of a row in their order, where the source has ended or not, had this time last, and so many items are held
+abbrev pub tests : List Kind → Source → Bool → Option ℕ → ℕ → Row → List (Option Why)
+tests kinds s ended last held row =
+    where_true ended AfterEnd ∷ test_tag kinds s row ∷ test_value kinds row ∷ test_time last row ∷ test_items (width s) held row ∷ []
+
+-- the first test that fails
+abbrev pub fault_of : List Kind → Source → Bool → Option ℕ → ℕ → Row → Option Why
+fault_of kinds s ended last held row = first_some (λ test. test) (tests kinds s ended last held row)
+
+-- ---- the first defect
+-- the defect of a line or of the file's end behind these lines, where so many items are held of other sources
+abbrev pub defect_of : List Kind → Source → ℕ → List Next → Next → Option (ℕ × Why)
+defect_of kinds s held read (RowNext line row) =
+    option_map (λ why. (line, why)) (fault_of kinds s (has_ended (rows_of read)) (last_time (rows_of read)) (held + items_of (width s) (rows_of read)) row)
+defect_of kinds s held read (Bad line) = Some (line, (if has_ended (rows_of read) then AfterEnd else BadRow))
+defect_of kinds s held read TooManyLines = Some (2 ^ 32, TooMany (2 ^ 32))
+defect_of kinds s held read (Done lines) = if has_ended (rows_of read) then None else Some (lines + 1, Unclosed)
+
+-- the first defect of what is read of a source
+abbrev pub first_of : List Kind → Source → ℕ → List Next → Option (ℕ × Why)
+first_of kinds s held read = first_some (λ e. defect_of kinds s held e.0 e.1) (each_with_before read)
+
+-- THE FIRST DEFECT OF A SOURCE whose file has these bytes: its line and the test that it fails
+abbrev pub first_defect : List Kind → Source → ℕ → List ℕ → Option (ℕ × Why)
+first_defect kinds s held bytes = first_of kinds s held (read_file bytes)

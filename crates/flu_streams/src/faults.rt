@@ -1,0 +1,44 @@
+//! The faults of sources.
+
+use thiserror::Error;
+
+/// What a row of a source breaks.
+#[derive(Clone, Copy, Debug, PartialEq, Eq)]
+pub enum Why {
+    /// The line is no row, or it has a value and its kind has none, or none and its kind has one.
+    BadRow,
+    /// The source does not list the tag.
+    UnknownTag,
+    /// The time is not greater than the last one.
+    Disordered { last: u64, got: u64 },
+    /// The file stops without `end`: the row is the one behind its last line.
+    Unclosed,
+    /// A row stands behind `end`.
+    AfterEnd,
+    /// There are more items of all sources than may be held, or more lines than a file may have: the first count past the limit.
+    TooMany { count: u64 },
+}
+
+/// The first defect of a source.
+#[derive(Clone, Copy, Debug, PartialEq, Eq)]
+pub struct SourceFault {
+    /// The source's number, from 0, as declared.
+    pub source: u32,
+    /// The line's number, from 1.
+    pub row: u64,
+    pub why: Why,
+}
+
+/// Why there are no streams.
+#[derive(Clone, Copy, Debug, PartialEq, Eq, Error)]
+pub enum GatherFault {
+    /// A source has a defect.
+    #[error("a source has a defect")]
+    Source(SourceFault),
+    /// Bytes of a source's file could not be taken.
+    #[error("a read failed")]
+    ReadFault,
+    /// There was no memory.
+    #[error("out of memory")]
+    NoMemory,
+}

@@ -1,0 +1,23 @@
+//! What was read of the sources so far.
+
+ghost use Rattle.std.specs.Prelude.{◌≡◌, ◌≤◌};
+
+use flu_model::Item;
+
+/// What was read of some sources: the items of each itag, how many items these are, and how many sources.
+#[derive(Drop)]
+pub(crate) struct Gathered {
+    pub(crate) lists: Vec<Vec<Item>>,
+    pub(crate) held: u64,
+    pub(crate) number: u32,
+    pub(crate) ghost few: { held ≤ 16777216 },
+}
+
+impl Gathered {
+    /// The items of each itag.
+    pub(crate) fn into_lists(self) -> Vec<Vec<Item>>
+        ensures { result ≡ self.lists }
+    {
+        self.lists
+    }
+}

@@ -1,0 +1,98 @@
+//! The reading of all sources.
+
+ghost use Rattle.std.specs.Prelude.{◌≡◌, ◌≤◌, ◌<◌, ◌+◌, ◌^◌, length, vec_len, OnOk, IfOk, IfErr, IsErrOf};
+ghost use Rattle.flu_model.specs.Itags.{count_of_itags};
+ghost use Rattle.flu_model.specs.Listed.{listed};
+ghost use Rattle.flu_outside.specs.Outside.{WhereTold, Rose};
+ghost use Rattle.flu_rows.specs.Taking.{TakesFrom, CountsOf, IsReadOut};
+ghost use Rattle.flu_streams.specs.Files.{files_of, LeavesOthers, CountsOfNames, OneRose, AreReadOut};
+ghost use Rattle.flu_streams.specs.Gathering.{AddsSource, IsFaultOf, IsFirstFault, fault_of_stop};
+ghost use Rattle.flu_streams.specs.Good.{AreGood, lists_of};
+ghost use Rattle.flu_streams.specs.Tags.{width};
+
+use crate::faults::{GatherFault, SourceFault};
+use crate::gathered::Gathered;
+use crate::source::{Stop, read_source};
+use crate::tags::tag_count;
+use flu_model::{Kind, Program, Source, Streams};
+use flu_outside::Files;
+use std::alloc::Global;
+
+/// Reads each source of a job to its end, in declared order, and gives the items of each itag.
+///
+/// A source fault is that of the first source, as declared, that has a defect, by its first defect. Which sources are good
+/// and what they give stands in `specs/Good.antt`, over the bytes that the files have left when the call begins.
+pub fn gather<F: Files>(alloc: Global, p: &Program, files: &mut F) -> Result<Streams, GatherFault>
+    ensures good { OnOk result (WhereTold (F.left files.old) (F.left files.new) (λ old new. AreGood p.now old)) }
+    ensures lists { IfOk result (λ streams. WhereTold (F.left files.old) (F.left files.new) (λ old new. listed streams ≡ lists_of p.now old)) }
+    ensures itags { IfOk result (λ streams. length (listed streams) ≡ count_of_itags p.now) }
+    ensures read_out { OnOk result (AreReadOut (files_of p.now.sources) (F.left files.new)) }
+
+    ensures fault { IfErr result (IsFirstFault p.now (F.left files.old) (F.left files.new)) }
+
+    // It takes bytes of the sources' files alone, and a read fault has its cause there.
+    ensures others { WhereTold (F.left files.old) (F.left files.new) (LeavesOthers (files_of p.now.sources)) }
+    ensures counts { CountsOfNames (F.left files.old) (files_of p.now.sources) (F.faults files.old) (F.faults files.new) }
+    ensures cause { IsErrOf result GatherFault.ReadFault → OneRose (files_of p.now.sources) (F.faults files.old) (F.faults files.new) }
+{
+    let mut gathered = Gathered {
+        lists: Vec::new(alloc),
+        held: 0,
+        number: 0,
+    };
+    for source in p.sources.items() {
+        if let Err(fault) = add_source(alloc, p.kinds.items(), source, &mut gathered, files) {
+            return Err(fault);
+        }
+    }
+    Ok(Streams::new(gathered.into_lists()))
+}
+
+// Reads one source more.
+fn add_source<F: Files>(
+    alloc: Global,
+    kinds: &[Kind],
+    source: &Source,
+    gathered: &mut Gathered,
+    files: &mut F,
+) -> Result<(), GatherFault>
+    requires kinds { length kinds.now ≤ 64 }
+    requires numbered { vec_len gathered.old.lists + width source.now ≤ 256 }
+    requires counted { gathered.old.number + 1 < 2 ^ 32 }
+    ensures added { OnOk result (AddsSource kinds.now source.now (F.left files.old) (F.left files.new) gathered.old gathered.new) }
+    ensures read_out { OnOk result (IsReadOut source.now.file (F.left files.new)) }
+    ensures fault { IfErr result (IsFaultOf kinds.now source.now gathered.old.number gathered.old.held (F.left files.old) (F.left files.new)) }
+    ensures taken { WhereTold (F.left files.old) (F.left files.new) (TakesFrom source.now.file) }
+    ensures counts { CountsOf (F.left files.old) source.now.file (F.faults files.old) (F.faults files.new) }
+    ensures cause { IsErrOf result GatherFault.ReadFault → Rose (F.faults files.old source.now.file) (F.faults files.new source.now.file) }
+{
+    let width = tag_count(source.tags.items());
+    let first = gathered.lists.len() as u32;
+    let intake = match read_source(alloc, kinds, source, width, first, gathered.held, files) {
+        Ok(intake) => intake,
+        Err(stop) => return Err(fault_of(gathered.number, stop)),
+    };
+    let held = intake.held;
+    let mut lists = intake.into_lists();
+    if gathered.lists.append(&mut lists).is_err() {
+        return Err(GatherFault::NoMemory);
+    }
+    gathered.held = held;
+    gathered.number += 1;
+    Ok(())
+}
+
+// The fault of the source with this number.
+fn fault_of(number: u32, stop: Stop) -> GatherFault
+    ensures { result ≡ fault_of_stop number stop }
+{
+    match stop {
+        Stop::Defect { row, why } => GatherFault::Source(SourceFault {
+            source: number,
+            row,
+            why,
+        }),
+        Stop::ReadFault => GatherFault::ReadFault,
+        Stop::NoMemory => GatherFault::NoMemory,
+    }
+}

@@ -1,0 +1,124 @@
+//! The tags that rows name.
+
+ghost use Rattle.std.specs.Prelude.{◌≡◌, ◌==◌, ◌<◌, ◌≤◌, length, true, IfOk, IfErr, OnOk, Some, IfSome};
+ghost use Rattle.std.specs.List.{flat_map, position};
+ghost use Rattle.flu_model.specs.Listing.{listed_keys, listed_tags};
+ghost use Rattle.flu_model.specs.Rules.{is_same_tag};
+ghost use Rattle.flu_streams.specs.Tags.{kind_named, key_named, tag_named, place_named, value_fits, width};
+ghost use Rattle.flu_streams.specs.Tests.{faults_of_event};
+
+use crate::faults::Why;
+use flu_model::{Keys, Kind, Source, Tag, TagRef};
+
+/// The place of the tag that a row names among those that the source lists; or what the row breaks.
+pub(crate) fn place_of_event(
+    kinds: &[Kind],
+    source: &Source,
+    name: &str,
+    key: Option<u32>,
+    value: Option<i64>,
+) -> Result<u32, Why>
+    requires few { length kinds.now ≤ 64 }
+    requires room { width source.now ≤ 256 }
+    ensures place { IfOk result (λ place. place_named kinds.now source.now name.now key ≡ Some place) }
+    ensures value { OnOk result (value_fits kinds.now name.now value ≡ true) }
+    ensures refused { IfErr result (λ why. faults_of_event kinds.now source.now name.now key value ≡ Some why) }
+{
+    let Some(tag) = tag_named(kinds, name, key) else {
+        return Err(Why::UnknownTag);
+    };
+    let Some(place) = place_of(source.tags.items(), tag) else {
+        return Err(Why::UnknownTag);
+    };
+    if kinds[tag.kind as usize].has_value != value.is_some() {
+        return Err(Why::BadRow);
+    }
+    Ok(place)
+}
+
+// The tag that a name and perhaps a key name.
+fn tag_named(kinds: &[Kind], name: &str, key: Option<u32>) -> Option<Tag>
+    requires { length kinds.now ≤ 64 }
+    ensures value { result ≡ tag_named kinds.now name.now key }
+    ensures declared { IfSome result (λ tag. kind_named kinds.now name.now ≡ Some tag.kind) }
+{
+    let number = kind_named(kinds, name)?;
+    let key = key_named(kinds[number].keyed, key)?;
+    Some(Tag {
+        kind: number as u32,
+        key,
+    })
+}
+
+fn kind_named(kinds: &[Kind], name: &str) -> Option<usize>
+    ensures value { result ≡ kind_named kinds.now name.now }
+    ensures declared { IfSome result (λ number. number < length kinds.now) }
+{
+    kinds.iter().position(|kind| kind.name.as_str() == name)
+}
+
+fn key_named(keyed: bool, key: Option<u32>) -> Option<u32>
+    ensures { result ≡ key_named keyed key }
+{
+    match key {
+        Some(key) => if keyed { Some(key) } else { None },
+        None => if keyed { None } else { Some(0) },
+    }
+}
+
+// The place of a tag among those that are listed.
+fn place_of(tags: &[TagRef], tag: Tag) -> Option<u32>
+    requires { length (flat_map listed_tags tags.now) ≤ 256 }
+    ensures { result ≡ position (is_same_tag tag) (flat_map listed_tags tags.now) }
+{
+    let mut count = 0;
+    for listed in tags {
+        if tag.kind == listed.kind {
+            if let Some(place) = place_in(&listed.keys, tag.key) {
+                return Some(count + place);
+            }
+        }
+        count += key_count(&listed.keys);
+    }
+    None
+}
+
+// The place of a key among those that are listed.
+fn place_in(keys: &Keys, key: u32) -> Option<u32>
+    ensures { result ≡ position (λ k. key == k) (listed_keys keys.now) }
+{
+    match keys {
+        Keys::Alone => if key == 0 { Some(0) } else { None },
+        Keys::One(only) => if key == *only { Some(0) } else { None },
+        Keys::Range(lo, hi) => {
+            if *lo <= key && key <= *hi {
+                Some(key - *lo)
+            } else {
+                None
+            }
+        }
+    }
+}
+
+/// How many tags are listed.
+pub(crate) fn tag_count(tags: &[TagRef]) -> u32
+    requires { length (flat_map listed_tags tags.now) ≤ 256 }
+    ensures { result ≡ length (flat_map listed_tags tags.now) }
+{
+    let mut count = 0;
+    for listed in tags {
+        count += key_count(&listed.keys);
+    }
+    count
+}
+
+// How many keys are listed.
+fn key_count(keys: &Keys) -> u32
+    requires { length (listed_keys keys.now) ≤ 256 }
+    ensures { result ≡ length (listed_keys keys.now) }
+{
+    match keys {
+        Keys::Alone | Keys::One(_) => 1,
+        Keys::Range(lo, hi) => if *lo <= *hi { *hi - *lo + 1 } else { 0 },
+    }
+}
