@@ -2,3 +2,4 @@ pub mod General
 pub mod Runs
 pub mod Parts
 pub mod Viable
+pub mod Accepts
