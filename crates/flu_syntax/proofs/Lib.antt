@@ -3,3 +3,4 @@ pub mod Runs
 pub mod Parts
 pub mod Viable
 pub mod Accepts
+pub mod Found
