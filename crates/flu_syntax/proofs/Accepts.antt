@@ -367,7 +367,7 @@ accepts end job context (ParenTree at inner) level frames tokens more six fits e
     let f = ParenFrame level at in
     let i = opens-one f frames (opens frames) refl refl in
     let g : AreSigns (At (w.Mark m.OpenParen) at ∷ (spelled inner ++ (Any (w.Mark m.CloseParen) ∷ more))) tokens =
-        subst (λ (x : List Sign). AreSigns (At (w.Mark m.OpenParen) at ∷ x) tokens) (append_assoc (spelled inner) (Any (w.Mark m.CloseParen) ∷ []) more) e in
+    subst (λ (x : List Sign). AreSigns (At (w.Mark m.OpenParen) at ∷ x) tokens) (append_assoc (spelled inner) (Any (w.Mark m.CloseParen) ∷ []) more) e in
     let a = takes_sign end job (want context level frames) (want context 0 (f ∷ frames)) tokens (At (w.Mark m.OpenParen) at) (spelled inner ++ (Any (w.Mark m.CloseParen) ∷ more)) g (open_step context level frames at (omega arith)) in
     let b = accepts end job context inner 0 (f ∷ frames) a.0 (Any (w.Mark m.CloseParen) ∷ more) (omega arith) fits a.1 (omega arith) (close_follows (top inner) more) in
     let c = passes_quiet end 0 (high_of inner) job context inner (f ∷ frames) b.0 (Any (w.Mark m.CloseParen) ∷ more) b.1 (close_quiet more) in

@@ -22,7 +22,7 @@ use Rattle.flu_syntax.specs.declared.tree.WrittenRelation.{WrittenRelation}
 use Rattle.flu_syntax.specs.declared.tree.WrittenRelation.TheVariants as relation
 use Rattle.flu_syntax.specs.Tree.{Tree, Deed, Writes, Clears, Emits, Flushes, Action, Declaration, Cell, Tag, Depends, On, Source, Job}
 use Rattle.flu_syntax.specs.Machine.{span_of, cell_of, tag_of, Actions, Tags, Context, Amount, Guard, Want, Have, Done, Aim, ToWrite, ToClear, Now, Start, Declared, CellName, CellForm, CellSort, TagName, TagForm, TagValue, DependsFirst, DependsSecond, DependsHow, SourceName, SourceFile, SourceRate, SourceNumber, SourceColon, TagKind, TagKeys, TagLow, TagMore, TagHigh, TagClose, TagEnd, OnKind, OnColon, ActionStart, DeedEnd, ActionEnd, EmitText, FlushFamily, FlushText, CellFamily, InExpression, Next, Goes, acted, listed, source_of, deed_step, action_step, operator_of, doing_of, sort_of, value_of, heading_of, opening, opens, named, step, whole, Verdict, Found, run}
-use Rattle.flu_syntax.specs.Grammar.{Sign, Any, At, Spanned, IsSign, AreSigns, name, text, number, sort_word, value_word, verb_word, separated, cell_signs, spelled, Fits, nest, IsExpression, deed_signs, IsDeed, guard_signs, IsGuard, action_signs, AreActions, keys_signs, tag_signs, keyed_signs, relation_signs, rate_signs, declaration_signs, IsDeclaration, job_signs, AreDeclarations, FoundIfSpelled}
+use Rattle.flu_syntax.specs.Grammar.{Sign, Any, At, Spanned, IsSign, AreSigns, name, text, number, sort_word, value_word, verb_word, separated, cell_signs, spelled, Fits, nest, IsExpression, deed_signs, IsDeed, guard_signs, IsGuard, action_signs, AreActions, keys_signs, tag_signs, keyed_signs, relation_signs, rate_signs, declaration_signs, IsDeclaration, job_signs, AreDeclarations, IsJob, JobIsFound, JobsAreUnique}
 use Rattle.flu_syntax.specs.Reading.{no_actions}
 use Rattle.flu_syntax.proofs.Runs.{run-behind, begins, job_ends, opens-nil}
 use Rattle.flu_syntax.proofs.Parts.{run-passed, run-closed, run-declared, run-no_relation, deed_plain, source_plain, cell_plain, tag_plain, tag_alone, tag_one, tags_end, actions_end}
@@ -199,7 +199,7 @@ accepts_actions end job so_far a (next ∷ others) tokens more h are ends =
     let now = acted so_far a.at a.deed a.guard in
     let later = (action_signs next ++ more_actions others) ++ more in
     let g : AreSigns (action_signs a ++ (Any (w.Mark m.Semicolon) ∷ later)) tokens =
-        subst (λ (x : List Sign). AreSigns x tokens) (append_assoc (action_signs a) (more_actions (next ∷ others)) more) h in
+    subst (λ (x : List Sign). AreSigns x tokens) (append_assoc (action_signs a) (more_actions (next ∷ others)) more) h in
     let b = accepts_action end job so_far a tokens (Any (w.Mark m.Semicolon) ∷ later) g are.0 are.1 (semicolon_behind later) in
     let c = takes_sign end job (ActionEnd now) (ActionStart now) b.0 (Any (w.Mark m.Semicolon)) later b.1 (semicolon_step now) in
     let d = accepts_actions end job now next others c.0 more c.1 are.2 ends in
@@ -461,7 +461,7 @@ accepts_declaration end job (Source n file rate (first ∷ tags)) tokens more h 
     let list = tag_signs first ++ more_tags tags in
     let tail = list ++ more in
     let g : AreSigns (Any (w.Reserved r.Source) ∷ Spanned w.Name n ∷ Spanned w.Text file ∷ (rate_signs rate ++ (Any (w.Mark m.Colon) ∷ tail))) tokens =
-        subst (λ (x : List Sign). AreSigns (Any (w.Reserved r.Source) ∷ Spanned w.Name n ∷ Spanned w.Text file ∷ x) tokens) (append_assoc (rate_signs rate) (Any (w.Mark m.Colon) ∷ list) more) h in
+    subst (λ (x : List Sign). AreSigns (Any (w.Reserved r.Source) ∷ Spanned w.Name n ∷ Spanned w.Text file ∷ x) tokens) (append_assoc (rate_signs rate) (Any (w.Mark m.Colon) ∷ list) more) h in
     let x = opens_with end job SourceName tokens (w.Reserved r.Source) (Spanned w.Name n ∷ Spanned w.Text file ∷ (rate_signs rate ++ (Any (w.Mark m.Colon) ∷ tail))) g heading_source in
     let y = takes_sign end job SourceName (SourceFile n) x.0 (Spanned w.Name n) (Spanned w.Text file ∷ (rate_signs rate ++ (Any (w.Mark m.Colon) ∷ tail))) x.1 (source_name_step n) in
     let z = takes_sign end job (SourceFile n) (SourceRate n file) y.0 (Spanned w.Text file) (rate_signs rate ++ (Any (w.Mark m.Colon) ∷ tail)) y.1 (source_file_step n file) in
@@ -482,5 +482,8 @@ accepts_job end job (d ∷ ds) tokens are h =
     let a = accepts_declaration end job d tokens (job_signs ds) h are.0 (job_headed ds) in
     a.2 ∙ accepts_job end (job ++ d ∷ []) ds a.0 are.1 a.1 ∙ ap Found (append_assoc job (d ∷ []) ds)
 
-pub found_if_spelled : FoundIfSpelled
-found_if_spelled end tokens job are h = accepts_job end [] job tokens are h
+pub job_is_found : JobIsFound
+job_is_found end tokens job is = accepts_job end [] job tokens is.grammar is.spelled
+
+pub jobs_are_unique : JobsAreUnique
+jobs_are_unique tokens a b is_a is_b = let both : Found a ≡ Found b = sym (job_is_found 0 tokens a is_a) ∙ job_is_found 0 tokens b is_b in cc

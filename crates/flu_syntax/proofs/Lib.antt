@@ -4,3 +4,4 @@ pub mod Parts
 pub mod Viable
 pub mod Accepts
 pub mod Found
+pub mod Spelling

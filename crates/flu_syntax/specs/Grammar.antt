@@ -227,13 +227,22 @@ AreDeclarations (d ∷ job) = IsDeclaration d × AreDeclarations job
 
 -- ---- the laws
 
+-- The tokens are this job: they are its signs, one by one, and it keeps the levels of operators and the limit on what is open.
+pub record IsJob (tokens : List Token) (job : Job) : Type 0 where
+  pub grammar : AreDeclarations job
+  pub spelled : AreSigns (job_signs job) tokens
+
 -- what is found is spelled by the tokens
 abbrev pub FoundIsSpelled : Type 0
 FoundIsSpelled = (end : ℕ) (tokens : List Token) (job : Job) → verdict end tokens ≡ Found job → AreSigns (job_signs job) tokens
 
--- what is spelled is found, and so as that job alone
-abbrev pub FoundIfSpelled : Type 0
-FoundIfSpelled = (end : ℕ) (tokens : List Token) (job : Job) → AreDeclarations job → AreSigns (job_signs job) tokens → verdict end tokens ≡ Found job
+-- what the tokens are is found
+abbrev pub JobIsFound : Type 0
+JobIsFound = (end : ℕ) (tokens : List Token) (job : Job) → IsJob tokens job → verdict end tokens ≡ Found job
+
+-- no tokens are two jobs
+abbrev pub JobsAreUnique : Type 0
+JobsAreUnique = (tokens : List Token) (a b : Job) → IsJob tokens a → IsJob tokens b → a ≡ b
 
 -- these tokens may be continued to a job
 abbrev pub MayGoOn : ℕ → List Token → Type 0

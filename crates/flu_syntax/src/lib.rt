@@ -5,6 +5,7 @@ mod cells;
 mod declarations;
 mod expressions;
 mod fault;
+pub mod laws;
 mod reading;
 mod tokens;
 pub mod tree;
@@ -15,3 +16,6 @@ pub use tree::{
     WrittenAct, WrittenAction, WrittenDeclaration, WrittenExpr, WrittenKey, WrittenKeys,
     WrittenNumber, WrittenRef, WrittenRelation, WrittenSpan, WrittenTag,
 };
+
+#[cfg(test)]
+mod tests;

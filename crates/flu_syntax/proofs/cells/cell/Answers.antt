@@ -17,4 +17,3 @@ returns-in_err-key-clause-run c =
 
 pub returns-clause-run : goal.returns-clause-run
 returns-clause-run c = λ here. rw c.span_of-family.ensures (run-expected c.args.end here.0 c.args.tokens.now c.in_ok-name.rest.now c.in_ok-name.name (cell_family here.1) c.in_ok-name.ensures.front ∙ c.in_ok-key.ensures.run (here.0, here.1, span_of c.in_ok-name.name))
-

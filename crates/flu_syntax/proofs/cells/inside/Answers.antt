@@ -13,4 +13,3 @@ returns-in_err-number-clause-run c =
 
 pub returns-clause-run : goal.returns-clause-run
 returns-clause-run c = λ here. run-fixed c.args.end here.0 here.1 here.2 c.args.tokens.now c.in_ok-number.rest.now c.in_ok-number.number c.in_ok-number.ensures.front
-

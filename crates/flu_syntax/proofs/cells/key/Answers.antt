@@ -20,4 +20,3 @@ returns-in_err-rest-clause-run c =
 
 pub returns-clause-run : goal.returns-clause-run
 returns-clause-run c = λ here. run-bracket c.args.end here.0 here.1 here.2 c.args.tokens.now c.in-Some.rest.now c.in-Some.field-0-0 c.in-Some.ensures.front ∙ c.in_ok-key.ensures.run here ∙ run-expected c.args.end here.0 c.in_ok-key.rest.now c.in_ok-rest.rest.now c.in_ok-rest.field-0-0 (cell_close here.1 (cell_of here.2 c.in_ok-key.key)) c.in_ok-rest.ensures.front
-

@@ -45,4 +45,3 @@ returns-in_err-text-in-Flush-clause-run c =
 
 pub returns-in_ok-text-in-Flush-clause-run : goal.returns-in_ok-text-in-Flush-clause-run
 returns-in_ok-text-in-Flush-clause-run c = λ here. rw (c.in-Some.ensures, c.span_of-in-Flush.ensures, c.span_of-in-Flush-2.ensures) (run-doing c.args.end here.0 here.1 (FlushFamily here.1 c.in-Some.token.from) c.in-Some.token c.in-Some.rest.now doing.Flush (sym c.in-Flush.is ∙ c.doing_of.ensures) refl ∙ run-expected c.args.end here.0 c.in-Some.rest.now c.in_ok-family-in-Flush.rest.now c.in_ok-family-in-Flush.family (flush_family here.1 c.in-Some.token.from) c.in_ok-family-in-Flush.ensures.front ∙ run-expected c.args.end here.0 c.in_ok-family-in-Flush.rest.now c.in_ok-text-in-Flush.rest.now c.in_ok-text-in-Flush.text (flush_text here.1 c.in-Some.token.from (span_of c.in_ok-family-in-Flush.family)) c.in_ok-text-in-Flush.ensures.front)
-

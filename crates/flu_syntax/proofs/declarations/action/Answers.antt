@@ -13,4 +13,3 @@ returns-in_err-guard-clause-run c =
 
 pub returns-clause-run : goal.returns-clause-run
 returns-clause-run c = λ here. rw c.place_of-at.ensures (c.in_ok-act.ensures.run here ∙ c.in_ok-guard.ensures.run (here.0, here.1, place_of c.args.end c.args.tokens.now, deed_of c.in_ok-act.act))
-

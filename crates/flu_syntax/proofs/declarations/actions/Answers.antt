@@ -28,8 +28,8 @@ pub each-preserved : goal.each-preserved
 each-preserved c =
     let items : c.push.new.self.items ≡ c.each.all.items ++ c.in_ok-action.action ∷ [] = grind (arith, common_steps) in
     record {
-  run = λ here.
-      rw (items, map_more action_of c.each.all.items c.in_ok-action.action)
-      (c.each.invariant.run here ∙ c.in_ok-action.ensures.run (here.0, record { kind = here.1; all = map action_of c.each.all.items }) ∙ run-word c.args.end here.0 (ActionEnd (acted (record { kind = here.1; all = map action_of c.each.all.items }) (action_of c.in_ok-action.action).at (action_of c.in_ok-action.action).deed (action_of c.in_ok-action.action).guard)) (ActionStart (acted (record { kind = here.1; all = map action_of c.each.all.items }) (action_of c.in_ok-action.action).at (action_of c.in_ok-action.action).deed (action_of c.in_ok-action.action).guard)) (w.Mark m.Semicolon) c.in_ok-action.behind.now c.in-Some.more.now c.in-Some.field-0-0 (action_semicolon (acted (record { kind = here.1; all = map action_of c.each.all.items }) (action_of c.in_ok-action.action).at (action_of c.in_ok-action.action).deed (action_of c.in_ok-action.action).guard)) c.in-Some.ensures.front);
-  shorter = grind (arith, common_steps);
-}
+      run = λ here.
+          rw (items, map_more action_of c.each.all.items c.in_ok-action.action)
+          (c.each.invariant.run here ∙ c.in_ok-action.ensures.run (here.0, record { kind = here.1; all = map action_of c.each.all.items }) ∙ run-word c.args.end here.0 (ActionEnd (acted (record { kind = here.1; all = map action_of c.each.all.items }) (action_of c.in_ok-action.action).at (action_of c.in_ok-action.action).deed (action_of c.in_ok-action.action).guard)) (ActionStart (acted (record { kind = here.1; all = map action_of c.each.all.items }) (action_of c.in_ok-action.action).at (action_of c.in_ok-action.action).deed (action_of c.in_ok-action.action).guard)) (w.Mark m.Semicolon) c.in_ok-action.behind.now c.in-Some.more.now c.in-Some.field-0-0 (action_semicolon (acted (record { kind = here.1; all = map action_of c.each.all.items }) (action_of c.in_ok-action.action).at (action_of c.in_ok-action.action).deed (action_of c.in_ok-action.action).guard)) c.in-Some.ensures.front);
+      shorter = grind (arith, common_steps);
+    }

@@ -28,4 +28,3 @@ returns-in-Source-clause-run c = through_heading c.args.end c.args.tokens.now c.
 
 pub returns-in-Other-clause-run : goal.returns-in-Other-clause-run
 returns-in-Other-clause-run c = λ job. rw c.unexpected-in-Other.ensures (no_heading c.args.end job c.args.tokens.now c.in-Some.rest.now c.in-Some.token heading.Other c.in-Some.ensures (sym c.in-Other.is ∙ c.heading_of.ensures) refl)
-

@@ -17,4 +17,3 @@ returns-in_err-second-clause-run c =
 
 pub returns-clause-run : goal.returns-clause-run
 returns-clause-run c = λ job. rw (c.span_of-a.ensures, c.span_of-b.ensures) (run-expected c.args.end job c.args.tokens.now c.in_ok-first.rest.now c.in_ok-first.first depends_first c.in_ok-first.ensures.front ∙ run-expected c.args.end job c.in_ok-first.rest.now c.in_ok-second.rest.now c.in_ok-second.second (depends_second (span_of c.in_ok-first.first)) c.in_ok-second.ensures.front ∙ c.relation-relation.ensures.run c.args.end job (span_of c.in_ok-first.first) (span_of c.in_ok-second.second))
-

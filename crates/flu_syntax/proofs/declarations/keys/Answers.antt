@@ -29,4 +29,3 @@ returns-in_err-rest-clause-run c =
 
 pub returns-clause-run : goal.returns-clause-run
 returns-clause-run c = λ here. run-word c.args.end here.0 (TagKeys here.1 here.2) (TagLow here.1 here.2) (w.Mark m.OpenBracket) c.args.tokens.now c.in-Some.rest.now c.in-Some.field-0-0 (tag_bracket here.1 here.2) c.in-Some.ensures.front ∙ run-number c.args.end here.0 c.in-Some.rest.now c.in_ok-low.rest.now c.in_ok-low.low (tag_low here.1 here.2) c.in_ok-low.ensures.front ∙ c.in_ok-keys.ensures.run here ∙ run-expected c.args.end here.0 c.in_ok-keys.rest.now c.in_ok-rest.rest.now c.in_ok-rest.field-0-0 (tag_close here.1 here.2 c.in_ok-keys.keys) c.in_ok-rest.ensures.front
-

@@ -23,4 +23,3 @@ returns-in_err-actions-clause-run c =
 
 pub returns-clause-run : goal.returns-clause-run
 returns-clause-run c = λ job. rw c.span_of-kind.ensures (run-expected c.args.end job c.args.tokens.now c.in_ok-name.rest.now c.in_ok-name.name on_kind c.in_ok-name.ensures.front ∙ run-expected c.args.end job c.in_ok-name.rest.now c.in_ok-rest.rest.now c.in_ok-rest.field-0-0 (on_mark (span_of c.in_ok-name.name)) c.in_ok-rest.ensures.front ∙ c.in_ok-actions.ensures.run (job, span_of c.in_ok-name.name))
-

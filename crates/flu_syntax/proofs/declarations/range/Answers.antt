@@ -18,4 +18,3 @@ returns-in_err-high-clause-run c =
 
 pub returns-clause-run : goal.returns-clause-run
 returns-clause-run c = λ here. run-word c.args.end here.0 (TagMore here.1 here.2 c.args.low) (TagHigh here.1 here.2 c.args.low) (w.Mark m.Dots) c.args.tokens.now c.in-Some.rest.now c.in-Some.field-0-0 (tag_dots here.1 here.2 c.args.low) c.in-Some.ensures.front ∙ run-number c.args.end here.0 c.in-Some.rest.now c.in_ok-high.rest.now c.in_ok-high.high (tag_high here.1 here.2 c.args.low) c.in_ok-high.ensures.front
-

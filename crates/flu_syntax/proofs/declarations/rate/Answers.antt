@@ -18,4 +18,3 @@ returns-in_err-rate-clause-run c =
 
 pub returns-clause-run : goal.returns-clause-run
 returns-clause-run c = λ here. run-word c.args.end here.0 (SourceRate here.1 here.2) (SourceNumber here.1 here.2) (w.Reserved r.Rate) c.args.tokens.now c.in-Some.rest.now c.in-Some.field-0-0 (source_rate here.1 here.2) c.in-Some.ensures.front ∙ run-number c.args.end here.0 c.in-Some.rest.now c.in_ok-rate.rest.now c.in_ok-rate.rate (source_number here.1 here.2) c.in_ok-rate.ensures.front
-

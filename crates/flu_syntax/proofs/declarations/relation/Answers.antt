@@ -12,4 +12,3 @@ returns-in-Some-take-clause-run c = λ end job a b. run-all_relation end job a b
 
 pub returns-in-None-clause-run : goal.returns-in-None-clause-run
 returns-in-None-clause-run c = λ end job a b. run-no_relation end job a b c.args.tokens.now c.in_default.ensures.front c.in-None.ensures.front
-

@@ -33,4 +33,3 @@ returns-in_err-tags-clause-run c =
 
 pub returns-clause-run : goal.returns-clause-run
 returns-clause-run c = λ job. rw (c.span_of-name.ensures, c.span_of-file.ensures) (run-expected c.args.end job c.args.tokens.now c.in_ok-word.rest.now c.in_ok-word.word source_name c.in_ok-word.ensures.front ∙ run-expected c.args.end job c.in_ok-word.rest.now c.in_ok-text.rest.now c.in_ok-text.text (source_file (span_of c.in_ok-word.word)) c.in_ok-text.ensures.front ∙ c.in_ok-rate.ensures.run (job, span_of c.in_ok-word.word, span_of c.in_ok-text.text) ∙ run-expected c.args.end job c.in_ok-rate.rest.now c.in_ok-rest.rest.now c.in_ok-rest.field-0-0 (source_colon (span_of c.in_ok-word.word) (span_of c.in_ok-text.text) c.in_ok-rate.rate) c.in_ok-rest.ensures.front ∙ c.in_ok-tags.ensures.run (record { job = job; name = span_of c.in_ok-word.word; file = span_of c.in_ok-text.text; rate = c.in_ok-rate.rate }))
-

@@ -19,4 +19,3 @@ returns-in_default-value_of-clause-run c = λ job. rw c.unexpected-in_default-va
 
 pub returns-clause-run : goal.returns-clause-run
 returns-clause-run c = λ job. rw c.span_of-name.ensures (run-expected c.args.end job c.args.tokens.now c.in_ok-word.rest.now c.in_ok-word.word tag_name c.in_ok-word.ensures.front ∙ run-keyed_tag c.args.end job (span_of c.in_ok-word.word) c.keyed-keyed.result.0 c.in_ok-word.rest.now c.keyed-keyed.result.1.now c.keyed-keyed.ensures ∙ run-value c.args.end job (span_of c.in_ok-word.word) c.keyed-keyed.result.0 c.keyed-keyed.result.1.now c.in-Some.behind.now c.in-Some.word c.in-Some-value_of.has_value c.in-Some.ensures c.in-Some-value_of.ensures)
-

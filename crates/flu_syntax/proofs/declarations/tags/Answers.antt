@@ -26,8 +26,8 @@ pub each-preserved : goal.each-preserved
 each-preserved c =
     let items : c.push.new.self.items ≡ c.each.all.items ++ c.in_ok-tag.tag ∷ [] = grind (arith, common_steps) in
     record {
-  run = λ here.
-      rw items
-      (c.each.invariant.run here ∙ c.in_ok-tag.ensures.run (here.job, record { name = here.name; file = here.file; rate = here.rate; all = c.each.all.items }) ∙ run-word c.args.end here.job (TagEnd (listed (record { name = here.name; file = here.file; rate = here.rate; all = c.each.all.items }) c.in_ok-tag.tag)) (TagKind (listed (record { name = here.name; file = here.file; rate = here.rate; all = c.each.all.items }) c.in_ok-tag.tag)) (w.Mark m.Comma) c.in_ok-tag.behind.now c.in-Some.more.now c.in-Some.field-0-0 (tag_comma (listed (record { name = here.name; file = here.file; rate = here.rate; all = c.each.all.items }) c.in_ok-tag.tag)) c.in-Some.ensures.front);
-  shorter = grind (arith, common_steps);
-}
+      run = λ here.
+          rw items
+          (c.each.invariant.run here ∙ c.in_ok-tag.ensures.run (here.job, record { name = here.name; file = here.file; rate = here.rate; all = c.each.all.items }) ∙ run-word c.args.end here.job (TagEnd (listed (record { name = here.name; file = here.file; rate = here.rate; all = c.each.all.items }) c.in_ok-tag.tag)) (TagKind (listed (record { name = here.name; file = here.file; rate = here.rate; all = c.each.all.items }) c.in_ok-tag.tag)) (w.Mark m.Comma) c.in_ok-tag.behind.now c.in-Some.more.now c.in-Some.field-0-0 (tag_comma (listed (record { name = here.name; file = here.file; rate = here.rate; all = c.each.all.items }) c.in_ok-tag.tag)) c.in-Some.ensures.front);
+      shorter = grind (arith, common_steps);
+    }

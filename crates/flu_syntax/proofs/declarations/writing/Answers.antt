@@ -18,4 +18,3 @@ returns-in_err-amount-clause-run c =
 
 pub returns-clause-run : goal.returns-clause-run
 returns-clause-run c = λ here. rw c.written.ensures (c.in_ok-cell.ensures.run (here.0, ToWrite here.1 here.2 c.args.verb) ∙ c.in_ok-amount.ensures.run (record { job = here.0; context = Amount here.1 here.2 c.args.verb c.in_ok-cell.cell; frames = []; many = opens-nil }) ∙ run-behind c.args.end here.0 (Amount here.1 here.2 c.args.verb c.in_ok-cell.cell) (view c.in_ok-amount.amount) c.in_ok-amount.rest.now)
-
