@@ -1,0 +1,8 @@
+//! The readings of a job text (`docs/LANGUAGE.md`): from what is written to a job, or to the first fault with its place.
+#![tactic(auto)]
+
+mod faults;
+mod names;
+mod spelling;
+
+pub use faults::JobFault;
