@@ -1,3 +1,5 @@
 pub mod Faults
 pub mod Spelling
 pub mod Naming
+pub mod Cells
+pub mod Terms

@@ -1,23 +1,20 @@
 //! The names of a job, in the order of their declarations.
 
-ghost use Rattle.std.specs.Prelude.{◌≡◌};
-ghost use Rattle.flu_parse.specs.Faults.{Gives};
-ghost use Rattle.flu_parse.specs.Naming.{look_up, is_declared, fresh_name, declare, declare_all, naming_of};
-
-use flu_model::{Sort, What};
-use flu_syntax::{WrittenDeclaration, WrittenSpan};
+use flu_model::Sort;
 use indexmap::{IndexMap, IndexSet};
 
-/// What a family's declaration says beside its name.
+/// What a family's declaration says beside its name, and its number, from 0 in the order of declarations.
 #[derive(Clone, Copy)]
 pub struct FamilyHead {
+    pub number: u32,
     pub keyed: bool,
     pub sort: Sort,
 }
 
-/// What a kind's declaration says beside its name.
+/// What a kind's declaration says beside its name, and its number, from 0 in the order of declarations.
 #[derive(Clone, Copy)]
 pub struct KindHead {
+    pub number: u32,
     pub keyed: bool,
     pub has_value: bool,
 }
