@@ -1,8 +1,10 @@
 -- A fault that passes through a step, whichever it is.
-use Rattle.std.proofs.Common.{◌≡◌, Err}
+use Rattle.std.proofs.Common.{◌≡◌, ℕ, suc, ◌+◌, ◌<◌, ◌≤◌, List, ◌∷◌, length, drop, get_or, Ok, Err, ap, sym, ◌∙◌, add-one}
+use Rattle.std.proofs.Math.Seq.{drop-cons}
+use Rattle.std.proofs.lemmas.List.{drop_all}
 use Rattle.flu_parse.specs.declared.faults.JobFault.{JobFault}
 use Rattle.flu_parse.specs.declared.faults.JobFault.TheVariants as f
-use Rattle.flu_parse.specs.Faults.{Found, Fails}
+use Rattle.flu_parse.specs.Faults.{Found, Fails, ◌>>=◌, each}
 
 pub fails_through : {Y Z : Type 0} (e : JobFault) (x : Found Y) (y : Found Z) → ((e : JobFault) → x ≡ Err e → y ≡ Err e) → Fails e x → Fails e y
 fails_through f.NoMemory x y through h = tt
@@ -13,3 +15,22 @@ fails_through (f.UnknownName at) x y through h = through (f.UnknownName at) h
 fails_through (f.TwiceNamed at) x y through h = through (f.TwiceNamed at) h
 fails_through (f.WrongShape at) x y through h = through (f.WrongShape at) h
 fails_through (f.OverLimit what count) x y through h = through (f.OverLimit what count) h
+
+module _ {S X : Type 0} (step : S → X → Found S) where
+  -- one element more
+  pub each-next : (s t : S) (xs : List X) (i : ℕ) (x : X) → i < length xs → x ≡ get_or xs i x → step s x ≡ Ok t → each step s (drop i xs) ≡ each step t (drop (i + 1) xs)
+  unfolding each
+  each-next s t xs i x lt is found =
+      ap (each step s) (drop-cons xs i x lt ∙ ap (λ y. y ∷ drop (suc i) xs) (sym is))
+      ∙ ap (λ r. r >>= λ t. each step t (drop (suc i) xs)) found
+      ∙ ap (λ j. each step t (drop j xs)) (sym (add-one i))
+
+  pub each-fault : (s : S) (e : JobFault) (xs : List X) (i : ℕ) (x : X) → i < length xs → x ≡ get_or xs i x → step s x ≡ Err e → each step s (drop i xs) ≡ Err e
+  unfolding each
+  each-fault s e xs i x lt is found =
+      ap (each step s) (drop-cons xs i x lt ∙ ap (λ y. y ∷ drop (suc i) xs) (sym is))
+      ∙ ap (λ r. r >>= λ t. each step t (drop (suc i) xs)) found
+
+  pub each-end : (s : S) (xs : List X) (i : ℕ) → length xs ≤ i → each step s (drop i xs) ≡ Ok s
+  unfolding each
+  each-end s xs i past = ap (each step s) (drop_all i xs past)

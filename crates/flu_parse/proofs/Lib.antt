@@ -1,3 +1,4 @@
 pub mod FaultLemmas
 pub mod NamingLemmas
 pub mod TermLemmas
+pub mod ScanLemmas

@@ -1,16 +1,11 @@
 -- Names that are looked up, and one name more.
-use Rattle.std.proofs.Common.{◌≡◌, ℕ, suc, ◌+◌, ◌<◌, ◌≤◌, Bool, true, false, cond, ◌||◌, List, [], ◌∷◌, ◌++◌, map, length, drop, get_or, Option, Some, None, refl, sym, ap, ◌∙◌, add-one}
-use Rattle.std.specs.Prelude.{is_some, if◌then◌else◌, Ok, Err}
-use Rattle.std.proofs.Math.Seq.{drop-cons}
-use Rattle.std.proofs.lemmas.List.{drop_all}
+use Rattle.std.proofs.Common.{◌≡◌, ℕ, Bool, true, false, cond, ◌||◌, List, [], ◌∷◌, ◌++◌, map, Option, Some, None, refl, sym, ap, ◌∙◌}
+use Rattle.std.specs.Prelude.{is_some, if◌then◌else◌}
 use Rattle.std.specs.List.{list_any}
 use Rattle.std.specs.Str.{bytes_eq}
 use Rattle.std.specs.Map.{lookup}
 use Rattle.indexmap.specs.IndexMap.{insert_entry}
-use Rattle.flu_syntax.specs.declared.tree.WrittenDeclaration.{WrittenDeclaration}
-use Rattle.flu_parse.specs.declared.faults.JobFault.{JobFault}
-use Rattle.flu_parse.specs.Faults.{◌>>=◌}
-use Rattle.flu_parse.specs.Naming.{Naming, look_up, is_declared, declare, declare_all}
+use Rattle.flu_parse.specs.Naming.{Naming, look_up, is_declared}
 
 -- an entry by the bytes of its key
 abbrev pub shown : {K X : Type 0} → (K → List ℕ) → K × X → List ℕ × X
@@ -57,20 +52,3 @@ pub undeclared : (n : Naming) (name : List ℕ) → is_declared n name ≡ false
 undeclared n name e =
     let none = none_of_three (is_some (look_up name n.families)) (is_some (look_up name n.kinds)) (list_any (bytes_eq name) n.sources) e in
     (none_if_not_some (look_up name n.families) none.0, none_if_not_some (look_up name n.kinds) none.1, none.2)
-
-pub declare_all-next : (text : List ℕ) (n m : Naming) (ds : List WrittenDeclaration) (i : ℕ) (d : WrittenDeclaration) → i < length ds → d ≡ get_or ds i d → declare text n d ≡ Ok m → declare_all text n (drop i ds) ≡ declare_all text m (drop (i + 1) ds)
-unfolding declare_all
-declare_all-next text n m ds i d lt is found =
-    ap (declare_all text n) (drop-cons ds i d lt ∙ ap (λ x. x ∷ drop (suc i) ds) (sym is))
-    ∙ ap (λ r. r >>= λ m. declare_all text m (drop (suc i) ds)) found
-    ∙ ap (λ j. declare_all text m (drop j ds)) (sym (add-one i))
-
-pub declare_all-fault : (text : List ℕ) (n : Naming) (e : JobFault) (ds : List WrittenDeclaration) (i : ℕ) (d : WrittenDeclaration) → i < length ds → d ≡ get_or ds i d → declare text n d ≡ Err e → declare_all text n (drop i ds) ≡ Err e
-unfolding declare_all
-declare_all-fault text n e ds i d lt is found =
-    ap (declare_all text n) (drop-cons ds i d lt ∙ ap (λ x. x ∷ drop (suc i) ds) (sym is))
-    ∙ ap (λ r. r >>= λ m. declare_all text m (drop (suc i) ds)) found
-
-pub declare_all-end : (text : List ℕ) (n : Naming) (ds : List WrittenDeclaration) (i : ℕ) → length ds ≤ i → declare_all text n (drop i ds) ≡ Ok n
-unfolding declare_all
-declare_all-end text n ds i past = ap (declare_all text n) (drop_all i ds past)

@@ -11,7 +11,7 @@ use Rattle.flu_parse.specs.declared.faults.JobFault.TheVariants as f
 use Rattle.flu_parse.specs.declared.names.FamilyHead.{FamilyHead}
 use Rattle.flu_parse.specs.declared.names.KindHead.{KindHead}
 use Rattle.flu_parse.specs.declared.names.Names.{Names}
-use Rattle.flu_parse.specs.Faults.{Found, ◌>>=◌, ◌>>◌, unless, room}
+use Rattle.flu_parse.specs.Faults.{Found, ◌>>=◌, ◌>>◌, unless, room, each}
 use Rattle.flu_parse.specs.Spelling.{name_of}
 
 -- the declared names, with the heads of their declarations, and how many `depends` there are
@@ -73,17 +73,12 @@ declare text n (w.Depends a b relation) = do
 declare text n (w.On kind actions) = Ok n
 declare text n (w.Source s file rate tags) = with_source text n s
 
--- the names with these declarations more, in their order
-unfoldable pub declare_all : List ℕ → Naming → List WrittenDeclaration → Found Naming
-declare_all text n [] = Ok n
-declare_all text n (d ∷ ds) = declare text n d >>= λ m. declare_all text m ds
-
 abbrev pub no_names : Naming
 no_names = record { families = []; kinds = []; sources = []; depends = 0 }
 
 -- the names of a job, or the first name that is declared twice or is one too many
 abbrev pub naming_of : List ℕ → List WrittenDeclaration → Found Naming
-naming_of text ds = declare_all text no_names ds
+naming_of text ds = each (declare text) no_names ds
 
 -- the head that a name needs to have
 abbrev pub known : {X : Type 0} → ℕ → Option X → Found X

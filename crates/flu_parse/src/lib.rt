@@ -3,9 +3,13 @@
 
 mod cells;
 mod faults;
+mod fields;
 mod names;
 mod naming;
+mod pieces;
+mod scanning;
 mod spelling;
+mod templates;
 mod terms;
 
 pub use faults::JobFault;

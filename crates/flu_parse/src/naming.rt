@@ -32,7 +32,7 @@ fn no_names<'t>(alloc: Global) -> Names<'t>
 }
 
 /// The family with this name.
-fn find_family(names: &Names, name: &str) -> Option<FamilyHead>
+pub fn find_family(names: &Names, name: &str) -> Option<FamilyHead>
     ensures { result ≡ look_up name.now (naming names.now).families }
 {
     names.families.get(name).copied()

@@ -1,6 +1,6 @@
 //! What written names, texts and numbers stand for.
 
-ghost use Rattle.std.specs.Prelude.{◌≡◌};
+ghost use Rattle.std.specs.Prelude.{◌≡◌, ◌+◌, ◌<◌, ◌≤◌, length};
 ghost use Rattle.flu_parse.specs.Spelling.{is_boundary, spelled, name_of, inside, value_of};
 
 use flu_syntax::WrittenSpan;
@@ -14,7 +14,8 @@ fn is_boundary(text: &str, place: usize) -> bool
 
 /// The bytes from one place to before another, none where these are no places of the text.
 pub fn spelled(text: &str, from: usize, to: usize) -> &str
-    ensures { result.now ≡ spelled text.now from to }
+    ensures value { result.now ≡ spelled text.now from to }
+    ensures within { 0 < length result.now → from + length result.now ≤ length text.now }
 {
     if from <= to && is_boundary(text, from) && is_boundary(text, to) {
         &text[from..to]
@@ -32,7 +33,8 @@ pub fn name_of(text: &str, span: WrittenSpan) -> &str
 
 /// What stands between the quotes of a written text.
 pub fn inside(text: &str, span: WrittenSpan) -> &str
-    ensures { result.now ≡ inside text.now span }
+    ensures value { result.now ≡ inside text.now span }
+    ensures within { 0 < length result.now → span.from + 1 + length result.now ≤ length text.now }
 {
     if span.from < text.len() {
         spelled(text, span.from + 1, span.to.saturating_sub(1))

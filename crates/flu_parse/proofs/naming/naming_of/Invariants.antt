@@ -1,6 +1,7 @@
 use Rattle.std.proofs.Common.{◌≡◌, drop}
-use Rattle.flu_parse.specs.Naming.{naming, declare_all, naming_of}
+use Rattle.flu_parse.specs.Naming.{naming, declare, naming_of}
+use Rattle.flu_parse.specs.Faults.{each}
 use Rattle.flu_parse.proofs.naming.naming_of.Given as goal
 
 abbrev pub invariant-loop-declaration : goal.invariant-loop-declaration
-invariant-loop-declaration l = declare_all l.text (naming l.names) (drop l.declaration-index l.declarations) ≡ naming_of l.text l.declarations
+invariant-loop-declaration l = each (declare l.text) (naming l.names) (drop l.declaration-index l.declarations) ≡ naming_of l.text l.declarations
