@@ -1,5 +1,5 @@
 -- A fault that passes through a step, whichever it is.
-use Rattle.std.proofs.Common.{◌≡◌, ℕ, suc, ◌+◌, ◌<◌, ◌≤◌, List, ◌∷◌, length, drop, get_or, Ok, Err, ap, sym, ◌∙◌, add-one}
+use Rattle.std.proofs.Common.{◌≡◌, ℕ, zero, suc, ◌+◌, ◌<◌, ◌≤◌, List, [], ◌∷◌, ◌++◌, length, drop, get_or, Ok, Err, refl, ap, sym, ◌∙◌, add-one, arith}
 use Rattle.std.proofs.Math.Seq.{drop-cons}
 use Rattle.std.proofs.lemmas.List.{drop_all}
 use Rattle.flu_parse.specs.declared.faults.JobFault.{JobFault}
@@ -34,3 +34,25 @@ module _ {S X : Type 0} (step : S → X → Found S) where
   pub each-end : (s : S) (xs : List X) (i : ℕ) → length xs ≤ i → each step s (drop i xs) ≡ Ok s
   unfolding each
   each-end s xs i past = ap (each step s) (drop_all i xs past)
+
+  -- the same, where the element is read with a default
+  read_again : (xs : List X) (i : ℕ) (d e : X) → i < length xs → get_or xs i d ≡ get_or xs i e
+  read_again [] i d e lt = absurd (omega arith)
+  read_again (x ∷ xs) zero d e lt = refl
+  read_again (x ∷ xs) (suc i) d e lt = read_again xs i d e (omega arith)
+
+  pub each-next-at : (d : X) (s t : S) (xs : List X) (i : ℕ) → i < length xs → step s (get_or xs i d) ≡ Ok t → each step s (drop i xs) ≡ each step t (drop (i + 1) xs)
+  each-next-at d s t xs i lt found = each-next s t xs i (get_or xs i d) lt (read_again xs i d (get_or xs i d) lt) found
+
+  pub each-fault-at : (d : X) (s : S) (e : JobFault) (xs : List X) (i : ℕ) → i < length xs → step s (get_or xs i d) ≡ Err e → each step s (drop i xs) ≡ Err e
+  each-fault-at d s e xs i lt found = each-fault s e xs i (get_or xs i d) lt (read_again xs i d (get_or xs i d) lt) found
+
+-- one step of finding something of each element
+abbrev pub collect : {X Y : Type 0} → (X → Found Y) → List Y → X → Found (List Y)
+collect find done x = find x >>= λ y. Ok (done ++ y ∷ [])
+
+pub collects : {X Y : Type 0} (find : X → Found Y) (done : List Y) (x : X) (y : Y) → find x ≡ Ok y → collect find done x ≡ Ok (done ++ y ∷ [])
+collects find done x y found = ap (λ r. r >>= λ y. Ok (done ++ y ∷ [])) found
+
+pub collect-fault : {X Y : Type 0} (find : X → Found Y) (done : List Y) (x : X) (e : JobFault) → find x ≡ Err e → collect find done x ≡ Err e
+collect-fault find done x e found = ap (λ r. r >>= λ y. Ok (done ++ y ∷ [])) found

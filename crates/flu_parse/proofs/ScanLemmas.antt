@@ -1,8 +1,9 @@
 -- One byte more of a template.
-use Rattle.std.proofs.Common.{◌≡◌, ℕ, suc, ◌+◌, ◌<◌, ◌≤◌, List, ◌∷◌, length, drop, get_or, Option, Some, None, false, ap, sym, ◌∙◌, add-one}
+use Rattle.std.proofs.Common.{◌≡◌, ℕ, suc, ◌+◌, ◌<◌, ◌≤◌, List, ◌∷◌, length, drop, get_or, Option, Some, None, Bool, true, false, ap, sym, ◌∙◌, add-one}
 use Rattle.std.proofs.Math.Seq.{drop-cons}
 use Rattle.std.proofs.lemmas.List.{drop_all}
 use Rattle.flu_parse.specs.declared.pieces.WrittenPiece.{WrittenPiece}
+use Rattle.flu_parse.specs.Scans.{Steps}
 use Rattle.flu_parse.specs.Templates.{Scan, Template, scan_byte, scan, continued, end_of_scan}
 
 module _ (field : ℕ → ℕ → Option WrittenPiece) where
@@ -22,3 +23,11 @@ module _ (field : ℕ → ℕ → Option WrittenPiece) where
   pub scan-end : (s : Scan) (place : ℕ) (bs : List ℕ) (i : ℕ) → length bs ≤ i → scan field s place (drop i bs) ≡ end_of_scan s place
   unfolding scan
   scan-end s place bs i past = ap (scan field s place) (drop_all i bs past)
+
+pub goes_on : (b : Bool) (old new : Scan) (found : Option Scan) → b ≡ true → Steps b old new found → found ≡ Some new
+goes_on true old new found e h = h
+goes_on false old new found e h = absurd (cc)
+
+pub stops : (b : Bool) (old new : Scan) (found : Option Scan) → b ≡ false → Steps b old new found → (found ≡ None) × (new.pieces ≡ old.pieces)
+stops true old new found e h = absurd (cc)
+stops false old new found e h = h

@@ -115,7 +115,7 @@ template_at text in_flush s = scan (field_at text in_flush) (scan_start (s.from 
 -- ---- what a template means; all its faults stand at the text's place
 
 -- a family of each name, in the order of the fields
-abbrev pub known_name : List ℕ → Naming → ℕ → WrittenPiece → Found (Unit {0})
+unfoldable pub known_name : List ℕ → Naming → ℕ → WrittenPiece → Found (Unit {0})
 known_name text n place (p.Plain s) = Ok tt
 known_name text n place p.Value = Ok tt
 known_name text n place p.Key = Ok tt

@@ -92,14 +92,16 @@ fn scan(
         in_field: false,
     };
     for (i, byte) in bytes.iter().enumerate() {
-        if !scan_byte(&mut scanner, text, in_flush, from + i, *byte)? {
+        let goes_on = scan_byte(&mut scanner, text, in_flush, from + i, *byte)?;
+        if !goes_on {
             return Ok(ScannedTemplate {
                 pieces: scanner.pieces,
                 whole: false,
             });
         }
     }
-    end_scan(scanner, from + bytes.len())
+    let template = end_scan(scanner, from + bytes.len())?;
+    Ok(template)
 }
 
 /// The template of a written text.

@@ -29,6 +29,7 @@ fn known_family(
     find_family(names, name_of(text, written.family)).ok_or(JobFault::UnknownName { at: place })
 }
 
+#[tactic(auto, unfolding(crate::specs::Templates::known_name))]
 fn known_name(
     text: &str,
     names: &Names,
