@@ -5,3 +5,6 @@ pub mod Cells
 pub mod Terms
 pub mod Templates
 pub mod Scans
+pub mod Deeds
+pub mod Listings
+pub mod Resolving

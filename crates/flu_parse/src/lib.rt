@@ -2,6 +2,8 @@
 #![tactic(auto)]
 
 mod cells;
+mod deeds;
+mod drafts;
 mod faults;
 mod fields;
 mod names;
