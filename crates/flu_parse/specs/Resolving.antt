@@ -18,6 +18,7 @@ use Rattle.flu_parse.specs.declared.names.FamilyHead.{FamilyHead}
 use Rattle.flu_parse.specs.declared.names.KindHead.{KindHead}
 use Rattle.flu_parse.specs.declared.drafts.Draft.{Draft}
 use Rattle.flu_parse.specs.declared.drafts.JobParts.{JobParts}
+use Rattle.flu_parse.specs.declared.drafts.TagList.{TagList}
 use Rattle.flu_parse.specs.Faults.{Found, ◌>>=◌, ◌>>◌, unless, each}
 use Rattle.flu_parse.specs.Spelling.{name_of}
 use Rattle.flu_parse.specs.Naming.{Naming, naming_of, kind_of}
@@ -34,6 +35,9 @@ pub record Drafted : Type 0 where
 
 abbrev pub drafted : Draft → Drafted
 drafted d = record { kinds = map plain_kind d.kinds.items; given = d.given.items; depends = d.depends.items; sources = d.sources.items; itags = d.itags }
+
+abbrev pub tags_listed : TagList → Listed
+tags_listed l = record { tags = l.tags.items; itags = l.itags }
 
 -- `same` stands only between two keyed kinds
 abbrev pub same_of : WrittenRelation → KindHead → KindHead → Found Bool
@@ -89,11 +93,14 @@ idle_kind h = record { name = h.0; keyed = h.1.keyed; has_value = h.1.has_value;
 abbrev pub first_draft : Naming → Drafted
 first_draft n = record { kinds = map idle_kind n.kinds; given = []; depends = []; sources = []; itags = 0 }
 
+abbrev pub draft_of : List ℕ → Naming → List WrittenDeclaration → Found Drafted
+draft_of text n ds = each (with_declaration text n) (first_draft n) ds
+
 -- the job that declarations write, or the first fault
 unfoldable pub resolved : List ℕ → List WrittenDeclaration → Found Job
 resolved text ds = do
   n ← naming_of text ds
-  d ← each (with_declaration text n) (first_draft n) ds
+  d ← draft_of text n ds
   Ok (record { families = map family n.families; kinds = d.kinds; depends = d.depends; sources = d.sources })
 
 -- the parts of a job as plain data

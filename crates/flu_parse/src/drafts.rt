@@ -1,6 +1,6 @@
 //! A job that is being read.
 
-use flu_model::{Depend, Family, Kind, List, Source};
+use flu_model::{Depend, Family, Kind, List, Source, TagRef};
 
 /// The job as far as its declarations are looked at, with the numbers of the kinds whose `on` was met, and how many itags
 /// its sources have.
@@ -10,6 +10,13 @@ pub struct Draft {
     pub given: Vec<u32>,
     pub depends: Vec<Depend>,
     pub sources: Vec<Source>,
+    pub itags: u64,
+}
+
+/// The tags that a source lists so far, and how many itags the sources have so far.
+#[derive(Drop)]
+pub struct TagList {
+    pub tags: Vec<TagRef>,
     pub itags: u64,
 }
 

@@ -6,12 +6,16 @@ mod deeds;
 mod drafts;
 mod faults;
 mod fields;
+mod listings;
 mod names;
 mod naming;
 mod pieces;
+mod resolving;
 mod scanning;
 mod spelling;
 mod templates;
 mod terms;
 
+pub use drafts::JobParts;
 pub use faults::JobFault;
+pub use resolving::resolve;
