@@ -2,3 +2,4 @@ pub mod FaultLemmas
 pub mod NamingLemmas
 pub mod TermLemmas
 pub mod ScanLemmas
+pub mod ResolveLemmas
