@@ -1,0 +1,4 @@
+pub mod General
+pub mod Runs
+pub mod Parts
+pub mod Viable
