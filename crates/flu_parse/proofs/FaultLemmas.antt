@@ -1,5 +1,5 @@
 -- A fault that passes through a step, whichever it is.
-use Rattle.std.proofs.Common.{◌≡◌, ℕ, zero, suc, ◌+◌, ◌<◌, ◌≤◌, List, [], ◌∷◌, ◌++◌, length, drop, get_or, Ok, Err, refl, ap, sym, ◌∙◌, add-one, arith}
+use Rattle.std.proofs.Common.{◌≡◌, ℕ, zero, suc, ◌+◌, ◌<◌, ◌≤◌, List, [], ◌∷◌, ◌++◌, map, length, drop, get_or, Ok, Err, refl, ap, sym, ◌∙◌, add-one, arith}
 use Rattle.std.proofs.Math.Seq.{drop-cons}
 use Rattle.std.proofs.lemmas.List.{drop_all}
 use Rattle.flu_parse.specs.declared.faults.JobFault.{JobFault}
@@ -46,6 +46,17 @@ module _ {S X : Type 0} (step : S → X → Found S) where
 
   pub each-fault-at : (d : X) (s : S) (e : JobFault) (xs : List X) (i : ℕ) → i < length xs → step s (get_or xs i d) ≡ Err e → each step s (drop i xs) ≡ Err e
   each-fault-at d s e xs i lt found = each-fault s e xs i (get_or xs i d) lt (read_again xs i d (get_or xs i d) lt) found
+
+-- steps through what elements are seen as
+module _ {S X Y : Type 0} (step : S → X → Found S) (view : Y → X) where
+  pub each-map : (s : S) (ys : List Y) → each (λ t y. step t (view y)) s ys ≡ each step s (map view ys)
+  unfolding each
+  each-map s [] = refl
+  each-map s (y ∷ ys) = by (step s (view y)) (λ t. each-map t ys)
+    where
+      by : (r : Found S) → ((t : S) → each (λ t y. step t (view y)) t ys ≡ each step t (map view ys)) → (r >>= λ t. each (λ t y. step t (view y)) t ys) ≡ (r >>= λ t. each step t (map view ys))
+      by (Ok t) rest = rest t
+      by (Err e) rest = refl
 
 -- one step of finding something of each element
 abbrev pub collect : {X Y : Type 0} → (X → Found Y) → List Y → X → Found (List Y)

@@ -3,3 +3,4 @@ pub mod NamingLemmas
 pub mod TermLemmas
 pub mod ScanLemmas
 pub mod ResolveLemmas
+pub mod Steps

@@ -8,3 +8,4 @@ pub mod Scans
 pub mod Deeds
 pub mod Listings
 pub mod Resolving
+pub mod Reading

@@ -5,8 +5,8 @@ use Rattle.std.specs.Str.{bytes_eq}
 use Rattle.flu_model.specs.declared.jobs.Sort.{Sort}
 use Rattle.flu_model.specs.declared.limits.What.TheVariants.{Families, Kinds, Sources, Depends}
 use Rattle.flu_syntax.specs.declared.tree.WrittenSpan.{WrittenSpan}
-use Rattle.flu_syntax.specs.declared.tree.WrittenDeclaration.{WrittenDeclaration}
-use Rattle.flu_syntax.specs.declared.tree.WrittenDeclaration.TheVariants as w
+use Rattle.flu_syntax.specs.Tree.{Declaration}
+use Rattle.flu_syntax.specs.Tree as w
 use Rattle.flu_parse.specs.declared.faults.JobFault.TheVariants as f
 use Rattle.flu_parse.specs.declared.names.FamilyHead.{FamilyHead}
 use Rattle.flu_parse.specs.declared.names.KindHead.{KindHead}
@@ -64,7 +64,7 @@ with_source text n s = do
   Ok (record n { sources = n.sources ++ name ∷ [] })
 
 -- the names with one declaration more
-unfoldable pub declare : List ℕ → Naming → WrittenDeclaration → Found Naming
+unfoldable pub declare : List ℕ → Naming → Declaration → Found Naming
 declare text n (w.Cell s keyed sort) = with_family text n s keyed sort
 declare text n (w.Tag s keyed has_value) = with_kind text n s keyed has_value
 declare text n (w.Depends a b relation) = do
@@ -77,7 +77,7 @@ abbrev pub no_names : Naming
 no_names = record { families = []; kinds = []; sources = []; depends = 0 }
 
 -- the names of a job, or the first name that is declared twice or is one too many
-abbrev pub naming_of : List ℕ → List WrittenDeclaration → Found Naming
+abbrev pub naming_of : List ℕ → List Declaration → Found Naming
 naming_of text ds = each (declare text) no_names ds
 
 -- the head that a name needs to have

@@ -8,11 +8,10 @@ use Rattle.flu_model.specs.Erasure.{PlainAction, PlainKind, Job, plain_kind}
 use Rattle.flu_syntax.specs.declared.tree.WrittenSpan.{WrittenSpan}
 use Rattle.flu_syntax.specs.declared.tree.WrittenNumber.{WrittenNumber}
 use Rattle.flu_syntax.specs.declared.tree.WrittenTag.{WrittenTag}
-use Rattle.flu_syntax.specs.declared.tree.WrittenAction.{WrittenAction}
 use Rattle.flu_syntax.specs.declared.tree.WrittenRelation.{WrittenRelation}
 use Rattle.flu_syntax.specs.declared.tree.WrittenRelation.TheVariants as r
-use Rattle.flu_syntax.specs.declared.tree.WrittenDeclaration.{WrittenDeclaration}
-use Rattle.flu_syntax.specs.declared.tree.WrittenDeclaration.TheVariants as w
+use Rattle.flu_syntax.specs.Tree.{Action, Declaration}
+use Rattle.flu_syntax.specs.Tree as w
 use Rattle.flu_parse.specs.declared.faults.JobFault.TheVariants as f
 use Rattle.flu_parse.specs.declared.names.FamilyHead.{FamilyHead}
 use Rattle.flu_parse.specs.declared.names.KindHead.{KindHead}
@@ -61,7 +60,7 @@ with_actions (k ∷ ks) zero actions = record k { actions = actions } ∷ ks
 with_actions (k ∷ ks) (suc number) actions = k ∷ with_actions ks number actions
 
 -- a kind has one `on` at most
-unfoldable pub with_on : List ℕ → Naming → Drafted → WrittenSpan → List WrittenAction → Found Drafted
+unfoldable pub with_on : List ℕ → Naming → Drafted → WrittenSpan → List Action → Found Drafted
 with_on text n d name actions = do
   kind ← kind_of text n name
   unless (not (list_any (λ g. g == kind.number) d.given)) (f.TwiceNamed name.from)
@@ -76,7 +75,7 @@ with_source text n d name file written_rate tags = do
   Ok (record d { sources = d.sources ++ record { name = name_of text name; file = bytes; rate = rate; tags = listed.tags } ∷ []; itags = listed.itags })
 
 -- one declaration more
-unfoldable pub with_declaration : List ℕ → Naming → Drafted → WrittenDeclaration → Found Drafted
+unfoldable pub with_declaration : List ℕ → Naming → Drafted → Declaration → Found Drafted
 with_declaration text n d (w.Cell name keyed sort) = Ok d
 with_declaration text n d (w.Tag name keyed has_value) = Ok d
 with_declaration text n d (w.Depends a b relation) = with_depend text n d a b relation
@@ -93,11 +92,11 @@ idle_kind h = record { name = h.0; keyed = h.1.keyed; has_value = h.1.has_value;
 abbrev pub first_draft : Naming → Drafted
 first_draft n = record { kinds = map idle_kind n.kinds; given = []; depends = []; sources = []; itags = 0 }
 
-abbrev pub draft_of : List ℕ → Naming → List WrittenDeclaration → Found Drafted
+abbrev pub draft_of : List ℕ → Naming → List Declaration → Found Drafted
 draft_of text n ds = each (with_declaration text n) (first_draft n) ds
 
 -- the job that declarations write, or the first fault
-unfoldable pub resolved : List ℕ → List WrittenDeclaration → Found Job
+unfoldable pub resolved : List ℕ → List Declaration → Found Job
 resolved text ds = do
   n ← naming_of text ds
   d ← draft_of text n ds

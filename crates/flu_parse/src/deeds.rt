@@ -2,6 +2,7 @@
 
 ghost use Rattle.std.specs.Prelude.{◌≡◌, map, option_map};
 ghost use Rattle.flu_model.specs.Erasure.{term_of as plain_term, deed_of as plain_deed, plain_action};
+ghost use Rattle.flu_syntax.specs.Tree.{view, deed_of as deed_seen, action_of as action_seen};
 ghost use Rattle.flu_parse.specs.Faults.{Gives};
 ghost use Rattle.flu_parse.specs.Naming.{naming};
 ghost use Rattle.flu_parse.specs.Deeds.{deed_of, guard_of, action_of, with_action, actions_of};
@@ -27,7 +28,7 @@ fn deed_of(
     under: KindHead,
     act: &WrittenAct,
 ) -> Result<Act, JobFault>
-    ensures { Gives plain_deed result (deed_of text.now (naming names.now) under act.now) }
+    ensures { Gives plain_deed result (deed_of text.now (naming names.now) under (deed_seen act.now)) }
 {
     match act {
         WrittenAct::Add(cell, written) => {
@@ -70,7 +71,7 @@ fn guard_of(
     under: KindHead,
     guard: &Option<WrittenExpr>,
 ) -> Result<Option<Expr>, JobFault>
-    ensures { Gives (option_map plain_term) result (guard_of text.now (naming names.now) under guard.now) }
+    ensures { Gives (option_map plain_term) result (guard_of text.now (naming names.now) under (option_map view guard.now)) }
 {
     match guard {
         None => Ok(None),
@@ -89,7 +90,7 @@ fn action_of(
     under: KindHead,
     written: &WrittenAction,
 ) -> Result<Action, JobFault>
-    ensures { Gives plain_action result (action_of text.now (naming names.now) under written.now) }
+    ensures { Gives plain_action result (action_of text.now (naming names.now) under (action_seen written.now)) }
 {
     let act = deed_of(alloc, text, names, under, &written.act)?;
     let guard = guard_of(alloc, text, names, under, &written.guard)?;
@@ -105,7 +106,7 @@ fn add_action(
     done: &mut Vec<Action>,
     written: &WrittenAction,
 ) -> Result<(), JobFault>
-    ensures { Gives (λ unit. map plain_action done.new.items) result (with_action text.now (naming names.now) under (map plain_action done.old.items) written.now) }
+    ensures { Gives (λ unit. map plain_action done.new.items) result (with_action text.now (naming names.now) under (map plain_action done.old.items) (action_seen written.now)) }
 {
     if done.len() >= MOST_ACTIONS {
         return Err(JobFault::OverLimit {
@@ -126,7 +127,7 @@ pub fn actions_of(
     under: KindHead,
     written: &[WrittenAction],
 ) -> Result<List<Action>, JobFault>
-    ensures { Gives (map plain_action) result (actions_of text.now (naming names.now) under written.now) }
+    ensures { Gives (map plain_action) result (actions_of text.now (naming names.now) under (map action_seen written.now)) }
 {
     let mut done = Vec::new(alloc);
     for action in written {

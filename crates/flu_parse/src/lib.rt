@@ -10,6 +10,7 @@ mod listings;
 mod names;
 mod naming;
 mod pieces;
+mod reading;
 mod resolving;
 mod scanning;
 mod spelling;
@@ -18,4 +19,8 @@ mod terms;
 
 pub use drafts::JobParts;
 pub use faults::JobFault;
+pub use reading::read_job;
 pub use resolving::resolve;
+
+#[cfg(test)]
+mod tests;

@@ -3,6 +3,7 @@
 ghost use Rattle.std.specs.Prelude.{◌≡◌, ◌==◌, ◌∷◌, ◌++◌, [], map, OnOk, OnErr, IfOk};
 ghost use Rattle.std.specs.List.{list_any};
 ghost use Rattle.flu_model.specs.Erasure.{plain_action, plain_kind};
+ghost use Rattle.flu_syntax.specs.Tree.{action_of as action_seen, declaration_of, job_of};
 ghost use Rattle.flu_parse.specs.Faults.{Gives};
 ghost use Rattle.flu_parse.specs.Naming.{naming};
 ghost use Rattle.flu_parse.specs.Resolving.{drafted, same_of, with_depend, with_actions, with_on, with_source, with_declaration, family, idle_kind, first_draft, draft_of, resolved, job_of_parts};
@@ -80,7 +81,7 @@ fn add_on(
     name: WrittenSpan,
     written: &[WrittenAction],
 ) -> Result<(), JobFault>
-    ensures { Gives (λ done. drafted draft.new) result (with_on text.now (naming names.now) (drafted draft.old) name written.now) }
+    ensures { Gives (λ done. drafted draft.new) result (with_on text.now (naming names.now) (drafted draft.old) name (map action_seen written.now)) }
 {
     let kind = kind_of(names, text, name)?;
     if is_given(draft.given.as_slice(), kind.number) {
@@ -129,7 +130,7 @@ fn add_declaration(
     draft: &mut Draft,
     declaration: &WrittenDeclaration,
 ) -> Result<(), JobFault>
-    ensures { Gives (λ done. drafted draft.new) result (with_declaration text.now (naming names.now) (drafted draft.old) declaration.now) }
+    ensures { Gives (λ done. drafted draft.new) result (with_declaration text.now (naming names.now) (drafted draft.old) (declaration_of declaration.now)) }
 {
     match declaration {
         WrittenDeclaration::Cell { .. } | WrittenDeclaration::Tag { .. } => Ok(()),
@@ -209,7 +210,7 @@ fn draft_of(
     names: &Names,
     declarations: &[WrittenDeclaration],
 ) -> Result<Draft, JobFault>
-    ensures { Gives drafted result (draft_of text.now (naming names.now) declarations.now) }
+    ensures { Gives drafted result (draft_of text.now (naming names.now) (job_of declarations.now)) }
 {
     let mut draft = first_draft(alloc, names)?;
     for declaration in declarations {
@@ -235,7 +236,7 @@ pub fn resolve(
     text: &str,
     declarations: &[WrittenDeclaration],
 ) -> Result<JobParts, JobFault>
-    ensures { Gives job_of_parts result (resolved text.now declarations.now) }
+    ensures { Gives job_of_parts result (resolved text.now (job_of declarations.now)) }
 {
     let names = match naming_of(alloc, text, declarations) {
         Ok(names) => names,

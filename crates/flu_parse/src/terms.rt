@@ -2,6 +2,7 @@
 
 ghost use Rattle.std.specs.Prelude.{◌≡◌, nat_le};
 ghost use Rattle.flu_model.specs.Erasure.{term_of as plain_term};
+ghost use Rattle.flu_syntax.specs.Tree.{view};
 ghost use Rattle.flu_parse.specs.Faults.{Gives, unless};
 ghost use Rattle.flu_parse.specs.Naming.{naming};
 ghost use Rattle.flu_parse.specs.Terms.{height, first_part, first_token, term_of, expression_of};
@@ -18,7 +19,7 @@ const MOST_LEVELS: u32 = 32;
 
 // Whether an expression is at most so many levels high. No more than these are gone down.
 fn is_within(written: &WrittenExpr, levels: u32) -> bool
-    ensures { result ≡ nat_le (height written.now) levels }
+    ensures { result ≡ nat_le (height (view written.now)) levels }
 {
     if levels == 0 {
         return false;
@@ -40,7 +41,7 @@ fn is_within(written: &WrittenExpr, levels: u32) -> bool
 
 // The part that the expression's first token begins.
 fn first_part(written: &WrittenExpr) -> &WrittenExpr
-    ensures { result.now ≡ first_part written.now }
+    ensures { view result.now ≡ first_part (view written.now) }
 {
     let mut part = written;
     while let WrittenExpr::Two(_, left, _) = part {
@@ -56,7 +57,7 @@ fn first_token(
     under: KindHead,
     part: &WrittenExpr,
 ) -> Result<(), JobFault>
-    ensures { Gives (λ done. done) result (first_token text.now (naming names.now) under part.now) }
+    ensures { Gives (λ done. done) result (first_token text.now (naming names.now) under (view part.now)) }
 {
     match part {
         WrittenExpr::Value { at } => shape_at(under.has_value, *at),
@@ -94,7 +95,7 @@ fn term_of(
     under: KindHead,
     written: &WrittenExpr,
 ) -> Result<Expr, JobFault>
-    ensures { Gives plain_term result (term_of text.now (naming names.now) under written.now) }
+    ensures { Gives plain_term result (term_of text.now (naming names.now) under (view written.now)) }
 {
     match written {
         WrittenExpr::Number(number) => Ok(Expr::Lit(number.value)),
@@ -145,7 +146,7 @@ pub fn expression_of(
     under: KindHead,
     written: &WrittenExpr,
 ) -> Result<Expr, JobFault>
-    ensures { Gives plain_term result (expression_of text.now (naming names.now) under written.now) }
+    ensures { Gives plain_term result (expression_of text.now (naming names.now) under (view written.now)) }
 {
     first_token(text, names, under, first_part(written))?;
     if !is_within(written, MOST_LEVELS) {
