@@ -4,3 +4,4 @@ pub mod TermLemmas
 pub mod ScanLemmas
 pub mod ResolveLemmas
 pub mod Steps
+pub mod ReadingLemmas
