@@ -2,7 +2,7 @@ use Rattle.std.proofs.Common.{◌≡◌, ◌∙◌, ap, sym}
 use Rattle.std.specs.Prelude.{◌==◌, ◌&&◌, nat_le, max, min}
 use Rattle.flu_model.specs.declared.jobs.TagRef.{TagRef}
 use Rattle.flu_rules.specs.Keys.{first_key, last_key}
-use Rattle.flu_rules.proofs.General.{list_any_within}
+use Rattle.flu_lemmas.proofs.Searches.{list_any_within}
 use Rattle.flu_rules.proofs.TagLemmas.{share_tag}
 use Rattle.flu_parse.specs.Listings.{written_keys}
 use Rattle.flu_parse.specs.Listings.{share_tag as has_common_tag}
