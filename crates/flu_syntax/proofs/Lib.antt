@@ -5,3 +5,4 @@ pub mod Viable
 pub mod Accepts
 pub mod Found
 pub mod Spelling
+pub mod Levels
