@@ -6,3 +6,4 @@ pub mod Accepts
 pub mod Found
 pub mod Spelling
 pub mod Levels
+pub mod Exact
