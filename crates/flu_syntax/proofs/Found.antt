@@ -21,8 +21,8 @@ use Rattle.flu_syntax.specs.declared.tree.WrittenTag.{WrittenTag}
 use Rattle.flu_syntax.specs.declared.tree.WrittenRelation.{WrittenRelation}
 use Rattle.flu_syntax.specs.declared.tree.WrittenRelation.TheVariants as relation
 use Rattle.flu_syntax.specs.Tree.{Tree, Deed, Writes, Clears, Emits, Flushes, Action, Declaration, Cell, Tag, Depends, On, Source, Job}
-use Rattle.flu_syntax.specs.Machine.{span_of, cell_of, tag_of, Actions, Tags, Context, Amount, Guard, Want, Have, Done, Aim, ToWrite, ToClear, Now, Start, Declared, CellName, CellForm, CellSort, TagName, TagForm, TagValue, DependsFirst, DependsSecond, DependsHow, SourceName, SourceFile, SourceRate, SourceNumber, SourceColon, TagKind, TagKeys, TagLow, TagMore, TagHigh, TagClose, TagEnd, OnKind, OnColon, ActionStart, DeedEnd, ActionEnd, EmitText, FlushFamily, FlushText, CellFamily, InExpression, Next, Goes, acted, listed, source_of, deed_step, action_step, operator_of, doing_of, sort_of, value_of, heading_of, opening, opens, named, step, whole, Verdict, Found, run}
-use Rattle.flu_syntax.specs.Grammar.{Sign, Any, At, Spanned, IsSign, AreSigns, name, text, number, sort_word, value_word, verb_word, separated, cell_signs, spelled, Fits, nest, IsExpression, deed_signs, IsDeed, guard_signs, IsGuard, action_signs, AreActions, keys_signs, tag_signs, keyed_signs, relation_signs, rate_signs, declaration_signs, IsDeclaration, job_signs, AreDeclarations, IsJob, JobIsFound, JobsAreUnique}
+use Rattle.flu_syntax.specs.Machine.{span_of, cell_of, tag_of, Actions, Tags, Context, Amount, Guard, Want, Have, Done, Aim, ToWrite, ToClear, Now, Start, Declared, CellName, CellForm, CellSort, TagName, TagForm, TagValue, DependsFirst, DependsSecond, DependsHow, SourceName, SourceFile, SourceRate, SourceNumber, SourceColon, TagKind, TagKeys, TagLow, TagMore, TagHigh, TagClose, TagEnd, OnKind, OnColon, ActionStart, DeedEnd, ActionEnd, EmitText, FlushFamily, FlushText, CellFamily, InExpression, Next, Goes, acted, listed, source_of, deed_step, action_step, operator_of, doing_of, sort_of, value_of, heading_of, opening, opens, named, step, whole, Verdict, Found, run, verdict}
+use Rattle.flu_syntax.specs.Grammar.{Sign, Any, At, Spanned, IsSign, AreSigns, name, text, number, sort_word, value_word, verb_word, separated, cell_signs, spelled, Fits, nest, IsExpression, deed_signs, IsDeed, guard_signs, IsGuard, action_signs, AreActions, keys_signs, tag_signs, keyed_signs, relation_signs, rate_signs, declaration_signs, IsDeclaration, job_signs, AreDeclarations, IsJob, JobsAreUnique}
 use Rattle.flu_syntax.specs.Reading.{no_actions}
 use Rattle.flu_syntax.proofs.Runs.{run-behind, begins, job_ends, opens-nil}
 use Rattle.flu_syntax.proofs.Parts.{run-passed, run-closed, run-declared, run-no_relation, deed_plain, source_plain, cell_plain, tag_plain, tag_alone, tag_one, tags_end, actions_end}
@@ -482,7 +482,7 @@ accepts_job end job (d ∷ ds) tokens are h =
     let a = accepts_declaration end job d tokens (job_signs ds) h are.0 (job_headed ds) in
     a.2 ∙ accepts_job end (job ++ d ∷ []) ds a.0 are.1 a.1 ∙ ap Found (append_assoc job (d ∷ []) ds)
 
-pub job_is_found : JobIsFound
+pub job_is_found : (end : ℕ) (tokens : List Token) (job : Job) → IsJob tokens job → verdict end tokens ≡ Found job
 job_is_found end tokens job is = accepts_job end [] job tokens is.grammar is.spelled
 
 pub jobs_are_unique : JobsAreUnique

@@ -5,3 +5,5 @@ pub mod Viable
 pub mod Accepts
 pub mod Found
 pub mod Spelling
+pub mod Levels
+pub mod Exact

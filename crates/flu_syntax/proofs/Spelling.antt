@@ -30,7 +30,7 @@ use Rattle.flu_syntax.specs.declared.tree.WrittenTag.{WrittenTag}
 use Rattle.flu_syntax.specs.declared.tree.WrittenRelation.TheVariants as relation
 use Rattle.flu_syntax.specs.Tree.{Tree, NumberTree, ValueTree, KeyTree, TimeTree, ReadTree, HasTree, ParenTree, NegTree, NotTree, TwoTree, Deed, Writes, Clears, Emits, Flushes, Action, Declaration, Cell, Tag, Depends, On, Source, Job}
 use Rattle.flu_syntax.specs.Machine.{span_of, number_of, cell_of, tag_of, Actions, Tags, Context, Amount, Guard, Frame, NegFrame, NotFrame, ParenFrame, RightFrame, Mode, Want, Have, Done, Aim, ToWrite, ToClear, ToRead, ToTest, Now, Start, Declared, CellName, CellForm, CellSort, TagName, TagForm, TagValue, DependsFirst, DependsSecond, DependsHow, SourceName, SourceFile, SourceRate, SourceNumber, SourceColon, TagKind, TagKeys, TagLow, TagMore, TagHigh, TagClose, TagEnd, OnKind, OnColon, ActionStart, DeedEnd, ActionEnd, EmitText, FlushFamily, FlushText, CellFamily, CellKeys, CellKey, CellClose, InExpression, Next, Goes, Deep, Refused, begin, deeper, atom, take_or, done_step, expression_step, behind_step, deed_step, action_step, acted, listed, source_of, named, named_step, keys_step, key_step, on_name, on_text, on_colon, on_bracket, on_number, sort_of, sort_step, cell_step, value_of, value_step, tag_step, how_step, rate_step, tags_step, tag_keys_step, range_step, doing_of, act_step, start_of, operator_of, op_level, is_within, is_close, level_behind, opens, heading_of, opening, done_whole, behind_whole, expression_whole, named_whole, step, whole, Verdict, Found, goes_on, next_declaration, ended, run, verdict}
-use Rattle.flu_syntax.specs.Grammar.{Sign, Any, At, Spanned, IsSign, AreSigns, name, text, number, op_word, sort_word, value_word, verb_word, separated, key_signs, cell_signs, spelled, deed_signs, guard_signs, action_signs, keys_signs, tag_signs, keyed_signs, relation_signs, rate_signs, declaration_signs, job_signs, FoundIsSpelled}
+use Rattle.flu_syntax.specs.Grammar.{Sign, Any, At, Spanned, IsSign, AreSigns, name, text, number, op_word, sort_word, value_word, verb_word, separated, key_signs, cell_signs, spelled, deed_signs, guard_signs, action_signs, keys_signs, tag_signs, keyed_signs, relation_signs, rate_signs, declaration_signs, job_signs}
 
 -- ---- what a turn has said
 
@@ -606,7 +606,7 @@ unfolding run
 run_says end found [] job now sound e = end_says end job found (said now) (whole now) (whole_spelt now sound) e
 run_says end found (t ∷ tokens) job now sound e = goes_says end job found now t tokens (step now t) sound (step_says now t sound) (run_says end found tokens) e
 
-pub found_is_spelled : FoundIsSpelled
+pub found_is_spelled : (end : ℕ) (tokens : List Token) (job : Job) → verdict end tokens ≡ Found job → AreSigns (job_signs job) tokens
 found_is_spelled end tokens job e =
     let h = run_says end job tokens [] Start tt e in
     subst (λ (z : List Sign). AreSigns z tokens) (sym h.spell) h.are

@@ -13,7 +13,6 @@ use Rattle.flu_syntax.specs.declared.tree.WrittenKeys.{WrittenKeys}
 use Rattle.flu_syntax.specs.declared.tree.WrittenKeys.TheVariants as keys
 use Rattle.flu_syntax.specs.Tree.{Tree, NumberTree, ParenTree, NegTree, NotTree, TwoTree, Deed, Emits, Flushes, Declaration, Job}
 use Rattle.flu_syntax.specs.Machine.{span_of, number_of, cell_of, tag_of, Actions, Tags, Context, Amount, Guard, Frame, NegFrame, NotFrame, ParenFrame, RightFrame, Mode, Want, Have, Done, Aim, ToWrite, ToClear, ToRead, ToTest, Now, Start, Declared, CellName, CellForm, CellSort, TagName, TagForm, TagValue, DependsFirst, DependsSecond, DependsHow, SourceName, SourceFile, SourceRate, SourceNumber, SourceColon, TagKind, TagKeys, TagLow, TagMore, TagHigh, TagClose, TagEnd, OnKind, OnColon, ActionStart, DeedEnd, ActionEnd, EmitText, FlushFamily, FlushText, CellFamily, CellKeys, CellKey, CellClose, InExpression, Next, Goes, Deep, Refused, operator_of, start_of, doing_of, sort_of, value_of, op_level, level_behind, behind, named, source_of, listed, heading_of, opening, expression_step, step, whole, done_whole, Verdict, Found, Unexpected, TooDeep, goes_on, next_declaration, ended, place_of, run, verdict}
-use Rattle.flu_syntax.specs.Grammar.{MayGoOn, MayNotGoOn, CannotTake, IsFirstThatCannotFollow, UnexpectedIsFirst}
 use Rattle.flu_syntax.specs.Reading.{no_actions}
 use Rattle.flu_syntax.proofs.Runs.{run-takes, run-neg, run-not, run-right, run-paren, run-behind, pass_end, pass_word}
 
@@ -215,7 +214,7 @@ can end job (InExpression context mode frames) = expression_can end job context 
 -- ---- the first token that cannot follow
 
 -- with the next token the tokens may not go on, or they end and are no job
-abbrev Cannot : ℕ → Job → Now → List Token → List Token → Type 0
+abbrev pub Cannot : ℕ → Job → Now → List Token → List Token → Type 0
 Cannot end job now front [] = (found : Job) → run end job now front ≡ Found found → ⊥
 Cannot end job now front (t ∷ rest) = (more : List Token) (found : Job) → run end job now ((front ++ t ∷ []) ++ more) ≡ Found found → ⊥
 
@@ -305,15 +304,6 @@ by_step end place job now t tokens e ih (Goes other) s =
 by_step end place job now t tokens e ih Deep s = absurd (let both : TooDeep ≡ Unexpected place = sym (goes_at end job now t Deep tokens s) ∙ e in cc)
 by_step end place job now t tokens e ih Refused s = by_declaration end place job now t tokens e ih s (whole now) refl (opening (heading_of t.word)) refl
 
-first_of_all : (end place : ℕ) (tokens : List Token) (job : Job) (now : Now) → run end job now tokens ≡ Unexpected place → IsFirst end job now tokens place
+pub first_of_all : (end place : ℕ) (tokens : List Token) (job : Job) (now : Now) → run end job now tokens ≡ Unexpected place → IsFirst end job now tokens place
 first_of_all end place [] job now e = at_end end place job now e
 first_of_all end place (t ∷ tokens) job now e = by_step end place job now t tokens e (first_of_all end place tokens) (step now t) refl
-
-cannot_take : (end : ℕ) (front rest : List Token) → Cannot end [] Start front rest → CannotTake end front rest
-cannot_take end front [] h = h
-cannot_take end front (t ∷ rest) h = h
-
-pub unexpected_is_first : UnexpectedIsFirst
-unexpected_is_first end tokens place e =
-    let h = first_of_all end place tokens [] Start e in
-    record { front = h.front; rest = h.rest; whole = h.parts; here = h.here; may = h.may; cannot = cannot_take end h.front h.rest h.cannot }

@@ -1,5 +1,5 @@
 -- How a job is spelled.
-use Rattle.std.specs.Prelude.{◌≡◌, ◌≢◌, ℕ, ◌+◌, ◌≤◌, max, ◌==◌, if◌then◌else◌, Bool, true, false, List, [], ◌∷◌, ◌++◌, Option, Some, None}
+use Rattle.std.specs.Prelude.{◌≡◌, ◌≢◌, ◌↔◌, ℕ, ◌+◌, ◌≤◌, max, ◌==◌, if◌then◌else◌, Bool, true, false, List, [], ◌∷◌, ◌++◌, Option, Some, None}
 use Rattle.std.specs.List.{flat_map}
 use Rattle.flu_text.specs.declared.words.Word.{Word}
 use Rattle.flu_text.specs.declared.words.Word.TheVariants as w
@@ -232,30 +232,22 @@ pub record IsJob (tokens : List Token) (job : Job) : Type 0 where
   pub grammar : AreDeclarations job
   pub spelled : AreSigns (job_signs job) tokens
 
--- what is found is spelled by the tokens
-abbrev pub FoundIsSpelled : Type 0
-FoundIsSpelled = (end : ℕ) (tokens : List Token) (job : Job) → verdict end tokens ≡ Found job → AreSigns (job_signs job) tokens
-
--- what the tokens are is found
-abbrev pub JobIsFound : Type 0
-JobIsFound = (end : ℕ) (tokens : List Token) (job : Job) → IsJob tokens job → verdict end tokens ≡ Found job
+-- what is found is what the tokens are
+abbrev pub FoundIsJob : Type 0
+FoundIsJob = (end : ℕ) (tokens : List Token) (job : Job) → (verdict end tokens ≡ Found job) ↔ IsJob tokens job
 
 -- no tokens are two jobs
 abbrev pub JobsAreUnique : Type 0
 JobsAreUnique = (tokens : List Token) (a b : Job) → IsJob tokens a → IsJob tokens b → a ≡ b
 
 -- these tokens may be continued to a job
-abbrev pub MayGoOn : ℕ → List Token → Type 0
-MayGoOn end front = (more : List Token) × (job : Job) × (verdict end (front ++ more) ≡ Found job)
+abbrev pub MayGoOn : List Token → Type 0
+MayGoOn front = (more : List Token) × (job : Job) × IsJob (front ++ more) job
 
--- and these may not, whatever follows
-abbrev pub MayNotGoOn : ℕ → List Token → Type 0
-MayNotGoOn end front = (more : List Token) (job : Job) → verdict end (front ++ more) ≡ Found job → ⊥
-
--- with the next token they may not go on, or no token is left and they are no job yet
-abbrev pub CannotTake : ℕ → List Token → List Token → Type 0
-CannotTake end front [] = (job : Job) → verdict end front ≡ Found job → ⊥
-CannotTake end front (t ∷ rest) = MayNotGoOn end (front ++ t ∷ [])
+-- with the next token they may not go on, whatever follows; or no token is left and they are no job yet
+abbrev pub CannotTake : List Token → List Token → Type 0
+CannotTake front [] = (job : Job) → IsJob front job → ⊥
+CannotTake front (t ∷ rest) = (more : List Token) (job : Job) → IsJob ((front ++ t ∷ []) ++ more) job → ⊥
 
 -- The place is that of the first token with which the tokens may no longer go on, or the end where they may go on.
 pub record IsFirstThatCannotFollow (end : ℕ) (tokens : List Token) (place : ℕ) : Type 0 where
@@ -263,8 +255,8 @@ pub record IsFirstThatCannotFollow (end : ℕ) (tokens : List Token) (place : �
   pub rest : List Token
   pub whole : tokens ≡ front ++ rest
   pub here : place ≡ place_of end rest
-  pub may : MayGoOn end front
-  pub cannot : CannotTake end front rest
+  pub may : MayGoOn front
+  pub cannot : CannotTake front rest
 
 abbrev pub UnexpectedIsFirst : Type 0
 UnexpectedIsFirst = (end : ℕ) (tokens : List Token) (place : ℕ) → verdict end tokens ≡ Unexpected place → IsFirstThatCannotFollow end tokens place

@@ -1,15 +1,10 @@
 //! Laws of the grammar, each the contract of a function that does nothing.
 
-ghost use Rattle.flu_syntax.specs.Grammar.{FoundIsSpelled, JobIsFound, JobsAreUnique, UnexpectedIsFirst};
+ghost use Rattle.flu_syntax.specs.Grammar.{FoundIsJob, JobsAreUnique, UnexpectedIsFirst};
 
-/// What is found is what the tokens spell, word by word and place by place.
-pub fn found_is_spelled()
-    ensures { FoundIsSpelled }
-{}
-
-/// What the tokens spell by the grammar is found, and so they are one job at most.
-pub fn one_job()
-    ensures found { JobIsFound }
+/// What is found is exactly what the tokens are by the grammar, word by word and place by place; and that is one job at most.
+pub fn found_is_job()
+    ensures exactly { FoundIsJob }
     ensures unique { JobsAreUnique }
 {}
 

@@ -1,7 +1,8 @@
 //! The job that all tokens of a text are.
 
-ghost use Rattle.std.specs.Prelude.{◌≡◌, MatchResult};
+ghost use Rattle.std.specs.Prelude.{◌≡◌, ℕ, IfOk, MatchResult};
 ghost use Rattle.flu_syntax.specs.Tree.{job_of};
+ghost use Rattle.flu_syntax.specs.Grammar.{IsJob, IsFirstThatCannotFollow};
 ghost use Rattle.flu_syntax.specs.Machine.{verdict, Found};
 ghost use Rattle.flu_syntax.specs.Reading.{Tells};
 
@@ -24,6 +25,12 @@ pub fn read_syntax(
     tokens: &[Token],
     end: usize,
 ) -> Result<Vec<WrittenDeclaration>, SyntaxFault>
+    // The declarations are the job that the tokens are, and no other.
+    ensures job { IfOk result (λ found. IsJob tokens.now (job_of found.items)) }
+    // The place of the first token with which the tokens may no longer go on.
+    ensures unexpected { (at : ℕ) → result ≡ Err (SyntaxFault.Unexpected at) → IsFirstThatCannotFollow end tokens.now at }
+
+    // All that is told, but want of memory, is the verdict on the tokens.
     ensures verdict { MatchResult result (λ found. verdict end tokens.now ≡ Found (job_of found.items)) (λ fault. Tells fault (verdict end tokens.now)) }
 {
     let mut all = Vec::new(alloc);
