@@ -215,7 +215,11 @@ fn is_read(sources: &[Source], file: &str) -> bool
 }
 
 /// The file that is written, which no source before reads.
-pub fn file_of<'t>(text: &'t str, sources: &[Source], span: WrittenSpan) -> Result<&'t str, JobFault>
+pub fn file_of<'t>(
+    text: &'t str,
+    sources: &[Source],
+    span: WrittenSpan,
+) -> Result<&'t str, JobFault>
     ensures { Gives (λ file. file.now) result (file_of text.now sources.now span) }
 {
     let file = inside(text, span);

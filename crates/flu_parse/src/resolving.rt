@@ -145,16 +145,7 @@ fn add_declaration(
             file,
             rate,
             tags,
-        } => add_source(
-            alloc,
-            text,
-            names,
-            draft,
-            *name,
-            *file,
-            rate,
-            tags.items(),
-        ),
+        } => add_source(alloc, text, names, draft, *name, *file, rate, tags.items()),
     }
 }
 

@@ -30,12 +30,7 @@ fn known_family(
 }
 
 #[tactic(auto, unfolding(crate::specs::Templates::known_name))]
-fn known_name(
-    text: &str,
-    names: &Names,
-    place: usize,
-    piece: &WrittenPiece,
-) -> Result<(), JobFault>
+fn known_name(text: &str, names: &Names, place: usize, piece: &WrittenPiece) -> Result<(), JobFault>
     ensures { Gives (λ done. done) result (known_name text.now (naming names.now) place piece.now) }
 {
     match piece {

@@ -32,7 +32,10 @@ fn is_within(written: &WrittenExpr, levels: u32) -> bool
         | WrittenExpr::Read(_)
         | WrittenExpr::Has { .. } => true,
         WrittenExpr::Paren { inner, .. } => is_within(inner, levels),
-        WrittenExpr::Neg { inner, .. } | WrittenExpr::Not { inner, .. } => is_within(inner, levels - 1),
+        WrittenExpr::Neg { inner, .. } | WrittenExpr::Not { inner, .. } => is_within(
+            inner,
+            levels - 1,
+        ),
         WrittenExpr::Two(_, left, right) => {
             is_within(left, levels - 1) && is_within(right, levels - 1)
         }
@@ -128,11 +131,7 @@ fn term_of(
         WrittenExpr::Two(op, left, right) => {
             let left = term_of(alloc, text, names, under, left)?;
             let right = term_of(alloc, text, names, under, right)?;
-            Ok(Expr::Two(
-                *op,
-                Box::new(alloc, left)?,
-                Box::new(alloc, right)?,
-            ))
+            Ok(Expr::Two(*op, Box::new(alloc, left)?, Box::new(alloc, right)?))
         }
     }
 }

@@ -76,11 +76,7 @@ fn expect_said(
     Ok(())
 }
 
-fn expect_all(
-    rt: &impl Abort,
-    alloc: Global,
-    cases: &[(&str, &str)],
-) -> Result<(), AllocError> {
+fn expect_all(rt: &impl Abort, alloc: Global, cases: &[(&str, &str)]) -> Result<(), AllocError> {
     for (text, expected) in cases {
         expect_said(rt, alloc, text, expected)?;
     }
@@ -126,7 +122,10 @@ fn faults_of_declarations(rt: HostRuntime) -> Result<(), Fail> {
             "tag k keyed none source s \"f\": k[3..1]",
             "WrongShape { at: 33 }",
         ),
-        ("tag k keyed none source s \"f\": k", "WrongShape { at: 31 }"),
+        (
+            "tag k keyed none source s \"f\": k",
+            "WrongShape { at: 31 }",
+        ),
         (
             "tag k keyed none source s \"f\": k[65536]",
             "OverLimit { what: Key, count: 65536 }",
@@ -248,8 +247,22 @@ fn parts_of_job_k(rt: HostRuntime) -> Result<(), Fail> {
     let job = parts(rt.alloc(), JOB_K)?;
     let depends = job.depends.items();
     assert_eq!(rt; depends.len(), 3);
-    assert_eq!(rt; depends[0], Depend { a: 1, b: 1, same: true });
-    assert_eq!(rt; depends[1], Depend { a: 0, b: 2, same: false });
+    assert_eq!(rt;
+        depends[0],
+        Depend {
+            a: 1,
+            b: 1,
+            same: true
+        }
+    );
+    assert_eq!(rt;
+        depends[1],
+        Depend {
+            a: 0,
+            b: 2,
+            same: false
+        }
+    );
     let sources = job.sources.items();
     assert_eq!(rt; sources.len(), 3);
     assert_eq!(rt; sources[1].name.as_str(), "app");
@@ -257,7 +270,13 @@ fn parts_of_job_k(rt: HostRuntime) -> Result<(), Fail> {
     assert_eq!(rt; sources[1].rate, 500);
     let tags = sources[1].tags.items();
     assert_eq!(rt; tags.len(), 2);
-    assert_eq!(rt; tags[1], TagRef { kind: 1, keys: Keys::Range(0, 9) });
+    assert_eq!(rt;
+        tags[1],
+        TagRef {
+            kind: 1,
+            keys: Keys::Range(0, 9)
+        }
+    );
     Ok(())
 }
 
