@@ -1,13 +1,10 @@
-// A library with one function.
+//! Real files and writers as the program sees them. They tell nothing of what they hold, only how often they failed.
 #![tactic(auto)]
 
-ghost use Rattle.std.specs.Prelude.{◌≡◌};
-ghost use Rattle.flu_adapt.specs.Echo.{echo_of};
+mod host_files;
+mod host_sink;
+#[cfg(test)]
+mod tests;
 
-// The `ensures` clause is the contract: what `echo` returns is `echo_of` of its argument, a definition
-// in `specs/Echo.antt`, which a caller's clause can cite too.
-pub fn echo(x: usize) -> usize
-    ensures { result ≡ echo_of x }
-{
-    x
-}
+pub use host_files::HostFiles;
+pub use host_sink::HostSink;

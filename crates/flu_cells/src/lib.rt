@@ -1,8 +1,10 @@
-//! States: what each cell of a job holds.
+//! The states of a job: what each cell holds, as a finite map, with the join of two states and the cells of a set taken out.
 #![tactic(auto)]
 
 pub mod sets;
 pub mod state;
+#[cfg(test)]
+mod tests;
 
 pub use flu_model::{Cell, Worth};
 pub use sets::CellSet;

@@ -1,10 +1,9 @@
-//! A state, which holds a value in each cell that is not neutral.
+//! A state, which holds a value in each cell that is not neutral (`docs/MODEL.md`).
 
 ghost use Rattle.std.specs.BTreeMap as tree;
-ghost use Rattle.std.specs.List.{filter};
 ghost use Rattle.std.specs.Prelude.{◌≡◌, ◌<◌, ◌==◌, map, Some, None, OnOk, OnErr, IfOk, IsOk};
 ghost use Rattle.flu_model.specs.Contents.{nothing_held, with_worth, held_sum, added, raised, held_keys, key_count, join, joined_worth};
-ghost use Rattle.flu_cells.specs.Entries.{cell_cmp, contents_of, IsWithoutNeutral, HasKeysInRange, IsWorthKept};
+ghost use Rattle.flu_cells.specs.Entries.{cell_cmp, contents_of, IsWithoutNeutral, HasKeysInRange, IsWorthKept, entries_of_family};
 
 use crate::sets::CellSet;
 use flu_model::{Cell, Worth};
@@ -12,7 +11,13 @@ use std::alloc::{AllocError, Global};
 use std::collections::BTreeMap;
 use std::mem;
 
-/// What each cell holds. A cell that is not there is neutral.
+// The greatest key of a keyed family.
+const LAST_KEY: u32 = 65_535;
+
+/// What each cell holds: a finite map from cells to values that are not neutral. A cell that is not in it is neutral.
+///
+/// Contracts see it as the function `held` from each cell to what it holds, if anything. Two facts always hold of it: no
+/// cell holds a neutral value (a sum of 0), and each cell that holds something has a key from 0 to 65,535.
 #[derive(Drop)]
 pub struct State {
     cells: BTreeMap<Cell, Worth>,
@@ -25,7 +30,7 @@ impl State {
     ghost use Rattle.flu_cells.specs.Holding.{held};
     ghost use Rattle.flu_cells.specs.Sets.{within, outside};
 
-    /// The state in which every cell is neutral.
+    /// The state in which every cell is neutral. It takes no memory.
     pub fn new(alloc: Global) -> State
         ensures { held result ≡ nothing_held }
     {
@@ -35,14 +40,16 @@ impl State {
         }
     }
 
-    /// What a cell holds.
+    /// What a cell holds; `None` where it is neutral.
     pub fn get(&self, c: Cell) -> Option<Worth>
         ensures { result ≡ held self.now c }
     {
         self.cells.get(&c).copied()
     }
 
-    /// Adds to a sum, which wraps at the ends of its type.
+    /// Adds to the sum in a cell, which wraps at the ends of 128 bits; where it comes to 0, the cell is neutral again.
+    ///
+    /// The key is at most 65,535. Where memory is refused, the state is as before.
     pub fn add(&mut self, c: Cell, n: i128) -> Result<(), AllocError>
         requires { c.key < key_count }
         ensures ok { OnOk result (held self.new ≡ with_worth (held self.old) c (added (held self.old c) n)) }
@@ -51,7 +58,9 @@ impl State {
         self.hold(c, sum_with(self.get(c), n))
     }
 
-    /// Raises a maximum.
+    /// Makes the maximum in a cell the greater of itself and `v`; a neutral cell takes `v`.
+    ///
+    /// The key is at most 65,535. Where memory is refused, the state is as before.
     pub fn raise(&mut self, c: Cell, v: i64) -> Result<(), AllocError>
         requires { c.key < key_count }
         ensures ok { OnOk result (held self.new ≡ with_worth (held self.old) c (raised (held self.old c) v)) }
@@ -60,7 +69,9 @@ impl State {
         self.hold(c, greatest_with(self.get(c), v))
     }
 
-    /// Sets a last value.
+    /// Makes `v` the last value in a cell.
+    ///
+    /// The key is at most 65,535. Where memory is refused, the state is as before.
     pub fn put(&mut self, c: Cell, v: i64) -> Result<(), AllocError>
         requires { c.key < key_count }
         ensures ok { OnOk result (held self.new ≡ with_worth (held self.old) c (Some (Worth.Last v))) }
@@ -69,21 +80,24 @@ impl State {
         self.hold(c, Some(Worth::Last(v)))
     }
 
-    /// Makes a cell neutral.
+    /// Makes a cell neutral. It takes no memory.
     pub fn clear(&mut self, c: Cell)
         ensures { held self.new ≡ with_worth (held self.old) c None }
     {
         self.cells.remove(&c);
     }
 
-    /// The keys of a family whose cells are not neutral, rising.
+    /// The keys of a family whose cells are not neutral, rising. Only that family's cells are gone through.
     pub fn keys(&self, family: u32) -> Result<Vec<u32>, AllocError>
         ensures { IfOk result (λ v. v.items ≡ held_keys (held self.now) family) }
     {
         keys_of_family(self.alloc, &self.cells, family)
     }
 
-    /// Joins another state to this one, which is the left one.
+    /// Joins another state to this one (`docs/MODEL.md`): sums are added, the greater maximum is taken, and of last values
+    /// this one's comes first.
+    ///
+    /// An empty state takes no memory. Where memory is refused, this state is of no further use.
     pub fn absorb(&mut self, other: State) -> Result<(), AllocError>
         ensures ok { OnOk result (held self.new ≡ join (held self.old) (held other)) }
         ensures empty { held other ≡ nothing_held → IsOk result }
@@ -98,7 +112,9 @@ impl State {
         Ok(())
     }
 
-    /// Takes out the cells of a set.
+    /// Moves what the cells of a set hold into a state of its own; the other cells keep what they hold.
+    ///
+    /// Where memory is refused, this state is of no further use.
     pub fn take_out(&mut self, wanted: &CellSet) -> Result<State, AllocError>
         ensures taken { IfOk result (λ s. held s ≡ within wanted.now (held self.old)) }
         ensures left { OnOk result (held self.new ≡ outside wanted.now (held self.old)) }
@@ -116,7 +132,7 @@ impl State {
         Ok(taken)
     }
 
-    /// An equal state.
+    /// Another state whose cells hold the same.
     pub fn copy(&self) -> Result<State, AllocError>
         ensures { IfOk result (λ s. held s ≡ held self.now) }
     {
@@ -197,35 +213,19 @@ fn sum_worth(n: i128) -> Option<Worth>
     if n == 0 { None } else { Some(Worth::Sum(n)) }
 }
 
-// The keys of a family's cells in a map, rising.
+// The keys of a family's cells in a map, rising: only the cells of that family are gone through.
 fn keys_of_family(
     alloc: Global,
     cells: &BTreeMap<Cell, Worth>,
     family: u32,
 ) -> Result<Vec<u32>, AllocError>
     ensures ordered { tree.IsOrdered cell_cmp cells.now }
-    ensures listed { IfOk result (λ v. v.items ≡ map (λ c. c.key) (filter (λ c. c.family == family) (tree.keys cells.now))) }
+    ensures listed { IfOk result (λ v. v.items ≡ map (λ e. e.0.key) (entries_of_family cells.now family)) }
 {
-    cells
-        .keys()
-        .filter(|c| c.family == family)
-        .map(|c| c.key)
-        .collect(alloc)
-}
-
-#[cfg(test)]
-mod tests {
-    use super::*;
-    use std::test::Fail;
-
-    #[test]
-    fn a_sum_that_comes_back_to_zero_is_neutral(rt: HostRuntime) -> Result<(), Fail> {
-        let mut state = State::new(rt.alloc());
-        let count = Cell { family: 0, key: 0 };
-        state.add(count, 5)?;
-        assert_eq!(rt; state.get(count), Some(Worth::Sum(5)));
-        state.add(count, -5)?;
-        assert_eq!(rt; state.get(count), None);
-        Ok(())
-    }
+    let first = Cell { family, key: 0 };
+    let last = Cell {
+        family,
+        key: LAST_KEY,
+    };
+    cells.range(first..=last).map(|(c, _)| c.key).collect(alloc)
 }

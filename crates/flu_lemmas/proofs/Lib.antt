@@ -1,3 +1,6 @@
+pub mod Elements
+pub mod Prefixes
+pub mod Searches
 pub mod Sorting
 pub mod Tests
 pub mod Totals

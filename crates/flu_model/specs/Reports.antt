@@ -8,6 +8,8 @@ use Rattle.std.specs.declared.cmp.Ordering.{Ordering}
 use Rattle.flu_lemmas.specs.Sorting.{in_order}
 use Rattle.flu_model.specs.declared.events.Out.{Out}
 use Rattle.flu_model.specs.declared.events.Tag.{Tag}
+use Rattle.flu_model.specs.declared.events.Cell.{Cell}
+use Rattle.flu_model.specs.declared.jobs.Family.{Family}
 use Rattle.flu_model.specs.declared.jobs.Kind.{Kind}
 use Rattle.flu_model.specs.declared.jobs.Program.{Program}
 
@@ -21,6 +23,14 @@ kind_text (Some k) key = name_with_key k.name k.keyed key
 -- `kind`, or `kind[key]` where the kind is keyed
 abbrev pub text_of_tag : Program → Tag → List ℕ
 text_of_tag p t = kind_text (slice_get p.kinds t.kind) t.key
+
+abbrev pub family_text : Option Family → ℕ → List ℕ
+family_text None key = []
+family_text (Some f) key = name_with_key f.name f.keyed key
+
+-- `family`, or `family[key]` where the family is keyed
+abbrev pub text_of_cell : Program → Cell → List ℕ
+text_of_cell p c = family_text (slice_get p.families c.family) c.key
 
 -- a line of a report: a time, a tag and a text
 pub record Line : Type 0 where

@@ -4,6 +4,7 @@
 pub mod events;
 pub mod itags;
 pub mod jobs;
+pub mod limits;
 pub mod lists;
 pub mod modes;
 pub mod names;
@@ -16,8 +17,9 @@ pub use jobs::{
     Act, Action, At, CellRef, Depend, Expr, Family, Keys, Kind, Op, Piece, Program, Sort, Source,
     TagRef,
 };
+pub use limits::What;
 pub use lists::List;
 pub use modes::Mode;
-pub use names::tag_text;
+pub use names::{cell_text, tag_text};
 pub use streams::Streams;
 pub use words::{Name, Text};

@@ -1,8 +1,7 @@
 //! The lines of a report, whose tags and texts stand elsewhere.
 
 ghost use Rattle.std.specs.Prelude.{◌≡◌, IfOk, map};
-ghost use Rattle.std.specs.List.{flat_map, AllByRecursion};
-ghost use Rattle.std.specs.String.{string_bytes};
+ghost use Rattle.std.specs.List.{flat_map};
 ghost use Rattle.flu_model.specs.Reports.{line_bytes, line_of};
 ghost use Rattle.flu_report.specs.Tagging.{IsTagged};
 ghost use Rattle.flu_report.specs.Entries.{line_at};
@@ -13,7 +12,7 @@ use std::alloc::{AllocError, Global};
 use std::collections::BTreeMap;
 
 /// A line of a report.
-#[derive(Clone, Copy, PartialEq, Eq, PartialOrd, Ord, Drop)]
+#[derive(Clone, Copy, PartialEq, Eq, PartialOrd, Ord)]
 pub struct Entry<'a> {
     pub time: u64,
     pub tag: &'a str,

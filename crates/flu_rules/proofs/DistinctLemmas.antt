@@ -9,7 +9,7 @@ use Rattle.flu_model.specs.declared.jobs.Kind.{Kind}
 use Rattle.flu_model.specs.declared.jobs.Source.{Source}
 use Rattle.flu_model.specs.Rules.{are_distinct, is_same_text, have_own_names, have_own_files}
 use Rattle.flu_rules.specs.Names.{names_of}
-use Rattle.flu_rules.proofs.General.{list_any-map, rest_whole}
+use Rattle.flu_lemmas.proofs.Searches.{list_any-map, rest_whole}
 
 regrouped : (a b c d e : Bool) → (not (a || b) && (d && not c && e)) ≡ ((not a && d) && not (b || c) && e)
 regrouped true b c d e = refl

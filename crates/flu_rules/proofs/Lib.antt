@@ -1,4 +1,3 @@
-pub mod General
 pub mod HeightLemmas
 pub mod DistinctLemmas
 pub mod TagLemmas

@@ -12,7 +12,7 @@ use Rattle.flu_model.specs.Listing.{tag, listed_keys, listed_tags}
 use Rattle.flu_model.specs.Rules.{are_distinct, is_same_tag}
 use Rattle.flu_lemmas.proofs.Tests.{false_if_not, true_eq}
 use Rattle.flu_rules.specs.Keys.{first_key, last_key}
-use Rattle.flu_rules.proofs.General.{eq_true, rest_whole, list_any-map, list_any_never, list_any_or, list_any_and, list_any_within, list_any-range, ranges_meet}
+use Rattle.flu_lemmas.proofs.Searches.{eq_true, rest_whole, list_any-map, list_any_never, list_any_or, list_any_and, list_any_within, list_any-range, ranges_meet}
 use Rattle.flu_rules.proofs.DistinctLemmas.{distinct-append, from_place}
 
 in_one : (j k : ℕ) → ((j == k) || false) ≡ (nat_le k j && nat_le j k)

@@ -1,7 +1,7 @@
 -- The turns of the merge.
 use Rattle.std.proofs.Common.{◌≡◌, ◌≤◌, ◌<◌, ◌+◌, ℕ, Bool, true, false, cond, List, [], ◌∷◌, ◌++◌, length, drop, refl, sym, ap, subst, ◌∙◌, arith, inl, inr, drop-cons, add-one}
 use Rattle.std.proofs.lemmas.List.{drop_all}
-use Rattle.std.specs.Prelude.{nat_le, nat_lt, ◌==◌, ◌&&◌}
+use Rattle.std.specs.Prelude.{nat_le, nat_lt, ◌==◌}
 use Rattle.std.specs.List.{flat_map, AllByRecursion}
 use Rattle.std.specs.List.Sorted.{IsPermutation}
 use Rattle.std.specs.BinaryHeap.{IsHeap, IsUpperBound}
@@ -10,15 +10,16 @@ use Rattle.std.specs.declared.cmp.Reverse.{Reverse}
 use Rattle.std.proofs.lemmas.Grind.{common_steps}
 use Rattle.flu_model.specs.declared.events.Event.{Event}
 use Rattle.flu_model.specs.declared.events.Item.{Item}
-use Rattle.flu_model.specs.Merging.{events_of, is_before, merged}
+use Rattle.flu_model.specs.Merging.{events_of, is_before, all_events, merged, IsMerged}
 use Rattle.flu_model.specs.Streaming.{is_stream_from, are_streams}
+use Rattle.flu_lemmas.proofs.Elements.{all_map, all_push}
 use Rattle.flu_lemmas.proofs.Tests.{and_left, and_right, both, lt_true, le_true, true_le, true_lt, true_eq}
 use Rattle.flu_seq.specs.declared.merging.Head.{Head}
 use Rattle.flu_lemmas.specs.Totals.{total}
 use Rattle.flu_seq.specs.Heads.{event_at, items_at, rest_of, pending, is_run, is_good, heads_of, head_cmp, Ready, Adds}
 use Rattle.flu_lemmas.proofs.Totals.{total-IsPermutation, total-append, total-flat_map, all-IsPermutation}
 use Rattle.flu_seq.proofs.Runs.{run_of_stream, stream_at}
-use Rattle.flu_seq.proofs.Unique.{before_trans, Strict, only_one, in_order-weak, in_order-total}
+use Rattle.flu_seq.proofs.Unique.{before_trans, Strict, strict-push, merged-IsMerged, only_merged}
 
 -- ---- the totals of what is to come
 pub pending-IsPermutation : (lists : List (List Item)) (f : Event → ℕ) (hs ks : List (Reverse Head)) → IsPermutation hs ks → total f (pending lists ks) ≡ total f (pending lists hs)
@@ -137,28 +138,12 @@ module _ (lists : List (List Item)) (hs ks : List (Reverse Head)) (x : Reverse H
 -- ---- the merge so far
 pub record SoFar (lists : List (List Item)) (done : List Event) (hs : List (Reverse Head)) : Type 0 where
   pub ready : Ready lists hs
-  pub totals : (f : Event → ℕ) → total f done + total f (pending lists hs) ≡ total f (flat_map events_of lists)
+  pub totals : (f : Event → ℕ) → total f done + total f (pending lists hs) ≡ total f (all_events lists)
   pub strict : Strict done
   pub first : AllByRecursion (λ (m : Event). AllByRecursion (λ (r : Reverse Head). is_before m (event_at r.0) ≡ true) hs) done
 
-strict-push : (done : List Event) (x : Event) → Strict done → AllByRecursion (λ (m : Event). is_before m x ≡ true) done → Strict (done ++ x ∷ [])
-strict-push [] x s all = (tt, tt)
-strict-push (m ∷ done) x s all = (all_push (λ (y : Event). is_before m y ≡ true) done x s.0 all.0, strict-push done x s.1 all.1)
-  where
-    all_push : (P : Event → Type 0) (ys : List Event) (x : Event) → AllByRecursion P ys → P x → AllByRecursion P (ys ++ x ∷ [])
-    all_push P [] x all px = (px, tt)
-    all_push P (y ∷ ys) x all px = (all.0, all_push P ys x all.1 px)
-
 later : (a b : Event) → nat_le (a.time + 1) b.time ≡ true → is_before a b ≡ true
 later a b e = grind (arith, common_steps)
-
-all_push : (P : Event → Type 0) (ys : List Event) (x : Event) → AllByRecursion P ys → P x → AllByRecursion P (ys ++ x ∷ [])
-all_push P [] x all px = (px, tt)
-all_push P (y ∷ ys) x all px = (all.0, all_push P ys x all.1 px)
-
-all_map : (P Q : Event → Type 0) (ys : List Event) → ((y : Event) → P y → Q y) → AllByRecursion P ys → AllByRecursion Q ys
-all_map P Q [] f all = tt
-all_map P Q (y ∷ ys) f all = (f y all.0, all_map P Q ys f all.1)
 
 module _ (lists : List (List Item)) (good : are_streams 0 lists ≡ true) (done : List Event) (hs ks new : List (Reverse Head)) (x : Reverse Head) (so_far : SoFar lists done hs) (perm : IsPermutation hs (x ∷ ks)) where
   x_good : is_good lists x ≡ true
@@ -185,7 +170,7 @@ module _ (lists : List (List Item)) (good : are_streams 0 lists ≡ true) (done 
         let b : total f (pending lists new) ≡ total f (events_of (drop x.0.place (items_at lists x.0.itag))) + total f (pending lists ks) = added_total lists good x.0.itag x.0.place popped_in_range ks new adds f in
         let c : total f (pending lists (x ∷ ks)) ≡ total f (pending lists hs) = pending-IsPermutation lists f hs (x ∷ ks) perm in
         let d : total f (pending lists (x ∷ ks)) ≡ (f (event_at x.0) + total f (events_of (drop x.0.place (items_at lists x.0.itag)))) + total f (pending lists ks) = total-append f (rest_of lists x.0) (pending lists ks) in
-        let e : total f done + total f (pending lists hs) ≡ total f (flat_map events_of lists) = so_far.totals f in
+        let e : total f done + total f (pending lists hs) ≡ total f (all_events lists) = so_far.totals f in
         omega (arith, a, b, c, d, e)
         );
     strict = strict-push done (event_at x.0) so_far.strict (all_map _ (λ (m : Event). is_before m (event_at x.0) ≡ true) done (λ m all. (moved m all).0) so_far.first);
@@ -207,19 +192,17 @@ module _ (lists : List (List Item)) (good : are_streams 0 lists ≡ true) (done 
       omega (arith, b, c, d)
 
 -- at the end nothing is to come
-pub ended : (lists : List (List Item)) (done : List Event) (hs : List (Reverse Head)) → SoFar lists done hs → length hs ≡ 0 → done ≡ merged lists
-ended lists done [] so_far e =
-    sym (only_one (merged lists) done (in_order-weak (flat_map events_of lists)) so_far.strict (λ f. (
-    let a : total f (merged lists) ≡ total f (flat_map events_of lists) = in_order-total f (flat_map events_of lists) in
-    let b : total f done + 0 ≡ total f (flat_map events_of lists) = so_far.totals f in
-    omega (arith, a, b)
-    )))
+pub ended : (lists : List (List Item)) (done : List Event) (hs : List (Reverse Head)) → SoFar lists done hs → length hs ≡ 0 → (events : List Event) → IsMerged lists events → events ≡ done
+ended lists done [] so_far e = only_merged lists done so_far.strict (λ f. (let b : total f done + 0 ≡ total f (all_events lists) = so_far.totals f in omega (arith, b)))
 ended lists done (r ∷ hs) so_far e = absurd (omega arith)
+
+pub ended_same : (lists : List (List Item)) (done : List Event) (hs : List (Reverse Head)) → SoFar lists done hs → length hs ≡ 0 → merged lists ≡ done
+ended_same lists done hs so_far e = ended lists done hs so_far e (merged lists) (merged-IsMerged lists)
 
 -- ---- the first heads
 pub record Begun (lists : List (List Item)) (i : ℕ) (hs : List (Reverse Head)) : Type 0 where
   pub ready : Ready lists hs
-  pub totals : (f : Event → ℕ) → total f (pending lists hs) + total f (flat_map events_of (drop i lists)) ≡ total f (flat_map events_of lists)
+  pub totals : (f : Event → ℕ) → total f (pending lists hs) + total f (flat_map events_of (drop i lists)) ≡ total f (all_events lists)
   pub none_yet : (j : ℕ) → i ≤ j → heads_of j hs ≡ 0
 
 pub begin : (lists : List (List Item)) (hs : List (Reverse Head)) → hs ≡ [] → IsHeap head_cmp hs → Begun lists 0 hs
@@ -243,7 +226,7 @@ begin_turn lists good i hs new lt begun adds = record {
       let a : total f (pending lists new) ≡ total f (events_of (items_at lists i)) + total f (pending lists hs) = added_total lists good i 0 lt hs new adds f in
       let split : drop i lists ≡ items_at lists i ∷ drop (i + 1) lists = drop-cons lists i [] lt ∙ simp add-one in
       let b : total f (flat_map events_of (drop i lists)) ≡ total f (events_of (items_at lists i)) + total f (flat_map events_of (drop (i + 1) lists)) = ap (λ ls. total f (flat_map events_of ls)) split ∙ total-append f (events_of (items_at lists i)) (flat_map events_of (drop (i + 1) lists)) in
-      let c : total f (pending lists hs) + total f (flat_map events_of (drop i lists)) ≡ total f (flat_map events_of lists) = begun.totals f in
+      let c : total f (pending lists hs) + total f (flat_map events_of (drop i lists)) ≡ total f (all_events lists) = begun.totals f in
       omega (arith, a, b, c)
       );
   none_yet = λ j le. (
@@ -258,7 +241,7 @@ pub begun_all : (lists : List (List Item)) (i : ℕ) (hs : List (Reverse Head)) 
 begun_all lists i hs le begun = record {
   ready = begun.ready;
   totals = λ f. (
-      let a : total f (pending lists hs) + total f (flat_map events_of (drop i lists)) ≡ total f (flat_map events_of lists) = begun.totals f in
+      let a : total f (pending lists hs) + total f (flat_map events_of (drop i lists)) ≡ total f (all_events lists) = begun.totals f in
       let b : total f (flat_map events_of (drop i lists)) ≡ 0 = ap (λ ls. total f (flat_map events_of ls)) (drop_all i lists le) in
       omega (arith, a, b)
       );

@@ -1,80 +1,59 @@
--- A list in strict order is the only one with its events.
-use Rattle.std.proofs.Common.{◌≡◌, ◌<◌, ◌+◌, ℕ, Bool, true, false, cond, List, [], ◌∷◌, refl, sym, ap, subst, ◌∙◌, arith}
-use Rattle.std.specs.Prelude.{◌==◌, ◌&&◌, ⊤}
-use Rattle.std.specs.Ordering.{int_eq}
-use Rattle.std.specs.List.{AllByRecursion}
+-- Events in strict order are the only merged list of these events.
+use Rattle.std.proofs.Common.{◌≡◌, ℕ, Bool, true, false, List, [], ◌∷◌, ◌++◌, refl, sym, ap, subst, ◌∙◌, arith}
+use Rattle.std.specs.Prelude.{◌==◌, ◌&&◌, ◌||◌, ⊤}
+use Rattle.std.specs.Cmp.{IsTotalOrder, IsStrictWeakOrder}
+use Rattle.std.specs.Ordering.{int_eq, is_lt}
+use Rattle.std.specs.List.{list_any, AllByRecursion}
+use Rattle.std.specs.List.Sorted.{IsSortedBy}
+use Rattle.std.proofs.lemmas.Cmp.{nat_cmp_total, on_total, then_total}
 use Rattle.std.proofs.lemmas.Grind.{common_steps}
 use Rattle.std.proofs.lemmas.Int.{ints}
-use Rattle.flu_model.specs.declared.events.Event.{Event}
-use Rattle.flu_lemmas.specs.Sorting.{put_in_order, in_order}
-use Rattle.flu_lemmas.proofs.Tests.{not_both, false_if_not}
-use Rattle.flu_model.specs.Merging.{is_before}
+use Rattle.std.proofs.lemmas.List.Sorted.{ranks_by}
 use Rattle.flu_lemmas.specs.Totals.{total}
+use Rattle.flu_lemmas.proofs.Elements.{all_map, all_push, found, found_itself}
+use Rattle.flu_lemmas.proofs.Sorting.{IsRising, rising_from_sorted, in_order-permutation, in_order-sorted_by, only_rising}
+use Rattle.flu_lemmas.proofs.Tests.{not_both}
+use Rattle.flu_lemmas.proofs.Totals.{sum_by-total, total-IsPermutation, all_from_total, total_from_all}
+use Rattle.flu_model.specs.declared.events.Event.{Event}
+use Rattle.flu_model.specs.declared.events.Item.{Item}
+use Rattle.flu_model.specs.Merging.{is_before, event_cmp, all_events, merged, IsMerged}
+
+-- ---- the order of events
+event_cmp-total : IsTotalOrder event_cmp
+event_cmp-total = then_total (on_total (λ (x : Event). x.time) nat_cmp_total) (on_total (λ (x : Event). x.itag.0) nat_cmp_total)
+
+same_order : (x y : Event) → is_lt (event_cmp x y) ≡ is_before x y
+same_order x y = grind (arith, common_steps)
+
+is_before-cmp : (λ x y. is_lt (event_cmp x y)) ≡ is_before
+is_before-cmp = λ i x y. same_order x y i
+
+is_before-weak : IsStrictWeakOrder is_before
+is_before-weak = subst IsStrictWeakOrder is_before-cmp (ranks_by event_cmp-total (λ x. x))
 
 pub before_trans : (x y z : Event) → is_before x y ≡ true → is_before y z ≡ true → is_before x z ≡ true
 before_trans x y z e f = grind (arith, common_steps)
 
-pub before_asym : (x y : Event) → is_before x y ≡ true → is_before y x ≡ false
-before_asym x y e = grind (arith, common_steps)
-
-not_before : (x y z : Event) → is_before x y ≡ true → is_before z y ≡ false → is_before z x ≡ false
-not_before x y z e f = grind (arith, common_steps)
-
--- each event is before all later ones; and no event is after a later one
+-- each event is before all later ones
 abbrev pub Strict : List Event → Type 0
 Strict [] = ⊤
 Strict (x ∷ xs) = AllByRecursion (λ y. is_before x y ≡ true) xs × Strict xs
 
-abbrev pub Weak : List Event → Type 0
-Weak [] = ⊤
-Weak (x ∷ xs) = AllByRecursion (λ y. is_before y x ≡ false) xs × Weak xs
+pub strict-push : (done : List Event) (x : Event) → Strict done → AllByRecursion (λ (m : Event). is_before m x ≡ true) done → Strict (done ++ x ∷ [])
+strict-push [] x s all = (tt, tt)
+strict-push (m ∷ done) x s all = (all_push (λ (y : Event). is_before m y ≡ true) done x s.0 all.0, strict-push done x s.1 all.1)
 
-all_weaker : (x y : Event) (ys : List Event) → is_before x y ≡ true → AllByRecursion (λ z. is_before z y ≡ false) ys → AllByRecursion (λ z. is_before z x ≡ false) ys
-all_weaker x y [] e all = tt
-all_weaker x y (z ∷ ys) e all = (not_before x y z e all.0, all_weaker x y ys e all.1)
-
-all_put : (P : Event → Type 0) (x : Event) (ys : List Event) → P x → AllByRecursion P ys → AllByRecursion P (put_in_order is_before x ys)
-all_put P x [] px all = (px, tt)
-all_put P x (y ∷ ys) px all =
-    elim (is_before x y) as (λ b. AllByRecursion P (cond b (x ∷ y ∷ ys) (y ∷ put_in_order is_before x ys))) [
-      | true ↦ (px, all)
-      | false ↦ (all.0, all_put P x ys px all.1)
-    ]
-
-put-weak : (x : Event) (ys : List Event) → Weak ys → Weak (put_in_order is_before x ys)
-put-weak x [] w = (tt, tt)
-put-weak x (y ∷ ys) w =
-    elim (is_before x y) as (λ b. is_before x y ≡ b → Weak (cond b (x ∷ y ∷ ys) (y ∷ put_in_order is_before x ys))) [
-      | true ↦ λ e. ((before_asym x y e, all_weaker x y ys e w.0), w)
-      | false ↦ λ e. (all_put (λ z. is_before z y ≡ false) x ys e w.0, put-weak x ys w.1)
-    ] refl
-
-pub in_order-weak : (xs : List Event) → Weak (in_order is_before xs)
-in_order-weak [] = tt
-in_order-weak (x ∷ xs) = put-weak x (in_order is_before xs) (in_order-weak xs)
-
-swap_sums : (a b c : ℕ) → a + (b + c) ≡ b + (a + c)
-swap_sums a b c = omega arith
-
-put-total : (f : Event → ℕ) (x : Event) (ys : List Event) → total f (put_in_order is_before x ys) ≡ f x + total f ys
-put-total f x [] = refl
-put-total f x (y ∷ ys) =
-    elim (is_before x y) as (λ b. total f (cond b (x ∷ y ∷ ys) (y ∷ put_in_order is_before x ys)) ≡ f x + (f y + total f ys)) [
-      | true ↦ refl
-      | false ↦ ap (λ n. f y + n) (put-total f x ys) ∙ swap_sums (f y) (f x) (total f ys)
-    ]
-
-pub in_order-total : (f : Event → ℕ) (xs : List Event) → total f (in_order is_before xs) ≡ total f xs
-in_order-total f [] = refl
-in_order-total f (x ∷ xs) = put-total f x (in_order is_before xs) ∙ ap (λ n. f x + n) (in_order-total f xs)
+strict-rising : (xs : List Event) → Strict xs → IsRising is_before xs
+strict-rising [] s = tt
+strict-rising (x ∷ xs) s = (all_map (λ y. is_before x y ≡ true) (λ y. is_before y x ≡ false) xs (λ y. is_before-weak.one_way x y) s.0, strict-rising xs s.1)
 
 -- ---- equal events
 same_event : Event → Event → Bool
 same_event x y = (x.time == y.time) && (x.itag.0 == y.itag.0) && int_eq x.value y.value
 
-same_event-refl : (x : Event) → same_event x x ≡ true
+same_event-itself : (x : Event) → same_event x x ≡ true
 unfolding same_event
-same_event-refl x = grind (arith, ints, common_steps)
+same_event-itself x = grind (arith, ints, common_steps)
 
 same_event-is : (x y : Event) → same_event x y ≡ true → x ≡ y
 unfolding same_event
@@ -84,46 +63,43 @@ same_event-is x y e =
     let v : x.value ≡ y.value = grind (arith, ints, common_steps) in
     λ k. record { time = t k; itag = record { 0 = i k }; value = v k }
 
-same_event-sym : (x y : Event) → same_event x y ≡ same_event y x
-unfolding same_event
-same_event-sym x y =
-    elim (same_event y x) as (λ b. same_event y x ≡ b → same_event x y ≡ b) [
-      | true ↦ λ e. ap (λ u. same_event u y) (sym (same_event-is y x e)) ∙ same_event-refl y
-      | false ↦ λ e. false_if_not (same_event x y) (λ f. not_both (same_event y x) (ap (λ u. same_event u x) (sym (same_event-is x y f)) ∙ same_event-refl x) e)
-    ] refl
+is_listed : List Event → Event → Bool
+is_listed ys x = list_any (same_event x) ys
 
--- how often an event occurs
-times : Event → List Event → ℕ
-times x ys = total (λ y. cond (same_event x y) 1 0) ys
+-- of events in strict order no two are in the same place of the order
+no_ties : (ys : List Event) → Strict ys → (x y : Event) → is_listed ys x ≡ true → is_listed ys y ≡ true → is_before x y ≡ false → is_before y x ≡ false → x ≡ y
+unfolding is_listed
+no_ties [] s x y a b e f = cc
+no_ties (z ∷ ys) s x y a b e f = by_tests (same_event x z) (same_event y z) refl refl a b (λ here there. no_ties ys s.1 x y here there e f)
+  where
+    by_tests : (p q : Bool) → same_event x z ≡ p → same_event y z ≡ q → (p || is_listed ys x) ≡ true → (q || is_listed ys y) ≡ true → (is_listed ys x ≡ true → is_listed ys y ≡ true → x ≡ y) → x ≡ y
+    by_tests true true here there a b rest = same_event-is x z here ∙ sym (same_event-is y z there)
+    by_tests true false here there a b rest =
+        let before : is_before z y ≡ true = found same_event same_event-is same_event-itself (λ w. is_before z w ≡ true) y ys b s.0 in
+        absurd (not_both (is_before x y) (ap (λ w. is_before w y) (same_event-is x z here) ∙ before) e)
+    by_tests false true here there a b rest =
+        let before : is_before z x ≡ true = found same_event same_event-is same_event-itself (λ w. is_before z w ≡ true) x ys a s.0 in
+        absurd (not_both (is_before y x) (ap (λ w. is_before w x) (same_event-is y z there) ∙ before) f)
+    by_tests false false here there a b rest = rest a b
 
-occurs : (P : Event → Type 0) (x : Event) (ys : List Event) → 0 < times x ys → AllByRecursion P ys → P x
-unfolding times
-occurs P x [] lt all = absurd (omega arith)
-occurs P x (y ∷ ys) lt all =
-    elim (same_event x y) as (λ b. same_event x y ≡ b → 0 < cond b 1 0 + total (λ z. cond (same_event x z) 1 0) ys → P x) [
-      | true ↦ λ e l. subst P (sym (same_event-is x y e)) all.0
-      | false ↦ λ e l. occurs P x ys (omega arith) all.1
-    ] refl lt
+only_one : (done events : List Event) → Strict done → IsRising is_before events → ((f : Event → ℕ) → total f events ≡ total f done) → events ≡ done
+unfolding is_listed
+only_one done events s up sums =
+    let own : AllByRecursion (λ x. is_listed done x ≡ true) done = found_itself same_event same_event-is same_event-itself done in
+    let theirs : AllByRecursion (λ x. is_listed done x ≡ true) events = all_from_total (is_listed done) events (sums _ ∙ total_from_all (is_listed done) done own) in
+    only_rising is_before is_before-weak (λ x. is_listed done x ≡ true) (no_ties done s) events done theirs own up (strict-rising done s)
+    (λ f. sum_by-total f events ∙ sums f ∙ sym (sum_by-total f done))
 
--- the heads of two such lists with the same events are equal
-same_head : (z y : Event) (zs ys : List Event) → Weak (z ∷ zs) → Strict (y ∷ ys) → ((f : Event → ℕ) → total f (z ∷ zs) ≡ total f (y ∷ ys)) → z ≡ y
-unfolding times
-same_head z y zs ys w s sums =
-    elim (same_event z y) as (λ b. same_event z y ≡ b → z ≡ y) [
-      | true ↦ λ e. same_event-is z y e
-      | false ↦ λ e.
-          let back : same_event y z ≡ false = same_event-sym y z ∙ e in
-          let of_z : 1 + times z zs ≡ 0 + times z ys = sym (ap (λ b. cond b 1 0 + times z zs) (same_event-refl z)) ∙ sums (λ q. cond (same_event z q) 1 0) ∙ ap (λ b. cond b 1 0 + times z ys) e in
-          let of_y : 0 + times y zs ≡ 1 + times y ys = sym (ap (λ b. cond b 1 0 + times y zs) back) ∙ sums (λ q. cond (same_event y q) 1 0) ∙ ap (λ b. cond b 1 0 + times y ys) (same_event-refl y) in
-          let one : is_before y z ≡ true = occurs (λ q. is_before y q ≡ true) z ys (omega (arith, of_z)) s.0 in
-          let two : is_before y z ≡ false = occurs (λ q. is_before q z ≡ false) y zs (omega (arith, of_y)) w.0 in
-          absurd (not_both (is_before y z) one two)
-    ] refl
+-- ---- the merged list
+-- the plain program makes a merged list
+pub merged-IsMerged : (lists : List (List Item)) → IsMerged lists (merged lists)
+merged-IsMerged lists = record {
+  all = in_order-permutation is_before (all_events lists);
+  sorted = subst (λ lt. IsSortedBy lt (merged lists)) (sym is_before-cmp) (in_order-sorted_by is_before is_before-weak (all_events lists));
+}
 
-pub only_one : (zs ys : List Event) → Weak zs → Strict ys → ((f : Event → ℕ) → total f zs ≡ total f ys) → zs ≡ ys
-only_one [] [] w s sums = refl
-only_one [] (y ∷ ys) w s sums = absurd (let e : 0 ≡ 1 + total (λ x. 1) ys = sums (λ x. 1) in omega (arith, e))
-only_one (z ∷ zs) [] w s sums = absurd (let e : 1 + total (λ x. 1) zs ≡ 0 = sums (λ x. 1) in omega (arith, e))
-only_one (z ∷ zs) (y ∷ ys) w s sums =
-    let head : z ≡ y = same_head z y zs ys w s sums in
-    λ i. head i ∷ only_one zs ys w.1 s.1 (λ f. let e : f z + total f zs ≡ f y + total f ys = sums f in let h : f z ≡ f y = ap f head in omega (arith, e, h)) i
+-- events in strict order with the totals of all events are the only merged list
+pub only_merged : (lists : List (List Item)) (done : List Event) → Strict done → ((f : Event → ℕ) → total f done ≡ total f (all_events lists)) → (events : List Event) → IsMerged lists events → events ≡ done
+only_merged lists done s sums events m =
+    only_one done events s (rising_from_sorted is_before is_before-weak events (subst (λ lt. IsSortedBy lt events) is_before-cmp m.sorted))
+    (λ f. total-IsPermutation f (all_events lists) events m.all ∙ sym (sums f))

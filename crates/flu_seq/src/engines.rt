@@ -12,19 +12,19 @@ use flu_cells::State;
 use flu_model::{Outs, Program, Streams};
 use std::alloc::{AllocError, Global};
 
-/// Runs the events of streams from an opening state, for one job that it keeps.
+/// Runs the events of streams from an opening state, for one job that it keeps (`docs/MODEL.md`).
 pub trait Engine {
     ghost use Rattle.flu_model.specs.declared.jobs.Program.{Program};
 
     /// The job that is run.
     ghost program_of: { Self → Program };
 
-    /// The job that is run.
+    /// The job that is run. It takes no memory.
     fn program(&self) -> &Program
         ensures { result.now ≡ program_of self.now };
 
     /// Runs all events of the streams, which have one list for each itag of the job: the state is the fold's, and the
-    /// outputs are the fold's in some order.
+    /// outputs are the fold's in some order. The job is the same after a batch as before it.
     fn batch(
         &mut self,
         alloc: Global,
@@ -40,6 +40,7 @@ pub trait Engine {
 /// The plain engine, which folds the merged events one after another.
 #[derive(Drop)]
 pub struct FoldEngine {
+    /// The job that it runs.
     pub program: Program,
 }
 

@@ -14,6 +14,7 @@ use flu_step::update;
 use std::alloc::{AllocError, Global};
 
 /// The state after these events, taken in the order of the slice from an opening state, and their outputs in that order.
+/// The events are of itags of the job.
 pub fn fold_events(
     alloc: Global,
     p: &Program,

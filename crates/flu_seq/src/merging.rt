@@ -1,10 +1,10 @@
-//! The merged list: all events of all itags in order, merged by a heap.
+//! The merged list: all events of all itags in order, merged by a heap (`docs/MODEL.md`).
 
-ghost use Rattle.std.specs.Prelude.{◌≡◌, ◌<◌, ◌≤◌, ◌∷◌, [], drop, length, slice_index_or, IfOk, OnOk, MatchOption};
+ghost use Rattle.std.specs.Prelude.{◌≡◌, ◌<◌, ◌≤◌, List, ◌∷◌, [], drop, length, slice_index_or, IfOk, OnOk, MatchOption};
 ghost use Rattle.std.specs.BinaryHeap.{heap_items};
 ghost use Rattle.flu_model.specs.Itags.{count_of_itags};
 ghost use Rattle.flu_model.specs.Listed.{listed};
-ghost use Rattle.flu_model.specs.Merging.{events_of, merged};
+ghost use Rattle.flu_model.specs.Merging.{IsMerged, events_of, merged};
 ghost use Rattle.flu_seq.specs.Heads.{Adds, event_at, items_at};
 
 use flu_model::{Event, Itag, Item, Program, Streams, itag_count};
@@ -21,11 +21,16 @@ struct Head {
     place: usize,
 }
 
-/// The merged list of the streams, which have one list for each itag of the job. The heap holds the next event of each
-/// itag, so the time is that of the number of events by the logarithm of the number of itags.
+/// The merged list of the streams, which have one list for each itag of the job: all their events, sorted by time and,
+/// where times are equal, by the itag's number. No other list is sorted so and has these events.
+///
+/// The heap holds the next event of each itag, so the time is that of the number of events by the logarithm of the number
+/// of itags.
 pub fn merge(alloc: Global, p: &Program, s: &Streams) -> Result<Vec<Event>, AllocError>
     requires { length (listed s.now) ≡ count_of_itags p.now }
-    ensures { IfOk result (λ v. v.items ≡ merged (listed s.now)) }
+    ensures same { IfOk result (λ v. v.items ≡ merged (listed s.now)) }
+    ensures sorted { IfOk result (λ v. IsMerged (listed s.now) v.items) }
+    ensures only { IfOk result (λ v. (events : List Event) → IsMerged (listed s.now) events → events ≡ v.items) }
 {
     let mut heads = BinaryHeap::new(alloc);
     for i in 0..itag_count(p) {

@@ -1,4 +1,4 @@
-//! The values of expressions: signed numbers of 64 bits, where each result is clamped to that range.
+//! The values of expressions: signed numbers of 64 bits, where each result is clamped to that range (`docs/LANGUAGE.md`).
 
 ghost use Rattle.std.specs.Prelude.{◌≡◌, pos};
 ghost use Rattle.flu_model.specs.Contents as contents;
@@ -8,7 +8,10 @@ ghost use Rattle.flu_cells.specs.Holding.{held};
 use flu_cells::State;
 use flu_model::{At, Cell, CellRef, Event, Expr, Op, Worth};
 
-/// The value of an expression in a state, at an event whose tag has this key.
+/// The value of an expression in a state, at an event whose tag has this key. It takes no memory.
+///
+/// A sum and a time are clamped as they are read, and a neutral cell reads as 0. Comparisons, `has` and the connectives
+/// give 0 or 1, and every number but 0 counts as true.
 pub fn value_of(e: &Expr, s: &State, x: &Event, key: u32) -> i64
     ensures { result ≡ meaning.value_of_expr e.now (held s.now) x.now key }
 {

@@ -1,7 +1,9 @@
-//! What an event does to a state.
+//! What an event does to a state: the values of expressions, the texts that are put out, and the update.
 #![tactic(auto)]
 
 pub mod expressions;
+#[cfg(test)]
+mod tests;
 mod texts;
 pub mod updates;
 

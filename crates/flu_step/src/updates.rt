@@ -1,4 +1,4 @@
-//! What an event does to a state.
+//! What an event does to a state: the actions of its tag's kind, in order (`docs/MODEL.md`).
 
 ghost use Rattle.std.specs.Prelude.{◌≡◌, ◌<◌, [], ◌∷◌, ◌++◌, map, Some, None, OnOk, IsTrue};
 ghost use Rattle.std.specs.List.{list_all};
@@ -18,7 +18,10 @@ use flu_cells::State;
 use flu_model::{Act, Action, Cell, Event, Expr, Out, Outs, Piece, Program, Tag, Text, tag_of};
 use std::alloc::{AllocError, Global};
 
-/// Updates a state by an event, and appends the outputs.
+/// Updates a state by an event, whose itag is one of the job's, and appends its outputs in the order in which its actions
+/// put them out. Nothing else of the outputs changes.
+///
+/// Where memory is refused, the state and the outputs are of no further use.
 pub fn update(
     alloc: Global,
     p: &Program,

@@ -1,25 +1,26 @@
 -- The word that is read at the front of some bytes is the one that the grammar has there.
 use Rattle.std.proofs.Common.{◌≡◌, ◌≢◌, ℕ, zero, suc, ◌+◌, ◌≤◌, ◌<◌, ◌^◌, Bool, true, false, ◌&&◌, cond, eqb, ltb, leb, List, [], ◌∷◌, ◌++◌, length, take, drop, get_or, pos, Option, Some, None, refl, sym, ap, subst, ◌∙◌, append_assoc, inl, inr, arith}
-use Rattle.std.specs.Prelude.{option_map, unwrap_or, not}
+use Rattle.std.specs.Prelude.{option_map, unwrap_or}
 use Rattle.std.specs.Char.{is_ascii_digit}
-use Rattle.std.specs.List.{list_all, prefix_len, AllPass}
+use Rattle.std.specs.List.{list_all, prefix_len}
 use Rattle.std.specs.Str.Parse.{digits_value}
 use Rattle.std.proofs.lemmas.Bool.{cases_Bool, leb-true, ltb-true}
 use Rattle.std.proofs.lemmas.Bool.Decides.{nat_tests}
 use Rattle.std.proofs.lemmas.List.{length-append, length-take, length-take-le, take-append-drop, take_more}
-use Rattle.std.proofs.lemmas.List.Sums.{prefix_len-le-length, AllPass-from_list_all}
+use Rattle.std.proofs.lemmas.List.Sums.{prefix_len-le-length}
 use Rattle.std.proofs.lemmas.List.Folds.{list_all-append}
 use Rattle.flu_text.specs.declared.words.Reserved.{Reserved}
 use Rattle.flu_text.specs.declared.words.Mark.{Mark}
 use Rattle.flu_text.specs.declared.words.Word.{Word}
 use Rattle.flu_text.specs.declared.words.Word.TheVariants as w
 use Rattle.flu_text.specs.Spelling.{reserved_spelling, mark_spelling}
-use Rattle.flu_text.specs.Grammar.{quote, is_name_start, is_name_byte, is_text_byte, Starts, IsLexeme, Identifier, Digits, Quoted, Punctuation, IsName, IsText, Spells}
+use Rattle.flu_text.specs.Grammar.{is_name_start, is_name_byte, is_text_byte, Starts, IsLexeme, Identifier, Digits, Quoted, Punctuation, Spells}
 use Rattle.flu_text.specs.Lexeme.{reserved_of, name_at, number_of, number_at, text_at, mark_of, mark_at, word_at}
 use Rattle.flu_text.specs.Layout.{NotFirst, makes_longer, Ends}
-use Rattle.flu_text.proofs.General.{within_read, chosen, mapped, and_left, and_right, and_both, list_all-prefix_len, prefix_len-longest, prefix_len-take, prefix_len_some, take_one_more}
+use Rattle.flu_lemmas.proofs.Tests.{and_left, both}
+use Rattle.flu_lemmas.proofs.Prefixes.{within_read, chosen, mapped, list_all-prefix_len, prefix_len-longest, prefix_len-take, prefix_len_some, take_one_more}
 use Rattle.flu_text.proofs.Tables.{reserved_of-spelling, reserved_is, reserved_bytes, reserved_starts, mark_of-spelling, mark_len, mark_is, long_mark, longer_mark}
-use Rattle.flu_text.proofs.Spelled.{starts_from_first, length-quoted, IsMarkByte, mark_first, spelled_is_read}
+use Rattle.flu_text.proofs.Spelled.{starts_from_first, mark_first, spelled_is_read}
 
 -- this word takes so many bytes of the front, and no lexeme there is longer
 pub record IsFront (bytes : List ℕ) (p : Word × ℕ) : Type 0 where
@@ -271,7 +272,7 @@ starts-append p [] t starts = absurd starts
 starts-append p (b ∷ s) t starts = starts
 
 all-append : (p : ℕ → Bool) (s : List ℕ) (b : ℕ) → list_all p s ≡ true → p b ≡ true → list_all p (s ++ b ∷ []) ≡ true
-all-append p s b all e = list_all-append p s (b ∷ []) ∙ and_both (list_all p s) (p b && true) all (rw e refl)
+all-append p s b all e = list_all-append p s (b ∷ []) ∙ both (list_all p s) (p b && true) all (rw e refl)
 
 identifier_longer : (s : List ℕ) (b : ℕ) → Starts is_name_start s → list_all is_name_byte s ≡ true → is_name_byte b ≡ true → IsLexeme (s ++ b ∷ [])
 identifier_longer s b starts bytes e = Identifier (starts-append is_name_start s (b ∷ []) starts) (all-append is_name_byte s b bytes e)
@@ -285,16 +286,16 @@ mark_longer mark b e = let longer = longer_mark mark b e in Punctuation longer.0
 no_longer : (p : ℕ → Bool) (bytes : List ℕ) (n : ℕ) → ((k : ℕ) → k ≤ length bytes → IsLexeme (take k bytes) → k ≤ n) → ((b : ℕ) → p b ≡ true → IsLexeme (take n bytes ++ b ∷ [])) → NotFirst p (drop n bytes)
 no_longer p bytes n longest longer =
     not_first p (drop n bytes) (λ (b : ℕ) (rest : List ℕ) (e : drop n bytes ≡ b ∷ rest) (hit : p b ≡ true).
-        let more = take_one_more bytes n b rest e in
-        let lexeme : IsLexeme (take (n + 1) bytes) = subst IsLexeme (sym more.1) (longer b hit) in
-        let le = longest (n + 1) (omega (arith, more.0)) lexeme in
-        absurd (omega (arith, le)))
+    let more = take_one_more bytes n b rest e in
+    let lexeme : IsLexeme (take (n + 1) bytes) = subst IsLexeme (sym more.1) (longer b hit) in
+    let le = longest (n + 1) (omega (arith, more.0)) lexeme in
+    absurd (omega (arith, le)))
 
 ends_here : (word : Word) (bytes : List ℕ) (n : ℕ) → Spells word (take n bytes) → ((k : ℕ) → k ≤ length bytes → IsLexeme (take k bytes) → k ≤ n) → Ends word (drop n bytes)
 ends_here w.Name bytes n is longest = no_longer is_name_byte bytes n longest (λ (b : ℕ) (e : is_name_byte b ≡ true). identifier_longer (take n bytes) b is.starts is.bytes e)
 ends_here (w.Reserved r) bytes n is longest =
     no_longer is_name_byte bytes n longest (λ (b : ℕ) (e : is_name_byte b ≡ true).
-        subst (λ (s : List ℕ). IsLexeme (s ++ b ∷ [])) (sym is) (identifier_longer (reserved_spelling r) b (starts_from_first (reserved_spelling r) (reserved_starts r)) (reserved_bytes r) e))
+    subst (λ (s : List ℕ). IsLexeme (s ++ b ∷ [])) (sym is) (identifier_longer (reserved_spelling r) b (starts_from_first (reserved_spelling r) (reserved_starts r)) (reserved_bytes r) e))
 ends_here (w.Number v) bytes n is longest = no_longer is_ascii_digit bytes n longest (λ (b : ℕ) (e : is_ascii_digit b ≡ true). number_longer (take n bytes) b is.digits e)
 ends_here w.Text bytes n is longest = tt
 ends_here (w.Mark mark) bytes n is longest =

@@ -1,13 +1,13 @@
 -- Blanks and comments: one byte more of them, and the place where they end.
-use Rattle.std.proofs.Common.{◌≡◌, ◌≢◌, ℕ, suc, ◌+◌, ◌<◌, ◌≤◌, Bool, true, false, cond, eqb, List, [], ◌∷◌, length, get_or, drop, refl, sym, ap, ◌∙◌, subst, inl, inr, add-one, add-zero, arith}
+use Rattle.std.proofs.Common.{◌≡◌, ◌≢◌, ℕ, ◌+◌, ◌<◌, ◌≤◌, Bool, true, false, eqb, List, [], ◌∷◌, length, get_or, drop, refl, sym, ap, ◌∙◌, subst, inl, inr, add-one, add-zero, arith}
 use Rattle.std.proofs.Math.Seq.{drop-cons}
 use Rattle.std.proofs.lemmas.List.{drop_all}
 use Rattle.std.proofs.lemmas.Bool.{cases_Bool, cases_lt}
 use Rattle.std.proofs.lemmas.Bool.Decides.{nat_tests}
 use Rattle.std.specs.Prelude.{not}
-use Rattle.flu_text.specs.Grammar.{number_sign, line_feed, is_blank, IsInComment, IsBlankOrComment, IsGap}
+use Rattle.flu_text.specs.Grammar.{is_blank, IsInComment, IsBlankOrComment, IsGap}
 use Rattle.flu_text.specs.Reading.{gap_len, next_place}
-use Rattle.flu_text.proofs.General.{drop_none, drop_one_more}
+use Rattle.flu_lemmas.proofs.Prefixes.{drop_none, drop_one_more}
 
 gap_len-drop : (in_comment : Bool) (bytes : List ℕ) (i : ℕ) → i < length bytes → gap_len in_comment (drop i bytes) ≡ gap_len in_comment (get_or bytes i 0 ∷ drop (i + 1) bytes)
 gap_len-drop in_comment bytes i lt = rw (add-one, drop-cons bytes i 0)
@@ -135,7 +135,7 @@ in_comment_more text from place b so_far lt read =
           let lf : get_or text place 0 ≡ 10 = read ∙ shut b ended in
           let blank : is_blank (get_or text place 0) ≡ true = rw lf refl in
           so_far_more text from place true (not (eqb b 10)) so_far lt (inl blank) (λ e. absurd (let h : false ≡ true = sym ended ∙ e in cc))
-            (λ e open'. (open_less text from place open').open_still place (omega (arith, open'.before)) (omega arith) lf)
+          (λ e open'. (open_less text from place open').open_still place (omega (arith, open'.before)) (omega arith) lf)
     ]
 
 -- a `#` outside a comment

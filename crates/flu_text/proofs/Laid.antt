@@ -1,14 +1,12 @@
 -- The tokens of a text that is laid out.
-use Rattle.std.proofs.Common.{◌≡◌, ◌≢◌, ℕ, ◌+◌, ◌-◌, ◌≤◌, ◌<◌, Bool, true, false, cond, ◌&&◌, eqb, List, [], ◌∷◌, ◌++◌, length, take, drop, get_or, Option, Some, None, refl, sym, ap, subst, ◌∙◌, append_assoc, inl, inr, arith}
-use Rattle.std.specs.Prelude.{option_map, map}
+use Rattle.std.proofs.Common.{◌≡◌, ◌≢◌, ℕ, ◌+◌, ◌-◌, ◌<◌, true, false, eqb, List, [], ◌∷◌, ◌++◌, length, take, drop, get_or, Some, refl, sym, ap, subst, ◌∙◌, append_assoc, inl, inr, arith}
+use Rattle.std.specs.Prelude.{map}
 use Rattle.std.specs.Char.{is_ascii_digit}
 use Rattle.std.specs.List.{list_all}
 use Rattle.std.proofs.lemmas.Bool.{cases_Bool}
 use Rattle.std.proofs.lemmas.Bool.Decides.{nat_tests}
 use Rattle.std.proofs.lemmas.List.{length-append, take_at, drop_at, append-nil}
 use Rattle.flu_text.specs.declared.words.Token.{Token}
-use Rattle.flu_text.specs.declared.words.Reserved.{Reserved}
-use Rattle.flu_text.specs.declared.words.Mark.{Mark}
 use Rattle.flu_text.specs.declared.words.Word.{Word}
 use Rattle.flu_text.specs.declared.words.Word.TheVariants as w
 use Rattle.flu_text.specs.Spelling.{reserved_spelling, mark_spelling}
@@ -17,9 +15,9 @@ use Rattle.flu_text.specs.Lexeme.{word_at}
 use Rattle.flu_text.specs.Reading.{gap_len, next_place, token_at}
 use Rattle.flu_text.specs.Layout.{Piece, layout, tokens_of, IsLaid}
 use Rattle.flu_text.specs.Laws.{LayoutIsRead, LayoutIsSpelled}
-use Rattle.flu_text.proofs.General.{and_left}
+use Rattle.flu_lemmas.proofs.Tests.{and_left}
 use Rattle.flu_text.proofs.Tables.{reserved_starts, mark_len}
-use Rattle.flu_text.proofs.Spelled.{starts_from_first, IsMarkByte, mark_first, spelled_is_read}
+use Rattle.flu_text.proofs.Spelled.{starts_from_first, mark_first, spelled_is_read}
 use Rattle.flu_text.proofs.Gaps.{gap_is}
 use Rattle.flu_text.proofs.Places.{token_is}
 use Rattle.flu_text.proofs.Readings.{tokens_read}

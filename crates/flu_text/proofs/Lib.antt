@@ -1,4 +1,3 @@
-pub mod General
 pub mod Digits
 pub mod Tables
 pub mod Spelled

@@ -1,16 +1,13 @@
 -- The token that is read at a place is the one that stands there.
-use Rattle.std.proofs.Common.{◌≡◌, ◌≢◌, ℕ, ◌+◌, ◌-◌, ◌<◌, ◌≤◌, List, [], ◌∷◌, ◌++◌, length, take, drop, get_or, Option, Some, None, refl, sym, ap, subst, ◌∙◌, arith}
-use Rattle.std.specs.Prelude.{option_map}
-use Rattle.std.specs.List.{list_all}
-use Rattle.std.proofs.lemmas.List.{length-append, length-take, length-drop}
+use Rattle.std.proofs.Common.{◌≡◌, ◌≢◌, ℕ, ◌+◌, ◌-◌, ◌<◌, ◌≤◌, List, [], ◌∷◌, length, take, drop, Some, refl, sym, ap, subst, arith}
+use Rattle.std.proofs.lemmas.List.{length-take, length-drop}
 use Rattle.flu_text.specs.declared.words.Word.{Word}
 use Rattle.flu_text.specs.declared.words.Word.TheVariants as w
 use Rattle.flu_text.specs.declared.words.Token.{Token}
-use Rattle.flu_text.specs.Spelling.{reserved_spelling, mark_spelling}
 use Rattle.flu_text.specs.Grammar.{is_name_start, Starts, IsLexeme, Spells, IsToken}
 use Rattle.flu_text.specs.Lexeme.{word_at}
 use Rattle.flu_text.specs.Reading.{token_at}
-use Rattle.flu_text.proofs.General.{mapped}
+use Rattle.flu_lemmas.proofs.Prefixes.{mapped}
 use Rattle.flu_text.proofs.Tables.{reserved_len, mark_len}
 use Rattle.flu_text.proofs.Spelled.{length-quoted}
 use Rattle.flu_text.proofs.Front.{IsFront, word_front, front_word}
@@ -63,8 +60,8 @@ token_found text t is =
     let bytes = drop t.from text in
     let read : word_at bytes ≡ Some (t.word, t.to - t.from) =
     front_word bytes t.word (t.to - t.from) (omega (arith, is.within, length-drop t.from text)) is.spelled (λ (k : ℕ) (le : k ≤ length bytes) (lexeme : IsLexeme (take k bytes)).
-        let same : t.from + k - t.from ≡ k = omega arith in
-        let longest = is.longest (t.from + k) (omega (arith, is.within, length-drop t.from text)) (subst (λ (n : ℕ). IsLexeme (take n bytes)) (sym same) lexeme) in
-        omega (arith, longest)) in
+    let same : t.from + k - t.from ≡ k = omega arith in
+    let longest = is.longest (t.from + k) (omega (arith, is.within, length-drop t.from text)) (subst (λ (n : ℕ). IsLexeme (take n bytes)) (sym same) lexeme) in
+    omega (arith, longest)) in
     let back : t.from + (t.to - t.from) ≡ t.to = omega arith in
     rw (read, back) refl

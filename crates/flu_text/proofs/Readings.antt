@@ -1,5 +1,5 @@
 -- The reading of a text is what the grammar says of it, and a text has one.
-use Rattle.std.proofs.Common.{◌≡◌, ◌≢◌, ◌↔◌, ℕ, zero, suc, ◌+◌, ◌<◌, ◌≤◌, Bool, true, false, eqb, List, [], ◌∷◌, ◌++◌, length, Option, Some, None, refl, sym, ap, subst, ◌∙◌, inl, inr, arith}
+use Rattle.std.proofs.Common.{◌≡◌, ◌≢◌, ◌↔◌, ℕ, zero, suc, ◌+◌, ◌<◌, ◌≤◌, true, false, eqb, List, [], ◌∷◌, ◌++◌, length, Option, Some, None, refl, sym, ap, subst, ◌∙◌, inl, inr, arith}
 use Rattle.std.specs.Prelude.{Result, Ok, Err, Vec, IsOk}
 use Rattle.std.specs.Global.{Global}
 use Rattle.std.proofs.lemmas.Bool.{cases_Bool}
@@ -74,8 +74,8 @@ holds_from (suc most) text from le enough =
       | inr goes_on ↦
           let lt : next < length text = not_equal next (length text) goes_on gap.within in
           rw goes_on (continued_holds text from next (token_at text next) (λ (t : Token). reading_from most text t.to) refl gap lt (λ (t : Token) (is : IsToken text t) (at : t.from ≡ next).
-                  let rises = token_rises text t is in
-                  holds_from most text t.to is.within (omega (arith, gap.rises))))
+          let rises = token_rises text t is in
+          holds_from most text t.to is.within (omega (arith, gap.rises))))
     ]
 
 -- what the grammar has is read
@@ -178,9 +178,9 @@ whole_exactly text (Err f.NoMemory) gives memory = absurd (memory refl)
 pub bad_token_exactly : (text : List ℕ) (r : Result (Vec Token Global) TextFault) → Gives (reading text) r → r ≢ Err f.NoMemory → (place : ℕ) → (r ≡ Err (f.BadToken place)) ↔ IsFirstBadPlace text place
 bad_token_exactly text (Ok found) gives memory place = (λ e. absurd cc, λ is. absurd (ok_or_err (reading text) found.items place gives (bad_place_read text place is)))
 bad_token_exactly text (Err (f.BadToken other)) gives memory place = (
-    λ e. let same : other ≡ place = cc in read_bad_place text place (rw (← same) gives),
-    λ is. ap (λ (k : ℕ). Err (f.BadToken k)) (err_same (reading text) other place gives (bad_place_read text place is)),
-  )
+  λ e. let same : other ≡ place = cc in read_bad_place text place (rw (← same) gives),
+  λ is. ap (λ (k : ℕ). Err (f.BadToken k)) (err_same (reading text) other place gives (bad_place_read text place is)),
+)
 bad_token_exactly text (Err f.NoMemory) gives memory place = absurd (memory refl)
 
 -- a reading as the loop builds it

@@ -1,11 +1,11 @@
 -- The spans of tokens.
-use Rattle.std.proofs.Common.{◌≡◌, ℕ, zero, suc, ◌+◌, ◌-◌, ◌*◌, ◌<◌, ◌≤◌, Bool, true, false, ◌&&◌, List, [], ◌∷◌, ◌++◌, length, take, drop, get_or, refl, sym, ap, subst, ◌∙◌, append_assoc, arith}
+use Rattle.std.proofs.Common.{◌≡◌, ℕ, zero, suc, ◌+◌, ◌-◌, ◌<◌, ◌≤◌, Bool, true, ◌&&◌, List, [], ◌∷◌, ◌++◌, length, take, drop, get_or, refl, sym, ap, subst, ◌∙◌, append_assoc, arith}
 use Rattle.std.specs.Prelude.{nat_lt, All}
 use Rattle.std.specs.Char.{is_ascii_digit}
-use Rattle.std.specs.List.{list_all, AllAdjacentBelow}
+use Rattle.std.specs.List.{list_all}
 use Rattle.std.specs.Str.{IsUtf8, IsCharBoundary}
 use Rattle.std.proofs.lemmas.Bool.Decides.{nat_tests}
-use Rattle.std.proofs.lemmas.List.{length-append, length-take, length-drop, get_or-take, get_or-drop, take_at, take-append-drop}
+use Rattle.std.proofs.lemmas.List.{length-take, length-drop, get_or-take, get_or-drop, take_at, take-append-drop}
 use Rattle.std.proofs.lemmas.List.Sums.{AllPass-from_list_all}
 use Rattle.std.proofs.lemmas.List.Elements.{All-nil, All-cons}
 use Rattle.std.proofs.lemmas.Str.{IsCharBoundary-before_ascii, IsCharBoundary-after_ascii}
@@ -14,9 +14,9 @@ use Rattle.flu_text.specs.declared.words.Word.TheVariants as w
 use Rattle.flu_text.specs.declared.words.Mark.{Mark}
 use Rattle.flu_text.specs.declared.words.Token.{Token}
 use Rattle.flu_text.specs.Spelling.{reserved_spelling, mark_spelling}
-use Rattle.flu_text.specs.Grammar.{is_name_byte, IsText, Spells, IsToken, LeadsTo, AreTokens, IsSpan, IsInside, IsInsideOfText, Rise}
+use Rattle.flu_text.specs.Grammar.{is_name_byte, IsText, Spells, IsToken, LeadsTo, IsSpan, IsInside, IsInsideOfText}
 use Rattle.flu_text.specs.Laws.{EachIsToken, EachIsSpan, EachIsInside, TokensRise}
-use Rattle.flu_text.proofs.General.{drop_one_more}
+use Rattle.flu_lemmas.proofs.Prefixes.{drop_one_more}
 use Rattle.flu_text.proofs.Tables.{each_mark, reserved_bytes}
 use Rattle.flu_text.proofs.Spelled.{end_quote, length-quoted}
 use Rattle.flu_text.proofs.Places.{spelled_some, token_rises}

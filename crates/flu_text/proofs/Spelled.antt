@@ -1,10 +1,10 @@
 -- What spells a word and ends there is read as that word.
-use Rattle.std.proofs.Common.{◌≡◌, ◌≢◌, ℕ, ◌+◌, ◌≤◌, ◌<◌, ◌^◌, Bool, true, false, ◌&&◌, eqb, List, [], ◌∷◌, ◌++◌, length, take, drop, get_or, pos, Option, Some, None, refl, sym, ap, subst, ◌∙◌, append_assoc, inl, inr, arith}
+use Rattle.std.proofs.Common.{◌≡◌, ◌≢◌, ℕ, ◌+◌, ◌≤◌, ◌<◌, ◌^◌, Bool, true, false, ◌&&◌, eqb, List, [], ◌∷◌, ◌++◌, length, drop, get_or, pos, Option, Some, None, refl, sym, ap, ◌∙◌, append_assoc, arith}
 use Rattle.std.specs.Prelude.{option_map, unwrap_or, not, nat_lt}
 use Rattle.std.specs.Char.{is_ascii_digit}
 use Rattle.std.specs.List.{list_all, prefix_len}
 use Rattle.std.specs.Str.Parse.{digits_value}
-use Rattle.std.proofs.lemmas.Bool.{cases_Bool, lt-ltb, le-ltb, le-leb}
+use Rattle.std.proofs.lemmas.Bool.{lt-ltb, le-ltb, le-leb}
 use Rattle.std.proofs.lemmas.Bool.Decides.{nat_tests}
 use Rattle.std.proofs.lemmas.List.{take_at, length-append}
 use Rattle.flu_text.specs.declared.words.Reserved.{Reserved}
@@ -12,10 +12,11 @@ use Rattle.flu_text.specs.declared.words.Mark.{Mark}
 use Rattle.flu_text.specs.declared.words.Word.{Word}
 use Rattle.flu_text.specs.declared.words.Word.TheVariants as w
 use Rattle.flu_text.specs.Spelling.{reserved_spelling, mark_spelling}
-use Rattle.flu_text.specs.Grammar.{quote, number_sign, is_blank, is_name_start, is_name_byte, is_text_byte, Starts, IsName, IsText, Spells}
-use Rattle.flu_text.specs.Lexeme.{reserved_of, name_at, number_of, number_at, text_at, mark_of, mark_at, word_at}
+use Rattle.flu_text.specs.Grammar.{quote, number_sign, is_blank, is_name_start, is_name_byte, is_text_byte, Starts, IsText, Spells}
+use Rattle.flu_text.specs.Lexeme.{reserved_of, name_at, number_of, number_at, text_at, mark_at, word_at}
 use Rattle.flu_text.specs.Layout.{NotFirst, makes_longer, Ends}
-use Rattle.flu_text.proofs.General.{and_left, and_right, not_true, first_and_rest}
+use Rattle.flu_lemmas.proofs.Tests.{and_left, and_right, not_true}
+use Rattle.flu_lemmas.proofs.Prefixes.{first_and_rest}
 use Rattle.flu_text.proofs.Tables.{reserved_is, reserved_of-spelling, reserved_bytes, reserved_starts, reserved_len, mark_of-spelling, mark_starts, mark_len}
 
 -- a run of bytes that all pass, before one that does not

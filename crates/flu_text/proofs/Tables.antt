@@ -1,6 +1,6 @@
 -- Each reserved word and each mark.
-use Rattle.std.proofs.Common.{◌≡◌, ℕ, ◌<◌, ◌≤◌, Bool, true, false, ◌&&◌, ◌||◌, ◌==◌, leb, ltb, List, [], ◌∷◌, ◌++◌, length, get_or, take, Option, Some, refl, sym, arith}
-use Rattle.std.specs.Prelude.{not, nat_le, nat_lt}
+use Rattle.std.proofs.Common.{◌≡◌, ℕ, ◌<◌, ◌≤◌, Bool, true, false, ◌&&◌, ◌||◌, ◌==◌, leb, ltb, List, [], ◌∷◌, ◌++◌, length, get_or, take, Some, refl, sym, arith}
+use Rattle.std.specs.Prelude.{not, nat_lt}
 use Rattle.std.specs.Char.{is_ascii_digit}
 use Rattle.std.specs.List.{list_all}
 use Rattle.std.specs.Str.{bytes_eq}
@@ -15,7 +15,8 @@ use Rattle.flu_text.specs.Spelling.{reserved_spelling, reserved_words, mark_spel
 use Rattle.flu_text.specs.Grammar.{quote, number_sign, is_blank, is_name_start, is_name_byte}
 use Rattle.flu_text.specs.Lexeme.{reserved_of, mark_of}
 use Rattle.flu_text.specs.Layout.{NotFirst, makes_longer}
-use Rattle.flu_text.proofs.General.{find_all, find_passes, and_left, and_right, not_true}
+use Rattle.flu_lemmas.proofs.Tests.{not_true}
+use Rattle.flu_lemmas.proofs.Prefixes.{find_all, find_passes}
 
 pub reserved_of-spelling : (word : Reserved) → reserved_of (reserved_spelling word) ≡ Some word
 unfolding reserved_of

@@ -1,4 +1,4 @@
-//! The word that begins some bytes.
+//! The word that begins some bytes: the longest run of its characters, looked at for its limit.
 
 ghost use Rattle.std.specs.Prelude.{◌≡◌, option_map, pos};
 ghost use Rattle.std.specs.Char.{is_ascii_digit};
@@ -8,8 +8,10 @@ ghost use Rattle.flu_text.specs.Lexeme.{reserved_of, name_at, number_of, number_
 
 use crate::words::{Mark, Reserved, Word};
 
+/// How many bytes a name may have.
 const LONGEST_NAME: usize = 32;
 
+/// How many bytes may stand between the quotes of a text.
 const LONGEST_TEXT: usize = 256;
 
 const RESERVED: [Reserved; 33] = [
@@ -48,6 +50,7 @@ const RESERVED: [Reserved; 33] = [
     Reserved::Slack,
 ];
 
+/// The marks, the longer ones first.
 const MARKS: [Mark; 19] = [
     Mark::Dots,
     Mark::LessEq,

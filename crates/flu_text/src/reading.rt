@@ -53,11 +53,15 @@ fn token_at(text: &[u8], from: usize) -> Option<Token>
     })
 }
 
-/// The tokens of a text, in order, each with the bytes that it takes. Between them stand blanks and comments alone.
+/// The tokens of a text, in order, each with the bytes that it takes. Between them stand blanks alone, which are space, tab,
+/// carriage return and line feed, and comments, from `#` to before the next line feed or the end. At each place the longest run
+/// of a token's characters is taken first, and its limit is looked at then.
 ///
-/// A text that is not tokens throughout is a [`TextFault::BadToken`] at the first place where none begins: a name of more than
-/// 32 bytes, a number above 9223372036854775807, a text of more than 256 bytes or without its second quote, or any other
-/// character.
+/// # Errors
+///
+/// [`TextFault::BadToken`] at the first place where no token begins: at a name of more than 32 bytes, a number above
+/// 9223372036854775807, a text of more than 256 bytes or without its second quote, or any other character.
+/// [`TextFault::NoMemory`] where memory is wanting.
 pub fn tokens(alloc: Global, text: &str) -> Result<Vec<Token>, TextFault>
     // The whole text is these tokens, with blanks and comments alone between them.
     ensures tokens { IfOk result (λ found. AreTokens text.now found.items) }
@@ -67,13 +71,12 @@ pub fn tokens(alloc: Global, text: &str) -> Result<Vec<Token>, TextFault>
     ensures rise { IfOk result (λ found. Rise found.items) }
 
     // Want of memory alone is free: all else is decided by the text.
-    ensures whole {
-        result ≢ Err TextFault.NoMemory → (IsOk result ↔ ((found : List Token) × AreTokens text.now found))
-    }
-    ensures bad_token {
-        result ≢ Err TextFault.NoMemory → (at : ℕ)
-            → (result ≡ Err (TextFault.BadToken at)) ↔ IsFirstBadPlace text.now at
-    }
+    ensures whole { result ≢ Err TextFault.NoMemory
+        → (IsOk result ↔ ((found : List Token) × AreTokens text.now found)) }
+    ensures bad_token { result ≢ Err TextFault.NoMemory
+        → (at : ℕ) → (result ≡ Err (TextFault.BadToken at)) ↔ IsFirstBadPlace text.now at }
+
+    // The same, computed.
     ensures reading { Gives (reading text.now) result }
 {
     let bytes = text.as_bytes();

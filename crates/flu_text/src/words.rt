@@ -1,8 +1,9 @@
-//! What a token may be.
+//! What a token may be: the words, and how the reserved ones and the marks are spelled.
 
 ghost use Rattle.std.specs.Prelude.{◌≡◌};
 
-/// The words that no name may be.
+/// The words that no name may be, each by its own letters, the first one in upper case. [`Reserved::Version`] and
+/// [`Reserved::Slack`] stand in no job and no plan.
 #[derive(Clone, Copy, Debug, PartialEq, Eq)]
 pub enum Reserved {
     Cell,
@@ -40,41 +41,66 @@ pub enum Reserved {
     Slack,
 }
 
-/// The marks, in the order of the language's table.
+/// The marks.
 #[derive(Clone, Copy, Debug, PartialEq, Eq)]
 pub enum Mark {
+    /// `:`
     Colon,
+    /// `;`
     Semicolon,
+    /// `,`
     Comma,
+    /// `[`
     OpenBracket,
+    /// `]`
     CloseBracket,
+    /// `(`
     OpenParen,
+    /// `)`
     CloseParen,
+    /// `..`
     Dots,
+    /// `+`
     Plus,
+    /// `-`
     Minus,
+    /// `*`
     Times,
+    /// `<`
     Less,
+    /// `<=`
     LessEq,
+    /// `>`
     More,
+    /// `>=`
     MoreEq,
+    /// `==`
     Same,
+    /// `!=`
     Differs,
+    /// `@`
     At,
+    /// `->`
     Arrow,
 }
 
-/// What a token is, without the bytes of a name or a text, which are read at its place.
+/// What a token is. The bytes of a name or a text are read at the token's place.
 #[derive(Clone, Copy, Debug, PartialEq, Eq)]
 pub enum Word {
+    /// An ASCII letter or `_`, then ASCII letters, digits and `_`: at most 32 bytes, and no reserved word.
     Name,
+    /// A reserved word.
     Reserved(Reserved),
+    /// One or more ASCII digits, with their value, from 0 to 9223372036854775807. Leading zeros are allowed.
     Number(i64),
+    /// At most 256 bytes between two `"`: any characters but `"`, those below U+0020, and U+007F.
     Text,
+    /// A mark.
     Mark(Mark),
 }
 
-/// A word and its place: the bytes from `from` to before `to`.
+/// A word and its place: it takes the bytes from `from` to before `to`, counted from 0, and both are ends of characters. A text
+/// takes its quotes too.
 #[derive(Clone, Copy, Debug, PartialEq, Eq)]
 pub struct Token {
     pub word: Word,
@@ -86,7 +112,7 @@ impl Reserved {
     ghost use Rattle.flu_text.specs.Spelling.{reserved_spelling};
 
     /// How the word is spelled.
-    pub fn spelling(self) -> &'static [u8]
+    pub(crate) fn spelling(self) -> &'static [u8]
         ensures { result.now ≡ reserved_spelling self }
     {
         match self {
@@ -131,7 +157,7 @@ impl Mark {
     ghost use Rattle.flu_text.specs.Spelling.{mark_spelling};
 
     /// How the mark is spelled.
-    pub fn spelling(self) -> &'static [u8]
+    pub(crate) fn spelling(self) -> &'static [u8]
         ensures { result.now ≡ mark_spelling self }
     {
         match self {

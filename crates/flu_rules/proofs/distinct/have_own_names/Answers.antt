@@ -1,5 +1,5 @@
 use Rattle.std.proofs.Common.{sym, ◌∙◌}
-use Rattle.flu_rules.proofs.General.{found_again, not_again}
+use Rattle.flu_lemmas.proofs.Searches.{found_again, not_again}
 use Rattle.flu_rules.proofs.DistinctLemmas.{families_step}
 use Rattle.flu_rules.proofs.distinct.have_own_names.Goals as goal
 

@@ -1,5 +1,5 @@
 use Rattle.std.proofs.Common.{sym, ◌∙◌}
-use Rattle.flu_rules.proofs.General.{found_again, not_again}
+use Rattle.flu_lemmas.proofs.Searches.{found_again, not_again}
 use Rattle.flu_rules.proofs.TagLemmas.{tags_step_at}
 use Rattle.flu_rules.proofs.tags.are_distinct.Goals as goal
 

@@ -1,4 +1,3 @@
-use Rattle.std.proofs.Common.{ap, ◌∙◌}
 use Rattle.flu_rules.proofs.TagLemmas.{share_where_same_kind, none_of_other_kind}
 use Rattle.flu_rules.proofs.tags.share_tag.Goals as goal
 

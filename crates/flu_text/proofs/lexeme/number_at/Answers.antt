@@ -1,5 +1,5 @@
 use Rattle.std.specs.Char.{is_ascii_digit}
-use Rattle.flu_text.proofs.General.{AllPass-prefix_len}
+use Rattle.flu_lemmas.proofs.Prefixes.{AllPass-prefix_len}
 use Rattle.flu_text.proofs.lexeme.number_at.Goals as goal
 
 pub number_of-requires : goal.number_of-requires

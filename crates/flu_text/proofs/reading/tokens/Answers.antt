@@ -1,10 +1,9 @@
-use Rattle.std.proofs.Common.{◌≡◌, ◌+◌, Some, None, Ok, Err, List, [], ◌∷◌, ◌++◌, length, drop, subst, sym, arith}
+use Rattle.std.proofs.Common.{◌≡◌, Some, None, Ok, Err, [], ◌∷◌, ◌++◌, drop, arith}
 use Rattle.std.specs.Prelude.{false}
 use Rattle.std.proofs.lemmas.Grind.{common_steps}
-use Rattle.flu_text.specs.declared.words.Token.{Token}
 use Rattle.flu_text.specs.declared.reading.TextFault.TheVariants as f
-use Rattle.flu_text.specs.Grammar.{LeadsTo, AreTokens, IsFirstBadPlace}
-use Rattle.flu_text.specs.Reading.{gap_len, next_place, token_at}
+use Rattle.flu_text.specs.Grammar.{AreTokens, IsFirstBadPlace}
+use Rattle.flu_text.specs.Reading.{gap_len, token_at}
 use Rattle.flu_text.proofs.Readings.{leads_first, leads_more, leads_to_bad, leads_to_end, tokens_read, bad_place_read, whole_exactly, bad_token_exactly}
 use Rattle.flu_text.proofs.Spans.{each_is_token, each_is_span, each_is_inside, tokens_rise}
 use Rattle.flu_text.proofs.reading.tokens.Goals as goal

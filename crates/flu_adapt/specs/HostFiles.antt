@@ -1,0 +1,7 @@
+-- What is known of files of the system.
+use Rattle.std.specs.Prelude.{ℕ}
+use Rattle.flu_adapt.specs.declared.host_files.HostFiles.{HostFiles}
+
+-- how often the taking of a name failed
+abbrev pub count_of : {R A F : Type 0} → HostFiles R A F → ℕ
+count_of f = f.faults

@@ -1,0 +1,113 @@
+//! Files of the system.
+
+ghost use Rattle.std.specs.Prelude.{◌≡◌, ◌<◌, ◌≤◌, ◌+◌, ◌-◌, ◌^◌, length, min, None, refl, IfOk, IfErr, OnOk, OnErr, IsErrOf, IsSome};
+ghost use Rattle.std.specs.BTreeMap.{get_by_text};
+ghost use Rattle.flu_outside.specs.Outside.{Rose};
+ghost use Rattle.std.specs.Io.KnownBytes.{ReadConsumes};
+
+use flu_outside::{Files, TakeFault};
+use std::collections::BTreeMap;
+use std::io::Read;
+use std::{fs, rt};
+
+/// Files of the system, each opened when it is first taken from, and kept open. They tell nothing of what they hold.
+///
+/// Contracts see how often a name failed (`count_of` of `specs/HostFiles.antt`); all names share one count.
+#[derive(Drop)]
+pub struct HostFiles<R: rt::Files + AllocGlobal> {
+    rt: R,
+    opened: BTreeMap<String, R::File>,
+    faults: u64,
+}
+
+impl<R: rt::Files + AllocGlobal> HostFiles<R> {
+    ghost use Rattle.flu_adapt.specs.HostFiles.{count_of};
+
+    /// No file is open, and none has failed.
+    pub fn new(rt: R) -> HostFiles<R>
+        ensures { count_of result ≡ 0 }
+    {
+        let opened = BTreeMap::new(rt.alloc());
+        HostFiles {
+            rt,
+            opened,
+            faults: 0,
+        }
+    }
+
+    // Opens a name, and keeps it open.
+    fn open(&mut self, name: &str) -> Result<(), TakeFault>
+        ensures quiet { OnOk result (count_of self.new ≡ count_of self.old) }
+        ensures raised { IsErrOf result TakeFault.Failed → count_of self.new ≡ min (count_of self.old + 1) (2 ^ 64 - 1) }
+        ensures no_memory { IsErrOf result TakeFault.NoMemory → count_of self.new ≡ count_of self.old }
+        ensures counts { count_of self.old ≤ count_of self.new }
+        ensures here { OnOk result (IsSome (get_by_text self.new.opened name.now)) }
+    {
+        let Ok(kept) = String::from_str(self.rt.alloc(), name) else {
+            return Err(TakeFault::NoMemory);
+        };
+        let Ok(file) = fs::open(&self.rt, name) else {
+            return Err(counted(&mut self.faults));
+        };
+        match self.opened.insert(kept, file) {
+            Ok(_) => Ok(()),
+            Err(_) => Err(TakeFault::NoMemory),
+        }
+    }
+}
+
+impl<R: rt::Files + AllocGlobal> Files for HostFiles<R> {
+    ghost use Rattle.flu_adapt.specs.HostFiles.{count_of};
+
+    ghost left = { λ _. None };
+
+    ghost faults = { λ f _. count_of f };
+
+    fn take(&mut self, name: &str, buf: &mut [u8]) -> Result<usize, TakeFault>
+        requires { 0 < length buf.old }
+
+        ensures bound { IfOk result (λ n. n ≤ length buf.old) }
+        ensures quiet { OnOk result (count_of self.new ≡ count_of self.old) }
+        ensures failed { IsErrOf result TakeFault.Failed → Rose (count_of self.old) (count_of self.new) }
+        ensures counts { count_of self.old ≤ count_of self.new }
+
+        // Each failure is counted, up to the last number, and want of memory is none.
+        ensures raised { IsErrOf result TakeFault.Failed → count_of self.new ≡ min (count_of self.old + 1) (2 ^ 64 - 1) }
+        ensures no_memory { IsErrOf result TakeFault.NoMemory → count_of self.new ≡ count_of self.old }
+    {
+        if !self.opened.contains_key(name) {
+            self.open(name)?;
+        }
+        match self.opened.get_mut(name) {
+            Some(file) => read_some(file, buf, &mut self.faults),
+            None => unreachable!(),
+        }
+    }
+
+    ghost shared = { λ f a b no_a no_b. refl };
+}
+
+// Takes some bytes of a file, none only at its end, and counts a failure.
+fn read_some<F: Read>(file: &mut F, buf: &mut [u8], faults: &mut u64) -> Result<usize, TakeFault>
+    ensures bytes { ReadConsumes (F.remaining file.old) (F.remaining file.new) result buf.new }
+    ensures bound { IfOk result (λ n. n ≤ length buf.old) }
+    ensures quiet { OnOk result (faults.new ≡ faults.old) }
+    ensures fault { IfErr result (λ fault. fault ≡ TakeFault.Failed) }
+    ensures raised { OnErr result (faults.new ≡ min (faults.old + 1) (2 ^ 64 - 1)) }
+    ensures counts { faults.old ≤ faults.new }
+{
+    match file.read(buf) {
+        Ok(n) => Ok(n),
+        Err(_) => Err(counted(faults)),
+    }
+}
+
+// One more failure.
+fn counted(faults: &mut u64) -> TakeFault
+    ensures fault { result ≡ TakeFault.Failed }
+    ensures raised { faults.new ≡ min (faults.old + 1) (2 ^ 64 - 1) }
+    ensures counts { faults.old ≤ faults.new }
+{
+    *faults = faults.saturating_add(1);
+    TakeFault::Failed
+}

@@ -1,0 +1,46 @@
+use crate::{HostFiles, HostSink};
+use flu_outside::{Failed, Files, Sink, TakeFault};
+use std::test::Fail;
+
+#[test]
+fn takes_from_files(rt: HostRuntime) -> Result<(), Fail> {
+    let mut files = HostFiles::new(&rt);
+    // a name, and how many bytes come, none where it fails
+    let cases = [
+        ("there/is/no/such/file", None),
+        ("/dev/null", Some(0)),
+        ("/dev/zero", Some(4)),
+        ("/dev/zero", Some(4)),
+        ("there/is/no/such/file", None),
+        ("/", None),
+        ("/dev/null", Some(0)),
+    ];
+    for (name, wanted) in cases {
+        let mut buffer = [1u8; 4];
+        match files.take(name, &mut buffer) {
+            Ok(n) => assert_eq!(rt; Some(n), wanted, "{name}"),
+            Err(fault) => {
+                assert_eq!(rt; fault, TakeFault::Failed);
+                assert_eq!(rt; None, wanted, "{name}");
+            }
+        }
+    }
+    Ok(())
+}
+
+#[test]
+fn writes_to_a_writer(rt: HostRuntime) -> Result<(), Fail> {
+    let mut written = Vec::new(rt.alloc());
+    let mut sink = HostSink::new(&mut written);
+    assert_eq!(rt; sink.write(b"3,read,"), Ok(7));
+    assert_eq!(rt; sink.write(b"count 0\n"), Ok(8));
+    assert_eq!(rt; written.as_slice(), b"3,read,count 0\n".as_slice());
+
+    // a writer that is full fails
+    let mut room = [0u8; 4];
+    let mut sink = HostSink::new(&mut room[..]);
+    assert_eq!(rt; sink.write(b"3,read,"), Ok(4));
+    assert_eq!(rt; sink.write(b"d,"), Err(Failed));
+    assert_eq!(rt; sink.write(b"d,"), Err(Failed));
+    Ok(())
+}

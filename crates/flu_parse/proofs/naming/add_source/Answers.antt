@@ -1,0 +1,13 @@
+use Rattle.std.proofs.Common.{◌∙◌, ◌≡◌, ◌∷◌, ◌++◌, [], false, map, ap}
+use Rattle.std.specs.Prelude.{if◌then◌else◌}
+use Rattle.std.proofs.lemmas.List.{map-append}
+use Rattle.flu_parse.proofs.NamingLemmas.{any_by_bytes, undeclared}
+use Rattle.flu_parse.specs.Naming.{naming}
+use Rattle.flu_parse.proofs.naming.add_source.Goals as goal
+
+pub returns-in-Ok-clause-ok : goal.returns-in-Ok-clause-ok
+returns-in-Ok-clause-ok c =
+    let free = undeclared (naming c.args.names.now) c.args.name.now c.requires in
+    let miss = any_by_bytes (λ k. k.now) c.args.name.now c.args.names.now.sources.keys ∙ free.2 in
+    ap (λ names. record (naming c.args.names.now) { sources = names })
+    (rw (c.in-Ok.ensures.keys, miss) (map-append (λ k. k.now) c.args.names.now.sources.keys (c.args.name ∷ [])))

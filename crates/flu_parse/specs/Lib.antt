@@ -1,0 +1,11 @@
+pub mod Faults
+pub mod Spelling
+pub mod Naming
+pub mod Cells
+pub mod Terms
+pub mod Templates
+pub mod Scans
+pub mod Deeds
+pub mod Listings
+pub mod Resolving
+pub mod Reading

@@ -1,0 +1,84 @@
+-- Written sources and the tags that they list.
+use Rattle.std.specs.Prelude.{ℕ, ◌+◌, Bool, not, nat_lt, nat_le, List, [], ◌∷◌, ◌++◌, length, Option, Some, None, Ok}
+use Rattle.std.specs.List.{list_any}
+use Rattle.flu_model.specs.declared.limits.What.TheVariants.{Itags, Rate}
+use Rattle.flu_model.specs.declared.jobs.Keys.{Keys}
+use Rattle.flu_model.specs.declared.jobs.Keys.TheVariants as keys
+use Rattle.flu_model.specs.declared.jobs.TagRef.{TagRef}
+use Rattle.flu_model.specs.declared.jobs.Source.{Source}
+use Rattle.flu_model.specs.Listing.{listed_keys, listed_tags}
+use Rattle.flu_model.specs.Rules.{is_same_tag, is_same_text}
+use Rattle.flu_syntax.specs.declared.tree.WrittenSpan.{WrittenSpan}
+use Rattle.flu_syntax.specs.declared.tree.WrittenNumber.{WrittenNumber}
+use Rattle.flu_syntax.specs.declared.tree.WrittenKeys.{WrittenKeys}
+use Rattle.flu_syntax.specs.declared.tree.WrittenKeys.TheVariants as w
+use Rattle.flu_syntax.specs.declared.tree.WrittenTag.{WrittenTag}
+use Rattle.flu_parse.specs.declared.faults.JobFault.TheVariants as f
+use Rattle.flu_parse.specs.Faults.{Found, ◌>>=◌, ◌>>◌, unless, each}
+use Rattle.flu_parse.specs.Spelling.{name_of, inside, value_of}
+use Rattle.flu_parse.specs.Naming.{Naming, kind_of}
+use Rattle.flu_parse.specs.Cells.{key_of}
+
+-- brackets stand where the kind is keyed
+abbrev pub are_bracketed : Bool → WrittenKeys → Bool
+are_bracketed keyed w.Alone = not keyed
+are_bracketed keyed (w.One k) = keyed
+are_bracketed keyed (w.Range lo hi) = keyed
+
+-- the keys as they are written, of whatever size
+abbrev pub written_keys : WrittenKeys → Keys
+written_keys w.Alone = keys.Alone
+written_keys (w.One k) = keys.One (value_of k.value)
+written_keys (w.Range lo hi) = keys.Range (value_of lo.value) (value_of hi.value)
+
+-- the same where they are keys: a wrong range, then each number
+abbrev pub keys_of : WrittenKeys → Found Keys
+keys_of w.Alone = Ok keys.Alone
+keys_of (w.One k) = do
+  key ← key_of k
+  Ok (keys.One key)
+keys_of (w.Range lo hi) = do
+  unless (nat_le (value_of lo.value) (value_of hi.value)) (f.WrongShape lo.at)
+  first ← key_of lo
+  last ← key_of hi
+  Ok (keys.Range first last)
+
+-- how many tags are listed
+abbrev pub tag_count : WrittenKeys → ℕ
+tag_count ks = length (listed_keys (written_keys ks))
+
+-- whether two parts of a list have a tag in common
+abbrev pub share_tag : TagRef → TagRef → Bool
+share_tag a b = list_any (λ t. list_any (is_same_tag t) (listed_tags b)) (listed_tags a)
+
+-- the tags that a source lists so far, and how many itags the sources have so far
+pub record Listed : Type 0 where
+  pub tags : List TagRef
+  pub itags : ℕ
+
+-- one tag reference more
+unfoldable pub with_tag : List ℕ → Naming → Listed → WrittenTag → Found Listed
+with_tag text n listed t = do
+  kind ← kind_of text n t.kind
+  unless (are_bracketed kind.keyed t.keys) (f.WrongShape t.kind.from)
+  unless (nat_le (listed.itags + tag_count t.keys) 256) (f.OverLimit Itags 257)
+  unless (not (list_any (share_tag (record { kind = kind.number; keys = written_keys t.keys })) listed.tags)) (f.TwiceNamed t.kind.from)
+  keys ← keys_of t.keys
+  Ok (record { tags = listed.tags ++ record { kind = kind.number; keys = keys } ∷ []; itags = listed.itags + tag_count t.keys })
+
+abbrev pub tags_of : List ℕ → Naming → ℕ → List WrittenTag → Found Listed
+tags_of text n itags ts = each (with_tag text n) (record { tags = []; itags = itags }) ts
+
+-- the rate is 1 where none is written
+abbrev pub rate_of : Option WrittenNumber → Found ℕ
+rate_of None = Ok 1
+rate_of (Some r) = do
+  unless (nat_le (value_of r.value) 1000000000) (f.OverLimit Rate (value_of r.value))
+  Ok (value_of r.value)
+
+-- a file that no source before reads
+abbrev pub file_of : List ℕ → List Source → WrittenSpan → Found (List ℕ)
+file_of text sources file = do
+  unless (nat_lt 0 (length (inside text file))) (f.WrongShape file.from)
+  unless (not (list_any (λ (s : Source). is_same_text (inside text file) s.file) sources)) (f.TwiceNamed file.from)
+  Ok (inside text file)

@@ -1,0 +1,92 @@
+-- The names of a job: families, kinds and sources, each in the order of their declarations, in one set of names.
+use Rattle.std.specs.Prelude.{ℕ, ◌+◌, Bool, not, ◌||◌, List, [], ◌∷◌, ◌++◌, map, length, Option, Some, None, is_some, if◌then◌else◌, Ok, Err}
+use Rattle.std.specs.List.{list_any}
+use Rattle.std.specs.Str.{bytes_eq}
+use Rattle.flu_model.specs.declared.jobs.Sort.{Sort}
+use Rattle.flu_model.specs.declared.limits.What.TheVariants.{Families, Kinds, Sources, Depends}
+use Rattle.flu_syntax.specs.declared.tree.WrittenSpan.{WrittenSpan}
+use Rattle.flu_syntax.specs.Tree.{Declaration}
+use Rattle.flu_syntax.specs.Tree as w
+use Rattle.flu_parse.specs.declared.faults.JobFault.TheVariants as f
+use Rattle.flu_parse.specs.declared.names.FamilyHead.{FamilyHead}
+use Rattle.flu_parse.specs.declared.names.KindHead.{KindHead}
+use Rattle.flu_parse.specs.declared.names.Names.{Names}
+use Rattle.flu_parse.specs.Faults.{Found, ◌>>=◌, ◌>>◌, unless, room, each}
+use Rattle.flu_parse.specs.Spelling.{name_of}
+
+-- the declared names, with the heads of their declarations, and how many `depends` there are
+pub record Naming : Type 0 where
+  pub families : List (List ℕ × FamilyHead)
+  pub kinds : List (List ℕ × KindHead)
+  pub sources : List (List ℕ)
+  pub depends : ℕ
+
+-- the names as plain data
+abbrev pub naming : Names → Naming
+naming n = record {
+  families = map (λ e. (e.0.now, e.1)) n.families.entries;
+  kinds = map (λ e. (e.0.now, e.1)) n.kinds.entries;
+  sources = map (λ k. k.now) n.sources.keys;
+  depends = n.depends;
+}
+
+-- what is declared under a name
+abbrev pub look_up : {X : Type 0} → List ℕ → List (List ℕ × X) → Option X
+look_up name [] = None
+look_up name (h ∷ hs) = if bytes_eq name h.0 then Some h.1 else look_up name hs
+
+abbrev pub is_declared : Naming → List ℕ → Bool
+is_declared n name = is_some (look_up name n.families) || is_some (look_up name n.kinds) || list_any (bytes_eq name) n.sources
+
+-- a name that no declaration before has
+abbrev pub fresh_name : List ℕ → Naming → WrittenSpan → Found (List ℕ)
+fresh_name text n s = do
+  unless (not (is_declared n (name_of text s))) (f.TwiceNamed s.from)
+  Ok (name_of text s)
+
+-- one family, kind or source more: that its name is taken comes before a limit
+unfoldable pub with_family : List ℕ → Naming → WrittenSpan → Bool → Sort → Found Naming
+with_family text n s keyed sort = do
+  name ← fresh_name text n s
+  room Families 64 (length n.families)
+  Ok (record n { families = n.families ++ (name, record { number = length n.families; keyed = keyed; sort = sort }) ∷ [] })
+
+unfoldable pub with_kind : List ℕ → Naming → WrittenSpan → Bool → Bool → Found Naming
+with_kind text n s keyed has_value = do
+  name ← fresh_name text n s
+  room Kinds 64 (length n.kinds)
+  Ok (record n { kinds = n.kinds ++ (name, record { number = length n.kinds; keyed = keyed; has_value = has_value }) ∷ [] })
+
+unfoldable pub with_source : List ℕ → Naming → WrittenSpan → Found Naming
+with_source text n s = do
+  name ← fresh_name text n s
+  room Sources 64 (length n.sources)
+  Ok (record n { sources = n.sources ++ name ∷ [] })
+
+-- the names with one declaration more
+unfoldable pub declare : List ℕ → Naming → Declaration → Found Naming
+declare text n (w.Cell s keyed sort) = with_family text n s keyed sort
+declare text n (w.Tag s keyed has_value) = with_kind text n s keyed has_value
+declare text n (w.Depends a b relation) = do
+  room Depends 4096 n.depends
+  Ok (record n { depends = n.depends + 1 })
+declare text n (w.On kind actions) = Ok n
+declare text n (w.Source s file rate tags) = with_source text n s
+
+abbrev pub no_names : Naming
+no_names = record { families = []; kinds = []; sources = []; depends = 0 }
+
+-- the names of a job, or the first name that is declared twice or is one too many
+abbrev pub naming_of : List ℕ → List Declaration → Found Naming
+naming_of text ds = each (declare text) no_names ds
+
+-- the head that a name needs to have
+abbrev pub known : {X : Type 0} → ℕ → Option X → Found X
+known at None = Err (f.UnknownName at)
+known at (Some x) = Ok x
+
+abbrev pub family_of : List ℕ → Naming → WrittenSpan → Found FamilyHead
+family_of text n s = known s.from (look_up (name_of text s) n.families)
+
+abbrev pub kind_of : List ℕ → Naming → WrittenSpan → Found KindHead
+kind_of text n s = known s.from (look_up (name_of text s) n.kinds)

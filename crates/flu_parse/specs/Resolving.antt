@@ -1,0 +1,107 @@
+-- A written job: its names first, then its declarations in order again, token by token.
+use Rattle.std.specs.Prelude.{ℕ, zero, suc, Bool, true, false, not, ◌&&◌, ◌==◌, List, [], ◌∷◌, ◌++◌, map, Option, Ok}
+use Rattle.std.specs.List.{list_any}
+use Rattle.flu_model.specs.declared.jobs.Family.{Family}
+use Rattle.flu_model.specs.declared.jobs.Depend.{Depend}
+use Rattle.flu_model.specs.declared.jobs.Source.{Source}
+use Rattle.flu_model.specs.Erasure.{PlainAction, PlainKind, Job, plain_kind}
+use Rattle.flu_syntax.specs.declared.tree.WrittenSpan.{WrittenSpan}
+use Rattle.flu_syntax.specs.declared.tree.WrittenNumber.{WrittenNumber}
+use Rattle.flu_syntax.specs.declared.tree.WrittenTag.{WrittenTag}
+use Rattle.flu_syntax.specs.declared.tree.WrittenRelation.{WrittenRelation}
+use Rattle.flu_syntax.specs.declared.tree.WrittenRelation.TheVariants as r
+use Rattle.flu_syntax.specs.Tree.{Action, Declaration}
+use Rattle.flu_syntax.specs.Tree as w
+use Rattle.flu_parse.specs.declared.faults.JobFault.TheVariants as f
+use Rattle.flu_parse.specs.declared.names.FamilyHead.{FamilyHead}
+use Rattle.flu_parse.specs.declared.names.KindHead.{KindHead}
+use Rattle.flu_parse.specs.declared.drafts.Draft.{Draft}
+use Rattle.flu_parse.specs.declared.drafts.JobParts.{JobParts}
+use Rattle.flu_parse.specs.declared.drafts.TagList.{TagList}
+use Rattle.flu_parse.specs.Faults.{Found, ◌>>=◌, ◌>>◌, unless, each}
+use Rattle.flu_parse.specs.Spelling.{name_of}
+use Rattle.flu_parse.specs.Naming.{Naming, naming_of, kind_of}
+use Rattle.flu_parse.specs.Deeds.{actions_of}
+use Rattle.flu_parse.specs.Listings.{Listed, tags_of, rate_of, file_of}
+
+-- the job as far as its declarations are looked at, with the numbers of the kinds whose `on` was met
+pub record Drafted : Type 0 where
+  pub kinds : List PlainKind
+  pub given : List ℕ
+  pub depends : List Depend
+  pub sources : List Source
+  pub itags : ℕ
+
+abbrev pub drafted : Draft → Drafted
+drafted d = record { kinds = map plain_kind d.kinds.items; given = d.given.items; depends = d.depends.items; sources = d.sources.items; itags = d.itags }
+
+abbrev pub tags_listed : TagList → Listed
+tags_listed l = record { tags = l.tags.items; itags = l.itags }
+
+-- `same` stands only between two keyed kinds
+abbrev pub same_of : WrittenRelation → KindHead → KindHead → Found Bool
+same_of r.None a b = Ok false
+same_of r.All a b = Ok false
+same_of (r.Same at) a b = do
+  unless (a.keyed && b.keyed) (f.WrongShape at)
+  Ok true
+
+unfoldable pub with_depend : List ℕ → Naming → Drafted → WrittenSpan → WrittenSpan → WrittenRelation → Found Drafted
+with_depend text n d a b relation = do
+  first ← kind_of text n a
+  second ← kind_of text n b
+  same ← same_of relation first second
+  Ok (record d { depends = d.depends ++ record { a = first.number; b = second.number; same = same } ∷ [] })
+
+-- the kinds, with these actions at one of them
+abbrev pub with_actions : List PlainKind → ℕ → List PlainAction → List PlainKind
+with_actions [] number actions = []
+with_actions (k ∷ ks) zero actions = record k { actions = actions } ∷ ks
+with_actions (k ∷ ks) (suc number) actions = k ∷ with_actions ks number actions
+
+-- a kind has one `on` at most
+unfoldable pub with_on : List ℕ → Naming → Drafted → WrittenSpan → List Action → Found Drafted
+with_on text n d name actions = do
+  kind ← kind_of text n name
+  unless (not (list_any (λ g. g == kind.number) d.given)) (f.TwiceNamed name.from)
+  done ← actions_of text n kind actions
+  Ok (record d { kinds = with_actions d.kinds kind.number done; given = d.given ++ kind.number ∷ [] })
+
+unfoldable pub with_source : List ℕ → Naming → Drafted → WrittenSpan → WrittenSpan → Option WrittenNumber → List WrittenTag → Found Drafted
+with_source text n d name file written_rate tags = do
+  bytes ← file_of text d.sources file
+  rate ← rate_of written_rate
+  listed ← tags_of text n d.itags tags
+  Ok (record d { sources = d.sources ++ record { name = name_of text name; file = bytes; rate = rate; tags = listed.tags } ∷ []; itags = listed.itags })
+
+-- one declaration more
+unfoldable pub with_declaration : List ℕ → Naming → Drafted → Declaration → Found Drafted
+with_declaration text n d (w.Cell name keyed sort) = Ok d
+with_declaration text n d (w.Tag name keyed has_value) = Ok d
+with_declaration text n d (w.Depends a b relation) = with_depend text n d a b relation
+with_declaration text n d (w.On name actions) = with_on text n d name actions
+with_declaration text n d (w.Source name file rate tags) = with_source text n d name file rate tags
+
+abbrev pub family : List ℕ × FamilyHead → Family
+family h = record { name = h.0; keyed = h.1.keyed; sort = h.1.sort }
+
+-- a kind without `on` has no actions
+abbrev pub idle_kind : List ℕ × KindHead → PlainKind
+idle_kind h = record { name = h.0; keyed = h.1.keyed; has_value = h.1.has_value; actions = [] }
+
+abbrev pub first_draft : Naming → Drafted
+first_draft n = record { kinds = map idle_kind n.kinds; given = []; depends = []; sources = []; itags = 0 }
+
+abbrev pub draft_of : List ℕ → Naming → List Declaration → Found Drafted
+draft_of text n ds = each (with_declaration text n) (first_draft n) ds
+
+-- the job that declarations write, or the first fault
+unfoldable pub resolved : List ℕ → List Declaration → Found Job
+resolved text ds = do
+  n ← naming_of text ds
+  d ← draft_of text n ds
+  Ok (record { families = map family n.families; kinds = d.kinds; depends = d.depends; sources = d.sources })
+
+-- the parts of a job as plain data
+abbrev pub job_of_parts : JobParts → Job
+job_of_parts p = record { families = p.families; kinds = map plain_kind p.kinds; depends = p.depends; sources = p.sources }

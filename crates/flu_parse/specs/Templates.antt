@@ -1,0 +1,168 @@
+-- A written template: its plain pieces and its fields.
+use Rattle.std.specs.Prelude.{ℕ, ◌+◌, ◌-◌, Bool, true, false, not, ◌&&◌, ◌||◌, ◌==◌, nat_lt, if◌then◌else◌, List, [], ◌∷◌, ◌++◌, Option, Some, None, option_map, pos, position, codes, Ok, Err}
+use Rattle.std.specs.Char.{is_ascii_digit}
+use Rattle.std.specs.List.{list_all}
+use Rattle.std.specs.Str.{bytes_eq}
+use Rattle.flu_model.specs.declared.jobs.Piece.{Piece}
+use Rattle.flu_model.specs.declared.jobs.Piece.TheVariants as piece
+use Rattle.flu_model.specs.Rules.{is_name}
+use Rattle.flu_text.specs.Lexeme.{number_of}
+use Rattle.flu_syntax.specs.declared.tree.WrittenSpan.{WrittenSpan}
+use Rattle.flu_syntax.specs.declared.tree.WrittenKey.{WrittenKey}
+use Rattle.flu_syntax.specs.declared.tree.WrittenKey.TheVariants as k
+use Rattle.flu_syntax.specs.declared.tree.WrittenRef.{WrittenRef}
+use Rattle.flu_parse.specs.declared.faults.JobFault.TheVariants as f
+use Rattle.flu_parse.specs.declared.names.FamilyHead.{FamilyHead}
+use Rattle.flu_parse.specs.declared.names.KindHead.{KindHead}
+use Rattle.flu_parse.specs.declared.pieces.WrittenPiece.{WrittenPiece}
+use Rattle.flu_parse.specs.declared.pieces.WrittenPiece.TheVariants as p
+use Rattle.flu_parse.specs.Faults.{Found, ◌>>=◌, ◌>>◌, unless, each, found_of_each}
+use Rattle.flu_parse.specs.Spelling.{spelled, name_of, inside}
+use Rattle.flu_parse.specs.Naming.{Naming, look_up, known}
+use Rattle.flu_parse.specs.Cells.{brackets_fit, at_of}
+
+abbrev pub open_brace : ℕ
+open_brace = 123
+
+abbrev pub close_brace : ℕ
+close_brace = 125
+
+abbrev pub is_open_bracket : ℕ → Bool
+is_open_bracket b = b == 91
+
+abbrev pub span : ℕ → ℕ → WrittenSpan
+span from to = record { from = from; to = to }
+
+-- ---- the form of a field, by the places of what stands between its braces
+
+-- a number by the rule of tokens
+unfoldable pub digits_at : List ℕ → ℕ → Option WrittenKey
+digits_at [] at = None
+digits_at (b ∷ bs) at = if list_all is_ascii_digit (b ∷ bs) then option_map (λ n. k.Fixed (record { value = pos n; at = at })) (number_of (b ∷ bs)) else None
+
+-- `key` or a number
+unfoldable pub key_at : List ℕ → ℕ → Option WrittenKey
+key_at word at = if bytes_eq word (codes "key") then Some (k.OwnKey at) else digits_at word at
+
+-- a family's name, with perhaps a key in brackets, where the first bracket stands at this place of the word
+unfoldable pub ref_with : List ℕ → ℕ → ℕ → Option ℕ → Option WrittenPiece
+ref_with text from to None = if is_name (spelled text from to) then Some (p.Read (record { family = span from to; key = k.Alone })) else None
+ref_with text from to (Some i) =
+    if is_name (spelled text from (from + i)) && bytes_eq (spelled text (to - 1) to) (codes "]")
+    then option_map (λ key. p.Read (record { family = span from (from + i); key = key })) (key_at (spelled text (from + i + 1) (to - 1)) (from + i + 1))
+    else None
+
+abbrev pub ref_at : List ℕ → ℕ → ℕ → Option WrittenPiece
+ref_at text from to = ref_with text from to (position is_open_bracket (spelled text from to))
+
+-- what a field is, in an emit or in a flush
+unfoldable pub field_at : List ℕ → Bool → ℕ → ℕ → Option WrittenPiece
+field_at text in_flush from to =
+    let word = spelled text from to in
+    if bytes_eq word (codes "value") then Some p.Value
+    else if bytes_eq word (codes "key") then Some p.Key
+    else if bytes_eq word (codes "time") then Some p.Time
+    else if in_flush then (if bytes_eq word (codes "cell") then Some p.CellValue else None)
+    else ref_at text from to
+
+-- ---- the pieces of a template, byte by byte
+
+-- the pieces so far, where the next one begins, and whether it is a field
+pub record Scan : Type 0 where
+  pub pieces : List WrittenPiece
+  pub start : ℕ
+  pub in_field : Bool
+
+-- the pieces up to the first faulty brace, and whether there is none
+pub record Template : Type 0 where
+  pub pieces : List WrittenPiece
+  pub whole : Bool
+
+-- a plain piece is never empty
+abbrev pub with_plain : Scan → ℕ → List WrittenPiece
+with_plain s place = if nat_lt s.start place then s.pieces ++ p.Plain (span s.start place) ∷ [] else s.pieces
+
+abbrev pub with_field : Scan → ℕ → WrittenPiece → Scan
+with_field s place piece = record { pieces = s.pieces ++ piece ∷ []; start = place + 1; in_field = false }
+
+-- one byte more, at a place; none where it is or ends a faulty brace
+unfoldable pub scan_byte : (ℕ → ℕ → Option WrittenPiece) → Scan → ℕ → ℕ → Option Scan
+scan_byte field s place b =
+    if s.in_field then (if b == close_brace then option_map (with_field s place) (field s.start place) else Some s)
+    else if b == open_brace then Some (record { pieces = with_plain s place; start = place + 1; in_field = true })
+    else if b == close_brace then None
+    else Some s
+
+abbrev pub continued : Scan → Option Scan → (Scan → Template) → Template
+continued s None more = record { pieces = s.pieces; whole = false }
+continued s (Some next) more = more next
+
+-- what is found where the text ends, at a place
+abbrev pub end_of_scan : Scan → ℕ → Template
+end_of_scan s place = record { pieces = (if s.in_field then s.pieces else with_plain s place); whole = not s.in_field }
+
+unfoldable pub scan : (ℕ → ℕ → Option WrittenPiece) → Scan → ℕ → List ℕ → Template
+scan field s place [] = end_of_scan s place
+scan field s place (b ∷ bs) = continued s (scan_byte field s place b) (λ next. scan field next (place + 1) bs)
+
+abbrev pub scan_start : ℕ → Scan
+scan_start place = record { pieces = []; start = place; in_field = false }
+
+-- the template of a written text, whose inside begins behind its quote
+unfoldable pub template_at : List ℕ → Bool → WrittenSpan → Template
+template_at text in_flush s = scan (field_at text in_flush) (scan_start (s.from + 1)) (s.from + 1) (inside text s)
+
+-- ---- what a template means; all its faults stand at the text's place
+
+-- a family of each name, in the order of the fields
+unfoldable pub known_name : List ℕ → Naming → ℕ → WrittenPiece → Found (Unit {0})
+known_name text n place (p.Plain s) = Ok tt
+known_name text n place p.Value = Ok tt
+known_name text n place p.Key = Ok tt
+known_name text n place p.Time = Ok tt
+known_name text n place p.CellValue = Ok tt
+known_name text n place (p.Read r) = known place (look_up (name_of text r.family) n.families) >>= λ _. Ok tt
+
+abbrev pub known_names : List ℕ → Naming → ℕ → List WrittenPiece → Found (Unit {0})
+known_names text n place qs = each (λ done q. known_name text n place q) tt qs
+
+abbrev pub own_key_fits : KindHead → WrittenKey → Bool
+own_key_fits under k.Alone = true
+own_key_fits under (k.OwnKey at) = under.keyed
+own_key_fits under (k.Fixed number) = true
+
+abbrev pub read_fits : KindHead → WrittenKey → Option FamilyHead → Bool
+read_fits under key None = false
+read_fits under key (Some family) = brackets_fit family.keyed key && own_key_fits under key
+
+-- the rules of shape
+abbrev pub piece_fits : List ℕ → Naming → KindHead → Bool → WrittenPiece → Bool
+piece_fits text n under in_flush (p.Plain s) = true
+piece_fits text n under in_flush p.Value = under.has_value
+piece_fits text n under in_flush p.Key = in_flush || under.keyed
+piece_fits text n under in_flush p.Time = true
+piece_fits text n under in_flush p.CellValue = true
+piece_fits text n under in_flush (p.Read r) = read_fits under r.key (look_up (name_of text r.family) n.families)
+
+-- what a piece means: a key that is too great is found here
+unfoldable pub piece_of : List ℕ → Naming → KindHead → ℕ → WrittenPiece → Found Piece
+piece_of text n under place (p.Plain s) = Ok (piece.Plain (name_of text s))
+piece_of text n under place p.Value = Ok piece.Value
+piece_of text n under place p.Key = Ok piece.Key
+piece_of text n under place p.Time = Ok piece.Time
+piece_of text n under place p.CellValue = Ok piece.CellValue
+piece_of text n under place (p.Read r) = do
+  family ← known place (look_up (name_of text r.family) n.families)
+  at ← at_of under r.key
+  Ok (piece.Read (record { family = family.number; at = at }))
+
+abbrev pub pieces_of : List ℕ → Naming → KindHead → ℕ → List WrittenPiece → Found (List Piece)
+pieces_of text n under place qs = found_of_each (piece_of text n under place) qs
+
+-- The pieces of a template, or its first fault: an unknown name before a wrong shape, and that before a limit.
+unfoldable pub template_of : List ℕ → Naming → KindHead → Bool → WrittenSpan → Found (List Piece)
+template_of text n under in_flush s = do
+  let t = template_at text in_flush s
+  known_names text n s.from t.pieces
+  unless (t.whole && list_all (piece_fits text n under in_flush) t.pieces) (f.WrongShape s.from)
+  pieces_of text n under s.from t.pieces

@@ -1,0 +1,30 @@
+//! A job that is being read.
+
+use flu_model::{Depend, Family, Kind, List, Source, TagRef};
+
+/// The job as far as its declarations are looked at, with the numbers of the kinds whose `on` was met, and how many itags
+/// its sources have.
+#[derive(Drop)]
+pub struct Draft {
+    pub kinds: Vec<Kind>,
+    pub given: Vec<u32>,
+    pub depends: Vec<Depend>,
+    pub sources: Vec<Source>,
+    pub itags: u64,
+}
+
+/// The tags that a source lists so far, and how many itags the sources have so far.
+#[derive(Drop)]
+pub struct TagList {
+    pub tags: Vec<TagRef>,
+    pub itags: u64,
+}
+
+/// The parts of a job.
+#[derive(Debug, Drop)]
+pub struct JobParts {
+    pub families: List<Family>,
+    pub kinds: List<Kind>,
+    pub depends: List<Depend>,
+    pub sources: List<Source>,
+}

@@ -1,0 +1,126 @@
+//! The form of a template's fields.
+
+ghost use Rattle.std.specs.Prelude.{◌≡◌, ◌+◌, ◌<◌, ◌≤◌, length, position, option_map, pos, IfSome, IsTrue};
+ghost use Rattle.std.specs.Char.{is_ascii_digit};
+ghost use Rattle.std.specs.List.{list_all};
+ghost use Rattle.flu_text.specs.Lexeme.{number_of};
+ghost use Rattle.flu_parse.specs.Templates.{is_open_bracket, digits_at, key_at, ref_with, ref_at, field_at};
+
+use crate::pieces::WrittenPiece;
+use crate::spelling::spelled;
+use flu_rules::is_name;
+use flu_syntax::{WrittenKey, WrittenNumber, WrittenRef, WrittenSpan};
+
+fn are_digits(bytes: &[u8]) -> bool
+    ensures { result ≡ list_all is_ascii_digit bytes.now }
+{
+    bytes.iter().all(|byte| byte.is_ascii_digit())
+}
+
+// The number that the digits write, if it is small enough.
+#[tactic(auto, unfolding(flu_text::specs::Lexeme::number_of))]
+fn number_of(digits: &[u8]) -> Option<i64>
+    requires { IsTrue (list_all is_ascii_digit digits.now) }
+    ensures { result ≡ option_map (λ n. pos n) (number_of digits.now) }
+{
+    let mut number = 0u64;
+    for digit in digits {
+        number = number
+            .saturating_mul(10)
+            .saturating_add(u64::from(*digit - b'0'));
+    }
+    i64::try_from(number).ok()
+}
+
+#[tactic(auto, unfolding(crate::specs::Templates::digits_at))]
+fn digits_at(word: &[u8], at: usize) -> Option<WrittenKey>
+    ensures { result ≡ digits_at word.now at }
+{
+    if word.is_empty() || !are_digits(word) {
+        return None;
+    }
+    let value = number_of(word)?;
+    Some(WrittenKey::Fixed(WrittenNumber { value, at }))
+}
+
+#[tactic(auto, unfolding(crate::specs::Templates::key_at))]
+fn key_at(word: &str, at: usize) -> Option<WrittenKey>
+    ensures { result ≡ key_at word.now at }
+{
+    if word == "key" {
+        Some(WrittenKey::OwnKey { at })
+    } else {
+        digits_at(word.as_bytes(), at)
+    }
+}
+
+fn bracket_at(word: &[u8]) -> Option<usize>
+    ensures value { result ≡ position is_open_bracket word.now }
+    ensures within { IfSome result (λ i. i < length word.now) }
+{
+    word.iter().position(|byte| *byte == b'[')
+}
+
+#[tactic(auto, unfolding(crate::specs::Templates::ref_with))]
+fn ref_alone(text: &str, from: usize, to: usize) -> Option<WrittenPiece>
+    ensures { result ≡ ref_with text.now from to None }
+{
+    if is_name(spelled(text, from, to)) {
+        Some(WrittenPiece::Read(WrittenRef {
+            family: WrittenSpan { from, to },
+            key: WrittenKey::Alone,
+        }))
+    } else {
+        None
+    }
+}
+
+#[tactic(auto, unfolding(crate::specs::Templates::ref_with))]
+fn ref_with_key(text: &str, from: usize, to: usize, bracket: usize) -> Option<WrittenPiece>
+    requires { from + bracket < length text.now }
+    ensures { result ≡ ref_with text.now from to (Some bracket) }
+{
+    let end = from + bracket;
+    if is_name(spelled(text, from, end)) && spelled(text, to.saturating_sub(1), to) == "]" {
+        let key = key_at(spelled(text, end + 1, to.saturating_sub(1)), end + 1)?;
+        Some(WrittenPiece::Read(WrittenRef {
+            family: WrittenSpan { from, to: end },
+            key,
+        }))
+    } else {
+        None
+    }
+}
+
+fn ref_at(text: &str, from: usize, to: usize) -> Option<WrittenPiece>
+    ensures { result ≡ ref_at text.now from to }
+{
+    let word = spelled(text, from, to);
+    match bracket_at(word.as_bytes()) {
+        None => ref_alone(text, from, to),
+        Some(bracket) => ref_with_key(text, from, to, bracket),
+    }
+}
+
+/// What a field is, in an emit or in a flush, if it has the form of one.
+#[tactic(auto, unfolding(crate::specs::Templates::field_at))]
+pub fn field_at(text: &str, in_flush: bool, from: usize, to: usize) -> Option<WrittenPiece>
+    ensures { result ≡ field_at text.now in_flush from to }
+{
+    let word = spelled(text, from, to);
+    if word == "value" {
+        Some(WrittenPiece::Value)
+    } else if word == "key" {
+        Some(WrittenPiece::Key)
+    } else if word == "time" {
+        Some(WrittenPiece::Time)
+    } else if in_flush {
+        if word == "cell" {
+            Some(WrittenPiece::CellValue)
+        } else {
+            None
+        }
+    } else {
+        ref_at(text, from, to)
+    }
+}

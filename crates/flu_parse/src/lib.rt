@@ -1,0 +1,26 @@
+//! The readings of a job text (`docs/LANGUAGE.md`): from what is written to a job, or to the first fault with its place.
+#![tactic(auto)]
+
+mod cells;
+mod deeds;
+mod drafts;
+mod faults;
+mod fields;
+mod listings;
+mod names;
+mod naming;
+mod pieces;
+mod reading;
+mod resolving;
+mod scanning;
+mod spelling;
+mod templates;
+mod terms;
+
+pub use drafts::JobParts;
+pub use faults::JobFault;
+pub use reading::read_job;
+pub use resolving::resolve;
+
+#[cfg(test)]
+mod tests;

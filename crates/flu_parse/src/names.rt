@@ -1,0 +1,29 @@
+//! The names of a job, in the order of their declarations.
+
+use flu_model::Sort;
+use indexmap::{IndexMap, IndexSet};
+
+/// What a family's declaration says beside its name, and its number, from 0 in the order of declarations.
+#[derive(Clone, Copy)]
+pub struct FamilyHead {
+    pub number: u32,
+    pub keyed: bool,
+    pub sort: Sort,
+}
+
+/// What a kind's declaration says beside its name, and its number, from 0 in the order of declarations.
+#[derive(Clone, Copy)]
+pub struct KindHead {
+    pub number: u32,
+    pub keyed: bool,
+    pub has_value: bool,
+}
+
+/// The declared names, and how many `depends` there are.
+#[derive(Drop)]
+pub struct Names<'t> {
+    pub families: IndexMap<&'t str, FamilyHead>,
+    pub kinds: IndexMap<&'t str, KindHead>,
+    pub sources: IndexSet<&'t str>,
+    pub depends: usize,
+}

@@ -1,0 +1,248 @@
+//! Which names are declared, and as what.
+
+ghost use Rattle.std.specs.Prelude.{◌≡◌, ◌∷◌, ◌++◌, [], false, IfOk, OnOk, OnErr};
+ghost use Rattle.std.specs.List.{list_any};
+ghost use Rattle.std.specs.Str.{bytes_eq};
+ghost use Rattle.flu_syntax.specs.Tree.{declaration_of, job_of};
+ghost use Rattle.flu_parse.specs.Faults.{Gives};
+ghost use Rattle.flu_parse.specs.Naming.{naming, no_names, look_up, is_declared, fresh_name, with_family, with_kind, with_source, declare, naming_of, family_of, kind_of};
+
+use crate::faults::JobFault;
+use crate::names::{FamilyHead, KindHead, Names};
+use crate::spelling::name_of;
+use flu_model::{Sort, What};
+use flu_syntax::{WrittenDeclaration, WrittenSpan};
+use indexmap::{IndexMap, IndexSet};
+use std::alloc::Global;
+
+/// The most families, kinds and sources of a job.
+const MOST_PARTS: usize = 64;
+
+/// The most dependencies of a job.
+const MOST_DEPENDS: usize = 4096;
+
+fn no_names<'t>(alloc: Global) -> Names<'t>
+    ensures { naming result ≡ no_names }
+{
+    Names {
+        families: IndexMap::new(alloc),
+        kinds: IndexMap::new(alloc),
+        sources: IndexSet::new(alloc),
+        depends: 0,
+    }
+}
+
+/// The family with this name.
+pub fn find_family(names: &Names, name: &str) -> Option<FamilyHead>
+    ensures { result ≡ look_up name.now (naming names.now).families }
+{
+    names.families.get(name).copied()
+}
+
+/// The kind with this name.
+fn find_kind(names: &Names, name: &str) -> Option<KindHead>
+    ensures { result ≡ look_up name.now (naming names.now).kinds }
+{
+    names.kinds.get(name).copied()
+}
+
+fn is_source(names: &Names, name: &str) -> bool
+    ensures { result ≡ list_any (bytes_eq name.now) (naming names.now).sources }
+{
+    names.sources.contains(name)
+}
+
+fn is_declared(names: &Names, name: &str) -> bool
+    ensures { result ≡ is_declared (naming names.now) name.now }
+{
+    find_family(names, name).is_some() || find_kind(names, name).is_some() || is_source(names, name)
+}
+
+// The name, which no declaration before has.
+fn fresh_name<'t>(names: &Names, text: &'t str, span: WrittenSpan) -> Result<&'t str, JobFault>
+    ensures found { Gives (λ name. name.now) result (fresh_name text.now (naming names.now) span) }
+    ensures free { IfOk result (λ name. is_declared (naming names.now) name.now ≡ false) }
+{
+    let name = name_of(text, span);
+    if is_declared(names, name) {
+        Err(JobFault::TwiceNamed { at: span.from })
+    } else {
+        Ok(name)
+    }
+}
+
+fn add_family<'t>(names: &mut Names<'t>, name: &'t str, head: FamilyHead) -> Result<(), JobFault>
+    requires { is_declared (naming names.old) name.now ≡ false }
+    ensures ok { OnOk result (naming names.new ≡ record (naming names.old) { families = (naming names.old).families ++ (name.now, head) ∷ [] }) }
+    ensures err { OnErr result (result ≡ Err JobFault.NoMemory) }
+{
+    match names.families.insert(name, head) {
+        Ok(_) => Ok(()),
+        Err(_) => Err(JobFault::NoMemory),
+    }
+}
+
+fn add_kind<'t>(names: &mut Names<'t>, name: &'t str, head: KindHead) -> Result<(), JobFault>
+    requires { is_declared (naming names.old) name.now ≡ false }
+    ensures ok { OnOk result (naming names.new ≡ record (naming names.old) { kinds = (naming names.old).kinds ++ (name.now, head) ∷ [] }) }
+    ensures err { OnErr result (result ≡ Err JobFault.NoMemory) }
+{
+    match names.kinds.insert(name, head) {
+        Ok(_) => Ok(()),
+        Err(_) => Err(JobFault::NoMemory),
+    }
+}
+
+fn add_source<'t>(names: &mut Names<'t>, name: &'t str) -> Result<(), JobFault>
+    requires { is_declared (naming names.old) name.now ≡ false }
+    ensures ok { OnOk result (naming names.new ≡ record (naming names.old) { sources = (naming names.old).sources ++ name.now ∷ [] }) }
+    ensures err { OnErr result (result ≡ Err JobFault.NoMemory) }
+{
+    match names.sources.insert(name) {
+        Ok(_) => Ok(()),
+        Err(_) => Err(JobFault::NoMemory),
+    }
+}
+
+// The names with one declaration more.
+#[tactic(auto, unfolding(crate::specs::Naming::declare))]
+fn declare<'t>(
+    names: &mut Names<'t>,
+    text: &'t str,
+    declaration: &WrittenDeclaration,
+) -> Result<(), JobFault>
+    ensures { Gives (λ done. naming names.new) result (declare text.now (naming names.old) (declaration_of declaration.now)) }
+{
+    match declaration {
+        WrittenDeclaration::Cell { name, keyed, sort } => {
+            declare_family(names, text, *name, *keyed, *sort)
+        }
+        WrittenDeclaration::Tag {
+            name,
+            keyed,
+            has_value,
+        } => declare_kind(names, text, *name, *keyed, *has_value),
+        WrittenDeclaration::Depends { .. } => {
+            if names.depends >= MOST_DEPENDS {
+                return Err(JobFault::OverLimit {
+                    what: What::Depends,
+                    count: 4097,
+                });
+            }
+            names.depends += 1;
+            Ok(())
+        }
+        WrittenDeclaration::On { .. } => Ok(()),
+        WrittenDeclaration::Source { name, .. } => declare_source(names, text, *name),
+    }
+}
+
+#[tactic(auto, unfolding(crate::specs::Naming::with_family))]
+fn declare_family<'t>(
+    names: &mut Names<'t>,
+    text: &'t str,
+    span: WrittenSpan,
+    keyed: bool,
+    sort: Sort,
+) -> Result<(), JobFault>
+    ensures { Gives (λ done. naming names.new) result (with_family text.now (naming names.old) span keyed sort) }
+{
+    let name = fresh_name(names, text, span)?;
+    let count = names.families.len();
+    if count >= MOST_PARTS {
+        return Err(JobFault::OverLimit {
+            what: What::Families,
+            count: 65,
+        });
+    }
+    let number = count as u32;
+    add_family(
+        names,
+        name,
+        FamilyHead {
+            number,
+            keyed,
+            sort,
+        },
+    )
+}
+
+#[tactic(auto, unfolding(crate::specs::Naming::with_kind))]
+fn declare_kind<'t>(
+    names: &mut Names<'t>,
+    text: &'t str,
+    span: WrittenSpan,
+    keyed: bool,
+    has_value: bool,
+) -> Result<(), JobFault>
+    ensures { Gives (λ done. naming names.new) result (with_kind text.now (naming names.old) span keyed has_value) }
+{
+    let name = fresh_name(names, text, span)?;
+    let count = names.kinds.len();
+    if count >= MOST_PARTS {
+        return Err(JobFault::OverLimit {
+            what: What::Kinds,
+            count: 65,
+        });
+    }
+    let number = count as u32;
+    add_kind(
+        names,
+        name,
+        KindHead {
+            number,
+            keyed,
+            has_value,
+        },
+    )
+}
+
+#[tactic(auto, unfolding(crate::specs::Naming::with_source))]
+fn declare_source<'t>(
+    names: &mut Names<'t>,
+    text: &'t str,
+    span: WrittenSpan,
+) -> Result<(), JobFault>
+    ensures { Gives (λ done. naming names.new) result (with_source text.now (naming names.old) span) }
+{
+    let name = fresh_name(names, text, span)?;
+    if names.sources.len() >= MOST_PARTS {
+        return Err(JobFault::OverLimit {
+            what: What::Sources,
+            count: 65,
+        });
+    }
+    add_source(names, name)
+}
+
+/// The names that are declared, or the first that is declared twice or is one too many.
+pub fn naming_of<'t>(
+    alloc: Global,
+    text: &'t str,
+    declarations: &[WrittenDeclaration],
+) -> Result<Names<'t>, JobFault>
+    ensures { Gives naming result (naming_of text.now (job_of declarations.now)) }
+{
+    let mut names = no_names(alloc);
+    for declaration in declarations {
+        match declare(&mut names, text, declaration) {
+            Ok(()) => {}
+            Err(fault) => return Err(fault),
+        }
+    }
+    Ok(names)
+}
+
+/// The family that is named, of which there is one.
+pub fn family_of(names: &Names, text: &str, span: WrittenSpan) -> Result<FamilyHead, JobFault>
+    ensures { Gives (λ head. head) result (family_of text.now (naming names.now) span) }
+{
+    find_family(names, name_of(text, span)).ok_or(JobFault::UnknownName { at: span.from })
+}
+
+/// The kind that is named, of which there is one.
+pub fn kind_of(names: &Names, text: &str, span: WrittenSpan) -> Result<KindHead, JobFault>
+    ensures { Gives (λ head. head) result (kind_of text.now (naming names.now) span) }
+{
+    find_kind(names, name_of(text, span)).ok_or(JobFault::UnknownName { at: span.from })
+}

@@ -1,0 +1,253 @@
+//! From a written job to the parts of a job.
+
+ghost use Rattle.std.specs.Prelude.{◌≡◌, ◌==◌, ◌∷◌, ◌++◌, [], map, OnOk, OnErr, IfOk};
+ghost use Rattle.std.specs.List.{list_any};
+ghost use Rattle.flu_model.specs.Erasure.{plain_action, plain_kind};
+ghost use Rattle.flu_syntax.specs.Tree.{action_of as action_seen, declaration_of, job_of};
+ghost use Rattle.flu_parse.specs.Faults.{Gives};
+ghost use Rattle.flu_parse.specs.Naming.{naming};
+ghost use Rattle.flu_parse.specs.Resolving.{drafted, same_of, with_depend, with_actions, with_on, with_source, with_declaration, family, idle_kind, first_draft, draft_of, resolved, job_of_parts};
+
+use crate::deeds::actions_of;
+use crate::drafts::{Draft, JobParts};
+use crate::faults::JobFault;
+use crate::listings::{file_of, rate_of, tags_of};
+use crate::names::{KindHead, Names};
+use crate::naming::{kind_of, naming_of};
+use crate::spelling::name_of;
+use crate::terms::shape_at;
+use flu_model::{Action, Depend, Family, Kind, List, Name, Source, Text};
+use flu_syntax::{
+    WrittenAction, WrittenDeclaration, WrittenNumber, WrittenRelation, WrittenSpan, WrittenTag,
+};
+use std::alloc::{AllocError, Global};
+
+fn same_of(relation: &WrittenRelation, a: KindHead, b: KindHead) -> Result<bool, JobFault>
+    ensures { Gives (λ same. same) result (same_of relation.now a b) }
+{
+    match relation {
+        WrittenRelation::None | WrittenRelation::All => Ok(false),
+        WrittenRelation::Same { at } => {
+            shape_at(a.keyed && b.keyed, *at)?;
+            Ok(true)
+        }
+    }
+}
+
+#[tactic(auto, unfolding(crate::specs::Resolving::with_depend))]
+fn add_depend(
+    text: &str,
+    names: &Names,
+    draft: &mut Draft,
+    a: WrittenSpan,
+    b: WrittenSpan,
+    relation: &WrittenRelation,
+) -> Result<(), JobFault>
+    ensures { Gives (λ done. drafted draft.new) result (with_depend text.now (naming names.now) (drafted draft.old) a b relation.now) }
+{
+    let first = kind_of(names, text, a)?;
+    let second = kind_of(names, text, b)?;
+    let same = same_of(relation, first, second)?;
+    draft.depends.push(Depend {
+        a: first.number,
+        b: second.number,
+        same,
+    })?;
+    Ok(())
+}
+
+// Gives a kind its actions.
+fn set_actions(kinds: &mut Vec<Kind>, number: u32, actions: List<Action>)
+    ensures { map plain_kind kinds.new.items ≡ with_actions (map plain_kind kinds.old.items) number (map plain_action actions) }
+{
+    let place = number as usize;
+    if place < kinds.len() {
+        kinds[place].actions = actions;
+    }
+}
+
+fn is_given(given: &[u32], number: u32) -> bool
+    ensures { result ≡ list_any (λ g. g == number) given.now }
+{
+    given.iter().any(|g| *g == number)
+}
+
+#[tactic(auto, unfolding(crate::specs::Resolving::with_on))]
+fn add_on(
+    alloc: Global,
+    text: &str,
+    names: &Names,
+    draft: &mut Draft,
+    name: WrittenSpan,
+    written: &[WrittenAction],
+) -> Result<(), JobFault>
+    ensures { Gives (λ done. drafted draft.new) result (with_on text.now (naming names.now) (drafted draft.old) name (map action_seen written.now)) }
+{
+    let kind = kind_of(names, text, name)?;
+    if is_given(draft.given.as_slice(), kind.number) {
+        return Err(JobFault::TwiceNamed { at: name.from });
+    }
+    let actions = actions_of(alloc, text, names, kind, written)?;
+    draft.given.push(kind.number)?;
+    set_actions(&mut draft.kinds, kind.number, actions);
+    Ok(())
+}
+
+#[tactic(auto, unfolding(crate::specs::Resolving::with_source))]
+fn add_source(
+    alloc: Global,
+    text: &str,
+    names: &Names,
+    draft: &mut Draft,
+    name: WrittenSpan,
+    file: WrittenSpan,
+    rate: &Option<WrittenNumber>,
+    tags: &[WrittenTag],
+) -> Result<(), JobFault>
+    ensures { Gives (λ done. drafted draft.new) result (with_source text.now (naming names.now) (drafted draft.old) name file rate.now tags.now) }
+{
+    let file = file_of(text, draft.sources.as_slice(), file)?;
+    let rate = rate_of(rate)?;
+    let listed = tags_of(alloc, text, names, draft.itags, tags)?;
+    let itags = listed.itags;
+    let name = String::from_str(alloc, name_of(text, name))?;
+    let file = String::from_str(alloc, file)?;
+    draft.sources.push(Source {
+        name: Name::of(name),
+        file: Text::of(file),
+        rate,
+        tags: List::of(listed.tags),
+    })?;
+    draft.itags = itags;
+    Ok(())
+}
+
+#[tactic(auto, unfolding(crate::specs::Resolving::with_declaration))]
+fn add_declaration(
+    alloc: Global,
+    text: &str,
+    names: &Names,
+    draft: &mut Draft,
+    declaration: &WrittenDeclaration,
+) -> Result<(), JobFault>
+    ensures { Gives (λ done. drafted draft.new) result (with_declaration text.now (naming names.now) (drafted draft.old) (declaration_of declaration.now)) }
+{
+    match declaration {
+        WrittenDeclaration::Cell { .. } | WrittenDeclaration::Tag { .. } => Ok(()),
+        WrittenDeclaration::Depends { a, b, relation } => {
+            add_depend(text, names, draft, *a, *b, relation)
+        }
+        WrittenDeclaration::On { kind, actions } => {
+            add_on(alloc, text, names, draft, *kind, actions.items())
+        }
+        WrittenDeclaration::Source {
+            name,
+            file,
+            rate,
+            tags,
+        } => add_source(
+            alloc,
+            text,
+            names,
+            draft,
+            *name,
+            *file,
+            rate,
+            tags.items(),
+        ),
+    }
+}
+
+// The families, in the order of their declarations.
+fn families_of(alloc: Global, names: &Names) -> Result<Vec<Family>, AllocError>
+    ensures { IfOk result (λ families. families.items ≡ map family (naming names.now).families) }
+{
+    let mut families = Vec::new(alloc);
+    for (name, head) in names.families.iter() {
+        let name = Name::of(String::from_str(alloc, name)?);
+        families.push(Family {
+            name,
+            keyed: head.keyed,
+            sort: head.sort,
+        })?;
+    }
+    Ok(families)
+}
+
+// The kinds, in the order of their declarations, without actions.
+fn idle_kinds(alloc: Global, names: &Names) -> Result<Vec<Kind>, AllocError>
+    ensures { IfOk result (λ kinds. map plain_kind kinds.items ≡ map idle_kind (naming names.now).kinds) }
+{
+    let mut kinds = Vec::new(alloc);
+    for (name, head) in names.kinds.iter() {
+        let name = Name::of(String::from_str(alloc, name)?);
+        kinds.push(Kind {
+            name,
+            keyed: head.keyed,
+            has_value: head.has_value,
+            actions: List::of(Vec::new(alloc)),
+        })?;
+    }
+    Ok(kinds)
+}
+
+fn first_draft(alloc: Global, names: &Names) -> Result<Draft, AllocError>
+    ensures { IfOk result (λ draft. drafted draft ≡ first_draft (naming names.now)) }
+{
+    let kinds = idle_kinds(alloc, names)?;
+    Ok(Draft {
+        kinds,
+        given: Vec::new(alloc),
+        depends: Vec::new(alloc),
+        sources: Vec::new(alloc),
+        itags: 0,
+    })
+}
+
+fn draft_of(
+    alloc: Global,
+    text: &str,
+    names: &Names,
+    declarations: &[WrittenDeclaration],
+) -> Result<Draft, JobFault>
+    ensures { Gives drafted result (draft_of text.now (naming names.now) (job_of declarations.now)) }
+{
+    let mut draft = first_draft(alloc, names)?;
+    for declaration in declarations {
+        match add_declaration(alloc, text, names, &mut draft, declaration) {
+            Ok(()) => {}
+            Err(fault) => return Err(fault),
+        }
+    }
+    Ok(draft)
+}
+
+/// The parts of the job that declarations write, or the first fault in them (`docs/LANGUAGE.md`).
+///
+/// # Errors
+///
+/// Names are looked at first, in the order of the declarations: [`JobFault::TwiceNamed`] at the second declaration of a name,
+/// [`JobFault::OverLimit`] for a family, kind, source or `depends` that is one too many. Then the declarations are looked at
+/// again, token by token, where an unknown name comes before a wrong shape, that before a limit, and that before what is
+/// named twice. [`JobFault::NoMemory`] where memory is wanting.
+#[tactic(auto, unfolding(crate::specs::Resolving::resolved))]
+pub fn resolve(
+    alloc: Global,
+    text: &str,
+    declarations: &[WrittenDeclaration],
+) -> Result<JobParts, JobFault>
+    ensures { Gives job_of_parts result (resolved text.now (job_of declarations.now)) }
+{
+    let names = match naming_of(alloc, text, declarations) {
+        Ok(names) => names,
+        Err(fault) => return Err(fault),
+    };
+    let draft = draft_of(alloc, text, &names, declarations)?;
+    let families = families_of(alloc, &names)?;
+    Ok(JobParts {
+        families: List::of(families),
+        kinds: List::of(draft.kinds),
+        depends: List::of(draft.depends),
+        sources: List::of(draft.sources),
+    })
+}

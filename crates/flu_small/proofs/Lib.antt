@@ -1,0 +1,5 @@
+pub mod Lists
+pub mod Zips
+pub mod Fields
+pub mod Items
+pub mod Lines

@@ -1,0 +1,5 @@
+pub mod Names
+pub mod Job
+pub mod Declaring
+pub mod Draft
+pub mod Rows

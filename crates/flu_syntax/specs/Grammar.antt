@@ -1,0 +1,270 @@
+-- How a job is spelled.
+use Rattle.std.specs.Prelude.{◌≡◌, ◌≢◌, ℕ, ◌+◌, ◌≤◌, max, ◌==◌, if◌then◌else◌, Bool, true, false, List, [], ◌∷◌, ◌++◌, Option, Some, None}
+use Rattle.std.specs.List.{flat_map}
+use Rattle.flu_text.specs.declared.words.Word.{Word}
+use Rattle.flu_text.specs.declared.words.Word.TheVariants as w
+use Rattle.flu_text.specs.declared.words.Reserved.TheVariants as r
+use Rattle.flu_text.specs.declared.words.Mark.TheVariants as m
+use Rattle.flu_text.specs.declared.words.Token.{Token}
+use Rattle.flu_model.specs.declared.jobs.Op.{Op}
+use Rattle.flu_model.specs.declared.jobs.Op.TheVariants as op
+use Rattle.flu_model.specs.declared.jobs.Sort.{Sort}
+use Rattle.flu_model.specs.declared.jobs.Sort.TheVariants as sort
+use Rattle.flu_syntax.specs.declared.tokens.Verb.{Verb}
+use Rattle.flu_syntax.specs.declared.tokens.Verb.TheVariants as verb
+use Rattle.flu_syntax.specs.declared.tree.WrittenSpan.{WrittenSpan}
+use Rattle.flu_syntax.specs.declared.tree.WrittenNumber.{WrittenNumber}
+use Rattle.flu_syntax.specs.declared.tree.WrittenKey.{WrittenKey}
+use Rattle.flu_syntax.specs.declared.tree.WrittenKey.TheVariants as key
+use Rattle.flu_syntax.specs.declared.tree.WrittenRef.{WrittenRef}
+use Rattle.flu_syntax.specs.declared.tree.WrittenKeys.{WrittenKeys}
+use Rattle.flu_syntax.specs.declared.tree.WrittenKeys.TheVariants as keys
+use Rattle.flu_syntax.specs.declared.tree.WrittenTag.{WrittenTag}
+use Rattle.flu_syntax.specs.declared.tree.WrittenRelation.{WrittenRelation}
+use Rattle.flu_syntax.specs.declared.tree.WrittenRelation.TheVariants as relation
+use Rattle.flu_syntax.specs.Tree.{Tree, NumberTree, ValueTree, KeyTree, TimeTree, ReadTree, HasTree, ParenTree, NegTree, NotTree, TwoTree, Deed, Writes, Clears, Emits, Flushes, Action, Declaration, Cell, Tag, Depends, On, Source, Job}
+use Rattle.flu_syntax.specs.Machine.{op_level, Verdict, Found, Unexpected, TooDeep, place_of, verdict}
+
+-- A sign stands for a token: of a word, at any place; of a word that begins at a place; of a word that takes these bytes.
+pub data Sign : Type 0 where
+  Any : (word : Word) → Sign
+  At : (word : Word) (from : ℕ) → Sign
+  Spanned : (word : Word) (span : WrittenSpan) → Sign
+
+abbrev pub IsSign : Sign → Token → Type 0
+IsSign (Any word) t = t.word ≡ word
+IsSign (At word from) t = (t.word ≡ word) × (t.from ≡ from)
+IsSign (Spanned word span) t = (t.word ≡ word) × (t.from ≡ span.from) × (t.to ≡ span.to)
+
+-- the tokens are these signs, one by one
+abbrev pub AreSigns : List Sign → List Token → Type 0
+AreSigns [] [] = Unit {0}
+AreSigns [] (t ∷ tokens) = ⊥
+AreSigns (s ∷ signs) [] = ⊥
+AreSigns (s ∷ signs) (t ∷ tokens) = IsSign s t × AreSigns signs tokens
+
+-- ---- the words
+
+abbrev pub name : WrittenSpan → List Sign
+name span = Spanned w.Name span ∷ []
+
+abbrev pub text : WrittenSpan → List Sign
+text span = Spanned w.Text span ∷ []
+
+abbrev pub number : WrittenNumber → List Sign
+number n = At (w.Number n.value) n.at ∷ []
+
+abbrev pub op_word : Op → Word
+op_word op.Either = w.Reserved r.Or
+op_word op.Both = w.Reserved r.And
+op_word op.Less = w.Mark m.Less
+op_word op.LessEq = w.Mark m.LessEq
+op_word op.More = w.Mark m.More
+op_word op.MoreEq = w.Mark m.MoreEq
+op_word op.Same = w.Mark m.Same
+op_word op.Differs = w.Mark m.Differs
+op_word op.Plus = w.Mark m.Plus
+op_word op.Minus = w.Mark m.Minus
+op_word op.Times = w.Mark m.Times
+
+abbrev pub sort_word : Sort → Word
+sort_word sort.Sum = w.Reserved r.Sum
+sort_word sort.Max = w.Reserved r.Max
+sort_word sort.Last = w.Reserved r.Last
+
+abbrev pub value_word : Bool → Word
+value_word true = w.Reserved r.Int
+value_word false = w.Reserved r.None
+
+abbrev pub verb_word : Verb → Word
+verb_word verb.Add = w.Reserved r.Add
+verb_word verb.Raise = w.Reserved r.Raise
+verb_word verb.Set = w.Reserved r.Set
+
+-- ---- the grammar
+
+-- items, with a mark between each two
+abbrev pub separated : {X : Type 0} → Word → (X → List Sign) → List X → List Sign
+separated mark item [] = []
+separated mark item (x ∷ xs) = item x ++ flat_map (λ y. Any mark ∷ item y) xs
+
+-- NAME [ "[" ("key" | NUMBER) "]" ]
+abbrev pub key_signs : WrittenKey → List Sign
+key_signs key.Alone = []
+key_signs (key.OwnKey at) = Any (w.Mark m.OpenBracket) ∷ At (w.Reserved r.Key) at ∷ Any (w.Mark m.CloseBracket) ∷ []
+key_signs (key.Fixed n) = Any (w.Mark m.OpenBracket) ∷ (number n ++ Any (w.Mark m.CloseBracket) ∷ [])
+
+abbrev pub cell_signs : WrittenRef → List Sign
+cell_signs cell = name cell.family ++ key_signs cell.key
+
+-- an expression: a number, `value`, `key`, `time`, a cell, `has` and a cell, what stands in parentheses, a unary operator and its
+-- operand, or an operator between two operands
+abbrev pub spelled : Tree → List Sign
+spelled (NumberTree n) = number n
+spelled (ValueTree at) = At (w.Reserved r.Value) at ∷ []
+spelled (KeyTree at) = At (w.Reserved r.Key) at ∷ []
+spelled (TimeTree at) = At (w.Reserved r.Time) at ∷ []
+spelled (ReadTree cell) = cell_signs cell
+spelled (HasTree at cell) = At (w.Reserved r.Has) at ∷ cell_signs cell
+spelled (ParenTree at inner) = At (w.Mark m.OpenParen) at ∷ (spelled inner ++ Any (w.Mark m.CloseParen) ∷ [])
+spelled (NegTree at inner) = At (w.Mark m.Minus) at ∷ spelled inner
+spelled (NotTree at inner) = At (w.Reserved r.Not) at ∷ spelled inner
+spelled (TwoTree o left right) = spelled left ++ Any (op_word o) ∷ spelled right
+
+-- the level of a left operand: operators group to the left, and comparisons do not group
+abbrev pub left_level : ℕ → ℕ
+left_level level = if level == 3 then 4 else level
+
+-- The expression may stand where operators of this level and above are wanted: from `or` as 0 over `and`, `not`, the
+-- comparisons, `+` and `-`, `*`, to unary `-` and what stands alone as 6.
+abbrev pub Fits : ℕ → Tree → Type 0
+Fits level (NumberTree n) = Unit {0}
+Fits level (ValueTree at) = Unit {0}
+Fits level (KeyTree at) = Unit {0}
+Fits level (TimeTree at) = Unit {0}
+Fits level (ReadTree cell) = Unit {0}
+Fits level (HasTree at cell) = Unit {0}
+Fits level (ParenTree at inner) = Fits 0 inner
+Fits level (NegTree at inner) = Fits 6 inner
+Fits level (NotTree at inner) = (level ≤ 2) × Fits 2 inner
+Fits level (TwoTree o left right) = (level ≤ op_level o) × Fits (left_level (op_level o)) left × Fits (op_level o + 1) right
+
+-- how many parentheses and unary operators are open at once in an expression
+abbrev pub nest : Tree → ℕ
+nest (NumberTree n) = 0
+nest (ValueTree at) = 0
+nest (KeyTree at) = 0
+nest (TimeTree at) = 0
+nest (ReadTree cell) = 0
+nest (HasTree at cell) = 0
+nest (ParenTree at inner) = nest inner + 1
+nest (NegTree at inner) = nest inner + 1
+nest (NotTree at inner) = nest inner + 1
+nest (TwoTree o left right) = max (nest left) (nest right)
+
+-- an expression by the levels, with at most 64 open at once
+abbrev pub IsExpression : Tree → Type 0
+IsExpression t = Fits 0 t × (nest t ≤ 64)
+
+-- "add" cref expr | "raise" cref expr | "set" cref expr | "clear" cref | "emit" TEXT | "flush" NAME TEXT
+abbrev pub deed_signs : ℕ → Deed → List Sign
+deed_signs at (Writes verb cell amount) = At (verb_word verb) at ∷ (cell_signs cell ++ spelled amount)
+deed_signs at (Clears cell) = At (w.Reserved r.Clear) at ∷ cell_signs cell
+deed_signs at (Emits file) = At (w.Reserved r.Emit) at ∷ text file
+deed_signs at (Flushes family file) = At (w.Reserved r.Flush) at ∷ (name family ++ text file)
+
+abbrev pub IsDeed : Deed → Type 0
+IsDeed (Writes verb cell amount) = IsExpression amount
+IsDeed (Clears cell) = Unit {0}
+IsDeed (Emits file) = Unit {0}
+IsDeed (Flushes family file) = Unit {0}
+
+-- [ "when" expr ]
+abbrev pub guard_signs : Option Tree → List Sign
+guard_signs None = []
+guard_signs (Some guard) = Any (w.Reserved r.When) ∷ spelled guard
+
+abbrev pub IsGuard : Option Tree → Type 0
+IsGuard None = Unit {0}
+IsGuard (Some guard) = IsExpression guard
+
+abbrev pub action_signs : Action → List Sign
+action_signs a = deed_signs a.at a.deed ++ guard_signs a.guard
+
+abbrev pub AreActions : List Action → Type 0
+AreActions [] = Unit {0}
+AreActions (a ∷ actions) = IsDeed a.deed × IsGuard a.guard × AreActions actions
+
+-- NAME [ "[" NUMBER [ ".." NUMBER ] "]" ]
+abbrev pub keys_signs : WrittenKeys → List Sign
+keys_signs keys.Alone = []
+keys_signs (keys.One n) = Any (w.Mark m.OpenBracket) ∷ (number n ++ Any (w.Mark m.CloseBracket) ∷ [])
+keys_signs (keys.Range low high) = Any (w.Mark m.OpenBracket) ∷ (number low ++ Any (w.Mark m.Dots) ∷ (number high ++ Any (w.Mark m.CloseBracket) ∷ []))
+
+abbrev pub tag_signs : WrittenTag → List Sign
+tag_signs t = name t.kind ++ keys_signs t.keys
+
+-- ["keyed"]
+abbrev pub keyed_signs : Bool → List Sign
+keyed_signs true = Any (w.Reserved r.Keyed) ∷ []
+keyed_signs false = []
+
+-- ["same" | "all"]
+abbrev pub relation_signs : WrittenRelation → List Sign
+relation_signs relation.None = []
+relation_signs relation.All = Any (w.Reserved r.All) ∷ []
+relation_signs (relation.Same at) = At (w.Reserved r.Same) at ∷ []
+
+-- ["rate" NUMBER]
+abbrev pub rate_signs : Option WrittenNumber → List Sign
+rate_signs None = []
+rate_signs (Some n) = Any (w.Reserved r.Rate) ∷ number n
+
+-- "cell" NAME ["keyed"] ("sum" | "max" | "last") | "tag" NAME ["keyed"] ("int" | "none") | "depends" NAME NAME ["same" | "all"]
+--     | "on" NAME ":" action { ";" action } | "source" NAME TEXT ["rate" NUMBER] ":" tagref { "," tagref }
+abbrev pub declaration_signs : Declaration → List Sign
+declaration_signs (Cell n keyed s) = Any (w.Reserved r.Cell) ∷ (name n ++ keyed_signs keyed ++ Any (sort_word s) ∷ [])
+declaration_signs (Tag n keyed has_value) = Any (w.Reserved r.Tag) ∷ (name n ++ keyed_signs keyed ++ Any (value_word has_value) ∷ [])
+declaration_signs (Depends a b how) = Any (w.Reserved r.Depends) ∷ (name a ++ name b ++ relation_signs how)
+declaration_signs (On kind actions) = Any (w.Reserved r.On) ∷ (name kind ++ Any (w.Mark m.Colon) ∷ separated (w.Mark m.Semicolon) action_signs actions)
+declaration_signs (Source n file rate tags) =
+    Any (w.Reserved r.Source) ∷ (name n ++ text file ++ rate_signs rate ++ Any (w.Mark m.Colon) ∷ separated (w.Mark m.Comma) tag_signs tags)
+
+abbrev pub IsDeclaration : Declaration → Type 0
+IsDeclaration (Cell n keyed s) = Unit {0}
+IsDeclaration (Tag n keyed has_value) = Unit {0}
+IsDeclaration (Depends a b how) = Unit {0}
+IsDeclaration (On kind actions) = (actions ≢ []) × AreActions actions
+IsDeclaration (Source n file rate tags) = tags ≢ []
+
+-- { decl }
+abbrev pub job_signs : Job → List Sign
+job_signs job = flat_map declaration_signs job
+
+abbrev pub AreDeclarations : Job → Type 0
+AreDeclarations [] = Unit {0}
+AreDeclarations (d ∷ job) = IsDeclaration d × AreDeclarations job
+
+-- ---- the laws
+
+-- The tokens are this job: they are its signs, one by one, and it keeps the levels of operators and the limit on what is open.
+pub record IsJob (tokens : List Token) (job : Job) : Type 0 where
+  pub grammar : AreDeclarations job
+  pub spelled : AreSigns (job_signs job) tokens
+
+-- what is found is spelled by the tokens
+abbrev pub FoundIsSpelled : Type 0
+FoundIsSpelled = (end : ℕ) (tokens : List Token) (job : Job) → verdict end tokens ≡ Found job → AreSigns (job_signs job) tokens
+
+-- what the tokens are is found
+abbrev pub JobIsFound : Type 0
+JobIsFound = (end : ℕ) (tokens : List Token) (job : Job) → IsJob tokens job → verdict end tokens ≡ Found job
+
+-- no tokens are two jobs
+abbrev pub JobsAreUnique : Type 0
+JobsAreUnique = (tokens : List Token) (a b : Job) → IsJob tokens a → IsJob tokens b → a ≡ b
+
+-- these tokens may be continued to a job
+abbrev pub MayGoOn : ℕ → List Token → Type 0
+MayGoOn end front = (more : List Token) × (job : Job) × (verdict end (front ++ more) ≡ Found job)
+
+-- and these may not, whatever follows
+abbrev pub MayNotGoOn : ℕ → List Token → Type 0
+MayNotGoOn end front = (more : List Token) (job : Job) → verdict end (front ++ more) ≡ Found job → ⊥
+
+-- with the next token they may not go on, or no token is left and they are no job yet
+abbrev pub CannotTake : ℕ → List Token → List Token → Type 0
+CannotTake end front [] = (job : Job) → verdict end front ≡ Found job → ⊥
+CannotTake end front (t ∷ rest) = MayNotGoOn end (front ++ t ∷ [])
+
+-- The place is that of the first token with which the tokens may no longer go on, or the end where they may go on.
+pub record IsFirstThatCannotFollow (end : ℕ) (tokens : List Token) (place : ℕ) : Type 0 where
+  pub front : List Token
+  pub rest : List Token
+  pub whole : tokens ≡ front ++ rest
+  pub here : place ≡ place_of end rest
+  pub may : MayGoOn end front
+  pub cannot : CannotTake end front rest
+
+abbrev pub UnexpectedIsFirst : Type 0
+UnexpectedIsFirst = (end : ℕ) (tokens : List Token) (place : ℕ) → verdict end tokens ≡ Unexpected place → IsFirstThatCannotFollow end tokens place

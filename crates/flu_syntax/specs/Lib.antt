@@ -1,0 +1,4 @@
+pub mod Tree
+pub mod Machine
+pub mod Grammar
+pub mod Reading

@@ -1,0 +1,120 @@
+//! A job as it is written: declarations whose names and texts are spans of bytes of the job text.
+
+use flu_model::{List, Op, Sort};
+
+/// Bytes of the text, from one place to before another: a name, or a text with its quotes.
+#[derive(Clone, Copy, Debug, PartialEq, Eq)]
+pub struct WrittenSpan {
+    pub from: usize,
+    pub to: usize,
+}
+
+/// A number, and the place of its first digit.
+#[derive(Clone, Copy, Debug, PartialEq, Eq)]
+pub struct WrittenNumber {
+    pub value: i64,
+    pub at: usize,
+}
+
+/// What stands in brackets behind a family's name, if anything: `key`, by the place of that word, or a number.
+#[derive(Clone, Copy, Debug, PartialEq, Eq)]
+pub enum WrittenKey {
+    Alone,
+    OwnKey { at: usize },
+    Fixed(WrittenNumber),
+}
+
+/// A cell: a family's name and what stands in brackets.
+#[derive(Clone, Copy, Debug, PartialEq, Eq)]
+pub struct WrittenRef {
+    pub family: WrittenSpan,
+    pub key: WrittenKey,
+}
+
+/// An expression; `at` is the place of a word that stands alone. Parentheses are kept, so that a tree has one spelling.
+#[derive(Debug, Drop)]
+pub enum WrittenExpr {
+    Number(WrittenNumber),
+    Value { at: usize },
+    Key { at: usize },
+    Time { at: usize },
+    Read(WrittenRef),
+    Has { at: usize, cell: WrittenRef },
+    Paren { at: usize, inner: Box<WrittenExpr> },
+    Neg { at: usize, inner: Box<WrittenExpr> },
+    Not { at: usize, inner: Box<WrittenExpr> },
+    Two(Op, Box<WrittenExpr>, Box<WrittenExpr>),
+}
+
+/// What an action does.
+#[derive(Debug, Drop)]
+pub enum WrittenAct {
+    Add(WrittenRef, WrittenExpr),
+    Raise(WrittenRef, WrittenExpr),
+    Set(WrittenRef, WrittenExpr),
+    Clear(WrittenRef),
+    Emit(WrittenSpan),
+    Flush(WrittenSpan, WrittenSpan),
+}
+
+/// An action, with the place of its first token, and its guard.
+#[derive(Debug, Drop)]
+pub struct WrittenAction {
+    pub at: usize,
+    pub act: WrittenAct,
+    pub guard: Option<WrittenExpr>,
+}
+
+/// The keys that a tag reference lists.
+#[derive(Clone, Copy, Debug, PartialEq, Eq)]
+pub enum WrittenKeys {
+    Alone,
+    One(WrittenNumber),
+    Range(WrittenNumber, WrittenNumber),
+}
+
+/// Tags of one kind that a source lists.
+#[derive(Clone, Copy, Debug, PartialEq, Eq)]
+pub struct WrittenTag {
+    pub kind: WrittenSpan,
+    pub keys: WrittenKeys,
+}
+
+/// A declaration. The relation of a `depends` is `same` where that word stands, by its place; a written `all` means the
+/// same as none, so it is kept only as that word.
+#[derive(Debug, Drop)]
+pub enum WrittenDeclaration {
+    Cell {
+        name: WrittenSpan,
+        keyed: bool,
+        sort: Sort,
+    },
+    Tag {
+        name: WrittenSpan,
+        keyed: bool,
+        has_value: bool,
+    },
+    Depends {
+        a: WrittenSpan,
+        b: WrittenSpan,
+        relation: WrittenRelation,
+    },
+    On {
+        kind: WrittenSpan,
+        actions: List<WrittenAction>,
+    },
+    Source {
+        name: WrittenSpan,
+        file: WrittenSpan,
+        rate: Option<WrittenNumber>,
+        tags: List<WrittenTag>,
+    },
+}
+
+/// The relation of a `depends`, as it is written.
+#[derive(Clone, Copy, Debug, PartialEq, Eq)]
+pub enum WrittenRelation {
+    None,
+    All,
+    Same { at: usize },
+}

@@ -1,0 +1,4 @@
+pub mod Words
+pub mod Taking
+pub mod Done
+pub mod Answer
