@@ -107,7 +107,7 @@ impl Intake {
         if push_at(&mut self.lists, place as usize, Item::Event(event)).is_err() {
             return Err(Refusal::NoMemory);
         }
-        self.last = Some(time);
+        self.last = Some(event.time);
         self.held += 1;
         Ok(())
     }
