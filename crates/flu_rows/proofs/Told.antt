@@ -1,11 +1,14 @@
 -- One piece of reading after another, where the files tell what they have left and where they do not.
-use Rattle.std.proofs.Common.{◌≡◌, ◌≢◌, ◌⊎◌, inl, inr, ℕ, ◌≤◌, ◌+◌, ◌^◌, ◌-◌, min, List, [], ◌∷◌, ◌++◌, length, take, drop, Option, Some, None, refl, sym, ap, subst, ◌∙◌, append_assoc, arith}
+use Rattle.std.proofs.Common.{◌≡◌, ◌≢◌, ◌⊎◌, inl, inr, ℕ, ◌≤◌, ◌+◌, ◌^◌, ◌-◌, min, List, [], ◌∷◌, ◌++◌, length, take, drop, Bool, true, false, Option, Some, None, refl, sym, ap, subst, ◌∙◌, append_assoc, arith}
 use Rattle.std.specs.Prelude.{is_some, IsSome, IfSome, unwrap_or}
+use Rattle.std.specs.Str.{bytes_eq}
+use Rattle.std.proofs.lemmas.Bool.{false≢true}
 use Rattle.std.proofs.lemmas.List.{append-nil}
+use Rattle.std.proofs.lemmas.Slice.Eq.{bytes_eq-Decides}
 use Rattle.std.proofs.lemmas.Grind.{common_steps}
 use Rattle.flu_outside.specs.Outside.{Contents, Rose, Takes, WhereTold, SameLeft, IsThere, CountApart}
 use Rattle.flu_rows.specs.Filling.{KeepsBytes}
-use Rattle.flu_rows.specs.Taking.{bytes_left, TakesFrom, CountsOf, IsReadOut}
+use Rattle.flu_rows.specs.Taking.{bytes_left, TakesFrom, TookFronts, CountsOf, IsReadOut}
 
 -- ---- a fact of what is told before and after
 pub told_then : {A : Type 0} (P Q R : A → A → Type 0) (a b c : Option A) → ((x y z : A) → P x y → Q y z → R x z) → WhereTold a b P → WhereTold b c Q → WhereTold a c R
@@ -58,6 +61,37 @@ none_taken name a = told_same (TakesFrom name) a (λ x. takes_from-same name x x
 
 pub taken_then : (name : List ℕ) (a b c : Option Contents) → WhereTold a b (TakesFrom name) → WhereTold b c (TakesFrom name) → WhereTold a c (TakesFrom name)
 taken_then name a b c p q = told_then (TakesFrom name) (TakesFrom name) (TakesFrom name) a b c (takes_from-then name) p q
+
+-- ---- the front of each name
+was_there : (front rest : List ℕ) (o : Option (List ℕ)) → is_some o ≡ true → unwrap_or o [] ≡ front ++ rest → o ≡ Some (front ++ rest)
+was_there front rest None there is = cc
+was_there front rest (Some bytes) there is = ap Some is
+
+front_of_one : (name : List ℕ) (old new : Contents) → TakesFrom name old new → TookFronts old new
+front_of_one name old new t other rest left = by_test (bytes_eq other name) refl
+  where
+    by_test : (b : Bool) → bytes_eq other name ≡ b → (front : List ℕ) × (old other ≡ Some (front ++ rest))
+    by_test true e =
+        let same : other ≡ name = (bytes_eq-Decides other name).0 e in
+        let here : new name ≡ Some rest = ap new (sym same) ∙ left in
+        let was : unwrap_or (old name) [] ≡ t.front.0 ++ rest = t.front.1 ∙ ap (λ (o : Option (List ℕ)). t.front.0 ++ unwrap_or o []) here in
+        (t.front.0, ap old same ∙ was_there t.front.0 rest (old name) (sym t.there ∙ ap is_some here) was)
+    by_test false e = ([], sym (t.others other (λ same. false≢true (sym e ∙ (bytes_eq-Decides other name).1 same))) ∙ left)
+
+fronts_join : (x y z : Contents) → TookFronts x y → TookFronts y z → TookFronts x z
+fronts_join x y z f g name rest left =
+    let second = g name rest left in
+    let first = f name (second.0 ++ rest) second.1 in
+    (first.0 ++ second.0, first.1 ∙ ap Some (sym (append_assoc first.0 second.0 rest)))
+
+pub fronts_at : (name : List ℕ) (a b : Option Contents) → WhereTold a b (TakesFrom name) → WhereTold a b TookFronts
+fronts_at name a b t = told_weaker (TakesFrom name) TookFronts a b (front_of_one name) t
+
+pub no_fronts : (a : Option Contents) → WhereTold a a TookFronts
+no_fronts a = told_same TookFronts a (λ x name rest left. ([], left))
+
+pub fronts_then : (a b c : Option Contents) → WhereTold a b TookFronts → WhereTold b c TookFronts → WhereTold a c TookFronts
+fronts_then a b c p q = told_then TookFronts TookFronts TookFronts a b c fronts_join p q
 
 -- ---- the bytes that are held
 keeps-take : (name held : List ℕ) (n : ℕ) (buf : List ℕ) (old new : Contents) → Takes old new name n buf → KeepsBytes name held (held ++ take n buf) old new

@@ -12,6 +12,10 @@ pub record TakesFrom (name : List ℕ) (old new : Contents) : Type 0 where
   pub there : is_some (new name) ≡ is_some (old name)
   pub others : (other : List ℕ) → other ≢ name → new other ≡ old other
 
+-- of each name some bytes went from the front, if any
+abbrev pub TookFronts : Contents → Contents → Type 0
+TookFronts old new = (name rest : List ℕ) → new name ≡ Some rest → (front : List ℕ) × (old name ≡ Some (front ++ rest))
+
 -- no count falls, and none changes that is apart from the count of one name
 pub record CountsOf (left : Option Contents) (name : List ℕ) (old new : List ℕ → ℕ) : Type 0 where
   pub rise : (n : List ℕ) → old n ≤ new n

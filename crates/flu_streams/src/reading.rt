@@ -4,7 +4,7 @@ ghost use Rattle.std.specs.Prelude.{◌≡◌, ◌≤◌, ◌<◌, ◌+◌, ◌^
 ghost use Rattle.flu_model.specs.Itags.{count_of_itags};
 ghost use Rattle.flu_model.specs.Listed.{listed};
 ghost use Rattle.flu_outside.specs.Outside.{WhereTold, Rose};
-ghost use Rattle.flu_rows.specs.Taking.{TakesFrom, CountsOf, IsReadOut};
+ghost use Rattle.flu_rows.specs.Taking.{TakesFrom, TookFronts, CountsOf, IsReadOut};
 ghost use Rattle.flu_streams.specs.Files.{files_of, LeavesOthers, CountsOfNames, OneRose, AreReadOut};
 ghost use Rattle.flu_streams.specs.Gathering.{AddsSource, IsFaultOf, IsFirstFault, fault_of_stop};
 ghost use Rattle.flu_streams.specs.Good.{AreGood, lists_of};
@@ -30,7 +30,8 @@ pub fn gather<F: Files>(alloc: Global, p: &Program, files: &mut F) -> Result<Str
 
     ensures fault { IfErr result (IsFirstFault p.now (F.left files.old) (F.left files.new)) }
 
-    // It takes bytes of the sources' files alone, and a read fault has its cause there.
+    // It takes bytes from the front of the sources' files alone, and a read fault has its cause there.
+    ensures fronts { WhereTold (F.left files.old) (F.left files.new) TookFronts }
     ensures others { WhereTold (F.left files.old) (F.left files.new) (LeavesOthers (files_of p.now.sources)) }
     ensures counts { CountsOfNames (F.left files.old) (files_of p.now.sources) (F.faults files.old) (F.faults files.new) }
     ensures cause { IsErrOf result GatherFault.ReadFault → OneRose (files_of p.now.sources) (F.faults files.old) (F.faults files.new) }

@@ -5,7 +5,7 @@ use Rattle.std.proofs.lemmas.List.Sums.{sum_by-append}
 use Rattle.flu_model.specs.declared.jobs.Source.{Source}
 use Rattle.flu_model.specs.Listed.{listed}
 use Rattle.flu_outside.specs.Outside.{WhereTold}
-use Rattle.flu_rows.proofs.Told.{told_weaker, rose_behind}
+use Rattle.flu_rows.proofs.Told.{told_weaker, rose_behind, fronts_at, fronts_then}
 use Rattle.flu_streams.specs.declared.faults.GatherFault.TheVariants.{ReadFault}
 use Rattle.flu_streams.specs.Files.{files_of, LeavesOthers, CountsOfNames, AreReadOut}
 use Rattle.flu_streams.specs.Gathering.{IsGathered, IsFirstFault, lists_of_sources}
@@ -35,6 +35,12 @@ returns-in-Err-clause-fault g c =
     let t = turn p c.items-source-items.result.now i s c.items-source-items.ensures c.loop-source-test.true c.source-item.is in
     gathered_fault p (take i p.sources) (drop (i + 1) p.sources) s c.loop-source.gathered c.loop-source.gathered.number c.in-Err.fault (left c.args.files.now) (left c.loop-source.files) (left c.add_source.new.files)
     t.split (c.loop-source.invariant.number ∙ t.size) t.apart c.loop-source.invariant.told (rw c.items.ensures at c.in-Err.ensures.fault)
+
+pub returns-in-Err-clause-fronts : goal.returns-in-Err-clause-fronts
+returns-in-Err-clause-fronts g c =
+    let left = g.F.Files.left in
+    fronts_then (left c.args.files.now) (left c.loop-source.files) (left c.add_source.new.files) c.loop-source.invariant.fronts
+    (fronts_at c.source-item.result.file (left c.loop-source.files) (left c.add_source.new.files) c.in-Err.ensures.taken)
 
 pub returns-in-Err-clause-others : goal.returns-in-Err-clause-others
 returns-in-Err-clause-others g c =
@@ -88,6 +94,7 @@ loop-source-preserved g c =
       len = omega (arith, adds.len, one, c.loop-source.invariant.len);
       streams = streams_more p.kinds s (left mid) (left new) c.loop-source.gathered c.add_source.new.gathered adds c.loop-source.invariant.streams;
       told = rw t.more (gathered_more p.kinds earlier s c.loop-source.gathered c.add_source.new.gathered (left old) (left mid) (left new) c.loop-source.invariant.told adds taken c.loop-source.invariant.len t.apart);
+      fronts = fronts_then (left old) (left mid) (left new) c.loop-source.invariant.fronts (fronts_at s.file (left mid) (left new) taken);
       out = rw names (out_more (files_of earlier) s.file (left mid) (left new) taken t.apart c.loop-source.invariant.out c.in_default.ensures.read_out);
       counts = rw names (counts_more (left old) (left mid) (files_of earlier) s.file (faults old) (faults mid) (faults new) c.loop-source.invariant.there c.loop-source.invariant.counts c.in_default.ensures.counts);
       there = there_more s.file (left old) (left mid) (left new) taken c.loop-source.invariant.there;
