@@ -2,6 +2,7 @@
 
 ghost use Rattle.flu_deps.specs.Checking.{program_of};
 ghost use Rattle.flu_laws.specs.Consistency.{UpdatesLeft, UpdatesRight, JoinsSplits, Commutes};
+ghost use Rattle.flu_laws.specs.Lawful.{IsLawful};
 
 use crate::Checked;
 
@@ -26,4 +27,11 @@ pub fn join_undoes_split(_checked: &Checked)
     ensures { JoinsSplits }
 {
     flu_laws::join_undoes_split();
+}
+
+/// The job has all that the worker tree asks of a job.
+pub fn lawful(checked: &Checked)
+    ensures { IsLawful (program_of checked.now) }
+{
+    flu_laws::accepted_is_lawful();
 }

@@ -25,12 +25,6 @@ same_cell-is c d e =
     let k : c.key ≡ d.key = grind (arith, common_steps) in
     λ i. record { family = f i; key = k i }
 
-same_number : (n : ℕ) → (n == n) ≡ true
-same_number n = grind (arith, common_steps)
-
-same_cell-refl : (c : Cell) → is_same_cell c c ≡ true
-same_cell-refl c = grind (arith, common_steps)
-
 -- whether c is among some cells
 abbrev pub names : Cell → List Cell → Bool
 names c cs = list_any (λ d. is_same_cell d c) cs
