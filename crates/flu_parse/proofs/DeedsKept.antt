@@ -15,6 +15,7 @@ use Rattle.flu_syntax.specs.declared.tokens.Verb.TheVariants as verb
 use Rattle.flu_syntax.specs.Tree.{Tree, Writes, Clears, Emits, Flushes}
 use Rattle.flu_syntax.specs.Tree.{Deed as WrittenDeed, Action as WrittenDo}
 use Rattle.flu_syntax.specs.Words.{Stands, deed_words, guard_words, action_words}
+use Rattle.flu_syntax.proofs.General.{all_front}
 use Rattle.flu_parse.specs.declared.faults.JobFault.TheVariants as f
 use Rattle.flu_parse.specs.declared.names.KindHead.{KindHead}
 use Rattle.flu_parse.specs.Spelling.{name_of}
@@ -23,7 +24,7 @@ use Rattle.flu_parse.specs.Cells.{cell_of}
 use Rattle.flu_parse.specs.Terms.{expression_of}
 use Rattle.flu_parse.specs.Templates.{template_of}
 use Rattle.flu_parse.specs.Deeds.{sort_for, written, deed_of, guard_of, action_of, with_action, actions_of}
-use Rattle.flu_parse.proofs.General.{one_more_passes, holds_front}
+use Rattle.flu_parse.proofs.General.{one_more_passes}
 use Rattle.flu_parse.proofs.Looks.{bound, passed, had_room, each-keeps}
 use Rattle.flu_parse.proofs.WordsKept.{AreRead, text_stands}
 use Rattle.flu_parse.proofs.PlainRules.{is_good_term, deed_fits, plain_guard_fits, plain_action_fits}
@@ -82,7 +83,7 @@ module _ (bytes : List ℕ) (ts : List Token) (read : AreRead bytes ts) (n : Nam
       let two = bound (guard_of bytes n under a.guard) (λ guard. Ok (record { deed = one.0; guard = guard })) action one.2 in
       let same : record { deed = one.0; guard = two.0 } ≡ action = cc in
       ap (plain_action_fits families under.keyed under.has_value) (sym same)
-      ∙ both (deed_fits families under.keyed under.has_value one.0) (plain_guard_fits families under.keyed under.has_value two.0) (deed_kept a.deed one.0 (holds_front (Stands ts) (deed_words a.deed) (guard_words a.guard) words) one.1) (guard_kept a.guard two.0 two.1)
+      ∙ both (deed_fits families under.keyed under.has_value one.0) (plain_guard_fits families under.keyed under.has_value two.0) (deed_kept a.deed one.0 (all_front (Stands ts) (deed_words a.deed) (guard_words a.guard) words) one.1) (guard_kept a.guard two.0 two.1)
 
   abbrev ActionsKeep : List PlainAction → Type 0
   ActionsKeep done = (length done ≤ 32) × (list_all (plain_action_fits families under.keyed under.has_value) done ≡ true)

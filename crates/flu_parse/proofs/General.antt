@@ -5,6 +5,7 @@ use Rattle.std.specs.List.{list_all, list_any, flat_map, AllByRecursion}
 use Rattle.std.proofs.lemmas.List.Folds.{list_all-append, list_any-append}
 use Rattle.flu_lemmas.proofs.Tests.{and_left, and_right, both, not_true}
 use Rattle.flu_model.specs.Rules.{are_distinct}
+use Rattle.flu_syntax.proofs.General.{all_front, all_back}
 
 pub or_left : (a b : Bool) → (a || b) ≡ false → a ≡ false
 or_left true b e = cc
@@ -17,14 +18,6 @@ or_right false b e = e
 neither : (a b : Bool) → a ≡ false → b ≡ false → (a || b) ≡ false
 neither a b e f = ap (λ x. x || b) e ∙ f
 
-pub map-map : {A B C : Type 0} (f : A → B) (g : B → C) (xs : List A) → map g (map f xs) ≡ map (λ x. g (f x)) xs
-map-map f g [] = refl
-map-map f g (x ∷ xs) = ap (λ ys. g (f x) ∷ ys) (map-map f g xs)
-
-pub map-append : {A B : Type 0} (f : A → B) (xs ys : List A) → map f (xs ++ ys) ≡ map f xs ++ map f ys
-map-append f [] ys = refl
-map-append f (x ∷ xs) ys = ap (λ zs. f x ∷ zs) (map-append f xs ys)
-
 -- ---- what passes
 -- a test that follows for each element
 pub passes_too : {X : Type 0} (p q : X → Bool) → ((x : X) → p x ≡ true → q x ≡ true) → (xs : List X) → list_all p xs ≡ true → list_all q xs ≡ true
@@ -34,10 +27,6 @@ passes_too p q f (x ∷ xs) e = both (q x) (list_all q xs) (f x (and_left (p x) 
 -- one element more at the end
 pub one_more_passes : {X : Type 0} (p : X → Bool) (xs : List X) (x : X) → list_all p xs ≡ true → p x ≡ true → list_all p (xs ++ x ∷ []) ≡ true
 one_more_passes p xs x all passes = list_all-append p xs (x ∷ []) ∙ both (list_all p xs) (p x && true) all (ap (λ b. b && true) passes)
-
-pub list_all-map : {X Y : Type 0} (p : Y → Bool) (f : X → Y) (xs : List X) → list_all p (map f xs) ≡ list_all (λ x. p (f x)) xs
-list_all-map p f [] = refl
-list_all-map p f (x ∷ xs) = ap (λ b. p (f x) && b) (list_all-map p f xs)
 
 -- the same test
 pub list_all_same : {X : Type 0} (p q : X → Bool) → ((x : X) → p x ≡ q x) → (xs : List X) → list_all p xs ≡ list_all q xs
@@ -52,18 +41,10 @@ passes_at p (y ∷ ys) (suc i) x all e = passes_at p ys i x (and_right (p y) (li
 
 -- ---- what holds
 module _ {Y : Type 0} (P : Y → Type 0) where
-  pub holds_front : (a b : List Y) → AllByRecursion P (a ++ b) → AllByRecursion P a
-  holds_front [] b all = tt
-  holds_front (s ∷ a) b all = (all.0, holds_front a b all.1)
-
-  pub holds_back : (a b : List Y) → AllByRecursion P (a ++ b) → AllByRecursion P b
-  holds_back [] b all = all
-  holds_back (s ∷ a) b all = holds_back a b all.1
-
   -- what holds of all that a list is made of holds of what each element gives
   pub holds_of_each : {X : Type 0} (f : X → List Y) (xs : List X) → AllByRecursion P (flat_map f xs) → AllByRecursion (λ x. AllByRecursion P (f x)) xs
   holds_of_each f [] all = tt
-  holds_of_each f (x ∷ xs) all = (holds_front (f x) (flat_map f xs) all, holds_of_each f xs (holds_back (f x) (flat_map f xs) all))
+  holds_of_each f (x ∷ xs) all = (all_front P (f x) (flat_map f xs) all, holds_of_each f xs (all_back P (f x) (flat_map f xs) all))
 
   pub holds_of_any : ((y : Y) → P y) → (ys : List Y) → AllByRecursion P ys
   holds_of_any f [] = tt

@@ -6,8 +6,9 @@ use Rattle.std.specs.Str.{IsUtf8, is_utf8}
 use Rattle.std.specs.Str.Lossy.{utf8_valid_len}
 use Rattle.std.proofs.lemmas.Cmp.{nat_list_eq_equiv}
 use Rattle.std.proofs.lemmas.Str.{IsUtf8-from_is_utf8}
-use Rattle.std.proofs.lemmas.List.{length-append, length-map, append-nil}
-use Rattle.std.proofs.lemmas.List.Folds.{list_all-append}
+use Rattle.std.proofs.lemmas.List.{length-append, length-map, append-nil, map-append}
+use Rattle.std.proofs.lemmas.List.Folds.{list_all-append, list_all-map}
+use Rattle.std.proofs.lemmas.Simd.{map-map}
 use Rattle.std.proofs.lemmas.Option.{slice_get_within, slice_get-map}
 use Rattle.flu_lemmas.specs.Totals.{total}
 use Rattle.flu_lemmas.proofs.Tests.{and_left, and_right, both, le_true, lt_true}
@@ -43,7 +44,7 @@ use Rattle.flu_parse.specs.Listings.{Listed, tags_of, rate_of, file_of}
 use Rattle.flu_parse.specs.Resolving.{Drafted, same_of, with_depend, with_actions, with_on, with_source, with_declaration, family, idle_kind, first_draft, draft_of, resolved}
 use Rattle.flu_parse.specs.Reading.{text_in, found_tokens, tokens_in, found_job, written_in, job_in}
 use Rattle.flu_parse.specs.Laws.{JobsKeepRules}
-use Rattle.flu_parse.proofs.General.{map-map, map-append, list_all-map, one_more_passes, distinct_with, holds_of_each}
+use Rattle.flu_parse.proofs.General.{one_more_passes, distinct_with, holds_of_each}
 use Rattle.flu_parse.proofs.Looks.{bound, passed, each-keeps, each-counts, each-lists}
 use Rattle.flu_parse.proofs.WordsKept.{AreRead, name_stands, text_stands}
 use Rattle.flu_parse.proofs.PlainRules.{plain_action_fits, plain_kind_fits, kinds-plain, keyed_at, ties_kinds, is_source, keyed_kinds, depends-plain, sources-plain}
@@ -294,11 +295,11 @@ module _ (text : List ℕ) (n : Naming) where
         → KeepsRules (map family n.families) kinds d.depends d.sources
     rules_kept ds d kinds named well e same =
         let kept = draft_kept ds d well e in
-        let heads : map (λ (k : Kind). head (plain_kind k)) kinds ≡ map declared_head n.kinds = sym (map-map plain_kind head kinds) ∙ ap (map head) same ∙ kept.heads in
+        let heads : map (λ (k : Kind). head (plain_kind k)) kinds ≡ map declared_head n.kinds = sym (map-map head plain_kind kinds) ∙ ap (map head) same ∙ kept.heads in
         let many = ap length heads in
-        let keyed : keyed_kinds kinds ≡ declared_kinds = sym (map-map (λ (k : Kind). head (plain_kind k)) (λ (h : Head). h.1) kinds) ∙ ap (map (λ (h : Head). h.1)) heads ∙ map-map declared_head (λ (h : Head). h.1) n.kinds in
-        let kind_names_are : map (λ (k : Kind). k.name) kinds ≡ names_in n.kinds = sym (map-map (λ (k : Kind). head (plain_kind k)) (λ (h : Head). h.0) kinds) ∙ ap (map (λ (h : Head). h.0)) heads ∙ map-map declared_head (λ (h : Head). h.0) n.kinds in
-        let family_names_are : map (λ (f : Family). f.name) (map family n.families) ≡ names_in n.families = map-map family (λ (f : Family). f.name) n.families in
+        let keyed : keyed_kinds kinds ≡ declared_kinds = sym (map-map (λ (h : Head). h.1) (λ (k : Kind). head (plain_kind k)) kinds) ∙ ap (map (λ (h : Head). h.1)) heads ∙ map-map (λ (h : Head). h.1) declared_head n.kinds in
+        let kind_names_are : map (λ (k : Kind). k.name) kinds ≡ names_in n.kinds = sym (map-map (λ (h : Head). h.0) (λ (k : Kind). head (plain_kind k)) kinds) ∙ ap (map (λ (h : Head). h.0)) heads ∙ map-map (λ (h : Head). h.0) declared_head n.kinds in
+        let family_names_are : map (λ (f : Family). f.name) (map family n.families) ≡ names_in n.families = map-map (λ (f : Family). f.name) family n.families in
         let depends_count : length d.depends ≡ 0 + total (depends_in text) ds = each-counts (with_declaration text n) (λ (x : Drafted). length x.depends) (depends_in text) counted (first_draft n) ds d e in
         let names_count = naming_counts text ds n named in
         let source_names_are : source_names d.sources ≡ n.sources = each-lists (with_declaration text n) (λ (x : Drafted). source_names x.sources) (sources_in text) listed (first_draft n) ds d e ∙ sym (naming_lists text ds n named) in

@@ -4,7 +4,7 @@ use Rattle.std.specs.Prelude.{◌||◌, not, slice_get, if◌then◌else◌}
 use Rattle.std.specs.List.{list_any, list_all, flat_map, AllByRecursion}
 use Rattle.std.specs.Str.{bytes_eq}
 use Rattle.std.proofs.lemmas.Cmp.{nat_list_eq_equiv}
-use Rattle.std.proofs.lemmas.List.{length-append, append-nil}
+use Rattle.std.proofs.lemmas.List.{length-append, append-nil, map-append}
 use Rattle.std.proofs.lemmas.List.Folds.{list_any-append}
 use Rattle.flu_lemmas.specs.Totals.{total}
 use Rattle.flu_lemmas.proofs.Tests.{and_left, and_right, both, not_true}
@@ -22,7 +22,7 @@ use Rattle.flu_parse.specs.declared.names.KindHead.{KindHead}
 use Rattle.flu_parse.specs.Faults.{◌>>◌, room}
 use Rattle.flu_parse.specs.Spelling.{name_of}
 use Rattle.flu_parse.specs.Naming.{Naming, look_up, is_declared, fresh_name, with_family, with_kind, with_source, declare, no_names, naming_of}
-use Rattle.flu_parse.proofs.General.{distinct_with, map-append}
+use Rattle.flu_parse.proofs.General.{distinct_with}
 use Rattle.flu_parse.proofs.NamingLemmas.{undeclared}
 use Rattle.flu_parse.proofs.Looks.{bound, passed, had_room, each-keeps, each-counts, each-lists}
 use Rattle.flu_parse.proofs.WordsKept.{AreRead, name_stands}

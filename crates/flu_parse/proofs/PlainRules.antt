@@ -3,6 +3,7 @@ use Rattle.std.proofs.Common.{◌≡◌, ℕ, ◌+◌, Bool, true, false, List, 
 use Rattle.std.specs.Prelude.{◌&&◌, ◌||◌, not, nat_lt, nat_le, max, slice_get, option_map}
 use Rattle.std.specs.List.{list_all}
 use Rattle.std.proofs.lemmas.List.{length-map}
+use Rattle.std.proofs.lemmas.List.Folds.{list_all-map}
 use Rattle.std.proofs.lemmas.Option.{slice_get-map}
 use Rattle.flu_model.specs.declared.jobs.Family.{Family}
 use Rattle.flu_model.specs.declared.jobs.Expr.{Expr}
@@ -19,7 +20,7 @@ use Rattle.flu_model.specs.declared.jobs.Sort.TheVariants.{Sum, Max, Last}
 use Rattle.flu_model.specs.Rules.{ref_fits, ref_has_sort, expr_fits, height, is_good_expr, emit_template_fits, flush_template_fits, is_keyed, act_fits, guard_fits, action_fits, kind_fits, is_name, kind_is_keyed, depend_fits, keys_fit, listed_kind_fits, tag_ref_fits, is_file_text, is_same_tag, are_distinct, source_fits}
 use Rattle.flu_model.specs.Listing.{tags_of_source}
 use Rattle.flu_model.specs.Erasure.{Term, Literal, EventValue, EventKey, EventTime, CellRead, CellHeld, Negative, Negation, Operation, Deed, Adding, Raising, Setting, Clearing, Emitting, Flushing, PlainAction, PlainKind, term_of, deed_of, plain_action, plain_kind}
-use Rattle.flu_parse.proofs.General.{list_all-map, list_all_same}
+use Rattle.flu_parse.proofs.General.{list_all_same}
 
 module _ (families : List Family) (keyed has_value : Bool) where
   abbrev pub term_fits : Term → Bool

@@ -3,7 +3,7 @@ use Rattle.std.proofs.Common.{◌≡◌, ℕ, ◌+◌, ◌-◌, ◌<◌, ◌≤�
 use Rattle.std.specs.Prelude.{◌&&◌, ◌==◌, not, nat_lt, if◌then◌else◌, option_map, position, codes, slice_range}
 use Rattle.std.specs.List.{list_all, AllByRecursion}
 use Rattle.std.specs.Str.{IsUtf8, IsCharBoundary, bytes_eq}
-use Rattle.std.proofs.lemmas.List.{drop-drop, length-take, length-drop, append-nil}
+use Rattle.std.proofs.lemmas.List.{drop-drop, length-take, length-drop, append-nil, map-append}
 use Rattle.std.proofs.lemmas.List.Folds.{drop_split}
 use Rattle.std.proofs.lemmas.Str.{IsCharBoundary-before_ascii, IsCharBoundary-after_ascii}
 use Rattle.flu_lemmas.proofs.Tests.{and_left, and_right, both, lt_true, true_lt, true_eq}
@@ -27,7 +27,7 @@ use Rattle.flu_parse.specs.Spelling.{spelled, name_of, inside}
 use Rattle.flu_parse.specs.Naming.{Naming, look_up, known}
 use Rattle.flu_parse.specs.Cells.{brackets_fit, at_of}
 use Rattle.flu_parse.specs.Templates.{open_brace, close_brace, is_open_bracket, span, key_at, ref_with, ref_at, field_at, Scan, with_plain, with_field, scan_byte, continued, end_of_scan, scan, scan_start, template_at, known_names, own_key_fits, read_fits, piece_fits, piece_of, pieces_of, template_of}
-use Rattle.flu_parse.proofs.General.{map-append, one_more_passes}
+use Rattle.flu_parse.proofs.General.{one_more_passes}
 use Rattle.flu_parse.proofs.FaultLemmas.{collect}
 use Rattle.flu_parse.proofs.Looks.{bound, behind, passed}
 use Rattle.flu_parse.proofs.WordsKept.{spelled_between, inside_bytes, inside_is_text}
