@@ -10,6 +10,9 @@ mod listings;
 mod names;
 mod naming;
 mod pieces;
+mod printing;
+mod printing_actions;
+mod printing_terms;
 mod reading;
 mod resolving;
 mod scanning;
@@ -19,8 +22,11 @@ mod terms;
 
 pub use drafts::JobParts;
 pub use faults::JobFault;
+pub use printing::print_job;
 pub use reading::read_job;
 pub use resolving::resolve;
 
+#[cfg(test)]
+mod printing_tests;
 #[cfg(test)]
 mod tests;
