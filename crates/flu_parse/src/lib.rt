@@ -12,6 +12,7 @@ mod naming;
 mod pieces;
 mod printing;
 mod printing_actions;
+mod printing_laws;
 mod printing_terms;
 mod reading;
 mod resolving;
@@ -23,6 +24,7 @@ mod terms;
 pub use drafts::JobParts;
 pub use faults::JobFault;
 pub use printing::print_job;
+pub use printing_laws::printed_is_read;
 pub use reading::read_job;
 pub use resolving::resolve;
 

@@ -1,12 +1,14 @@
 //! The normal form of a job text.
 
-ghost use Rattle.std.specs.Prelude.{◌≡◌, ◌++◌, OnOk, IfOk, map, slice_get, codes};
+ghost use Rattle.std.specs.Prelude.{◌≡◌, ◌≤◌, ◌++◌, length, OnOk, IfOk, IsTrue, map, slice_get, codes};
 ghost use Rattle.std.specs.List.{flat_map};
 ghost use Rattle.std.specs.String.{string_bytes};
 ghost use Rattle.flu_model.specs.Erasure.{job_of, plain_kind};
-ghost use Rattle.flu_parse.specs.Printing.{sort_text, keyed_text, cell_line, value_text, tag_line, kind_name, same_text, depends_line, on_line, keys_text, tag_text, separated, source_head, source_line, normal_form};
+ghost use Rattle.flu_parse.specs.Printing.{sort_text, keyed_text, cell_line, value_text, tag_line, kind_name, same_text, depends_line, on_line, keys_text, tag_text, separated, source_head, source_line, normal_form, has_text};
+ghost use Rattle.flu_parse.specs.Reading.{job_in};
 
 use crate::printing_actions::add_actions;
+use crate::printing_laws::printed_is_read;
 use flu_model::{Depend, Family, Keys, Kind, Program, Sort, Source, TagRef, Text};
 use std::alloc::{AllocError, Global};
 
@@ -162,15 +164,8 @@ fn add_sources(text: &mut String, kinds: &[Kind], sources: &[Source]) -> Result<
     Ok(())
 }
 
-/// A job as a text, in normal form (`docs/LANGUAGE.md`): cells, tags, `depends`, the actions of the kinds that have some, and
-/// sources, each on a line of its own with one blank between words. Each operator stands in parentheses of its own, numbers
-/// have no needless zeros, and the rate always stands there.
-///
-/// # Errors
-///
-/// Only where memory is wanting.
-pub fn print_job(alloc: Global, p: &Program) -> Result<Text, AllocError>
-    ensures text { IfOk result (λ text. text ≡ normal_form (job_of p.now)) }
+fn printed(alloc: Global, p: &Program) -> Result<String, AllocError>
+    ensures { IfOk result (λ text. string_bytes text ≡ normal_form (job_of p.now)) }
 {
     let families = p.families.items();
     let kinds = p.kinds.items();
@@ -180,5 +175,24 @@ pub fn print_job(alloc: Global, p: &Program) -> Result<Text, AllocError>
     add_depends(&mut text, kinds, p.depends.items())?;
     add_ons(&mut text, families, kinds)?;
     add_sources(&mut text, kinds, p.sources.items())?;
+    Ok(text)
+}
+
+/// A job as a text, in normal form (`docs/LANGUAGE.md`): cells, tags, `depends`, the actions of the kinds that have some, and
+/// sources, each on a line of its own with one blank between words. Each operator stands in parentheses of its own, numbers
+/// have no needless zeros, and the rate always stands there.
+///
+/// The text is read as this job again, where its literals are not negative, the texts of its templates have at most 256 bytes,
+/// and the whole text has at most 1,048,576 bytes.
+///
+/// # Errors
+///
+/// Only where memory is wanting.
+pub fn print_job(alloc: Global, p: &Program) -> Result<Text, AllocError>
+    ensures text { IfOk result (λ text. text ≡ normal_form (job_of p.now)) }
+    ensures read_again { IfOk result (λ text. IsTrue (has_text (job_of p.now)) → length text ≤ 1048576 → job_in text ≡ Ok (job_of p.now)) }
+{
+    printed_is_read();
+    let text = printed(alloc, p)?;
     Ok(Text::of(text))
 }
