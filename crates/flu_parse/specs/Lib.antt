@@ -10,3 +10,5 @@ pub mod Listings
 pub mod Resolving
 pub mod Reading
 pub mod Laws
+pub mod Printing
+pub mod PrintingLaws

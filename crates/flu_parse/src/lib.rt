@@ -11,6 +11,10 @@ mod listings;
 mod names;
 mod naming;
 mod pieces;
+mod printing;
+mod printing_actions;
+mod printing_laws;
+mod printing_terms;
 mod reading;
 mod resolving;
 mod scanning;
@@ -19,7 +23,11 @@ mod templates;
 mod terms;
 
 pub use faults::JobFault;
+pub use printing::print_job;
+pub use printing_laws::printed_is_read;
 pub use reading::read_job;
 
+#[cfg(test)]
+mod printing_tests;
 #[cfg(test)]
 mod tests;

@@ -1,0 +1,137 @@
+use crate::{print_job, read_job};
+use flu_model::Program;
+use flu_rules::program;
+use std::alloc::Global;
+use std::process::Abort;
+use std::test::Fail;
+
+// The job of a text.
+fn job(rt: &impl Abort, alloc: Global, text: &str) -> Result<Program, Fail> {
+    let parts = read_job(alloc, text.as_bytes())?;
+    let job = program(parts.families, parts.kinds, parts.depends, parts.sources);
+    Ok(job.expect(rt, "a job that is read keeps the rules"))
+}
+
+// The job of a text prints as another text, and the job of that one too.
+fn expect_printed(rt: &impl Abort, alloc: Global, text: &str, expected: &str) -> Result<(), Fail> {
+    let printed = print_job(alloc, &job(rt, alloc, text)?)?;
+    assert_eq!(rt; printed.as_str(), expected, "{text}");
+    let again = print_job(alloc, &job(rt, alloc, printed.as_str())?)?;
+    assert_eq!(rt; again.as_str(), expected);
+    Ok(())
+}
+
+const JOB_J: &str = "cell count sum
+tag inc int
+tag read none
+depends inc read
+depends read read
+on inc: add count value
+on read: emit \"count {count}\"; clear count
+source a \"a.csv\" rate 1000: inc
+source b \"b.csv\" rate 1000: inc
+source c \"c.csv\" rate 1: read
+";
+
+const JOB_K: &str = "cell views keyed sum
+cell zip keyed last
+tag view keyed int
+tag update keyed int
+tag tick none
+depends update update same
+depends view tick
+depends tick tick
+on view: add views[key] value
+on update: emit \"was {zip[key]}\"; set zip[key] value
+on tick: flush views \"page {key} views {cell}\"
+source web \"web.csv\" rate 1000: view[0..9]
+source app \"app.csv\" rate 500: view[0..9], update[0..9]
+source clock \"clock.csv\" rate 1: tick
+";
+
+#[test]
+fn jobs_in_normal_form(rt: HostRuntime) -> Result<(), Fail> {
+    expect_printed(&rt, rt.alloc(), "", "")?;
+    expect_printed(&rt, rt.alloc(), JOB_J, JOB_J)?;
+    expect_printed(&rt, rt.alloc(), JOB_K, JOB_K)?;
+    Ok(())
+}
+
+#[test]
+fn a_guard_gets_parentheses(rt: HostRuntime) -> Result<(), Fail> {
+    let text = "cell hi max
+cell seen last
+tag t int
+depends t t
+on t: raise hi value when value > 2; set seen value; emit \"hi {hi} seen {seen}\"
+source s \"s.csv\" rate 1: t
+";
+    let expected = "cell hi max
+cell seen last
+tag t int
+depends t t
+on t: raise hi value when (value > 2); set seen value; emit \"hi {hi} seen {seen}\"
+source s \"s.csv\" rate 1: t
+";
+    expect_printed(&rt, rt.alloc(), text, expected)?;
+    Ok(())
+}
+
+#[test]
+fn lines_are_put_in_order(rt: HostRuntime) -> Result<(), Fail> {
+    let text = "# a comment
+source s \"a b.csv\": t [ 07 ] , u,t[8..010]
+on u:clear a;emit\"\"when 0
+on t :clear k [key]
+depends t u all depends u t   depends t t same
+tag t keyed int tag u none
+tag idle none
+cell a sum cell k keyed last";
+    let expected = "cell a sum
+cell k keyed last
+tag t keyed int
+tag u none
+tag idle none
+depends t u
+depends u t
+depends t t same
+on t: clear k[key]
+on u: clear a; emit \"\" when 0
+source s \"a b.csv\" rate 1: t[7], u, t[8..10]
+";
+    expect_printed(&rt, rt.alloc(), text, expected)?;
+    Ok(())
+}
+
+#[test]
+fn expressions_in_parentheses(rt: HostRuntime) -> Result<(), Fail> {
+    let text = "cell a sum cell m max cell k keyed last tag t keyed int
+on t: add a 1+2-3*4 when not not value<2 and value<=3 or key>4;
+raise m - - value when (time>=05) == has k[007];
+set k[key] not (m != -9223372036854775807 - 1) or (((k[key])))";
+    let expected = "cell a sum
+cell m max
+cell k keyed last
+tag t keyed int
+on t: add a ((1 + 2) - (3 * 4)) when (((not (not (value < 2))) and (value <= 3)) or (key > 4)); \
+raise m (- (- value)) when ((time >= 5) == has k[7]); \
+set k[key] ((not (m != ((- 9223372036854775807) - 1))) or k[key])
+";
+    expect_printed(&rt, rt.alloc(), text, expected)?;
+    Ok(())
+}
+
+#[test]
+fn fields_of_texts(rt: HostRuntime) -> Result<(), Fail> {
+    let text = "cell a sum cell k keyed last tag t keyed int
+on t: emit \"{value} {key}{time} 007 {a}, {k[key]} [{k[007]}] {k[0]} \u{e9}#\";
+flush k \" {key}: {cell} 01 {time}{value}\"";
+    let expected = "cell a sum
+cell k keyed last
+tag t keyed int
+on t: emit \"{value} {key}{time} 007 {a}, {k[key]} [{k[7]}] {k[0]} \u{e9}#\"; \
+flush k \" {key}: {cell} 01 {time}{value}\"
+";
+    expect_printed(&rt, rt.alloc(), text, expected)?;
+    Ok(())
+}
