@@ -23,3 +23,5 @@ pub use reading::read_job;
 
 #[cfg(test)]
 mod tests;
+#[cfg(test)]
+mod whole_jobs;
