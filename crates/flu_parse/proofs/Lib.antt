@@ -5,7 +5,16 @@ pub mod ScanLemmas
 pub mod ResolveLemmas
 pub mod Steps
 pub mod ReadingLemmas
-pub mod PrintedLists
+pub mod General
+pub mod Looks
+pub mod WordsKept
+pub mod PlainRules
+pub mod NamesKept
+pub mod TermsKept
+pub mod TemplatesKept
+pub mod DeedsKept
+pub mod ListingsKept
+pub mod JobsKept
 pub mod PrintedWords
 pub mod PrintedTokens
 pub mod PrintedSpans
@@ -26,3 +35,6 @@ pub mod PrintedDeclarations
 pub mod PrintedNames
 pub mod PrintedDrafts
 pub mod PrintedJobs
+pub mod PrintedSizes
+pub mod PrintedKept
+pub mod PrintedJobsKept

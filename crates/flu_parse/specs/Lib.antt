@@ -10,4 +10,4 @@ pub mod Listings
 pub mod Resolving
 pub mod Reading
 pub mod Printing
-pub mod PrintingLaws
+pub mod Laws

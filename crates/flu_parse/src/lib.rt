@@ -6,13 +6,13 @@ mod deeds;
 mod drafts;
 mod faults;
 mod fields;
+pub mod laws;
 mod listings;
 mod names;
 mod naming;
 mod pieces;
 mod printing;
 mod printing_actions;
-mod printing_laws;
 mod printing_terms;
 mod reading;
 mod resolving;
@@ -21,12 +21,9 @@ mod spelling;
 mod templates;
 mod terms;
 
-pub use drafts::JobParts;
 pub use faults::JobFault;
 pub use printing::print_job;
-pub use printing_laws::printed_is_read;
 pub use reading::read_job;
-pub use resolving::resolve;
 
 #[cfg(test)]
 mod printing_tests;

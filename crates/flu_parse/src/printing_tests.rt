@@ -1,22 +1,20 @@
 use crate::{print_job, read_job};
 use flu_model::Program;
-use flu_rules::program;
 use std::alloc::Global;
 use std::process::Abort;
 use std::test::Fail;
 
 // The job of a text.
-fn job(rt: &impl Abort, alloc: Global, text: &str) -> Result<Program, Fail> {
-    let parts = read_job(alloc, text.as_bytes())?;
-    let job = program(parts.families, parts.kinds, parts.depends, parts.sources);
-    Ok(job.expect(rt, "a job that is read keeps the rules"))
+fn job(alloc: Global, text: &str) -> Result<Program, Fail> {
+    let job = read_job(alloc, text.as_bytes())?;
+    Ok(job)
 }
 
 // The job of a text prints as another text, and the job of that one too.
 fn expect_printed(rt: &impl Abort, alloc: Global, text: &str, expected: &str) -> Result<(), Fail> {
-    let printed = print_job(alloc, &job(rt, alloc, text)?)?;
+    let printed = print_job(alloc, &job(alloc, text)?)?;
     assert_eq!(rt; printed.as_str(), expected, "{text}");
-    let again = print_job(alloc, &job(rt, alloc, printed.as_str())?)?;
+    let again = print_job(alloc, &job(alloc, printed.as_str())?)?;
     assert_eq!(rt; again.as_str(), expected);
     Ok(())
 }
