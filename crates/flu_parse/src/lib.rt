@@ -29,3 +29,5 @@ pub use reading::read_job;
 mod printing_tests;
 #[cfg(test)]
 mod tests;
+#[cfg(test)]
+mod whole_jobs;
