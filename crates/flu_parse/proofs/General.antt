@@ -1,5 +1,5 @@
 -- Lists whose elements all pass a test, hold a property or differ.
-use Rattle.std.proofs.Common.{◌≡◌, ℕ, zero, suc, Bool, true, false, List, [], ◌∷◌, ◌++◌, map, Some, refl, sym, ap, ◌∙◌}
+use Rattle.std.proofs.Common.{◌≡◌, ℕ, zero, suc, Bool, true, false, List, [], ◌∷◌, ◌++◌, Some, refl, sym, ap, ◌∙◌}
 use Rattle.std.specs.Prelude.{◌&&◌, ◌||◌, not, slice_get}
 use Rattle.std.specs.List.{list_all, list_any, flat_map, AllByRecursion}
 use Rattle.std.proofs.lemmas.List.Folds.{list_all-append, list_any-append}
@@ -14,6 +14,20 @@ or_left false b e = refl
 pub or_right : (a b : Bool) → (a || b) ≡ false → b ≡ false
 or_right true b e = cc
 or_right false b e = e
+
+pub or_true : (a : Bool) → (a || true) ≡ true
+or_true true = refl
+or_true false = refl
+
+-- what a rule of three parts says part by part
+pub three_left : (a b c : Bool) → (a && b && c) ≡ true → a ≡ true
+three_left a b c h = and_left a b (and_left (a && b) c h)
+
+pub three_middle : (a b c : Bool) → (a && b && c) ≡ true → b ≡ true
+three_middle a b c h = and_right a b (and_left (a && b) c h)
+
+pub three_right : (a b c : Bool) → (a && b && c) ≡ true → c ≡ true
+three_right a b c h = and_right (a && b) c h
 
 neither : (a b : Bool) → a ≡ false → b ≡ false → (a || b) ≡ false
 neither a b e f = ap (λ x. x || b) e ∙ f
@@ -38,6 +52,19 @@ pub passes_at : {X : Type 0} (p : X → Bool) (xs : List X) (i : ℕ) (x : X) �
 passes_at p [] i x all e = absurd cc
 passes_at p (y ∷ ys) zero x all e = let same : y ≡ x = cc in ap p (sym same) ∙ and_left (p y) (list_all p ys) all
 passes_at p (y ∷ ys) (suc i) x all e = passes_at p ys i x (and_right (p y) (list_all p ys) all) e
+
+-- two tests that all elements pass
+pub both_pass : {X : Type 0} (p q : X → Bool) (xs : List X) → list_all p xs ≡ true → list_all q xs ≡ true → list_all (λ x. p x && q x) xs ≡ true
+both_pass p q [] e f = refl
+both_pass p q (x ∷ xs) e f =
+    both (p x && q x) (list_all (λ x. p x && q x) xs) (both (p x) (q x) (and_left (p x) (list_all p xs) e) (and_left (q x) (list_all q xs) f))
+    (both_pass p q xs (and_right (p x) (list_all p xs) e) (and_right (q x) (list_all q xs) f))
+
+-- the element at a place fails where none passes
+pub fails_at : {X : Type 0} (p : X → Bool) (xs : List X) (i : ℕ) (x : X) → list_any p xs ≡ false → slice_get xs i ≡ Some x → p x ≡ false
+fails_at p [] i x none e = absurd cc
+fails_at p (y ∷ ys) zero x none e = let same : y ≡ x = cc in ap p (sym same) ∙ or_left (p y) (list_any p ys) none
+fails_at p (y ∷ ys) (suc i) x none e = fails_at p ys i x (or_right (p y) (list_any p ys) none) e
 
 -- ---- what holds
 module _ {Y : Type 0} (P : Y → Type 0) where

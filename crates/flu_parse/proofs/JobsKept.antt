@@ -319,17 +319,17 @@ module _ (text : List ℕ) (n : Naming) where
         }
 
 -- ---- from bytes
-utf8_text : (bytes text : List ℕ) → text_in bytes ≡ Ok text → IsUtf8 text
+pub utf8_text : (bytes text : List ℕ) → text_in bytes ≡ Ok text → IsUtf8 text
 utf8_text bytes text e =
     let h = passed (is_utf8 bytes) (f.BadUtf8 (utf8_valid_len bytes)) (Ok bytes) text e in
     let same : bytes ≡ text = cc in
     subst IsUtf8 same (IsUtf8-from_is_utf8 bytes h.0)
 
-tokens_found : (r : Reading) (ts : List Token) → found_tokens r ≡ Ok ts → r ≡ Ok ts
+pub tokens_found : (r : Reading) (ts : List Token) → found_tokens r ≡ Ok ts → r ≡ Ok ts
 tokens_found (Ok us) ts e = cc
 tokens_found (Err at) ts e = absurd cc
 
-job_found : (v : Verdict) (written : List Declaration) → found_job v ≡ Ok written → v ≡ IsFound written
+pub job_found : (v : Verdict) (written : List Declaration) → found_job v ≡ Ok written → v ≡ IsFound written
 job_found (IsFound ds) written e = cc
 job_found (Unexpected at) written e = absurd cc
 job_found TooDeep written e = absurd cc

@@ -15,7 +15,6 @@ pub mod TemplatesKept
 pub mod DeedsKept
 pub mod ListingsKept
 pub mod JobsKept
-pub mod PrintedLists
 pub mod PrintedWords
 pub mod PrintedTokens
 pub mod PrintedSpans
@@ -36,3 +35,6 @@ pub mod PrintedDeclarations
 pub mod PrintedNames
 pub mod PrintedDrafts
 pub mod PrintedJobs
+pub mod PrintedSizes
+pub mod PrintedKept
+pub mod PrintedJobsKept

@@ -17,8 +17,8 @@ use Rattle.flu_model.specs.declared.jobs.Piece.{Piece}
 use Rattle.flu_model.specs.Erasure.{Term, Deed, Adding, Raising, Setting, Clearing, Emitting, Flushing, PlainAction}
 use Rattle.flu_model.specs.Rules.{is_name, is_keyed, ref_fits, ref_has_sort, emit_piece_fits, flush_piece_fits, are_apart, emit_template_fits, flush_template_fits}
 use Rattle.flu_parse.specs.Printing.{family_name, template_text, has_numbers, deed_has_text, guard_has_text, action_has_text}
-use Rattle.flu_parse.proofs.PrintedLists.{three_left, three_right, all_weaker}
-use Rattle.flu_parse.proofs.PrintedRules.{term_fits, term_height, is_good_term, deed_fits, condition_fits, plain_action_fits}
+use Rattle.flu_parse.proofs.General.{three_left, three_right, passes_too}
+use Rattle.flu_parse.proofs.PlainRules.{term_fits, term_height, is_good_term, deed_fits, plain_guard_fits, plain_action_fits}
 use Rattle.flu_parse.proofs.PrintedWords.{blank, reserved, mark, cell_words, term_words, deed_words, behind_deed, guard_words, action_words, items_words}
 use Rattle.flu_parse.proofs.PrintedLaid.{AreLaid, Follows, behind_blank, laid_name, laid_reserved, laid_text, laid_mark}
 use Rattle.flu_parse.proofs.PrintedCells.{family_named, laid_cell, laid_term}
@@ -40,11 +40,11 @@ keyed_at families i h = by (slice_get families i) refl h
 module _ (families : List Family) (names : list_all (λ (f : Family). is_name f.name) families ≡ true) (keyed has_value : Bool) where
   emit_bytes : (ps : List Piece) → emit_template_fits families keyed has_value ps ≡ true → list_all is_text_byte (template_text families ps) ≡ true
   emit_bytes ps h = template_bytes families names keyed ps
-      (all_weaker (emit_piece_fits families keyed has_value) (piece_keeps families keyed) (emit_keeps families keyed has_value) ps (and_left (list_all (emit_piece_fits families keyed has_value) ps) (are_apart ps) h))
+      (passes_too (emit_piece_fits families keyed has_value) (piece_keeps families keyed) (emit_keeps families keyed has_value) ps (and_left (list_all (emit_piece_fits families keyed has_value) ps) (are_apart ps) h))
 
   flush_bytes : (ps : List Piece) → flush_template_fits has_value ps ≡ true → list_all is_text_byte (template_text families ps) ≡ true
   flush_bytes ps h = template_bytes families names keyed ps
-      (all_weaker (flush_piece_fits has_value) (piece_keeps families keyed) (flush_keeps families keyed has_value) ps (and_left (list_all (flush_piece_fits has_value) ps) (are_apart ps) h))
+      (passes_too (flush_piece_fits has_value) (piece_keeps families keyed) (flush_keeps families keyed has_value) ps (and_left (list_all (flush_piece_fits has_value) ps) (are_apart ps) h))
 
   -- a cell, and an expression behind it
   laid_writing : (word : Reserved) (sort : Sort) (c : CellRef) (e : Term) (behind : List ℕ) (rest : List Laid) → (ref_fits families keyed c && ref_has_sort families sort c && is_good_term families keyed has_value e) ≡ true → has_numbers e ≡ true → Follows behind rest
@@ -69,7 +69,7 @@ module _ (families : List Family) (names : list_all (λ (f : Family). is_name f.
       let family = laid_name (family_name (slice_get families i)) blank _ (family_named families names i found.family found.found) (behind_blank _ template) in
       laid_reserved r.Flush blank _ (behind_blank _ family)
 
-  laid_guard : (g : Option Term) (behind : List ℕ) (rest : List Laid) → condition_fits families keyed has_value g ≡ true → guard_has_text g ≡ true → Follows behind rest → Follows (behind_deed g behind) (guard_words families g behind rest)
+  laid_guard : (g : Option Term) (behind : List ℕ) (rest : List Laid) → plain_guard_fits families keyed has_value g ≡ true → guard_has_text g ≡ true → Follows behind rest → Follows (behind_deed g behind) (guard_words families g behind rest)
   laid_guard None behind rest fits texts f = f
   laid_guard (Some e) behind rest fits texts f =
       let guard = laid_term families names keyed has_value e behind rest (and_left (term_fits families keyed has_value e) (nat_le (term_height e) 32) fits) texts f in
@@ -78,7 +78,7 @@ module _ (families : List Family) (names : list_all (λ (f : Family). is_name f.
   pub laid_action : (a : PlainAction) (behind : List ℕ) (rest : List Laid) → plain_action_fits families keyed has_value a ≡ true → action_has_text families a ≡ true → Follows behind rest → AreLaid (action_words families a behind rest)
   laid_action a behind rest fits texts f =
       let deed_ok = deed_fits families keyed has_value a.deed in
-      let guard_ok = condition_fits families keyed has_value a.guard in
+      let guard_ok = plain_guard_fits families keyed has_value a.guard in
       laid_deed a.deed (behind_deed a.guard behind) (guard_words families a.guard behind rest) (and_left deed_ok guard_ok fits) (and_left (deed_has_text families a.deed) (guard_has_text a.guard) texts)
       (laid_guard a.guard behind rest (and_right deed_ok guard_ok fits) (and_right (deed_has_text families a.deed) (guard_has_text a.guard) texts) f)
 

@@ -14,8 +14,8 @@ use Rattle.flu_model.specs.Contents.{key_count}
 use Rattle.flu_model.specs.Erasure.{Term, Literal, EventValue, EventKey, EventTime, CellRead, CellHeld, Negative, Negation, Operation}
 use Rattle.flu_model.specs.Rules.{is_name, key_fits, family_fits, ref_fits}
 use Rattle.flu_parse.specs.Printing.{family_name, has_numbers, is_number}
-use Rattle.flu_parse.proofs.PrintedLists.{all_found}
-use Rattle.flu_parse.proofs.PrintedRules.{term_fits}
+use Rattle.flu_parse.proofs.General.{passes_at}
+use Rattle.flu_parse.proofs.PlainRules.{term_fits}
 use Rattle.flu_parse.proofs.PrintedWords.{blank, reserved, mark, operator, behind_name, key_words, cell_words, term_words}
 use Rattle.flu_parse.proofs.PrintedLaid.{AreLaid, Follows, behind_blank, laid_name, laid_reserved, laid_number, laid_mark, laid_minus, laid_operator}
 
@@ -38,7 +38,7 @@ key_is_number k h = let small : k < 65536 = true_lt k 65536 h in lt_true k (2 ^ 
 
 module _ (families : List Family) (names : list_all (λ (f : Family). is_name f.name) families ≡ true) where
   pub family_named : (i : ℕ) (f : Family) → slice_get families i ≡ Some f → is_name (family_name (slice_get families i)) ≡ true
-  family_named i f found = ap (λ o. is_name (family_name o)) found ∙ all_found (λ (f : Family). is_name f.name) families i f names found
+  family_named i f found = ap (λ o. is_name (family_name o)) found ∙ passes_at (λ (f : Family). is_name f.name) families i f names found
 
   laid_key : (a : At) (family_keyed keyed : Bool) (behind : List ℕ) (rest : List Laid) → key_fits family_keyed keyed a ≡ true → Follows behind rest → Follows (behind_name a behind) (key_words a behind rest)
   laid_key at.Alone family_keyed keyed behind rest fits f = f

@@ -34,8 +34,9 @@ use Rattle.flu_parse.specs.Resolving.{same_of}
 use Rattle.flu_parse.specs.declared.faults.JobFault.TheVariants as f
 use Rattle.flu_parse.specs.Faults.{◌>>◌, unless}
 use Rattle.flu_parse.specs.Printing.{line_end, kind_name}
-use Rattle.flu_parse.proofs.PrintedLists.{three_left, three_middle, three_right}
-use Rattle.flu_parse.proofs.PrintedRules.{plain_action_fits, plain_kind_fits, plain_kind_is_keyed, plain_depend_fits, plain_tag_fits, plain_source_fits}
+use Rattle.flu_parse.proofs.General.{three_left, three_middle, three_right}
+use Rattle.flu_parse.proofs.PlainRules.{plain_action_fits, plain_kind_fits}
+use Rattle.flu_parse.proofs.PrintedRules.{plain_kind_is_keyed, plain_depend_fits, plain_tag_fits, plain_source_fits}
 use Rattle.flu_parse.proofs.PrintedWords.{blank, reserved, name, action_words, lines_words, keyed_words, sort_reserved, cell_line_words, value_reserved, tag_line_words, behind_depends, same_words, depends_line_words, actions_words, on_line_words, tag_words, listed_words, source_line_words}
 use Rattle.flu_parse.proofs.PrintedTokens.{StandsFor, Stand, Begins, begins-append, Took}
 use Rattle.flu_parse.proofs.PrintedSpans.{name_stands, text_stands, inside_stands}

@@ -11,8 +11,6 @@ use Rattle.flu_text.specs.declared.words.Reserved.TheVariants as r
 use Rattle.flu_text.specs.declared.words.Token.{Token}
 use Rattle.flu_text.specs.Layout.{Piece as Laid}
 use Rattle.flu_model.specs.declared.limits.What.TheVariants.{Actions}
-use Rattle.flu_model.specs.declared.jobs.Sort.{Sort}
-use Rattle.flu_model.specs.declared.jobs.Sort.TheVariants.{Sum, Max, Last}
 use Rattle.flu_model.specs.declared.jobs.Family.{Family}
 use Rattle.flu_model.specs.declared.jobs.CellRef.{CellRef}
 use Rattle.flu_model.specs.declared.jobs.Piece.{Piece}
@@ -34,27 +32,17 @@ use Rattle.flu_parse.specs.Terms.{expression_of}
 use Rattle.flu_parse.specs.Templates.{template_of}
 use Rattle.flu_parse.specs.Deeds.{sort_for, written, deed_of, guard_of, action_of, with_action}
 use Rattle.flu_parse.specs.Printing.{family_name, template_text}
-use Rattle.flu_parse.proofs.PrintedLists.{three_left, three_middle, three_right, all_weaker}
-use Rattle.flu_parse.proofs.PrintedRules.{is_good_term, deed_fits, condition_fits, plain_action_fits}
+use Rattle.flu_parse.proofs.General.{three_left, three_middle, three_right, passes_too}
+use Rattle.flu_parse.proofs.PlainRules.{is_good_term, deed_fits, plain_guard_fits, plain_action_fits}
 use Rattle.flu_parse.proofs.PrintedWords.{blank, reserved, cell_words, term_words, deed_words, behind_deed, guard_words, action_words}
 use Rattle.flu_parse.proofs.PrintedTokens.{Stand, begins-append, Took}
 use Rattle.flu_parse.proofs.PrintedSpans.{name_stands, text_stands}
 use Rattle.flu_parse.proofs.PrintedCells.{family_named}
 use Rattle.flu_parse.proofs.PrintedActions.{keyed_at}
 use Rattle.flu_parse.proofs.PrintedTerms.{family_head, FamiliesKnown, read_cell, read_expression}
+use Rattle.flu_parse.proofs.TermsKept.{sort_swapped}
 use Rattle.flu_parse.proofs.PrintedTemplates.{piece_ok, read_template}
 use Rattle.flu_parse.proofs.PrintedItems.{Pairs, ItemIs}
-
-same_sort : (a b : Sort) → is_sort a b ≡ true → is_sort b a ≡ true
-same_sort Sum Sum h = refl
-same_sort Sum Max h = absurd cc
-same_sort Sum Last h = absurd cc
-same_sort Max Sum h = absurd cc
-same_sort Max Max h = refl
-same_sort Max Last h = absurd cc
-same_sort Last Sum h = absurd cc
-same_sort Last Max h = absurd cc
-same_sort Last Last h = refl
 
 module _ (whole : List ℕ) (utf8 : IsUtf8 whole) (families : List Family) (names : list_all (λ (f : Family). is_name f.name) families ≡ true) (n : Naming) (known_families : FamiliesKnown families n) (under : KindHead) where
   emit_ok : (q : Piece) → emit_piece_fits families under.keyed under.has_value q ≡ true → piece_ok whole utf8 families names n known_families under false 0 q ≡ true
@@ -102,7 +90,7 @@ module _ (whole : List ℕ) (utf8 : IsUtf8 whole) (families : List Family) (name
         };
         is = amount.is;
         means =
-            ap (λ (found : Found CellRef). found >>= λ cell. expression_of whole n under amount.tree >>= λ term. Ok (written v cell term)) (cell.means (Some (sort_for v)) (same_sort cell.family.sort (sort_for v) sort))
+            ap (λ (found : Found CellRef). found >>= λ cell. expression_of whole n under amount.tree >>= λ term. Ok (written v cell term)) (cell.means (Some (sort_for v)) (sort_swapped cell.family.sort (sort_for v) sort))
             ∙ ap (λ (found : Found Term). found >>= λ term. Ok (written v c term)) amount.means;
       }
 
@@ -124,7 +112,7 @@ module _ (whole : List ℕ) (utf8 : IsUtf8 whole) (families : List Family) (name
       let t = h.4 in
       let span = span_of t.0 in
       let pieces = list_all (emit_piece_fits families under.keyed under.has_value) ps in
-      let ok = all_weaker (emit_piece_fits families under.keyed under.has_value) (piece_ok whole utf8 families names n known_families under false 0) emit_ok ps (and_left pieces (are_apart ps) fits) in
+      let ok = passes_too (emit_piece_fits families under.keyed under.has_value) (piece_ok whole utf8 families names n known_families under false 0) emit_ok ps (and_left pieces (are_apart ps) fits) in
       record {
         at = h.0.from;
         written = Emits span;
@@ -142,7 +130,7 @@ module _ (whole : List ℕ) (utf8 : IsUtf8 whole) (families : List Family) (name
       let family = keyed_at families i (and_left (is_keyed (slice_get families i)) template_ok fits) in
       let template = and_right (is_keyed (slice_get families i)) template_ok fits in
       let pieces = list_all (flush_piece_fits under.has_value) ps in
-      let ok = all_weaker (flush_piece_fits under.has_value) (piece_ok whole utf8 families names n known_families under true 0) flush_ok ps (and_left pieces (are_apart ps) template) in
+      let ok = passes_too (flush_piece_fits under.has_value) (piece_ok whole utf8 families names n known_families under true 0) flush_ok ps (and_left pieces (are_apart ps) template) in
       let head : FamilyHead = family_head i family.family in
       let looked : family_of whole n name_span ≡ Ok head =
       ap (λ name. known name_span.from (look_up name n.families)) (name_stands whole (family_name (slice_get families i)) blank named.0 utf8 (family_named families names i family.family family.found) named.3 ∙ ap family_name family.found)
@@ -166,7 +154,7 @@ module _ (whole : List ℕ) (utf8 : IsUtf8 whole) (families : List Family) (name
     is : IsGuard written
     means : guard_of whole n under written ≡ Ok g
 
-  read_guard : (g : Option Term) (behind : List ℕ) (rest : List Laid) (ts : List Token) → condition_fits families under.keyed under.has_value g ≡ true → Stand whole (guard_words families g behind rest) ts → GuardIs g rest ts
+  read_guard : (g : Option Term) (behind : List ℕ) (rest : List Laid) (ts : List Token) → plain_guard_fits families under.keyed under.has_value g ≡ true → Stand whole (guard_words families g behind rest) ts → GuardIs g rest ts
   unfolding guard_of
   read_guard None behind rest ts fits h = record { written = None; took = record { rest = ts; begins = refl; stand = h }; is = tt; means = refl }
   read_guard (Some e) behind rest ts fits h =
@@ -188,7 +176,7 @@ module _ (whole : List ℕ) (utf8 : IsUtf8 whole) (families : List Family) (name
   unfolding action_of
   read_action a behind rest ts fits h =
       let deed_ok = deed_fits families under.keyed under.has_value a.deed in
-      let guard_ok = condition_fits families under.keyed under.has_value a.guard in
+      let guard_ok = plain_guard_fits families under.keyed under.has_value a.guard in
       let deed = read_deed a.deed (behind_deed a.guard behind) (guard_words families a.guard behind rest) ts (and_left deed_ok guard_ok fits) h in
       let guard = read_guard a.guard behind rest deed.took.rest (and_right deed_ok guard_ok fits) deed.took.stand in
       record {

@@ -26,8 +26,9 @@ use Rattle.flu_parse.specs.Naming.{Naming, look_up, known, kind_of}
 use Rattle.flu_parse.specs.Deeds.{actions_of}
 use Rattle.flu_parse.specs.Listings.{Listed, tags_of, rate_of, file_of}
 use Rattle.flu_parse.specs.Resolving.{Drafted, same_of, with_depend, with_actions, with_on, with_source, with_declaration}
-use Rattle.flu_parse.proofs.PrintedLists.{or_left, or_right, three_middle}
-use Rattle.flu_parse.proofs.PrintedRules.{plain_action_fits, plain_kind_fits, plain_source_fits}
+use Rattle.flu_parse.proofs.General.{or_left, or_right, three_middle}
+use Rattle.flu_parse.proofs.PlainRules.{plain_action_fits, plain_kind_fits}
+use Rattle.flu_parse.proofs.PrintedRules.{plain_source_fits}
 use Rattle.flu_parse.proofs.PrintedLines.{source_facts}
 use Rattle.flu_parse.proofs.PrintedTerms.{FamiliesKnown}
 use Rattle.flu_parse.proofs.PrintedDeeds.{do_all}

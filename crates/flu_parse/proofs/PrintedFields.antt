@@ -30,7 +30,7 @@ use Rattle.flu_parse.specs.Spelling.{is_boundary, spelled, name_of}
 use Rattle.flu_parse.specs.Cells.{brackets_fit, at_of}
 use Rattle.flu_parse.specs.Templates.{span, is_open_bracket, digits_at, key_at, ref_with, ref_at, field_at, own_key_fits}
 use Rattle.flu_parse.specs.Printing.{key_text}
-use Rattle.flu_parse.proofs.PrintedLists.{or_true, all_weaker, none_found}
+use Rattle.flu_parse.proofs.General.{or_true, passes_too, fails_at}
 use Rattle.flu_parse.proofs.PrintedSpans.{Place, before_ascii, after_ascii, spelled_between, name_facts, name_between}
 use Rattle.flu_parse.proofs.PrintedLaid.{decimal_digits}
 use Rattle.flu_parse.proofs.PrintedScans.{no_close}
@@ -38,7 +38,7 @@ use Rattle.flu_parse.proofs.PrintedScans.{no_close}
 -- ---- names are none of the words that a field may be
 
 not_reserved : (n word : List ℕ) (i : ℕ) → is_name n ≡ true → slice_get reserved_words i ≡ Some word → bytes_eq n word ≡ false
-not_reserved n word i named found = none_found (is_same_text n) reserved_words i word (not_true (list_any (is_same_text n) reserved_words) (name_facts n named).free) found
+not_reserved n word i named found = fails_at (is_same_text n) reserved_words i word (not_true (list_any (is_same_text n) reserved_words) (name_facts n named).free) found
 
 -- what has a bracket is no word without one
 not_bracketed : (n more word : List ℕ) → list_any is_open_bracket word ≡ false → bytes_eq (n ++ 91 ∷ more) word ≡ false
@@ -98,12 +98,12 @@ position_with xs n = cond (nat_lt n (length xs)) (Some n) None
 no_position : (n : List ℕ) → list_all is_letter_or_digit n ≡ true → position is_open_bracket n ≡ None
 no_position n h =
     let none : nat_lt (length n) (length n) ≡ false = grind (arith, nat_tests) in
-    ap (position_with n) (prefix_all (λ b. not (is_open_bracket b)) n (all_weaker is_letter_or_digit (λ b. not (is_open_bracket b)) no_bracket n h)) ∙ ap (λ t. cond t (Some (length n)) None) none
+    ap (position_with n) (prefix_all (λ b. not (is_open_bracket b)) n (passes_too is_letter_or_digit (λ b. not (is_open_bracket b)) no_bracket n h)) ∙ ap (λ t. cond t (Some (length n)) None) none
 
 position_is : (n more : List ℕ) → list_all is_letter_or_digit n ≡ true → position is_open_bracket (n ++ 91 ∷ more) ≡ Some (length n)
 position_is n more h =
     let inside : length n < length (n ++ 91 ∷ more) = omega (arith, length-append n (91 ∷ more)) in
-    ap (position_with (n ++ 91 ∷ more)) (prefix_to (λ b. not (is_open_bracket b)) n 91 more (all_weaker is_letter_or_digit (λ b. not (is_open_bracket b)) no_bracket n h) refl)
+    ap (position_with (n ++ 91 ∷ more)) (prefix_to (λ b. not (is_open_bracket b)) n 91 more (passes_too is_letter_or_digit (λ b. not (is_open_bracket b)) no_bracket n h) refl)
     ∙ ap (λ t. cond t (Some (length n)) None) (lt_true (length n) (length (n ++ 91 ∷ more)) inside)
 
 -- ---- what stands between braces
@@ -237,7 +237,7 @@ key_closed at.Alone family_keyed keyed fits = refl
 key_closed at.OwnKey family_keyed keyed fits = refl
 key_closed (at.Fixed m) family_keyed keyed fits =
     let small : m < 65536 = true_lt m 65536 (and_right family_keyed (nat_lt m key_count) fits) in
-    let digits = all_weaker is_ascii_digit no_close digit_no_close (decimal m) (decimal_digits m (omega arith)) in
+    let digits = passes_too is_ascii_digit no_close digit_no_close (decimal m) (decimal_digits m (omega arith)) in
     list_all-append no_close (codes "[" ++ decimal m) (codes "]") ∙ both (list_all no_close (codes "[" ++ decimal m)) true digits refl
   where
     digit_no_close : (b : ℕ) → is_ascii_digit b ≡ true → no_close b ≡ true
@@ -249,4 +249,4 @@ name_no_close b h = grind (arith, nat_tests)
 pub ref_closed : (n : List ℕ) (a : At) (family_keyed keyed : Bool) → is_name n ≡ true → key_fits family_keyed keyed a ≡ true → list_all no_close (n ++ key_text a) ≡ true
 ref_closed n a family_keyed keyed named fits =
     list_all-append no_close n (key_text a)
-    ∙ both (list_all no_close n) (list_all no_close (key_text a)) (all_weaker is_letter_or_digit no_close name_no_close n (name_facts n named).bytes) (key_closed a family_keyed keyed fits)
+    ∙ both (list_all no_close n) (list_all no_close (key_text a)) (passes_too is_letter_or_digit no_close name_no_close n (name_facts n named).bytes) (key_closed a family_keyed keyed fits)

@@ -25,7 +25,7 @@ use Rattle.flu_parse.specs.Resolving.{Drafted, with_declaration, family, idle_ki
 use Rattle.flu_parse.specs.Reading.{text_in, found_tokens, tokens_in, found_job, written_in, job_in}
 use Rattle.flu_parse.specs.Printing.{normal_form}
 use Rattle.flu_parse.proofs.ReadingLemmas.{text_in-utf8}
-use Rattle.flu_parse.proofs.PrintedLists.{three_left, three_right}
+use Rattle.flu_parse.proofs.General.{three_left, three_right}
 use Rattle.flu_parse.proofs.PrintedRules.{plain_depend_fits, plain_source_fits, names_of_job, JobFits}
 use Rattle.flu_parse.proofs.PrintedWords.{cell_line_words, tag_line_words, depends_line_words, source_line_words, job_words, job_layout}
 use Rattle.flu_parse.proofs.PrintedTokens.{Stand, Begins, begins-append, all_signs, stand}

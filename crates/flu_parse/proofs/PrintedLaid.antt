@@ -20,7 +20,7 @@ use Rattle.flu_model.specs.Rules.{is_letter, is_letter_or_digit, is_name, is_sam
 use Rattle.flu_model.specs.Rules.{is_text_byte as may_be_quoted, reserved_words as names_reserved}
 use Rattle.flu_syntax.specs.Grammar.{op_word}
 use Rattle.flu_parse.specs.Printing.{op_text, line_end, is_number, quoted}
-use Rattle.flu_parse.proofs.PrintedLists.{all_weaker}
+use Rattle.flu_parse.proofs.General.{passes_too}
 use Rattle.flu_parse.proofs.PrintedSpans.{name_facts}
 use Rattle.flu_parse.proofs.PrintedWords.{blank, reserved, mark, name, text, number, operator}
 
@@ -58,7 +58,7 @@ spells_name n h =
     let facts = name_facts n h in
     record {
       starts = starts n h;
-      bytes = all_weaker is_letter_or_digit is_name_byte letter_or_digit n facts.bytes;
+      bytes = passes_too is_letter_or_digit is_name_byte letter_or_digit n facts.bytes;
       short = true_le (length n) 32 facts.short;
       free = λ word same. not_both (list_any (is_same_text n) names_reserved) (ap (λ s. list_any (is_same_text s) names_reserved) same ∙ reserved_is_reserved word) (not_true (list_any (is_same_text n) names_reserved) facts.free);
     }

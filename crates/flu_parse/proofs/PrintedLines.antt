@@ -20,8 +20,9 @@ use Rattle.flu_model.specs.Erasure.{PlainAction, PlainKind, Job}
 use Rattle.flu_model.specs.Rules.{is_name, keys_fit, is_file_text, are_distinct, is_same_tag}
 use Rattle.flu_model.specs.Rules.{is_text_byte as may_be_quoted}
 use Rattle.flu_parse.specs.Printing.{line_end, kind_name, action_has_text}
-use Rattle.flu_parse.proofs.PrintedLists.{three_left, three_middle, three_right, all_weaker, all_both, all_found}
-use Rattle.flu_parse.proofs.PrintedRules.{plain_action_fits, plain_kind_fits, plain_kind_is_keyed, plain_depend_fits, plain_listed_fits, plain_tag_fits, plain_source_fits, JobFits}
+use Rattle.flu_parse.proofs.General.{three_left, three_middle, three_right, passes_too, both_pass, passes_at}
+use Rattle.flu_parse.proofs.PlainRules.{plain_action_fits, plain_kind_fits}
+use Rattle.flu_parse.proofs.PrintedRules.{plain_kind_is_keyed, plain_depend_fits, plain_listed_fits, plain_tag_fits, plain_source_fits, JobFits}
 use Rattle.flu_parse.proofs.PrintedWords.{blank, reserved, mark, name, action_words, lines_words, keyed_words, sort_reserved, cell_line_words, value_reserved, tag_line_words, behind_depends, same_words, depends_line_words, actions_words, on_line_words, behind_kind, keys_words, tag_words, listed_words, source_line_words, job_words}
 use Rattle.flu_parse.proofs.PrintedLaid.{AreLaid, laid_none, Follows, behind_blank, behind_line, quoted_byte, laid_name, laid_reserved, laid_number, laid_text, laid_mark}
 use Rattle.flu_parse.proofs.PrintedCells.{key_is_number}
@@ -74,12 +75,12 @@ module _ (families : List Family) (named_families : list_all (λ (f : Family). i
       let fits = and_left (plain_kind_fits families k) (list_all (action_has_text families) k.actions) ok in
       let actions = list_all (plain_action_fits families k.keyed k.has_value) k.actions in
       laid_actions k.keyed k.has_value k.name k.actions rest (three_left (is_name k.name) (nat_le (length k.actions) 32) actions fits)
-      (all_both (plain_action_fits families k.keyed k.has_value) (action_has_text families) k.actions (three_right (is_name k.name) (nat_le (length k.actions) 32) actions fits) (and_right (plain_kind_fits families k) (list_all (action_has_text families) k.actions) ok)) laid
+      (both_pass (plain_action_fits families k.keyed k.has_value) (action_has_text families) k.actions (three_right (is_name k.name) (nat_le (length k.actions) 32) actions fits) (and_right (plain_kind_fits families k) (list_all (action_has_text families) k.actions) ok)) laid
 
   laid_ons : (kinds : List PlainKind) (rest : List Laid) → list_all (plain_kind_fits families) kinds ≡ true → list_all (λ (k : PlainKind). list_all (action_has_text families) k.actions) kinds ≡ true → AreLaid rest → AreLaid (lines_words (on_line_words families) kinds rest)
   unfolding on_ok
   laid_ons kinds rest fits texts laid =
-      laid_lines (on_line_words families) on_ok laid_on_line kinds rest (all_both (plain_kind_fits families) (λ (k : PlainKind). list_all (action_has_text families) k.actions) kinds fits texts) laid
+      laid_lines (on_line_words families) on_ok laid_on_line kinds rest (both_pass (plain_kind_fits families) (λ (k : PlainKind). list_all (action_has_text families) k.actions) kinds fits texts) laid
 
 -- a kind by its number
 pub record KindAt (kinds : List PlainKind) (i : ℕ) : Type 0 where
@@ -162,7 +163,7 @@ source_facts kinds s h =
 
 module _ (kinds : List PlainKind) (named_kinds : list_all (λ (k : PlainKind). is_name k.name) kinds ≡ true) where
   pub kind_named : (i : ℕ) (k : PlainKind) → slice_get kinds i ≡ Some k → is_name (kind_name (slice_get kinds i)) ≡ true
-  kind_named i k found = ap (λ o. is_name (kind_name o)) found ∙ all_found (λ (k : PlainKind). is_name k.name) kinds i k named_kinds found
+  kind_named i k found = ap (λ o. is_name (kind_name o)) found ∙ passes_at (λ (k : PlainKind). is_name k.name) kinds i k named_kinds found
 
   laid_same : (same : Bool) (rest : List Laid) → AreLaid rest → Follows (behind_depends same) (same_words same rest)
   laid_same true rest laid = behind_blank _ (laid_reserved r.Same line_end rest (behind_line rest laid))
@@ -213,14 +214,14 @@ module _ (kinds : List PlainKind) (named_kinds : list_all (λ (k : PlainKind). i
       let ends : Follows [] (listed_words kinds s.tags rest) = record { blank = refl; ends = listed_ends s.tags rest; laid = listed } in
       let number = laid_number (pos s.rate) [] (listed_words kinds s.tags rest) (lt_true s.rate (2 ^ 63) (omega arith)) ends in
       let rated = laid_reserved r.Rate blank _ (behind_blank _ number) in
-      let file = laid_text s.file blank _ (all_weaker may_be_quoted is_text_byte quoted_byte s.file facts.file_bytes) facts.file_short refl rated in
+      let file = laid_text s.file blank _ (passes_too may_be_quoted is_text_byte quoted_byte s.file facts.file_bytes) facts.file_short refl rated in
       let named = laid_name s.name blank _ facts.name (behind_blank _ file) in
       laid_reserved r.Source blank _ (behind_blank _ named)
 
 -- all kinds have names
 pub names_of_kinds : (families : List Family) (kinds : List PlainKind) → list_all (plain_kind_fits families) kinds ≡ true → list_all (λ (k : PlainKind). is_name k.name) kinds ≡ true
 names_of_kinds families kinds h =
-    all_weaker (plain_kind_fits families) (λ (k : PlainKind). is_name k.name)
+    passes_too (plain_kind_fits families) (λ (k : PlainKind). is_name k.name)
     (λ (k : PlainKind) fits. three_left (is_name k.name) (nat_le (length k.actions) 32) (list_all (plain_action_fits families k.keyed k.has_value) k.actions) fits) kinds h
 
 -- the words of the normal form are laid out

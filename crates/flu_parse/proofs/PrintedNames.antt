@@ -21,7 +21,7 @@ use Rattle.flu_parse.specs.declared.names.KindHead.{KindHead}
 use Rattle.flu_parse.specs.Faults.{Found, ◌>>=◌, ◌>>◌, unless, room, each}
 use Rattle.flu_parse.specs.Spelling.{name_of}
 use Rattle.flu_parse.specs.Naming.{Naming, look_up, is_declared, fresh_name, with_family, with_kind, with_source, declare, no_names}
-use Rattle.flu_parse.proofs.PrintedLists.{or_left, or_right, none_found}
+use Rattle.flu_parse.proofs.General.{or_left, or_right, fails_at}
 use Rattle.flu_parse.proofs.PrintedTerms.{family_head, FamiliesKnown}
 use Rattle.flu_parse.proofs.PrintedTags.{kind_head, KindsKnown}
 use Rattle.flu_parse.proofs.PrintedDeclarations.{Lines, CellIs, TagIs, DependsIs, SourceIs, ActionsAre, Ons}
@@ -67,7 +67,7 @@ module _ {X H : Type 0} (name : X → List ℕ) (head : ℕ → X → H) where
       ∙ ap (λ z. Some (head j z)) same ∙ ap (λ k. Some (head k x)) number
   own_head j (y ∷ ys) (suc i) x apart found =
       let none : list_any (is_same_text (name y)) (map name ys) ≡ false = not_true (list_any (is_same_text (name y)) (map name ys)) (and_left (not (list_any (is_same_text (name y)) (map name ys))) (are_distinct is_same_text (map name ys)) apart) in
-      let other : bytes_eq (name x) (name y) ≡ false = differs_too (name y) (name x) (none_found (is_same_text (name y)) (map name ys) i (name x) none (name_found ys i x found)) in
+      let other : bytes_eq (name x) (name y) ≡ false = differs_too (name y) (name x) (fails_at (is_same_text (name y)) (map name ys) i (name x) none (name_found ys i x found)) in
       let number : j + 1 + i ≡ j + suc i = omega arith in
       ap (λ b. if b then Some (head j y) else look_up (name x) (heads name head (j + 1) ys)) other
       ∙ own_head (j + 1) ys i x (and_right (not (list_any (is_same_text (name y)) (map name ys))) (are_distinct is_same_text (map name ys)) apart) found

@@ -1,7 +1,7 @@
 -- What the text has where a token stands for a word.
 use Rattle.std.proofs.Common.{◌≡◌, ℕ, ◌+◌, ◌-◌, ◌<◌, Bool, true, ◌&&◌, List, [], ◌∷◌, ◌++◌, length, take, drop, get_or, sym, ap, subst, ◌∙◌, append_assoc, length-append, arith}
 use Rattle.std.specs.Prelude.{nat_le, not, if◌then◌else◌, slice_range}
-use Rattle.std.specs.Str.{IsUtf8, IsCharBoundary}
+use Rattle.std.specs.Str.{IsUtf8}
 use Rattle.std.proofs.lemmas.Bool.Decides.{nat_tests}
 use Rattle.std.specs.List.{list_all, list_any}
 use Rattle.std.proofs.lemmas.List.{take_at, drop_at, get_or-append-add, get_or_append_left, get_or-append_right}
@@ -12,6 +12,7 @@ use Rattle.flu_text.specs.declared.words.Token.{Token}
 use Rattle.flu_syntax.specs.declared.tree.WrittenSpan.{WrittenSpan}
 use Rattle.flu_syntax.specs.Machine.{span_of}
 use Rattle.flu_parse.specs.Spelling.{is_boundary, spelled, name_of, inside}
+use Rattle.flu_parse.proofs.WordsKept.{is_boundary_there}
 use Rattle.flu_parse.proofs.PrintedWords.{name, text}
 use Rattle.flu_parse.proofs.PrintedTokens.{StandsFor}
 
@@ -19,9 +20,6 @@ use Rattle.flu_parse.proofs.PrintedTokens.{StandsFor}
 pub record Place (whole before after : List ℕ) (at : ℕ) : Type 0 where
   pub is : whole ≡ before ++ after
   pub here : at ≡ length before
-
-boundary_true : (whole : List ℕ) (i : ℕ) → IsCharBoundary whole i → is_boundary whole i ≡ true
-boundary_true whole i h = grind (arith, nat_tests, h.0, h.1)
 
 within : (whole before : List ℕ) (b : ℕ) (after : List ℕ) (at : ℕ) → Place whole before (b ∷ after) at → at < length whole
 within whole before b after at p = let size = ap length p.is in omega (arith, size, length-append before (b ∷ after), p.here)
@@ -36,13 +34,13 @@ byte_here whole before b after at p =
 pub before_ascii : (whole before : List ℕ) (b : ℕ) (after : List ℕ) (at : ℕ) → Place whole before (b ∷ after) at → b < 128 → is_boundary whole at ≡ true
 before_ascii whole before b after at p ascii =
     let byte = byte_here whole before b after at p in
-    boundary_true whole at (IsCharBoundary-before_ascii whole at (within whole before b after at p) (omega (arith, byte)))
+    is_boundary_there whole at (IsCharBoundary-before_ascii whole at (within whole before b after at p) (omega (arith, byte)))
 
 -- and behind it
 pub after_ascii : (whole before : List ℕ) (b : ℕ) (after : List ℕ) (at : ℕ) → IsUtf8 whole → Place whole before (b ∷ after) at → b < 128 → is_boundary whole (at + 1) ≡ true
 after_ascii whole before b after at utf8 p ascii =
     let byte = byte_here whole before b after at p in
-    boundary_true whole (at + 1) (IsCharBoundary-after_ascii whole at utf8 (within whole before b after at p) (omega (arith, byte)))
+    is_boundary_there whole (at + 1) (IsCharBoundary-after_ascii whole at utf8 (within whole before b after at p) (omega (arith, byte)))
 
 -- the bytes between two places of a text
 pub spelled_between : (whole before bytes after : List ℕ) (from to : ℕ) → Place whole before (bytes ++ after) from → to ≡ from + length bytes → is_boundary whole from ≡ true → is_boundary whole to ≡ true → spelled whole from to ≡ bytes
@@ -75,7 +73,7 @@ ends_ascii whole before bytes after from to utf8 p size some ascii =
     let sizes = ap length p.is in
     let inside : from + last < length whole = omega (arith, sizes, length-append before (bytes ++ after), length-append bytes after, p.here) in
     let behind : from + last + 1 ≡ to = omega arith in
-    subst (λ n. is_boundary whole n ≡ true) behind (boundary_true whole (from + last + 1) (IsCharBoundary-after_ascii whole (from + last) utf8 inside (omega (arith, byte))))
+    subst (λ n. is_boundary whole n ≡ true) behind (is_boundary_there whole (from + last + 1) (IsCharBoundary-after_ascii whole (from + last) utf8 inside (omega (arith, byte))))
 
 begins_ascii : (whole before bytes after : List ℕ) (from : ℕ) → Place whole before (bytes ++ after) from → 0 < length bytes → get_or bytes 0 0 < 128 → is_boundary whole from ≡ true
 begins_ascii whole before [] after from p some ascii = absurd (omega arith)

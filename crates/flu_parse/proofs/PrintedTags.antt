@@ -32,7 +32,7 @@ use Rattle.flu_parse.specs.Naming.{Naming, look_up, known, kind_of}
 use Rattle.flu_parse.specs.Cells.{key_of}
 use Rattle.flu_parse.specs.Listings.{are_bracketed, written_keys, keys_of, tag_count, share_tag, Listed, with_tag}
 use Rattle.flu_parse.specs.Printing.{kind_name}
-use Rattle.flu_parse.proofs.PrintedLists.{or_left, or_right}
+use Rattle.flu_parse.proofs.General.{or_left, or_right}
 use Rattle.flu_parse.proofs.PrintedRules.{plain_tag_fits}
 use Rattle.flu_parse.proofs.PrintedWords.{keys_words, tag_words}
 use Rattle.flu_parse.proofs.PrintedTokens.{Stand, Took}

@@ -31,7 +31,7 @@ use Rattle.flu_parse.specs.Naming.{Naming, look_up, known, family_of}
 use Rattle.flu_parse.specs.Cells.{brackets_fit, is_wanted, family_for, at_of, cell_of}
 use Rattle.flu_parse.specs.Terms.{height, first_part, first_token, term_of, expression_of}
 use Rattle.flu_parse.specs.Printing.{family_name}
-use Rattle.flu_parse.proofs.PrintedRules.{term_fits, term_height, is_good_term}
+use Rattle.flu_parse.proofs.PlainRules.{term_fits, term_height, is_good_term}
 use Rattle.flu_parse.proofs.PrintedWords.{mark, key_words, cell_words, term_words}
 use Rattle.flu_parse.proofs.PrintedTokens.{Stand, begins-append, Took}
 use Rattle.flu_parse.proofs.PrintedSpans.{name_stands}

@@ -16,7 +16,7 @@ use Rattle.flu_model.specs.Contents.{key_count}
 use Rattle.flu_model.specs.Rules.{is_name, is_letter_or_digit, is_plain_byte, is_plain, key_fits, ref_fits, emit_piece_fits, flush_piece_fits}
 use Rattle.flu_model.specs.Rules.{is_text_byte as may_be_quoted}
 use Rattle.flu_parse.specs.Printing.{family_name, key_text, cell_text, piece_text, template_text}
-use Rattle.flu_parse.proofs.PrintedLists.{all_weaker}
+use Rattle.flu_parse.proofs.General.{passes_too}
 use Rattle.flu_parse.proofs.PrintedSpans.{name_facts}
 use Rattle.flu_parse.proofs.PrintedLaid.{quoted_byte, name_byte_quoted, digit_quoted, decimal_digits}
 use Rattle.flu_parse.proofs.PrintedCells.{family_at, family_named}
@@ -57,19 +57,19 @@ key_bytes at.Alone family_keyed keyed h = refl
 key_bytes at.OwnKey family_keyed keyed h = refl
 key_bytes (at.Fixed k) family_keyed keyed h =
     let small : k < 65536 = true_lt k 65536 (and_right family_keyed (nat_lt k key_count) h) in
-    let digits = all_weaker is_ascii_digit is_text_byte digit_quoted (decimal k) (decimal_digits k (omega arith)) in
+    let digits = passes_too is_ascii_digit is_text_byte digit_quoted (decimal k) (decimal_digits k (omega arith)) in
     append_all (codes "[" ++ decimal k) (codes "]") digits refl
 
 module _ (families : List Family) (names : list_all (λ (f : Family). is_name f.name) families ≡ true) (keyed : Bool) where
   piece_bytes : (p : Piece) → piece_keeps families keyed p ≡ true → list_all is_text_byte (piece_text families p) ≡ true
-  piece_bytes (piece.Plain t) h = all_weaker is_plain_byte is_text_byte plain_quoted t (and_right (nat_lt 0 (length t)) (list_all is_plain_byte t) h)
+  piece_bytes (piece.Plain t) h = passes_too is_plain_byte is_text_byte plain_quoted t (and_right (nat_lt 0 (length t)) (list_all is_plain_byte t) h)
   piece_bytes piece.Value h = refl
   piece_bytes piece.Key h = refl
   piece_bytes piece.Time h = refl
   piece_bytes (piece.Read r) h =
       let found = family_at families keyed r h in
       let n : List ℕ = family_name (slice_get families r.family) in
-      let name_bytes = all_weaker is_letter_or_digit is_text_byte name_byte_quoted n (name_facts n (family_named families names r.family found.family found.found)).bytes in
+      let name_bytes = passes_too is_letter_or_digit is_text_byte name_byte_quoted n (name_facts n (family_named families names r.family found.family found.found)).bytes in
       let cell = append_all n (key_text r.at) name_bytes (key_bytes r.at found.family.keyed keyed found.fits) in
       append_all (codes "{" ++ cell_text families r) (codes "}") cell refl
   piece_bytes piece.CellValue h = refl

@@ -53,7 +53,7 @@ at_kept keyed under (k.Fixed number) at fits e =
     let same : cell.Fixed h.0 ≡ at = cc in
     ap (key_fits keyed under.keyed) (sym same) ∙ both keyed (nat_lt h.0 65536) fits (key_kept number h.0 h.1).0
 
-sort_swapped : (a b : Sort) → is_sort a b ≡ true → is_sort b a ≡ true
+pub sort_swapped : (a b : Sort) → is_sort a b ≡ true → is_sort b a ≡ true
 sort_swapped Sum Sum e = refl
 sort_swapped Sum Max e = e
 sort_swapped Sum Last e = e

@@ -9,6 +9,5 @@ pub mod Deeds
 pub mod Listings
 pub mod Resolving
 pub mod Reading
-pub mod Laws
 pub mod Printing
-pub mod PrintingLaws
+pub mod Laws

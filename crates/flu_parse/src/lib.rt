@@ -13,7 +13,6 @@ mod naming;
 mod pieces;
 mod printing;
 mod printing_actions;
-mod printing_laws;
 mod printing_terms;
 mod reading;
 mod resolving;
@@ -24,7 +23,6 @@ mod terms;
 
 pub use faults::JobFault;
 pub use printing::print_job;
-pub use printing_laws::printed_is_read;
 pub use reading::read_job;
 
 #[cfg(test)]

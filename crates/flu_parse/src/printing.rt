@@ -1,14 +1,14 @@
 //! The normal form of a job text.
 
-ghost use Rattle.std.specs.Prelude.{◌≡◌, ◌≤◌, ◌++◌, length, OnOk, IfOk, IsTrue, map, slice_get, codes};
+ghost use Rattle.std.specs.Prelude.{◌≡◌, ◌≤◌, ℕ, List, ◌++◌, length, OnOk, IfOk, IsTrue, map, slice_get, codes};
 ghost use Rattle.std.specs.List.{flat_map};
 ghost use Rattle.std.specs.String.{string_bytes};
 ghost use Rattle.flu_model.specs.Erasure.{job_of, plain_kind};
 ghost use Rattle.flu_parse.specs.Printing.{sort_text, keyed_text, cell_line, value_text, tag_line, kind_name, same_text, depends_line, on_line, keys_text, tag_text, separated, source_head, source_line, normal_form, has_text};
 ghost use Rattle.flu_parse.specs.Reading.{job_in};
 
+use crate::laws::{jobs_have_text, printed_is_read};
 use crate::printing_actions::add_actions;
-use crate::printing_laws::printed_is_read;
 use flu_model::{Depend, Family, Keys, Kind, Program, Sort, Source, TagRef, Text};
 use std::alloc::{AllocError, Global};
 
@@ -182,8 +182,8 @@ fn printed(alloc: Global, p: &Program) -> Result<String, AllocError>
 /// sources, each on a line of its own with one blank between words. Each operator stands in parentheses of its own, numbers
 /// have no needless zeros, and the rate always stands there.
 ///
-/// The text is read as this job again, where its literals are not negative, the texts of its templates have at most 256 bytes,
-/// and the whole text has at most 1,048,576 bytes.
+/// The text is read as this job again, where it has at most 1,048,576 bytes, for each job that was read, and for any other whose
+/// literals are not negative and whose templates' texts have at most 256 bytes.
 ///
 /// # Errors
 ///
@@ -191,8 +191,10 @@ fn printed(alloc: Global, p: &Program) -> Result<String, AllocError>
 pub fn print_job(alloc: Global, p: &Program) -> Result<Text, AllocError>
     ensures text { IfOk result (λ text. text ≡ normal_form (job_of p.now)) }
     ensures read_again { IfOk result (λ text. IsTrue (has_text (job_of p.now)) → length text ≤ 1048576 → job_in text ≡ Ok (job_of p.now)) }
+    ensures round_trip { IfOk result (λ text. (bytes : List ℕ) → job_in bytes ≡ Ok (job_of p.now) → length text ≤ 1048576 → job_in text ≡ Ok (job_of p.now)) }
 {
     printed_is_read();
+    jobs_have_text();
     let text = printed(alloc, p)?;
     Ok(Text::of(text))
 }

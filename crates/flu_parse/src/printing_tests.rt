@@ -1,53 +1,24 @@
+use crate::whole_jobs::{JOB_J, JOB_K, JOB_M};
 use crate::{print_job, read_job};
 use flu_model::Program;
-use flu_rules::program;
 use std::alloc::Global;
 use std::process::Abort;
 use std::test::Fail;
 
 // The job of a text.
-fn job(rt: &impl Abort, alloc: Global, text: &str) -> Result<Program, Fail> {
-    let parts = read_job(alloc, text.as_bytes())?;
-    let job = program(parts.families, parts.kinds, parts.depends, parts.sources);
-    Ok(job.expect(rt, "a job that is read keeps the rules"))
+fn job(alloc: Global, text: &str) -> Result<Program, Fail> {
+    let job = read_job(alloc, text.as_bytes())?;
+    Ok(job)
 }
 
 // The job of a text prints as another text, and the job of that one too.
 fn expect_printed(rt: &impl Abort, alloc: Global, text: &str, expected: &str) -> Result<(), Fail> {
-    let printed = print_job(alloc, &job(rt, alloc, text)?)?;
+    let printed = print_job(alloc, &job(alloc, text)?)?;
     assert_eq!(rt; printed.as_str(), expected, "{text}");
-    let again = print_job(alloc, &job(rt, alloc, printed.as_str())?)?;
+    let again = print_job(alloc, &job(alloc, printed.as_str())?)?;
     assert_eq!(rt; again.as_str(), expected);
     Ok(())
 }
-
-const JOB_J: &str = "cell count sum
-tag inc int
-tag read none
-depends inc read
-depends read read
-on inc: add count value
-on read: emit \"count {count}\"; clear count
-source a \"a.csv\" rate 1000: inc
-source b \"b.csv\" rate 1000: inc
-source c \"c.csv\" rate 1: read
-";
-
-const JOB_K: &str = "cell views keyed sum
-cell zip keyed last
-tag view keyed int
-tag update keyed int
-tag tick none
-depends update update same
-depends view tick
-depends tick tick
-on view: add views[key] value
-on update: emit \"was {zip[key]}\"; set zip[key] value
-on tick: flush views \"page {key} views {cell}\"
-source web \"web.csv\" rate 1000: view[0..9]
-source app \"app.csv\" rate 500: view[0..9], update[0..9]
-source clock \"clock.csv\" rate 1: tick
-";
 
 #[test]
 fn jobs_in_normal_form(rt: HostRuntime) -> Result<(), Fail> {
@@ -59,13 +30,6 @@ fn jobs_in_normal_form(rt: HostRuntime) -> Result<(), Fail> {
 
 #[test]
 fn a_guard_gets_parentheses(rt: HostRuntime) -> Result<(), Fail> {
-    let text = "cell hi max
-cell seen last
-tag t int
-depends t t
-on t: raise hi value when value > 2; set seen value; emit \"hi {hi} seen {seen}\"
-source s \"s.csv\" rate 1: t
-";
     let expected = "cell hi max
 cell seen last
 tag t int
@@ -73,7 +37,7 @@ depends t t
 on t: raise hi value when (value > 2); set seen value; emit \"hi {hi} seen {seen}\"
 source s \"s.csv\" rate 1: t
 ";
-    expect_printed(&rt, rt.alloc(), text, expected)?;
+    expect_printed(&rt, rt.alloc(), JOB_M, expected)?;
     Ok(())
 }
 

@@ -10,7 +10,7 @@ use std::alloc::{AllocError, Global};
 use std::process::Abort;
 use std::test::Fail;
 
-const JOB_J: &str = "cell count sum
+pub const JOB_J: &str = "cell count sum
 tag inc int
 tag read none
 depends inc read
@@ -22,7 +22,7 @@ source b \"b.csv\" rate 1000: inc
 source c \"c.csv\" rate 1: read
 ";
 
-const JOB_K: &str = "cell views keyed sum
+pub const JOB_K: &str = "cell views keyed sum
 cell zip keyed last
 tag view keyed int
 tag update keyed int
@@ -38,7 +38,7 @@ source app \"app.csv\" rate 500: view[0..9], update[0..9]
 source clock \"clock.csv\" rate 1: tick
 ";
 
-const JOB_M: &str = "cell hi max
+pub const JOB_M: &str = "cell hi max
 cell seen last
 tag t int
 depends t t

@@ -7,7 +7,7 @@ use Rattle.flu_model.specs.Erasure.{job_of}
 use Rattle.flu_rules.specs.Kept.{KeepsRules}
 use Rattle.flu_parse.specs.Reading.{job_in}
 use Rattle.flu_parse.specs.Printing.{normal_form, has_text}
-use Rattle.flu_parse.specs.PrintingLaws.{PrintedIsRead}
+use Rattle.flu_parse.specs.Laws.{PrintedIsRead}
 use Rattle.flu_parse.proofs.printing.print_job.Goals as goal
 
 rules_of : (p : Program) → KeepsRules p.families p.kinds p.depends p.sources
@@ -32,3 +32,7 @@ read_again printed p text utf8 is texts =
 pub returns-clause-read_again : goal.returns-clause-read_again
 returns-clause-read_again c =
     read_again c.printed_is_read.ensures c.args.p.now c.of.result (subst IsUtf8 (sym c.of.ensures) (IsUtf8-string_bytes c.in_ok-text.text)) (c.of.ensures ∙ c.in_ok-text.ensures)
+
+pub returns-clause-round_trip : goal.returns-clause-round_trip
+returns-clause-round_trip c = λ bytes was_read.
+    read_again c.printed_is_read.ensures c.args.p.now c.of.result (subst IsUtf8 (sym c.of.ensures) (IsUtf8-string_bytes c.in_ok-text.text)) (c.of.ensures ∙ c.in_ok-text.ensures) (c.jobs_have_text.ensures bytes (job_of c.args.p.now) was_read)

@@ -1,7 +1,7 @@
 use Rattle.flu_parse.proofs.PrintedJobs.{job_is_read}
 use Rattle.flu_parse.proofs.PrintedRules.{job_fits}
-use Rattle.flu_parse.specs.PrintingLaws.{job_with}
-use Rattle.flu_parse.proofs.printing_laws.printed_is_read.Goals as goal
+use Rattle.flu_parse.specs.Laws.{job_with}
+use Rattle.flu_parse.proofs.laws.printed_is_read.Goals as goal
 
 pub returns : goal.returns
 returns c = λ families kinds depends sources kept texts.
