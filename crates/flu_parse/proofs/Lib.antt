@@ -5,3 +5,13 @@ pub mod ScanLemmas
 pub mod ResolveLemmas
 pub mod Steps
 pub mod ReadingLemmas
+pub mod General
+pub mod Looks
+pub mod WordsKept
+pub mod PlainRules
+pub mod NamesKept
+pub mod TermsKept
+pub mod TemplatesKept
+pub mod DeedsKept
+pub mod ListingsKept
+pub mod JobsKept

@@ -9,3 +9,4 @@ pub mod Deeds
 pub mod Listings
 pub mod Resolving
 pub mod Reading
+pub mod Laws

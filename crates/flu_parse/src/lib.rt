@@ -6,6 +6,7 @@ mod deeds;
 mod drafts;
 mod faults;
 mod fields;
+pub mod laws;
 mod listings;
 mod names;
 mod naming;
@@ -17,10 +18,8 @@ mod spelling;
 mod templates;
 mod terms;
 
-pub use drafts::JobParts;
 pub use faults::JobFault;
 pub use reading::read_job;
-pub use resolving::resolve;
 
 #[cfg(test)]
 mod tests;

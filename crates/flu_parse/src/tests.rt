@@ -1,5 +1,5 @@
-use crate::{JobFault, JobParts, read_job};
-use flu_model::{Act, Depend, Keys, Piece, TagRef};
+use crate::{JobFault, read_job};
+use flu_model::{Act, Depend, Keys, Piece, Program, TagRef};
 use std::alloc::{AllocError, Global};
 use std::process::Abort;
 use std::test::Fail;
@@ -214,9 +214,9 @@ fn bytes_that_are_no_text(rt: HostRuntime) -> Result<(), Fail> {
     Ok(())
 }
 
-fn parts(alloc: Global, text: &str) -> Result<JobParts, Fail> {
-    let parts = read_job(alloc, text.as_bytes())?;
-    Ok(parts)
+fn job(alloc: Global, text: &str) -> Result<Program, Fail> {
+    let job = read_job(alloc, text.as_bytes())?;
+    Ok(job)
 }
 
 fn expect_counts(
@@ -225,7 +225,7 @@ fn expect_counts(
     text: &str,
     counts: [usize; 4],
 ) -> Result<(), Fail> {
-    let job = parts(alloc, text)?;
+    let job = job(alloc, text)?;
     assert_eq!(rt; job.families.items().len(), counts[0]);
     assert_eq!(rt; job.kinds.items().len(), counts[1]);
     assert_eq!(rt; job.depends.items().len(), counts[2]);
@@ -244,7 +244,7 @@ fn parts_of_jobs(rt: HostRuntime) -> Result<(), Fail> {
 
 #[test]
 fn parts_of_job_k(rt: HostRuntime) -> Result<(), Fail> {
-    let job = parts(rt.alloc(), JOB_K)?;
+    let job = job(rt.alloc(), JOB_K)?;
     let depends = job.depends.items();
     assert_eq!(rt; depends.len(), 3);
     assert_eq!(rt;
@@ -282,7 +282,7 @@ fn parts_of_job_k(rt: HostRuntime) -> Result<(), Fail> {
 
 #[test]
 fn template_of_job_k(rt: HostRuntime) -> Result<(), Fail> {
-    let job = parts(rt.alloc(), JOB_K)?;
+    let job = job(rt.alloc(), JOB_K)?;
     let kinds = job.kinds.items();
     assert_eq!(rt; kinds.len(), 3);
     let actions = kinds[2].actions.items();

@@ -1,0 +1,85 @@
+-- Lists whose elements all pass a test, hold a property or differ.
+use Rattle.std.proofs.Common.{◌≡◌, ℕ, zero, suc, Bool, true, false, List, [], ◌∷◌, ◌++◌, map, Some, refl, sym, ap, ◌∙◌}
+use Rattle.std.specs.Prelude.{◌&&◌, ◌||◌, not, slice_get}
+use Rattle.std.specs.List.{list_all, list_any, flat_map, AllByRecursion}
+use Rattle.std.proofs.lemmas.List.Folds.{list_all-append, list_any-append}
+use Rattle.flu_lemmas.proofs.Tests.{and_left, and_right, both, not_true}
+use Rattle.flu_model.specs.Rules.{are_distinct}
+
+pub or_left : (a b : Bool) → (a || b) ≡ false → a ≡ false
+or_left true b e = cc
+or_left false b e = refl
+
+pub or_right : (a b : Bool) → (a || b) ≡ false → b ≡ false
+or_right true b e = cc
+or_right false b e = e
+
+neither : (a b : Bool) → a ≡ false → b ≡ false → (a || b) ≡ false
+neither a b e f = ap (λ x. x || b) e ∙ f
+
+pub map-map : {A B C : Type 0} (f : A → B) (g : B → C) (xs : List A) → map g (map f xs) ≡ map (λ x. g (f x)) xs
+map-map f g [] = refl
+map-map f g (x ∷ xs) = ap (λ ys. g (f x) ∷ ys) (map-map f g xs)
+
+pub map-append : {A B : Type 0} (f : A → B) (xs ys : List A) → map f (xs ++ ys) ≡ map f xs ++ map f ys
+map-append f [] ys = refl
+map-append f (x ∷ xs) ys = ap (λ zs. f x ∷ zs) (map-append f xs ys)
+
+-- ---- what passes
+-- a test that follows for each element
+pub passes_too : {X : Type 0} (p q : X → Bool) → ((x : X) → p x ≡ true → q x ≡ true) → (xs : List X) → list_all p xs ≡ true → list_all q xs ≡ true
+passes_too p q f [] e = refl
+passes_too p q f (x ∷ xs) e = both (q x) (list_all q xs) (f x (and_left (p x) (list_all p xs) e)) (passes_too p q f xs (and_right (p x) (list_all p xs) e))
+
+-- one element more at the end
+pub one_more_passes : {X : Type 0} (p : X → Bool) (xs : List X) (x : X) → list_all p xs ≡ true → p x ≡ true → list_all p (xs ++ x ∷ []) ≡ true
+one_more_passes p xs x all passes = list_all-append p xs (x ∷ []) ∙ both (list_all p xs) (p x && true) all (ap (λ b. b && true) passes)
+
+pub list_all-map : {X Y : Type 0} (p : Y → Bool) (f : X → Y) (xs : List X) → list_all p (map f xs) ≡ list_all (λ x. p (f x)) xs
+list_all-map p f [] = refl
+list_all-map p f (x ∷ xs) = ap (λ b. p (f x) && b) (list_all-map p f xs)
+
+-- the same test
+pub list_all_same : {X : Type 0} (p q : X → Bool) → ((x : X) → p x ≡ q x) → (xs : List X) → list_all p xs ≡ list_all q xs
+list_all_same p q f [] = refl
+list_all_same p q f (x ∷ xs) = ap (λ b. b && list_all p xs) (f x) ∙ ap (λ b. q x && b) (list_all_same p q f xs)
+
+-- the element at a place passes
+pub passes_at : {X : Type 0} (p : X → Bool) (xs : List X) (i : ℕ) (x : X) → list_all p xs ≡ true → slice_get xs i ≡ Some x → p x ≡ true
+passes_at p [] i x all e = absurd cc
+passes_at p (y ∷ ys) zero x all e = let same : y ≡ x = cc in ap p (sym same) ∙ and_left (p y) (list_all p ys) all
+passes_at p (y ∷ ys) (suc i) x all e = passes_at p ys i x (and_right (p y) (list_all p ys) all) e
+
+-- ---- what holds
+module _ {Y : Type 0} (P : Y → Type 0) where
+  pub holds_front : (a b : List Y) → AllByRecursion P (a ++ b) → AllByRecursion P a
+  holds_front [] b all = tt
+  holds_front (s ∷ a) b all = (all.0, holds_front a b all.1)
+
+  pub holds_back : (a b : List Y) → AllByRecursion P (a ++ b) → AllByRecursion P b
+  holds_back [] b all = all
+  holds_back (s ∷ a) b all = holds_back a b all.1
+
+  -- what holds of all that a list is made of holds of what each element gives
+  pub holds_of_each : {X : Type 0} (f : X → List Y) (xs : List X) → AllByRecursion P (flat_map f xs) → AllByRecursion (λ x. AllByRecursion P (f x)) xs
+  holds_of_each f [] all = tt
+  holds_of_each f (x ∷ xs) all = (holds_front (f x) (flat_map f xs) all, holds_of_each f xs (holds_back (f x) (flat_map f xs) all))
+
+  pub holds_of_any : ((y : Y) → P y) → (ys : List Y) → AllByRecursion P ys
+  holds_of_any f [] = tt
+  holds_of_any f (y ∷ ys) = (f y, holds_of_any f ys)
+
+-- ---- what differs
+module _ {X : Type 0} (same : X → X → Bool) (symm : (x y : X) → same x y ≡ same y x) where
+  -- an element that is like none of a list may be put at any place of it
+  pub distinct_with : (xs ys : List X) (x : X) → are_distinct same (xs ++ ys) ≡ true → list_any (same x) (xs ++ ys) ≡ false → are_distinct same (xs ++ x ∷ ys) ≡ true
+  distinct_with [] ys x apart other = ap (λ b. not b && are_distinct same ys) other ∙ apart
+  distinct_with (a ∷ xs) ys x apart other =
+      let not_again = not_true (list_any (same a) (xs ++ ys)) (and_left (not (list_any (same a) (xs ++ ys))) (are_distinct same (xs ++ ys)) apart) in
+      let rest = and_right (not (list_any (same a) (xs ++ ys))) (are_distinct same (xs ++ ys)) apart in
+      let parts = list_any-append (same a) xs ys in
+      let before = or_left (list_any (same a) xs) (list_any (same a) ys) (sym parts ∙ not_again) in
+      let behind = or_right (list_any (same a) xs) (list_any (same a) ys) (sym parts ∙ not_again) in
+      let here = symm a x ∙ or_left (same x a) (list_any (same x) (xs ++ ys)) other in
+      let still = list_any-append (same a) xs (x ∷ ys) ∙ neither (list_any (same a) xs) (same a x || list_any (same a) ys) before (neither (same a x) (list_any (same a) ys) here behind) in
+      both (not (list_any (same a) (xs ++ x ∷ ys))) (are_distinct same (xs ++ x ∷ ys)) (ap not still) (distinct_with xs ys x rest (or_right (same x a) (list_any (same x) (xs ++ ys)) other))
