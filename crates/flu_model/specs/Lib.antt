@@ -13,3 +13,6 @@ pub mod Merging
 pub mod Folding
 pub mod Reports
 pub mod Erasure
+pub mod PlanRules
+pub mod Owners
+pub mod Validity

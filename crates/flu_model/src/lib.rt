@@ -8,6 +8,7 @@ pub mod limits;
 pub mod lists;
 pub mod modes;
 pub mod names;
+pub mod plans;
 pub mod streams;
 pub mod words;
 
@@ -21,5 +22,6 @@ pub use limits::What;
 pub use lists::List;
 pub use modes::Mode;
 pub use names::{cell_text, tag_text};
+pub use plans::{Node, Plan, Pred, matches};
 pub use streams::Streams;
 pub use words::{Name, Text};
