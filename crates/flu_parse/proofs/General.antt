@@ -1,17 +1,17 @@
 -- Lists whose elements all pass a test, hold a property or differ.
-use Rattle.std.proofs.Common.{◌≡◌, ℕ, zero, suc, Bool, true, false, List, [], ◌∷◌, ◌++◌, map, Some, refl, sym, ap, ◌∙◌}
-use Rattle.std.specs.Prelude.{◌&&◌, ◌||◌, not, slice_get}
+use Rattle.std.proofs.Common.{◌≡◌, Bool, true, false, List, [], ◌∷◌, ◌++◌, refl, sym, ap, ◌∙◌}
+use Rattle.std.specs.Prelude.{◌&&◌, ◌||◌, not}
 use Rattle.std.specs.List.{list_all, list_any, flat_map, AllByRecursion}
 use Rattle.std.proofs.lemmas.List.Folds.{list_all-append, list_any-append}
 use Rattle.flu_lemmas.proofs.Tests.{and_left, and_right, both, not_true}
 use Rattle.flu_model.specs.Rules.{are_distinct}
 use Rattle.flu_syntax.proofs.General.{all_front, all_back}
 
-pub or_left : (a b : Bool) → (a || b) ≡ false → a ≡ false
+or_left : (a b : Bool) → (a || b) ≡ false → a ≡ false
 or_left true b e = cc
 or_left false b e = refl
 
-pub or_right : (a b : Bool) → (a || b) ≡ false → b ≡ false
+or_right : (a b : Bool) → (a || b) ≡ false → b ≡ false
 or_right true b e = cc
 or_right false b e = e
 
@@ -32,12 +32,6 @@ one_more_passes p xs x all passes = list_all-append p xs (x ∷ []) ∙ both (li
 pub list_all_same : {X : Type 0} (p q : X → Bool) → ((x : X) → p x ≡ q x) → (xs : List X) → list_all p xs ≡ list_all q xs
 list_all_same p q f [] = refl
 list_all_same p q f (x ∷ xs) = ap (λ b. b && list_all p xs) (f x) ∙ ap (λ b. q x && b) (list_all_same p q f xs)
-
--- the element at a place passes
-pub passes_at : {X : Type 0} (p : X → Bool) (xs : List X) (i : ℕ) (x : X) → list_all p xs ≡ true → slice_get xs i ≡ Some x → p x ≡ true
-passes_at p [] i x all e = absurd cc
-passes_at p (y ∷ ys) zero x all e = let same : y ≡ x = cc in ap p (sym same) ∙ and_left (p y) (list_all p ys) all
-passes_at p (y ∷ ys) (suc i) x all e = passes_at p ys i x (and_right (p y) (list_all p ys) all) e
 
 -- ---- what holds
 module _ {Y : Type 0} (P : Y → Type 0) where
