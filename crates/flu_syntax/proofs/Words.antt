@@ -1,5 +1,5 @@
 -- The names, texts and numbers of a job are tokens.
-use Rattle.std.proofs.Common.{ℕ, suc, List, [], ◌∷◌, ◌++◌, Option, Some, None, refl, arith}
+use Rattle.std.proofs.Common.{ℕ, suc, List, [], ◌∷◌, Option, Some, None, refl, arith}
 use Rattle.std.specs.Prelude.{Contains}
 use Rattle.std.specs.List.{flat_map, AllByRecursion}
 use Rattle.flu_lemmas.proofs.Elements.{all_map}
