@@ -1,6 +1,6 @@
 //! The bytes of a file.
 
-ghost use Rattle.std.specs.Prelude.{◌≡◌, ◌≤◌, ◌<◌, ◌^◌, List, ℕ, IfOk, IsErrOf};
+ghost use Rattle.std.specs.Prelude.{◌≤◌, ◌<◌, ◌^◌, List, ℕ, IfOk, IsErrOf};
 ghost use Rattle.flu_outside.specs.Outside.{WhereTold, Rose};
 ghost use Rattle.flu_rows.specs.Taking.{TakesFrom};
 ghost use Rattle.flu_top.specs.Taking.{TookWhole};

@@ -12,4 +12,3 @@ mod top;
 mod words;
 
 pub use top::flumina;
-pub use words::BadWords;

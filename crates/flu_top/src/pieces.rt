@@ -1,6 +1,6 @@
 //! Bytes that are written piece by piece, so that a line with values takes no memory.
 
-ghost use Rattle.std.specs.Prelude.{◌≡◌, map, OnOk, OnErr};
+ghost use Rattle.std.specs.Prelude.{map, OnOk, OnErr};
 ghost use Rattle.std.specs.List.{concat};
 ghost use Rattle.flu_outside.specs.Outside.{Rose, WhereTold};
 ghost use Rattle.flu_report.specs.Writing.{AppendsAll, AppendsPart};

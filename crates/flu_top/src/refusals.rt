@@ -1,7 +1,7 @@
 //! Why a command was not done.
 
 ghost use Rattle.std.specs.Prelude.{◌≡◌};
-ghost use Rattle.flu_top.specs.Answer.{status_of, refusal_of_job, refusal_of_take};
+ghost use Rattle.flu_top.specs.Answer.{status_of};
 
 use crate::words::BadWords;
 use flu_model::Program;
