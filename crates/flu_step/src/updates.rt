@@ -15,7 +15,7 @@ ghost use Rattle.flu_step.specs.Targets.{has_target_in_range};
 use crate::expressions::{cell_of, is_true, value_of};
 use crate::texts::text_of;
 use flu_cells::State;
-use flu_model::{Act, Action, Cell, Event, Expr, Out, Outs, Piece, Program, Tag, Text, tag_of};
+use flu_model::{Act, Action, Cell, Event, Expr, Family, Out, Outs, Piece, Program, Tag, Text, tag_of};
 use std::alloc::{AllocError, Global};
 
 /// Updates a state by an event, whose itag is one of the job's, and appends its outputs in the order in which its actions
@@ -35,12 +35,13 @@ pub fn update(
 {
     let tag = tag_of(p, x.itag);
     let kind = &p.kinds.items()[tag.kind as usize];
-    do_actions(alloc, kind.actions.items(), s, x, tag, outs)
+    do_actions(alloc, p.families.items(), kind.actions.items(), s, x, tag, outs)
 }
 
 // Does actions in order.
 fn do_actions(
     alloc: Global,
+    families: &[Family],
     actions: &[Action],
     s: &mut State,
     x: &Event,
@@ -48,11 +49,11 @@ fn do_actions(
     outs: &mut Outs,
 ) -> Result<(), AllocError>
     requires { IsTrue (list_all (λ a. has_target_in_range a.act tag.key) actions.now) }
-    ensures cells { OnOk result (held s.new ≡ (effect_of_actions actions.now (held s.old) x.now tag.key).cells) }
-    ensures outputs { OnOk result (outs.new ≡ outs.old ++ outputs_at x.now.time tag (effect_of_actions actions.now (held s.old) x.now tag.key).texts) }
+    ensures cells { OnOk result (held s.new ≡ (effect_of_actions families.now actions.now (held s.old) x.now tag.key).cells) }
+    ensures outputs { OnOk result (outs.new ≡ outs.old ++ outputs_at x.now.time tag (effect_of_actions families.now actions.now (held s.old) x.now tag.key).texts) }
 {
     for action in actions {
-        do_action(alloc, action, s, x, tag, outs)?;
+        do_action(alloc, families, action, s, x, tag, outs)?;
     }
     Ok(())
 }
@@ -60,6 +61,7 @@ fn do_actions(
 // Does an action whose guard holds.
 fn do_action(
     alloc: Global,
+    families: &[Family],
     action: &Action,
     s: &mut State,
     x: &Event,
@@ -67,11 +69,11 @@ fn do_action(
     outs: &mut Outs,
 ) -> Result<(), AllocError>
     requires { IsTrue (has_target_in_range action.now.act tag.key) }
-    ensures cells { OnOk result (held s.new ≡ (effect_of_action action.now (held s.old) x.now tag.key).cells) }
-    ensures outputs { OnOk result (outs.new ≡ outs.old ++ outputs_at x.now.time tag (effect_of_action action.now (held s.old) x.now tag.key).texts) }
+    ensures cells { OnOk result (held s.new ≡ (effect_of_action families.now action.now (held s.old) x.now tag.key).cells) }
+    ensures outputs { OnOk result (outs.new ≡ outs.old ++ outputs_at x.now.time tag (effect_of_action families.now action.now (held s.old) x.now tag.key).texts) }
 {
     if guard_holds(&action.guard, s, x, tag.key) {
-        do_act(alloc, &action.act, s, x, tag, outs)
+        do_act(alloc, families, &action.act, s, x, tag, outs)
     } else {
         Ok(())
     }
@@ -90,6 +92,7 @@ fn guard_holds(guard: &Option<Expr>, s: &State, x: &Event, key: u32) -> bool
 // Does an act.
 fn do_act(
     alloc: Global,
+    families: &[Family],
     act: &Act,
     s: &mut State,
     x: &Event,
@@ -97,8 +100,8 @@ fn do_act(
     outs: &mut Outs,
 ) -> Result<(), AllocError>
     requires { IsTrue (has_target_in_range act.now tag.key) }
-    ensures cells { OnOk result (held s.new ≡ (effect_of_act act.now (held s.old) x.now tag.key).cells) }
-    ensures outputs { OnOk result (outs.new ≡ outs.old ++ outputs_at x.now.time tag (effect_of_act act.now (held s.old) x.now tag.key).texts) }
+    ensures cells { OnOk result (held s.new ≡ (effect_of_act families.now act.now (held s.old) x.now tag.key).cells) }
+    ensures outputs { OnOk result (outs.new ≡ outs.old ++ outputs_at x.now.time tag (effect_of_act families.now act.now (held s.old) x.now tag.key).texts) }
 {
     match act {
         Act::Add(r, e) => {
@@ -118,10 +121,10 @@ fn do_act(
             Ok(())
         }
         Act::Emit(pieces) => {
-            let text = text_of(alloc, pieces.items(), s, x, tag.key, None)?;
+            let text = text_of(alloc, families, pieces.items(), s, x, tag.key, None)?;
             put_out(outs, x, tag, text)
         }
-        Act::Flush(family, pieces) => flush(alloc, *family, pieces.items(), s, x, tag, outs),
+        Act::Flush(family, pieces) => flush(alloc, families, *family, pieces.items(), s, x, tag, outs),
     }
 }
 
@@ -139,6 +142,7 @@ fn put_out(outs: &mut Outs, x: &Event, tag: Tag, text: Text) -> Result<(), Alloc
 // One output for each key of a family whose cell is not neutral, and then all its cells become neutral.
 fn flush(
     alloc: Global,
+    families: &[Family],
     family: u32,
     pieces: &[Piece],
     s: &mut State,
@@ -147,12 +151,12 @@ fn flush(
     outs: &mut Outs,
 ) -> Result<(), AllocError>
     ensures cells { OnOk result (held s.new ≡ without_family (held s.old) family) }
-    ensures outputs { OnOk result (outs.new ≡ outs.old ++ outputs_at x.now.time tag (map (λ k. pieces_text pieces.now (held s.old) x.now k (held s.old (cell family k))) (held_keys (held s.old) family))) }
+    ensures outputs { OnOk result (outs.new ≡ outs.old ++ outputs_at x.now.time tag (map (λ k. pieces_text families.now pieces.now (held s.old) x.now k (held s.old (cell family k))) (held_keys (held s.old) family))) }
 {
     let keys = s.keys(family)?;
     for key in &keys {
         let there = s.get(Cell { family, key: *key });
-        let text = text_of(alloc, pieces, s, x, *key, there)?;
+        let text = text_of(alloc, families, pieces, s, x, *key, there)?;
         put_out(outs, x, tag, text)?;
     }
     for key in &keys {
