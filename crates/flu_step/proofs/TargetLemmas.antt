@@ -52,27 +52,27 @@ kind_of_tag (k ∷ ks) zero d lt = refl
 kind_of_tag (k ∷ ks) (suc n) d lt = kind_of_tag ks n d (omega arith)
 
 -- one action first, and then the others
-pub effect-drop : (all : List Action) (s : Contents) (x : Event) (key i : ℕ) (d : Action) → i < length all
-    → effect_of_actions (drop i all) s x key
-    ≡ (let first = effect_of_action (get_or all i d) s x key in
-    let others = effect_of_actions (drop (i + 1) all) first.cells x key in
+pub effect-drop : (families : List Family) (all : List Action) (s : Contents) (x : Event) (key i : ℕ) (d : Action) → i < length all
+    → effect_of_actions families (drop i all) s x key
+    ≡ (let first = effect_of_action families (get_or all i d) s x key in
+    let others = effect_of_actions families (drop (i + 1) all) first.cells x key in
     record { cells = others.cells; texts = first.texts ++ others.texts })
-effect-drop all s x key i d lt = ap (λ rest. effect_of_actions rest s x key) (drop-cons all i d lt) ∙ simp add-one
+effect-drop families all s x key i d lt = ap (λ rest. effect_of_actions families rest s x key) (drop-cons all i d lt) ∙ simp add-one
 
 -- one turn of the loop over the actions
-pub actions_turn : (all : List Action) (s t : Contents) (x : Event) (g : Tag) (i : ℕ) (a : Action) (outs more from : List Out) (whole : Effect)
+pub actions_turn : (families : List Family) (all : List Action) (s t : Contents) (x : Event) (g : Tag) (i : ℕ) (a : Action) (outs more from : List Out) (whole : Effect)
     → i < length all → a ≡ get_or all i a
-    → t ≡ (effect_of_action a s x g.key).cells
-    → more ≡ outs ++ outputs_at x.time g (effect_of_action a s x g.key).texts
-    → ((effect_of_actions (drop i all) s x g.key).cells ≡ whole.cells) × (outs ++ outputs_at x.time g (effect_of_actions (drop i all) s x g.key).texts ≡ from ++ outputs_at x.time g whole.texts)
-    → ((effect_of_actions (drop (i + 1) all) t x g.key).cells ≡ whole.cells) × (more ++ outputs_at x.time g (effect_of_actions (drop (i + 1) all) t x g.key).texts ≡ from ++ outputs_at x.time g whole.texts)
-actions_turn all s t x g i a outs more from whole lt is cells texts inv =
-    let first : Effect = effect_of_action a s x g.key in
-    let others : Effect = effect_of_actions (drop (i + 1) all) first.cells x g.key in
-    let step : effect_of_actions (drop i all) s x g.key ≡ record { cells = others.cells; texts = first.texts ++ others.texts } =
-    effect-drop all s x g.key i a lt ∙ (λ j. let f = effect_of_action (sym is j) s x g.key in let o = effect_of_actions (drop (i + 1) all) f.cells x g.key in record { cells = o.cells; texts = f.texts ++ o.texts }) in (
-      ap (λ u. (effect_of_actions (drop (i + 1) all) u x g.key).cells) cells ∙ sym (ap (λ e. e.cells) step) ∙ inv.0,
-      (λ j. texts j ++ outputs_at x.time g (effect_of_actions (drop (i + 1) all) (cells j) x g.key).texts)
+    → t ≡ (effect_of_action families a s x g.key).cells
+    → more ≡ outs ++ outputs_at x.time g (effect_of_action families a s x g.key).texts
+    → ((effect_of_actions families (drop i all) s x g.key).cells ≡ whole.cells) × (outs ++ outputs_at x.time g (effect_of_actions families (drop i all) s x g.key).texts ≡ from ++ outputs_at x.time g whole.texts)
+    → ((effect_of_actions families (drop (i + 1) all) t x g.key).cells ≡ whole.cells) × (more ++ outputs_at x.time g (effect_of_actions families (drop (i + 1) all) t x g.key).texts ≡ from ++ outputs_at x.time g whole.texts)
+actions_turn families all s t x g i a outs more from whole lt is cells texts inv =
+    let first : Effect = effect_of_action families a s x g.key in
+    let others : Effect = effect_of_actions families (drop (i + 1) all) first.cells x g.key in
+    let step : effect_of_actions families (drop i all) s x g.key ≡ record { cells = others.cells; texts = first.texts ++ others.texts } =
+    effect-drop families all s x g.key i a lt ∙ (λ j. let f = effect_of_action families (sym is j) s x g.key in let o = effect_of_actions families (drop (i + 1) all) f.cells x g.key in record { cells = o.cells; texts = f.texts ++ o.texts }) in (
+      ap (λ u. (effect_of_actions families (drop (i + 1) all) u x g.key).cells) cells ∙ sym (ap (λ e. e.cells) step) ∙ inv.0,
+      (λ j. texts j ++ outputs_at x.time g (effect_of_actions families (drop (i + 1) all) (cells j) x g.key).texts)
           ∙ append_assoc outs (outputs_at x.time g first.texts) (outputs_at x.time g others.texts)
           ∙ ap (λ o. outs ++ o) (sym (map-append _ first.texts others.texts))
           ∙ sym (ap (λ e. outs ++ outputs_at x.time g e.texts) step)
@@ -93,9 +93,9 @@ kind_targets families kinds t k fits small is =
     let one : kind_fits families k ≡ true = ap (kind_fits families) is ∙ all_at (kind_fits families) kinds t.kind k fits kind_lt in
     targets_in_range families k.keyed k.has_value k.actions t.key (and_right _ _ one) key_lt
 
-pub effect-at : (p : Program) (s : Contents) (x : Event) (t : Tag) (k : Kind) → t ≡ tag_of_itag p x.itag → tag_fits p.kinds t ≡ true → k ≡ get_or p.kinds t.kind k → effect_of_actions k.actions s x t.key ≡ effect_of p s x
+pub effect-at : (p : Program) (s : Contents) (x : Event) (t : Tag) (k : Kind) → t ≡ tag_of_itag p x.itag → tag_fits p.kinds t ≡ true → k ≡ get_or p.kinds t.kind k → effect_of_actions p.families k.actions s x t.key ≡ effect_of p s x
 effect-at p s x t k at small is =
     let kind_lt : t.kind < length p.kinds = true_lt _ _ (and_left _ _ small) in
     let found : slice_get p.kinds t.kind ≡ Some k = kind_of_tag p.kinds t.kind k kind_lt ∙ sym (ap Some is) in
-    sym (ap (λ o. effect_of_actions (actions_of o) s x t.key) found)
-    ∙ ap (λ u. effect_of_actions (actions_of (slice_get p.kinds u.kind)) s x u.key) at
+    sym (ap (λ o. effect_of_actions p.families (actions_of o) s x t.key) found)
+    ∙ ap (λ u. effect_of_actions p.families (actions_of (slice_get p.kinds u.kind)) s x u.key) at

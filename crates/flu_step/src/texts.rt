@@ -1,6 +1,6 @@
 //! The texts that actions put out.
 
-ghost use Rattle.std.specs.Prelude.{◌≡◌, ◌++◌, OnOk, IfOk, option_map};
+ghost use Rattle.std.specs.Prelude.{◌≡◌, ◌++◌, OnOk, IfOk, slice_get};
 ghost use Rattle.std.specs.Fmt.{decimal, signed_decimal};
 ghost use Rattle.std.specs.String.{string_bytes};
 ghost use Rattle.flu_model.specs.Texts as meaning;
@@ -48,18 +48,18 @@ fn push_piece(
         Piece::Key => push_number(text, u64::from(key)),
         Piece::Time => push_number(text, x.time),
         Piece::Read(r) => {
-            let neutral = neutral_of(families.get(r.family as usize));
+            let neutral = neutral_of(families, r.family);
             push_worth(text, neutral, s.get(cell_of(*r, key)))
         }
         Piece::CellValue => push_worth(text, "none", there),
     }
 }
 
-// A neutral cell of a family as a text.
-fn neutral_of(family: Option<&Family>) -> &'static str
-    ensures { result.now ≡ meaning.neutral_of (option_map (λ f. f.now) family) }
+// A neutral cell of the family with this number as a text.
+fn neutral_of(families: &[Family], number: u32) -> &'static str
+    ensures { result.now ≡ meaning.neutral_of (slice_get families.now number) }
 {
-    match family {
+    match families.get(number as usize) {
         Some(family) => neutral_text(family.sort),
         None => "none",
     }
