@@ -1,7 +1,8 @@
 //! Calls that write the report.
 
 use super::jobs::{
-    A, B, C, COUNTING, END, HIGHEST, HIGHEST_TWICE, LAST_VALUES, ONE_SOURCE, READS_APART, REPORT,
+    A, B, C, COUNTING, END, HIGHEST, HIGHEST_TWICE, LAST_VALUES, ONE_SOURCE, READING_FIRST,
+    READS_APART, REPORT, TWO_READERS,
 };
 use super::{check, check_all, folded, pages};
 use std::test::Fail;
@@ -39,6 +40,25 @@ fn sources_in_declared_order(rt: HostRuntime) -> Result<(), Fail> {
                 ("c.csv", "3,read\nend\n"),
             ],
             "3,read,count 1\n",
+        ),
+        folded(
+            &[
+                ("J", READING_FIRST),
+                ("a.csv", "3,inc,1\nend\n"),
+                ("b.csv", END),
+                ("c.csv", "3,read\nend\n"),
+            ],
+            "3,read,count 0\n",
+        ),
+        folded(
+            &[
+                ("J", TWO_READERS),
+                ("a.csv", END),
+                ("b.csv", END),
+                ("c.csv", "3,read\nend\n"),
+                ("d.csv", "3,read\nend\n"),
+            ],
+            "3,read,count 0\n3,read,count 0\n",
         ),
     ];
     check_all(&rt, rt.alloc(), &cases)

@@ -13,6 +13,33 @@ source b \"b.csv\" rate 1000: inc
 source c \"c.csv\" rate 1: read
 ";
 
+/// The same with the source that reads declared first.
+pub const READING_FIRST: &str = "cell count sum
+tag inc int
+tag read none
+depends inc read
+depends read read
+on inc: add count value
+on read: emit \"count {count}\"; clear count
+source c \"c.csv\" rate 1: read
+source a \"a.csv\" rate 1000: inc
+source b \"b.csv\" rate 1000: inc
+";
+
+/// The same with two sources that read.
+pub const TWO_READERS: &str = "cell count sum
+tag inc int
+tag read none
+depends inc read
+depends read read
+on inc: add count value
+on read: emit \"count {count}\"; clear count
+source a \"a.csv\" rate 1000: inc
+source b \"b.csv\" rate 1000: inc
+source c \"c.csv\" rate 1: read
+source d \"d.csv\": read
+";
+
 /// The same with reads that do not depend on each other, which `fold` does not mind.
 pub const READS_APART: &str = "cell count sum
 tag inc int
