@@ -1,0 +1,24 @@
+-- The bytes of a plan text that a written name takes, and the value of a written number.
+use Rattle.std.specs.Prelude.{ℕ, Bool, ◌&&◌, ◌||◌, nat_lt, nat_le, if◌then◌else◌, ℤ, pos, negsuc, List, [], length, slice_index, slice_range}
+use Rattle.flu_syntax.specs.declared.tree.WrittenSpan.{WrittenSpan}
+use Rattle.flu_syntax.specs.declared.tree.WrittenNumber.{WrittenNumber}
+
+-- a character begins at a place, or the text ends there
+abbrev pub is_boundary : List ℕ → ℕ → Bool
+is_boundary text i = nat_le i (length text) && (nat_le (length text) i || nat_lt (slice_index text i) 128 || nat_le 192 (slice_index text i))
+
+-- the bytes from one place to before another; none where these are no places of a text
+abbrev pub spelled : List ℕ → ℕ → ℕ → List ℕ
+spelled text from to = if nat_le from to && is_boundary text from && is_boundary text to then slice_range text from to else []
+
+-- a written name
+abbrev pub name_of : List ℕ → WrittenSpan → List ℕ
+name_of text s = spelled text s.from s.to
+
+abbrev pub natural : ℤ → ℕ
+natural (pos n) = n
+natural (negsuc n) = 0
+
+-- the value of a written number, which is never below 0
+abbrev pub value_of : WrittenNumber → ℕ
+value_of n = natural n.value
