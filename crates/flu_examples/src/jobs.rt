@@ -116,11 +116,11 @@ fn only(kind: u32) -> TagRef {
     }
 }
 
-/// The tags of a kind with the keys 0 to 9.
-fn ten(kind: u32) -> TagRef {
+/// The tags of a kind with the keys from 0 to the last.
+fn up_to(kind: u32, last: u32) -> TagRef {
     TagRef {
         kind,
-        keys: Keys::Range(0, 9),
+        keys: Keys::Range(0, last),
     }
 }
 
@@ -141,9 +141,18 @@ pub fn shared_count(
     alloc: Global,
     listed: &[(&str, &[TagRef])],
 ) -> Result<Option<Program>, AllocError> {
+    count_with(alloc, &[(0, 1, false), (1, 1, false)], listed)
+}
+
+/// The same with these dependencies, each of two kinds, and whether it is at the same key alone.
+pub fn count_with(
+    alloc: Global,
+    pairs: &[(u32, u32, bool)],
+    listed: &[(&str, &[TagRef])],
+) -> Result<Option<Program>, AllocError> {
     let families = one(alloc, family(alloc, "count", false, Sort::Sum)?)?;
     let kinds = count_kinds(alloc)?;
-    let depends = depends(alloc, &[(0, 1, false), (1, 1, false)])?;
+    let depends = depends(alloc, pairs)?;
     let sources = sources(alloc, listed)?;
     Ok(program(List::of(families), List::of(kinds), depends, sources))
 }
@@ -166,13 +175,23 @@ fn count_reads(alloc: Global) -> Result<Vec<Action>, AllocError> {
 ///
 /// Its itags are the views of `web`, 0 to 9, those of `app`, 10 to 19, the updates, 20 to 29, and the tick, 30.
 pub fn page_views(alloc: Global) -> Result<Option<Program>, AllocError> {
+    pages_with(alloc, &[(1, 1, true), (0, 2, false), (2, 2, false)], 9, 9)
+}
+
+/// The same with these dependencies, for the pages and the users from 0 to the last.
+pub fn pages_with(
+    alloc: Global,
+    pairs: &[(u32, u32, bool)],
+    last_page: u32,
+    last_user: u32,
+) -> Result<Option<Program>, AllocError> {
     let mut families = one(alloc, family(alloc, "views", true, Sort::Sum)?)?;
     families.push(family(alloc, "zip", true, Sort::Last)?)?;
     let kinds = page_kinds(alloc)?;
-    let depends = depends(alloc, &[(1, 1, true), (0, 2, false), (2, 2, false)])?;
+    let depends = depends(alloc, pairs)?;
     let listed: [(&str, &[TagRef]); 3] = [
-        ("web", &[ten(0)]),
-        ("app", &[ten(0), ten(1)]),
+        ("web", &[up_to(0, last_page)]),
+        ("app", &[up_to(0, last_page), up_to(1, last_user)]),
         ("clock", &[only(2)]),
     ];
     let sources = sources(alloc, &listed)?;
@@ -231,4 +250,40 @@ fn of_value(alloc: Global, op: Op, n: i64) -> Result<Expr, AllocError> {
     let left = Box::new(alloc, Expr::Value)?;
     let right = Box::new(alloc, Expr::Lit(n))?;
     Ok(Expr::Two(op, left, right))
+}
+
+/// The job of a count behind a gate, without dependencies: `pass` adds to the count where the gate holds a value, `open` sets
+/// it, and `tell` raises the note of its own key, 0 or 1, and puts out the note 7.
+pub fn gated_count(alloc: Global) -> Result<Option<Program>, AllocError> {
+    let mut families = one(alloc, family(alloc, "gate", false, Sort::Last)?)?;
+    families.push(family(alloc, "count", false, Sort::Sum)?)?;
+    families.push(family(alloc, "note", true, Sort::Max)?)?;
+    let kinds = gated_kinds(alloc)?;
+    let depends = depends(alloc, &[])?;
+    let tags = [only(0), only(1), up_to(2, 1)];
+    let sources = sources(alloc, &[("s", &tags)])?;
+    Ok(program(List::of(families), List::of(kinds), depends, sources))
+}
+
+fn gated_kinds(alloc: Global) -> Result<Vec<Kind>, AllocError> {
+    let pass = Action {
+        act: Act::Add(alone(1), Expr::Lit(1)),
+        guard: Some(Expr::Has(alone(0))),
+    };
+    let passes = one(alloc, pass)?;
+    let mut kinds = one(alloc, kind(alloc, "pass", false, false, passes)?)?;
+    let opens = one(alloc, always(Act::Set(alone(0), Expr::Value)))?;
+    kinds.push(kind(alloc, "open", false, true, opens)?)?;
+    kinds.push(kind(alloc, "tell", true, true, note_actions(alloc)?)?)?;
+    Ok(kinds)
+}
+
+fn note_actions(alloc: Global) -> Result<Vec<Action>, AllocError> {
+    let seventh = CellRef {
+        family: 2,
+        at: At::Fixed(7),
+    };
+    let mut tells = one(alloc, always(Act::Raise(own(2), Expr::Value)))?;
+    tells.push(told(alloc, "note ", seventh)?)?;
+    Ok(tells)
 }

@@ -1,9 +1,9 @@
 -- A kind is given its actions.
-use Rattle.std.proofs.Common.{◌≡◌, ℕ, zero, suc, ◌+◌, ◌<◌, ◌≤◌, List, [], ◌∷◌, map, length, get_or, refl, ap, ◌∙◌, sym, arith}
+use Rattle.std.proofs.Common.{◌≡◌, ℕ, zero, suc, ◌<◌, ◌≤◌, List, [], ◌∷◌, map, length, get_or, refl, ap, arith}
 use Rattle.std.specs.List.{slice_set}
 use Rattle.flu_model.specs.declared.jobs.Kind.{Kind}
 use Rattle.flu_model.specs.declared.jobs.Action.{Action}
-use Rattle.flu_model.specs.Erasure.{PlainKind, plain_kind, plain_action}
+use Rattle.flu_model.specs.Erasure.{plain_kind, plain_action}
 use Rattle.flu_parse.specs.Resolving.{with_actions}
 
 abbrev pub active : Kind → List Action → Kind

@@ -1,10 +1,10 @@
 -- One byte more of a template.
-use Rattle.std.proofs.Common.{◌≡◌, ℕ, suc, ◌+◌, ◌<◌, ◌≤◌, List, ◌∷◌, length, drop, get_or, Option, Some, None, Bool, true, false, ap, sym, ◌∙◌, add-one}
+use Rattle.std.proofs.Common.{◌≡◌, ℕ, suc, ◌+◌, ◌<◌, ◌≤◌, List, length, drop, get_or, Option, Some, None, Bool, true, false, ap, sym, ◌∙◌, add-one}
 use Rattle.std.proofs.Math.Seq.{drop-cons}
 use Rattle.std.proofs.lemmas.List.{drop_all}
 use Rattle.flu_parse.specs.declared.pieces.WrittenPiece.{WrittenPiece}
 use Rattle.flu_parse.specs.Scans.{Steps}
-use Rattle.flu_parse.specs.Templates.{Scan, Template, scan_byte, scan, continued, end_of_scan}
+use Rattle.flu_parse.specs.Templates.{Scan, scan_byte, scan, continued, end_of_scan}
 
 module _ (field : ℕ → ℕ → Option WrittenPiece) where
   pub scan-next : (s t : Scan) (place : ℕ) (bs : List ℕ) (i : ℕ) → i < length bs → scan_byte field s place (get_or bs i 0) ≡ Some t → scan field s place (drop i bs) ≡ scan field t (place + 1) (drop (i + 1) bs)

@@ -1,5 +1,5 @@
 -- A written reference to a cell, under a kind that is keyed or not.
-use Rattle.std.specs.Prelude.{ℕ, Bool, true, false, not, ◌&&◌, nat_lt, List, Option, Some, None, Ok}
+use Rattle.std.specs.Prelude.{ℕ, Bool, true, not, ◌&&◌, nat_lt, List, Option, Some, None, Ok}
 use Rattle.flu_model.specs.declared.limits.What.TheVariants.{Key}
 use Rattle.flu_model.specs.declared.jobs.Sort.{Sort}
 use Rattle.flu_model.specs.declared.jobs.At.{At}

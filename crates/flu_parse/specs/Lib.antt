@@ -9,3 +9,5 @@ pub mod Deeds
 pub mod Listings
 pub mod Resolving
 pub mod Reading
+pub mod Printing
+pub mod Laws

@@ -1,5 +1,5 @@
 -- A job text: the looks at it, in their order.
-use Rattle.std.specs.Prelude.{ℕ, nat_le, List, length, Result, Ok, Err}
+use Rattle.std.specs.Prelude.{ℕ, nat_le, List, length, Ok, Err}
 use Rattle.std.specs.Str.{is_utf8}
 use Rattle.std.specs.Str.Lossy.{utf8_valid_len}
 use Rattle.flu_model.specs.declared.limits.What.TheVariants.{Bytes, Nesting}

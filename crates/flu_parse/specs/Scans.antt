@@ -1,5 +1,5 @@
 -- What contracts see of a scan.
-use Rattle.std.specs.Prelude.{◌≡◌, ℕ, Bool, true, false, Option, Some, None}
+use Rattle.std.specs.Prelude.{◌≡◌, Bool, true, false, Option, Some, None}
 use Rattle.flu_parse.specs.declared.pieces.Scanner.{Scanner}
 use Rattle.flu_parse.specs.declared.pieces.ScannedTemplate.{ScannedTemplate}
 use Rattle.flu_parse.specs.Templates.{Scan, Template}

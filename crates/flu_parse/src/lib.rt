@@ -6,21 +6,28 @@ mod deeds;
 mod drafts;
 mod faults;
 mod fields;
+pub mod laws;
 mod listings;
 mod names;
 mod naming;
 mod pieces;
+mod printing;
+mod printing_actions;
+mod printing_terms;
 mod reading;
 mod resolving;
 mod scanning;
-mod spelling;
+pub mod spelling;
 mod templates;
 mod terms;
 
-pub use drafts::JobParts;
 pub use faults::JobFault;
+pub use printing::print_job;
 pub use reading::read_job;
-pub use resolving::resolve;
 
 #[cfg(test)]
+mod printing_tests;
+#[cfg(test)]
 mod tests;
+#[cfg(test)]
+mod whole_jobs;

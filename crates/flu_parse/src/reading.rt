@@ -1,15 +1,18 @@
-//! From the bytes of a job text to the parts of its job.
+//! From the bytes of a job text to its job.
 
 ghost use Rattle.std.specs.Prelude.{◌≡◌};
-ghost use Rattle.flu_syntax.specs.Tree.{job_of};
+ghost use Rattle.flu_model.specs.Erasure.{job_of};
+ghost use Rattle.flu_syntax.specs.Tree.{job_of as written_job};
 ghost use Rattle.flu_parse.specs.Faults.{Gives};
 ghost use Rattle.flu_parse.specs.Resolving.{job_of_parts};
 ghost use Rattle.flu_parse.specs.Reading.{text_in, tokens_in, written_in, job_in};
 
 use crate::drafts::JobParts;
 use crate::faults::JobFault;
+use crate::laws::jobs_keep_rules;
 use crate::resolving::resolve;
-use flu_model::What;
+use flu_model::{Program, What};
+use flu_rules::program;
 use flu_syntax::{SyntaxFault, WrittenDeclaration, read_syntax};
 use flu_text::{TextFault, Token, tokens};
 use std::alloc::Global;
@@ -44,7 +47,7 @@ fn written_in(
     found: &[Token],
     end: usize,
 ) -> Result<Vec<WrittenDeclaration>, JobFault>
-    ensures { Gives (λ written. job_of written.items) result (written_in end found.now) }
+    ensures { Gives (λ written. written_job written.items) result (written_in end found.now) }
 {
     match read_syntax(alloc, found, end) {
         Ok(written) => Ok(written),
@@ -57,17 +60,8 @@ fn written_in(
     }
 }
 
-/// The parts of the job that a text is, or the first fault in it (`docs/LANGUAGE.md`).
-///
-/// # Errors
-///
-/// The looks come in this order, and the first fault found is the answer: [`JobFault::OverLimit`] for more than 1,048,576 bytes;
-/// [`JobFault::BadUtf8`] at the first byte of the first sequence that is not UTF-8; [`JobFault::BadToken`] at the first place
-/// where no token begins; [`JobFault::Unexpected`] at the first token that cannot follow, or at the text's length, and
-/// [`JobFault::OverLimit`] at the 65th parenthesis or unary operator that is open at once; then what [`resolve`] finds.
-/// [`JobFault::NoMemory`] where memory is wanting.
 #[tactic(auto, unfolding(crate::specs::Reading::job_in))]
-pub fn read_job(alloc: Global, bytes: &[u8]) -> Result<JobParts, JobFault>
+fn read_parts(alloc: Global, bytes: &[u8]) -> Result<JobParts, JobFault>
     ensures { Gives job_of_parts result (job_in bytes.now) }
 {
     if bytes.len() > MOST_BYTES {
@@ -80,4 +74,28 @@ pub fn read_job(alloc: Global, bytes: &[u8]) -> Result<JobParts, JobFault>
     let found = tokens_in(alloc, text)?;
     let written = written_in(alloc, found.as_slice(), text.len())?;
     resolve(alloc, text, written.as_slice())
+}
+
+/// The job that a text is, or the first fault in it (`docs/LANGUAGE.md`).
+///
+/// # Errors
+///
+/// The looks come in this order, and the first fault found is the answer. [`JobFault::OverLimit`] for more than 1,048,576 bytes;
+/// [`JobFault::BadUtf8`] at the first byte of the first sequence that is not UTF-8; [`JobFault::BadToken`] at the first place
+/// where no token begins; [`JobFault::Unexpected`] at the first token that cannot follow, or at the text's length, and
+/// [`JobFault::OverLimit`] at the 65th parenthesis or unary operator that is open at once.
+///
+/// Then names are looked at, in the order of the declarations: [`JobFault::TwiceNamed`] at the second declaration of a name,
+/// [`JobFault::OverLimit`] for a family, kind, source or `depends` that is one too many. At last the declarations are looked at
+/// again, token by token, where [`JobFault::UnknownName`] comes before [`JobFault::WrongShape`], that before
+/// [`JobFault::OverLimit`], and that before [`JobFault::TwiceNamed`]. [`JobFault::NoMemory`] where memory is wanting.
+pub fn read_job(alloc: Global, bytes: &[u8]) -> Result<Program, JobFault>
+    ensures { Gives job_of result (job_in bytes.now) }
+{
+    jobs_keep_rules();
+    let parts = read_parts(alloc, bytes)?;
+    match program(parts.families, parts.kinds, parts.depends, parts.sources) {
+        Some(job) => Ok(job),
+        None => unreachable!(),
+    }
 }

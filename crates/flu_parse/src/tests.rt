@@ -1,62 +1,8 @@
-use crate::{JobFault, JobParts, read_job};
-use flu_model::{Act, Depend, Keys, Piece, TagRef};
+use crate::{JobFault, read_job};
+use flu_model::What;
 use std::alloc::{AllocError, Global};
 use std::process::Abort;
 use std::test::Fail;
-
-const JOB_J: &str = "cell count sum
-tag inc int
-tag read none
-depends inc read
-depends read read
-on inc: add count value
-on read: emit \"count {count}\"; clear count
-source a \"a.csv\" rate 1000: inc
-source b \"b.csv\" rate 1000: inc
-source c \"c.csv\" rate 1: read
-";
-
-const JOB_K: &str = "cell views keyed sum
-cell zip keyed last
-tag view keyed int
-tag update keyed int
-tag tick none
-depends update update same
-depends view tick
-depends tick tick
-on view: add views[key] value
-on update: emit \"was {zip[key]}\"; set zip[key] value
-on tick: flush views \"page {key} views {cell}\"
-source web \"web.csv\" rate 1000: view[0..9]
-source app \"app.csv\" rate 500: view[0..9], update[0..9]
-source clock \"clock.csv\" rate 1: tick
-";
-
-const JOB_M: &str = "cell hi max
-cell seen last
-tag t int
-depends t t
-on t: raise hi value when value > 2; set seen value; emit \"hi {hi} seen {seen}\"
-source s \"s.csv\" rate 1: t
-";
-
-const JOB_D: &str = "cell p last
-cell q last
-tag r int
-tag r2 int
-tag z none
-depends r r
-depends r2 r2
-depends z z
-depends r z
-depends r2 z
-on r: set p value; emit \"p {p}\"
-on r2: set q value; emit \"q {q}\"
-on z: emit \"z {p} {q}\"
-source s1 \"s1.csv\" rate 1: r
-source s2 \"s2.csv\" rate 1: r2
-source s3 \"s3.csv\" rate 10: z
-";
 
 fn said(alloc: Global, text: &str) -> Result<String, AllocError> {
     match read_job(alloc, text.as_bytes()) {
@@ -178,6 +124,24 @@ fn faults_of_expressions(rt: HostRuntime) -> Result<(), Fail> {
     Ok(())
 }
 
+// A row of operators is read, refused and dropped along its left operands, without a level of recursion for each.
+#[test]
+fn long_row_of_operators(rt: HostRuntime) -> Result<(), Fail> {
+    let alloc = rt.alloc();
+    let mut text = String::from_str(alloc, "cell a sum tag t none on t: add a 1")?;
+    for _ in 0..500_000 {
+        text.push_str("+1")?;
+    }
+    match read_job(alloc, text.as_bytes()) {
+        Err(JobFault::OverLimit { what, count }) => {
+            assert_eq!(rt; what, What::Height);
+            assert_eq!(rt; count, 33);
+        }
+        _ => assert!(rt; false),
+    }
+    Ok(())
+}
+
 #[test]
 fn faults_of_templates(rt: HostRuntime) -> Result<(), Fail> {
     let cases = [
@@ -209,92 +173,6 @@ fn faults_of_templates(rt: HostRuntime) -> Result<(), Fail> {
 fn bytes_that_are_no_text(rt: HostRuntime) -> Result<(), Fail> {
     match read_job(rt.alloc(), b"cell \xFF") {
         Err(JobFault::BadUtf8 { at }) => assert_eq!(rt; at, 5),
-        _ => assert!(rt; false),
-    }
-    Ok(())
-}
-
-fn parts(alloc: Global, text: &str) -> Result<JobParts, Fail> {
-    let parts = read_job(alloc, text.as_bytes())?;
-    Ok(parts)
-}
-
-fn expect_counts(
-    rt: &impl Abort,
-    alloc: Global,
-    text: &str,
-    counts: [usize; 4],
-) -> Result<(), Fail> {
-    let job = parts(alloc, text)?;
-    assert_eq!(rt; job.families.items().len(), counts[0]);
-    assert_eq!(rt; job.kinds.items().len(), counts[1]);
-    assert_eq!(rt; job.depends.items().len(), counts[2]);
-    assert_eq!(rt; job.sources.items().len(), counts[3]);
-    Ok(())
-}
-
-#[test]
-fn parts_of_jobs(rt: HostRuntime) -> Result<(), Fail> {
-    expect_counts(&rt, rt.alloc(), JOB_J, [1, 2, 2, 3])?;
-    expect_counts(&rt, rt.alloc(), JOB_K, [2, 3, 3, 3])?;
-    expect_counts(&rt, rt.alloc(), JOB_M, [2, 1, 1, 1])?;
-    expect_counts(&rt, rt.alloc(), JOB_D, [2, 3, 5, 3])?;
-    Ok(())
-}
-
-#[test]
-fn parts_of_job_k(rt: HostRuntime) -> Result<(), Fail> {
-    let job = parts(rt.alloc(), JOB_K)?;
-    let depends = job.depends.items();
-    assert_eq!(rt; depends.len(), 3);
-    assert_eq!(rt;
-        depends[0],
-        Depend {
-            a: 1,
-            b: 1,
-            same: true
-        }
-    );
-    assert_eq!(rt;
-        depends[1],
-        Depend {
-            a: 0,
-            b: 2,
-            same: false
-        }
-    );
-    let sources = job.sources.items();
-    assert_eq!(rt; sources.len(), 3);
-    assert_eq!(rt; sources[1].name.as_str(), "app");
-    assert_eq!(rt; sources[1].file.as_str(), "app.csv");
-    assert_eq!(rt; sources[1].rate, 500);
-    let tags = sources[1].tags.items();
-    assert_eq!(rt; tags.len(), 2);
-    assert_eq!(rt;
-        tags[1],
-        TagRef {
-            kind: 1,
-            keys: Keys::Range(0, 9)
-        }
-    );
-    Ok(())
-}
-
-#[test]
-fn template_of_job_k(rt: HostRuntime) -> Result<(), Fail> {
-    let job = parts(rt.alloc(), JOB_K)?;
-    let kinds = job.kinds.items();
-    assert_eq!(rt; kinds.len(), 3);
-    let actions = kinds[2].actions.items();
-    assert_eq!(rt; actions.len(), 1);
-    match &actions[0].act {
-        Act::Flush(family, pieces) => {
-            let pieces = pieces.items();
-            assert_eq!(rt; *family, 0);
-            assert_eq!(rt; pieces.len(), 4);
-            assert!(rt; matches!(&pieces[1], Piece::Key));
-            assert!(rt; matches!(&pieces[3], Piece::CellValue));
-        }
         _ => assert!(rt; false),
     }
     Ok(())

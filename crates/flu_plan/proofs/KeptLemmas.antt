@@ -26,7 +26,7 @@ use Rattle.flu_plan.specs.declared.drafts.DraftPred.{DraftPred}
 use Rattle.flu_plan.specs.declared.drafts.DraftNode.{DraftNode}
 use Rattle.flu_plan.specs.declared.drafts.Visit.{Visit}
 use Rattle.flu_plan.specs.Faults.{Found, ◌>>=◌, ◌>>◌, unless, each}
-use Rattle.flu_plan.specs.Spelling.{name_of, value_of}
+use Rattle.flu_parse.specs.Spelling.{name_of, value_of}
 use Rattle.flu_plan.specs.Shape.{name_at, name_of_node, visit, preorder, children_of, all_below}
 use Rattle.flu_plan.specs.Limits.{small_key, small_keys, keys_of_pred, keys_of_node, keys_of_nodes, predicates, within_limits}
 use Rattle.flu_plan.specs.Planning.{planned_pred, planned_keys, planned_node, planned_found, planned_at, planned}
@@ -49,10 +49,10 @@ key_small b n e = unless_ok b (f.OverLimit Key n) tt e
 
 small_planned : (ks : WrittenKeys) → small_keys ks ≡ Ok tt → are_small_keys (planned_keys ks) ≡ true
 small_planned keys.Alone e = refl
-small_planned (keys.One n) e = key_small (nat_lt (value_of n) key_count) (value_of n) e
+small_planned (keys.One n) e = key_small (nat_lt (value_of n.value) key_count) (value_of n.value) e
 small_planned (keys.Range low high) e =
-    let both_pass = passed (nat_lt (value_of low) key_count) (f.OverLimit Key (value_of low)) (small_key high) e in
-    both (nat_lt (value_of low) key_count) (nat_lt (value_of high) key_count) both_pass.0 (key_small (nat_lt (value_of high) key_count) (value_of high) both_pass.1)
+    let both_pass = passed (nat_lt (value_of low.value) key_count) (f.OverLimit Key (value_of low.value)) (small_key high) e in
+    both (nat_lt (value_of low.value) key_count) (nat_lt (value_of high.value) key_count) both_pass.0 (key_small (nat_lt (value_of high.value) key_count) (value_of high.value) both_pass.1)
 
 preds_small : (preds : List DraftPred) → each keys_of_pred tt preds ≡ Ok tt → list_all (λ (q : Pred). are_small_keys q.keys) (map planned_pred preds) ≡ true
 unfolding each

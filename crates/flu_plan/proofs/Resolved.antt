@@ -14,7 +14,7 @@ use Rattle.flu_plan.specs.declared.fault.PlanFault.TheVariants as f
 use Rattle.flu_plan.specs.declared.written.WrittenNode.{WrittenNode}
 use Rattle.flu_plan.specs.declared.drafts.DraftNode.{DraftNode}
 use Rattle.flu_plan.specs.Faults.{◌>>=◌, unless, each, found_of_each}
-use Rattle.flu_plan.specs.Spelling.{name_of}
+use Rattle.flu_parse.specs.Spelling.{name_of}
 use Rattle.flu_plan.specs.Resolving.{with_name, names_of, known, kid_of, kids_of, node_of, nodes_of, pred_of}
 use Rattle.flu_plan.specs.Shape.{name_at, with_child, with_kids, with_kids_of, children_of, kids_at}
 use Rattle.flu_plan.proofs.Finds.{ok_same, bind_ok, then_ok, Pairs, collected, pairs_length}

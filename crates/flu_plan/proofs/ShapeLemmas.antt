@@ -11,7 +11,7 @@ use Rattle.flu_plan.specs.declared.drafts.Visit.{Visit}
 use Rattle.flu_plan.specs.declared.fault.PlanFault.{PlanFault}
 use Rattle.flu_plan.specs.declared.fault.PlanFault.TheVariants as f
 use Rattle.flu_plan.specs.Faults.{◌>>◌, unless}
-use Rattle.flu_plan.specs.Spelling.{name_of}
+use Rattle.flu_parse.specs.Spelling.{name_of}
 use Rattle.flu_plan.specs.Shape.{kids_at, visit, with_visits, walk, preorder, is_met, below}
 
 or_assoc : (a b c : Bool) → ((a || b) || c) ≡ (a || (b || c))

@@ -1,6 +1,5 @@
 pub mod Faults
 pub mod Machine
-pub mod Spelling
 pub mod Resolving
 pub mod Shape
 pub mod Limits

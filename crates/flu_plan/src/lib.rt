@@ -9,7 +9,6 @@ mod planning;
 mod reading;
 mod resolving;
 mod shape;
-mod spelling;
 mod terminals;
 mod written;
 

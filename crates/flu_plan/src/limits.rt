@@ -7,7 +7,7 @@ ghost use Rattle.flu_plan.specs.Limits.{small_key, small_keys, keys_of_pred, key
 
 use crate::drafts::{DraftNode, DraftPred, Visit};
 use crate::fault::PlanFault;
-use crate::spelling::value_of;
+use flu_parse::spelling::value_of;
 use flu_model::What;
 use flu_syntax::{WrittenKeys, WrittenNumber};
 
@@ -37,7 +37,7 @@ fn within(passes: bool, what: What, count: u64) -> Result<(), PlanFault>
 fn small_key(number: WrittenNumber) -> Result<(), PlanFault>
     ensures { Gives (λ done. tt) result (small_key number) }
 {
-    let key = value_of(number);
+    let key = value_of(number.value);
     within(key < KEY_COUNT, What::Key, key)
 }
 

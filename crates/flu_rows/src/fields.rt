@@ -4,7 +4,8 @@ ghost use Rattle.std.specs.Prelude.{◌≡◌, ◌<◌, ◌≤◌, ◌-◌, ◌^
 ghost use Rattle.std.specs.Str.{IsAscii};
 ghost use Rattle.flu_rows.specs.Fields.{number_of, time_of, key_of, value_of, key_part, tag_of};
 
-use crate::names::{is_name, name_len};
+use crate::names::name_len;
+use flu_rules::are_name;
 
 /// The greatest key that a tag has.
 const GREATEST_KEY: u64 = 65_535;
@@ -39,7 +40,7 @@ pub(crate) fn tag_of(tag: &[u8]) -> Option<(&[u8], Option<u32>)>
     ensures range { IfSome result (λ t. IfSome t.1 (λ k. k ≤ 65535)) }
 {
     let (name, rest) = tag.split_at(name_len(tag));
-    if !is_name(name) {
+    if !are_name(name) {
         return None;
     }
     let key = key_part(rest)?;

@@ -18,7 +18,7 @@ mod tests;
 
 use crate::actions::kind_fits;
 use crate::distinct::{have_own_files, have_own_names};
-pub use crate::names::is_name;
+pub use crate::names::{are_name, is_letter_or_digit, is_name};
 use crate::sources::{depend_fits, source_fits};
 use crate::tags::has_few_itags;
 use flu_model::{Depend, Family, Kind, List, Program, Source};

@@ -19,11 +19,17 @@ const MOST_BYTES: usize = 32;
 pub fn is_name(text: &str) -> bool
     ensures { result ≡ is_name text.now }
 {
-    let bytes = text.as_bytes();
+    are_name(text.as_bytes())
+}
+
+/// Whether some bytes are a name.
+pub fn are_name(bytes: &[u8]) -> bool
+    ensures { result ≡ is_name bytes.now }
+{
     begins_with_letter(bytes)
         && are_letters_or_digits(bytes)
         && bytes.len() <= MOST_BYTES
-        && !is_reserved(text)
+        && !is_reserved(bytes)
 }
 
 fn begins_with_letter(bytes: &[u8]) -> bool
@@ -41,7 +47,8 @@ fn are_letters_or_digits(bytes: &[u8]) -> bool
     bytes.iter().all(|byte| is_letter_or_digit(*byte))
 }
 
-fn is_letter_or_digit(byte: u8) -> bool
+/// Whether a byte is a letter, an underscore or a digit, which names are made of.
+pub fn is_letter_or_digit(byte: u8) -> bool
     ensures { result ≡ is_letter_or_digit byte }
 {
     is_letter(byte) || (byte >= b'0' && byte <= b'9')
@@ -53,14 +60,8 @@ fn is_letter(byte: u8) -> bool
     (byte >= b'A' && byte <= b'Z') || (byte >= b'a' && byte <= b'z') || byte == b'_'
 }
 
-fn is_reserved(text: &str) -> bool
-    ensures { result ≡ list_any (is_same_text text.now) reserved_words }
+fn is_reserved(bytes: &[u8]) -> bool
+    ensures { result ≡ list_any (is_same_text bytes.now) reserved_words }
 {
-    is_among(text, &RESERVED)
-}
-
-fn is_among(text: &str, words: &[&str]) -> bool
-    ensures { result ≡ list_any (λ word. is_same_text text.now word.now) words.now }
-{
-    words.iter().any(|word| text == *word)
+    RESERVED.iter().any(|word| bytes == word.as_bytes())
 }

@@ -1,5 +1,5 @@
 -- What is spelled as an expression is read as that expression.
-use Rattle.std.proofs.Common.{◌≡◌, ◌≢◌, ℕ, ◌+◌, ◌<◌, ◌≤◌, max, Bool, true, false, cond, eqb, List, [], ◌∷◌, ◌++◌, Option, Some, None, refl, sym, ap, subst, ◌∙◌, append_assoc, arith}
+use Rattle.std.proofs.Common.{◌≡◌, ◌≢◌, ℕ, ◌+◌, ◌<◌, ◌≤◌, true, false, List, [], ◌∷◌, ◌++◌, Option, Some, None, refl, sym, ap, subst, ◌∙◌, append_assoc, arith}
 use Rattle.std.specs.Prelude.{IfSome}
 use Rattle.std.proofs.lemmas.Bool.Decides.{nat_tests}
 use Rattle.flu_text.specs.declared.words.Token.{Token}
@@ -15,10 +15,10 @@ use Rattle.flu_syntax.specs.declared.tree.WrittenKey.{WrittenKey}
 use Rattle.flu_syntax.specs.declared.tree.WrittenKey.TheVariants as key
 use Rattle.flu_syntax.specs.declared.tree.WrittenRef.{WrittenRef}
 use Rattle.flu_syntax.specs.Tree.{Tree, NumberTree, ValueTree, KeyTree, TimeTree, ReadTree, HasTree, ParenTree, NegTree, NotTree, TwoTree, Job}
-use Rattle.flu_syntax.specs.Machine.{span_of, number_of, cell_of, Context, Frame, NegFrame, NotFrame, ParenFrame, RightFrame, Mode, Want, Have, Done, Aim, ToRead, ToTest, Now, CellFamily, CellKeys, CellKey, CellClose, InExpression, Next, Goes, begin, deeper, start_of, done_step, expression_step, operator_of, op_level, level_behind, is_within, is_close, opens, named, step, run}
+use Rattle.flu_syntax.specs.Machine.{cell_of, Context, Frame, NegFrame, NotFrame, ParenFrame, RightFrame, Want, Have, Done, Aim, ToRead, ToTest, Now, CellFamily, CellKeys, CellKey, CellClose, InExpression, Goes, start_of, done_step, expression_step, operator_of, op_level, level_behind, is_within, opens, named, step, run}
 use Rattle.flu_syntax.specs.Grammar.{Sign, Any, At, Spanned, IsSign, AreSigns, op_word, key_signs, cell_signs, spelled, left_level, Fits, nest}
 use Rattle.flu_syntax.specs.Reading.{NotFirst}
-use Rattle.flu_syntax.proofs.Runs.{run-takes, run-neg, run-not, run-right, pass_end, pass_word, pass_level, opens-one, opens-same, not_starts, opens_more, step-front}
+use Rattle.flu_syntax.proofs.Runs.{run-takes, run-neg, run-not, run-right, pass_end, pass_word, pass_level, opens-one, opens-same, not_starts, opens_more}
 use Rattle.flu_syntax.proofs.Parts.{run-passed, cell_alone}
 
 -- ---- signs

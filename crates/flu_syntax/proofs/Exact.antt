@@ -1,12 +1,12 @@
 -- The machine finds exactly the grammar's job, or the first token that cannot follow.
-use Rattle.std.proofs.Common.{◌≡◌, ℕ, List, [], ◌∷◌, ◌++◌, Result, Ok, Err, subst}
+use Rattle.std.proofs.Common.{◌≡◌, ℕ, List, [], ◌∷◌, ◌++◌, Result, Err, subst}
 use Rattle.std.specs.Prelude.{IfOk}
 use Rattle.flu_text.specs.declared.words.Token.{Token}
 use Rattle.flu_syntax.specs.declared.fault.SyntaxFault.{SyntaxFault}
 use Rattle.flu_syntax.specs.declared.fault.SyntaxFault.TheVariants as f
 use Rattle.flu_syntax.specs.Reading.{Tells}
 use Rattle.flu_syntax.specs.Tree.{Job}
-use Rattle.flu_syntax.specs.Machine.{Start, Found, Unexpected, verdict}
+use Rattle.flu_syntax.specs.Machine.{Start, Found, verdict}
 use Rattle.flu_syntax.specs.Grammar.{IsJob, FoundIsJob, CannotTake, IsFirstThatCannotFollow, UnexpectedIsFirst}
 use Rattle.flu_syntax.proofs.Viable.{Cannot, first_of_all}
 use Rattle.flu_syntax.proofs.Found.{job_is_found}

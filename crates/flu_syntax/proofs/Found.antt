@@ -1,5 +1,5 @@
 -- What is spelled as a job is found, as that job.
-use Rattle.std.proofs.Common.{◌≡◌, ◌≢◌, ℕ, ◌+◌, ◌<◌, ◌≤◌, Bool, true, false, List, [], ◌∷◌, ◌++◌, map, Option, Some, None, refl, sym, ap, subst, ◌∙◌, append_assoc, arith}
+use Rattle.std.proofs.Common.{◌≡◌, ◌≢◌, ℕ, Bool, true, false, List, [], ◌∷◌, ◌++◌, Option, Some, None, refl, sym, ap, subst, ◌∙◌, append_assoc, arith}
 use Rattle.std.specs.List.{flat_map}
 use Rattle.std.proofs.lemmas.List.{append-nil}
 use Rattle.flu_text.specs.declared.words.Token.{Token}
@@ -11,22 +11,20 @@ use Rattle.flu_model.specs.declared.jobs.Sort.{Sort}
 use Rattle.flu_model.specs.declared.jobs.Sort.TheVariants as sort
 use Rattle.flu_syntax.specs.declared.tokens.Verb.{Verb}
 use Rattle.flu_syntax.specs.declared.tokens.Verb.TheVariants as verb
-use Rattle.flu_syntax.specs.declared.tokens.Doing.TheVariants as doing
 use Rattle.flu_syntax.specs.declared.tree.WrittenSpan.{WrittenSpan}
 use Rattle.flu_syntax.specs.declared.tree.WrittenNumber.{WrittenNumber}
-use Rattle.flu_syntax.specs.declared.tree.WrittenRef.{WrittenRef}
 use Rattle.flu_syntax.specs.declared.tree.WrittenKeys.{WrittenKeys}
 use Rattle.flu_syntax.specs.declared.tree.WrittenKeys.TheVariants as keys
 use Rattle.flu_syntax.specs.declared.tree.WrittenTag.{WrittenTag}
 use Rattle.flu_syntax.specs.declared.tree.WrittenRelation.{WrittenRelation}
 use Rattle.flu_syntax.specs.declared.tree.WrittenRelation.TheVariants as relation
 use Rattle.flu_syntax.specs.Tree.{Tree, Deed, Writes, Clears, Emits, Flushes, Action, Declaration, Cell, Tag, Depends, On, Source, Job}
-use Rattle.flu_syntax.specs.Machine.{span_of, cell_of, tag_of, Actions, Tags, Context, Amount, Guard, Want, Have, Done, Aim, ToWrite, ToClear, Now, Start, Declared, CellName, CellForm, CellSort, TagName, TagForm, TagValue, DependsFirst, DependsSecond, DependsHow, SourceName, SourceFile, SourceRate, SourceNumber, SourceColon, TagKind, TagKeys, TagLow, TagMore, TagHigh, TagClose, TagEnd, OnKind, OnColon, ActionStart, DeedEnd, ActionEnd, EmitText, FlushFamily, FlushText, CellFamily, InExpression, Next, Goes, acted, listed, source_of, deed_step, action_step, operator_of, doing_of, sort_of, value_of, heading_of, opening, opens, named, step, whole, Verdict, Found, run, verdict}
-use Rattle.flu_syntax.specs.Grammar.{Sign, Any, At, Spanned, IsSign, AreSigns, name, text, number, sort_word, value_word, verb_word, separated, cell_signs, spelled, Fits, nest, IsExpression, deed_signs, IsDeed, guard_signs, IsGuard, action_signs, AreActions, keys_signs, tag_signs, keyed_signs, relation_signs, rate_signs, declaration_signs, IsDeclaration, job_signs, AreDeclarations, IsJob, JobsAreUnique}
+use Rattle.flu_syntax.specs.Machine.{tag_of, Actions, Tags, Context, Amount, Guard, Want, Done, ToWrite, ToClear, Now, Start, Declared, CellName, CellForm, CellSort, TagName, TagForm, TagValue, DependsFirst, DependsSecond, DependsHow, SourceName, SourceFile, SourceRate, SourceNumber, SourceColon, TagKind, TagKeys, TagLow, TagMore, TagHigh, TagClose, TagEnd, OnKind, OnColon, ActionStart, DeedEnd, ActionEnd, EmitText, FlushFamily, FlushText, CellFamily, InExpression, Goes, acted, listed, source_of, deed_step, action_step, operator_of, doing_of, sort_of, value_of, heading_of, opening, step, Found, run, verdict}
+use Rattle.flu_syntax.specs.Grammar.{Sign, Any, At, Spanned, IsSign, AreSigns, sort_word, value_word, verb_word, cell_signs, spelled, IsExpression, deed_signs, IsDeed, guard_signs, IsGuard, action_signs, AreActions, keys_signs, tag_signs, keyed_signs, relation_signs, rate_signs, declaration_signs, IsDeclaration, job_signs, AreDeclarations, IsJob, JobsAreUnique}
 use Rattle.flu_syntax.specs.Reading.{no_actions}
 use Rattle.flu_syntax.proofs.Runs.{run-behind, begins, job_ends, opens-nil}
-use Rattle.flu_syntax.proofs.Parts.{run-passed, run-closed, run-declared, run-no_relation, deed_plain, source_plain, cell_plain, tag_plain, tag_alone, tag_one, tags_end, actions_end}
-use Rattle.flu_syntax.proofs.Accepts.{word_of, sign_word, LeadsTo, takes_sign, NoBracket, NotWord, not_first, bracket_word, Follows, Quiet, Quiet-follows, passes_quiet, high_of, top, accepts, accepts_cell, no_bracket}
+use Rattle.flu_syntax.proofs.Parts.{run-passed, run-closed, run-declared, run-no_relation, deed_plain, source_plain, cell_plain, tag_plain, tag_alone, tags_end, actions_end}
+use Rattle.flu_syntax.proofs.Accepts.{word_of, LeadsTo, takes_sign, NoBracket, NotWord, not_first, bracket_word, Quiet, Quiet-follows, passes_quiet, high_of, top, accepts, accepts_cell, no_bracket}
 
 -- ---- what stands behind a declaration
 

@@ -1,6 +1,6 @@
 -- What is found keeps the grammar's levels, and has few open at once.
-use Rattle.std.proofs.Common.{◌≡◌, ◌≢◌, ℕ, ◌+◌, ◌<◌, ◌≤◌, max, Bool, true, false, cond, ltb, leb, List, [], ◌∷◌, ◌++◌, Option, Some, None, refl, sym, ap, subst, ◌∙◌, arith}
-use Rattle.std.specs.Prelude.{IfSome, ◌==◌, nat_lt, nat_le}
+use Rattle.std.proofs.Common.{◌≡◌, ◌≢◌, ℕ, ◌+◌, ◌<◌, ◌≤◌, Bool, true, false, cond, ltb, leb, List, [], ◌∷◌, ◌++◌, Option, Some, None, refl, subst, arith}
+use Rattle.std.specs.Prelude.{IfSome}
 use Rattle.std.proofs.lemmas.Bool.Decides.{nat_tests}
 use Rattle.flu_text.specs.declared.words.Token.{Token}
 use Rattle.flu_text.specs.declared.words.Word.{Word}
@@ -19,12 +19,10 @@ use Rattle.flu_syntax.specs.declared.tree.WrittenSpan.{WrittenSpan}
 use Rattle.flu_syntax.specs.declared.tree.WrittenNumber.{WrittenNumber}
 use Rattle.flu_syntax.specs.declared.tree.WrittenKey.TheVariants as key
 use Rattle.flu_syntax.specs.declared.tree.WrittenRef.{WrittenRef}
-use Rattle.flu_syntax.specs.declared.tree.WrittenKeys.{WrittenKeys}
 use Rattle.flu_syntax.specs.declared.tree.WrittenKeys.TheVariants as keys
-use Rattle.flu_syntax.specs.declared.tree.WrittenTag.{WrittenTag}
-use Rattle.flu_syntax.specs.Tree.{Tree, NumberTree, ValueTree, KeyTree, TimeTree, ReadTree, HasTree, ParenTree, NegTree, NotTree, TwoTree, Deed, Writes, Clears, Emits, Flushes, Action, Declaration, Cell, Tag, Depends, On, Source, Job}
-use Rattle.flu_syntax.specs.Machine.{span_of, cell_of, tag_of, Actions, Tags, Context, Amount, Guard, Frame, NegFrame, NotFrame, ParenFrame, RightFrame, Mode, Want, Have, Done, Aim, ToWrite, ToClear, ToRead, ToTest, Now, Start, Declared, CellName, CellForm, CellSort, TagName, TagForm, TagValue, DependsFirst, DependsSecond, DependsHow, SourceName, SourceFile, SourceRate, SourceNumber, SourceColon, TagKind, TagKeys, TagLow, TagMore, TagHigh, TagClose, TagEnd, OnKind, OnColon, ActionStart, DeedEnd, ActionEnd, EmitText, FlushFamily, FlushText, CellFamily, CellKeys, CellKey, CellClose, InExpression, Next, Goes, Deep, Refused, begin, deeper, take_or, done_step, expression_step, behind_step, deed_step, action_step, acted, listed, named, named_step, keys_step, key_step, on_name, on_text, on_colon, on_bracket, on_number, sort_of, sort_step, cell_step, value_of, value_step, tag_step, how_step, rate_step, tags_step, tag_keys_step, range_step, doing_of, act_step, start_of, operator_of, op_level, is_within, is_close, level_behind, opens, heading_of, opening, done_whole, behind_whole, named_whole, step, whole, Verdict, Found, goes_on, next_declaration, ended, run, verdict}
-use Rattle.flu_syntax.specs.Grammar.{left_level, Fits, nest, IsExpression, IsDeed, IsGuard, AreActions, IsDeclaration, AreDeclarations}
+use Rattle.flu_syntax.specs.Tree.{Tree, NumberTree, ValueTree, KeyTree, TimeTree, ReadTree, HasTree, ParenTree, NegTree, NotTree, TwoTree, Deed, Writes, Clears, Emits, Flushes, Action, On, Job}
+use Rattle.flu_syntax.specs.Machine.{span_of, cell_of, tag_of, Actions, Tags, Context, Amount, Guard, Frame, NegFrame, NotFrame, ParenFrame, RightFrame, Mode, Want, Have, Done, Aim, ToWrite, ToClear, ToRead, ToTest, Now, Start, Declared, CellName, CellForm, CellSort, TagName, TagForm, TagValue, DependsFirst, DependsSecond, DependsHow, SourceName, SourceFile, SourceRate, SourceNumber, SourceColon, TagKind, TagKeys, TagLow, TagMore, TagHigh, TagClose, TagEnd, OnKind, OnColon, ActionStart, DeedEnd, ActionEnd, EmitText, FlushFamily, FlushText, CellFamily, CellKeys, CellKey, CellClose, InExpression, Next, Goes, Deep, Refused, begin, take_or, done_step, expression_step, behind_step, deed_step, action_step, acted, listed, named, named_step, keys_step, key_step, on_name, on_text, on_colon, on_bracket, on_number, sort_of, sort_step, cell_step, value_of, value_step, tag_step, how_step, rate_step, tags_step, tag_keys_step, range_step, doing_of, act_step, start_of, operator_of, op_level, is_within, is_close, level_behind, opens, heading_of, opening, done_whole, behind_whole, named_whole, step, whole, Verdict, Found, goes_on, next_declaration, ended, run, verdict}
+use Rattle.flu_syntax.specs.Grammar.{left_level, Fits, nest, IsDeed, IsGuard, AreActions, IsDeclaration, AreDeclarations}
 use Rattle.flu_syntax.proofs.Accepts.{high_of, IsLevel, level_is}
 
 -- the level of the operand that is wanted on top

@@ -7,3 +7,4 @@ pub mod Found
 pub mod Spelling
 pub mod Levels
 pub mod Exact
+pub mod Words

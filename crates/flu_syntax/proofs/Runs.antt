@@ -1,16 +1,15 @@
 -- One step of the machine.
-use Rattle.std.proofs.Common.{◌≡◌, ◌≢◌, ℕ, ◌+◌, ◌<◌, ◌≤◌, Bool, true, false, cond, List, [], ◌∷◌, ◌++◌, length, Option, Some, None, refl, sym, ap, subst, ◌∙◌, arith}
+use Rattle.std.proofs.Common.{◌≡◌, ℕ, ◌+◌, ◌<◌, ◌≤◌, Bool, true, false, cond, List, [], ◌∷◌, ◌++◌, length, Option, Some, None, refl, sym, ap, ◌∙◌, arith}
 use Rattle.std.proofs.lemmas.Bool.{lt-ltb, le-ltb, le-leb, lt-leb}
 use Rattle.std.proofs.lemmas.List.{append-nil}
 use Rattle.flu_text.specs.declared.words.Token.{Token}
-use Rattle.flu_text.specs.declared.words.Word.{Word}
 use Rattle.flu_model.specs.declared.jobs.Op.{Op}
 use Rattle.flu_syntax.specs.declared.tokens.Front.{Front}
 use Rattle.flu_syntax.specs.declared.tokens.Front.TheVariants as start
 use Rattle.flu_syntax.specs.declared.fault.SyntaxFault.{SyntaxFault}
-use Rattle.flu_syntax.specs.Reading.{Tells, NotFirst, Inside}
+use Rattle.flu_syntax.specs.Reading.{Tells, Inside}
 use Rattle.flu_syntax.specs.Tree.{Tree, ParenTree, NegTree, NotTree, TwoTree, Declaration, Job}
-use Rattle.flu_syntax.specs.Machine.{Context, Amount, Guard, Frame, NegFrame, NotFrame, ParenFrame, RightFrame, Mode, Want, Have, Done, Now, Start, InExpression, Next, Goes, Deep, Refused, start_of, begin, deeper, take_or, done_step, behind, operator_of, op_level, is_within, is_close, level_behind, opens, opens_of, step, expression_step, behind_step, whole, done_whole, heading_of, opening, Verdict, Found, Unexpected, TooDeep, goes_on, next_declaration, place_of, run}
+use Rattle.flu_syntax.specs.Machine.{Context, Amount, Guard, Frame, NegFrame, NotFrame, ParenFrame, RightFrame, Want, Have, Done, Now, Start, InExpression, Next, Goes, Deep, Refused, start_of, begin, deeper, done_step, behind, operator_of, op_level, is_within, is_close, level_behind, opens, opens_of, step, expression_step, behind_step, whole, done_whole, heading_of, opening, Verdict, Found, Unexpected, TooDeep, goes_on, next_declaration, place_of, run}
 
 -- ---- any turn
 

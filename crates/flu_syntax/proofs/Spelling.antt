@@ -1,5 +1,5 @@
 -- What is found is spelled by the tokens.
-use Rattle.std.proofs.Common.{◌≡◌, ◌≢◌, ℕ, ℤ, ◌+◌, ◌<◌, ◌≤◌, Bool, true, false, cond, ltb, leb, List, [], ◌∷◌, ◌++◌, map, Option, Some, None, refl, sym, ap, subst, ◌∙◌, append_assoc, arith}
+use Rattle.std.proofs.Common.{◌≡◌, ◌≢◌, ℕ, ◌+◌, Bool, true, false, cond, ltb, leb, List, [], ◌∷◌, ◌++◌, Option, Some, None, refl, sym, ap, subst, ◌∙◌, append_assoc}
 use Rattle.std.specs.List.{flat_map}
 use Rattle.std.specs.Prelude.{IfSome}
 use Rattle.std.proofs.lemmas.List.{append-nil}
@@ -10,15 +10,6 @@ use Rattle.flu_text.specs.declared.words.Word.TheVariants as w
 use Rattle.flu_text.specs.declared.words.Reserved.TheVariants as r
 use Rattle.flu_text.specs.declared.words.Mark.TheVariants as m
 use Rattle.flu_model.specs.declared.jobs.Op.{Op}
-use Rattle.flu_model.specs.declared.jobs.Op.TheVariants as op
-use Rattle.flu_model.specs.declared.jobs.Sort.{Sort}
-use Rattle.flu_model.specs.declared.jobs.Sort.TheVariants as sort
-use Rattle.flu_syntax.specs.declared.tokens.Front.{Front}
-use Rattle.flu_syntax.specs.declared.tokens.Front.TheVariants as start
-use Rattle.flu_syntax.specs.declared.tokens.Verb.{Verb}
-use Rattle.flu_syntax.specs.declared.tokens.Verb.TheVariants as verb
-use Rattle.flu_syntax.specs.declared.tokens.Doing.{Doing}
-use Rattle.flu_syntax.specs.declared.tokens.Doing.TheVariants as doing
 use Rattle.flu_syntax.specs.declared.tree.WrittenSpan.{WrittenSpan}
 use Rattle.flu_syntax.specs.declared.tree.WrittenNumber.{WrittenNumber}
 use Rattle.flu_syntax.specs.declared.tree.WrittenKey.{WrittenKey}
@@ -27,10 +18,9 @@ use Rattle.flu_syntax.specs.declared.tree.WrittenRef.{WrittenRef}
 use Rattle.flu_syntax.specs.declared.tree.WrittenKeys.{WrittenKeys}
 use Rattle.flu_syntax.specs.declared.tree.WrittenKeys.TheVariants as keys
 use Rattle.flu_syntax.specs.declared.tree.WrittenTag.{WrittenTag}
-use Rattle.flu_syntax.specs.declared.tree.WrittenRelation.TheVariants as relation
-use Rattle.flu_syntax.specs.Tree.{Tree, NumberTree, ValueTree, KeyTree, TimeTree, ReadTree, HasTree, ParenTree, NegTree, NotTree, TwoTree, Deed, Writes, Clears, Emits, Flushes, Action, Declaration, Cell, Tag, Depends, On, Source, Job}
-use Rattle.flu_syntax.specs.Machine.{span_of, number_of, cell_of, tag_of, Actions, Tags, Context, Amount, Guard, Frame, NegFrame, NotFrame, ParenFrame, RightFrame, Mode, Want, Have, Done, Aim, ToWrite, ToClear, ToRead, ToTest, Now, Start, Declared, CellName, CellForm, CellSort, TagName, TagForm, TagValue, DependsFirst, DependsSecond, DependsHow, SourceName, SourceFile, SourceRate, SourceNumber, SourceColon, TagKind, TagKeys, TagLow, TagMore, TagHigh, TagClose, TagEnd, OnKind, OnColon, ActionStart, DeedEnd, ActionEnd, EmitText, FlushFamily, FlushText, CellFamily, CellKeys, CellKey, CellClose, InExpression, Next, Goes, Deep, Refused, begin, deeper, atom, take_or, done_step, expression_step, behind_step, deed_step, action_step, acted, listed, source_of, named, named_step, keys_step, key_step, on_name, on_text, on_colon, on_bracket, on_number, sort_of, sort_step, cell_step, value_of, value_step, tag_step, how_step, rate_step, tags_step, tag_keys_step, range_step, doing_of, act_step, start_of, operator_of, op_level, is_within, is_close, level_behind, opens, heading_of, opening, done_whole, behind_whole, expression_whole, named_whole, step, whole, Verdict, Found, goes_on, next_declaration, ended, run, verdict}
-use Rattle.flu_syntax.specs.Grammar.{Sign, Any, At, Spanned, IsSign, AreSigns, name, text, number, op_word, sort_word, value_word, verb_word, separated, key_signs, cell_signs, spelled, deed_signs, guard_signs, action_signs, keys_signs, tag_signs, keyed_signs, relation_signs, rate_signs, declaration_signs, job_signs}
+use Rattle.flu_syntax.specs.Tree.{Tree, ReadTree, HasTree, ParenTree, NegTree, NotTree, TwoTree, Deed, Writes, Clears, Emits, Flushes, Action, On, Source, Job}
+use Rattle.flu_syntax.specs.Machine.{span_of, number_of, cell_of, tag_of, Actions, Tags, Context, Amount, Guard, Frame, NegFrame, NotFrame, ParenFrame, RightFrame, Mode, Want, Have, Done, Aim, ToWrite, ToClear, ToRead, ToTest, Now, Start, Declared, CellName, CellForm, CellSort, TagName, TagForm, TagValue, DependsFirst, DependsSecond, DependsHow, SourceName, SourceFile, SourceRate, SourceNumber, SourceColon, TagKind, TagKeys, TagLow, TagMore, TagHigh, TagClose, TagEnd, OnKind, OnColon, ActionStart, DeedEnd, ActionEnd, EmitText, FlushFamily, FlushText, CellFamily, CellKeys, CellKey, CellClose, InExpression, Next, Goes, Deep, Refused, begin, atom, take_or, done_step, expression_step, behind_step, deed_step, action_step, acted, listed, source_of, named, named_step, keys_step, key_step, on_name, on_text, on_colon, on_bracket, on_number, sort_of, sort_step, cell_step, value_of, value_step, tag_step, how_step, rate_step, tags_step, tag_keys_step, range_step, doing_of, act_step, start_of, operator_of, op_level, is_within, is_close, level_behind, opens, heading_of, opening, done_whole, behind_whole, named_whole, step, whole, Verdict, Found, goes_on, next_declaration, ended, run, verdict}
+use Rattle.flu_syntax.specs.Grammar.{Sign, Any, At, Spanned, IsSign, AreSigns, name, text, number, op_word, verb_word, separated, key_signs, cell_signs, spelled, deed_signs, guard_signs, action_signs, tag_signs, keyed_signs, rate_signs, declaration_signs, job_signs}
 
 -- ---- what a turn has said
 

@@ -1,5 +1,5 @@
 -- What is begun can be ended, so an unexpected token is the first with which the tokens can no longer go on.
-use Rattle.std.proofs.Common.{◌≡◌, ◌≢◌, ℕ, ◌+◌, ◌<◌, ◌≤◌, Bool, true, false, cond, ltb, List, [], ◌∷◌, ◌++◌, length, Option, Some, None, pos, refl, sym, ap, subst, ◌∙◌, arith}
+use Rattle.std.proofs.Common.{◌≡◌, ℕ, List, [], ◌∷◌, ◌++◌, Option, Some, None, pos, refl, sym, ap, ◌∙◌}
 use Rattle.flu_text.specs.declared.words.Token.{Token}
 use Rattle.flu_text.specs.declared.words.Word.{Word}
 use Rattle.flu_text.specs.declared.words.Word.TheVariants as w
@@ -11,8 +11,8 @@ use Rattle.flu_syntax.specs.declared.tree.WrittenKey.TheVariants as key
 use Rattle.flu_syntax.specs.declared.tree.WrittenRef.{WrittenRef}
 use Rattle.flu_syntax.specs.declared.tree.WrittenKeys.{WrittenKeys}
 use Rattle.flu_syntax.specs.declared.tree.WrittenKeys.TheVariants as keys
-use Rattle.flu_syntax.specs.Tree.{Tree, NumberTree, ParenTree, NegTree, NotTree, TwoTree, Deed, Emits, Flushes, Declaration, Job}
-use Rattle.flu_syntax.specs.Machine.{span_of, number_of, cell_of, tag_of, Actions, Tags, Context, Amount, Guard, Frame, NegFrame, NotFrame, ParenFrame, RightFrame, Mode, Want, Have, Done, Aim, ToWrite, ToClear, ToRead, ToTest, Now, Start, Declared, CellName, CellForm, CellSort, TagName, TagForm, TagValue, DependsFirst, DependsSecond, DependsHow, SourceName, SourceFile, SourceRate, SourceNumber, SourceColon, TagKind, TagKeys, TagLow, TagMore, TagHigh, TagClose, TagEnd, OnKind, OnColon, ActionStart, DeedEnd, ActionEnd, EmitText, FlushFamily, FlushText, CellFamily, CellKeys, CellKey, CellClose, InExpression, Next, Goes, Deep, Refused, operator_of, start_of, doing_of, sort_of, value_of, op_level, level_behind, behind, named, source_of, listed, heading_of, opening, expression_step, step, whole, done_whole, Verdict, Found, Unexpected, TooDeep, goes_on, next_declaration, ended, place_of, run, verdict}
+use Rattle.flu_syntax.specs.Tree.{Tree, NumberTree, ParenTree, NegTree, NotTree, TwoTree, Deed, Emits, Flushes, Job}
+use Rattle.flu_syntax.specs.Machine.{span_of, number_of, cell_of, tag_of, Actions, Tags, Context, Amount, Guard, Frame, NegFrame, NotFrame, ParenFrame, RightFrame, Mode, Want, Have, Done, Aim, ToWrite, ToClear, ToRead, ToTest, Now, Start, Declared, CellName, CellForm, CellSort, TagName, TagForm, TagValue, DependsFirst, DependsSecond, DependsHow, SourceName, SourceFile, SourceRate, SourceNumber, SourceColon, TagKind, TagKeys, TagLow, TagMore, TagHigh, TagClose, TagEnd, OnKind, OnColon, ActionStart, DeedEnd, ActionEnd, EmitText, FlushFamily, FlushText, CellFamily, CellKeys, CellKey, CellClose, InExpression, Next, Goes, Deep, Refused, operator_of, start_of, doing_of, sort_of, value_of, op_level, level_behind, behind, named, source_of, listed, heading_of, opening, expression_step, step, whole, Verdict, Found, Unexpected, TooDeep, goes_on, next_declaration, ended, place_of, run}
 use Rattle.flu_syntax.specs.Reading.{no_actions}
 use Rattle.flu_syntax.proofs.Runs.{run-takes, run-neg, run-not, run-right, run-paren, run-behind, pass_end, pass_word}
 

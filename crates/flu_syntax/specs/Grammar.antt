@@ -23,7 +23,7 @@ use Rattle.flu_syntax.specs.declared.tree.WrittenTag.{WrittenTag}
 use Rattle.flu_syntax.specs.declared.tree.WrittenRelation.{WrittenRelation}
 use Rattle.flu_syntax.specs.declared.tree.WrittenRelation.TheVariants as relation
 use Rattle.flu_syntax.specs.Tree.{Tree, NumberTree, ValueTree, KeyTree, TimeTree, ReadTree, HasTree, ParenTree, NegTree, NotTree, TwoTree, Deed, Writes, Clears, Emits, Flushes, Action, Declaration, Cell, Tag, Depends, On, Source, Job}
-use Rattle.flu_syntax.specs.Machine.{op_level, Verdict, Found, Unexpected, TooDeep, place_of, verdict}
+use Rattle.flu_syntax.specs.Machine.{op_level, Found, Unexpected, place_of, verdict}
 
 -- A sign stands for a token: of a word, at any place; of a word that begins at a place; of a word that takes these bytes.
 pub data Sign : Type 0 where

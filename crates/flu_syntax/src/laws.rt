@@ -1,6 +1,7 @@
 //! Laws of the grammar, each the contract of a function that does nothing.
 
 ghost use Rattle.flu_syntax.specs.Grammar.{FoundIsJob, JobsAreUnique, UnexpectedIsFirst};
+ghost use Rattle.flu_syntax.specs.Words.{WordsStand};
 
 /// What is found is exactly what the tokens are by the grammar, word by word and place by place; and that is one job at most.
 pub fn found_is_job()
@@ -12,4 +13,10 @@ pub fn found_is_job()
 /// end, they can be and are none yet.
 pub fn unexpected_is_first()
     ensures { UnexpectedIsFirst }
+{}
+
+/// Each span of a job that is a name is the span of a name's token, each that is a text that of a text's, and each number is
+/// the value of a number's token, which begins at the number's place.
+pub fn words_stand()
+    ensures { WordsStand }
 {}

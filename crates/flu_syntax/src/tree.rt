@@ -32,7 +32,7 @@ pub struct WrittenRef {
 }
 
 /// An expression; `at` is the place of a word that stands alone. Parentheses are kept, so that a tree has one spelling.
-#[derive(Debug, Drop)]
+#[derive(Debug)]
 pub enum WrittenExpr {
     Number(WrittenNumber),
     Value { at: usize },
@@ -44,6 +44,27 @@ pub enum WrittenExpr {
     Neg { at: usize, inner: Box<WrittenExpr> },
     Not { at: usize, inner: Box<WrittenExpr> },
     Two(Op, Box<WrittenExpr>, Box<WrittenExpr>),
+}
+
+// Operators group to the left, so that a long row of them is a chain of left operands: the loop goes along it. What stands to the
+// right goes no deeper than parentheses and unary operators may be open.
+impl Drop for WrittenExpr {
+    fn drop(mut self) {
+        loop {
+            match self {
+                WrittenExpr::Number(_) => return,
+                WrittenExpr::Value { at: _ } => return,
+                WrittenExpr::Key { at: _ } => return,
+                WrittenExpr::Time { at: _ } => return,
+                WrittenExpr::Read(_) => return,
+                WrittenExpr::Has { at: _, cell: _ } => return,
+                WrittenExpr::Paren { at: _, inner } => self = Box::into_inner(inner),
+                WrittenExpr::Neg { at: _, inner } => self = Box::into_inner(inner),
+                WrittenExpr::Not { at: _, inner } => self = Box::into_inner(inner),
+                WrittenExpr::Two(_, left, _) => self = Box::into_inner(left),
+            }
+        }
+    }
 }
 
 /// What an action does.

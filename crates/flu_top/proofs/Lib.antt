@@ -1,2 +1,6 @@
-pub mod Told
-pub mod Read
+pub mod Written
+pub mod Whole
+pub mod Jobs
+pub mod Sequence
+pub mod SameJob
+pub mod Endings

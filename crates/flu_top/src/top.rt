@@ -1,16 +1,24 @@
 //! The top call.
 
-ghost use Rattle.std.specs.Prelude.{◌≡◌, ◌≢◌, ◌↔◌, ℕ, List, IfErr, OnOk, IsErrOf, Ok, Err, map, string_bytes};
-ghost use Rattle.flu_outside.specs.Outside.{WhereTold, Rose};
+ghost use Rattle.std.specs.Prelude.{◌≡◌, ◌≢◌, ◌↔◌, ◌⊎◌, ℕ, List, [], ◌∷◌, Contains, IfErr, OnOk, Some, None, Ok, Err, map, string_bytes};
+ghost use Rattle.flu_outside.specs.Outside.{Contents, WhereTold, Rose};
+ghost use Rattle.flu_model.specs.declared.jobs.Program.{Program};
+ghost use Rattle.flu_rows.specs.Taking.{bytes_left, TookFronts};
+ghost use Rattle.flu_parse.specs.declared.faults.JobFault.{JobFault};
+ghost use Rattle.flu_parse.specs.Reading.{job_in};
+ghost use Rattle.flu_streams.specs.declared.faults.SourceFault.{SourceFault};
 ghost use Rattle.flu_top.specs.Words.{job_word};
-ghost use Rattle.flu_top.specs.Taking.{TookFronts, TookOnly};
+ghost use Rattle.flu_top.specs.Taking.{TookOnly};
+ghost use Rattle.flu_top.specs.Behind.{HasJob, fault_behind};
 ghost use Rattle.flu_top.specs.Done.{IsDone, IsPartlyDone, IsReadBy};
-ghost use Rattle.flu_top.specs.Answer.{status_of, line_of, IsSaid};
-ghost use Rattle.flu_top.specs.declared.answers.Refusal.{Refusal};
-ghost use Rattle.flu_top.specs.declared.words.BadWords.{BadWords};
+ghost use Rattle.flu_top.specs.Folding.{HasJobFault, HasSourceFault};
+ghost use Rattle.flu_top.specs.Lines.{bad_words_line, job_fault_line, source_fault_line, read_fault_line, write_fault_line, no_memory_line, IsSaid};
+ghost use Rattle.flu_top.specs.Answer.{source_name, status_after, line_of};
+ghost use Rattle.flu_top.specs.Ending.{Ends, NothingFailed};
 
-use crate::answers::{Refusal, say, status};
 use crate::folding::fold_job;
+use crate::lines::say;
+use crate::refusals::{Refusal, status};
 use crate::words::read_words;
 use flu_outside::{Files, Sink};
 use flu_report::write_all;
@@ -19,10 +27,10 @@ use std::alloc::Global;
 
 /// Does what the words after the program's name say, and answers the status.
 ///
-/// `fold JOB` reads the job in the file of that name and its source, folds the events in order and writes the report to
-/// `out`: status 0. Else the status is 2 for words that are no command, 7 where a file that was read failed, 8 where `out`
-/// failed, 9 where there was no memory, and 10 for a job or a source that is none that is read so far; the line of
-/// that answer goes to `err`, and a failure of `err` changes no status. `docs/LANGUAGE.md` has the forms and the lines.
+/// `fold JOB` reads the job in the file of that name and then its sources, folds their events in order and writes the report
+/// to `out`: status 0. Else the status is 2 for words that are no command, 3 for a job text with a fault, 6 for a source with
+/// a defect, 7 where a file that was read failed, 8 where `out` failed, and 9 where there was no memory. The line of that
+/// answer goes to `err`, and a failure of `err` changes no status. `docs/LANGUAGE.md` has the forms and the lines.
 pub fn flumina<F: Files, K: Sink, E: Sink, G: Gate>(
     alloc: Global,
     words: &[String],
@@ -31,61 +39,72 @@ pub fn flumina<F: Files, K: Sink, E: Sink, G: Gate>(
     err: &mut E,
     gate: &G,
 ) -> u8
-    // Status 0: the report of the fold stands in out, both files were read to their end, and err is untouched.
+    ensures statuses { Contains (0 ∷ 2 ∷ 3 ∷ 6 ∷ 7 ∷ 8 ∷ 9 ∷ []) result }
+
+    // Status 0: the job and its sources were read to their end, the report of the fold stands in out, and err is untouched.
     ensures done { result ≡ 0 → (job : List ℕ) × (job_word (map string_bytes words.now) ≡ Ok job)
-        × WhereTold (F.left files.old) (F.left files.new) (λ old new. WhereTold (K.taken out.old) (K.taken out.new) (IsDone job old new)) }
+        × WhereTold (F.left files.old) (F.left files.new) (IsDone job (K.taken out.old) (K.taken out.new)) }
     ensures quiet { result ≡ 0 → E.taken err.new ≡ E.taken err.old }
 
     // Status 2 comes exactly where the words are no command, and then no file is read.
     ensures bad_words { (result ≡ 2) ↔ ((at : ℕ) × (job_word (map string_bytes words.now) ≡ Err at)) }
     ensures bad_words_line { (at : ℕ) → job_word (map string_bytes words.now) ≡ Err at
-        → IsSaid (line_of (Refusal.BadWords (record { at = at }))) (E.taken err.old) (E.taken err.new) (E.faults err.old) (E.faults err.new) }
+        → IsSaid (bad_words_line at) (E.taken err.old) (E.taken err.new) (E.faults err.old) (E.faults err.new) }
     ensures untouched { result ≡ 2 → F.left files.new ≡ F.left files.old }
+
+    // Status 3 comes only where the bytes under the job's name have a fault, with the line of the first one.
+    ensures job_fault { result ≡ 3 → (job : List ℕ) × (fault : JobFault) × (job_word (map string_bytes words.now) ≡ Ok job)
+        × HasJobFault job (F.left files.old) (F.left files.new) fault
+        × IsSaid (job_fault_line fault) (E.taken err.old) (E.taken err.new) (E.faults err.old) (E.faults err.new) }
+
+    // Status 6 comes only where a source of the job has a defect, with the line of the first one.
+    ensures source_fault { result ≡ 6 → (job : List ℕ) × (p : Program) × (fault : SourceFault) × (job_word (map string_bytes words.now) ≡ Ok job)
+        × HasSourceFault job (F.left files.old) (F.left files.new) p fault
+        × IsSaid (source_fault_line (source_name p fault.source) fault.row fault.why) (E.taken err.old) (E.taken err.new) (E.faults err.old) (E.faults err.new) }
 
     // Status 7 comes only where the count of a name that the call reads rose.
     ensures read_fault { result ≡ 7 → (name : List ℕ) × IsReadBy (map string_bytes words.now) (F.left files.old) name × Rose (F.faults files.old name) (F.faults files.new name) }
+    ensures read_fault_line { result ≡ 7 → IsSaid read_fault_line (E.taken err.old) (E.taken err.new) (E.faults err.old) (E.faults err.new) }
 
     // Status 8 comes only where out's count rose; then out has a front of the report.
     ensures write_fault { result ≡ 8 → Rose (K.faults out.old) (K.faults out.new) }
     ensures partial { result ≡ 8 → (job : List ℕ) × (job_word (map string_bytes words.now) ≡ Ok job)
-        × WhereTold (F.left files.old) (F.left files.new) (λ old new. WhereTold (K.taken out.old) (K.taken out.new) (IsPartlyDone job old new)) }
+        × WhereTold (F.left files.old) (F.left files.new) (IsPartlyDone job (K.taken out.old) (K.taken out.new)) }
+    ensures write_fault_line { result ≡ 8 → IsSaid write_fault_line (E.taken err.old) (E.taken err.new) (E.faults err.old) (E.faults err.new) }
 
-    // At every other status nothing is written to out; at every status but 0 the answer's line is said on err.
+    ensures no_memory_line { result ≡ 9 → IsSaid no_memory_line (E.taken err.old) (E.taken err.new) (E.faults err.old) (E.faults err.new) }
+
+    // At every other status nothing is written to out.
     ensures nothing { result ≢ 0 → result ≢ 8 → K.taken out.new ≡ K.taken out.old }
-    ensures said { result ≢ 0 → (refusal : Refusal) × (result ≡ status_of refusal)
-        × IsSaid (line_of refusal) (E.taken err.old) (E.taken err.new) (E.faults err.old) (E.faults err.new) }
 
     // Bytes are taken from the front of names, and of no name that the call does not read.
     ensures fronts { WhereTold (F.left files.old) (F.left files.new) TookFronts }
     ensures only { WhereTold (F.left files.old) (F.left files.new) (TookOnly (IsReadBy (map string_bytes words.now) (F.left files.old))) }
+
+    // Where no count rose, the status is the one that the job's text and its sources call for, or 9.
+    ensures folds { (job : List ℕ) (left : Contents) (p : Program) → job_word (map string_bytes words.now) ≡ Ok job → F.left files.old ≡ Some left
+        → NothingFailed job (F.left files.old) (F.faults files.old) (F.faults files.new) (K.faults out.old) (K.faults out.new)
+        → HasJob job left p → fault_behind job left p ≡ None → (result ≡ 0) ⊎ (result ≡ 9) }
+    ensures refuses_job { (job : List ℕ) (left : Contents) (fault : JobFault) → job_word (map string_bytes words.now) ≡ Ok job → F.left files.old ≡ Some left
+        → NothingFailed job (F.left files.old) (F.faults files.old) (F.faults files.new) (K.faults out.old) (K.faults out.new)
+        → job_in (bytes_left left job) ≡ Err fault → (result ≡ 3) ⊎ (result ≡ 9) }
+    ensures refuses_source { (job : List ℕ) (left : Contents) (p : Program) (fault : SourceFault) → job_word (map string_bytes words.now) ≡ Ok job → F.left files.old ≡ Some left
+        → NothingFailed job (F.left files.old) (F.faults files.old) (F.faults files.new) (K.faults out.old) (K.faults out.new)
+        → HasJob job left p → fault_behind job left p ≡ Some fault → (result ≡ 6) ⊎ (result ≡ 9) }
 {
     let _ = gate;
-    match run_words(alloc, words, files, out) {
-        Ok(()) => 0,
-        Err(refusal) => {
-            say(err, refusal);
-            status(refusal)
-        }
-    }
+    let ended = do_words(alloc, words, files, out);
+    answer(err, ended)
 }
 
 // Does what the words say.
-fn run_words<F: Files, K: Sink>(
+fn do_words<F: Files, K: Sink>(
     alloc: Global,
     words: &[String],
     files: &mut F,
     out: &mut K,
 ) -> Result<(), Refusal>
-    ensures done { OnOk result ((job : List ℕ) × (job_word (map string_bytes words.now) ≡ Ok job)
-        × WhereTold (F.left files.old) (F.left files.new) (λ old new. WhereTold (K.taken out.old) (K.taken out.new) (IsDone job old new))) }
-    ensures bad_words { (bad : BadWords) → IsErrOf result (Refusal.BadWords bad) → job_word (map string_bytes words.now) ≡ Err bad.at }
-    ensures good_words { (at : ℕ) → job_word (map string_bytes words.now) ≡ Err at → result ≡ Err (Refusal.BadWords (record { at = at })) }
-    ensures untouched { (bad : BadWords) → IsErrOf result (Refusal.BadWords bad) → F.left files.new ≡ F.left files.old }
-    ensures read_fault { IsErrOf result Refusal.ReadFault → (name : List ℕ) × IsReadBy (map string_bytes words.now) (F.left files.old) name × Rose (F.faults files.old name) (F.faults files.new name) }
-    ensures write_fault { IsErrOf result Refusal.WriteFault → Rose (K.faults out.old) (K.faults out.new) }
-    ensures partial { IsErrOf result Refusal.WriteFault → (job : List ℕ) × (job_word (map string_bytes words.now) ≡ Ok job)
-        × WhereTold (F.left files.old) (F.left files.new) (λ old new. WhereTold (K.taken out.old) (K.taken out.new) (IsPartlyDone job old new)) }
-    ensures nothing { IfErr result (λ refusal. refusal ≢ Refusal.WriteFault → K.taken out.new ≡ K.taken out.old) }
+    ensures ends { Ends (record { words = map string_bytes words.now; left = F.left files.old; left_after = F.left files.new; counts = F.faults files.old; counts_after = F.faults files.new; taken = K.taken out.old; taken_after = K.taken out.new; count = K.faults out.old; count_after = K.faults out.new }) result }
     ensures fronts { WhereTold (F.left files.old) (F.left files.new) TookFronts }
     ensures only { WhereTold (F.left files.old) (F.left files.new) (TookOnly (IsReadBy (map string_bytes words.now) (F.left files.old))) }
 {
@@ -100,5 +119,20 @@ fn run_words<F: Files, K: Sink>(
     match write_all(out, report.as_str().as_bytes()) {
         Ok(()) => Ok(()),
         Err(_) => Err(Refusal::WriteFault),
+    }
+}
+
+// The status of what was done or refused; a refusal's line is said on err.
+fn answer<E: Sink>(err: &mut E, ended: Result<(), Refusal>) -> u8
+    ensures status { result ≡ status_after ended }
+    ensures quiet { OnOk ended (E.taken err.new ≡ E.taken err.old) }
+    ensures said { IfErr ended (λ refusal. IsSaid (line_of refusal) (E.taken err.old) (E.taken err.new) (E.faults err.old) (E.faults err.new)) }
+{
+    match ended {
+        Ok(()) => 0,
+        Err(refusal) => {
+            say(err, &refusal);
+            status(&refusal)
+        }
     }
 }

@@ -4,23 +4,36 @@
 use flu_adapt::{HostFiles, HostSink};
 use flu_seq::OpenGate;
 use flu_top::flumina;
+use std::io::Write;
 use std::process::ExitCode;
-use std::{env, io};
+use std::{env, io, rt};
+
+#[cfg(test)]
+mod tests;
 
 /// The status where the words find no memory.
 const NO_MEMORY: u8 = 9;
 
 fn main(rt: HostRuntime) -> ExitCode {
-    let alloc = rt.alloc();
     let Ok(arguments) = env::args(&rt) else {
         return ExitCode::from(NO_MEMORY);
     };
-    let Ok(words) = arguments.skip(1).collect::<Vec<String>>(alloc) else {
+    let Ok(words) = arguments.skip(1).collect::<Vec<String>>(rt.alloc()) else {
         return ExitCode::from(NO_MEMORY);
     };
+    ExitCode::from(run(&rt, &words, io::writer(&rt), rt.stderr()))
+}
+
+/// Does what the words say over the files of the system, and answers the status.
+fn run<R: rt::Files + AllocGlobal, O: Write, E: Write>(
+    rt: R,
+    words: &[String],
+    out: O,
+    err: E,
+) -> u8 {
+    let alloc = rt.alloc();
     let mut files = HostFiles::new(rt);
-    let mut out = HostSink::new(io::writer(&rt));
-    let mut err = HostSink::new(rt.stderr());
-    let status = flumina(alloc, &words, &mut files, &mut out, &mut err, &OpenGate);
-    ExitCode::from(status)
+    let mut out = HostSink::new(out);
+    let mut err = HostSink::new(err);
+    flumina(alloc, words, &mut files, &mut out, &mut err, &OpenGate)
 }

@@ -1,4 +1,4 @@
-use Rattle.std.proofs.Common.{◌∙◌, ◌≡◌, map, ap}
+use Rattle.std.proofs.Common.{◌∙◌, map, ap}
 use Rattle.flu_parse.proofs.NamingLemmas.{insert_new, undeclared}
 use Rattle.flu_parse.specs.Naming.{naming}
 use Rattle.flu_parse.proofs.naming.add_family.Goals as goal

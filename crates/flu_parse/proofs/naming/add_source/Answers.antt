@@ -1,5 +1,4 @@
-use Rattle.std.proofs.Common.{◌∙◌, ◌≡◌, ◌∷◌, ◌++◌, [], false, map, ap}
-use Rattle.std.specs.Prelude.{if◌then◌else◌}
+use Rattle.std.proofs.Common.{◌∙◌, ◌∷◌, [], ap}
 use Rattle.std.proofs.lemmas.List.{map-append}
 use Rattle.flu_parse.proofs.NamingLemmas.{any_by_bytes, undeclared}
 use Rattle.flu_parse.specs.Naming.{naming}

@@ -1,4 +1,4 @@
-use Rattle.std.proofs.Common.{◌∙◌, ◌≡◌, ◌<◌, sym, ap, length, drop, arith, Ok}
+use Rattle.std.proofs.Common.{◌∙◌, sym, ap, arith}
 use Rattle.flu_syntax.specs.Tree.{job_of, declaration_of}
 use Rattle.flu_parse.specs.Naming.{naming, no_names, declare, naming_of}
 use Rattle.flu_parse.specs.Faults.{each}

@@ -1,4 +1,4 @@
-use Rattle.std.proofs.Common.{◌∙◌, sym, get_or, arith}
+use Rattle.std.proofs.Common.{◌∙◌, sym, arith}
 use Rattle.flu_parse.specs.Naming.{naming}
 use Rattle.flu_parse.specs.Templates.{known_name, known_names}
 use Rattle.flu_parse.proofs.FaultLemmas.{fails_through, each-next-at, each-fault-at, each-end}

@@ -1,6 +1,4 @@
 use Rattle.std.proofs.Common.{◌≡◌, drop}
-use Rattle.flu_syntax.specs.declared.tree.WrittenSpan.{WrittenSpan}
-use Rattle.flu_parse.specs.declared.pieces.WrittenPiece.{WrittenPiece}
 use Rattle.flu_parse.specs.Faults.{each}
 use Rattle.flu_parse.specs.Naming.{naming}
 use Rattle.flu_parse.specs.Templates.{known_name, known_names}

@@ -1,8 +1,7 @@
-use Rattle.std.proofs.Common.{◌≡◌, ◌+◌, ◌∷◌, ◌++◌, [], List, drop, Ok, ◌∙◌, sym, ap, get_or, arith}
+use Rattle.std.proofs.Common.{◌+◌, ◌∷◌, ◌++◌, [], List, drop, ◌∙◌, sym, ap, arith}
 use Rattle.flu_model.specs.declared.jobs.Piece.{Piece}
-use Rattle.flu_parse.specs.declared.pieces.WrittenPiece.{WrittenPiece}
-use Rattle.flu_parse.specs.Faults.{Found, each, ◌>>=◌}
-use Rattle.flu_parse.specs.Naming.{Naming, naming}
+use Rattle.flu_parse.specs.Faults.{each}
+use Rattle.flu_parse.specs.Naming.{naming}
 use Rattle.flu_parse.specs.Templates.{piece_of, pieces_of}
 use Rattle.flu_parse.proofs.FaultLemmas.{fails_through, each-next-at, each-fault-at, each-end, collect, collects, collect-fault}
 use Rattle.flu_parse.proofs.templates.pieces_of.Goals as goal

@@ -1,4 +1,3 @@
-use Rattle.std.proofs.Common.{◌≡◌, ◌∙◌, ◌∷◌, ◌+◌, ◌<◌, ◌≤◌, ◌*◌, [], length, List, ℕ, Some, None, true, false, refl, sym, ap, rules, arith}
 use Rattle.std.proofs.lemmas.Result.{err_from_is_err_and}
 use Rattle.flu_syntax.proofs.Parts.{tells, run-own, run-fixed, run-no_key}
 use Rattle.flu_syntax.proofs.cells.inside.Goals as goal

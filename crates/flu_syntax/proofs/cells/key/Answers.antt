@@ -1,4 +1,4 @@
-use Rattle.std.proofs.Common.{◌≡◌, ◌∙◌, ◌∷◌, ◌+◌, ◌<◌, ◌≤◌, ◌*◌, [], length, List, ℕ, Some, None, true, false, refl, sym, ap, rules, arith}
+use Rattle.std.proofs.Common.{◌∙◌}
 use Rattle.std.proofs.lemmas.Result.{err_from_is_err_and}
 use Rattle.flu_syntax.specs.Machine.{cell_of}
 use Rattle.flu_syntax.proofs.Runs.{Tells-through}

@@ -1,6 +1,5 @@
-use Rattle.std.proofs.Common.{◌≡◌, ◌∙◌, ◌∷◌, ◌++◌, ◌+◌, ◌<◌, ◌≤◌, [], length, List, ℕ, Some, None, map, refl, sym, ap, rules, arith}
+use Rattle.std.proofs.Common.{◌∙◌, refl, sym}
 use Rattle.std.proofs.lemmas.Result.{err_from_is_err_and}
-use Rattle.std.proofs.lemmas.Grind.{common_steps}
 use Rattle.flu_syntax.specs.declared.tokens.Doing.TheVariants as doing
 use Rattle.flu_syntax.specs.Tree.{deed_of}
 use Rattle.flu_syntax.specs.Machine.{span_of, CellFamily, ToClear, EmitText, FlushFamily}

@@ -1,6 +1,4 @@
-use Rattle.std.proofs.Common.{◌≡◌, ◌∙◌, ◌∷◌, ◌++◌, ◌+◌, ◌<◌, ◌≤◌, [], length, List, ℕ, Some, None, map, refl, sym, ap, rules, arith}
-use Rattle.std.proofs.lemmas.Result.{err_from_is_err_and}
-use Rattle.std.proofs.lemmas.Grind.{common_steps}
+use Rattle.std.proofs.Common.{◌∙◌, length, refl, sym, ap, arith}
 use Rattle.flu_text.specs.declared.words.Token.{Token}
 use Rattle.flu_syntax.specs.declared.tokens.Heading.TheVariants as heading
 use Rattle.flu_syntax.specs.Tree.{declaration_of}

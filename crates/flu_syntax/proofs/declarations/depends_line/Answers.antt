@@ -1,6 +1,5 @@
-use Rattle.std.proofs.Common.{◌≡◌, ◌∙◌, ◌∷◌, ◌++◌, ◌+◌, ◌<◌, ◌≤◌, [], length, List, ℕ, Some, None, map, refl, sym, ap, rules, arith}
+use Rattle.std.proofs.Common.{◌∙◌}
 use Rattle.std.proofs.lemmas.Result.{err_from_is_err_and}
-use Rattle.std.proofs.lemmas.Grind.{common_steps}
 use Rattle.flu_syntax.specs.Machine.{span_of}
 use Rattle.flu_syntax.proofs.Parts.{tells, run-expected, run-unexpected, depends_first, depends_second}
 use Rattle.flu_syntax.proofs.declarations.depends_line.Goals as goal

@@ -1,8 +1,6 @@
-use Rattle.std.proofs.Common.{◌≡◌, ◌∙◌, ◌∷◌, ◌++◌, ◌+◌, ◌<◌, ◌≤◌, [], length, List, ℕ, Some, None, map, refl, sym, ap, rules, arith}
+use Rattle.std.proofs.Common.{◌∙◌}
 use Rattle.std.proofs.lemmas.Result.{err_from_is_err_and}
-use Rattle.std.proofs.lemmas.Grind.{common_steps}
 use Rattle.flu_text.specs.declared.words.Word.TheVariants as w
-use Rattle.flu_text.specs.declared.words.Reserved.TheVariants as r
 use Rattle.flu_text.specs.declared.words.Mark.TheVariants as m
 use Rattle.flu_syntax.specs.Machine.{TagMore, TagHigh}
 use Rattle.flu_syntax.proofs.Parts.{tells, run-word, run-passed, run-number, run-no_number, tag_dots, tag_one, tag_high}

@@ -1,6 +1,3 @@
-use Rattle.std.proofs.Common.{◌≡◌, ◌∙◌, ◌∷◌, ◌++◌, ◌+◌, ◌<◌, ◌≤◌, [], length, List, ℕ, Some, None, map, refl, sym, ap, rules, arith}
-use Rattle.std.proofs.lemmas.Result.{err_from_is_err_and}
-use Rattle.std.proofs.lemmas.Grind.{common_steps}
 use Rattle.flu_syntax.proofs.Parts.{run-same_relation, run-all_relation, run-no_relation}
 use Rattle.flu_syntax.proofs.declarations.relation.Goals as goal
 

@@ -1,4 +1,4 @@
-use Rattle.std.proofs.Common.{◌≡◌, ◌∙◌, ◌∷◌, ◌+◌, ◌<◌, ◌≤◌, ◌*◌, [], length, List, ℕ, Some, None, true, false, refl, sym, ap, rules, arith}
+use Rattle.std.proofs.Common.{◌≡◌, true, false, rules}
 use Rattle.flu_syntax.specs.Machine.{is_close}
 use Rattle.flu_syntax.proofs.Runs.{run-paren, run-paren_end, run-paren_misses}
 use Rattle.flu_syntax.proofs.expressions.close.Goals as goal

@@ -1,4 +1,4 @@
-use Rattle.std.proofs.Common.{◌≡◌, ◌∙◌, ◌∷◌, ◌+◌, ◌<◌, ◌≤◌, ◌*◌, [], length, List, ℕ, Some, None, true, false, refl, sym, ap, rules, arith}
+use Rattle.std.proofs.Common.{◌≡◌, true, false, rules}
 use Rattle.flu_syntax.specs.Machine.{is_within, op_level}
 use Rattle.flu_syntax.proofs.Runs.{pass_end, pass_word, pass_level, take_operator}
 use Rattle.flu_syntax.proofs.expressions.operator.Goals as goal

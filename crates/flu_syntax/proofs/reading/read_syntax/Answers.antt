@@ -1,10 +1,9 @@
-use Rattle.std.proofs.Common.{◌≡◌, ◌∙◌, ◌∷◌, ◌++◌, ◌+◌, ◌<◌, ◌≤◌, [], length, List, ℕ, Some, None, Err, map, refl, sym, ap, rules, arith}
+use Rattle.std.proofs.Common.{◌≡◌, ◌∙◌, ◌∷◌, ◌++◌, [], length, Err, refl, arith}
 use Rattle.std.proofs.lemmas.Result.{err_from_is_err_and}
 use Rattle.std.proofs.lemmas.Grind.{common_steps}
 use Rattle.std.proofs.lemmas.Bool.Decides.{nat_tests}
-use Rattle.flu_text.specs.declared.words.Token.{Token}
 use Rattle.flu_syntax.specs.Tree.{declaration_of, job_of}
-use Rattle.flu_syntax.specs.Machine.{Start, run, Found, verdict}
+use Rattle.flu_syntax.specs.Machine.{Found, verdict}
 use Rattle.flu_syntax.proofs.Runs.{Tells-through, job_ends_at}
 use Rattle.flu_syntax.proofs.Exact.{is_job, first_told, no_job_told}
 use Rattle.flu_syntax.proofs.General.{map_more}

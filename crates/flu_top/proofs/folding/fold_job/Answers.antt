@@ -1,59 +1,33 @@
-use Rattle.std.proofs.Common.{List, ℕ}
-use Rattle.flu_outside.specs.Outside.{Contents}
-use Rattle.flu_top.specs.Taking.{TookAll, TookSome, TookFronts, TookOnly}
-use Rattle.flu_top.specs.Done.{IsFolded, IsRun, IsReadName, file_of}
-use Rattle.flu_top.proofs.Told.{told_then, told_as, some_fronts, fronts_then}
-use Rattle.flu_top.proofs.Read.{ReadsJob, job_is_read, file_is_read, rose_later, told_only, only_then}
+use Rattle.std.proofs.lemmas.Result.{IfOk-weaker, IfErr-weaker}
+use Rattle.flu_rows.proofs.Told.{fronts_at, fronts_then}
+use Rattle.flu_top.proofs.Sequence.{is_folded, job_refusal, report_refusal, only_job, only_both}
 use Rattle.flu_top.proofs.folding.fold_job.Goals as goal
 
-pub returns-in-Ok-report_of-clause-folded : goal.returns-in-Ok-report_of-clause-folded
-returns-in-Ok-report_of-clause-folded g c =
-    let p = c.in-Ok.program in
-    let report = c.in-Ok-report_of.report in
-    let job = c.args.job.now in
-    told_then (ReadsJob job p) (λ (old new : Contents). (rows : List ℕ) × TookAll (file_of p) rows old new × IsRun p rows report)
-    (λ (old new : Contents). IsFolded job old new report) _ _ _ c.in-Ok.ensures.small c.in-Ok-report_of.ensures.run
-    (λ x y z a b. record { text = a.0; program = p; between = y; read = a.1; small = a.2; rows = b.0; gathered = b.1; run = b.2 })
-
-pub returns-in-Ok-report_of-clause-fronts : goal.returns-in-Ok-report_of-clause-fronts
-returns-in-Ok-report_of-clause-fronts g c =
-    told_then (TookSome c.args.job.now) (TookSome (file_of c.in-Ok.program)) TookFronts _ _ _ c.in-Ok.ensures.some c.in-Ok-report_of.ensures.some
-    (λ x y z a b. fronts_then x y z (some_fronts c.args.job.now x y a) (some_fronts (file_of c.in-Ok.program) y z b))
-
-pub returns-in-Ok-report_of-clause-only : goal.returns-in-Ok-report_of-clause-only
-returns-in-Ok-report_of-clause-only g c =
-    let old = g.F.Files.left c.args.files.now in
+pub returns-in-Ok-clause-folded : goal.returns-in-Ok-clause-folded
+returns-in-Ok-clause-folded g c =
     let job = c.args.job.now in
     let p = c.in-Ok.program in
-    let first = told_only (IsReadName old job) job _ _ (job_is_read old job) c.in-Ok.ensures.some in
-    let second = told_only (IsReadName old job) (file_of p) _ _ (file_is_read job p _ _ c.in-Ok.ensures.small) c.in-Ok-report_of.ensures.some in
-    told_then (TookOnly (IsReadName old job)) (TookOnly (IsReadName old job)) (TookOnly (IsReadName old job)) _ _ _ first second (only_then (IsReadName old job))
+    IfOk-weaker c.report_of.result _ _ (λ report reported. is_folded job p report _ _ _ c.in-Ok.ensures.read c.in-Ok.ensures.taken c.report_of.ensures.others reported) c.report_of.ensures.reported
+
+pub returns-in-Ok-clause-refused : goal.returns-in-Ok-clause-refused
+returns-in-Ok-clause-refused g c =
+    let job = c.args.job.now in
+    let p = c.in-Ok.program in
+    let left = g.F.Files.left in
+    let faults = g.F.Files.faults in
+    IfErr-weaker c.report_of.result _ _ (λ refusal refused. report_refusal job p (left c.args.files.now) (left c.program_of.new.files) (left c.report_of.new.files) (faults c.args.files.now) (faults c.program_of.new.files) (faults c.report_of.new.files) refusal c.in-Ok.ensures.read c.in-Ok.ensures.taken c.in-Ok.ensures.counts refused) c.report_of.ensures.refused
 
 pub returns-in-Ok-clause-fronts : goal.returns-in-Ok-clause-fronts
-returns-in-Ok-clause-fronts g c =
-    told_then (TookSome c.args.job.now) (TookSome (file_of c.in-Ok.program)) TookFronts _ _ _ c.in-Ok.ensures.some c.in-Err-report_of.ensures.some
-    (λ x y z a b. fronts_then x y z (some_fronts c.args.job.now x y a) (some_fronts (file_of c.in-Ok.program) y z b))
+returns-in-Ok-clause-fronts g c = fronts_then _ _ _ (fronts_at c.args.job.now _ _ c.in-Ok.ensures.taken) c.report_of.ensures.fronts
 
 pub returns-in-Ok-clause-only : goal.returns-in-Ok-clause-only
-returns-in-Ok-clause-only g c =
-    let old = g.F.Files.left c.args.files.now in
-    let job = c.args.job.now in
-    let p = c.in-Ok.program in
-    let first = told_only (IsReadName old job) job _ _ (job_is_read old job) c.in-Ok.ensures.some in
-    let second = told_only (IsReadName old job) (file_of p) _ _ (file_is_read job p _ _ c.in-Ok.ensures.small) c.in-Err-report_of.ensures.some in
-    told_then (TookOnly (IsReadName old job)) (TookOnly (IsReadName old job)) (TookOnly (IsReadName old job)) _ _ _ first second (only_then (IsReadName old job))
+returns-in-Ok-clause-only g c = only_both c.args.job.now c.in-Ok.program _ _ _ c.in-Ok.ensures.read c.in-Ok.ensures.taken c.report_of.ensures.others
 
-pub returns-in-Ok-clause-read_fault : goal.returns-in-Ok-clause-read_fault
-returns-in-Ok-clause-read_fault g c =
-    let p = c.in-Ok.program in
-    λ e. (
-      file_of p,
-      file_is_read c.args.job.now p _ _ c.in-Ok.ensures.small,
-      rose_later _ _ _ (c.in-Ok.ensures.counts (file_of p)) (c.in-Err-report_of.ensures.read_fault e),
-    )
+pub returns-in-Err-clause-refused : goal.returns-in-Err-clause-refused
+returns-in-Err-clause-refused g c = job_refusal c.args.job.now _ _ _ _ c.in-Err.refusal c.in-Err.ensures.refused
 
-pub returns-clause-fronts : goal.returns-clause-fronts
-returns-clause-fronts g c = told_as (TookSome c.args.job.now) TookFronts _ _ c.in-Err.ensures.some (some_fronts c.args.job.now)
+pub returns-in-Err-clause-fronts : goal.returns-in-Err-clause-fronts
+returns-in-Err-clause-fronts g c = fronts_at c.args.job.now _ _ c.in-Err.ensures.taken
 
-pub returns-clause-only : goal.returns-clause-only
-returns-clause-only g c = told_only (IsReadName (g.F.Files.left c.args.files.now) c.args.job.now) c.args.job.now _ _ (job_is_read (g.F.Files.left c.args.files.now) c.args.job.now) c.in-Err.ensures.some
+pub returns-in-Err-clause-only : goal.returns-in-Err-clause-only
+returns-in-Err-clause-only g c = only_job c.args.job.now _ _ c.in-Err.ensures.taken

@@ -1,0 +1,37 @@
+//! The laws of an accepted job: its state may be kept in parts, and independent events may come in either order.
+
+ghost use Rattle.flu_deps.specs.Checking.{program_of};
+ghost use Rattle.flu_laws.specs.Consistency.{UpdatesLeft, UpdatesRight, JoinsSplits, Commutes};
+ghost use Rattle.flu_laws.specs.Lawful.{IsLawful};
+
+use crate::Checked;
+
+/// Update of a part: an update of one part of a state before the parts are joined is the update after it, where the other part
+/// is neutral at the cells that the event's tag owns.
+pub fn update_of_a_part(checked: &Checked)
+    ensures left { UpdatesLeft (program_of checked.now) }
+    ensures right { UpdatesRight (program_of checked.now) }
+{
+    flu_laws::update_of_a_part();
+}
+
+/// Independent updates commute: two events of independent tags give in both orders the same state, and each the same texts.
+pub fn independent_updates_commute(checked: &Checked)
+    ensures { Commutes (program_of checked.now) }
+{
+    flu_laws::independent_updates_commute();
+}
+
+/// Join undoes split: a state without some cells, joined with the state on these cells alone, is the state.
+pub fn join_undoes_split(_checked: &Checked)
+    ensures { JoinsSplits }
+{
+    flu_laws::join_undoes_split();
+}
+
+/// The job has all that the worker tree asks of a job.
+pub fn lawful(checked: &Checked)
+    ensures { IsLawful (program_of checked.now) }
+{
+    flu_laws::accepted_is_lawful();
+}

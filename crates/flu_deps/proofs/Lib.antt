@@ -1,0 +1,5 @@
+pub mod OrderLemmas
+pub mod CellLemmas
+pub mod BestLemmas
+pub mod ConflictLemmas
+pub mod DeclaredLemmas

@@ -1,0 +1,4 @@
+pub mod Order
+pub mod Conflicts
+pub mod Named
+pub mod Checking

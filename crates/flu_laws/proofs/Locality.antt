@@ -1,0 +1,148 @@
+-- What actions do depends on the cells alone that they own, and on each cell that they change.
+use Rattle.std.proofs.Common.{◌≡◌, ℕ, pos, ◌+ℤ◌, Bool, true, false, cond, Option, Some, None, List, [], ◌∷◌, ◌++◌, map, refl, sym, ap, ◌∙◌}
+use Rattle.std.specs.Prelude.{◌==◌, is_some, slice_get}
+use Rattle.std.specs.List.{list_any, list_all, filter}
+use Rattle.std.proofs.lemmas.Bool.{or_left, or_right}
+use Rattle.flu_model.specs.declared.events.Cell.{Cell}
+use Rattle.flu_model.specs.declared.events.Event.{Event}
+use Rattle.flu_model.specs.declared.events.Worth.{Worth}
+use Rattle.flu_model.specs.declared.events.Worth.TheVariants.{Last}
+use Rattle.flu_model.specs.declared.jobs.Family.{Family}
+use Rattle.flu_model.specs.declared.jobs.Piece.{Piece}
+use Rattle.flu_model.specs.declared.jobs.Piece.TheVariants.{Plain, Value as ValueField, Key as KeyField, Time as TimeField, Read as ReadField, CellValue}
+use Rattle.flu_model.specs.declared.jobs.Act.{Act}
+use Rattle.flu_model.specs.declared.jobs.Act.TheVariants.{Add, Raise, Set, Clear, Emit, Flush}
+use Rattle.flu_model.specs.declared.jobs.Action.{Action}
+use Rattle.flu_model.specs.Contents.{Contents, cell, is_same_cell, with_worth, added, raised, held_keys, all_keys}
+use Rattle.flu_model.specs.Expressions.{cell_of, value_of_expr}
+use Rattle.flu_model.specs.Texts.{pieces_text, piece_text}
+use Rattle.flu_model.specs.Updates.{changes_to, effect_of_act, effect_of_action, effect_of_actions, passes_guard}
+use Rattle.flu_model.specs.Rules.{act_fits, action_fits, flush_piece_fits, flush_template_fits, are_apart, is_keyed}
+use Rattle.flu_model.specs.Modes.{means, guard_reads, act_owns, action_owns}
+use Rattle.flu_laws.specs.Changes.{amount_of_act, amount_added, level_of_act, level_reached, higher}
+use Rattle.flu_lemmas.proofs.Tests.{and_left, and_right}
+use Rattle.flu_laws.proofs.General.{same_number}
+use Rattle.flu_laws.proofs.Reading.{Agree, value-agree, guard-agree, pieces-agree, same_cell-is}
+
+-- the templates of a flush read no cell by name
+flush_piece-agree : (q : Piece) (v : Bool) (s t : Contents) (x : Event) (k : ℕ) (h : Option Worth) → flush_piece_fits v q ≡ true → piece_text q s x k h ≡ piece_text q t x k h
+flush_piece-agree (Plain u) v s t x k h fits = refl
+flush_piece-agree ValueField v s t x k h fits = refl
+flush_piece-agree KeyField v s t x k h fits = refl
+flush_piece-agree TimeField v s t x k h fits = refl
+flush_piece-agree (ReadField r) v s t x k h fits = cc
+flush_piece-agree CellValue v s t x k h fits = refl
+
+flush_pieces-agree : (qs : List Piece) (v : Bool) (s t : Contents) (x : Event) (k : ℕ) (h : Option Worth) → list_all (flush_piece_fits v) qs ≡ true → pieces_text qs s x k h ≡ pieces_text qs t x k h
+flush_pieces-agree [] v s t x k h fits = refl
+flush_pieces-agree (q ∷ qs) v s t x k h fits =
+    λ i. flush_piece-agree q v s t x k h (and_left _ _ fits) i ++ flush_pieces-agree qs v s t x k h (and_right _ _ fits) i
+
+-- the cells of a family, by key
+abbrev row : Contents → ℕ → ℕ → Option Worth
+row s f = λ k. s (cell f k)
+
+row-agree : (s t : Contents) (f : ℕ) → ((k : ℕ) → s (cell f k) ≡ t (cell f k)) → row s f ≡ row t f
+row-agree s t f same = λ i k. same k i
+
+-- one cell that is changed by what it holds
+changed-agree : (s t : Contents) (c d : Cell) (f g : Option Worth → Option Worth) → s c ≡ t c → ((w : Option Worth) → f w ≡ g w) → with_worth s d (f (s d)) c ≡ with_worth t d (g (t d)) c
+changed-agree s t c d f g here same =
+    elim (is_same_cell c d) as (λ b. is_same_cell c d ≡ b → cond b (f (s d)) (s c) ≡ cond b (g (t d)) (t c)) [
+      | true ↦ λ e. let is : c ≡ d = same_cell-is c d e in sym (ap (λ u. f (s u)) is) ∙ ap f here ∙ same (t c) ∙ ap (λ u. g (t u)) is
+      | false ↦ λ e. here
+    ] refl
+
+module _ (families : List Family) (keyed has_value : Bool) (x : Event) (key : ℕ) where
+  family-agree : (f : ℕ) (qs : List Piece) (s t : Contents) → Agree (λ c. act_owns key c (Flush f qs)) s t → (k : ℕ) → s (cell f k) ≡ t (cell f k)
+  family-agree f qs s t same k = same (cell f k) (or_left (f == f) _ (same_number f))
+
+  pub act_texts-agree : (a : Act) (s t : Contents) → act_fits families keyed has_value a ≡ true → Agree (λ c. act_owns key c a) s t → (effect_of_act a s x key).texts ≡ (effect_of_act a t x key).texts
+  act_texts-agree (Add r e) s t fits same = refl
+  act_texts-agree (Raise r e) s t fits same = refl
+  act_texts-agree (Set r e) s t fits same = refl
+  act_texts-agree (Clear r) s t fits same = refl
+  act_texts-agree (Emit qs) s t fits same = ap (λ u. u ∷ []) (pieces-agree qs s t x key None same)
+  act_texts-agree (Flush f qs) s t fits same =
+      let rows : row s f ≡ row t f = row-agree s t f (family-agree f qs s t same) in
+      let before : ℕ → List ℕ = λ k. pieces_text qs s x k (s (cell f k)) in
+      let after : ℕ → List ℕ = λ k. pieces_text qs t x k (s (cell f k)) in
+      let texts : before ≡ after = (λ i k. flush_pieces-agree qs has_value s t x k (s (cell f k)) (and_left (list_all (flush_piece_fits has_value) qs) (are_apart qs) (and_right (is_keyed (slice_get families f)) (flush_template_fits has_value qs) fits)) i) in
+      ap (λ g. map g (held_keys s f)) texts
+      ∙ ap (λ (h : ℕ → Option Worth). map (λ k. pieces_text qs t x k (h k)) (filter (λ k. is_some (h k)) all_keys)) rows
+
+  pub act_cells-agree : (a : Act) (s t : Contents) → Agree (λ c. act_owns key c a) s t → (c : Cell) → s c ≡ t c → (effect_of_act a s x key).cells c ≡ (effect_of_act a t x key).cells c
+  act_cells-agree (Add r e) s t same c here = changed-agree s t c (cell_of r key) (λ w. added w (value_of_expr e s x key)) (λ w. added w (value_of_expr e t x key)) here (λ w. ap (added w) (value-agree e s t x key same))
+  act_cells-agree (Raise r e) s t same c here = changed-agree s t c (cell_of r key) (λ w. raised w (value_of_expr e s x key)) (λ w. raised w (value_of_expr e t x key)) here (λ w. ap (raised w) (value-agree e s t x key same))
+  act_cells-agree (Set r e) s t same c here = λ i. cond (is_same_cell c (cell_of r key)) (Some (Last (value-agree e s t x key (λ d h. same d (or_right (means key d r) _ h)) i))) (here i)
+  act_cells-agree (Clear r) s t same c here = λ i. cond (is_same_cell c (cell_of r key)) None (here i)
+  act_cells-agree (Emit qs) s t same c here = here
+  act_cells-agree (Flush f qs) s t same c here = λ i. cond (c.family == f) None (here i)
+
+  -- ---- actions
+  pub action_texts-agree : (a : Action) (s t : Contents) → action_fits families keyed has_value a ≡ true → Agree (λ c. action_owns key c a) s t → (effect_of_action a s x key).texts ≡ (effect_of_action a t x key).texts
+  action_texts-agree a s t fits same =
+      let guards : passes_guard a.guard s x key ≡ passes_guard a.guard t x key = guard-agree a.guard s t x key (λ c h. same c (or_left _ _ h)) in
+      ap (λ b. (cond b (effect_of_act a.act s x key) (changes_to s)).texts) guards
+      ∙ (elim (passes_guard a.guard t x key) as (λ b. (cond b (effect_of_act a.act s x key) (changes_to s)).texts ≡ (cond b (effect_of_act a.act t x key) (changes_to t)).texts) [
+        | true ↦ act_texts-agree a.act s t (and_left _ _ fits) (λ c h. same c (or_right (guard_reads key c a.guard) _ h))
+        | false ↦ refl
+      ])
+
+  pub action_cells-agree : (a : Action) (s t : Contents) → Agree (λ c. action_owns key c a) s t → (c : Cell) → s c ≡ t c → (effect_of_action a s x key).cells c ≡ (effect_of_action a t x key).cells c
+  action_cells-agree a s t same c here =
+      let guards : passes_guard a.guard s x key ≡ passes_guard a.guard t x key = guard-agree a.guard s t x key (λ c h. same c (or_left _ _ h)) in
+      ap (λ b. (cond b (effect_of_act a.act s x key) (changes_to s)).cells c) guards
+      ∙ (elim (passes_guard a.guard t x key) as (λ b. (cond b (effect_of_act a.act s x key) (changes_to s)).cells c ≡ (cond b (effect_of_act a.act t x key) (changes_to t)).cells c) [
+        | true ↦ act_cells-agree a.act s t (λ c h. same c (or_right (guard_reads key c a.guard) _ h)) c here
+        | false ↦ here
+      ])
+
+  -- the cells that some of the actions own
+  abbrev pub owned_by : List Action → Cell → Bool
+  owned_by all c = list_any (action_owns key c) all
+
+  pub rest-agree : (a : Action) (all : List Action) (s t : Contents) → Agree (owned_by (a ∷ all)) s t → Agree (owned_by all) (effect_of_action a s x key).cells (effect_of_action a t x key).cells
+  rest-agree a all s t same c h = action_cells-agree a s t (λ d g. same d (or_left _ _ g)) c (same c (or_right (action_owns key c a) _ h))
+
+  pub texts-agree : (all : List Action) (s t : Contents) → list_all (action_fits families keyed has_value) all ≡ true → Agree (owned_by all) s t → (effect_of_actions all s x key).texts ≡ (effect_of_actions all t x key).texts
+  texts-agree [] s t fits same = refl
+  texts-agree (a ∷ all) s t fits same =
+      λ i. action_texts-agree a s t (and_left _ _ fits) (λ c h. same c (or_left _ _ h)) i
+      ++ texts-agree all (effect_of_action a s x key).cells (effect_of_action a t x key).cells (and_right _ _ fits) (rest-agree a all s t same) i
+
+  pub cells-agree : (all : List Action) (s t : Contents) → Agree (owned_by all) s t → (c : Cell) → s c ≡ t c → (effect_of_actions all s x key).cells c ≡ (effect_of_actions all t x key).cells c
+  cells-agree [] s t same c here = here
+  cells-agree (a ∷ all) s t same c here =
+      cells-agree all (effect_of_action a s x key).cells (effect_of_action a t x key).cells (rest-agree a all s t same) c (action_cells-agree a s t (λ d g. same d (or_left _ _ g)) c here)
+
+  -- ---- amounts
+  act_amount-agree : (a : Act) (s t : Contents) (c : Cell) → Agree (λ d. act_owns key d a) s t → amount_of_act a s x key c ≡ amount_of_act a t x key c
+  act_amount-agree (Add r e) s t c same = ap (λ v. cond (means key c r) v (pos 0)) (value-agree e s t x key same)
+  act_amount-agree (Raise r e) s t c same = refl
+  act_amount-agree (Set r e) s t c same = refl
+  act_amount-agree (Clear r) s t c same = refl
+  act_amount-agree (Emit qs) s t c same = refl
+  act_amount-agree (Flush f qs) s t c same = refl
+
+  act_level-agree : (a : Act) (s t : Contents) (c : Cell) → Agree (λ d. act_owns key d a) s t → level_of_act a s x key c ≡ level_of_act a t x key c
+  act_level-agree (Add r e) s t c same = refl
+  act_level-agree (Raise r e) s t c same = ap (λ v. cond (means key c r) (Some v) None) (value-agree e s t x key same)
+  act_level-agree (Set r e) s t c same = refl
+  act_level-agree (Clear r) s t c same = refl
+  act_level-agree (Emit qs) s t c same = refl
+  act_level-agree (Flush f qs) s t c same = refl
+
+  pub amount-agree : (all : List Action) (s t : Contents) (c : Cell) → Agree (owned_by all) s t → amount_added all s x key c ≡ amount_added all t x key c
+  amount-agree [] s t c same = refl
+  amount-agree (a ∷ all) s t c same =
+      let guards : passes_guard a.guard s x key ≡ passes_guard a.guard t x key = guard-agree a.guard s t x key (λ d h. same d (or_left _ _ (or_left _ _ h))) in
+      let one : amount_of_act a.act s x key c ≡ amount_of_act a.act t x key c = act_amount-agree a.act s t c (λ d h. same d (or_left _ _ (or_right (guard_reads key d a.guard) _ h))) in
+      λ i. cond (guards i) (one i) (pos 0) +ℤ amount-agree all (effect_of_action a s x key).cells (effect_of_action a t x key).cells c (rest-agree a all s t same) i
+
+  pub level-agree : (all : List Action) (s t : Contents) (c : Cell) → Agree (owned_by all) s t → level_reached all s x key c ≡ level_reached all t x key c
+  level-agree [] s t c same = refl
+  level-agree (a ∷ all) s t c same =
+      let guards : passes_guard a.guard s x key ≡ passes_guard a.guard t x key = guard-agree a.guard s t x key (λ d h. same d (or_left _ _ (or_left _ _ h))) in
+      let one : level_of_act a.act s x key c ≡ level_of_act a.act t x key c = act_level-agree a.act s t c (λ d h. same d (or_left _ _ (or_right (guard_reads key d a.guard) _ h))) in
+      λ i. higher (cond (guards i) (one i) None) (level-agree all (effect_of_action a s x key).cells (effect_of_action a t x key).cells c (rest-agree a all s t same) i)

@@ -1,0 +1,7 @@
+pub mod Uses
+pub mod Changes
+pub mod Updating
+pub mod Consistency
+pub mod Lawful
+pub mod Spans
+pub mod Lots

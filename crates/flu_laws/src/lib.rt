@@ -1,0 +1,65 @@
+//! The laws of jobs, on which keeping a state in parts rests. Each is the contract of a function that does nothing, and speaks
+//! of states as contracts see them, as what each cell holds.
+#![tactic(auto)]
+
+ghost use Rattle.flu_laws.specs.Consistency.{UpdatesLeft, UpdatesRight, Commutes, JoinsSplits};
+ghost use Rattle.flu_laws.specs.Lawful.{AcceptanceByUses, AcceptedIsLawful};
+ghost use Rattle.flu_laws.specs.Lots.{CentralLaw};
+ghost use Rattle.flu_laws.specs.Spans.{SpansAddUp, UpdatesInPlace};
+ghost use Rattle.flu_laws.specs.Updating.{TextsAreLocal, CellsAreLocal, ChangesAreLocal, UpdatesAreChanges, KeepsSorts};
+ghost use Rattle.flu_model.specs.Modes.{IsAccepted};
+ghost use Rattle.flu_model.specs.declared.jobs.Program.{Program};
+
+/// Update of a part: an update of one part of a state before the parts are joined is the update after it, where the other part
+/// is neutral at the cells that the event's tag owns.
+pub fn update_of_a_part()
+    ensures left { (p : Program) → UpdatesLeft p }
+    ensures right { (p : Program) → UpdatesRight p }
+{}
+
+/// Independent updates commute: two events of independent tags of an accepted job give in both orders the same state, and
+/// each the same texts.
+pub fn independent_updates_commute()
+    ensures { (p : Program) → IsAccepted p → Commutes p }
+{}
+
+/// Join undoes split: a state without some cells, joined with the state on these cells alone, is the state.
+pub fn join_undoes_split()
+    ensures { JoinsSplits }
+{}
+
+/// Locality: the texts, cells and amounts of an update depend on the cells alone that the event's tag needs.
+pub fn updates_are_local()
+    ensures texts { TextsAreLocal }
+    ensures cells { CellsAreLocal }
+    ensures changes { ChangesAreLocal }
+{}
+
+/// Change: an update changes each cell as its tag's mode there says, and keeps to the sorts of the families.
+pub fn updates_are_changes()
+    ensures changes { UpdatesAreChanges }
+    ensures sorts { KeepsSorts }
+{}
+
+/// An accepted job is one in which a cell that one tag needs and another writes makes them dependent; and it has all that the
+/// worker tree asks of a job.
+pub fn accepted_is_lawful()
+    ensures uses { AcceptanceByUses }
+    ensures lawful { AcceptedIsLawful }
+{}
+
+/// The effects of two parts of the events on a cell that these only add to, or only raise, join to those of both.
+pub fn spans_add_up()
+    ensures { SpansAddUp }
+{}
+
+/// An event that is put into its place among the counted ones updates a cell to their effects with its own.
+pub fn updates_in_place()
+    ensures { UpdatesInPlace }
+{}
+
+/// The central law: a part whose cells fit its counts, updated with an event that is exact for these, fits again with this event
+/// counted, and the texts are those of the fold.
+pub fn fits_again()
+    ensures { CentralLaw }
+{}

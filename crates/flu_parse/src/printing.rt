@@ -1,0 +1,200 @@
+//! The normal form of a job text.
+
+ghost use Rattle.std.specs.Prelude.{◌≡◌, ◌≤◌, ℕ, List, ◌++◌, length, OnOk, IfOk, IsTrue, map, slice_get, codes};
+ghost use Rattle.std.specs.List.{flat_map};
+ghost use Rattle.std.specs.String.{string_bytes};
+ghost use Rattle.flu_model.specs.Erasure.{job_of, plain_kind};
+ghost use Rattle.flu_parse.specs.Printing.{sort_text, keyed_text, cell_line, value_text, tag_line, kind_name, same_text, depends_line, on_line, keys_text, tag_text, separated, source_head, source_line, normal_form, has_text};
+ghost use Rattle.flu_parse.specs.Reading.{job_in};
+
+use crate::laws::{jobs_have_text, printed_is_read};
+use crate::printing_actions::add_actions;
+use flu_model::{Depend, Family, Keys, Kind, Program, Sort, Source, TagRef, Text};
+use std::alloc::{AllocError, Global};
+
+fn keyed_text(keyed: bool) -> &'static str
+    ensures { result.now ≡ keyed_text keyed }
+{
+    if keyed { " keyed" } else { "" }
+}
+
+fn sort_text(sort: Sort) -> &'static str
+    ensures { result.now ≡ sort_text sort }
+{
+    match sort {
+        Sort::Sum => " sum",
+        Sort::Max => " max",
+        Sort::Last => " last",
+    }
+}
+
+fn add_cells(text: &mut String, families: &[Family]) -> Result<(), AllocError>
+    ensures { OnOk result (string_bytes text.new ≡ string_bytes text.old ++ flat_map cell_line families.now) }
+{
+    for family in families {
+        let name = family.name.as_str();
+        let keyed = keyed_text(family.keyed);
+        let sort = sort_text(family.sort);
+        write!(text, "cell {name}{keyed}{sort}\n")?;
+    }
+    Ok(())
+}
+
+fn value_text(has_value: bool) -> &'static str
+    ensures { result.now ≡ value_text has_value }
+{
+    if has_value { " int" } else { " none" }
+}
+
+fn add_tags(text: &mut String, kinds: &[Kind]) -> Result<(), AllocError>
+    ensures { OnOk result (string_bytes text.new ≡ string_bytes text.old ++ flat_map tag_line (map plain_kind kinds.now)) }
+{
+    for kind in kinds {
+        let name = kind.name.as_str();
+        let keyed = keyed_text(kind.keyed);
+        let value = value_text(kind.has_value);
+        write!(text, "tag {name}{keyed}{value}\n")?;
+    }
+    Ok(())
+}
+
+fn kind_name(kinds: &[Kind], kind: u32) -> &str
+    ensures { result.now ≡ kind_name (slice_get (map plain_kind kinds.now) kind) }
+{
+    match kinds.get(kind as usize) {
+        Some(kind) => kind.name.as_str(),
+        None => "",
+    }
+}
+
+fn same_text(same: bool) -> &'static str
+    ensures { result.now ≡ same_text same }
+{
+    if same { " same" } else { "" }
+}
+
+fn add_depends(text: &mut String, kinds: &[Kind], depends: &[Depend]) -> Result<(), AllocError>
+    ensures { OnOk result (string_bytes text.new ≡ string_bytes text.old ++ flat_map (depends_line (map plain_kind kinds.now)) depends.now) }
+{
+    for depend in depends {
+        let a = kind_name(kinds, depend.a);
+        let b = kind_name(kinds, depend.b);
+        let same = same_text(depend.same);
+        write!(text, "depends {a} {b}{same}\n")?;
+    }
+    Ok(())
+}
+
+fn add_on(text: &mut String, families: &[Family], kind: &Kind) -> Result<(), AllocError>
+    ensures { OnOk result (string_bytes text.new ≡ string_bytes text.old ++ on_line families.now (plain_kind kind.now)) }
+{
+    let actions = kind.actions.items();
+    if actions.is_empty() {
+        return Ok(());
+    }
+    let name = kind.name.as_str();
+    write!(text, "on {name}: ")?;
+    add_actions(text, families, actions)?;
+    text.push_str("\n")
+}
+
+fn add_ons(text: &mut String, families: &[Family], kinds: &[Kind]) -> Result<(), AllocError>
+    ensures { OnOk result (string_bytes text.new ≡ string_bytes text.old ++ flat_map (on_line families.now) (map plain_kind kinds.now)) }
+{
+    for kind in kinds {
+        add_on(text, families, kind)?;
+    }
+    Ok(())
+}
+
+fn add_keys(text: &mut String, keys: Keys) -> Result<(), AllocError>
+    ensures { OnOk result (string_bytes text.new ≡ string_bytes text.old ++ keys_text keys) }
+{
+    match keys {
+        Keys::Alone => Ok(()),
+        Keys::One(key) => write!(text, "[{key}]"),
+        Keys::Range(low, high) => write!(text, "[{low}..{high}]"),
+    }
+}
+
+fn add_tag(text: &mut String, kinds: &[Kind], tag: TagRef) -> Result<(), AllocError>
+    ensures { OnOk result (string_bytes text.new ≡ string_bytes text.old ++ tag_text (map plain_kind kinds.now) tag) }
+{
+    text.push_str(kind_name(kinds, tag.kind))?;
+    add_keys(text, tag.keys)
+}
+
+fn add_listed(text: &mut String, kinds: &[Kind], tags: &[TagRef]) -> Result<(), AllocError>
+    ensures { OnOk result (string_bytes text.new ≡ string_bytes text.old ++ separated (codes ", ") (tag_text (map plain_kind kinds.now)) tags.now) }
+{
+    let [first, others @ ..] = tags else {
+        return Ok(());
+    };
+    add_tag(text, kinds, *first)?;
+    for tag in others {
+        text.push_str(", ")?;
+        add_tag(text, kinds, *tag)?;
+    }
+    Ok(())
+}
+
+fn add_source_head(text: &mut String, source: &Source) -> Result<(), AllocError>
+    ensures { OnOk result (string_bytes text.new ≡ string_bytes text.old ++ source_head source.now) }
+{
+    let name = source.name.as_str();
+    let file = source.file.as_str();
+    let rate = source.rate;
+    write!(text, "source {name} \"{file}\" rate {rate}: ")
+}
+
+fn add_source(text: &mut String, kinds: &[Kind], source: &Source) -> Result<(), AllocError>
+    ensures { OnOk result (string_bytes text.new ≡ string_bytes text.old ++ source_line (map plain_kind kinds.now) source.now) }
+{
+    add_source_head(text, source)?;
+    add_listed(text, kinds, source.tags.items())?;
+    text.push_str("\n")
+}
+
+fn add_sources(text: &mut String, kinds: &[Kind], sources: &[Source]) -> Result<(), AllocError>
+    ensures { OnOk result (string_bytes text.new ≡ string_bytes text.old ++ flat_map (source_line (map plain_kind kinds.now)) sources.now) }
+{
+    for source in sources {
+        add_source(text, kinds, source)?;
+    }
+    Ok(())
+}
+
+fn printed(alloc: Global, p: &Program) -> Result<String, AllocError>
+    ensures { IfOk result (λ text. string_bytes text ≡ normal_form (job_of p.now)) }
+{
+    let families = p.families.items();
+    let kinds = p.kinds.items();
+    let mut text = String::new(alloc);
+    add_cells(&mut text, families)?;
+    add_tags(&mut text, kinds)?;
+    add_depends(&mut text, kinds, p.depends.items())?;
+    add_ons(&mut text, families, kinds)?;
+    add_sources(&mut text, kinds, p.sources.items())?;
+    Ok(text)
+}
+
+/// A job as a text, in normal form (`docs/LANGUAGE.md`): cells, tags, `depends`, the actions of the kinds that have some, and
+/// sources, each on a line of its own with one blank between words. Each operator stands in parentheses of its own, numbers
+/// have no needless zeros, and the rate always stands there.
+///
+/// The text is read as this job again, where it has at most 1,048,576 bytes, for each job that was read, and for any other whose
+/// literals are not negative and whose templates' texts have at most 256 bytes.
+///
+/// # Errors
+///
+/// Only where memory is wanting.
+pub fn print_job(alloc: Global, p: &Program) -> Result<Text, AllocError>
+    ensures text { IfOk result (λ text. text ≡ normal_form (job_of p.now)) }
+    ensures read_again { IfOk result (λ text. IsTrue (has_text (job_of p.now)) → length text ≤ 1048576 → job_in text ≡ Ok (job_of p.now)) }
+    ensures round_trip { IfOk result (λ text. (bytes : List ℕ) → job_in bytes ≡ Ok (job_of p.now) → length text ≤ 1048576 → job_in text ≡ Ok (job_of p.now)) }
+{
+    printed_is_read();
+    jobs_have_text();
+    let text = printed(alloc, p)?;
+    Ok(Text::of(text))
+}

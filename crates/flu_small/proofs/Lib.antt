@@ -1,5 +1,0 @@
-pub mod Lists
-pub mod Zips
-pub mod Fields
-pub mod Items
-pub mod Lines

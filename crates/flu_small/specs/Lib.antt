@@ -1,5 +1,0 @@
-pub mod Names
-pub mod Job
-pub mod Declaring
-pub mod Draft
-pub mod Rows

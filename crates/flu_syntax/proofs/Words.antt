@@ -1,0 +1,116 @@
+-- The names, texts and numbers of a job are tokens.
+use Rattle.std.proofs.Common.{ℕ, suc, List, [], ◌∷◌, Option, Some, None, refl, arith}
+use Rattle.std.specs.Prelude.{Contains}
+use Rattle.std.specs.List.{flat_map, AllByRecursion}
+use Rattle.flu_lemmas.proofs.Elements.{all_map}
+use Rattle.flu_text.specs.declared.words.Token.{Token}
+use Rattle.flu_text.specs.declared.words.Word.{Word}
+use Rattle.flu_text.specs.declared.words.Word.TheVariants as w
+use Rattle.flu_text.specs.declared.words.Mark.TheVariants as m
+use Rattle.flu_syntax.specs.declared.tree.WrittenNumber.{WrittenNumber}
+use Rattle.flu_syntax.specs.declared.tree.WrittenKey.{WrittenKey}
+use Rattle.flu_syntax.specs.declared.tree.WrittenKey.TheVariants as key
+use Rattle.flu_syntax.specs.declared.tree.WrittenRef.{WrittenRef}
+use Rattle.flu_syntax.specs.declared.tree.WrittenKeys.{WrittenKeys}
+use Rattle.flu_syntax.specs.declared.tree.WrittenKeys.TheVariants as keys
+use Rattle.flu_syntax.specs.declared.tree.WrittenTag.{WrittenTag}
+use Rattle.flu_syntax.specs.Tree.{Tree, NumberTree, ValueTree, KeyTree, TimeTree, ReadTree, HasTree, ParenTree, NegTree, NotTree, TwoTree, Deed, Writes, Clears, Emits, Flushes, Action, Declaration, Cell, Tag, Depends, On, Source, Job}
+use Rattle.flu_syntax.specs.Grammar.{Sign, Any, AreSigns, separated, key_signs, cell_signs, spelled, deed_signs, guard_signs, action_signs, keys_signs, tag_signs, rate_signs, declaration_signs, job_signs}
+use Rattle.flu_syntax.specs.Words.{key_words, cell_words, tree_words, deed_words, guard_words, action_words, keys_words, tag_words, rate_words, declaration_words, job_words, Stands, WordsStand}
+use Rattle.flu_syntax.proofs.General.{all_front, all_back, all_append}
+
+-- an element of the rest is one of all
+one_further : {X : Type 0} (x y : X) (xs : List X) → Contains xs y → Contains (x ∷ xs) y
+one_further x y xs here = (suc here.0, omega arith, here.2)
+
+-- each sign stands for a token
+signs_stand : (signs : List Sign) (tokens : List Token) → AreSigns signs tokens → AllByRecursion (Stands tokens) signs
+signs_stand [] tokens are = tt
+signs_stand (s ∷ signs) [] are = absurd are
+signs_stand (s ∷ signs) (t ∷ tokens) are = (
+  (t, (0, omega arith, refl), are.0),
+  all_map (Stands tokens) (Stands (t ∷ tokens)) signs (λ s h. (h.0, one_further t h.0 tokens h.1, h.2)) (signs_stand signs tokens are.1),
+)
+
+module _ (P : Sign → Type 0) where
+  -- the signs of items, with a mark between each two, have those of each item
+  each_item : {X : Type 0} (mark : Word) (item words : X → List Sign) → ((x : X) → AllByRecursion P (item x) → AllByRecursion P (words x)) → (xs : List X)
+      → AllByRecursion P (flat_map (λ y. Any mark ∷ item y) xs) → AllByRecursion P (flat_map words xs)
+  each_item mark item words kept [] all = tt
+  each_item mark item words kept (x ∷ xs) all =
+      let rest = flat_map (λ y. Any mark ∷ item y) xs in
+      all_append P (words x) (flat_map words xs) (kept x (all_front P (item x) rest all.1)) (each_item mark item words kept xs (all_back P (item x) rest all.1))
+
+  separated_items : {X : Type 0} (mark : Word) (item words : X → List Sign) → ((x : X) → AllByRecursion P (item x) → AllByRecursion P (words x)) → (xs : List X)
+      → AllByRecursion P (separated mark item xs) → AllByRecursion P (flat_map words xs)
+  separated_items mark item words kept [] all = tt
+  separated_items mark item words kept (x ∷ xs) all =
+      let rest = flat_map (λ y. Any mark ∷ item y) xs in
+      all_append P (words x) (flat_map words xs) (kept x (all_front P (item x) rest all)) (each_item mark item words kept xs (all_back P (item x) rest all))
+
+  cell_has : (cell : WrittenRef) → AllByRecursion P (cell_signs cell) → AllByRecursion P (cell_words cell)
+  cell_has cell all = (all.0, of_key cell.key all.1)
+    where
+      of_key : (k : WrittenKey) → AllByRecursion P (key_signs k) → AllByRecursion P (key_words k)
+      of_key key.Alone all = tt
+      of_key (key.OwnKey at) all = tt
+      of_key (key.Fixed n) all = (all.1.0, tt)
+
+  tree_has : (e : Tree) → AllByRecursion P (spelled e) → AllByRecursion P (tree_words e)
+  tree_has (NumberTree n) all = all
+  tree_has (ValueTree at) all = tt
+  tree_has (KeyTree at) all = tt
+  tree_has (TimeTree at) all = tt
+  tree_has (ReadTree cell) all = cell_has cell all
+  tree_has (HasTree at cell) all = cell_has cell all.1
+  tree_has (ParenTree at inner) all = tree_has inner (all_front P (spelled inner) (Any (w.Mark m.CloseParen) ∷ []) all.1)
+  tree_has (NegTree at inner) all = tree_has inner all.1
+  tree_has (NotTree at inner) all = tree_has inner all.1
+  tree_has (TwoTree o left right) all =
+      all_append P (tree_words left) (tree_words right) (tree_has left (all_front P (spelled left) _ all)) (tree_has right (all_back P (spelled left) _ all).1)
+
+  deed_has : (at : ℕ) (d : Deed) → AllByRecursion P (deed_signs at d) → AllByRecursion P (deed_words d)
+  deed_has at (Writes verb cell amount) all =
+      all_append P (cell_words cell) (tree_words amount) (cell_has cell (all_front P (cell_signs cell) (spelled amount) all.1)) (tree_has amount (all_back P (cell_signs cell) (spelled amount) all.1))
+  deed_has at (Clears cell) all = cell_has cell all.1
+  deed_has at (Emits template) all = all.1
+  deed_has at (Flushes family template) all = all.1
+
+  guard_has : (g : Option Tree) → AllByRecursion P (guard_signs g) → AllByRecursion P (guard_words g)
+  guard_has None all = tt
+  guard_has (Some guard) all = tree_has guard all.1
+
+  action_has : (a : Action) → AllByRecursion P (action_signs a) → AllByRecursion P (action_words a)
+  action_has a all =
+      let ds = deed_signs a.at a.deed in
+      let gs = guard_signs a.guard in
+      all_append P (deed_words a.deed) (guard_words a.guard) (deed_has a.at a.deed (all_front P ds gs all)) (guard_has a.guard (all_back P ds gs all))
+
+  tag_has : (t : WrittenTag) → AllByRecursion P (tag_signs t) → AllByRecursion P (tag_words t)
+  tag_has t all = (all.0, of_keys t.keys all.1)
+    where
+      of_keys : (k : WrittenKeys) → AllByRecursion P (keys_signs k) → AllByRecursion P (keys_words k)
+      of_keys keys.Alone all = tt
+      of_keys (keys.One n) all = (all.1.0, tt)
+      of_keys (keys.Range low high) all = (all.1.0, (all.1.1.1.0, tt))
+
+  rate_has : (rate : Option WrittenNumber) → AllByRecursion P (rate_signs rate) → AllByRecursion P (rate_words rate)
+  rate_has None all = tt
+  rate_has (Some n) all = all.1
+
+  declaration_has : (d : Declaration) → AllByRecursion P (declaration_signs d) → AllByRecursion P (declaration_words d)
+  declaration_has (Cell n keyed sort) all = (all.1.0, tt)
+  declaration_has (Tag n keyed has_value) all = (all.1.0, tt)
+  declaration_has (Depends a b relation) all = (all.1.0, (all.1.1.0, tt))
+  declaration_has (On kind actions) all = (all.1.0, separated_items (w.Mark m.Semicolon) action_signs action_words action_has actions all.1.1.1)
+  declaration_has (Source n file rate tags) all =
+      let behind : List Sign = Any (w.Mark m.Colon) ∷ separated (w.Mark m.Comma) tag_signs tags in
+      (all.1.0, (all.1.1.0, all_append P (rate_words rate) (flat_map tag_words tags) (rate_has rate (all_front P (rate_signs rate) behind all.1.1.1)) (separated_items (w.Mark m.Comma) tag_signs tag_words tag_has tags (all_back P (rate_signs rate) behind all.1.1.1).1)))
+
+  job_has : (job : Job) → AllByRecursion P (job_signs job) → AllByRecursion P (job_words job)
+  job_has [] all = tt
+  job_has (d ∷ job) all =
+      all_append P (declaration_words d) (job_words job) (declaration_has d (all_front P (declaration_signs d) (job_signs job) all)) (job_has job (all_back P (declaration_signs d) (job_signs job) all))
+
+pub words_stand : WordsStand
+words_stand tokens job is = job_has (Stands tokens) job (signs_stand (job_signs job) tokens is.spelled)

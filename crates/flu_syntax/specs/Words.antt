@@ -1,0 +1,83 @@
+-- The names, the texts and the numbers that a job keeps, as signs: what is left of its spelling without the words that are the
+-- same in every job.
+use Rattle.std.specs.Prelude.{List, [], ◌++◌, Option, Some, None, Contains}
+use Rattle.std.specs.List.{flat_map, AllByRecursion}
+use Rattle.flu_text.specs.declared.words.Token.{Token}
+use Rattle.flu_syntax.specs.declared.tree.WrittenNumber.{WrittenNumber}
+use Rattle.flu_syntax.specs.declared.tree.WrittenKey.{WrittenKey}
+use Rattle.flu_syntax.specs.declared.tree.WrittenKey.TheVariants as key
+use Rattle.flu_syntax.specs.declared.tree.WrittenRef.{WrittenRef}
+use Rattle.flu_syntax.specs.declared.tree.WrittenKeys.{WrittenKeys}
+use Rattle.flu_syntax.specs.declared.tree.WrittenKeys.TheVariants as keys
+use Rattle.flu_syntax.specs.declared.tree.WrittenTag.{WrittenTag}
+use Rattle.flu_syntax.specs.Tree.{Tree, NumberTree, ValueTree, KeyTree, TimeTree, ReadTree, HasTree, ParenTree, NegTree, NotTree, TwoTree, Deed, Writes, Clears, Emits, Flushes, Action, Declaration, Cell, Tag, Depends, On, Source, Job}
+use Rattle.flu_syntax.specs.Grammar.{Sign, IsSign, name, text, number, IsJob}
+
+-- those of a cell: its family's name, and perhaps the number in its brackets
+abbrev pub key_words : WrittenKey → List Sign
+key_words key.Alone = []
+key_words (key.OwnKey at) = []
+key_words (key.Fixed n) = number n
+
+abbrev pub cell_words : WrittenRef → List Sign
+cell_words cell = name cell.family ++ key_words cell.key
+
+-- those of an expression
+abbrev pub tree_words : Tree → List Sign
+tree_words (NumberTree n) = number n
+tree_words (ValueTree at) = []
+tree_words (KeyTree at) = []
+tree_words (TimeTree at) = []
+tree_words (ReadTree cell) = cell_words cell
+tree_words (HasTree at cell) = cell_words cell
+tree_words (ParenTree at inner) = tree_words inner
+tree_words (NegTree at inner) = tree_words inner
+tree_words (NotTree at inner) = tree_words inner
+tree_words (TwoTree o left right) = tree_words left ++ tree_words right
+
+-- those of an action: of what it does, and of its guard
+abbrev pub deed_words : Deed → List Sign
+deed_words (Writes verb cell amount) = cell_words cell ++ tree_words amount
+deed_words (Clears cell) = cell_words cell
+deed_words (Emits template) = text template
+deed_words (Flushes family template) = name family ++ text template
+
+abbrev pub guard_words : Option Tree → List Sign
+guard_words None = []
+guard_words (Some guard) = tree_words guard
+
+abbrev pub action_words : Action → List Sign
+action_words a = deed_words a.deed ++ guard_words a.guard
+
+-- those of tags that a source lists: their kind's name, and the numbers in their brackets
+abbrev pub keys_words : WrittenKeys → List Sign
+keys_words keys.Alone = []
+keys_words (keys.One n) = number n
+keys_words (keys.Range low high) = number low ++ number high
+
+abbrev pub tag_words : WrittenTag → List Sign
+tag_words t = name t.kind ++ keys_words t.keys
+
+-- that of a rate, if one is written
+abbrev pub rate_words : Option WrittenNumber → List Sign
+rate_words None = []
+rate_words (Some n) = number n
+
+-- those of a declaration, and of a whole job
+abbrev pub declaration_words : Declaration → List Sign
+declaration_words (Cell n keyed sort) = name n
+declaration_words (Tag n keyed has_value) = name n
+declaration_words (Depends a b relation) = name a ++ name b
+declaration_words (On kind actions) = name kind ++ flat_map action_words actions
+declaration_words (Source n file rate tags) = name n ++ text file ++ rate_words rate ++ flat_map tag_words tags
+
+abbrev pub job_words : Job → List Sign
+job_words job = flat_map declaration_words job
+
+-- one of the tokens is what the sign stands for
+abbrev pub Stands : List Token → Sign → Type 0
+Stands tokens s = (t : Token) × Contains tokens t × IsSign s t
+
+-- each name, text and number of a job is a token of the tokens that are the job
+abbrev pub WordsStand : Type 0
+WordsStand = (tokens : List Token) (job : Job) → IsJob tokens job → AllByRecursion (Stands tokens) (job_words job)

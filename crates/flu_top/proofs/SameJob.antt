@@ -1,0 +1,118 @@
+-- Programs that are the same job have the same first fault of their sources.
+use Rattle.std.proofs.Common.{◌≡◌, refl, sym, ap, ◌∙◌, ℕ, ◌+◌, ℤ, List, [], ◌∷◌, length, Bool, false, map, Option, Some, None}
+use Rattle.std.specs.Prelude.{option_map, option_and_then, is_none, is_some, not, slice_get, if◌then◌else◌}
+use Rattle.std.specs.List.{position}
+use Rattle.std.proofs.Math.Path.{fun_ext}
+use Rattle.std.proofs.lemmas.Option.{slice_get-map}
+use Rattle.flu_model.specs.declared.jobs.Kind.{Kind}
+use Rattle.flu_model.specs.declared.jobs.Source.{Source}
+use Rattle.flu_model.specs.declared.jobs.Program.{Program}
+use Rattle.flu_model.specs.declared.events.Tag.{Tag}
+use Rattle.flu_model.specs.Erasure.{PlainKind, plain_kind, IsSameJob}
+use Rattle.flu_model.specs.Listing.{tag, tags_of_source}
+use Rattle.flu_model.specs.Rules.{is_same_text, is_same_tag}
+use Rattle.flu_outside.specs.Outside.{Contents}
+use Rattle.flu_rows.specs.declared.row.Row.{Row}
+use Rattle.flu_rows.specs.declared.row.Row.TheVariants.{Event, Beat, End}
+use Rattle.flu_rows.specs.declared.rows.Next.{Next}
+use Rattle.flu_rows.specs.declared.rows.Next.TheVariants.{Row as RowNext, Bad, TooManyLines, Done}
+use Rattle.flu_rows.specs.Reading.{read_file}
+use Rattle.flu_rows.specs.Taking.{bytes_left}
+use Rattle.flu_streams.specs.declared.faults.Why.{Why}
+use Rattle.flu_streams.specs.declared.faults.Why.TheVariants.{BadRow, UnknownTag, AfterEnd}
+use Rattle.flu_streams.specs.Before.{each_with_before, first_some}
+use Rattle.flu_streams.specs.Tags.{kind_named, key_named, tag_named, place_named, has_its_value, value_fits, width}
+use Rattle.flu_streams.specs.Tests.{where_true, test_tag, test_value, test_time, test_items, tests, defect_of, first_defect, has_ended, last_time, items_of, rows_of}
+use Rattle.flu_streams.specs.Good.{fault_of_source, items_held, first_fault}
+use Rattle.flu_streams.proofs.Places.{position-map}
+use Rattle.flu_top.specs.Behind.{emptied, fault_behind}
+
+-- ---- what a row's tag and value are tested by depends on the kinds without their actions
+kind_of_plain : List PlainKind → List ℕ → Option ℕ
+kind_of_plain kinds name = position (λ (k : PlainKind). is_same_text k.name name) kinds
+
+kind_plain : (kinds : List Kind) (name : List ℕ) → kind_named kinds name ≡ kind_of_plain (map plain_kind kinds) name
+unfolding kind_of_plain
+kind_plain kinds name = sym (position-map (λ (k : PlainKind). is_same_text k.name name) plain_kind kinds)
+
+tag_at : ℕ → Option ℕ → Option PlainKind → Option Tag
+tag_at number key None = None
+tag_at number key (Some kind) = option_and_then (λ n. Some (tag number n)) (key_named kind.keyed key)
+
+tag_of_plain : List PlainKind → List ℕ → Option ℕ → Option Tag
+tag_of_plain kinds name key = option_and_then (λ number. tag_at number key (slice_get kinds number)) (kind_of_plain kinds name)
+
+tag_plain : (kinds : List Kind) (name : List ℕ) (key : Option ℕ) → tag_named kinds name key ≡ tag_of_plain (map plain_kind kinds) name key
+unfolding tag_of_plain tag_at
+tag_plain kinds name key =
+    ap (λ o. option_and_then (λ number. option_and_then (λ (kind : Kind). option_and_then (λ n. Some (tag number n)) (key_named kind.keyed key)) (slice_get kinds number)) o) (kind_plain kinds name)
+    ∙ ap (λ f. option_and_then f (kind_of_plain (map plain_kind kinds) name)) (fun_ext (λ number. at number (slice_get kinds number) ∙ ap (tag_at number key) (sym (slice_get-map plain_kind kinds number))))
+  where
+    at : (number : ℕ) (o : Option Kind) → option_and_then (λ (kind : Kind). option_and_then (λ n. Some (tag number n)) (key_named kind.keyed key)) o ≡ tag_at number key (option_map plain_kind o)
+    at number None = refl
+    at number (Some kind) = refl
+
+fits_at : Option ℤ → Option PlainKind → Bool
+fits_at value None = false
+fits_at value (Some kind) = if kind.has_value then is_some value else is_none value
+
+fits_plain : (kinds : List Kind) (name : List ℕ) (value : Option ℤ) → value_fits kinds name value ≡ fits_at value (option_and_then (λ number. slice_get (map plain_kind kinds) number) (kind_of_plain (map plain_kind kinds) name))
+unfolding fits_at
+fits_plain kinds name value =
+    ap (λ o. has_its_value (option_and_then (λ number. slice_get kinds number) o) value) (kind_plain kinds name)
+    ∙ (at (option_and_then (λ number. slice_get kinds number) named)
+    ∙ ap (fits_at value) (inside named ∙ ap (λ f. option_and_then f named) (fun_ext (λ number. sym (slice_get-map plain_kind kinds number)))))
+  where
+    named : Option ℕ
+    named = kind_of_plain (map plain_kind kinds) name
+
+    at : (o : Option Kind) → has_its_value o value ≡ fits_at value (option_map plain_kind o)
+    at None = refl
+    at (Some kind) = refl
+
+    inside : (o : Option ℕ) → option_map plain_kind (option_and_then (λ number. slice_get kinds number) o) ≡ option_and_then (λ number. option_map plain_kind (slice_get kinds number)) o
+    inside None = refl
+    inside (Some number) = refl
+
+-- ---- so do the tests, and the first defect
+same_place : (kinds others : List Kind) (s : Source) (name : List ℕ) (key : Option ℕ) → map plain_kind kinds ≡ map plain_kind others → place_named kinds s name key ≡ place_named others s name key
+same_place kinds others s name key alike =
+    ap (λ o. option_and_then (λ t. position (is_same_tag t) (tags_of_source s)) o)
+    (tag_plain kinds name key ∙ (ap (λ ks. tag_of_plain ks name key) alike ∙ sym (tag_plain others name key)))
+
+same_fits : (kinds others : List Kind) (name : List ℕ) (value : Option ℤ) → map plain_kind kinds ≡ map plain_kind others → value_fits kinds name value ≡ value_fits others name value
+same_fits kinds others name value alike =
+    fits_plain kinds name value
+    ∙ (ap (λ (ks : List PlainKind). fits_at value (option_and_then (λ number. slice_get ks number) (kind_of_plain ks name))) alike ∙ sym (fits_plain others name value))
+
+same_tests : (kinds others : List Kind) (s : Source) (ended : Bool) (last : Option ℕ) (held : ℕ) (row : Row) → map plain_kind kinds ≡ map plain_kind others → tests kinds s ended last held row ≡ tests others s ended last held row
+same_tests kinds others s ended last held (Event time name key value) alike =
+    ap (λ o. where_true ended AfterEnd ∷ where_true (is_none o) UnknownTag ∷ test_value kinds (Event time name key value) ∷ test_time last (Event time name key value) ∷ test_items (width s) held (Event time name key value) ∷ []) (same_place kinds others s name key alike)
+    ∙ ap (λ b. where_true ended AfterEnd ∷ test_tag others s (Event time name key value) ∷ where_true (not b) BadRow ∷ test_time last (Event time name key value) ∷ test_items (width s) held (Event time name key value) ∷ []) (same_fits kinds others name value alike)
+same_tests kinds others s ended last held (Beat time) alike = refl
+same_tests kinds others s ended last held End alike = refl
+
+same_defect : (kinds others : List Kind) (s : Source) (held : ℕ) (read : List Next) (next : Next) → map plain_kind kinds ≡ map plain_kind others → defect_of kinds s held read next ≡ defect_of others s held read next
+same_defect kinds others s held read (RowNext line row) alike =
+    ap (λ ts. option_map (λ why. (line, why)) (first_some (λ (test : Option Why). test) ts))
+    (same_tests kinds others s (has_ended (rows_of read)) (last_time (rows_of read)) (held + items_of (width s) (rows_of read)) row alike)
+same_defect kinds others s held read (Bad line) alike = refl
+same_defect kinds others s held read TooManyLines alike = refl
+same_defect kinds others s held read (Done lines) alike = refl
+
+same_first_defect : (kinds others : List Kind) (s : Source) (held : ℕ) (bytes : List ℕ) → map plain_kind kinds ≡ map plain_kind others → first_defect kinds s held bytes ≡ first_defect others s held bytes
+same_first_defect kinds others s held bytes alike =
+    ap (λ f. first_some f (each_with_before (read_file bytes))) (fun_ext (λ (e : List Next × Next). same_defect kinds others s held e.0 e.1 alike))
+
+same_source_fault : (kinds others : List Kind) (left : Contents) (earlier : List Source) (s : Source) → map plain_kind kinds ≡ map plain_kind others → fault_of_source kinds left earlier s ≡ fault_of_source others left earlier s
+same_source_fault kinds others left earlier s alike =
+    ap (option_map (λ (d : ℕ × Why). record { source = length earlier; row = d.0; why = d.1 })) (same_first_defect kinds others s (items_held left earlier) (bytes_left left s.file) alike)
+
+same_first_fault : (p q : Program) (left : Contents) → IsSameJob p q → first_fault p left ≡ first_fault q left
+same_first_fault p q left same =
+    ap (λ (ss : List Source). first_some (λ e. fault_of_source p.kinds left e.0 e.1) (each_with_before ss)) (ap (λ j. j.sources) same)
+    ∙ ap (λ f. first_some f (each_with_before q.sources)) (fun_ext (λ (e : List Source × Source). same_source_fault p.kinds q.kinds left e.0 e.1 (ap (λ j. j.kinds) same)))
+
+pub same_fault : (job : List ℕ) (left : Contents) (p q : Program) → IsSameJob p q → fault_behind job left p ≡ fault_behind job left q
+unfolding fault_behind
+same_fault job left p q same = same_first_fault p q (emptied job left) same

@@ -1,0 +1,81 @@
+-- Pieces that are written one after another.
+use Rattle.std.proofs.Common.{◌≡◌, sym, ap, ◌∙◌, ℕ, ◌+◌, ◌-◌, ◌≤◌, List, [], ◌∷◌, ◌++◌, length, get_or, map, take, drop, Option, Result, subst, arith, append_assoc, length-append}
+use Rattle.std.proofs.Math.Seq.{take-append-add}
+use denote.Bor.{Bor}
+use Rattle.std.specs.List.{concat}
+use Rattle.std.proofs.lemmas.List.{take_all}
+use Rattle.std.specs.Prelude.{OnOk, OnErr, codes}
+use Rattle.std.specs.Fmt.{decimal}
+use Rattle.flu_model.specs.declared.limits.What.{What}
+use Rattle.flu_parse.specs.declared.faults.JobFault.TheVariants.{OverLimit}
+use Rattle.flu_streams.specs.declared.faults.Why.TheVariants.{Disordered, TooMany}
+use Rattle.flu_top.specs.Lines.{what_word, job_line, job_fault_line, row_line, source_fault_line}
+use Rattle.flu_outside.specs.declared.sink.Failed.{Failed}
+use Rattle.flu_outside.specs.Outside.{WhereTold}
+use Rattle.flu_report.specs.Writing.{AppendsAll, AppendsPart}
+
+pub part_of_second : (a b x y z : List ℕ) → AppendsAll a x y → AppendsPart b y z → AppendsPart (a ++ b) x z
+part_of_second a b x y z e part = (
+  length a + part.0,
+  omega (arith, part.1, length-append a b),
+  part.2 ∙ ap (λ l. l ++ take part.0 b) e ∙ append_assoc x a (take part.0 b) ∙ ap (λ l. x ++ l) (sym (take-append-add a b part.0)),
+)
+
+pub pieces_split : (ps : List (Bor (List ℕ))) (d : Bor (List ℕ)) → 1 ≤ length ps → concat (map (λ p. p.now) ps) ≡ (get_or ps 0 d).now ++ concat (map (λ p. p.now) (take (length ps - 1) (drop 1 ps)))
+pieces_split [] d some = absurd (omega arith)
+pieces_split (p ∷ ps) d some = ap (λ (l : List (Bor (List ℕ))). p.now ++ concat (map (λ p. p.now) l)) (sym (take_all (length (p ∷ ps) - 1) ps (omega arith)))
+
+-- ---- pieces that make up a line
+pub all_as : (pieces line : List ℕ) (r : Result (Unit {0}) Failed) (a b : Option (List ℕ)) → pieces ≡ line → OnOk r (WhereTold a b (AppendsAll pieces)) → OnOk r (WhereTold a b (AppendsAll line))
+all_as pieces line r a b same told = subst (λ l. OnOk r (WhereTold a b (AppendsAll l))) same told
+
+pub part_as : (pieces line : List ℕ) (r : Result (Unit {0}) Failed) (a b : Option (List ℕ)) → pieces ≡ line → OnErr r (WhereTold a b (AppendsPart pieces)) → OnErr r (WhereTold a b (AppendsPart line))
+part_as pieces line r a b same told = subst (λ l. OnErr r (WhereTold a b (AppendsPart l))) same told
+
+joined_3 : (a b c d : List ℕ) → a ++ (b ++ (c ++ d)) ≡ a ++ (b ++ c) ++ d
+joined_3 a b c d = simp append_assoc
+
+joined_4 : (a b c d e : List ℕ) → a ++ (b ++ (c ++ (d ++ e))) ≡ (a ++ b ++ c ++ d) ++ e
+joined_4 a b c d e = simp append_assoc
+
+joined_6 : (a b c d e f g : List ℕ) → a ++ (b ++ (c ++ (d ++ (e ++ (f ++ g))))) ≡ a ++ b ++ c ++ d ++ e ++ f ++ g
+joined_6 a b c d e f g = simp append_assoc
+
+-- the line of a fault at a place of a job text
+abbrev pub fault_pieces : List ℕ → List ℕ → List ℕ
+fault_pieces fault digits = codes "flumina: job: " ++ (fault ++ (digits ++ codes "\n"))
+
+pub fault_line : (fault digits : List ℕ) (place : ℕ) → digits ≡ decimal place → fault_pieces fault digits ≡ job_line (fault ++ decimal place)
+fault_line fault digits place is = ap (fault_pieces fault) is ∙ joined_3 (codes "flumina: job: ") fault (decimal place) (codes "\n")
+
+-- the line of a limit that a job text passes
+abbrev pub limit_pieces : List ℕ → List ℕ → List ℕ
+limit_pieces word digits = codes "flumina: job: over limit " ++ (word ++ (codes " " ++ (digits ++ codes "\n")))
+
+pub limit_line : (word digits : List ℕ) (what : What) (count : ℕ) → word ≡ what_word what → digits ≡ decimal count → limit_pieces word digits ≡ job_fault_line (OverLimit what count)
+limit_line word digits what count is are =
+    (λ i. limit_pieces (is i) (are i)) ∙ ap (λ l. codes "flumina: job: " ++ l) (joined_4 (codes "over limit ") (what_word what) (codes " ") (decimal count) (codes "\n"))
+
+-- the line of a row, of its first pieces and what comes behind them
+abbrev pub row_pieces : List ℕ → List ℕ → List ℕ → List ℕ
+row_pieces name digits rest = codes "flumina: source " ++ (name ++ (codes " row " ++ (digits ++ rest)))
+
+pub row_line_of : (name source digits why : List ℕ) (row : ℕ) → source ≡ name → digits ≡ decimal row → row_pieces source digits (codes ": " ++ (why ++ codes "\n")) ≡ row_line name row why
+row_line_of name source digits why row is are =
+    (λ i. row_pieces (is i) (are i) (codes ": " ++ (why ++ codes "\n"))) ∙ joined_6 (codes "flumina: source ") name (codes " row ") (decimal row) (codes ": ") why (codes "\n")
+
+abbrev pub disordered_pieces : List ℕ → List ℕ → List ℕ → List ℕ → List ℕ
+disordered_pieces name digits last got = row_pieces name digits (codes ": disordered, last " ++ (last ++ (codes ", got " ++ (got ++ codes "\n"))))
+
+pub disordered_line : (name source digits last_digits got_digits : List ℕ) (row last got : ℕ) → source ≡ name → digits ≡ decimal row → last_digits ≡ decimal last → got_digits ≡ decimal got → disordered_pieces source digits last_digits got_digits ≡ source_fault_line name row (Disordered last got)
+disordered_line name source digits last_digits got_digits row last got is are lasts gots =
+    (λ i. disordered_pieces source digits (lasts i) (gots i))
+    ∙ (ap (λ l. row_pieces source digits (codes ": " ++ l)) (joined_4 (codes "disordered, last ") (decimal last) (codes ", got ") (decimal got) (codes "\n"))
+    ∙ row_line_of name source digits (codes "disordered, last " ++ decimal last ++ codes ", got " ++ decimal got) row is are)
+
+abbrev pub too_many_pieces : List ℕ → List ℕ → List ℕ → List ℕ
+too_many_pieces name digits count = row_pieces name digits (codes ": too many, " ++ (count ++ codes "\n"))
+
+pub too_many_line : (name source digits count_digits : List ℕ) (row count : ℕ) → source ≡ name → digits ≡ decimal row → count_digits ≡ decimal count → too_many_pieces source digits count_digits ≡ source_fault_line name row (TooMany count)
+too_many_line name source digits count_digits row count is are counts =
+    ap (too_many_pieces source digits) counts ∙ row_line_of name source digits (codes "too many, " ++ decimal count) row is are

@@ -1,0 +1,83 @@
+use Rattle.std.proofs.Common.{sym, ◌∙◌, subst, ◌≡◌, ◌⊎◌, [], ◌∷◌}
+use Rattle.std.specs.Prelude.{Contains}
+use Rattle.flu_top.specs.Lines.{IsSaid}
+use Rattle.flu_top.specs.declared.refusals.Refusal.TheVariants as refusals
+use Rattle.flu_top.proofs.Endings.{known_status, done_at, bad_words_at, bad_words_said, untouched_at, job_fault_at, source_fault_at, read_fault_at, write_fault_at, nothing_at, quiet_at, said_of, read_fault_said, write_fault_said, no_memory_said, folds_at, refuses_job_at, refuses_source_at}
+use Rattle.flu_top.proofs.top.flumina.Goals as goal
+
+pub returns-clause-statuses : goal.returns-clause-statuses
+returns-clause-statuses g c =
+    subst (Contains (0 ∷ 2 ∷ 3 ∷ 6 ∷ 7 ∷ 8 ∷ 9 ∷ [])) (sym c.answer.ensures.status) (known_status c.do_words-ended.result)
+
+pub returns-clause-done : goal.returns-clause-done
+returns-clause-done g c =
+    λ is. done_at _ c.do_words-ended.result c.do_words-ended.ensures.ends (sym c.answer.ensures.status ∙ is)
+
+pub returns-clause-quiet : goal.returns-clause-quiet
+returns-clause-quiet g c =
+    λ is. quiet_at _ c.do_words-ended.result c.answer.ensures.quiet (sym c.answer.ensures.status ∙ is)
+
+pub returns-clause-bad_words : goal.returns-clause-bad_words
+returns-clause-bad_words g c =
+    let bad = bad_words_at _ c.do_words-ended.result c.do_words-ended.ensures.ends in
+    (λ is. bad.0 (sym c.answer.ensures.status ∙ is), λ words. c.answer.ensures.status ∙ bad.1 words)
+
+pub returns-clause-bad_words_line : goal.returns-clause-bad_words_line
+returns-clause-bad_words_line g c =
+    λ at words. bad_words_said (λ line. IsSaid line (g.E.Sink.taken c.args.err.now) (g.E.Sink.taken c.answer.new.err) (g.E.Sink.faults c.args.err.now) (g.E.Sink.faults c.answer.new.err)) _ c.do_words-ended.result at c.do_words-ended.ensures.ends c.answer.ensures.said words
+
+pub returns-clause-untouched : goal.returns-clause-untouched
+returns-clause-untouched g c =
+    λ is. untouched_at _ c.do_words-ended.result c.do_words-ended.ensures.ends (sym c.answer.ensures.status ∙ is)
+
+pub returns-clause-job_fault : goal.returns-clause-job_fault
+returns-clause-job_fault g c =
+    λ is.
+    let found = job_fault_at _ c.do_words-ended.result c.do_words-ended.ensures.ends (sym c.answer.ensures.status ∙ is) in
+    (found.0, found.1, found.2, found.3, said_of (λ line. IsSaid line (g.E.Sink.taken c.args.err.now) (g.E.Sink.taken c.answer.new.err) (g.E.Sink.faults c.args.err.now) (g.E.Sink.faults c.answer.new.err)) c.do_words-ended.result (refusals.JobFault found.1) c.answer.ensures.said found.4)
+
+pub returns-clause-source_fault : goal.returns-clause-source_fault
+returns-clause-source_fault g c =
+    λ is.
+    let found = source_fault_at _ c.do_words-ended.result c.do_words-ended.ensures.ends (sym c.answer.ensures.status ∙ is) in
+    (found.0, found.1, found.2, found.3, found.4, said_of (λ line. IsSaid line (g.E.Sink.taken c.args.err.now) (g.E.Sink.taken c.answer.new.err) (g.E.Sink.faults c.args.err.now) (g.E.Sink.faults c.answer.new.err)) c.do_words-ended.result (refusals.SourceFault found.1 found.2) c.answer.ensures.said found.5)
+
+pub returns-clause-read_fault : goal.returns-clause-read_fault
+returns-clause-read_fault g c =
+    λ is. read_fault_at _ c.do_words-ended.result c.do_words-ended.ensures.ends (sym c.answer.ensures.status ∙ is)
+
+pub returns-clause-read_fault_line : goal.returns-clause-read_fault_line
+returns-clause-read_fault_line g c =
+    λ is. read_fault_said (λ line. IsSaid line (g.E.Sink.taken c.args.err.now) (g.E.Sink.taken c.answer.new.err) (g.E.Sink.faults c.args.err.now) (g.E.Sink.faults c.answer.new.err)) c.do_words-ended.result c.answer.ensures.said (sym c.answer.ensures.status ∙ is)
+
+pub returns-clause-write_fault : goal.returns-clause-write_fault
+returns-clause-write_fault g c =
+    λ is. (write_fault_at _ c.do_words-ended.result c.do_words-ended.ensures.ends (sym c.answer.ensures.status ∙ is)).2
+
+pub returns-clause-partial : goal.returns-clause-partial
+returns-clause-partial g c =
+    λ is. let found = write_fault_at _ c.do_words-ended.result c.do_words-ended.ensures.ends (sym c.answer.ensures.status ∙ is) in (found.0, found.1, found.3)
+
+pub returns-clause-write_fault_line : goal.returns-clause-write_fault_line
+returns-clause-write_fault_line g c =
+    λ is. write_fault_said (λ line. IsSaid line (g.E.Sink.taken c.args.err.now) (g.E.Sink.taken c.answer.new.err) (g.E.Sink.faults c.args.err.now) (g.E.Sink.faults c.answer.new.err)) c.do_words-ended.result c.answer.ensures.said (sym c.answer.ensures.status ∙ is)
+
+pub returns-clause-no_memory_line : goal.returns-clause-no_memory_line
+returns-clause-no_memory_line g c =
+    λ is. no_memory_said (λ line. IsSaid line (g.E.Sink.taken c.args.err.now) (g.E.Sink.taken c.answer.new.err) (g.E.Sink.faults c.args.err.now) (g.E.Sink.faults c.answer.new.err)) c.do_words-ended.result c.answer.ensures.said (sym c.answer.ensures.status ∙ is)
+
+pub returns-clause-nothing : goal.returns-clause-nothing
+returns-clause-nothing g c =
+    λ some other. nothing_at _ c.do_words-ended.result c.do_words-ended.ensures.ends (λ e. some (c.answer.ensures.status ∙ e)) (λ e. other (c.answer.ensures.status ∙ e))
+
+pub returns-clause-folds : goal.returns-clause-folds
+returns-clause-folds g c = λ job left p word told nothing has good.
+    subst (λ status. (status ≡ 0) ⊎ (status ≡ 9)) (sym c.answer.ensures.status) (folds_at _ c.do_words-ended.result job left p c.do_words-ended.ensures.ends word told nothing has good)
+
+pub returns-clause-refuses_job : goal.returns-clause-refuses_job
+returns-clause-refuses_job g c = λ job left fault word told nothing bad.
+    subst (λ status. (status ≡ 3) ⊎ (status ≡ 9)) (sym c.answer.ensures.status) (refuses_job_at _ c.do_words-ended.result job left fault c.do_words-ended.ensures.ends word told nothing bad)
+
+pub returns-clause-refuses_source : goal.returns-clause-refuses_source
+returns-clause-refuses_source g c = λ job left p fault word told nothing has bad.
+    subst (λ status. (status ≡ 6) ⊎ (status ≡ 9)) (sym c.answer.ensures.status) (refuses_source_at _ c.do_words-ended.result job left p fault c.do_words-ended.ensures.ends word told nothing has bad)

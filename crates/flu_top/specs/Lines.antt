@@ -1,0 +1,81 @@
+-- The lines on err (`docs/LANGUAGE.md`).
+use Rattle.std.specs.Prelude.{ℕ, List, ◌++◌, codes, Option, ◌⊎◌}
+use Rattle.std.specs.Fmt.{decimal}
+use Rattle.flu_outside.specs.Outside.{Rose, WhereTold}
+use Rattle.flu_report.specs.Writing.{AppendsAll, AppendsPart}
+use Rattle.flu_model.specs.declared.limits.What.{What}
+use Rattle.flu_model.specs.declared.limits.What.TheVariants as whats
+use Rattle.flu_parse.specs.declared.faults.JobFault.{JobFault}
+use Rattle.flu_parse.specs.declared.faults.JobFault.TheVariants as faults
+use Rattle.flu_streams.specs.declared.faults.Why.{Why}
+use Rattle.flu_streams.specs.declared.faults.Why.TheVariants as whys
+
+-- the word for what has a limit
+abbrev pub what_word : What → List ℕ
+what_word whats.Bytes = codes "bytes"
+what_word whats.Nesting = codes "nesting"
+what_word whats.Families = codes "families"
+what_word whats.Kinds = codes "kinds"
+what_word whats.Sources = codes "sources"
+what_word whats.Depends = codes "depends"
+what_word whats.Key = codes "key"
+what_word whats.Rate = codes "rate"
+what_word whats.Itags = codes "itags"
+what_word whats.Actions = codes "actions"
+what_word whats.Height = codes "height"
+what_word whats.Nodes = codes "nodes"
+what_word whats.Predicates = codes "predicates"
+what_word whats.Depth = codes "depth"
+
+-- what is wrong with a job text, and where
+abbrev pub job_fault_text : JobFault → List ℕ
+job_fault_text (faults.BadUtf8 at) = codes "bad utf8 at " ++ decimal at
+job_fault_text (faults.BadToken at) = codes "bad token at " ++ decimal at
+job_fault_text (faults.Unexpected at) = codes "unexpected at " ++ decimal at
+job_fault_text (faults.UnknownName at) = codes "unknown name at " ++ decimal at
+job_fault_text (faults.TwiceNamed at) = codes "twice named at " ++ decimal at
+job_fault_text (faults.WrongShape at) = codes "wrong shape at " ++ decimal at
+job_fault_text (faults.OverLimit what count) = codes "over limit " ++ what_word what ++ codes " " ++ decimal count
+job_fault_text faults.NoMemory = codes "no memory"
+
+-- what a row breaks
+abbrev pub why_text : Why → List ℕ
+why_text whys.BadRow = codes "bad row"
+why_text whys.UnknownTag = codes "unknown tag"
+why_text (whys.Disordered last got) = codes "disordered, last " ++ decimal last ++ codes ", got " ++ decimal got
+why_text whys.Unclosed = codes "unclosed"
+why_text whys.AfterEnd = codes "after end"
+why_text (whys.TooMany count) = codes "too many, " ++ decimal count
+
+-- ---- the lines
+-- the line of words that are no command, of which the one at a place does not fit
+abbrev pub bad_words_line : ℕ → List ℕ
+bad_words_line at = codes "flumina: bad words at " ++ decimal at ++ codes "\n"
+
+-- the line of a fault in a job text
+abbrev pub job_line : List ℕ → List ℕ
+job_line fault = codes "flumina: job: " ++ fault ++ codes "\n"
+
+abbrev pub job_fault_line : JobFault → List ℕ
+job_fault_line fault = job_line (job_fault_text fault)
+
+-- the line of a defect: the source's name, its row, and what that breaks
+abbrev pub row_line : List ℕ → ℕ → List ℕ → List ℕ
+row_line name row why = codes "flumina: source " ++ name ++ codes " row " ++ decimal row ++ codes ": " ++ why ++ codes "\n"
+
+abbrev pub source_fault_line : List ℕ → ℕ → Why → List ℕ
+source_fault_line name row why = row_line name row (why_text why)
+
+abbrev pub read_fault_line : List ℕ
+read_fault_line = codes "flumina: read fault\n"
+
+abbrev pub write_fault_line : List ℕ
+write_fault_line = codes "flumina: write fault\n"
+
+abbrev pub no_memory_line : List ℕ
+no_memory_line = codes "flumina: no memory\n"
+
+-- a line stands behind what was there, or the sink failed and has fewer than all of the line's bytes, from their front
+abbrev pub IsSaid : List ℕ → Option (List ℕ) → Option (List ℕ) → ℕ → ℕ → Type 0
+IsSaid line old new before now =
+    WhereTold old new (AppendsAll line) ⊎ (Rose before now × WhereTold old new (AppendsPart line))

@@ -1,0 +1,246 @@
+//! The lines on err, which take no memory (`docs/LANGUAGE.md`).
+
+ghost use Rattle.std.specs.Prelude.{◌≡◌, ◌++◌, OnOk, OnErr};
+ghost use Rattle.std.specs.Fmt.{decimal};
+ghost use Rattle.flu_outside.specs.Outside.{Rose, WhereTold};
+ghost use Rattle.flu_report.specs.Writing.{AppendsAll, AppendsPart};
+ghost use Rattle.flu_top.specs.Lines.{what_word, bad_words_line, job_line, job_fault_line, row_line, source_fault_line, IsSaid};
+ghost use Rattle.flu_parse.specs.declared.faults.JobFault.{JobFault};
+ghost use Rattle.flu_streams.specs.declared.faults.Why.{Why};
+ghost use Rattle.flu_top.specs.Answer.{source_name, line_of};
+
+use crate::pieces::write_pieces;
+use crate::refusals::Refusal;
+use crate::words::BadWords;
+use flu_model::{Program, What};
+use flu_outside::{Failed, Sink};
+use flu_parse::JobFault;
+use flu_report::write_all;
+use flu_streams::{SourceFault, Why};
+use itoa::Buffer;
+
+/// Says a refusal on err, in a line that takes no memory.
+pub fn say<E: Sink>(err: &mut E, refusal: &Refusal)
+    ensures { IsSaid (line_of refusal.now) (E.taken err.old) (E.taken err.new) (E.faults err.old) (E.faults err.new) }
+{
+    match write_line(err, refusal) {
+        Ok(()) => (),
+        Err(_) => (),
+    }
+}
+
+// Writes the line of a refusal.
+fn write_line<E: Sink>(err: &mut E, refusal: &Refusal) -> Result<(), Failed>
+    ensures all { OnOk result (WhereTold (E.taken err.old) (E.taken err.new) (AppendsAll (line_of refusal.now))) }
+    ensures part { OnErr result (WhereTold (E.taken err.old) (E.taken err.new) (AppendsPart (line_of refusal.now))) }
+    ensures failed { OnErr result (Rose (E.faults err.old) (E.faults err.new)) }
+{
+    match refusal {
+        Refusal::BadWords(bad) => write_bad_words(err, *bad),
+        Refusal::JobFault(fault) => write_job_fault(err, fault),
+        Refusal::SourceFault(program, fault) => {
+            write_source_fault(
+                err,
+                source_name(program, fault.source),
+                fault.row,
+                fault.why,
+            )
+        }
+        Refusal::ReadFault => write_all(err, b"flumina: read fault\n"),
+        Refusal::WriteFault => write_all(err, b"flumina: write fault\n"),
+        Refusal::NoMemory => write_all(err, b"flumina: no memory\n"),
+    }
+}
+
+// The name of the source with a number.
+fn source_name(program: &Program, number: u32) -> &str
+    ensures { result.now ≡ source_name program.now number }
+{
+    match program.sources.items().get(number as usize) {
+        Some(source) => source.name.as_str(),
+        None => "",
+    }
+}
+
+// The digits of a number, which stand in a buffer.
+fn digits_of(buffer: &mut Buffer, n: u64) -> &[u8]
+    ensures { result.now ≡ decimal n }
+{
+    buffer.format(n).as_bytes()
+}
+
+// Writes the line of words that are no command.
+fn write_bad_words<E: Sink>(err: &mut E, bad: BadWords) -> Result<(), Failed>
+    ensures all { OnOk result (WhereTold (E.taken err.old) (E.taken err.new) (AppendsAll (bad_words_line bad.at))) }
+    ensures part { OnErr result (WhereTold (E.taken err.old) (E.taken err.new) (AppendsPart (bad_words_line bad.at))) }
+    ensures failed { OnErr result (Rose (E.faults err.old) (E.faults err.new)) }
+{
+    let mut buffer = Buffer::new();
+    let at = digits_of(&mut buffer, bad.at as u64);
+    write_pieces(err, &[b"flumina: bad words at ", at, b"\n"])
+}
+
+// Writes the line of a fault in a job text.
+fn write_job_fault<E: Sink>(err: &mut E, fault: &JobFault) -> Result<(), Failed>
+    ensures all { OnOk result (WhereTold (E.taken err.old) (E.taken err.new) (AppendsAll (job_fault_line fault.now))) }
+    ensures part { OnErr result (WhereTold (E.taken err.old) (E.taken err.new) (AppendsPart (job_fault_line fault.now))) }
+    ensures failed { OnErr result (Rose (E.faults err.old) (E.faults err.new)) }
+{
+    match fault {
+        JobFault::BadUtf8 { at } => write_job_place(err, b"bad utf8 at ", *at),
+        JobFault::BadToken { at } => write_job_place(err, b"bad token at ", *at),
+        JobFault::Unexpected { at } => write_job_place(err, b"unexpected at ", *at),
+        JobFault::UnknownName { at } => write_job_place(err, b"unknown name at ", *at),
+        JobFault::TwiceNamed { at } => write_job_place(err, b"twice named at ", *at),
+        JobFault::WrongShape { at } => write_job_place(err, b"wrong shape at ", *at),
+        JobFault::OverLimit { what, count } => write_over_limit(err, *what, *count),
+        JobFault::NoMemory => write_all(err, b"flumina: job: no memory\n"),
+    }
+}
+
+// Writes the line of a fault at a place of a job text.
+fn write_job_place<E: Sink>(err: &mut E, fault: &[u8], place: usize) -> Result<(), Failed>
+    ensures all { OnOk result (WhereTold (E.taken err.old) (E.taken err.new) (AppendsAll (job_line (fault.now ++ decimal place)))) }
+    ensures part { OnErr result (WhereTold (E.taken err.old) (E.taken err.new) (AppendsPart (job_line (fault.now ++ decimal place)))) }
+    ensures failed { OnErr result (Rose (E.faults err.old) (E.faults err.new)) }
+{
+    let mut buffer = Buffer::new();
+    let digits = digits_of(&mut buffer, place as u64);
+    write_pieces(err, &[b"flumina: job: ", fault, digits, b"\n"])
+}
+
+// Writes the line of a limit that a job text passes.
+fn write_over_limit<E: Sink>(err: &mut E, what: What, count: u64) -> Result<(), Failed>
+    ensures all { OnOk result (WhereTold (E.taken err.old) (E.taken err.new) (AppendsAll (job_fault_line (JobFault.OverLimit what count)))) }
+    ensures part { OnErr result (WhereTold (E.taken err.old) (E.taken err.new) (AppendsPart (job_fault_line (JobFault.OverLimit what count)))) }
+    ensures failed { OnErr result (Rose (E.faults err.old) (E.faults err.new)) }
+{
+    let mut buffer = Buffer::new();
+    let word = what_word(what);
+    let digits = digits_of(&mut buffer, count);
+    write_pieces(
+        err,
+        &[b"flumina: job: over limit ", word, b" ", digits, b"\n"],
+    )
+}
+
+// The word for what has a limit.
+fn what_word(what: What) -> &'static [u8]
+    ensures { result.now ≡ what_word what }
+{
+    match what {
+        What::Bytes => b"bytes",
+        What::Nesting => b"nesting",
+        What::Families => b"families",
+        What::Kinds => b"kinds",
+        What::Sources => b"sources",
+        What::Depends => b"depends",
+        What::Key => b"key",
+        What::Rate => b"rate",
+        What::Itags => b"itags",
+        What::Actions => b"actions",
+        What::Height => b"height",
+        What::Nodes => b"nodes",
+        What::Predicates => b"predicates",
+        What::Depth => b"depth",
+    }
+}
+
+// Writes the line of a row that is a defect of its source.
+fn write_source_fault<E: Sink>(err: &mut E, name: &str, row: u64, why: Why) -> Result<(), Failed>
+    ensures all { OnOk result (WhereTold (E.taken err.old) (E.taken err.new) (AppendsAll (source_fault_line name.now row why))) }
+    ensures part { OnErr result (WhereTold (E.taken err.old) (E.taken err.new) (AppendsPart (source_fault_line name.now row why))) }
+    ensures failed { OnErr result (Rose (E.faults err.old) (E.faults err.new)) }
+{
+    match why {
+        Why::BadRow => write_row(err, name, row, b"bad row"),
+        Why::UnknownTag => write_row(err, name, row, b"unknown tag"),
+        Why::Disordered { last, got } => write_disordered(err, name, row, last, got),
+        Why::Unclosed => write_row(err, name, row, b"unclosed"),
+        Why::AfterEnd => write_row(err, name, row, b"after end"),
+        Why::TooMany { count } => write_too_many(err, name, row, count),
+    }
+}
+
+// Writes the line of a row with a defect that has no values.
+fn write_row<E: Sink>(err: &mut E, name: &str, row: u64, why: &[u8]) -> Result<(), Failed>
+    ensures all { OnOk result (WhereTold (E.taken err.old) (E.taken err.new) (AppendsAll (row_line name.now row why.now))) }
+    ensures part { OnErr result (WhereTold (E.taken err.old) (E.taken err.new) (AppendsPart (row_line name.now row why.now))) }
+    ensures failed { OnErr result (Rose (E.faults err.old) (E.faults err.new)) }
+{
+    let mut row_buffer = Buffer::new();
+    let source = name.as_bytes();
+    let digits = digits_of(&mut row_buffer, row);
+    write_pieces(
+        err,
+        &[
+            b"flumina: source ",
+            source,
+            b" row ",
+            digits,
+            b": ",
+            why,
+            b"\n",
+        ],
+    )
+}
+
+// Writes the line of a row whose time is not greater than the last one.
+fn write_disordered<E: Sink>(
+    err: &mut E,
+    name: &str,
+    row: u64,
+    last: u64,
+    got: u64,
+) -> Result<(), Failed>
+    ensures all { OnOk result (WhereTold (E.taken err.old) (E.taken err.new) (AppendsAll (source_fault_line name.now row (Why.Disordered last got)))) }
+    ensures part { OnErr result (WhereTold (E.taken err.old) (E.taken err.new) (AppendsPart (source_fault_line name.now row (Why.Disordered last got)))) }
+    ensures failed { OnErr result (Rose (E.faults err.old) (E.faults err.new)) }
+{
+    let mut row_buffer = Buffer::new();
+    let mut last_buffer = Buffer::new();
+    let mut got_buffer = Buffer::new();
+    let source = name.as_bytes();
+    let row_digits = digits_of(&mut row_buffer, row);
+    let last_digits = digits_of(&mut last_buffer, last);
+    let got_digits = digits_of(&mut got_buffer, got);
+    write_pieces(
+        err,
+        &[
+            b"flumina: source ",
+            source,
+            b" row ",
+            row_digits,
+            b": disordered, last ",
+            last_digits,
+            b", got ",
+            got_digits,
+            b"\n",
+        ],
+    )
+}
+
+// Writes the line of a row that makes too many.
+fn write_too_many<E: Sink>(err: &mut E, name: &str, row: u64, count: u64) -> Result<(), Failed>
+    ensures all { OnOk result (WhereTold (E.taken err.old) (E.taken err.new) (AppendsAll (source_fault_line name.now row (Why.TooMany count)))) }
+    ensures part { OnErr result (WhereTold (E.taken err.old) (E.taken err.new) (AppendsPart (source_fault_line name.now row (Why.TooMany count)))) }
+    ensures failed { OnErr result (Rose (E.faults err.old) (E.faults err.new)) }
+{
+    let mut row_buffer = Buffer::new();
+    let mut count_buffer = Buffer::new();
+    let source = name.as_bytes();
+    let row_digits = digits_of(&mut row_buffer, row);
+    let count_digits = digits_of(&mut count_buffer, count);
+    write_pieces(
+        err,
+        &[
+            b"flumina: source ",
+            source,
+            b" row ",
+            row_digits,
+            b": too many, ",
+            count_digits,
+            b"\n",
+        ],
+    )
+}

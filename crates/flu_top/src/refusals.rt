@@ -1,0 +1,81 @@
+//! Why a command was not done.
+
+ghost use Rattle.std.specs.Prelude.{◌≡◌};
+ghost use Rattle.flu_top.specs.Answer.{status_of};
+
+use crate::words::BadWords;
+use flu_model::Program;
+use flu_outside::TakeFault;
+use flu_parse::JobFault;
+use flu_streams::SourceFault;
+use std::alloc::AllocError;
+
+/// Why a command was not done.
+#[derive(Debug, Drop)]
+pub enum Refusal {
+    /// The words are no command.
+    BadWords(BadWords),
+    /// The bytes under the job's name are no job text.
+    JobFault(JobFault),
+    /// A source of this job has a defect.
+    SourceFault(Program, SourceFault),
+    /// A file that the command reads failed.
+    ReadFault,
+    /// Out failed.
+    WriteFault,
+    /// There was no memory.
+    NoMemory,
+}
+
+/// The status of a refusal.
+pub fn status(refusal: &Refusal) -> u8
+    ensures { result ≡ status_of refusal.now }
+{
+    match refusal {
+        Refusal::BadWords(_) => 2,
+        Refusal::JobFault(_) => 3,
+        Refusal::SourceFault(_, _) => 6,
+        Refusal::ReadFault => 7,
+        Refusal::WriteFault => 8,
+        Refusal::NoMemory => 9,
+    }
+}
+
+impl From<JobFault> for Refusal {
+    ghost use Rattle.std.specs.Prelude.{◌≡◌};
+    ghost use Rattle.flu_top.specs.Answer.{refusal_of_job};
+
+    ghost from_gives = { λ fault refusal. refusal ≡ refusal_of_job fault };
+
+    fn from(fault: JobFault) -> Refusal {
+        match fault {
+            JobFault::NoMemory => Refusal::NoMemory,
+            fault => Refusal::JobFault(fault),
+        }
+    }
+}
+
+impl From<TakeFault> for Refusal {
+    ghost use Rattle.std.specs.Prelude.{◌≡◌};
+    ghost use Rattle.flu_top.specs.Answer.{refusal_of_take};
+
+    ghost from_gives = { λ fault refusal. refusal ≡ refusal_of_take fault };
+
+    fn from(fault: TakeFault) -> Refusal {
+        match fault {
+            TakeFault::Failed => Refusal::ReadFault,
+            TakeFault::NoMemory => Refusal::NoMemory,
+        }
+    }
+}
+
+impl From<AllocError> for Refusal {
+    ghost use Rattle.std.specs.Prelude.{◌≡◌};
+    ghost use Rattle.flu_top.specs.declared.refusals.Refusal.{Refusal};
+
+    ghost from_gives = { λ _ refusal. refusal ≡ Refusal.NoMemory };
+
+    fn from(_e: AllocError) -> Refusal {
+        Refusal::NoMemory
+    }
+}

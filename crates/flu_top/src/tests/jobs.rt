@@ -1,0 +1,89 @@
+//! Jobs and the rows of their sources.
+
+/// Two sources add to a count, and a third puts it out and clears it.
+pub const COUNTING: &str = "cell count sum
+tag inc int
+tag read none
+depends inc read
+depends read read
+on inc: add count value
+on read: emit \"count {count}\"; clear count
+source a \"a.csv\" rate 1000: inc
+source b \"b.csv\" rate 1000: inc
+source c \"c.csv\" rate 1: read
+";
+
+/// The same with reads that do not depend on each other, which `fold` does not mind.
+pub const READS_APART: &str = "cell count sum
+tag inc int
+tag read none
+depends inc read
+on inc: add count value
+on read: emit \"count {count}\"; clear count
+source a \"a.csv\" rate 1000: inc
+source b \"b.csv\" rate 1000: inc
+source c \"c.csv\" rate 1: read
+";
+
+/// One source adds and reads.
+pub const ONE_SOURCE: &str = "cell count sum
+tag inc int
+tag read none
+on inc: add count value
+on read: emit \"count {count}\"; clear count
+source a \"a.csv\": inc, read
+";
+
+/// A job that names its own file as its source's.
+pub const ITSELF: &str = "cell count sum
+tag inc int
+on inc: add count value
+source a \"J\": inc
+";
+
+/// Two last values, and a tag that puts out both.
+pub const LAST_VALUES: &str = "cell p last
+cell q last
+tag r int
+tag r2 int
+tag z none
+depends r r
+depends r2 r2
+depends z z
+depends r z
+depends r2 z
+on r: set p value; emit \"p {p}\"
+on r2: set q value; emit \"q {q}\"
+on z: emit \"z {p} {q}\"
+source s1 \"s1.csv\" rate 1: r
+source s2 \"s2.csv\" rate 1: r2
+source s3 \"s3.csv\" rate 10: z
+";
+
+/// A maximum of the values above 2, and the last value.
+pub const HIGHEST: &str = "cell hi max
+cell seen last
+tag t int
+depends t t
+on t: raise hi value when value > 2; set seen value; emit \"hi {hi} seen {seen}\"
+source s \"s.csv\" rate 1: t
+";
+
+/// The same with twice the value, which is clamped.
+pub const HIGHEST_TWICE: &str = "cell hi max
+cell seen last
+tag t int
+depends t t
+on t: raise hi value when value > 2; set seen value * 2; emit \"hi {hi} seen {seen}\"
+source s \"s.csv\" rate 1: t
+";
+
+pub const A: &str = "1,inc,5\n4,inc,2\nend\n";
+
+pub const B: &str = "2,inc,7\nend\n";
+
+pub const C: &str = "3,read\n5,read\nend\n";
+
+pub const END: &str = "end\n";
+
+pub const REPORT: &str = "3,read,count 12\n5,read,count 2\n";

@@ -1,0 +1,36 @@
+use crate::run;
+use std::fs;
+use std::test::Fail;
+
+const COUNTS: &str = "cell count sum\n\
+    tag inc int\n\
+    tag read none\n\
+    depends inc read\n\
+    depends read read\n\
+    on inc: add count value\n\
+    on read: emit \"count {count}\"; clear count\n\
+    source a \"a.csv\" rate 1000: inc\n\
+    source b \"b.csv\" rate 1000: inc\n\
+    source c \"c.csv\" rate 1: read\n";
+
+#[test]
+fn two_sources_add_and_a_third_reads(rt: HostRuntime) -> Result<(), Fail> {
+    let files = [
+        ("counts.job", COUNTS),
+        ("a.csv", "1,inc,5\n4,inc,2\nend\n"),
+        ("b.csv", "2,inc,7\nend\n"),
+        ("c.csv", "3,read\n5,read\nend\n"),
+    ];
+    for (name, text) in files {
+        assert!(rt; fs::write(&rt, name, text).is_ok(), "{name}");
+    }
+    let fold = String::from_str(rt.alloc(), "fold")?;
+    let job = String::from_str(rt.alloc(), "counts.job")?;
+    let mut out = Vec::new(rt.alloc());
+    let mut err = Vec::new(rt.alloc());
+    let status = run(&rt, &[fold, job], &mut out, &mut err);
+    assert_eq!(rt; status, 0);
+    assert_eq!(rt; out.as_slice(), b"3,read,count 12\n5,read,count 2\n".as_slice());
+    assert!(rt; err.is_empty());
+    Ok(())
+}

@@ -1,0 +1,89 @@
+#!/usr/bin/env bash
+# Measures the program beside gawk and sort, on inputs that it makes itself. Run at the top of the repository, where
+# `rt ci` or `rt run` has built the program: docs/measure.sh [FOLDER]
+set -eu
+program=$PWD/crates/flumina/out/flumina
+folder=${1:-$(mktemp -d)}
+mkdir -p "$folder"
+cd "$folder"
+
+# Each figure is the least of five runs, in seconds.
+measure() {
+    local title=$1 least=
+    shift
+    for _ in 1 2 3 4 5; do
+        local begin end took
+        begin=$(date +%s%N)
+        "$@" > out.txt
+        end=$(date +%s%N)
+        took=$(( (end - begin) / 1000000 ))
+        if [ -z "$least" ] || [ "$took" -lt "$least" ]; then least=$took; fi
+    done
+    printf '%-64s %d.%03d s\n' "$title" $((least / 1000)) $((least % 1000))
+}
+
+# ---- the rows of one source: 1,000,000 rows, with and without quotes, with LF and CR LF
+make_rows() {
+    gawk -v q="$2" -v end="$3" 'BEGIN {
+        srand(1)
+        for (t = 1; t <= 1000000; t++) printf "%s%d%s,%sinc%s,%s%d%s%s", q, t, q, q, q, q, int(rand() * 10000), q, end
+        printf "end%s", end
+    }' > "$1.csv"
+    printf 'tag inc int\nsource a "%s.csv": inc\n' "$1" > "$1.job"
+}
+sum_of_column() { gawk -F, '{ n += $3 } END { print n }' "$1.csv"; }
+make_rows plain '' '\n'
+make_rows plain_crlf '' '\r\n'
+make_rows quoted '"' '\n'
+make_rows quoted_crlf '"' '\r\n'
+for name in plain plain_crlf quoted quoted_crlf; do
+    measure "1,000,000 rows, $name: flumina fold" "$program" fold "$name.job"
+    measure "1,000,000 rows, $name: gawk, the sum of a column" sum_of_column "$name"
+done
+
+# ---- a run over three sources of 1,000,000 rows in all
+cat > counts.job <<'JOB'
+cell count sum
+tag inc int
+tag read none
+depends inc read
+depends read read
+on inc: add count value
+on read: emit "count {count}"; clear count
+source a "a.csv": inc
+source b "b.csv": inc
+source c "c.csv": read
+JOB
+gawk 'BEGIN { srand(1); for (t = 1; t <= 499500; t++) print 2 * t ",inc," int(rand() * 10000); print "end" }' > a.csv
+gawk 'BEGIN { srand(2); for (t = 1; t <= 499500; t++) print 2 * t + 1 ",inc," int(rand() * 10000); print "end" }' > b.csv
+gawk 'BEGIN { for (t = 1; t <= 1000; t++) print 999 * t ",read"; print "end" }' > c.csv
+sort_and_count() {
+    sort -m -s -t, -k1,1n a.csv b.csv c.csv \
+        | gawk -F, '$2 == "inc" { n += $3 } $2 == "read" { print $1 ",read,count " n; n = 0 }'
+}
+measure 'three sources, 1,000,000 rows: flumina fold' "$program" fold counts.job
+cp out.txt folded.txt
+measure 'three sources, 1,000,000 rows: sort -m and gawk' sort_and_count
+cmp out.txt folded.txt
+
+# ---- a job text of about 1,048,576 bytes: 64 kinds of 32 long actions, comments, 4,096 dependencies
+gawk 'BEGIN {
+    for (i = 0; i < 64; i++) print "cell c" i " sum # the cell of kind " i
+    for (i = 0; i < 64; i++) print "tag k" i " int"
+    for (i = 0; i < 4096; i++) print "depends k" i % 64 " k" int(i / 64)
+    for (i = 0; i < 64; i++) {
+        printf "on k%d:\n", i
+        for (j = 0; j < 32; j++) {
+            printf "    add c%d ", (i + j) % 64
+            for (m = 0; m < 8; m++) {
+                printf "%s(value", m ? " + " : ""
+                for (f = 1; f < 7; f++) printf " * %d", 100 + f
+                printf ")"
+            }
+            print (j < 31 ? ";" : "") "  # eight products of seven factors each are added to the cell of one kind, and to no other"
+        }
+    }
+    print "source s \"s.csv\": k0"
+}' > long.job
+echo end > s.csv
+measure "a job text of $(stat -c %s long.job) bytes: flumina fold" "$program" fold long.job
