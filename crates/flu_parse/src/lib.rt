@@ -17,7 +17,7 @@ mod printing_terms;
 mod reading;
 mod resolving;
 mod scanning;
-mod spelling;
+pub mod spelling;
 mod templates;
 mod terms;
 

@@ -1,0 +1,12 @@
+pub mod FaultLemmas
+pub mod NameLemmas
+pub mod ShapeLemmas
+pub mod ReadingLemmas
+pub mod LimitLemmas
+pub mod PlanningLemmas
+pub mod Distinct
+pub mod Finds
+pub mod Resolved
+pub mod Spreads
+pub mod Trees
+pub mod KeptLemmas

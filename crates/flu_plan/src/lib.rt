@@ -1,0 +1,16 @@
+//! Plan texts (`docs/LANGUAGE.md`): from a text to a plan of a job, or to the first fault with its place, and back to the text.
+#![tactic(auto)]
+
+mod drafts;
+mod fault;
+mod grammar;
+mod limits;
+mod planning;
+mod reading;
+mod resolving;
+mod shape;
+mod terminals;
+mod written;
+
+pub use fault::PlanFault;
+pub use reading::read_plan;
