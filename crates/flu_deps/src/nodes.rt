@@ -2,7 +2,7 @@
 
 ghost use Rattle.std.specs.Prelude.{◌≡◌, ◌<◌, ◌^◌, IfSome, length, slice_index, EachIndex};
 ghost use Rattle.flu_model.specs.Itags.{count_of_itags};
-ghost use Rattle.flu_model.specs.Owners.{node_owns, owner_of, is_kid, parent_of, is_within, are_related};
+ghost use Rattle.flu_model.specs.Owners.{node_owns, owns, owner_of, is_kid, parent_of, is_within, are_related};
 ghost use Rattle.flu_model.specs.Validity.{IsValid};
 ghost use Rattle.flu_deps.specs.Owned.{HasOwners, kids_at};
 
@@ -11,8 +11,18 @@ use flu_model::{Itag, Node, Plan, Program, itag_count, matches};
 /// How many itags a job has at most.
 pub const MAX_ITAGS: usize = 256;
 
-/// Whether a node owns an itag: one of its predicates matches it. It takes no memory.
-pub fn owns(p: &Program, node: &Node, i: Itag) -> bool
+/// Whether a node owns an itag: it is there, and one of its predicates matches the itag. It takes no memory.
+pub fn owns(p: &Program, plan: &Plan, w: u32, i: Itag) -> bool
+    requires { i.0 < count_of_itags p.now }
+    ensures { result ≡ owns p.now plan.now.nodes w i }
+{
+    match plan.nodes.items().get(w as usize) {
+        Some(node) => node_owns(p, node, i),
+        None => false,
+    }
+}
+
+fn node_owns(p: &Program, node: &Node, i: Itag) -> bool
     requires { i.0 < count_of_itags p.now }
     ensures { result ≡ node_owns p.now i node.now }
 {
@@ -32,7 +42,7 @@ fn place_of_owner(p: &Program, nodes: &[Node], i: Itag) -> Option<usize>
     requires { i.0 < count_of_itags p.now }
     ensures { result ≡ owner_of p.now nodes.now i }
 {
-    nodes.iter().position(|node| owns(p, node, i))
+    nodes.iter().position(|node| node_owns(p, node, i))
 }
 
 // A place as the number of a node.
