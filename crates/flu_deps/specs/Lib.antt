@@ -2,3 +2,5 @@ pub mod Order
 pub mod Conflicts
 pub mod Named
 pub mod Checking
+pub mod Owned
+pub mod Validated

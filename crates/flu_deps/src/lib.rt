@@ -1,13 +1,17 @@
-//! Which tags depend on each other, how a tag uses a cell, where two tags conflict, and accepted jobs (`docs/MODEL.md`).
+//! Which tags depend on each other, how a tag uses a cell, where two tags conflict, accepted jobs (`docs/MODEL.md`), and valid
+//! plans (`docs/TREE.md`).
 #![tactic(auto)]
 
 mod checked;
 mod conflicts;
 mod dependency;
 mod modes;
+pub mod nodes;
+mod valid;
 
 pub use checked::Checked;
 pub use conflicts::conflict;
 pub use dependency::dep;
 pub use flu_model::Mode;
 pub use modes::mode;
+pub use valid::Valid;
