@@ -6,6 +6,7 @@ use Rattle.std.proofs.lemmas.Grind.{common_steps}
 use Rattle.flu_model.specs.declared.events.Cell.{Cell}
 use Rattle.flu_model.specs.declared.events.Event.{Event}
 use Rattle.flu_model.specs.declared.events.Worth.{Worth}
+use Rattle.flu_model.specs.declared.jobs.Family.{Family}
 use Rattle.flu_model.specs.declared.jobs.Sort.TheVariants.{Sum as SumSort, Max as MaxSort}
 use Rattle.flu_model.specs.declared.jobs.Act.{Act}
 use Rattle.flu_model.specs.declared.jobs.Act.TheVariants.{Add, Raise, Set, Clear, Emit, Flush}
@@ -50,9 +51,9 @@ there s d c f e =
 elsewhere : (s : Contents) (d c : Cell) (w : Option Worth) → is_same_cell d c ≡ false → with_worth s d w c ≡ s c
 elsewhere s d c w e = ap (λ b. cond b w (s c)) (same_cell-sym c d ∙ e)
 
-module _ (x : Event) (key : ℕ) (c : Cell) where
+module _ (families : List Family) (x : Event) (key : ℕ) (c : Cell) where
   -- ---- acts
-  act_keeps : (a : Act) (s : Contents) → act_owns key c a ≡ false → act_adds key c a ≡ false → act_raises key c a ≡ false → (effect_of_act a s x key).cells c ≡ s c
+  act_keeps : (a : Act) (s : Contents) → act_owns key c a ≡ false → act_adds key c a ≡ false → act_raises key c a ≡ false → (effect_of_act families a s x key).cells c ≡ s c
   act_keeps (Add r e) s own add raise = elsewhere s (cell_of r key) c _ add
   act_keeps (Raise r e) s own add raise = elsewhere s (cell_of r key) c _ raise
   act_keeps (Set r e) s own add raise = elsewhere s (cell_of r key) c _ (or_false_left _ _ own)
@@ -60,7 +61,7 @@ module _ (x : Event) (key : ℕ) (c : Cell) where
   act_keeps (Emit qs) s own add raise = refl
   act_keeps (Flush f qs) s own add raise = ap (λ b. cond b None (s c)) (or_false_left (c.family == f) _ own)
 
-  act_gains : (a : Act) (s : Contents) → act_owns key c a ≡ false → act_raises key c a ≡ false → HoldsSort SumSort (s c) → (effect_of_act a s x key).cells c ≡ added (s c) (amount_of_act a s x key c)
+  act_gains : (a : Act) (s : Contents) → act_owns key c a ≡ false → act_raises key c a ≡ false → HoldsSort SumSort (s c) → (effect_of_act families a s x key).cells c ≡ added (s c) (amount_of_act a s x key c)
   act_gains (Add r e) s own raise holds =
       elim (means key c r) as (λ b. means key c r ≡ b → with_worth s (cell_of r key) (added (s (cell_of r key)) (value_of_expr e s x key)) c ≡ added (s c) (cond b (value_of_expr e s x key) (pos 0))) [
         | true ↦ λ m. there s (cell_of r key) c (λ w. added w (value_of_expr e s x key)) m
@@ -72,7 +73,7 @@ module _ (x : Event) (key : ℕ) (c : Cell) where
   act_gains (Emit qs) s own raise holds = sym (added-zero (s c) holds)
   act_gains (Flush f qs) s own raise holds = act_keeps (Flush f qs) s own refl refl ∙ sym (added-zero (s c) holds)
 
-  act_reaches : (a : Act) (s : Contents) → act_owns key c a ≡ false → act_adds key c a ≡ false → (effect_of_act a s x key).cells c ≡ raised_to (s c) (level_of_act a s x key c)
+  act_reaches : (a : Act) (s : Contents) → act_owns key c a ≡ false → act_adds key c a ≡ false → (effect_of_act families a s x key).cells c ≡ raised_to (s c) (level_of_act a s x key c)
   act_reaches (Add r e) s own add = act_keeps (Add r e) s own add refl
   act_reaches (Raise r e) s own add =
       elim (means key c r) as (λ b. means key c r ≡ b → with_worth s (cell_of r key) (raised (s (cell_of r key)) (value_of_expr e s x key)) c ≡ raised_to (s c) (cond b (Some (value_of_expr e s x key)) None)) [
@@ -85,35 +86,35 @@ module _ (x : Event) (key : ℕ) (c : Cell) where
   act_reaches (Flush f qs) s own add = act_keeps (Flush f qs) s own refl refl
 
   -- ---- lists of actions
-  pub keeps : (all : List Action) (s : Contents) → list_any (action_owns key c) all ≡ false → list_any (λ (a : Action). act_adds key c a.act) all ≡ false → list_any (λ (a : Action). act_raises key c a.act) all ≡ false → (effect_of_actions all s x key).cells c ≡ s c
+  pub keeps : (all : List Action) (s : Contents) → list_any (action_owns key c) all ≡ false → list_any (λ (a : Action). act_adds key c a.act) all ≡ false → list_any (λ (a : Action). act_raises key c a.act) all ≡ false → (effect_of_actions families all s x key).cells c ≡ s c
   keeps [] s own add raise = refl
   keeps (a ∷ all) s own add raise =
-      keeps all (effect_of_action a s x key).cells (or_false_right (action_owns key c a) _ own) (or_false_right (act_adds key c a.act) _ add) (or_false_right (act_raises key c a.act) _ raise)
-      ∙ (elim (passes_guard a.guard s x key) as (λ b. (cond b (effect_of_act a.act s x key) (changes_to s)).cells c ≡ s c) [
+      keeps all (effect_of_action families a s x key).cells (or_false_right (action_owns key c a) _ own) (or_false_right (act_adds key c a.act) _ add) (or_false_right (act_raises key c a.act) _ raise)
+      ∙ (elim (passes_guard a.guard s x key) as (λ b. (cond b (effect_of_act families a.act s x key) (changes_to s)).cells c ≡ s c) [
         | true ↦ act_keeps a.act s (or_false_right (guard_reads key c a.guard) _ (or_false_left _ _ own)) (or_false_left _ _ add) (or_false_left _ _ raise)
         | false ↦ refl
       ])
 
-  pub gains : (all : List Action) (s : Contents) → list_any (action_owns key c) all ≡ false → list_any (λ (a : Action). act_raises key c a.act) all ≡ false → HoldsSort SumSort (s c) → (effect_of_actions all s x key).cells c ≡ added (s c) (amount_added all s x key c)
+  pub gains : (all : List Action) (s : Contents) → list_any (action_owns key c) all ≡ false → list_any (λ (a : Action). act_raises key c a.act) all ≡ false → HoldsSort SumSort (s c) → (effect_of_actions families all s x key).cells c ≡ added (s c) (amount_added families all s x key c)
   gains [] s own raise holds = sym (added-zero (s c) holds)
   gains (a ∷ all) s own raise holds =
-      let first : (effect_of_action a s x key).cells c ≡ added (s c) (amount_of_action a s x key c) =
-      elim (passes_guard a.guard s x key) as (λ b. (cond b (effect_of_act a.act s x key) (changes_to s)).cells c ≡ added (s c) (cond b (amount_of_act a.act s x key c) (pos 0))) [
+      let first : (effect_of_action families a s x key).cells c ≡ added (s c) (amount_of_action a s x key c) =
+      elim (passes_guard a.guard s x key) as (λ b. (cond b (effect_of_act families a.act s x key) (changes_to s)).cells c ≡ added (s c) (cond b (amount_of_act a.act s x key c) (pos 0))) [
         | true ↦ act_gains a.act s (or_false_right (guard_reads key c a.guard) _ (or_false_left _ _ own)) (or_false_left _ _ raise) holds
         | false ↦ sym (added-zero (s c) holds)
       ] in
-      gains all (effect_of_action a s x key).cells (or_false_right (action_owns key c a) _ own) (or_false_right (act_raises key c a.act) _ raise) (subst (HoldsSort SumSort) (sym first) (added-holds (s c) _))
-      ∙ ap (λ w. added w (amount_added all (effect_of_action a s x key).cells x key c)) first
-      ∙ added-added (s c) (amount_of_action a s x key c) (amount_added all (effect_of_action a s x key).cells x key c)
+      gains all (effect_of_action families a s x key).cells (or_false_right (action_owns key c a) _ own) (or_false_right (act_raises key c a.act) _ raise) (subst (HoldsSort SumSort) (sym first) (added-holds (s c) _))
+      ∙ ap (λ w. added w (amount_added families all (effect_of_action families a s x key).cells x key c)) first
+      ∙ added-added (s c) (amount_of_action a s x key c) (amount_added families all (effect_of_action families a s x key).cells x key c)
 
-  pub reaches : (all : List Action) (s : Contents) → list_any (action_owns key c) all ≡ false → list_any (λ (a : Action). act_adds key c a.act) all ≡ false → (effect_of_actions all s x key).cells c ≡ raised_to (s c) (level_reached all s x key c)
+  pub reaches : (all : List Action) (s : Contents) → list_any (action_owns key c) all ≡ false → list_any (λ (a : Action). act_adds key c a.act) all ≡ false → (effect_of_actions families all s x key).cells c ≡ raised_to (s c) (level_reached families all s x key c)
   reaches [] s own add = refl
   reaches (a ∷ all) s own add =
-      let first : (effect_of_action a s x key).cells c ≡ raised_to (s c) (level_of_action a s x key c) =
-      elim (passes_guard a.guard s x key) as (λ b. (cond b (effect_of_act a.act s x key) (changes_to s)).cells c ≡ raised_to (s c) (cond b (level_of_act a.act s x key c) None)) [
+      let first : (effect_of_action families a s x key).cells c ≡ raised_to (s c) (level_of_action a s x key c) =
+      elim (passes_guard a.guard s x key) as (λ b. (cond b (effect_of_act families a.act s x key) (changes_to s)).cells c ≡ raised_to (s c) (cond b (level_of_act a.act s x key c) None)) [
         | true ↦ act_reaches a.act s (or_false_right (guard_reads key c a.guard) _ (or_false_left _ _ own)) (or_false_left _ _ add)
         | false ↦ refl
       ] in
-      reaches all (effect_of_action a s x key).cells (or_false_right (action_owns key c a) _ own) (or_false_right (act_adds key c a.act) _ add)
-      ∙ ap (λ w. raised_to w (level_reached all (effect_of_action a s x key).cells x key c)) first
-      ∙ raised_to-higher (s c) (level_of_action a s x key c) (level_reached all (effect_of_action a s x key).cells x key c)
+      reaches all (effect_of_action families a s x key).cells (or_false_right (action_owns key c a) _ own) (or_false_right (act_adds key c a.act) _ add)
+      ∙ ap (λ w. raised_to w (level_reached families all (effect_of_action families a s x key).cells x key c)) first
+      ∙ raised_to-higher (s c) (level_of_action a s x key c) (level_reached families all (effect_of_action families a s x key).cells x key c)

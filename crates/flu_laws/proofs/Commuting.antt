@@ -43,10 +43,10 @@ module _ (families : List Family) (k1 v1 k2 v2 : Bool) (x y : Event) (i j : ℕ)
     (apart : (c : Cell) → modes_conflict (mode_among all i c) (mode_among others j c) ≡ false)
     (s : Contents) (sorted : IsStateOf families s) where
   abbrev pub first : Contents → Contents
-  first u = (effect_of_actions all u x i).cells
+  first u = (effect_of_actions families all u x i).cells
 
   abbrev pub second : Contents → Contents
-  second u = (effect_of_actions others u y j).cells
+  second u = (effect_of_actions families others u y j).cells
 
   others_idle : (c : Cell) → list_any (action_owns i c) all ≡ true → Idle others j c
   unfolding Idle
@@ -60,16 +60,16 @@ module _ (families : List Family) (k1 v1 k2 v2 : Bool) (x y : Event) (i j : ℕ)
 
   agree_first : Agree (λ c. list_any (action_owns i c) all) (second s) s
   unfolding Idle
-  agree_first c o = let idle = others_idle c o in keeps y j c others s idle.0 idle.1 idle.2
+  agree_first c o = let idle = others_idle c o in keeps families y j c others s idle.0 idle.1 idle.2
 
   agree_second : Agree (λ c. list_any (action_owns j c) others) (first s) s
   unfolding Idle
-  agree_second c o = let idle = all_idle c o in keeps x i c all s idle.0 idle.1 idle.2
+  agree_second c o = let idle = all_idle c o in keeps families x i c all s idle.0 idle.1 idle.2
 
-  pub texts_first : (effect_of_actions all (second s) x i).texts ≡ (effect_of_actions all s x i).texts
+  pub texts_first : (effect_of_actions families all (second s) x i).texts ≡ (effect_of_actions families all s x i).texts
   texts_first = texts-agree families k1 v1 x i all (second s) s fits_all agree_first
 
-  pub texts_second : (effect_of_actions others (first s) y j).texts ≡ (effect_of_actions others s y j).texts
+  pub texts_second : (effect_of_actions families others (first s) y j).texts ≡ (effect_of_actions families others s y j).texts
   texts_second = texts-agree families k2 v2 y j others (first s) s fits_others agree_second
 
   sums : (c : Cell) → list_any (λ (a : Action). act_adds i c a.act) all ≡ true → HoldsSort SumSort (s c)
@@ -83,44 +83,44 @@ module _ (families : List Family) (k1 v1 k2 v2 : Bool) (x y : Event) (i j : ℕ)
   unfolding Idle
   at_cell c true a1 r1 o2 a2 r2 eo1 ea1 er1 eo2 ea2 er2 ok =
       let idle = others_idle c eo1 in
-      keeps y j c others (first s) idle.0 idle.1 idle.2
+      keeps families y j c others (first s) idle.0 idle.1 idle.2
       ∙ sym (cells-agree families k1 v1 x i all (second s) s agree_first c (agree_first c eo1))
   at_cell c false a1 r1 true a2 r2 eo1 ea1 er1 eo2 ea2 er2 ok =
       let idle = all_idle c eo2 in
       cells-agree families k2 v2 y j others (first s) s agree_second c (agree_second c eo2)
-      ∙ sym (keeps x i c all (second s) idle.0 idle.1 idle.2)
+      ∙ sym (keeps families x i c all (second s) idle.0 idle.1 idle.2)
   at_cell c false true true false a2 r2 eo1 ea1 er1 eo2 ea2 er2 ok = absurd (not_sum_and_max (slice_get families c.family) (adds-sort families k1 v1 i c all fits_all ea1) (raises-sort families k1 v1 i c all fits_all er1))
   at_cell c false false false false a2 r2 eo1 ea1 er1 eo2 ea2 er2 ok =
-      cells-agree families k2 v2 y j others (first s) s agree_second c (keeps x i c all s eo1 ea1 er1)
-      ∙ sym (keeps x i c all (second s) eo1 ea1 er1)
+      cells-agree families k2 v2 y j others (first s) s agree_second c (keeps families x i c all s eo1 ea1 er1)
+      ∙ sym (keeps families x i c all (second s) eo1 ea1 er1)
   at_cell c false true false false true true eo1 ea1 er1 eo2 ea2 er2 ok = absurd (not_sum_and_max (slice_get families c.family) (adds-sort families k2 v2 j c others fits_others ea2) (raises-sort families k2 v2 j c others fits_others er2))
   at_cell c false true false false false true eo1 ea1 er1 eo2 ea2 er2 ok = cc
   at_cell c false true false false false false eo1 ea1 er1 eo2 ea2 er2 ok =
-      keeps y j c others (first s) eo2 ea2 er2
-      ∙ sym (cells-agree families k1 v1 x i all (second s) s agree_first c (keeps y j c others s eo2 ea2 er2))
+      keeps families y j c others (first s) eo2 ea2 er2
+      ∙ sym (cells-agree families k1 v1 x i all (second s) s agree_first c (keeps families y j c others s eo2 ea2 er2))
   at_cell c false true false false true false eo1 ea1 er1 eo2 ea2 er2 ok =
       let holds : HoldsSort SumSort (s c) = sums c ea1 in
-      let one : first s c ≡ added (s c) (amount_added all s x i c) = gains x i c all s eo1 er1 holds in
-      let two : second s c ≡ added (s c) (amount_added others s y j c) = gains y j c others s eo2 er2 holds in
-      gains y j c others (first s) eo2 er2 (subst (HoldsSort SumSort) (sym one) (added-holds (s c) (amount_added all s x i c)))
+      let one : first s c ≡ added (s c) (amount_added families all s x i c) = gains families x i c all s eo1 er1 holds in
+      let two : second s c ≡ added (s c) (amount_added families others s y j c) = gains families y j c others s eo2 er2 holds in
+      gains families y j c others (first s) eo2 er2 (subst (HoldsSort SumSort) (sym one) (added-holds (s c) (amount_added families all s x i c)))
       ∙ (λ k. added (one k) (amount-agree families k2 v2 y j others (first s) s c agree_second k))
-      ∙ added-swap (s c) (amount_added all s x i c) (amount_added others s y j c)
+      ∙ added-swap (s c) (amount_added families all s x i c) (amount_added families others s y j c)
       ∙ sym (λ k. added (two k) (amount-agree families k1 v1 x i all (second s) s c agree_first k))
-      ∙ sym (gains x i c all (second s) eo1 er1 (subst (HoldsSort SumSort) (sym two) (added-holds (s c) (amount_added others s y j c))))
+      ∙ sym (gains families x i c all (second s) eo1 er1 (subst (HoldsSort SumSort) (sym two) (added-holds (s c) (amount_added families others s y j c))))
   at_cell c false false true false true r2 eo1 ea1 er1 eo2 ea2 er2 ok = cc
   at_cell c false false true false false false eo1 ea1 er1 eo2 ea2 er2 ok =
-      keeps y j c others (first s) eo2 ea2 er2
-      ∙ sym (cells-agree families k1 v1 x i all (second s) s agree_first c (keeps y j c others s eo2 ea2 er2))
+      keeps families y j c others (first s) eo2 ea2 er2
+      ∙ sym (cells-agree families k1 v1 x i all (second s) s agree_first c (keeps families y j c others s eo2 ea2 er2))
   at_cell c false false true false false true eo1 ea1 er1 eo2 ea2 er2 ok =
-      let one : first s c ≡ raised_to (s c) (level_reached all s x i c) = reaches x i c all s eo1 ea1 in
-      let two : second s c ≡ raised_to (s c) (level_reached others s y j c) = reaches y j c others s eo2 ea2 in
-      reaches y j c others (first s) eo2 ea2
+      let one : first s c ≡ raised_to (s c) (level_reached families all s x i c) = reaches families x i c all s eo1 ea1 in
+      let two : second s c ≡ raised_to (s c) (level_reached families others s y j c) = reaches families y j c others s eo2 ea2 in
+      reaches families y j c others (first s) eo2 ea2
       ∙ (λ k. raised_to (one k) (level-agree families k2 v2 y j others (first s) s c agree_second k))
-      ∙ raised_to-higher (s c) (level_reached all s x i c) (level_reached others s y j c)
-      ∙ ap (raised_to (s c)) (higher-comm (level_reached all s x i c) (level_reached others s y j c))
-      ∙ sym (raised_to-higher (s c) (level_reached others s y j c) (level_reached all s x i c))
+      ∙ raised_to-higher (s c) (level_reached families all s x i c) (level_reached families others s y j c)
+      ∙ ap (raised_to (s c)) (higher-comm (level_reached families all s x i c) (level_reached families others s y j c))
+      ∙ sym (raised_to-higher (s c) (level_reached families others s y j c) (level_reached families all s x i c))
       ∙ sym (λ k. raised_to (two k) (level-agree families k1 v1 x i all (second s) s c agree_first k))
-      ∙ sym (reaches x i c all (second s) eo1 ea1)
+      ∙ sym (reaches families x i c all (second s) eo1 ea1)
 
   pub cells_commute : second (first s) ≡ first (second s)
   cells_commute = λ k c. at_cell c _ _ _ _ _ _ refl refl refl refl refl refl (apart c) k

@@ -114,7 +114,7 @@ changed-idle p c f (q ∷ ms) w all =
 pub unwritten_keeps : (p : Program) (q : Moment) (c : Cell) → writes (mode_at p q.event c) ≡ false → change_at p c q ≡ Keep
 unwritten_keeps p q c quiet =
     let h : Tag = tag_of_itag p q.event.itag in
-    ap (λ n. change_by n (actions_of (slice_get p.kinds h.kind)) q.before q.event h.key c) (unwritten (mode_at p q.event c) quiet)
+    ap (λ n. change_by p.families n (actions_of (slice_get p.kinds h.kind)) q.before q.event h.key c) (unwritten (mode_at p q.event c) quiet)
 
 -- an event of an independent tag leaves alone the cells that another tag needs
 pub independent_keeps : (p : Program) (m q : Moment) (c : Cell) → IsAccepted p → m.event.itag.0 < count_of_itags p → q.event.itag.0 < count_of_itags p → is_dependent p (tag_of_itag p m.event.itag) (tag_of_itag p q.event.itag) ≡ false → needs (mode_at p m.event c) ≡ true → change_at p c q ≡ Keep

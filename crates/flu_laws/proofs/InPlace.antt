@@ -7,6 +7,7 @@ use Rattle.flu_model.specs.declared.events.Event.{Event}
 use Rattle.flu_model.specs.declared.events.Tag.{Tag}
 use Rattle.flu_model.specs.declared.events.Worth.{Worth}
 use Rattle.flu_model.specs.declared.jobs.Action.{Action}
+use Rattle.flu_model.specs.declared.jobs.Family.{Family}
 use Rattle.flu_model.specs.declared.jobs.Program.{Program}
 use Rattle.flu_model.specs.declared.modes.Mode.{Mode}
 use Rattle.flu_model.specs.declared.modes.Mode.TheVariants.{None as NoMode, Add as AddMode, Raise as RaiseMode, Own}
@@ -28,21 +29,21 @@ applied-reach-swap a b w =
     ∙ raised_to-higher w b a ∙ ap (raised_to w) (higher-comm b a) ∙ sym (raised_to-higher w a b)
     ∙ ap (λ u. raised_to u b) (applied-reach a w) ∙ applied-reach b (applied (reach a) w)
 
-swap_by : (m n : Mode) (all others : List Action) (s t : Contents) (x y : Event) (i j : ℕ) (c : Cell) (w : Option Worth) → modes_conflict m n ≡ false
-    → applied (change_by m all s x i c) (applied (change_by n others t y j c) w) ≡ applied (change_by n others t y j c) (applied (change_by m all s x i c) w)
-swap_by NoMode n all others s t x y i j c w ok = refl
-swap_by AddMode NoMode all others s t x y i j c w ok = refl
-swap_by AddMode AddMode all others s t x y i j c w ok = added-swap w (amount_added others t y j c) (amount_added all s x i c)
-swap_by AddMode RaiseMode all others s t x y i j c w ok = cc
-swap_by AddMode Own all others s t x y i j c w ok = cc
-swap_by RaiseMode NoMode all others s t x y i j c w ok = refl
-swap_by RaiseMode AddMode all others s t x y i j c w ok = cc
-swap_by RaiseMode RaiseMode all others s t x y i j c w ok = applied-reach-swap (level_reached all s x i c) (level_reached others t y j c) w
-swap_by RaiseMode Own all others s t x y i j c w ok = cc
-swap_by Own NoMode all others s t x y i j c w ok = refl
-swap_by Own AddMode all others s t x y i j c w ok = cc
-swap_by Own RaiseMode all others s t x y i j c w ok = cc
-swap_by Own Own all others s t x y i j c w ok = cc
+swap_by : (families : List Family) (m n : Mode) (all others : List Action) (s t : Contents) (x y : Event) (i j : ℕ) (c : Cell) (w : Option Worth) → modes_conflict m n ≡ false
+    → applied (change_by families m all s x i c) (applied (change_by families n others t y j c) w) ≡ applied (change_by families n others t y j c) (applied (change_by families m all s x i c) w)
+swap_by families NoMode n all others s t x y i j c w ok = refl
+swap_by families AddMode NoMode all others s t x y i j c w ok = refl
+swap_by families AddMode AddMode all others s t x y i j c w ok = added-swap w (amount_added families others t y j c) (amount_added families all s x i c)
+swap_by families AddMode RaiseMode all others s t x y i j c w ok = cc
+swap_by families AddMode Own all others s t x y i j c w ok = cc
+swap_by families RaiseMode NoMode all others s t x y i j c w ok = refl
+swap_by families RaiseMode AddMode all others s t x y i j c w ok = cc
+swap_by families RaiseMode RaiseMode all others s t x y i j c w ok = applied-reach-swap (level_reached families all s x i c) (level_reached families others t y j c) w
+swap_by families RaiseMode Own all others s t x y i j c w ok = cc
+swap_by families Own NoMode all others s t x y i j c w ok = refl
+swap_by families Own AddMode all others s t x y i j c w ok = cc
+swap_by families Own RaiseMode all others s t x y i j c w ok = cc
+swap_by families Own Own all others s t x y i j c w ok = cc
 
 -- a change that goes with all later ones may come last
 last_of : (p : Program) (c : Cell) (m : Moment) (w : Option Worth) (after : List Moment) → AllByRecursion (GoesWith p c m.event) after → applied (change_at p c m) (changed_by p c w after) ≡ changed_by p c (applied (change_at p c m) w) after
@@ -52,7 +53,7 @@ last_of p c m w (q ∷ after) go =
     ∙ ap (λ u. changed_by p c u after) (
     let g : Tag = tag_of_itag p m.event.itag in
     let h : Tag = tag_of_itag p q.event.itag in
-    swap_by (mode_of p g c) (mode_of p h c) (actions_of (slice_get p.kinds g.kind)) (actions_of (slice_get p.kinds h.kind)) m.before q.before m.event q.event g.key h.key c w go.0
+    swap_by p.families (mode_of p g c) (mode_of p h c) (actions_of (slice_get p.kinds g.kind)) (actions_of (slice_get p.kinds h.kind)) m.before q.before m.event q.event g.key h.key c w go.0
     )
 
 inserted : (p : Program) (c : Cell) (m : Moment) (w : Option Worth) (before after : List Moment) → AllByRecursion (GoesWith p c m.event) after → applied (change_at p c m) (changed_by p c w (before ++ after)) ≡ changed_by p c w (before ++ m ∷ after)

@@ -30,35 +30,35 @@ module _ (families : List Family) (keyed has_value : Bool) (x : Event) (key : �
 
   -- what the cell c becomes, by the tests of its mode
   at_cell : Neutral → (c : Cell) (own add raise : Bool) → list_any (action_owns key c) all ≡ own → list_any (λ (a : Action). act_adds key c a.act) all ≡ add → list_any (λ (a : Action). act_raises key c a.act) all ≡ raise
-      → (effect_of_actions all (join s t) x key).cells c ≡ joined_worth ((effect_of_actions all s x key).cells c) (t c)
+      → (effect_of_actions families all (join s t) x key).cells c ≡ joined_worth ((effect_of_actions families all s x key).cells c) (t c)
   unfolding Neutral
   at_cell neutral c true add raise o a r =
       cells-agree families keyed has_value x key all (join s t) s (agrees neutral) c (agrees neutral c o)
-      ∙ sym (ap (λ w. joined_worth ((effect_of_actions all s x key).cells c) w) (neutral c o) ∙ joined-none ((effect_of_actions all s x key).cells c))
+      ∙ sym (ap (λ w. joined_worth ((effect_of_actions families all s x key).cells c) w) (neutral c o) ∙ joined-none ((effect_of_actions families all s x key).cells c))
   at_cell neutral c false true true o a r = absurd (not_sum_and_max (slice_get families c.family) (adds-sort families keyed has_value key c all fits a) (raises-sort families keyed has_value key c all fits r))
   at_cell neutral c false true false o a r =
       let sort : has_sort (slice_get families c.family) SumSort ≡ true = adds-sort families keyed has_value key c all fits a in
       let one : HoldsSort SumSort (s c) = holds_sum (slice_get families c.family) (s c) sort (left c) in
       let other : HoldsSort SumSort (t c) = holds_sum (slice_get families c.family) (t c) sort (right c) in
-      gains x key c all (join s t) o r (joined-holds (s c) (t c) one other)
+      gains families x key c all (join s t) o r (joined-holds (s c) (t c) one other)
       ∙ ap (λ n. added (joined_worth (s c) (t c)) n) (amount-agree families keyed has_value x key all (join s t) s c (agrees neutral))
-      ∙ added-joined (s c) (t c) (amount_added all s x key c) one other
-      ∙ sym (ap (λ w. joined_worth w (t c)) (gains x key c all s o r one))
+      ∙ added-joined (s c) (t c) (amount_added families all s x key c) one other
+      ∙ sym (ap (λ w. joined_worth w (t c)) (gains families x key c all s o r one))
   at_cell neutral c false false true o a r =
       let sort : has_sort (slice_get families c.family) MaxSort ≡ true = raises-sort families keyed has_value key c all fits r in
       let one : HoldsSort MaxSort (s c) = holds_max (slice_get families c.family) (s c) sort (left c) in
       let other : HoldsSort MaxSort (t c) = holds_max (slice_get families c.family) (t c) sort (right c) in
-      reaches x key c all (join s t) o a
+      reaches families x key c all (join s t) o a
       ∙ ap (λ n. raised_to (joined_worth (s c) (t c)) n) (level-agree families keyed has_value x key all (join s t) s c (agrees neutral))
-      ∙ raised_to-joined (s c) (t c) (level_reached all s x key c) one other
-      ∙ sym (ap (λ w. joined_worth w (t c)) (reaches x key c all s o a))
+      ∙ raised_to-joined (s c) (t c) (level_reached families all s x key c) one other
+      ∙ sym (ap (λ w. joined_worth w (t c)) (reaches families x key c all s o a))
   at_cell neutral c false false false o a r =
-      keeps x key c all (join s t) o a r ∙ sym (ap (λ w. joined_worth w (t c)) (keeps x key c all s o a r))
+      keeps families x key c all (join s t) o a r ∙ sym (ap (λ w. joined_worth w (t c)) (keeps families x key c all s o a r))
 
-  pub updates_left : ((c : Cell) → list_any (action_owns key c) all ≡ true → t c ≡ None) → effect_of_actions all (join s t) x key ≡ record { cells = join (effect_of_actions all s x key).cells t; texts = (effect_of_actions all s x key).texts }
+  pub updates_left : ((c : Cell) → list_any (action_owns key c) all ≡ true → t c ≡ None) → effect_of_actions families all (join s t) x key ≡ record { cells = join (effect_of_actions families all s x key).cells t; texts = (effect_of_actions families all s x key).texts }
   unfolding Neutral
   updates_left neutral =
-      let texts : (effect_of_actions all (join s t) x key).texts ≡ (effect_of_actions all s x key).texts = texts-agree families keyed has_value x key all (join s t) s fits (agrees neutral) in
+      let texts : (effect_of_actions families all (join s t) x key).texts ≡ (effect_of_actions families all s x key).texts = texts-agree families keyed has_value x key all (join s t) s fits (agrees neutral) in
       λ i. record { cells = λ c. at_cell neutral c _ _ _ refl refl refl i; texts = texts i }
 
   -- the cells that the actions own are neutral on the left
@@ -70,37 +70,37 @@ module _ (families : List Family) (keyed has_value : Bool) (x : Event) (key : �
   agrees_right neutral c own = ap (λ w. joined_worth w (t c)) (neutral c own)
 
   at_cell_right : NeutralLeft → (c : Cell) (own add raise : Bool) → list_any (action_owns key c) all ≡ own → list_any (λ (a : Action). act_adds key c a.act) all ≡ add → list_any (λ (a : Action). act_raises key c a.act) all ≡ raise
-      → (effect_of_actions all (join s t) x key).cells c ≡ joined_worth (s c) ((effect_of_actions all t x key).cells c)
+      → (effect_of_actions families all (join s t) x key).cells c ≡ joined_worth (s c) ((effect_of_actions families all t x key).cells c)
   unfolding NeutralLeft
   at_cell_right neutral c true add raise o a r =
       cells-agree families keyed has_value x key all (join s t) t (agrees_right neutral) c (agrees_right neutral c o)
-      ∙ sym (ap (λ w. joined_worth w ((effect_of_actions all t x key).cells c)) (neutral c o))
+      ∙ sym (ap (λ w. joined_worth w ((effect_of_actions families all t x key).cells c)) (neutral c o))
   at_cell_right neutral c false true true o a r = absurd (not_sum_and_max (slice_get families c.family) (adds-sort families keyed has_value key c all fits a) (raises-sort families keyed has_value key c all fits r))
   at_cell_right neutral c false true false o a r =
       let sort : has_sort (slice_get families c.family) SumSort ≡ true = adds-sort families keyed has_value key c all fits a in
       let one : HoldsSort SumSort (s c) = holds_sum (slice_get families c.family) (s c) sort (left c) in
       let other : HoldsSort SumSort (t c) = holds_sum (slice_get families c.family) (t c) sort (right c) in
-      gains x key c all (join s t) o r (joined-holds (s c) (t c) one other)
+      gains families x key c all (join s t) o r (joined-holds (s c) (t c) one other)
       ∙ ap (λ n. added (joined_worth (s c) (t c)) n) (amount-agree families keyed has_value x key all (join s t) t c (agrees_right neutral))
-      ∙ ap (λ w. added w (amount_added all t x key c)) (joined_sums-comm (s c) (t c) one other)
-      ∙ added-joined (t c) (s c) (amount_added all t x key c) other one
-      ∙ joined_sums-comm (added (t c) (amount_added all t x key c)) (s c) (added-holds (t c) (amount_added all t x key c)) one
-      ∙ sym (ap (λ w. joined_worth (s c) w) (gains x key c all t o r other))
+      ∙ ap (λ w. added w (amount_added families all t x key c)) (joined_sums-comm (s c) (t c) one other)
+      ∙ added-joined (t c) (s c) (amount_added families all t x key c) other one
+      ∙ joined_sums-comm (added (t c) (amount_added families all t x key c)) (s c) (added-holds (t c) (amount_added families all t x key c)) one
+      ∙ sym (ap (λ w. joined_worth (s c) w) (gains families x key c all t o r other))
   at_cell_right neutral c false false true o a r =
       let sort : has_sort (slice_get families c.family) MaxSort ≡ true = raises-sort families keyed has_value key c all fits r in
       let one : HoldsSort MaxSort (s c) = holds_max (slice_get families c.family) (s c) sort (left c) in
       let other : HoldsSort MaxSort (t c) = holds_max (slice_get families c.family) (t c) sort (right c) in
-      reaches x key c all (join s t) o a
+      reaches families x key c all (join s t) o a
       ∙ ap (λ n. raised_to (joined_worth (s c) (t c)) n) (level-agree families keyed has_value x key all (join s t) t c (agrees_right neutral))
-      ∙ ap (λ w. raised_to w (level_reached all t x key c)) (joined_maxima-comm (s c) (t c) one other)
-      ∙ raised_to-joined (t c) (s c) (level_reached all t x key c) other one
-      ∙ joined_maxima-comm (raised_to (t c) (level_reached all t x key c)) (s c) (raised_to-holds (t c) (level_reached all t x key c) other) one
-      ∙ sym (ap (λ w. joined_worth (s c) w) (reaches x key c all t o a))
+      ∙ ap (λ w. raised_to w (level_reached families all t x key c)) (joined_maxima-comm (s c) (t c) one other)
+      ∙ raised_to-joined (t c) (s c) (level_reached families all t x key c) other one
+      ∙ joined_maxima-comm (raised_to (t c) (level_reached families all t x key c)) (s c) (raised_to-holds (t c) (level_reached families all t x key c) other) one
+      ∙ sym (ap (λ w. joined_worth (s c) w) (reaches families x key c all t o a))
   at_cell_right neutral c false false false o a r =
-      keeps x key c all (join s t) o a r ∙ sym (ap (λ w. joined_worth (s c) w) (keeps x key c all t o a r))
+      keeps families x key c all (join s t) o a r ∙ sym (ap (λ w. joined_worth (s c) w) (keeps families x key c all t o a r))
 
-  pub updates_right : ((c : Cell) → list_any (action_owns key c) all ≡ true → s c ≡ None) → effect_of_actions all (join s t) x key ≡ record { cells = join s (effect_of_actions all t x key).cells; texts = (effect_of_actions all t x key).texts }
+  pub updates_right : ((c : Cell) → list_any (action_owns key c) all ≡ true → s c ≡ None) → effect_of_actions families all (join s t) x key ≡ record { cells = join s (effect_of_actions families all t x key).cells; texts = (effect_of_actions families all t x key).texts }
   unfolding NeutralLeft
   updates_right neutral =
-      let texts : (effect_of_actions all (join s t) x key).texts ≡ (effect_of_actions all t x key).texts = texts-agree families keyed has_value x key all (join s t) t fits (agrees_right neutral) in
+      let texts : (effect_of_actions families all (join s t) x key).texts ≡ (effect_of_actions families all t x key).texts = texts-agree families keyed has_value x key all (join s t) t fits (agrees_right neutral) in
       λ i. record { cells = λ c. at_cell_right neutral c _ _ _ refl refl refl i; texts = texts i }

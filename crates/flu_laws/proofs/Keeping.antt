@@ -51,7 +51,7 @@ with_kept families s d w sorted holds c =
     ] refl
 
 module _ (families : List Family) (keyed has_value : Bool) (x : Event) (key : ℕ) where
-  act_keeps : (a : Act) (s : Contents) → act_fits families keyed has_value a ≡ true → IsStateOf families s → IsStateOf families (effect_of_act a s x key).cells
+  act_keeps : (a : Act) (s : Contents) → act_fits families keyed has_value a ≡ true → IsStateOf families s → IsStateOf families (effect_of_act families a s x key).cells
   act_keeps (Add r e) s fits sorted =
       let sort : has_sort (slice_get families r.family) SumSort ≡ true = and_right _ _ (and_left _ _ fits) in
       with_kept families s (cell_of r key) _ sorted (from_sort (slice_get families r.family) SumSort _ sort (added-holds (s (cell_of r key)) (value_of_expr e s x key)))
@@ -69,11 +69,11 @@ module _ (families : List Family) (keyed has_value : Bool) (x : Event) (key : �
         | false ↦ sorted c
       ]
 
-  pub actions_keep : (all : List Action) (s : Contents) → list_all (action_fits families keyed has_value) all ≡ true → IsStateOf families s → IsStateOf families (effect_of_actions all s x key).cells
+  pub actions_keep : (all : List Action) (s : Contents) → list_all (action_fits families keyed has_value) all ≡ true → IsStateOf families s → IsStateOf families (effect_of_actions families all s x key).cells
   actions_keep [] s fits sorted = sorted
   actions_keep (a ∷ all) s fits sorted =
-      actions_keep all (effect_of_action a s x key).cells (and_right _ _ fits)
-      (elim (passes_guard a.guard s x key) as (λ b. IsStateOf families (cond b (effect_of_act a.act s x key) (changes_to s)).cells) [
+      actions_keep all (effect_of_action families a s x key).cells (and_right _ _ fits)
+      (elim (passes_guard a.guard s x key) as (λ b. IsStateOf families (cond b (effect_of_act families a.act s x key) (changes_to s)).cells) [
         | true ↦ act_keeps a.act s (and_left _ _ (and_left _ _ fits)) sorted
         | false ↦ sorted
       ])

@@ -114,26 +114,26 @@ reach_mixes (Some v) w p = raised-mixes w v p
 amount_holds : (p : Program) (s : Contents) (x : Event) (c : Cell) → mixes (mode_at p x c) ≡ true → MayHold p c (amount_of p s x c)
 amount_holds p s x c mix = at_mode (mode_at p x c) refl mix
   where
-    at_mode : (m : Mode) → mode_at p x c ≡ m → mixes m ≡ true → (let g : Tag = tag_of_itag p x.itag in MayHold p c (applied (change_by m (actions_of (slice_get p.kinds g.kind)) s x g.key c) None))
+    at_mode : (m : Mode) → mode_at p x c ≡ m → mixes m ≡ true → (let g : Tag = tag_of_itag p x.itag in MayHold p c (applied (change_by p.families m (actions_of (slice_get p.kinds g.kind)) s x g.key c) None))
     at_mode NoMode e h = cc
-    at_mode AddMode e h = let g : Tag = tag_of_itag p x.itag in from_sort (slice_get p.families c.family) SumSort _ (added_sort p g c e) (added-holds None (amount_added (actions_of (slice_get p.kinds g.kind)) s x g.key c))
-    at_mode RaiseMode e h = let g : Tag = tag_of_itag p x.itag in from_sort (slice_get p.families c.family) MaxSort _ (raised_sort p g c e) (reach_holds (level_reached (actions_of (slice_get p.kinds g.kind)) s x g.key c))
+    at_mode AddMode e h = let g : Tag = tag_of_itag p x.itag in from_sort (slice_get p.families c.family) SumSort _ (added_sort p g c e) (added-holds None (amount_added p.families (actions_of (slice_get p.kinds g.kind)) s x g.key c))
+    at_mode RaiseMode e h = let g : Tag = tag_of_itag p x.itag in from_sort (slice_get p.families c.family) MaxSort _ (raised_sort p g c e) (reach_holds (level_reached p.families (actions_of (slice_get p.kinds g.kind)) s x g.key c))
     at_mode Own e h = cc
 
 next_mixes : (p : Program) (s : Contents) (x : Event) (c : Cell) → IsStateOf p.families s → mixes (mode_at p x c) ≡ true → (effect_of p s x).cells c ≡ joined_worth (s c) (amount_of p s x c)
 next_mixes p s x c sorted mix = updates_are_changes p s x c sorted ∙ at_mode (mode_at p x c) refl mix
   where
-    at_mode : (m : Mode) → mode_at p x c ≡ m → mixes m ≡ true → (let g : Tag = tag_of_itag p x.itag in let h = change_by m (actions_of (slice_get p.kinds g.kind)) s x g.key c in applied h (s c) ≡ joined_worth (s c) (applied h None))
+    at_mode : (m : Mode) → mode_at p x c ≡ m → mixes m ≡ true → (let g : Tag = tag_of_itag p x.itag in let h = change_by p.families m (actions_of (slice_get p.kinds g.kind)) s x g.key c in applied h (s c) ≡ joined_worth (s c) (applied h None))
     at_mode NoMode e h = cc
-    at_mode AddMode e h = let g : Tag = tag_of_itag p x.itag in added-mixes (s c) (amount_added (actions_of (slice_get p.kinds g.kind)) s x g.key c) (holds_sum (slice_get p.families c.family) (s c) (added_sort p g c e) (sorted c))
-    at_mode RaiseMode e h = let g : Tag = tag_of_itag p x.itag in reach_mixes (level_reached (actions_of (slice_get p.kinds g.kind)) s x g.key c) (s c) (holds_max (slice_get p.families c.family) (s c) (raised_sort p g c e) (sorted c))
+    at_mode AddMode e h = let g : Tag = tag_of_itag p x.itag in added-mixes (s c) (amount_added p.families (actions_of (slice_get p.kinds g.kind)) s x g.key c) (holds_sum (slice_get p.families c.family) (s c) (added_sort p g c e) (sorted c))
+    at_mode RaiseMode e h = let g : Tag = tag_of_itag p x.itag in reach_mixes (level_reached p.families (actions_of (slice_get p.kinds g.kind)) s x g.key c) (s c) (holds_max (slice_get p.families c.family) (s c) (raised_sort p g c e) (sorted c))
     at_mode Own e h = cc
 
 next_leaves : (p : Program) (s : Contents) (x : Event) (c : Cell) → writes (mode_at p x c) ≡ false → (effect_of p s x).cells c ≡ s c
 next_leaves p s x c quiet =
     let g : Tag = tag_of_itag p x.itag in
     let idle = idle_by_mode _ _ _ (unwritten (mode_at p x c) quiet) in
-    keeps x g.key c (actions_of (slice_get p.kinds g.kind)) s idle.0 idle.1 idle.2
+    keeps p.families x g.key c (actions_of (slice_get p.kinds g.kind)) s idle.0 idle.1 idle.2
 
 pub accepted_is_lawful : AcceptedIsLawful
 accepted_is_lawful p accepted = record {

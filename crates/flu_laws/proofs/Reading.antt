@@ -1,6 +1,6 @@
 -- Expressions, guards and texts depend on the cells alone that they read.
 use Rattle.std.proofs.Common.{◌≡◌, ℕ, Bool, true, Option, Some, None, List, [], ◌∷◌, ◌++◌, refl, ap, arith}
-use Rattle.std.specs.Prelude.{not, is_some, neg_ℤ}
+use Rattle.std.specs.Prelude.{not, is_some, neg_ℤ, slice_get}
 use Rattle.std.specs.List.{list_any}
 use Rattle.std.proofs.lemmas.Bool.{or_left, or_right}
 use Rattle.std.proofs.lemmas.Grind.{common_steps}
@@ -9,11 +9,12 @@ use Rattle.flu_model.specs.declared.events.Event.{Event}
 use Rattle.flu_model.specs.declared.events.Worth.{Worth}
 use Rattle.flu_model.specs.declared.jobs.Expr.{Expr}
 use Rattle.flu_model.specs.declared.jobs.Expr.TheVariants.{Lit, Value, Key, Time, Read, Has, Neg', Not', Two'}
+use Rattle.flu_model.specs.declared.jobs.Family.{Family}
 use Rattle.flu_model.specs.declared.jobs.Piece.{Piece}
 use Rattle.flu_model.specs.declared.jobs.Piece.TheVariants.{Plain, Value as ValueField, Key as KeyField, Time as TimeField, Read as ReadField, CellValue}
 use Rattle.flu_model.specs.Contents.{Contents, is_same_cell, number_in}
 use Rattle.flu_model.specs.Expressions.{cell_of, value_of_expr, clamped, as_number, is_true, result_of}
-use Rattle.flu_model.specs.Texts.{worth_text, piece_text, pieces_text}
+use Rattle.flu_model.specs.Texts.{neutral_of, worth_text, piece_text, pieces_text}
 use Rattle.flu_model.specs.Updates.{passes_guard}
 use Rattle.flu_model.specs.Modes.{expr_reads, guard_reads, piece_reads}
 
@@ -47,15 +48,15 @@ guard-agree None s t x key same = refl
 guard-agree (Some e) s t x key same = ap is_true (value-agree e s t x key same)
 
 -- the cells that a template reads, for a tag with this key; within a flush the fields read the flushed cell alone
-pub piece-agree : (q : Piece) (s t : Contents) (x : Event) (key : ℕ) (held : Option Worth) → Agree (λ c. piece_reads key c q) s t → piece_text q s x key held ≡ piece_text q t x key held
-piece-agree (Plain u) s t x key held same = refl
-piece-agree ValueField s t x key held same = refl
-piece-agree KeyField s t x key held same = refl
-piece-agree TimeField s t x key held same = refl
-piece-agree (ReadField r) s t x key held same = ap worth_text (same (cell_of r key) (same_cell-refl (cell_of r key)))
-piece-agree CellValue s t x key held same = refl
+pub piece-agree : (families : List Family) (q : Piece) (s t : Contents) (x : Event) (key : ℕ) (held : Option Worth) → Agree (λ c. piece_reads key c q) s t → piece_text families q s x key held ≡ piece_text families q t x key held
+piece-agree families (Plain u) s t x key held same = refl
+piece-agree families ValueField s t x key held same = refl
+piece-agree families KeyField s t x key held same = refl
+piece-agree families TimeField s t x key held same = refl
+piece-agree families (ReadField r) s t x key held same = ap (worth_text (neutral_of (slice_get families r.family))) (same (cell_of r key) (same_cell-refl (cell_of r key)))
+piece-agree families CellValue s t x key held same = refl
 
-pub pieces-agree : (qs : List Piece) (s t : Contents) (x : Event) (key : ℕ) (held : Option Worth) → Agree (λ c. list_any (piece_reads key c) qs) s t → pieces_text qs s x key held ≡ pieces_text qs t x key held
-pieces-agree [] s t x key held same = refl
-pieces-agree (q ∷ qs) s t x key held same =
-    λ i. piece-agree q s t x key held (λ c h. same c (or_left _ _ h)) i ++ pieces-agree qs s t x key held (λ c h. same c (or_right (piece_reads key c q) _ h)) i
+pub pieces-agree : (families : List Family) (qs : List Piece) (s t : Contents) (x : Event) (key : ℕ) (held : Option Worth) → Agree (λ c. list_any (piece_reads key c) qs) s t → pieces_text families qs s x key held ≡ pieces_text families qs t x key held
+pieces-agree families [] s t x key held same = refl
+pieces-agree families (q ∷ qs) s t x key held same =
+    λ i. piece-agree families q s t x key held (λ c h. same c (or_left _ _ h)) i ++ pieces-agree families qs s t x key held (λ c h. same c (or_right (piece_reads key c q) _ h)) i

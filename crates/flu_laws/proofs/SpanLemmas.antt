@@ -74,10 +74,10 @@ is_mix p c m quiet = at_mode (mode_at p m.event c) refl quiet
     reached o None sort = tt
     reached o (Some v) sort = sort
 
-    at_mode : (n : Mode) → mode_at p m.event c ≡ n → needs n ≡ false → (let g : Tag = tag_of_itag p m.event.itag in IsMix (slice_get p.families c.family) (change_by n (actions_of (slice_get p.kinds g.kind)) m.before m.event g.key c))
+    at_mode : (n : Mode) → mode_at p m.event c ≡ n → needs n ≡ false → (let g : Tag = tag_of_itag p m.event.itag in IsMix (slice_get p.families c.family) (change_by p.families n (actions_of (slice_get p.kinds g.kind)) m.before m.event g.key c))
     at_mode NoMode e q = tt
     at_mode AddMode e q = added_sort p (tag_of_itag p m.event.itag) c e
-    at_mode RaiseMode e q = let g : Tag = tag_of_itag p m.event.itag in reached (slice_get p.families c.family) (level_reached (actions_of (slice_get p.kinds g.kind)) m.before m.event g.key c) (raised_sort p g c e)
+    at_mode RaiseMode e q = let g : Tag = tag_of_itag p m.event.itag in reached (slice_get p.families c.family) (level_reached p.families (actions_of (slice_get p.kinds g.kind)) m.before m.event g.key c) (raised_sort p g c e)
     at_mode Own e q = cc
 
 module _ (o : Option Family) where

@@ -25,17 +25,17 @@ applied-reach (Some v) w = refl
 module _ (families : List Family) (keyed has_value : Bool) (x : Event) (key : ℕ) (all : List Action) (fits : list_all (action_fits families keyed has_value) all ≡ true) (s t : Contents) (sorted : IsStateOf families s) (agree : Agree (λ c. list_any (action_owns key c) all) s t) where
   -- what the cell becomes is the change from the other state
   step_at : (c : Cell) (own add raise : Bool) → list_any (action_owns key c) all ≡ own → list_any (λ (a : Action). act_adds key c a.act) all ≡ add → list_any (λ (a : Action). act_raises key c a.act) all ≡ raise
-      → (effect_of_actions all s x key).cells c ≡ applied (change_by (mode_from own add raise) all t x key c) (s c)
+      → (effect_of_actions families all s x key).cells c ≡ applied (change_by families (mode_from own add raise) all t x key c) (s c)
   step_at c true add raise o a r = cells-agree families keyed has_value x key all s t agree c (agree c o)
   step_at c false true true o a r = absurd (not_sum_and_max (slice_get families c.family) (adds-sort families keyed has_value key c all fits a) (raises-sort families keyed has_value key c all fits r))
   step_at c false true false o a r =
-      gains x key c all s o r (holds_sum (slice_get families c.family) (s c) (adds-sort families keyed has_value key c all fits a) (sorted c))
+      gains families x key c all s o r (holds_sum (slice_get families c.family) (s c) (adds-sort families keyed has_value key c all fits a) (sorted c))
       ∙ ap (added (s c)) (amount-agree families keyed has_value x key all s t c agree)
   step_at c false false true o a r =
-      reaches x key c all s o a
+      reaches families x key c all s o a
       ∙ ap (raised_to (s c)) (level-agree families keyed has_value x key all s t c agree)
-      ∙ applied-reach (level_reached all t x key c) (s c)
-  step_at c false false false o a r = keeps x key c all s o a r
+      ∙ applied-reach (level_reached families all t x key c) (s c)
+  step_at c false false false o a r = keeps families x key c all s o a r
 
-  pub step : (c : Cell) → (effect_of_actions all s x key).cells c ≡ applied (change_among all t x key c) (s c)
+  pub step : (c : Cell) → (effect_of_actions families all s x key).cells c ≡ applied (change_among families all t x key c) (s c)
   step c = step_at c _ _ _ refl refl refl
