@@ -25,7 +25,7 @@ fn main(rt: HostRuntime) -> ExitCode {
 }
 
 /// Does what the words say over the files of the system, and answers the status.
-fn run<R: rt::Files + AllocGlobal, O: Write, E: Write>(
+fn run<R: rt::Files + AllocGlobal + Drop, O: Write + Drop, E: Write + Drop>(
     rt: R,
     words: &[String],
     out: O,
