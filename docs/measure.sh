@@ -31,14 +31,15 @@ make_rows() {
     }' > "$1.csv"
     printf 'tag inc int\nsource a "%s.csv": inc\n' "$1" > "$1.job"
 }
-sum_of_column() { gawk -F, '{ n += $3 } END { print n }' "$1.csv"; }
+sum_of_column() { LC_ALL=$2 gawk -F, '{ n += $3 } END { print n }' "$1.csv"; }
 make_rows plain '' '\n'
 make_rows plain_crlf '' '\r\n'
 make_rows quoted '"' '\n'
 make_rows quoted_crlf '"' '\r\n'
 for name in plain plain_crlf quoted quoted_crlf; do
     measure "1,000,000 rows, $name: flumina fold" "$program" fold "$name.job"
-    measure "1,000,000 rows, $name: gawk, the sum of a column" sum_of_column "$name"
+    measure "1,000,000 rows, $name: gawk in C.UTF-8" sum_of_column "$name" C.UTF-8
+    measure "1,000,000 rows, $name: gawk in C" sum_of_column "$name" C
 done
 
 # ---- a run over three sources of 1,000,000 rows in all
@@ -58,12 +59,15 @@ gawk 'BEGIN { srand(1); for (t = 1; t <= 499500; t++) print 2 * t ",inc," int(ra
 gawk 'BEGIN { srand(2); for (t = 1; t <= 499500; t++) print 2 * t + 1 ",inc," int(rand() * 10000); print "end" }' > b.csv
 gawk 'BEGIN { for (t = 1; t <= 1000; t++) print 999 * t ",read"; print "end" }' > c.csv
 sort_and_count() {
+    export LC_ALL=$1
     sort -m -s -t, -k1,1n a.csv b.csv c.csv \
         | gawk -F, '$2 == "inc" { n += $3 } $2 == "read" { print $1 ",read,count " n; n = 0 }'
 }
 measure 'three sources, 1,000,000 rows: flumina fold' "$program" fold counts.job
 cp out.txt folded.txt
-measure 'three sources, 1,000,000 rows: sort -m and gawk' sort_and_count
+measure 'three sources, 1,000,000 rows: sort -m and gawk in C.UTF-8' sort_and_count C.UTF-8
+cmp out.txt folded.txt
+measure 'three sources, 1,000,000 rows: sort -m and gawk in C' sort_and_count C
 cmp out.txt folded.txt
 
 # ---- a job text of about 1,048,576 bytes: 64 kinds of 32 long actions, comments, 4,096 dependencies
