@@ -15,7 +15,9 @@ ghost use Rattle.flu_step.specs.Targets.{has_target_in_range};
 use crate::expressions::{cell_of, is_true, value_of};
 use crate::texts::text_of;
 use flu_cells::State;
-use flu_model::{Act, Action, Cell, Event, Expr, Family, Out, Outs, Piece, Program, Tag, Text, tag_of};
+use flu_model::{
+    Act, Action, Cell, Event, Expr, Family, Out, Outs, Piece, Program, Tag, Text, tag_of,
+};
 use std::alloc::{AllocError, Global};
 
 /// Updates a state by an event, whose itag is one of the job's, and appends its outputs in the order in which its actions
@@ -35,7 +37,9 @@ pub fn update(
 {
     let tag = tag_of(p, x.itag);
     let kind = &p.kinds.items()[tag.kind as usize];
-    do_actions(alloc, p.families.items(), kind.actions.items(), s, x, tag, outs)
+    let families = p.families.items();
+    let actions = kind.actions.items();
+    do_actions(alloc, families, actions, s, x, tag, outs)
 }
 
 // Does actions in order.
@@ -124,7 +128,16 @@ fn do_act(
             let text = text_of(alloc, families, pieces.items(), s, x, tag.key, None)?;
             put_out(outs, x, tag, text)
         }
-        Act::Flush(family, pieces) => flush(alloc, families, *family, pieces.items(), s, x, tag, outs),
+        Act::Flush(family, pieces) => flush(
+            alloc,
+            families,
+            *family,
+            pieces.items(),
+            s,
+            x,
+            tag,
+            outs,
+        ),
     }
 }
 

@@ -30,7 +30,10 @@ fn two_sources_add_and_a_third_reads(rt: HostRuntime) -> Result<(), Fail> {
     let mut err = Vec::new(rt.alloc());
     let status = run(&rt, &[fold, job], &mut out, &mut err);
     assert_eq!(rt; status, 0);
-    assert_eq!(rt; out.as_slice(), b"3,read,count 12\n5,read,count 2\n".as_slice());
+    assert_eq!(rt;
+        out.as_slice(),
+        b"3,read,count 12\n5,read,count 2\n".as_slice()
+    );
     assert!(rt; err.is_empty());
     Ok(())
 }
