@@ -6,6 +6,7 @@ mod fault;
 mod grammar;
 mod limits;
 mod planning;
+mod printing;
 mod reading;
 mod resolving;
 mod shape;
@@ -13,4 +14,8 @@ mod terminals;
 mod written;
 
 pub use fault::PlanFault;
+pub use printing::print_plan;
 pub use reading::read_plan;
+
+#[cfg(test)]
+mod tests;
