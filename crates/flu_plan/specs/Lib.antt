@@ -7,3 +7,4 @@ pub mod Planning
 pub mod Reading
 pub mod Kept
 pub mod Printing
+pub mod Grammar

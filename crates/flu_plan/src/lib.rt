@@ -4,6 +4,7 @@
 mod drafts;
 mod fault;
 mod grammar;
+pub mod laws;
 mod limits;
 mod planning;
 mod printing;
