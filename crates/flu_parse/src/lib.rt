@@ -22,7 +22,7 @@ mod templates;
 mod terms;
 
 pub use faults::JobFault;
-pub use printing::print_job;
+pub use printing::{add_keys, print_job};
 pub use reading::read_job;
 
 #[cfg(test)]

@@ -107,7 +107,8 @@ fn add_ons(text: &mut String, families: &[Family], kinds: &[Kind]) -> Result<(),
     Ok(())
 }
 
-fn add_keys(text: &mut String, keys: Keys) -> Result<(), AllocError>
+/// Puts the keys that are listed of a kind behind a text: nothing, a number in brackets, or two of them with `..` between.
+pub fn add_keys(text: &mut String, keys: Keys) -> Result<(), AllocError>
     ensures { OnOk result (string_bytes text.new ≡ string_bytes text.old ++ keys_text keys) }
 {
     match keys {

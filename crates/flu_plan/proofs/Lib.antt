@@ -10,3 +10,6 @@ pub mod Resolved
 pub mod Spreads
 pub mod Trees
 pub mod KeptLemmas
+pub mod Spelled
+pub mod History
+pub mod Exact

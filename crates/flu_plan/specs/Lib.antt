@@ -6,3 +6,5 @@ pub mod Limits
 pub mod Planning
 pub mod Reading
 pub mod Kept
+pub mod Printing
+pub mod Grammar

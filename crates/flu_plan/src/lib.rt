@@ -4,8 +4,10 @@
 mod drafts;
 mod fault;
 mod grammar;
+pub mod laws;
 mod limits;
 mod planning;
+mod printing;
 mod reading;
 mod resolving;
 mod shape;
@@ -13,4 +15,8 @@ mod terminals;
 mod written;
 
 pub use fault::PlanFault;
+pub use printing::print_plan;
 pub use reading::read_plan;
+
+#[cfg(test)]
+mod tests;

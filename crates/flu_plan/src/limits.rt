@@ -7,8 +7,8 @@ ghost use Rattle.flu_plan.specs.Limits.{small_key, small_keys, keys_of_pred, key
 
 use crate::drafts::{DraftNode, DraftPred, Visit};
 use crate::fault::PlanFault;
-use flu_parse::spelling::value_of;
 use flu_model::What;
+use flu_parse::spelling::value_of;
 use flu_syntax::{WrittenKeys, WrittenNumber};
 
 /// The most nodes of a plan.

@@ -8,8 +8,8 @@ ghost use Rattle.flu_plan.specs.Planning.{planned_keys, planned_pred, number_of,
 
 use crate::drafts::{DraftNode, DraftPred, Visit};
 use crate::shape::node_at;
-use flu_parse::spelling::{name_of, value_of};
 use flu_model::{Keys, List, Name, Node, Pred};
+use flu_parse::spelling::{name_of, value_of};
 use flu_syntax::{WrittenKeys, WrittenNumber};
 use std::alloc::{AllocError, Global};
 
