@@ -1,6 +1,10 @@
 pub mod Written
+pub mod WrittenConflicts
 pub mod Whole
 pub mod Jobs
 pub mod Sequence
+pub mod Checks
 pub mod SameJob
+pub mod SameAcceptance
 pub mod Endings
+pub mod Completeness

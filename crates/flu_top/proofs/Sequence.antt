@@ -13,15 +13,19 @@ use Rattle.flu_model.specs.Contents.{nothing_held}
 use Rattle.flu_model.specs.Folding.{final_outputs}
 use Rattle.flu_model.specs.Reports as reports
 use Rattle.flu_rows.specs.Taking.{TakesFrom}
-use Rattle.flu_rows.proofs.Told.{told_then, rose_behind}
+use Rattle.flu_rows.proofs.Told.{told_then, told_weaker, rose_behind}
 use Rattle.flu_streams.specs.Files.{files_of, LeavesOthers, AreReadOut}
 use Rattle.flu_streams.specs.Good.{first_fault, lists_of, AreGood}
 use Rattle.flu_top.specs.declared.refusals.Refusal.{Refusal}
 use Rattle.flu_top.specs.declared.refusals.Refusal.TheVariants as refusals
+use Rattle.flu_top.specs.Words.{Command, Fold}
 use Rattle.flu_top.specs.Taking.{TookOnly}
 use Rattle.flu_top.specs.Behind.{HasJob, emptied, fault_behind, report_behind}
-use Rattle.flu_top.specs.Done.{IsReadName}
-use Rattle.flu_top.specs.Folding.{IsJobRead, IsJobRefusal, IsReported, IsReportRefusal, IsFolded, IsFoldRefusal}
+use Rattle.flu_top.specs.Commands.{job_named}
+use Rattle.flu_top.specs.Done.{MayHaveJob, IsReadName, IsWritten}
+use Rattle.flu_top.specs.Jobs.{IsJobRead, IsJobRefusal}
+use Rattle.flu_top.specs.Folding.{IsReported, IsReportRefusal}
+use Rattle.flu_top.specs.Refusing.{IsRefusal}
 
 -- ---- names
 -- a name is among others, or is not
@@ -50,29 +54,20 @@ told_both P Q (Some x) None p q = p
 told_both P Q (Some x) (Some y) p q = (p, q)
 
 -- ---- the names that are read
-job_is_read : (left : Option Contents) (job : List ℕ) → IsReadName left job job
-job_is_read None job = tt
-job_is_read (Some left) job = inl refl
+may_have : (job : List ℕ) (p : Program) (a b : Option Contents) → WhereTold a b (IsJobRead job p) → MayHaveJob a job p
+may_have job p None b read = tt
+may_have job p (Some x) None read = absurd read
+may_have job p (Some x) (Some y) read = read.has
 
-source_is_read : (job : List ℕ) (p : Program) (name : List ℕ) (a b : Option Contents) → WhereTold a b (IsJobRead job p) → Contains (files_of p.sources) name → IsReadName a job name
-source_is_read job p name None b read found = tt
-source_is_read job p name (Some x) None read found = absurd read
-source_is_read job p name (Some x) (Some y) read found = inr (p, read.has, found)
+pub only_job : (command : Command) (a b : Option Contents) → WhereTold a b (TakesFrom (job_named command)) → WhereTold a b (TookOnly (IsReadName a command))
+only_job command a b taken =
+    told_weaker (TakesFrom (job_named command)) (TookOnly (IsReadName a command)) a b (λ x y took name unread. took.others name (λ same. unread (inl same))) taken
 
-pub only_job : (job : List ℕ) (a b : Option Contents) → WhereTold a b (TakesFrom job) → WhereTold a b (TookOnly (IsReadName a job))
-only_job job None None taken = tt
-only_job job None (Some y) taken = taken
-only_job job (Some x) None taken = taken
-only_job job (Some x) (Some y) taken = λ name unread. taken.others name (λ same. unread (inl same))
-
-pub only_both : (job : List ℕ) (p : Program) (a b c : Option Contents) → WhereTold a b (IsJobRead job p) → WhereTold a b (TakesFrom job) → WhereTold b c (LeavesOthers (files_of p.sources)) → WhereTold a c (TookOnly (IsReadName a job))
-only_both job p None None None read taken others = tt
-only_both job p None None (Some z) read taken others = others
-only_both job p None (Some y) c read taken others = absurd read
-only_both job p (Some x) None c read taken others = absurd read
-only_both job p (Some x) (Some y) None read taken others = others
-only_both job p (Some x) (Some y) (Some z) read taken others =
-    λ name unread. others name (λ found. unread (inr (p, read.has, found))) ∙ taken.others name (λ same. unread (inl same))
+pub only_both : (job : List ℕ) (p : Program) (a b c : Option Contents) → WhereTold a b (IsJobRead job p) → WhereTold a b (TakesFrom job) → WhereTold b c (LeavesOthers (files_of p.sources)) → WhereTold a c (TookOnly (IsReadName a (Fold job)))
+only_both job p a b c read taken others =
+    let may = may_have job p a b read in
+    told_then (TakesFrom job) (LeavesOthers (files_of p.sources)) (TookOnly (IsReadName a (Fold job))) a b c
+    (λ x y z took left name unread. left name (λ found. unread (inr (p, may, found))) ∙ took.others name (λ same. unread (inl same))) taken others
 
 -- ---- the report of a job
 pub is_reported : (p : Program) (report : List ℕ) (lists : List (List Item)) (a b : Option Contents) → WhereTold a b (λ old _. AreGood p old) → WhereTold a b (λ old _. lists ≡ lists_of p old) → AreReadOut (files_of p.sources) b → report ≡ reports.report p (final_outputs p nothing_held lists) → WhereTold a b (IsReported p report)
@@ -97,49 +92,52 @@ emptied_is job p old new read taken = fun_ext (λ name. by_test name (bytes_eq n
         rw t (ap (λ n. option_map {U = List ℕ} (λ (bytes : List ℕ). []) (old n)) same ∙ (emptied_some (old job) (sym (ap is_some read.end) ∙ taken.there) ∙ (sym read.end ∙ sym (ap new same))))
     by_test name false f = rw f (sym (taken.others name (λ same. false≢true (sym f ∙ (bytes_eq-Decides name job).1 same))))
 
-folded_at : (job : List ℕ) (p : Program) (report : List ℕ) (x y z : Contents) → IsJobRead job p x y × TakesFrom job x y → IsReported p report y z × LeavesOthers (files_of p.sources) y z → IsFolded job report x z
+folded_at : (job : List ℕ) (p : Program) (report : List ℕ) (x y z : Contents) → IsJobRead job p x y × TakesFrom job x y → IsReported p report y z × LeavesOthers (files_of p.sources) y z → IsWritten (Fold job) report x z
 unfolding fault_behind report_behind
 folded_at job p report x y z first second =
     let is = emptied_is job p x y first.0 first.1 in (
       p,
       record {
-        has = first.0.has;
-        good = ap (first_fault p) is ∙ second.0.good;
+        good = record { has = first.0.has; accepted = λ asked. absurd (false≢true asked); sources = λ asked. ap (first_fault p) is ∙ second.0.good };
         job_end = elim (among (files_of p.sources) job) [ inl found ↦ second.0.ends job found | inr missing ↦ second.1 job missing ∙ first.0.end ];
-        source_ends = second.0.ends;
+        other_ends = second.0.ends;
       },
       second.0.is ∙ ap (λ left. reports.report p (final_outputs p nothing_held (lists_of p left))) (sym is),
     )
 
-pub is_folded : (job : List ℕ) (p : Program) (report : List ℕ) (a b c : Option Contents) → WhereTold a b (IsJobRead job p) → WhereTold a b (TakesFrom job) → WhereTold b c (LeavesOthers (files_of p.sources)) → WhereTold b c (IsReported p report) → WhereTold a c (IsFolded job report)
+pub is_folded : (job : List ℕ) (p : Program) (report : List ℕ) (a b c : Option Contents) → WhereTold a b (IsJobRead job p) → WhereTold a b (TakesFrom job) → WhereTold b c (LeavesOthers (files_of p.sources)) → WhereTold b c (IsReported p report) → WhereTold a c (IsWritten (Fold job) report)
 is_folded job p report a b c read taken others reported =
-    told_then (λ x y. IsJobRead job p x y × TakesFrom job x y) (λ y z. IsReported p report y z × LeavesOthers (files_of p.sources) y z) (IsFolded job report) a b c
+    told_then (λ x y. IsJobRead job p x y × TakesFrom job x y) (λ y z. IsReported p report y z × LeavesOthers (files_of p.sources) y z) (IsWritten (Fold job) report) a b c
     (folded_at job p report) (told_both (IsJobRead job p) (TakesFrom job) a b read taken) (told_both (IsReported p report) (LeavesOthers (files_of p.sources)) b c reported others)
 
 -- ---- what refuses a job
-pub job_refusal : (job : List ℕ) (a b : Option Contents) (before now : List ℕ → ℕ) (refusal : Refusal) → IsJobRefusal job a b before now refusal → IsFoldRefusal job a b before now refusal
-job_refusal job a b before now (refusals.BadWords bad) is = is
-job_refusal job a b before now (refusals.JobFault fault) is = is
-job_refusal job a b before now (refusals.SourceFault p fault) is = absurd is
-job_refusal job a b before now refusals.ReadFault is = (job, job_is_read a job, is)
-job_refusal job a b before now refusals.WriteFault is = is
-job_refusal job a b before now refusals.NoMemory is = is
+pub job_refusal : (command : Command) (a b : Option Contents) (before now : List ℕ → ℕ) (refusal : Refusal) → IsJobRefusal (job_named command) a b before now refusal → IsRefusal command a b before now refusal
+job_refusal command a b before now (refusals.BadWords bad) is = is
+job_refusal command a b before now (refusals.JobFault fault) is = is
+job_refusal command a b before now (refusals.Conflict fault) is = absurd is
+job_refusal command a b before now (refusals.SourceFault p fault) is = absurd is
+job_refusal command a b before now refusals.ReadFault is = (job_named command, inl refl, is)
+job_refusal command a b before now refusals.WriteFault is = is
+job_refusal command a b before now refusals.NoMemory is = is
 
 fault_at : (job : List ℕ) (p : Program) (x y : Contents) → IsJobRead job p x y × TakesFrom job x y → fault_behind job x p ≡ first_fault p y
 unfolding fault_behind
 fault_at job p x y first = ap (first_fault p) (emptied_is job p x y first.0 first.1)
 
-pub report_refusal : (job : List ℕ) (p : Program) (a b c : Option Contents) (k l m : List ℕ → ℕ) (refusal : Refusal) → WhereTold a b (IsJobRead job p) → WhereTold a b (TakesFrom job) → ((n : List ℕ) → k n ≤ l n) → IsReportRefusal p b c l m refusal → IsFoldRefusal job a c k m refusal
+pub report_refusal : (job : List ℕ) (p : Program) (a b c : Option Contents) (k l m : List ℕ → ℕ) (refusal : Refusal) → WhereTold a b (IsJobRead job p) → WhereTold a b (TakesFrom job) → ((n : List ℕ) → k n ≤ l n) → IsReportRefusal p b c l m refusal → IsRefusal (Fold job) a c k m refusal
 report_refusal job p a b c k l m (refusals.BadWords bad) read taken rise is = is
 report_refusal job p a b c k l m (refusals.JobFault fault) read taken rise is = absurd is
+report_refusal job p a b c k l m (refusals.Conflict fault) read taken rise is = absurd is
 report_refusal job p a b c k l m (refusals.SourceFault q fault) read taken rise is =
-    subst (λ r. IsFoldRefusal job a c k m (refusals.SourceFault r fault)) (sym is.program)
+    subst (λ r. IsRefusal (Fold job) a c k m (refusals.SourceFault r fault)) (sym is.program)
     record {
+      asked = refl;
+      accepted = λ asked. absurd (false≢true asked);
       source = is.source;
       first = told_then (λ x y. IsJobRead job p x y × TakesFrom job x y) (λ left _. first_fault p left ≡ Some fault) (λ left _. HasJob job left p × (fault_behind job left p ≡ Some fault)) a b c
           (λ x y z first e. (first.0.has, fault_at job p x y first ∙ e)) (told_both (IsJobRead job p) (TakesFrom job) a b read taken) is.first;
     }
 report_refusal job p a b c k l m refusals.ReadFault read taken rise is =
-    (is.0, source_is_read job p is.0 a b read is.1, rose_behind (k is.0) (l is.0) (m is.0) (rise is.0) is.2)
+    (is.0, inr (p, may_have job p a b read, is.1), rose_behind (k is.0) (l is.0) (m is.0) (rise is.0) is.2)
 report_refusal job p a b c k l m refusals.WriteFault read taken rise is = is
 report_refusal job p a b c k l m refusals.NoMemory read taken rise is = tt

@@ -8,7 +8,7 @@ use Rattle.flu_outside.specs.declared.files.TakeFault.{TakeFault}
 use Rattle.flu_outside.specs.declared.files.TakeFault.TheVariants as takes
 use Rattle.flu_top.specs.declared.refusals.Refusal.{Refusal}
 use Rattle.flu_top.specs.declared.refusals.Refusal.TheVariants as refusals
-use Rattle.flu_top.specs.Lines.{bad_words_line, job_fault_line, source_fault_line, read_fault_line, write_fault_line, no_memory_line}
+use Rattle.flu_top.specs.Lines.{bad_words_line, job_fault_line, conflict_line, source_fault_line, read_fault_line, write_fault_line, no_memory_line}
 
 -- the name of the source with a number
 abbrev pub source_name : Program → ℕ → List ℕ
@@ -17,6 +17,7 @@ source_name p number = option_map_or (λ s. s.name) (slice_get p.sources number)
 abbrev pub status_of : Refusal → ℕ
 status_of (refusals.BadWords bad) = 2
 status_of (refusals.JobFault fault) = 3
+status_of (refusals.Conflict fault) = 4
 status_of (refusals.SourceFault p fault) = 6
 status_of refusals.ReadFault = 7
 status_of refusals.WriteFault = 8
@@ -25,6 +26,7 @@ status_of refusals.NoMemory = 9
 abbrev pub line_of : Refusal → List ℕ
 line_of (refusals.BadWords bad) = bad_words_line bad.at
 line_of (refusals.JobFault fault) = job_fault_line fault
+line_of (refusals.Conflict fault) = conflict_line fault
 line_of (refusals.SourceFault p fault) = source_fault_line (source_name p fault.source) fault.row fault.why
 line_of refusals.ReadFault = read_fault_line
 line_of refusals.WriteFault = write_fault_line

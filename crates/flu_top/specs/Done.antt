@@ -1,32 +1,48 @@
--- What a call that folds a job has done, and which names it reads.
-use Rattle.std.specs.Prelude.{◌≡◌, ℕ, List, [], Option, Some, None, Contains, ⊤, ◌⊎◌, Ok}
+-- What a call that does its command has done, and which names it reads.
+use Rattle.std.specs.Prelude.{◌≡◌, ℕ, List, [], Option, Some, None, Contains, ⊤, ◌⊎◌, Ok, IsTrue}
 use Rattle.flu_outside.specs.Outside.{Contents, WhereTold}
 use Rattle.flu_model.specs.declared.jobs.Program.{Program}
+use Rattle.flu_model.specs.Modes.{IsAccepted}
 use Rattle.flu_report.specs.Writing.{AppendsAll, AppendsPart}
-use Rattle.flu_streams.specs.Files.{files_of}
-use Rattle.flu_top.specs.Words.{job_word}
-use Rattle.flu_top.specs.Behind.{HasJob, fault_behind, report_behind}
+use Rattle.flu_top.specs.Words.{Command, command_in}
+use Rattle.flu_top.specs.Behind.{HasJob, fault_behind}
+use Rattle.flu_top.specs.Commands.{job_named, asks_accepted, reads_sources, files_read, written}
 
--- the program is the job's, its sources have no defect, and the job's text and all sources were read to their end
-pub record IsRead (job : List ℕ) (p : Program) (old new : Contents) : Type 0 where
-  pub has : HasJob job old p
-  pub good : fault_behind job old p ≡ None
-  pub job_end : new job ≡ Some []
-  pub source_ends : (name : List ℕ) → Contains (files_of p.sources) name → new name ≡ Some []
+-- the program is the command's job, which is accepted where the command asks for that, and its sources have no defect where
+-- the command reads them
+pub record IsGood (command : Command) (left : Contents) (p : Program) : Type 0 where
+  pub has : HasJob (job_named command) left p
+  pub accepted : IsTrue (asks_accepted command) → IsAccepted p
+  pub sources : IsTrue (reads_sources command) → fault_behind (job_named command) left p ≡ None
 
--- DONE: the job and its sources were read, and the report stands behind what was in out
-abbrev pub IsDone : List ℕ → Option (List ℕ) → Option (List ℕ) → Contents → Contents → Type 0
-IsDone job had has old new = (p : Program) × IsRead job p old new × WhereTold had has (AppendsAll (report_behind job old p))
+-- nothing refuses the command, and its job and all else that it reads were read to their end
+pub record IsRead (command : Command) (p : Program) (old new : Contents) : Type 0 where
+  pub good : IsGood command old p
+  pub job_end : new (job_named command) ≡ Some []
+  pub other_ends : (name : List ℕ) → Contains (files_read command p) name → new name ≡ Some []
 
--- the job and its sources were read, and fewer than all bytes of the report, from its front, stand behind what was in out
-abbrev pub IsPartlyDone : List ℕ → Option (List ℕ) → Option (List ℕ) → Contents → Contents → Type 0
-IsPartlyDone job had has old new = (p : Program) × IsRead job p old new × WhereTold had has (AppendsPart (report_behind job old p))
+-- all was read, and this is what the command writes
+abbrev pub IsWritten : Command → List ℕ → Contents → Contents → Type 0
+IsWritten command text old new = (p : Program) × IsRead command p old new × (text ≡ written command old p)
 
--- a name that `fold` of a job reads: the job's, and where the files tell a job, those of its sources' files
-abbrev pub IsReadName : Option Contents → List ℕ → List ℕ → Type 0
-IsReadName None job name = ⊤
-IsReadName (Some left) job name = (name ≡ job) ⊎ ((p : Program) × HasJob job left p × Contains (files_of p.sources) name)
+-- DONE: all was read, and what the command writes stands behind what was in out
+abbrev pub IsDone : Command → Option (List ℕ) → Option (List ℕ) → Contents → Contents → Type 0
+IsDone command had has old new = (p : Program) × IsRead command p old new × WhereTold had has (AppendsAll (written command old p))
+
+-- all was read, and fewer than all bytes of what the command writes, from its front, stand behind what was in out
+abbrev pub IsPartlyDone : Command → Option (List ℕ) → Option (List ℕ) → Contents → Contents → Type 0
+IsPartlyDone command had has old new = (p : Program) × IsRead command p old new × WhereTold had has (AppendsPart (written command old p))
+
+-- the bytes under the job's name are the text of this program, or the files do not tell them
+abbrev pub MayHaveJob : Option Contents → List ℕ → Program → Type 0
+MayHaveJob None job p = ⊤
+MayHaveJob (Some left) job p = HasJob job left p
+
+-- a name that a command reads: its job's, and those of the other files that it reads for that job
+abbrev pub IsReadName : Option Contents → Command → List ℕ → Type 0
+IsReadName left command name =
+    (name ≡ job_named command) ⊎ ((p : Program) × MayHaveJob left (job_named command) p × Contains (files_read command p) name)
 
 -- a name that a call with some words reads
 abbrev pub IsReadBy : List (List ℕ) → Option Contents → List ℕ → Type 0
-IsReadBy words left name = (job : List ℕ) × (job_word words ≡ Ok job) × IsReadName left job name
+IsReadBy words left name = (command : Command) × (command_in words ≡ Ok command) × IsReadName left command name

@@ -3,9 +3,9 @@ use Rattle.std.specs.Prelude.{◌≡◌, ℕ, List, Option, Result, Ok, Err, ◌
 use Rattle.flu_outside.specs.Outside.{Contents, WhereTold, Rose}
 use Rattle.flu_top.specs.declared.refusals.Refusal.{Refusal}
 use Rattle.flu_top.specs.declared.refusals.Refusal.TheVariants as refusals
-use Rattle.flu_top.specs.Words.{job_word}
+use Rattle.flu_top.specs.Words.{Command, command_in}
 use Rattle.flu_top.specs.Done.{IsDone, IsPartlyDone, IsReadName}
-use Rattle.flu_top.specs.Folding.{HasJobFault, HasSourceFault, HasReadFault}
+use Rattle.flu_top.specs.Refusing.{IsRefusal}
 
 -- what a call finds, and what it leaves: its words, the files with their counts, and out with its count
 pub record Call : Type 0 where
@@ -23,15 +23,20 @@ pub record Call : Type 0 where
 abbrev pub WroteNothing : Call → Type 0
 WroteNothing c = c.taken_after ≡ c.taken
 
--- what is true of a call on a job that was done or refused
-abbrev pub IsEnding : Call → List ℕ → Result (Unit {0}) Refusal → Type 0
-IsEnding c job (Ok u) = WhereTold c.left c.left_after (IsDone job c.taken c.taken_after)
-IsEnding c job (Err (refusals.BadWords bad)) = ⊥
-IsEnding c job (Err (refusals.JobFault fault)) = HasJobFault job c.left c.left_after fault × WroteNothing c
-IsEnding c job (Err (refusals.SourceFault p fault)) = HasSourceFault job c.left c.left_after p fault × WroteNothing c
-IsEnding c job (Err refusals.ReadFault) = HasReadFault job c.left c.counts c.counts_after × WroteNothing c
-IsEnding c job (Err refusals.WriteFault) = Rose c.count c.count_after × WhereTold c.left c.left_after (IsPartlyDone job c.taken c.taken_after)
-IsEnding c job (Err refusals.NoMemory) = WroteNothing c
+-- there was something to write, and out failed
+pub record HasWriteFault (c : Call) (command : Command) : Type 0 where
+  pub rose : Rose c.count c.count_after
+  pub partly : WhereTold c.left c.left_after (IsPartlyDone command c.taken c.taken_after)
+
+-- there was nothing to write
+pub record HasNothing (c : Call) (command : Command) (refusal : Refusal) : Type 0 where
+  pub why : IsRefusal command c.left c.left_after c.counts c.counts_after refusal
+  pub nothing : WroteNothing c
+
+-- what is true of a call of a command that was done or refused
+abbrev pub IsEnding : Call → Command → Result (Unit {0}) Refusal → Type 0
+IsEnding c command (Ok u) = WhereTold c.left c.left_after (IsDone command c.taken c.taken_after)
+IsEnding c command (Err refusal) = HasNothing c command refusal ⊎ ((refusal ≡ refusals.WriteFault) × HasWriteFault c command)
 
 -- a call was refused for its words, before anything was done
 pub record IsRefused (c : Call) (at : ℕ) (ended : Result (Unit {0}) Refusal) : Type 0 where
@@ -39,11 +44,11 @@ pub record IsRefused (c : Call) (at : ℕ) (ended : Result (Unit {0}) Refusal) :
   pub files : c.left_after ≡ c.left
   pub nothing : WroteNothing c
 
--- how a call ended: its words name a job, or are no command
+-- how a call ended: its words are a command, or are none
 pub record Ends (c : Call) (ended : Result (Unit {0}) Refusal) : Type 0 where
-  pub how : ((job : List ℕ) × (job_word c.words ≡ Ok job) × IsEnding c job ended) ⊎ ((at : ℕ) × (job_word c.words ≡ Err at) × IsRefused c at ended)
+  pub how : ((command : Command) × (command_in c.words ≡ Ok command) × IsEnding c command ended) ⊎ ((at : ℕ) × (command_in c.words ≡ Err at) × IsRefused c at ended)
 
--- no name that `fold` of the job reads failed, and out did not
-pub record NothingFailed (job : List ℕ) (left : Option Contents) (before now : List ℕ → ℕ) (count count_after : ℕ) : Type 0 where
-  pub files : (name : List ℕ) → IsReadName left job name → ¬ Rose (before name) (now name)
+-- no name that the command reads failed, and out did not
+pub record NothingFailed (command : Command) (left : Option Contents) (before now : List ℕ → ℕ) (count count_after : ℕ) : Type 0 where
+  pub files : (name : List ℕ) → IsReadName left command name → ¬ Rose (before name) (now name)
   pub out : ¬ Rose count count_after

@@ -1,8 +1,12 @@
 pub mod Words
 pub mod Taking
 pub mod Behind
+pub mod Commands
 pub mod Done
 pub mod Lines
 pub mod Answer
+pub mod Jobs
 pub mod Folding
+pub mod Checking
+pub mod Refusing
 pub mod Ending

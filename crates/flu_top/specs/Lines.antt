@@ -3,10 +3,12 @@ use Rattle.std.specs.Prelude.{ℕ, List, ◌++◌, codes, Option, ◌⊎◌}
 use Rattle.std.specs.Fmt.{decimal}
 use Rattle.flu_outside.specs.Outside.{Rose, WhereTold}
 use Rattle.flu_report.specs.Writing.{AppendsAll, AppendsPart}
+use Rattle.flu_model.specs.Reports.{text_of_tag, text_of_cell}
 use Rattle.flu_model.specs.declared.limits.What.{What}
 use Rattle.flu_model.specs.declared.limits.What.TheVariants as whats
 use Rattle.flu_parse.specs.declared.faults.JobFault.{JobFault}
 use Rattle.flu_parse.specs.declared.faults.JobFault.TheVariants as faults
+use Rattle.flu_check.specs.declared.CheckFault.{CheckFault}
 use Rattle.flu_streams.specs.declared.faults.Why.{Why}
 use Rattle.flu_streams.specs.declared.faults.Why.TheVariants as whys
 
@@ -58,6 +60,11 @@ job_line fault = codes "flumina: job: " ++ fault ++ codes "\n"
 
 abbrev pub job_fault_line : JobFault → List ℕ
 job_fault_line fault = job_line (job_fault_text fault)
+
+-- the line of a conflict: its two tags and its cell
+abbrev pub conflict_line : CheckFault → List ℕ
+conflict_line fault =
+    codes "flumina: conflict: " ++ text_of_tag fault.program fault.a ++ codes " and " ++ text_of_tag fault.program fault.b ++ codes " on " ++ text_of_cell fault.program fault.cell ++ codes "\n"
 
 -- the line of a defect: the source's name, its row, and what that breaks
 abbrev pub row_line : List ℕ → ℕ → List ℕ → List ℕ

@@ -1,6 +1,18 @@
 -- The words of a command.
 use Rattle.std.specs.Prelude.{ℕ, List, [], ◌∷◌, Bool, false, not, ◌==◌, if◌then◌else◌, Result, Ok, Err, codes}
 use Rattle.std.specs.Str.{bytes_eq}
+use Rattle.flu_top.specs.declared.words.Command.{Command as NamedCommand}
+use Rattle.flu_top.specs.declared.words.Command.TheVariants as named
+
+-- what the words ask for, each with the names of its files
+pub data Command : Type 0 where
+  Fold : (job : List ℕ) → Command
+  Check : (job : List ℕ) → Command
+
+-- a command without where its names lie in memory
+abbrev pub plain_command : NamedCommand → Command
+plain_command (named.Fold job) = Fold job.now
+plain_command (named.Check job) = Check job.now
 
 -- a word that can name a file: it is not empty and does not begin with a dash
 abbrev pub is_file_name : List ℕ → Bool
@@ -11,12 +23,22 @@ abbrev pub no_word_after : List ℕ → List (List ℕ) → Result (List ℕ) �
 no_word_after job [] = Ok job
 no_word_after job (w ∷ ws) = Err 2
 
-abbrev pub after_fold : List (List ℕ) → Result (List ℕ) ℕ
-after_fold [] = Err 1
-after_fold (w ∷ ws) = if is_file_name w then no_word_after w ws else Err 1
+-- the job's name in the words behind a command that has no others
+abbrev pub job_alone : List (List ℕ) → Result (List ℕ) ℕ
+job_alone [] = Err 1
+job_alone (w ∷ ws) = if is_file_name w then no_word_after w ws else Err 1
 
--- the job's name in the words `fold JOB`, or the number from 0 of the first word that does not fit, which is the number
--- of words where one is missing
-abbrev pub job_word : List (List ℕ) → Result (List ℕ) ℕ
-job_word [] = Err 0
-job_word (w ∷ ws) = if bytes_eq w (codes "fold") then after_fold ws else Err 0
+abbrev pub on_job : (List ℕ → Command) → Result (List ℕ) ℕ → Result Command ℕ
+on_job command (Ok job) = Ok (command job)
+on_job command (Err at) = Err at
+
+abbrev pub command_of : List ℕ → List (List ℕ) → Result Command ℕ
+command_of w ws =
+    if bytes_eq w (codes "fold") then on_job Fold (job_alone ws)
+    else if bytes_eq w (codes "check") then on_job Check (job_alone ws) else Err 0
+
+-- the command that words are, or the number from 0 of the first word that does not fit, which is the number of words where
+-- one is missing
+abbrev pub command_in : List (List ℕ) → Result Command ℕ
+command_in [] = Err 0
+command_in (w ∷ ws) = command_of w ws

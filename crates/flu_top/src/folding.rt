@@ -1,55 +1,41 @@
 //! `fold JOB`: the report of the sequential fold of a job's events.
 
-ghost use Rattle.std.specs.Prelude.{◌≡◌, ◌≤◌, List, ℕ, length, IfOk, IfErr};
+ghost use Rattle.std.specs.Prelude.{◌≡◌, length, IfOk, IfErr};
 ghost use Rattle.flu_outside.specs.Outside.{WhereTold};
 ghost use Rattle.flu_model.specs.Contents.{nothing_held};
 ghost use Rattle.flu_model.specs.Folding.{final_outputs};
 ghost use Rattle.flu_model.specs.Itags.{count_of_itags};
 ghost use Rattle.flu_model.specs.Listed.{listed};
 ghost use Rattle.flu_model.specs.Reports.{report};
-ghost use Rattle.flu_rows.specs.Taking.{TakesFrom, TookFronts};
+ghost use Rattle.flu_rows.specs.Taking.{TookFronts};
 ghost use Rattle.flu_streams.specs.Files.{files_of, LeavesOthers};
+ghost use Rattle.flu_top.specs.Words.{Fold};
 ghost use Rattle.flu_top.specs.Taking.{TookOnly};
-ghost use Rattle.flu_top.specs.Done.{IsReadName};
-ghost use Rattle.flu_top.specs.Folding.{IsJobRead, IsJobRefusal, IsReported, IsReportRefusal, IsFolded, IsFoldRefusal};
+ghost use Rattle.flu_top.specs.Done.{IsReadName, IsWritten};
+ghost use Rattle.flu_top.specs.Folding.{IsReported, IsReportRefusal};
+ghost use Rattle.flu_top.specs.Refusing.{IsRefusal};
 
-use crate::input::read_all;
+use crate::programs::program_of;
 use crate::refusals::Refusal;
 use flu_cells::State;
 use flu_model::{Program, Streams, Text};
 use flu_outside::Files;
-use flu_parse::read_job;
 use flu_report::report_text;
 use flu_seq::fold;
 use flu_streams::{GatherFault, gather};
 use std::alloc::{AllocError, Global};
 
-// The most bytes that a job text has.
-const MOST_BYTES: usize = 1_048_576;
-
 /// The report of the job that a file holds.
 pub fn fold_job<F: Files>(alloc: Global, files: &mut F, job: &str) -> Result<Text, Refusal>
-    ensures folded { IfOk result (λ report. WhereTold (F.left files.old) (F.left files.new) (IsFolded job.now report)) }
-    ensures refused { IfErr result (IsFoldRefusal job.now (F.left files.old) (F.left files.new) (F.faults files.old) (F.faults files.new)) }
+    ensures written { IfOk result (λ text. WhereTold (F.left files.old) (F.left files.new) (IsWritten (Fold job.now) text)) }
+    ensures refused { IfErr result (IsRefusal (Fold job.now) (F.left files.old) (F.left files.new) (F.faults files.old) (F.faults files.new)) }
     ensures fronts { WhereTold (F.left files.old) (F.left files.new) TookFronts }
-    ensures only { WhereTold (F.left files.old) (F.left files.new) (TookOnly (IsReadName (F.left files.old) job.now)) }
+    ensures only { WhereTold (F.left files.old) (F.left files.new) (TookOnly (IsReadName (F.left files.old) (Fold job.now))) }
 {
     match program_of(alloc, files, job) {
         Ok(program) => report_of(alloc, files, program),
         Err(refusal) => Err(refusal),
     }
-}
-
-// The job that a file holds.
-fn program_of<F: Files>(alloc: Global, files: &mut F, job: &str) -> Result<Program, Refusal>
-    ensures read { IfOk result (λ program. WhereTold (F.left files.old) (F.left files.new) (IsJobRead job.now program)) }
-    ensures refused { IfErr result (IsJobRefusal job.now (F.left files.old) (F.left files.new) (F.faults files.old) (F.faults files.new)) }
-    ensures taken { WhereTold (F.left files.old) (F.left files.new) (TakesFrom job.now) }
-    ensures counts { (n : List ℕ) → F.faults files.old n ≤ F.faults files.new n }
-{
-    let bytes = read_all(alloc, files, job, MOST_BYTES)?;
-    let program = read_job(alloc, &bytes)?;
-    Ok(program)
 }
 
 // The report of a job over its sources' files.

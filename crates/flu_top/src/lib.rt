@@ -1,10 +1,14 @@
 //! The top call: what the program does with its words, its files and its streams.
 #![tactic(auto)]
 
+mod checking;
+mod commands;
 mod folding;
 mod input;
 mod lines;
+mod names;
 mod pieces;
+mod programs;
 mod refusals;
 #[cfg(test)]
 mod tests;

@@ -4,14 +4,16 @@ ghost use Rattle.std.specs.Prelude.{◌≡◌, ◌++◌, OnOk, OnErr};
 ghost use Rattle.std.specs.Fmt.{decimal};
 ghost use Rattle.flu_outside.specs.Outside.{Rose, WhereTold};
 ghost use Rattle.flu_report.specs.Writing.{AppendsAll, AppendsPart};
-ghost use Rattle.flu_top.specs.Lines.{what_word, bad_words_line, job_line, job_fault_line, row_line, source_fault_line, IsSaid};
+ghost use Rattle.flu_top.specs.Lines.{what_word, bad_words_line, job_line, job_fault_line, conflict_line, row_line, source_fault_line, IsSaid};
 ghost use Rattle.flu_parse.specs.declared.faults.JobFault.{JobFault};
 ghost use Rattle.flu_streams.specs.declared.faults.Why.{Why};
 ghost use Rattle.flu_top.specs.Answer.{source_name, line_of};
 
-use crate::pieces::write_pieces;
+use crate::names::{write_cell, write_tag};
+use crate::pieces::{digits_of, write_pieces};
 use crate::refusals::Refusal;
 use crate::words::BadWords;
+use flu_check::CheckFault;
 use flu_model::{Program, What};
 use flu_outside::{Failed, Sink};
 use flu_parse::JobFault;
@@ -38,6 +40,7 @@ fn write_line<E: Sink>(err: &mut E, refusal: &Refusal) -> Result<(), Failed>
     match refusal {
         Refusal::BadWords(bad) => write_bad_words(err, *bad),
         Refusal::JobFault(fault) => write_job_fault(err, fault),
+        Refusal::Conflict(fault) => write_conflict(err, fault),
         Refusal::SourceFault(program, fault) => {
             write_source_fault(
                 err,
@@ -60,13 +63,6 @@ fn source_name(program: &Program, number: u32) -> &str
         Some(source) => source.name.as_str(),
         None => "",
     }
-}
-
-// The digits of a number, which stand in a buffer.
-fn digits_of(buffer: &mut Buffer, n: u64) -> &[u8]
-    ensures { result.now ≡ decimal n }
-{
-    buffer.format(n).as_bytes()
 }
 
 // Writes the line of words that are no command.
@@ -144,6 +140,19 @@ fn what_word(what: What) -> &'static [u8]
         What::Predicates => b"predicates",
         What::Depth => b"depth",
     }
+}
+
+// Writes the line of two independent tags that conflict.
+fn write_conflict<E: Sink>(err: &mut E, fault: &CheckFault) -> Result<(), Failed>
+    ensures all { OnOk result (WhereTold (E.taken err.old) (E.taken err.new) (AppendsAll (conflict_line fault.now))) }
+    ensures part { OnErr result (WhereTold (E.taken err.old) (E.taken err.new) (AppendsPart (conflict_line fault.now))) }
+    ensures failed { OnErr result (Rose (E.faults err.old) (E.faults err.new)) }
+{
+    let program = &fault.program;
+    write_all(err, b"flumina: conflict: ")?;
+    write_tag(err, program, fault.a, b" and ")?;
+    write_tag(err, program, fault.b, b" on ")?;
+    write_cell(err, program, fault.cell, b"\n")
 }
 
 // Writes the line of a row that is a defect of its source.

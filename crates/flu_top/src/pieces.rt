@@ -1,12 +1,14 @@
 //! Bytes that are written piece by piece, so that a line with values takes no memory.
 
-ghost use Rattle.std.specs.Prelude.{map, OnOk, OnErr};
+ghost use Rattle.std.specs.Prelude.{◌≡◌, ◌≤◌, map, OnOk, OnErr};
+ghost use Rattle.std.specs.Fmt.{decimal};
 ghost use Rattle.std.specs.List.{concat};
 ghost use Rattle.flu_outside.specs.Outside.{Rose, WhereTold};
 ghost use Rattle.flu_report.specs.Writing.{AppendsAll, AppendsPart};
 
 use flu_outside::{Failed, Sink};
 use flu_report::write_all;
+use itoa::Buffer;
 
 /// Writes all of some pieces, one after another.
 ///
@@ -15,10 +17,18 @@ pub fn write_pieces<K: Sink>(out: &mut K, pieces: &[&[u8]]) -> Result<(), Failed
     ensures all { OnOk result (WhereTold (K.taken out.old) (K.taken out.new) (AppendsAll (concat (map (λ p. p.now) pieces.now)))) }
     ensures part { OnErr result (WhereTold (K.taken out.old) (K.taken out.new) (AppendsPart (concat (map (λ p. p.now) pieces.now)))) }
     ensures failed { OnErr result (Rose (K.faults out.old) (K.faults out.new)) }
+    ensures counts { K.faults out.old ≤ K.faults out.new }
 {
     let [first, others @ ..] = pieces else {
         return Ok(());
     };
     write_all(out, first)?;
     write_pieces(out, others)
+}
+
+/// The digits of a number, which stand in a buffer.
+pub fn digits_of(buffer: &mut Buffer, n: u64) -> &[u8]
+    ensures { result.now ≡ decimal n }
+{
+    buffer.format(n).as_bytes()
 }

@@ -4,6 +4,7 @@ ghost use Rattle.std.specs.Prelude.{◌≡◌};
 ghost use Rattle.flu_top.specs.Answer.{status_of};
 
 use crate::words::BadWords;
+use flu_check::CheckFault;
 use flu_model::Program;
 use flu_outside::TakeFault;
 use flu_parse::JobFault;
@@ -17,6 +18,8 @@ pub enum Refusal {
     BadWords(BadWords),
     /// The bytes under the job's name are no job text.
     JobFault(JobFault),
+    /// The job is not accepted.
+    Conflict(CheckFault),
     /// A source of this job has a defect.
     SourceFault(Program, SourceFault),
     /// A file that the command reads failed.
@@ -34,6 +37,7 @@ pub fn status(refusal: &Refusal) -> u8
     match refusal {
         Refusal::BadWords(_) => 2,
         Refusal::JobFault(_) => 3,
+        Refusal::Conflict(_) => 4,
         Refusal::SourceFault(_, _) => 6,
         Refusal::ReadFault => 7,
         Refusal::WriteFault => 8,

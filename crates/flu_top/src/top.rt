@@ -1,22 +1,26 @@
 //! The top call.
 
-ghost use Rattle.std.specs.Prelude.{◌≡◌, ◌≢◌, ◌↔◌, ◌⊎◌, ℕ, List, [], ◌∷◌, Contains, IfErr, OnOk, Some, None, Ok, Err, map, string_bytes};
+ghost use Rattle.std.specs.Prelude.{◌≡◌, ◌≢◌, ◌↔◌, ◌⊎◌, ℕ, List, [], ◌∷◌, Contains, IfErr, OnOk, IsTrue, Some, Ok, Err, map, string_bytes};
 ghost use Rattle.flu_outside.specs.Outside.{Contents, WhereTold, Rose};
 ghost use Rattle.flu_model.specs.declared.jobs.Program.{Program};
+ghost use Rattle.flu_model.specs.Modes.{IsAccepted};
 ghost use Rattle.flu_rows.specs.Taking.{bytes_left, TookFronts};
 ghost use Rattle.flu_parse.specs.declared.faults.JobFault.{JobFault};
 ghost use Rattle.flu_parse.specs.Reading.{job_in};
+ghost use Rattle.flu_check.specs.declared.CheckFault.{CheckFault};
 ghost use Rattle.flu_streams.specs.declared.faults.SourceFault.{SourceFault};
-ghost use Rattle.flu_top.specs.Words.{job_word};
+ghost use Rattle.flu_top.specs.Words.{Command, command_in};
 ghost use Rattle.flu_top.specs.Taking.{TookOnly};
 ghost use Rattle.flu_top.specs.Behind.{HasJob, fault_behind};
-ghost use Rattle.flu_top.specs.Done.{IsDone, IsPartlyDone, IsReadBy};
-ghost use Rattle.flu_top.specs.Folding.{HasJobFault, HasSourceFault};
-ghost use Rattle.flu_top.specs.Lines.{bad_words_line, job_fault_line, source_fault_line, read_fault_line, write_fault_line, no_memory_line, IsSaid};
+ghost use Rattle.flu_top.specs.Commands.{job_named, asks_accepted, reads_sources};
+ghost use Rattle.flu_top.specs.Done.{IsGood, IsDone, IsPartlyDone, IsReadBy};
+ghost use Rattle.flu_top.specs.Jobs.{HasJobFault};
+ghost use Rattle.flu_top.specs.Refusing.{HasConflict, HasSourceFault};
+ghost use Rattle.flu_top.specs.Lines.{bad_words_line, job_fault_line, conflict_line, source_fault_line, read_fault_line, write_fault_line, no_memory_line, IsSaid};
 ghost use Rattle.flu_top.specs.Answer.{source_name, status_after, line_of};
 ghost use Rattle.flu_top.specs.Ending.{Ends, NothingFailed};
 
-use crate::folding::fold_job;
+use crate::commands::text_of;
 use crate::lines::say;
 use crate::refusals::{Refusal, status};
 use crate::words::read_words;
@@ -28,9 +32,10 @@ use std::alloc::Global;
 /// Does what the words after the program's name say, and answers the status.
 ///
 /// `fold JOB` reads the job in the file of that name and then its sources, folds their events in order and writes the report
-/// to `out`: status 0. Else the status is 2 for words that are no command, 3 for a job text with a fault, 6 for a source with
-/// a defect, 7 where a file that was read failed, 8 where `out` failed, and 9 where there was no memory. The line of that
-/// answer goes to `err`, and a failure of `err` changes no status. `docs/LANGUAGE.md` has the forms and the lines.
+/// to `out`. `check JOB` reads the job alone, which has to be accepted, and writes it in normal form. The status is 0 where all
+/// was written. Else it is 2 for words that are no command, 3 for a job text with a fault, 4 for a job that is not accepted, 6
+/// for a source with a defect, 7 where a file that was read failed, 8 where `out` failed, and 9 where there was no memory. The
+/// line of that answer goes to `err`, and a failure of `err` changes no status. `docs/LANGUAGE.md` has the forms and the lines.
 pub fn flumina<F: Files, K: Sink, E: Sink, G: Gate>(
     alloc: Global,
     words: &[String],
@@ -39,37 +44,42 @@ pub fn flumina<F: Files, K: Sink, E: Sink, G: Gate>(
     err: &mut E,
     gate: &G,
 ) -> u8
-    ensures statuses { Contains (0 ∷ 2 ∷ 3 ∷ 6 ∷ 7 ∷ 8 ∷ 9 ∷ []) result }
+    ensures statuses { Contains (0 ∷ 2 ∷ 3 ∷ 4 ∷ 6 ∷ 7 ∷ 8 ∷ 9 ∷ []) result }
 
-    // Status 0: the job and its sources were read to their end, the report of the fold stands in out, and err is untouched.
-    ensures done { result ≡ 0 → (job : List ℕ) × (job_word (map string_bytes words.now) ≡ Ok job)
-        × WhereTold (F.left files.old) (F.left files.new) (IsDone job (K.taken out.old) (K.taken out.new)) }
+    // Status 0: all that the command reads was read to its end, what it writes stands in out, and err is untouched.
+    ensures done { result ≡ 0 → (command : Command) × (command_in (map string_bytes words.now) ≡ Ok command)
+        × WhereTold (F.left files.old) (F.left files.new) (IsDone command (K.taken out.old) (K.taken out.new)) }
     ensures quiet { result ≡ 0 → E.taken err.new ≡ E.taken err.old }
 
     // Status 2 comes exactly where the words are no command, and then no file is read.
-    ensures bad_words { (result ≡ 2) ↔ ((at : ℕ) × (job_word (map string_bytes words.now) ≡ Err at)) }
-    ensures bad_words_line { (at : ℕ) → job_word (map string_bytes words.now) ≡ Err at
+    ensures bad_words { (result ≡ 2) ↔ ((at : ℕ) × (command_in (map string_bytes words.now) ≡ Err at)) }
+    ensures bad_words_line { (at : ℕ) → command_in (map string_bytes words.now) ≡ Err at
         → IsSaid (bad_words_line at) (E.taken err.old) (E.taken err.new) (E.faults err.old) (E.faults err.new) }
     ensures untouched { result ≡ 2 → F.left files.new ≡ F.left files.old }
 
     // Status 3 comes only where the bytes under the job's name have a fault, with the line of the first one.
-    ensures job_fault { result ≡ 3 → (job : List ℕ) × (fault : JobFault) × (job_word (map string_bytes words.now) ≡ Ok job)
-        × HasJobFault job (F.left files.old) (F.left files.new) fault
+    ensures job_fault { result ≡ 3 → (command : Command) × (fault : JobFault) × (command_in (map string_bytes words.now) ≡ Ok command)
+        × HasJobFault (job_named command) (F.left files.old) (F.left files.new) fault
         × IsSaid (job_fault_line fault) (E.taken err.old) (E.taken err.new) (E.faults err.old) (E.faults err.new) }
 
-    // Status 6 comes only where a source of the job has a defect, with the line of the first one.
-    ensures source_fault { result ≡ 6 → (job : List ℕ) × (p : Program) × (fault : SourceFault) × (job_word (map string_bytes words.now) ≡ Ok job)
-        × HasSourceFault job (F.left files.old) (F.left files.new) p fault
+    // Status 4 comes only where the command asks for an accepted job and the job is none, with the line of its first conflict.
+    ensures conflict { result ≡ 4 → (command : Command) × (fault : CheckFault) × (command_in (map string_bytes words.now) ≡ Ok command)
+        × HasConflict command (F.left files.old) (F.left files.new) fault
+        × IsSaid (conflict_line fault) (E.taken err.old) (E.taken err.new) (E.faults err.old) (E.faults err.new) }
+
+    // Status 6 comes only where the command reads sources and one of the job's has a defect, with the line of the first one.
+    ensures source_fault { result ≡ 6 → (command : Command) × (p : Program) × (fault : SourceFault) × (command_in (map string_bytes words.now) ≡ Ok command)
+        × HasSourceFault command (F.left files.old) (F.left files.new) p fault
         × IsSaid (source_fault_line (source_name p fault.source) fault.row fault.why) (E.taken err.old) (E.taken err.new) (E.faults err.old) (E.faults err.new) }
 
     // Status 7 comes only where the count of a name that the call reads rose.
     ensures read_fault { result ≡ 7 → (name : List ℕ) × IsReadBy (map string_bytes words.now) (F.left files.old) name × Rose (F.faults files.old name) (F.faults files.new name) }
     ensures read_fault_line { result ≡ 7 → IsSaid read_fault_line (E.taken err.old) (E.taken err.new) (E.faults err.old) (E.faults err.new) }
 
-    // Status 8 comes only where out's count rose; then out has a front of the report.
+    // Status 8 comes only where out's count rose; then out has a front of what the command writes.
     ensures write_fault { result ≡ 8 → Rose (K.faults out.old) (K.faults out.new) }
-    ensures partial { result ≡ 8 → (job : List ℕ) × (job_word (map string_bytes words.now) ≡ Ok job)
-        × WhereTold (F.left files.old) (F.left files.new) (IsPartlyDone job (K.taken out.old) (K.taken out.new)) }
+    ensures partial { result ≡ 8 → (command : Command) × (command_in (map string_bytes words.now) ≡ Ok command)
+        × WhereTold (F.left files.old) (F.left files.new) (IsPartlyDone command (K.taken out.old) (K.taken out.new)) }
     ensures write_fault_line { result ≡ 8 → IsSaid write_fault_line (E.taken err.old) (E.taken err.new) (E.faults err.old) (E.faults err.new) }
 
     ensures no_memory_line { result ≡ 9 → IsSaid no_memory_line (E.taken err.old) (E.taken err.new) (E.faults err.old) (E.faults err.new) }
@@ -81,16 +91,20 @@ pub fn flumina<F: Files, K: Sink, E: Sink, G: Gate>(
     ensures fronts { WhereTold (F.left files.old) (F.left files.new) TookFronts }
     ensures only { WhereTold (F.left files.old) (F.left files.new) (TookOnly (IsReadBy (map string_bytes words.now) (F.left files.old))) }
 
-    // Where no count rose, the status is the one that the job's text and its sources call for, or 9.
-    ensures folds { (job : List ℕ) (left : Contents) (p : Program) → job_word (map string_bytes words.now) ≡ Ok job → F.left files.old ≡ Some left
-        → NothingFailed job (F.left files.old) (F.faults files.old) (F.faults files.new) (K.faults out.old) (K.faults out.new)
-        → HasJob job left p → fault_behind job left p ≡ None → (result ≡ 0) ⊎ (result ≡ 9) }
-    ensures refuses_job { (job : List ℕ) (left : Contents) (fault : JobFault) → job_word (map string_bytes words.now) ≡ Ok job → F.left files.old ≡ Some left
-        → NothingFailed job (F.left files.old) (F.faults files.old) (F.faults files.new) (K.faults out.old) (K.faults out.new)
-        → job_in (bytes_left left job) ≡ Err fault → (result ≡ 3) ⊎ (result ≡ 9) }
-    ensures refuses_source { (job : List ℕ) (left : Contents) (p : Program) (fault : SourceFault) → job_word (map string_bytes words.now) ≡ Ok job → F.left files.old ≡ Some left
-        → NothingFailed job (F.left files.old) (F.faults files.old) (F.faults files.new) (K.faults out.old) (K.faults out.new)
-        → HasJob job left p → fault_behind job left p ≡ Some fault → (result ≡ 6) ⊎ (result ≡ 9) }
+    // Where no count rose, the status is the one that the command, its job's text and its sources call for, or 9.
+    ensures completes { (command : Command) (left : Contents) (p : Program) → command_in (map string_bytes words.now) ≡ Ok command → F.left files.old ≡ Some left
+        → NothingFailed command (F.left files.old) (F.faults files.old) (F.faults files.new) (K.faults out.old) (K.faults out.new)
+        → IsGood command left p → (result ≡ 0) ⊎ (result ≡ 9) }
+    ensures refuses_job { (command : Command) (left : Contents) (fault : JobFault) → command_in (map string_bytes words.now) ≡ Ok command → F.left files.old ≡ Some left
+        → NothingFailed command (F.left files.old) (F.faults files.old) (F.faults files.new) (K.faults out.old) (K.faults out.new)
+        → job_in (bytes_left left (job_named command)) ≡ Err fault → (result ≡ 3) ⊎ (result ≡ 9) }
+    ensures refuses_conflict { (command : Command) (left : Contents) (p : Program) → command_in (map string_bytes words.now) ≡ Ok command → F.left files.old ≡ Some left
+        → NothingFailed command (F.left files.old) (F.faults files.old) (F.faults files.new) (K.faults out.old) (K.faults out.new)
+        → IsTrue (asks_accepted command) → HasJob (job_named command) left p → ¬ IsAccepted p → (result ≡ 4) ⊎ (result ≡ 9) }
+    ensures refuses_source { (command : Command) (left : Contents) (p : Program) (fault : SourceFault) → command_in (map string_bytes words.now) ≡ Ok command → F.left files.old ≡ Some left
+        → NothingFailed command (F.left files.old) (F.faults files.old) (F.faults files.new) (K.faults out.old) (K.faults out.new)
+        → IsTrue (reads_sources command) → HasJob (job_named command) left p → (IsTrue (asks_accepted command) → IsAccepted p)
+        → fault_behind (job_named command) left p ≡ Some fault → (result ≡ 6) ⊎ (result ≡ 9) }
 {
     let _ = gate;
     let ended = do_words(alloc, words, files, out);
@@ -108,15 +122,15 @@ fn do_words<F: Files, K: Sink>(
     ensures fronts { WhereTold (F.left files.old) (F.left files.new) TookFronts }
     ensures only { WhereTold (F.left files.old) (F.left files.new) (TookOnly (IsReadBy (map string_bytes words.now) (F.left files.old))) }
 {
-    let job = match read_words(words) {
-        Ok(job) => job,
+    let command = match read_words(words) {
+        Ok(command) => command,
         Err(bad) => return Err(Refusal::BadWords(bad)),
     };
-    let report = match fold_job(alloc, files, job) {
-        Ok(report) => report,
+    let text = match text_of(alloc, files, command) {
+        Ok(text) => text,
         Err(refusal) => return Err(refusal),
     };
-    match write_all(out, report.as_str().as_bytes()) {
+    match write_all(out, text.as_str().as_bytes()) {
         Ok(()) => Ok(()),
         Err(_) => Err(Refusal::WriteFault),
     }

@@ -1,7 +1,7 @@
 //! The words of a command.
 
 ghost use Rattle.std.specs.Prelude.{◌≡◌, MatchResult, Ok, Err, map, string_bytes};
-ghost use Rattle.flu_top.specs.Words.{job_word, is_file_name};
+ghost use Rattle.flu_top.specs.Words.{command_in, plain_command, job_alone, is_file_name};
 
 /// The words are no command: the place from 0 of the first word that does not fit, or the number of words where one is missing.
 #[derive(Clone, Copy, Debug, PartialEq, Eq)]
@@ -9,18 +9,41 @@ pub struct BadWords {
     pub at: usize,
 }
 
-/// The job's name in the words `fold JOB`.
-pub fn read_words(words: &[String]) -> Result<&str, BadWords>
+/// What the words ask for, with the names of its files.
+#[derive(Clone, Copy)]
+pub enum Command<'a> {
+    /// `fold JOB`: the report of the sequential fold.
+    Fold { job: &'a str },
+    /// `check JOB`: the job in normal form, where it is accepted.
+    Check { job: &'a str },
+}
+
+/// The command that words are.
+pub fn read_words(words: &[String]) -> Result<Command<'_>, BadWords>
     ensures { MatchResult result
-        (λ job. job_word (map string_bytes words.now) ≡ Ok job.now)
-        (λ bad. job_word (map string_bytes words.now) ≡ Err bad.at) }
+        (λ command. command_in (map string_bytes words.now) ≡ Ok (plain_command command))
+        (λ bad. command_in (map string_bytes words.now) ≡ Err bad.at) }
 {
     let [command, operands @ ..] = words else {
         return Err(BadWords { at: 0 });
     };
-    if command.as_str() != "fold" {
-        return Err(BadWords { at: 0 });
+    match command.as_str() {
+        "fold" => Ok(Command::Fold {
+            job: job_alone(operands)?,
+        }),
+        "check" => Ok(Command::Check {
+            job: job_alone(operands)?,
+        }),
+        _ => Err(BadWords { at: 0 }),
     }
+}
+
+// The job's name in the words behind a command that has no others.
+fn job_alone(operands: &[String]) -> Result<&str, BadWords>
+    ensures { MatchResult result
+        (λ job. job_alone (map string_bytes operands.now) ≡ Ok job.now)
+        (λ bad. job_alone (map string_bytes operands.now) ≡ Err bad.at) }
+{
     let [job, others @ ..] = operands else {
         return Err(BadWords { at: 1 });
     };

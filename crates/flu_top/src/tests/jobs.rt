@@ -40,7 +40,7 @@ source c \"c.csv\" rate 1: read
 source d \"d.csv\": read
 ";
 
-/// The same with reads that do not depend on each other, which `fold` does not mind.
+/// The same with reads that do not depend on each other, which `fold` does not mind and `check` refuses.
 pub const READS_APART: &str = "cell count sum
 tag inc int
 tag read none
@@ -50,6 +50,26 @@ on read: emit \"count {count}\"; clear count
 source a \"a.csv\" rate 1000: inc
 source b \"b.csv\" rate 1000: inc
 source c \"c.csv\" rate 1: read
+";
+
+/// The same with reads that do not depend on what is added.
+pub const ADDS_APART: &str = "cell count sum
+tag inc int
+tag read none
+depends read read
+on inc: add count value
+on read: emit \"count {count}\"; clear count
+source a \"a.csv\" rate 1000: inc
+source b \"b.csv\" rate 1000: inc
+source c \"c.csv\" rate 1: read
+";
+
+/// Values of keys that do not depend on each other, nor on themselves.
+pub const KEYS_APART: &str = "cell count sum
+cell zip keyed last
+tag update keyed int
+on update: add count value; set zip[key] value
+source app \"app.csv\": update[3..9]
 ";
 
 /// One source adds and reads.
@@ -93,6 +113,15 @@ cell seen last
 tag t int
 depends t t
 on t: raise hi value when value > 2; set seen value; emit \"hi {hi} seen {seen}\"
+source s \"s.csv\" rate 1: t
+";
+
+/// The same in normal form.
+pub const HIGHEST_PRINTED: &str = "cell hi max
+cell seen last
+tag t int
+depends t t
+on t: raise hi value when (value > 2); set seen value; emit \"hi {hi} seen {seen}\"
 source s \"s.csv\" rate 1: t
 ";
 

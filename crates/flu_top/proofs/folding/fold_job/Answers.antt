@@ -1,10 +1,11 @@
 use Rattle.std.proofs.lemmas.Result.{IfOk-weaker, IfErr-weaker}
 use Rattle.flu_rows.proofs.Told.{fronts_at, fronts_then}
+use Rattle.flu_top.specs.Words.{Fold}
 use Rattle.flu_top.proofs.Sequence.{is_folded, job_refusal, report_refusal, only_job, only_both}
 use Rattle.flu_top.proofs.folding.fold_job.Goals as goal
 
-pub returns-in-Ok-clause-folded : goal.returns-in-Ok-clause-folded
-returns-in-Ok-clause-folded g c =
+pub returns-in-Ok-clause-written : goal.returns-in-Ok-clause-written
+returns-in-Ok-clause-written g c =
     let job = c.args.job.now in
     let p = c.in-Ok.program in
     IfOk-weaker c.report_of.result _ _ (λ report reported. is_folded job p report _ _ _ c.in-Ok.ensures.read c.in-Ok.ensures.taken c.report_of.ensures.others reported) c.report_of.ensures.reported
@@ -24,10 +25,10 @@ pub returns-in-Ok-clause-only : goal.returns-in-Ok-clause-only
 returns-in-Ok-clause-only g c = only_both c.args.job.now c.in-Ok.program _ _ _ c.in-Ok.ensures.read c.in-Ok.ensures.taken c.report_of.ensures.others
 
 pub returns-in-Err-clause-refused : goal.returns-in-Err-clause-refused
-returns-in-Err-clause-refused g c = job_refusal c.args.job.now _ _ _ _ c.in-Err.refusal c.in-Err.ensures.refused
+returns-in-Err-clause-refused g c = job_refusal (Fold c.args.job.now) _ _ _ _ c.in-Err.refusal c.in-Err.ensures.refused
 
 pub returns-in-Err-clause-fronts : goal.returns-in-Err-clause-fronts
 returns-in-Err-clause-fronts g c = fronts_at c.args.job.now _ _ c.in-Err.ensures.taken
 
 pub returns-in-Err-clause-only : goal.returns-in-Err-clause-only
-returns-in-Err-clause-only g c = only_job c.args.job.now _ _ c.in-Err.ensures.taken
+returns-in-Err-clause-only g c = only_job (Fold c.args.job.now) _ _ c.in-Err.ensures.taken

@@ -2,12 +2,13 @@ use Rattle.std.proofs.Common.{sym, ◌∙◌, subst, ◌≡◌, ◌⊎◌, [], �
 use Rattle.std.specs.Prelude.{Contains}
 use Rattle.flu_top.specs.Lines.{IsSaid}
 use Rattle.flu_top.specs.declared.refusals.Refusal.TheVariants as refusals
-use Rattle.flu_top.proofs.Endings.{known_status, done_at, bad_words_at, bad_words_said, untouched_at, job_fault_at, source_fault_at, read_fault_at, write_fault_at, nothing_at, quiet_at, said_of, read_fault_said, write_fault_said, no_memory_said, folds_at, refuses_job_at, refuses_source_at}
+use Rattle.flu_top.proofs.Endings.{known_status, done_at, bad_words_at, bad_words_said, untouched_at, job_fault_at, conflict_at, source_fault_at, read_fault_at, write_fault_at, nothing_at, quiet_at, said_of, read_fault_said, write_fault_said, no_memory_said}
+use Rattle.flu_top.proofs.Completeness.{completes_at, refuses_job_at, refuses_conflict_at, refuses_source_at}
 use Rattle.flu_top.proofs.top.flumina.Goals as goal
 
 pub returns-clause-statuses : goal.returns-clause-statuses
 returns-clause-statuses g c =
-    subst (Contains (0 ∷ 2 ∷ 3 ∷ 6 ∷ 7 ∷ 8 ∷ 9 ∷ [])) (sym c.answer.ensures.status) (known_status c.do_words-ended.result)
+    subst (Contains (0 ∷ 2 ∷ 3 ∷ 4 ∷ 6 ∷ 7 ∷ 8 ∷ 9 ∷ [])) (sym c.answer.ensures.status) (known_status c.do_words-ended.result)
 
 pub returns-clause-done : goal.returns-clause-done
 returns-clause-done g c =
@@ -36,6 +37,12 @@ returns-clause-job_fault g c =
     let found = job_fault_at _ c.do_words-ended.result c.do_words-ended.ensures.ends (sym c.answer.ensures.status ∙ is) in
     (found.0, found.1, found.2, found.3, said_of (λ line. IsSaid line (g.E.Sink.taken c.args.err.now) (g.E.Sink.taken c.answer.new.err) (g.E.Sink.faults c.args.err.now) (g.E.Sink.faults c.answer.new.err)) c.do_words-ended.result (refusals.JobFault found.1) c.answer.ensures.said found.4)
 
+pub returns-clause-conflict : goal.returns-clause-conflict
+returns-clause-conflict g c =
+    λ is.
+    let found = conflict_at _ c.do_words-ended.result c.do_words-ended.ensures.ends (sym c.answer.ensures.status ∙ is) in
+    (found.0, found.1, found.2, found.3, said_of (λ line. IsSaid line (g.E.Sink.taken c.args.err.now) (g.E.Sink.taken c.answer.new.err) (g.E.Sink.faults c.args.err.now) (g.E.Sink.faults c.answer.new.err)) c.do_words-ended.result (refusals.Conflict found.1) c.answer.ensures.said found.4)
+
 pub returns-clause-source_fault : goal.returns-clause-source_fault
 returns-clause-source_fault g c =
     λ is.
@@ -52,11 +59,11 @@ returns-clause-read_fault_line g c =
 
 pub returns-clause-write_fault : goal.returns-clause-write_fault
 returns-clause-write_fault g c =
-    λ is. (write_fault_at _ c.do_words-ended.result c.do_words-ended.ensures.ends (sym c.answer.ensures.status ∙ is)).2
+    λ is. (write_fault_at _ c.do_words-ended.result c.do_words-ended.ensures.ends (sym c.answer.ensures.status ∙ is)).2.rose
 
 pub returns-clause-partial : goal.returns-clause-partial
 returns-clause-partial g c =
-    λ is. let found = write_fault_at _ c.do_words-ended.result c.do_words-ended.ensures.ends (sym c.answer.ensures.status ∙ is) in (found.0, found.1, found.3)
+    λ is. let found = write_fault_at _ c.do_words-ended.result c.do_words-ended.ensures.ends (sym c.answer.ensures.status ∙ is) in (found.0, found.1, found.2.partly)
 
 pub returns-clause-write_fault_line : goal.returns-clause-write_fault_line
 returns-clause-write_fault_line g c =
@@ -70,14 +77,18 @@ pub returns-clause-nothing : goal.returns-clause-nothing
 returns-clause-nothing g c =
     λ some other. nothing_at _ c.do_words-ended.result c.do_words-ended.ensures.ends (λ e. some (c.answer.ensures.status ∙ e)) (λ e. other (c.answer.ensures.status ∙ e))
 
-pub returns-clause-folds : goal.returns-clause-folds
-returns-clause-folds g c = λ job left p word told nothing has good.
-    subst (λ status. (status ≡ 0) ⊎ (status ≡ 9)) (sym c.answer.ensures.status) (folds_at _ c.do_words-ended.result job left p c.do_words-ended.ensures.ends word told nothing has good)
+pub returns-clause-completes : goal.returns-clause-completes
+returns-clause-completes g c = λ command left p word told nothing good.
+    subst (λ status. (status ≡ 0) ⊎ (status ≡ 9)) (sym c.answer.ensures.status) (completes_at _ c.do_words-ended.result command left p c.do_words-ended.ensures.ends word told nothing good)
 
 pub returns-clause-refuses_job : goal.returns-clause-refuses_job
-returns-clause-refuses_job g c = λ job left fault word told nothing bad.
-    subst (λ status. (status ≡ 3) ⊎ (status ≡ 9)) (sym c.answer.ensures.status) (refuses_job_at _ c.do_words-ended.result job left fault c.do_words-ended.ensures.ends word told nothing bad)
+returns-clause-refuses_job g c = λ command left fault word told nothing bad.
+    subst (λ status. (status ≡ 3) ⊎ (status ≡ 9)) (sym c.answer.ensures.status) (refuses_job_at _ c.do_words-ended.result command left fault c.do_words-ended.ensures.ends word told nothing bad)
+
+pub returns-clause-refuses_conflict : goal.returns-clause-refuses_conflict
+returns-clause-refuses_conflict g c = λ command left p word told nothing asked has refused.
+    subst (λ status. (status ≡ 4) ⊎ (status ≡ 9)) (sym c.answer.ensures.status) (refuses_conflict_at _ c.do_words-ended.result command left p c.do_words-ended.ensures.ends word told nothing asked has refused)
 
 pub returns-clause-refuses_source : goal.returns-clause-refuses_source
-returns-clause-refuses_source g c = λ job left p fault word told nothing has bad.
-    subst (λ status. (status ≡ 6) ⊎ (status ≡ 9)) (sym c.answer.ensures.status) (refuses_source_at _ c.do_words-ended.result job left p fault c.do_words-ended.ensures.ends word told nothing has bad)
+returns-clause-refuses_source g c = λ command left p fault word told nothing reads has accepted bad.
+    subst (λ status. (status ≡ 6) ⊎ (status ≡ 9)) (sym c.answer.ensures.status) (refuses_source_at _ c.do_words-ended.result command left p fault c.do_words-ended.ensures.ends word told nothing reads has accepted bad)

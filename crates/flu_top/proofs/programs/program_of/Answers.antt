@@ -3,9 +3,9 @@ use Rattle.std.proofs.lemmas.Result.{err_from_is_err_and}
 use Rattle.flu_parse.specs.Faults.{Fails}
 use Rattle.flu_parse.specs.Reading.{job_in}
 use Rattle.flu_top.specs.Answer.{refusal_of_job}
-use Rattle.flu_top.specs.Folding.{IsJobRefusal}
+use Rattle.flu_top.specs.Jobs.{IsJobRefusal}
 use Rattle.flu_top.proofs.Jobs.{job_is_read, job_is_refused, if_err_at}
-use Rattle.flu_top.proofs.folding.program_of.Goals as goal
+use Rattle.flu_top.proofs.programs.program_of.Goals as goal
 
 pub returns-in_err-program-clause-refused : goal.returns-in_err-program-clause-refused
 returns-in_err-program-clause-refused g c =

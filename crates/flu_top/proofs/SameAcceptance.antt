@@ -1,0 +1,142 @@
+-- Programs that are the same job are accepted alike.
+use Rattle.std.proofs.Common.{◌≡◌, refl, sym, ap, ◌∙◌, subst, ℕ, List, Bool, false, ◌||◌, ◌==◌, map, Option, Some, None}
+use Rattle.std.specs.Prelude.{option_map, slice_get}
+use Rattle.std.specs.List.{list_any, Contains}
+use Rattle.std.proofs.Math.Path.{fun_ext}
+use Rattle.std.proofs.lemmas.Option.{slice_get-map}
+use Rattle.flu_lemmas.proofs.Searches.{list_any-map}
+use Rattle.flu_model.specs.declared.events.Cell.{Cell}
+use Rattle.flu_model.specs.declared.events.Tag.{Tag}
+use Rattle.flu_model.specs.declared.jobs.Act.{Act}
+use Rattle.flu_model.specs.declared.jobs.Act.TheVariants.{Add, Raise, Set, Clear, Emit, Flush}
+use Rattle.flu_model.specs.declared.jobs.Action.{Action}
+use Rattle.flu_model.specs.declared.jobs.Depend.{Depend}
+use Rattle.flu_model.specs.declared.jobs.Expr.{Expr}
+use Rattle.flu_model.specs.declared.jobs.Expr.TheVariants.{Lit, Value, Key, Time, Read, Has, Neg', Not', Two'}
+use Rattle.flu_model.specs.declared.jobs.Kind.{Kind}
+use Rattle.flu_model.specs.declared.jobs.Program.{Program}
+use Rattle.flu_model.specs.declared.jobs.Source.{Source}
+use Rattle.flu_model.specs.declared.modes.Mode.{Mode}
+use Rattle.flu_model.specs.declared.modes.Mode.TheVariants.{None as NoMode}
+use Rattle.flu_model.specs.Erasure.{Term, Literal, EventValue, EventKey, EventTime, CellRead, CellHeld, Negative, Negation, Operation, term_of, Deed, Adding, Raising, Setting, Clearing, Emitting, Flushing, deed_of, PlainAction, plain_action, PlainKind, plain_kind, IsSameJob}
+use Rattle.flu_model.specs.Itags.{ties_tags}
+use Rattle.flu_model.specs.Listing.{itags_of_sources}
+use Rattle.flu_model.specs.Modes.{means, expr_reads, guard_reads, piece_reads, act_owns, action_owns, act_adds, act_raises, mode_from, mode_among, mode_of, modes_conflict, IsInUniverse, IsAccepted}
+use Rattle.flu_model.specs.Updates.{actions_of}
+
+-- ---- the mode of a tag depends on its kind as plain data
+term_reads : ℕ → Cell → Term → Bool
+term_reads key c (Literal n) = false
+term_reads key c EventValue = false
+term_reads key c EventKey = false
+term_reads key c EventTime = false
+term_reads key c (CellRead r) = means key c r
+term_reads key c (CellHeld r) = means key c r
+term_reads key c (Negative e) = term_reads key c e
+term_reads key c (Negation e) = term_reads key c e
+term_reads key c (Operation op a b) = term_reads key c a || term_reads key c b
+
+reads-term : (key : ℕ) (c : Cell) (e : Expr) → expr_reads key c e ≡ term_reads key c (term_of e)
+unfolding term_reads
+reads-term key c (Lit n) = refl
+reads-term key c Value = refl
+reads-term key c Key = refl
+reads-term key c Time = refl
+reads-term key c (Read r) = refl
+reads-term key c (Has r) = refl
+reads-term key c (Neg' p e) = reads-term key c e
+reads-term key c (Not' p e) = reads-term key c e
+reads-term key c (Two' op p a q b) = λ i. reads-term key c a i || reads-term key c b i
+
+guard_term_reads : ℕ → Cell → Option Term → Bool
+guard_term_reads key c None = false
+guard_term_reads key c (Some e) = term_reads key c e
+
+reads-guard : (key : ℕ) (c : Cell) (guard : Option Expr) → guard_reads key c guard ≡ guard_term_reads key c (option_map term_of guard)
+unfolding guard_term_reads
+reads-guard key c None = refl
+reads-guard key c (Some e) = reads-term key c e
+
+deed_owns : ℕ → Cell → Deed → Bool
+deed_owns key c (Adding r e) = term_reads key c e
+deed_owns key c (Raising r e) = term_reads key c e
+deed_owns key c (Setting r e) = means key c r || term_reads key c e
+deed_owns key c (Clearing r) = means key c r
+deed_owns key c (Emitting ps) = list_any (piece_reads key c) ps
+deed_owns key c (Flushing f ps) = (c.family == f) || list_any (piece_reads key c) ps
+
+owns-deed : (key : ℕ) (c : Cell) (act : Act) → act_owns key c act ≡ deed_owns key c (deed_of act)
+unfolding deed_owns
+owns-deed key c (Add r e) = reads-term key c e
+owns-deed key c (Raise r e) = reads-term key c e
+owns-deed key c (Set r e) = ap (λ b. means key c r || b) (reads-term key c e)
+owns-deed key c (Clear r) = refl
+owns-deed key c (Emit ps) = refl
+owns-deed key c (Flush f ps) = refl
+
+deed_adds : ℕ → Cell → Deed → Bool
+deed_adds key c (Adding r e) = means key c r
+deed_adds key c deed = false
+
+adds-deed : (key : ℕ) (c : Cell) (act : Act) → act_adds key c act ≡ deed_adds key c (deed_of act)
+unfolding deed_adds
+adds-deed key c (Add r e) = refl
+adds-deed key c (Raise r e) = refl
+adds-deed key c (Set r e) = refl
+adds-deed key c (Clear r) = refl
+adds-deed key c (Emit ps) = refl
+adds-deed key c (Flush f ps) = refl
+
+deed_raises : ℕ → Cell → Deed → Bool
+deed_raises key c (Raising r e) = means key c r
+deed_raises key c deed = false
+
+raises-deed : (key : ℕ) (c : Cell) (act : Act) → act_raises key c act ≡ deed_raises key c (deed_of act)
+unfolding deed_raises
+raises-deed key c (Add r e) = refl
+raises-deed key c (Raise r e) = refl
+raises-deed key c (Set r e) = refl
+raises-deed key c (Clear r) = refl
+raises-deed key c (Emit ps) = refl
+raises-deed key c (Flush f ps) = refl
+
+plain_owns : ℕ → Cell → PlainAction → Bool
+plain_owns key c a = guard_term_reads key c a.guard || deed_owns key c a.deed
+
+owns-plain : (key : ℕ) (c : Cell) (a : Action) → action_owns key c a ≡ plain_owns key c (plain_action a)
+unfolding plain_owns
+owns-plain key c a = λ i. reads-guard key c a.guard i || owns-deed key c a.act i
+
+-- a test of the actions is one of the plain actions
+any-plain : (test : Action → Bool) (plain : PlainAction → Bool) → ((a : Action) → test a ≡ plain (plain_action a)) → (all : List Action) → list_any test all ≡ list_any plain (map plain_action all)
+any-plain test plain same all = ap (λ f. list_any f all) (fun_ext same) ∙ sym (list_any-map plain plain_action all)
+
+plain_mode : ℕ → Cell → Option PlainKind → Mode
+plain_mode key c None = NoMode
+plain_mode key c (Some k) =
+    mode_from (list_any (plain_owns key c) k.actions) (list_any (λ (a : PlainAction). deed_adds key c a.deed) k.actions) (list_any (λ (a : PlainAction). deed_raises key c a.deed) k.actions)
+
+mode-plain : (key : ℕ) (c : Cell) (kind : Option Kind) → mode_among (actions_of kind) key c ≡ plain_mode key c (option_map plain_kind kind)
+unfolding plain_mode
+mode-plain key c None = refl
+mode-plain key c (Some k) =
+    let owns = any-plain (action_owns key c) (plain_owns key c) (owns-plain key c) k.actions in
+    let adds = any-plain (λ a. act_adds key c a.act) (λ a. deed_adds key c a.deed) (λ a. adds-deed key c a.act) k.actions in
+    let raises = any-plain (λ a. act_raises key c a.act) (λ a. deed_raises key c a.deed) (λ a. raises-deed key c a.act) k.actions in
+    λ i. mode_from (owns i) (adds i) (raises i)
+
+mode_by_plain : (kinds : List Kind) (t : Tag) (c : Cell) → mode_among (actions_of (slice_get kinds t.kind)) t.key c ≡ plain_mode t.key c (slice_get (map plain_kind kinds) t.kind)
+mode_by_plain kinds t c = mode-plain t.key c (slice_get kinds t.kind) ∙ ap (plain_mode t.key c) (sym (slice_get-map plain_kind kinds t.kind))
+
+same_mode : (p q : Program) (t : Tag) (c : Cell) → IsSameJob p q → mode_of p t c ≡ mode_of q t c
+same_mode p q t c same =
+    mode_by_plain p.kinds t c ∙ (ap (λ j. plain_mode t.key c (slice_get j.kinds t.kind)) same ∙ sym (mode_by_plain q.kinds t c))
+
+-- ---- so does acceptance
+same_universe : (p q : Program) (t : Tag) → IsSameJob p q → IsInUniverse q t → IsInUniverse p t
+same_universe p q t same = subst (λ (ss : List Source). (n : ℕ) × Contains (itags_of_sources 0 ss) (t, n)) (ap (λ j. j.sources) (sym same))
+
+pub same_accepted : (p q : Program) → IsSameJob p q → IsAccepted p → IsAccepted q
+same_accepted p q same accepted a b c in_a in_b conflict =
+    ap (λ (ds : List Depend). list_any (ties_tags a b) ds) (ap (λ j. j.depends) (sym same))
+    ∙ accepted a b c (same_universe p q a same in_a) (same_universe p q b same in_b) ((λ i. modes_conflict (same_mode p q a c same i) (same_mode p q b c same i)) ∙ conflict)

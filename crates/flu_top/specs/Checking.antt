@@ -1,0 +1,30 @@
+-- What the check of a job gives, and what refuses it.
+use Rattle.std.specs.Prelude.{◌≡◌, ℕ, List, ⊤}
+use Rattle.flu_model.specs.declared.jobs.Program.{Program}
+use Rattle.flu_model.specs.Erasure.{job_of}
+use Rattle.flu_model.specs.Modes.{IsAccepted}
+use Rattle.flu_parse.specs.Printing.{normal_form}
+use Rattle.flu_check.specs.declared.CheckFault.{CheckFault}
+use Rattle.flu_check.specs.Faults.{IsFirstFault}
+use Rattle.flu_top.specs.declared.refusals.Refusal.{Refusal}
+use Rattle.flu_top.specs.declared.refusals.Refusal.TheVariants as refusals
+
+-- the fault's job is not accepted, and the fault is its first conflict of independent tags
+pub record IsConflict (fault : CheckFault) : Type 0 where
+  pub refused : ¬ IsAccepted fault.program
+  pub first : IsFirstFault fault.program fault.a fault.b fault.cell
+
+-- the program is accepted, and this is its job's normal form
+pub record IsChecked (p : Program) (text : List ℕ) : Type 0 where
+  pub accepted : IsAccepted p
+  pub is : text ≡ normal_form (job_of p)
+
+-- why there is no normal form of a program
+abbrev pub IsCheckRefusal : Program → Refusal → Type 0
+IsCheckRefusal p (refusals.BadWords bad) = ⊥
+IsCheckRefusal p (refusals.JobFault fault) = ⊥
+IsCheckRefusal p (refusals.Conflict fault) = (fault.program ≡ p) × IsConflict fault
+IsCheckRefusal p (refusals.SourceFault q fault) = ⊥
+IsCheckRefusal p refusals.ReadFault = ⊥
+IsCheckRefusal p refusals.WriteFault = ⊥
+IsCheckRefusal p refusals.NoMemory = ⊤

@@ -1,0 +1,44 @@
+//! `check JOB`: the normal form of a job that is accepted.
+
+ghost use Rattle.std.specs.Prelude.{IfOk, IfErr};
+ghost use Rattle.flu_outside.specs.Outside.{WhereTold};
+ghost use Rattle.flu_rows.specs.Taking.{TookFronts};
+ghost use Rattle.flu_top.specs.Words.{Check};
+ghost use Rattle.flu_top.specs.Taking.{TookOnly};
+ghost use Rattle.flu_top.specs.Done.{IsReadName, IsWritten};
+ghost use Rattle.flu_top.specs.Checking.{IsChecked, IsCheckRefusal};
+ghost use Rattle.flu_top.specs.Refusing.{IsRefusal};
+
+use crate::programs::program_of;
+use crate::refusals::Refusal;
+use flu_check::check;
+use flu_model::{Program, Text};
+use flu_outside::Files;
+use flu_parse::print_job;
+use std::alloc::Global;
+
+/// The normal form of the job that a file holds.
+pub fn check_job<F: Files>(alloc: Global, files: &mut F, job: &str) -> Result<Text, Refusal>
+    ensures written { IfOk result (λ text. WhereTold (F.left files.old) (F.left files.new) (IsWritten (Check job.now) text)) }
+    ensures refused { IfErr result (IsRefusal (Check job.now) (F.left files.old) (F.left files.new) (F.faults files.old) (F.faults files.new)) }
+    ensures fronts { WhereTold (F.left files.old) (F.left files.new) TookFronts }
+    ensures only { WhereTold (F.left files.old) (F.left files.new) (TookOnly (IsReadName (F.left files.old) (Check job.now))) }
+{
+    match program_of(alloc, files, job) {
+        Ok(program) => normal_form_of(alloc, program),
+        Err(refusal) => Err(refusal),
+    }
+}
+
+// The normal form of a job that is accepted.
+fn normal_form_of(alloc: Global, program: Program) -> Result<Text, Refusal>
+    ensures checked { IfOk result (IsChecked program) }
+    ensures refused { IfErr result (IsCheckRefusal program) }
+{
+    let checked = match check(program) {
+        Ok(checked) => checked,
+        Err(fault) => return Err(Refusal::Conflict(fault)),
+    };
+    let text = print_job(alloc, checked.program())?;
+    Ok(text)
+}

@@ -1,0 +1,30 @@
+//! What each command writes.
+
+ghost use Rattle.std.specs.Prelude.{IfOk, IfErr};
+ghost use Rattle.flu_outside.specs.Outside.{WhereTold};
+ghost use Rattle.flu_rows.specs.Taking.{TookFronts};
+ghost use Rattle.flu_top.specs.Words.{plain_command};
+ghost use Rattle.flu_top.specs.Taking.{TookOnly};
+ghost use Rattle.flu_top.specs.Done.{IsReadName, IsWritten};
+ghost use Rattle.flu_top.specs.Refusing.{IsRefusal};
+
+use crate::checking::check_job;
+use crate::folding::fold_job;
+use crate::refusals::Refusal;
+use crate::words::Command;
+use flu_model::Text;
+use flu_outside::Files;
+use std::alloc::Global;
+
+/// What a command writes, or why there is nothing to write.
+pub fn text_of<F: Files>(alloc: Global, files: &mut F, command: Command) -> Result<Text, Refusal>
+    ensures written { IfOk result (λ text. WhereTold (F.left files.old) (F.left files.new) (IsWritten (plain_command command.entry) text)) }
+    ensures refused { IfErr result (IsRefusal (plain_command command.entry) (F.left files.old) (F.left files.new) (F.faults files.old) (F.faults files.new)) }
+    ensures fronts { WhereTold (F.left files.old) (F.left files.new) TookFronts }
+    ensures only { WhereTold (F.left files.old) (F.left files.new) (TookOnly (IsReadName (F.left files.old) (plain_command command.entry))) }
+{
+    match command {
+        Command::Fold { job } => fold_job(alloc, files, job),
+        Command::Check { job } => check_job(alloc, files, job),
+    }
+}

@@ -1,0 +1,70 @@
+//! Names of tags and cells in a line, written without memory.
+
+ghost use Rattle.std.specs.Prelude.{◌≤◌, ◌++◌, OnOk, OnErr};
+ghost use Rattle.flu_outside.specs.Outside.{Rose, WhereTold};
+ghost use Rattle.flu_report.specs.Writing.{AppendsAll, AppendsPart};
+ghost use Rattle.flu_model.specs.Reports.{name_with_key, text_of_tag, text_of_cell};
+
+use crate::pieces::{digits_of, write_pieces};
+use flu_model::{Cell, Program, Tag};
+use flu_outside::{Failed, Sink};
+use flu_report::write_all;
+use itoa::Buffer;
+
+/// Writes a tag and what stands behind it: `kind`, or `kind[key]` where the kind is keyed.
+pub fn write_tag<E: Sink>(
+    err: &mut E,
+    program: &Program,
+    tag: Tag,
+    behind: &[u8],
+) -> Result<(), Failed>
+    ensures all { OnOk result (WhereTold (E.taken err.old) (E.taken err.new) (AppendsAll (text_of_tag program.now tag ++ behind.now))) }
+    ensures part { OnErr result (WhereTold (E.taken err.old) (E.taken err.new) (AppendsPart (text_of_tag program.now tag ++ behind.now))) }
+    ensures failed { OnErr result (Rose (E.faults err.old) (E.faults err.new)) }
+    ensures counts { E.faults err.old ≤ E.faults err.new }
+{
+    match program.kinds.items().get(tag.kind as usize) {
+        Some(kind) => write_name(err, kind.name.as_str(), kind.keyed, tag.key, behind),
+        None => write_all(err, behind),
+    }
+}
+
+/// Writes a cell and what stands behind it: `family`, or `family[key]` where the family is keyed.
+pub fn write_cell<E: Sink>(
+    err: &mut E,
+    program: &Program,
+    cell: Cell,
+    behind: &[u8],
+) -> Result<(), Failed>
+    ensures all { OnOk result (WhereTold (E.taken err.old) (E.taken err.new) (AppendsAll (text_of_cell program.now cell ++ behind.now))) }
+    ensures part { OnErr result (WhereTold (E.taken err.old) (E.taken err.new) (AppendsPart (text_of_cell program.now cell ++ behind.now))) }
+    ensures failed { OnErr result (Rose (E.faults err.old) (E.faults err.new)) }
+    ensures counts { E.faults err.old ≤ E.faults err.new }
+{
+    match program.families.items().get(cell.family as usize) {
+        Some(family) => write_name(err, family.name.as_str(), family.keyed, cell.key, behind),
+        None => write_all(err, behind),
+    }
+}
+
+// Writes a name, with its key in brackets where it has one, and what stands behind it.
+fn write_name<E: Sink>(
+    err: &mut E,
+    name: &str,
+    keyed: bool,
+    key: u32,
+    behind: &[u8],
+) -> Result<(), Failed>
+    ensures all { OnOk result (WhereTold (E.taken err.old) (E.taken err.new) (AppendsAll (name_with_key name.now keyed key ++ behind.now))) }
+    ensures part { OnErr result (WhereTold (E.taken err.old) (E.taken err.new) (AppendsPart (name_with_key name.now keyed key ++ behind.now))) }
+    ensures failed { OnErr result (Rose (E.faults err.old) (E.faults err.new)) }
+    ensures counts { E.faults err.old ≤ E.faults err.new }
+{
+    let bytes = name.as_bytes();
+    if !keyed {
+        return write_pieces(err, &[bytes, behind]);
+    }
+    let mut buffer = Buffer::new();
+    let digits = digits_of(&mut buffer, key as u64);
+    write_pieces(err, &[bytes, b"[", digits, b"]", behind])
+}

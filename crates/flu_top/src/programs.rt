@@ -1,0 +1,28 @@
+//! The job that a file holds.
+
+ghost use Rattle.std.specs.Prelude.{◌≤◌, List, ℕ, IfOk, IfErr};
+ghost use Rattle.flu_outside.specs.Outside.{WhereTold};
+ghost use Rattle.flu_rows.specs.Taking.{TakesFrom};
+ghost use Rattle.flu_top.specs.Jobs.{IsJobRead, IsJobRefusal};
+
+use crate::input::read_all;
+use crate::refusals::Refusal;
+use flu_model::Program;
+use flu_outside::Files;
+use flu_parse::read_job;
+use std::alloc::Global;
+
+// The most bytes that a job text has.
+const MOST_BYTES: usize = 1_048_576;
+
+/// The job that a file holds.
+pub fn program_of<F: Files>(alloc: Global, files: &mut F, job: &str) -> Result<Program, Refusal>
+    ensures read { IfOk result (λ program. WhereTold (F.left files.old) (F.left files.new) (IsJobRead job.now program)) }
+    ensures refused { IfErr result (IsJobRefusal job.now (F.left files.old) (F.left files.new) (F.faults files.old) (F.faults files.new)) }
+    ensures taken { WhereTold (F.left files.old) (F.left files.new) (TakesFrom job.now) }
+    ensures counts { (n : List ℕ) → F.faults files.old n ≤ F.faults files.new n }
+{
+    let bytes = read_all(alloc, files, job, MOST_BYTES)?;
+    let program = read_job(alloc, &bytes)?;
+    Ok(program)
+}
