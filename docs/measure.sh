@@ -91,3 +91,22 @@ gawk 'BEGIN {
 }' > long.job
 echo end > s.csv
 measure "a job text of $(stat -c %s long.job) bytes: flumina fold" "$program" fold long.job
+
+# ---- a job of 256 itags
+cat > wide.job <<'JOB'
+cell views keyed sum
+cell zip keyed last
+tag view keyed int
+tag update keyed int
+tag tick none
+depends update update same
+depends view tick
+depends tick tick
+on view: add views[key] value
+on update: emit "was {zip[key]}"; set zip[key] value
+on tick: flush views "page {key} views {cell}"
+source web "web.csv" rate 1000: view[0..99]
+source app "app.csv" rate 500: view[0..99], update[0..54]
+source clock "clock.csv" rate 1: tick
+JOB
+measure 'a job of 256 itags: flumina check' "$program" check wide.job
