@@ -273,7 +273,7 @@ keys_words keys.Alone behind rest = rest
 keys_words (keys.One k) behind rest = mark m.OpenBracket [] ∷ number (pos k) [] ∷ mark m.CloseBracket behind ∷ rest
 keys_words (keys.Range low high) behind rest = mark m.OpenBracket [] ∷ number (pos low) [] ∷ mark m.Dots [] ∷ number (pos high) [] ∷ mark m.CloseBracket behind ∷ rest
 
-keys_layout : (ks : Keys) (behind : List ℕ) (rest : List Laid) → behind_kind ks behind ++ layout (keys_words ks behind rest) ≡ keys_text ks ++ (behind ++ layout rest)
+pub keys_layout : (ks : Keys) (behind : List ℕ) (rest : List Laid) → behind_kind ks behind ++ layout (keys_words ks behind rest) ≡ keys_text ks ++ (behind ++ layout rest)
 keys_layout keys.Alone behind rest = refl
 keys_layout (keys.One k) behind rest = simp append_assoc
 keys_layout (keys.Range low high) behind rest = simp append_assoc

@@ -13,3 +13,8 @@ pub mod KeptLemmas
 pub mod Spelled
 pub mod History
 pub mod Exact
+pub mod PlanWords
+pub mod PlanRead
+pub mod PlanBack
+pub mod PrintedPlan
+pub mod HasText

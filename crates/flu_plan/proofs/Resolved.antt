@@ -73,7 +73,7 @@ unfoldable pub KidsBelow : ℕ → Option (ℕ × ℕ) → Type 0
 KidsBelow n None = Unit {0}
 KidsBelow n (Some kids) = (kids.0 < n) × (kids.1 < n)
 
-known_ok : (at : ℕ) (o : Option ℕ) (v : ℕ) → known at o ≡ Ok v → o ≡ Some v
+pub known_ok : (at : ℕ) (o : Option ℕ) (v : ℕ) → known at o ≡ Ok v → o ≡ Some v
 known_ok at None v e = absurd (cc)
 known_ok at (Some n) v e = ap (λ (x : ℕ). Some x) (ok_same n v e)
 
@@ -89,7 +89,7 @@ kids_below text names (Some spans) kids e =
     let same : Some (left.0, right.0) ≡ kids = ok_same (Some (left.0, right.0)) kids right.2 in
     subst (λ (k : Option (ℕ × ℕ)). KidsBelow (length names) k) same (kid_below text names spans.0 left.0 left.1, kid_below text names spans.1 right.0 right.1)
 
-node_known : (p : Program) (text : List ℕ) (names : List (List ℕ)) (w : WrittenNode) (node : DraftNode) → node_of p text names w ≡ Ok node → (node.name ≡ w.name) × KidsBelow (length names) node.kids
+pub node_known : (p : Program) (text : List ℕ) (names : List (List ℕ)) (w : WrittenNode) (node : DraftNode) → node_of p text names w ≡ Ok node → (node.name ≡ w.name) × KidsBelow (length names) node.kids
 unfolding node_of
 node_known p text names w node e =
     let preds = bind_ok (found_of_each (pred_of p text) w.preds) (λ q. kids_of text names w.kids >>= λ k. Ok (record { name = w.name; preds = q; kids = k })) node e in

@@ -21,7 +21,7 @@ ids order = map (λ (x : Visit). x.node) order
 
 -- ---- a walk through a tree
 
-walk-zero : (nodes : List DraftNode) (wanted : List Visit) → walk nodes 0 wanted ≡ []
+pub walk-zero : (nodes : List DraftNode) (wanted : List Visit) → walk nodes 0 wanted ≡ []
 unfolding walk
 walk-zero nodes wanted = refl
 
@@ -30,7 +30,7 @@ unfolding walk
 walk-none nodes zero = refl
 walk-none nodes (suc m) = refl
 
-walk-one : (nodes : List DraftNode) (m : ℕ) (x : Visit) (wanted : List Visit) → walk nodes (suc m) (x ∷ wanted) ≡ x ∷ walk nodes m (with_visits x.depth (kids_at nodes x.node) wanted)
+pub walk-one : (nodes : List DraftNode) (m : ℕ) (x : Visit) (wanted : List Visit) → walk nodes (suc m) (x ∷ wanted) ≡ x ∷ walk nodes m (with_visits x.depth (kids_at nodes x.node) wanted)
 unfolding walk
 walk-one nodes m x wanted = refl
 

@@ -8,3 +8,4 @@ pub mod Reading
 pub mod Kept
 pub mod Printing
 pub mod Grammar
+pub mod Laws

@@ -1,6 +1,9 @@
 //! Laws of plan texts, each the contract of a function that does nothing.
 
 ghost use Rattle.flu_plan.specs.Grammar.{FoundIsPlan, PlansAreUnique, UnexpectedIsFirst};
+ghost use Rattle.flu_plan.specs.Laws.{PlansKeepRules, PlansHaveText, PrintedIsRead};
+
+use flu_text::laws::{layout_is_read, reading_is_exact, tokens_stand};
 
 /// What is found is exactly what the tokens are by the grammar, word by word and place by place; and that is one plan at most.
 pub fn found_is_plan()
@@ -13,3 +16,24 @@ pub fn found_is_plan()
 pub fn unexpected_is_first()
     ensures { UnexpectedIsFirst }
 {}
+
+/// The plan that a text is keeps the rules of plans.
+pub fn plans_keep_rules()
+    ensures { PlansKeepRules }
+{}
+
+/// The nodes of the plan that a text is have names of the language, and their predicates name kinds and sources of the job.
+pub fn plans_have_text()
+    ensures { PlansHaveText }
+{
+    reading_is_exact();
+    tokens_stand();
+}
+
+/// The text of a plan is read as that plan, where its nodes have names of the language and its predicates name kinds and sources
+/// of the job, and where it has at most 1,048,576 bytes.
+pub fn printed_is_read()
+    ensures { PrintedIsRead }
+{
+    layout_is_read();
+}

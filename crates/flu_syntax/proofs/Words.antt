@@ -24,7 +24,7 @@ one_further : {X : Type 0} (x y : X) (xs : List X) → Contains xs y → Contain
 one_further x y xs here = (suc here.0, omega arith, here.2)
 
 -- each sign stands for a token
-signs_stand : (signs : List Sign) (tokens : List Token) → AreSigns signs tokens → AllByRecursion (Stands tokens) signs
+pub signs_stand : (signs : List Sign) (tokens : List Token) → AreSigns signs tokens → AllByRecursion (Stands tokens) signs
 signs_stand [] tokens are = tt
 signs_stand (s ∷ signs) [] are = absurd are
 signs_stand (s ∷ signs) (t ∷ tokens) are = (

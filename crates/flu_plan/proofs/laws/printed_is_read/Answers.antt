@@ -1,0 +1,5 @@
+use Rattle.flu_plan.proofs.PrintedPlan.{printed_is_read}
+use Rattle.flu_plan.proofs.laws.printed_is_read.Goals as goal
+
+pub returns : goal.returns
+returns c = printed_is_read c.layout_is_read.ensures.tokens
