@@ -1,5 +1,5 @@
 -- Programs that are the same job have the same plans of a text, and the same valid plans.
-use Rattle.std.proofs.Common.{◌≡◌, refl, sym, ap, ◌∙◌, subst, ℕ, ◌<◌, List, length, Bool, true, false, ◌&&◌, ◌==◌, map, Option, Some, None, Ok}
+use Rattle.std.proofs.Common.{◌≡◌, refl, sym, ap, ◌∙◌, subst, ℕ, ◌<◌, List, length, Bool, false, ◌&&◌, ◌==◌, map, Option, Some, None, Ok}
 use Rattle.std.specs.Prelude.{option_map, slice_get, slice_index_or, position, nat_le, count_by}
 use Rattle.std.specs.List.{list_any}
 use Rattle.std.proofs.Math.Path.{fun_ext}
@@ -25,7 +25,7 @@ use Rattle.flu_streams.proofs.Places.{position-map}
 use Rattle.flu_plan.specs.declared.fault.PlanFault.TheVariants as f
 use Rattle.flu_plan.specs.declared.written.WrittenPred.{WrittenPred}
 use Rattle.flu_plan.specs.declared.written.WrittenNode.{WrittenNode}
-use Rattle.flu_plan.specs.Faults.{Found, ◌>>=◌, ◌>>◌, unless, found_of_each}
+use Rattle.flu_plan.specs.Faults.{◌>>=◌, ◌>>◌, unless, found_of_each}
 use Rattle.flu_plan.specs.Machine.{written_in}
 use Rattle.flu_plan.specs.Resolving.{kind_named, source_named, known, kind_of, source_of, pred_of, kids_of, node_of, names_of}
 use Rattle.flu_plan.specs.Reading.{text_in, tokens_in, tree_in, resolved, plan_in}

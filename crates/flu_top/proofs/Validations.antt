@@ -20,7 +20,7 @@ use Rattle.flu_top.specs.Words.{Valid}
 use Rattle.flu_top.specs.Taking.{TookOnly}
 use Rattle.flu_top.specs.Behind.{HasJob, plan_behind}
 use Rattle.flu_top.specs.Commands.{found_printed}
-use Rattle.flu_top.specs.Done.{HasValidPlan, IsReadName, IsWritten}
+use Rattle.flu_top.specs.Done.{IsReadName, IsWritten}
 use Rattle.flu_top.specs.Jobs.{IsJobRead}
 use Rattle.flu_top.specs.Plans.{IsPlanRead, IsTextRefusal, IsValidated, IsValidRefusal}
 use Rattle.flu_top.specs.Refusing.{HasInvalidPlan, IsRefusal}

@@ -1,5 +1,5 @@
 -- The lines of plans are written name by name.
-use Rattle.std.proofs.Common.{◌≡◌, refl, sym, ap, ◌∙◌, ℕ, List, [], ◌++◌, Bool, true, nat_lt, Option, Result, subst, append-nil, append_assoc}
+use Rattle.std.proofs.Common.{◌≡◌, refl, sym, ap, ◌∙◌, ℕ, List, [], ◌++◌, true, nat_lt, Option, Result, subst, append-nil, append_assoc}
 use Rattle.std.specs.Prelude.{OnOk, OnErr, codes}
 use Rattle.std.proofs.lemmas.Result.{on_ok_weaker, on_err_weaker}
 use Rattle.flu_outside.specs.declared.sink.Failed.{Failed}

@@ -13,7 +13,6 @@ use Rattle.flu_plan.specs.Reading.{plan_in}
 use Rattle.flu_plan.specs.Printing.{printed}
 use Rattle.flu_valid.specs.declared.faults.Invalid.{Invalid}
 use Rattle.flu_valid.specs.Faults.{IsFirstFault}
-use Rattle.flu_top.specs.declared.refusals.PlanDefect.{PlanDefect}
 use Rattle.flu_top.specs.declared.refusals.PlanDefect.TheVariants as defects
 use Rattle.flu_top.specs.declared.refusals.Refusal.{Refusal}
 use Rattle.flu_top.specs.declared.refusals.Refusal.TheVariants as refusals

@@ -1,6 +1,6 @@
-use Rattle.std.proofs.Common.{sym, ◌∙◌, subst, Option}
+use Rattle.std.proofs.Common.{sym, subst}
 use Rattle.std.proofs.lemmas.Result.{IfOk-weaker, IfErr-weaker}
-use Rattle.flu_outside.specs.Outside.{WhereTold, Contents}
+use Rattle.flu_outside.specs.Outside.{WhereTold}
 use Rattle.flu_deps.specs.Checking.{program_of}
 use Rattle.flu_rows.proofs.Told.{fronts_at, fronts_then}
 use Rattle.flu_top.specs.Jobs.{IsJobRead}
