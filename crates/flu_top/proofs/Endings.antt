@@ -9,6 +9,7 @@ use Rattle.flu_report.specs.Writing.{AppendsAll, AppendsPart}
 use Rattle.flu_rows.proofs.Told.{told_weaker}
 use Rattle.flu_streams.specs.declared.faults.SourceFault.{SourceFault}
 use Rattle.flu_outside.specs.Outside.{Contents}
+use Rattle.flu_top.specs.declared.refusals.PlanDefect.{PlanDefect}
 use Rattle.flu_top.specs.declared.refusals.Refusal.{Refusal}
 use Rattle.flu_top.specs.declared.refusals.Refusal.TheVariants as refusals
 use Rattle.flu_top.specs.Words.{Command, command_in}
@@ -16,7 +17,7 @@ use Rattle.flu_top.specs.Taking.{TookOnly}
 use Rattle.flu_top.specs.Commands.{job_named}
 use Rattle.flu_top.specs.Done.{IsWritten, IsDone, IsPartlyDone, IsReadName, IsReadBy}
 use Rattle.flu_top.specs.Jobs.{HasJobFault}
-use Rattle.flu_top.specs.Refusing.{HasConflict, HasSourceFault, IsRefusal}
+use Rattle.flu_top.specs.Refusing.{HasConflict, HasPlanDefect, HasSourceFault, IsRefusal}
 use Rattle.flu_top.specs.Lines.{bad_words_line, read_fault_line, write_fault_line, no_memory_line}
 use Rattle.flu_top.specs.Answer.{status_of, status_after, line_of}
 use Rattle.flu_top.specs.Ending.{Call, WroteNothing, HasWriteFault, IsEnding, IsRefused, Ends}
@@ -43,15 +44,16 @@ only_wider words command a b is only =
     told_weaker (TookOnly (IsReadName a command)) (TookOnly (IsReadBy words a)) a b (λ x y took name unread. took name (λ read. unread (command, is, read))) only
 
 -- ---- the statuses
-pub known_status : (ended : Result (Unit {0}) Refusal) → Contains (0 ∷ 2 ∷ 3 ∷ 4 ∷ 6 ∷ 7 ∷ 8 ∷ 9 ∷ []) (status_after ended)
+pub known_status : (ended : Result (Unit {0}) Refusal) → Contains (0 ∷ 2 ∷ 3 ∷ 4 ∷ 5 ∷ 6 ∷ 7 ∷ 8 ∷ 9 ∷ []) (status_after ended)
 known_status (Ok u) = (0, omega arith, refl)
 known_status (Err (refusals.BadWords bad)) = (1, omega arith, refl)
 known_status (Err (refusals.JobFault fault)) = (2, omega arith, refl)
 known_status (Err (refusals.Conflict fault)) = (3, omega arith, refl)
-known_status (Err (refusals.SourceFault p fault)) = (4, omega arith, refl)
-known_status (Err refusals.ReadFault) = (5, omega arith, refl)
-known_status (Err refusals.WriteFault) = (6, omega arith, refl)
-known_status (Err refusals.NoMemory) = (7, omega arith, refl)
+known_status (Err (refusals.PlanDefect defect)) = (4, omega arith, refl)
+known_status (Err (refusals.SourceFault p fault)) = (5, omega arith, refl)
+known_status (Err refusals.ReadFault) = (6, omega arith, refl)
+known_status (Err refusals.WriteFault) = (7, omega arith, refl)
+known_status (Err refusals.NoMemory) = (8, omega arith, refl)
 
 -- which ending has a status
 of_done : (ended : Result (Unit {0}) Refusal) → status_after ended ≡ 0 → ended ≡ Ok tt
@@ -66,6 +68,10 @@ of_job_fault ended is = absurd (omega arith)
 of_conflict : (ended : Result (Unit {0}) Refusal) → status_after ended ≡ 4 → (fault : CheckFault) × (ended ≡ Err (refusals.Conflict fault))
 of_conflict (Err (refusals.Conflict fault)) is = (fault, refl)
 of_conflict ended is = absurd (omega arith)
+
+of_plan_defect : (ended : Result (Unit {0}) Refusal) → status_after ended ≡ 5 → (defect : PlanDefect) × (ended ≡ Err (refusals.PlanDefect defect))
+of_plan_defect (Err (refusals.PlanDefect defect)) is = (defect, refl)
+of_plan_defect ended is = absurd (omega arith)
 
 of_source_fault : (ended : Result (Unit {0}) Refusal) → status_after ended ≡ 6 → (p : Program) × (fault : SourceFault) × (ended ≡ Err (refusals.SourceFault p fault))
 of_source_fault (Err (refusals.SourceFault p fault)) is = (p, fault, refl)
@@ -150,6 +156,12 @@ conflict_at c ended ends is =
     let fault = of_conflict ended is in
     let found = refused_at c ended (refusals.Conflict fault.0) ends fault.1 (λ e. omega arith) (λ e. cc) in
     (found.0, fault.0, found.1, found.2, fault.1)
+
+pub plan_defect_at : (c : Call) (ended : Result (Unit {0}) Refusal) → Ends c ended → status_after ended ≡ 5 → (command : Command) × (defect : PlanDefect) × (command_in c.words ≡ Ok command) × HasPlanDefect command c.left c.left_after defect × (ended ≡ Err (refusals.PlanDefect defect))
+plan_defect_at c ended ends is =
+    let defect = of_plan_defect ended is in
+    let found = refused_at c ended (refusals.PlanDefect defect.0) ends defect.1 (λ e. omega arith) (λ e. cc) in
+    (found.0, defect.0, found.1, found.2, defect.1)
 
 pub source_fault_at : (c : Call) (ended : Result (Unit {0}) Refusal) → Ends c ended → status_after ended ≡ 6 → (command : Command) × (p : Program) × (fault : SourceFault) × (command_in c.words ≡ Ok command) × HasSourceFault command c.left c.left_after p fault × (ended ≡ Err (refusals.SourceFault p fault))
 source_fault_at c ended ends is =

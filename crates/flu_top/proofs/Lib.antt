@@ -1,10 +1,14 @@
 pub mod Written
 pub mod WrittenConflicts
+pub mod WrittenPlans
 pub mod Whole
 pub mod Jobs
+pub mod PlanTexts
 pub mod Sequence
 pub mod Checks
+pub mod Validations
 pub mod SameJob
 pub mod SameAcceptance
+pub mod SamePlans
 pub mod Endings
 pub mod Completeness

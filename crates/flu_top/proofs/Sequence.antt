@@ -47,14 +47,14 @@ among (other ∷ names) name = by_test (bytes_eq other name) refl (among names n
     by_test false f rest = by_rest (λ same. false≢true (sym f ∙ (bytes_eq-Decides other name).1 same)) rest
 
 -- ---- what is told
-told_both : {A : Type 0} (P Q : A → A → Type 0) (a b : Option A) → WhereTold a b P → WhereTold a b Q → WhereTold a b (λ x y. P x y × Q x y)
+pub told_both : {A : Type 0} (P Q : A → A → Type 0) (a b : Option A) → WhereTold a b P → WhereTold a b Q → WhereTold a b (λ x y. P x y × Q x y)
 told_both P Q None None p q = tt
 told_both P Q None (Some y) p q = p
 told_both P Q (Some x) None p q = p
 told_both P Q (Some x) (Some y) p q = (p, q)
 
 -- ---- the names that are read
-may_have : (job : List ℕ) (p : Program) (a b : Option Contents) → WhereTold a b (IsJobRead job p) → MayHaveJob a job p
+pub may_have : (job : List ℕ) (p : Program) (a b : Option Contents) → WhereTold a b (IsJobRead job p) → MayHaveJob a job p
 may_have job p None b read = tt
 may_have job p (Some x) None read = absurd read
 may_have job p (Some x) (Some y) read = read.has
@@ -67,7 +67,7 @@ pub only_both : (job : List ℕ) (p : Program) (a b c : Option Contents) → Whe
 only_both job p a b c read taken others =
     let may = may_have job p a b read in
     told_then (TakesFrom job) (LeavesOthers (files_of p.sources)) (TookOnly (IsReadName a (Fold job))) a b c
-    (λ x y z took left name unread. left name (λ found. unread (inr (p, may, found))) ∙ took.others name (λ same. unread (inl same))) taken others
+    (λ x y z took left name unread. left name (λ found. unread (inr (p, may, λ asked. absurd (false≢true asked), found))) ∙ took.others name (λ same. unread (inl same))) taken others
 
 -- ---- the report of a job
 pub is_reported : (p : Program) (report : List ℕ) (lists : List (List Item)) (a b : Option Contents) → WhereTold a b (λ old _. AreGood p old) → WhereTold a b (λ old _. lists ≡ lists_of p old) → AreReadOut (files_of p.sources) b → report ≡ reports.report p (final_outputs p nothing_held lists) → WhereTold a b (IsReported p report)
@@ -82,7 +82,7 @@ emptied_some None e = absurd (cc)
 emptied_some (Some bytes) e = refl
 
 -- what is left behind a job's text
-emptied_is : (job : List ℕ) (p : Program) (old new : Contents) → IsJobRead job p old new → TakesFrom job old new → emptied job old ≡ new
+pub emptied_is : (job : List ℕ) (p : Program) (old new : Contents) → IsJobRead job p old new → TakesFrom job old new → emptied job old ≡ new
 unfolding emptied
 emptied_is job p old new read taken = fun_ext (λ name. by_test name (bytes_eq name job) refl)
   where
@@ -98,7 +98,7 @@ folded_at job p report x y z first second =
     let is = emptied_is job p x y first.0 first.1 in (
       p,
       record {
-        good = record { has = first.0.has; accepted = λ asked. absurd (false≢true asked); sources = λ asked. ap (first_fault p) is ∙ second.0.good };
+        good = record { has = first.0.has; accepted = λ asked. absurd (false≢true asked); plan = λ plan named. absurd (cc); sources = λ asked. ap (first_fault p) is ∙ second.0.good };
         job_end = elim (among (files_of p.sources) job) [ inl found ↦ second.0.ends job found | inr missing ↦ second.1 job missing ∙ first.0.end ];
         other_ends = second.0.ends;
       },
@@ -115,6 +115,7 @@ pub job_refusal : (command : Command) (a b : Option Contents) (before now : List
 job_refusal command a b before now (refusals.BadWords bad) is = is
 job_refusal command a b before now (refusals.JobFault fault) is = is
 job_refusal command a b before now (refusals.Conflict fault) is = absurd is
+job_refusal command a b before now (refusals.PlanDefect defect) is = absurd is
 job_refusal command a b before now (refusals.SourceFault p fault) is = absurd is
 job_refusal command a b before now refusals.ReadFault is = (job_named command, inl refl, is)
 job_refusal command a b before now refusals.WriteFault is = is
@@ -128,6 +129,7 @@ pub report_refusal : (job : List ℕ) (p : Program) (a b c : Option Contents) (k
 report_refusal job p a b c k l m (refusals.BadWords bad) read taken rise is = is
 report_refusal job p a b c k l m (refusals.JobFault fault) read taken rise is = absurd is
 report_refusal job p a b c k l m (refusals.Conflict fault) read taken rise is = absurd is
+report_refusal job p a b c k l m (refusals.PlanDefect defect) read taken rise is = absurd is
 report_refusal job p a b c k l m (refusals.SourceFault q fault) read taken rise is =
     subst (λ r. IsRefusal (Fold job) a c k m (refusals.SourceFault r fault)) (sym is.program)
     record {
@@ -138,6 +140,6 @@ report_refusal job p a b c k l m (refusals.SourceFault q fault) read taken rise 
           (λ x y z first e. (first.0.has, fault_at job p x y first ∙ e)) (told_both (IsJobRead job p) (TakesFrom job) a b read taken) is.first;
     }
 report_refusal job p a b c k l m refusals.ReadFault read taken rise is =
-    (is.0, inr (p, may_have job p a b read, is.1), rose_behind (k is.0) (l is.0) (m is.0) (rise is.0) is.2)
+    (is.0, inr (p, may_have job p a b read, λ asked. absurd (false≢true asked), is.1), rose_behind (k is.0) (l is.0) (m is.0) (rise is.0) is.2)
 report_refusal job p a b c k l m refusals.WriteFault read taken rise is = is
 report_refusal job p a b c k l m refusals.NoMemory read taken rise is = tt

@@ -7,9 +7,8 @@ use Rattle.std.proofs.lemmas.List.{take_all}
 use Rattle.std.specs.Prelude.{OnOk, OnErr, codes}
 use Rattle.std.specs.Fmt.{decimal}
 use Rattle.flu_model.specs.declared.limits.What.{What}
-use Rattle.flu_parse.specs.declared.faults.JobFault.TheVariants.{OverLimit}
 use Rattle.flu_streams.specs.declared.faults.Why.TheVariants.{Disordered, TooMany}
-use Rattle.flu_top.specs.Lines.{what_word, job_line, job_fault_line, row_line, source_fault_line}
+use Rattle.flu_top.specs.Lines.{what_word, limit_text, fault_line, row_line, source_fault_line}
 use Rattle.flu_outside.specs.declared.sink.Failed.{Failed}
 use Rattle.flu_outside.specs.Outside.{WhereTold}
 use Rattle.flu_report.specs.Writing.{AppendsAll, AppendsPart}
@@ -35,26 +34,28 @@ part_as pieces line r a b same told = subst (λ l. OnErr r (WhereTold a b (Appen
 joined_3 : (a b c d : List ℕ) → a ++ (b ++ (c ++ d)) ≡ a ++ (b ++ c) ++ d
 joined_3 a b c d = simp append_assoc
 
-joined_4 : (a b c d e : List ℕ) → a ++ (b ++ (c ++ (d ++ e))) ≡ (a ++ b ++ c ++ d) ++ e
+pub joined_4 : (a b c d e : List ℕ) → a ++ (b ++ (c ++ (d ++ e))) ≡ (a ++ b ++ c ++ d) ++ e
 joined_4 a b c d e = simp append_assoc
 
 joined_6 : (a b c d e f g : List ℕ) → a ++ (b ++ (c ++ (d ++ (e ++ (f ++ g))))) ≡ a ++ b ++ c ++ d ++ e ++ f ++ g
 joined_6 a b c d e f g = simp append_assoc
 
--- the line of a fault at a place of a job text
-abbrev pub fault_pieces : List ℕ → List ℕ → List ℕ
-fault_pieces fault digits = codes "flumina: job: " ++ (fault ++ (digits ++ codes "\n"))
+-- the line of a fault at a place of a text
+abbrev pub place_pieces : List ℕ → List ℕ → List ℕ → List ℕ
+place_pieces head fault digits = head ++ (fault ++ (digits ++ codes "\n"))
 
-pub fault_line : (fault digits : List ℕ) (place : ℕ) → digits ≡ decimal place → fault_pieces fault digits ≡ job_line (fault ++ decimal place)
-fault_line fault digits place is = ap (fault_pieces fault) is ∙ joined_3 (codes "flumina: job: ") fault (decimal place) (codes "\n")
+pub place_line : (head fault digits : List ℕ) (place : ℕ) → digits ≡ decimal place → place_pieces head fault digits ≡ fault_line head (fault ++ decimal place)
+place_line head fault digits place is = ap (place_pieces head fault) is ∙ joined_3 head fault (decimal place) (codes "\n")
 
--- the line of a limit that a job text passes
-abbrev pub limit_pieces : List ℕ → List ℕ → List ℕ
-limit_pieces word digits = codes "flumina: job: over limit " ++ (word ++ (codes " " ++ (digits ++ codes "\n")))
+-- the line of a limit that a text passes
+abbrev pub limit_pieces : List ℕ → List ℕ → List ℕ → List ℕ
+limit_pieces head word digits = head ++ (codes "over limit " ++ (word ++ (codes " " ++ (digits ++ codes "\n"))))
 
-pub limit_line : (word digits : List ℕ) (what : What) (count : ℕ) → word ≡ what_word what → digits ≡ decimal count → limit_pieces word digits ≡ job_fault_line (OverLimit what count)
-limit_line word digits what count is are =
-    (λ i. limit_pieces (is i) (are i)) ∙ ap (λ l. codes "flumina: job: " ++ l) (joined_4 (codes "over limit ") (what_word what) (codes " ") (decimal count) (codes "\n"))
+pub limit_line : (head word digits : List ℕ) (what : What) (count : ℕ) → word ≡ what_word what → digits ≡ decimal count → limit_pieces head word digits ≡ fault_line head (limit_text what count)
+limit_line head word digits what count is are =
+    (λ i. limit_pieces head (is i) (are i))
+    ∙ (ap (λ l. head ++ l) (joined_4 (codes "over limit ") (what_word what) (codes " ") (decimal count) (codes "\n"))
+    ∙ sym (append_assoc head (limit_text what count) (codes "\n")))
 
 -- the line of a row, of its first pieces and what comes behind them
 abbrev pub row_pieces : List ℕ → List ℕ → List ℕ → List ℕ

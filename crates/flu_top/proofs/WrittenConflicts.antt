@@ -20,13 +20,13 @@ part_of_first a b x y part = (
 all_of_both : (a b x y z : List ℕ) → AppendsAll a x y → AppendsAll b y z → AppendsAll (a ++ b) x z
 all_of_both a b x y z first second = second ∙ ap (λ l. l ++ b) first ∙ append_assoc x a b
 
-part_first : (a b : List ℕ) (x y : Option (List ℕ)) → WhereTold x y (AppendsPart a) → WhereTold x y (AppendsPart (a ++ b))
+pub part_first : (a b : List ℕ) (x y : Option (List ℕ)) → WhereTold x y (AppendsPart a) → WhereTold x y (AppendsPart (a ++ b))
 part_first a b x y part = told_weaker (AppendsPart a) (AppendsPart (a ++ b)) x y (part_of_first a b) part
 
-part_second : (a b : List ℕ) (x y z : Option (List ℕ)) → WhereTold x y (AppendsAll a) → WhereTold y z (AppendsPart b) → WhereTold x z (AppendsPart (a ++ b))
+pub part_second : (a b : List ℕ) (x y z : Option (List ℕ)) → WhereTold x y (AppendsAll a) → WhereTold y z (AppendsPart b) → WhereTold x z (AppendsPart (a ++ b))
 part_second a b x y z all part = told_then (AppendsAll a) (AppendsPart b) (AppendsPart (a ++ b)) x y z (part_of_second a b) all part
 
-all_second : (a b : List ℕ) (x y z : Option (List ℕ)) → WhereTold x y (AppendsAll a) → WhereTold y z (AppendsAll b) → WhereTold x z (AppendsAll (a ++ b))
+pub all_second : (a b : List ℕ) (x y z : Option (List ℕ)) → WhereTold x y (AppendsAll a) → WhereTold y z (AppendsAll b) → WhereTold x z (AppendsAll (a ++ b))
 all_second a b x y z all more = told_then (AppendsAll a) (AppendsAll b) (AppendsAll (a ++ b)) x y z (all_of_both a b) all more
 
 -- ---- the line of a conflict, of the texts of its tags and its cell

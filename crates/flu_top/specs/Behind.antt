@@ -8,7 +8,10 @@ use Rattle.flu_model.specs.Erasure.{job_of}
 use Rattle.flu_model.specs.Folding.{final_outputs}
 use Rattle.flu_model.specs.Reports as reports
 use Rattle.flu_rows.specs.Taking.{bytes_left}
+use Rattle.flu_model.specs.declared.plans.Node.{Node}
 use Rattle.flu_parse.specs.Reading.{job_in}
+use Rattle.flu_plan.specs.Faults.{Found}
+use Rattle.flu_plan.specs.Reading.{plan_in}
 use Rattle.flu_streams.specs.declared.faults.SourceFault.{SourceFault}
 use Rattle.flu_streams.specs.Good.{first_fault, lists_of}
 
@@ -16,7 +19,7 @@ use Rattle.flu_streams.specs.Good.{first_fault, lists_of}
 abbrev pub HasJob : List ℕ → Contents → Program → Type 0
 HasJob job left p = job_in (bytes_left left job) ≡ Ok (job_of p)
 
--- what is left behind the job's text, which was read to its end: a source with the job's name is empty
+-- what is left behind the job's text, which was read to its end: another file with the job's name is empty
 unfoldable pub emptied : List ℕ → Contents → Contents
 emptied job left name = if bytes_eq name job then option_map (λ bytes. []) (left name) else left name
 
@@ -27,3 +30,7 @@ fault_behind job left p = first_fault p (emptied job left)
 -- the report of the fold of all events of the program's sources from the empty state
 unfoldable pub report_behind : List ℕ → Contents → Program → List ℕ
 report_behind job left p = reports.report p (final_outputs p nothing_held (lists_of p (emptied job left)))
+
+-- the nodes of the plan of the text under a name, which is read behind the job's, or that text's first fault
+unfoldable pub plan_behind : List ℕ → List ℕ → Contents → Program → Found (List Node)
+plan_behind job plan left p = plan_in p (bytes_left (emptied job left) plan)

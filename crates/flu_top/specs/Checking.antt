@@ -24,6 +24,7 @@ abbrev pub IsCheckRefusal : Program → Refusal → Type 0
 IsCheckRefusal p (refusals.BadWords bad) = ⊥
 IsCheckRefusal p (refusals.JobFault fault) = ⊥
 IsCheckRefusal p (refusals.Conflict fault) = (fault.program ≡ p) × IsConflict fault
+IsCheckRefusal p (refusals.PlanDefect defect) = ⊥
 IsCheckRefusal p (refusals.SourceFault q fault) = ⊥
 IsCheckRefusal p refusals.ReadFault = ⊥
 IsCheckRefusal p refusals.WriteFault = ⊥

@@ -2,17 +2,24 @@
 use Rattle.std.specs.Prelude.{◌≡◌, ℕ, List, [], Option, Some, None, Contains, ⊤, ◌⊎◌, Ok, IsTrue}
 use Rattle.flu_outside.specs.Outside.{Contents, WhereTold}
 use Rattle.flu_model.specs.declared.jobs.Program.{Program}
+use Rattle.flu_model.specs.declared.plans.Node.{Node}
 use Rattle.flu_model.specs.Modes.{IsAccepted}
+use Rattle.flu_model.specs.Validity.{IsValid}
 use Rattle.flu_report.specs.Writing.{AppendsAll, AppendsPart}
 use Rattle.flu_top.specs.Words.{Command, command_in}
-use Rattle.flu_top.specs.Behind.{HasJob, fault_behind}
-use Rattle.flu_top.specs.Commands.{job_named, asks_accepted, reads_sources, files_read, written}
+use Rattle.flu_top.specs.Behind.{HasJob, fault_behind, plan_behind}
+use Rattle.flu_top.specs.Commands.{job_named, plan_named, asks_accepted, reads_sources, files_read, written}
 
--- the program is the command's job, which is accepted where the command asks for that, and its sources have no defect where
--- the command reads them
+-- the text under a name, which is read behind the job's, is a plan that is valid for the job
+abbrev pub HasValidPlan : List ℕ → List ℕ → Contents → Program → Type 0
+HasValidPlan job plan left p = (nodes : List Node) × (plan_behind job plan left p ≡ Ok nodes) × IsValid p nodes
+
+-- the program is the command's job, which is accepted where the command asks for that, the plan that the command names is valid
+-- for it, and its sources have no defect where the command reads them
 pub record IsGood (command : Command) (left : Contents) (p : Program) : Type 0 where
   pub has : HasJob (job_named command) left p
   pub accepted : IsTrue (asks_accepted command) → IsAccepted p
+  pub plan : (plan : List ℕ) → plan_named command ≡ Some plan → HasValidPlan (job_named command) plan left p
   pub sources : IsTrue (reads_sources command) → fault_behind (job_named command) left p ≡ None
 
 -- nothing refuses the command, and its job and all else that it reads were read to their end
@@ -38,10 +45,11 @@ abbrev pub MayHaveJob : Option Contents → List ℕ → Program → Type 0
 MayHaveJob None job p = ⊤
 MayHaveJob (Some left) job p = HasJob job left p
 
--- a name that a command reads: its job's, and those of the other files that it reads for that job
+-- a name that a command reads: its job's, and those of the other files that it reads for that job, which is accepted where the
+-- command asks for that
 abbrev pub IsReadName : Option Contents → Command → List ℕ → Type 0
 IsReadName left command name =
-    (name ≡ job_named command) ⊎ ((p : Program) × MayHaveJob left (job_named command) p × Contains (files_read command p) name)
+    (name ≡ job_named command) ⊎ ((p : Program) × MayHaveJob left (job_named command) p × (IsTrue (asks_accepted command) → IsAccepted p) × Contains (files_read command p) name)
 
 -- a name that a call with some words reads
 abbrev pub IsReadBy : List (List ℕ) → Option Contents → List ℕ → Type 0

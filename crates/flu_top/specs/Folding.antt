@@ -28,6 +28,7 @@ abbrev pub IsReportRefusal : Program → Option Contents → Option Contents →
 IsReportRefusal p old new before now (refusals.BadWords bad) = ⊥
 IsReportRefusal p old new before now (refusals.JobFault fault) = ⊥
 IsReportRefusal p old new before now (refusals.Conflict fault) = ⊥
+IsReportRefusal p old new before now (refusals.PlanDefect defect) = ⊥
 IsReportRefusal p old new before now (refusals.SourceFault q fault) = IsFaulty p old new q fault
 IsReportRefusal p old new before now refusals.ReadFault = OneRose (files_of p.sources) before now
 IsReportRefusal p old new before now refusals.WriteFault = ⊥

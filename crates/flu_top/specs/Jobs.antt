@@ -25,6 +25,7 @@ abbrev pub IsJobRefusal : List ℕ → Option Contents → Option Contents → (
 IsJobRefusal job old new before now (refusals.BadWords bad) = ⊥
 IsJobRefusal job old new before now (refusals.JobFault fault) = HasJobFault job old new fault
 IsJobRefusal job old new before now (refusals.Conflict fault) = ⊥
+IsJobRefusal job old new before now (refusals.PlanDefect defect) = ⊥
 IsJobRefusal job old new before now (refusals.SourceFault p fault) = ⊥
 IsJobRefusal job old new before now refusals.ReadFault = Rose (before job) (now job)
 IsJobRefusal job old new before now refusals.WriteFault = ⊥

@@ -3,10 +3,12 @@ pub mod Taking
 pub mod Behind
 pub mod Commands
 pub mod Done
+pub mod Names
 pub mod Lines
 pub mod Answer
 pub mod Jobs
 pub mod Folding
 pub mod Checking
+pub mod Plans
 pub mod Refusing
 pub mod Ending

@@ -4,13 +4,24 @@ use Rattle.std.specs.Fmt.{decimal}
 use Rattle.flu_outside.specs.Outside.{Rose, WhereTold}
 use Rattle.flu_report.specs.Writing.{AppendsAll, AppendsPart}
 use Rattle.flu_model.specs.Reports.{text_of_tag, text_of_cell}
+use Rattle.flu_model.specs.declared.events.Itag.{Itag}
+use Rattle.flu_model.specs.declared.jobs.Program.{Program}
+use Rattle.flu_model.specs.declared.plans.Node.{Node}
 use Rattle.flu_model.specs.declared.limits.What.{What}
 use Rattle.flu_model.specs.declared.limits.What.TheVariants as whats
 use Rattle.flu_parse.specs.declared.faults.JobFault.{JobFault}
 use Rattle.flu_parse.specs.declared.faults.JobFault.TheVariants as faults
 use Rattle.flu_check.specs.declared.CheckFault.{CheckFault}
+use Rattle.flu_deps.specs.Checking.{program_of}
+use Rattle.flu_plan.specs.declared.fault.PlanFault.{PlanFault}
+use Rattle.flu_plan.specs.declared.fault.PlanFault.TheVariants as plans
+use Rattle.flu_valid.specs.declared.faults.Invalid.{Invalid}
+use Rattle.flu_valid.specs.declared.faults.Invalid.TheVariants.{Unowned, OwnedTwice, Clash}
 use Rattle.flu_streams.specs.declared.faults.Why.{Why}
 use Rattle.flu_streams.specs.declared.faults.Why.TheVariants as whys
+use Rattle.flu_top.specs.declared.refusals.PlanDefect.{PlanDefect}
+use Rattle.flu_top.specs.declared.refusals.PlanDefect.TheVariants as defects
+use Rattle.flu_top.specs.Names.{node_name, itag_text}
 
 -- the word for what has a limit
 abbrev pub what_word : What → List ℕ
@@ -29,6 +40,10 @@ what_word whats.Nodes = codes "nodes"
 what_word whats.Predicates = codes "predicates"
 what_word whats.Depth = codes "depth"
 
+-- that there is more than the language allows
+abbrev pub limit_text : What → ℕ → List ℕ
+limit_text what count = codes "over limit " ++ what_word what ++ codes " " ++ decimal count
+
 -- what is wrong with a job text, and where
 abbrev pub job_fault_text : JobFault → List ℕ
 job_fault_text (faults.BadUtf8 at) = codes "bad utf8 at " ++ decimal at
@@ -37,8 +52,27 @@ job_fault_text (faults.Unexpected at) = codes "unexpected at " ++ decimal at
 job_fault_text (faults.UnknownName at) = codes "unknown name at " ++ decimal at
 job_fault_text (faults.TwiceNamed at) = codes "twice named at " ++ decimal at
 job_fault_text (faults.WrongShape at) = codes "wrong shape at " ++ decimal at
-job_fault_text (faults.OverLimit what count) = codes "over limit " ++ what_word what ++ codes " " ++ decimal count
+job_fault_text (faults.OverLimit what count) = limit_text what count
 job_fault_text faults.NoMemory = codes "no memory"
+
+-- what is wrong with a plan text, and where
+abbrev pub plan_fault_text : PlanFault → List ℕ
+plan_fault_text (plans.BadToken at) = codes "bad token at " ++ decimal at
+plan_fault_text (plans.Unexpected at) = codes "unexpected at " ++ decimal at
+plan_fault_text (plans.UnknownName at) = codes "unknown name at " ++ decimal at
+plan_fault_text (plans.NotATree name) = codes "not a tree at " ++ name
+plan_fault_text (plans.OverLimit what count) = limit_text what count
+plan_fault_text plans.NoMemory = codes "no memory"
+
+-- an itag and a node that owns it
+abbrev pub owned_text : Program → List Node → Itag → ℕ → List ℕ
+owned_text p nodes i node = itag_text p i ++ codes " at " ++ node_name nodes node
+
+-- what keeps a plan from being valid for a job
+abbrev pub invalid_text : Program → List Node → Invalid → List ℕ
+invalid_text p nodes (Unowned i) = itag_text p i ++ codes " has no owner"
+invalid_text p nodes (OwnedTwice i a b) = itag_text p i ++ codes " has two owners, " ++ node_name nodes a ++ codes " and " ++ node_name nodes b
+invalid_text p nodes (Clash a i b j) = codes "clash of " ++ owned_text p nodes i a ++ codes " and " ++ owned_text p nodes j b
 
 -- what a row breaks
 abbrev pub why_text : Why → List ℕ
@@ -54,9 +88,13 @@ why_text (whys.TooMany count) = codes "too many, " ++ decimal count
 abbrev pub bad_words_line : ℕ → List ℕ
 bad_words_line at = codes "flumina: bad words at " ++ decimal at ++ codes "\n"
 
+-- the line of a fault behind what has it
+abbrev pub fault_line : List ℕ → List ℕ → List ℕ
+fault_line head fault = head ++ fault ++ codes "\n"
+
 -- the line of a fault in a job text
 abbrev pub job_line : List ℕ → List ℕ
-job_line fault = codes "flumina: job: " ++ fault ++ codes "\n"
+job_line fault = fault_line (codes "flumina: job: ") fault
 
 abbrev pub job_fault_line : JobFault → List ℕ
 job_fault_line fault = job_line (job_fault_text fault)
@@ -65,6 +103,14 @@ job_fault_line fault = job_line (job_fault_text fault)
 abbrev pub conflict_line : CheckFault → List ℕ
 conflict_line fault =
     codes "flumina: conflict: " ++ text_of_tag fault.program fault.a ++ codes " and " ++ text_of_tag fault.program fault.b ++ codes " on " ++ text_of_cell fault.program fault.cell ++ codes "\n"
+
+-- the line of what is wrong with a plan
+abbrev pub plan_line : List ℕ → List ℕ
+plan_line defect = fault_line (codes "flumina: plan: ") defect
+
+abbrev pub plan_defect_line : PlanDefect → List ℕ
+plan_defect_line (defects.Text fault) = plan_line (plan_fault_text fault)
+plan_defect_line (defects.Invalid checked fault) = plan_line (invalid_text (program_of checked) fault.plan.nodes fault.why)
 
 -- the line of a defect: the source's name, its row, and what that breaks
 abbrev pub row_line : List ℕ → ℕ → List ℕ → List ℕ

@@ -1,7 +1,9 @@
 //! `check JOB`: the normal form of a job that is accepted.
 
-ghost use Rattle.std.specs.Prelude.{IfOk, IfErr};
+ghost use Rattle.std.specs.Prelude.{◌≡◌, IfOk, IfErr};
 ghost use Rattle.flu_outside.specs.Outside.{WhereTold};
+ghost use Rattle.flu_model.specs.Modes.{IsAccepted};
+ghost use Rattle.flu_deps.specs.Checking.{program_of};
 ghost use Rattle.flu_rows.specs.Taking.{TookFronts};
 ghost use Rattle.flu_top.specs.Words.{Check};
 ghost use Rattle.flu_top.specs.Taking.{TookOnly};
@@ -12,6 +14,7 @@ ghost use Rattle.flu_top.specs.Refusing.{IsRefusal};
 use crate::programs::program_of;
 use crate::refusals::Refusal;
 use flu_check::check;
+use flu_deps::Checked;
 use flu_model::{Program, Text};
 use flu_outside::Files;
 use flu_parse::print_job;
@@ -35,10 +38,22 @@ fn normal_form_of(alloc: Global, program: Program) -> Result<Text, Refusal>
     ensures checked { IfOk result (IsChecked program) }
     ensures refused { IfErr result (IsCheckRefusal program) }
 {
-    let checked = match check(program) {
+    let checked = match accepted(program) {
         Ok(checked) => checked,
-        Err(fault) => return Err(Refusal::Conflict(fault)),
+        Err(refusal) => return Err(refusal),
     };
     let text = print_job(alloc, checked.program())?;
     Ok(text)
+}
+
+/// A job, where it is accepted.
+pub fn accepted(program: Program) -> Result<Checked, Refusal>
+    ensures same { IfOk result (λ checked. program_of checked ≡ program) }
+    ensures accepted { IfOk result (λ checked. IsAccepted (program_of checked)) }
+    ensures refused { IfErr result (IsCheckRefusal program) }
+{
+    match check(program) {
+        Ok(checked) => Ok(checked),
+        Err(fault) => Err(Refusal::Conflict(fault)),
+    }
 }

@@ -8,11 +8,14 @@ mod input;
 mod lines;
 mod names;
 mod pieces;
+mod plan_lines;
+mod plans;
 mod programs;
 mod refusals;
 #[cfg(test)]
 mod tests;
 mod top;
+mod validating;
 mod words;
 
 pub use top::flumina;

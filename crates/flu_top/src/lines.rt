@@ -4,22 +4,25 @@ ghost use Rattle.std.specs.Prelude.{◌≡◌, ◌++◌, OnOk, OnErr};
 ghost use Rattle.std.specs.Fmt.{decimal};
 ghost use Rattle.flu_outside.specs.Outside.{Rose, WhereTold};
 ghost use Rattle.flu_report.specs.Writing.{AppendsAll, AppendsPart};
-ghost use Rattle.flu_top.specs.Lines.{what_word, bad_words_line, job_line, job_fault_line, conflict_line, row_line, source_fault_line, IsSaid};
-ghost use Rattle.flu_parse.specs.declared.faults.JobFault.{JobFault};
+ghost use Rattle.flu_top.specs.Lines.{what_word, limit_text, bad_words_line, fault_line, job_fault_line, conflict_line, row_line, source_fault_line, IsSaid};
 ghost use Rattle.flu_streams.specs.declared.faults.Why.{Why};
-ghost use Rattle.flu_top.specs.Answer.{source_name, line_of};
+ghost use Rattle.flu_top.specs.Answer.{line_of};
 
-use crate::names::{write_cell, write_tag};
+use crate::names::{source_name, write_cell, write_tag};
 use crate::pieces::{digits_of, write_pieces};
+use crate::plan_lines::write_plan_defect;
 use crate::refusals::Refusal;
 use crate::words::BadWords;
 use flu_check::CheckFault;
-use flu_model::{Program, What};
+use flu_model::What;
 use flu_outside::{Failed, Sink};
 use flu_parse::JobFault;
 use flu_report::write_all;
 use flu_streams::{SourceFault, Why};
 use itoa::Buffer;
+
+// What a line of a fault in a job text begins with.
+const JOB: &[u8] = b"flumina: job: ";
 
 /// Says a refusal on err, in a line that takes no memory.
 pub fn say<E: Sink>(err: &mut E, refusal: &Refusal)
@@ -41,6 +44,7 @@ fn write_line<E: Sink>(err: &mut E, refusal: &Refusal) -> Result<(), Failed>
         Refusal::BadWords(bad) => write_bad_words(err, *bad),
         Refusal::JobFault(fault) => write_job_fault(err, fault),
         Refusal::Conflict(fault) => write_conflict(err, fault),
+        Refusal::PlanDefect(defect) => write_plan_defect(err, defect),
         Refusal::SourceFault(program, fault) => {
             write_source_fault(
                 err,
@@ -52,16 +56,6 @@ fn write_line<E: Sink>(err: &mut E, refusal: &Refusal) -> Result<(), Failed>
         Refusal::ReadFault => write_all(err, b"flumina: read fault\n"),
         Refusal::WriteFault => write_all(err, b"flumina: write fault\n"),
         Refusal::NoMemory => write_all(err, b"flumina: no memory\n"),
-    }
-}
-
-// The name of the source with a number.
-fn source_name(program: &Program, number: u32) -> &str
-    ensures { result.now ≡ source_name program.now number }
-{
-    match program.sources.items().get(number as usize) {
-        Some(source) => source.name.as_str(),
-        None => "",
     }
 }
 
@@ -83,41 +77,48 @@ fn write_job_fault<E: Sink>(err: &mut E, fault: &JobFault) -> Result<(), Failed>
     ensures failed { OnErr result (Rose (E.faults err.old) (E.faults err.new)) }
 {
     match fault {
-        JobFault::BadUtf8 { at } => write_job_place(err, b"bad utf8 at ", *at),
-        JobFault::BadToken { at } => write_job_place(err, b"bad token at ", *at),
-        JobFault::Unexpected { at } => write_job_place(err, b"unexpected at ", *at),
-        JobFault::UnknownName { at } => write_job_place(err, b"unknown name at ", *at),
-        JobFault::TwiceNamed { at } => write_job_place(err, b"twice named at ", *at),
-        JobFault::WrongShape { at } => write_job_place(err, b"wrong shape at ", *at),
-        JobFault::OverLimit { what, count } => write_over_limit(err, *what, *count),
+        JobFault::BadUtf8 { at } => write_place(err, JOB, b"bad utf8 at ", *at),
+        JobFault::BadToken { at } => write_place(err, JOB, b"bad token at ", *at),
+        JobFault::Unexpected { at } => write_place(err, JOB, b"unexpected at ", *at),
+        JobFault::UnknownName { at } => write_place(err, JOB, b"unknown name at ", *at),
+        JobFault::TwiceNamed { at } => write_place(err, JOB, b"twice named at ", *at),
+        JobFault::WrongShape { at } => write_place(err, JOB, b"wrong shape at ", *at),
+        JobFault::OverLimit { what, count } => write_over_limit(err, JOB, *what, *count),
         JobFault::NoMemory => write_all(err, b"flumina: job: no memory\n"),
     }
 }
 
-// Writes the line of a fault at a place of a job text.
-fn write_job_place<E: Sink>(err: &mut E, fault: &[u8], place: usize) -> Result<(), Failed>
-    ensures all { OnOk result (WhereTold (E.taken err.old) (E.taken err.new) (AppendsAll (job_line (fault.now ++ decimal place)))) }
-    ensures part { OnErr result (WhereTold (E.taken err.old) (E.taken err.new) (AppendsPart (job_line (fault.now ++ decimal place)))) }
+/// Writes the line of a fault at a place of a text.
+pub fn write_place<E: Sink>(
+    err: &mut E,
+    head: &[u8],
+    fault: &[u8],
+    place: usize,
+) -> Result<(), Failed>
+    ensures all { OnOk result (WhereTold (E.taken err.old) (E.taken err.new) (AppendsAll (fault_line head.now (fault.now ++ decimal place)))) }
+    ensures part { OnErr result (WhereTold (E.taken err.old) (E.taken err.new) (AppendsPart (fault_line head.now (fault.now ++ decimal place)))) }
     ensures failed { OnErr result (Rose (E.faults err.old) (E.faults err.new)) }
 {
     let mut buffer = Buffer::new();
     let digits = digits_of(&mut buffer, place as u64);
-    write_pieces(err, &[b"flumina: job: ", fault, digits, b"\n"])
+    write_pieces(err, &[head, fault, digits, b"\n"])
 }
 
-// Writes the line of a limit that a job text passes.
-fn write_over_limit<E: Sink>(err: &mut E, what: What, count: u64) -> Result<(), Failed>
-    ensures all { OnOk result (WhereTold (E.taken err.old) (E.taken err.new) (AppendsAll (job_fault_line (JobFault.OverLimit what count)))) }
-    ensures part { OnErr result (WhereTold (E.taken err.old) (E.taken err.new) (AppendsPart (job_fault_line (JobFault.OverLimit what count)))) }
+/// Writes the line of a limit that a text passes.
+pub fn write_over_limit<E: Sink>(
+    err: &mut E,
+    head: &'static [u8],
+    what: What,
+    count: u64,
+) -> Result<(), Failed>
+    ensures all { OnOk result (WhereTold (E.taken err.old) (E.taken err.new) (AppendsAll (fault_line head.now (limit_text what count)))) }
+    ensures part { OnErr result (WhereTold (E.taken err.old) (E.taken err.new) (AppendsPart (fault_line head.now (limit_text what count)))) }
     ensures failed { OnErr result (Rose (E.faults err.old) (E.faults err.new)) }
 {
     let mut buffer = Buffer::new();
     let word = what_word(what);
     let digits = digits_of(&mut buffer, count);
-    write_pieces(
-        err,
-        &[b"flumina: job: over limit ", word, b" ", digits, b"\n"],
-    )
+    write_pieces(err, &[head, b"over limit ", word, b" ", digits, b"\n"])
 }
 
 // The word for what has a limit.

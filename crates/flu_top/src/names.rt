@@ -1,12 +1,13 @@
-//! Names of tags and cells in a line, written without memory.
+//! Names in a line, written without memory.
 
-ghost use Rattle.std.specs.Prelude.{◌≤◌, ◌++◌, OnOk, OnErr};
+ghost use Rattle.std.specs.Prelude.{◌≡◌, ◌≤◌, ◌++◌, OnOk, OnErr};
 ghost use Rattle.flu_outside.specs.Outside.{Rose, WhereTold};
 ghost use Rattle.flu_report.specs.Writing.{AppendsAll, AppendsPart};
 ghost use Rattle.flu_model.specs.Reports.{name_with_key, text_of_tag, text_of_cell};
+ghost use Rattle.flu_top.specs.Names.{source_name, node_name, itag_text};
 
 use crate::pieces::{digits_of, write_pieces};
-use flu_model::{Cell, Program, Tag};
+use flu_model::{Cell, Itag, Plan, Program, Tag, itag_count, source_of, tag_of};
 use flu_outside::{Failed, Sink};
 use flu_report::write_all;
 use itoa::Buffer;
@@ -26,6 +27,46 @@ pub fn write_tag<E: Sink>(
     match program.kinds.items().get(tag.kind as usize) {
         Some(kind) => write_name(err, kind.name.as_str(), kind.keyed, tag.key, behind),
         None => write_all(err, behind),
+    }
+}
+
+/// Writes an itag and what stands behind it: its tag, `@` and the name of its source.
+pub fn write_itag<E: Sink>(
+    err: &mut E,
+    program: &Program,
+    itag: Itag,
+    behind: &[u8],
+) -> Result<(), Failed>
+    ensures all { OnOk result (WhereTold (E.taken err.old) (E.taken err.new) (AppendsAll (itag_text program.now itag ++ behind.now))) }
+    ensures part { OnErr result (WhereTold (E.taken err.old) (E.taken err.new) (AppendsPart (itag_text program.now itag ++ behind.now))) }
+    ensures failed { OnErr result (Rose (E.faults err.old) (E.faults err.new)) }
+    ensures counts { E.faults err.old ≤ E.faults err.new }
+{
+    if itag.0 >= itag_count(program) {
+        return write_all(err, behind);
+    }
+    let source = source_name(program, source_of(program, itag)).as_bytes();
+    write_tag(err, program, tag_of(program, itag), b"@")?;
+    write_pieces(err, &[source, behind])
+}
+
+/// The name of the source with a number.
+pub fn source_name(program: &Program, number: u32) -> &str
+    ensures { result.now ≡ source_name program.now number }
+{
+    match program.sources.items().get(number as usize) {
+        Some(source) => source.name.as_str(),
+        None => "",
+    }
+}
+
+/// The name of the node with a number.
+pub fn node_name(plan: &Plan, number: u32) -> &str
+    ensures { result.now ≡ node_name plan.now.nodes number }
+{
+    match plan.nodes.items().get(number as usize) {
+        Some(node) => node.name.as_str(),
+        None => "",
     }
 }
 

@@ -5,11 +5,23 @@ ghost use Rattle.flu_top.specs.Answer.{status_of};
 
 use crate::words::BadWords;
 use flu_check::CheckFault;
+use flu_deps::Checked;
 use flu_model::Program;
 use flu_outside::TakeFault;
 use flu_parse::JobFault;
+use flu_plan::PlanFault;
 use flu_streams::SourceFault;
+use flu_valid::ValidFault;
 use std::alloc::AllocError;
+
+/// What is wrong with a plan.
+#[derive(Debug, Drop)]
+pub enum PlanDefect {
+    /// The bytes under the plan's name are no text of a plan of the job.
+    Text(PlanFault),
+    /// The plan is not valid for this job.
+    Invalid(Checked, ValidFault),
+}
 
 /// Why a command was not done.
 #[derive(Debug, Drop)]
@@ -20,6 +32,8 @@ pub enum Refusal {
     JobFault(JobFault),
     /// The job is not accepted.
     Conflict(CheckFault),
+    /// The plan has a defect.
+    PlanDefect(PlanDefect),
     /// A source of this job has a defect.
     SourceFault(Program, SourceFault),
     /// A file that the command reads failed.
@@ -38,6 +52,7 @@ pub fn status(refusal: &Refusal) -> u8
         Refusal::BadWords(_) => 2,
         Refusal::JobFault(_) => 3,
         Refusal::Conflict(_) => 4,
+        Refusal::PlanDefect(_) => 5,
         Refusal::SourceFault(_, _) => 6,
         Refusal::ReadFault => 7,
         Refusal::WriteFault => 8,
@@ -55,6 +70,20 @@ impl From<JobFault> for Refusal {
         match fault {
             JobFault::NoMemory => Refusal::NoMemory,
             fault => Refusal::JobFault(fault),
+        }
+    }
+}
+
+impl From<PlanFault> for Refusal {
+    ghost use Rattle.std.specs.Prelude.{◌≡◌};
+    ghost use Rattle.flu_top.specs.Answer.{refusal_of_plan};
+
+    ghost from_gives = { λ fault refusal. refusal ≡ refusal_of_plan fault };
+
+    fn from(fault: PlanFault) -> Refusal {
+        match fault {
+            PlanFault::NoMemory => Refusal::NoMemory,
+            fault => Refusal::PlanDefect(PlanDefect::Text(fault)),
         }
     }
 }

@@ -9,15 +9,17 @@ ghost use Rattle.flu_parse.specs.declared.faults.JobFault.{JobFault};
 ghost use Rattle.flu_parse.specs.Reading.{job_in};
 ghost use Rattle.flu_check.specs.declared.CheckFault.{CheckFault};
 ghost use Rattle.flu_streams.specs.declared.faults.SourceFault.{SourceFault};
+ghost use Rattle.flu_top.specs.declared.refusals.PlanDefect.{PlanDefect};
 ghost use Rattle.flu_top.specs.Words.{Command, command_in};
 ghost use Rattle.flu_top.specs.Taking.{TookOnly};
 ghost use Rattle.flu_top.specs.Behind.{HasJob, fault_behind};
-ghost use Rattle.flu_top.specs.Commands.{job_named, asks_accepted, reads_sources};
-ghost use Rattle.flu_top.specs.Done.{IsGood, IsDone, IsPartlyDone, IsReadBy};
+ghost use Rattle.flu_top.specs.Commands.{job_named, plan_named, asks_accepted, reads_sources};
+ghost use Rattle.flu_top.specs.Done.{HasValidPlan, IsGood, IsDone, IsPartlyDone, IsReadBy};
 ghost use Rattle.flu_top.specs.Jobs.{HasJobFault};
-ghost use Rattle.flu_top.specs.Refusing.{HasConflict, HasSourceFault};
-ghost use Rattle.flu_top.specs.Lines.{bad_words_line, job_fault_line, conflict_line, source_fault_line, read_fault_line, write_fault_line, no_memory_line, IsSaid};
-ghost use Rattle.flu_top.specs.Answer.{source_name, status_after, line_of};
+ghost use Rattle.flu_top.specs.Refusing.{HasConflict, HasPlanDefect, HasSourceFault};
+ghost use Rattle.flu_top.specs.Lines.{bad_words_line, job_fault_line, conflict_line, plan_defect_line, source_fault_line, read_fault_line, write_fault_line, no_memory_line, IsSaid};
+ghost use Rattle.flu_top.specs.Names.{source_name};
+ghost use Rattle.flu_top.specs.Answer.{status_after, line_of};
 ghost use Rattle.flu_top.specs.Ending.{Ends, NothingFailed};
 
 use crate::commands::text_of;
@@ -32,10 +34,12 @@ use std::alloc::Global;
 /// Does what the words after the program's name say, and answers the status.
 ///
 /// `fold JOB` reads the job in the file of that name and then its sources, folds their events in order and writes the report
-/// to `out`. `check JOB` reads the job alone, which has to be accepted, and writes it in normal form. The status is 0 where all
-/// was written. Else it is 2 for words that are no command, 3 for a job text with a fault, 4 for a job that is not accepted, 6
-/// for a source with a defect, 7 where a file that was read failed, 8 where `out` failed, and 9 where there was no memory. The
-/// line of that answer goes to `err`, and a failure of `err` changes no status. `docs/LANGUAGE.md` has the forms and the lines.
+/// to `out`. `check JOB` reads the job alone, which has to be accepted, and writes it in normal form. `valid JOB PLAN` reads such
+/// a job and then a plan, which has to be valid for it, and writes the plan in normal form. The status is 0 where all was
+/// written. Else it is 2 for words that are no command, 3 for a job text with a fault, 4 for a job that is not accepted, 5 for a
+/// plan text with a fault or a plan that is not valid, 6 for a source with a defect, 7 where a file that was read failed, 8 where
+/// `out` failed, and 9 where there was no memory. The line of that answer goes to `err`, and a failure of `err` changes no
+/// status. `docs/LANGUAGE.md` has the forms and the lines.
 pub fn flumina<F: Files, K: Sink, E: Sink, G: Gate>(
     alloc: Global,
     words: &[String],
@@ -44,7 +48,7 @@ pub fn flumina<F: Files, K: Sink, E: Sink, G: Gate>(
     err: &mut E,
     gate: &G,
 ) -> u8
-    ensures statuses { Contains (0 ∷ 2 ∷ 3 ∷ 4 ∷ 6 ∷ 7 ∷ 8 ∷ 9 ∷ []) result }
+    ensures statuses { Contains (0 ∷ 2 ∷ 3 ∷ 4 ∷ 5 ∷ 6 ∷ 7 ∷ 8 ∷ 9 ∷ []) result }
 
     // Status 0: all that the command reads was read to its end, what it writes stands in out, and err is untouched.
     ensures done { result ≡ 0 → (command : Command) × (command_in (map string_bytes words.now) ≡ Ok command)
@@ -66,6 +70,12 @@ pub fn flumina<F: Files, K: Sink, E: Sink, G: Gate>(
     ensures conflict { result ≡ 4 → (command : Command) × (fault : CheckFault) × (command_in (map string_bytes words.now) ≡ Ok command)
         × HasConflict command (F.left files.old) (F.left files.new) fault
         × IsSaid (conflict_line fault) (E.taken err.old) (E.taken err.new) (E.faults err.old) (E.faults err.new) }
+
+    // Status 5 comes only where the command names a plan, the job is accepted, and the plan's text has a fault for it or the plan is
+    // not valid for it, with the line of the first one.
+    ensures plan_defect { result ≡ 5 → (command : Command) × (defect : PlanDefect) × (command_in (map string_bytes words.now) ≡ Ok command)
+        × HasPlanDefect command (F.left files.old) (F.left files.new) defect
+        × IsSaid (plan_defect_line defect) (E.taken err.old) (E.taken err.new) (E.faults err.old) (E.faults err.new) }
 
     // Status 6 comes only where the command reads sources and one of the job's has a defect, with the line of the first one.
     ensures source_fault { result ≡ 6 → (command : Command) × (p : Program) × (fault : SourceFault) × (command_in (map string_bytes words.now) ≡ Ok command)
@@ -91,7 +101,7 @@ pub fn flumina<F: Files, K: Sink, E: Sink, G: Gate>(
     ensures fronts { WhereTold (F.left files.old) (F.left files.new) TookFronts }
     ensures only { WhereTold (F.left files.old) (F.left files.new) (TookOnly (IsReadBy (map string_bytes words.now) (F.left files.old))) }
 
-    // Where no count rose, the status is the one that the command, its job's text and its sources call for, or 9.
+    // Where no count rose, the status is the one that the command, its job's text, its plan and its sources call for, or 9.
     ensures completes { (command : Command) (left : Contents) (p : Program) → command_in (map string_bytes words.now) ≡ Ok command → F.left files.old ≡ Some left
         → NothingFailed command (F.left files.old) (F.faults files.old) (F.faults files.new) (K.faults out.old) (K.faults out.new)
         → IsGood command left p → (result ≡ 0) ⊎ (result ≡ 9) }
@@ -101,6 +111,9 @@ pub fn flumina<F: Files, K: Sink, E: Sink, G: Gate>(
     ensures refuses_conflict { (command : Command) (left : Contents) (p : Program) → command_in (map string_bytes words.now) ≡ Ok command → F.left files.old ≡ Some left
         → NothingFailed command (F.left files.old) (F.faults files.old) (F.faults files.new) (K.faults out.old) (K.faults out.new)
         → IsTrue (asks_accepted command) → HasJob (job_named command) left p → ¬ IsAccepted p → (result ≡ 4) ⊎ (result ≡ 9) }
+    ensures refuses_plan { (command : Command) (left : Contents) (p : Program) (plan : List ℕ) → command_in (map string_bytes words.now) ≡ Ok command → F.left files.old ≡ Some left
+        → NothingFailed command (F.left files.old) (F.faults files.old) (F.faults files.new) (K.faults out.old) (K.faults out.new)
+        → plan_named command ≡ Some plan → HasJob (job_named command) left p → IsAccepted p → ¬ HasValidPlan (job_named command) plan left p → (result ≡ 5) ⊎ (result ≡ 9) }
     ensures refuses_source { (command : Command) (left : Contents) (p : Program) (fault : SourceFault) → command_in (map string_bytes words.now) ≡ Ok command → F.left files.old ≡ Some left
         → NothingFailed command (F.left files.old) (F.faults files.old) (F.faults files.new) (K.faults out.old) (K.faults out.new)
         → IsTrue (reads_sources command) → HasJob (job_named command) left p → (IsTrue (asks_accepted command) → IsAccepted p)

@@ -13,6 +13,12 @@ source b \"b.csv\" rate 1000: inc
 source c \"c.csv\" rate 1: read
 ";
 
+/// A plan of it: the root reads, and each child adds for one source.
+pub const COUNTING_PLAN: &str = "node root: read -> l r
+node l: inc@a
+node r: inc@b
+";
+
 /// The same with the source that reads declared first.
 pub const READING_FIRST: &str = "cell count sum
 tag inc int
@@ -105,6 +111,12 @@ on z: emit \"z {p} {q}\"
 source s1 \"s1.csv\" rate 1: r
 source s2 \"s2.csv\" rate 1: r2
 source s3 \"s3.csv\" rate 10: z
+";
+
+/// A plan of it, whose right child owns nothing.
+pub const LAST_VALUES_PLAN: &str = "node root: r, r2 -> l e
+node l: z
+node e:
 ";
 
 /// A maximum of the values above 2, and the last value.

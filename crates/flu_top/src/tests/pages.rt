@@ -17,6 +17,16 @@ source app \"app.csv\" rate 500: view[0..9], update[0..9]
 source clock \"clock.csv\" rate 1: tick
 ";
 
+/// A plan of it, with predicates of keys.
+pub const PLAN: &str = "node top: tick -> views updates
+node views: -> low high
+node low: view[0..4]
+node high: view[5..9]
+node updates: -> few rest
+node few: update[3], update[0..2]
+node rest: update[4..9]@app
+";
+
 /// Page k has k + 1 views before each tick.
 pub const WEB: &str = "1,view[0],1
 3,view[1],2

@@ -1,3 +1,4 @@
+use Rattle.std.proofs.Common.{refl}
 use Rattle.std.proofs.lemmas.Result.{IfOk-weaker, IfErr-weaker}
 use Rattle.flu_rows.proofs.Told.{fronts_at}
 use Rattle.flu_top.specs.Words.{Check}
@@ -11,7 +12,7 @@ returns-in-Ok-clause-written g c =
 
 pub returns-in-Ok-clause-refused : goal.returns-in-Ok-clause-refused
 returns-in-Ok-clause-refused g c =
-    IfErr-weaker c.normal_form_of.result _ _ (λ refusal refused. check_refusal c.args.job.now c.in-Ok.program _ _ _ _ refusal c.in-Ok.ensures.read refused) c.normal_form_of.ensures.refused
+    IfErr-weaker c.normal_form_of.result _ _ (λ refusal refused. check_refusal (Check c.args.job.now) c.in-Ok.program _ _ _ _ refusal refl c.in-Ok.ensures.read refused) c.normal_form_of.ensures.refused
 
 pub returns-in-Ok-clause-fronts : goal.returns-in-Ok-clause-fronts
 returns-in-Ok-clause-fronts g c = fronts_at c.args.job.now _ _ c.in-Ok.ensures.taken

@@ -2,7 +2,7 @@ use Rattle.std.proofs.Common.{sym, subst}
 use Rattle.std.proofs.lemmas.Bool.{false≢true}
 use Rattle.flu_model.specs.Modes.{IsAccepted}
 use Rattle.flu_check.specs.Faults.{IsFirstFault}
-use Rattle.flu_top.proofs.checking.normal_form_of.Goals as goal
+use Rattle.flu_top.proofs.checking.accepted.Goals as goal
 
 pub returns-in-Err-clause-refused : goal.returns-in-Err-clause-refused
 returns-in-Err-clause-refused c = (

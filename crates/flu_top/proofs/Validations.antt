@@ -1,0 +1,117 @@
+-- A job's text is read, then a plan's, and the plan is looked at for the job.
+use Rattle.std.proofs.Common.{◌≡◌, ◌≢◌, refl, sym, ap, ◌∙◌, subst, ℕ, ◌≤◌, List, [], ◌∷◌, Bool, true, false, Option, Some, Ok, Err, inl, inr, ◌⊎◌, zero, suc, arith}
+use Rattle.std.specs.Prelude.{Contains}
+use Rattle.std.specs.Str.{bytes_eq}
+use Rattle.std.proofs.lemmas.Bool.{false≢true}
+use Rattle.std.proofs.lemmas.Slice.Eq.{bytes_eq-Decides}
+use Rattle.flu_outside.specs.Outside.{WhereTold, Contents}
+use Rattle.flu_model.specs.declared.jobs.Program.{Program}
+use Rattle.flu_model.specs.declared.plans.Node.{Node}
+use Rattle.flu_model.specs.Modes.{IsAccepted}
+use Rattle.flu_deps.specs.declared.checked.Checked.{Checked}
+use Rattle.flu_deps.specs.Checking.{program_of}
+use Rattle.flu_rows.specs.Taking.{bytes_left, TakesFrom}
+use Rattle.flu_rows.proofs.Told.{told_then, rose_behind}
+use Rattle.flu_plan.specs.Reading.{plan_in}
+use Rattle.flu_top.specs.declared.refusals.PlanDefect.TheVariants as defects
+use Rattle.flu_top.specs.declared.refusals.Refusal.{Refusal}
+use Rattle.flu_top.specs.declared.refusals.Refusal.TheVariants as refusals
+use Rattle.flu_top.specs.Words.{Valid}
+use Rattle.flu_top.specs.Taking.{TookOnly}
+use Rattle.flu_top.specs.Behind.{HasJob, plan_behind}
+use Rattle.flu_top.specs.Commands.{found_printed}
+use Rattle.flu_top.specs.Done.{IsReadName, IsWritten}
+use Rattle.flu_top.specs.Jobs.{IsJobRead}
+use Rattle.flu_top.specs.Plans.{IsPlanRead, IsTextRefusal, IsValidated, IsValidRefusal}
+use Rattle.flu_top.specs.Refusing.{HasInvalidPlan, IsRefusal}
+use Rattle.flu_top.proofs.Sequence.{told_both, may_have, emptied_is}
+
+-- ---- names
+same_or_apart : (a b : List ℕ) → (a ≡ b) ⊎ (a ≢ b)
+same_or_apart a b = by_test (bytes_eq a b) refl
+  where
+    by_test : (t : Bool) → bytes_eq a b ≡ t → (a ≡ b) ⊎ (a ≢ b)
+    by_test true t = inl ((bytes_eq-Decides a b).0 t)
+    by_test false f = inr (λ same. false≢true (sym f ∙ (bytes_eq-Decides a b).1 same))
+
+only_one : (plan name : List ℕ) → Contains (plan ∷ []) name → plan ≡ name
+only_one plan name (zero, lt, e) = e
+only_one plan name (suc k, lt, e) = absurd (omega arith)
+
+-- ---- the plan behind the job
+plan_at : (job plan : List ℕ) (p : Program) (x y : Contents) → IsJobRead job p x y × TakesFrom job x y → plan_behind job plan x p ≡ plan_in p (bytes_left y plan)
+unfolding plan_behind
+plan_at job plan p x y first = ap (λ left. plan_in p (bytes_left left plan)) (emptied_is job p x y first.0 first.1)
+
+validated_at : (job plan : List ℕ) (p : Program) (nodes : List Node) (text : List ℕ) (x y z : Contents) → IsAccepted p → IsValidated p nodes text → IsJobRead job p x y × TakesFrom job x y → IsPlanRead p plan nodes y z × TakesFrom plan y z → IsWritten (Valid job plan) text x z
+validated_at job plan p nodes text x y z accepted validated first second =
+    let is = plan_at job plan p x y first ∙ second.0.has in (
+      p,
+      record {
+        good = record {
+          has = first.0.has;
+          accepted = λ asked. accepted;
+          plan = λ name named. (nodes, by_name name named is, validated.valid);
+          sources = λ asked. absurd (false≢true asked);
+        };
+        job_end = elim (same_or_apart job plan) [ inl same ↦ ap z same ∙ second.0.end | inr apart ↦ second.1.others job apart ∙ first.0.end ];
+        other_ends = λ name found. ap z (sym (only_one plan name found)) ∙ second.0.end;
+      },
+      validated.is ∙ ap (found_printed p) (sym is),
+    )
+  where
+    by_name : (name : List ℕ) → Some plan ≡ Some name → plan_behind job plan x p ≡ Ok nodes → plan_behind job name x p ≡ Ok nodes
+    by_name name named is = let same : plan ≡ name = cc in subst (λ n. plan_behind job n x p ≡ Ok nodes) same is
+
+pub is_validated : (job plan : List ℕ) (p : Program) (nodes : List Node) (text : List ℕ) (a b c : Option Contents) → WhereTold a b (IsJobRead job p) → WhereTold a b (TakesFrom job) → IsAccepted p → WhereTold b c (IsPlanRead p plan nodes) → WhereTold b c (TakesFrom plan) → IsValidated p nodes text → WhereTold a c (IsWritten (Valid job plan) text)
+is_validated job plan p nodes text a b c read taken accepted found also validated =
+    told_then (λ x y. IsJobRead job p x y × TakesFrom job x y) (λ y z. IsPlanRead p plan nodes y z × TakesFrom plan y z) (IsWritten (Valid job plan) text) a b c
+    (λ x y z first second. validated_at job plan p nodes text x y z accepted validated first second) (told_both (IsJobRead job p) (TakesFrom job) a b read taken) (told_both (IsPlanRead p plan nodes) (TakesFrom plan) b c found also)
+
+pub only_with_plan : (job plan : List ℕ) (p : Program) (a b c : Option Contents) → WhereTold a b (IsJobRead job p) → WhereTold a b (TakesFrom job) → IsAccepted p → WhereTold b c (TakesFrom plan) → WhereTold a c (TookOnly (IsReadName a (Valid job plan)))
+only_with_plan job plan p a b c read taken accepted also =
+    let may = may_have job p a b read in
+    told_then (TakesFrom job) (TakesFrom plan) (TookOnly (IsReadName a (Valid job plan))) a b c
+    (λ x y z took more name unread. more.others name (λ same. unread (inr (p, may, λ asked. accepted, (0, omega arith, sym same)))) ∙ took.others name (λ same. unread (inl same))) taken also
+
+-- ---- what refuses a plan
+pub text_refusal : (job plan : List ℕ) (p : Program) (a b c : Option Contents) (k l m : List ℕ → ℕ) (refusal : Refusal) → WhereTold a b (IsJobRead job p) → WhereTold a b (TakesFrom job) → ((n : List ℕ) → k n ≤ l n) → IsAccepted p → IsTextRefusal p plan b c l m refusal → IsRefusal (Valid job plan) a c k m refusal
+text_refusal job plan p a b c k l m (refusals.BadWords bad) read taken rise accepted is = is
+text_refusal job plan p a b c k l m (refusals.JobFault fault) read taken rise accepted is = absurd is
+text_refusal job plan p a b c k l m (refusals.Conflict fault) read taken rise accepted is = absurd is
+text_refusal job plan p a b c k l m (refusals.PlanDefect (defects.Text fault)) read taken rise accepted is = record {
+  plan = plan;
+  program = p;
+  asked = refl;
+  accepted = accepted;
+  is_fault = is.is_fault;
+  first = told_then (λ x y. IsJobRead job p x y × TakesFrom job x y) (λ left _. plan_in p (bytes_left left plan) ≡ Err fault) (λ left _. HasJob job left p × (plan_behind job plan left p ≡ Err fault)) a b c
+      (λ x y z first e. (first.0.has, plan_at job plan p x y first ∙ e)) (told_both (IsJobRead job p) (TakesFrom job) a b read taken) is.first;
+}
+text_refusal job plan p a b c k l m (refusals.PlanDefect (defects.Invalid checked fault)) read taken rise accepted is = absurd is
+text_refusal job plan p a b c k l m (refusals.SourceFault q fault) read taken rise accepted is = absurd is
+text_refusal job plan p a b c k l m refusals.ReadFault read taken rise accepted is =
+    (plan, inr (p, may_have job p a b read, λ asked. accepted, (0, omega arith, refl)), rose_behind (k plan) (l plan) (m plan) (rise plan) is)
+text_refusal job plan p a b c k l m refusals.WriteFault read taken rise accepted is = is
+text_refusal job plan p a b c k l m refusals.NoMemory read taken rise accepted is = tt
+
+pub valid_refusal : (job plan : List ℕ) (checked : Checked) (nodes : List Node) (a b c : Option Contents) (k m : List ℕ → ℕ) (refusal : Refusal) → WhereTold a b (IsJobRead job (program_of checked)) → WhereTold a b (TakesFrom job) → IsAccepted (program_of checked) → WhereTold b c (IsPlanRead (program_of checked) plan nodes) → IsValidRefusal checked nodes refusal → IsRefusal (Valid job plan) a c k m refusal
+valid_refusal job plan checked nodes a b c k m (refusals.BadWords bad) read taken accepted found is = is
+valid_refusal job plan checked nodes a b c k m (refusals.JobFault fault) read taken accepted found is = absurd is
+valid_refusal job plan checked nodes a b c k m (refusals.Conflict fault) read taken accepted found is = absurd is
+valid_refusal job plan checked nodes a b c k m (refusals.PlanDefect (defects.Text fault)) read taken accepted found is = absurd is
+valid_refusal job plan checked nodes a b c k m (refusals.PlanDefect (defects.Invalid other fault)) read taken accepted found is =
+    subst (λ (x : Checked). HasInvalidPlan (Valid job plan) a c (program_of x) fault.plan.nodes fault.why) (sym is.0)
+    (subst (λ (ns : List Node). HasInvalidPlan (Valid job plan) a c (program_of checked) ns fault.why) (sym is.1)
+    record {
+      plan = plan;
+      asked = refl;
+      accepted = accepted;
+      invalid = is.2;
+      text = told_then (λ x y. IsJobRead job (program_of checked) x y × TakesFrom job x y) (IsPlanRead (program_of checked) plan nodes) (λ left _. HasJob job left (program_of checked) × (plan_behind job plan left (program_of checked) ≡ Ok nodes)) a b c
+          (λ x y z first second. (first.0.has, plan_at job plan (program_of checked) x y first ∙ second.has)) (told_both (IsJobRead job (program_of checked)) (TakesFrom job) a b read taken) found;
+    })
+valid_refusal job plan checked nodes a b c k m (refusals.SourceFault q fault) read taken accepted found is = absurd is
+valid_refusal job plan checked nodes a b c k m refusals.ReadFault read taken accepted found is = absurd is
+valid_refusal job plan checked nodes a b c k m refusals.WriteFault read taken accepted found is = is
+valid_refusal job plan checked nodes a b c k m refusals.NoMemory read taken accepted found is = tt

@@ -1,0 +1,63 @@
+-- What the reading of a plan and the look at its validity give, and what refuses it.
+use Rattle.std.specs.Prelude.{◌≡◌, ◌≢◌, ℕ, List, [], Option, Some, Ok, Err, ⊤}
+use Rattle.flu_outside.specs.Outside.{Contents, WhereTold, Rose}
+use Rattle.flu_model.specs.declared.jobs.Program.{Program}
+use Rattle.flu_model.specs.declared.plans.Node.{Node}
+use Rattle.flu_model.specs.Validity.{IsValid}
+use Rattle.flu_deps.specs.declared.checked.Checked.{Checked}
+use Rattle.flu_deps.specs.Checking.{program_of}
+use Rattle.flu_rows.specs.Taking.{bytes_left}
+use Rattle.flu_plan.specs.declared.fault.PlanFault.{PlanFault}
+use Rattle.flu_plan.specs.declared.fault.PlanFault.TheVariants as faults
+use Rattle.flu_plan.specs.Reading.{plan_in}
+use Rattle.flu_plan.specs.Printing.{printed}
+use Rattle.flu_valid.specs.declared.faults.Invalid.{Invalid}
+use Rattle.flu_valid.specs.Faults.{IsFirstFault}
+use Rattle.flu_top.specs.declared.refusals.PlanDefect.TheVariants as defects
+use Rattle.flu_top.specs.declared.refusals.Refusal.{Refusal}
+use Rattle.flu_top.specs.declared.refusals.Refusal.TheVariants as refusals
+
+-- the bytes under a name are the text of this plan of the job, and were read to their end
+pub record IsPlanRead (p : Program) (plan : List ℕ) (nodes : List Node) (old new : Contents) : Type 0 where
+  pub has : plan_in p (bytes_left old plan) ≡ Ok nodes
+  pub end : new plan ≡ Some []
+
+-- the bytes under a name have this fault as the text of a plan of the job
+pub record HasTextFault (p : Program) (plan : List ℕ) (old new : Option Contents) (fault : PlanFault) : Type 0 where
+  pub is_fault : fault ≢ faults.NoMemory
+  pub first : WhereTold old new (λ left _. plan_in p (bytes_left left plan) ≡ Err fault)
+
+-- why a plan was not read
+abbrev pub IsTextRefusal : Program → List ℕ → Option Contents → Option Contents → (List ℕ → ℕ) → (List ℕ → ℕ) → Refusal → Type 0
+IsTextRefusal p plan old new before now (refusals.BadWords bad) = ⊥
+IsTextRefusal p plan old new before now (refusals.JobFault fault) = ⊥
+IsTextRefusal p plan old new before now (refusals.Conflict fault) = ⊥
+IsTextRefusal p plan old new before now (refusals.PlanDefect (defects.Text fault)) = HasTextFault p plan old new fault
+IsTextRefusal p plan old new before now (refusals.PlanDefect (defects.Invalid checked fault)) = ⊥
+IsTextRefusal p plan old new before now (refusals.SourceFault q fault) = ⊥
+IsTextRefusal p plan old new before now refusals.ReadFault = Rose (before plan) (now plan)
+IsTextRefusal p plan old new before now refusals.WriteFault = ⊥
+IsTextRefusal p plan old new before now refusals.NoMemory = ⊤
+
+-- the plan is not valid for the job, and this is the first thing that keeps it from that
+pub record IsInvalid (p : Program) (nodes : List Node) (why : Invalid) : Type 0 where
+  pub refused : ¬ IsValid p nodes
+  pub first : IsFirstFault p nodes why
+
+-- the plan is valid for the job, and this is its normal form
+pub record IsValidated (p : Program) (nodes : List Node) (text : List ℕ) : Type 0 where
+  pub valid : IsValid p nodes
+  pub is : text ≡ printed p nodes
+
+-- why there is no normal form of a plan that was read
+abbrev pub IsValidRefusal : Checked → List Node → Refusal → Type 0
+IsValidRefusal checked nodes (refusals.BadWords bad) = ⊥
+IsValidRefusal checked nodes (refusals.JobFault fault) = ⊥
+IsValidRefusal checked nodes (refusals.Conflict fault) = ⊥
+IsValidRefusal checked nodes (refusals.PlanDefect (defects.Text fault)) = ⊥
+IsValidRefusal checked nodes (refusals.PlanDefect (defects.Invalid other fault)) =
+    (other ≡ checked) × (fault.plan.nodes ≡ nodes) × IsInvalid (program_of checked) nodes fault.why
+IsValidRefusal checked nodes (refusals.SourceFault q fault) = ⊥
+IsValidRefusal checked nodes refusals.ReadFault = ⊥
+IsValidRefusal checked nodes refusals.WriteFault = ⊥
+IsValidRefusal checked nodes refusals.NoMemory = ⊤

@@ -1,0 +1,150 @@
+//! The lines of plans on err, which take no memory.
+
+ghost use Rattle.std.specs.Prelude.{◌≤◌, ◌++◌, OnOk, OnErr};
+ghost use Rattle.flu_outside.specs.Outside.{Rose, WhereTold};
+ghost use Rattle.flu_report.specs.Writing.{AppendsAll, AppendsPart};
+ghost use Rattle.flu_valid.specs.declared.faults.Invalid.{Invalid};
+ghost use Rattle.flu_top.specs.Lines.{plan_line, plan_fault_text, owned_text, invalid_text, plan_defect_line};
+
+use crate::lines::{write_over_limit, write_place};
+use crate::names::{node_name, write_itag};
+use crate::pieces::write_pieces;
+use crate::refusals::PlanDefect;
+use flu_model::{Itag, Plan, Program};
+use flu_outside::{Failed, Sink};
+use flu_plan::PlanFault;
+use flu_report::write_all;
+use flu_valid::Invalid;
+
+// What a line of what is wrong with a plan begins with.
+const PLAN: &[u8] = b"flumina: plan: ";
+
+/// Writes the line of what is wrong with a plan.
+pub fn write_plan_defect<E: Sink>(err: &mut E, defect: &PlanDefect) -> Result<(), Failed>
+    ensures all { OnOk result (WhereTold (E.taken err.old) (E.taken err.new) (AppendsAll (plan_defect_line defect.now))) }
+    ensures part { OnErr result (WhereTold (E.taken err.old) (E.taken err.new) (AppendsPart (plan_defect_line defect.now))) }
+    ensures failed { OnErr result (Rose (E.faults err.old) (E.faults err.new)) }
+{
+    match defect {
+        PlanDefect::Text(fault) => write_plan_fault(err, fault),
+        PlanDefect::Invalid(checked, fault) => {
+            write_invalid(err, checked.program(), &fault.plan, fault.why)
+        }
+    }
+}
+
+// Writes the line of a fault in a plan text.
+fn write_plan_fault<E: Sink>(err: &mut E, fault: &PlanFault) -> Result<(), Failed>
+    ensures all { OnOk result (WhereTold (E.taken err.old) (E.taken err.new) (AppendsAll (plan_line (plan_fault_text fault.now)))) }
+    ensures part { OnErr result (WhereTold (E.taken err.old) (E.taken err.new) (AppendsPart (plan_line (plan_fault_text fault.now)))) }
+    ensures failed { OnErr result (Rose (E.faults err.old) (E.faults err.new)) }
+{
+    match fault {
+        PlanFault::BadToken { at } => write_place(err, PLAN, b"bad token at ", *at),
+        PlanFault::Unexpected { at } => write_place(err, PLAN, b"unexpected at ", *at),
+        PlanFault::UnknownName { at } => write_place(err, PLAN, b"unknown name at ", *at),
+        PlanFault::NotATree { name } => write_not_a_tree(err, name.as_str().as_bytes()),
+        PlanFault::OverLimit { what, count } => write_over_limit(err, PLAN, *what, *count),
+        PlanFault::NoMemory => write_all(err, b"flumina: plan: no memory\n"),
+    }
+}
+
+// Writes the line of nodes that are no tree.
+fn write_not_a_tree<E: Sink>(err: &mut E, name: &[u8]) -> Result<(), Failed>
+    ensures all { OnOk result (WhereTold (E.taken err.old) (E.taken err.new) (AppendsAll (plan_line (plan_fault_text (PlanFault.NotATree name.now))))) }
+    ensures part { OnErr result (WhereTold (E.taken err.old) (E.taken err.new) (AppendsPart (plan_line (plan_fault_text (PlanFault.NotATree name.now))))) }
+    ensures failed { OnErr result (Rose (E.faults err.old) (E.faults err.new)) }
+{
+    write_pieces(err, &[b"flumina: plan: not a tree at ", name, b"\n"])
+}
+
+// Writes the line of what keeps a plan from being valid for a job.
+fn write_invalid<E: Sink>(
+    err: &mut E,
+    program: &Program,
+    plan: &Plan,
+    why: Invalid,
+) -> Result<(), Failed>
+    ensures all { OnOk result (WhereTold (E.taken err.old) (E.taken err.new) (AppendsAll (plan_line (invalid_text program.now plan.now.nodes why)))) }
+    ensures part { OnErr result (WhereTold (E.taken err.old) (E.taken err.new) (AppendsPart (plan_line (invalid_text program.now plan.now.nodes why)))) }
+    ensures failed { OnErr result (Rose (E.faults err.old) (E.faults err.new)) }
+{
+    match why {
+        Invalid::Unowned { itag } => write_unowned(err, program, plan, itag),
+        Invalid::OwnedTwice { itag, a, b } => write_owned_twice(err, program, plan, itag, a, b),
+        Invalid::Clash { a, i, b, j } => write_clash(err, program, plan, a, i, b, j),
+    }
+}
+
+// Writes the line of an itag that no node owns.
+fn write_unowned<E: Sink>(
+    err: &mut E,
+    program: &Program,
+    plan: &Plan,
+    itag: Itag,
+) -> Result<(), Failed>
+    ensures all { OnOk result (WhereTold (E.taken err.old) (E.taken err.new) (AppendsAll (plan_line (invalid_text program.now plan.now.nodes (Invalid.Unowned itag))))) }
+    ensures part { OnErr result (WhereTold (E.taken err.old) (E.taken err.new) (AppendsPart (plan_line (invalid_text program.now plan.now.nodes (Invalid.Unowned itag))))) }
+    ensures failed { OnErr result (Rose (E.faults err.old) (E.faults err.new)) }
+{
+    write_all(err, PLAN)?;
+    write_itag(err, program, itag, b" has no owner\n")
+}
+
+// Writes the line of an itag that two nodes own.
+fn write_owned_twice<E: Sink>(
+    err: &mut E,
+    program: &Program,
+    plan: &Plan,
+    itag: Itag,
+    a: u32,
+    b: u32,
+) -> Result<(), Failed>
+    ensures all { OnOk result (WhereTold (E.taken err.old) (E.taken err.new) (AppendsAll (plan_line (invalid_text program.now plan.now.nodes (Invalid.OwnedTwice itag a b))))) }
+    ensures part { OnErr result (WhereTold (E.taken err.old) (E.taken err.new) (AppendsPart (plan_line (invalid_text program.now plan.now.nodes (Invalid.OwnedTwice itag a b))))) }
+    ensures failed { OnErr result (Rose (E.faults err.old) (E.faults err.new)) }
+{
+    let first = node_name(plan, a).as_bytes();
+    let second = node_name(plan, b).as_bytes();
+    write_all(err, PLAN)?;
+    write_itag(err, program, itag, b" has two owners, ")?;
+    write_pieces(err, &[first, b" and ", second, b"\n"])
+}
+
+// Writes the line of two itags of nodes that are not related.
+fn write_clash<E: Sink>(
+    err: &mut E,
+    program: &Program,
+    plan: &Plan,
+    a: u32,
+    i: Itag,
+    b: u32,
+    j: Itag,
+) -> Result<(), Failed>
+    ensures all { OnOk result (WhereTold (E.taken err.old) (E.taken err.new) (AppendsAll (plan_line (invalid_text program.now plan.now.nodes (Invalid.Clash a i b j))))) }
+    ensures part { OnErr result (WhereTold (E.taken err.old) (E.taken err.new) (AppendsPart (plan_line (invalid_text program.now plan.now.nodes (Invalid.Clash a i b j))))) }
+    ensures failed { OnErr result (Rose (E.faults err.old) (E.faults err.new)) }
+{
+    write_all(err, b"flumina: plan: clash of ")?;
+    write_owned(err, program, plan, i, a, b" and ")?;
+    write_owned(err, program, plan, j, b, b"\n")
+}
+
+// Writes an itag with a node that owns it, and what stands behind them.
+fn write_owned<E: Sink>(
+    err: &mut E,
+    program: &Program,
+    plan: &Plan,
+    itag: Itag,
+    node: u32,
+    behind: &[u8],
+) -> Result<(), Failed>
+    ensures all { OnOk result (WhereTold (E.taken err.old) (E.taken err.new) (AppendsAll (owned_text program.now plan.now.nodes itag node ++ behind.now))) }
+    ensures part { OnErr result (WhereTold (E.taken err.old) (E.taken err.new) (AppendsPart (owned_text program.now plan.now.nodes itag node ++ behind.now))) }
+    ensures failed { OnErr result (Rose (E.faults err.old) (E.faults err.new)) }
+    ensures counts { E.faults err.old ≤ E.faults err.new }
+{
+    let name = node_name(plan, node).as_bytes();
+    write_itag(err, program, itag, b" at ")?;
+    write_pieces(err, &[name, behind])
+}

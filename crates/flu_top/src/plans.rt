@@ -1,0 +1,32 @@
+//! The plan that a file holds.
+
+ghost use Rattle.std.specs.Prelude.{◌≤◌, List, ℕ, IfOk, IfErr};
+ghost use Rattle.flu_outside.specs.Outside.{WhereTold};
+ghost use Rattle.flu_rows.specs.Taking.{TakesFrom};
+ghost use Rattle.flu_top.specs.Plans.{IsPlanRead, IsTextRefusal};
+
+use crate::input::read_all;
+use crate::refusals::Refusal;
+use flu_model::{Plan, Program};
+use flu_outside::Files;
+use flu_plan::read_plan;
+use std::alloc::Global;
+
+// The most bytes that a plan text has.
+const MOST_BYTES: usize = 1_048_576;
+
+/// The plan of a job that a file holds.
+pub fn plan_of<F: Files>(
+    alloc: Global,
+    files: &mut F,
+    program: &Program,
+    plan: &str,
+) -> Result<Plan, Refusal>
+    ensures read { IfOk result (λ found. WhereTold (F.left files.old) (F.left files.new) (IsPlanRead program.now plan.now found.nodes)) }
+    ensures refused { IfErr result (IsTextRefusal program.now plan.now (F.left files.old) (F.left files.new) (F.faults files.old) (F.faults files.new)) }
+    ensures taken { WhereTold (F.left files.old) (F.left files.new) (TakesFrom plan.now) }
+{
+    let bytes = read_all(alloc, files, plan, MOST_BYTES)?;
+    let found = read_plan(alloc, program, &bytes)?;
+    Ok(found)
+}
