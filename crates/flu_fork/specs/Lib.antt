@@ -1,0 +1,5 @@
+pub mod Settings
+pub mod Classes
+pub mod Fitting
+pub mod Parts
+pub mod Laws
