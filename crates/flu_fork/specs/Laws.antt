@@ -25,7 +25,7 @@ NothingIsCopied = (p : Program) (set : Itags) (c : Cell) → is_copied p set c �
 
 -- a cell that an itag of a node's subtree needs is base there
 abbrev pub NeededIsBase : Type 0
-NeededIsBase = (k : Setting) (w i : ℕ) (c : Cell) → IsSetting k → w < length k.nodes → below k.program k.nodes w i ≡ true → needs (mode_by k.program i c) ≡ true → is_base k.program k.nodes w c ≡ true
+NeededIsBase = (k : Setting) (w i : ℕ) (c : Cell) → IsSetting k → w < length k.nodes → i < count_of_itags k.program → below k.program k.nodes w i ≡ true → needs (mode_by k.program i c) ≡ true → is_base k.program k.nodes w c ≡ true
 
 -- no cell is both base and away
 abbrev pub BaseIsNotAway : Type 0

@@ -1,0 +1,5 @@
+pub mod General
+pub mod Trees
+pub mod Within
+pub mod Sides
+pub mod Cells

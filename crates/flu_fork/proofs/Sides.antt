@@ -1,0 +1,141 @@
+-- The itags below, above and beside a node of a valid plan.
+use Rattle.std.proofs.Common.{◌≡◌, ◌<◌, ◌≤◌, ◌+◌, ℕ, zero, suc, Bool, true, false, Option, Some, None, List, [], ◌∷◌, length, ◌⊎◌, inl, inr, refl, sym, ap, subst, ◌∙◌, arith}
+use Rattle.std.specs.Prelude.{◌==◌, ◌||◌, ◌&&◌, not, slice_get}
+use Rattle.std.proofs.lemmas.Bool.{cases_Bool, cases_eq, ne_eqb}
+use Rattle.std.proofs.lemmas.Option.{slice_get_within}
+use Rattle.flu_lemmas.proofs.Searches.{eq_true}
+use Rattle.flu_lemmas.proofs.Tests.{and_left, and_right, both, false_if_not, not_both, not_true}
+use Rattle.flu_model.specs.declared.jobs.Program.{Program}
+use Rattle.flu_model.specs.declared.plans.Node.{Node}
+use Rattle.flu_model.specs.Itags.{count_of_itags, tag_of_itag, is_dependent}
+use Rattle.flu_model.specs.Owners.{node_owns, found_owns, owns, owner_of, is_within, are_related}
+use Rattle.flu_deps.specs.Owned.{kids_at}
+use Rattle.flu_deps.proofs.NodeLemmas.{counted_stands}
+use Rattle.flu_fork.specs.Settings.{Setting, IsSetting}
+use Rattle.flu_fork.specs.Classes.{itag, below, above, beside}
+use Rattle.flu_fork.proofs.General.{not_false, position_passes}
+use Rattle.flu_fork.proofs.Trees.{IsUnder, AreKids, are_kids, IsPlanted, planted}
+use Rattle.flu_fork.proofs.Within.{within_itself, within_parent, not_in_both, in_root, AreApart, Siblings, left_first, right_first, apart_cases, apart_kid, apart_sibling, within_is_apart}
+
+-- ---- what an owner says
+below_by : (p : Program) (nodes : List Node) (w i v : ℕ) → owner_of p nodes (itag i) ≡ Some v → below p nodes w i ≡ is_within nodes w v
+below_by p nodes w i v e = rw e refl
+
+above_by : (p : Program) (nodes : List Node) (w i v : ℕ) → owner_of p nodes (itag i) ≡ Some v → above p nodes w i ≡ (is_within nodes v w && not (v == w))
+above_by p nodes w i v e = rw e refl
+
+below_none : (p : Program) (nodes : List Node) (w i : ℕ) → owner_of p nodes (itag i) ≡ None → below p nodes w i ≡ false
+below_none p nodes w i e = rw e refl
+
+above_none : (p : Program) (nodes : List Node) (w i : ℕ) → owner_of p nodes (itag i) ≡ None → above p nodes w i ≡ false
+above_none p nodes w i e = rw e refl
+
+-- the owner of an itag
+pub record OwnerOf (p : Program) (nodes : List Node) (i : ℕ) : Type 0 where
+  pub node : ℕ
+  pub is : owner_of p nodes (itag i) ≡ Some node
+  pub there : node < length nodes
+  pub owned : owns p nodes node (itag i) ≡ true
+
+the_owner : (p : Program) (nodes : List Node) (i v : ℕ) → owner_of p nodes (itag i) ≡ Some v → OwnerOf p nodes i
+the_owner p nodes i v e =
+    let found = position_passes (node_owns p (itag i)) nodes v e in
+    record { node = v; is = e; there = slice_get_within nodes v found.0 found.1; owned = ap (found_owns p (itag i)) found.1 ∙ found.2 }
+
+-- what is below a node has an owner
+below_owner : (p : Program) (nodes : List Node) (w i : ℕ) → below p nodes w i ≡ true → OwnerOf p nodes i
+below_owner p nodes w i e =
+    elim (owner_of p nodes (itag i)) as (λ o. owner_of p nodes (itag i) ≡ o → OwnerOf p nodes i) [
+      | None ↦ λ none. absurd (not_both _ e (below_none p nodes w i none))
+      | Some v ↦ λ some. the_owner p nodes i v some
+    ] refl
+
+module _ (k : Setting) (ok : IsSetting k) where
+  pub the_tree : IsPlanted k.nodes
+  the_tree = planted k.nodes ok.one_tree
+
+  pub owner_at : (i : ℕ) → i < count_of_itags k.program → OwnerOf k.program k.nodes i
+  owner_at i lt =
+      elim (owner_of k.program k.nodes (itag i)) as (λ o. owner_of k.program k.nodes (itag i) ≡ o → OwnerOf k.program k.nodes i) [
+        | None ↦ λ none. absurd (counted_stands (node_owns k.program (itag i)) k.nodes (ok.valid.one_owner (itag i) lt) none)
+        | Some v ↦ λ some. the_owner k.program k.nodes i v some
+      ] refl
+
+  pub owner_is_below : (w i : ℕ) → owner_of k.program k.nodes (itag i) ≡ Some w → below k.program k.nodes w i ≡ true
+  unfolding the_owner
+  owner_is_below w i e = let o = the_owner k.program k.nodes i w e in below_by k.program k.nodes w i w e ∙ within_itself k.nodes the_tree w o.there
+
+  pub root_has_all : (i : ℕ) → i < count_of_itags k.program → below k.program k.nodes 0 i ≡ true
+  root_has_all i lt = let o = owner_at i lt in below_by k.program k.nodes 0 i o.node o.is ∙ in_root k.nodes the_tree o.node o.there
+
+  -- what is beside a node is owned by a node apart from it
+  beside_apart : (w i v : ℕ) → v < length k.nodes → owner_of k.program k.nodes (itag i) ≡ Some v → beside k.program k.nodes w i ≡ true → AreApart k.nodes the_tree w v
+  beside_apart w i v lt e out =
+      let outside : is_within k.nodes w v ≡ false = sym (below_by k.program k.nodes w i v e) ∙ not_true _ (and_left _ _ out) in
+      let not_above : (is_within k.nodes v w && not (v == w)) ≡ false = sym (above_by k.program k.nodes w i v e) ∙ not_true _ (and_right (not (below k.program k.nodes w i)) _ out) in
+      let differ : (v == w) ≡ false = ne_eqb v w (λ same. not_both _ (ap (λ n. is_within k.nodes n v) (sym same) ∙ within_itself k.nodes the_tree v lt) outside) in
+      (outside, false_if_not _ (λ h. not_both _ (both _ _ h (not_false _ differ)) not_above))
+
+  apart_beside : (w i v : ℕ) → owner_of k.program k.nodes (itag i) ≡ Some v → AreApart k.nodes the_tree w v → beside k.program k.nodes w i ≡ true
+  apart_beside w i v e apart =
+      both _ _ (not_false _ (below_by k.program k.nodes w i v e ∙ apart.0))
+      (not_false _ (above_by k.program k.nodes w i v e ∙ false_if_not _ (λ h. not_both _ (and_left _ _ h) apart.1)))
+
+  pub beside_is_not_below : (w i : ℕ) → beside k.program k.nodes w i ≡ true → below k.program k.nodes w i ≡ false
+  beside_is_not_below w i out = not_true _ (and_left _ _ out)
+
+  -- itags below a node and beside it are independent
+  pub independent : (w i j : ℕ) → i < count_of_itags k.program → j < count_of_itags k.program → below k.program k.nodes w i ≡ true → beside k.program k.nodes w j ≡ true
+      → is_dependent k.program (tag_of_itag k.program (itag i)) (tag_of_itag k.program (itag j)) ≡ false
+  independent w i j hi hj inside out =
+      let a = owner_at i hi in
+      let b = owner_at j hj in
+      let apart = beside_apart w j b.node b.there b.is out in
+      let within_w : is_within k.nodes w a.node ≡ true = sym (below_by k.program k.nodes w i a.node a.is) ∙ inside in
+      let apart_owners : AreApart k.nodes the_tree a.node b.node = within_is_apart k.nodes the_tree w a.node b.node a.there b.there within_w apart in
+      ok.valid.independent a.node b.node (itag i) (itag j) hi hj a.owned b.owned ((λ t. apart_owners.0 t || apart_owners.1 t))
+
+  -- two children of a node, in either order
+  abbrev pub AreSiblings : ℕ → ℕ → ℕ → Type 0
+  AreSiblings w x y = Siblings k.nodes the_tree w x y
+
+  pub left_and_right : (w left right : ℕ) → kids_at k.nodes w ≡ Some (left, right) → AreSiblings w left right
+  left_and_right w left right e = left_first k.nodes the_tree w left right e (are_kids k.nodes ok.one_tree w left right e)
+
+  pub right_and_left : (w left right : ℕ) → kids_at k.nodes w ≡ Some (left, right) → AreSiblings w right left
+  right_and_left w left right e = right_first k.nodes the_tree w left right e (are_kids k.nodes ok.one_tree w left right e)
+
+  pub kid_below : (w x y i : ℕ) → AreSiblings w x y → below k.program k.nodes x i ≡ true → below k.program k.nodes w i ≡ true
+  kid_below w x y i s inside =
+      let o = below_owner k.program k.nodes x i inside in
+      below_by k.program k.nodes w i o.node o.is ∙ within_parent k.nodes the_tree w x o.node s.first o.there (sym (below_by k.program k.nodes x i o.node o.is) ∙ inside)
+
+  pub not_below_both : (w x y i : ℕ) → AreSiblings w x y → below k.program k.nodes x i ≡ true → below k.program k.nodes y i ≡ false
+  not_below_both w x y i s inside =
+      let o = below_owner k.program k.nodes x i inside in
+      false_if_not _ (λ h. not_in_both k.nodes the_tree w x y o.node s.first s.second s.differ o.there
+      (sym (below_by k.program k.nodes x i o.node o.is) ∙ inside) (sym (below_by k.program k.nodes y i o.node o.is) ∙ h))
+
+  -- what is beside a child is beside its parent or below its sibling
+  pub beside_cases : (w x y i : ℕ) → i < count_of_itags k.program → AreSiblings w x y → beside k.program k.nodes x i ≡ true → (beside k.program k.nodes w i ≡ true) ⊎ (below k.program k.nodes y i ≡ true)
+  beside_cases w x y i hi s out =
+      let o = owner_at i hi in
+      elim (apart_cases k.nodes the_tree w x y o.node s o.there (beside_apart x i o.node o.there o.is out)) [
+        | inl apart ↦ inl (apart_beside w i o.node o.is apart)
+        | inr there ↦ inr (below_by k.program k.nodes y i o.node o.is ∙ there)
+      ]
+
+  pub beside_kid : (w x y i : ℕ) → i < count_of_itags k.program → AreSiblings w x y → beside k.program k.nodes w i ≡ true → beside k.program k.nodes x i ≡ true
+  beside_kid w x y i hi s out =
+      let o = owner_at i hi in
+      apart_beside x i o.node o.is (apart_kid k.nodes the_tree w x o.node s.first o.there (beside_apart w i o.node o.there o.is out))
+
+  pub beside_sibling : (w x y i : ℕ) → AreSiblings w x y → below k.program k.nodes y i ≡ true → beside k.program k.nodes x i ≡ true
+  beside_sibling w x y i s inside =
+      let o = below_owner k.program k.nodes y i inside in
+      apart_beside x i o.node o.is (apart_sibling k.nodes the_tree w x y o.node s o.there (sym (below_by k.program k.nodes y i o.node o.is) ∙ inside))
+
+  -- itags below two siblings are independent
+  pub across : (w x y i j : ℕ) → AreSiblings w x y → i < count_of_itags k.program → j < count_of_itags k.program → below k.program k.nodes x i ≡ true → below k.program k.nodes y j ≡ true
+      → is_dependent k.program (tag_of_itag k.program (itag i)) (tag_of_itag k.program (itag j)) ≡ false
+  across w x y i j s hi hj one two = independent x i j hi hj one (beside_sibling w x y j s two)
