@@ -65,6 +65,10 @@ module _ (k : Setting) (ok : IsSetting k) where
   unfolding the_owner
   owner_is_below w i e = let o = the_owner k.program k.nodes i w e in below_by k.program k.nodes w i w e ∙ within_itself k.nodes the_tree w o.there
 
+  pub owner_is_there : (w i : ℕ) → owner_of k.program k.nodes (itag i) ≡ Some w → w < length k.nodes
+  unfolding the_owner
+  owner_is_there w i e = (the_owner k.program k.nodes i w e).there
+
   pub root_has_all : (i : ℕ) → i < count_of_itags k.program → below k.program k.nodes 0 i ≡ true
   root_has_all i lt = let o = owner_at i lt in below_by k.program k.nodes 0 i o.node o.is ∙ in_root k.nodes the_tree o.node o.there
 
