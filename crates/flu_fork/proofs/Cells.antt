@@ -1,7 +1,7 @@
 -- The classes of cells at a node and at its children.
-use Rattle.std.proofs.Common.{◌≡◌, ◌<◌, ◌≤◌, ◌+◌, ℕ, zero, suc, Bool, true, false, cond, Option, Some, None, List, [], ◌∷◌, length, ◌⊎◌, inl, inr, refl, sym, ap, subst, ◌∙◌, arith}
-use Rattle.std.specs.Prelude.{◌==◌, ◌||◌, ◌&&◌, not}
-use Rattle.std.proofs.lemmas.Bool.{cases_Bool, cases_eq, ne_eqb}
+use Rattle.std.proofs.Common.{◌≡◌, ◌<◌, ℕ, zero, suc, Bool, true, false, cond, Some, ◌∷◌, length, ◌⊎◌, inl, inr, refl, sym, ap, ◌∙◌, arith}
+use Rattle.std.specs.Prelude.{◌&&◌, not}
+use Rattle.std.proofs.lemmas.Bool.{cases_eq, ne_eqb}
 use Rattle.std.proofs.lemmas.List.Elements.{Contains-get_or}
 use Rattle.flu_lemmas.proofs.Searches.{eq_true}
 use Rattle.flu_lemmas.proofs.Tests.{and_left, and_right, both, false_if_not, not_both, not_true}
@@ -9,22 +9,20 @@ use Rattle.flu_model.specs.declared.events.Cell.{Cell}
 use Rattle.flu_model.specs.declared.jobs.Program.{Program}
 use Rattle.flu_model.specs.declared.modes.Mode.{Mode}
 use Rattle.flu_model.specs.declared.modes.Mode.TheVariants.{None as NoMode, Add as AddMode, Raise as RaiseMode, Own}
-use Rattle.flu_model.specs.declared.plans.Node.{Node}
 use Rattle.flu_model.specs.Itags.{itags, count_of_itags, tag_of_itag, source_of_itag, is_dependent}
 use Rattle.flu_model.specs.Listing.{tag}
 use Rattle.flu_model.specs.Modes.{IsInUniverse}
-use Rattle.flu_model.specs.Owners.{path_up}
 use Rattle.flu_deps.specs.Owned.{kids_at}
 use Rattle.flu_laws.specs.Uses.{needs, writes}
 use Rattle.flu_laws.specs.Lawful.{IsLawful}
 use Rattle.flu_laws.proofs.Lawful.{accepted_is_lawful}
 use Rattle.flu_fork.specs.Settings.{Setting, IsSetting}
-use Rattle.flu_fork.specs.Classes.{Itags, itag, below, beside, mode_by, some_has, is_owned, is_moved, is_copied, is_base_at_child, is_base_on, is_base, is_away}
+use Rattle.flu_fork.specs.Classes.{Itags, itag, below, beside, mode_by, some_has, is_owned, is_moved, is_base_at_child, is_base_on, is_base, is_away}
 use Rattle.flu_fork.specs.Laws.{NothingIsCopied, NeededIsBase, BaseIsNotAway}
-use Rattle.flu_fork.proofs.General.{not_false, InRange, any_in_range, found_in_range}
+use Rattle.flu_fork.proofs.General.{not_false, any_in_range, found_in_range}
 use Rattle.flu_fork.proofs.Trees.{IsUnder}
 use Rattle.flu_fork.proofs.Within.{path_root, path_step, path_first}
-use Rattle.flu_fork.proofs.Sides.{the_tree, AreSiblings, left_and_right, right_and_left, kid_below, not_below_both, beside_cases, beside_kid, beside_sibling, beside_is_not_below, independent, across, root_has_all}
+use Rattle.flu_fork.proofs.Sides.{the_tree, AreSiblings, left_and_right, right_and_left, kid_below, beside_cases, beside_kid, beside_sibling, beside_is_not_below, independent, across, root_has_all}
 
 -- ---- modes
 needs_writes : (m : Mode) → needs m ≡ true → writes m ≡ true
@@ -65,7 +63,7 @@ moved_is_owned p set c =
 
 -- ---- at the nodes of a plan
 module _ (k : Setting) (ok : IsSetting k) where
-  lawful : IsLawful k.program
+  pub lawful : IsLawful k.program
   lawful = accepted_is_lawful k.program ok.accepted
 
   in_universe : (i : ℕ) → i < count_of_itags k.program → IsInUniverse k.program (tag_of_itag k.program (itag i))
@@ -153,6 +151,12 @@ module _ (k : Setting) (ok : IsSetting k) where
   owned_is_base w c lt owned =
       let one = some_found k.program needs (below k.program k.nodes w) c owned in
       needed_is_base w one.number c lt one.in_range one.in_set one.has
+
+  -- and at its parent
+  pub owned_is_base_up : (w x y : ℕ) (c : Cell) → AreSiblings k ok w x y → is_owned k.program (below k.program k.nodes x) c ≡ true → is_base k.program k.nodes w c ≡ true
+  owned_is_base_up w x y c s owned =
+      let one = some_found k.program needs (below k.program k.nodes x) c owned in
+      needed_is_base w one.number c (let a = s.first.there in let b = s.first.earlier in omega arith) one.in_range (kid_below k ok w x y one.number s one.in_set) one.has
 
   -- ---- away cells
   -- what is away at a node is away at its children

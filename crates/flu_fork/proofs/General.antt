@@ -1,10 +1,11 @@
 -- General lemmas on tests, ranges and lists.
-use Rattle.std.proofs.Common.{◌≡◌, ◌+◌, ◌<◌, ◌≤◌, ℕ, zero, suc, Bool, true, false, cond, Option, Some, None, List, [], ◌∷◌, ◌++◌, length, ◌⊎◌, inl, inr, refl, sym, ap, ◌∙◌, arith}
-use Rattle.std.specs.Prelude.{◌&&◌, ◌||◌, not, option_map, position, slice_get, slice_index, ltb}
+use Rattle.std.proofs.Common.{◌≡◌, ◌+◌, ◌<◌, ◌≤◌, ℕ, zero, suc, Bool, true, false, cond, Option, Some, None, List, [], ◌∷◌, ◌++◌, length, ◌⊎◌, inl, inr, refl, sym, ap, subst, ◌∙◌, arith}
+use Rattle.std.specs.Prelude.{◌||◌, not, option_map, position, slice_get, ltb}
 use Rattle.std.specs.List.{list_any, range_with_len, position_or_len, AllByRecursion}
 use Rattle.std.proofs.lemmas.Bool.{cases_Bool, cases_eq}
 use Rattle.std.proofs.lemmas.Bool.Decides.{nat_tests}
 use Rattle.flu_lemmas.proofs.Prefixes.{mapped}
+use Rattle.flu_laws.proofs.General.{all_back}
 
 -- ---- tests
 pub or_left : (a b : Bool) → a ≡ true → (a || b) ≡ true
@@ -105,3 +106,12 @@ position_passes p (x ∷ xs) k e =
 pub all_append : {X : Type 0} (P : X → Type 0) (xs ys : List X) → AllByRecursion P xs → AllByRecursion P ys → AllByRecursion P (xs ++ ys)
 all_append P [] ys a b = b
 all_append P (x ∷ xs) ys a b = (a.0, all_append P xs ys a.1 b)
+
+-- it holds of the one at a place
+pub all_at_place : {X : Type 0} (P : X → Type 0) (xs before after : List X) (x : X) → xs ≡ before ++ x ∷ after → AllByRecursion P xs → P x
+all_at_place P xs before after x split all = (all_back P before (x ∷ after) (subst (AllByRecursion P) split all)).0
+
+-- and what holds of the one at each place holds of each
+pub all_from_places : {X : Type 0} (P : X → Type 0) (xs : List X) → ((before after : List X) (x : X) → xs ≡ before ++ x ∷ after → P x) → AllByRecursion P xs
+all_from_places P [] at = tt
+all_from_places P (x ∷ xs) at = (at [] xs x refl, all_from_places P xs (λ before after y e. at (x ∷ before) after y (ap (λ us. x ∷ us) e)))

@@ -1,5 +1,5 @@
 -- The changes of a cell keep to its family, and what fits a node holds values of the job's sorts.
-use Rattle.std.proofs.Common.{◌≡◌, ℕ, ℤ, Bool, true, false, cond, Option, Some, None, List, [], ◌∷◌, inl, inr, refl, sym, subst}
+use Rattle.std.proofs.Common.{◌≡◌, ℤ, Bool, true, Option, Some, None, List, [], ◌∷◌, inl, inr, refl, sym, subst}
 use Rattle.std.specs.Prelude.{slice_get}
 use Rattle.std.specs.List.{filter, AllByRecursion}
 use Rattle.std.proofs.lemmas.Bool.{cases_Bool}
@@ -12,7 +12,7 @@ use Rattle.flu_model.specs.declared.jobs.Program.{Program}
 use Rattle.flu_model.specs.declared.jobs.Sort.TheVariants.{Sum as SumSort, Max as MaxSort}
 use Rattle.flu_model.specs.declared.modes.Mode.{Mode}
 use Rattle.flu_model.specs.declared.modes.Mode.TheVariants.{None as NoMode, Add as AddMode, Raise as RaiseMode, Own}
-use Rattle.flu_model.specs.Contents.{Contents, added, raised}
+use Rattle.flu_model.specs.Contents.{added, raised}
 use Rattle.flu_model.specs.Itags.{tag_of_itag}
 use Rattle.flu_model.specs.Rules.{has_sort}
 use Rattle.flu_model.specs.Sorts.{HoldsFamily, IsStateOf}
@@ -26,9 +26,8 @@ use Rattle.flu_laws.proofs.Keeping.{holds_none, from_sort}
 use Rattle.flu_laws.proofs.Lawful.{added_sort, raised_sort}
 use Rattle.flu_laws.proofs.SortLemmas.{holds_max}
 use Rattle.flu_laws.proofs.Updating.{keeps_sorts}
-use Rattle.flu_fork.specs.Settings.{Setting, IsSetting, moments}
+use Rattle.flu_fork.specs.Settings.{moments}
 use Rattle.flu_fork.specs.Classes.{is_base, is_away}
-use Rattle.flu_fork.specs.Fitting.{Fits}
 use Rattle.flu_fork.specs.Laws.{FittingHasSorts}
 use Rattle.flu_fork.proofs.Moments.{moments_sorted}
 

@@ -6,3 +6,6 @@ pub mod Cells
 pub mod Moments
 pub mod Holding
 pub mod Updates
+pub mod Effects
+pub mod Forks
+pub mod Joins

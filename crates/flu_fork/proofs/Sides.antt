@@ -1,20 +1,19 @@
 -- The itags below, above and beside a node of a valid plan.
-use Rattle.std.proofs.Common.{◌≡◌, ◌<◌, ◌≤◌, ◌+◌, ℕ, zero, suc, Bool, true, false, Option, Some, None, List, [], ◌∷◌, length, ◌⊎◌, inl, inr, refl, sym, ap, subst, ◌∙◌, arith}
-use Rattle.std.specs.Prelude.{◌==◌, ◌||◌, ◌&&◌, not, slice_get}
-use Rattle.std.proofs.lemmas.Bool.{cases_Bool, cases_eq, ne_eqb}
+use Rattle.std.proofs.Common.{◌≡◌, ◌<◌, ℕ, true, false, Some, None, List, length, ◌⊎◌, inl, inr, refl, sym, ap, ◌∙◌}
+use Rattle.std.specs.Prelude.{◌==◌, ◌||◌, ◌&&◌, not}
+use Rattle.std.proofs.lemmas.Bool.{ne_eqb}
 use Rattle.std.proofs.lemmas.Option.{slice_get_within}
-use Rattle.flu_lemmas.proofs.Searches.{eq_true}
 use Rattle.flu_lemmas.proofs.Tests.{and_left, and_right, both, false_if_not, not_both, not_true}
 use Rattle.flu_model.specs.declared.jobs.Program.{Program}
 use Rattle.flu_model.specs.declared.plans.Node.{Node}
 use Rattle.flu_model.specs.Itags.{count_of_itags, tag_of_itag, is_dependent}
-use Rattle.flu_model.specs.Owners.{node_owns, found_owns, owns, owner_of, is_within, are_related}
+use Rattle.flu_model.specs.Owners.{node_owns, found_owns, owns, owner_of, is_within}
 use Rattle.flu_deps.specs.Owned.{kids_at}
 use Rattle.flu_deps.proofs.NodeLemmas.{counted_stands}
 use Rattle.flu_fork.specs.Settings.{Setting, IsSetting}
 use Rattle.flu_fork.specs.Classes.{itag, below, above, beside}
 use Rattle.flu_fork.proofs.General.{not_false, position_passes}
-use Rattle.flu_fork.proofs.Trees.{IsUnder, AreKids, are_kids, IsPlanted, planted}
+use Rattle.flu_fork.proofs.Trees.{are_kids, IsPlanted, planted}
 use Rattle.flu_fork.proofs.Within.{within_itself, within_parent, not_in_both, in_root, AreApart, Siblings, left_first, right_first, apart_cases, apart_kid, apart_sibling, within_is_apart}
 
 -- ---- what an owner says

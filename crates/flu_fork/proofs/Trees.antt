@@ -1,12 +1,12 @@
 -- The nodes of a plan are a tree: parents, and what is within what.
-use Rattle.std.proofs.Common.{◌≡◌, ◌<◌, ◌≤◌, ◌+◌, ℕ, zero, suc, Bool, true, false, cond, Option, Some, None, List, [], ◌∷◌, length, ◌⊎◌, inl, inr, refl, sym, ap, subst, ◌∙◌, arith}
-use Rattle.std.specs.Prelude.{nat_lt, nat_le, ◌==◌, ◌||◌, IfSome, option_map, position, slice_get}
-use Rattle.std.specs.List.{list_all, list_any}
+use Rattle.std.proofs.Common.{◌≡◌, ◌<◌, ◌≤◌, ◌+◌, ℕ, zero, suc, true, false, cond, Option, Some, None, List, [], ◌∷◌, length, ◌⊎◌, inl, inr, refl, sym, ap, subst, ◌∙◌, arith}
+use Rattle.std.specs.Prelude.{nat_le, ◌==◌, IfSome, option_map}
+use Rattle.std.specs.List.{list_all}
 use Rattle.std.proofs.lemmas.Bool.{cases_Bool, cases_lt, cases_eq, ne_eqb}
 use Rattle.flu_lemmas.proofs.Searches.{eq_true}
-use Rattle.flu_lemmas.proofs.Tests.{and_left, and_right, both, true_eq, true_lt, lt_true, le_true, true_le, false_if_not, not_both}
+use Rattle.flu_lemmas.proofs.Tests.{and_left, and_right, both, true_eq, le_true, true_le, false_if_not, not_both}
 use Rattle.flu_model.specs.declared.plans.Node.{Node}
-use Rattle.flu_model.specs.Owners.{is_kid, parent_of, climb, path_up, is_within}
+use Rattle.flu_model.specs.Owners.{is_kid, parent_of}
 use Rattle.flu_model.specs.PlanRules.{with_kids, are_subtrees, is_tree}
 use Rattle.flu_deps.specs.Owned.{kids_at}
 use Rattle.flu_deps.proofs.NodeLemmas.{has_root}

@@ -1,19 +1,18 @@
 -- The central law at a node: a lot that is updated with an event that is exact for its counts fits again.
-use Rattle.std.proofs.Common.{◌≡◌, ◌≤◌, ◌<◌, ◌+◌, ℕ, Bool, true, false, cond, Some, List, [], ◌∷◌, ◌++◌, length, ◌⊎◌, inl, inr, refl, sym, ap, subst, ◌∙◌, arith}
-use Rattle.std.specs.Prelude.{nat_lt, ◌==◌, slice_index}
+use Rattle.std.proofs.Common.{◌≡◌, ◌≤◌, ◌<◌, ◌+◌, ℕ, true, false, cond, Some, List, ◌∷◌, ◌++◌, length, ◌⊎◌, inl, inr, refl, sym, ap, subst, ◌∙◌, arith}
+use Rattle.std.specs.Prelude.{◌==◌, slice_index}
 use Rattle.std.specs.List.{AllByRecursion}
 use Rattle.std.proofs.lemmas.Bool.{cases_Bool, cases_lt}
 use Rattle.flu_lemmas.proofs.Elements.{all_map}
 use Rattle.flu_lemmas.proofs.Searches.{eq_true}
 use Rattle.flu_lemmas.proofs.Tests.{true_eq, true_lt, lt_true, not_both}
-use Rattle.flu_model.specs.declared.events.Cell.{Cell}
 use Rattle.flu_model.specs.declared.jobs.Program.{Program}
 use Rattle.flu_model.specs.Contents.{Contents}
 use Rattle.flu_model.specs.Itags.{count_of_itags}
 use Rattle.flu_model.specs.Owners.{owner_of}
 use Rattle.flu_model.specs.Merging.{merged}
 use Rattle.flu_model.specs.Updates.{effect_of}
-use Rattle.flu_laws.specs.Spans.{Moment, is_below, AreAtMost}
+use Rattle.flu_laws.specs.Spans.{Moment, is_below}
 use Rattle.flu_laws.specs.Lots.{CellsFit, IsExact, CountsOneMore, GoesWithClasses, UpdatesToFit, depends_on}
 use Rattle.flu_laws.proofs.Central.{central_law}
 use Rattle.flu_laws.proofs.General.{all_back}
@@ -22,15 +21,11 @@ use Rattle.flu_fork.specs.Settings.{Setting, IsSetting, events_at, moments}
 use Rattle.flu_fork.specs.Classes.{below, is_base, is_away}
 use Rattle.flu_fork.specs.Fitting.{IsPrefix, Fits}
 use Rattle.flu_fork.specs.Laws.{UpdatesWell, CentralLaw}
-use Rattle.flu_fork.proofs.General.{two_places}
+use Rattle.flu_fork.proofs.General.{two_places, all_at_place}
 use Rattle.flu_fork.proofs.Sides.{owner_is_below, owner_is_there}
 use Rattle.flu_fork.proofs.Cells.{needed_is_base, away_unwritten}
 use Rattle.flu_fork.proofs.Moments.{events_in_range, moments_in_range, moments_rise, moments_there}
 use Rattle.flu_fork.proofs.Holding.{fitting_law}
-
--- what holds of each moment holds of the one at a place
-at_place : (P : Moment → Type 0) (ms before after : List Moment) (m : Moment) → ms ≡ before ++ m ∷ after → AllByRecursion P ms → P m
-at_place P ms before after m split all = (all_back P before (m ∷ after) (subst (AllByRecursion P) split all)).0
 
 -- ---- counts with one more
 module _ (i : ℕ) (upto more : List ℕ) (one_more : CountsOneMore i upto more) where
@@ -105,7 +100,7 @@ module _ (p : Program) (ms before after : List Moment) (m : Moment) (upto more :
 module _ (k : Setting) (w : ℕ) (before after : List Moment) (m : Moment) (s : Contents) (since upto more : List ℕ) (ok : IsSetting k) (owner : owner_of k.program k.nodes m.event.itag ≡ Some w)
     (split : moments k ≡ before ++ m ∷ after) (exact : IsExact k.program before after m upto) (size : length more ≡ count_of_itags k.program) (one_more : CountsOneMore m.event.itag.0 upto more) (fits : Fits k w s since upto) where
   in_range : m.event.itag.0 < count_of_itags k.program
-  in_range = at_place (λ (q : Moment). q.event.itag.0 < count_of_itags k.program) (moments k) before after m split (moments_in_range k ok)
+  in_range = all_at_place (λ (q : Moment). q.event.itag.0 < count_of_itags k.program) (moments k) before after m split (moments_in_range k ok)
 
   there : w < length k.nodes
   there = owner_is_there k ok w m.event.itag.0 owner
@@ -136,7 +131,7 @@ module _ (k : Setting) (w : ℕ) (before after : List Moment) (m : Moment) (s : 
       since_first = λ i. (let a = fits.since_first i in let b = more_least m.event.itag.0 upto more one_more i in omega arith);
       there = λ i. elim (more_cases m.event.itag.0 upto more one_more i) [
         | inl h ↦
-            let less : m.index < length (events_at k m.event.itag.0) = at_place (λ (q : Moment). q.index < length (events_at k q.event.itag.0)) (moments k) before after m split (moments_there k ok) in
+            let less : m.index < length (events_at k m.event.itag.0) = all_at_place (λ (q : Moment). q.index < length (events_at k q.event.itag.0)) (moments k) before after m split (moments_there k ok) in
             let same = ap (λ j. length (events_at k j)) h.0 in
             let one = h.1 in
             let at = ap (slice_index upto) h.0 in

@@ -1,9 +1,9 @@
 -- How a lot is parted between two children, and how two lots come together again.
-use Rattle.std.specs.Prelude.{◌≡◌, ℕ, ◌≤◌, Bool, true, false, List, map, slice_index, if◌then◌else◌}
+use Rattle.std.specs.Prelude.{◌≡◌, ℕ, ◌≤◌, true, false, List, map, slice_index, if◌then◌else◌}
 use Rattle.std.specs.List.{range_with_len}
 use Rattle.flu_model.specs.declared.jobs.Program.{Program}
 use Rattle.flu_model.specs.declared.plans.Node.{Node}
-use Rattle.flu_model.specs.Contents.{Contents, join}
+use Rattle.flu_model.specs.Contents.{Contents}
 use Rattle.flu_model.specs.Itags.{count_of_itags}
 use Rattle.flu_laws.specs.Consistency.{within, outside}
 use Rattle.flu_laws.specs.Spans.{AreAtMost}

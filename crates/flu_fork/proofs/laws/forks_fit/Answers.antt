@@ -1,0 +1,5 @@
+use Rattle.flu_fork.proofs.Forks.{forks_law}
+use Rattle.flu_fork.proofs.laws.forks_fit.Goals as goal
+
+pub returns : goal.returns
+returns c = forks_law

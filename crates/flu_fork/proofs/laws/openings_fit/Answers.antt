@@ -1,0 +1,5 @@
+use Rattle.flu_fork.proofs.Forks.{opening_law}
+use Rattle.flu_fork.proofs.laws.openings_fit.Goals as goal
+
+pub returns : goal.returns
+returns c = opening_law
