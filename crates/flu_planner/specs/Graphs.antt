@@ -17,6 +17,12 @@ dependencies p i j = is_dependent p (tag_of_itag p (record { 0 = i })) (tag_of_i
 abbrev pub rising : List ℕ → List ℕ
 rising itags = in_order nat_lt itags
 
+-- each is less than the next
+abbrev pub is_rising : List ℕ → Bool
+is_rising [] = true
+is_rising (i ∷ []) = true
+is_rising (i ∷ j ∷ rest) = nat_lt i j && is_rising (j ∷ rest)
+
 -- ---- walks
 
 -- each itag of a walk from i on is joined to the next
@@ -49,7 +55,7 @@ pub record IsApart (g : Graph) (itags : List ℕ) : Type 0 where
 -- a component of the graph on the itags, by rising number: some itag with all that are connected to it
 pub record IsComponent (g : Graph) (itags component : List ℕ) : Type 0 where
   pub some : component ≢ []
-  pub in_order : rising component ≡ component
+  pub in_order : IsTrue (is_rising component)
   pub inside : (i : ℕ) → Contains component i → Contains itags i
   pub connected : (i j : ℕ) → Contains component i → Contains component j → AreConnected g itags i j
   pub closed : (i j : ℕ) → Contains component i → Contains itags j → AreConnected g itags i j → Contains component j
