@@ -1,2 +1,6 @@
 pub mod General
 pub mod TreeParts
+pub mod TreeItags
+pub mod PlanTags
+pub mod PlanNodes
+pub mod PlanValid
