@@ -4,3 +4,4 @@ pub mod TreeItags
 pub mod PlanTags
 pub mod PlanNodes
 pub mod PlanValid
+pub mod PlanRules

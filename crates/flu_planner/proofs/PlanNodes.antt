@@ -1,15 +1,16 @@
 -- The nodes of a tree in preorder: where they stand, which is the parent of which, and what they own.
 use Rattle.std.proofs.Common.{◌≡◌, ◌<◌, ◌≤◌, ◌+◌, ℕ, zero, suc, Bool, true, false, cond, inl, inr, Option, Some, None, List, [], ◌∷◌, ◌++◌, map, length, refl, sym, ap, subst, ◌∙◌, arith, append_assoc, length-append}
 use Rattle.std.specs.Prelude.{nat_lt, ◌==◌, ◌&&◌, ◌||◌, not, slice_get, position, count_by, Contains}
-use Rattle.std.specs.List.{list_any, position_or_len}
+use Rattle.std.specs.List.{list_all, list_any, position_or_len}
 use Rattle.std.proofs.lemmas.Bool.{cases_lt, cases_eq, cases_Bool, or_left, or_right, or_parts, ne_eqb, true≢false}
-use Rattle.std.proofs.lemmas.List.Folds.{list_any-append}
+use Rattle.std.proofs.lemmas.List.Folds.{list_any-append, list_all-append}
 use Rattle.std.proofs.lemmas.List.Elements.{Contains-append_left, Contains-append_right}
 use Rattle.std.proofs.lemmas.List.Sums.{sum_by-cons, sum_by-append}
 use Rattle.flu_lemmas.proofs.Tests.{and_left, and_right, both, true_eq, lt_true, false_if_not}
 use Rattle.flu_lemmas.proofs.Searches.{eq_true, list_any-map}
 use Rattle.flu_model.specs.declared.events.Itag.{Itag}
 use Rattle.flu_model.specs.declared.jobs.Program.{Program}
+use Rattle.flu_model.specs.declared.plans.Pred.{Pred}
 use Rattle.flu_model.specs.declared.plans.Node.{Node}
 use Rattle.flu_model.specs.Itags.{count_of_itags}
 use Rattle.flu_model.specs.Owners.{matches, node_owns, found_owns, owns, is_kid, parent_of, climb, is_within}
@@ -265,3 +266,19 @@ owned_by_node p nodes w (Inner own left right) at v i le lt in_job all e =
             (λ j there. all j (Contains-append_right own (owned_in left ++ owned_in right) j (Contains-append_right (owned_in left) (owned_in right) j there))) e))
       ]
     ]
+
+-- ---- a test of all predicates
+preds_pass : (p : Program) (test : Pred → Bool) → ((i : ℕ) → i < count_of_itags p → test (pred_of p i) ≡ true) → (own : List ℕ) → AreOfJob p own → list_all test (map (pred_of p) own) ≡ true
+preds_pass p test pass [] all = refl
+preds_pass p test pass (i ∷ own) all =
+    both (test (pred_of p i)) _ (pass i (all i (contains_here i own))) (preds_pass p test pass own (λ j there. all j (contains_later i j own there)))
+
+-- what holds of the predicate of each itag of the job holds of all predicates of the nodes
+pub each_pred : (p : Program) (test : Pred → Bool) → ((i : ℕ) → i < count_of_itags p → test (pred_of p i) ≡ true) → (w : ℕ) (t : Tree) → AreOfJob p (owned_in t) → list_all (λ (node : Node). list_all test node.preds) (nodes_from p w t) ≡ true
+each_pred p test pass w (Leaf own) all = both (list_all test (map (pred_of p) own)) true (preds_pass p test pass own all) refl
+each_pred p test pass w (Inner own left right) all =
+    both (list_all test (map (pred_of p) own)) _ (preds_pass p test pass own (λ j there. all j (Contains-append_left own (owned_in left ++ owned_in right) j there)))
+    (list_all-append (λ (node : Node). list_all test node.preds) (nodes_from p (w + 1) left) (nodes_from p (w + 1 + size left) right)
+    ∙ both (list_all (λ (node : Node). list_all test node.preds) (nodes_from p (w + 1) left)) _
+    (each_pred p test pass (w + 1) left (λ j there. all j (Contains-append_right own (owned_in left ++ owned_in right) j (Contains-append_left (owned_in left) (owned_in right) j there))))
+    (each_pred p test pass (w + 1 + size left) right (λ j there. all j (Contains-append_right own (owned_in left ++ owned_in right) j (Contains-append_right (owned_in left) (owned_in right) j there)))))
