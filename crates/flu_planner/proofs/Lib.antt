@@ -5,3 +5,4 @@ pub mod PlanTags
 pub mod PlanNodes
 pub mod PlanValid
 pub mod PlanRules
+pub mod PlanText
