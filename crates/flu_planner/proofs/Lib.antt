@@ -6,3 +6,4 @@ pub mod PlanNodes
 pub mod PlanValid
 pub mod PlanRules
 pub mod PlanText
+pub mod TreeUnique
