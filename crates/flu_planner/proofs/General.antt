@@ -1,8 +1,8 @@
 -- General facts on lists: what a list contains, how often a number stands in it, and rising lists.
-use Rattle.std.proofs.Common.{◌≡◌, ◌≢◌, ◌<◌, ◌≤◌, ◌+◌, ℕ, zero, suc, Bool, true, false, cond, ◌⊎◌, inl, inr, List, [], ◌∷◌, ◌++◌, length, take, drop, refl, sym, ap, subst, ◌∙◌, arith}
-use Rattle.std.specs.Prelude.{nat_lt, ◌==◌, ◌&&◌, Contains, slice_index_or}
+use Rattle.std.proofs.Common.{◌≡◌, ◌<◌, ◌≤◌, ◌+◌, ℕ, zero, suc, true, cond, ◌⊎◌, inl, inr, List, [], ◌∷◌, ◌++◌, length, take, drop, refl, sym, ap, subst, ◌∙◌, arith}
+use Rattle.std.specs.Prelude.{nat_lt, ◌==◌, Contains, slice_index_or}
 use Rattle.std.specs.List.Sorted.{IsPermutation}
-use Rattle.std.proofs.lemmas.Bool.{cases_lt, cases_eq, cases_order, ne_eqb}
+use Rattle.std.proofs.lemmas.Bool.{cases_lt, cases_eq, ne_eqb}
 use Rattle.std.proofs.lemmas.List.{take-append-drop}
 use Rattle.flu_lemmas.specs.Totals.{total}
 use Rattle.flu_lemmas.proofs.Totals.{total-append, total-IsPermutation}
@@ -110,13 +110,13 @@ rising_same (x ∷ xs) (y ∷ ys) e f there back =
     let below : x ≤ y = first_is_least x y xs e (back y (contains_here y ys)) in
     let first : x ≡ y = omega (arith, above, below) in
     let rest : xs ≡ ys =
-        rising_same xs ys (rising_rest x xs e) (rising_rest y ys f)
-        (λ i c. elim (contains_cases y i ys (there i (contains_later x i xs c))) [
-          | inl same ↦ (let less = rising_first x i xs e c in absurd (omega (arith, less, same, first)))
-          | inr more ↦ more
-        ])
-        (λ i c. elim (contains_cases x i xs (back i (contains_later y i ys c))) [
-          | inl same ↦ (let less = rising_first y i ys f c in absurd (omega (arith, less, same, first)))
-          | inr more ↦ more
-        ]) in
+    rising_same xs ys (rising_rest x xs e) (rising_rest y ys f)
+    (λ i c. elim (contains_cases y i ys (there i (contains_later x i xs c))) [
+      | inl same ↦ (let less = rising_first x i xs e c in absurd (omega (arith, less, same, first)))
+      | inr more ↦ more
+    ])
+    (λ i c. elim (contains_cases x i xs (back i (contains_later y i ys c))) [
+      | inl same ↦ (let less = rising_first y i ys f c in absurd (omega (arith, less, same, first)))
+      | inr more ↦ more
+    ]) in
     λ i. first i ∷ rest i

@@ -1,14 +1,12 @@
 -- The nodes of a tree in preorder: where they stand, which is the parent of which, and what they own.
 use Rattle.std.proofs.Common.{◌≡◌, ◌<◌, ◌≤◌, ◌+◌, ℕ, zero, suc, Bool, true, false, cond, inl, inr, Option, Some, None, List, [], ◌∷◌, ◌++◌, map, length, refl, sym, ap, subst, ◌∙◌, arith, append_assoc, length-append}
-use Rattle.std.specs.Prelude.{nat_lt, ◌==◌, ◌&&◌, ◌||◌, not, slice_get, position, count_by, Contains}
+use Rattle.std.specs.Prelude.{◌==◌, ◌||◌, not, slice_get, position, Contains}
 use Rattle.std.specs.List.{list_all, list_any, position_or_len}
-use Rattle.std.proofs.lemmas.Bool.{cases_lt, cases_eq, cases_Bool, or_left, or_right, or_parts, ne_eqb, true≢false}
+use Rattle.std.proofs.lemmas.Bool.{cases_lt, cases_eq, cases_Bool, or_left, or_right, or_parts, ne_eqb}
 use Rattle.std.proofs.lemmas.List.Folds.{list_any-append, list_all-append}
 use Rattle.std.proofs.lemmas.List.Elements.{Contains-append_left, Contains-append_right}
-use Rattle.std.proofs.lemmas.List.Sums.{sum_by-cons, sum_by-append}
-use Rattle.flu_lemmas.proofs.Tests.{and_left, and_right, both, true_eq, lt_true, false_if_not}
+use Rattle.flu_lemmas.proofs.Tests.{both, true_eq, lt_true}
 use Rattle.flu_lemmas.proofs.Searches.{eq_true, list_any-map}
-use Rattle.flu_model.specs.declared.events.Itag.{Itag}
 use Rattle.flu_model.specs.declared.jobs.Program.{Program}
 use Rattle.flu_model.specs.declared.plans.Pred.{Pred}
 use Rattle.flu_model.specs.declared.plans.Node.{Node}
@@ -16,7 +14,7 @@ use Rattle.flu_model.specs.Itags.{count_of_itags}
 use Rattle.flu_model.specs.Owners.{matches, node_owns, found_owns, owns, is_kid, parent_of, climb, is_within}
 use Rattle.flu_planner.specs.Greedy.{Tree, Leaf, Inner}
 use Rattle.flu_planner.specs.Plans.{pred_of, node_of, size, nodes_from}
-use Rattle.flu_planner.proofs.General.{contains_here, contains_later, contains_cases, contains_none, times, times_if_contained, contained_if_times, times_append}
+use Rattle.flu_planner.proofs.General.{contains_here, contains_later, contains_cases, contains_none}
 use Rattle.flu_planner.proofs.TreeItags.{owned_in}
 use Rattle.flu_planner.proofs.PlanTags.{number, matches_itself, matches_only}
 
@@ -74,7 +72,7 @@ no_kid_outside p w (Inner own left right) v outside =
     let some_left = some_nodes left in
     let some_right = some_nodes right in
     let here : is_kid v (Some (w + 1, w + 1 + size left)) ≡ false =
-        not_kids v (w + 1) (w + 1 + size left) (λ e. outside (omega (arith, e)) (omega (arith, e, some_left))) (λ e. outside (omega (arith, e, some_left)) (omega (arith, e, some_right))) in
+    not_kids v (w + 1) (w + 1 + size left) (λ e. outside (omega (arith, e)) (omega (arith, e, some_left))) (λ e. outside (omega (arith, e, some_left)) (omega (arith, e, some_right))) in
     ap (λ b. b || list_any (has_kid v) (nodes_from p (w + 1) left ++ nodes_from p (w + 1 + size left) right)) here
     ∙ list_any-append (has_kid v) (nodes_from p (w + 1) left) (nodes_from p (w + 1 + size left) right)
     ∙ ap (λ b. b || list_any (has_kid v) (nodes_from p (w + 1 + size left) right))

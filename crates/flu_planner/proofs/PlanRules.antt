@@ -1,18 +1,13 @@
 -- The nodes of a greedy plan keep the rules of plans.
-use Rattle.std.proofs.Common.{◌≡◌, ◌<◌, ◌≤◌, ◌+◌, ◌^◌, ℕ, zero, suc, Bool, true, false, cond, inl, inr, Option, Some, None, List, [], ◌∷◌, ◌++◌, map, length, refl, sym, ap, subst, ◌∙◌, arith, append_assoc, length-append}
-use Rattle.std.specs.Prelude.{nat_lt, nat_le, ◌==◌, ◌&&◌, ◌||◌, not, codes, sum_by, slice_index_or, Contains}
+use Rattle.std.proofs.Common.{◌≡◌, ◌<◌, ◌≤◌, ◌+◌, ◌^◌, ℕ, zero, suc, Bool, true, false, Some, None, List, [], ◌∷◌, ◌++◌, map, length, refl, sym, ap, subst, ◌∙◌, arith, append_assoc, length-append}
+use Rattle.std.specs.Prelude.{nat_lt, nat_le, ◌==◌, ◌||◌, not, sum_by}
 use Rattle.std.specs.List.{list_all, list_any, range_with_len}
 use Rattle.std.specs.Fmt.{decimal}
-use Rattle.std.specs.Cmp.Lexicographic.{pointwise}
-use Rattle.std.proofs.lemmas.Bool.{cases_lt, cases_eq}
 use Rattle.std.proofs.lemmas.Fmt.{decimal_injective}
 use Rattle.std.proofs.lemmas.List.{append-nil, map-append}
-use Rattle.std.proofs.lemmas.List.Folds.{list_all-append}
 use Rattle.std.proofs.lemmas.List.Sums.{sum_by-cons, sum_by-append}
-use Rattle.flu_lemmas.proofs.Tests.{and_left, and_right, both, true_eq, le_true, lt_true, false_if_not, all_at}
+use Rattle.flu_lemmas.proofs.Tests.{and_left, and_right, both, true_eq, le_true, false_if_not, all_at}
 use Rattle.flu_lemmas.proofs.Searches.{eq_true}
-use Rattle.flu_model.specs.declared.events.Tag.{Tag}
-use Rattle.flu_model.specs.declared.jobs.Keys.{Keys}
 use Rattle.flu_model.specs.declared.jobs.Program.{Program}
 use Rattle.flu_model.specs.declared.plans.Pred.{Pred}
 use Rattle.flu_model.specs.declared.plans.Node.{Node}
@@ -20,7 +15,7 @@ use Rattle.flu_model.specs.Contents.{key_count}
 use Rattle.flu_model.specs.Itags.{itags, count_of_itags, tag_of_itag}
 use Rattle.flu_model.specs.Listing.{tag}
 use Rattle.flu_model.specs.Owners.{is_keyed}
-use Rattle.flu_model.specs.PlanRules.{with_kids, are_subtrees, is_tree, with_depths, depths_below, is_shallow, count_of_predicates, are_small_keys, have_small_keys, nodes_have_own_names}
+use Rattle.flu_model.specs.PlanRules.{are_subtrees, is_tree, depths_below, count_of_predicates, are_small_keys}
 use Rattle.flu_model.specs.Rules.{are_distinct, is_same_text, tag_fits}
 use Rattle.flu_model.proofs.ItagLemmas.{itags_fit}
 use Rattle.flu_planner.specs.Graphs.{Graph, dependencies}

@@ -1,11 +1,11 @@
 -- The predicate of an itag alone matches no other: an itag is its tag and its source.
-use Rattle.std.proofs.Common.{◌≡◌, ◌<◌, ◌≤◌, ◌+◌, ℕ, zero, suc, Bool, true, false, cond, inl, inr, Option, Some, None, List, [], ◌∷◌, ◌++◌, map, length, get_or, refl, sym, ap, subst, ◌∙◌, arith}
-use Rattle.std.specs.Prelude.{nat_lt, nat_le, ◌==◌, ◌&&◌, ◌||◌, not, slice_get, is_some}
-use Rattle.std.specs.List.{flat_map, list_all, list_any, range_with_len}
-use Rattle.std.proofs.lemmas.Bool.{cases_lt, cases_eq, cases_Bool, or_right, or_left, or_cases, ne_eqb, true≢false}
+use Rattle.std.proofs.Common.{◌≡◌, ◌<◌, ◌+◌, ℕ, zero, suc, Bool, true, false, inl, inr, Option, Some, None, List, [], ◌∷◌, ◌++◌, map, length, get_or, refl, sym, ap, ◌∙◌, arith}
+use Rattle.std.specs.Prelude.{nat_lt, nat_le, ◌==◌, ◌&&◌, ◌||◌, not, slice_get}
+use Rattle.std.specs.List.{flat_map, list_all, list_any}
+use Rattle.std.proofs.lemmas.Bool.{cases_lt, cases_eq, cases_Bool, or_right, or_left, ne_eqb, true≢false}
 use Rattle.std.proofs.lemmas.List.Folds.{list_all-append, list_any-append, list_all-map}
-use Rattle.flu_lemmas.proofs.Tests.{and_left, and_right, both, true_eq, true_lt, lt_true, all_at, false_if_not, not_true, not_both}
-use Rattle.flu_lemmas.proofs.Searches.{eq_true, list_any-map}
+use Rattle.flu_lemmas.proofs.Tests.{and_left, and_right, both, true_eq, all_at, not_true, not_both}
+use Rattle.flu_lemmas.proofs.Searches.{eq_true}
 use Rattle.flu_model.specs.declared.events.Tag.{Tag}
 use Rattle.flu_model.specs.declared.events.Itag.{Itag}
 use Rattle.flu_model.specs.declared.jobs.Kind.{Kind}
@@ -16,11 +16,10 @@ use Rattle.flu_model.specs.declared.jobs.Source.{Source}
 use Rattle.flu_model.specs.declared.jobs.Program.{Program}
 use Rattle.flu_model.specs.Contents.{key_count}
 use Rattle.flu_model.specs.Listing.{tag, listed_keys, listed_tags, tags_of_source, itags_of_sources}
-use Rattle.flu_model.specs.Rules.{are_distinct, is_same_tag, tag_fits, kind_is_keyed, keys_fit, listed_kind_fits, tag_ref_fits, source_fits, are_sources}
+use Rattle.flu_model.specs.Rules.{are_distinct, is_same_tag, kind_is_keyed, keys_fit, listed_kind_fits, tag_ref_fits, source_fits, are_sources}
 use Rattle.flu_model.specs.Itags.{itags, count_of_itags, tag_and_source, tag_of_itag, source_of_itag}
-use Rattle.flu_model.specs.Owners.{is_keyed, key_matches, kind_matches, source_matches, matches}
-use Rattle.flu_model.proofs.ItagLemmas.{itags_fit}
-use Rattle.flu_planner.specs.Plans.{own_keys, pred_of_tag, pred_of}
+use Rattle.flu_model.specs.Owners.{is_keyed, key_matches, kind_matches, matches}
+use Rattle.flu_planner.specs.Plans.{own_keys, pred_of}
 
 -- ---- a tag of a kind without keys has key 0
 abbrev has_own_key : List Kind → Tag → Bool
@@ -185,7 +184,7 @@ matches_only p i j in_i in_j e =
     let sources : s ≡ r = true_eq s r (and_right ((t.kind == u.kind) && key_matches keyed (own_keys keyed u.key) t.key) (s == r) e) in
     let kinds : t.kind ≡ u.kind = true_eq t.kind u.kind (and_left (t.kind == u.kind) _ by_kind) in
     let keys : t.key ≡ u.key =
-        same_key keyed t.key u.key
-        (λ bare. (itag_has_own_key p i in_i (ap (is_keyed p.kinds) kinds ∙ bare), itag_has_own_key p j in_j bare))
-        (and_right (t.kind == u.kind) (key_matches keyed (own_keys keyed u.key) t.key) by_kind) in
+    same_key keyed t.key u.key
+    (λ bare. (itag_has_own_key p i in_i (ap (is_keyed p.kinds) kinds ∙ bare), itag_has_own_key p j in_j bare))
+    (and_right (t.kind == u.kind) (key_matches keyed (own_keys keyed u.key) t.key) by_kind) in
     sym (itag_is_tag_and_source p i j in_i in_j kinds keys sources)

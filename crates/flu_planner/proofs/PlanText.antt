@@ -1,13 +1,11 @@
 -- A greedy plan has a text: its predicates name kinds and sources of the job, and its names are names of the language.
-use Rattle.std.proofs.Common.{◌≡◌, ◌<◌, ◌≤◌, ◌+◌, ℕ, zero, suc, Bool, true, false, Option, Some, None, List, [], ◌∷◌, ◌++◌, map, length, get_or, refl, sym, ap, subst, ◌∙◌, arith}
-use Rattle.std.specs.Prelude.{nat_lt, ◌&&◌, slice_get, is_some, IsTrue}
+use Rattle.std.proofs.Common.{◌≡◌, ◌<◌, ◌≤◌, ◌+◌, ℕ, zero, suc, Bool, true, List, [], ◌∷◌, map, length, refl, sym, subst, ◌∙◌, arith}
+use Rattle.std.specs.Prelude.{nat_lt, slice_get, is_some, IsTrue}
 use Rattle.std.specs.Fmt.{digits}
 use Rattle.std.specs.List.{list_all}
-use Rattle.std.proofs.lemmas.Bool.{agree_below, agree_below_at}
-use Rattle.std.proofs.lemmas.List.{append-nil}
-use Rattle.std.proofs.lemmas.List.Folds.{list_all-append, list_all-map}
-use Rattle.std.proofs.lemmas.Option.{slice_get-get_or}
-use Rattle.flu_lemmas.proofs.Tests.{and_left, and_right, both, true_lt, lt_true, all_at}
+use Rattle.std.proofs.lemmas.Bool.{agree_below_at}
+use Rattle.std.proofs.lemmas.List.Folds.{list_all-append}
+use Rattle.flu_lemmas.proofs.Tests.{and_left, both, true_lt, lt_true, all_at}
 use Rattle.flu_model.specs.declared.events.Tag.{Tag}
 use Rattle.flu_model.specs.declared.jobs.Source.{Source}
 use Rattle.flu_model.specs.declared.jobs.Program.{Program}
@@ -19,7 +17,7 @@ use Rattle.flu_model.specs.Owners.{pred_fits, nodes_fit}
 use Rattle.flu_model.specs.Rules.{is_name}
 use Rattle.flu_planner.specs.Graphs.{dependencies}
 use Rattle.flu_planner.specs.Greedy.{Tree, Leaf, Inner, IsGreedy}
-use Rattle.flu_planner.specs.Plans.{all_itags, pred_of, name_of, node_of, size, nodes_from, IsGreedyPlan}
+use Rattle.flu_planner.specs.Plans.{all_itags, pred_of, name_of, size, nodes_from, IsGreedyPlan}
 use Rattle.flu_planner.proofs.TreeItags.{owned_in, owned_is_given, all_once, all_within}
 use Rattle.flu_planner.proofs.PlanTags.{number}
 use Rattle.flu_planner.proofs.PlanNodes.{AreOfJob, each_pred}

@@ -1,6 +1,6 @@
 -- A greedy plan is valid for its job.
-use Rattle.std.proofs.Common.{◌≡◌, ◌<◌, ◌≤◌, ◌+◌, ℕ, zero, suc, Bool, true, false, cond, inl, inr, Option, Some, None, List, [], ◌∷◌, ◌++◌, map, length, refl, sym, ap, subst, ◌∙◌, arith}
-use Rattle.std.specs.Prelude.{◌||◌, count_by, Contains}
+use Rattle.std.proofs.Common.{◌≡◌, ◌<◌, ◌≤◌, ◌+◌, ℕ, zero, suc, true, false, cond, inl, inr, Option, Some, None, List, [], ◌∷◌, ◌++◌, length, sym, ap, subst, ◌∙◌, arith}
+use Rattle.std.specs.Prelude.{count_by, Contains}
 use Rattle.std.specs.List.{list_any}
 use Rattle.std.proofs.lemmas.Bool.{cases_lt, cases_eq, or_left, or_right, true≢false}
 use Rattle.std.proofs.lemmas.List.{append-nil}
@@ -20,7 +20,7 @@ use Rattle.flu_planner.proofs.General.{times, times_if_contained, contained_if_t
 use Rattle.flu_planner.proofs.TreeParts.{parted_times, parted_apart}
 use Rattle.flu_planner.proofs.TreeItags.{owned_in, AreOnce, parts_once, owned_times, owned_is_given, all_once, all_within, all_have}
 use Rattle.flu_planner.proofs.PlanTags.{number}
-use Rattle.flu_planner.proofs.PlanNodes.{count_of_nodes, IsPlaced, root_is_placed, placed_within, left_is_placed, right_is_placed, within_root, node_owns_is, owned_is_found, AreOfJob, found_is_owned, owned_by_node}
+use Rattle.flu_planner.proofs.PlanNodes.{count_of_nodes, IsPlaced, root_is_placed, left_is_placed, right_is_placed, within_root, node_owns_is, owned_is_found, AreOfJob, found_is_owned, owned_by_node}
 
 -- ---- each itag has one owner
 counted_root : (p : Program) (w : ℕ) (own : List ℕ) (kids : Option (ℕ × ℕ)) (i : ℕ) → i < count_of_itags p → AreOfJob p own → times i own ≤ 1 → cond (node_owns p (number i) (node_of p w own kids)) 1 0 ≡ times i own
@@ -77,23 +77,23 @@ module _ (p : Program) (rates : List ℕ) (nodes : List Node) where
       let parting = greedy.2 in
       let few = parts_once (dependencies p) rates itags own lefts rights once parting in
       let in_lefts : AreOfJob p lefts = λ k there.
-          (let parts = parted_times (dependencies p) rates itags own lefts rights once parting k in
-          let some = times_if_contained k lefts there in
-          all k (contained_if_times k itags (omega (arith, parts, some)))) in
+      (let parts = parted_times (dependencies p) rates itags own lefts rights once parting k in
+      let some = times_if_contained k lefts there in
+      all k (contained_if_times k itags (omega (arith, parts, some)))) in
       let in_rights : AreOfJob p rights = λ k there.
-          (let parts = parted_times (dependencies p) rates itags own lefts rights once parting k in
-          let some = times_if_contained k rights there in
-          all k (contained_if_times k itags (omega (arith, parts, some)))) in
+      (let parts = parted_times (dependencies p) rates itags own lefts rights once parting k in
+      let some = times_if_contained k rights there in
+      all k (contained_if_times k itags (omega (arith, parts, some)))) in
       let at_left = left_is_placed p nodes w own left right at in
       let at_right = right_is_placed p nodes w own left right at in
       let of_left : (v k : ℕ) → w + 1 ≤ v → v < w + 1 + size left → k < count_of_itags p → owns p nodes v (number k) ≡ true → Contains lefts k = λ v k lo hi in_k owned.
-          owned_is_given (dependencies p) rates depth lefts left greedy.3 few.0 k
-          (owned_by_node p nodes (w + 1) left at_left v k lo hi in_k
-          (λ x there. in_lefts x (owned_is_given (dependencies p) rates depth lefts left greedy.3 few.0 x there)) owned) in
+      owned_is_given (dependencies p) rates depth lefts left greedy.3 few.0 k
+      (owned_by_node p nodes (w + 1) left at_left v k lo hi in_k
+      (λ x there. in_lefts x (owned_is_given (dependencies p) rates depth lefts left greedy.3 few.0 x there)) owned) in
       let of_right : (v k : ℕ) → w + 1 + size left ≤ v → v < w + 1 + size left + size right → k < count_of_itags p → owns p nodes v (number k) ≡ true → Contains rights k = λ v k lo hi in_k owned.
-          owned_is_given (dependencies p) rates depth rights right greedy.4 few.1 k
-          (owned_by_node p nodes (w + 1 + size left) right at_right v k lo hi in_k
-          (λ x there. in_rights x (owned_is_given (dependencies p) rates depth rights right greedy.4 few.1 x there)) owned) in
+      owned_is_given (dependencies p) rates depth rights right greedy.4 few.1 k
+      (owned_by_node p nodes (w + 1 + size left) right at_right v k lo hi in_k
+      (λ x there. in_rights x (owned_is_given (dependencies p) rates depth rights right greedy.4 few.1 x there)) owned) in
       elim (cases_eq w a) [
         | inl same ↦ absurd (unrelated nodes a b apart (subst (λ (u : ℕ). is_within nodes u b ≡ true) same (within_root p nodes w (Inner own left right) at b lb hb)))
         | inr a_below ↦ elim (cases_eq w b) [

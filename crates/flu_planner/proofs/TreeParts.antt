@@ -1,14 +1,13 @@
 -- What a parting of itags says: each itag goes to one part, and none of the left part is joined to one of the right part.
-use Rattle.std.proofs.Common.{◌≡◌, ◌<◌, ◌≤◌, ◌+◌, ℕ, zero, suc, Bool, true, false, cond, ◌⊎◌, inl, inr, List, [], ◌∷◌, ◌++◌, length, take, drop, refl, sym, ap, subst, ◌∙◌, arith}
-use Rattle.std.specs.Prelude.{nat_lt, ◌==◌, ◌&&◌, ◌||◌, Contains}
-use Rattle.std.specs.List.Sorted.{IsPermutation}
-use Rattle.std.proofs.lemmas.Bool.{cases_lt, cases_Bool, true≢false}
+use Rattle.std.proofs.Common.{◌≡◌, ◌≤◌, ◌+◌, ℕ, true, false, cond, ◌⊎◌, inl, inr, List, [], ◌∷◌, ◌++◌, take, drop, refl, sym, ap, subst, ◌∙◌, arith}
+use Rattle.std.specs.Prelude.{nat_lt, Contains}
+use Rattle.std.proofs.lemmas.Bool.{cases_lt}
 use Rattle.std.proofs.lemmas.List.Elements.{Contains-append_left, Contains-append_right, Contains-append_cases}
 use Rattle.std.proofs.lemmas.List.Sorted.{Contains-permutation, IsPermutation-sym}
 use Rattle.std.proofs.lemmas.Grind.{common_steps}
 use Rattle.flu_lemmas.proofs.Sorting.{in_order-permutation}
 use Rattle.flu_lemmas.proofs.Tests.{both, false_if_not}
-use Rattle.flu_planner.specs.Graphs.{Graph, AreConnected, IsComponent, AreComponents, IsInTurn, comes_first, total_rate, least, rising}
+use Rattle.flu_planner.specs.Graphs.{Graph, AreConnected, IsComponent, AreComponents, IsInTurn, comes_first, rising}
 use Rattle.flu_planner.specs.Cuts.{is_removed_first, removal_order, removed, remaining}
 use Rattle.flu_planner.specs.Groups.{goes_left, grouped}
 use Rattle.flu_planner.specs.Greedy.{IsParting}
@@ -221,8 +220,7 @@ module _ (g : Graph) (rates itags own left right : List ℕ) (once : (i : ℕ) �
       let rest_i = remains i (omega (arith, some_i)) in
       let rest_j = remains j (omega (arith, some_j)) in
       let of_i = p.are.every i rest_i in
-      let of_j = p.are.every j rest_j in
-      (
+      let of_j = p.are.every j rest_j in (
         λ e. (let same : Contains of_i.0 j = (p.are.each of_i.0 of_i.1).closed i j of_i.2 rest_j (joined_are_connected g remain i j e rest_j) in
             elim (goes_whole rates [] [] p.components of_i.0 of_i.1) [
               | inl l ↦ not_in_both j (l j same) b

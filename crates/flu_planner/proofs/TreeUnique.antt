@@ -1,16 +1,16 @@
 -- Itags have one greedy tree for some rates and a depth, and so a job has one greedy plan.
-use Rattle.std.proofs.Common.{◌≡◌, ◌<◌, ◌≤◌, ℕ, zero, suc, true, inl, inr, List, [], ◌∷◌, length, refl, sym, ap, subst, ◌∙◌, arith}
+use Rattle.std.proofs.Common.{◌≡◌, ◌≤◌, ℕ, zero, suc, true, inl, inr, List, [], ◌∷◌, length, refl, sym, ap, subst, ◌∙◌, arith}
 use Rattle.std.specs.Prelude.{Contains, Bool}
 use Rattle.std.proofs.lemmas.Bool.{cases_order}
 use Rattle.std.proofs.lemmas.Grind.{common_steps}
 use Rattle.flu_model.specs.declared.jobs.Program.{Program}
 use Rattle.flu_model.specs.declared.plans.Node.{Node}
 use Rattle.flu_planner.specs.Graphs.{Graph, AreConnected, AreComponents, IsInTurn, comes_first, rising, dependencies}
-use Rattle.flu_planner.specs.Cuts.{IsLeastCut, removed, remaining}
+use Rattle.flu_planner.specs.Cuts.{removed, remaining}
 use Rattle.flu_planner.specs.Groups.{grouped}
 use Rattle.flu_planner.specs.Greedy.{Tree, Leaf, Inner, IsParting, IsLeaf, IsGreedy}
 use Rattle.flu_planner.specs.Plans.{all_itags, nodes_from, IsGreedyPlan}
-use Rattle.flu_planner.proofs.General.{contains_here, contains_later, contains_cases, contains_none, times, times_if_contained, contained_if_times}
+use Rattle.flu_planner.proofs.General.{contains_here, contains_later, contains_cases, contains_none, times_if_contained, contained_if_times}
 use Rattle.flu_planner.proofs.TreeParts.{times_of_cut, same_component}
 
 -- ---- lists in turn
@@ -37,16 +37,16 @@ turn_same {X} first one_way (x ∷ xs) (y ∷ ys) there back a b =
       ]
     ] in
     let rest : xs ≡ ys =
-        turn_same first one_way xs ys
-        (λ c later. elim (contains_cases y c ys (there c (contains_later x c xs later))) [
-          | inl e ↦ (let itself : first x x ≡ true = subst (λ (z : X). first x z ≡ true) (sym (same ∙ e)) (a.0 c later) in absurd (one_way x x itself itself))
-          | inr more ↦ more
-        ])
-        (λ c later. elim (contains_cases x c xs (back c (contains_later y c ys later))) [
-          | inl e ↦ (let itself : first y y ≡ true = subst (λ (z : X). first y z ≡ true) (sym (sym same ∙ e)) (b.0 c later) in absurd (one_way y y itself itself))
-          | inr more ↦ more
-        ])
-        a.1 b.1 in
+    turn_same first one_way xs ys
+    (λ c later. elim (contains_cases y c ys (there c (contains_later x c xs later))) [
+      | inl e ↦ (let itself : first x x ≡ true = subst (λ (z : X). first x z ≡ true) (sym (same ∙ e)) (a.0 c later) in absurd (one_way x x itself itself))
+      | inr more ↦ more
+    ])
+    (λ c later. elim (contains_cases x c xs (back c (contains_later y c ys later))) [
+      | inl e ↦ (let itself : first y y ≡ true = subst (λ (z : X). first y z ≡ true) (sym (sym same ∙ e)) (b.0 c later) in absurd (one_way y y itself itself))
+      | inr more ↦ more
+    ])
+    a.1 b.1 in
     λ i. same i ∷ rest i
 
 -- ---- components
