@@ -7,3 +7,4 @@ pub mod PlanValid
 pub mod PlanRules
 pub mod PlanText
 pub mod TreeUnique
+pub mod PlanLength

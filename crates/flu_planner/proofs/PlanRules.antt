@@ -18,10 +18,10 @@ use Rattle.flu_model.specs.Owners.{is_keyed}
 use Rattle.flu_model.specs.PlanRules.{are_subtrees, is_tree, depths_below, count_of_predicates, are_small_keys}
 use Rattle.flu_model.specs.Rules.{are_distinct, is_same_text, tag_fits}
 use Rattle.flu_model.proofs.ItagLemmas.{itags_fit}
+use Rattle.flu_plan.specs.Kept.{KeepsRules}
 use Rattle.flu_planner.specs.Graphs.{Graph, dependencies}
 use Rattle.flu_planner.specs.Greedy.{Tree, Leaf, Inner, IsGreedy}
 use Rattle.flu_planner.specs.Plans.{all_itags, own_keys, pred_of, name_of, node_of, size, nodes_from, IsGreedyPlan}
-use Rattle.flu_planner.specs.Laws.{KeepsRules}
 use Rattle.flu_planner.proofs.TreeItags.{owned_in, AreOnce, owned_times, owned_is_given, all_once, all_within, few_numbers}
 use Rattle.flu_planner.proofs.PlanTags.{number}
 use Rattle.flu_planner.proofs.PlanNodes.{count_of_nodes, AreOfJob, each_pred}

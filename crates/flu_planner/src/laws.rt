@@ -1,6 +1,8 @@
 //! What holds of every greedy plan. Each law is the contract of a function that does nothing.
 
-ghost use Rattle.flu_planner.specs.Laws.{GreedyKeepsRules, GreedyIsValid, GreedyHasText, GreedyIsUnique};
+ghost use Rattle.flu_planner.specs.Laws.{GreedyKeepsRules, GreedyIsValid, GreedyHasText, GreedyIsReadAgain, GreedyIsUnique};
+
+use flu_plan::laws::printed_is_read;
 
 /// The nodes of a greedy plan keep the rules of plans: they are one binary tree in preorder with names of their own, within the
 /// limits.
@@ -13,11 +15,17 @@ pub fn greedy_plans_are_valid()
     ensures { GreedyIsValid }
 {}
 
-/// A greedy plan has a text that is read as this plan again: its predicates name kinds and sources of the job, and its names are
-/// names of the language.
+/// A greedy plan has a text: its predicates name kinds and sources of the job, and its names are names of the language.
 pub fn greedy_plans_have_text()
     ensures { GreedyHasText }
 {}
+
+/// A greedy plan's text is read as this plan again.
+pub fn greedy_plans_are_read_again()
+    ensures { GreedyIsReadAgain }
+{
+    printed_is_read();
+}
 
 /// A job has one greedy plan for some rates and a depth.
 pub fn greedy_plans_are_unique()
