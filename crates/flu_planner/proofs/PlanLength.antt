@@ -1,6 +1,6 @@
 -- The text of a plan that keeps the rules is ASCII, and short enough to be read.
-use Rattle.std.proofs.Common.{◌≡◌, ◌<◌, ◌≤◌, ◌+◌, ◌*◌, ◌^◌, ℕ, zero, suc, Bool, true, false, Option, Some, None, List, [], ◌∷◌, ◌++◌, length, refl, sym, ap, ◌∙◌, arith, length-append, Ok}
-use Rattle.std.specs.Prelude.{nat_lt, nat_le, ◌==◌, ◌&&◌, ◌||◌, slice_get, codes, sum_by, IsTrue}
+use Rattle.std.proofs.Common.{◌≡◌, ◌<◌, ◌≤◌, ◌+◌, ◌*◌, ℕ, zero, suc, Bool, true, Option, Some, None, List, [], ◌∷◌, ◌++◌, length, refl, arith, length-append, Ok}
+use Rattle.std.specs.Prelude.{nat_lt, nat_le, slice_get, codes}
 use Rattle.std.specs.Fmt.{decimal}
 use Rattle.std.specs.List.{list_all, flat_map}
 use Rattle.std.specs.Str.{IsAscii}
@@ -10,8 +10,6 @@ use Rattle.std.proofs.lemmas.List.Sums.{sum_by-cons}
 use Rattle.std.proofs.lemmas.Str.{IsAscii-append, IsUtf8-from_ascii}
 use Rattle.std.proofs.lemmas.Str.Ascii.{IsAscii-nil, IsAscii-cons}
 use Rattle.flu_lemmas.proofs.Tests.{and_left, and_right, both, true_lt, true_le}
-use Rattle.flu_model.specs.declared.jobs.Kind.{Kind}
-use Rattle.flu_model.specs.declared.jobs.Source.{Source}
 use Rattle.flu_model.specs.declared.jobs.Keys.{Keys}
 use Rattle.flu_model.specs.declared.jobs.Keys.TheVariants.{Alone, One, Range}
 use Rattle.flu_model.specs.declared.jobs.Program.{Program}
@@ -23,7 +21,7 @@ use Rattle.flu_model.specs.Rules.{is_letter_or_digit, is_name, kind_fits, source
 use Rattle.flu_parse.specs.Printing.{keys_text, line_end}
 use Rattle.flu_plan.specs.Kept.{KeepsRules}
 use Rattle.flu_plan.specs.Laws.{PrintedIsRead}
-use Rattle.flu_plan.specs.Printing.{name_of_kind, name_of_source, name_of_child, kind_text, source_text, pred_text, preds_text, kids_text, node_line, printed, has_text}
+use Rattle.flu_plan.specs.Printing.{name_of_kind, name_of_source, name_of_child, kind_text, source_text, pred_text, preds_text, kids_text, node_line, printed}
 use Rattle.flu_plan.specs.Reading.{plan_in}
 use Rattle.flu_planner.specs.Plans.{IsGreedyPlan}
 use Rattle.flu_planner.proofs.PlanRules.{greedy_keeps_rules}

@@ -1,5 +1,5 @@
 -- Itags that depend on each other as a graph, and its components on some of them. An itag stands for its number.
-use Rattle.std.specs.Prelude.{◌≡◌, ◌≢◌, ℕ, Bool, true, false, nat_lt, ◌==◌, ◌&&◌, ◌||◌, List, [], ◌∷◌, Contains, slice_index, IsTrue}
+use Rattle.std.specs.Prelude.{◌≡◌, ◌≢◌, ℕ, Bool, true, nat_lt, ◌==◌, ◌&&◌, ◌||◌, List, [], ◌∷◌, Contains, slice_index, IsTrue}
 use Rattle.flu_lemmas.specs.Sorting.{in_order}
 use Rattle.flu_lemmas.specs.Totals.{total}
 use Rattle.flu_model.specs.declared.jobs.Program.{Program}

@@ -1,5 +1,5 @@
 -- GREEDY: which itags the nodes of a greedy plan own.
-use Rattle.std.specs.Prelude.{◌≡◌, ℕ, zero, suc, ◌<◌, ◌≤◌, List, [], length, ◌⊎◌}
+use Rattle.std.specs.Prelude.{◌≡◌, ℕ, zero, suc, ◌≤◌, List, [], length, ◌⊎◌}
 use Rattle.flu_planner.specs.Graphs.{Graph, AreComponents, rising}
 use Rattle.flu_planner.specs.Cuts.{IsLeastCut, IsWhole, removed, remaining}
 use Rattle.flu_planner.specs.Groups.{grouped}
