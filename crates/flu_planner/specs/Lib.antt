@@ -1,0 +1,6 @@
+pub mod Graphs
+pub mod Cuts
+pub mod Groups
+pub mod Greedy
+pub mod Plans
+pub mod Laws
