@@ -12,6 +12,7 @@ use std::process::Abort;
 use std::test::Fail;
 
 /// A job: whether each kind is keyed, which kinds depend on each other, and what each source lists.
+#[derive(Clone, Copy)]
 struct Job<'a> {
     keyed: &'a [bool],
     depends: &'a [(u32, u32)],
