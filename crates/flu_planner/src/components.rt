@@ -1,7 +1,7 @@
 //! The components of the graph of dependent itags on some itags.
 
-ghost use Rattle.std.specs.Prelude.{◌≡◌, ◌<◌, ◌↔◌, ◌++◌, ℕ, not, IfOk, OnOk, IsTrue, length, filter};
-ghost use Rattle.std.specs.List.{position_or_len};
+ghost use Rattle.std.specs.Prelude.{◌≡◌, ◌<◌, ◌≤◌, ◌↔◌, ◌++◌, ℕ, not, nat_lt, position, IfOk, OnOk, IsTrue, length};
+ghost use Rattle.std.specs.List.{position_or_len, filter};
 ghost use Rattle.flu_lemmas.specs.Sorting.{put_in_order};
 ghost use Rattle.flu_lemmas.specs.Totals.{total};
 ghost use Rattle.flu_planner.specs.Graphs.{IsApart, AreComponents, is_rising, total_rate};
@@ -114,15 +114,21 @@ fn add_component(
     Ok(())
 }
 
-// Where a component is put among others.
-fn place_of(components: &[List<u32>], rates: &[u64], component: &[u32]) -> usize
-    ensures { result ≡ position_or_len (has_greater_total rates.now component.now) components.now }
+// The first of some components whose total rate is less than this one.
+fn first_less(components: &[List<u32>], rates: &[u64], rate: u128) -> Option<usize>
+    ensures { result ≡ position (λ other. nat_lt (total_rate rates.now other) rate) components.now }
 {
-    let rate = total_rate(rates, component);
-    match components
+    components
         .iter()
         .position(|other| total_rate(rates, other.items()) < rate)
-    {
+}
+
+// Where a component is put among others.
+fn place_of(components: &[List<u32>], rates: &[u64], component: &[u32]) -> usize
+    ensures place { result ≡ position_or_len (has_greater_total rates.now component.now) components.now }
+    ensures within { result ≤ length components.now }
+{
+    match first_less(components, rates, total_rate(rates, component)) {
         Some(place) => place,
         None => components.len(),
     }

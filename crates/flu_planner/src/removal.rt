@@ -1,6 +1,6 @@
 //! Which itags are removed so that the others fall apart, and the orders of itags.
 
-ghost use Rattle.std.specs.Prelude.{◌≡◌, ℕ, ◌≤◌, nat_lt, IfOk, IsTrue, MatchOption, take, drop};
+ghost use Rattle.std.specs.Prelude.{◌≡◌, ℕ, ◌≤◌, nat_lt, IfOk, MatchOption, position, length};
 ghost use Rattle.std.specs.List.{position_or_len};
 ghost use Rattle.flu_planner.specs.Graphs.{rate_of, total_rate, rising, IsApart};
 ghost use Rattle.flu_planner.specs.Cuts.{is_removed_first, removal_order};
@@ -39,11 +39,19 @@ fn is_removed_first(rates: &[u64], i: u32, j: u32) -> bool
     rate < other || (rate == other && i < j)
 }
 
+// The first of some itags that is removed behind this one.
+fn first_behind(rates: &[u64], i: u32, others: &[u32]) -> Option<usize>
+    ensures { result ≡ position (is_removed_first rates.now i) others.now }
+{
+    others.iter().position(|j| is_removed_first(rates, i, *j))
+}
+
 // Where an itag is put among others in the order of removal.
 fn place_of(rates: &[u64], i: u32, others: &[u32]) -> usize
-    ensures { result ≡ position_or_len (is_removed_first rates.now i) others.now }
+    ensures place { result ≡ position_or_len (is_removed_first rates.now i) others.now }
+    ensures within { result ≤ length others.now }
 {
-    match others.iter().position(|j| is_removed_first(rates, i, *j)) {
+    match first_behind(rates, i, others) {
         Some(place) => place,
         None => others.len(),
     }
@@ -63,11 +71,19 @@ pub fn removal_order(alloc: Global, rates: &[u64], itags: &[u32]) -> Result<Vec<
     Ok(order)
 }
 
+// The first of some itags that is greater than this one.
+fn first_greater(i: u32, others: &[u32]) -> Option<usize>
+    ensures { result ≡ position (nat_lt i) others.now }
+{
+    others.iter().position(|j| i < *j)
+}
+
 // Where an itag is put among others by rising number.
 fn place_by_number(i: u32, others: &[u32]) -> usize
-    ensures { result ≡ position_or_len (nat_lt i) others.now }
+    ensures place { result ≡ position_or_len (nat_lt i) others.now }
+    ensures within { result ≤ length others.now }
 {
-    match others.iter().position(|j| i < *j) {
+    match first_greater(i, others) {
         Some(place) => place,
         None => others.len(),
     }

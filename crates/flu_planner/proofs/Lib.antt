@@ -1,0 +1,5 @@
+pub mod Occurs
+pub mod Rising
+pub mod Putting
+pub mod Connections
+pub mod Searching
