@@ -3,3 +3,5 @@ pub mod Rising
 pub mod Putting
 pub mod Connections
 pub mod Searching
+pub mod Finding
+pub mod Tables

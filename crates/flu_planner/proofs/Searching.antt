@@ -1,9 +1,9 @@
 -- The search from an itag, and what it finds.
 use Rattle.std.proofs.Common.{◌≡◌, ◌<◌, ◌≤◌, ◌+◌, ℕ, zero, suc, Bool, true, false, cond, List, [], ◌∷◌, ◌++◌, length, get_or, take, drop, inl, inr, refl, sym, ap, subst, ◌∙◌, arith}
-use Rattle.std.specs.Prelude.{Contains, IsTrue, ◌&&◌, not, ◌↔◌, ◌≢◌, ◌⊎◌}
+use Rattle.std.specs.Prelude.{Contains, IsTrue, not, ◌↔◌, ◌⊎◌, ◌==◌}
 use Rattle.std.specs.List.{filter}
-use Rattle.std.proofs.lemmas.Bool.{cases_lt, cases_eq, both_ways, not-true}
-use Rattle.std.proofs.lemmas.List.{length-append, get_or_append_left, get_or-append_right, get_or_default}
+use Rattle.std.proofs.lemmas.Bool.{cases_lt, cases_eq, both_ways, not-true, eqb-true, eqb-false}
+use Rattle.std.proofs.lemmas.List.{length-append, get_or_append_left, get_or-append_right, get_or_default, nil_from_length}
 use Rattle.std.proofs.lemmas.List.Filters.{length-filter_both}
 use Rattle.std.proofs.lemmas.List.Elements.{Contains-append_left, Contains-append_cases, Contains-get_or}
 use Rattle.flu_lemmas.specs.Sorting.{in_order, put_in_order}
@@ -104,7 +104,7 @@ module _ (g : Graph) (both : (i j : ℕ) → g i j ≡ g j i) (itags : List ℕ)
       elim (cases_lt 0 (occurs k connected)) [ inl some ↦ inl (found k connected (omega arith)) | inr none ↦ inr (found k rest (omega arith)) ]
 
   -- no walk leads out of what is connected
-  stays_step : (i j : ℕ) → Contains connected i → Contains itags j → g i j ≡ true → Contains connected j
+  pub stays_step : (i j : ℕ) → Contains connected i → Contains itags j → g i j ≡ true → Contains connected j
   stays_step i j here there joined = elim (some_side j there) [ inl one ↦ one | inr other ↦ absurd (both_ways (g i j) (now.cut i j here other) joined) ]
 
   pub stays : (i j : ℕ) → Contains connected i → AreConnected g itags i j → Contains connected j
@@ -133,3 +133,13 @@ module _ (g : Graph) (both : (i j : ℕ) → g i j ≡ g j i) (itags : List ℕ)
 
 pub none_apart : (g : Graph) → IsApart g [] → ⊥
 none_apart g a = absurd (contains_none a.one a.one_in)
+
+-- whether there is a rest tells whether the graph is apart
+pub rest_tells : (g : Graph) → ((i j : ℕ) → g i j ≡ g j i) → (itags : List ℕ) → IsTrue (is_rising itags) → (connected rest : List ℕ) → IsReached g itags connected rest → (b : Bool) → b ≡ (length rest == 0) → IsTrue (not b) ↔ IsApart g itags
+rest_tells g both itags up connected rest now true e =
+    (λ wrong. cc, λ a. absurd (not_apart_if_none g both itags up connected rest now (nil_from_length rest (eqb-true (length rest) 0 (sym e))) a))
+rest_tells g both itags up connected rest now false e =
+    (λ right. apart_if_rest g both itags up connected rest now (let some = eqb-false (length rest) 0 (sym e) in omega arith), λ a. refl)
+
+pub none_tells : (g : Graph) (itags : List ℕ) → length itags ≡ 0 → IsTrue false ↔ IsApart g itags
+none_tells g itags none = (λ wrong. cc, λ a. absurd (none_apart g (subst (IsApart g) (nil_from_length itags none) a)))

@@ -92,7 +92,7 @@ pub fn components(
 {
     let mut components = Vec::new(alloc);
     let mut rest = itags.to_vec(alloc)?;
-    while !rest.is_empty() {
+    'remaining: while !rest.is_empty() {
         let found = reach(alloc, table, &rest)?;
         let component = rising(alloc, &found.connected)?;
         add_component(&mut components, rates, List::of(component))?;
