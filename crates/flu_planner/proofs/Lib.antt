@@ -5,3 +5,4 @@ pub mod Connections
 pub mod Searching
 pub mod Finding
 pub mod Tables
+pub mod Cutting
