@@ -6,3 +6,4 @@ pub mod Searching
 pub mod Finding
 pub mod Tables
 pub mod Cutting
+pub mod Planting
