@@ -189,7 +189,7 @@ module _ (g : Graph) (both : (i j : ℕ) → g i j ≡ g j i) (rates itags : Lis
   }
 
 -- ---- all are found
-some_list : (k : ℕ) (lists : List (List ℕ)) → 1 ≤ total (occurs k) lists → (c : List ℕ) × Contains lists c × Contains c k
+pub some_list : (k : ℕ) (lists : List (List ℕ)) → 1 ≤ total (occurs k) lists → (c : List ℕ) × Contains lists c × Contains c k
 some_list k [] some = absurd (omega arith)
 some_list k (c ∷ cs) some =
     elim (cases_lt 0 (occurs k c)) [

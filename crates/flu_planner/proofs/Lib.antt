@@ -7,3 +7,4 @@ pub mod Finding
 pub mod Tables
 pub mod Cutting
 pub mod Planting
+pub mod Agreement

@@ -17,7 +17,7 @@ mod removal;
 mod tests;
 
 pub use flu_deps::{Checked, Valid};
-use flu_model::{List, Plan, itag_count};
+use flu_model::{List, Plan};
 use std::alloc::{AllocError, Global};
 
 /// The greedy plan of all itags of an accepted job, where the rates stand by the itags' numbers, of a depth of at most 6.
@@ -45,9 +45,7 @@ pub fn plan(alloc: Global, c: &Checked, rates: &[u64], depth: u32) -> Result<Val
     laws::greedy_plans_keep_rules();
     laws::greedy_plans_are_valid();
     let p = c.program();
-    let table = dependencies::table(alloc, p)?;
-    let itags: Vec<u32> = (0..itag_count(p)).collect(alloc)?;
-    let nodes = nodes::subtree(alloc, p, &table, rates, depth, 0, &itags)?;
+    let nodes = nodes::greedy(alloc, p, rates, depth)?;
     let plan = Plan {
         nodes: List::of(nodes),
     };

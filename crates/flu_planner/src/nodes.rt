@@ -4,12 +4,13 @@ ghost use Rattle.std.specs.Prelude.{◌≡◌, ◌≤◌, ◌<◌, ◌+◌, ◌^
 ghost use Rattle.flu_model.specs.Itags.{count_of_itags};
 ghost use Rattle.flu_model.specs.Owners.{is_keyed};
 ghost use Rattle.flu_planner.specs.Graphs.{is_rising};
-ghost use Rattle.flu_planner.specs.Plans.{own_keys, pred_of, name_of, node_of};
+ghost use Rattle.flu_planner.specs.Plans.{all_itags, own_keys, pred_of, name_of, node_of, IsGreedyPlan};
 ghost use Rattle.flu_planner.specs.Search.{IsSubtree};
 ghost use Rattle.flu_planner.specs.Tables.{graph_of};
 
+use crate::dependencies::table;
 use crate::groups::part;
-use flu_model::{Itag, Keys, List, Name, Node, Pred, Program, source_of, tag_of};
+use flu_model::{Itag, Keys, List, Name, Node, Pred, Program, itag_count, source_of, tag_of};
 use std::alloc::{AllocError, Global};
 
 fn is_keyed(p: &Program, kind: u32) -> bool
@@ -65,8 +66,8 @@ fn node_of(
     Ok(Node { name, preds, kids })
 }
 
-/// The nodes of the greedy plan of some itags, by rising number, at a depth, where the first has this number.
-pub fn subtree(
+// The nodes of the greedy plan of some itags, by rising number, at a depth, where the first has this number.
+fn subtree(
     alloc: Global,
     p: &Program,
     table: &[bool],
@@ -105,4 +106,25 @@ fn leaf(alloc: Global, p: &Program, number: u32, itags: &[u32]) -> Result<Vec<No
     let mut nodes = Vec::new(alloc);
     nodes.push(node_of(alloc, p, number, itags, None)?)?;
     Ok(nodes)
+}
+
+fn all_itags(alloc: Global, p: &Program) -> Result<Vec<u32>, AllocError>
+    ensures { IfOk result (λ itags. itags.items ≡ all_itags p.now) }
+{
+    (0..itag_count(p)).collect(alloc)
+}
+
+/// The nodes of the greedy plan of all itags of a job.
+pub fn greedy(
+    alloc: Global,
+    p: &Program,
+    rates: &[u64],
+    depth: u32,
+) -> Result<Vec<Node>, AllocError>
+    requires { depth ≤ 6 }
+    ensures { IfOk result (λ nodes. IsGreedyPlan p.now rates.now depth nodes.items) }
+{
+    let table = table(alloc, p)?;
+    let itags = all_itags(alloc, p)?;
+    subtree(alloc, p, &table, rates, depth, 0, &itags)
 }
