@@ -2,7 +2,7 @@
 use Rattle.std.proofs.Common.{◌≡◌, ◌<◌, ◌≤◌, ◌+◌, ◌*◌, ◌/◌, ◌%◌, ℕ, zero, suc, Bool, true, false, cond, List, [], ◌∷◌, map, length, get_or, inl, inr, refl, sym, ap, subst, ◌∙◌, arith}
 use Rattle.std.specs.Prelude.{nat_lt, ◌&&◌, Some, None, slice_get}
 use Rattle.std.specs.List.{range_with_len}
-use Rattle.std.proofs.lemmas.Bool.{cases_lt, cases_order, lt-ltb, le-ltb}
+use Rattle.std.proofs.lemmas.Bool.{cases_lt, cases_order, lt-ltb, le-ltb, le-leb}
 use Rattle.std.proofs.lemmas.List.{get_or-map}
 use Rattle.std.proofs.lemmas.List.FromFn.{length-range_with_len, get_or-range_with_len}
 use Rattle.flu_model.specs.declared.jobs.Program.{Program}
@@ -42,9 +42,9 @@ row_of i j lt = omega arith
 place_of : (i j : ℕ) → j < 256 → (i * 256 + j) % 256 ≡ j
 place_of i j lt = omega arith
 
-read_is : (p : Program) (i j : ℕ) → i < count_of_itags p → j < count_of_itags p → read (table_of p) i j ≡ dependencies p i j
+read_is : (p : Program) (i j : ℕ) → i ≤ j → j < count_of_itags p → read (table_of p) i j ≡ dependencies p i j
 unfolding table_of
-read_is p i j one other =
+read_is p i j le other =
     let few : count_of_itags p ≤ 256 = p.few_itags in
     let k : ℕ = i * 256 + j in
     let places : List ℕ = range_with_len 0 (count_of_itags p * 256) in
@@ -52,7 +52,7 @@ read_is p i j one other =
     let inside : k < length places = omega arith in
     set_is (map (entry p) places) k ∙ get_or-map (entry p) places k 0 false inside ∙ ap (entry p) (get_or-range_with_len 0 (count_of_itags p * 256) k 0 (omega arith) ∙ omega arith)
     ∙ ap (λ n. are_dependent p n (k % 256)) (row_of i j (omega arith)) ∙ ap (λ n. are_dependent p i n) (place_of i j (omega arith))
-    ∙ ap (λ b. b && (nat_lt j (count_of_itags p) && dependencies p i j)) (lt-ltb i (count_of_itags p) one)
+    ∙ ap (λ b. b && (nat_lt j (count_of_itags p) && dependencies p i j)) (le-leb i j le)
     ∙ ap (λ b. b && dependencies p i j) (lt-ltb j (count_of_itags p) other)
 
 pub agrees_with_table : (p : Program) → Agree (graph_of (table_of p)) (dependencies p) (all_itags p)
@@ -63,9 +63,9 @@ agrees_with_table p = record {
       let b : j < count_of_itags p = range_below (count_of_itags p) j other in
       let table : List Bool = table_of p in
       elim (cases_lt i j) [
-        | inl less ↦ ap (λ c. cond c (read table i j) (read table j i)) (lt-ltb i j less) ∙ read_is p i j a b
+        | inl less ↦ ap (λ c. cond c (read table i j) (read table j i)) (lt-ltb i j less) ∙ read_is p i j (omega arith) b
         | inr le ↦
-            ap (λ c. cond c (read table i j) (read table j i)) (le-ltb i j le) ∙ read_is p j i b a
+            ap (λ c. cond c (read table i j) (read table j i)) (le-ltb i j le) ∙ read_is p j i le a
             ∙ dependent_turns p (tag_of_itag p (record { 0 = j })) (tag_of_itag p (record { 0 = i }))
       ]);
 }

@@ -1,13 +1,13 @@
 -- The table of the dependent itags of a job, and the graph that is read from it.
-use Rattle.std.specs.Prelude.{ℕ, ◌+◌, ◌*◌, ◌/◌, ◌%◌, Bool, false, nat_lt, ◌&&◌, Option, Some, None, List, map, slice_get, if◌then◌else◌}
+use Rattle.std.specs.Prelude.{ℕ, ◌+◌, ◌*◌, ◌/◌, ◌%◌, Bool, false, nat_lt, nat_le, ◌&&◌, Option, Some, None, List, map, slice_get, if◌then◌else◌}
 use Rattle.std.specs.List.{range_with_len}
 use Rattle.flu_model.specs.declared.jobs.Program.{Program}
 use Rattle.flu_model.specs.Itags.{count_of_itags}
 use Rattle.flu_planner.specs.Graphs.{Graph, dependencies}
 
--- two itags of a job are dependent
+-- two itags of a job are dependent, and the second is not the lesser
 abbrev pub are_dependent : Program → ℕ → ℕ → Bool
-are_dependent p i j = nat_lt i (count_of_itags p) && (nat_lt j (count_of_itags p) && dependencies p i j)
+are_dependent p i j = nat_le i j && (nat_lt j (count_of_itags p) && dependencies p i j)
 
 -- what stands at a place of the table, whose rows have 256 places
 abbrev pub entry : Program → ℕ → Bool
