@@ -24,7 +24,10 @@ pub record AreTables (p : Program) (nodes : List Node) (tables : List Right) : T
   pub one_each : length tables ≡ length nodes
   pub right : (w : ℕ) (table : Right) → slice_get tables w ≡ Some table → IsRightAt p nodes w table
 
--- for each itag the count of the right ones where it is of them, and else that of the left ones
+-- the count of an itag: that of the right ones where it is of them, and else that of the left ones
+abbrev pub count_by : List Bool → List ℕ → List ℕ → ℕ → ℕ
+count_by is_right lefts rights i = if slice_index_or is_right i false then slice_index rights i else slice_index lefts i
+
+-- so for each itag
 abbrev pub counts_by : List Bool → List ℕ → List ℕ → List ℕ
-counts_by is_right lefts rights =
-    map (λ i. if slice_index_or is_right i false then slice_index rights i else slice_index lefts i) (range_with_len 0 (length is_right))
+counts_by is_right lefts rights = map (count_by is_right lefts rights) (range_with_len 0 (length is_right))

@@ -29,7 +29,7 @@ pub struct Case<'a> {
     ghost of_job: { IsValid (program_of checked.now) (plan_of valid.now).nodes },
     ghost one_each: { length (listed streams.now) ≡ count_of_itags (program_of checked.now) },
     ghost opening_sorts: { ∥ IsStateOf (program_of checked.now).families (held opening) ∥₁ },
-    ghost tables: { ∥ AreTables (program_of checked.now) (plan_of valid.now).nodes rights.items ∥₁ },
+    ghost tables: { AreTables (program_of checked.now) (plan_of valid.now).nodes rights.items },
 }
 
 impl<'a> Model for Case<'a> {

@@ -1,12 +1,11 @@
 //! How a lot is parted between the children of a node, and how their lots come together again.
 
-ghost use Rattle.std.specs.Prelude.{◌≡◌, ◌<◌, ℕ, Some, map, length, slice_index, IsSome, IfOk, if◌then◌else◌};
-ghost use Rattle.std.specs.List.{range_with_len};
+ghost use Rattle.std.specs.Prelude.{◌≡◌, ◌<◌, ℕ, Some, length, IsSome, IfOk};
 ghost use Rattle.flu_model.specs.Contents as contents;
 ghost use Rattle.flu_cells.specs.Holding.{held};
 ghost use Rattle.flu_cells.specs.Sets.{within, outside};
 ghost use Rattle.flu_fork.specs.Lots.{nodes, kids, LotFits, LotsPaired, CountsNothing, HasParts, HasCounts, PartsFitKids, HasJoinedCounts};
-ghost use Rattle.flu_fork.specs.Tables.{counts_by};
+ghost use Rattle.flu_fork.specs.Tables.{counts_by, count_by};
 
 use crate::case::Case;
 use crate::counts::{Counts, no_counts};
@@ -130,7 +129,18 @@ fn counts_by(
 {
     let mut numbers = Vec::new(alloc);
     for i in 0..is_right.len() {
-        numbers.push(if is_right[i] { rights.at(i) } else { lefts.at(i) })?;
+        numbers.push(count_by(is_right, lefts, rights, i))?;
     }
     Ok(Counts::of(numbers))
+}
+
+fn count_by(is_right: &[bool], lefts: &Counts, rights: &Counts, itag: usize) -> u64
+    requires { itag < length is_right.now }
+    ensures { result ≡ count_by is_right.now lefts.now rights.now itag }
+{
+    if is_right[itag] {
+        rights.at(itag)
+    } else {
+        lefts.at(itag)
+    }
 }

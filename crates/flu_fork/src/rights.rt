@@ -1,9 +1,12 @@
 //! What goes to the right child of a node: the cells that some itag of its subtree needs, and these itags.
 
-ghost use Rattle.std.specs.Prelude.{◌≡◌, ◌<◌, length, IfOk};
-ghost use Rattle.flu_model.specs.Itags.{count_of_itags};
+ghost use Rattle.std.specs.Prelude.{◌≡◌, ◌<◌, ◌&&◌, length, IfOk, OnOk};
+ghost use Rattle.flu_model.specs.Itags.{count_of_itags, tag_of_itag};
+ghost use Rattle.flu_model.specs.Modes.{mode_of};
 ghost use Rattle.flu_model.specs.Owners.{subtree_owns};
 ghost use Rattle.flu_deps.specs.Validated.{plan_of, IsValidFor};
+ghost use Rattle.flu_laws.specs.Uses.{needs};
+ghost use Rattle.flu_fork.specs.Gathering.{GrowsBy};
 ghost use Rattle.flu_fork.specs.Tables.{IsRight, IsRightAt, AreTables};
 
 use crate::needed::{Needed, add_tag};
@@ -27,16 +30,32 @@ pub fn right_of(alloc: Global, p: &Program, v: &Valid, right: u32) -> Result<Rig
     let mut needed = Needed::new(alloc);
     let mut itags = Vec::new(alloc);
     for i in 0..itag_count(p) {
-        let is_below = is_below(p, v, right, Itag(i));
-        if is_below {
-            add_tag(&mut needed, p, tag_of(p, Itag(i)))?;
-        }
-        itags.push(is_below)?;
+        itags.push(add_itag(&mut needed, p, v, right, Itag(i))?)?;
     }
     Ok(Right {
         cells: needed.set(),
         itags,
     })
+}
+
+// Adds the cells that an itag needs, where it is of a node's subtree, and tells whether it is.
+fn add_itag(
+    needed: &mut Needed,
+    p: &Program,
+    v: &Valid,
+    w: u32,
+    i: Itag,
+) -> Result<bool, AllocError>
+    requires valid { IsValidFor p.now v.now }
+    requires in_range { i.0 < count_of_itags p.now }
+    ensures below { IfOk result (λ is_below. is_below ≡ subtree_owns p.now (plan_of v.now).nodes w i) }
+    ensures cells { OnOk result (GrowsBy needed.old needed.new (λ c. subtree_owns p.now (plan_of v.now).nodes w i && needs (mode_of p.now (tag_of_itag p.now i) c))) }
+{
+    if !is_below(p, v, w, i) {
+        return Ok(false);
+    }
+    add_tag(needed, p, tag_of(p, i))?;
+    Ok(true)
 }
 
 // Whether an itag is of a node's subtree.
