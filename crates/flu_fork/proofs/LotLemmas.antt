@@ -110,7 +110,7 @@ counts_are p nodes r table lefts rights is =
     ap (λ bs. counts_by bs lefts rights) is.itags
     ∙ ap (λ m. map (count_by (map inside (range_with_len 0 n)) lefts rights) (range_with_len 0 m)) (length-map-range_with_len inside 0 n)
     ∙ map_alike (count_by (map inside (range_with_len 0 n)) lefts rights) (λ i. cond (inside i) (slice_index rights i) (slice_index lefts i)) 0 n
-      (λ i lt. ap (λ b. cond b (slice_index rights i) (slice_index lefts i)) (get_or-map-range_with_len inside 0 n i i false (omega arith) (omega arith)))
+    (λ i lt. ap (λ b. cond b (slice_index rights i) (slice_index lefts i)) (get_or-map-range_with_len inside 0 n i i false (omega arith) (omega arith)))
 
 -- ---- children
 

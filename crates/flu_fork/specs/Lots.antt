@@ -2,7 +2,6 @@
 use Rattle.std.specs.Prelude.{◌≡◌, ℕ, Option, Some, List}
 use Rattle.flu_model.specs.declared.jobs.Program.{Program}
 use Rattle.flu_model.specs.declared.plans.Node.{Node}
-use Rattle.flu_model.specs.Contents.{join}
 use Rattle.flu_model.specs.Listed.{listed}
 use Rattle.flu_deps.specs.Checking.{program_of}
 use Rattle.flu_deps.specs.Owned.{kids_at}
@@ -67,10 +66,10 @@ pub record PartsFitKids (k : Content) (l r : ℕ) (parts : Lot × Lot) : Type 0 
 
 -- ---- two lots together
 
--- the counts of the joined lot: it begins where the left part did, and the right part counts the events of its own subtree
-pub record HasJoinedCounts (k : Content) (r : ℕ) (left right lot : Lot) : Type 0 where
+-- the counts of the joined lot of a node: it begins where the left lot does, and the events of the right child's subtree are counted as in the right lot
+pub record HasJoinedCounts (k : Content) (w : ℕ) (left right lot : Lot) : Type 0 where
   pub since : lot.since ≡ left.since
-  pub upto : lot.upto ≡ joined_counts (job k) (nodes k) r left.upto right.upto
+  pub upto : (l r : ℕ) → kids k w ≡ Some (l, r) → lot.upto ≡ joined_counts (job k) (nodes k) r left.upto right.upto
 
 -- ---- a case
 

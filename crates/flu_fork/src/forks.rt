@@ -90,7 +90,7 @@ pub fn join(alloc: Global, case: &Case, node: u32, left: Lot, right: Lot) -> Res
     requires right { (l r : ℕ) → kids case.now node ≡ Some (l, r) → LotFits case.now r right }
     requires paired { (l r : ℕ) → kids case.now node ≡ Some (l, r) → LotsPaired case.now l r left right }
     ensures state { IfOk result (λ lot. held lot.state ≡ contents.join (held left.state) (held right.state)) }
-    ensures counts { IfOk result (λ lot. (lot.since ≡ left.since) × ((l r : ℕ) → kids case.now node ≡ Some (l, r) → HasJoinedCounts case.now r left right lot)) }
+    ensures counts { IfOk result (HasJoinedCounts case.now node left right) }
     ensures fits { IfOk result (λ lot. LotFits case.now node lot) }
 {
     joins_fit();
@@ -98,12 +98,7 @@ pub fn join(alloc: Global, case: &Case, node: u32, left: Lot, right: Lot) -> Res
 }
 
 /// Two lots together, where the events of some itags are counted as in the right one, and all others as in the left one.
-pub(crate) fn merge(
-    alloc: Global,
-    table: &Right,
-    left: Lot,
-    right: Lot,
-) -> Result<Lot, AllocError>
+pub(crate) fn merge(alloc: Global, table: &Right, left: Lot, right: Lot) -> Result<Lot, AllocError>
     ensures state { IfOk result (λ lot. held lot.state ≡ contents.join (held left.state) (held right.state)) }
     ensures since { IfOk result (λ lot. lot.since ≡ left.since) }
     ensures upto { IfOk result (λ lot. lot.upto ≡ counts_by table.now.itags.items left.upto right.upto) }

@@ -10,8 +10,8 @@ use crate::rights::{Right, right_of};
 use flu_cells::{Cell, State, Worth};
 use flu_check::check;
 use flu_model::{
-    Act, Action, At, CellRef, Depend, Expr, Family, Keys, Kind, List, Name, Node, Piece, Plan, Pred,
-    Program, Sort, Source, TagRef, Text,
+    Act, Action, At, CellRef, Depend, Expr, Family, Keys, Kind, List, Name, Node, Piece, Plan,
+    Pred, Program, Sort, Source, TagRef, Text,
 };
 use flu_rules::program;
 use flu_valid::validate;
@@ -302,7 +302,11 @@ fn viewed(alloc: Global) -> Result<Lot, AllocError> {
     let mut upto = Vec::new(alloc);
     for itag in 0..31 {
         since.push(0)?;
-        upto.push(if itag == 0 || itag == 10 || itag == 23 { 1 } else { 0 })?;
+        upto.push(if itag == 0 || itag == 10 || itag == 23 {
+            1
+        } else {
+            0
+        })?;
     }
     Ok(Lot {
         state,

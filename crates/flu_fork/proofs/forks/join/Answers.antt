@@ -1,5 +1,4 @@
-use Rattle.std.proofs.Common.{◌≡◌, ℕ, Some, ◌∙◌}
-use Rattle.std.proofs.lemmas.Result.{IfOk-weaker}
+use Rattle.std.proofs.Common.{◌≡◌, ◌∙◌}
 use Rattle.flu_model.specs.Contents as contents
 use Rattle.flu_cells.specs.Holding.{held}
 use Rattle.flu_fork.specs.declared.lots.Lot.{Lot}
@@ -15,11 +14,11 @@ returns-clause-counts c =
     let table = c.right.result.now in
     IfOk-both c.merge.result
     (λ (lot : Lot). lot.since ≡ c.args.left.since) (λ (lot : Lot). lot.upto ≡ counts_by table.itags.items c.args.left.upto c.args.right.upto)
-    (λ (lot : Lot). (lot.since ≡ c.args.left.since) × ((l r : ℕ) → kids k c.args.node ≡ Some (l, r) → HasJoinedCounts k r c.args.left c.args.right lot))
-    (λ lot since upto. (since, λ l r e. record {
+    (HasJoinedCounts k c.args.node c.args.left c.args.right)
+    (λ lot since upto. record {
       since = since;
-      upto = upto ∙ counts_are (job k) (nodes k) r table c.args.left.upto c.args.right.upto (c.right.ensures l r e);
-    }))
+      upto = λ l r e. upto ∙ counts_are (job k) (nodes k) r table c.args.left.upto c.args.right.upto (c.right.ensures l r e);
+    })
     c.merge.ensures.since c.merge.ensures.upto
 
 pub returns-clause-fits : goal.returns-clause-fits
@@ -32,7 +31,7 @@ returns-clause-fits c =
     let law = c.joins_fit.ensures (setting_of k) c.args.node l r (held c.args.left.state) (held c.args.right.state) c.args.left.since c.args.left.upto c.args.right.since c.args.right.upto (setting_holds k) c.requires.node e (c.requires.left l r e) (c.requires.right l r e) (c.requires.paired l r e) in
     IfOk-both c.merge.result
     (λ (lot : Lot). held lot.state ≡ contents.join (held c.args.left.state) (held c.args.right.state))
-    (λ (lot : Lot). (lot.since ≡ c.args.left.since) × ((l r : ℕ) → kids k c.args.node ≡ Some (l, r) → HasJoinedCounts k r c.args.left c.args.right lot))
+    (HasJoinedCounts k c.args.node c.args.left c.args.right)
     (LotFits k c.args.node)
-    (λ lot state counts. fits_as (setting_of k) c.args.node _ _ _ _ _ _ state counts.0 (counts.1 l r e).upto law)
+    (λ lot state counts. fits_as (setting_of k) c.args.node _ _ _ _ _ _ state counts.since (counts.upto l r e) law)
     c.merge.ensures.state (returns-clause-counts c)
