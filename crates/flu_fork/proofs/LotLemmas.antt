@@ -15,7 +15,7 @@ use Rattle.flu_model.specs.declared.jobs.Family.{Family}
 use Rattle.flu_model.specs.declared.jobs.Program.{Program}
 use Rattle.flu_model.specs.declared.plans.Node.{Node}
 use Rattle.flu_model.specs.contracts.events.Worth as worth
-use Rattle.flu_model.specs.Contents.{Contents}
+use Rattle.flu_model.specs.Contents.{Contents, nothing_held}
 use Rattle.flu_model.specs.Itags.{count_of_itags}
 use Rattle.flu_model.specs.Sorts.{IsWorthOf, HoldsSort, HoldsFamily, IsStateOf}
 use Rattle.flu_cells.specs.declared.sets.CellSet.{CellSet}
@@ -66,6 +66,13 @@ setting_holds k = record {
   streams = k.streams.good;
   opening_sorts = ∥∥₁_elim k.opening_sorts (IsStateOf-prop (job k).families (held k.opening)) (λ sorts. sorts);
 }
+
+-- the state that holds nothing is one of every job
+pub nothing_has_sorts : (families : List Family) → IsStateOf families nothing_held
+nothing_has_sorts families c = elim (slice_get families c.family) as (λ f. HoldsFamily f None) [
+  | None ↦ refl
+  | Some f ↦ tt
+]
 
 -- ---- the parts
 

@@ -1,17 +1,24 @@
 //! Lots of two small jobs, parted at the root of a plan and joined there.
 
-ghost use Rattle.std.specs.Prelude.{◌≡◌, ◌<◌, ◌≤◌, length, IfOk, IsTrue, Some};
+ghost use Rattle.std.specs.Prelude.{◌≡◌, ◌<◌, ◌≤◌, length, IfOk, IfSome, IsTrue, Some};
+ghost use Rattle.flu_model.specs.declared.events.Item.TheVariants.{Event as ItemEvent};
+ghost use Rattle.flu_model.specs.Itags.{count_of_itags};
+ghost use Rattle.flu_model.specs.Listed.{listed};
 ghost use Rattle.flu_model.specs.PlanRules.{is_tree, is_shallow, count_of_predicates, have_small_keys, nodes_have_own_names};
+ghost use Rattle.flu_deps.specs.Checking.{program_of};
+ghost use Rattle.flu_deps.specs.Validated.{IsValidFor};
 
+use crate::case::Case;
 use crate::counts::Counts;
-use crate::forks::{merge, part};
+use crate::forks::{fork, join, merge, opening_lot, part};
 use crate::lots::Lot;
 use crate::rights::{Right, right_of};
 use flu_cells::{Cell, State, Worth};
 use flu_check::check;
+use flu_deps::{Checked, Valid};
 use flu_model::{
-    Act, Action, At, CellRef, Depend, Expr, Family, Keys, Kind, List, Name, Node, Piece, Plan,
-    Pred, Program, Sort, Source, TagRef, Text,
+    Act, Action, At, CellRef, Depend, Event, Expr, Family, Itag, Item, Keys, Kind, List, Name,
+    Node, Piece, Plan, Pred, Program, Sort, Source, Streams, TagRef, Text, itag_count,
 };
 use flu_rules::program;
 use flu_valid::validate;
@@ -325,5 +332,82 @@ fn cells_go_to_the_child_whose_itags_need_them(rt: HostRuntime) -> Result<(), Fa
     assert_eq!(rt; left.state.get(cell(1, 3)), None);
     assert_eq!(rt; other.state.get(cell(0, 0)), None);
     assert_eq!(rt; other.state.get(cell(1, 3)), Some(Worth::Last(94_105)));
+    Ok(())
+}
+
+// ---- a case
+
+/// The job of the count with its plan and with streams; none where it is refused.
+fn example(alloc: Global) -> Result<Option<(Checked, Valid, Streams)>, AllocError>
+    ensures { IfOk result (λ made. IfSome made (λ m. IsValidFor (program_of m.0) m.1 × (length (listed m.2) ≡ count_of_itags (program_of m.0)))) }
+{
+    let Some(p) = count(alloc)? else {
+        return Ok(None);
+    };
+    if itag_count(&p) != 3 {
+        return Ok(None);
+    }
+    let Ok(checked) = check(p) else {
+        return Ok(None);
+    };
+    let Ok(valid) = validate(&checked, count_plan(alloc)?) else {
+        return Ok(None);
+    };
+    Ok(Some((checked, valid, count_streams(alloc)?)))
+}
+
+fn event(time: u64, itag: u32, value: i64) -> Item
+    ensures { result ≡ ItemEvent (record { time = time; itag = record { 0 = itag }; value = value }) }
+{
+    Item::Event(Event {
+        time,
+        itag: Itag(itag),
+        value,
+    })
+}
+
+fn count_streams(alloc: Global) -> Result<Streams, AllocError>
+    ensures { IfOk result (λ s. length (listed s) ≡ 3) }
+{
+    let first = vec![in alloc; event(1, 0, 5), event(4, 0, 2), Item::End]?;
+    let second = vec![in alloc; event(2, 1, 7), Item::End]?;
+    let reads = vec![in alloc; event(3, 2, 0), event(5, 2, 0), Item::End]?;
+    Ok(Streams::new(vec![in alloc; first, second, reads]?))
+}
+
+fn opened<'a>(
+    alloc: Global,
+    checked: &'a Checked,
+    valid: &'a Valid,
+    streams: &'a Streams,
+) -> Result<Case<'a>, AllocError>
+    requires of { IsValidFor (program_of checked.now) valid.now }
+    requires one_each { length (listed streams.now) ≡ count_of_itags (program_of checked.now) }
+{
+    Case::new(alloc, checked, valid, streams, State::new(alloc))
+}
+
+/// The lot of the root at the start, parted and joined again.
+fn parted(alloc: Global, case: &Case) -> Result<Option<Lot>, AllocError> {
+    if case.valid().count() == 0 || case.valid().kids(0).is_none() {
+        return Ok(None);
+    }
+    let (left, right) = fork(alloc, case, 0, opening_lot(alloc, case)?)?;
+    let whole = join(alloc, case, 0, left, right)?;
+    Ok(Some(whole))
+}
+
+#[test]
+fn a_lot_that_is_parted_comes_together_again(rt: HostRuntime) -> Result<(), Fail> {
+    let alloc = rt.alloc();
+    let made = example(alloc)?;
+    assert!(rt; made.is_some());
+    let (checked, valid, streams) = made.unwrap();
+    let case = opened(alloc, &checked, &valid, &streams)?;
+    let whole = parted(alloc, &case)?;
+    assert!(rt; whole.is_some());
+    let whole = whole.unwrap();
+    assert!(rt; counts_are(&whole, &[0, 0, 0], &[0, 0, 0]));
+    assert_eq!(rt; whole.state.get(cell(0, 0)), None);
     Ok(())
 }

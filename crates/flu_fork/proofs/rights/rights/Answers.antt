@@ -1,7 +1,6 @@
-use Rattle.std.proofs.Common.{◌≡◌, ◌⊎◌, inl, inr, ℕ, Some, [], ◌∷◌, length, length-append, sym, ap, subst, ◌∙◌, arith}
+use Rattle.std.proofs.Common.{inl, inr, [], ◌∷◌, length, length-append, sym, ap, subst, ◌∙◌, arith}
 use Rattle.std.specs.Prelude.{slice_get}
 use Rattle.flu_deps.specs.Validated.{plan_of}
-use Rattle.flu_fork.specs.declared.rights.Right.{Right}
 use Rattle.flu_fork.specs.Tables.{IsRightAt}
 use Rattle.flu_fork.proofs.General.{slice_get_then}
 use Rattle.flu_fork.proofs.rights.rights.Goals as goal
