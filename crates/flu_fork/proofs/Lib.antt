@@ -1,4 +1,5 @@
 pub mod General
+pub mod Ranges
 pub mod Trees
 pub mod Within
 pub mod Sides
@@ -9,3 +10,4 @@ pub mod Updates
 pub mod Effects
 pub mod Forks
 pub mod Joins
+pub mod LotLemmas
