@@ -1,10 +1,12 @@
 //! The greedy plan of a job by the rates of its itags (`docs/TREE.md`).
 #![tactic(auto)]
 
-ghost use Rattle.std.specs.Prelude.{◌≡◌, ◌≤◌, ◌^◌, IfOk, length, slice_index, EachIndex};
+ghost use Rattle.std.specs.Prelude.{◌≡◌, ◌≤◌, ◌^◌, Ok, IfOk, length, slice_index, EachIndex};
 ghost use Rattle.flu_model.specs.Itags.{count_of_itags};
 ghost use Rattle.flu_deps.specs.Checking.{program_of};
 ghost use Rattle.flu_deps.specs.Validated.{plan_of, IsValidFor};
+ghost use Rattle.flu_plan.specs.Reading.{plan_in};
+ghost use Rattle.flu_plan.specs.Printing.{printed};
 ghost use Rattle.flu_planner.specs.Plans.{IsGreedyPlan};
 
 mod components;
@@ -30,7 +32,8 @@ use std::alloc::{AllocError, Global};
 /// numbers to the left one. The left group is planned for the left child and the right group for the right child, with a depth
 /// that is one less.
 ///
-/// The nodes are named `n0`, `n1` and so on in preorder. Each itag has a predicate of its own, by rising number.
+/// The nodes are named `n0`, `n1` and so on in preorder. Each itag has a predicate of its own, by rising number. The text of the
+/// plan is read as this plan again.
 ///
 /// # Errors
 ///
@@ -41,9 +44,11 @@ pub fn plan(alloc: Global, c: &Checked, rates: &[u64], depth: u32) -> Result<Val
     requires depth { depth ≤ 6 }
     ensures of { IfOk result (λ v. IsValidFor (program_of c.now) v) }
     ensures greedy { IfOk result (λ v. IsGreedyPlan (program_of c.now) rates.now depth (plan_of v).nodes) }
+    ensures read_again { IfOk result (λ v. plan_in (program_of c.now) (printed (program_of c.now) (plan_of v).nodes) ≡ Ok (plan_of v).nodes) }
 {
     laws::greedy_plans_keep_rules();
     laws::greedy_plans_are_valid();
+    laws::greedy_plans_are_read_again();
     let p = c.program();
     let nodes = nodes::greedy(alloc, p, rates, depth)?;
     let plan = Plan {

@@ -1,7 +1,7 @@
 use Rattle.std.proofs.Common.{◌≡◌, ◌≤◌, ◌+◌, ◌^◌, ℕ, Bool, List, refl, sym, ap, subst, ◌∙◌, arith}
 use Rattle.flu_deps.specs.Checking.{program_of}
 use Rattle.flu_model.specs.declared.plans.Node.{Node}
-use Rattle.flu_planner.specs.Laws.{KeepsRules}
+use Rattle.flu_plan.specs.Kept.{KeepsRules}
 use Rattle.flu_planner.specs.Plans.{IsGreedyPlan}
 use Rattle.flu_planner.proofs.plan.Goals as goal
 
@@ -30,3 +30,9 @@ returns-clause-greedy c =
     let p = program_of c.args.c.now in
     let greedy : IsGreedyPlan p c.args.rates.now c.args.depth c.of.result = rw (← c.program-p.ensures, c.of.ensures) c.in_ok-nodes.ensures in
     rw c.of-2.ensures.plan greedy
+
+pub returns-clause-read_again : goal.returns-clause-read_again
+returns-clause-read_again c =
+    let p = program_of c.args.c.now in
+    let greedy : IsGreedyPlan p c.args.rates.now c.args.depth c.of.result = rw (← c.program-p.ensures, c.of.ensures) c.in_ok-nodes.ensures in
+    rw c.of-2.ensures.plan (c.greedy_plans_are_read_again.ensures p c.args.rates.now c.args.depth c.of.result c.requires.depth greedy)
