@@ -8,6 +8,6 @@ pub mod Moments
 pub mod Holding
 pub mod Updates
 pub mod Effects
-pub mod Forks
-pub mod Joins
+pub mod Forking
+pub mod Joining
 pub mod LotLemmas

@@ -42,14 +42,14 @@ parted g rates itags count components single first are once =
     let order : List ℕ = removal_order rates itags in
     let groups = grouped rates [] [] components in
     let all : (k : ℕ) → occurs k (removed rates itags count) + occurs k groups.0 + occurs k groups.1 ≡ occurs k itags =
-        λ k.
-        (let own = occurs-in_order k nat_lt (take count order) in
-        let others = occurs-in_order k nat_lt (drop count order) in
-        let parts = occurs-parts k count order in
-        let whole = occurs-in_order k (is_removed_first rates) itags in
-        let both = grouped_once k rates [] [] components in
-        let found = once k in
-        omega arith) in
+    λ k.
+    (let own = occurs-in_order k nat_lt (take count order) in
+    let others = occurs-in_order k nat_lt (drop count order) in
+    let parts = occurs-parts k count order in
+    let whole = occurs-in_order k (is_removed_first rates) itags in
+    let both = grouped_once k rates [] [] components in
+    let found = once k in
+    omega arith) in
     record {
       parting = record {
         count = count;

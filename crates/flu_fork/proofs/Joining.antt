@@ -29,7 +29,7 @@ use Rattle.flu_fork.proofs.Sides.{AreSiblings, left_and_right, right_and_left, n
 use Rattle.flu_fork.proofs.Cells.{some_there, lawful, uses_depend, away_unwritten, left_base, right_base, owned_is_base_up, away_kid, owned_away, away_cases}
 use Rattle.flu_fork.proofs.Moments.{moments_in_range, moments_sorted}
 use Rattle.flu_fork.proofs.Effects.{same_effects, IsApart, AreOldFirst, appended}
-use Rattle.flu_fork.proofs.Forks.{counts_at}
+use Rattle.flu_fork.proofs.Forking.{counts_at}
 
 -- ---- tests of numbers
 never : (a x : ℕ) → (nat_le a x && nat_lt x a) ≡ false
