@@ -1,2 +1,2 @@
-pub mod General
+pub mod Turns
 pub mod LotLemmas
