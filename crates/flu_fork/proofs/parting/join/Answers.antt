@@ -6,7 +6,7 @@ use Rattle.flu_fork.specs.Lots.{job, nodes, kids, setting_of, LotFits, HasJoined
 use Rattle.flu_fork.specs.Tables.{counts_by}
 use Rattle.flu_fork.proofs.Turns.{IfOk-both}
 use Rattle.flu_fork.proofs.LotLemmas.{setting_holds, counts_are, fits_as, some_kids}
-use Rattle.flu_fork.proofs.forks.join.Goals as goal
+use Rattle.flu_fork.proofs.parting.join.Goals as goal
 
 pub returns-clause-counts : goal.returns-clause-counts
 returns-clause-counts c =
