@@ -1,5 +1,5 @@
 pub mod General
-pub mod Ranges
+pub mod Turns
 pub mod Trees
 pub mod Within
 pub mod Sides

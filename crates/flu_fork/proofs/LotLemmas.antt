@@ -1,5 +1,5 @@
 -- Cases are settings, and the parts of a lot are those of the laws.
-use Rattle.std.proofs.Common.{◌≡◌, ℕ, Bool, true, false, cond, Option, Some, None, List, ◌∷◌, length, map, refl, sym, ap, subst, ◌∙◌, ◌<◌, ◌+◌, get_or, arith}
+use Rattle.std.proofs.Common.{◌≡◌, ℕ, Bool, true, false, cond, Option, Some, None, List, [], ◌∷◌, ◌++◌, inl, inr, length, map, refl, sym, ap, subst, ◌∙◌, ◌<◌, ◌+◌, get_or, arith}
 use Rattle.std.proofs.Math.Logic.{∥∥₁_elim}
 use Rattle.std.proofs.Props.{props}
 use Rattle.std.specs.Prelude.{not, ◌&&◌, is_some, slice_get, slice_index, slice_index_or, IsTrue}
@@ -31,8 +31,8 @@ use Rattle.flu_fork.specs.Fitting.{Fits}
 use Rattle.flu_fork.specs.Parts.{left_part, right_part, joined_counts, ArePaired}
 use Rattle.flu_fork.specs.Laws.{NothingIsCopied}
 use Rattle.flu_fork.specs.Lots.{job, nodes, kids, setting_of, LotFits, HasParts, HasCounts, PartsFitKids, HasJoinedCounts}
-use Rattle.flu_fork.specs.Tables.{IsRight, count_by, counts_by}
-use Rattle.flu_fork.proofs.Ranges.{map_alike}
+use Rattle.flu_fork.specs.Tables.{IsRight, IsRightAt, count_by, counts_by}
+use Rattle.flu_fork.proofs.Turns.{map_alike, slice_get_then}
 
 IsWorthOf-prop : (sort : Sort) (w : Worth) → IsProp (IsWorthOf sort w)
 IsWorthOf-prop SumSort (Sum n) = hlevel props
@@ -124,3 +124,12 @@ counts_are p nodes r table lefts rights is =
 pub some_kids : (o : Option (ℕ × ℕ)) → is_some o ≡ true → (l : ℕ) × (r : ℕ) × (o ≡ Some (l, r))
 some_kids None e = cc
 some_kids (Some kids) e = (kids.0, kids.1, refl)
+
+-- ---- one more table
+
+pub tables_turn : (p : Program) (nodes : List Node) (n : ℕ) (old new : List Right) (one : Right) → new ≡ old ++ one ∷ [] → length old ≡ n → IsRightAt p nodes n one → ((w : ℕ) (table : Right) → slice_get old w ≡ Some table → IsRightAt p nodes w table) → (w : ℕ) (table : Right) → slice_get new w ≡ Some table → IsRightAt p nodes w table
+tables_turn p nodes n old new one grown so_many last kept w table e =
+    elim (slice_get_then old one w table (ap (λ ts. slice_get ts w) (sym grown) ∙ e)) as (λ q. IsRightAt p nodes w table) [
+      | inl f ↦ kept w table f
+      | inr at ↦ subst (λ v. IsRightAt p nodes v table) (sym (at.0 ∙ so_many)) (subst (IsRightAt p nodes n) at.1 last)
+    ]

@@ -19,9 +19,13 @@ use flu_model::Streams;
 /// It is what contracts see of a `Case`. No value of it is made.
 #[derive(Drop)]
 pub struct Content {
+    /// The job.
     pub checked: Checked,
+    /// The plan.
     pub valid: Valid,
+    /// For each itag its items.
     pub streams: Streams,
+    /// The state at the start.
     pub opening: State,
     pub ghost of_job: { IsValid (program_of checked) (plan_of valid).nodes },
     pub ghost one_each: { length (listed streams) ≡ count_of_itags (program_of checked) },

@@ -4,10 +4,10 @@
 mod case;
 mod content;
 mod counts;
-mod forks;
 pub mod laws;
 mod lots;
 mod needed;
+mod parting;
 mod rights;
 #[cfg(test)]
 mod tests;
@@ -15,5 +15,5 @@ mod tests;
 pub use case::Case;
 pub use content::Content;
 pub use counts::Counts;
-pub use forks::{fork, join, opening_lot};
 pub use lots::{Ask, Lot};
+pub use parting::{fork, join, opening_lot};

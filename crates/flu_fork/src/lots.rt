@@ -18,6 +18,8 @@ pub struct Lot {
 /// An event that is asked for, by its itag and its place among the events of that itag, from 0.
 #[derive(Clone, Copy, PartialEq, Eq, Debug)]
 pub struct Ask {
+    /// The event's itag.
     pub itag: Itag,
+    /// Its place among the events of that itag.
     pub index: u64,
 }

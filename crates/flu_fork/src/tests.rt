@@ -10,8 +10,8 @@ ghost use Rattle.flu_deps.specs.Validated.{IsValidFor};
 
 use crate::case::Case;
 use crate::counts::Counts;
-use crate::forks::{fork, join, merge, opening_lot, part};
 use crate::lots::Lot;
+use crate::parting::{fork, join, merge, opening_lot, part};
 use crate::rights::{Right, right_of};
 use flu_cells::{Cell, State, Worth};
 use flu_check::check;

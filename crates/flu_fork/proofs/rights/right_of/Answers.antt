@@ -2,7 +2,7 @@ use Rattle.std.specs.Prelude.{◌&&◌}
 use Rattle.flu_deps.specs.Validated.{plan_of}
 use Rattle.flu_laws.specs.Uses.{needs}
 use Rattle.flu_fork.specs.Classes.{below, mode_by}
-use Rattle.flu_fork.proofs.Ranges.{list_turn, test_turn}
+use Rattle.flu_fork.proofs.Turns.{list_turn, test_turn}
 use Rattle.flu_fork.proofs.rights.right_of.Goals as goal
 
 pub loop-i-preserved : goal.loop-i-preserved

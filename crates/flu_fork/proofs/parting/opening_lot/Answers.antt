@@ -6,7 +6,7 @@ use Rattle.flu_cells.specs.Holding.{held}
 use Rattle.flu_fork.specs.Lots.{job, setting_of}
 use Rattle.flu_fork.specs.Laws.{no_counts}
 use Rattle.flu_fork.proofs.LotLemmas.{setting_holds, fits_as}
-use Rattle.flu_fork.proofs.forks.opening_lot.Goals as goal
+use Rattle.flu_fork.proofs.parting.opening_lot.Goals as goal
 
 pub returns-clause-fits : goal.returns-clause-fits
 returns-clause-fits c =

@@ -4,9 +4,9 @@ use Rattle.flu_cells.specs.Holding.{held}
 use Rattle.flu_fork.specs.declared.lots.Lot.{Lot}
 use Rattle.flu_fork.specs.Lots.{job, nodes, kids, setting_of, LotFits, HasJoinedCounts}
 use Rattle.flu_fork.specs.Tables.{counts_by}
-use Rattle.flu_fork.proofs.Ranges.{IfOk-both}
+use Rattle.flu_fork.proofs.Turns.{IfOk-both}
 use Rattle.flu_fork.proofs.LotLemmas.{setting_holds, counts_are, fits_as, some_kids}
-use Rattle.flu_fork.proofs.forks.join.Goals as goal
+use Rattle.flu_fork.proofs.parting.join.Goals as goal
 
 pub returns-clause-counts : goal.returns-clause-counts
 returns-clause-counts c =

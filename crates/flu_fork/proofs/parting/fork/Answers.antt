@@ -4,9 +4,9 @@ use Rattle.flu_cells.specs.Holding.{held}
 use Rattle.flu_cells.specs.Sets.{within, outside}
 use Rattle.flu_fork.specs.declared.lots.Lot.{Lot}
 use Rattle.flu_fork.specs.Lots.{job, nodes, kids, setting_of, HasParts, HasCounts, PartsFitKids}
-use Rattle.flu_fork.proofs.Ranges.{IfOk-both}
+use Rattle.flu_fork.proofs.Turns.{IfOk-both}
 use Rattle.flu_fork.proofs.LotLemmas.{setting_holds, left_is, right_is, fits_as, paired_as}
-use Rattle.flu_fork.proofs.forks.fork.Goals as goal
+use Rattle.flu_fork.proofs.parting.fork.Goals as goal
 
 pub returns-clause-parts : goal.returns-clause-parts
 returns-clause-parts c =
