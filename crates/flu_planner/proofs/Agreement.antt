@@ -126,9 +126,10 @@ greedy_agrees g h rates zero itags (Inner own left right) a x = absurd x
 greedy_agrees g h rates (suc depth) itags (Inner own left right) a x =
     let lefts : List ℕ = x.0 in
     let rights : List ℕ = x.1 in
-    let parting : IsParting g rates itags own lefts rights = x.2 in
-    (
-      lefts, rights, parting_agrees g h rates itags own lefts rights a parting,
+    let parting : IsParting g rates itags own lefts rights = x.2 in (
+      lefts,
+      rights,
+      parting_agrees g h rates itags own lefts rights a parting,
       greedy_agrees g h rates depth lefts left (within g h itags lefts (left_of g rates itags own lefts rights parting) a) x.3,
       greedy_agrees g h rates depth rights right (within g h itags rights (right_of g rates itags own lefts rights parting) a) x.4,
     )

@@ -34,22 +34,19 @@ grouped_once k rates left right (c ∷ cs) =
     ]
 
 -- ---- partings
-pub never_is_whole : (g : Graph) (rates itags : List ℕ) → IsNeverApart g (removal_order rates itags) → IsWhole g rates itags
-never_is_whole g rates itags never = never
-
 pub parted : (g : Graph) (rates itags : List ℕ) (count : ℕ) (components : List (List ℕ)) → ((k : ℕ) → occurs k itags ≤ 1) → IsFirstApart g (removal_order rates itags) count → AreComponents g rates (remaining rates itags count) components → ((k : ℕ) → total (occurs k) components ≡ occurs k (remaining rates itags count)) → IsPartingOnce g rates itags (removed rates itags count) (rising (grouped rates [] [] components).0) (rising (grouped rates [] [] components).1)
 parted g rates itags count components single first are once =
     let order : List ℕ = removal_order rates itags in
     let groups = grouped rates [] [] components in
     let all : (k : ℕ) → occurs k (removed rates itags count) + occurs k groups.0 + occurs k groups.1 ≡ occurs k itags =
-        λ k.
-        (let own = occurs-in_order k nat_lt (take count order) in
-        let others = occurs-in_order k nat_lt (drop count order) in
-        let parts = occurs-parts k count order in
-        let whole = occurs-in_order k (is_removed_first rates) itags in
-        let both = grouped_once k rates [] [] components in
-        let found = once k in
-        omega arith) in
+    λ k.
+    (let own = occurs-in_order k nat_lt (take count order) in
+    let others = occurs-in_order k nat_lt (drop count order) in
+    let parts = occurs-parts k count order in
+    let whole = occurs-in_order k (is_removed_first rates) itags in
+    let both = grouped_once k rates [] [] components in
+    let found = once k in
+    omega arith) in
     record {
       parting = record {
         count = count;

@@ -62,21 +62,23 @@ put_in_turn rates c [] turn lower = (λ d none. absurd (contains_none d none), t
 put_in_turn rates c (d ∷ ds) turn lower =
     elim (has_greater_total rates c d) as (λ b. has_greater_total rates c d ≡ b → IsInTurn (comes_first rates) (cond b (c ∷ d ∷ ds) (d ∷ put_in_order (has_greater_total rates) c ds))) [
       | true ↦ λ less.
-          (let lt : total_rate rates d < total_rate rates c = ltb-true (total_rate rates d) (total_rate rates c) less in
-          (λ e there.
-          elim (contains_cases d ds e there) [
-            | inl same ↦ subst (λ x. comes_first rates c x ≡ true) same (first_by_total rates c d lt)
-            | inr later ↦ (let le : total_rate rates e ≤ total_rate rates d = first_not_less rates d e (turn.0 e later) in first_by_total rates c e (omega arith))
-          ],
-          turn))
+          (let lt : total_rate rates d < total_rate rates c = ltb-true (total_rate rates d) (total_rate rates c) less in (
+            λ e there.
+                elim (contains_cases d ds e there) [
+                  | inl same ↦ subst (λ x. comes_first rates c x ≡ true) same (first_by_total rates c d lt)
+                  | inr later ↦ (let le : total_rate rates e ≤ total_rate rates d = first_not_less rates d e (turn.0 e later) in first_by_total rates c e (omega arith))
+                ],
+            turn,
+          ))
       | false ↦ λ not_less.
-          (let le : total_rate rates c ≤ total_rate rates d = ltb-false (total_rate rates d) (total_rate rates c) not_less in
-          (λ e there.
-          elim (contains_put (has_greater_total rates) c ds e there) [
-            | inl same ↦ subst (λ x. comes_first rates d x ≡ true) same (first_by_least rates d c le (lower d (contains_first d ds)))
-            | inr later ↦ turn.0 e later
-          ],
-          put_in_turn rates c ds turn.1 (λ e there. lower e (contains_later d ds e there))))
+          (let le : total_rate rates c ≤ total_rate rates d = ltb-false (total_rate rates d) (total_rate rates c) not_less in (
+            λ e there.
+                elim (contains_put (has_greater_total rates) c ds e there) [
+                  | inl same ↦ subst (λ x. comes_first rates d x ≡ true) same (first_by_least rates d c le (lower d (contains_first d ds)))
+                  | inr later ↦ turn.0 e later
+                ],
+            put_in_turn rates c ds turn.1 (λ e there. lower e (contains_later d ds e there)),
+          ))
     ] refl
 
 -- ---- what is found so far

@@ -13,7 +13,7 @@ put_at_place before x [] = refl
 put_at_place before x (y ∷ ys) =
     elim (before x y) as (λ b. before x y ≡ b → cond b (x ∷ y ∷ ys) (y ∷ put_in_order before x ys) ≡ insert (y ∷ ys) (cond (not b) (1 + position_or_len (before x) ys) 0) x) [
       | true ↦ λ less. refl
-      | false ↦ λ not_less. 
+      | false ↦ λ not_less.
           (let step : 1 + position_or_len (before x) ys ≡ suc (position_or_len (before x) ys) = omega arith in
           subst (λ n. y ∷ put_in_order before x ys ≡ insert (y ∷ ys) n x) (sym step) (ap (λ zs. y ∷ zs) (put_at_place before x ys)))
     ] refl

@@ -1,10 +1,8 @@
-use Rattle.std.proofs.Common.{◌≡◌, ◌<◌, ◌≤◌, ◌+◌, ◌-◌, ◌^◌, ℕ, suc, Some, None, List, [], ◌∷◌, ◌++◌, length, inl, inr, refl, sym, ap, subst, ◌∙◌, arith}
-use Rattle.std.specs.Prelude.{IsTrue, Contains}
+use Rattle.std.proofs.Common.{◌≡◌, ◌<◌, ◌+◌, ◌-◌, ◌^◌, suc, Some, [], ◌∷◌, ◌++◌, length, inl, inr, ap, subst, ◌∙◌, arith}
 use Rattle.std.proofs.lemmas.Result.{IfOk-weaker}
 use Rattle.std.proofs.lemmas.Grind.{common_steps}
 use Rattle.std.proofs.lemmas.Nat.{pow_pos}
-use Rattle.flu_model.specs.declared.plans.Node.{Node}
-use Rattle.flu_planner.specs.Graphs.{Graph, is_rising}
+use Rattle.flu_planner.specs.Graphs.{Graph}
 use Rattle.flu_planner.specs.Cuts.{IsWhole}
 use Rattle.flu_planner.specs.Plans.{node_of}
 use Rattle.flu_planner.specs.Search.{IsPartingOnce, IsSubtree}
@@ -46,8 +44,7 @@ subtree-requires t c =
     let double : 2 ^ (c.args.depth + 1) ≡ 2 ^ c.args.depth + 2 ^ c.args.depth = doubled c.args.depth in
     let same : 2 ^ c.args.depth ≡ 2 ^ (c.args.depth - 1 + 1) = ap (λ n. 2 ^ n) next in
     let some : 0 < 2 ^ c.args.depth = pow_pos c.args.depth in
-    let room = c.requires.room in
-    (
+    let room = c.requires.room in (
       omega arith,
       (
         rw c.deref.ensures.value parting.left_in_order,
@@ -70,8 +67,7 @@ subtree-requires-2 t c =
     let some : 0 < 2 ^ c.args.depth = pow_pos c.args.depth in
     let room = c.requires.room in
     let few = c.in_ok-lefts.ensures.few in
-    let size = c.in_ok-lefts.lefts.ok.0 in
-    (
+    let size = c.in_ok-lefts.lefts.ok.0 in (
       omega arith,
       (
         rw c.deref-2.ensures.value parting.right_in_order,
@@ -110,7 +106,7 @@ returns t c =
     let node : c.in_ok-node_of.field-0 ≡ node_of p number own (Some (number + 1, number + 1 + length lefts)) = rw (c.deref-3.ensures.value, size) at c.in_ok-node_of.ensures in
     let first : c.push.new.self.items ≡ c.in_ok-node_of.field-0 ∷ [] = c.in_ok-push.ensures.items ∙ ap (λ xs. xs ++ c.in_ok-node_of.field-0 ∷ []) c.new-nodes.ensures.items in
     let nodes : c.append-2.new.self.items ≡ node_of p number own (Some (number + 1, number + 1 + length lefts)) ∷ (lefts ++ rights) =
-        c.in_ok-append-2.ensures.items ∙ ap (λ xs. xs ++ rights) (c.in_ok-append.ensures.items ∙ ap (λ xs. xs ++ lefts) first)
-        ∙ ap (λ node. node ∷ (lefts ++ rights)) node in
+    c.in_ok-append-2.ensures.items ∙ ap (λ xs. xs ++ rights) (c.in_ok-append.ensures.items ∙ ap (λ xs. xs ++ lefts) first)
+    ∙ ap (λ node. node ∷ (lefts ++ rights)) node in
     subst (λ d. IsSubtree p g rates d number itags c.append-2.new.self.items) below
     (inner_is p g rates (c.args.depth - 1) number itags own left right lefts rights c.append-2.new.self.items parting.parting one other nodes)
