@@ -1,18 +1,17 @@
 -- The search from an itag, and what it finds.
-use Rattle.std.proofs.Common.{◌≡◌, ◌<◌, ◌≤◌, ◌+◌, ℕ, zero, suc, Bool, true, false, cond, List, [], ◌∷◌, ◌++◌, length, get_or, take, drop, inl, inr, refl, sym, ap, subst, ◌∙◌, arith}
+use Rattle.std.proofs.Common.{◌≡◌, ◌<◌, ◌≤◌, ◌+◌, ℕ, Bool, true, false, List, [], ◌∷◌, ◌++◌, length, get_or, drop, inl, inr, refl, sym, ap, subst, ◌∙◌, arith}
 use Rattle.std.specs.Prelude.{Contains, IsTrue, not, ◌↔◌, ◌⊎◌, ◌==◌}
 use Rattle.std.specs.List.{filter}
-use Rattle.std.proofs.lemmas.Bool.{cases_lt, cases_eq, both_ways, not-true, eqb-true, eqb-false}
-use Rattle.std.proofs.lemmas.List.{length-append, get_or_append_left, get_or-append_right, get_or_default, nil_from_length}
+use Rattle.std.proofs.lemmas.Bool.{cases_lt, both_ways, not-true, eqb-true, eqb-false}
+use Rattle.std.proofs.lemmas.List.{length-append, get_or_append_left, get_or_default, nil_from_length}
 use Rattle.std.proofs.lemmas.List.Filters.{length-filter_both}
 use Rattle.std.proofs.lemmas.List.Elements.{Contains-append_left, Contains-append_cases, Contains-get_or}
-use Rattle.flu_lemmas.specs.Sorting.{in_order, put_in_order}
-use Rattle.flu_lemmas.specs.Totals.{total}
-use Rattle.flu_planner.specs.Graphs.{Graph, AreConnected, IsApart, IsComponent, AreComponents, IsInTurn, comes_first, is_rising, least, rising, total_rate}
+use Rattle.flu_lemmas.specs.Sorting.{in_order}
+use Rattle.flu_planner.specs.Graphs.{Graph, AreConnected, IsApart, is_rising, least}
 use Rattle.flu_planner.specs.Reaching.{occurs, IsReached}
-use Rattle.flu_planner.proofs.Connections.{kept_where_connected, connected_itself, connected_on, connected_step, connected_within, connected_back}
-use Rattle.flu_planner.proofs.Occurs.{contains_first, contains_later, contains_cases, contains_none, occurs-cons, occurs-append, occurs-filter, occurs-in_order, counted, found}
-use Rattle.flu_planner.proofs.Rising.{rising_rest, rising_above, rising_once, kept, rising_filter, rising_in_order}
+use Rattle.flu_planner.proofs.Connections.{kept_where_connected, connected_itself, connected_on, connected_step, connected_back}
+use Rattle.flu_planner.proofs.Occurs.{contains_first, contains_cases, contains_none, occurs-cons, occurs-append, occurs-filter, counted, found}
+use Rattle.flu_planner.proofs.Rising.{rising_rest, rising_once, kept, rising_filter}
 
 -- ---- the search
 -- Some itags are connected with the first, those of them before a place have no neighbour among the rest, and each itag stands
