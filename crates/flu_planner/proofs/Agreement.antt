@@ -1,10 +1,10 @@
 -- Two graphs that agree on some itags have the same components, cuts and greedy trees there.
-use Rattle.std.proofs.Common.{◌≡◌, ◌<◌, ◌≤◌, ◌+◌, ℕ, zero, suc, Bool, true, false, List, [], ◌∷◌, ◌++◌, length, take, drop, inl, inr, refl, sym, ap, subst, ◌∙◌, arith}
-use Rattle.std.specs.Prelude.{Contains, IsTrue, ◌&&◌, nat_lt}
+use Rattle.std.proofs.Common.{◌≡◌, ◌≤◌, ℕ, zero, suc, List, [], ◌∷◌, drop, inl, inr, refl, sym, ap, ◌∙◌, arith}
+use Rattle.std.specs.Prelude.{Contains, ◌&&◌, nat_lt}
 use Rattle.flu_lemmas.specs.Sorting.{in_order}
 use Rattle.flu_lemmas.specs.Totals.{total}
-use Rattle.flu_planner.specs.Graphs.{Graph, AreConnected, IsApart, IsComponent, AreComponents, is_walk, rising}
-use Rattle.flu_planner.specs.Cuts.{IsLeastCut, IsWhole, removed, remaining, removal_order, is_removed_first}
+use Rattle.flu_planner.specs.Graphs.{Graph, AreConnected, IsApart, IsComponent, AreComponents, is_walk}
+use Rattle.flu_planner.specs.Cuts.{IsLeastCut, IsWhole, remaining, removal_order, is_removed_first}
 use Rattle.flu_planner.specs.Groups.{grouped}
 use Rattle.flu_planner.specs.Greedy.{Tree, Leaf, Inner, IsGreedy, IsLeaf, IsParting}
 use Rattle.flu_planner.specs.Reaching.{occurs}

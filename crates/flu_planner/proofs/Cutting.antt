@@ -1,15 +1,13 @@
 -- The search for the least cut, and how its components are grouped.
-use Rattle.std.proofs.Common.{◌≡◌, ◌<◌, ◌≤◌, ◌+◌, ℕ, zero, suc, Bool, true, false, cond, List, [], ◌∷◌, ◌++◌, length, get_or, take, drop, inl, inr, refl, sym, ap, subst, ◌∙◌, arith}
+use Rattle.std.proofs.Common.{◌≡◌, ◌<◌, ◌≤◌, ◌+◌, ℕ, true, false, cond, List, [], ◌∷◌, ◌++◌, length, get_or, take, drop, refl, ap, subst, arith}
 use Rattle.std.specs.Prelude.{IsTrue, nat_lt}
 use Rattle.std.proofs.lemmas.List.{drop_all, drop_more}
-use Rattle.flu_lemmas.specs.Sorting.{in_order}
 use Rattle.flu_lemmas.specs.Totals.{total}
 use Rattle.flu_planner.specs.Graphs.{Graph, IsApart, AreComponents, is_rising, rising}
-use Rattle.flu_planner.specs.Cuts.{removal_order, removed, remaining, is_removed_first, IsLeastCut, IsWhole}
+use Rattle.flu_planner.specs.Cuts.{removal_order, removed, remaining, is_removed_first}
 use Rattle.flu_planner.specs.Groups.{grouped, goes_left}
-use Rattle.flu_planner.specs.Greedy.{IsParting}
 use Rattle.flu_planner.specs.Reaching.{occurs}
-use Rattle.flu_planner.specs.Search.{IsFirstApart, IsNeverApart, IsPartingOnce}
+use Rattle.flu_planner.specs.Search.{IsFirstApart, IsPartingOnce}
 use Rattle.flu_planner.proofs.Occurs.{occurs-append, occurs-in_order, occurs-parts}
 use Rattle.flu_planner.proofs.Rising.{rising_in_order}
 use Rattle.flu_planner.proofs.Searching.{none_apart}
@@ -34,9 +32,6 @@ grouped_once k rates left right (c ∷ cs) =
     ]
 
 -- ---- partings
-pub never_is_whole : (g : Graph) (rates itags : List ℕ) → IsNeverApart g (removal_order rates itags) → IsWhole g rates itags
-never_is_whole g rates itags never = never
-
 pub parted : (g : Graph) (rates itags : List ℕ) (count : ℕ) (components : List (List ℕ)) → ((k : ℕ) → occurs k itags ≤ 1) → IsFirstApart g (removal_order rates itags) count → AreComponents g rates (remaining rates itags count) components → ((k : ℕ) → total (occurs k) components ≡ occurs k (remaining rates itags count)) → IsPartingOnce g rates itags (removed rates itags count) (rising (grouped rates [] [] components).0) (rising (grouped rates [] [] components).1)
 parted g rates itags count components single first are once =
     let order : List ℕ = removal_order rates itags in

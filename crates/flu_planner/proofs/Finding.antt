@@ -1,10 +1,10 @@
 -- The components, found one after another.
-use Rattle.std.proofs.Common.{◌≡◌, ◌<◌, ◌≤◌, ◌+◌, ℕ, zero, suc, Bool, true, false, cond, List, [], ◌∷◌, ◌++◌, length, get_or, inl, inr, refl, sym, ap, subst, ◌∙◌, arith}
-use Rattle.std.specs.Prelude.{Contains, IsTrue, ◌&&◌, ◌||◌, ◌==◌, nat_lt, ◌≢◌, ◌⊎◌}
+use Rattle.std.proofs.Common.{◌≡◌, ◌<◌, ◌≤◌, ◌+◌, ℕ, Bool, true, false, cond, List, [], ◌∷◌, inl, inr, refl, sym, ap, subst, ◌∙◌, arith}
+use Rattle.std.specs.Prelude.{Contains, IsTrue, ◌&&◌, ◌==◌, nat_lt, ◌⊎◌}
 use Rattle.std.proofs.lemmas.Bool.{cases_lt, cases_eq, both_ways, or_cases, or_left, or_right, and_parts, and_from, lt-ltb, ltb-true, ltb-false, eqb-true, eq-eqb}
 use Rattle.flu_lemmas.specs.Sorting.{in_order, put_in_order}
 use Rattle.flu_lemmas.specs.Totals.{total}
-use Rattle.flu_planner.specs.Graphs.{Graph, AreConnected, IsApart, IsComponent, AreComponents, IsInTurn, comes_first, is_rising, least, rising, total_rate}
+use Rattle.flu_planner.specs.Graphs.{Graph, IsComponent, AreComponents, IsInTurn, comes_first, is_rising, least, rising, total_rate}
 use Rattle.flu_planner.specs.Reaching.{occurs, has_greater_total, IsReached}
 use Rattle.flu_planner.proofs.Connections.{kept_where_connected, connected_within}
 use Rattle.flu_planner.proofs.Occurs.{contains_first, contains_later, contains_cases, contains_none, occurs-in_order, counted, found}

@@ -1,10 +1,9 @@
 -- An element put in order among others by its place.
-use Rattle.std.proofs.Common.{◌≡◌, ◌<◌, ◌≤◌, ◌+◌, ℕ, zero, suc, Bool, true, false, cond, List, [], ◌∷◌, ◌++◌, length, take, drop, get_or, inl, inr, refl, sym, ap, subst, ◌∙◌, arith}
-use Rattle.std.specs.Prelude.{not, nat_lt, position, Option, Some, None}
+use Rattle.std.proofs.Common.{◌≡◌, ◌<◌, ◌≤◌, ◌+◌, ℕ, suc, Bool, true, false, cond, List, [], ◌∷◌, length, drop, get_or, refl, sym, ap, subst, ◌∙◌, arith}
+use Rattle.std.specs.Prelude.{not, nat_lt, position, Some, None}
 use Rattle.std.specs.List.{position_or_len, insert}
 use Rattle.std.proofs.lemmas.Bool.{ltb-false}
-use Rattle.std.proofs.lemmas.List.{drop_more, drop_all}
-use native.Mathlib.Numerals.{unary_clauses}
+use Rattle.std.proofs.lemmas.List.{drop_more}
 use Rattle.flu_lemmas.specs.Sorting.{in_order, put_in_order}
 
 -- an element is put where it is first before another, or at the end

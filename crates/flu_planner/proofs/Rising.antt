@@ -1,12 +1,12 @@
 -- Lists in which each number is less than the next.
-use Rattle.std.proofs.Common.{◌≡◌, ◌<◌, ◌≤◌, ◌+◌, ℕ, zero, suc, Bool, true, false, cond, List, [], ◌∷◌, length, inl, inr, refl, sym, ap, subst, ◌∙◌, arith}
+use Rattle.std.proofs.Common.{◌≡◌, ◌<◌, ◌≤◌, ◌+◌, ℕ, zero, suc, Bool, true, false, cond, List, [], ◌∷◌, inl, inr, refl, sym, ap, subst, ◌∙◌, arith}
 use Rattle.std.specs.Prelude.{Contains, IsTrue, nat_lt, ◌&&◌}
 use Rattle.std.specs.List.{filter, range_with_len}
 use Rattle.std.proofs.lemmas.Bool.{cases_lt, cases_eq, and_parts, and_from, lt-ltb, ltb-true, ltb-false}
 use Rattle.flu_lemmas.specs.Sorting.{in_order, put_in_order}
 use Rattle.flu_planner.specs.Graphs.{is_rising}
 use Rattle.flu_planner.specs.Reaching.{occurs}
-use Rattle.flu_planner.proofs.Occurs.{contains_first, contains_later, contains_cases, contains_none, occurs-same, occurs-other, occurs-cons, occurs-in_order, counted, found}
+use Rattle.flu_planner.proofs.Occurs.{contains_first, contains_later, contains_cases, contains_none, occurs-same, occurs-other, occurs-cons, occurs-in_order, found}
 
 pub rising_rest : (x : ℕ) (xs : List ℕ) → IsTrue (is_rising (x ∷ xs)) → IsTrue (is_rising xs)
 rising_rest x [] up = refl

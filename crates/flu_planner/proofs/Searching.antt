@@ -1,20 +1,30 @@
 -- The search from an itag, and what it finds.
-use Rattle.std.proofs.Common.{◌≡◌, ◌<◌, ◌≤◌, ◌+◌, ℕ, zero, suc, Bool, true, false, cond, List, [], ◌∷◌, ◌++◌, length, get_or, take, drop, inl, inr, refl, sym, ap, subst, ◌∙◌, arith}
+use Rattle.std.proofs.Common.{◌≡◌, ◌<◌, ◌≤◌, ◌+◌, ℕ, Bool, true, false, List, [], ◌∷◌, ◌++◌, length, get_or, drop, inl, inr, refl, sym, ap, subst, ◌∙◌, arith}
 use Rattle.std.specs.Prelude.{Contains, IsTrue, not, ◌↔◌, ◌⊎◌, ◌==◌}
 use Rattle.std.specs.List.{filter}
-use Rattle.std.proofs.lemmas.Bool.{cases_lt, cases_eq, both_ways, not-true, eqb-true, eqb-false}
-use Rattle.std.proofs.lemmas.List.{length-append, get_or_append_left, get_or-append_right, get_or_default, nil_from_length}
+use Rattle.std.proofs.lemmas.Bool.{cases_lt, both_ways, not-true, eqb-true, eqb-false}
+use Rattle.std.proofs.lemmas.List.{length-append, get_or_append_left, get_or_default, nil_from_length}
 use Rattle.std.proofs.lemmas.List.Filters.{length-filter_both}
 use Rattle.std.proofs.lemmas.List.Elements.{Contains-append_left, Contains-append_cases, Contains-get_or}
-use Rattle.flu_lemmas.specs.Sorting.{in_order, put_in_order}
-use Rattle.flu_lemmas.specs.Totals.{total}
-use Rattle.flu_planner.specs.Graphs.{Graph, AreConnected, IsApart, IsComponent, AreComponents, IsInTurn, comes_first, is_rising, least, rising, total_rate}
-use Rattle.flu_planner.specs.Reaching.{occurs, has_greater_total, IsReaching, IsReached}
-use Rattle.flu_planner.proofs.Connections.{kept_where_connected, connected_itself, connected_on, connected_step, connected_within, connected_back}
-use Rattle.flu_planner.proofs.Occurs.{contains_first, contains_later, contains_cases, contains_none, occurs-cons, occurs-append, occurs-filter, occurs-in_order, counted, found}
-use Rattle.flu_planner.proofs.Rising.{rising_rest, rising_above, rising_once, kept, rising_filter, rising_in_order}
+use Rattle.flu_lemmas.specs.Sorting.{in_order}
+use Rattle.flu_planner.specs.Graphs.{Graph, AreConnected, IsApart, is_rising, least}
+use Rattle.flu_planner.specs.Reaching.{occurs, IsReached}
+use Rattle.flu_planner.proofs.Connections.{kept_where_connected, connected_itself, connected_on, connected_step, connected_back}
+use Rattle.flu_planner.proofs.Occurs.{contains_first, contains_cases, contains_none, occurs-cons, occurs-append, occurs-filter, counted, found}
+use Rattle.flu_planner.proofs.Rising.{rising_rest, rising_once, kept, rising_filter}
 
 -- ---- the search
+-- Some itags are connected with the first, those of them before a place have no neighbour among the rest, and each itag stands
+-- on one side.
+pub record IsReaching (g : Graph) (itags : List ℕ) (place : ℕ) (connected rest : List ℕ) : Type 0 where
+  pub parts : (k : ℕ) → occurs k connected + occurs k rest ≡ occurs k itags
+  pub sizes : length connected + length rest ≡ length itags
+  pub start : Contains connected (least itags)
+  pub walks : (k : ℕ) → Contains connected k → AreConnected g itags (least itags) k
+  pub seen : (d : ℕ) → d < place → (k : ℕ) → Contains rest k → g (get_or connected d 0) k ≡ false
+  pub in_order : IsTrue (is_rising rest)
+  pub within : place ≤ length connected
+
 pub starts : (g : Graph) (itags : List ℕ) → 0 < length itags → IsTrue (is_rising itags) → IsReaching g itags 0 (get_or itags 0 0 ∷ []) (drop 1 itags)
 starts g [] some up = absurd (omega arith)
 starts g (x ∷ xs) some up = record {

@@ -1,6 +1,6 @@
 //! The components of the graph of dependent itags on some itags.
 
-ghost use Rattle.std.specs.Prelude.{◌≡◌, ◌<◌, ◌≤◌, ◌↔◌, ◌++◌, ℕ, not, nat_lt, position, IfOk, OnOk, IsTrue, length};
+ghost use Rattle.std.specs.Prelude.{◌≡◌, ◌<◌, ◌≤◌, ◌↔◌, ℕ, not, nat_lt, position, IfOk, OnOk, IsTrue, length};
 ghost use Rattle.std.specs.List.{position_or_len, filter};
 ghost use Rattle.flu_lemmas.specs.Sorting.{put_in_order};
 ghost use Rattle.flu_lemmas.specs.Totals.{total};

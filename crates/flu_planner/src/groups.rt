@@ -1,6 +1,6 @@
 //! How itags are parted between a node and its two children.
 
-ghost use Rattle.std.specs.Prelude.{◌≡◌, ◌+◌, ℕ, [], IfOk, IsTrue, MatchOption, length};
+ghost use Rattle.std.specs.Prelude.{◌≡◌, [], IfOk, IsTrue, MatchOption};
 ghost use Rattle.flu_planner.specs.Graphs.{is_rising};
 ghost use Rattle.flu_planner.specs.Cuts.{IsWhole};
 ghost use Rattle.flu_planner.specs.Groups.{goes_left, grouped};

@@ -4,7 +4,7 @@ ghost use Rattle.std.specs.Prelude.{◌≡◌, ◌≤◌, ◌<◌, ◌+◌, ◌^
 ghost use Rattle.flu_model.specs.Itags.{count_of_itags};
 ghost use Rattle.flu_model.specs.Owners.{is_keyed};
 ghost use Rattle.flu_planner.specs.Graphs.{is_rising};
-ghost use Rattle.flu_planner.specs.Plans.{all_itags, own_keys, pred_of, name_of, node_of, IsGreedyPlan};
+ghost use Rattle.flu_planner.specs.Plans.{all_itags, pred_of, node_of, IsGreedyPlan};
 ghost use Rattle.flu_planner.specs.Search.{IsSubtree};
 ghost use Rattle.flu_planner.specs.Tables.{graph_of};
 

@@ -2,7 +2,7 @@
 
 ghost use Rattle.std.specs.Prelude.{◌≡◌, ℕ, ◌≤◌, nat_lt, IfOk, MatchOption, position, length};
 ghost use Rattle.std.specs.List.{position_or_len};
-ghost use Rattle.flu_planner.specs.Graphs.{rate_of, total_rate, rising, IsApart};
+ghost use Rattle.flu_planner.specs.Graphs.{rate_of, total_rate, rising};
 ghost use Rattle.flu_planner.specs.Cuts.{is_removed_first, removal_order};
 ghost use Rattle.flu_planner.specs.Reaching.{occurs};
 ghost use Rattle.flu_planner.specs.Tables.{graph_of};

@@ -1,14 +1,11 @@
-use Rattle.std.proofs.Common.{◌≡◌, ◌<◌, List, [], ℕ, length, arith, sym, subst, ◌∙◌}
-use Rattle.std.specs.Prelude.{◌==◌}
+use Rattle.std.proofs.Common.{◌≡◌, [], arith, sym}
 use Rattle.std.proofs.lemmas.Bool.{eqb-true}
 use Rattle.std.proofs.lemmas.List.{nil_from_length}
-use Rattle.std.proofs.lemmas.Grind.{common_steps}
-use Rattle.flu_lemmas.specs.Sorting.{put_in_order}
-use Rattle.flu_planner.specs.Graphs.{Graph, rising}
-use Rattle.flu_planner.specs.Reaching.{has_greater_total, IsReached}
+use Rattle.flu_planner.specs.Graphs.{Graph}
+use Rattle.flu_planner.specs.Reaching.{IsReached}
 use Rattle.flu_planner.specs.Tables.{graph_of}
 use Rattle.flu_planner.proofs.Tables.{graph_turns}
-use Rattle.flu_planner.proofs.Finding.{IsFinding, none_found, one_more_found, all_once, all_found}
+use Rattle.flu_planner.proofs.Finding.{none_found, one_more_found, all_once, all_found}
 use Rattle.flu_planner.proofs.components.components.Goals as goal
 
 pub remaining-init : goal.remaining-init

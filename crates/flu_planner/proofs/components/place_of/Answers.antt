@@ -1,7 +1,4 @@
-use Rattle.std.proofs.Common.{◌≡◌, ◌≤◌, length, refl, sym, subst, ◌∙◌, arith}
-use Rattle.std.specs.Prelude.{nat_lt, position, Some, None}
-use Rattle.std.specs.List.{position_or_len}
-use Rattle.flu_planner.specs.Cuts.{is_removed_first}
+use Rattle.std.proofs.Common.{sym, ◌∙◌, arith}
 use Rattle.flu_planner.specs.Reaching.{has_greater_total}
 use Rattle.flu_planner.proofs.Putting.{place_at_some, place_at_none, place_within}
 use Rattle.flu_planner.proofs.components.place_of.Goals as goal

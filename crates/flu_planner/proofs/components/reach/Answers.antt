@@ -1,12 +1,11 @@
-use Rattle.std.proofs.Common.{◌≡◌, ◌+◌, ◌-◌, ◌<◌, List, [], ◌∷◌, ◌++◌, length, get_or, drop, ℕ, sym, ap, subst, ◌∙◌, arith}
+use Rattle.std.proofs.Common.{◌≡◌, ◌<◌, [], ◌∷◌, ◌++◌, length, get_or, drop, ap, ◌∙◌, arith}
 use Rattle.std.specs.List.{filter}
 use Rattle.std.specs.Prelude.{not}
 use Rattle.std.proofs.lemmas.Grind.{common_steps}
 use Rattle.std.proofs.lemmas.List.{take_rest, get_or_read}
 use Rattle.flu_planner.specs.Graphs.{Graph}
 use Rattle.flu_planner.specs.Tables.{graph_of}
-use Rattle.flu_planner.specs.Reaching.{IsReaching}
-use Rattle.flu_planner.proofs.Searching.{starts, goes_on, ends}
+use Rattle.flu_planner.proofs.Searching.{starts, goes_on}
 use Rattle.flu_planner.proofs.components.reach.Goals as goal
 
 pub loop-head-init : goal.loop-head-init

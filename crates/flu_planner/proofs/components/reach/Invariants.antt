@@ -1,6 +1,6 @@
 use Rattle.std.proofs.Common.{◌-◌, length}
-use Rattle.flu_planner.specs.Reaching.{IsReaching}
 use Rattle.flu_planner.specs.Tables.{graph_of}
+use Rattle.flu_planner.proofs.Searching.{IsReaching}
 use Rattle.flu_planner.proofs.components.reach.Given as goal
 
 abbrev pub invariant-loop-head : goal.invariant-loop-head

@@ -1,4 +1,4 @@
-use Rattle.std.proofs.Common.{◌≡◌, ◌≤◌, ◌+◌, ℕ, List, [], length, take, drop, arith, ap, ◌∙◌}
+use Rattle.std.proofs.Common.{◌≡◌, ◌≤◌, ℕ, List, [], drop, arith, ap, ◌∙◌}
 use Rattle.std.specs.Prelude.{IsTrue}
 use Rattle.std.proofs.lemmas.List.{take_rest}
 use Rattle.flu_lemmas.specs.Totals.{total}
@@ -6,11 +6,11 @@ use Rattle.flu_planner.specs.Graphs.{Graph, AreComponents, is_rising, rising}
 use Rattle.flu_planner.specs.Cuts.{is_removed_first, removal_order, removed, remaining}
 use Rattle.flu_planner.specs.Groups.{grouped}
 use Rattle.flu_planner.specs.Reaching.{occurs}
-use Rattle.flu_planner.specs.Search.{IsFirstApart, IsNeverApart}
+use Rattle.flu_planner.specs.Search.{IsFirstApart}
 use Rattle.flu_planner.specs.Tables.{graph_of}
 use Rattle.flu_planner.proofs.Occurs.{occurs-in_order}
 use Rattle.flu_planner.proofs.Rising.{rising_once}
-use Rattle.flu_planner.proofs.Cutting.{rest_rising, never_is_whole, parted}
+use Rattle.flu_planner.proofs.Cutting.{rest_rising, parted}
 use Rattle.flu_planner.proofs.groups.part.Goals as goal
 
 order_once : (rates itags : List ℕ) → IsTrue (is_rising itags) → (k : ℕ) → occurs k (removal_order rates itags) ≤ 1

@@ -1,10 +1,8 @@
-use Rattle.std.proofs.Common.{◌≡◌, ◌<◌, ◌≤◌, ◌+◌, ◌-◌, ◌^◌, ℕ, suc, Some, None, List, [], ◌∷◌, ◌++◌, length, inl, inr, refl, sym, ap, subst, ◌∙◌, arith}
-use Rattle.std.specs.Prelude.{IsTrue, Contains}
+use Rattle.std.proofs.Common.{◌≡◌, ◌<◌, ◌+◌, ◌-◌, ◌^◌, suc, Some, [], ◌∷◌, ◌++◌, length, inl, inr, ap, subst, ◌∙◌, arith}
 use Rattle.std.proofs.lemmas.Result.{IfOk-weaker}
 use Rattle.std.proofs.lemmas.Grind.{common_steps}
 use Rattle.std.proofs.lemmas.Nat.{pow_pos}
-use Rattle.flu_model.specs.declared.plans.Node.{Node}
-use Rattle.flu_planner.specs.Graphs.{Graph, is_rising}
+use Rattle.flu_planner.specs.Graphs.{Graph}
 use Rattle.flu_planner.specs.Cuts.{IsWhole}
 use Rattle.flu_planner.specs.Plans.{node_of}
 use Rattle.flu_planner.specs.Search.{IsPartingOnce, IsSubtree}

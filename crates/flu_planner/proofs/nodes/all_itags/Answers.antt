@@ -1,4 +1,4 @@
-use Rattle.std.proofs.Common.{refl, arith, ap, ◌-◌}
+use Rattle.std.proofs.Common.{refl, arith}
 use Rattle.std.proofs.lemmas.Iterator.{items_from_collect, YieldsList-from_range}
 use Rattle.flu_model.specs.Itags.{count_of_itags}
 use Rattle.flu_planner.proofs.nodes.all_itags.Goals as goal

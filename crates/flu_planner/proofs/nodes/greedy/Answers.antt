@@ -1,7 +1,6 @@
-use Rattle.std.proofs.Common.{◌≡◌, ◌≤◌, ◌+◌, ◌^◌, ℕ, Bool, List, refl, sym, ap, subst, ◌∙◌, arith}
 use Rattle.std.proofs.lemmas.Result.{IfOk-weaker}
 use Rattle.flu_model.specs.Itags.{count_of_itags}
-use Rattle.flu_planner.specs.Graphs.{Graph, dependencies}
+use Rattle.flu_planner.specs.Graphs.{dependencies}
 use Rattle.flu_planner.specs.Plans.{all_itags}
 use Rattle.flu_planner.specs.Tables.{table_of, graph_of}
 use Rattle.flu_planner.proofs.Agreement.{greedy_agrees}

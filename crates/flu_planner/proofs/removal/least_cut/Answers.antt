@@ -1,5 +1,4 @@
-use Rattle.std.proofs.Common.{◌≡◌, ◌<◌, ◌≤◌, ℕ, List, length, drop, arith, ap, ◌∙◌, below_more, inl, inr}
-use Rattle.std.specs.Prelude.{IsTrue, ◌↔◌}
+use Rattle.std.proofs.Common.{◌≡◌, length, drop, arith, ap, ◌∙◌, below_more, inl, inr}
 use Rattle.std.proofs.lemmas.Bool.{cases_lt, iff_false}
 use Rattle.std.proofs.lemmas.List.{take_rest}
 use Rattle.flu_planner.specs.Graphs.{Graph, IsApart, rising}

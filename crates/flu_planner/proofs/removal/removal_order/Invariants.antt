@@ -1,5 +1,4 @@
 use Rattle.std.proofs.Common.{◌≡◌, ◌≤◌, length, drop}
-use Rattle.std.specs.Prelude.{nat_lt}
 use Rattle.flu_lemmas.specs.Sorting.{in_order}
 use Rattle.flu_planner.specs.Cuts.{is_removed_first}
 use Rattle.flu_planner.proofs.removal.removal_order.Given as goal

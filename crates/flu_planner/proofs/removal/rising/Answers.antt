@@ -1,8 +1,7 @@
-use Rattle.std.proofs.Common.{◌≡◌, ◌+◌, ◌-◌, ◌<◌, length, get_or, drop, sym, ap, subst, ◌∙◌, arith}
+use Rattle.std.proofs.Common.{◌≡◌, ◌+◌, ◌-◌, ◌<◌, length, get_or, drop, sym, ap, ◌∙◌, arith}
 use Rattle.std.specs.Prelude.{nat_lt}
-use Rattle.std.specs.List.{insert, position_or_len}
+use Rattle.std.specs.List.{insert}
 use Rattle.flu_lemmas.specs.Sorting.{in_order}
-use Rattle.flu_planner.specs.Cuts.{is_removed_first}
 use Rattle.flu_planner.proofs.Putting.{in_order_more}
 use Rattle.flu_planner.proofs.removal.rising.Goals as goal
 

@@ -1,7 +1,6 @@
 use Rattle.std.proofs.Common.{◌≡◌, ◌≤◌, length, drop}
 use Rattle.std.specs.Prelude.{nat_lt}
 use Rattle.flu_lemmas.specs.Sorting.{in_order}
-use Rattle.flu_planner.specs.Cuts.{is_removed_first}
 use Rattle.flu_planner.proofs.removal.rising.Given as goal
 
 abbrev pub invariant-loop-at : goal.invariant-loop-at
