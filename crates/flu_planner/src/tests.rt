@@ -180,6 +180,17 @@ fn no_itag_is_one_node(rt: HostRuntime) -> Result<(), Fail> {
 }
 
 #[test]
+fn one_itag_is_one_node(rt: HostRuntime) -> Result<(), Fail> {
+    let job = Job {
+        keyed: &[false],
+        depends: &[(0, 0)],
+        listed: &[&[FIRST]],
+    };
+    expect(&rt, rt.alloc(), &job, &[5], 6, "n0: 0@0\n")?;
+    Ok(())
+}
+
+#[test]
 fn keys_are_told(rt: HostRuntime) -> Result<(), Fail> {
     let job = Job {
         keyed: &[true],
