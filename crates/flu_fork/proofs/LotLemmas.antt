@@ -1,8 +1,8 @@
 -- Cases are settings, and the parts of a lot are those of the laws.
-use Rattle.std.proofs.Common.{◌≡◌, ℕ, Bool, true, false, cond, Option, Some, None, List, [], ◌∷◌, ◌++◌, inl, inr, length, map, refl, sym, ap, subst, ◌∙◌, ◌<◌, ◌+◌, get_or, arith}
+use Rattle.std.proofs.Common.{◌≡◌, ℕ, Bool, true, false, cond, Option, Some, None, List, [], ◌∷◌, ◌++◌, inl, inr, length, map, refl, sym, ap, subst, ◌∙◌, arith}
 use Rattle.std.proofs.Math.Logic.{∥∥₁_elim}
 use Rattle.std.proofs.Props.{props}
-use Rattle.std.specs.Prelude.{not, ◌&&◌, is_some, slice_get, slice_index, slice_index_or, IsTrue}
+use Rattle.std.specs.Prelude.{not, ◌&&◌, is_some, slice_get, slice_index}
 use Rattle.std.specs.Coded.{Coded-set, coded_option}
 use Rattle.std.specs.List.{range_with_len}
 use Rattle.std.proofs.lemmas.List.FromFn.{length-map-range_with_len, get_or-map-range_with_len}
@@ -18,19 +18,17 @@ use Rattle.flu_model.specs.contracts.events.Worth as worth
 use Rattle.flu_model.specs.Contents.{Contents, nothing_held}
 use Rattle.flu_model.specs.Itags.{count_of_itags}
 use Rattle.flu_model.specs.Sorts.{IsWorthOf, HoldsSort, HoldsFamily, IsStateOf}
-use Rattle.flu_cells.specs.declared.sets.CellSet.{CellSet}
 use Rattle.flu_cells.specs.Holding.{held}
 use Rattle.flu_cells.specs.Sets as cells
-use Rattle.flu_laws.specs.Uses.{needs, writes}
+use Rattle.flu_laws.specs.Uses.{writes}
 use Rattle.flu_fork.specs.declared.content.Content.{Content}
-use Rattle.flu_fork.specs.declared.lots.Lot.{Lot}
 use Rattle.flu_fork.specs.declared.rights.Right.{Right}
 use Rattle.flu_fork.specs.Settings.{Setting, IsSetting}
 use Rattle.flu_fork.specs.Classes.{Itags, some_has, is_moved, is_owned, below}
 use Rattle.flu_fork.specs.Fitting.{Fits}
 use Rattle.flu_fork.specs.Parts.{left_part, right_part, joined_counts, ArePaired}
 use Rattle.flu_fork.specs.Laws.{NothingIsCopied}
-use Rattle.flu_fork.specs.Lots.{job, nodes, kids, setting_of, LotFits, HasParts, HasCounts, PartsFitKids, HasJoinedCounts}
+use Rattle.flu_fork.specs.Lots.{job, nodes, kids, setting_of}
 use Rattle.flu_fork.specs.Tables.{IsRight, IsRightAt, count_by, counts_by}
 use Rattle.flu_fork.proofs.Turns.{map_alike, slice_get_then}
 
