@@ -1,0 +1,5 @@
+pub mod Graphs
+pub mod Cuts
+pub mod Groups
+pub mod Greedy
+pub mod Plans
