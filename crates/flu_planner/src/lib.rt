@@ -18,6 +18,8 @@ pub fn plan(alloc: Global, c: &Checked, rates: &[u64], depth: u32) -> Result<Val
     ensures of { IfOk result (λ v. IsValidFor (program_of c.now) v) }
     ensures greedy { IfOk result (λ v. IsGreedyPlan (program_of c.now) rates.now depth (plan_of v).nodes) }
 {
-    let _ = (alloc, c, rates, depth);
+    let _ = alloc;
+    let _ = c;
+    let _ = (rates.len(), depth);
     Err(AllocError)
 }
