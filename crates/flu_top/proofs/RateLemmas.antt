@@ -1,8 +1,8 @@
 -- The rates of a job's itags: one for each, and none above the greatest that a source has.
-use Rattle.std.proofs.Common.{◌≡◌, sym, ap, ◌∙◌, subst, ℕ, zero, suc, ◌≤◌, ◌<◌, ◌^◌, List, [], ◌∷◌, length, get_or, map, Bool, true, arith}
+use Rattle.std.proofs.Common.{◌≡◌, sym, ap, ◌∙◌, subst, ℕ, zero, suc, ◌+◌, ◌≤◌, ◌<◌, ◌^◌, List, [], ◌∷◌, ◌++◌, length, get_or, map, true, arith}
 use Rattle.std.specs.Prelude.{EachIndex, slice_index}
 use Rattle.std.specs.List.{range_with_len}
-use Rattle.std.proofs.lemmas.List.FromFn.{length-map-range_with_len, get_or-map-range_with_len}
+use Rattle.std.proofs.lemmas.List.FromFn.{length-map-range_with_len, get_or-map-range_with_len, map-range_with_len_more}
 use Rattle.flu_lemmas.proofs.Tests.{and_left, and_right, true_le}
 use Rattle.flu_model.specs.declared.jobs.Kind.{Kind}
 use Rattle.flu_model.specs.declared.jobs.Program.{Program}
@@ -20,8 +20,19 @@ rate_is_small kinds [] number fit = omega arith
 rate_is_small kinds (s ∷ sources) zero fit = source_rate kinds s (and_left (source_fits kinds s) _ fit)
 rate_is_small kinds (s ∷ sources) (suc number) fit = rate_is_small kinds sources number (and_right (source_fits kinds s) _ fit)
 
+-- the rate of an itag by its number
 abbrev pub rate_at : Program → ℕ → ℕ
 rate_at p i = rate_of_source p.sources (source_of_itag p (record { 0 = i }))
+
+-- one rate more
+pub rates_more : (p : Program) (number rate : ℕ) (old new : List ℕ) → old ≡ map (rate_at p) (range_with_len 0 number) → rate ≡ rate_at p number → new ≡ old ++ rate ∷ [] → new ≡ map (rate_at p) (range_with_len 0 (number + 1))
+rates_more p number rate old new so_far is pushed =
+    pushed ∙ ((λ i. so_far i ++ is i ∷ []) ∙ sym (map-range_with_len_more (rate_at p) 0 number number (omega arith)))
+
+-- the rates of all itags
+pub all_rates : (p : Program) (number : ℕ) (rates : List ℕ) → number ≡ count_of_itags p → rates ≡ map (rate_at p) (range_with_len 0 number) → rates ≡ source_rates p
+unfolding source_rates
+all_rates p number rates all is = is ∙ ap (λ n. map (rate_at p) (range_with_len 0 n)) all
 
 pub one_rate_each : (p : Program) → length (source_rates p) ≡ count_of_itags p
 unfolding source_rates
