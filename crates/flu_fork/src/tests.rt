@@ -1,6 +1,7 @@
 //! Lots of two small jobs, parted at the root of a plan and joined there.
 
-ghost use Rattle.std.specs.Prelude.{◌≡◌, ◌<◌, ◌≤◌, length, IfOk, IfSome, IsTrue, Some};
+ghost use Rattle.std.specs.Prelude.{◌≡◌, ◌+◌, ◌<◌, ◌≤◌, ◌∷◌, ◌++◌, [], length, map, IfOk, IfSome, IsTrue, Some, None};
+ghost use Rattle.flu_model.specs.declared.jobs.Keys.TheVariants.{One};
 ghost use Rattle.flu_model.specs.declared.events.Item.TheVariants.{Event as ItemEvent};
 ghost use Rattle.flu_model.specs.Itags.{count_of_itags};
 ghost use Rattle.flu_model.specs.Listed.{listed};
@@ -216,22 +217,76 @@ fn count_plan(alloc: Global) -> Result<Plan, AllocError> {
     Ok(plan_with(nodes))
 }
 
-/// The root owns nothing; the tick is above the views of the two sources, and a node that owns nothing above the updates.
+/// The itags of a kind with these keys and sources, one predicate each.
+fn one_by_one(alloc: Global, kind: u32, tags: &[(u32, u32)]) -> Result<Vec<Pred>, AllocError>
+    ensures { IfOk result (λ preds. preds.items ≡ map (λ tag. record { kind = Some kind; keys = One tag.0; source = Some tag.1 }) tags.now) }
+{
+    let mut preds = Vec::new(alloc);
+    for (key, source) in tags {
+        preds.push(of_kind(kind, Keys::One(*key), Some(*source)))?;
+    }
+    Ok(preds)
+}
+
+/// A node more.
+fn with_node(
+    alloc: Global,
+    mut nodes: Vec<Node>,
+    name: &str,
+    preds: Vec<Pred>,
+    kids: Option<(u32, u32)>,
+) -> Result<Vec<Node>, AllocError>
+    ensures { IfOk result (λ all. all.items ≡ nodes.items ++ (record { name = name.now; preds = preds.items; kids = kids }) ∷ []) }
+{
+    nodes.push(node(alloc, name, preds, kids)?)?;
+    Ok(nodes)
+}
+
+/// A leaf more, which owns the itags of a kind with these keys and sources.
+fn with_leaf(
+    alloc: Global,
+    nodes: Vec<Node>,
+    name: &str,
+    kind: u32,
+    tags: &[(u32, u32)],
+) -> Result<Vec<Node>, AllocError>
+    ensures { IfOk result (λ all. all.items ≡ nodes.items ++ (record { name = name.now; preds = map (λ tag. record { kind = Some kind; keys = One tag.0; source = Some tag.1 }) tags.now; kids = None }) ∷ []) }
+{
+    let preds = one_by_one(alloc, kind, tags)?;
+    with_node(alloc, nodes, name, preds, None)
+}
+
+/// A node more, which owns nothing.
+fn with_fork(
+    alloc: Global,
+    nodes: Vec<Node>,
+    name: &str,
+    kids: (u32, u32),
+) -> Result<Vec<Node>, AllocError>
+    ensures { IfOk result (λ all. all.items ≡ nodes.items ++ (record { name = name.now; preds = []; kids = Some kids }) ∷ []) }
+{
+    with_node(alloc, nodes, name, Vec::new(alloc), Some(kids))
+}
+
+/// The greedy plan at depth 3 where the sources have the rates 1000, 500 and 1: the root owns nothing, the tick is above the
+/// views, and the pages are shared out among four leaves, as are the users.
 fn pages_plan(alloc: Global) -> Result<Plan, AllocError> {
-    let ticks = vec![in alloc; of_kind(2, Keys::Alone, None)]?;
-    let web = vec![in alloc; of_kind(0, Keys::Alone, Some(0))]?;
-    let app = vec![in alloc; of_kind(0, Keys::Alone, Some(1))]?;
-    let low = vec![in alloc; of_kind(1, Keys::Range(0, 4), None)]?;
-    let high = vec![in alloc; of_kind(1, Keys::Range(5, 9), None)]?;
-    let nodes = vec![in alloc;
-        node(alloc, "root", Vec::new(alloc), Some((1, 4)))?,
-        node(alloc, "tick", ticks, Some((2, 3)))?,
-        node(alloc, "web", web, None)?,
-        node(alloc, "app", app, None)?,
-        node(alloc, "users", Vec::new(alloc), Some((5, 6)))?,
-        node(alloc, "low", low, None)?,
-        node(alloc, "high", high, None)?,
-    ]?;
+    let tick = vec![in alloc; of_kind(2, Keys::Alone, Some(2))]?;
+    let nodes = with_fork(alloc, Vec::new(alloc), "n0", (1, 8))?;
+    let nodes = with_node(alloc, nodes, "n1", tick, Some((2, 5)))?;
+    let nodes = with_fork(alloc, nodes, "n2", (3, 4))?;
+    let nodes = with_leaf(alloc, nodes, "n3", 0, &[(0, 0), (4, 0), (8, 0), (4, 1), (8, 1)])?;
+    let nodes = with_leaf(alloc, nodes, "n4", 0, &[(2, 0), (6, 0), (0, 1), (2, 1), (6, 1)])?;
+    let nodes = with_fork(alloc, nodes, "n5", (6, 7))?;
+    let nodes = with_leaf(alloc, nodes, "n6", 0, &[(1, 0), (5, 0), (9, 0), (5, 1), (9, 1)])?;
+    let nodes = with_leaf(alloc, nodes, "n7", 0, &[(3, 0), (7, 0), (1, 1), (3, 1), (7, 1)])?;
+    let nodes = with_fork(alloc, nodes, "n8", (9, 12))?;
+    let nodes = with_fork(alloc, nodes, "n9", (10, 11))?;
+    let nodes = with_leaf(alloc, nodes, "n10", 1, &[(0, 1), (4, 1), (8, 1)])?;
+    let nodes = with_leaf(alloc, nodes, "n11", 1, &[(2, 1), (6, 1)])?;
+    let nodes = with_fork(alloc, nodes, "n12", (13, 14))?;
+    let nodes = with_leaf(alloc, nodes, "n13", 1, &[(1, 1), (5, 1), (9, 1)])?;
+    let nodes = with_leaf(alloc, nodes, "n14", 1, &[(3, 1), (7, 1)])?;
     Ok(plan_with(nodes))
 }
 
@@ -325,7 +380,7 @@ fn viewed(alloc: Global) -> Result<Lot, AllocError> {
 #[test]
 fn cells_go_to_the_child_whose_itags_need_them(rt: HostRuntime) -> Result<(), Fail> {
     let alloc = rt.alloc();
-    let made = right(alloc, pages(alloc)?, pages_plan(alloc)?, 4)?;
+    let made = right(alloc, pages(alloc)?, pages_plan(alloc)?, 8)?;
     assert!(rt; made.is_some());
     let (left, other) = part(alloc, &made.unwrap(), viewed(alloc)?)?;
     assert_eq!(rt; left.state.get(cell(0, 0)), Some(Worth::Sum(11)));
