@@ -61,25 +61,30 @@ fn kind(
     })
 }
 
-fn source(alloc: Global, name: &str, tags: &[TagRef]) -> Result<Source, AllocError> {
+fn source(
+    alloc: Global,
+    name: &str,
+    rate: u64,
+    tags: &[TagRef],
+) -> Result<Source, AllocError> {
     let file = Text::of(format!(in alloc; "{name}.csv")?);
     let name = Name::of(String::from_str(alloc, name)?);
     let tags = List::of(tags.to_vec(alloc)?);
     Ok(Source {
         name,
         file,
-        rate: 1,
+        rate,
         tags,
     })
 }
 
 fn three_sources(
     alloc: Global,
-    listed: [(&str, &[TagRef]); 3],
+    listed: [(&str, u64, &[TagRef]); 3],
 ) -> Result<List<Source>, AllocError> {
     let mut sources = Vec::new(alloc);
-    for (name, tags) in listed {
-        sources.push(source(alloc, name, tags)?)?;
+    for (name, rate, tags) in listed {
+        sources.push(source(alloc, name, rate, tags)?)?;
     }
     Ok(List::of(sources))
 }
@@ -135,7 +140,7 @@ fn count(alloc: Global) -> Result<Option<Program>, AllocError> {
     let depends = depends(alloc, &[(0, 1, false), (1, 1, false)])?;
     let sources = three_sources(
         alloc,
-        [("a", &[only(0)]), ("b", &[only(0)]), ("c", &[only(1)])],
+        [("a", 1, &[only(0)]), ("b", 1, &[only(0)]), ("c", 1, &[only(1)])],
     )?;
     Ok(program(List::of(families), List::of(kinds), depends, sources))
 }
@@ -157,9 +162,9 @@ fn pages(alloc: Global) -> Result<Option<Program>, AllocError> {
     let sources = three_sources(
         alloc,
         [
-            ("web", &[ten(0)]),
-            ("app", &[ten(0), ten(1)]),
-            ("clock", &[only(2)]),
+            ("web", 1000, &[ten(0)]),
+            ("app", 500, &[ten(0), ten(1)]),
+            ("clock", 1, &[only(2)]),
         ],
     )?;
     Ok(program(List::of(families), List::of(kinds), depends, sources))
