@@ -61,12 +61,7 @@ fn kind(
     })
 }
 
-fn source(
-    alloc: Global,
-    name: &str,
-    rate: u64,
-    tags: &[TagRef],
-) -> Result<Source, AllocError> {
+fn source(alloc: Global, name: &str, rate: u64, tags: &[TagRef]) -> Result<Source, AllocError> {
     let file = Text::of(format!(in alloc; "{name}.csv")?);
     let name = Name::of(String::from_str(alloc, name)?);
     let tags = List::of(tags.to_vec(alloc)?);
@@ -140,7 +135,11 @@ fn count(alloc: Global) -> Result<Option<Program>, AllocError> {
     let depends = depends(alloc, &[(0, 1, false), (1, 1, false)])?;
     let sources = three_sources(
         alloc,
-        [("a", 1, &[only(0)]), ("b", 1, &[only(0)]), ("c", 1, &[only(1)])],
+        [
+            ("a", 1, &[only(0)]),
+            ("b", 1, &[only(0)]),
+            ("c", 1, &[only(1)]),
+        ],
     )?;
     Ok(program(List::of(families), List::of(kinds), depends, sources))
 }
@@ -280,11 +279,35 @@ fn pages_plan(alloc: Global) -> Result<Plan, AllocError> {
     let nodes = with_fork(alloc, Vec::new(alloc), "n0", (1, 8))?;
     let nodes = with_node(alloc, nodes, "n1", tick, Some((2, 5)))?;
     let nodes = with_fork(alloc, nodes, "n2", (3, 4))?;
-    let nodes = with_leaf(alloc, nodes, "n3", 0, &[(0, 0), (4, 0), (8, 0), (4, 1), (8, 1)])?;
-    let nodes = with_leaf(alloc, nodes, "n4", 0, &[(2, 0), (6, 0), (0, 1), (2, 1), (6, 1)])?;
+    let nodes = with_leaf(
+        alloc,
+        nodes,
+        "n3",
+        0,
+        &[(0, 0), (4, 0), (8, 0), (4, 1), (8, 1)],
+    )?;
+    let nodes = with_leaf(
+        alloc,
+        nodes,
+        "n4",
+        0,
+        &[(2, 0), (6, 0), (0, 1), (2, 1), (6, 1)],
+    )?;
     let nodes = with_fork(alloc, nodes, "n5", (6, 7))?;
-    let nodes = with_leaf(alloc, nodes, "n6", 0, &[(1, 0), (5, 0), (9, 0), (5, 1), (9, 1)])?;
-    let nodes = with_leaf(alloc, nodes, "n7", 0, &[(3, 0), (7, 0), (1, 1), (3, 1), (7, 1)])?;
+    let nodes = with_leaf(
+        alloc,
+        nodes,
+        "n6",
+        0,
+        &[(1, 0), (5, 0), (9, 0), (5, 1), (9, 1)],
+    )?;
+    let nodes = with_leaf(
+        alloc,
+        nodes,
+        "n7",
+        0,
+        &[(3, 0), (7, 0), (1, 1), (3, 1), (7, 1)],
+    )?;
     let nodes = with_fork(alloc, nodes, "n8", (9, 12))?;
     let nodes = with_fork(alloc, nodes, "n9", (10, 11))?;
     let nodes = with_leaf(alloc, nodes, "n10", 1, &[(0, 1), (4, 1), (8, 1)])?;

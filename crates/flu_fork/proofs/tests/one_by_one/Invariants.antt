@@ -1,6 +1,5 @@
-use Rattle.std.proofs.Common.{◌≡◌, ℕ, Some, map, take}
+use Rattle.std.proofs.Common.{◌≡◌, Some, map, take}
 use Rattle.flu_model.specs.declared.jobs.Keys.TheVariants.{One}
-use Rattle.flu_model.specs.declared.plans.Pred.{Pred}
 use Rattle.flu_fork.proofs.tests.one_by_one.Given as goal
 
 abbrev pub invariant-loop-key : goal.invariant-loop-key
