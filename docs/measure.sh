@@ -110,3 +110,20 @@ source app "app.csv" rate 500: view[0..99], update[0..54]
 source clock "clock.csv" rate 1: tick
 JOB
 measure 'a job of 256 itags: flumina check' "$program" check wide.job
+measure 'a job of 256 itags: flumina plan --depth 6' "$program" plan wide.job --depth 6
+
+# ---- a job of 256 itags that no removal parts, so that all removals are tried
+cat > dense.job <<'JOB'
+tag t keyed none
+depends t t
+source s "s.csv": t[0..255]
+JOB
+measure 'a job of 256 itags, each dependent on all: flumina plan --depth 6' "$program" plan dense.job --depth 6
+
+# ---- a job of 256 itags of 64 kinds, each kind dependent on the next, so that a removal parts them again and again
+gawk 'BEGIN {
+    for (i = 0; i < 64; i++) print "tag k" i " keyed none"
+    for (i = 0; i < 63; i++) print "depends k" i " k" i + 1
+    for (i = 0; i < 64; i++) print "source s" i " \"s" i ".csv\" rate " (i * 37) % 64 ": k" i "[0..3]"
+}' > chain.job
+measure 'a job of 256 itags in a chain of 64 kinds: flumina plan --depth 6' "$program" plan chain.job --depth 6
