@@ -1,0 +1,4 @@
+pub mod General
+pub mod PlaceLemmas
+pub mod PassingLemmas
+pub mod WaitingLemmas
