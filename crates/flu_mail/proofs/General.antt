@@ -1,14 +1,40 @@
 -- Lemmas on lists and tests.
-use Rattle.std.proofs.Common.{◌≡◌, ◌<◌, ◌≤◌, ◌+◌, ℕ, zero, suc, Bool, true, false, Option, Some, None, List, [], ◌∷◌, ◌++◌, length, refl, sym, ap, subst, ◌∙◌, inl, inr, arith}
-use Rattle.std.specs.Prelude.{◌⊎◌, ◌&&◌, slice_get, map, slice_index, slice_index_or}
-use Rattle.std.specs.List.{list_all}
+use Rattle.std.proofs.Common.{◌≡◌, ◌<◌, ◌≤◌, ◌+◌, ℕ, zero, suc, Bool, true, false, Option, Some, None, List, [], ◌∷◌, ◌++◌, length, refl, sym, ap, subst, ◌∙◌, inl, inr, get_or, arith}
+use Rattle.std.specs.Prelude.{◌⊎◌, ◌&&◌, ◌||◌, not, slice_get, map, slice_index, slice_index_or}
+use Rattle.std.specs.List.{list_all, list_any, range_with_len}
 use Rattle.std.proofs.Math.ListN.{set}
+use Rattle.std.proofs.lemmas.Bool.{cases_eq}
+use Rattle.std.proofs.lemmas.Option.{slice_get-get_or}
 use Rattle.flu_lemmas.proofs.Tests.{and_left, and_right, both}
 
 -- a test is true or false
 pub either : (b : Bool) → (b ≡ true) ⊎ (b ≡ false)
 either true = inl refl
 either false = inr refl
+
+or_left : (a b : Bool) → a ≡ true → (a || b) ≡ true
+or_left true b h = refl
+or_left false b h = cc
+
+or_right : (a b : Bool) → b ≡ true → (a || b) ≡ true
+or_right true b h = refl
+or_right false b h = h
+
+neither : (a b : Bool) → a ≡ false → b ≡ false → (a || b) ≡ false
+neither true b h k = cc
+neither false b h k = k
+
+or_false_left : (a b : Bool) → (a || b) ≡ false → a ≡ false
+or_false_left true b h = cc
+or_false_left false b h = refl
+
+or_false_right : (a b : Bool) → (a || b) ≡ false → b ≡ false
+or_false_right true b h = cc
+or_false_right false b h = h
+
+not_or : (a b : Bool) → not (a || b) ≡ (not a && not b)
+not_or true b = refl
+not_or false b = refl
 
 -- ---- what holds of each element with its index
 
@@ -51,3 +77,31 @@ map-set_alike f (y ∷ ys) (suc i) x v e same = ap (λ ns. f y ∷ ns) (map-set_
 pub list_all_weaker : {X : Type 0} (p q : X → Bool) (xs : List X) → ((x : X) → p x ≡ true → q x ≡ true) → list_all p xs ≡ true → list_all q xs ≡ true
 list_all_weaker p q [] h e = refl
 list_all_weaker p q (x ∷ xs) h e = both (q x) _ (h x (and_left (p x) _ e)) (list_all_weaker p q xs h (and_right (p x) _ e))
+
+-- an element that was read at a place
+pub slice_get_read : {X : Type 0} (xs : List X) (i : ℕ) (x : X) → i < length xs → x ≡ get_or xs i x → slice_get xs i ≡ Some x
+slice_get_read xs i x lt is = slice_get-get_or xs i x lt ∙ ap Some (sym is)
+
+-- ---- tests of some of a run of numbers
+
+pub list_any_found : (p : ℕ → Bool) (a n j : ℕ) → a ≤ j → j < a + n → p j ≡ true → list_any p (range_with_len a n) ≡ true
+list_any_found p a zero j le lt h = absurd (omega arith)
+list_any_found p a (suc n) j le lt h =
+    elim (cases_eq j a) [
+      | inl same ↦ or_left (p a) _ (ap p (sym same) ∙ h)
+      | inr other ↦ or_right (p a) _ (list_any_found p (a + 1) n j (omega arith) (omega arith) h)
+    ]
+
+pub list_any_none_more : (p : ℕ → Bool) (a n : ℕ) → list_any p (range_with_len a n) ≡ false → p (a + n) ≡ false → list_any p (range_with_len a (suc n)) ≡ false
+list_any_none_more p a zero none here = let at : a + 0 ≡ a = omega arith in neither (p a) false (ap p (sym at) ∙ here) refl
+list_any_none_more p a (suc n) none here =
+    let at : a + 1 + n ≡ a + suc n = omega arith in
+    neither (p a) _ (or_false_left (p a) _ none) (list_any_none_more p (a + 1) n (or_false_right (p a) _ none) (ap p at ∙ here))
+
+-- all of a run fail the test where none passes its opposite
+pub not_list_any : (p q : ℕ → Bool) (a n : ℕ) → ((j : ℕ) → j < a + n → not (p j) ≡ q j) → not (list_any p (range_with_len a n)) ≡ list_all q (range_with_len a n)
+not_list_any p q a zero h = refl
+not_list_any p q a (suc n) h =
+    not_or (p a) (list_any p (range_with_len (a + 1) n))
+    ∙ ap (λ b. b && not (list_any p (range_with_len (a + 1) n))) (h a (omega arith))
+    ∙ ap (λ b. q a && b) (not_list_any p q (a + 1) n (λ j lt. h j (omega arith)))

@@ -2,3 +2,4 @@ pub mod General
 pub mod PlaceLemmas
 pub mod PassingLemmas
 pub mod WaitingLemmas
+pub mod MailboxLemmas

@@ -1,5 +1,5 @@
 -- What passing says of the events that are not counted.
-use Rattle.std.proofs.Common.{◌≡◌, ◌<◌, ◌≤◌, ◌+◌, ℕ, zero, suc, Bool, true, false, Option, Some, None, List, [], ◌∷◌, ◌++◌, length, take, refl, sym, ap, subst, ◌∙◌, inl, inr, arith}
+use Rattle.std.proofs.Common.{◌≡◌, ◌<◌, ◌≤◌, ◌+◌, ◌-◌, ℕ, zero, suc, Bool, true, false, Option, Some, None, List, [], ◌∷◌, ◌++◌, length, take, refl, sym, ap, subst, ◌∙◌, inl, inr, arith}
 use Rattle.std.specs.Prelude.{◌⊎◌, ◌≢◌, slice_get, nat_le, nat_lt, ◌==◌, ◌&&◌, ◌||◌}
 use Rattle.std.proofs.lemmas.Grind.{common_steps}
 use Rattle.flu_lemmas.proofs.Tests.{and_left, and_right, true_le, le_true, true_eq, true_lt, lt_true}
@@ -158,3 +158,12 @@ passes_when_clear i low items count x s clear = by_next (next_event items count)
     by_next : (next : Option Event) → next_event items count ≡ next → passes_with items next x ≡ true
     by_next None e = ends_pass x.time i low items s
     by_next (Some y) e = clear y e
+
+-- ---- the last item
+
+pub last_passes_last : (t : ℕ) (items : List Item) (item : Item) → slice_get items (length items - 1) ≡ Some item → last_passes t items ≡ time_passes t item
+last_passes_last t [] item e = cc
+last_passes_last t (x ∷ []) item e = let same : x ≡ item = cc in ap (time_passes t) same
+last_passes_last t (x ∷ y ∷ rest) item e =
+    let place : length (x ∷ y ∷ rest) - 1 ≡ suc (length (y ∷ rest) - 1) = omega arith in
+    last_passes_last t (y ∷ rest) item (ap (slice_get (x ∷ y ∷ rest)) (sym place) ∙ e)

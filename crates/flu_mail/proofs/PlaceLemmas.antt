@@ -1,6 +1,8 @@
 -- Where events stand among items.
-use Rattle.std.proofs.Common.{◌≡◌, ◌<◌, ◌≤◌, ◌+◌, ℕ, zero, suc, Bool, true, false, Option, Some, None, List, [], ◌∷◌, ◌++◌, length, take, drop, refl, sym, ap, subst, ◌∙◌, inl, inr, arith}
+use Rattle.std.proofs.Common.{◌≡◌, ◌<◌, ◌≤◌, ◌+◌, ℕ, zero, suc, Bool, true, false, Option, Some, None, List, [], ◌∷◌, ◌++◌, length, take, drop, get_or, refl, sym, ap, subst, ◌∙◌, inl, inr, arith}
 use Rattle.std.specs.Prelude.{slice_get}
+use Rattle.std.proofs.lemmas.List.{drop_all}
+use Rattle.std.proofs.lemmas.Option.{slice_get-get_or}
 use Rattle.flu_model.specs.declared.events.Item.{Item}
 use Rattle.flu_model.specs.declared.events.Item.TheVariants.{Event as EventItem, Beat, End}
 use Rattle.flu_model.specs.Merging.{events_of}
@@ -60,3 +62,21 @@ place_behind (EventItem x ∷ rest) zero item e is = let same : EventItem x ≡ 
 place_behind (Beat t ∷ rest) zero item e is = refl
 place_behind (End ∷ rest) zero item e is = refl
 place_behind (x ∷ rest) (suc k) item e is = place_behind rest k item e is
+
+pub event_here : (items : List Item) (k : ℕ) (d : Item) → k < length items → is_event (get_or items k d) ≡ true → place_of (drop k items) 0 ≡ 0
+event_here items k d lt is = place_here items k (get_or items k d) (slice_get-get_or items k d lt) is
+
+pub event_behind : (items : List Item) (k : ℕ) (d : Item) → k < length items → is_event (get_or items k d) ≡ false → place_of (drop k items) 0 ≡ suc (place_of (drop (k + 1) items) 0)
+event_behind items k d lt is =
+    let next : k + 1 ≡ suc k = omega arith in
+    place_behind items k (get_or items k d) (slice_get-get_or items k d lt) is ∙ ap (λ n. suc (place_of (drop n items) 0)) (sym next)
+
+pub none_behind : (items : List Item) (k : ℕ) → length items ≤ k → place_of (drop k items) 0 ≡ 0
+none_behind items k le = ap (λ is. place_of is 0) (drop_all k items le)
+
+-- one step on
+pub place_after_one : (items : List Item) (count place next : ℕ) → count < length (events_of items) → place ≡ place_of items count → next ≡ place + 1 + place_of (drop (place + 1) items) 0 → next ≡ place_of items (count + 1)
+place_after_one items count place next lt at is =
+    let one : count + 1 ≡ suc count = omega arith in
+    let more : place + 1 ≡ suc (place_of items count) = omega arith in
+    is ∙ ap (λ n. n + place_of (drop n items) 0) more ∙ sym (place_step items count lt) ∙ ap (place_of items) (sym one)

@@ -16,9 +16,9 @@ whole_clears i low count items x y s h uncounted =
 pub returns-clause-after : goal.returns-clause-after
 returns-clause-after c = λ i low count items x s.
     (λ h y uncounted. whole_clears i low count items x y s h uncounted,
-     λ clear. passes_when_clear i low items count x s (λ y e. clear y (count, (omega arith, e))))
+     λ clear. passes_when_clear i low items count x s (λ y e. clear y (count, omega arith, e)))
 
 pub returns-clause-clear : goal.returns-clause-clear
 returns-clause-clear c = λ i low count items x s other.
     (λ h y uncounted. not_after x y (whole_clears i low count items x y s h uncounted),
-     λ clear. passes_when_clear i low items count x s (λ y e. before_or_after x y (λ same. other (same ∙ (event_of_stream i low items count y s e).1)) (clear y (count, (omega arith, e)))))
+     λ clear. passes_when_clear i low items count x s (λ y e. before_or_after x y (λ same. other (same ∙ (event_of_stream i low items count y s e).1)) (clear y (count, omega arith, e))))
