@@ -1,9 +1,10 @@
 -- Lemmas on lists and tests.
 use Rattle.std.proofs.Common.{◌≡◌, ◌<◌, ◌≤◌, ◌+◌, ℕ, zero, suc, Bool, true, false, Option, Some, None, List, [], ◌∷◌, ◌++◌, length, refl, sym, ap, subst, ◌∙◌, inl, inr, get_or, arith}
-use Rattle.std.specs.Prelude.{◌⊎◌, ◌&&◌, ◌||◌, not, slice_get, map, slice_index, slice_index_or}
+use Rattle.std.specs.Prelude.{◌⊎◌, ◌&&◌, ◌||◌, not, slice_get, map, replicate, slice_index, slice_index_or}
 use Rattle.std.specs.List.{list_all, list_any, range_with_len}
 use Rattle.std.proofs.Math.ListN.{set}
 use Rattle.std.proofs.lemmas.Bool.{cases_eq}
+use Rattle.std.proofs.lemmas.List.{map-append, replicate-append-replicate}
 use Rattle.std.proofs.lemmas.Option.{slice_get-get_or}
 use Rattle.flu_lemmas.proofs.Tests.{and_left, and_right, both}
 
@@ -11,6 +12,10 @@ use Rattle.flu_lemmas.proofs.Tests.{and_left, and_right, both}
 pub either : (b : Bool) → (b ≡ true) ⊎ (b ≡ false)
 either true = inl refl
 either false = inr refl
+
+pub turned : (a b : Bool) → a ≡ not b → b ≡ not a
+turned a true e = ap not (sym e)
+turned a false e = ap not (sym e)
 
 or_left : (a b : Bool) → a ≡ true → (a || b) ≡ true
 or_left true b h = refl
@@ -105,3 +110,9 @@ not_list_any p q a (suc n) h =
     not_or (p a) (list_any p (range_with_len (a + 1) n))
     ∙ ap (λ b. b && not (list_any p (range_with_len (a + 1) n))) (h a (omega arith))
     ∙ ap (λ b. q a && b) (not_list_any p q (a + 1) n (λ j lt. h j (omega arith)))
+
+-- ---- as many zeros as elements
+
+pub map_push_zero : {X : Type 0} (f : X → ℕ) (xs : List X) (x : X) (n : ℕ) → map f xs ≡ replicate n 0 → f x ≡ 0 → map f (xs ++ x ∷ []) ≡ replicate (n + 1) 0
+map_push_zero f xs x n zeros none =
+    map-append f xs (x ∷ []) ∙ ap (λ ns. ns ++ f x ∷ []) zeros ∙ ap (λ y. replicate n 0 ++ y ∷ []) none ∙ replicate-append-replicate n 1 0

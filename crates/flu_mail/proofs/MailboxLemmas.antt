@@ -1,5 +1,5 @@
 -- What stays of a mailbox when an entry changes, and waiting as its entries tell it.
-use Rattle.std.proofs.Common.{◌≡◌, ◌<◌, ◌≤◌, ◌+◌, ℕ, Bool, true, false, Option, Some, None, List, [], length, get_or, refl, sym, ap, subst, ◌∙◌, inl, inr, arith}
+use Rattle.std.proofs.Common.{◌≡◌, ◌<◌, ◌≤◌, ◌+◌, ℕ, Bool, true, false, Option, Some, None, List, [], ◌∷◌, ◌^◌, zero, suc, Vec, Global, length, get_or, refl, sym, ap, subst, ◌∙◌, inl, inr, arith}
 use Rattle.std.specs.Prelude.{◌⊎◌, ◌&&◌, ◌||◌, ◌==◌, not, map, slice_get, slice_index, slice_index_or, if◌then◌else◌}
 use Rattle.std.specs.List.{list_any, list_all, range_with_len}
 use Rattle.std.proofs.Math.ListN.{set}
@@ -38,6 +38,12 @@ entry_there m n j one_each lt = let size = length-seen m in omega arith
 -- the entry that was read
 pub entry_read : (m : Mailbox) (n j : ℕ) (e : Entry) → length (seen_of m) ≡ n → j < n → e ≡ get_or m.entries.items j e → slice_get m.entries.items j ≡ Some e
 entry_read m n j e one_each lt is = slice_get_read m.entries.items j e (entry_there m n j one_each lt) is
+
+-- no stream has more items than there are numbers for
+pub few_items : (vs : List (Vec Item Global)) (i : ℕ) → length (slice_index_or (map (λ (v : Vec Item Global). v.items) vs) i []) < 2 ^ 63
+few_items [] i = omega arith
+few_items (v ∷ vs) zero = let ok = v.ok in let small = v.small in omega arith
+few_items (v ∷ vs) (suc i) = few_items vs i
 
 -- ---- an entry changes
 

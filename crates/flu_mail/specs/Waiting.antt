@@ -1,5 +1,5 @@
 -- WAITING: which itags an event of a node, or of an ancestor, waits for, and when none of them holds it up.
-use Rattle.std.specs.Prelude.{ℕ, Bool, true, false, not, ◌==◌, ◌&&◌, ◌||◌, Option, Some, None, List, slice_index}
+use Rattle.std.specs.Prelude.{ℕ, Bool, not, ◌==◌, ◌&&◌, ◌||◌, is_none, List, slice_index}
 use Rattle.std.specs.List.{list_all, range_with_len}
 use Rattle.flu_model.specs.declared.events.Event.{Event}
 use Rattle.flu_model.specs.declared.events.Itag.{Itag}
@@ -14,12 +14,8 @@ use Rattle.flu_mail.specs.Passing.{seen_items, passes}
 abbrev pub itag : ℕ → Itag
 itag i = record { 0 = i }
 
-abbrev pub has_none : Option (ℕ × ℕ) → Bool
-has_none None = true
-has_none (Some kids) = false
-
 abbrev pub is_leaf : List Node → ℕ → Bool
-is_leaf nodes w = has_none (kids_at nodes w)
+is_leaf nodes w = is_none (kids_at nodes w)
 
 -- itag j's tag is dependent on itag i's
 abbrev pub are_dependent : Program → ℕ → Itag → Bool
