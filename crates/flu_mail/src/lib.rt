@@ -7,6 +7,8 @@ pub mod laws;
 mod mailbox;
 mod passing;
 mod places;
+#[cfg(test)]
+mod tests;
 mod waiting;
 
 pub use mailbox::Mailbox;
