@@ -13,7 +13,7 @@ ghost use Rattle.flu_mail.specs.Passing.{seen_items, next_event, passes};
 ghost use Rattle.flu_mail.specs.Waiting.{is_ready, is_ready_to_serve};
 
 use crate::entries::{Entry, new_entry};
-use crate::passing::{event_at, last_passes};
+use crate::passing::{event_at, first_items, last_passes};
 use crate::places::place_after;
 use crate::waiting::{Purpose, awaits};
 use flu_deps::{Checked, Valid, dep};
@@ -92,7 +92,7 @@ impl Mailbox {
         requires in_range { i.0 < length (listed s.now) }
         ensures { result.now ≡ seen_items (listed s.now) (seen_of self.now) i.0 }
     {
-        &s.items(i)[..self.entries[i.0 as usize].seen as usize]
+        first_items(s.items(i), self.entries[i.0 as usize].seen)
     }
 
     /// Whether an itag lets x pass: its next event is after x in event order; or there is none, and the end of its stream was

@@ -1,10 +1,18 @@
 //! Which events the seen items of an itag let pass.
 
-ghost use Rattle.std.specs.Prelude.{◌≡◌, slice_get};
+ghost use Rattle.std.specs.Prelude.{◌≡◌, ◌≤◌, length, slice_get, take};
 ghost use Rattle.flu_mail.specs.Passing.{time_passes, last_passes};
 ghost use Rattle.flu_mail.specs.Places.{event_in};
 
 use flu_model::{Event, Item};
+
+/// The first so many items.
+pub fn first_items(items: &[Item], count: u64) -> &[Item]
+    requires { count ≤ length items.now }
+    ensures { result.now ≡ take count items.now }
+{
+    &items[..count as usize]
+}
 
 /// The event at a place of the seen items; none where that place was not seen.
 pub fn event_at(seen: &[Item], place: u64) -> Option<Event>

@@ -1,17 +1,14 @@
 use Rattle.std.proofs.Common.{length, ap, arith}
-
-use Rattle.std.proofs.lemmas.List.{length-take}
 use Rattle.flu_model.specs.Listed.{listed}
 use Rattle.flu_mail.specs.declared.entries.Entry.{Entry}
 use Rattle.flu_mail.proofs.General.{slice_index-map}
 use Rattle.flu_mail.proofs.MailboxLemmas.{entry_read}
 use Rattle.flu_mail.proofs.mailbox.Mailbox.seen_items.Goals as goal
 
-pub slice_bounds-result-end : goal.slice_bounds-result-end
-slice_bounds-result-end c =
+pub first_items-requires : goal.first_items-requires
+first_items-requires c =
     let there = entry_read c.args.self.now (length (listed c.args.s.now)) c.args.i.0 c.index.result.now c.requires.over.one_each c.requires.in_range c.index.ensures in
     let within = (c.requires.over.over_items c.args.i.0 c.index.result.now there).seen in
-    let size = length-take c.index.result.now.seen c.items.result.now in
     let same = ap length c.items.ensures in
     omega arith
 
