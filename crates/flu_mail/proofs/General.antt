@@ -116,3 +116,17 @@ not_list_any p q a (suc n) h =
 pub map_push_zero : {X : Type 0} (f : X → ℕ) (xs : List X) (x : X) (n : ℕ) → map f xs ≡ replicate n 0 → f x ≡ 0 → map f (xs ++ x ∷ []) ≡ replicate (n + 1) 0
 map_push_zero f xs x n zeros none =
     map-append f xs (x ∷ []) ∙ ap (λ ns. ns ++ f x ∷ []) zeros ∙ ap (λ y. replicate n 0 ++ y ∷ []) none ∙ replicate-append-replicate n 1 0
+
+-- ---- tests of all of a run of numbers
+
+pub list_all_at : (p : ℕ → Bool) (a n j : ℕ) → list_all p (range_with_len a n) ≡ true → a ≤ j → j < a + n → p j ≡ true
+list_all_at p a zero j all le lt = absurd (omega arith)
+list_all_at p a (suc n) j all le lt =
+    elim (cases_eq j a) [
+      | inl same ↦ ap p same ∙ and_left (p a) _ all
+      | inr other ↦ list_all_at p (a + 1) n j (and_right (p a) _ all) (omega arith) (omega arith)
+    ]
+
+pub list_all_of : (p : ℕ → Bool) (a n : ℕ) → ((j : ℕ) → j < a + n → p j ≡ true) → list_all p (range_with_len a n) ≡ true
+list_all_of p a zero h = refl
+list_all_of p a (suc n) h = both (p a) _ (h a (omega arith)) (list_all_of p (a + 1) n (λ j lt. h j (omega arith)))

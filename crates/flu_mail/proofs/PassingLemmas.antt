@@ -12,9 +12,6 @@ use Rattle.flu_mail.specs.Passing.{next_event, time_passes, last_passes, passes_
 
 -- ---- event order
 
-before_by : (a b i j : ℕ) → (nat_lt a b || (a == b && nat_lt i j)) ≡ true → (a < b) ⊎ ((a ≡ b) × (i < j))
-before_by a b i j e = grind (arith, common_steps)
-
 pub sooner : (x y : Event) → x.time < y.time → is_before x y ≡ true
 sooner x y lt = grind (arith, common_steps)
 

@@ -1,13 +1,15 @@
 -- What holds of passing and waiting.
-use Rattle.std.specs.Prelude.{◌≡◌, ◌≢◌, ◌↔◌, ℕ, ◌<◌, ◌≤◌, true, false, Some, List, length, slice_get, slice_index, take, IsTrue}
+use Rattle.std.specs.Prelude.{◌≡◌, ◌≢◌, ◌↔◌, ℕ, ◌<◌, ◌≤◌, true, false, Some, List, [], length, slice_get, slice_index, slice_index_or, take, IsTrue}
 use Rattle.flu_model.specs.declared.events.Event.{Event}
 use Rattle.flu_model.specs.declared.events.Item.{Item}
 use Rattle.flu_model.specs.declared.jobs.Program.{Program}
 use Rattle.flu_model.specs.declared.plans.Node.{Node}
+use Rattle.flu_model.specs.Itags.{count_of_itags}
+use Rattle.flu_model.specs.Owners.{owns}
 use Rattle.flu_model.specs.Merging.{is_before, events_of}
 use Rattle.flu_model.specs.Streaming.{is_stream_from, are_streams}
 use Rattle.flu_mail.specs.Passing.{passes}
-use Rattle.flu_mail.specs.Waiting.{is_ready, is_ready_to_serve}
+use Rattle.flu_mail.specs.Waiting.{waits_for, serving_waits_for, is_ready, is_ready_to_serve}
 
 -- y is among the items as an event that is not counted, seen or not
 abbrev pub IsUncounted : List Item → ℕ → Event → Type 0
@@ -52,3 +54,39 @@ abbrev pub ReadyToServeStays : Type 0
 ReadyToServeStays =
     (p : Program) (nodes : List Node) (lists : List (List Item)) (w : ℕ) (seen more counts : List ℕ) (y : Event)
     → IsTrue (are_streams 0 lists) → SeesMore seen more → is_ready_to_serve p nodes lists w seen counts y ≡ true → is_ready_to_serve p nodes lists w more counts y ≡ true
+
+-- READY CLEARS: where node w is ready for x, x is before each event that is not counted, seen or not, of an itag that it waits for
+abbrev pub ReadyClears : Type 0
+ReadyClears =
+    (p : Program) (nodes : List Node) (lists : List (List Item)) (w : ℕ) (seen counts : List ℕ) (x : Event) (j : ℕ) (y : Event)
+    → IsTrue (are_streams 0 lists) → is_ready p nodes lists w seen counts x ≡ true
+    → j < count_of_itags p → waits_for p nodes w x.itag j ≡ true → IsUncounted (slice_index_or lists j []) (slice_index counts j) y
+    → (is_before x y ≡ true) × (is_before y x ≡ false)
+
+-- and the same of an ancestor's event x for which it may be served
+abbrev pub ServingClears : Type 0
+ServingClears =
+    (p : Program) (nodes : List Node) (lists : List (List Item)) (w : ℕ) (seen counts : List ℕ) (x : Event) (j : ℕ) (y : Event)
+    → IsTrue (are_streams 0 lists) → is_ready_to_serve p nodes lists w seen counts x ≡ true
+    → j < count_of_itags p → serving_waits_for p nodes w x.itag j ≡ true → IsUncounted (slice_index_or lists j []) (slice_index counts j) y
+    → (is_before x y ≡ true) × (is_before y x ≡ false)
+
+-- all items are seen
+abbrev pub IsAllSeen : List (List Item) → List ℕ → Type 0
+IsAllSeen lists seen = (j : ℕ) → length (slice_index_or lists j []) ≤ slice_index seen j
+
+-- THE WAIT ENDS: when all is seen, node w is ready for x where no event that is not counted, of an itag that x waits for, is before x
+abbrev pub ReadyWhenClear : Type 0
+ReadyWhenClear =
+    (p : Program) (nodes : List Node) (lists : List (List Item)) (w : ℕ) (seen counts : List ℕ) (x : Event)
+    → IsTrue (are_streams 0 lists) → length lists ≡ count_of_itags p → IsAllSeen lists seen
+    → ((j : ℕ) (y : Event) → j < count_of_itags p → waits_for p nodes w x.itag j ≡ true → IsUncounted (slice_index_or lists j []) (slice_index counts j) y → is_before y x ≡ false)
+    → is_ready p nodes lists w seen counts x ≡ true
+
+-- and the same of an event x of an itag that is not its own
+abbrev pub ServingWhenClear : Type 0
+ServingWhenClear =
+    (p : Program) (nodes : List Node) (lists : List (List Item)) (w : ℕ) (seen counts : List ℕ) (x : Event)
+    → IsTrue (are_streams 0 lists) → length lists ≡ count_of_itags p → IsAllSeen lists seen → owns p nodes w x.itag ≡ false
+    → ((j : ℕ) (y : Event) → j < count_of_itags p → serving_waits_for p nodes w x.itag j ≡ true → IsUncounted (slice_index_or lists j []) (slice_index counts j) y → is_before y x ≡ false)
+    → is_ready_to_serve p nodes lists w seen counts x ≡ true

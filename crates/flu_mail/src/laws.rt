@@ -1,6 +1,6 @@
 //! What holds of passing and waiting. Each law is the contract of a function that does nothing.
 
-ghost use Rattle.flu_mail.specs.Laws.{PassingClears, PassingStays, PassingIsExact, PassingOthersIsExact, ReadyStays, ReadyToServeStays};
+ghost use Rattle.flu_mail.specs.Laws.{PassingClears, PassingStays, PassingIsExact, PassingOthersIsExact, ReadyStays, ReadyToServeStays, ReadyClears, ServingClears, ReadyWhenClear, ServingWhenClear};
 
 /// Where the seen items of an itag let an event pass, no event of the itag that is not counted, seen or not, is before it.
 pub fn passing_clears()
@@ -23,4 +23,18 @@ pub fn passing_is_exact()
 pub fn ready_stays()
     ensures ready { ReadyStays }
     ensures serve { ReadyToServeStays }
+{}
+
+/// Where a node is ready for an event, that is before each event that is not counted, seen or not, of an itag that it waits for;
+/// and so it is where the node may be asked to serve it.
+pub fn ready_clears()
+    ensures ready { ReadyClears }
+    ensures serve { ServingClears }
+{}
+
+/// When all is seen, a node is ready for an event where no event that is not counted, of an itag that it waits for, is before
+/// it; and so it is ready to serve one.
+pub fn ready_when_clear()
+    ensures ready { ReadyWhenClear }
+    ensures serve { ServingWhenClear }
 {}
