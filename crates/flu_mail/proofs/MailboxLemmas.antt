@@ -1,10 +1,10 @@
 -- What stays of a mailbox when an entry changes, and waiting as its entries tell it.
-use Rattle.std.proofs.Common.{◌≡◌, ◌<◌, ◌≤◌, ◌+◌, ℕ, Bool, true, false, Option, Some, None, List, [], ◌∷◌, ◌^◌, zero, suc, Vec, Global, length, get_or, refl, sym, ap, subst, ◌∙◌, inl, inr, arith}
-use Rattle.std.specs.Prelude.{◌⊎◌, ◌&&◌, ◌||◌, ◌==◌, not, map, slice_get, slice_index, slice_index_or, if◌then◌else◌}
-use Rattle.std.specs.List.{list_any, list_all, range_with_len}
+use Rattle.std.proofs.Common.{◌≡◌, ◌<◌, ◌≤◌, ℕ, Bool, true, false, Some, List, [], ◌∷◌, ◌^◌, zero, suc, Vec, Global, length, get_or, refl, sym, ap, subst, ◌∙◌, inl, inr, arith}
+use Rattle.std.specs.Prelude.{◌&&◌, ◌||◌, ◌==◌, not, map, slice_get, slice_index, slice_index_or, if◌then◌else◌}
+use Rattle.std.specs.List.{list_all, range_with_len}
 use Rattle.std.proofs.Math.ListN.{set}
 use Rattle.std.proofs.lemmas.List.{length-set, length-map, get_or_past}
-use Rattle.std.proofs.lemmas.Option.{slice_get_within, slice_get_past, get_or_from_slice_get}
+use Rattle.std.proofs.lemmas.Option.{slice_get_past}
 use Rattle.std.proofs.lemmas.Bool.{cases_lt}
 use Rattle.flu_model.specs.declared.events.Event.{Event}
 use Rattle.flu_model.specs.declared.events.Item.{Item}
@@ -16,7 +16,6 @@ use Rattle.flu_model.specs.Itags.{itags, count_of_itags, tag_of_itag, is_depende
 use Rattle.flu_model.specs.Listing.{tag}
 use Rattle.flu_model.specs.Owners.{owns, ancestors_own}
 use Rattle.flu_mail.specs.declared.entries.Entry.{Entry}
-use Rattle.flu_mail.specs.declared.entries.Role.{Role}
 use Rattle.flu_mail.specs.declared.entries.Role.TheVariants.{Own, Above, Elsewhere}
 use Rattle.flu_mail.specs.declared.mailbox.Mailbox.{Mailbox}
 use Rattle.flu_mail.specs.declared.waiting.Purpose.{Purpose}
@@ -24,9 +23,9 @@ use Rattle.flu_mail.specs.declared.waiting.Purpose.TheVariants.{Take, Serve}
 use Rattle.flu_mail.specs.Passing.{seen_items, passes}
 use Rattle.flu_mail.specs.Waiting.{itag, is_leaf, waits_for, serving_waits_for, all_pass}
 use Rattle.flu_mail.specs.Entries.{role_at, IsEntryAt, IsEntryOver}
-use Rattle.flu_mail.specs.Mailboxes.{node_of, seen_of, counts_of, IsAt, IsOver}
+use Rattle.flu_mail.specs.Mailboxes.{seen_of, counts_of, IsAt, IsOver}
 use Rattle.flu_mail.specs.Parts.{is_own, is_own_or_above, tag_in, awaits, entry_waits, holds_up, is_held_up}
-use Rattle.flu_mail.proofs.General.{AtEach, each_set, slice_get-there, slice_get_read, not_list_any}
+use Rattle.flu_mail.proofs.General.{each_set, slice_get-there, slice_get_read, not_list_any}
 
 -- an entry for each
 pub length-seen : (m : Mailbox) → length (seen_of m) ≡ length m.entries.items
@@ -135,6 +134,6 @@ waiting_told p nodes lists m purpose x at =
     let all = at.one_each in
     not_list_any (holds_up p m lists purpose x (tag_in (slice_get m.entries.items x.itag.0))) q 0 (length (seen_of m))
     (λ j lt.
-        not_and_not (entry_waits p m.leaf purpose x.itag (tag_in (slice_get m.entries.items x.itag.0)) j (slice_get m.entries.items j)) (passes (seen_items lists (seen_of m) j) (slice_index (counts_of m) j) x)
-        ∙ ap (λ b. not b || passes (seen_items lists (seen_of m) j) (slice_index (counts_of m) j) x) (waits_told purpose p nodes m x.itag j at (omega arith)))
+    not_and_not (entry_waits p m.leaf purpose x.itag (tag_in (slice_get m.entries.items x.itag.0)) j (slice_get m.entries.items j)) (passes (seen_items lists (seen_of m) j) (slice_index (counts_of m) j) x)
+    ∙ ap (λ b. not b || passes (seen_items lists (seen_of m) j) (slice_index (counts_of m) j) x) (waits_told purpose p nodes m x.itag j at (omega arith)))
     ∙ ap (λ n. list_all q (range_with_len 0 n)) all

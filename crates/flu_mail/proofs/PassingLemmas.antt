@@ -1,8 +1,8 @@
 -- What passing says of the events that are not counted.
-use Rattle.std.proofs.Common.{◌≡◌, ◌<◌, ◌≤◌, ◌+◌, ◌-◌, ℕ, zero, suc, Bool, true, false, Option, Some, None, List, [], ◌∷◌, ◌++◌, length, take, refl, sym, ap, subst, ◌∙◌, inl, inr, arith}
-use Rattle.std.specs.Prelude.{◌⊎◌, ◌≢◌, slice_get, nat_le, nat_lt, ◌==◌, ◌&&◌, ◌||◌}
+use Rattle.std.proofs.Common.{◌≡◌, ◌<◌, ◌≤◌, ◌+◌, ◌-◌, ℕ, zero, suc, true, false, Option, Some, None, List, [], ◌∷◌, length, take, refl, sym, ap, subst, ◌∙◌, inl, inr, arith}
+use Rattle.std.specs.Prelude.{◌⊎◌, ◌≢◌, slice_get, nat_le, ◌==◌, ◌&&◌}
 use Rattle.std.proofs.lemmas.Grind.{common_steps}
-use Rattle.flu_lemmas.proofs.Tests.{and_left, and_right, true_le, le_true, true_eq, true_lt, lt_true}
+use Rattle.flu_lemmas.proofs.Tests.{and_left, and_right, true_le, le_true, true_eq}
 use Rattle.flu_model.specs.declared.events.Event.{Event}
 use Rattle.flu_model.specs.declared.events.Item.{Item}
 use Rattle.flu_model.specs.declared.events.Item.TheVariants.{Event as EventItem, Beat, End}

@@ -1,5 +1,5 @@
 -- What is ready stays so.
-use Rattle.std.proofs.Common.{◌≡◌, ◌<◌, ◌≤◌, ◌+◌, ℕ, zero, suc, Bool, true, false, Some, None, List, [], ◌∷◌, length, take, refl, sym, ap, subst, ◌∙◌, inl, inr, arith}
+use Rattle.std.proofs.Common.{◌≡◌, ◌<◌, ◌≤◌, ◌+◌, ℕ, zero, suc, Bool, true, false, Some, None, List, [], ◌∷◌, length, take, refl, sym, ap, ◌∙◌, inl, inr, arith}
 use Rattle.std.specs.Prelude.{◌⊎◌, ◌≢◌, ◌||◌, not, slice_get, slice_index, slice_index_or}
 use Rattle.std.proofs.lemmas.List.{take_all}
 use Rattle.std.specs.List.{range_with_len}
@@ -83,10 +83,10 @@ pub all_pass_when_clear : (p : Program) (waits : ℕ → Bool) (lists : List (Li
 all_pass_when_clear p waits lists seen counts x s each all other clear =
     list_all_of (λ j. not (waits j) || passes (seen_items lists seen j) (slice_index counts j) x) 0 (count_of_itags p)
     (λ j lt. first_or (waits j) _ (λ waited.
-        let items = slice_index_or lists j [] in
-        let count = slice_index counts j in
-        let stream = stream_of 0 lists j s (omega arith) in
-        let at : 0 + j ≡ j = omega arith in
-        ap (λ is. passes is count x) (take_all (slice_index seen j) items (all j))
-        ∙ passes_when_clear (0 + j) 0 items count x stream
-          (λ y e. before_or_after x y (λ same. other j waited (same ∙ (event_of_stream (0 + j) 0 items count y stream e).1 ∙ at)) (clear j y (omega arith) waited (count, omega arith, e)))))
+    let items = slice_index_or lists j [] in
+    let count = slice_index counts j in
+    let stream = stream_of 0 lists j s (omega arith) in
+    let at : 0 + j ≡ j = omega arith in
+    ap (λ is. passes is count x) (take_all (slice_index seen j) items (all j))
+    ∙ passes_when_clear (0 + j) 0 items count x stream
+    (λ y e. before_or_after x y (λ same. other j waited (same ∙ (event_of_stream (0 + j) 0 items count y stream e).1 ∙ at)) (clear j y (omega arith) waited (count, omega arith, e)))))

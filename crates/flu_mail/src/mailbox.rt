@@ -17,7 +17,7 @@ use crate::passing::{event_at, first_items, last_passes};
 use crate::places::place_after;
 use crate::waiting::{Purpose, awaits};
 use flu_deps::{Checked, Valid, dep};
-use flu_model::{Event, Item, Itag, Program, Streams, Tag, before, itag_count};
+use flu_model::{Event, Itag, Item, Program, Streams, Tag, before, itag_count};
 use std::alloc::{AllocError, Global};
 
 /// What the worker of a node has seen of each itag's stream, and how many of its events it has counted (`docs/TREE.md`).

@@ -8,7 +8,7 @@ ghost use Rattle.flu_deps.specs.Validated.{IsValidFor};
 
 use crate::Mailbox;
 use flu_check::{Checked, check};
-use flu_model::{Event, Item, Itag, Streams, itag_count};
+use flu_model::{Event, Itag, Item, Streams, itag_count};
 use flu_parse::read_job;
 use flu_plan::read_plan;
 use flu_valid::{Valid, validate};
@@ -46,31 +46,59 @@ const READ: Event = Event {
 };
 
 const EVENTS_AT_1_AND_4: [Item; 3] = [
-    Item::Event(Event { time: 1, itag: Itag(0), value: 5 }),
-    Item::Event(Event { time: 4, itag: Itag(0), value: 2 }),
+    Item::Event(Event {
+        time: 1,
+        itag: Itag(0),
+        value: 5,
+    }),
+    Item::Event(Event {
+        time: 4,
+        itag: Itag(0),
+        value: 2,
+    }),
     Item::End,
 ];
 
 const EVENT_AT_3: [Item; 2] = [
-    Item::Event(Event { time: 3, itag: Itag(0), value: 5 }),
+    Item::Event(Event {
+        time: 3,
+        itag: Itag(0),
+        value: 5,
+    }),
     Item::End,
 ];
 
 const EVENT_AT_2: [Item; 2] = [
-    Item::Event(Event { time: 2, itag: Itag(1), value: 7 }),
+    Item::Event(Event {
+        time: 2,
+        itag: Itag(1),
+        value: 7,
+    }),
     Item::End,
 ];
 
 const NOTHING: [Item; 1] = [Item::End];
 
 const READS_AT_3_AND_5: [Item; 3] = [
-    Item::Event(Event { time: 3, itag: Itag(2), value: 0 }),
-    Item::Event(Event { time: 5, itag: Itag(2), value: 0 }),
+    Item::Event(Event {
+        time: 3,
+        itag: Itag(2),
+        value: 0,
+    }),
+    Item::Event(Event {
+        time: 5,
+        itag: Itag(2),
+        value: 0,
+    }),
     Item::End,
 ];
 
 const READ_AT_3: [Item; 2] = [
-    Item::Event(Event { time: 3, itag: Itag(2), value: 0 }),
+    Item::Event(Event {
+        time: 3,
+        itag: Itag(2),
+        value: 0,
+    }),
     Item::End,
 ];
 
@@ -105,7 +133,12 @@ fn a_read_waits_for_what_is_before_it(rt: HostRuntime) -> Result<(), Fail> {
     let v = plan(&rt, rt.alloc(), &c);
     assert_eq!(rt; itag_count(c.program()), 3);
     assert_eq!(rt; v.count(), 3);
-    let s = streams(rt.alloc(), &EVENTS_AT_1_AND_4, &EVENT_AT_2, &READS_AT_3_AND_5)?;
+    let s = streams(
+        rt.alloc(),
+        &EVENTS_AT_1_AND_4,
+        &EVENT_AT_2,
+        &READS_AT_3_AND_5,
+    )?;
     let mut m = Mailbox::new(rt.alloc(), &c, &v, &s, LEFT)?;
     m.see(INC_A, 1);
     assert!(rt; !m.ready_to_serve(&c, &s, &READ));

@@ -1,4 +1,4 @@
-use Rattle.std.proofs.Common.{◌≡◌, ◌≤◌, ◌+◌, drop}
+use Rattle.std.proofs.Common.{◌≡◌, ◌+◌, drop}
 use Rattle.flu_mail.specs.Places.{place_of}
 use Rattle.flu_mail.proofs.places.first_event.Given as goal
 

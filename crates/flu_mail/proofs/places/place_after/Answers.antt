@@ -1,6 +1,4 @@
-use Rattle.std.proofs.Common.{◌<◌, ◌≤◌, ◌+◌, length, arith}
-use Rattle.flu_model.specs.Merging.{events_of}
-use Rattle.flu_mail.specs.Places.{place_of}
+use Rattle.std.proofs.Common.{arith}
 use Rattle.flu_mail.proofs.PlaceLemmas.{place_there, place_after_one}
 use Rattle.flu_mail.proofs.places.place_after.Goals as goal
 

@@ -2,7 +2,7 @@ use Rattle.std.proofs.Common.{◌≡◌, [], length, sym, ap, ◌∙◌}
 use Rattle.std.specs.Prelude.{slice_get, slice_index, slice_index_or}
 use Rattle.flu_model.specs.Listed.{listed}
 use Rattle.flu_mail.specs.Passing.{seen_items, next_event}
-use Rattle.flu_mail.specs.Places.{place_of, event_in}
+use Rattle.flu_mail.specs.Places.{event_in}
 use Rattle.flu_mail.specs.declared.entries.Entry.{Entry}
 use Rattle.flu_mail.specs.Mailboxes.{seen_of, counts_of}
 use Rattle.flu_mail.proofs.General.{slice_index-map}

@@ -1,5 +1,4 @@
-use Rattle.std.proofs.Common.{◌≡◌, Some, length, refl, sym, ap, ◌∙◌}
-use Rattle.std.specs.Prelude.{slice_get}
+use Rattle.std.proofs.Common.{length, refl}
 use Rattle.std.proofs.lemmas.List.{map-set}
 use Rattle.flu_mail.specs.declared.entries.Entry.{Entry}
 use Rattle.flu_mail.specs.Mailboxes.{seen_of}
@@ -30,5 +29,5 @@ returns-clause-over c =
     let e = c.index_mut.result.now in
     let there = entry_read m (length (seen_of m)) c.args.i.0 e refl c.requires.in_range c.index_mut.ensures.value in
     λ lists within over.
-        let old = over.over_items c.args.i.0 e there in
-        over_kept lists m _ c.args.i.0 e (record e { seen = c.args.count }) (record { node = refl; leaf = refl; items = refl; there = there }) (record { seen = within; count = old.count; place = old.place }) over
+    let old = over.over_items c.args.i.0 e there in
+    over_kept lists m _ c.args.i.0 e (record e { seen = c.args.count }) (record { node = refl; leaf = refl; items = refl; there = there }) (record { seen = within; count = old.count; place = old.place }) over

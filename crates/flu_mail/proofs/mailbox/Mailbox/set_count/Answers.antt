@@ -1,5 +1,4 @@
-use Rattle.std.proofs.Common.{◌≡◌, Some, length, refl, sym, ap, ◌∙◌}
-use Rattle.std.specs.Prelude.{slice_get}
+use Rattle.std.proofs.Common.{length, refl, ap, ◌∙◌}
 use Rattle.std.proofs.lemmas.List.{map-set}
 use Rattle.flu_model.specs.Listed.{listed}
 use Rattle.flu_mail.specs.declared.entries.Entry.{Entry}
