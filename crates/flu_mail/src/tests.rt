@@ -38,6 +38,8 @@ const LEFT: u32 = 1;
 
 const INC_A: Itag = Itag(0);
 
+const READS: Itag = Itag(2);
+
 /// The read at time 3.
 const READ: Event = Event {
     time: 3,
@@ -160,5 +162,28 @@ fn the_last_seen_time_is_enough(rt: HostRuntime) -> Result<(), Fail> {
     m.see(INC_A, 1);
     m.count_one(&s, INC_A);
     assert!(rt; m.ready_to_serve(&c, &s, &READ));
+    Ok(())
+}
+
+#[test]
+fn an_event_waits_for_the_reads_before_it(rt: HostRuntime) -> Result<(), Fail> {
+    let c = job(&rt, rt.alloc());
+    let v = plan(&rt, rt.alloc(), &c);
+    assert_eq!(rt; itag_count(c.program()), 3);
+    assert_eq!(rt; v.count(), 3);
+    let s = streams(
+        rt.alloc(),
+        &EVENTS_AT_1_AND_4,
+        &EVENT_AT_2,
+        &READS_AT_3_AND_5,
+    )?;
+    let mut m = Mailbox::new(rt.alloc(), &c, &v, &s, LEFT)?;
+    m.see(INC_A, 1);
+    let first = m.next(&s, INC_A).expect(&rt, "the event at 1");
+    assert!(rt; !m.ready(&c, &s, &first));
+    m.see(READS, 1);
+    assert!(rt; m.ready(&c, &s, &first));
+    m.set_count(&s, INC_A, 1);
+    assert!(rt; m.next(&s, INC_A).is_none());
     Ok(())
 }
