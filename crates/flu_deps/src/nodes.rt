@@ -102,8 +102,8 @@ pub fn related(plan: &Plan, a: u32, b: u32) -> bool
     is_within(plan, a, b) || is_within(plan, b, a)
 }
 
-// Whether v is w or below it.
-fn is_within(plan: &Plan, w: u32, v: u32) -> bool
+/// Whether v is w or below it. It climbs, and takes no memory.
+pub fn is_within(plan: &Plan, w: u32, v: u32) -> bool
     ensures { result ≡ is_within plan.now.nodes w v }
 {
     let mut at = Some(v);

@@ -1,4 +1,5 @@
 pub mod General
+pub mod Turns
 pub mod Trees
 pub mod Within
 pub mod Sides
@@ -7,5 +8,6 @@ pub mod Moments
 pub mod Holding
 pub mod Updates
 pub mod Effects
-pub mod Forks
-pub mod Joins
+pub mod Forking
+pub mod Joining
+pub mod LotLemmas

@@ -3,3 +3,6 @@ pub mod Classes
 pub mod Fitting
 pub mod Parts
 pub mod Laws
+pub mod Gathering
+pub mod Tables
+pub mod Lots

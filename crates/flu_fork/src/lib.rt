@@ -1,4 +1,19 @@
 //! Lots, which move in the tree of workers: a state with two lists of counts, how it is parted and joined (`docs/TREE.md`).
 #![tactic(auto)]
 
+mod case;
+mod content;
+mod counts;
 pub mod laws;
+mod lots;
+mod needed;
+mod parting;
+mod rights;
+#[cfg(test)]
+mod tests;
+
+pub use case::Case;
+pub use content::Content;
+pub use counts::Counts;
+pub use lots::{Ask, Lot};
+pub use parting::{fork, join, opening_lot};

@@ -7,9 +7,8 @@ ghost use Rattle.flu_deps.specs.Checking.{program_of};
 ghost use Rattle.flu_deps.specs.Validated.{plan_of, IsValidFor};
 ghost use Rattle.flu_mail.specs.Entries.{role_at, IsEntryAt, IsEntryOver};
 
-use crate::ancestors::is_above;
 use crate::places::first_event;
-use flu_deps::nodes::owns;
+use flu_deps::nodes::{is_within, owns};
 use flu_deps::{Checked, Valid};
 use flu_model::{Itag, Streams, Tag, tag_of};
 
@@ -63,9 +62,10 @@ fn role_of(c: &Checked, v: &Valid, node: u32, i: Itag) -> Role
     requires in_range { i.0 < count_of_itags (program_of c.now) }
     ensures { result ≡ role_at (program_of c.now) (plan_of v.now).nodes node i }
 {
+    let owner = v.owner(i);
     if owns(c.program(), v.plan(), node, i) {
         Role::Own
-    } else if is_above(v, v.owner(i), node) {
+    } else if owner != node && is_within(v.plan(), owner, node) {
         Role::Above
     } else {
         Role::Elsewhere

@@ -8,3 +8,13 @@ pub mod PlanRules
 pub mod PlanText
 pub mod TreeUnique
 pub mod PlanLength
+pub mod Occurs
+pub mod Rising
+pub mod Putting
+pub mod Connections
+pub mod Searching
+pub mod Finding
+pub mod Tables
+pub mod Cutting
+pub mod Planting
+pub mod Agreement

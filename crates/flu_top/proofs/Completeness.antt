@@ -18,7 +18,7 @@ use Rattle.flu_top.specs.declared.refusals.PlanDefect.{PlanDefect}
 use Rattle.flu_top.specs.declared.refusals.PlanDefect.TheVariants as defects
 use Rattle.flu_top.specs.declared.refusals.Refusal.{Refusal}
 use Rattle.flu_top.specs.declared.refusals.Refusal.TheVariants as refusals
-use Rattle.flu_top.specs.Words.{Command, Fold, Check, Valid, command_in}
+use Rattle.flu_top.specs.Words.{Command, Fold, Check, Valid, Plan, command_in}
 use Rattle.flu_top.specs.Behind.{HasJob, emptied, fault_behind, plan_behind}
 use Rattle.flu_top.specs.Commands.{job_named, plan_named, asks_accepted, reads_sources}
 use Rattle.flu_top.specs.Done.{HasValidPlan, IsGood, IsDone}
@@ -65,6 +65,7 @@ no_sources : (command : Command) (plan : List ℕ) → plan_named command ≡ So
 no_sources (Fold job) plan named reads = cc
 no_sources (Check job) plan named reads = cc
 no_sources (Valid job name) plan named reads = cc
+no_sources (Plan job depth) plan named reads = cc
 
 faulty_text : (job plan : List ℕ) (left : Contents) (p : Program) (fault : PlanFault) → plan_behind job plan left p ≡ Err fault → HasValidPlan job plan left p → ⊥
 faulty_text job plan left p fault is found = let e = sym is ∙ found.1 in cc
@@ -114,7 +115,7 @@ by_cause wanted c ended command left ends word told nothing leads = by_ended end
     by_refusal refusals.NoMemory why = inr refl
 
     by_ended : (ended : Result (Unit {0}) Refusal) → IsEnding c command ended → IsStatus wanted (status_after ended)
-    by_ended (Ok u) is = let found = of_told (IsDone command c.taken c.taken_after) left c.left c.left_after told is in leads.done found.1.0 found.1.1.good
+    by_ended (Ok u) is = let found = of_told (IsDone command c.taken c.taken_after) left c.left c.left_after told is in leads.done found.1.0 found.1.2.good
     by_ended (Err refusal) (inl ending) = by_refusal refusal ending.why
     by_ended (Err refusal) (inr ending) = absurd (nothing.out ending.1.rose)
 

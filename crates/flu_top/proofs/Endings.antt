@@ -29,13 +29,13 @@ ends_refused c command refusal word is nothing = record { how = inl (command, wo
 pub ends_done : (c : Call) (command : Command) (text bytes : List ℕ) → command_in c.words ≡ Ok command → WhereTold c.left c.left_after (IsWritten command text) → bytes ≡ text → WhereTold c.taken c.taken_after (AppendsAll bytes) → Ends c (Ok tt)
 ends_done c command text bytes word written same all =
     let done = told_weaker (IsWritten command text) (IsDone command c.taken c.taken_after) c.left c.left_after
-    (λ x y w. (w.0, w.1, subst (λ l. WhereTold c.taken c.taken_after (AppendsAll l)) (same ∙ w.2) all)) written in
+    (λ x y w. (w.0, text, w.1, w.2, subst (λ l. WhereTold c.taken c.taken_after (AppendsAll l)) same all)) written in
     record { how = inl (command, word, done) }
 
 pub ends_write_fault : (c : Call) (command : Command) (text bytes : List ℕ) → command_in c.words ≡ Ok command → WhereTold c.left c.left_after (IsWritten command text) → bytes ≡ text → WhereTold c.taken c.taken_after (AppendsPart bytes) → Rose c.count c.count_after → Ends c (Err refusals.WriteFault)
 ends_write_fault c command text bytes word written same part rose =
     let partly = told_weaker (IsWritten command text) (IsPartlyDone command c.taken c.taken_after) c.left c.left_after
-    (λ x y w. (w.0, w.1, subst (λ l. WhereTold c.taken c.taken_after (AppendsPart l)) (same ∙ w.2) part)) written in
+    (λ x y w. (w.0, text, w.1, w.2, subst (λ l. WhereTold c.taken c.taken_after (AppendsPart l)) same part)) written in
     record { how = inl (command, word, inr (refl, record { rose = rose; partly = partly })) }
 
 -- ---- the names that a call reads

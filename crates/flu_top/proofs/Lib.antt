@@ -7,6 +7,8 @@ pub mod PlanTexts
 pub mod Sequence
 pub mod Checks
 pub mod Validations
+pub mod Plannings
+pub mod RateLemmas
 pub mod SameJob
 pub mod SameAcceptance
 pub mod SamePlans

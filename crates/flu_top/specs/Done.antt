@@ -8,7 +8,7 @@ use Rattle.flu_model.specs.Validity.{IsValid}
 use Rattle.flu_report.specs.Writing.{AppendsAll, AppendsPart}
 use Rattle.flu_top.specs.Words.{Command, command_in}
 use Rattle.flu_top.specs.Behind.{HasJob, fault_behind, plan_behind}
-use Rattle.flu_top.specs.Commands.{job_named, plan_named, asks_accepted, reads_sources, files_read, written}
+use Rattle.flu_top.specs.Commands.{job_named, plan_named, asks_accepted, reads_sources, files_read, Writes}
 
 -- the text under a name, which is read behind the job's, is a plan that is valid for the job
 abbrev pub HasValidPlan : List ℕ → List ℕ → Contents → Program → Type 0
@@ -30,15 +30,17 @@ pub record IsRead (command : Command) (p : Program) (old new : Contents) : Type 
 
 -- all was read, and this is what the command writes
 abbrev pub IsWritten : Command → List ℕ → Contents → Contents → Type 0
-IsWritten command text old new = (p : Program) × IsRead command p old new × (text ≡ written command old p)
+IsWritten command text old new = (p : Program) × IsRead command p old new × Writes command old p text
 
 -- DONE: all was read, and what the command writes stands behind what was in out
 abbrev pub IsDone : Command → Option (List ℕ) → Option (List ℕ) → Contents → Contents → Type 0
-IsDone command had has old new = (p : Program) × IsRead command p old new × WhereTold had has (AppendsAll (written command old p))
+IsDone command had has old new =
+    (p : Program) × (text : List ℕ) × IsRead command p old new × Writes command old p text × WhereTold had has (AppendsAll text)
 
 -- all was read, and fewer than all bytes of what the command writes, from its front, stand behind what was in out
 abbrev pub IsPartlyDone : Command → Option (List ℕ) → Option (List ℕ) → Contents → Contents → Type 0
-IsPartlyDone command had has old new = (p : Program) × IsRead command p old new × WhereTold had has (AppendsPart (written command old p))
+IsPartlyDone command had has old new =
+    (p : Program) × (text : List ℕ) × IsRead command p old new × Writes command old p text × WhereTold had has (AppendsPart text)
 
 -- the bytes under the job's name are the text of this program, or the files do not tell them
 abbrev pub MayHaveJob : Option Contents → List ℕ → Program → Type 0

@@ -1,6 +1,8 @@
+pub mod Depths
 pub mod Words
 pub mod Taking
 pub mod Behind
+pub mod Rates
 pub mod Commands
 pub mod Done
 pub mod Names
@@ -10,5 +12,6 @@ pub mod Jobs
 pub mod Folding
 pub mod Checking
 pub mod Plans
+pub mod Planning
 pub mod Refusing
 pub mod Ending

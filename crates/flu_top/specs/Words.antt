@@ -1,20 +1,23 @@
 -- The words of a command.
-use Rattle.std.specs.Prelude.{ℕ, List, [], ◌∷◌, Bool, false, not, ◌==◌, if◌then◌else◌, Result, Ok, Err, codes}
+use Rattle.std.specs.Prelude.{ℕ, List, [], ◌∷◌, Bool, false, not, ◌==◌, if◌then◌else◌, Option, Some, None, Result, Ok, Err, codes}
 use Rattle.std.specs.Str.{bytes_eq}
 use Rattle.flu_top.specs.declared.words.Command.{Command as NamedCommand}
 use Rattle.flu_top.specs.declared.words.Command.TheVariants as named
+use Rattle.flu_top.specs.Depths.{depth_of}
 
--- what the words ask for, each with the names of its files
+-- what the words ask for, each with the names of its files, and how deep a plan is wanted
 pub data Command : Type 0 where
   Fold : (job : List ℕ) → Command
   Check : (job : List ℕ) → Command
   Valid : (job plan : List ℕ) → Command
+  Plan : (job : List ℕ) → (depth : ℕ) → Command
 
 -- a command without where its names lie in memory
 abbrev pub plain_command : NamedCommand → Command
 plain_command (named.Fold job) = Fold job.now
 plain_command (named.Check job) = Check job.now
 plain_command (named.Valid job plan) = Valid job.now plan.now
+plain_command (named.Plan job depth) = Plan job.now depth.levels
 
 -- a word that can name a file: it is not empty and does not begin with a dash
 abbrev pub is_file_name : List ℕ → Bool
@@ -51,11 +54,39 @@ abbrev pub on_both : (List ℕ → List ℕ → Command) → Result (List ℕ ×
 on_both command (Ok names) = Ok (command names.0 names.1)
 on_both command (Err at) = Err at
 
+abbrev pub no_word_after_depth : Option ℕ → List (List ℕ) → Result ℕ ℕ
+no_word_after_depth None ws = Err 3
+no_word_after_depth (Some depth) [] = Ok depth
+no_word_after_depth (Some depth) (w ∷ ws) = Err 4
+
+abbrev pub depth_behind : List (List ℕ) → Result ℕ ℕ
+depth_behind [] = Err 3
+depth_behind (w ∷ ws) = no_word_after_depth (depth_of w) ws
+
+-- the depth in the words behind a job's name: 3 where there are none, else what stands behind `--depth`
+abbrev pub depth_after : List (List ℕ) → Result ℕ ℕ
+depth_after [] = Ok 3
+depth_after (w ∷ ws) = if bytes_eq w (codes "--depth") then depth_behind ws else Err 2
+
+abbrev pub with_job : List ℕ → Result ℕ ℕ → Result (List ℕ × ℕ) ℕ
+with_job job (Ok depth) = Ok (job, depth)
+with_job job (Err at) = Err at
+
+-- the name of a job and a depth in the words behind a command that has no others
+abbrev pub job_and_depth : List (List ℕ) → Result (List ℕ × ℕ) ℕ
+job_and_depth [] = Err 1
+job_and_depth (w ∷ ws) = if is_file_name w then with_job w (depth_after ws) else Err 1
+
+abbrev pub on_depth : (List ℕ → ℕ → Command) → Result (List ℕ × ℕ) ℕ → Result Command ℕ
+on_depth command (Ok both) = Ok (command both.0 both.1)
+on_depth command (Err at) = Err at
+
 abbrev pub command_of : List ℕ → List (List ℕ) → Result Command ℕ
 command_of w ws =
     if bytes_eq w (codes "fold") then on_job Fold (job_alone ws)
     else if bytes_eq w (codes "check") then on_job Check (job_alone ws)
-    else if bytes_eq w (codes "valid") then on_both Valid (job_and_plan ws) else Err 0
+    else if bytes_eq w (codes "valid") then on_both Valid (job_and_plan ws)
+    else if bytes_eq w (codes "plan") then on_depth Plan (job_and_depth ws) else Err 0
 
 -- the command that words are, or the number from 0 of the first word that does not fit, which is the number of words where
 -- one is missing

@@ -10,6 +10,7 @@ ghost use Rattle.flu_top.specs.Refusing.{IsRefusal};
 
 use crate::checking::check_job;
 use crate::folding::fold_job;
+use crate::planning::plan_job;
 use crate::refusals::Refusal;
 use crate::validating::valid_plan;
 use crate::words::Command;
@@ -28,5 +29,6 @@ pub fn text_of<F: Files>(alloc: Global, files: &mut F, command: Command) -> Resu
         Command::Fold { job } => fold_job(alloc, files, job),
         Command::Check { job } => check_job(alloc, files, job),
         Command::Valid { job, plan } => valid_plan(alloc, files, job, plan),
+        Command::Plan { job, depth } => plan_job(alloc, files, job, depth),
     }
 }

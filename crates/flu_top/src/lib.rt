@@ -3,14 +3,17 @@
 
 mod checking;
 mod commands;
+mod depths;
 mod folding;
 mod input;
 mod lines;
 mod names;
 mod pieces;
 mod plan_lines;
+mod planning;
 mod plans;
 mod programs;
+mod rates;
 mod refusals;
 #[cfg(test)]
 mod tests;

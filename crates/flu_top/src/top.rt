@@ -35,11 +35,12 @@ use std::alloc::Global;
 ///
 /// `fold JOB` reads the job in the file of that name and then its sources, folds their events in order and writes the report
 /// to `out`. `check JOB` reads the job alone, which has to be accepted, and writes it in normal form. `valid JOB PLAN` reads such
-/// a job and then a plan, which has to be valid for it, and writes the plan in normal form. The status is 0 where all was
-/// written. Else it is 2 for words that are no command, 3 for a job text with a fault, 4 for a job that is not accepted, 5 for a
-/// plan text with a fault or a plan that is not valid, 6 for a source with a defect, 7 where a file that was read failed, 8 where
-/// `out` failed, and 9 where there was no memory. The line of that answer goes to `err`, and a failure of `err` changes no
-/// status. `docs/LANGUAGE.md` has the forms and the lines.
+/// a job and then a plan, which has to be valid for it, and writes the plan in normal form. `plan JOB [--depth D]` reads such a
+/// job alone and writes the greedy plan of all its itags, by the rates of its sources, with at most D levels below the root: 0 to
+/// 6, and 3 where no depth is given. The status is 0 where all was written. Else it is 2 for words that are no command, 3 for a
+/// job text with a fault, 4 for a job that is not accepted, 5 for a plan text with a fault or a plan that is not valid, 6 for a
+/// source with a defect, 7 where a file that was read failed, 8 where `out` failed, and 9 where there was no memory. The line of
+/// that answer goes to `err`, and a failure of `err` changes no status. `docs/LANGUAGE.md` has the forms and the lines.
 pub fn flumina<F: Files, K: Sink, E: Sink, G: Gate>(
     alloc: Global,
     words: &[String],

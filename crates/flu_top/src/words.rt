@@ -1,7 +1,12 @@
 //! The words of a command.
 
 ghost use Rattle.std.specs.Prelude.{◌≡◌, MatchResult, Ok, Err, map, string_bytes};
-ghost use Rattle.flu_top.specs.Words.{command_in, plain_command, job_alone, job_and_plan, is_file_name};
+ghost use Rattle.flu_top.specs.Words.{command_in, plain_command, job_alone, job_and_plan, job_and_depth, depth_after, is_file_name};
+
+use crate::depths::{Depth, depth_of};
+
+/// How many levels a plan has below its root where no depth is given.
+const USUAL_LEVELS: u32 = 3;
 
 /// The words are no command: the place from 0 of the first word that does not fit, or the number of words where one is missing.
 #[derive(Clone, Copy, Debug, PartialEq, Eq)]
@@ -18,6 +23,8 @@ pub enum Command<'a> {
     Check { job: &'a str },
     /// `valid JOB PLAN`: the plan in normal form, where it is valid for the job.
     Valid { job: &'a str, plan: &'a str },
+    /// `plan JOB [--depth D]`: the greedy plan of the job, where it is accepted.
+    Plan { job: &'a str, depth: Depth },
 }
 
 /// The command that words are.
@@ -39,6 +46,10 @@ pub fn read_words(words: &[String]) -> Result<Command<'_>, BadWords>
         "valid" => {
             let (job, plan) = job_and_plan(operands)?;
             Ok(Command::Valid { job, plan })
+        }
+        "plan" => {
+            let (job, depth) = job_and_depth(operands)?;
+            Ok(Command::Plan { job, depth })
         }
         _ => Err(BadWords { at: 0 }),
     }
@@ -84,6 +95,48 @@ fn job_and_plan(operands: &[String]) -> Result<(&str, &str), BadWords>
         return Err(BadWords { at: 3 });
     }
     Ok((job.as_str(), plan.as_str()))
+}
+
+// The name of a job and a depth in the words behind a command that has no others.
+fn job_and_depth(operands: &[String]) -> Result<(&str, Depth), BadWords>
+    ensures { MatchResult result
+        (λ both. job_and_depth (map string_bytes operands.now) ≡ Ok (both.0.now, both.1.levels))
+        (λ bad. job_and_depth (map string_bytes operands.now) ≡ Err bad.at) }
+{
+    let [job, options @ ..] = operands else {
+        return Err(BadWords { at: 1 });
+    };
+    if !is_file_name(job.as_str()) {
+        return Err(BadWords { at: 1 });
+    }
+    let depth = depth_after(options)?;
+    Ok((job.as_str(), depth))
+}
+
+// The depth in the words behind a job's name.
+fn depth_after(options: &[String]) -> Result<Depth, BadWords>
+    ensures { MatchResult result
+        (λ depth. depth_after (map string_bytes options.now) ≡ Ok depth.levels)
+        (λ bad. depth_after (map string_bytes options.now) ≡ Err bad.at) }
+{
+    let [option, values @ ..] = options else {
+        return Ok(Depth {
+            levels: USUAL_LEVELS,
+        });
+    };
+    if option.as_str() != "--depth" {
+        return Err(BadWords { at: 2 });
+    }
+    let [value, others @ ..] = values else {
+        return Err(BadWords { at: 3 });
+    };
+    let Some(depth) = depth_of(value.as_str().as_bytes()) else {
+        return Err(BadWords { at: 3 });
+    };
+    if !others.is_empty() {
+        return Err(BadWords { at: 4 });
+    }
+    Ok(depth)
 }
 
 // A word that can name a file: it is not empty and does not begin with a dash.

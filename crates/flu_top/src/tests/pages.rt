@@ -27,6 +27,25 @@ node few: update[3], update[0..2]
 node rest: update[4..9]@app
 ";
 
+/// The greedy plan of it at depth 3: the updates of different pages are components of their own, and the views fall apart without
+/// the tick.
+pub const GREEDY_PLAN: &str = "node n0: -> n1 n8
+node n1: tick@clock -> n2 n5
+node n2: -> n3 n4
+node n3: view[0]@web, view[4]@web, view[8]@web, view[4]@app, view[8]@app
+node n4: view[2]@web, view[6]@web, view[0]@app, view[2]@app, view[6]@app
+node n5: -> n6 n7
+node n6: view[1]@web, view[5]@web, view[9]@web, view[5]@app, view[9]@app
+node n7: view[3]@web, view[7]@web, view[1]@app, view[3]@app, view[7]@app
+node n8: -> n9 n12
+node n9: -> n10 n11
+node n10: update[0]@app, update[4]@app, update[8]@app
+node n11: update[2]@app, update[6]@app
+node n12: -> n13 n14
+node n13: update[1]@app, update[5]@app, update[9]@app
+node n14: update[3]@app, update[7]@app
+";
+
 /// Page k has k + 1 views before each tick.
 pub const WEB: &str = "1,view[0],1
 3,view[1],2

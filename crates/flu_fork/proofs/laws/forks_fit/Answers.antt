@@ -1,4 +1,4 @@
-use Rattle.flu_fork.proofs.Forks.{forks_law}
+use Rattle.flu_fork.proofs.Forking.{forks_law}
 use Rattle.flu_fork.proofs.laws.forks_fit.Goals as goal
 
 pub returns : goal.returns

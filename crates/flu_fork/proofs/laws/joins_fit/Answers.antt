@@ -1,4 +1,4 @@
-use Rattle.flu_fork.proofs.Joins.{joins_law}
+use Rattle.flu_fork.proofs.Joining.{joins_law}
 use Rattle.flu_fork.proofs.laws.joins_fit.Goals as goal
 
 pub returns : goal.returns

@@ -1,4 +1,4 @@
-use Rattle.flu_fork.proofs.Forks.{opening_law}
+use Rattle.flu_fork.proofs.Forking.{opening_law}
 use Rattle.flu_fork.proofs.laws.openings_fit.Goals as goal
 
 pub returns : goal.returns

@@ -1,0 +1,33 @@
+-- What goes to the right children of the nodes, as it is kept.
+use Rattle.std.specs.Prelude.{◌≡◌, ℕ, Bool, false, Some, List, map, length, slice_get, slice_index, slice_index_or, if◌then◌else◌}
+use Rattle.std.specs.List.{range_with_len}
+use Rattle.flu_model.specs.declared.events.Cell.{Cell}
+use Rattle.flu_model.specs.declared.jobs.Program.{Program}
+use Rattle.flu_model.specs.declared.plans.Node.{Node}
+use Rattle.flu_model.specs.Itags.{count_of_itags}
+use Rattle.flu_deps.specs.Owned.{kids_at}
+use Rattle.flu_cells.specs.Sets.{is_in}
+use Rattle.flu_fork.specs.Classes.{below, is_owned}
+use Rattle.flu_fork.specs.declared.rights.Right.{Right}
+
+-- the cells that some itag of a node's subtree needs, and whether each itag is of it
+pub record IsRight (p : Program) (nodes : List Node) (right : ℕ) (table : Right) : Type 0 where
+  pub cells : (c : Cell) → is_in table.cells c ≡ is_owned p (below p nodes right) c
+  pub itags : table.itags.items ≡ map (below p nodes right) (range_with_len 0 (count_of_itags p))
+
+-- those of the right child of a node, where it has one
+abbrev pub IsRightAt : Program → List Node → ℕ → Right → Type 0
+IsRightAt p nodes w table = (left right : ℕ) → kids_at nodes w ≡ Some (left, right) → IsRight p nodes right table
+
+-- those of the right child of each node
+pub record AreTables (p : Program) (nodes : List Node) (tables : List Right) : Type 0 where
+  pub one_each : length tables ≡ length nodes
+  pub right : (w : ℕ) (table : Right) → slice_get tables w ≡ Some table → IsRightAt p nodes w table
+
+-- the count of an itag: that of the right ones where it is of them, and else that of the left ones
+abbrev pub count_by : List Bool → List ℕ → List ℕ → ℕ → ℕ
+count_by is_right lefts rights i = if slice_index_or is_right i false then slice_index rights i else slice_index lefts i
+
+-- so for each itag
+abbrev pub counts_by : List Bool → List ℕ → List ℕ → List ℕ
+counts_by is_right lefts rights = map (count_by is_right lefts rights) (range_with_len 0 (length is_right))

@@ -1,0 +1,36 @@
+use Rattle.std.proofs.Common.{◌≡◌, ◌<◌, [], ◌∷◌, ◌++◌, length, get_or, drop, ap, ◌∙◌, arith}
+use Rattle.std.specs.List.{filter}
+use Rattle.std.specs.Prelude.{not}
+use Rattle.std.proofs.lemmas.Grind.{common_steps}
+use Rattle.std.proofs.lemmas.List.{take_rest, get_or_read}
+use Rattle.flu_planner.specs.Graphs.{Graph}
+use Rattle.flu_planner.specs.Tables.{graph_of}
+use Rattle.flu_planner.proofs.Searching.{starts, goes_on}
+use Rattle.flu_planner.proofs.components.reach.Goals as goal
+
+pub loop-head-init : goal.loop-head-init
+loop-head-init c =
+    let g : Graph = graph_of c.args.table.now in
+    let itags = c.args.itags.now in
+    let first : c.push.new.self.items ≡ get_or itags 0 0 ∷ [] = grind (arith, common_steps) in
+    let rest : c.in_ok-rest.rest.items ≡ drop 1 itags = c.in_ok-rest.ensures.items_if_clones_equal (λ x y e. e) ∙ take_rest itags 1 in
+    rw (first, rest) (starts g itags c.requires.some c.requires.rising)
+
+pub loop-head-preserved : goal.loop-head-preserved
+loop-head-preserved c =
+    let g : Graph = graph_of c.args.table.now in
+    let itags = c.args.itags.now in
+    let head = c.loop-head.head in
+    let connected = c.loop-head.connected.items in
+    let rest = c.loop-head.rest.items in
+    let i = get_or connected head 0 in
+    let lt : head < length connected = grind (arith, common_steps) in
+    let at_head : c.index-i.result.now ≡ i = get_or_read connected head c.index-i.result.now lt c.index-i.ensures 0 in
+    let more : c.append.new.self.items ≡ connected ++ filter (g i) rest = c.in_ok-append.ensures.items ∙ ap (λ xs. connected ++ xs) (rw (c.deref.ensures.value, at_head) at c.in_ok-next.ensures) in
+    let less : c.in_ok-rest-2.rest.items ≡ filter (λ j. not (g i j)) rest = rw (c.deref-in-loop-head.ensures.value, at_head) at c.in_ok-rest-2.ensures in
+    rw (more, less) (goes_on g itags head connected rest lt c.loop-head.invariant)
+
+pub loop-head-smaller : goal.loop-head-smaller
+loop-head-smaller c =
+    let sizes = c.loop-head.invariant.sizes in
+    let lt : c.loop-head.head < length c.loop-head.connected.items = grind (arith, common_steps) in omega arith

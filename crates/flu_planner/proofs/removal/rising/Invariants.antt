@@ -1,0 +1,13 @@
+use Rattle.std.proofs.Common.{◌≡◌, ◌≤◌, length, drop}
+use Rattle.std.specs.Prelude.{nat_lt}
+use Rattle.flu_lemmas.specs.Sorting.{in_order}
+use Rattle.flu_planner.proofs.removal.rising.Given as goal
+
+abbrev pub invariant-loop-at : goal.invariant-loop-at
+invariant-loop-at l = record {
+  within : l.at ≤ length l.itags;
+  order : l.order.items ≡ in_order nat_lt (drop l.at l.itags);
+}
+
+abbrev pub decreases-loop-at : goal.decreases-loop-at
+decreases-loop-at l = l.at

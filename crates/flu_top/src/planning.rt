@@ -1,0 +1,55 @@
+//! `plan JOB`: the greedy plan of a job.
+
+ghost use Rattle.std.specs.Prelude.{IfOk, IfErr};
+ghost use Rattle.flu_outside.specs.Outside.{WhereTold};
+ghost use Rattle.flu_rows.specs.Taking.{TookFronts};
+ghost use Rattle.flu_top.specs.Words.{Plan};
+ghost use Rattle.flu_top.specs.Taking.{TookOnly};
+ghost use Rattle.flu_top.specs.Done.{IsReadName, IsWritten};
+ghost use Rattle.flu_top.specs.Checking.{IsCheckRefusal};
+ghost use Rattle.flu_top.specs.Planning.{IsPlanned};
+ghost use Rattle.flu_top.specs.Refusing.{IsRefusal};
+
+use crate::checking::accepted;
+use crate::depths::Depth;
+use crate::programs::program_of;
+use crate::rates::source_rates;
+use crate::refusals::Refusal;
+use flu_model::{Program, Text};
+use flu_outside::Files;
+use flu_plan::print_plan;
+use flu_planner::plan;
+use std::alloc::Global;
+
+/// The text of the greedy plan of the job that a file holds.
+pub fn plan_job<F: Files>(
+    alloc: Global,
+    files: &mut F,
+    job: &str,
+    depth: Depth,
+) -> Result<Text, Refusal>
+    ensures written { IfOk result (λ text. WhereTold (F.left files.old) (F.left files.new) (IsWritten (Plan job.now depth.levels) text)) }
+    ensures refused { IfErr result (IsRefusal (Plan job.now depth.levels) (F.left files.old) (F.left files.new) (F.faults files.old) (F.faults files.new)) }
+    ensures fronts { WhereTold (F.left files.old) (F.left files.new) TookFronts }
+    ensures only { WhereTold (F.left files.old) (F.left files.new) (TookOnly (IsReadName (F.left files.old) (Plan job.now depth.levels))) }
+{
+    match program_of(alloc, files, job) {
+        Ok(program) => plan_text(alloc, program, depth),
+        Err(refusal) => Err(refusal),
+    }
+}
+
+// The text of the greedy plan of a job that is accepted, by the rates of its sources.
+fn plan_text(alloc: Global, program: Program, depth: Depth) -> Result<Text, Refusal>
+    ensures planned { IfOk result (IsPlanned program depth.levels) }
+    ensures refused { IfErr result (IsCheckRefusal program) }
+{
+    let checked = match accepted(program) {
+        Ok(checked) => checked,
+        Err(refusal) => return Err(refusal),
+    };
+    let rates = source_rates(alloc, checked.program())?;
+    let found = plan(alloc, &checked, &rates, depth.levels)?;
+    let text = print_plan(alloc, checked.program(), found.plan())?;
+    Ok(text)
+}
