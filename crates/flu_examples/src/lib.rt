@@ -1,4 +1,5 @@
-//! Worked examples: small jobs over small streams, with what is expected of their merged lists, updates, folds and reports.
+//! Worked examples: small jobs over small streams, with what is expected of their merged lists, updates, folds,
+//! reports and waits.
 #![tactic(auto)]
 
 #[cfg(test)]
@@ -10,3 +11,5 @@ mod jobs;
 #[cfg(test)]
 mod reports;
 pub mod streams;
+#[cfg(test)]
+mod waiting;

@@ -1,4 +1,4 @@
-use Rattle.std.proofs.Common.{◌≡◌, drop, map, List}
+use Rattle.std.proofs.Common.{◌≡◌, drop, map}
 use Rattle.flu_model.specs.Streaming.{are_streams}
 use Rattle.flu_examples.proofs.streams.are_streams.Given as goal
 

@@ -1,0 +1,5 @@
+pub mod General
+pub mod PlaceLemmas
+pub mod PassingLemmas
+pub mod WaitingLemmas
+pub mod MailboxLemmas

@@ -1,0 +1,211 @@
+//! Mailboxes.
+
+ghost use Rattle.std.specs.Prelude.{◌≡◌, ◌<◌, ◌≤◌, ◌+◌, ◌&&◌, ℕ, [], List, IfOk, not, length, replicate, slice_get, slice_index, slice_index_or, slice_set};
+ghost use Rattle.flu_model.specs.declared.jobs.Program.{Program};
+ghost use Rattle.flu_model.specs.declared.plans.Node.{Node};
+ghost use Rattle.flu_model.specs.declared.events.Item.{Item};
+ghost use Rattle.flu_model.specs.Itags.{count_of_itags};
+ghost use Rattle.flu_model.specs.Listed.{listed};
+ghost use Rattle.flu_model.specs.Merging.{events_of};
+ghost use Rattle.flu_deps.specs.Checking.{program_of};
+ghost use Rattle.flu_deps.specs.Validated.{plan_of, IsValidFor};
+ghost use Rattle.flu_mail.specs.Passing.{seen_items, next_event, passes};
+ghost use Rattle.flu_mail.specs.Waiting.{is_ready, is_ready_to_serve};
+
+use crate::entries::{Entry, new_entry};
+use crate::passing::{event_at, first_items, last_passes};
+use crate::places::place_after;
+use crate::waiting::{Purpose, awaits};
+use flu_deps::{Checked, Valid, dep};
+use flu_model::{Event, Itag, Item, Program, Streams, Tag, before, itag_count};
+use std::alloc::{AllocError, Global};
+
+/// What the worker of a node has seen of each itag's stream, and how many of its events it has counted (`docs/TREE.md`).
+///
+/// It is made over the streams of a job with a valid plan, and its calls are for these. For each itag it keeps where the next
+/// event stands, so that `next` and `passes` look at one item each.
+#[derive(Debug, Drop)]
+pub struct Mailbox {
+    node: u32,
+    leaf: bool,
+    entries: Vec<Entry>,
+}
+
+impl Mailbox {
+    ghost use Rattle.flu_mail.specs.Mailboxes.{node_of, seen_of, counts_of, IsAt, IsOver};
+    ghost use Rattle.flu_mail.specs.Parts.{tag_in, holds_up, is_held_up};
+
+    /// The mailbox of a node, which has seen and counted nothing. It looks at the items before each itag's first event.
+    pub fn new(
+        alloc: Global,
+        c: &Checked,
+        v: &Valid,
+        s: &Streams,
+        node: u32,
+    ) -> Result<Mailbox, AllocError>
+        requires of { IsValidFor (program_of c.now) v.now }
+        requires node { node < length (plan_of v.now).nodes }
+        requires one_each { length (listed s.now) ≡ count_of_itags (program_of c.now) }
+        ensures at { IfOk result (λ m. IsAt (program_of c.now) (plan_of v.now).nodes m) }
+        ensures over { IfOk result (λ m. IsOver (listed s.now) m) }
+        ensures node { IfOk result (λ m. node_of m ≡ node) }
+        ensures seen { IfOk result (λ m. seen_of m ≡ replicate (count_of_itags (program_of c.now)) 0) }
+        ensures counts { IfOk result (λ m. counts_of m ≡ replicate (count_of_itags (program_of c.now)) 0) }
+    {
+        let leaf = v.kids(node).is_none();
+        let mut entries = Vec::new(alloc);
+        for i in 0..itag_count(c.program()) {
+            entries.push(new_entry(c, v, s, node, Itag(i)))?;
+        }
+        Ok(Mailbox {
+            node,
+            leaf,
+            entries,
+        })
+    }
+
+    /// So many items of an itag's stream were seen now.
+    pub fn see(&mut self, i: Itag, count: u64)
+        requires in_range { i.0 < length (seen_of self.old) }
+        requires forward { slice_index (seen_of self.old) i.0 ≤ count }
+        ensures seen { seen_of self.new ≡ slice_set (seen_of self.old) i.0 count }
+        ensures counts { counts_of self.new ≡ counts_of self.old }
+        ensures node { node_of self.new ≡ node_of self.old }
+        ensures at { (p : Program) (nodes : List Node) → IsAt p nodes self.old → IsAt p nodes self.new }
+        ensures over { (lists : List (List Item)) → count ≤ length (slice_index_or lists i.0 []) → IsOver lists self.old → IsOver lists self.new }
+    {
+        self.entries[i.0 as usize].seen = count;
+    }
+
+    /// The first event of an itag that is seen and not counted.
+    pub fn next(&self, s: &Streams, i: Itag) -> Option<Event>
+        requires over { IsOver (listed s.now) self.now }
+        requires in_range { i.0 < length (listed s.now) }
+        ensures { result ≡ next_event (seen_items (listed s.now) (seen_of self.now) i.0) (slice_index (counts_of self.now) i.0) }
+    {
+        event_at(self.seen_items(s, i), self.entries[i.0 as usize].place)
+    }
+
+    // The items of an itag that were seen.
+    fn seen_items<'a>(&self, s: &'a Streams, i: Itag) -> &'a [Item]
+        requires over { IsOver (listed s.now) self.now }
+        requires in_range { i.0 < length (listed s.now) }
+        ensures { result.now ≡ seen_items (listed s.now) (seen_of self.now) i.0 }
+    {
+        first_items(s.items(i), self.entries[i.0 as usize].seen)
+    }
+
+    /// Whether an itag lets x pass: its next event is after x in event order; or there is none, and the end of its stream was
+    /// seen or the time of the last seen item is at least that of x.
+    pub fn passes(&self, s: &Streams, j: Itag, x: &Event) -> bool
+        requires over { IsOver (listed s.now) self.now }
+        requires in_range { j.0 < length (listed s.now) }
+        ensures { result ≡ passes (seen_items (listed s.now) (seen_of self.now) j.0) (slice_index (counts_of self.now) j.0) x.now }
+    {
+        match self.next(s, j) {
+            Some(next) => before(x, &next),
+            None => last_passes(x.time, self.seen_items(s, j)),
+        }
+    }
+
+    /// Whether the node may take its event x: each other itag that the node or an ancestor owns lets x pass; at a leaf only the
+    /// dependent ones are asked.
+    pub fn ready(&self, c: &Checked, s: &Streams, x: &Event) -> bool
+        requires over { IsOver (listed s.now) self.now }
+        requires one_each { length (seen_of self.now) ≡ count_of_itags (program_of c.now) }
+        ensures { (nodes : List Node) → IsAt (program_of c.now) nodes self.now → result ≡ is_ready (program_of c.now) nodes (listed s.now) (node_of self.now) (seen_of self.now) (counts_of self.now) x.now }
+    {
+        !self.is_held_up(c.program(), s, Purpose::Take, x)
+    }
+
+    /// Whether the node may give up its state for an ancestor's event y: each itag that the node owns lets y pass; at a leaf only
+    /// the dependent ones are asked.
+    pub fn ready_to_serve(&self, c: &Checked, s: &Streams, y: &Event) -> bool
+        requires over { IsOver (listed s.now) self.now }
+        requires one_each { length (seen_of self.now) ≡ count_of_itags (program_of c.now) }
+        ensures { (nodes : List Node) → IsAt (program_of c.now) nodes self.now → result ≡ is_ready_to_serve (program_of c.now) nodes (listed s.now) (node_of self.now) (seen_of self.now) (counts_of self.now) y.now }
+    {
+        !self.is_held_up(c.program(), s, Purpose::Serve, y)
+    }
+
+    // Whether some itag that x waits for does not let it pass.
+    fn is_held_up(&self, p: &Program, s: &Streams, purpose: Purpose, x: &Event) -> bool
+        requires over { IsOver (listed s.now) self.now }
+        requires one_each { length (seen_of self.now) ≡ count_of_itags p.now }
+        ensures { result ≡ is_held_up p.now self.now (listed s.now) purpose x.now }
+    {
+        let tag = self.tag(x.itag);
+        for j in 0..itag_count(p) {
+            if self.holds_up(p, s, purpose, x, tag, Itag(j)) {
+                return true;
+            }
+        }
+        false
+    }
+
+    // Whether x waits for itag j, which does not let it pass. What depends on what is looked up last, since this takes longest.
+    fn holds_up(
+        &self,
+        p: &Program,
+        s: &Streams,
+        purpose: Purpose,
+        x: &Event,
+        tag: Tag,
+        j: Itag,
+    ) -> bool
+        requires over { IsOver (listed s.now) self.now }
+        requires in_range { j.0 < length (listed s.now) }
+        ensures { result ≡ holds_up p.now self.now (listed s.now) purpose x.now tag j.0 }
+    {
+        let entry = self.entries[j.0 as usize];
+        awaits(purpose, x.itag, j, entry.role)
+            && !self.passes(s, j, x)
+            && (!self.leaf || dep(p, entry.tag, tag))
+    }
+
+    // The tag of an itag.
+    fn tag(&self, i: Itag) -> Tag
+        ensures { result ≡ tag_in (slice_get self.now.entries.items i.0) }
+    {
+        match self.entries.get(i.0 as usize) {
+            Some(entry) => entry.tag,
+            None => Tag { kind: 0, key: 0 },
+        }
+    }
+
+    /// One more event of an itag is counted.
+    pub fn count_one(&mut self, s: &Streams, i: Itag)
+        requires over { IsOver (listed s.now) self.old }
+        requires in_range { i.0 < length (listed s.now) }
+        requires there { slice_index (counts_of self.old) i.0 < length (events_of (slice_index_or (listed s.now) i.0 [])) }
+        ensures counts { counts_of self.new ≡ slice_set (counts_of self.old) i.0 (slice_index (counts_of self.old) i.0 + 1) }
+        ensures seen { seen_of self.new ≡ seen_of self.old }
+        ensures node { node_of self.new ≡ node_of self.old }
+        ensures at { (p : Program) (nodes : List Node) → IsAt p nodes self.old → IsAt p nodes self.new }
+        ensures over { IsOver (listed s.now) self.new }
+    {
+        let n = self.entries[i.0 as usize].count + 1;
+        self.set_count(s, i, n);
+    }
+
+    /// So many events of an itag are counted now. It looks at the items from the old next event to the new one.
+    pub fn set_count(&mut self, s: &Streams, i: Itag, n: u64)
+        requires over { IsOver (listed s.now) self.old }
+        requires in_range { i.0 < length (listed s.now) }
+        requires forward { slice_index (counts_of self.old) i.0 ≤ n }
+        requires there { n ≤ length (events_of (slice_index_or (listed s.now) i.0 [])) }
+        ensures counts { counts_of self.new ≡ slice_set (counts_of self.old) i.0 n }
+        ensures seen { seen_of self.new ≡ seen_of self.old }
+        ensures node { node_of self.new ≡ node_of self.old }
+        ensures at { (p : Program) (nodes : List Node) → IsAt p nodes self.old → IsAt p nodes self.new }
+        ensures over { IsOver (listed s.now) self.new }
+    {
+        let entry = self.entries[i.0 as usize];
+        let place = place_after(s.items(i), entry.place, entry.count, n);
+        self.entries[i.0 as usize] = Entry {
+            count: n,
+            place,
+            ..entry
+        };
+    }
+}
