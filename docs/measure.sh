@@ -127,3 +127,12 @@ gawk 'BEGIN {
     for (i = 0; i < 64; i++) print "source s" i " \"s" i ".csv\" rate " (i * 37) % 64 ": k" i "[0..3]"
 }' > chain.job
 measure 'a job of 256 itags in a chain of 64 kinds: flumina plan --depth 6' "$program" plan chain.job --depth 6
+
+# ---- a job of 256 itags with 4,096 dependencies, so that each question of a dependency goes through many
+gawk 'BEGIN {
+    for (i = 0; i < 64; i++) print "tag k" i " keyed none"
+    for (i = 0; i < 64; i++) for (j = 0; j < 64; j++) print "depends k" i " k" j " same"
+    for (i = 0; i < 64; i++) print "source s" i " \"s" i ".csv\" rate " (i * 37) % 64 ": k" i "[0..3]"
+}' > crowded.job
+measure 'a job of 256 itags and 4,096 dependencies: flumina check' "$program" check crowded.job
+measure 'a job of 256 itags and 4,096 dependencies: flumina plan --depth 6' "$program" plan crowded.job --depth 6
