@@ -7,6 +7,8 @@ use Rattle.flu_model.specs.declared.events.Cell.{Cell}
 use Rattle.flu_model.specs.declared.events.Event.{Event}
 use Rattle.flu_model.specs.declared.events.Tag.{Tag}
 use Rattle.flu_model.specs.declared.events.Worth.{Worth}
+use Rattle.flu_model.specs.declared.modes.Mode.{Mode}
+use Rattle.flu_model.specs.declared.modes.Mode.TheVariants.{None as NoMode, Add as AddMode, Raise as RaiseMode, Read as ReadMode, Own}
 use Rattle.flu_model.specs.declared.jobs.Program.{Program}
 use Rattle.flu_model.specs.Contents.{Contents}
 use Rattle.flu_model.specs.Itags.{tag_of_itag, is_dependent, count_of_itags}
@@ -18,7 +20,7 @@ use Rattle.flu_laws.specs.Spans.{Moment, history, change_at, changed_by}
 use Rattle.flu_laws.specs.Uses.{needs, writes, mode_at}
 use Rattle.flu_laws.proofs.Laws.{no_conflict}
 use Rattle.flu_laws.proofs.Updating.{updates_are_changes, keeps_sorts}
-use Rattle.flu_laws.proofs.Uses.{unwritten, needed_unwritten}
+use Rattle.flu_laws.proofs.Uses.{needed_unwritten}
 
 -- ---- the places of events
 -- of the moments of one itag, each comes later in its list than those before it
@@ -112,9 +114,15 @@ changed-idle p c f (q ∷ ms) w all =
 
 -- an event that does not write a cell leaves it alone
 pub unwritten_keeps : (p : Program) (q : Moment) (c : Cell) → writes (mode_at p q.event c) ≡ false → change_at p c q ≡ Keep
-unwritten_keeps p q c quiet =
-    let h : Tag = tag_of_itag p q.event.itag in
-    ap (λ n. change_by p.families n (actions_of (slice_get p.kinds h.kind)) q.before q.event h.key c) (unwritten (mode_at p q.event c) quiet)
+unwritten_keeps p q c quiet = at_mode (mode_at p q.event c) quiet
+  where
+    at_mode : (m : Mode) → writes m ≡ false
+        → (let h : Tag = tag_of_itag p q.event.itag in change_by p.families m (actions_of (slice_get p.kinds h.kind)) q.before q.event h.key c ≡ Keep)
+    at_mode NoMode e = refl
+    at_mode ReadMode e = refl
+    at_mode AddMode e = cc
+    at_mode RaiseMode e = cc
+    at_mode Own e = cc
 
 -- an event of an independent tag leaves alone the cells that another tag needs
 pub independent_keeps : (p : Program) (m q : Moment) (c : Cell) → IsAccepted p → m.event.itag.0 < count_of_itags p → q.event.itag.0 < count_of_itags p → is_dependent p (tag_of_itag p m.event.itag) (tag_of_itag p q.event.itag) ≡ false → needs (mode_at p m.event c) ≡ true → change_at p c q ≡ Keep

@@ -1,9 +1,11 @@
 -- What an update depends on, and what it does to each cell.
-use Rattle.std.specs.Prelude.{◌≡◌}
+use Rattle.std.specs.Prelude.{◌≡◌, List}
 use Rattle.flu_model.specs.declared.events.Cell.{Cell}
 use Rattle.flu_model.specs.declared.events.Event.{Event}
+use Rattle.flu_model.specs.declared.events.Item.{Item}
 use Rattle.flu_model.specs.declared.jobs.Program.{Program}
 use Rattle.flu_model.specs.Contents.{Contents}
+use Rattle.flu_model.specs.Folding.{final_state}
 use Rattle.flu_model.specs.Updates.{effect_of}
 use Rattle.flu_model.specs.Sorts.{IsStateOf}
 use Rattle.flu_laws.specs.Changes.{applied, change_of}
@@ -32,3 +34,7 @@ UpdatesAreChanges =
 -- an update keeps a state's cells and values to the families of the job
 abbrev pub KeepsSorts : Type 0
 KeepsSorts = (p : Program) (s : Contents) (x : Event) → IsStateOf p.families s → IsStateOf p.families (effect_of p s x).cells
+
+-- so does a fold
+abbrev pub FoldKeepsSorts : Type 0
+FoldKeepsSorts = (p : Program) (opening : Contents) (lists : List (List Item)) → IsStateOf p.families opening → IsStateOf p.families (final_state p opening lists)
