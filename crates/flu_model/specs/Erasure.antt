@@ -38,28 +38,28 @@ term_of (Not' p e) = Negation (term_of e)
 term_of (Two' op p a q b) = Operation op (term_of a) (term_of b)
 
 -- what an action does, as it is written
-pub data Deed : Type 0 where
-  Adding : (r : CellRef) (e : Term) → Deed
-  Raising : (r : CellRef) (e : Term) → Deed
-  Setting : (r : CellRef) (e : Term) → Deed
-  Clearing : (r : CellRef) → Deed
-  Emitting : (ps : List Piece) → Deed
-  Flushing : (f : ℕ) (ps : List Piece) → Deed
+pub data PlainAct : Type 0 where
+  Adding : (r : CellRef) (e : Term) → PlainAct
+  Raising : (r : CellRef) (e : Term) → PlainAct
+  Setting : (r : CellRef) (e : Term) → PlainAct
+  Clearing : (r : CellRef) → PlainAct
+  Emitting : (ps : List Piece) → PlainAct
+  Flushing : (f : ℕ) (ps : List Piece) → PlainAct
 
-abbrev pub deed_of : Act → Deed
-deed_of (Add r e) = Adding r (term_of e)
-deed_of (Raise r e) = Raising r (term_of e)
-deed_of (Set r e) = Setting r (term_of e)
-deed_of (Clear r) = Clearing r
-deed_of (Emit ps) = Emitting ps
-deed_of (Flush f ps) = Flushing f ps
+abbrev pub plain_act : Act → PlainAct
+plain_act (Add r e) = Adding r (term_of e)
+plain_act (Raise r e) = Raising r (term_of e)
+plain_act (Set r e) = Setting r (term_of e)
+plain_act (Clear r) = Clearing r
+plain_act (Emit ps) = Emitting ps
+plain_act (Flush f ps) = Flushing f ps
 
 pub record PlainAction : Type 0 where
-  pub deed : Deed
+  pub act : PlainAct
   pub guard : Option Term
 
 abbrev pub plain_action : Action → PlainAction
-plain_action a = record { deed = deed_of a.act; guard = option_map term_of a.guard }
+plain_action a = record { act = plain_act a.act; guard = option_map term_of a.guard }
 
 pub record PlainKind : Type 0 where
   pub name : List ℕ
@@ -72,13 +72,14 @@ plain_kind k = record { name = k.name; keyed = k.keyed; has_value = k.has_value;
 
 -- a job as it is written
 pub record Job : Type 0 where
+  pub version : ℕ
   pub families : List Family
   pub kinds : List PlainKind
   pub depends : List Depend
   pub sources : List Source
 
 abbrev pub job_of : Program → Job
-job_of p = record { families = p.families; kinds = map plain_kind p.kinds; depends = p.depends; sources = p.sources }
+job_of p = record { version = p.version; families = p.families; kinds = map plain_kind p.kinds; depends = p.depends; sources = p.sources }
 
 -- two programs are the same job
 abbrev pub IsSameJob : Program → Program → Type 0

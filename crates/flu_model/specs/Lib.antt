@@ -1,12 +1,14 @@
 pub mod Contents
 pub mod Expressions
 pub mod Texts
+pub mod Templates
 pub mod Listing
 pub mod Itags
 pub mod Rules
 pub mod Updates
 pub mod Modes
 pub mod Sorts
+pub mod Order
 pub mod Streaming
 pub mod Listed
 pub mod Merging

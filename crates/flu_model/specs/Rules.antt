@@ -1,5 +1,5 @@
 -- The rules that every job keeps: its names, its shapes and its limits. Each is a test, which computes.
-use Rattle.std.specs.Prelude.{ℕ, ◌+◌, Bool, true, false, not, nat_lt, nat_le, ◌==◌, ◌&&◌, ◌||◌, Option, Some, None, List, [], ◌∷◌, ◌++◌, map, length, max, slice_get, codes}
+use Rattle.std.specs.Prelude.{ℕ, ◌+◌, ◌^◌, ℤ, pos, negsuc, Bool, true, false, not, nat_lt, nat_le, ◌==◌, ◌&&◌, ◌||◌, Option, Some, None, List, [], ◌∷◌, ◌++◌, map, length, max, slice_get}
 use Rattle.std.specs.List.{list_all, list_any}
 use Rattle.std.specs.Cmp.Lexicographic.{pointwise}
 use Rattle.flu_model.specs.declared.jobs.Sort.{Sort}
@@ -24,30 +24,12 @@ use Rattle.flu_model.specs.declared.jobs.Source.{Source}
 use Rattle.flu_model.specs.declared.events.Tag.{Tag}
 use Rattle.flu_model.specs.Contents.{key_count}
 use Rattle.flu_model.specs.Listing.{tags_of_source}
+use Rattle.flu_model.specs.Templates.{written_template}
+use Rattle.flu_names.specs.Names.{is_name, is_text_byte}
 
 -- ---- names
-abbrev pub is_letter : ℕ → Bool
-is_letter b = (nat_le 65 b && nat_le b 90) || (nat_le 97 b && nat_le b 122) || (b == 95)
-
-abbrev pub is_letter_or_digit : ℕ → Bool
-is_letter_or_digit b = is_letter b || (nat_le 48 b && nat_le b 57)
-
 abbrev pub is_same_text : List ℕ → List ℕ → Bool
 is_same_text a b = pointwise ◌==◌ a b
-
-abbrev pub reserved_words : List (List ℕ)
-reserved_words =
-    codes "cell" ∷ codes "tag" ∷ codes "depends" ∷ codes "on" ∷ codes "source" ∷ codes "keyed" ∷ codes "sum" ∷ codes "max" ∷ codes "last"
-    ∷ codes "int" ∷ codes "none" ∷ codes "same" ∷ codes "all" ∷ codes "rate" ∷ codes "add" ∷ codes "raise" ∷ codes "set" ∷ codes "clear"
-    ∷ codes "emit" ∷ codes "flush" ∷ codes "when" ∷ codes "value" ∷ codes "key" ∷ codes "time" ∷ codes "has" ∷ codes "and" ∷ codes "or"
-    ∷ codes "not" ∷ codes "beat" ∷ codes "end" ∷ codes "node" ∷ codes "version" ∷ codes "slack" ∷ []
-
-abbrev pub begins_with_letter : List ℕ → Bool
-begins_with_letter [] = false
-begins_with_letter (b ∷ bs) = is_letter b
-
-abbrev pub is_name : List ℕ → Bool
-is_name bs = begins_with_letter bs && list_all is_letter_or_digit bs && nat_le (length bs) 32 && not (list_any (is_same_text bs) reserved_words)
 
 abbrev pub are_distinct : {X : Type 0} → (X → X → Bool) → List X → Bool
 are_distinct same [] = true
@@ -83,8 +65,13 @@ ref_fits families kind_keyed r = family_fits (slice_get families r.family) kind_
 abbrev pub ref_has_sort : List Family → Sort → CellRef → Bool
 ref_has_sort families sort r = has_sort (slice_get families r.family) sort
 
+-- a number as a job text writes it, not negative
+abbrev pub is_literal : ℤ → Bool
+is_literal (pos n) = nat_lt n (2 ^ 63)
+is_literal (negsuc n) = false
+
 abbrev pub expr_fits : List Family → Bool → Bool → Expr → Bool
-expr_fits families keyed has_value (Lit n) = true
+expr_fits families keyed has_value (Lit n) = is_literal n
 expr_fits families keyed has_value Value = has_value
 expr_fits families keyed has_value Key = keyed
 expr_fits families keyed has_value Time = true
@@ -107,10 +94,6 @@ height (Two' op p a q b) = max (height a) (height b) + 1
 
 abbrev pub is_good_expr : List Family → Bool → Bool → Expr → Bool
 is_good_expr families keyed has_value e = expr_fits families keyed has_value e && nat_le (height e) 32
-
--- a byte that a text between quotes may have: no quote and no control character
-abbrev pub is_text_byte : ℕ → Bool
-is_text_byte b = not (b == 34) && nat_le 32 b && not (b == 127)
 
 -- a byte that stands for itself in a template: no brace
 abbrev pub is_plain_byte : ℕ → Bool
@@ -154,11 +137,16 @@ are_apart (TimeField ∷ ps) = are_apart ps
 are_apart (ReadField r ∷ ps) = are_apart ps
 are_apart (CellValue ∷ ps) = are_apart ps
 
-abbrev pub emit_template_fits : List Family → Bool → Bool → List Piece → Bool
-emit_template_fits families keyed has_value ps = list_all (emit_piece_fits families keyed has_value) ps && are_apart ps
+-- what stands between two quotes has at most 256 bytes
+abbrev pub is_short : List ℕ → Bool
+is_short inside = nat_le (length inside) 256
 
-abbrev pub flush_template_fits : Bool → List Piece → Bool
-flush_template_fits has_value ps = list_all (flush_piece_fits has_value) ps && are_apart ps
+abbrev pub emit_template_fits : List Family → Bool → Bool → List Piece → Bool
+emit_template_fits families keyed has_value ps =
+    list_all (emit_piece_fits families keyed has_value) ps && are_apart ps && is_short (written_template families ps)
+
+abbrev pub flush_template_fits : List Family → Bool → List Piece → Bool
+flush_template_fits families has_value ps = list_all (flush_piece_fits has_value) ps && are_apart ps && is_short (written_template families ps)
 
 -- ---- actions and kinds
 abbrev pub act_fits : List Family → Bool → Bool → Act → Bool
@@ -167,7 +155,7 @@ act_fits families keyed has_value (Raise r e) = ref_fits families keyed r && ref
 act_fits families keyed has_value (Set r e) = ref_fits families keyed r && ref_has_sort families Last r && is_good_expr families keyed has_value e
 act_fits families keyed has_value (Clear r) = ref_fits families keyed r
 act_fits families keyed has_value (Emit ps) = emit_template_fits families keyed has_value ps
-act_fits families keyed has_value (Flush f ps) = is_keyed (slice_get families f) && flush_template_fits has_value ps
+act_fits families keyed has_value (Flush f ps) = is_keyed (slice_get families f) && flush_template_fits families has_value ps
 
 abbrev pub guard_fits : List Family → Bool → Bool → Option Expr → Bool
 guard_fits families keyed has_value None = true
@@ -206,14 +194,19 @@ is_same_tag a b = (a.kind == b.kind) && (a.key == b.key)
 
 -- a file's name stands between quotes in a job text
 abbrev pub is_file_text : List ℕ → Bool
-is_file_text t = nat_lt 0 (length t) && nat_le (length t) 256 && list_all is_text_byte t
+is_file_text t = nat_lt 0 (length t) && is_short t && list_all is_text_byte t
 
 abbrev pub source_fits : List Kind → Source → Bool
 source_fits kinds s =
-    is_name s.name && is_file_text s.file && nat_le s.rate 1000000000 && nat_lt 0 (length s.tags)
+    is_name s.name && is_file_text s.file && nat_le s.rate 1000000000 && nat_le s.slack 60000 && nat_lt 0 (length s.tags)
     && list_all (tag_ref_fits kinds) s.tags && are_distinct is_same_tag (tags_of_source s)
 
 -- ---- the whole
+
+-- the versions of the language
+abbrev pub is_version : ℕ → Bool
+is_version n = (n == 1) || (n == 2)
+
 abbrev pub are_families : List Family → Bool
 are_families families = list_all (λ (f : Family). is_name f.name) families
 

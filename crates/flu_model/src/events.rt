@@ -52,7 +52,7 @@ pub enum Worth {
 }
 
 /// An output: a text that an event of this tag put out at this time.
-#[derive(Debug, Drop)]
+#[derive(Drop)]
 pub struct Out {
     pub time: u64,
     pub tag: Tag,
@@ -60,7 +60,7 @@ pub struct Out {
 }
 
 /// A list of outputs, which contracts see as the list itself.
-#[derive(Debug, Drop)]
+#[derive(Drop)]
 pub struct Outs {
     all: Vec<Out>,
 }
@@ -87,6 +87,16 @@ impl Outs {
         ensures { result.now ≡ self.now }
     {
         self.all.as_slice()
+    }
+
+    /// Puts the outputs of another list behind those of this one; where memory is refused this list is as before.
+    pub fn append(&mut self, other: Outs) -> Result<(), AllocError>
+        ensures ok { OnOk result (self.new ≡ self.old ++ other) }
+        ensures err { OnErr result (self.new ≡ self.old) }
+    {
+        let mut others = other.all;
+        self.all.append(&mut others)?;
+        Ok(())
     }
 
     /// Puts one more output at the end; where memory is refused the list is as before.

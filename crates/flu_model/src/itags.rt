@@ -89,8 +89,8 @@ fn tag_at(source: &Source, place: u32) -> Tag
     unreachable!()
 }
 
-// How many keys are listed.
-fn key_count(keys: Keys) -> u32
+/// How many keys are listed.
+pub fn key_count(keys: Keys) -> u32
     requires { length (listed_keys keys) < 2 ^ 32 }
     ensures { result ≡ length (listed_keys keys) }
 {

@@ -2,7 +2,7 @@
 
 ghost use Rattle.std.specs.Prelude.{◌≤◌, length, IsTrue};
 ghost use Rattle.flu_model.specs.Listing.{itags_of_sources};
-ghost use Rattle.flu_model.specs.Rules.{are_families, are_kinds, are_depends, are_sources, have_own_names, have_own_files};
+ghost use Rattle.flu_model.specs.Rules.{is_version, are_families, are_kinds, are_depends, are_sources, have_own_names, have_own_files};
 
 use crate::lists::List;
 use crate::words::{Name, Text};
@@ -16,7 +16,7 @@ pub enum Sort {
 }
 
 /// A family of cells of one sort; a keyed one has a cell for each key from 0 to 65,535.
-#[derive(Debug, Drop)]
+#[derive(Drop)]
 pub struct Family {
     pub name: Name,
     pub keyed: bool,
@@ -58,7 +58,7 @@ pub enum Op {
 ///
 /// `Read` gives what a cell holds, a sum clamped and a neutral cell as 0; `Has` is 1 where a cell is not neutral.
 /// Comparisons and `Not`, `Both`, `Either` give 0 or 1 and take every number but 0 as true.
-#[derive(Debug, Drop)]
+#[derive(Drop)]
 pub enum Expr {
     Lit(i64),
     Value,
@@ -74,7 +74,7 @@ pub enum Expr {
 /// A piece of the text that an action puts out: plain bytes, or a field that is filled in.
 ///
 /// `CellValue` stands only in a flush, where `Key` is the flushed cell's key; `Read` stands only in an emit.
-#[derive(Debug, Drop)]
+#[derive(Drop)]
 pub enum Piece {
     Plain(Text),
     Value,
@@ -86,7 +86,7 @@ pub enum Piece {
 
 /// What an action does: adds to a sum, raises a maximum, sets a last value, makes a cell neutral, puts out a text,
 /// or puts out a text for each cell of a family that is not neutral and makes all of them neutral.
-#[derive(Debug, Drop)]
+#[derive(Drop)]
 pub enum Act {
     Add(CellRef, Expr),
     Raise(CellRef, Expr),
@@ -97,14 +97,14 @@ pub enum Act {
 }
 
 /// An action, which is done only where its guard is not 0.
-#[derive(Debug, Drop)]
+#[derive(Drop)]
 pub struct Action {
     pub act: Act,
     pub guard: Option<Expr>,
 }
 
 /// A kind of tags; a keyed one has a tag for each key.
-#[derive(Debug, Drop)]
+#[derive(Drop)]
 pub struct Kind {
     pub name: Name,
     pub keyed: bool,
@@ -135,23 +135,27 @@ pub struct TagRef {
     pub keys: Keys,
 }
 
-/// A source of events: a file by its name, with the tags that it lists, and how many events a second are to be
-/// expected of each, which serves plans alone.
-#[derive(Debug, Drop)]
+/// A source of events: a file by its name, with the tags that it lists, how many events a second are to be expected of each,
+/// which serves plans alone, and how late a row may be, from 0 to 60,000 in the unit of its times.
+#[derive(Drop)]
 pub struct Source {
     pub name: Name,
     pub file: Text,
     pub rate: u64,
+    pub slack: u64,
     pub tags: List<TagRef>,
 }
 
-/// A job. Its names, shapes and sizes keep the rules of the language (`docs/LANGUAGE.md`), so no caller can make another.
-#[derive(Debug, Drop)]
+/// A job. Its names, shapes and sizes keep the rules of the language (`docs/LANGUAGE.md`), so no caller can make another. The
+/// version of the language, 1 or 2, says how tags that only read a cell may share it.
+#[derive(Drop)]
 pub struct Program {
+    pub version: u32,
     pub families: List<Family>,
     pub kinds: List<Kind>,
     pub depends: List<Depend>,
     pub sources: List<Source>,
+    pub ghost known_version: { IsTrue (is_version version) },
     pub ghost few_families: { length families ≤ 64 },
     pub ghost few_kinds: { length kinds ≤ 64 },
     pub ghost few_depends: { length depends ≤ 4096 },

@@ -1,6 +1,7 @@
 //! The vocabulary of jobs, events and outputs, and the definitions of what a job means (`docs/MODEL.md`).
 #![tactic(auto)]
 
+pub mod cells;
 pub mod events;
 pub mod itags;
 pub mod jobs;
@@ -12,13 +13,14 @@ pub mod plans;
 pub mod streams;
 pub mod words;
 
+pub use cells::{actions_of, cell_of};
 pub use events::{Cell, Event, Itag, Item, Out, Outs, Tag, Worth, before};
-pub use itags::{itag_count, source_of, tag_of};
+pub use itags::{itag_count, key_count, source_of, tag_of};
 pub use jobs::{
     Act, Action, At, CellRef, Depend, Expr, Family, Keys, Kind, Op, Piece, Program, Sort, Source,
     TagRef,
 };
-pub use limits::What;
+pub use limits::{KEY_COUNT, What};
 pub use lists::List;
 pub use modes::Mode;
 pub use names::{cell_text, tag_text};

@@ -5,7 +5,7 @@ ghost use Rattle.std.specs.Prelude.{◌≡◌};
 use std::marker::Model;
 
 /// A list of items.
-#[derive(Debug, Drop)]
+#[derive(Drop)]
 pub struct List<T> {
     all: Vec<T>,
 }

@@ -22,7 +22,7 @@ pub struct Pred {
 }
 
 /// A node of a plan: what it is responsible for, and the numbers of its left and right child, where it has some.
-#[derive(Debug, Drop)]
+#[derive(Drop)]
 pub struct Node {
     pub name: Name,
     pub preds: List<Pred>,
@@ -31,7 +31,7 @@ pub struct Node {
 
 /// A plan: a binary tree of nodes in preorder, with node 0 as the root. It keeps the rules and limits of plan texts
 /// (`docs/LANGUAGE.md`), so no caller can make another.
-#[derive(Debug, Drop)]
+#[derive(Drop)]
 pub struct Plan {
     pub nodes: List<Node>,
     pub ghost one_tree: { IsTrue (is_tree nodes) },

@@ -6,7 +6,7 @@ ghost use Rattle.flu_model.specs.Streaming.{are_streams};
 use crate::events::{Itag, Item};
 
 /// For each itag, by its number, a list of items: times rise strictly, each event is of that itag, and the end comes last.
-#[derive(Debug, Drop)]
+#[derive(Drop)]
 pub struct Streams {
     lists: Vec<Vec<Item>>,
     pub ghost good: { IsTrue (are_streams 0 (map (λ v. v.items) lists.items)) },

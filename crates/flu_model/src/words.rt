@@ -6,7 +6,7 @@ ghost use Rattle.std.specs.String.{string_bytes};
 use std::marker::Model;
 
 /// A name that a job or a plan declares.
-#[derive(Debug, Drop)]
+#[derive(Drop)]
 pub struct Name {
     text: String,
 }
@@ -37,7 +37,7 @@ impl Name {
 }
 
 /// A text of a job, a plan or an output.
-#[derive(Debug, Drop)]
+#[derive(Drop)]
 pub struct Text {
     text: String,
 }
