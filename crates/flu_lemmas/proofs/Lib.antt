@@ -12,3 +12,4 @@ pub mod Searches
 pub mod Sorting
 pub mod Tests
 pub mod Totals
+pub mod TwoNumbers
