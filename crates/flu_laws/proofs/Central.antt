@@ -17,7 +17,9 @@ use Rattle.flu_laws.specs.Uses.{AgreeOnNeeds}
 use Rattle.flu_laws.specs.Changes.{Keep, applied}
 use Rattle.flu_laws.specs.Spans.{Moment, history, is_below, is_between, change_at, changed_by, GoesWith}
 use Rattle.flu_laws.specs.Lots.{CellsFit, IsExact, depends_on, CountsOneMore, GoesWithClasses, UpdatesToFit, CentralLaw}
-use Rattle.flu_laws.proofs.General.{and_false_right, same_number, same_turns, not_less_than_itself, less_than_next, lt_false, all_of_both, all_front, all_back, all_filter, filter_same}
+use Rattle.std.proofs.lemmas.Bool.{and_right as and_false_right, le-ltb}
+use Rattle.flu_lemmas.proofs.Numbers.{same_number, same_turns, not_less_than_itself, less_than_next}
+use Rattle.flu_lemmas.proofs.Elements.{all_of_both, all_front, all_back, all_filter, filter_same}
 use Rattle.flu_laws.proofs.Laws.{no_conflict}
 use Rattle.flu_laws.proofs.InPlace.{in_place_law}
 use Rattle.flu_laws.proofs.Updating.{texts_are_local, updates_are_changes}
@@ -77,7 +79,7 @@ module _ (p : Program) (opening : Contents) (xs : List Event) (before after : Li
       let less : m.index < q.index = lt e in
       let u : slice_index upto q.event.itag.0 ≡ m.index = ap (slice_index upto) i ∙ exact.next in
       let v : slice_index more q.event.itag.0 ≡ m.index + 1 = ap (slice_index more) i ∙ more_here in
-      lt_false q.index (slice_index upto q.event.itag.0) (omega (arith, less, u)) ∙ sym (lt_false q.index (slice_index more q.event.itag.0) (omega (arith, less, v)))
+      le-ltb q.index (slice_index upto q.event.itag.0) (omega (arith, less, u)) ∙ sym (le-ltb q.index (slice_index more q.event.itag.0) (omega (arith, less, v)))
       )))
       (places_behind before after m rise) after_in_range
 

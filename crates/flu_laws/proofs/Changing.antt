@@ -15,7 +15,7 @@ use Rattle.flu_model.specs.Expressions.{cell_of, value_of_expr}
 use Rattle.flu_model.specs.Updates.{changes_to, effect_of_act, effect_of_action, effect_of_actions, passes_guard}
 use Rattle.flu_model.specs.Modes.{means, act_overwrites, act_adds, act_raises}
 use Rattle.flu_laws.specs.Changes.{amount_of_act, amount_of_action, amount_added, level_of_act, level_of_action, level_reached, higher}
-use Rattle.flu_laws.proofs.General.{or_false_left, or_false_right}
+use Rattle.flu_lemmas.proofs.Booleans.{or_false_left, or_false_right}
 use Rattle.flu_laws.proofs.Reading.{same_cell-is}
 use Rattle.flu_laws.proofs.Values.{HoldsSort}
 use Rattle.flu_laws.proofs.Algebra.{added-zero, added-added, added-holds, raised-raised, raised-joined, raised-holds}

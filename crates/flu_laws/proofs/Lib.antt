@@ -1,4 +1,3 @@
-pub mod General
 pub mod Reading
 pub mod Values
 pub mod Keys

@@ -21,7 +21,7 @@ use Rattle.flu_model.specs.Rules.{act_fits, action_fits, flush_piece_fits, flush
 use Rattle.flu_model.specs.Modes.{means, guard_reads}
 use Rattle.flu_laws.specs.Changes.{amount_of_act, amount_added, level_of_act, level_reached, higher}
 use Rattle.flu_lemmas.proofs.Tests.{and_left, and_right}
-use Rattle.flu_laws.proofs.General.{same_number}
+use Rattle.flu_lemmas.proofs.Numbers.{same_number}
 use Rattle.flu_laws.proofs.Reading.{Agree, act_needs, action_needs, value-agree, guard-agree, pieces-agree, same_cell-is}
 
 -- the templates of a flush read no cell by name

@@ -15,18 +15,10 @@ use Rattle.flu_model.specs.Expressions.{cell_of}
 use Rattle.flu_model.specs.Sorts.{is_cell_of}
 use Rattle.flu_model.specs.Rules.{has_sort, is_sort, ref_fits, act_fits, action_fits}
 use Rattle.flu_model.specs.Modes.{means, act_adds, act_raises}
+use Rattle.flu_lemmas.proofs.Elements.{from_any}
 use Rattle.flu_lemmas.proofs.Tests.{and_left, and_right, false_if_not}
 use Rattle.flu_laws.proofs.Keys.{cell_is_there}
 use Rattle.flu_laws.proofs.Reading.{same_cell-is}
-
--- one of the items that all pass f passes p too
-from_any : {X Q : Type 0} (f p : X → Bool) (xs : List X) → list_all f xs ≡ true → list_any p xs ≡ true → ((x : X) → f x ≡ true → p x ≡ true → Q) → Q
-from_any f p [] all any use_one = cc
-from_any {Q = Q} f p (x ∷ xs) all any use_one =
-    elim (p x) as (λ b. p x ≡ b → (b || list_any p xs) ≡ true → Q) [
-      | true ↦ λ e a. use_one x (and_left _ _ all) e
-      | false ↦ λ e a. from_any f p xs (and_right _ _ all) a use_one
-    ] refl any
 
 meant_sort : (families : List Family) (key : ℕ) (c : Cell) (r : CellRef) (sort : Sort) → means key c r ≡ true → has_sort (slice_get families r.family) sort ≡ true → has_sort (slice_get families c.family) sort ≡ true
 meant_sort families key c r sort m e = ap (λ (d : Cell). has_sort (slice_get families d.family) sort) (sym (same_cell-is (cell_of r key) c m)) ∙ e

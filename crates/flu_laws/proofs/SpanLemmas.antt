@@ -21,7 +21,7 @@ use Rattle.flu_laws.specs.Uses.{needs, mode_at}
 use Rattle.flu_laws.specs.Changes.{Change, Keep, Put, Gain, Reach, applied, reach, level_reached, change_by}
 use Rattle.flu_laws.specs.Spans.{Moment, is_between, change_at, changed_by, AreAtMost, SpansAddUp}
 use Rattle.flu_laws.proofs.Algebra.{added-joined, added-holds, joined_sums-comm, raised-joined, raised-holds, joined_maxima-comm}
-use Rattle.flu_laws.proofs.General.{and_false_left, and_false_right}
+use Rattle.std.proofs.lemmas.Bool.{and_left as and_false_left, and_right as and_false_right}
 use Rattle.flu_laws.proofs.Lawful.{added_sort, raised_sort, added_there, raised_there}
 use Rattle.flu_laws.proofs.Values.{HoldsSort, holds_sort, may_hold}
 

@@ -17,7 +17,8 @@ use Rattle.flu_model.specs.Itags.{tag_of_itag, ties_tags, is_dependent}
 use Rattle.flu_model.specs.Updates.{actions_of}
 use Rattle.flu_model.specs.Modes.{mode_in_version_1, mode_in_version_2, mode_among, modes_conflict, guard_reads, act_reads, action_reads, act_overwrites, act_adds, act_raises}
 use Rattle.flu_laws.specs.Uses.{needs, writes, AgreeOnNeeds}
-use Rattle.flu_laws.proofs.General.{or_turns, same_turns}
+use Rattle.flu_lemmas.proofs.Booleans.{or_turns}
+use Rattle.flu_lemmas.proofs.Numbers.{same_turns}
 use Rattle.flu_laws.proofs.Reading.{Agree, action_needs}
 
 -- ---- what the tests of a mode say
