@@ -10,7 +10,7 @@ use Rattle.flu_model.specs.declared.jobs.Program.{Program}
 use Rattle.flu_model.specs.declared.jobs.Sort.TheVariants.{Sum as SumSort, Max as MaxSort}
 use Rattle.flu_model.specs.declared.modes.Mode.{Mode}
 use Rattle.flu_model.specs.declared.modes.Mode.TheVariants.{None as NoMode, Add as AddMode, Raise as RaiseMode, Read as ReadMode, Own}
-use Rattle.flu_model.specs.Contents.{Contents, joined_worth}
+use Rattle.flu_model.specs.Contents.{Contents, added, raised, joined_worth}
 use Rattle.flu_model.specs.Itags.{tag_of_itag, is_dependent}
 use Rattle.flu_model.specs.Updates.{effect_of, actions_of}
 use Rattle.flu_model.specs.Rules.{has_sort}
@@ -19,7 +19,8 @@ use Rattle.flu_model.specs.Sorts.{is_cell_of, MayHold, IsStateOf}
 use Rattle.flu_laws.specs.Uses.{needs, writes, mixes, mode_at}
 use Rattle.flu_laws.specs.Changes.{applied, reach, level_reached, amount_added, change_by}
 use Rattle.flu_laws.specs.Lawful.{UsesAreDependent, AcceptanceByUses, amount_of, AcceptedIsLawful}
-use Rattle.flu_laws.proofs.Algebra.{joined-none, joined_sums-comm, joined_sums-assoc, joined_maxima-comm, joined_maxima-assoc, added-holds, added-mixes, raised-mixes, joined_family}
+use Rattle.flu_laws.specs.Updating.{ChangesKeepSorts, ChangesMix}
+use Rattle.flu_laws.proofs.Algebra.{joined-none, joined_sums-comm, joined_sums-assoc, joined_maxima-comm, joined_maxima-assoc, added-holds, added-mixes, raised-holds, raised-mixes, joined_family}
 use Rattle.flu_laws.proofs.Changing.{keeps}
 use Rattle.flu_laws.proofs.Keys.{key_in_range}
 use Rattle.flu_laws.proofs.Programs.{found_fits}
@@ -124,13 +125,63 @@ mix_turns p t c u v mix hu hv = at_mode (mode_of p t c) refl mix
     at_mode Own e h = cc
 
 -- ---- amounts
-reach_holds : (o : Option ℤ) → HoldsSort MaxSort (applied (reach o) None)
-reach_holds None = tt
-reach_holds (Some v) = tt
-
 reach_mixes : (o : Option ℤ) (w : Option Worth) → HoldsSort MaxSort w → applied (reach o) w ≡ joined_worth w (applied (reach o) None)
 reach_mixes None w p = sym (joined-none w)
 reach_mixes (Some v) w p = raised-mixes w v p
+
+next_leaves : (p : Program) (s : Contents) (x : Event) (c : Cell) → writes (mode_at p x c) ≡ false → (effect_of p s x).cells c ≡ s c
+next_leaves p s x c quiet =
+    let g : Tag = tag_of_itag p x.itag in
+    let idle = quiet_among p.version (actions_of (slice_get p.kinds g.kind)) g.key c quiet in
+    keeps p.families x g.key c (actions_of (slice_get p.kinds g.kind)) s idle.0 idle.1 idle.2
+
+-- ---- changes of one cell
+reach_keeps : (p : Program) (c : Cell) (l : Option ℤ) (w : Option Worth) → has_sort (slice_get p.families c.family) MaxSort ≡ true → is_cell_of p.families c ≡ true
+    → MayHold p.families c w → MayHold p.families c (applied (reach l) w)
+reach_keeps p c None w sort there h = h
+reach_keeps p c (Some v) w sort there h = may_hold p.families c MaxSort (raised w v) sort there (raised-holds w v (holds_sort p.families c MaxSort w sort h))
+
+pub changes_keep_sorts : ChangesKeepSorts
+changes_keep_sorts p s x c w sorted holds = at_mode (mode_at p x c) refl
+  where
+    at_mode : (m : Mode) → mode_at p x c ≡ m
+        → (let g : Tag = tag_of_itag p x.itag in MayHold p.families c (applied (change_by p.families m (actions_of (slice_get p.kinds g.kind)) s x g.key c) w))
+    at_mode NoMode e = holds
+    at_mode AddMode e =
+        let g : Tag = tag_of_itag p x.itag in
+        let n : ℤ = amount_added p.families (actions_of (slice_get p.kinds g.kind)) s x g.key c in
+        may_hold p.families c SumSort (added w n) (added_sort p g c e) (added_there p x.itag c e) (added-holds w n)
+    at_mode RaiseMode e =
+        let g : Tag = tag_of_itag p x.itag in
+        reach_keeps p c (level_reached p.families (actions_of (slice_get p.kinds g.kind)) s x g.key c) w (raised_sort p g c e) (raised_there p x.itag c e) holds
+    at_mode ReadMode e = holds
+    at_mode Own e = keeps_sorts p s x sorted c
+
+pub changes_mix : ChangesMix
+changes_mix p s x c w quiet holds = at_mode (mode_at p x c) refl quiet
+  where
+    at_mode : (m : Mode) → mode_at p x c ≡ m → needs m ≡ false
+        → (let g : Tag = tag_of_itag p x.itag in let h = change_by p.families m (actions_of (slice_get p.kinds g.kind)) s x g.key c in applied h w ≡ joined_worth w (applied h None))
+    at_mode NoMode e q = sym (joined-none w)
+    at_mode AddMode e q =
+        let g : Tag = tag_of_itag p x.itag in
+        added-mixes w (amount_added p.families (actions_of (slice_get p.kinds g.kind)) s x g.key c) (holds_sort p.families c SumSort w (added_sort p g c e) holds)
+    at_mode RaiseMode e q =
+        let g : Tag = tag_of_itag p x.itag in
+        reach_mixes (level_reached p.families (actions_of (slice_get p.kinds g.kind)) s x g.key c) w (holds_sort p.families c MaxSort w (raised_sort p g c e) holds)
+    at_mode ReadMode e q = cc
+    at_mode Own e q = cc
+
+mixes_quiet : (m : Mode) → mixes m ≡ true → needs m ≡ false
+mixes_quiet NoMode e = cc
+mixes_quiet AddMode e = refl
+mixes_quiet RaiseMode e = refl
+mixes_quiet ReadMode e = cc
+mixes_quiet Own e = cc
+
+next_mixes : (p : Program) (s : Contents) (x : Event) (c : Cell) → IsStateOf p.families s → mixes (mode_at p x c) ≡ true
+    → (effect_of p s x).cells c ≡ joined_worth (s c) (amount_of p s x c)
+next_mixes p s x c sorted mix = updates_are_changes p s x c sorted ∙ changes_mix p s x c (s c) (mixes_quiet (mode_at p x c) mix) (sorted c)
 
 amount_holds : (p : Program) (s : Contents) (x : Event) (c : Cell) → mixes (mode_at p x c) ≡ true → MayHold p.families c (amount_of p s x c)
 amount_holds p s x c mix = at_mode (mode_at p x c) refl mix
@@ -140,34 +191,13 @@ amount_holds p s x c mix = at_mode (mode_at p x c) refl mix
     at_mode NoMode e h = cc
     at_mode AddMode e h =
         let g : Tag = tag_of_itag p x.itag in
-        may_hold p.families c SumSort _ (added_sort p g c e) (added_there p x.itag c e) (added-holds None (amount_added p.families (actions_of (slice_get p.kinds g.kind)) s x g.key c))
+        let n : ℤ = amount_added p.families (actions_of (slice_get p.kinds g.kind)) s x g.key c in
+        may_hold p.families c SumSort (added None n) (added_sort p g c e) (added_there p x.itag c e) (added-holds None n)
     at_mode RaiseMode e h =
         let g : Tag = tag_of_itag p x.itag in
-        may_hold p.families c MaxSort _ (raised_sort p g c e) (raised_there p x.itag c e) (reach_holds (level_reached p.families (actions_of (slice_get p.kinds g.kind)) s x g.key c))
+        reach_keeps p c (level_reached p.families (actions_of (slice_get p.kinds g.kind)) s x g.key c) None (raised_sort p g c e) (raised_there p x.itag c e) tt
     at_mode ReadMode e h = cc
     at_mode Own e h = cc
-
-next_mixes : (p : Program) (s : Contents) (x : Event) (c : Cell) → IsStateOf p.families s → mixes (mode_at p x c) ≡ true
-    → (effect_of p s x).cells c ≡ joined_worth (s c) (amount_of p s x c)
-next_mixes p s x c sorted mix = updates_are_changes p s x c sorted ∙ at_mode (mode_at p x c) refl mix
-  where
-    at_mode : (m : Mode) → mode_at p x c ≡ m → mixes m ≡ true
-        → (let g : Tag = tag_of_itag p x.itag in let h = change_by p.families m (actions_of (slice_get p.kinds g.kind)) s x g.key c in applied h (s c) ≡ joined_worth (s c) (applied h None))
-    at_mode NoMode e h = cc
-    at_mode AddMode e h =
-        let g : Tag = tag_of_itag p x.itag in
-        added-mixes (s c) (amount_added p.families (actions_of (slice_get p.kinds g.kind)) s x g.key c) (holds_sort p.families c SumSort (s c) (added_sort p g c e) (sorted c))
-    at_mode RaiseMode e h =
-        let g : Tag = tag_of_itag p x.itag in
-        reach_mixes (level_reached p.families (actions_of (slice_get p.kinds g.kind)) s x g.key c) (s c) (holds_sort p.families c MaxSort (s c) (raised_sort p g c e) (sorted c))
-    at_mode ReadMode e h = cc
-    at_mode Own e h = cc
-
-next_leaves : (p : Program) (s : Contents) (x : Event) (c : Cell) → writes (mode_at p x c) ≡ false → (effect_of p s x).cells c ≡ s c
-next_leaves p s x c quiet =
-    let g : Tag = tag_of_itag p x.itag in
-    let idle = quiet_among p.version (actions_of (slice_get p.kinds g.kind)) g.key c quiet in
-    keeps p.families x g.key c (actions_of (slice_get p.kinds g.kind)) s idle.0 idle.1 idle.2
 
 pub accepted_is_lawful : AcceptedIsLawful
 accepted_is_lawful p accepted = record {

@@ -13,9 +13,9 @@ use Rattle.flu_model.specs.Itags.{tag_of_itag}
 use Rattle.flu_model.specs.Merging.{merged}
 use Rattle.flu_model.specs.Sorts.{IsStateOf}
 use Rattle.flu_model.specs.Updates.{actions_of, effect_of}
-use Rattle.flu_laws.specs.Uses.{needs, mode_at}
-use Rattle.flu_laws.specs.Changes.{Put, Gain, reach, change_by}
-use Rattle.flu_laws.specs.Updating.{TextsAreLocal, CellsAreLocal, ChangesAreLocal, UpdatesAreChanges, KeepsSorts, FoldKeepsSorts}
+use Rattle.flu_laws.specs.Uses.{needs, writes, mode_at}
+use Rattle.flu_laws.specs.Changes.{Keep, Put, Gain, reach, change_by}
+use Rattle.flu_laws.specs.Updating.{TextsAreLocal, CellsAreLocal, ChangesAreLocal, UpdatesAreChanges, KeepsSorts, FoldKeepsSorts, UnwrittenKeeps}
 use Rattle.flu_laws.proofs.Programs.{found_fits}
 use Rattle.flu_laws.proofs.Keys.{key_in_range}
 use Rattle.flu_laws.proofs.Uses.{agree_on_needs}
@@ -66,3 +66,14 @@ after_keeps p s (x ∷ xs) sorted = after_keeps p (effect_of p s x).cells xs (ke
 
 pub fold_keeps_sorts : FoldKeepsSorts
 fold_keeps_sorts p opening lists sorted = after_keeps p opening (merged lists) sorted
+
+pub unwritten_keeps : UnwrittenKeeps
+unwritten_keeps p s x c quiet = at_mode (mode_at p x c) quiet
+  where
+    at_mode : (m : Mode) → writes m ≡ false
+        → (let g : Tag = tag_of_itag p x.itag in change_by p.families m (actions_of (slice_get p.kinds g.kind)) s x g.key c ≡ Keep)
+    at_mode NoMode e = refl
+    at_mode ReadMode e = refl
+    at_mode AddMode e = cc
+    at_mode RaiseMode e = cc
+    at_mode Own e = cc

@@ -19,6 +19,10 @@ UsesAreDependent p =
     (a b : Tag) (c : Cell) → IsInUniverse p a → IsInUniverse p b
     → needs (mode_of p a c) ≡ true → writes (mode_of p b c) ≡ true → IsTrue (is_dependent p a b)
 
+-- dependency goes both ways
+abbrev pub DependencyTurns : Type 0
+DependencyTurns = (p : Program) (a b : Tag) → is_dependent p a b ≡ is_dependent p b a
+
 -- acceptance in one sentence
 abbrev pub AcceptanceByUses : Type 0
 AcceptanceByUses = (p : Program) → IsAccepted p ↔ UsesAreDependent p

@@ -3,10 +3,10 @@
 #![tactic(auto)]
 
 ghost use Rattle.flu_laws.specs.Consistency.{UpdatesLeft, UpdatesRight, Commutes, JoinsSplits};
-ghost use Rattle.flu_laws.specs.Lawful.{AcceptanceByUses, AcceptedIsLawful};
+ghost use Rattle.flu_laws.specs.Lawful.{AcceptanceByUses, AcceptedIsLawful, DependencyTurns};
 ghost use Rattle.flu_laws.specs.Lots.{CentralLaw};
-ghost use Rattle.flu_laws.specs.Spans.{SpansAddUp, UpdatesInPlace};
-ghost use Rattle.flu_laws.specs.Updating.{TextsAreLocal, CellsAreLocal, ChangesAreLocal, UpdatesAreChanges, KeepsSorts, FoldKeepsSorts};
+ghost use Rattle.flu_laws.specs.Spans.{MomentsAreOfEvents, PlacesRise, SpansAddUp, UpdatesInPlace};
+ghost use Rattle.flu_laws.specs.Updating.{TextsAreLocal, CellsAreLocal, ChangesAreLocal, UpdatesAreChanges, KeepsSorts, FoldKeepsSorts, UnwrittenKeeps, ChangesKeepSorts, ChangesMix};
 ghost use Rattle.flu_laws.specs.Versions.{NothingIsShared, OwnsWhatItReads, ConflictsWithoutRead};
 ghost use Rattle.flu_model.specs.Modes.{IsAccepted};
 ghost use Rattle.flu_model.specs.declared.jobs.Program.{Program};
@@ -42,6 +42,25 @@ pub fn updates_are_changes()
     ensures changes { UpdatesAreChanges }
     ensures sorts { KeepsSorts }
     ensures fold { FoldKeepsSorts }
+{}
+
+/// The change of a cell, by the mode of the event's tag there: none where the tag does not write it, and a value to be joined to what
+/// it holds where the tag does not need it. It keeps to the cell's sort.
+pub fn changes_keep_to_modes()
+    ensures idle { UnwrittenKeeps }
+    ensures sorts { ChangesKeepSorts }
+    ensures mixing { ChangesMix }
+{}
+
+/// Dependency of tags goes both ways.
+pub fn dependency_turns()
+    ensures { DependencyTurns }
+{}
+
+/// The moments of a fold are its events, in order, and their places rise.
+pub fn moments_are_in_order()
+    ensures events { MomentsAreOfEvents }
+    ensures places { PlacesRise }
 {}
 
 /// An accepted job is one in which a cell that one tag needs and another writes makes them dependent; and it has all that the
