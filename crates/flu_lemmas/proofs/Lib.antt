@@ -13,3 +13,4 @@ pub mod Sorting
 pub mod Tests
 pub mod Totals
 pub mod TwoNumbers
+pub mod Mapped
