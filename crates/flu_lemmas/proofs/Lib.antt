@@ -5,6 +5,7 @@ pub mod Digits
 pub mod Elements
 pub mod Loops
 pub mod Numbers
+pub mod OnlyOne
 pub mod Places
 pub mod Prefixes
 pub mod Ranges
