@@ -4,3 +4,6 @@ pub mod Searches
 pub mod Sorting
 pub mod Tests
 pub mod Totals
+pub mod Told
+pub mod Named
+pub mod Results

@@ -1,2 +1,4 @@
 pub mod Sorting
 pub mod Totals
+pub mod Told
+pub mod Named
