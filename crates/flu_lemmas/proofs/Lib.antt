@@ -4,13 +4,16 @@ pub mod Counting
 pub mod Digits
 pub mod Elements
 pub mod Loops
+pub mod Named
 pub mod Numbers
 pub mod OnlyOne
 pub mod Places
 pub mod Prefixes
 pub mod Ranges
+pub mod Results
 pub mod Searches
 pub mod Sorting
 pub mod Tests
+pub mod Told
 pub mod Totals
 pub mod TwoNumbers

@@ -3,3 +3,5 @@ pub mod Elements
 pub mod Loops
 pub mod Sorting
 pub mod Totals
+pub mod Told
+pub mod Named

@@ -1,6 +1,6 @@
 use Rattle.std.proofs.Common.{◌≡◌, ◌≤◌, ◌++◌, length}
 use Rattle.flu_outside.specs.Outside.{WhereTold}
-use Rattle.flu_report.proofs.writing.write_all.Given as goal
+use Rattle.flu_outside.proofs.writing.write_all.Given as goal
 
 abbrev pub invariant-loop-rest : goal.invariant-loop-rest
 invariant-loop-rest g l = record {
