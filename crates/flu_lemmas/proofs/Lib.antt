@@ -3,6 +3,7 @@ pub mod Containing
 pub mod Counting
 pub mod Digits
 pub mod Elements
+pub mod Items
 pub mod Loops
 pub mod Numbers
 pub mod Places
@@ -10,5 +11,6 @@ pub mod Prefixes
 pub mod Ranges
 pub mod Searches
 pub mod Sorting
+pub mod Spans
 pub mod Tests
 pub mod Totals
