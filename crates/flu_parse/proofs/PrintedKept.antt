@@ -111,6 +111,7 @@ module _ (text : List ℕ) (n : Naming) (numbered : Numbered family_number 0 n.f
         let inner = length-append name (key_text g.0) in
         let outer = length-append (123 ∷ (name ++ key_text g.0)) (125 ∷ []) in
         subst (λ r. length (piece_text families r) ≤ piece_size (p.Read v)) same (omega (arith, name_size, spelled_size text v.family.from v.family.to, key, inner, outer))
+    piece_printed place p.Formless r e = absurd cc
 
     pieces_printed : (place : ℕ) (done : List Piece) (qs : List WrittenPiece) (rs : List Piece) → each (collect (piece_of text n under place)) done qs ≡ Ok rs → length (template_text families rs) ≤ length (template_text families done) + pieces_size qs
     unfolding each

@@ -24,7 +24,7 @@ use Rattle.flu_syntax.specs.declared.tree.WrittenKey.TheVariants as k
 use Rattle.flu_parse.specs.declared.pieces.WrittenPiece.{WrittenPiece}
 use Rattle.flu_parse.specs.declared.pieces.WrittenPiece.TheVariants as p
 use Rattle.flu_parse.specs.Spelling.{is_boundary, spelled, inside, value_of}
-use Rattle.flu_parse.specs.Templates.{close_brace, open_brace, is_open_bracket, span, digits_at, key_at, ref_with, ref_at, field_at, Scan, with_plain, with_field, scan_byte, continued, end_of_scan, scan, scan_start, template_at}
+use Rattle.flu_parse.specs.Templates.{close_brace, open_brace, is_open_bracket, span, digits_at, key_at, ref_with, ref_at, field_at, braced, Scan, with_plain, with_piece, scan_byte, continued, end_of_scan, scan, scan_start, template_at}
 
 -- ---- how much of a text a piece takes at least, and prints at most
 
@@ -40,6 +40,7 @@ piece_size p.Key = 5
 piece_size p.Time = 6
 piece_size p.CellValue = 6
 piece_size (p.Read r) = r.family.to - r.family.from + key_size r.key + 2
+piece_size p.Formless = 0
 
 abbrev pub pieces_size : List WrittenPiece → ℕ
 pieces_size qs = total piece_size qs
@@ -154,6 +155,10 @@ field_size text in_flush from to q e =
           ]
     ]
 
+braced_size : (found : Option WrittenPiece) (most : ℕ) → ((q : WrittenPiece) → found ≡ Some q → piece_size q ≤ most) → piece_size (braced found) ≤ most
+braced_size None most small = omega arith
+braced_size (Some q) most small = small q refl
+
 -- ---- the scan of a template
 
 module _ (text : List ℕ) (in_flush : Bool) (start : ℕ) where
@@ -182,13 +187,22 @@ module _ (text : List ℕ) (in_flush : Bool) (start : ℕ) where
   unfolding scan_byte
   step_size qs from true place b next now e =
       let s : Scan = record { pieces = qs; start = from; in_field = true } in
-      elim (chosen (b == close_brace) (option_map (with_field s place) (field_at text in_flush from place)) (Some s) (Some next) e) [
+      let q : WrittenPiece = braced (field_at text in_flush from place) in
+      elim (chosen (b == close_brace) (Some (with_piece s place q)) (if b == open_brace then None else Some s) (Some next) e) [
         | inl h ↦
-            let m = mapped (with_field s place) (field_at text in_flush from place) next h.1 in
-            let field = field_size text in_flush from place m.0 m.1 in
-            let more = one_more_size qs m.0 in
-            subst (λ (s : Scan). Within s (place + 1)) m.2 (record { rises = omega arith; begins = omega (arith, now.begins); size = omega (arith, now.size, now.rises, now.begins, field, more) })
-        | inr h ↦ let same : s ≡ next = cc in subst (λ (s : Scan). Within s (place + 1)) same (record { rises = omega (arith, now.rises); begins = omega (arith, now.begins); size = omega (arith, now.size, now.rises, now.begins) })
+            let same : with_piece s place q ≡ next = cc in
+            let field = braced_size (field_at text in_flush from place) (place - from + 2) (field_size text in_flush from place) in
+            let more = one_more_size qs q in
+            subst (λ (s : Scan). Within s (place + 1)) same
+            (record { rises = omega arith; begins = omega (arith, now.begins); size = omega (arith, now.size, now.rises, now.begins, field, more) })
+        | inr h ↦
+            elim (chosen (b == open_brace) None (Some s) (Some next) h.1) [
+              | inl g ↦ absurd cc
+              | inr g ↦
+                  let same : s ≡ next = cc in
+                  subst (λ (s : Scan). Within s (place + 1)) same
+                  (record { rises = omega (arith, now.rises); begins = omega (arith, now.begins); size = omega (arith, now.size, now.rises, now.begins) })
+            ]
       ]
   step_size qs from false place b next now e =
       let s : Scan = record { pieces = qs; start = from; in_field = false } in

@@ -26,7 +26,7 @@ use Rattle.flu_parse.specs.Faults.{Found, each}
 use Rattle.flu_parse.specs.Spelling.{spelled, name_of, inside}
 use Rattle.flu_parse.specs.Naming.{Naming, look_up, known}
 use Rattle.flu_parse.specs.Cells.{brackets_fit, at_of}
-use Rattle.flu_parse.specs.Templates.{open_brace, close_brace, is_open_bracket, span, key_at, ref_with, ref_at, field_at, Scan, with_plain, with_field, scan_byte, continued, end_of_scan, scan, scan_start, template_at, known_names, own_key_fits, read_fits, piece_fits, piece_of, pieces_of, template_of}
+use Rattle.flu_parse.specs.Templates.{open_brace, close_brace, is_open_bracket, span, key_at, ref_with, ref_at, field_at, braced, Scan, with_plain, with_piece, scan_byte, continued, end_of_scan, scan, scan_start, template_at, known_names, own_key_fits, read_fits, piece_fits, piece_of, pieces_of, template_of}
 use Rattle.flu_parse.proofs.General.{one_more_passes}
 use Rattle.flu_parse.proofs.FaultLemmas.{collect}
 use Rattle.flu_parse.proofs.Looks.{bound, behind, passed}
@@ -50,6 +50,7 @@ is_written_plain p.Key = false
 is_written_plain p.Time = false
 is_written_plain p.CellValue = false
 is_written_plain (p.Read r) = false
+is_written_plain p.Formless = false
 
 abbrev first_is_plain : List Bool → Bool
 first_is_plain [] = false
@@ -108,7 +109,7 @@ behind_field (b ∷ bs) e =
     (behind_field bs (and_right (not (b && first_is_plain bs)) (apart bs) e))
 
 -- ---- fields
--- a field that is no plain piece, and stands in an emit or in a flush as it may
+-- what stands between two braces, in an emit or in a flush as it may, and is no plain piece
 abbrev IsField : Bool → WrittenPiece → Type 0
 IsField in_flush (p.Plain s) = ⊥
 IsField in_flush p.Value = Unit {0}
@@ -116,6 +117,7 @@ IsField in_flush p.Key = Unit {0}
 IsField in_flush p.Time = Unit {0}
 IsField in_flush p.CellValue = in_flush ≡ true
 IsField in_flush (p.Read r) = in_flush ≡ false
+IsField in_flush p.Formless = Unit {0}
 
 ref_is_field : (text : List ℕ) (from to : ℕ) (o : Option ℕ) (q : WrittenPiece) → ref_with text from to o ≡ Some q → IsField false q
 unfolding ref_with
@@ -156,6 +158,11 @@ no_plain_field in_flush p.Key field = refl
 no_plain_field in_flush p.Time field = refl
 no_plain_field in_flush p.CellValue field = refl
 no_plain_field in_flush (p.Read r) field = refl
+no_plain_field in_flush p.Formless field = refl
+
+braced_is_field : (in_flush : Bool) (found : Option WrittenPiece) → ((q : WrittenPiece) → found ≡ Some q → IsField in_flush q) → IsField in_flush (braced found)
+braced_is_field in_flush None is = tt
+braced_is_field in_flush (Some q) is = is q refl
 
 -- ---- the scan of a text
 plain_byte : (b : ℕ) → is_text_byte b ≡ true → (b == 123) ≡ false → (b == 125) ≡ false → is_plain_byte b ≡ true
@@ -170,6 +177,7 @@ module _ (text : List ℕ) (in_flush : Bool) (utf8 : IsUtf8 text) where
   IsGood p.Time = IsField in_flush p.Time
   IsGood p.CellValue = IsField in_flush p.CellValue
   IsGood (p.Read r) = IsField in_flush (p.Read r)
+  IsGood p.Formless = IsField in_flush p.Formless
 
   good_field : (q : WrittenPiece) → IsField in_flush q → IsGood q
   good_field (p.Plain s) field = absurd field
@@ -178,6 +186,7 @@ module _ (text : List ℕ) (in_flush : Bool) (utf8 : IsUtf8 text) where
   good_field p.Time field = field
   good_field p.CellValue field = field
   good_field (p.Read r) field = field
+  good_field p.Formless field = field
 
   abbrev plains : List WrittenPiece → List Bool
   plains qs = map is_written_plain qs
@@ -244,25 +253,34 @@ module _ (text : List ℕ) (in_flush : Bool) (utf8 : IsUtf8 text) where
       → scan_byte (field_at text in_flush) (record { pieces = qs; start = start; in_field = in_field }) place b ≡ Some next → Scanned next (place + 1)
   unfolding scan_byte
   step qs start true place b rest next now byte e =
-      elim (chosen (b == close_brace) (option_map (with_field (record { pieces = qs; start = start; in_field = true }) place) (field_at text in_flush start place)) (Some (record { pieces = qs; start = start; in_field = true })) (Some next) e) [
+      let s : Scan = record { pieces = qs; start = start; in_field = true } in
+      let q : WrittenPiece = braced (field_at text in_flush start place) in
+      elim (chosen (b == close_brace) (Some (with_piece s place q)) (if b == open_brace then None else Some s) (Some next) e) [
         | inl h ↦
-            let m = mapped (with_field (record { pieces = qs; start = start; in_field = true }) place) (field_at text in_flush start place) next h.1 in
-            let field = field_found text in_flush start place m.0 m.1 in
+            let same : with_piece s place q ≡ next = cc in
+            let field = braced_is_field in_flush (field_at text in_flush start place) (field_found text in_flush start place) in
             let is : b ≡ 125 = true_eq b 125 h.0 in
             let ends = boundary_at place b rest byte.here (omega (arith, is)) in
-            let shape : plains (qs ++ m.0 ∷ []) ++ true ∷ [] ≡ plains qs ++ false ∷ true ∷ [] =
-            ap (λ bs. bs ++ true ∷ []) (map-append is_written_plain qs (m.0 ∷ [])) ∙ append_assoc (plains qs) (is_written_plain m.0 ∷ []) (true ∷ []) ∙ ap (λ b. plains qs ++ b ∷ true ∷ []) (no_plain_field in_flush m.0 field) in
-            subst (λ (s : Scan). Scanned s (place + 1)) m.2 (
+            let shape : plains (qs ++ q ∷ []) ++ true ∷ [] ≡ plains qs ++ false ∷ true ∷ [] =
+            ap (λ bs. bs ++ true ∷ []) (map-append is_written_plain qs (q ∷ []))
+            ∙ append_assoc (plains qs) (is_written_plain q ∷ []) (true ∷ [])
+            ∙ ap (λ b. plains qs ++ b ∷ true ∷ []) (no_plain_field in_flush q field) in
+            subst (λ (s : Scan). Scanned s (place + 1)) same (
             record {
               begins = ends.1;
               rises = omega arith;
-              good = all_push IsGood qs m.0 now.good (good_field m.0 field);
+              good = all_push IsGood qs q now.good (good_field q field);
               is_open = (ap apart shape ∙ behind_field (plains qs) now.is_open, ap (list_all is_plain_byte) (nothing_yet (place + 1)));
             }
             )
         | inr h ↦
-            let same : record { pieces = qs; start = start; in_field = true } ≡ next = cc in
-            subst (λ (s : Scan). Scanned s (place + 1)) same (record { begins = now.begins; rises = omega (arith, now.rises); good = now.good; is_open = now.is_open })
+            elim (chosen (b == open_brace) None (Some s) (Some next) h.1) [
+              | inl g ↦ absurd cc
+              | inr g ↦
+                  let same : s ≡ next = cc in
+                  subst (λ (s : Scan). Scanned s (place + 1)) same
+                  (record { begins = now.begins; rises = omega (arith, now.rises); good = now.good; is_open = now.is_open })
+            ]
       ]
   step qs start false place b rest next now byte e =
       let opened : Scan = record { pieces = with_plain (record { pieces = qs; start = start; in_field = false }) place; start = place + 1; in_field = true } in
@@ -377,6 +395,7 @@ module _ (text : List ℕ) (utf8 : IsUtf8 text) (n : Naming) (numbered : Numbere
   emit_piece_kept place p.Time found good fits e = let same : piece.Time ≡ found = cc in ap (emit_piece_fits families under.keyed under.has_value) (sym same)
   emit_piece_kept place p.CellValue found good fits e = absurd cc
   emit_piece_kept place (p.Read r) found good fits e = read_kept place r found fits e
+  emit_piece_kept place p.Formless found good fits e = absurd cc
 
   flush_piece_kept : (place : ℕ) (q : WrittenPiece) (found : Piece) → IsGood text true utf8 q → piece_fits text n under true q ≡ true → piece_of text n under place q ≡ Ok found → flush_piece_fits under.has_value found ≡ true
   unfolding piece_of
@@ -386,6 +405,7 @@ module _ (text : List ℕ) (utf8 : IsUtf8 text) (n : Naming) (numbered : Numbere
   flush_piece_kept place p.Time found good fits e = let same : piece.Time ≡ found = cc in ap (flush_piece_fits under.has_value) (sym same)
   flush_piece_kept place p.CellValue found good fits e = let same : piece.CellValue ≡ found = cc in ap (flush_piece_fits under.has_value) (sym same)
   flush_piece_kept place (p.Read r) found good fits e = absurd cc
+  flush_piece_kept place p.Formless found good fits e = absurd cc
 
   -- a piece is plain where it was written so
   plain_kept : (place : ℕ) (q : WrittenPiece) (found : Piece) → piece_of text n under place q ≡ Ok found → is_plain_piece found ≡ is_written_plain q
@@ -400,6 +420,7 @@ module _ (text : List ℕ) (utf8 : IsUtf8 text) (n : Naming) (numbered : Numbere
       let g = bound (at_of under r.key) (λ at. Ok (piece.Read (record { family = h.0.number; at = at }))) found h.2 in
       let same : piece.Read (record { family = h.0.number; at = g.0 }) ≡ found = cc in
       ap is_plain_piece (sym same)
+  plain_kept place p.Formless found e = absurd cc
 
   plains_kept : (place : ℕ) (qs : List WrittenPiece) (ps : List Piece) → AreFound (piece_of text n under place) qs ps → map is_plain_piece ps ≡ map is_written_plain qs
   plains_kept place [] [] are = refl
