@@ -1,10 +1,10 @@
 //! Jobs that are read whole, compared with programs that are made of their parts.
 
-use crate::read_job;
 use flu_model::{
     Act, Action, At, CellRef, Depend, Expr, Family, Keys, Kind, List, Name, Op, Piece, Program,
     Sort, Source, TagRef, Text,
 };
+use flu_parse::{print_job, read_job};
 use flu_rules::program;
 use std::alloc::{AllocError, Global};
 use std::process::Abort;
@@ -64,6 +64,25 @@ source s2 \"s2.csv\" rate 1: r2
 source s3 \"s3.csv\" rate 10: z
 ";
 
+/// A job of version 2, whose trades share what they read, with a source whose rows may be late.
+pub const JOB_X: &str = "version 2
+cell price last
+cell vol sum
+tag quote int
+tag trade int
+tag shut none
+depends quote quote
+depends quote trade
+depends trade shut
+depends shut shut
+on quote: set price value
+on trade: add vol value * price; emit \"at {price}\"
+on shut: emit \"vol {vol}\"; clear vol
+source q \"q.csv\" rate 1: quote
+source t \"t.csv\" rate 100 slack 250: trade
+source s \"s.csv\" rate 1: shut
+";
+
 /// The text is read as this job. What is printed of a job is all that it has but the places of its boxes.
 fn expect_job(
     rt: &impl Abort,
@@ -71,11 +90,14 @@ fn expect_job(
     text: &str,
     job: Option<Program>,
 ) -> Result<(), Fail> {
-    let read = Some(read_job(alloc, text.as_bytes())?);
-    assert!(rt; job.is_some());
-    let read = format!(in alloc; "{read:?}")?;
-    let expected = format!(in alloc; "{job:?}")?;
-    assert_eq!(rt; read.as_str(), expected.as_str());
+    let read = print_job(alloc, &read_job(alloc, text.as_bytes())?)?;
+    match job {
+        Some(job) => {
+            let expected = print_job(alloc, &job)?;
+            assert_eq!(rt; read.as_str(), expected.as_str());
+        }
+        None => assert!(rt; false),
+    }
     Ok(())
 }
 
@@ -191,14 +213,18 @@ fn depends(alloc: Global, pairs: &[(u32, u32, bool)]) -> Result<List<Depend>, Al
     Ok(List::of(depends))
 }
 
-/// Sources, each with its name, its rate and its tags; the file of each has its name.
-fn sources(alloc: Global, listed: &[(&str, u64, &[TagRef])]) -> Result<List<Source>, AllocError> {
+/// Sources, each with its name, its rate, its slack and its tags; the file of each has its name.
+fn sources(
+    alloc: Global,
+    listed: &[(&str, u64, u64, &[TagRef])],
+) -> Result<List<Source>, AllocError> {
     let mut sources = Vec::new(alloc);
-    for (called, rate, tags) in listed {
+    for (called, rate, slack, tags) in listed {
         sources.push(Source {
             name: name(alloc, called)?,
             file: Text::of(format!(in alloc; "{called}.csv")?),
             rate: *rate,
+            slack: *slack,
             tags: List::of(tags.to_vec(alloc)?),
         })?;
     }
@@ -212,15 +238,16 @@ fn job_j(alloc: Global) -> Result<Option<Program>, AllocError> {
     let mut kinds = list(alloc, kind(alloc, "inc", false, true, adds)?)?;
     kinds.push(kind(alloc, "read", false, false, reads)?)?;
     Ok(program(
+        1,
         families(alloc, &[("count", false, Sort::Sum)])?,
         List::of(kinds),
         depends(alloc, &[(0, 1, false), (1, 1, false)])?,
         sources(
             alloc,
             &[
-                ("a", 1000, &[only(0)]),
-                ("b", 1000, &[only(0)]),
-                ("c", 1, &[only(1)]),
+                ("a", 1000, 0, &[only(0)]),
+                ("b", 1000, 0, &[only(0)]),
+                ("c", 1, 0, &[only(1)]),
             ],
         )?,
     ))
@@ -240,6 +267,7 @@ fn kinds_of_k(alloc: Global) -> Result<List<Kind>, AllocError> {
 
 fn job_k(alloc: Global) -> Result<Option<Program>, AllocError> {
     Ok(program(
+        1,
         families(
             alloc,
             &[("views", true, Sort::Sum), ("zip", true, Sort::Last)],
@@ -249,9 +277,9 @@ fn job_k(alloc: Global) -> Result<Option<Program>, AllocError> {
         sources(
             alloc,
             &[
-                ("web", 1000, &[ten(0)]),
-                ("app", 500, &[ten(0), ten(1)]),
-                ("clock", 1, &[only(2)]),
+                ("web", 1000, 0, &[ten(0)]),
+                ("app", 500, 0, &[ten(0), ten(1)]),
+                ("clock", 1, 0, &[only(2)]),
             ],
         )?,
     ))
@@ -275,13 +303,14 @@ fn actions_of_m(alloc: Global) -> Result<Vec<Action>, AllocError> {
 fn job_m(alloc: Global) -> Result<Option<Program>, AllocError> {
     let kinds = list(alloc, kind(alloc, "t", false, true, actions_of_m(alloc)?)?)?;
     Ok(program(
+        1,
         families(
             alloc,
             &[("hi", false, Sort::Max), ("seen", false, Sort::Last)],
         )?,
         List::of(kinds),
         depends(alloc, &[(0, 0, false)])?,
-        sources(alloc, &[("s", 1, &[only(0)])])?,
+        sources(alloc, &[("s", 1, 0, &[only(0)])])?,
     ))
 }
 
@@ -307,6 +336,7 @@ fn kinds_of_d(alloc: Global) -> Result<List<Kind>, AllocError> {
 
 fn job_d(alloc: Global) -> Result<Option<Program>, AllocError> {
     Ok(program(
+        1,
         families(alloc, &[("p", false, Sort::Last), ("q", false, Sort::Last)])?,
         kinds_of_d(alloc)?,
         depends(
@@ -322,9 +352,52 @@ fn job_d(alloc: Global) -> Result<Option<Program>, AllocError> {
         sources(
             alloc,
             &[
-                ("s1", 1, &[only(0)]),
-                ("s2", 1, &[only(1)]),
-                ("s3", 10, &[only(2)]),
+                ("s1", 1, 0, &[only(0)]),
+                ("s2", 1, 0, &[only(1)]),
+                ("s3", 10, 0, &[only(2)]),
+            ],
+        )?,
+    ))
+}
+
+fn kinds_of_x(alloc: Global) -> Result<List<Kind>, AllocError> {
+    let quotes = list(alloc, always(Act::Set(alone(0), Expr::Value)))?;
+    let value = Box::new(alloc, Expr::Value)?;
+    let price = Box::new(alloc, Expr::Read(alone(0)))?;
+    let worth = Expr::Two(Op::Times, value, price);
+    let mut trades = list(alloc, always(Act::Add(alone(1), worth)))?;
+    trades.push(told(alloc, "at ", alone(0))?)?;
+    let mut shuts = list(alloc, told(alloc, "vol ", alone(1))?)?;
+    shuts.push(always(Act::Clear(alone(1))))?;
+    let mut kinds = list(alloc, kind(alloc, "quote", false, true, quotes)?)?;
+    kinds.push(kind(alloc, "trade", false, true, trades)?)?;
+    kinds.push(kind(alloc, "shut", false, false, shuts)?)?;
+    Ok(List::of(kinds))
+}
+
+fn job_x(alloc: Global) -> Result<Option<Program>, AllocError> {
+    Ok(program(
+        2,
+        families(
+            alloc,
+            &[("price", false, Sort::Last), ("vol", false, Sort::Sum)],
+        )?,
+        kinds_of_x(alloc)?,
+        depends(
+            alloc,
+            &[
+                (0, 0, false),
+                (0, 1, false),
+                (1, 2, false),
+                (2, 2, false),
+            ],
+        )?,
+        sources(
+            alloc,
+            &[
+                ("q", 1, 0, &[only(0)]),
+                ("t", 100, 250, &[only(1)]),
+                ("s", 1, 0, &[only(2)]),
             ],
         )?,
     ))
@@ -332,6 +405,7 @@ fn job_d(alloc: Global) -> Result<Option<Program>, AllocError> {
 
 fn no_job(alloc: Global) -> Option<Program> {
     program(
+        1,
         List::of(Vec::new(alloc)),
         List::of(Vec::new(alloc)),
         List::of(Vec::new(alloc)),
@@ -347,5 +421,6 @@ fn whole_jobs(rt: HostRuntime) -> Result<(), Fail> {
     expect_job(&rt, alloc, JOB_K, job_k(alloc)?)?;
     expect_job(&rt, alloc, JOB_M, job_m(alloc)?)?;
     expect_job(&rt, alloc, JOB_D, job_d(alloc)?)?;
+    expect_job(&rt, alloc, JOB_X, job_x(alloc)?)?;
     Ok(())
 }

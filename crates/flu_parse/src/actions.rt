@@ -1,13 +1,13 @@
 //! Written actions.
 
 ghost use Rattle.std.specs.Prelude.{◌≡◌, map, option_map};
-ghost use Rattle.flu_model.specs.Erasure.{term_of as plain_term, deed_of as plain_deed, plain_action};
-ghost use Rattle.flu_syntax.specs.Tree.{view, deed_of as deed_seen, action_of as action_seen};
+ghost use Rattle.flu_model.specs.Erasure.{term_of as plain_term, plain_act, plain_action};
+ghost use Rattle.flu_syntax.specs.Tree.{view, deed_of as act_seen, action_of as action_seen};
 ghost use Rattle.flu_parse.specs.Faults.{Gives};
 ghost use Rattle.flu_parse.specs.Naming.{naming};
-ghost use Rattle.flu_parse.specs.Deeds.{deed_of, guard_of, action_of, with_action, actions_of};
+ghost use Rattle.flu_parse.specs.Actions.{resolved_act, guard_of, action_of, with_action, resolved_actions};
 
-use crate::cells::cell_of;
+use crate::cells::resolved_cell;
 use crate::faults::JobFault;
 use crate::names::{KindHead, Names};
 use crate::naming::family_of;
@@ -20,34 +20,34 @@ use std::alloc::Global;
 /// The most actions that a kind has.
 const MOST_ACTIONS: usize = 32;
 
-#[tactic(auto, unfolding(crate::specs::Deeds::deed_of))]
-fn deed_of(
+#[tactic(auto, unfolding(crate::specs::Actions::resolved_act))]
+fn resolved_act(
     alloc: Global,
     text: &str,
     names: &Names,
     under: KindHead,
     act: &WrittenAct,
 ) -> Result<Act, JobFault>
-    ensures { Gives plain_deed result (deed_of text.now (naming names.now) under (deed_seen act.now)) }
+    ensures { Gives plain_act result (resolved_act text.now (naming names.now) under (act_seen act.now)) }
 {
     match act {
         WrittenAct::Add(cell, written) => {
-            let cell = cell_of(text, names, under, Some(Sort::Sum), cell)?;
+            let cell = resolved_cell(text, names, under, Some(Sort::Sum), cell)?;
             let term = expression_of(alloc, text, names, under, written)?;
             Ok(Act::Add(cell, term))
         }
         WrittenAct::Raise(cell, written) => {
-            let cell = cell_of(text, names, under, Some(Sort::Max), cell)?;
+            let cell = resolved_cell(text, names, under, Some(Sort::Max), cell)?;
             let term = expression_of(alloc, text, names, under, written)?;
             Ok(Act::Raise(cell, term))
         }
         WrittenAct::Set(cell, written) => {
-            let cell = cell_of(text, names, under, Some(Sort::Last), cell)?;
+            let cell = resolved_cell(text, names, under, Some(Sort::Last), cell)?;
             let term = expression_of(alloc, text, names, under, written)?;
             Ok(Act::Set(cell, term))
         }
         WrittenAct::Clear(cell) => {
-            let cell = cell_of(text, names, under, None, cell)?;
+            let cell = resolved_cell(text, names, under, None, cell)?;
             Ok(Act::Clear(cell))
         }
         WrittenAct::Emit(template) => {
@@ -63,7 +63,7 @@ fn deed_of(
     }
 }
 
-#[tactic(auto, unfolding(crate::specs::Deeds::guard_of))]
+#[tactic(auto, unfolding(crate::specs::Actions::guard_of))]
 fn guard_of(
     alloc: Global,
     text: &str,
@@ -82,7 +82,7 @@ fn guard_of(
     }
 }
 
-#[tactic(auto, unfolding(crate::specs::Deeds::action_of))]
+#[tactic(auto, unfolding(crate::specs::Actions::action_of))]
 fn action_of(
     alloc: Global,
     text: &str,
@@ -92,12 +92,12 @@ fn action_of(
 ) -> Result<Action, JobFault>
     ensures { Gives plain_action result (action_of text.now (naming names.now) under (action_seen written.now)) }
 {
-    let act = deed_of(alloc, text, names, under, &written.act)?;
+    let act = resolved_act(alloc, text, names, under, &written.act)?;
     let guard = guard_of(alloc, text, names, under, &written.guard)?;
     Ok(Action { act, guard })
 }
 
-#[tactic(auto, unfolding(crate::specs::Deeds::with_action))]
+#[tactic(auto, unfolding(crate::specs::Actions::with_action))]
 fn add_action(
     alloc: Global,
     text: &str,
@@ -120,14 +120,14 @@ fn add_action(
 }
 
 /// What the actions of a kind mean, or the first fault in them.
-pub fn actions_of(
+pub fn resolved_actions(
     alloc: Global,
     text: &str,
     names: &Names,
     under: KindHead,
     written: &[WrittenAction],
 ) -> Result<List<Action>, JobFault>
-    ensures { Gives (map plain_action) result (actions_of text.now (naming names.now) under (map action_seen written.now)) }
+    ensures { Gives (map plain_action) result (resolved_actions text.now (naming names.now) under (map action_seen written.now)) }
 {
     let mut done = Vec::new(alloc);
     for action in written {

@@ -4,7 +4,7 @@ use Rattle.flu_model.specs.declared.limits.What.TheVariants.{Actions}
 use Rattle.flu_model.specs.declared.jobs.Sort.{Sort}
 use Rattle.flu_model.specs.declared.jobs.Sort.TheVariants.{Sum, Max, Last}
 use Rattle.flu_model.specs.declared.jobs.CellRef.{CellRef}
-use Rattle.flu_model.specs.Erasure.{Term, Deed, Adding, Raising, Setting, Clearing, Emitting, Flushing, PlainAction}
+use Rattle.flu_model.specs.Erasure.{Term, PlainAct, Adding, Raising, Setting, Clearing, Emitting, Flushing, PlainAction}
 use Rattle.flu_syntax.specs.declared.tokens.Verb.{Verb}
 use Rattle.flu_syntax.specs.declared.tokens.Verb.TheVariants as verb
 use Rattle.flu_syntax.specs.Tree.{Tree, Writes, Clears, Emits, Flushes}
@@ -13,7 +13,7 @@ use Rattle.flu_parse.specs.declared.faults.JobFault.TheVariants as f
 use Rattle.flu_parse.specs.declared.names.KindHead.{KindHead}
 use Rattle.flu_parse.specs.Faults.{Found, ◌>>=◌, ◌>>◌, unless, room, each}
 use Rattle.flu_parse.specs.Naming.{Naming, family_of}
-use Rattle.flu_parse.specs.Cells.{cell_of}
+use Rattle.flu_parse.specs.Cells.{resolved_cell}
 use Rattle.flu_parse.specs.Terms.{expression_of}
 use Rattle.flu_parse.specs.Templates.{template_of}
 
@@ -23,25 +23,25 @@ sort_for verb.Add = Sum
 sort_for verb.Raise = Max
 sort_for verb.Set = Last
 
-abbrev pub written : Verb → CellRef → Term → Deed
-written verb.Add cell term = Adding cell term
-written verb.Raise cell term = Raising cell term
-written verb.Set cell term = Setting cell term
+abbrev pub act_with : Verb → CellRef → Term → PlainAct
+act_with verb.Add cell term = Adding cell term
+act_with verb.Raise cell term = Raising cell term
+act_with verb.Set cell term = Setting cell term
 
 module _ (text : List ℕ) (n : Naming) (under : KindHead) where
   -- what an action does; a flush needs a keyed family
-  unfoldable pub deed_of : WrittenDeed → Found Deed
-  deed_of (Writes verb r e) = do
-    cell ← cell_of text n under (Some (sort_for verb)) r
+  unfoldable pub resolved_act : WrittenDeed → Found PlainAct
+  resolved_act (Writes verb r e) = do
+    cell ← resolved_cell text n under (Some (sort_for verb)) r
     term ← expression_of text n under e
-    Ok (written verb cell term)
-  deed_of (Clears r) = do
-    cell ← cell_of text n under None r
+    Ok (act_with verb cell term)
+  resolved_act (Clears r) = do
+    cell ← resolved_cell text n under None r
     Ok (Clearing cell)
-  deed_of (Emits template) = do
+  resolved_act (Emits template) = do
     pieces ← template_of text n under false template
     Ok (Emitting pieces)
-  deed_of (Flushes name template) = do
+  resolved_act (Flushes name template) = do
     family ← family_of text n name
     unless family.keyed (f.WrongShape name.from)
     pieces ← template_of text n under true template
@@ -53,9 +53,9 @@ module _ (text : List ℕ) (n : Naming) (under : KindHead) where
 
   unfoldable pub action_of : WrittenDo → Found PlainAction
   action_of a = do
-    deed ← deed_of a.deed
+    act ← resolved_act a.deed
     guard ← guard_of a.guard
-    Ok (record { deed = deed; guard = guard })
+    Ok (record { act = act; guard = guard })
 
   -- one action more, of at most 32
   unfoldable pub with_action : List PlainAction → WrittenDo → Found (List PlainAction)
@@ -64,5 +64,5 @@ module _ (text : List ℕ) (n : Naming) (under : KindHead) where
     action ← action_of a
     Ok (done ++ action ∷ [])
 
-  abbrev pub actions_of : List WrittenDo → Found (List PlainAction)
-  actions_of actions = each with_action [] actions
+  abbrev pub resolved_actions : List WrittenDo → Found (List PlainAction)
+  resolved_actions actions = each with_action [] actions

@@ -10,7 +10,8 @@ use Rattle.flu_lemmas.specs.Totals.{total}
 use Rattle.flu_lemmas.proofs.Tests.{and_left, and_right, both, not_true}
 use Rattle.flu_model.specs.declared.jobs.Sort.{Sort}
 use Rattle.flu_model.specs.declared.limits.What.TheVariants.{Families, Kinds, Sources, Depends}
-use Rattle.flu_model.specs.Rules.{is_name, are_distinct}
+use Rattle.flu_model.specs.Rules.{are_distinct}
+use Rattle.flu_names.specs.Names.{is_name}
 use Rattle.flu_text.specs.declared.words.Token.{Token}
 use Rattle.flu_syntax.specs.declared.tree.WrittenSpan.{WrittenSpan}
 use Rattle.flu_syntax.specs.Tree.{Declaration}
@@ -22,10 +23,10 @@ use Rattle.flu_parse.specs.declared.names.KindHead.{KindHead}
 use Rattle.flu_parse.specs.Faults.{◌>>◌, room}
 use Rattle.flu_parse.specs.Spelling.{name_of}
 use Rattle.flu_parse.specs.Naming.{Naming, look_up, is_declared, fresh_name, with_family, with_kind, with_source, declare, no_names, naming_of}
-use Rattle.flu_parse.proofs.General.{distinct_with}
+use Rattle.flu_parse.proofs.Distinct.{distinct_with}
 use Rattle.flu_parse.proofs.NamingLemmas.{undeclared}
 use Rattle.flu_parse.proofs.Looks.{bound, passed, had_room, each-keeps, each-counts, each-lists}
-use Rattle.flu_parse.proofs.WordsKept.{AreRead, name_stands}
+use Rattle.flu_parse.proofs.Kept.Words.{AreRead, name_stands}
 
 -- the head of what is declared at a place, and its number
 abbrev pub Numbered : {X : Type 0} → (X → ℕ) → ℕ → List (List ℕ × X) → Type 0
@@ -177,14 +178,14 @@ module _ (text : List ℕ) where
   depends_in (d.Tag s keyed has_value) = 0
   depends_in (d.Depends a b relation) = 1
   depends_in (d.On kind actions) = 0
-  depends_in (d.Source s file rate tags) = 0
+  depends_in (d.Source s file rate slack tags) = 0
 
   abbrev pub sources_in : Declaration → List (List ℕ)
   sources_in (d.Cell s keyed sort) = []
   sources_in (d.Tag s keyed has_value) = []
   sources_in (d.Depends a b relation) = []
   sources_in (d.On kind actions) = []
-  sources_in (d.Source s file rate tags) = name_of text s ∷ []
+  sources_in (d.Source s file rate slack tags) = name_of text s ∷ []
 
   counted : (n : Naming) (w : Declaration) (m : Naming) → declare text n w ≡ Ok m → m.depends ≡ n.depends + depends_in w
   unfolding declare
@@ -192,7 +193,7 @@ module _ (text : List ℕ) where
   counted n (d.Tag s keyed has_value) m e = ap (λ (k : Naming). k.depends) (sym (added_kind n s keyed has_value m e).2) ∙ sym (add-zero n.depends)
   counted n (d.Depends a b relation) m e = ap (λ (k : Naming). k.depends) (sym (added_depend n m e).1)
   counted n (d.On kind actions) m e = let same : n ≡ m = cc in ap (λ (k : Naming). k.depends) (sym same) ∙ sym (add-zero n.depends)
-  counted n (d.Source s file rate tags) m e = ap (λ (k : Naming). k.depends) (sym (added_source n s m e).2) ∙ sym (add-zero n.depends)
+  counted n (d.Source s file rate slack tags) m e = ap (λ (k : Naming). k.depends) (sym (added_source n s m e).2) ∙ sym (add-zero n.depends)
 
   listed : (n : Naming) (w : Declaration) (m : Naming) → declare text n w ≡ Ok m → m.sources ≡ n.sources ++ sources_in w
   unfolding declare
@@ -200,7 +201,7 @@ module _ (text : List ℕ) where
   listed n (d.Tag s keyed has_value) m e = ap (λ (k : Naming). k.sources) (sym (added_kind n s keyed has_value m e).2) ∙ sym (append-nil n.sources)
   listed n (d.Depends a b relation) m e = ap (λ (k : Naming). k.sources) (sym (added_depend n m e).1) ∙ sym (append-nil n.sources)
   listed n (d.On kind actions) m e = let same : n ≡ m = cc in ap (λ (k : Naming). k.sources) (sym same) ∙ sym (append-nil n.sources)
-  listed n (d.Source s file rate tags) m e = ap (λ (k : Naming). k.sources) (sym (added_source n s m e).2)
+  listed n (d.Source s file rate slack tags) m e = ap (λ (k : Naming). k.sources) (sym (added_source n s m e).2)
 
   pub naming_counts : (ds : List Declaration) (n : Naming) → naming_of text ds ≡ Ok n → n.depends ≡ total depends_in ds
   naming_counts ds n e =
@@ -260,7 +261,7 @@ module _ (text : List ℕ) where
         }
         )
     stays n (d.On kind actions) m keep words e = let same : n ≡ m = cc in subst NamesKeep same keep
-    stays n (d.Source s file rate tags) m keep words e =
+    stays n (d.Source s file rate slack tags) m keep words e =
         let a = added_source n s m e in
         let p = source_put n (name_of text s) keep a.0 (name_stands text ts read s words.0) in
         subst NamesKeep a.2 (

@@ -1,8 +1,10 @@
 -- Cells and expressions that are read keep the rules under their kind.
-use Rattle.std.proofs.Common.{◌≡◌, ℕ, ◌+◌, Bool, true, List, map, Option, Some, None, Ok, refl, sym, ap, subst, ◌∙◌}
+use Rattle.std.proofs.Common.{◌≡◌, ℕ, ◌+◌, ◌^◌, Bool, true, List, map, Option, Some, None, Ok, refl, sym, ap, subst, ◌∙◌}
 use Rattle.std.specs.Prelude.{◌&&◌, nat_lt, nat_le, max, slice_get, option_map}
 use Rattle.std.proofs.lemmas.Option.{slice_get-map}
-use Rattle.flu_lemmas.proofs.Tests.{and_left, and_right, both}
+use Rattle.std.specs.List.{AllByRecursion}
+use Rattle.flu_lemmas.proofs.Elements.{all_front, all_back}
+use Rattle.flu_lemmas.proofs.Tests.{and_left, and_right, both, lt_true}
 use Rattle.flu_model.specs.declared.limits.What.TheVariants.{Key, Height}
 use Rattle.flu_model.specs.declared.jobs.Sort.{Sort}
 use Rattle.flu_model.specs.declared.jobs.Sort.TheVariants.{Sum, Max, Last}
@@ -10,8 +12,14 @@ use Rattle.flu_model.specs.declared.jobs.Family.{Family}
 use Rattle.flu_model.specs.declared.jobs.At.{At}
 use Rattle.flu_model.specs.declared.jobs.At.TheVariants as cell
 use Rattle.flu_model.specs.declared.jobs.CellRef.{CellRef}
-use Rattle.flu_model.specs.Rules.{key_fits, is_sort, family_fits, has_sort, is_keyed, ref_fits, ref_has_sort}
+use Rattle.flu_model.specs.Rules.{is_literal, key_fits, is_sort, family_fits, has_sort, is_keyed, ref_fits, ref_has_sort}
 use Rattle.flu_model.specs.Erasure.{Term, Literal, EventValue, EventKey, EventTime, CellRead, CellHeld, Negative, Negation, Operation}
+use Rattle.flu_text.specs.declared.words.Word.{Word}
+use Rattle.flu_text.specs.declared.words.Word.TheVariants as w
+use Rattle.flu_text.specs.declared.words.Token.{Token}
+use Rattle.flu_text.specs.Grammar.{Spells, IsToken, bytes_of}
+use Rattle.flu_syntax.specs.Grammar.{At as AtPlace}
+use Rattle.flu_syntax.specs.Words.{Stands, tree_words}
 use Rattle.flu_syntax.specs.declared.tree.WrittenNumber.{WrittenNumber}
 use Rattle.flu_syntax.specs.declared.tree.WrittenKey.{WrittenKey}
 use Rattle.flu_syntax.specs.declared.tree.WrittenKey.TheVariants as k
@@ -20,14 +28,15 @@ use Rattle.flu_syntax.specs.Tree.{Tree, NumberTree, ValueTree, KeyTree, TimeTree
 use Rattle.flu_parse.specs.declared.faults.JobFault.TheVariants as f
 use Rattle.flu_parse.specs.declared.names.FamilyHead.{FamilyHead}
 use Rattle.flu_parse.specs.declared.names.KindHead.{KindHead}
-use Rattle.flu_parse.specs.Spelling.{name_of, value_of}
+use Rattle.flu_parse.specs.Spelling.{name_of, written_value}
 use Rattle.flu_parse.specs.Naming.{Naming, look_up, known}
-use Rattle.flu_parse.specs.Cells.{key_of, brackets_fit, is_wanted, family_for, at_of, cell_of}
+use Rattle.flu_parse.specs.Cells.{resolved_key, brackets_fit, is_wanted, family_for, at_of, resolved_cell}
 use Rattle.flu_parse.specs.Terms.{height, first_part, first_token, term_of, expression_of}
 use Rattle.flu_parse.specs.Resolving.{family}
 use Rattle.flu_parse.proofs.Looks.{bound, behind, passed}
-use Rattle.flu_parse.proofs.PlainRules.{term_fits, term_height, is_good_term}
-use Rattle.flu_parse.proofs.NamesKept.{Numbered, family_number, at_number}
+use Rattle.flu_parse.proofs.Kept.Words.{AreRead}
+use Rattle.flu_parse.proofs.Kept.Plain.{term_fits, term_height, is_good_term}
+use Rattle.flu_parse.proofs.Kept.Names.{Numbered, family_number, at_number}
 
 -- a family is known by its head
 pub was_known : {X : Type 0} (place : ℕ) (o : Option X) (x : X) → known place o ≡ Ok x → o ≡ Some x
@@ -35,10 +44,10 @@ was_known place None x e = absurd cc
 was_known place (Some y) x e = cc
 
 -- a key that is found is in range
-pub key_kept : (number : WrittenNumber) (key : ℕ) → key_of number ≡ Ok key → (nat_lt key 65536 ≡ true) × (value_of number.value ≡ key)
+pub key_kept : (number : WrittenNumber) (key : ℕ) → resolved_key number ≡ Ok key → (nat_lt key 65536 ≡ true) × (written_value number.value ≡ key)
 key_kept number key e =
-    let h = passed (nat_lt (value_of number.value) 65536) (f.OverLimit Key (value_of number.value)) (Ok (value_of number.value)) key e in
-    let same : value_of number.value ≡ key = cc in
+    let h = passed (nat_lt (written_value number.value) 65536) (f.OverLimit Key (written_value number.value)) (Ok (written_value number.value)) key e in
+    let same : written_value number.value ≡ key = cc in
     (ap (λ n. nat_lt n 65536) (sym same) ∙ h.0, same)
 
 -- where brackets fit, so does the key
@@ -49,7 +58,7 @@ at_kept keyed under (k.OwnKey place) at fits e =
     let same : cell.OwnKey ≡ at = cc in
     ap (key_fits keyed under.keyed) (sym same) ∙ both keyed under.keyed fits h.0
 at_kept keyed under (k.Fixed number) at fits e =
-    let h = bound (key_of number) (λ key. Ok (cell.Fixed key)) at e in
+    let h = bound (resolved_key number) (λ key. Ok (cell.Fixed key)) at e in
     let same : cell.Fixed h.0 ≡ at = cc in
     ap (key_fits keyed under.keyed) (sym same) ∙ both keyed (nat_lt h.0 65536) fits (key_kept number h.0 h.1).0
 
@@ -89,7 +98,7 @@ module _ (text : List ℕ) (n : Naming) (numbered : Numbered family_number 0 n.f
 
   module _ (under : KindHead) where
     -- a cell that is found: its family is looked up, of the wanted sort and with brackets that fit
-    found_cell : (wanted : Option Sort) (r : WrittenRef) (c : CellRef) → cell_of text n under wanted r ≡ Ok c
+    found_cell : (wanted : Option Sort) (r : WrittenRef) (c : CellRef) → resolved_cell text n under wanted r ≡ Ok c
         → (head : FamilyHead) × (at : At) × (look_up (name_of text r.family) n.families ≡ Some head) × (is_wanted wanted head.sort ≡ true) × (key_fits head.keyed under.keyed at ≡ true) × (record { family = head.number; at = at } ≡ c)
     found_cell wanted r c e =
         let one = bound (family_for text n wanted r) _ c e in
@@ -107,58 +116,69 @@ module _ (text : List ℕ) (n : Naming) (numbered : Numbered family_number 0 n.f
           cc,
         )
 
-    pub cell_kept : (wanted : Option Sort) (r : WrittenRef) (c : CellRef) → cell_of text n under wanted r ≡ Ok c → ref_fits families_of under.keyed c ≡ true
+    pub cell_kept : (wanted : Option Sort) (r : WrittenRef) (c : CellRef) → resolved_cell text n under wanted r ≡ Ok c → ref_fits families_of under.keyed c ≡ true
     cell_kept wanted r c e = let h = found_cell wanted r c e in ap (ref_fits families_of under.keyed) (sym h.5) ∙ ref_kept (name_of text r.family) h.0 under.keyed h.1 h.2 h.4
 
-    pub cell_has_sort : (sort : Sort) (r : WrittenRef) (c : CellRef) → cell_of text n under (Some sort) r ≡ Ok c → ref_has_sort families_of sort c ≡ true
+    pub cell_has_sort : (sort : Sort) (r : WrittenRef) (c : CellRef) → resolved_cell text n under (Some sort) r ≡ Ok c → ref_has_sort families_of sort c ≡ true
     cell_has_sort sort r c e = let h = found_cell (Some sort) r c e in ap (ref_has_sort families_of sort) (sym h.5) ∙ sort_kept (name_of text r.family) h.0 sort h.1 h.2 h.3
 
-    abbrev Kept : Tree → Term → Type 0
-    Kept e t = (term_fits families_of under.keyed under.has_value t ≡ true) × (term_height t ≡ height e)
+    -- ---- expressions of words that stand in the text
 
-    term_kept : (e : Tree) (t : Term) → term_of text n under e ≡ Ok t → Kept e t
-    unfolding term_of
-    term_kept (NumberTree m) t e = let same : Literal m.value ≡ t = cc in subst (Kept (NumberTree m)) same (refl, refl)
-    term_kept (ValueTree at) t e =
-        let h = passed under.has_value (f.WrongShape at) (Ok EventValue) t e in
-        let same : EventValue ≡ t = cc in
-        subst (Kept (ValueTree at)) same (h.0, refl)
-    term_kept (KeyTree at) t e =
-        let h = passed under.keyed (f.WrongShape at) (Ok EventKey) t e in
-        let same : EventKey ≡ t = cc in
-        subst (Kept (KeyTree at)) same (h.0, refl)
-    term_kept (TimeTree at) t e = let same : EventTime ≡ t = cc in subst (Kept (TimeTree at)) same (refl, refl)
-    term_kept (ReadTree r) t e =
-        let h = bound (cell_of text n under None r) (λ c. Ok (CellRead c)) t e in
-        let same : CellRead h.0 ≡ t = cc in
-        subst (Kept (ReadTree r)) same (cell_kept None r h.0 h.1, refl)
-    term_kept (HasTree at r) t e =
-        let h = bound (cell_of text n under None r) (λ c. Ok (CellHeld c)) t e in
-        let same : CellHeld h.0 ≡ t = cc in
-        subst (Kept (HasTree at r)) same (cell_kept None r h.0 h.1, refl)
-    term_kept (ParenTree at inner) t e = term_kept inner t e
-    term_kept (NegTree at inner) t e =
-        let h = bound (term_of text n under inner) (λ s. Ok (Negative s)) t e in
-        let same : Negative h.0 ≡ t = cc in
-        let rest = term_kept inner h.0 h.1 in
-        subst (Kept (NegTree at inner)) same (rest.0, ap (λ m. m + 1) rest.1)
-    term_kept (NotTree at inner) t e =
-        let h = bound (term_of text n under inner) (λ s. Ok (Negation s)) t e in
-        let same : Negation h.0 ≡ t = cc in
-        let rest = term_kept inner h.0 h.1 in
-        subst (Kept (NotTree at inner)) same (rest.0, ap (λ m. m + 1) rest.1)
-    term_kept (TwoTree op a b) t e =
-        let h = bound (term_of text n under a) _ t e in
-        let g = bound (term_of text n under b) (λ s. Ok (Operation op h.0 s)) t h.2 in
-        let same : Operation op h.0 g.0 ≡ t = cc in
-        let left = term_kept a h.0 h.1 in
-        let right = term_kept b g.0 g.1 in
-        subst (Kept (TwoTree op a b)) same (both (term_fits families_of under.keyed under.has_value h.0) (term_fits families_of under.keyed under.has_value g.0) left.0 right.0, λ i. max (left.1 i) (right.1 i) + 1)
+    module _ (ts : List Token) (read : AreRead text ts) where
+      number_kept : (m : WrittenNumber) → Stands ts (AtPlace (w.Number m.value) m.at) → is_literal m.value ≡ true
+      number_kept m stands =
+          let t : Token = stands.0 in
+          let there : IsToken text t = let h = stands.1 in subst (IsToken text) h.2 (read.each h.0 t h.1) in
+          let number : Spells (w.Number m.value) (bytes_of text t) = subst (λ (word : Word). Spells word (bytes_of text t)) stands.2.0 there.spelled in
+          ap is_literal number.value ∙ lt_true _ (2 ^ 63) number.small
 
-    pub expression_kept : (e : Tree) (t : Term) → expression_of text n under e ≡ Ok t → is_good_term families_of under.keyed under.has_value t ≡ true
-    unfolding expression_of
-    expression_kept e t found =
-        let one = behind (first_token text n under (first_part e)) _ t found in
-        let two = passed (nat_le (height e) 32) (f.OverLimit Height 33) (term_of text n under e) t one.2 in
-        let kept = term_kept e t two.1 in
-        both (term_fits families_of under.keyed under.has_value t) (nat_le (term_height t) 32) kept.0 (ap (λ m. nat_le m 32) kept.1 ∙ two.0)
+      abbrev Kept : Tree → Term → Type 0
+      Kept e t = (term_fits families_of under.keyed under.has_value t ≡ true) × (term_height t ≡ height e)
+
+      term_kept : (e : Tree) (t : Term) → AllByRecursion (Stands ts) (tree_words e) → term_of text n under e ≡ Ok t → Kept e t
+      unfolding term_of
+      term_kept (NumberTree m) t words e = let same : Literal m.value ≡ t = cc in subst (Kept (NumberTree m)) same (number_kept m words.0, refl)
+      term_kept (ValueTree at) t words e =
+          let h = passed under.has_value (f.WrongShape at) (Ok EventValue) t e in
+          let same : EventValue ≡ t = cc in
+          subst (Kept (ValueTree at)) same (h.0, refl)
+      term_kept (KeyTree at) t words e =
+          let h = passed under.keyed (f.WrongShape at) (Ok EventKey) t e in
+          let same : EventKey ≡ t = cc in
+          subst (Kept (KeyTree at)) same (h.0, refl)
+      term_kept (TimeTree at) t words e = let same : EventTime ≡ t = cc in subst (Kept (TimeTree at)) same (refl, refl)
+      term_kept (ReadTree r) t words e =
+          let h = bound (resolved_cell text n under None r) (λ c. Ok (CellRead c)) t e in
+          let same : CellRead h.0 ≡ t = cc in
+          subst (Kept (ReadTree r)) same (cell_kept None r h.0 h.1, refl)
+      term_kept (HasTree at r) t words e =
+          let h = bound (resolved_cell text n under None r) (λ c. Ok (CellHeld c)) t e in
+          let same : CellHeld h.0 ≡ t = cc in
+          subst (Kept (HasTree at r)) same (cell_kept None r h.0 h.1, refl)
+      term_kept (ParenTree at inner) t words e = term_kept inner t words e
+      term_kept (NegTree at inner) t words e =
+          let h = bound (term_of text n under inner) (λ s. Ok (Negative s)) t e in
+          let same : Negative h.0 ≡ t = cc in
+          let rest = term_kept inner h.0 words h.1 in
+          subst (Kept (NegTree at inner)) same (rest.0, ap (λ m. m + 1) rest.1)
+      term_kept (NotTree at inner) t words e =
+          let h = bound (term_of text n under inner) (λ s. Ok (Negation s)) t e in
+          let same : Negation h.0 ≡ t = cc in
+          let rest = term_kept inner h.0 words h.1 in
+          subst (Kept (NotTree at inner)) same (rest.0, ap (λ m. m + 1) rest.1)
+      term_kept (TwoTree op a b) t words e =
+          let h = bound (term_of text n under a) _ t e in
+          let g = bound (term_of text n under b) (λ s. Ok (Operation op h.0 s)) t h.2 in
+          let same : Operation op h.0 g.0 ≡ t = cc in
+          let left = term_kept a h.0 (all_front (Stands ts) (tree_words a) (tree_words b) words) h.1 in
+          let right = term_kept b g.0 (all_back (Stands ts) (tree_words a) (tree_words b) words) g.1 in
+          let fits = term_fits families_of under.keyed under.has_value in
+          subst (Kept (TwoTree op a b)) same (both (fits h.0) (fits g.0) left.0 right.0, λ i. max (left.1 i) (right.1 i) + 1)
+
+      pub expression_kept : (e : Tree) (t : Term) → AllByRecursion (Stands ts) (tree_words e) → expression_of text n under e ≡ Ok t → is_good_term families_of under.keyed under.has_value t ≡ true
+      unfolding expression_of
+      expression_kept e t words found =
+          let one = behind (first_token text n under (first_part e)) _ t found in
+          let two = passed (nat_le (height e) 32) (f.OverLimit Height 33) (term_of text n under e) t one.2 in
+          let kept = term_kept e t words two.1 in
+          both (term_fits families_of under.keyed under.has_value t) (nat_le (term_height t) 32) kept.0 (ap (λ m. nat_le m 32) kept.1 ∙ two.0)

@@ -1,4 +1,4 @@
--- A template that is read prints as a text that is no longer than the one it was read from.
+-- How much of its text each piece of a template takes, at the least.
 use Rattle.std.proofs.Common.{◌≡◌, ◌≤◌, ◌+◌, ◌-◌, ◌^◌, ℕ, pos, Bool, true, false, ◌&&◌, List, [], ◌∷◌, ◌++◌, length, drop, Option, Some, None, inl, inr, refl, ap, subst, ◌∙◌, arith}
 use Rattle.std.specs.Prelude.{nat_lt, nat_le, ◌==◌, slice_range, option_map, position, codes, if◌then◌else◌}
 use Rattle.std.specs.Char.{is_ascii_digit}
@@ -15,23 +15,23 @@ use Rattle.flu_lemmas.specs.Totals.{total}
 use Rattle.flu_lemmas.proofs.Totals.{total-append}
 use Rattle.flu_lemmas.proofs.Prefixes.{chosen, mapped}
 use Rattle.flu_lemmas.proofs.Tests.{and_left, and_right, true_lt}
-use Rattle.flu_text.proofs.Digits.{digit_in_range}
+use Rattle.flu_lemmas.proofs.Digits.{digit_in_range}
 use Rattle.flu_text.specs.Lexeme.{number_of}
-use Rattle.flu_model.specs.Rules.{is_name}
+use Rattle.flu_names.specs.Names.{is_name}
 use Rattle.flu_syntax.specs.declared.tree.WrittenSpan.{WrittenSpan}
 use Rattle.flu_syntax.specs.declared.tree.WrittenKey.{WrittenKey}
 use Rattle.flu_syntax.specs.declared.tree.WrittenKey.TheVariants as k
 use Rattle.flu_parse.specs.declared.pieces.WrittenPiece.{WrittenPiece}
 use Rattle.flu_parse.specs.declared.pieces.WrittenPiece.TheVariants as p
-use Rattle.flu_parse.specs.Spelling.{is_boundary, spelled, inside, value_of}
+use Rattle.flu_parse.specs.Spelling.{is_boundary, spelled, inside, written_value}
 use Rattle.flu_parse.specs.Templates.{close_brace, open_brace, is_open_bracket, span, digits_at, key_at, ref_with, ref_at, field_at, braced, Scan, with_plain, with_piece, scan_byte, continued, end_of_scan, scan, scan_start, template_at}
 
--- ---- how much of a text a piece takes at least, and prints at most
+-- ---- how much of a text a piece takes at least, and is written in at most
 
 abbrev pub key_size : WrittenKey → ℕ
 key_size k.Alone = 0
 key_size (k.OwnKey place) = 5
-key_size (k.Fixed number) = length (decimal (value_of number.value)) + 2
+key_size (k.Fixed number) = length (decimal (written_value number.value)) + 2
 
 abbrev pub piece_size : WrittenPiece → ℕ
 piece_size (p.Plain s) = s.to - s.from

@@ -7,12 +7,14 @@ use Rattle.std.proofs.lemmas.List.{drop-drop, length-take, length-drop, append-n
 use Rattle.std.proofs.lemmas.List.Folds.{drop_split}
 use Rattle.std.proofs.lemmas.Str.{IsCharBoundary-before_ascii, IsCharBoundary-after_ascii}
 use Rattle.flu_lemmas.proofs.Tests.{and_left, and_right, both, lt_true, true_lt, true_eq}
-use Rattle.flu_lemmas.proofs.Elements.{all_push}
+use Rattle.flu_lemmas.proofs.Elements.{all_push, list_all_push}
 use Rattle.flu_lemmas.proofs.Prefixes.{chosen, mapped, drop_one_more, take_one_more}
 use Rattle.flu_model.specs.declared.jobs.Family.{Family}
 use Rattle.flu_model.specs.declared.jobs.Piece.{Piece}
 use Rattle.flu_model.specs.declared.jobs.Piece.TheVariants as piece
-use Rattle.flu_model.specs.Rules.{is_name, is_text_byte, is_plain_byte, is_plain, emit_piece_fits, flush_piece_fits, follows_plain, are_apart, emit_template_fits, flush_template_fits}
+use Rattle.flu_model.specs.Rules.{is_plain_byte, is_plain, emit_piece_fits, flush_piece_fits, follows_plain, are_apart, is_short, emit_template_fits, flush_template_fits}
+use Rattle.flu_model.specs.Templates.{written_template}
+use Rattle.flu_names.specs.Names.{is_name, is_text_byte}
 use Rattle.flu_text.specs.declared.words.Word.TheVariants as w
 use Rattle.flu_text.specs.Grammar.{IsInside}
 use Rattle.flu_syntax.specs.declared.tree.WrittenSpan.{WrittenSpan}
@@ -27,12 +29,12 @@ use Rattle.flu_parse.specs.Spelling.{spelled, name_of, inside}
 use Rattle.flu_parse.specs.Naming.{Naming, look_up, known}
 use Rattle.flu_parse.specs.Cells.{brackets_fit, at_of}
 use Rattle.flu_parse.specs.Templates.{open_brace, close_brace, is_open_bracket, span, key_at, ref_with, ref_at, field_at, braced, Scan, with_plain, with_piece, scan_byte, continued, end_of_scan, scan, scan_start, template_at, known_names, own_key_fits, read_fits, piece_fits, piece_of, pieces_of, template_of}
-use Rattle.flu_parse.proofs.General.{one_more_passes}
 use Rattle.flu_parse.proofs.FaultLemmas.{collect}
 use Rattle.flu_parse.proofs.Looks.{bound, behind, passed}
-use Rattle.flu_parse.proofs.WordsKept.{spelled_between, inside_bytes, inside_is_text}
-use Rattle.flu_parse.proofs.NamesKept.{Numbered, family_number}
-use Rattle.flu_parse.proofs.TermsKept.{was_known, at_kept, families_of, ref_kept}
+use Rattle.flu_parse.proofs.Kept.Words.{spelled_between, inside_bytes, inside_is_text, inside_is_short}
+use Rattle.flu_parse.proofs.Kept.Names.{Numbered, family_number}
+use Rattle.flu_parse.proofs.Kept.Terms.{was_known, at_kept, families_of, ref_kept}
+use Rattle.flu_parse.proofs.Kept.Written.{template_short}
 
 -- ---- plain pieces that are apart, by which of the pieces are plain
 abbrev is_plain_piece : Piece → Bool
@@ -235,7 +237,7 @@ module _ (text : List ℕ) (in_flush : Bool) (utf8 : IsUtf8 text) where
       let more = take_one_more (drop start text) (place - start) b rest there in
       let count : place + 1 - start ≡ place - start + 1 = omega arith in
       ap (λ (j : ℕ). list_all is_plain_byte (take j (drop start text))) count ∙ ap (list_all is_plain_byte) more.1
-      ∙ one_more_passes is_plain_byte (slice_range text start place) b all plain
+      ∙ list_all_push is_plain_byte (slice_range text start place) b all plain
 
   -- what is known of one byte more
   record Byte (place b : ℕ) (rest : List ℕ) : Type 0 where
@@ -450,18 +452,31 @@ module _ (text : List ℕ) (utf8 : IsUtf8 text) (n : Naming) (numbered : Numbere
       let whole = and_left t.whole (list_all (piece_fits text n under in_flush) t.pieces) two.0 in
       (template_kept text in_flush utf8 s within whole, and_right t.whole (list_all (piece_fits text n under in_flush) t.pieces) two.0, subst (AreFound (piece_of text n under s.from) t.pieces) (sym three.1) three.2)
 
-  pub emit_kept : (s : WrittenSpan) (ps : List Piece) → IsInside text (record { word = w.Text; from = s.from; to = s.to }) → template_of text n under false s ≡ Ok ps → emit_template_fits families under.keyed under.has_value ps ≡ true
+  -- the text that they are written as is no longer than the one that was read
+  short_kept : (in_flush : Bool) (s : WrittenSpan) (ps : List Piece) → IsInside text (record { word = w.Text; from = s.from; to = s.to })
+      → template_of text n under in_flush s ≡ Ok ps → is_short (written_template families ps) ≡ true
+  short_kept in_flush s ps within e = template_short text n numbered under in_flush s ps (inside_is_short text s within) e
+
+  pub emit_kept : (s : WrittenSpan) (ps : List Piece) → IsInside text (record { word = w.Text; from = s.from; to = s.to })
+      → template_of text n under false s ≡ Ok ps → emit_template_fits families under.keyed under.has_value ps ≡ true
   emit_kept s ps within e =
       let h = found_pieces false s ps within e in
       let qs = (template_at text false s).pieces in
-      both (list_all (emit_piece_fits families under.keyed under.has_value) ps) (are_apart ps)
-      (all_kept false s.from (emit_piece_fits families under.keyed under.has_value) (emit_piece_kept s.from) qs ps h.0.good h.1 h.2)
-      (pieces_apart ps ∙ ap apart (plains_kept s.from qs ps h.2) ∙ h.0.are_apart)
+      let fits = emit_piece_fits families under.keyed under.has_value in
+      both (list_all fits ps && are_apart ps) (is_short (written_template families ps))
+      (both (list_all fits ps) (are_apart ps)
+      (all_kept false s.from fits (emit_piece_kept s.from) qs ps h.0.good h.1 h.2)
+      (pieces_apart ps ∙ ap apart (plains_kept s.from qs ps h.2) ∙ h.0.are_apart))
+      (short_kept false s ps within e)
 
-  pub flush_kept : (s : WrittenSpan) (ps : List Piece) → IsInside text (record { word = w.Text; from = s.from; to = s.to }) → template_of text n under true s ≡ Ok ps → flush_template_fits under.has_value ps ≡ true
+  pub flush_kept : (s : WrittenSpan) (ps : List Piece) → IsInside text (record { word = w.Text; from = s.from; to = s.to })
+      → template_of text n under true s ≡ Ok ps → flush_template_fits families under.has_value ps ≡ true
   flush_kept s ps within e =
       let h = found_pieces true s ps within e in
       let qs = (template_at text true s).pieces in
-      both (list_all (flush_piece_fits under.has_value) ps) (are_apart ps)
-      (all_kept true s.from (flush_piece_fits under.has_value) (flush_piece_kept s.from) qs ps h.0.good h.1 h.2)
-      (pieces_apart ps ∙ ap apart (plains_kept s.from qs ps h.2) ∙ h.0.are_apart)
+      let fits = flush_piece_fits under.has_value in
+      both (list_all fits ps && are_apart ps) (is_short (written_template families ps))
+      (both (list_all fits ps) (are_apart ps)
+      (all_kept true s.from fits (flush_piece_kept s.from) qs ps h.0.good h.1 h.2)
+      (pieces_apart ps ∙ ap apart (plains_kept s.from qs ps h.2) ∙ h.0.are_apart))
+      (short_kept true s ps within e)

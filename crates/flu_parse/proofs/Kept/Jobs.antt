@@ -1,7 +1,7 @@
 -- What is read keeps the rules of the language, all of them.
 use Rattle.std.proofs.Common.{◌≡◌, ℕ, zero, suc, ◌+◌, ◌≤◌, Bool, true, false, List, [], ◌∷◌, ◌++◌, map, length, Option, Some, Ok, Err, refl, sym, ap, subst, ◌∙◌, add-zero, arith}
 use Rattle.std.specs.Prelude.{◌&&◌, ◌||◌, ◌==◌, not, nat_lt, nat_le, slice_get, option_map}
-use Rattle.std.specs.List.{list_all, list_any, AllByRecursion}
+use Rattle.std.specs.List.{list_all, list_any, flat_map, AllByRecursion}
 use Rattle.std.specs.Str.{IsUtf8, is_utf8}
 use Rattle.std.specs.Str.Lossy.{utf8_valid_len}
 use Rattle.std.proofs.lemmas.Cmp.{nat_list_eq_equiv}
@@ -11,6 +11,7 @@ use Rattle.std.proofs.lemmas.List.Folds.{list_all-append, list_all-map}
 use Rattle.std.proofs.lemmas.Simd.{map-map}
 use Rattle.std.proofs.lemmas.Option.{slice_get_within, slice_get-map}
 use Rattle.flu_lemmas.specs.Totals.{total}
+use Rattle.flu_lemmas.proofs.Elements.{all_back, all_of_each, list_all_push}
 use Rattle.flu_lemmas.proofs.Tests.{and_left, and_right, both, le_true, lt_true}
 use Rattle.flu_lemmas.proofs.Searches.{list_any-map}
 use Rattle.flu_model.specs.declared.limits.What.TheVariants.{Bytes}
@@ -18,12 +19,14 @@ use Rattle.flu_model.specs.declared.jobs.Family.{Family}
 use Rattle.flu_model.specs.declared.jobs.Kind.{Kind}
 use Rattle.flu_model.specs.declared.jobs.Source.{Source}
 use Rattle.flu_model.specs.Listing.{tags_of_source, itags_of_sources}
-use Rattle.flu_model.specs.Rules.{is_name, is_same_text, are_distinct}
+use Rattle.flu_model.specs.Rules.{is_same_text, are_distinct, is_version}
+use Rattle.flu_names.specs.Names.{is_name}
 use Rattle.flu_model.specs.Erasure.{PlainAction, PlainKind, Job, plain_kind}
 use Rattle.flu_rules.specs.Kept.{KeepsRules}
+use Rattle.flu_rules.specs.Keys.{TagsMeet, TagsDiffer}
 use Rattle.flu_text.specs.declared.words.Token.{Token}
 use Rattle.flu_text.specs.Reading.{reading, Reading}
-use Rattle.flu_text.specs.Laws.{ReadingIsTokens, EachIsToken, EachIsSpan, EachIsInside}
+use Rattle.flu_text.specs.Laws.{ReadingIsTokens, EachIsToken, EachIsSpan, EachIsInside, NamesAreTested}
 use Rattle.flu_syntax.specs.declared.tree.WrittenSpan.{WrittenSpan}
 use Rattle.flu_syntax.specs.declared.tree.WrittenNumber.{WrittenNumber}
 use Rattle.flu_syntax.specs.declared.tree.WrittenTag.{WrittenTag}
@@ -33,25 +36,26 @@ use Rattle.flu_syntax.specs.Tree.{Action, Declaration}
 use Rattle.flu_syntax.specs.Tree as tree
 use Rattle.flu_syntax.specs.Machine.{Verdict, verdict, Unexpected, TooDeep}
 use Rattle.flu_syntax.specs.Machine.{Found as IsFound}
-use Rattle.flu_syntax.specs.Grammar.{FoundIsJob, IsDeclaration, AreDeclarations}
-use Rattle.flu_syntax.specs.Words.{Stands, WordsStand, action_words, declaration_words}
+use Rattle.flu_syntax.specs.Grammar.{IsDeclaration, AreDeclarations}
+use Rattle.flu_syntax.specs.Laws.{FoundIsJob, WordsStand}
+use Rattle.flu_syntax.specs.Words.{Stands, action_words, number_words, declaration_words}
 use Rattle.flu_parse.specs.declared.faults.JobFault.TheVariants as f
 use Rattle.flu_parse.specs.declared.names.KindHead.{KindHead}
-use Rattle.flu_parse.specs.Spelling.{name_of}
+use Rattle.flu_parse.specs.Spelling.{name_of, written_value}
 use Rattle.flu_parse.specs.Naming.{Naming, naming_of, look_up, known}
-use Rattle.flu_parse.specs.Deeds.{actions_of}
-use Rattle.flu_parse.specs.Listings.{Listed, tags_of, rate_of, file_of}
-use Rattle.flu_parse.specs.Resolving.{Drafted, same_of, with_depend, with_actions, with_on, with_source, with_declaration, family, idle_kind, first_draft, draft_of, resolved}
+use Rattle.flu_parse.specs.Actions.{resolved_actions}
+use Rattle.flu_parse.specs.Listings.{Listed, tags_of, rate_of, slack_of, file_of}
+use Rattle.flu_parse.specs.Resolving.{Drafted, same_of, with_depend, with_actions, with_on, with_source, with_declaration, family, idle_kind, first_draft, draft_of, version_of, job_with, resolved}
 use Rattle.flu_parse.specs.Reading.{text_in, found_tokens, tokens_in, found_job, written_in, job_in}
 use Rattle.flu_parse.specs.Laws.{JobsKeepRules}
-use Rattle.flu_parse.proofs.General.{one_more_passes, distinct_with, holds_of_each}
+use Rattle.flu_parse.proofs.Distinct.{distinct_with}
 use Rattle.flu_parse.proofs.Looks.{bound, passed, each-keeps, each-counts, each-lists}
-use Rattle.flu_parse.proofs.WordsKept.{AreRead, name_stands, text_stands}
-use Rattle.flu_parse.proofs.PlainRules.{plain_action_fits, plain_kind_fits, kinds-plain, keyed_at, ties_kinds, is_source, keyed_kinds, depends-plain, sources-plain}
-use Rattle.flu_parse.proofs.NamesKept.{NamesKeep, kind_number, at_number, names_in, depends_in, sources_in, naming_counts, naming_lists, names_kept}
-use Rattle.flu_parse.proofs.TermsKept.{was_known, families_of}
-use Rattle.flu_parse.proofs.DeedsKept.{actions_kept}
-use Rattle.flu_parse.proofs.ListingsKept.{keyed_heads, kind_at, source_kept}
+use Rattle.flu_parse.proofs.Kept.Words.{AreRead, name_stands, text_stands}
+use Rattle.flu_parse.proofs.Kept.Plain.{plain_action_fits, plain_kind_fits, kinds-plain, keyed_at, ties_kinds, is_source, keyed_kinds, depends-plain, sources-plain}
+use Rattle.flu_parse.proofs.Kept.Names.{NamesKeep, kind_number, at_number, names_in, depends_in, sources_in, naming_counts, naming_lists, names_kept}
+use Rattle.flu_parse.proofs.Kept.Terms.{was_known, families_of}
+use Rattle.flu_parse.proofs.Kept.Actions.{actions_kept}
+use Rattle.flu_parse.proofs.Kept.Listings.{keyed_heads, kind_at, source_kept}
 
 -- what a kind's declaration says
 abbrev Head : Type 0
@@ -126,24 +130,50 @@ module _ (text : List ℕ) (n : Naming) where
       (one.0, two.0, three.0, was_known a.from (look_up (name_of text a) n.kinds) one.0 one.1, was_known b.from (look_up (name_of text b) n.kinds) two.0 two.1, three.1, cc)
 
   added_actions : (d : Drafted) (s : WrittenSpan) (actions : List Action) (next : Drafted) → with_on text n d s actions ≡ Ok next
-      → (kind : KindHead) × (done : List PlainAction) × (look_up (name_of text s) n.kinds ≡ Some kind) × (actions_of text n kind actions ≡ Ok done)
+      → (kind : KindHead) × (done : List PlainAction) × (look_up (name_of text s) n.kinds ≡ Some kind) × (resolved_actions text n kind actions ≡ Ok done)
       × (record d { kinds = with_actions d.kinds kind.number done; given = d.given ++ kind.number ∷ [] } ≡ next)
   unfolding with_on
   added_actions d s actions next e =
       let one = bound (known s.from (look_up (name_of text s) n.kinds)) _ next e in
       let two = passed (not (list_any (λ g. g == one.0.number) d.given)) (f.TwiceNamed s.from) _ next one.2 in
-      let three = bound (actions_of text n one.0 actions) (λ done. Ok (record d { kinds = with_actions d.kinds one.0.number done; given = d.given ++ one.0.number ∷ [] })) next two.1 in
+      let three = bound (resolved_actions text n one.0 actions) (λ done. Ok (record d { kinds = with_actions d.kinds one.0.number done; given = d.given ++ one.0.number ∷ [] })) next two.1 in
       (one.0, three.0, was_known s.from (look_up (name_of text s) n.kinds) one.0 one.1, three.1, cc)
 
-  added_source : (d : Drafted) (s file : WrittenSpan) (written : Option WrittenNumber) (tags : List WrittenTag) (next : Drafted) → with_source text n d s file written tags ≡ Ok next
-      → (bytes : List ℕ) × (rate : ℕ) × (l : Listed) × (file_of text d.sources file ≡ Ok bytes) × (rate_of written ≡ Ok rate) × (tags_of text n d.itags tags ≡ Ok l)
-      × (record d { sources = d.sources ++ record { name = name_of text s; file = bytes; rate = rate; tags = l.tags } ∷ []; itags = l.itags } ≡ next)
+  -- a source of what is written
+  abbrev source_with : WrittenSpan → List ℕ → ℕ → ℕ → Listed → Source
+  source_with s bytes rate slack l = record { name = name_of text s; file = bytes; rate = rate; slack = slack; tags = l.tags }
+
+  record AddsSource (d : Drafted) (s file : WrittenSpan) (written late : Option WrittenNumber) (tags : List WrittenTag) (next : Drafted) : Type 0 where
+    bytes : List ℕ
+    rate : ℕ
+    slack : ℕ
+    list : Listed
+    by_file : file_of text d.sources file ≡ Ok bytes
+    by_rate : rate_of written ≡ Ok rate
+    by_slack : slack_of late ≡ Ok slack
+    by_tags : tags_of text n d.itags tags ≡ Ok list
+    is : record d { sources = d.sources ++ source_with s bytes rate slack list ∷ []; itags = list.itags } ≡ next
+
+  added_source : (d : Drafted) (s file : WrittenSpan) (written late : Option WrittenNumber) (tags : List WrittenTag) (next : Drafted)
+      → with_source text n d s file written late tags ≡ Ok next → AddsSource d s file written late tags next
   unfolding with_source
-  added_source d s file written tags next e =
+  added_source d s file written late tags next e =
       let one = bound (file_of text d.sources file) _ next e in
       let two = bound (rate_of written) _ next one.2 in
-      let three = bound (tags_of text n d.itags tags) (λ l. Ok (record d { sources = d.sources ++ record { name = name_of text s; file = one.0; rate = two.0; tags = l.tags } ∷ []; itags = l.itags })) next two.2 in
-      (one.0, two.0, three.0, one.1, two.1, three.1, cc)
+      let three = bound (slack_of late) _ next two.2 in
+      let four = bound (tags_of text n d.itags tags)
+      (λ l. Ok (record d { sources = d.sources ++ source_with s one.0 two.0 three.0 l ∷ []; itags = l.itags })) next three.2 in
+      record {
+        bytes = one.0;
+        rate = two.0;
+        slack = three.0;
+        list = four.0;
+        by_file = one.1;
+        by_rate = two.1;
+        by_slack = three.1;
+        by_tags = four.1;
+        is = cc;
+      }
 
   -- the dependencies are counted and the sources listed as the names are
   counted : (d : Drafted) (w : Declaration) (next : Drafted) → with_declaration text n d w ≡ Ok next → length next.depends ≡ length d.depends + depends_in text w
@@ -152,7 +182,7 @@ module _ (text : List ℕ) (n : Naming) where
   counted d (tree.Tag s keyed has_value) next e = let same : d ≡ next = cc in ap (λ (x : Drafted). length x.depends) (sym same) ∙ sym (add-zero (length d.depends))
   counted d (tree.Depends a b relation) next e = let h = added_depend d a b relation next e in ap (λ (x : Drafted). length x.depends) (sym h.6) ∙ length-append d.depends (record { a = h.0.number; b = h.1.number; same = h.2 } ∷ [])
   counted d (tree.On s actions) next e = let h = added_actions d s actions next e in ap (λ (x : Drafted). length x.depends) (sym h.4) ∙ sym (add-zero (length d.depends))
-  counted d (tree.Source s file rate tags) next e = let h = added_source d s file rate tags next e in ap (λ (x : Drafted). length x.depends) (sym h.6) ∙ sym (add-zero (length d.depends))
+  counted d (tree.Source s file rate slack tags) next e = let h = added_source d s file rate slack tags next e in ap (λ (x : Drafted). length x.depends) (sym h.is) ∙ sym (add-zero (length d.depends))
 
   abbrev source_names : List Source → List (List ℕ)
   source_names sources = map (λ (s : Source). s.name) sources
@@ -163,12 +193,12 @@ module _ (text : List ℕ) (n : Naming) where
   listed d (tree.Tag s keyed has_value) next e = let same : d ≡ next = cc in ap (λ (x : Drafted). source_names x.sources) (sym same) ∙ sym (append-nil (source_names d.sources))
   listed d (tree.Depends a b relation) next e = let h = added_depend d a b relation next e in ap (λ (x : Drafted). source_names x.sources) (sym h.6) ∙ sym (append-nil (source_names d.sources))
   listed d (tree.On s actions) next e = let h = added_actions d s actions next e in ap (λ (x : Drafted). source_names x.sources) (sym h.4) ∙ sym (append-nil (source_names d.sources))
-  listed d (tree.Source s file rate tags) next e =
-      let h = added_source d s file rate tags next e in
-      ap (λ (x : Drafted). source_names x.sources) (sym h.6) ∙ map-append (λ (x : Source). x.name) d.sources (record { name = name_of text s; file = h.0; rate = h.1; tags = h.2.tags } ∷ [])
+  listed d (tree.Source s file rate slack tags) next e =
+      let h = added_source d s file rate slack tags next e in
+      ap (λ (x : Drafted). source_names x.sources) (sym h.is) ∙ map-append (λ (x : Source). x.name) d.sources (source_with s h.bytes h.rate h.slack h.list ∷ [])
 
   -- ---- what the job keeps as far as its declarations are looked at
-  module _ (ts : List Token) (read : AreRead text ts) (keep : NamesKeep n) where
+  module _ (ts : List Token) (read : AreRead text ts) (keep : NamesKeep n) (meet : TagsMeet) (differ : TagsDiffer) where
     abbrev declared_families : List Family
     declared_families = families_of text n keep.families
 
@@ -209,7 +239,7 @@ module _ (text : List ℕ) (n : Naming) where
         record {
           heads = kept.heads;
           kinds = kept.kinds;
-          depends = one_more_passes (ties_kinds declared_kinds) d.depends (record { a = h.0.number; b = h.1.number; same = h.2 }) kept.depends (tied a b h.0 h.1 h.2 h.3 h.4 (same_kept relation h.0 h.1 h.2 h.5));
+          depends = list_all_push (ties_kinds declared_kinds) d.depends (record { a = h.0.number; b = h.1.number; same = h.2 }) kept.depends (tied a b h.0 h.1 h.2 h.3 h.4 (same_kept relation h.0 h.1 h.2 h.5));
           sources = kept.sources;
           files = kept.files;
           count = kept.count;
@@ -219,7 +249,7 @@ module _ (text : List ℕ) (n : Naming) where
     stays d (tree.On s actions) next kept well e =
         let h = added_actions d s actions next e in
         let there = at_number kind_number n.kinds (name_of text s) h.0 keep.kinds h.2 in
-        let words = holds_of_each (Stands ts) action_words actions well.0.1 in
+        let words = all_of_each (Stands ts) action_words actions well.0.1 in
         let done = actions_kept text ts read n keep.families h.0 actions h.1 words h.3 in
         let place : slice_get (map head d.kinds) h.0.number ≡ Some (declared_head there.0) = ap (λ hs. slice_get hs h.0.number) kept.heads ∙ slice_get-map declared_head n.kinds h.0.number ∙ ap (option_map declared_head) there.1 in
         let fits : list_all (plain_action_fits declared_families there.0.1.keyed there.0.1.has_value) h.1 ≡ true = ap (λ (k : KindHead). list_all (plain_action_fits declared_families k.keyed k.has_value) h.1) there.2 ∙ done.1 in
@@ -234,19 +264,20 @@ module _ (text : List ℕ) (n : Naming) where
           few = kept.few;
         }
         )
-    stays d (tree.Source s file rate tags) next kept well e =
-        let h = added_source d s file rate tags next e in
+    stays d (tree.Source s file rate slack tags) next kept well e =
+        let h = added_source d s file rate slack tags next e in
         let named = name_stands text ts read s well.0.0 in
         let within = text_stands text ts read file well.0.1.0 in
-        let source : Source = record { name = name_of text s; file = h.0; rate = h.1; tags = h.2.tags } in
-        let is = source_kept text n keep.kinds d.itags d.sources s file rate tags h.0 h.1 h.2 named within well.1 kept.few h.3 h.4 h.5 in
+        let source : Source = source_with s h.bytes h.rate h.slack h.list in
+        let is = source_kept text n keep.kinds meet differ d.itags d.sources s file rate slack tags h.bytes h.rate h.slack h.list named within well.1 kept.few
+        h.by_file h.by_rate h.by_slack h.by_tags in
         let more = more_itags 0 d.sources source in
-        subst Keeps h.6 (
+        subst Keeps h.is (
         record {
           heads = kept.heads;
           kinds = kept.kinds;
           depends = kept.depends;
-          sources = one_more_passes (is_source declared_kinds) d.sources source kept.sources is.fits;
+          sources = list_all_push (is_source declared_kinds) d.sources source kept.sources is.fits;
           files = one_more_file d.sources source kept.files is.fresh;
           count = omega (arith, more, kept.count, is.count);
           few = is.few;
@@ -291,9 +322,9 @@ module _ (text : List ℕ) (n : Naming) where
         ) well e
 
     -- the whole job
-    rules_kept : (ds : List Declaration) (d : Drafted) (kinds : List Kind) → naming_of text ds ≡ Ok n → AllByRecursion IsWell ds → draft_of text n ds ≡ Ok d → map plain_kind kinds ≡ d.kinds
-        → KeepsRules (map family n.families) kinds d.depends d.sources
-    rules_kept ds d kinds named well e same =
+    rules_kept : (version : ℕ) (ds : List Declaration) (d : Drafted) (kinds : List Kind) → is_version version ≡ true → naming_of text ds ≡ Ok n → AllByRecursion IsWell ds
+        → draft_of text n ds ≡ Ok d → map plain_kind kinds ≡ d.kinds → KeepsRules version (map family n.families) kinds d.depends d.sources
+    rules_kept version ds d kinds known named well e same =
         let kept = draft_kept ds d well e in
         let heads : map (λ (k : Kind). head (plain_kind k)) kinds ≡ map declared_head n.kinds = sym (map-map head plain_kind kinds) ∙ ap (map head) same ∙ kept.heads in
         let many = ap length heads in
@@ -305,6 +336,7 @@ module _ (text : List ℕ) (n : Naming) where
         let source_names_are : source_names d.sources ≡ n.sources = each-lists (with_declaration text n) (λ (x : Drafted). source_names x.sources) (sources_in text) listed (first_draft n) ds d e ∙ sym (naming_lists text ds n named) in
         let sources_count = ap length source_names_are in
         record {
+          known_version = known;
           few_families = omega (arith, keep.few_families, length-map n.families family);
           few_kinds = omega (arith, keep.few_kinds, many, length-map kinds (λ (k : Kind). head (plain_kind k)), length-map n.kinds declared_head);
           few_depends = omega (arith, keep.few_depends, depends_count, names_count);
@@ -329,30 +361,44 @@ pub tokens_found : (r : Reading) (ts : List Token) → found_tokens r ≡ Ok ts 
 tokens_found (Ok us) ts e = cc
 tokens_found (Err at) ts e = absurd cc
 
-pub job_found : (v : Verdict) (written : List Declaration) → found_job v ≡ Ok written → v ≡ IsFound written
+pub job_found : (v : Verdict) (written : tree.Job) → found_job v ≡ Ok written → v ≡ IsFound written
 job_found (IsFound ds) written e = cc
 job_found (Unexpected at) written e = absurd cc
 job_found TooDeep written e = absurd cc
 
-each_well : (text : List ℕ) (n : Naming) (ts : List Token) (read : AreRead text ts) (keep : NamesKeep n) (ds : List Declaration) → AllByRecursion (λ w. AllByRecursion (Stands ts) (declaration_words w)) ds → AreDeclarations ds → AllByRecursion (IsWell text n ts read keep) ds
-each_well text n ts read keep [] words are = tt
-each_well text n ts read keep (w ∷ ds) words are = ((words.0, are.0), each_well text n ts read keep ds words.1 are.1)
+version_kept : (written : Option WrittenNumber) (version : ℕ) → version_of written ≡ Ok version → is_version version ≡ true
+version_kept None version e = let same : 1 ≡ version = cc in ap is_version (sym same)
+version_kept (Some v) version e =
+    let h = passed (is_version (written_value v.value)) (f.WrongShape v.at) (Ok (written_value v.value)) version e in
+    let same : written_value v.value ≡ version = cc in
+    ap is_version (sym same) ∙ h.0
 
-resolved_kept : (text : List ℕ) (ts : List Token) (read : AreRead text ts) (ds : List Declaration) (job : Job) → AllByRecursion (λ w. AllByRecursion (Stands ts) (declaration_words w)) ds → AreDeclarations ds → resolved text ds ≡ Ok job
-    → (kinds : List Kind) → map plain_kind kinds ≡ job.kinds → KeepsRules job.families kinds job.depends job.sources
-unfolding resolved
-resolved_kept text ts read ds job words are e kinds same =
-    let one = bound (naming_of text ds) _ job e in
-    let n = one.0 in
-    let two = bound (draft_of text n ds) (λ d. Ok (record { families = map family n.families; kinds = d.kinds; depends = d.depends; sources = d.sources })) job one.2 in
-    let is : record { families = map family n.families; kinds = two.0.kinds; depends = two.0.depends; sources = two.0.sources } ≡ job = cc in
-    let keep = names_kept text ts read ds n words one.1 in
-    let there : map plain_kind kinds ≡ two.0.kinds = same ∙ ap (λ (j : Job). j.kinds) (sym is) in
-    subst (λ (j : Job). KeepsRules j.families kinds j.depends j.sources) is (rules_kept text n ts read keep ds two.0 kinds one.1 (each_well text n ts read keep ds words are) two.1 there)
+module _ (text : List ℕ) (ts : List Token) (read : AreRead text ts) (meet : TagsMeet) (differ : TagsDiffer) where
+  each_well : (n : Naming) (keep : NamesKeep n) (ds : List Declaration) → AllByRecursion (λ w. AllByRecursion (Stands ts) (declaration_words w)) ds → AreDeclarations ds
+      → AllByRecursion (IsWell text n ts read keep meet differ) ds
+  each_well n keep [] words are = tt
+  each_well n keep (w ∷ ds) words are = ((words.0, are.0), each_well n keep ds words.1 are.1)
 
-pub jobs_kept : ReadingIsTokens → EachIsToken → EachIsSpan → EachIsInside → FoundIsJob → WordsStand → JobsKeepRules
+  resolved_kept : (written : tree.Job) (job : Job) → AllByRecursion (λ w. AllByRecursion (Stands ts) (declaration_words w)) written.declarations
+      → AreDeclarations written.declarations → resolved text written ≡ Ok job
+      → (kinds : List Kind) → map plain_kind kinds ≡ job.kinds → KeepsRules job.version job.families kinds job.depends job.sources
+  unfolding resolved
+  resolved_kept written job words are e kinds same =
+      let ds = written.declarations in
+      let one = bound (naming_of text ds) _ job e in
+      let n = one.0 in
+      let two = bound (version_of written.version) _ job one.2 in
+      let three = bound (draft_of text n ds) (λ d. Ok (job_with two.0 n d)) job two.2 in
+      let is : job_with two.0 n three.0 ≡ job = cc in
+      let keep = names_kept text ts read ds n words one.1 in
+      let there : map plain_kind kinds ≡ three.0.kinds = same ∙ ap (λ (j : Job). j.kinds) (sym is) in
+      let known = version_kept written.version two.0 two.1 in
+      subst (λ (j : Job). KeepsRules j.version j.families kinds j.depends j.sources) is
+      (rules_kept text n ts read keep meet differ two.0 ds three.0 kinds known one.1 (each_well n keep ds words are) three.1 there)
+
+pub jobs_kept : NamesAreTested → ReadingIsTokens → EachIsToken → EachIsSpan → EachIsInside → FoundIsJob → WordsStand → TagsMeet → TagsDiffer → JobsKeepRules
 unfolding job_in
-jobs_kept exact each_token each_span each_inside found_is words_stand bytes job e kinds same =
+jobs_kept tested exact each_token each_span each_inside found_is words_stand meet differ bytes job e kinds same =
     let within = passed (nat_le (length bytes) 1048576) (f.OverLimit Bytes 1048577) _ job e in
     let one = bound (text_in bytes) _ job within.1 in
     let text = one.0 in
@@ -362,5 +408,7 @@ jobs_kept exact each_token each_span each_inside found_is words_stand bytes job 
     let utf8 = utf8_text bytes text one.1 in
     let are = (exact text ts).0 (tokens_found (reading text) ts two.1) in
     let is = (found_is (length text) ts three.0).0 (job_found (verdict (length text) ts) three.0 three.1) in
-    let words = holds_of_each (Stands ts) declaration_words three.0 (words_stand ts three.0 is) in
-    resolved_kept text ts (record { utf8 = utf8; each = each_token text ts are; spans = each_span text ts utf8 are; insides = each_inside text ts utf8 are }) three.0 job words is.grammar three.2 kinds same
+    let ds = three.0.declarations in
+    let words = all_back (Stands ts) (number_words three.0.version) (flat_map declaration_words ds) (words_stand ts three.0 is) in
+    let read : AreRead text ts = record { utf8 = utf8; each = each_token text ts are; spans = each_span text ts utf8 are; insides = each_inside text ts utf8 are; names = tested } in
+    resolved_kept text ts read meet differ three.0 job (all_of_each (Stands ts) declaration_words ds words) is.grammar three.2 kinds same

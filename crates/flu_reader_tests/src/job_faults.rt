@@ -1,5 +1,7 @@
-use crate::{JobFault, read_job};
+//! The first fault of a job text, where it has one.
+
 use flu_model::What;
+use flu_parse::{JobFault, read_job};
 use std::alloc::{AllocError, Global};
 use std::process::Abort;
 use std::test::Fail;
@@ -46,6 +48,11 @@ fn first_faults(rt: HostRuntime) -> Result<(), Fail> {
             "OverLimit { what: Itags, count: 257 }",
         ),
         ("tag t none source t \"f\": t", "TwiceNamed { at: 18 }"),
+        // A version is looked at when all names are, and before what the declarations say.
+        ("version 3", "WrongShape { at: 8 }"),
+        ("version 0 tag t none depends t u", "WrongShape { at: 8 }"),
+        ("version 3 cell a sum cell a max", "TwiceNamed { at: 26 }"),
+        ("version 2 version 2", "Unexpected { at: 10 }"),
     ];
     expect_all(&rt, rt.alloc(), &cases)?;
     Ok(())
@@ -85,6 +92,15 @@ fn faults_of_declarations(rt: HostRuntime) -> Result<(), Fail> {
             "tag t none source s \"f\" rate 1000000001: t",
             "OverLimit { what: Rate, count: 1000000001 }",
         ),
+        (
+            "tag t none source s \"f\" slack 60001: u",
+            "OverLimit { what: Slack, count: 60001 }",
+        ),
+        (
+            "tag t none source s \"f\" rate 1000000001 slack 60001: t",
+            "OverLimit { what: Rate, count: 1000000001 }",
+        ),
+        ("tag t none source s \"f\" slack 60000: t", "ok"),
     ];
     expect_all(&rt, rt.alloc(), &cases)?;
     Ok(())
@@ -152,6 +168,13 @@ fn faults_of_templates(rt: HostRuntime) -> Result<(), Fail> {
         ("tag t none on t: emit \"{value}\"", "WrongShape { at: 22 }"),
         ("tag t none on t: emit \"{cell}\"", "WrongShape { at: 22 }"),
         ("tag t none on t: emit \"{time} {time}\"", "ok"),
+        // A field of no form is no faulty brace: the fields behind it are looked at. Behind a faulty brace none is.
+        ("tag t none on t: emit \"{}{z}\"", "UnknownName { at: 22 }"),
+        ("tag t none on t: emit \"{}\"", "WrongShape { at: 22 }"),
+        ("tag t none on t: emit \"{sum}{z}\"", "UnknownName { at: 22 }"),
+        ("tag t none on t: emit \"{c{z}\"", "WrongShape { at: 22 }"),
+        ("tag t none on t: emit \"{c{z}{z}\"", "WrongShape { at: 22 }"),
+        ("tag t none on t: emit \"{z}{c{z}\"", "UnknownName { at: 22 }"),
         (
             "cell a keyed sum tag t none on t: emit \"{a[65536]}\"",
             "OverLimit { what: Key, count: 65536 }",

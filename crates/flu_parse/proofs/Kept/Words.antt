@@ -1,34 +1,29 @@
 -- The names and texts that a job keeps, as bytes of its text.
-use Rattle.std.proofs.Common.{◌≡◌, ◌≢◌, ℕ, ◌+◌, ◌-◌, ◌<◌, ◌≤◌, true, false, List, [], ◌∷◌, map, length, drop, refl, sym, ap, subst, ◌∙◌, arith}
-use Rattle.std.specs.Prelude.{◌&&◌, ◌||◌, not, nat_lt, nat_le, if◌then◌else◌, IsTrue, All, Contains, slice_index, slice_range}
-use Rattle.std.specs.List.{list_all, list_any}
+use Rattle.std.proofs.Common.{◌≡◌, ℕ, ◌+◌, ◌-◌, ◌<◌, ◌≤◌, true, List, [], length, drop, sym, ap, subst, ◌∙◌, arith}
+use Rattle.std.specs.Prelude.{◌&&◌, ◌||◌, nat_lt, nat_le, if◌then◌else◌, IsTrue, All, Contains, slice_index, slice_range}
+use Rattle.std.specs.List.{list_all}
 use Rattle.std.specs.Str.{IsUtf8, IsCharBoundary}
-use Rattle.std.specs.Cmp.Lexicographic.{same_text}
 use Rattle.std.proofs.lemmas.List.{length-take}
-use Rattle.std.proofs.lemmas.Bool.Decides.{nat_tests}
 use Rattle.std.proofs.lemmas.Grind.{common_steps}
-use Rattle.flu_lemmas.proofs.Tests.{both, le_true, false_if_not}
-use Rattle.flu_model.specs.Rules.{is_name, is_letter, is_letter_or_digit, is_same_text, is_text_byte, begins_with_letter, reserved_words}
+use Rattle.flu_lemmas.proofs.Tests.{both, le_true}
+use Rattle.flu_names.specs.Names.{is_name, is_text_byte}
 use Rattle.flu_text.specs.declared.words.Word.{Word}
 use Rattle.flu_text.specs.declared.words.Word.TheVariants as w
-use Rattle.flu_text.specs.declared.words.Reserved.{Reserved}
 use Rattle.flu_text.specs.declared.words.Token.{Token}
-use Rattle.flu_text.specs.Spelling.{reserved_spelling}
-use Rattle.flu_text.specs.Spelling.{reserved_words as all_reserved}
-use Rattle.flu_text.specs.Grammar.{is_name_start, is_name_byte, Starts, IsName, Spells, IsToken, IsSpan, IsInside, IsInsideOfText}
-use Rattle.flu_text.specs.Grammar.{is_text_byte as is_quoted_byte}
+use Rattle.flu_text.specs.Grammar.{IsName, Spells, IsToken, IsSpan, IsInside, IsInsideOfText}
+use Rattle.flu_text.specs.Laws.{NamesAreTested}
 use Rattle.flu_syntax.specs.declared.tree.WrittenSpan.{WrittenSpan}
 use Rattle.flu_syntax.specs.Grammar.{Spanned}
 use Rattle.flu_syntax.specs.Words.{Stands}
 use Rattle.flu_parse.specs.Spelling.{is_boundary, spelled, name_of, inside}
-use Rattle.flu_parse.proofs.General.{passes_too}
 
--- what the tokens of a text are known to be
+-- what the tokens of a text are known to be, and that names are those that pass the test
 pub record AreRead (text : List ℕ) (ts : List Token) : Type 0 where
   pub utf8 : IsUtf8 text
   pub each : All (IsToken text) ts
   pub spans : All (IsSpan text) ts
   pub insides : All (IsInsideOfText text) ts
+  pub names : NamesAreTested
 
 -- ---- places
 boundary_test : (i n b : ℕ) → i ≤ n → (i < n → 128 ≤ b → 192 ≤ b) → (nat_le i n && (nat_le n i || nat_lt b 128 || nat_le 192 b)) ≡ true
@@ -42,31 +37,6 @@ pub spelled_between : (text : List ℕ) (from to : ℕ) → from ≤ to → IsCh
 spelled_between text from to rises begins ends =
     ap (λ b. if b then slice_range text from to else [])
     (both (nat_le from to && is_boundary text from) (is_boundary text to) (both (nat_le from to) (is_boundary text from) (le_true from to rises) (is_boundary_there text from begins)) (is_boundary_there text to ends))
-
--- ---- names
-letter : (b : ℕ) → is_name_start b ≡ true → is_letter b ≡ true
-letter b e = grind (arith, nat_tests)
-
-letter_or_digit : (b : ℕ) → is_name_byte b ≡ true → is_letter_or_digit b ≡ true
-letter_or_digit b e = grind (arith, nat_tests)
-
-begins : (s : List ℕ) → Starts is_name_start s → begins_with_letter s ≡ true
-begins [] starts = absurd starts
-begins (b ∷ s) starts = letter b starts
-
-none_of_reserved : (s : List ℕ) (rs : List Reserved) → ((r : Reserved) → s ≢ reserved_spelling r) → list_any (is_same_text s) (map reserved_spelling rs) ≡ false
-none_of_reserved s [] free = refl
-none_of_reserved s (r ∷ rs) free =
-    ap (λ b. b || list_any (is_same_text s) (map reserved_spelling rs)) (false_if_not (is_same_text s (reserved_spelling r)) (λ e. free r (same_text s (reserved_spelling r) (sym e))))
-    ∙ none_of_reserved s rs free
-
-pub name_kept : (s : List ℕ) → IsName s → is_name s ≡ true
-name_kept s is =
-    both (begins_with_letter s && list_all is_letter_or_digit s && nat_le (length s) 32) (not (list_any (is_same_text s) reserved_words))
-    (both (begins_with_letter s && list_all is_letter_or_digit s) (nat_le (length s) 32)
-    (both (begins_with_letter s) (list_all is_letter_or_digit s) (begins s is.starts) (passes_too is_name_byte is_letter_or_digit letter_or_digit s is.bytes))
-    (le_true (length s) 32 is.short))
-    (ap not (none_of_reserved s all_reserved is.free))
 
 -- ---- the words of a job
 module _ (text : List ℕ) (ts : List Token) (read : AreRead text ts) where
@@ -84,7 +54,7 @@ module _ (text : List ℕ) (ts : List Token) (read : AreRead text ts) where
       let name : IsName (slice_range text t.from t.to) = subst (λ (word : Word). Spells word (slice_range text t.from t.to)) stands.2.0 token.spelled in
       let from_there : IsName (slice_range text s.from t.to) = subst (λ (k : ℕ). IsName (slice_range text k t.to)) stands.2.1 name in
       let there : IsName (slice_range text s.from s.to) = subst (λ (k : ℕ). IsName (slice_range text s.from k)) stands.2.2 from_there in
-      ap is_name bytes ∙ name_kept (slice_range text s.from s.to) there
+      ap is_name bytes ∙ (read.names (slice_range text s.from s.to)).1 there
 
   -- a span as that of a text
   abbrev pub quoted : WrittenSpan → Token
@@ -97,7 +67,7 @@ module _ (text : List ℕ) (ts : List Token) (read : AreRead text ts) where
       record {
         room = omega (arith, within.room);
         short = omega (arith, within.short);
-        bytes = subst (λ (k : ℕ). IsTrue (list_all is_quoted_byte (slice_range text (s.from + 1) (k - 1)))) stands.2.2 (subst (λ (k : ℕ). IsTrue (list_all is_quoted_byte (slice_range text (k + 1) (t.to - 1)))) stands.2.1 within.bytes);
+        bytes = subst (λ (k : ℕ). IsTrue (list_all is_text_byte (slice_range text (s.from + 1) (k - 1)))) stands.2.2 (subst (λ (k : ℕ). IsTrue (list_all is_text_byte (slice_range text (k + 1) (t.to - 1)))) stands.2.1 within.bytes);
         begins = subst (λ (k : ℕ). IsCharBoundary text (k + 1)) stands.2.1 within.begins;
         ends = subst (λ (k : ℕ). IsCharBoundary text (k - 1)) stands.2.2 within.ends;
       }
@@ -106,11 +76,8 @@ module _ (text : List ℕ) (ts : List Token) (read : AreRead text ts) where
 pub inside_bytes : (text : List ℕ) (s : WrittenSpan) → IsInside text (record { word = w.Text; from = s.from; to = s.to }) → inside text s ≡ slice_range text (s.from + 1) (s.to - 1)
 inside_bytes text s within = spelled_between text (s.from + 1) (s.to - 1) (omega (arith, within.room)) within.begins within.ends
 
-quoted_byte : (b : ℕ) → is_quoted_byte b ≡ true → is_text_byte b ≡ true
-quoted_byte b e = grind (arith, nat_tests)
-
 pub inside_is_text : (text : List ℕ) (s : WrittenSpan) → IsInside text (record { word = w.Text; from = s.from; to = s.to }) → list_all is_text_byte (inside text s) ≡ true
-inside_is_text text s within = ap (list_all is_text_byte) (inside_bytes text s within) ∙ passes_too is_quoted_byte is_text_byte quoted_byte (slice_range text (s.from + 1) (s.to - 1)) within.bytes
+inside_is_text text s within = ap (list_all is_text_byte) (inside_bytes text s within) ∙ within.bytes
 
 pub inside_is_short : (text : List ℕ) (s : WrittenSpan) → IsInside text (record { word = w.Text; from = s.from; to = s.to }) → length (inside text s) ≤ 256
 inside_is_short text s within =
