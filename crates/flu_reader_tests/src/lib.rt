@@ -1,0 +1,7 @@
+//! Tests of the readers of job and plan texts: of their tokens, their grammar, and what they mean.
+#![tactic(auto)]
+
+#[cfg(test)]
+mod syntax;
+#[cfg(test)]
+mod texts;
