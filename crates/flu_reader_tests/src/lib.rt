@@ -4,4 +4,8 @@
 #[cfg(test)]
 mod job_faults;
 #[cfg(test)]
+mod syntax;
+#[cfg(test)]
+mod texts;
+#[cfg(test)]
 mod whole_jobs;

@@ -1,8 +1,10 @@
-use crate::{
-    SyntaxFault, WrittenAct, WrittenDeclaration, WrittenExpr, WrittenKey, WrittenKeys,
-    WrittenRelation, read_syntax,
-};
+//! The grammar of jobs.
+
 use flu_model::{Op, Sort};
+use flu_syntax::{
+    SyntaxFault, WrittenAct, WrittenDeclaration, WrittenExpr, WrittenKey, WrittenKeys,
+    WrittenNumber, WrittenRelation, read_syntax,
+};
 use flu_text::tokens;
 use std::alloc::{AllocError, Global};
 use std::test::Fail;
@@ -22,7 +24,7 @@ fn read(alloc: Global, text: &str) -> Answer {
         return Answer::Other;
     };
     match read_syntax(alloc, found.as_slice(), text.len()) {
-        Ok(declarations) => Answer::Found(declarations.len()),
+        Ok(job) => Answer::Found(job.declarations.items().len()),
         Err(SyntaxFault::Unexpected { at }) => Answer::Unexpected(at),
         Err(SyntaxFault::TooDeep) => Answer::TooDeep,
         Err(SyntaxFault::NoMemory) => Answer::Other,
@@ -47,7 +49,7 @@ fn passes<F: Fn(&WrittenDeclaration) -> bool>(alloc: Global, text: &str, test: F
         return false;
     };
     match read_syntax(alloc, found.as_slice(), text.len()) {
-        Ok(declarations) => declarations.iter().all(test),
+        Ok(job) => job.declarations.items().iter().all(test),
         Err(_) => false,
     }
 }
@@ -65,6 +67,10 @@ fn declarations(rt: HostRuntime) {
         ),
         ("source s \"f\" rate 5: t, u[3], v[1..2]", Answer::Found(1)),
         ("source s \"f\": t cell c sum", Answer::Found(2)),
+        ("source s \"f\" slack 5: t", Answer::Found(1)),
+        ("source s \"f\" rate 1 slack 60001: t", Answer::Found(1)),
+        ("version 2", Answer::Found(0)),
+        ("version 3 cell a sum tag t int", Answer::Found(2)),
         ("on t: clear x; clear y[key]; clear z[0]", Answer::Found(1)),
         ("on t: add x 1; raise y 2 when 3; set z 4", Answer::Found(1)),
         (
@@ -86,6 +92,13 @@ fn unexpected(rt: HostRuntime) {
         ("depends t u same all", Answer::Unexpected(17)),
         ("source s \"f\" rate : t", Answer::Unexpected(18)),
         ("source s \"f\": t[1..]", Answer::Unexpected(19)),
+        ("source s \"f\" slack 2 rate 1: t", Answer::Unexpected(21)),
+        ("source s \"f\" rate 1 slack 2 slack 3: t", Answer::Unexpected(28)),
+        ("source s \"f\" slack: t", Answer::Unexpected(18)),
+        ("version", Answer::Unexpected(7)),
+        ("version two", Answer::Unexpected(8)),
+        ("version 2 version 2", Answer::Unexpected(10)),
+        ("cell a sum version 2", Answer::Unexpected(11)),
         ("source s \"f\": t[1], ", Answer::Unexpected(20)),
     ];
     assert!(rt; answers(rt.alloc(), &lines));
@@ -205,6 +218,20 @@ fn grouping(rt: HostRuntime) {
     }
 }
 
+/// The version that is written at the head of a text.
+fn version_of(alloc: Global, text: &str) -> Option<WrittenNumber> {
+    let found = tokens(alloc, text).ok()?;
+    let job = read_syntax(alloc, found.as_slice(), text.len()).ok()?;
+    job.version
+}
+
+#[test]
+fn versions(rt: HostRuntime) {
+    assert!(rt; version_of(rt.alloc(), "cell a sum") == None);
+    let written = version_of(rt.alloc(), " version 02 cell a sum");
+    assert!(rt; written == Some(WrittenNumber { value: 2, at: 9 }));
+}
+
 #[test]
 fn places(rt: HostRuntime) {
     let cell = passes(
@@ -235,12 +262,13 @@ fn places(rt: HostRuntime) {
     assert!(rt; same);
     let source = passes(
         rt.alloc(),
-        "source s \"f\" rate 07: t[1..20]",
+        "source s \"f\" rate 07 slack 9: t[1..20]",
         |declaration: &WrittenDeclaration| {
             match declaration {
                 WrittenDeclaration::Source {
                     file,
                     rate: Some(rate),
+                    slack: Some(slack),
                     tags,
                     ..
                 } => match tags.items().first() {
@@ -248,7 +276,9 @@ fn places(rt: HostRuntime) {
                         WrittenKeys::Range(low, high) => file.to == 12
                             && rate.value == 7
                             && rate.at == 18
-                            && low.at == 24
+                            && slack.value == 9
+                            && slack.at == 27
+                            && low.at == 32
                             && high.value == 20,
                         _ => false,
                     },
