@@ -3,6 +3,7 @@ pub mod Containing
 pub mod Counting
 pub mod Digits
 pub mod Elements
+pub mod Items
 pub mod Loops
 pub mod Named
 pub mod Numbers
@@ -13,6 +14,7 @@ pub mod Ranges
 pub mod Results
 pub mod Searches
 pub mod Sorting
+pub mod Spans
 pub mod Tests
 pub mod Told
 pub mod Totals
