@@ -3,6 +3,7 @@ use Rattle.std.proofs.Common.{◌≡◌, ℕ, zero, suc, Bool, true, false, Opti
 use Rattle.std.specs.Prelude.{nat_lt, not, ◌==◌, ◌&&◌, ◌||◌, slice_get, length}
 use Rattle.std.specs.List.{list_all}
 use Rattle.std.proofs.lemmas.List.Folds.{list_all-append}
+use Rattle.flu_lemmas.proofs.Booleans.{three_left}
 use Rattle.flu_lemmas.proofs.Tests.{and_left, and_right, both}
 use Rattle.flu_model.specs.declared.events.Cell.{Cell}
 use Rattle.flu_model.specs.declared.events.Tag.{Tag}
@@ -21,9 +22,10 @@ use Rattle.flu_model.specs.declared.jobs.Kind.{Kind}
 use Rattle.flu_model.specs.declared.jobs.Program.{Program}
 use Rattle.flu_model.specs.Contents.{cell, key_count}
 use Rattle.flu_model.specs.Expressions.{key_of, cell_of}
-use Rattle.flu_model.specs.Rules.{family_fits, is_keyed, ref_fits, expr_fits, is_good_expr, guard_fits, emit_piece_fits, flush_piece_fits, flush_template_fits, are_apart, act_fits, action_fits, kind_fits, tag_fits}
+use Rattle.flu_model.specs.Rules.{family_fits, is_keyed, ref_fits, expr_fits, is_good_expr, guard_fits, emit_piece_fits, flush_piece_fits, flush_template_fits, are_apart, is_short, act_fits, action_fits, kind_fits, tag_fits}
+use Rattle.flu_model.specs.Templates.{written_template}
 use Rattle.flu_model.specs.Updates.{actions_of}
-use Rattle.flu_deps.specs.Conflicts.{key_is_in, is_cell_of}
+use Rattle.flu_model.specs.Sorts.{key_is_in, is_cell_of}
 use Rattle.flu_deps.specs.Named.{expr_cells, guard_cells, piece_cells, pieces_cells, act_cells, action_cells, actions_cells}
 use Rattle.flu_deps.proofs.ConflictLemmas.{named}
 
@@ -105,11 +107,15 @@ module _ (families : List Family) (keyed has_value : Bool) (key : ℕ) (lt : nat
   act_in (Raise r e) fits = target_in r e _ fits
   act_in (Set r e) fits = target_in r e _ fits
   act_in (Clear r) fits = one_cell r fits
-  act_in (Emit qs) fits = pieces_in (emit_piece_fits families keyed has_value) emit_piece_in qs (and_left (list_all (emit_piece_fits families keyed has_value) qs) (are_apart qs) fits)
+  act_in (Emit qs) fits =
+      let test : Piece → Bool = emit_piece_fits families keyed has_value in
+      pieces_in test emit_piece_in qs (three_left (list_all test qs) (are_apart qs) (is_short (written_template families qs)) fits)
   act_in (Flush f qs) fits =
       both (is_cell_of families (cell f 0)) (list_all (is_cell_of families) (pieces_cells key qs))
-      (first_key_in (slice_get families f) (and_left (is_keyed (slice_get families f)) (flush_template_fits has_value qs) fits))
-      (pieces_in (flush_piece_fits has_value) flush_piece_in qs (and_left (list_all (flush_piece_fits has_value) qs) (are_apart qs) (and_right (is_keyed (slice_get families f)) (flush_template_fits has_value qs) fits)))
+      (first_key_in (slice_get families f) (and_left (is_keyed (slice_get families f)) (flush_template_fits families has_value qs) fits))
+      (pieces_in (flush_piece_fits has_value) flush_piece_in qs
+      (three_left (list_all (flush_piece_fits has_value) qs) (are_apart qs) (is_short (written_template families qs))
+      (and_right (is_keyed (slice_get families f)) (flush_template_fits families has_value qs) fits)))
 
   actions_in : (all : List Action) → list_all (action_fits families keyed has_value) all ≡ true → list_all (is_cell_of families) (actions_cells key all) ≡ true
   actions_in [] fits = refl

@@ -1,4 +1,4 @@
-pub mod OrderLemmas
+pub mod CellOrder
 pub mod CellLemmas
 pub mod BestLemmas
 pub mod ConflictLemmas

@@ -1,5 +1,5 @@
 -- Climbing in a plan, the owner that each itag of a valid plan has, and a table that is filled.
-use Rattle.std.proofs.Common.{◌≡◌, ◌<◌, ◌≤◌, ◌+◌, ◌-◌, ℕ, zero, suc, Bool, true, false, cond, Option, Some, None, List, [], ◌∷◌, length, inl, inr, refl, sym, ap, subst, ◌∙◌, arith}
+use Rattle.std.proofs.Common.{◌≡◌, ◌<◌, ◌≤◌, ◌+◌, ◌-◌, ℕ, zero, suc, Bool, true, false, cond, Option, Some, None, List, [], ◌∷◌, length, inl, inr, refl, sym, ap, ◌∙◌, arith}
 use Rattle.std.specs.Prelude.{◌==◌, ◌||◌, count_by, position, slice_index}
 use Rattle.std.specs.List.{list_any, position_or_len}
 use Rattle.std.proofs.Math.ListN.{set, replicate}
@@ -57,11 +57,4 @@ set_below table i w k n lt below here =
     elim (cases_eq k i) [
       | inl same ↦ (let there : slice_index (set table i w) k ≡ w = get_or-set_at table i k w 0 same (omega arith) in omega arith)
       | inr other ↦ (let there : slice_index (set table i w) k ≡ slice_index table k = get_or-set_other table i k w 0 other in let old = below k (omega arith) in omega arith)
-    ]
-
-pub one_more : (P : ℕ → Type 0) (i : ℕ) → ((k : ℕ) → k < i → P k) → P i → (k : ℕ) → k < i + 1 → P k
-one_more P i below here k lt =
-    elim (cases_lt k i) [
-      | inl less ↦ below k less
-      | inr le ↦ let same : i ≡ k = omega arith in subst P same here
     ]

@@ -1,4 +1,3 @@
-pub mod Order
 pub mod Conflicts
 pub mod Named
 pub mod Checking

@@ -13,5 +13,5 @@ pub use checked::Checked;
 pub use conflicts::conflict;
 pub use dependency::dep;
 pub use flu_model::Mode;
-pub use modes::{actions_of, cell_of, mode};
+pub use modes::mode;
 pub use valid::Valid;

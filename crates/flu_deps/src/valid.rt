@@ -15,7 +15,7 @@ use flu_model::{Itag, Plan};
 /// A plan that is valid for a job, with the owner of each of the job's itags. No caller makes another.
 ///
 /// Nodes are numbered from 0 in preorder, and itags as the job numbers them.
-#[derive(Debug, Drop)]
+#[derive(Drop)]
 pub struct Valid {
     plan: Plan,
     owners: [u8; MAX_ITAGS],

@@ -1,6 +1,15 @@
+pub mod Booleans
+pub mod Containing
+pub mod Counting
+pub mod Digits
 pub mod Elements
+pub mod Loops
+pub mod Numbers
+pub mod Places
 pub mod Prefixes
+pub mod Ranges
 pub mod Searches
 pub mod Sorting
 pub mod Tests
 pub mod Totals
+pub mod TwoNumbers

@@ -1,6 +1,6 @@
 -- The front of a list that passes a test, what is found in a list, and choices.
-use Rattle.std.proofs.Common.{◌≡◌, ℕ, suc, ◌+◌, ◌<◌, ◌≤◌, Bool, true, false, cond, ◌&&◌, List, [], ◌∷◌, ◌++◌, length, get_or, take, drop, Option, Some, None, refl, sym, subst, ◌⊎◌, inl, inr, ◌∙◌, ap, add-zero, add-one, arith}
-use Rattle.std.specs.Prelude.{option_map, not}
+use Rattle.std.proofs.Common.{◌≡◌, ℕ, suc, ◌+◌, ◌<◌, ◌≤◌, Bool, true, false, cond, List, [], ◌∷◌, ◌++◌, length, get_or, take, drop, Option, Some, None, refl, sym, subst, ◌⊎◌, inl, inr, ◌∙◌, ap, add-zero, add-one, arith}
+use Rattle.std.specs.Prelude.{option_map}
 use Rattle.flu_lemmas.proofs.Tests.{and_left, and_right}
 use Rattle.std.specs.List.{AllPass, list_all, prefix_len, find}
 use Rattle.std.proofs.Math.Seq.{drop-cons}
@@ -72,7 +72,8 @@ prefix_len-take p bytes n all le =
     omega (arith, length-take n bytes, longest, same)
 
 -- one byte more
-pub drop_one_more : (bytes : List ℕ) (n b : ℕ) (rest : List ℕ) → drop n bytes ≡ b ∷ rest → (n < length bytes) × (get_or bytes n 0 ≡ b) × (drop (n + 1) bytes ≡ rest)
+pub drop_one_more : (bytes : List ℕ) (n b : ℕ) (rest : List ℕ) → drop n bytes ≡ b ∷ rest
+    → (n < length bytes) × (get_or bytes n 0 ≡ b) × (drop (n + 1) bytes ≡ rest)
 drop_one_more bytes n b rest e =
     let len : length (drop n bytes) ≡ length (b ∷ rest) = ap length e in
     let lt : n < length bytes = omega (arith, length-drop n bytes, len) in

@@ -69,7 +69,8 @@ all_put P before x (y ∷ ys) px all =
     ]
 
 -- what is not less than y is not less than an x before y
-none_before : {X : Type 0} (lt : X → X → Bool) → IsStrictWeakOrder lt → (x y : X) (ys : List X) → lt x y ≡ true → AllByRecursion (λ z. lt z y ≡ false) ys → AllByRecursion (λ z. lt z x ≡ false) ys
+none_before : {X : Type 0} (lt : X → X → Bool) → IsStrictWeakOrder lt → (x y : X) (ys : List X) → lt x y ≡ true → AllByRecursion (λ z. lt z y ≡ false) ys
+    → AllByRecursion (λ z. lt z x ≡ false) ys
 none_before lt o x y [] less all = tt
 none_before lt o x y (z ∷ ys) less all = (o.chain z y x all.0 (o.one_way x y less), none_before lt o x y ys less all.1)
 
@@ -118,7 +119,8 @@ irreflexive : {X : Type 0} (lt : X → X → Bool) → IsStrictWeakOrder lt → 
 irreflexive lt o x = elim (lt x x) as (λ b. lt x x ≡ b → b ≡ false) [ true ↦ λ e. sym e ∙ o.one_way x x e | false ↦ λ e. refl ] refl
 
 -- the first of a list is not less than the first of a rising list with the same totals
-first_not_less : {X : Type 0} (lt : X → X → Bool) → IsStrictWeakOrder lt → (x y : X) (xs ys : List X) → IsRising lt (y ∷ ys) → ((f : X → ℕ) → sum_by f (x ∷ xs) ≡ sum_by f (y ∷ ys)) → lt x y ≡ false
+first_not_less : {X : Type 0} (lt : X → X → Bool) → IsStrictWeakOrder lt → (x y : X) (xs ys : List X) → IsRising lt (y ∷ ys)
+    → ((f : X → ℕ) → sum_by f (x ∷ xs) ≡ sum_by f (y ∷ ys)) → lt x y ≡ false
 unfolding ones_less
 first_not_less lt o x y xs ys up sums =
     elim (lt x y) as (λ b. lt x y ≡ b → b ≡ false) [
@@ -131,7 +133,9 @@ first_not_less lt o x y xs ys up sums =
     ] refl
 
 -- two rising lists with the same totals are equal, where those of their elements that tie are equal
-pub only_rising : {X : Type 0} (lt : X → X → Bool) → IsStrictWeakOrder lt → (P : X → Type 0) → ((x y : X) → P x → P y → lt x y ≡ false → lt y x ≡ false → x ≡ y) → (xs ys : List X) → AllByRecursion P xs → AllByRecursion P ys → IsRising lt xs → IsRising lt ys → ((f : X → ℕ) → sum_by f xs ≡ sum_by f ys) → xs ≡ ys
+pub only_rising : {X : Type 0} (lt : X → X → Bool) → IsStrictWeakOrder lt → (P : X → Type 0)
+    → ((x y : X) → P x → P y → lt x y ≡ false → lt y x ≡ false → x ≡ y) → (xs ys : List X) → AllByRecursion P xs → AllByRecursion P ys → IsRising lt xs
+    → IsRising lt ys → ((f : X → ℕ) → sum_by f xs ≡ sum_by f ys) → xs ≡ ys
 only_rising lt o P ties [] [] ps qs up vp sums = refl
 only_rising lt o P ties [] (y ∷ ys) ps qs up vp sums = absurd (omega (arith, sums (λ z. 1), sum_by-cons (λ z. 1) y ys))
 only_rising lt o P ties (x ∷ xs) [] ps qs up vp sums = absurd (omega (arith, sums (λ z. 1), sum_by-cons (λ z. 1) x xs))
@@ -149,7 +153,8 @@ equal_from_ties Greater Equal turned one two = cc
 equal_from_ties Greater Greater turned one two = cc
 
 -- two sorted lists with the same elements are equal, where those of the elements that compare equal are equal
-pub only_sorted : {X : Type 0} (cmp : X → X → Ordering) → IsTotalOrder cmp → (xs ys : List X) → ((x y : X) → Contains xs x → Contains xs y → cmp x y ≡ Equal → x ≡ y) → IsSorted cmp xs → IsSorted cmp ys → IsPermutation xs ys → xs ≡ ys
+pub only_sorted : {X : Type 0} (cmp : X → X → Ordering) → IsTotalOrder cmp → (xs ys : List X)
+    → ((x y : X) → Contains xs x → Contains xs y → cmp x y ≡ Equal → x ≡ y) → IsSorted cmp xs → IsSorted cmp ys → IsPermutation xs ys → xs ≡ ys
 only_sorted {X} cmp o xs ys ties up vp moved =
     let lt : X → X → Bool = λ x y. is_lt (cmp x y) in
     let weak : IsStrictWeakOrder lt = ranks_by o (λ x. x) in
@@ -159,11 +164,13 @@ only_sorted {X} cmp o xs ys ties up vp moved =
     (rising_from_sorted lt weak xs up) (rising_from_sorted lt weak ys vp) (λ f. sym (sum_by-IsPermutation f xs ys moved))
 
 -- the same where all elements that compare equal are equal
-pub only_sorted_of_equals : {X : Type 0} (cmp : X → X → Ordering) → IsTotalOrder cmp → ((x y : X) → cmp x y ≡ Equal → x ≡ y) → (xs ys : List X) → IsSorted cmp xs → IsSorted cmp ys → IsPermutation xs ys → xs ≡ ys
+pub only_sorted_of_equals : {X : Type 0} (cmp : X → X → Ordering) → IsTotalOrder cmp → ((x y : X) → cmp x y ≡ Equal → x ≡ y) → (xs ys : List X)
+    → IsSorted cmp xs → IsSorted cmp ys → IsPermutation xs ys → xs ≡ ys
 only_sorted_of_equals cmp o equals xs ys up vp moved = only_sorted cmp o xs ys (λ x y px py. equals x y) up vp moved
 
 -- so a sorted list of some elements is the one that putting them in order gives
-pub in_order-only : {X : Type 0} (cmp : X → X → Ordering) → IsTotalOrder cmp → (xs ys : List X) → ((x y : X) → Contains xs x → Contains xs y → cmp x y ≡ Equal → x ≡ y) → IsSorted cmp ys → IsPermutation xs ys → ys ≡ in_order (λ x y. is_lt (cmp x y)) xs
+pub in_order-only : {X : Type 0} (cmp : X → X → Ordering) → IsTotalOrder cmp → (xs ys : List X)
+    → ((x y : X) → Contains xs x → Contains xs y → cmp x y ≡ Equal → x ≡ y) → IsSorted cmp ys → IsPermutation xs ys → ys ≡ in_order (λ x y. is_lt (cmp x y)) xs
 in_order-only {X} cmp o xs ys ties up moved =
     let zs : List X = in_order (λ x y. is_lt (cmp x y)) xs in
     let here : (x : X) → Contains ys x → Contains xs x = λ x. Contains-permutation ys xs x (IsPermutation-sym xs ys moved) in

@@ -36,8 +36,11 @@ all_from_total p (x ∷ xs) e = (by_test (p x) (omega arith), all_from_total p x
 
 pub total_from_all : {X : Type 0} (p : X → Bool) (xs : List X) → AllByRecursion (λ x. p x ≡ true) xs → total (λ x. cond (p x) 0 1) xs ≡ 0
 total_from_all p [] all = refl
-total_from_all p (x ∷ xs) all = let rest : total (λ x. cond (p x) 0 1) xs ≡ 0 = total_from_all p xs all.1 in ap (λ b. cond b 0 1 + total (λ x. cond (p x) 0 1) xs) all.0 ∙ omega (arith, rest)
+total_from_all p (x ∷ xs) all =
+    let rest : total (λ x. cond (p x) 0 1) xs ≡ 0 = total_from_all p xs all.1 in
+    ap (λ b. cond b 0 1 + total (λ x. cond (p x) 0 1) xs) all.0 ∙ omega (arith, rest)
 
 -- a test that holds of each item of a list holds of each item of another order of it
-pub all-IsPermutation : {X : Type 0} (p : X → Bool) (xs ys : List X) → IsPermutation xs ys → AllByRecursion (λ x. p x ≡ true) xs → AllByRecursion (λ x. p x ≡ true) ys
+pub all-IsPermutation : {X : Type 0} (p : X → Bool) (xs ys : List X) → IsPermutation xs ys → AllByRecursion (λ x. p x ≡ true) xs
+    → AllByRecursion (λ x. p x ≡ true) ys
 all-IsPermutation p xs ys perm all = all_from_total p ys (total-IsPermutation (λ x. cond (p x) 0 1) xs ys perm ∙ total_from_all p xs all)

@@ -1,2 +1,2 @@
-//! General lemmas on tests, lists and numbers, which the proofs of the other crates share. It has no code.
+//! General lemmas on tests, lists and numbers, and on loops of looks, which the proofs of the other crates share. It has no code.
 #![tactic(auto)]
