@@ -1,5 +1,5 @@
 pub mod Conflicts
-pub mod Named
+pub mod LoopNamed
 pub mod Checking
 pub mod Owned
 pub mod Validated

@@ -5,10 +5,11 @@ use Rattle.flu_model.specs.declared.events.Cell.{Cell}
 use Rattle.flu_model.specs.declared.events.Tag.{Tag}
 use Rattle.flu_model.specs.declared.jobs.Program.{Program}
 use Rattle.flu_model.specs.Itags.{tag_of_itag, is_dependent, count_of_itags}
-use Rattle.flu_deps.specs.Conflicts.{is_cell_of, IsFirstConflict}
+use Rattle.flu_model.specs.Sorts.{is_cell_of}
+use Rattle.flu_deps.specs.Conflicts.{IsFirstConflict}
 use Rattle.flu_model.specs.Order.{tag_cmp, is_tag_before}
 use Rattle.flu_check.specs.declared.search.Fault.{Fault}
-use Rattle.flu_check.specs.Faults.{IsFault, fault_cmp}
+use Rattle.flu_check.specs.Faults.{IsCheckFault, fault_cmp}
 
 -- the tag of the itag with this number
 abbrev pub tag_at : Program → ℕ → Tag
@@ -20,7 +21,7 @@ is_fault_before x y = is_lt (fault_cmp x.a x.b x.cell y.a y.b y.cell)
 
 -- a fault of the job, at the first cell of its two tags, which is one of the job's
 pub record IsFound (p : Program) (f : Fault) : Type 0 where
-  pub fault : IsFault p f.a f.b f.cell
+  pub fault : IsCheckFault p f.a f.b f.cell
   pub cell : IsFirstConflict p f.a f.b f.cell
   pub declared : is_cell_of p.families f.cell ≡ true
 
@@ -34,7 +35,7 @@ KeepsPassed old new = (x : Fault) → IsPassed old x → IsPassed new x
 
 -- the faults of two tags in this order are passed
 abbrev pub PassesPair : Program → Tag → Tag → Option Fault → Type 0
-PassesPair p a b found = (c : Cell) → IsFault p a b c → IsPassed found (record { a = a; b = b; cell = c })
+PassesPair p a b found = (c : Cell) → IsCheckFault p a b c → IsPassed found (record { a = a; b = b; cell = c })
 
 -- the faults of a tag with each tag of the job are passed
 abbrev pub PassesTag : Program → Tag → Option Fault → Type 0

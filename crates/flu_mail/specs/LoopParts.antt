@@ -40,7 +40,7 @@ awaits Serve i j role = is_own role
 -- an event of itag i, whose tag is given, waits for itag j with this entry
 abbrev pub entry_waits : Program → Bool → Purpose → Itag → Tag → ℕ → Option Entry → Bool
 entry_waits p leaf purpose i t j None = false
-entry_waits p leaf purpose i t j (Some e) = awaits purpose i j e.role && (not leaf || is_dependent p e.tag t)
+entry_waits p leaf purpose i t j (Some e) = awaits purpose i j e.role && (not leaf || is_dependent p t e.tag)
 
 -- itag j holds x up: x waits for it, and it does not let x pass
 abbrev pub holds_up : Program → Mailbox → List (List Item) → Purpose → Event → Tag → ℕ → Bool
