@@ -19,8 +19,8 @@ use Rattle.flu_syntax.specs.declared.tree.WrittenTag.{WrittenTag}
 use Rattle.flu_syntax.specs.declared.tree.WrittenRelation.{WrittenRelation}
 use Rattle.flu_syntax.specs.declared.tree.WrittenRelation.TheVariants as relation
 use Rattle.flu_syntax.specs.Tree.{Tree, Deed, Writes, Clears, Emits, Flushes, Action, Declaration, Cell, Tag, Depends, On, Source, Declarations}
-use Rattle.flu_syntax.specs.Machine.{tag_of, Actions, Tags, Context, Amount, Guard, Want, Done, ToWrite, ToClear, Now, Start, Declared, CellName, CellForm, CellSort, TagName, TagForm, TagValue, DependsFirst, DependsSecond, DependsHow, SourceName, SourceFile, SourceRate, RateNumber, SourceSlack, SlackNumber, SourceColon, TagKind, TagKeys, TagLow, TagMore, TagHigh, TagClose, TagEnd, OnKind, OnColon, ActionStart, DeedEnd, ActionEnd, EmitText, FlushFamily, FlushText, CellFamily, InExpression, Goes, acted, listed, source_of, deed_step, action_step, operator_of, doing_of, sort_of, value_of, heading_of, opening, step, Found, run, verdict}
-use Rattle.flu_syntax.specs.Grammar.{Sign, Any, At, Spanned, IsSign, AreSigns, sort_word, value_word, verb_word, cell_signs, spelled, IsExpression, deed_signs, IsDeed, guard_signs, IsGuard, action_signs, AreActions, keys_signs, tag_signs, keyed_signs, relation_signs, rate_signs, slack_signs, declaration_signs, IsDeclaration, declarations_signs, AreDeclarations, IsJob}
+use Rattle.flu_syntax.specs.Machine.{tag_of, Actions, Tags, Context, Amount, Guard, Want, Done, ToWrite, ToClear, Now, Start, Declared, CellName, CellForm, CellSort, TagName, TagForm, TagValue, DependsFirst, DependsSecond, DependsHow, SourceName, SourceFile, SourceRate, RateNumber, SourceSlack, SlackNumber, SourceColon, TagKind, TagKeys, TagLow, TagMore, TagHigh, TagClose, TagEnd, OnKind, OnColon, ActionStart, DeedEnd, ActionEnd, EmitText, FlushFamily, FlushText, CellFamily, InExpression, Goes, acted, listed, source_of, deed_step, action_step, operator_of, doing_of, sort_of, value_of, heading_of, opening, step, Found, run}
+use Rattle.flu_syntax.specs.Grammar.{Sign, Any, At, Spanned, IsSign, AreSigns, sort_word, value_word, verb_word, cell_signs, spelled, IsExpression, deed_signs, IsDeed, guard_signs, IsGuard, action_signs, AreActions, keys_signs, tag_signs, keyed_signs, relation_signs, rate_signs, slack_signs, declaration_signs, IsDeclaration, declarations_signs, AreDeclarations}
 use Rattle.flu_syntax.specs.Reading.{no_actions}
 use Rattle.flu_syntax.proofs.Runs.{run-behind, begins, job_ends, opens-nil}
 use Rattle.flu_syntax.proofs.Parts.{run-passed, run-closed, run-declared, run-no_relation, deed_plain, source_plain, source_prompt, cell_plain, tag_plain, tag_alone, tags_end, actions_end}
@@ -502,7 +502,7 @@ accepts_declaration end job (Source n file rate slack (first ∷ tags)) tokens m
     let u = accepts_rate end job n file rate slack z.0 tail z.1 in
     let s = accepts_slack end job n file rate slack u.0 tail u.1 in
     let v = takes_sign end job (SourceColon n file rate slack) (TagKind (source_of n file rate slack)) s.0 (Any (w.Mark m.Colon)) tail s.1
-        (source_colon_step n file rate slack) in
+    (source_colon_step n file rate slack) in
     let c = accepts_tags end job (source_of n file rate slack) first tags v.0 more v.1 ends in
     (c.0, c.1, x.2 ∙ y.2 ∙ z.2 ∙ u.2 ∙ s.2 ∙ v.2 ∙ c.2)
 

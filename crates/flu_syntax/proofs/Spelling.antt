@@ -20,7 +20,7 @@ use Rattle.flu_syntax.specs.declared.tree.WrittenKeys.TheVariants as keys
 use Rattle.flu_syntax.specs.declared.tree.WrittenTag.{WrittenTag}
 use Rattle.flu_lemmas.proofs.Elements.{push_some}
 use Rattle.flu_syntax.specs.Tree.{Tree, ReadTree, HasTree, ParenTree, NegTree, NotTree, TwoTree, Deed, Writes, Clears, Emits, Flushes, Action, On, Source, Declarations}
-use Rattle.flu_syntax.specs.Machine.{span_of, number_of, cell_of, tag_of, Actions, Tags, Context, Amount, Guard, Frame, NegFrame, NotFrame, ParenFrame, RightFrame, Mode, Want, Have, Done, Aim, ToWrite, ToClear, ToRead, ToTest, Now, Start, Declared, CellName, CellForm, CellSort, TagName, TagForm, TagValue, DependsFirst, DependsSecond, DependsHow, SourceName, SourceFile, SourceRate, RateNumber, SourceSlack, SlackNumber, SourceColon, TagKind, TagKeys, TagLow, TagMore, TagHigh, TagClose, TagEnd, OnKind, OnColon, ActionStart, DeedEnd, ActionEnd, EmitText, FlushFamily, FlushText, CellFamily, CellKeys, CellKey, CellClose, InExpression, Next, Goes, Deep, Refused, begin, atom, take_or, done_step, expression_step, behind_step, deed_step, action_step, acted, listed, source_of, named, named_step, keys_step, key_step, on_name, on_text, on_colon, on_bracket, on_number, sort_of, sort_step, cell_step, value_of, value_step, tag_step, how_step, rate_step, slack_step, source_line, tags_step, tag_keys_step, range_step, doing_of, act_step, start_of, operator_of, is_within, is_close, level_behind, opens, heading_of, opening, done_whole, behind_whole, named_whole, step, whole, Verdict, Found, goes_on, next_declaration, ended, run, verdict}
+use Rattle.flu_syntax.specs.Machine.{span_of, number_of, cell_of, tag_of, Actions, Tags, Context, Amount, Guard, Frame, NegFrame, NotFrame, ParenFrame, RightFrame, Mode, Want, Have, Done, Aim, ToWrite, ToClear, ToRead, ToTest, Now, Start, Declared, CellName, CellForm, CellSort, TagName, TagForm, TagValue, DependsFirst, DependsSecond, DependsHow, SourceName, SourceFile, SourceRate, RateNumber, SourceSlack, SlackNumber, SourceColon, TagKind, TagKeys, TagLow, TagMore, TagHigh, TagClose, TagEnd, OnKind, OnColon, ActionStart, DeedEnd, ActionEnd, EmitText, FlushFamily, FlushText, CellFamily, CellKeys, CellKey, CellClose, InExpression, Next, Goes, Deep, Refused, begin, atom, take_or, done_step, expression_step, behind_step, deed_step, action_step, acted, listed, source_of, named, named_step, keys_step, key_step, on_name, on_text, on_colon, on_bracket, on_number, sort_of, sort_step, cell_step, value_of, value_step, tag_step, how_step, rate_step, slack_step, source_line, tags_step, tag_keys_step, range_step, doing_of, act_step, start_of, operator_of, is_within, is_close, level_behind, opens, heading_of, opening, done_whole, behind_whole, named_whole, step, whole, Verdict, Found, goes_on, next_declaration, ended, run}
 use Rattle.flu_syntax.specs.Grammar.{op_level, Sign, Any, At, Spanned, IsSign, AreSigns, name, text, number, op_word, verb_word, separated, key_signs, cell_signs, spelled, deed_signs, guard_signs, action_signs, tag_signs, keyed_signs, rate_signs, slack_signs, declaration_signs, declarations_signs}
 
 -- ---- what a turn has said
@@ -437,7 +437,7 @@ step_says (RateNumber n file) t sound = number_says (said (RateNumber n file)) t
 step_says (SourceSlack n file rate) t sound = slack_says n file rate t t.word refl
 step_says (SlackNumber n file rate) t sound =
     number_says (said (SlackNumber n file rate)) t t.word (λ slack. SourceColon n file rate (Some slack)) refl (λ slack. tt)
-        (λ slack. ap (source_begun n file) (sym (append_assoc (rate_signs rate) (Any (w.Reserved r.Slack) ∷ []) (number slack))))
+    (λ slack. ap (source_begun n file) (sym (append_assoc (rate_signs rate) (Any (w.Reserved r.Slack) ∷ []) (number slack))))
 step_says (SourceColon n file rate slack) t sound =
     colon_says (said (SourceColon n file rate slack)) t t.word (TagKind (source_of n file rate slack)) refl tt (append-nil (source_head (source_of n file rate slack)))
 step_says (TagKind so_far) t sound = name_says (said (TagKind so_far)) t t.word (TagKeys so_far (span_of t)) refl tt refl

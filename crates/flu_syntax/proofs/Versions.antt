@@ -14,7 +14,7 @@ use Rattle.flu_syntax.specs.Reading.{Tells, IsFirst as Begins, NotFirst, IsNumbe
 use Rattle.flu_syntax.proofs.Found.{declarations_are_found}
 use Rattle.flu_syntax.proofs.Levels.{declarations_are_kept}
 use Rattle.flu_syntax.proofs.Spelling.{declarations_are_spelled}
-use Rattle.flu_syntax.proofs.Viable.{Cannot, IsFirst, first_of_all}
+use Rattle.flu_syntax.proofs.Viable.{Cannot, first_of_all}
 
 abbrev version_word : Word
 version_word = w.Reserved r.Version

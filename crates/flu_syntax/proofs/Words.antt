@@ -1,10 +1,8 @@
 -- The names, texts and numbers of a job are tokens.
-use Rattle.std.proofs.Common.{ℕ, suc, List, [], ◌∷◌, ◌++◌, Option, Some, None, refl, arith}
-use Rattle.std.specs.Prelude.{Contains}
+use Rattle.std.proofs.Common.{ℕ, List, [], ◌∷◌, ◌++◌, Option, Some, None}
 use Rattle.std.specs.List.{flat_map, AllByRecursion}
 use Rattle.flu_lemmas.proofs.Containing.{contains_here, contains_later}
 use Rattle.flu_lemmas.proofs.Elements.{all_map, all_front, all_back, all_append}
-use Rattle.flu_text.specs.declared.words.Token.{Token}
 use Rattle.flu_text.specs.declared.words.Word.{Word}
 use Rattle.flu_text.specs.declared.words.Word.TheVariants as w
 use Rattle.flu_text.specs.declared.words.Mark.TheVariants as m
@@ -16,7 +14,7 @@ use Rattle.flu_syntax.specs.declared.tree.WrittenKeys.{WrittenKeys}
 use Rattle.flu_syntax.specs.declared.tree.WrittenKeys.TheVariants as keys
 use Rattle.flu_syntax.specs.declared.tree.WrittenTag.{WrittenTag}
 use Rattle.flu_syntax.specs.Tree.{Tree, NumberTree, ValueTree, KeyTree, TimeTree, ReadTree, HasTree, ParenTree, NegTree, NotTree, TwoTree, Deed, Writes, Clears, Emits, Flushes, Action, Declaration, Cell, Tag, Depends, On, Source, Declarations, Job}
-use Rattle.flu_syntax.specs.Grammar.{Sign, Any, AreSigns, separated, key_signs, cell_signs, spelled, deed_signs, guard_signs, action_signs, keys_signs, tag_signs, rate_signs, slack_signs, version_signs, declaration_signs, declarations_signs, job_signs}
+use Rattle.flu_syntax.specs.Grammar.{Sign, Any, separated, key_signs, cell_signs, spelled, deed_signs, guard_signs, action_signs, keys_signs, tag_signs, rate_signs, slack_signs, version_signs, declaration_signs, declarations_signs, job_signs}
 use Rattle.flu_syntax.specs.Words.{key_words, cell_words, tree_words, deed_words, guard_words, action_words, keys_words, tag_words, number_words, declaration_words, job_words, Stands}
 use Rattle.flu_syntax.specs.Laws.{SignsStand, WordsStand}
 
@@ -114,8 +112,7 @@ module _ (P : Sign → Type 0) where
       let extra = all_front P extras listed all.1.1.1 in
       let rate_stands = rate_has rate (all_front P (rate_signs rate) (slack_signs slack) extra) in
       let slack_stands = slack_has slack (all_back P (rate_signs rate) (slack_signs slack) extra) in
-      let tags_stand = separated_items (w.Mark m.Comma) tag_signs tag_words tag_has tags (all_back P extras listed all.1.1.1).1 in
-      (
+      let tags_stand = separated_items (w.Mark m.Comma) tag_signs tag_words tag_has tags (all_back P extras listed all.1.1.1).1 in (
         all.1.0,
         (
           all.1.1.0,
@@ -128,13 +125,13 @@ module _ (P : Sign → Type 0) where
   declarations_have [] all = tt
   declarations_have (d ∷ ds) all =
       all_append P (declaration_words d) (flat_map declaration_words ds) (declaration_has d (all_front P (declaration_signs d) (declarations_signs ds) all))
-          (declarations_have ds (all_back P (declaration_signs d) (declarations_signs ds) all))
+      (declarations_have ds (all_back P (declaration_signs d) (declarations_signs ds) all))
 
   job_has : (job : Job) → AllByRecursion P (job_signs job) → AllByRecursion P (job_words job)
   job_has job all =
       all_append P (number_words job.version) (flat_map declaration_words job.declarations)
-          (version_has job.version (all_front P (version_signs job.version) (declarations_signs job.declarations) all))
-          (declarations_have job.declarations (all_back P (version_signs job.version) (declarations_signs job.declarations) all))
+      (version_has job.version (all_front P (version_signs job.version) (declarations_signs job.declarations) all))
+      (declarations_have job.declarations (all_back P (version_signs job.version) (declarations_signs job.declarations) all))
 
 pub words_stand : WordsStand
 words_stand tokens job is = job_has (Stands tokens) job (signs_stand tokens (job_signs job) is.spelled)
