@@ -27,8 +27,24 @@ def owner_of(line):
     return re.split(r"[<:\s]", name)[0], kind == "trait"
 
 
+def exported_by(folder):
+    """The modules that a crate's root makes public, and the names that it passes on."""
+    root = folder / "src" / "lib.rt"
+    text = root.read_text() if root.exists() else ""
+    names = set()
+    for path in re.findall(r"^pub use ([^;]+);", text, re.M):
+        listed = re.search(r"\{(.*)\}", path, re.S)
+        names |= {n.strip() for n in (listed.group(1) if listed else path.split("::")[-1]).split(",")}
+    return set(re.findall(r"^pub mod (\w+);", text, re.M)), names
+
+
+def is_public(path, modules, names, clause):
+    """Whether a caller in another crate can name the function: its module is public, or the root passes on it or its type."""
+    return path.stem in modules | {"lib"} or re.split(r"::|\.", clause)[0] in names
+
+
 def clauses_of(path):
-    """The public clauses of a file, each with whether its function has an empty body."""
+    """The clauses of a file's functions marked `pub`, each with whether its function has an empty body."""
     owner, is_trait, function, found, waiting = None, False, None, [], []
     for line in path.read_text().splitlines():
         if line.startswith("}"):
@@ -62,7 +78,13 @@ def main():
     crates = sys.argv[1:] or sorted(path.name for path in TOP.iterdir() if path.is_dir())
     all_clauses = all_laws = all_edits = all_bare = 0
     for crate in crates:
-        clauses = [entry for path in sorted((TOP / crate).glob("src/**/*.rt")) for entry in clauses_of(path)]
+        modules, exported = exported_by(TOP / crate)
+        clauses = [
+            (name, is_law)
+            for path in sorted((TOP / crate).glob("src/**/*.rt"))
+            for name, is_law in clauses_of(path)
+            if is_public(path, modules, exported, name)
+        ]
         laws = [name for name, is_law in clauses if is_law]
         owed = [name for name, is_law in clauses if not is_law]
         edits, named = named_by(TOP / crate)

@@ -2,6 +2,10 @@
 #![tactic(auto)]
 
 #[cfg(test)]
+mod job_faults;
+#[cfg(test)]
 mod syntax;
 #[cfg(test)]
 mod texts;
+#[cfg(test)]
+mod whole_jobs;
