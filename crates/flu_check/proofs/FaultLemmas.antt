@@ -20,7 +20,7 @@ use Rattle.flu_model.specs.Itags.{itags, count_of_itags, is_dependent}
 use Rattle.flu_model.specs.Listing.{tag}
 use Rattle.flu_model.specs.Modes.{mode_of, modes_conflict, IsInUniverse, IsAccepted}
 use Rattle.flu_laws.proofs.Uses.{dependent_turns}
-use Rattle.flu_deps.specs.Order.{cell_cmp, is_cell_before, tag_cmp, is_tag_before}
+use Rattle.flu_model.specs.Order.{cell_cmp, is_cell_before, tag_cmp, is_tag_before}
 use Rattle.flu_deps.specs.Conflicts.{conflicts_on, IsFirstConflict}
 use Rattle.flu_deps.proofs.OrderLemmas.{cells_total, tags_total, tags_tie}
 use Rattle.flu_check.specs.declared.search.Fault.{Fault}

@@ -8,7 +8,7 @@ use Rattle.flu_model.specs.declared.jobs.Program.{Program}
 use Rattle.flu_model.specs.Itags.{is_dependent}
 use Rattle.flu_model.specs.Modes.{IsInUniverse}
 use Rattle.flu_deps.specs.Conflicts.{conflicts_on}
-use Rattle.flu_deps.specs.Order.{cell_cmp, tag_cmp, is_tag_before}
+use Rattle.flu_model.specs.Order.{cell_cmp, tag_cmp, is_tag_before}
 
 -- two tags that the job's sources list, equal or not, are independent and conflict on a cell; the second is not before the first
 pub record IsFault (p : Program) (a b : Tag) (c : Cell) : Type 0 where

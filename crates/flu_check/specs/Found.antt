@@ -6,7 +6,7 @@ use Rattle.flu_model.specs.declared.events.Tag.{Tag}
 use Rattle.flu_model.specs.declared.jobs.Program.{Program}
 use Rattle.flu_model.specs.Itags.{tag_of_itag, is_dependent, count_of_itags}
 use Rattle.flu_deps.specs.Conflicts.{is_cell_of, IsFirstConflict}
-use Rattle.flu_deps.specs.Order.{tag_cmp, is_tag_before}
+use Rattle.flu_model.specs.Order.{tag_cmp, is_tag_before}
 use Rattle.flu_check.specs.declared.search.Fault.{Fault}
 use Rattle.flu_check.specs.Faults.{IsFault, fault_cmp}
 

@@ -2,18 +2,19 @@
 use Rattle.std.proofs.Common.{◌≡◌, ◌<◌, ◌+◌, ℕ, Bool, true, false, cond, ◌&&◌, Option, Some, None, List, [], ◌∷◌, ◌++◌, length, drop, get_or, refl, sym, ap, subst, ◌∙◌}
 use Rattle.std.specs.Prelude.{◌||◌, IfSome}
 use Rattle.std.specs.List.{list_any, list_all}
-use Rattle.std.proofs.lemmas.List.{drop_more}
+use Rattle.flu_lemmas.proofs.Places.{drop_read}
 use Rattle.flu_lemmas.proofs.Tests.{and_left, and_right}
 use Rattle.flu_model.specs.declared.events.Cell.{Cell}
 use Rattle.flu_model.specs.declared.jobs.Action.{Action}
 use Rattle.flu_model.specs.declared.jobs.Piece.{Piece}
 use Rattle.flu_model.specs.Contents.{is_same_cell}
-use Rattle.flu_deps.specs.Order.{is_cell_before}
+use Rattle.flu_model.specs.Order.{is_cell_before}
 use Rattle.flu_deps.specs.Named.{piece_cells, pieces_cells, action_cells, actions_cells, is_before_best, better, best_among}
 use Rattle.flu_deps.proofs.CellLemmas.{same_cell-is}
-use Rattle.flu_deps.proofs.OrderLemmas.{cells_rank, not_before_itself}
+use Rattle.flu_deps.proofs.CellOrder.{cells_rank, not_before_itself}
 
-pub best_among-append : (passes : Cell → Bool) (best : Option Cell) (cs ds : List Cell) → best_among passes best (cs ++ ds) ≡ best_among passes (best_among passes best cs) ds
+pub best_among-append : (passes : Cell → Bool) (best : Option Cell) (cs ds : List Cell)
+    → best_among passes best (cs ++ ds) ≡ best_among passes (best_among passes best cs) ds
 best_among-append passes best [] ds = refl
 best_among-append passes best (c ∷ cs) ds = best_among-append passes (better passes best c) cs ds
 
@@ -21,30 +22,29 @@ best_among-append passes best (c ∷ cs) ds = best_among-append passes (better p
 pub ruleset appended = best_among-append
 
 -- ---- one more element of a list that names cells
-here : {X : Type 0} (xs : List X) (i : ℕ) (x : X) → i < length xs → x ≡ get_or xs i x → drop i xs ≡ x ∷ drop (i + 1) xs
-here xs i x lt is = drop_more xs i x lt ∙ ap (λ y. y ∷ drop (i + 1) xs) (sym is)
-
 pub pieces_turn : (passes : Cell → Bool) (key : ℕ) (qs : List Piece) (i : ℕ) (q : Piece) (best now whole : Option Cell) → i < length qs → q ≡ get_or qs i q
     → now ≡ best_among passes best (piece_cells key q) → best_among passes best (pieces_cells key (drop i qs)) ≡ whole → best_among passes now (pieces_cells key (drop (i + 1) qs)) ≡ whole
 pieces_turn passes key qs i q best now whole lt is step kept =
     let rest = pieces_cells key (drop (i + 1) qs) in
     ap (λ b. best_among passes b rest) step
     ∙ sym (best_among-append passes best (piece_cells key q) rest)
-    ∙ sym (ap (λ xs. best_among passes best (pieces_cells key xs)) (here qs i q lt is))
+    ∙ sym (ap (λ xs. best_among passes best (pieces_cells key xs)) (drop_read qs i q lt is))
     ∙ kept
 
-pub actions_turn : (passes : Cell → Bool) (key : ℕ) (all : List Action) (i : ℕ) (a : Action) (best now whole : Option Cell) → i < length all → a ≡ get_or all i a
+pub actions_turn : (passes : Cell → Bool) (key : ℕ) (all : List Action) (i : ℕ) (a : Action) (best now whole : Option Cell) → i < length all
+    → a ≡ get_or all i a
     → now ≡ best_among passes best (action_cells key a) → best_among passes best (actions_cells key (drop i all)) ≡ whole → best_among passes now (actions_cells key (drop (i + 1) all)) ≡ whole
 actions_turn passes key all i a best now whole lt is step kept =
     let rest = actions_cells key (drop (i + 1) all) in
     ap (λ b. best_among passes b rest) step
     ∙ sym (best_among-append passes best (action_cells key a) rest)
-    ∙ sym (ap (λ xs. best_among passes best (actions_cells key xs)) (here all i a lt is))
+    ∙ sym (ap (λ xs. best_among passes best (actions_cells key xs)) (drop_read all i a lt is))
     ∙ kept
 
 -- ---- what the best is
 -- what holds of the best so far and of each element of the list holds of the best among them
-pub best_is_one : (P : Cell → Type 0) (passes : Cell → Bool) (test : Cell → Bool) → ((c : Cell) → test c ≡ true → passes c ≡ true → P c) → (best : Option Cell) (cs : List Cell) → IfSome best P → list_all test cs ≡ true → IfSome (best_among passes best cs) P
+pub best_is_one : (P : Cell → Type 0) (passes : Cell → Bool) (test : Cell → Bool) → ((c : Cell) → test c ≡ true → passes c ≡ true → P c)
+    → (best : Option Cell) (cs : List Cell) → IfSome best P → list_all test cs ≡ true → IfSome (best_among passes best cs) P
 best_is_one P passes test holds best [] at_best all = at_best
 best_is_one P passes test holds best (c ∷ cs) at_best all =
     best_is_one P passes test holds (better passes best c) cs
@@ -85,7 +85,8 @@ best_keeps passes best [] x reached = reached
 best_keeps passes best (c ∷ cs) x reached = best_keeps passes (better passes best c) cs x (better_reached passes best c x reached)
 
 -- none of the list that passes is before the best
-pub best_reaches : (passes : Cell → Bool) (best : Option Cell) (cs : List Cell) (x : Cell) → list_any (λ d. is_same_cell d x) cs ≡ true → passes x ≡ true → IsReached (best_among passes best cs) x
+pub best_reaches : (passes : Cell → Bool) (best : Option Cell) (cs : List Cell) (x : Cell) → list_any (λ d. is_same_cell d x) cs ≡ true → passes x ≡ true
+    → IsReached (best_among passes best cs) x
 best_reaches passes best [] x named pass = cc
 best_reaches passes best (c ∷ cs) x named pass =
     elim (is_same_cell c x) as (λ b. is_same_cell c x ≡ b → (b || list_any (λ d. is_same_cell d x) cs) ≡ true → IsReached (best_among passes (better passes best c) cs) x) [

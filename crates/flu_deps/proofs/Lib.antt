@@ -1,7 +1,10 @@
-pub mod OrderLemmas
+pub mod CellOrder
 pub mod CellLemmas
 pub mod BestLemmas
 pub mod ConflictLemmas
 pub mod DeclaredLemmas
 pub mod NodeLemmas
 pub mod TreeLemmas
+pub mod Trees
+pub mod Within
+pub mod LawLemmas

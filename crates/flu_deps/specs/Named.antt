@@ -10,7 +10,7 @@ use Rattle.flu_model.specs.declared.jobs.Act.TheVariants.{Add, Raise, Set, Clear
 use Rattle.flu_model.specs.declared.jobs.Action.{Action}
 use Rattle.flu_model.specs.Contents.{cell}
 use Rattle.flu_model.specs.Expressions.{cell_of}
-use Rattle.flu_deps.specs.Order.{is_cell_before}
+use Rattle.flu_model.specs.Order.{is_cell_before}
 
 -- the cells that an expression reads, for a tag with this key
 abbrev pub expr_cells : ℕ → Expr → List Cell

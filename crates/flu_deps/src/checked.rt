@@ -6,7 +6,7 @@ ghost use Rattle.flu_model.specs.Modes.{IsAccepted};
 use flu_model::Program;
 
 /// A job that is accepted: any two tags of its sources that conflict on a cell are dependent. No caller makes another.
-#[derive(Debug, Drop)]
+#[derive(Drop)]
 pub struct Checked {
     program: Program,
     pub ghost accepted: { IsAccepted program },

@@ -3,11 +3,12 @@
 ghost use Rattle.std.specs.Prelude.{◌≡◌, ◌&&◌, IfSome, IfNone, IsTrue};
 ghost use Rattle.flu_model.specs.Modes as modes;
 ghost use Rattle.flu_model.specs.Rules.{tag_fits};
-ghost use Rattle.flu_deps.specs.Conflicts.{conflicts_on, is_cell_of, IsFirstConflict, NeverConflict};
+ghost use Rattle.flu_model.specs.Sorts.{is_cell_of};
+ghost use Rattle.flu_deps.specs.Conflicts.{conflicts_on, IsFirstConflict, NeverConflict};
 ghost use Rattle.flu_deps.specs.Named.{expr_cells, guard_cells, piece_cells, pieces_cells, act_cells, action_cells, actions_cells, is_before_best, better, best_among};
 
-use crate::modes::{actions_of, cell_of, mode};
-use flu_model::{Act, Action, Cell, CellRef, Expr, Mode, Piece, Program, Tag};
+use crate::modes::mode;
+use flu_model::{Act, Action, Cell, Expr, Mode, Piece, Program, Tag, actions_of, cell_of};
 
 /// Two tags that may conflict.
 #[derive(Clone, Copy)]
@@ -17,10 +18,10 @@ struct Pair {
 }
 
 /// The first cell, by family as declared and then by key, on which two tags conflict, dependent or not: both use it, and
-/// they neither both only add to it nor both only raise it. None where there is no such cell.
+/// they neither both only add to it, nor both only raise it, nor, in version 2, both only read it. None where there is no such
+/// cell.
 ///
-/// The cell is one of the job's where the tags are. It takes no memory, and its time is that of the number of references
-/// to cells in the actions of the two kinds by the length of these actions, whatever the number of keys.
+/// The cell is one of the job's where the tags are. It takes no memory.
 pub fn conflict(p: &Program, a: Tag, b: Tag) -> Option<Cell>
     ensures first { IfSome result (IsFirstConflict p.now a b) }
     ensures none { IfNone result (NeverConflict p.now a b) }
@@ -84,10 +85,10 @@ fn among_act(p: &Program, pair: Pair, best: Option<Cell>, key: u32, act: &Act) -
 {
     match act {
         Act::Add(r, e) | Act::Raise(r, e) | Act::Set(r, e) => {
-            let best = better(p, pair, best, cell_of(r, key));
+            let best = better(p, pair, best, cell_of(*r, key));
             among_expr(p, pair, best, key, e)
         }
-        Act::Clear(r) => better(p, pair, best, cell_of(r, key)),
+        Act::Clear(r) => better(p, pair, best, cell_of(*r, key)),
         Act::Emit(pieces) => among_pieces(p, pair, best, key, pieces.items()),
         Act::Flush(family, pieces) => {
             let first = Cell {
@@ -120,7 +121,7 @@ fn among_piece(p: &Program, pair: Pair, best: Option<Cell>, key: u32, piece: &Pi
     ensures { result ≡ best_among (conflicts_on p.now pair.a pair.b) best (piece_cells key piece.now) }
 {
     match piece {
-        Piece::Read(r) => better(p, pair, best, cell_of(r, key)),
+        Piece::Read(r) => better(p, pair, best, cell_of(*r, key)),
         Piece::Plain(_) | Piece::Value | Piece::Key | Piece::Time | Piece::CellValue => best,
     }
 }
@@ -131,7 +132,7 @@ fn among_expr(p: &Program, pair: Pair, best: Option<Cell>, key: u32, e: &Expr) -
 {
     match e {
         Expr::Lit(_) | Expr::Value | Expr::Key | Expr::Time => best,
-        Expr::Read(r) | Expr::Has(r) => better(p, pair, best, cell_of(r, key)),
+        Expr::Read(r) | Expr::Has(r) => better(p, pair, best, cell_of(*r, key)),
         Expr::Neg(inner) | Expr::Not(inner) => among_expr(p, pair, best, key, inner),
         Expr::Two(_, left, right) => {
             let best = among_expr(p, pair, best, key, left);
@@ -169,10 +170,23 @@ fn conflicts_on(p: &Program, pair: Pair, c: Cell) -> bool
 fn modes_conflict(m: Mode, n: Mode) -> bool
     ensures { result ≡ modes.modes_conflict m n }
 {
+    uses(m) && uses(n) && !share(m, n)
+}
+
+fn uses(m: Mode) -> bool
+    ensures { result ≡ modes.uses m }
+{
+    !matches!(m, Mode::None)
+}
+
+// Whether independent tags may use a cell in these modes.
+fn share(m: Mode, n: Mode) -> bool
+    ensures { result ≡ modes.share m n }
+{
     match m {
-        Mode::None => false,
-        Mode::Add => matches!(n, Mode::Raise | Mode::Own),
-        Mode::Raise => matches!(n, Mode::Add | Mode::Own),
-        Mode::Own => !matches!(n, Mode::None),
+        Mode::Add => matches!(n, Mode::Add),
+        Mode::Raise => matches!(n, Mode::Raise),
+        Mode::Read => matches!(n, Mode::Read),
+        Mode::None | Mode::Own => false,
     }
 }

@@ -5,6 +5,7 @@
 mod checked;
 mod conflicts;
 mod dependency;
+pub mod laws;
 mod modes;
 pub mod nodes;
 mod valid;
@@ -13,5 +14,5 @@ pub use checked::Checked;
 pub use conflicts::conflict;
 pub use dependency::dep;
 pub use flu_model::Mode;
-pub use modes::{actions_of, cell_of, mode};
+pub use modes::mode;
 pub use valid::Valid;

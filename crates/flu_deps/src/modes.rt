@@ -1,65 +1,82 @@
 //! How a tag uses a cell, read from the text of its kind's actions.
 
-ghost use Rattle.std.specs.Prelude.{◌≡◌, slice_get};
+ghost use Rattle.std.specs.Prelude.{◌≡◌, ◌==◌, slice_get};
 ghost use Rattle.std.specs.List.{list_any};
+ghost use Rattle.flu_model.specs.Contents.{is_same_cell};
 ghost use Rattle.flu_model.specs.Expressions as meaning;
 ghost use Rattle.flu_model.specs.Modes as modes;
-ghost use Rattle.flu_model.specs.Updates as updates;
 
-use flu_model::{Act, Action, At, Cell, CellRef, Expr, Mode, Piece, Program, Tag};
+use flu_model::{Act, Action, Cell, CellRef, Expr, Mode, Piece, Program, Tag, actions_of, cell_of};
 
-/// The mode of a tag on a cell: Own where an expression, a guard or a text of its kind's actions reads the cell, or `set`,
-/// `clear` or `flush` has it as its target; else Add or Raise where it is the target of `add` or `raise`; else None. The
-/// tag's key stands for `key`. It takes no memory.
+/// The mode of a tag on a cell, by whether its kind's actions read the cell (in an expression, a guard or a text), overwrite it
+/// (by `set`, `clear` or `flush`), add to it or raise it; the tag's key stands for `key`.
+///
+/// In version 1 of the job's language it is Own where they read or overwrite the cell; in version 2 where they overwrite it, or
+/// read it and add to it or raise it, and Read where they only read it. Else it is Add, Raise or None. It takes no memory.
 pub fn mode(p: &Program, t: Tag, c: Cell) -> Mode
     ensures { result ≡ modes.mode_of p.now t c }
 {
-    mode_among(actions_of(p, t), t.key, c)
+    mode_among(p.version, actions_of(p, t), t.key, c)
 }
 
-/// The actions of a tag's kind; none where the kind is not declared.
-pub fn actions_of(p: &Program, t: Tag) -> &[Action]
-    ensures { result.now ≡ updates.actions_of (slice_get p.now.kinds t.kind) }
+fn mode_among(version: u32, actions: &[Action], key: u32, c: Cell) -> Mode
+    ensures { result ≡ modes.mode_among version actions.now key c }
 {
-    match p.kinds.items().get(t.kind as usize) {
-        Some(kind) => kind.actions.items(),
-        None => &[],
+    let reads = some_reads(actions, key, c);
+    let overwrites = some_overwrites(actions, key, c);
+    let adds = some_adds(actions, key, c);
+    let raises = some_raises(actions, key, c);
+    if version == 2 {
+        mode_in_version_2(reads, overwrites, adds, raises)
+    } else {
+        mode_in_version_1(reads, overwrites, adds, raises)
     }
 }
 
-/// The cell that a reference means, for a tag with this key.
-pub fn cell_of(r: &CellRef, key: u32) -> Cell
-    ensures { result ≡ meaning.cell_of r.now key }
+fn mode_in_version_1(reads: bool, overwrites: bool, adds: bool, raises: bool) -> Mode
+    ensures { result ≡ modes.mode_in_version_1 reads overwrites adds raises }
 {
-    let key = match &r.at {
-        At::Alone => 0,
-        At::OwnKey => key,
-        At::Fixed(k) => *k,
-    };
-    Cell {
-        family: r.family,
-        key,
-    }
-}
-
-fn mode_among(actions: &[Action], key: u32, c: Cell) -> Mode
-    ensures { result ≡ modes.mode_among actions.now key c }
-{
-    if some_owns(actions, key, c) {
+    if reads || overwrites {
         Mode::Own
-    } else if some_adds(actions, key, c) {
+    } else {
+        mixed_mode(adds, raises)
+    }
+}
+
+fn mode_in_version_2(reads: bool, overwrites: bool, adds: bool, raises: bool) -> Mode
+    ensures { result ≡ modes.mode_in_version_2 reads overwrites adds raises }
+{
+    if overwrites || (reads && (adds || raises)) {
+        Mode::Own
+    } else if reads {
+        Mode::Read
+    } else {
+        mixed_mode(adds, raises)
+    }
+}
+
+fn mixed_mode(adds: bool, raises: bool) -> Mode
+    ensures { result ≡ modes.mixed_mode adds raises }
+{
+    if adds {
         Mode::Add
-    } else if some_raises(actions, key, c) {
+    } else if raises {
         Mode::Raise
     } else {
         Mode::None
     }
 }
 
-fn some_owns(actions: &[Action], key: u32, c: Cell) -> bool
-    ensures { result ≡ list_any (modes.action_owns key c) actions.now }
+fn some_reads(actions: &[Action], key: u32, c: Cell) -> bool
+    ensures { result ≡ list_any (modes.action_reads key c) actions.now }
 {
-    actions.iter().any(|action| owns(action, key, c))
+    actions.iter().any(|action| action_reads(action, key, c))
+}
+
+fn some_overwrites(actions: &[Action], key: u32, c: Cell) -> bool
+    ensures { result ≡ list_any (λ a. modes.act_overwrites key c a.act) actions.now }
+{
+    actions.iter().any(|action| overwrites(&action.act, key, c))
 }
 
 fn some_adds(actions: &[Action], key: u32, c: Cell) -> bool
@@ -74,17 +91,27 @@ fn some_raises(actions: &[Action], key: u32, c: Cell) -> bool
     actions.iter().any(|action| raises(&action.act, key, c))
 }
 
-fn owns(action: &Action, key: u32, c: Cell) -> bool
-    ensures { result ≡ modes.action_owns key c action.now }
+fn action_reads(action: &Action, key: u32, c: Cell) -> bool
+    ensures { result ≡ modes.action_reads key c action.now }
 {
-    guard_reads(&action.guard, key, c) || act_owns(&action.act, key, c)
+    guard_reads(&action.guard, key, c) || act_reads(&action.act, key, c)
+}
+
+fn overwrites(act: &Act, key: u32, c: Cell) -> bool
+    ensures { result ≡ modes.act_overwrites key c act.now }
+{
+    match act {
+        Act::Set(r, _) | Act::Clear(r) => means(*r, key, c),
+        Act::Flush(family, _) => c.family == *family,
+        Act::Add(_, _) | Act::Raise(_, _) | Act::Emit(_) => false,
+    }
 }
 
 fn adds(act: &Act, key: u32, c: Cell) -> bool
     ensures { result ≡ modes.act_adds key c act.now }
 {
     match act {
-        Act::Add(r, _) => means(r, key, c),
+        Act::Add(r, _) => means(*r, key, c),
         Act::Raise(_, _) | Act::Set(_, _) | Act::Clear(_) | Act::Emit(_) | Act::Flush(_, _) =>
             false,
     }
@@ -94,22 +121,18 @@ fn raises(act: &Act, key: u32, c: Cell) -> bool
     ensures { result ≡ modes.act_raises key c act.now }
 {
     match act {
-        Act::Raise(r, _) => means(r, key, c),
+        Act::Raise(r, _) => means(*r, key, c),
         Act::Add(_, _) | Act::Set(_, _) | Act::Clear(_) | Act::Emit(_) | Act::Flush(_, _) => false,
     }
 }
 
-fn act_owns(act: &Act, key: u32, c: Cell) -> bool
-    ensures { result ≡ modes.act_owns key c act.now }
+fn act_reads(act: &Act, key: u32, c: Cell) -> bool
+    ensures { result ≡ modes.act_reads key c act.now }
 {
     match act {
-        Act::Add(_, e) | Act::Raise(_, e) => reads(e, key, c),
-        Act::Set(r, e) => means(r, key, c) || reads(e, key, c),
-        Act::Clear(r) => means(r, key, c),
-        Act::Emit(pieces) => some_piece_reads(pieces.items(), key, c),
-        Act::Flush(family, pieces) => {
-            c.family == *family || some_piece_reads(pieces.items(), key, c)
-        }
+        Act::Add(_, e) | Act::Raise(_, e) | Act::Set(_, e) => reads(e, key, c),
+        Act::Clear(_) => false,
+        Act::Emit(pieces) | Act::Flush(_, pieces) => some_piece_reads(pieces.items(), key, c),
     }
 }
 
@@ -128,7 +151,7 @@ fn reads(e: &Expr, key: u32, c: Cell) -> bool
 {
     match e {
         Expr::Lit(_) | Expr::Value | Expr::Key | Expr::Time => false,
-        Expr::Read(r) | Expr::Has(r) => means(r, key, c),
+        Expr::Read(r) | Expr::Has(r) => means(*r, key, c),
         Expr::Neg(inner) | Expr::Not(inner) => reads(inner, key, c),
         Expr::Two(_, left, right) => reads(left, key, c) || reads(right, key, c),
     }
@@ -144,14 +167,14 @@ fn piece_reads(piece: &Piece, key: u32, c: Cell) -> bool
     ensures { result ≡ modes.piece_reads key c piece.now }
 {
     match piece {
-        Piece::Read(r) => means(r, key, c),
+        Piece::Read(r) => means(*r, key, c),
         Piece::Plain(_) | Piece::Value | Piece::Key | Piece::Time | Piece::CellValue => false,
     }
 }
 
 // Whether a reference means the cell, for a tag with this key.
-fn means(r: &CellRef, key: u32, c: Cell) -> bool
-    ensures { result ≡ modes.means key c r.now }
+fn means(r: CellRef, key: u32, c: Cell) -> bool
+    ensures { result ≡ modes.means key c r }
 {
     let meant = cell_of(r, key);
     meant.family == c.family && meant.key == c.key

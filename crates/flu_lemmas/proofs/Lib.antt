@@ -5,12 +5,17 @@ pub mod Digits
 pub mod Elements
 pub mod Items
 pub mod Loops
+pub mod Named
 pub mod Numbers
+pub mod OnlyOne
 pub mod Places
 pub mod Prefixes
 pub mod Ranges
+pub mod Results
 pub mod Searches
 pub mod Sorting
 pub mod Spans
 pub mod Tests
+pub mod Told
 pub mod Totals
+pub mod TwoNumbers

@@ -5,3 +5,5 @@ pub mod Loops
 pub mod Sorting
 pub mod Spans
 pub mod Totals
+pub mod Told
+pub mod Named

@@ -8,7 +8,7 @@ ghost use Rattle.flu_parse.specs.Templates.{is_open_bracket, digits_at, key_at, 
 
 use crate::pieces::WrittenPiece;
 use flu_layout::spelled;
-use flu_rules::is_name;
+use flu_names::is_name;
 use flu_syntax::{WrittenKey, WrittenNumber, WrittenRef, WrittenSpan};
 
 fn are_digits(bytes: &[u8]) -> bool

@@ -1,4 +1,3 @@
-pub mod General
 pub mod TreeParts
 pub mod TreeItags
 pub mod PlanTags
@@ -8,7 +7,6 @@ pub mod PlanRules
 pub mod PlanText
 pub mod TreeUnique
 pub mod PlanLength
-pub mod Occurs
 pub mod Rising
 pub mod Putting
 pub mod Connections

@@ -67,7 +67,8 @@ name t e = record {
 }
 
 -- what holds of nothing, and of each element, holds of what stands at a place
-at_place : {X : Type 0} (test : X → Bool) (P : Option X → Type 0) → P None → ((x : X) → test x ≡ true → P (Some x)) → (xs : List X) → list_all test xs ≡ true → (k : ℕ) → P (slice_get xs k)
+at_place : {X : Type 0} (test : X → Bool) (P : Option X → Type 0) → P None → ((x : X) → test x ≡ true → P (Some x)) → (xs : List X)
+    → list_all test xs ≡ true → (k : ℕ) → P (slice_get xs k)
 at_place test P nothing some [] e k = nothing
 at_place test P nothing some (x ∷ xs) e zero = some x (and_left (test x) _ e)
 at_place test P nothing some (x ∷ xs) e (suc k) = at_place test P nothing some xs (and_right (test x) _ e) k
@@ -161,7 +162,8 @@ module _ (p : Program) (nodes : List Node) (named : list_all is_named nodes ≡ 
       (kids node.kids))
       (word 1 line_end refl (omega arith))
 
-  lines : (some : List Node) → list_all is_named some ≡ true → list_all is_keyed_small some ≡ true → IsShort (108 * length some + 81 * count_of_predicates some) (flat_map (node_line p nodes) some)
+  lines : (some : List Node) → list_all is_named some ≡ true → list_all is_keyed_small some ≡ true
+      → IsShort (108 * length some + 81 * count_of_predicates some) (flat_map (node_line p nodes) some)
   lines [] e f = none _
   lines (node ∷ some) e f =
       let count = sum_by-cons (λ (node : Node). length node.preds) node some in
@@ -174,7 +176,8 @@ kept_is_short p nodes kept named =
     let count = kept.few_predicates in
     more (108 * length nodes + 81 * count_of_predicates nodes) 1048576 (printed p nodes) (omega (arith, few, count)) (lines p nodes named nodes named kept.small_keys)
 
-pub greedy_is_read_again : PrintedIsRead → (p : Program) (rates : List ℕ) (depth : ℕ) (nodes : List Node) → depth ≤ 6 → IsGreedyPlan p rates depth nodes → plan_in p (printed p nodes) ≡ Ok nodes
+pub greedy_is_read_again : PrintedIsRead → (p : Program) (rates : List ℕ) (depth : ℕ) (nodes : List Node) → depth ≤ 6 → IsGreedyPlan p rates depth nodes
+    → plan_in p (printed p nodes) ≡ Ok nodes
 greedy_is_read_again law p rates depth nodes le greedy =
     let kept = greedy_keeps_rules p rates depth nodes le greedy in
     let text = greedy_has_text p rates depth nodes le greedy in

@@ -6,6 +6,7 @@ use Rattle.std.specs.List.{list_all}
 use Rattle.std.proofs.lemmas.Bool.{agree_below_at}
 use Rattle.std.proofs.lemmas.List.Folds.{list_all-append}
 use Rattle.flu_lemmas.proofs.Tests.{and_left, both, true_lt, lt_true, all_at}
+use Rattle.flu_lemmas.proofs.Places.{slice_get-is_some}
 use Rattle.flu_model.specs.declared.events.Tag.{Tag}
 use Rattle.flu_model.specs.declared.jobs.Source.{Source}
 use Rattle.flu_model.specs.declared.jobs.Program.{Program}
@@ -24,11 +25,6 @@ use Rattle.flu_planner.proofs.PlanNodes.{AreOfJob, each_pred}
 use Rattle.flu_planner.proofs.PlanRules.{few_nodes, tag_of_job}
 
 -- ---- kinds and sources
-there_is : {X : Type 0} (xs : List X) (k : ℕ) → k < length xs → is_some (slice_get xs k) ≡ true
-there_is [] k lt = absurd (omega arith)
-there_is (x ∷ xs) zero lt = refl
-there_is (x ∷ xs) (suc k) lt = there_is xs k (omega arith)
-
 of_source : (n b : ℕ) (ts : List Tag) → n < b → list_all (λ (e : Tag × ℕ). nat_lt e.1 b) (map (λ t. (t, n)) ts) ≡ true
 of_source n b [] lt = refl
 of_source n b (t ∷ ts) lt = both (nat_lt n b) _ (lt_true n b lt) (of_source n b ts lt)
@@ -52,7 +48,7 @@ pub pred_names : (p : Program) (i : ℕ) → i < count_of_itags p → pred_fits 
 pred_names p i lt =
     let t = tag_of_itag p (number i) in
     let s = source_of_itag p (number i) in
-    both (is_some (slice_get p.kinds t.kind)) (is_some (slice_get p.sources s)) (there_is p.kinds t.kind (kind_of_job p i lt)) (there_is p.sources s (source_of_job p i lt))
+    both (is_some (slice_get p.kinds t.kind)) (is_some (slice_get p.sources s)) (slice_get-is_some p.kinds t.kind (kind_of_job p i lt)) (slice_get-is_some p.sources s (source_of_job p i lt))
 
 -- ---- names
 abbrev is_named : ℕ → Bool
@@ -76,7 +72,8 @@ tree_is_owned p rates depth t greedy = λ i there. all_within p i (owned_is_give
 abbrev HasText : Program → List Node → Type 0
 HasText p nodes = IsTrue (nodes_fit p nodes) × IsTrue (list_all (λ (node : Node). is_name node.name) nodes)
 
-pub greedy_has_text : (p : Program) (rates : List ℕ) (depth : ℕ) (nodes : List Node) → depth ≤ 6 → IsGreedyPlan p rates depth nodes → IsTrue (nodes_fit p nodes) × IsTrue (list_all (λ (node : Node). is_name node.name) nodes)
+pub greedy_has_text : (p : Program) (rates : List ℕ) (depth : ℕ) (nodes : List Node) → depth ≤ 6 → IsGreedyPlan p rates depth nodes
+    → IsTrue (nodes_fit p nodes) × IsTrue (list_all (λ (node : Node). is_name node.name) nodes)
 greedy_has_text p rates depth nodes le plan =
     let few = few_nodes (dependencies p) rates depth (all_itags p) plan.tree le plan.greedy in
     subst (λ (ns : List Node). HasText p ns) (sym plan.nodes_of_tree)

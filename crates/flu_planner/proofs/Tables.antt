@@ -1,17 +1,21 @@
 -- The graph that is read from the table of a job.
 use Rattle.std.proofs.Common.{◌≡◌, ◌<◌, ◌≤◌, ◌+◌, ◌*◌, ◌/◌, ◌%◌, ℕ, zero, suc, Bool, false, cond, List, [], ◌∷◌, map, length, get_or, inl, inr, refl, sym, ap, ◌∙◌, arith}
-use Rattle.std.specs.Prelude.{nat_lt, ◌&&◌, slice_get}
+use Rattle.std.specs.Prelude.{nat_lt, ◌==◌, ◌&&◌, ◌||◌, not, slice_get}
 use Rattle.std.specs.List.{range_with_len}
 use Rattle.std.proofs.lemmas.Bool.{cases_lt, cases_order, lt-ltb, le-ltb, le-leb}
 use Rattle.std.proofs.lemmas.List.{get_or-map}
 use Rattle.std.proofs.lemmas.List.FromFn.{length-range_with_len, get_or-range_with_len}
+use Rattle.flu_lemmas.proofs.Booleans.{or_turns}
+use Rattle.flu_lemmas.proofs.Numbers.{same_turns}
+use Rattle.flu_lemmas.proofs.Ranges.{range_below}
+use Rattle.flu_lemmas.proofs.Searches.{list_any_within}
+use Rattle.flu_model.specs.declared.events.Tag.{Tag}
+use Rattle.flu_model.specs.declared.jobs.Depend.{Depend}
 use Rattle.flu_model.specs.declared.jobs.Program.{Program}
-use Rattle.flu_model.specs.Itags.{count_of_itags, tag_of_itag}
-use Rattle.flu_laws.proofs.Uses.{dependent_turns}
+use Rattle.flu_model.specs.Itags.{count_of_itags, tag_of_itag, ties_tags}
 use Rattle.flu_planner.specs.Graphs.{dependencies}
 use Rattle.flu_planner.specs.Plans.{all_itags}
 use Rattle.flu_planner.specs.Tables.{read, is_set, entry, are_dependent, table_of, graph_of}
-use Rattle.flu_planner.proofs.Rising.{range_below}
 use Rattle.flu_planner.proofs.Agreement.{Agree}
 
 -- each edge leads both ways
@@ -29,6 +33,15 @@ graph_turns table i j =
             ∙ sym (ap (λ b. cond b (read table j i) (read table i j)) (lt-ltb j i more))
       ]
     ]
+
+ties_either_way : (a b : Tag) (d : Depend) → ties_tags a b d ≡ ties_tags b a d
+ties_either_way a b d = λ k. or_turns ((d.a == a.kind) && (d.b == b.kind)) ((d.a == b.kind) && (d.b == a.kind)) k && (not d.same || same_turns a.key b.key k)
+
+edge_turns : (p : Program) (i j : ℕ) → dependencies p i j ≡ dependencies p j i
+edge_turns p i j =
+    let a = tag_of_itag p (record { 0 = i }) in
+    let b = tag_of_itag p (record { 0 = j }) in
+    list_any_within (ties_tags a b) (ties_tags b a) p.depends (ties_either_way a b)
 
 -- ---- the table of a job
 set_is : (set : List Bool) (k : ℕ) → is_set (slice_get set k) ≡ get_or set k false
@@ -66,6 +79,6 @@ agrees_with_table p = record {
         | inl less ↦ ap (λ c. cond c (read table i j) (read table j i)) (lt-ltb i j less) ∙ read_is p i j (omega arith) b
         | inr le ↦
             ap (λ c. cond c (read table i j) (read table j i)) (le-ltb i j le) ∙ read_is p j i le a
-            ∙ dependent_turns p (tag_of_itag p (record { 0 = j })) (tag_of_itag p (record { 0 = i }))
+            ∙ edge_turns p j i
       ]);
 }

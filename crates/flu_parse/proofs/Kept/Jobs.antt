@@ -1,5 +1,5 @@
 -- What is read keeps the rules of the language, all of them.
-use Rattle.std.proofs.Common.{◌≡◌, ℕ, zero, suc, ◌+◌, ◌≤◌, Bool, true, false, List, [], ◌∷◌, ◌++◌, map, length, Option, Some, Ok, Err, refl, sym, ap, subst, ◌∙◌, add-zero, arith}
+use Rattle.std.proofs.Common.{◌≡◌, ℕ, zero, suc, ◌+◌, ◌≤◌, Bool, true, false, List, [], ◌∷◌, ◌++◌, map, length, Option, Some, None, Ok, Err, refl, sym, ap, subst, ◌∙◌, add-zero, arith}
 use Rattle.std.specs.Prelude.{◌&&◌, ◌||◌, ◌==◌, not, nat_lt, nat_le, slice_get, option_map}
 use Rattle.std.specs.List.{list_all, list_any, flat_map, AllByRecursion}
 use Rattle.std.specs.Str.{IsUtf8, is_utf8}
@@ -362,7 +362,7 @@ pub tokens_found : (r : Reading) (ts : List Token) → found_tokens r ≡ Ok ts 
 tokens_found (Ok us) ts e = cc
 tokens_found (Err at) ts e = absurd cc
 
-pub job_found : (v : Verdict) (written : tree.Job) → found_job v ≡ Ok written → v ≡ IsFound written
+pub job_found : (v : Verdict tree.Job) (written : tree.Job) → found_job v ≡ Ok written → v ≡ IsFound written
 job_found (IsFound ds) written e = cc
 job_found (Unexpected at) written e = absurd cc
 job_found TooDeep written e = absurd cc

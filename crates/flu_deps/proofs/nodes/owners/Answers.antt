@@ -5,7 +5,8 @@ use Rattle.std.proofs.lemmas.Grind.{get_or-set_at}
 use Rattle.std.proofs.lemmas.List.{length-set, get_or-set_other}
 use Rattle.flu_model.specs.Itags.{count_of_itags}
 use Rattle.flu_model.specs.Owners.{owner_of}
-use Rattle.flu_deps.proofs.NodeLemmas.{has_root, zeros_below, set_below, one_more}
+use Rattle.flu_lemmas.proofs.Numbers.{one_more}
+use Rattle.flu_deps.proofs.NodeLemmas.{has_root, zeros_below, set_below}
 use Rattle.flu_deps.proofs.nodes.owners.Goals as goal
 
 pub loop-i-init : goal.loop-i-init

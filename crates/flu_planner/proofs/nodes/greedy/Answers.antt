@@ -4,7 +4,8 @@ use Rattle.flu_planner.specs.Graphs.{dependencies}
 use Rattle.flu_planner.specs.Plans.{all_itags}
 use Rattle.flu_planner.specs.Tables.{table_of, graph_of}
 use Rattle.flu_planner.proofs.Agreement.{greedy_agrees}
-use Rattle.flu_planner.proofs.Rising.{range_below, rising_range}
+use Rattle.flu_planner.proofs.Rising.{rising_range}
+use Rattle.flu_lemmas.proofs.Ranges.{range_below}
 use Rattle.flu_planner.proofs.Tables.{agrees_with_table}
 use Rattle.flu_planner.proofs.nodes.greedy.Goals as goal
 
