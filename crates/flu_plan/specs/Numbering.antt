@@ -10,12 +10,12 @@ use Rattle.flu_syntax.specs.declared.tree.WrittenKeys.TheVariants as keys
 use Rattle.flu_plan.specs.declared.drafts.DraftPred.{DraftPred}
 use Rattle.flu_plan.specs.declared.drafts.DraftNode.{DraftNode}
 use Rattle.flu_plan.specs.declared.drafts.Visit.{Visit}
-use Rattle.flu_parse.specs.Spelling.{name_of, value_of}
+use Rattle.flu_layout.specs.Spelling.{name_of, written_value}
 
 abbrev pub planned_keys : WrittenKeys → Keys
 planned_keys keys.Alone = plain.Alone
-planned_keys (keys.One n) = plain.One (value_of n.value)
-planned_keys (keys.Range low high) = plain.Range (value_of low.value) (value_of high.value)
+planned_keys (keys.One n) = plain.One (written_value n.value)
+planned_keys (keys.Range low high) = plain.Range (written_value low.value) (written_value high.value)
 
 abbrev pub planned_pred : DraftPred → Pred
 planned_pred q = record { kind = q.kind; keys = planned_keys q.keys; source = q.source }

@@ -1,8 +1,8 @@
 use Rattle.std.proofs.Common.{◌∙◌, ◌+◌, ◌++◌, drop, ap, sym, arith}
 use Rattle.std.specs.List.{flat_map}
-use Rattle.flu_plan.specs.Planning.{planned_at}
-use Rattle.flu_plan.proofs.PlanningLemmas.{lists-next, lists-end}
-use Rattle.flu_plan.proofs.planning.planned.Goals as goal
+use Rattle.flu_plan.specs.Numbering.{planned_at}
+use Rattle.flu_plan.proofs.NumberingLemmas.{lists-next, lists-end}
+use Rattle.flu_plan.proofs.numbering.planned.Goals as goal
 
 pub loop-visit-preserved : goal.loop-visit-preserved
 loop-visit-preserved c =

@@ -2,22 +2,22 @@
 
 ghost use Rattle.std.specs.Prelude.{◌≡◌, ◌<◌, ◌^◌, ◌++◌, map, length, IfOk, OnOk};
 ghost use Rattle.flu_plan.specs.Faults.{each};
-ghost use Rattle.flu_parse.specs.Spelling.{value_of};
+ghost use Rattle.flu_layout.specs.Spelling.{written_value};
 ghost use Rattle.flu_plan.specs.Limits.{small_keys, keys_of_pred, keys_of_node, keys_of_nodes};
-ghost use Rattle.flu_plan.specs.Planning.{planned_keys, planned_pred, number_of, planned_kids, planned_node, planned_at, planned};
+ghost use Rattle.flu_plan.specs.Numbering.{planned_keys, planned_pred, number_of, planned_kids, planned_node, planned_at, planned};
 
 use crate::drafts::{DraftNode, DraftPred, Visit};
 use crate::shape::node_at;
 use flu_model::{Keys, List, Name, Node, Pred};
-use flu_parse::spelling::{name_of, value_of};
+use flu_layout::{name_of, written_value};
 use flu_syntax::{WrittenKeys, WrittenNumber};
 use std::alloc::{AllocError, Global};
 
 fn planned_key(number: WrittenNumber) -> u32
-    requires { value_of number.value < 2 ^ 32 }
-    ensures { result ≡ value_of number.value }
+    requires { written_value number.value < 2 ^ 32 }
+    ensures { result ≡ written_value number.value }
 {
-    value_of(number.value) as u32
+    written_value(number.value) as u32
 }
 
 fn planned_keys(keys: &WrittenKeys) -> Keys

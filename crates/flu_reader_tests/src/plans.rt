@@ -1,6 +1,8 @@
-use crate::{PlanFault, print_plan, read_plan};
+//! Plan texts.
+
 use flu_model::{Itag, Pred, Program, itag_count, matches};
 use flu_parse::read_job;
+use flu_plan::{PlanFault, print_plan, read_plan};
 use std::alloc::{AllocError, Global};
 use std::process::Abort;
 use std::test::Fail;
