@@ -1,5 +1,5 @@
 -- A greedy plan has a text: its predicates name kinds and sources of the job, and its names are names of the language.
-use Rattle.std.proofs.Common.{◌≡◌, ◌<◌, ◌≤◌, ◌+◌, ℕ, zero, suc, Bool, true, List, [], ◌∷◌, map, length, refl, sym, subst, ◌∙◌, arith}
+use Rattle.std.proofs.Common.{◌≡◌, ◌<◌, ◌≤◌, ◌+◌, ℕ, Bool, true, List, [], ◌∷◌, map, length, Ok, refl, sym, subst, ◌∙◌, arith}
 use Rattle.std.specs.Prelude.{nat_lt, slice_get, is_some, IsTrue}
 use Rattle.std.specs.Fmt.{digits}
 use Rattle.std.specs.List.{list_all}
@@ -15,14 +15,17 @@ use Rattle.flu_model.specs.Contents.{key_count}
 use Rattle.flu_model.specs.Itags.{itags, count_of_itags, tag_of_itag, source_of_itag}
 use Rattle.flu_model.specs.Listing.{tag, tags_of_source, itags_of_sources}
 use Rattle.flu_model.specs.Owners.{pred_fits, nodes_fit}
-use Rattle.flu_model.specs.Rules.{is_name}
+use Rattle.flu_names.specs.Names.{is_name}
+use Rattle.flu_plan.specs.Laws.{PrintedIsRead}
+use Rattle.flu_plan.specs.Printing.{printed}
+use Rattle.flu_plan.specs.Reading.{plan_in}
 use Rattle.flu_planner.specs.Graphs.{dependencies}
 use Rattle.flu_planner.specs.Greedy.{Tree, Leaf, Inner, IsGreedy}
 use Rattle.flu_planner.specs.Plans.{all_itags, pred_of, name_of, size, nodes_from, IsGreedyPlan}
 use Rattle.flu_planner.proofs.TreeItags.{owned_in, owned_is_given, all_once, all_within}
 use Rattle.flu_planner.proofs.PlanTags.{number}
 use Rattle.flu_planner.proofs.PlanNodes.{AreOfJob, each_pred}
-use Rattle.flu_planner.proofs.PlanRules.{few_nodes, tag_of_job}
+use Rattle.flu_planner.proofs.PlanRules.{few_nodes, tag_of_job, greedy_keeps_rules}
 
 -- ---- kinds and sources
 of_source : (n b : ℕ) (ts : List Tag) → n < b → list_all (λ (e : Tag × ℕ). nat_lt e.1 b) (map (λ t. (t, n)) ts) ≡ true
@@ -78,3 +81,10 @@ greedy_has_text p rates depth nodes le plan =
     let few = few_nodes (dependencies p) rates depth (all_itags p) plan.tree le plan.greedy in
     subst (λ (ns : List Node). HasText p ns) (sym plan.nodes_of_tree)
     (each_pred p (pred_fits p) (pred_names p) 0 plan.tree (tree_is_owned p rates depth plan.tree plan.greedy), names_are p 0 plan.tree (omega (arith, few)))
+
+-- the text of a plan that keeps the rules, and has a text, is read again
+pub greedy_is_read_again : PrintedIsRead → (p : Program) (rates : List ℕ) (depth : ℕ) (nodes : List Node) → depth ≤ 6 → IsGreedyPlan p rates depth nodes
+    → plan_in p (printed p nodes) ≡ Ok nodes
+greedy_is_read_again law p rates depth nodes le greedy =
+    let text = greedy_has_text p rates depth nodes le greedy in
+    law p nodes (greedy_keeps_rules p rates depth nodes le greedy) (both _ _ text.0 text.1)
