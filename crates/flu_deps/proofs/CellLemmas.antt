@@ -121,7 +121,8 @@ action_overwritten key c a own =
     ]
 
 -- what some action uses, if each that does so names the cell or flushes its family
-some_used : (key : ℕ) (c : Cell) (test : Action → Bool) → ((a : Action) → test a ≡ true → (names c (action_cells key a) ≡ true) ⊎ (flushes c.family a.act ≡ true)) → (all : List Action) → list_any test all ≡ true
+some_used : (key : ℕ) (c : Cell) (test : Action → Bool)
+    → ((a : Action) → test a ≡ true → (names c (action_cells key a) ≡ true) ⊎ (flushes c.family a.act ≡ true)) → (all : List Action) → list_any test all ≡ true
     → (names c (actions_cells key all) ≡ true) ⊎ (list_any (λ (a : Action). flushes c.family a.act) all ≡ true)
 some_used key c test one [] any = cc
 some_used key c test one (a ∷ all) any =

@@ -6,15 +6,9 @@ pub mod ResolveLemmas
 pub mod Steps
 pub mod ReadingLemmas
 pub mod General
+pub mod Distinct
 pub mod Looks
-pub mod WordsKept
-pub mod PlainRules
-pub mod NamesKept
-pub mod TermsKept
-pub mod TemplatesKept
-pub mod DeedsKept
-pub mod ListingsKept
-pub mod JobsKept
+pub mod Kept
 pub mod PrintedWords
 pub mod PrintedTokens
 pub mod PrintedSpans
@@ -35,6 +29,3 @@ pub mod PrintedDeclarations
 pub mod PrintedNames
 pub mod PrintedDrafts
 pub mod PrintedJobs
-pub mod PrintedSizes
-pub mod PrintedKept
-pub mod PrintedJobsKept

@@ -4,12 +4,12 @@ use Rattle.std.specs.Prelude.{nat_lt}
 use Rattle.std.specs.List.{flat_map, AllByRecursion}
 use Rattle.std.proofs.lemmas.List.{append-nil}
 use Rattle.flu_lemmas.specs.Totals.{total}
+use Rattle.flu_lemmas.proofs.Elements.{all_of_any}
 use Rattle.flu_lemmas.proofs.Tests.{true_lt}
 use Rattle.flu_model.specs.declared.limits.What.{What}
 use Rattle.flu_parse.specs.declared.faults.JobFault.{JobFault}
 use Rattle.flu_parse.specs.declared.faults.JobFault.TheVariants as f
 use Rattle.flu_parse.specs.Faults.{Found, ◌>>=◌, ◌>>◌, unless, room, each}
-use Rattle.flu_parse.proofs.General.{holds_of_any}
 
 -- what was found first, and that the rest found something of it
 pub bound : {A B : Type 0} (x : Found A) (g : A → Found B) (y : B) → (x >>= g) ≡ Ok y → (a : A) × (x ≡ Ok a) × (g a ≡ Ok y)
@@ -42,7 +42,7 @@ module _ {S X : Type 0} (step : S → X → Found S) where
 
   -- the same, of elements of which nothing need hold
   pub each-keeps-any : (I : S → Type 0) → ((s : S) (x : X) (t : S) → I s → step s x ≡ Ok t → I t) → (s : S) (xs : List X) (t : S) → I s → each step s xs ≡ Ok t → I t
-  each-keeps-any I f s xs t i e = each-keeps I (λ x. Unit {0}) (λ s x t i p e. f s x t i e) s xs t i (holds_of_any (λ x. Unit {0}) (λ x. tt) xs) e
+  each-keeps-any I f s xs t i e = each-keeps I (λ x. Unit {0}) (λ s x t i p e. f s x t i e) s xs t i (all_of_any (λ x. Unit {0}) (λ x. tt) xs) e
 
   -- what each step adds to a number
   pub each-counts : (f : S → ℕ) (g : X → ℕ) → ((s : S) (x : X) (t : S) → step s x ≡ Ok t → f t ≡ f s + g x) → (s : S) (xs : List X) (t : S) → each step s xs ≡ Ok t → f t ≡ f s + total g xs

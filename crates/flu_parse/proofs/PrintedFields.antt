@@ -33,7 +33,7 @@ use Rattle.flu_parse.specs.Printing.{key_text}
 use Rattle.flu_parse.proofs.General.{or_true, passes_too, fails_at}
 use Rattle.flu_parse.proofs.PrintedSpans.{Place, before_ascii, after_ascii, spelled_between, name_facts, name_between}
 use Rattle.flu_parse.proofs.PrintedLaid.{decimal_digits}
-use Rattle.flu_parse.proofs.PrintedScans.{no_close}
+use Rattle.flu_parse.proofs.PrintedScans.{no_brace}
 
 -- ---- names are none of the words that a field may be
 
@@ -232,21 +232,21 @@ field_of_ref whole from to n a named e =
     ∙ ap (λ t. if t then Some p.Time else ref_at whole from to) (other_word n a 23 (codes "time") named refl refl)
 
 -- no word of a field has a closing brace
-key_closed : (a : At) (family_keyed keyed : Bool) → key_fits family_keyed keyed a ≡ true → list_all no_close (key_text a) ≡ true
+key_closed : (a : At) (family_keyed keyed : Bool) → key_fits family_keyed keyed a ≡ true → list_all no_brace (key_text a) ≡ true
 key_closed at.Alone family_keyed keyed fits = refl
 key_closed at.OwnKey family_keyed keyed fits = refl
 key_closed (at.Fixed m) family_keyed keyed fits =
     let small : m < 65536 = true_lt m 65536 (and_right family_keyed (nat_lt m key_count) fits) in
-    let digits = passes_too is_ascii_digit no_close digit_no_close (decimal m) (decimal_digits m (omega arith)) in
-    list_all-append no_close (codes "[" ++ decimal m) (codes "]") ∙ both (list_all no_close (codes "[" ++ decimal m)) true digits refl
+    let digits = passes_too is_ascii_digit no_brace digit_no_brace (decimal m) (decimal_digits m (omega arith)) in
+    list_all-append no_brace (codes "[" ++ decimal m) (codes "]") ∙ both (list_all no_brace (codes "[" ++ decimal m)) true digits refl
   where
-    digit_no_close : (b : ℕ) → is_ascii_digit b ≡ true → no_close b ≡ true
-    digit_no_close b h = grind (arith, nat_tests)
+    digit_no_brace : (b : ℕ) → is_ascii_digit b ≡ true → no_brace b ≡ true
+    digit_no_brace b h = grind (arith, nat_tests)
 
-name_no_close : (b : ℕ) → is_letter_or_digit b ≡ true → no_close b ≡ true
-name_no_close b h = grind (arith, nat_tests)
+name_no_brace : (b : ℕ) → is_letter_or_digit b ≡ true → no_brace b ≡ true
+name_no_brace b h = grind (arith, nat_tests)
 
-pub ref_closed : (n : List ℕ) (a : At) (family_keyed keyed : Bool) → is_name n ≡ true → key_fits family_keyed keyed a ≡ true → list_all no_close (n ++ key_text a) ≡ true
+pub ref_closed : (n : List ℕ) (a : At) (family_keyed keyed : Bool) → is_name n ≡ true → key_fits family_keyed keyed a ≡ true → list_all no_brace (n ++ key_text a) ≡ true
 ref_closed n a family_keyed keyed named fits =
-    list_all-append no_close n (key_text a)
-    ∙ both (list_all no_close n) (list_all no_close (key_text a)) (passes_too is_letter_or_digit no_close name_no_close n (name_facts n named).bytes) (key_closed a family_keyed keyed fits)
+    list_all-append no_brace n (key_text a)
+    ∙ both (list_all no_brace n) (list_all no_brace (key_text a)) (passes_too is_letter_or_digit no_brace name_no_brace n (name_facts n named).bytes) (key_closed a family_keyed keyed fits)

@@ -8,7 +8,7 @@ use Rattle.flu_lemmas.proofs.Tests.{and_left, and_right, not_true, lt_true}
 use Rattle.flu_model.specs.Rules.{is_text_byte, is_plain_byte}
 use Rattle.flu_parse.specs.declared.pieces.WrittenPiece.{WrittenPiece}
 use Rattle.flu_parse.specs.declared.pieces.WrittenPiece.TheVariants as p
-use Rattle.flu_parse.specs.Templates.{span, Scan, Template, with_plain, with_field, scan_byte, continued, scan}
+use Rattle.flu_parse.specs.Templates.{span, braced, Scan, Template, with_plain, with_piece, scan_byte, continued, scan}
 
 -- between pieces, or within a field
 abbrev pub outside : List WrittenPiece → ℕ → Scan
@@ -20,8 +20,8 @@ within_field pieces start = record { pieces = pieces; start = start; in_field = 
 abbrev pub whole_template : List WrittenPiece → Template
 whole_template pieces = record { pieces = pieces; whole = true }
 
-abbrev pub no_close : ℕ → Bool
-no_close b = not (b == 125)
+abbrev pub no_brace : ℕ → Bool
+no_brace b = not (b == 123) && not (b == 125)
 
 -- two lists of pieces where one is a plain piece that is still open
 abbrev pub plain_part : List ℕ → ℕ → ℕ → List WrittenPiece
@@ -36,8 +36,8 @@ module _ (field : ℕ → ℕ → Option WrittenPiece) where
   plain_byte : (pieces : List WrittenPiece) (start place b : ℕ) → is_plain_byte b ≡ true → scan_byte field (outside pieces start) place b ≡ Some (outside pieces start)
   unfolding scan_byte
   plain_byte pieces start place b h =
-      let no_brace : (is_text_byte b && not (b == 123)) ≡ true = and_left (is_text_byte b && not (b == 123)) (not (b == 125)) h in
-      ap (λ t. if t then Some (within_field (with_plain (outside pieces start) place) (place + 1)) else if b == 125 then None else Some (outside pieces start)) (not_true (b == 123) (and_right (is_text_byte b) (not (b == 123)) no_brace))
+      let unopened : (is_text_byte b && not (b == 123)) ≡ true = and_left (is_text_byte b && not (b == 123)) (not (b == 125)) h in
+      ap (λ t. if t then Some (within_field (with_plain (outside pieces start) place) (place + 1)) else if b == 125 then None else Some (outside pieces start)) (not_true (b == 123) (and_right (is_text_byte b) (not (b == 123)) unopened))
       ∙ ap (λ t. if t then None else Some (outside pieces start)) (not_true (b == 125) (and_right (is_text_byte b && not (b == 123)) (not (b == 125)) h))
 
   -- plain bytes leave the scan as it is
@@ -48,17 +48,20 @@ module _ (field : ℕ → ℕ → Option WrittenPiece) where
       ∙ scan_plain pieces start (place + 1) t more (and_right (is_plain_byte b) (list_all is_plain_byte t) h)
       ∙ ap (λ k. scan field (outside pieces start) k more) (let same : place + 1 + length t ≡ place + suc (length t) = omega arith in same)
 
-  field_byte : (pieces : List WrittenPiece) (start place b : ℕ) → no_close b ≡ true → scan_byte field (within_field pieces start) place b ≡ Some (within_field pieces start)
+  field_byte : (pieces : List WrittenPiece) (start place b : ℕ) → no_brace b ≡ true → scan_byte field (within_field pieces start) place b ≡ Some (within_field pieces start)
   unfolding scan_byte
   field_byte pieces start place b h =
-      ap (λ t. if t then option_map (with_field (within_field pieces start) place) (field start place) else Some (within_field pieces start)) (not_true (b == 125) h)
+      let now : Scan = within_field pieces start in
+      ap (λ t. if t then Some (with_piece now place (braced (field start place))) else if b == 123 then None else Some now)
+      (not_true (b == 125) (and_right (not (b == 123)) (not (b == 125)) h))
+      ∙ ap (λ t. if t then None else Some now) (not_true (b == 123) (and_left (not (b == 123)) (not (b == 125)) h))
 
   -- and so do the bytes of a field
-  scan_word : (pieces : List WrittenPiece) (start place : ℕ) (word more : List ℕ) → list_all no_close word ≡ true → scan field (within_field pieces start) place (word ++ more) ≡ scan field (within_field pieces start) (place + length word) more
+  scan_word : (pieces : List WrittenPiece) (start place : ℕ) (word more : List ℕ) → list_all no_brace word ≡ true → scan field (within_field pieces start) place (word ++ more) ≡ scan field (within_field pieces start) (place + length word) more
   scan_word pieces start place [] more h = ap (λ k. scan field (within_field pieces start) k more) (let same : place ≡ place + 0 = omega arith in same)
   scan_word pieces start place (b ∷ word) more h =
-      one_byte (within_field pieces start) place b (word ++ more) (within_field pieces start) (field_byte pieces start place b (and_left (no_close b) (list_all no_close word) h))
-      ∙ scan_word pieces start (place + 1) word more (and_right (no_close b) (list_all no_close word) h)
+      one_byte (within_field pieces start) place b (word ++ more) (within_field pieces start) (field_byte pieces start place b (and_left (no_brace b) (list_all no_brace word) h))
+      ∙ scan_word pieces start (place + 1) word more (and_right (no_brace b) (list_all no_brace word) h)
       ∙ ap (λ k. scan field (within_field pieces start) k more) (let same : place + 1 + length word ≡ place + suc (length word) = omega arith in same)
 
   opens : (pieces : List WrittenPiece) (start place : ℕ) → scan_byte field (outside pieces start) place 123 ≡ Some (within_field (with_plain (outside pieces start) place) (place + 1))
@@ -67,10 +70,10 @@ module _ (field : ℕ → ℕ → Option WrittenPiece) where
 
   closes : (pieces : List WrittenPiece) (start place : ℕ) (q : WrittenPiece) → field start place ≡ Some q → scan_byte field (within_field pieces start) place 125 ≡ Some (outside (pieces ++ q ∷ []) (place + 1))
   unfolding scan_byte
-  closes pieces start place q e = ap (option_map (with_field (within_field pieces start) place)) e
+  closes pieces start place q e = ap (λ found. Some (with_piece (within_field pieces start) place (braced found))) e
 
   -- a field in its braces
-  pub scan_field : (pieces : List WrittenPiece) (start place : ℕ) (word more : List ℕ) (q : WrittenPiece) → list_all no_close word ≡ true → field (place + 1) (place + 1 + length word) ≡ Some q
+  pub scan_field : (pieces : List WrittenPiece) (start place : ℕ) (word more : List ℕ) (q : WrittenPiece) → list_all no_brace word ≡ true → field (place + 1) (place + 1 + length word) ≡ Some q
       → scan field (outside pieces start) place (123 ∷ (word ++ 125 ∷ more)) ≡ scan field (outside (with_plain (outside pieces start) place ++ q ∷ []) (place + 1 + length word + 1)) (place + 1 + length word + 1) more
   scan_field pieces start place word more q h e =
       let inner : List WrittenPiece = with_plain (outside pieces start) place in

@@ -27,7 +27,7 @@ use Rattle.flu_parse.proofs.FaultLemmas.{collect}
 use Rattle.flu_parse.proofs.PrintedSpans.{Place, before_ascii, after_ascii, spelled_between, Quoted, inside_stands}
 use Rattle.flu_parse.proofs.PrintedCells.{family_at, family_named}
 use Rattle.flu_parse.proofs.PrintedTerms.{family_head, FamiliesKnown}
-use Rattle.flu_parse.proofs.PrintedScans.{outside, whole_template, no_close, plain_part, scan_plain, scan_field, part_is, scan_end}
+use Rattle.flu_parse.proofs.PrintedScans.{outside, whole_template, no_brace, plain_part, scan_plain, scan_field, part_is, scan_end}
 use Rattle.flu_parse.proofs.PrintedFields.{word_between, FieldIs, read_field, field_of_word, field_of_ref, ref_closed}
 
 -- a plain piece that is still open, and the pieces behind it
@@ -77,7 +77,7 @@ module _ (whole : List ℕ) (utf8 : IsUtf8 whole) (families : List Family) (name
 
   -- a field: its word stands in braces, and then come the pieces that are left
   scan_one : (before pend word more after : List ℕ) (start place : ℕ) (r : Piece) (rs : List Piece) (q : WrittenPiece)
-      → Opened before pend (123 ∷ (word ++ (125 ∷ (more ++ after)))) start place → list_all no_close word ≡ true
+      → Opened before pend (123 ∷ (word ++ (125 ∷ (more ++ after)))) start place → list_all no_brace word ≡ true
       → field_at whole in_flush (place + 1) (place + 1 + length word) ≡ Some q → PieceIs q r
       → Scanned (place + 1 + length word + 1) (place + 1 + length word + 1) more rs
       → Scanned start place (123 ∷ (word ++ (125 ∷ more))) (with_open pend (r ∷ rs))

@@ -5,7 +5,7 @@ pub mod Cells
 pub mod Terms
 pub mod Templates
 pub mod Scans
-pub mod Deeds
+pub mod Actions
 pub mod Listings
 pub mod Resolving
 pub mod Reading

@@ -71,7 +71,7 @@ declare text n (w.Depends a b relation) = do
   room Depends 4096 n.depends
   Ok (record n { depends = n.depends + 1 })
 declare text n (w.On kind actions) = Ok n
-declare text n (w.Source s file rate tags) = with_source text n s
+declare text n (w.Source s file rate slack tags) = with_source text n s
 
 abbrev pub no_names : Naming
 no_names = record { families = []; kinds = []; sources = []; depends = 0 }

@@ -1,5 +1,5 @@
 -- A written template: its plain pieces and its fields.
-use Rattle.std.specs.Prelude.{ℕ, ◌+◌, ◌-◌, Bool, true, false, not, ◌&&◌, ◌||◌, ◌==◌, nat_lt, if◌then◌else◌, List, [], ◌∷◌, ◌++◌, Option, Some, None, option_map, pos, position, codes, Ok}
+use Rattle.std.specs.Prelude.{ℕ, ◌+◌, ◌-◌, Bool, true, false, not, ◌&&◌, ◌||◌, ◌==◌, nat_lt, if◌then◌else◌, List, [], ◌∷◌, ◌++◌, Option, Some, None, option_map, pos, position, codes, Ok, Err}
 use Rattle.std.specs.Char.{is_ascii_digit}
 use Rattle.std.specs.List.{list_all}
 use Rattle.std.specs.Str.{bytes_eq}
@@ -64,7 +64,15 @@ field_at text in_flush from to =
     else if in_flush then (if bytes_eq word (codes "cell") then Some p.CellValue else None)
     else ref_at text from to
 
+-- what stands between two braces: a field, or what has the form of none
+abbrev pub braced : Option WrittenPiece → WrittenPiece
+braced None = p.Formless
+braced (Some field) = field
+
 -- ---- the pieces of a template, byte by byte
+
+-- A brace is faulty where it has no partner: a `{` without a `}` behind it before the next brace, or a `}` without a `{` before it.
+-- What stands between two braces that match is a piece, even where it has the form of no field.
 
 -- the pieces so far, where the next one begins, and whether it is a field
 pub record Scan : Type 0 where
@@ -72,7 +80,7 @@ pub record Scan : Type 0 where
   pub start : ℕ
   pub in_field : Bool
 
--- the pieces up to the first faulty brace, and whether there is none
+-- the pieces before the first faulty brace, and whether there is none
 pub record Template : Type 0 where
   pub pieces : List WrittenPiece
   pub whole : Bool
@@ -81,13 +89,13 @@ pub record Template : Type 0 where
 abbrev pub with_plain : Scan → ℕ → List WrittenPiece
 with_plain s place = if nat_lt s.start place then s.pieces ++ p.Plain (span s.start place) ∷ [] else s.pieces
 
-abbrev pub with_field : Scan → ℕ → WrittenPiece → Scan
-with_field s place piece = record { pieces = s.pieces ++ piece ∷ []; start = place + 1; in_field = false }
+abbrev pub with_piece : Scan → ℕ → WrittenPiece → Scan
+with_piece s place piece = record { pieces = s.pieces ++ piece ∷ []; start = place + 1; in_field = false }
 
--- one byte more, at a place; none where it is or ends a faulty brace
+-- one byte more, at a place; none where it is a faulty brace, or a `{` behind one
 unfoldable pub scan_byte : (ℕ → ℕ → Option WrittenPiece) → Scan → ℕ → ℕ → Option Scan
 scan_byte field s place b =
-    if s.in_field then (if b == close_brace then option_map (with_field s place) (field s.start place) else Some s)
+    if s.in_field then (if b == close_brace then Some (with_piece s place (braced (field s.start place))) else if b == open_brace then None else Some s)
     else if b == open_brace then Some (record { pieces = with_plain s place; start = place + 1; in_field = true })
     else if b == close_brace then None
     else Some s
@@ -121,6 +129,7 @@ known_name text n place p.Key = Ok tt
 known_name text n place p.Time = Ok tt
 known_name text n place p.CellValue = Ok tt
 known_name text n place (p.Read r) = known place (look_up (name_of text r.family) n.families) >>= λ _. Ok tt
+known_name text n place p.Formless = Ok tt
 
 abbrev pub known_names : List ℕ → Naming → ℕ → List WrittenPiece → Found (Unit {0})
 known_names text n place qs = each (λ done q. known_name text n place q) tt qs
@@ -142,6 +151,7 @@ piece_fits text n under in_flush p.Key = in_flush || under.keyed
 piece_fits text n under in_flush p.Time = true
 piece_fits text n under in_flush p.CellValue = true
 piece_fits text n under in_flush (p.Read r) = read_fits under r.key (look_up (name_of text r.family) n.families)
+piece_fits text n under in_flush p.Formless = false
 
 -- what a piece means: a key that is too great is found here
 unfoldable pub piece_of : List ℕ → Naming → KindHead → ℕ → WrittenPiece → Found Piece
@@ -154,6 +164,7 @@ piece_of text n under place (p.Read r) = do
   family ← known place (look_up (name_of text r.family) n.families)
   at ← at_of under r.key
   Ok (piece.Read (record { family = family.number; at = at }))
+piece_of text n under place p.Formless = Err (f.WrongShape place)
 
 abbrev pub pieces_of : List ℕ → Naming → KindHead → ℕ → List WrittenPiece → Found (List Piece)
 pieces_of text n under place qs = found_of_each (piece_of text n under place) qs

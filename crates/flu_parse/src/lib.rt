@@ -1,8 +1,8 @@
 //! The readings of a job text (`docs/LANGUAGE.md`): from what is written to a job, or to the first fault with its place.
 #![tactic(auto)]
 
+mod actions;
 mod cells;
-mod deeds;
 mod drafts;
 mod faults;
 mod fields;
@@ -27,7 +27,3 @@ pub use reading::read_job;
 
 #[cfg(test)]
 mod printing_tests;
-#[cfg(test)]
-mod tests;
-#[cfg(test)]
-mod whole_jobs;

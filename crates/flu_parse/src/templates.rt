@@ -42,7 +42,8 @@ fn known_name(text: &str, names: &Names, place: usize, piece: &WrittenPiece) -> 
         | WrittenPiece::Value
         | WrittenPiece::Key
         | WrittenPiece::Time
-        | WrittenPiece::CellValue => Ok(()),
+        | WrittenPiece::CellValue
+        | WrittenPiece::Formless => Ok(()),
     }
 }
 
@@ -99,6 +100,7 @@ fn piece_fits(
             &written.key,
             find_family(names, name_of(text, written.family)),
         ),
+        WrittenPiece::Formless => false,
     }
 }
 
@@ -144,6 +146,7 @@ fn piece_of(
                 at,
             }))
         }
+        WrittenPiece::Formless => Err(JobFault::WrongShape { at: place }),
     }
 }
 

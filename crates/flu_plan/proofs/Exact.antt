@@ -2,7 +2,7 @@
 use Rattle.std.proofs.Common.{◌≡◌, ℕ, List, [], ◌∷◌, ◌++◌, Ok, Err, pos, refl, sym, ap, subst, ◌∙◌, append_assoc}
 use Rattle.flu_text.specs.declared.words.Word.{Word}
 use Rattle.flu_text.specs.declared.words.Word.TheVariants as w
-use Rattle.flu_text.specs.declared.words.Reserved.TheVariants as r
+use Rattle.flu_names.specs.declared.reserved.Reserved.TheVariants as r
 use Rattle.flu_text.specs.declared.words.Mark.TheVariants as m
 use Rattle.flu_text.specs.declared.words.Token.{Token}
 use Rattle.flu_plan.specs.declared.fault.PlanFault.{PlanFault}

@@ -4,9 +4,9 @@ use Rattle.std.specs.Prelude.{nat_lt, is_some, slice_get, codes}
 use Rattle.std.specs.List.{list_all}
 use Rattle.std.proofs.lemmas.List.{append-nil}
 use Rattle.flu_lemmas.proofs.Tests.{and_left, and_right}
-use Rattle.flu_text.specs.declared.words.Reserved.TheVariants as r
+use Rattle.flu_names.specs.declared.reserved.Reserved.TheVariants as r
 use Rattle.flu_text.specs.declared.words.Mark.TheVariants as m
-use Rattle.flu_text.specs.Grammar.{is_name_byte}
+use Rattle.flu_names.specs.Names.{is_name_byte}
 use Rattle.flu_text.specs.Layout.{Piece as Laid, layout, NotFirst}
 use Rattle.flu_model.specs.declared.jobs.Kind.{Kind}
 use Rattle.flu_model.specs.declared.jobs.Source.{Source}

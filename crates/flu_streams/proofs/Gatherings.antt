@@ -21,8 +21,8 @@ use Rattle.flu_outside.specs.Outside.{Contents, WhereTold, IsThere, CountApart}
 use Rattle.flu_rows.specs.declared.row.Row.{Row}
 use Rattle.flu_rows.specs.declared.rows.Next.{Next}
 use Rattle.flu_rows.specs.Reading.{read_file}
-use Rattle.flu_rows.specs.Taking.{bytes_left, TakesFrom, CountsOf, IsReadOut}
-use Rattle.flu_rows.proofs.Told.{told_then, told_weaker, told_same}
+use Rattle.flu_outside.specs.Taking.{bytes_left, TakesFrom, CountsOf, IsReadOut}
+use Rattle.flu_lemmas.proofs.Told.{told_then, told_weaker, told_same}
 use Rattle.flu_streams.specs.declared.faults.GatherFault.{GatherFault}
 use Rattle.flu_streams.specs.declared.faults.GatherFault.TheVariants.{Source as SourceFaulty, ReadFault, NoMemory}
 use Rattle.flu_streams.specs.declared.faults.SourceFault.{SourceFault}

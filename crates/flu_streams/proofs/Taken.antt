@@ -16,7 +16,7 @@ use Rattle.flu_rows.specs.declared.row.Row.TheVariants.{Event, Beat, End}
 use Rattle.flu_rows.specs.declared.rows.Next.{Next}
 use Rattle.flu_rows.specs.declared.rows.Next.TheVariants.{Row as RowNext, Bad, TooManyLines, Done}
 use Rattle.flu_rows.specs.Reading.{Place, read_file, ahead, then_behind, front_of, OnDone}
-use Rattle.flu_rows.specs.Taking.{bytes_left}
+use Rattle.flu_outside.specs.Taking.{bytes_left}
 use Rattle.flu_streams.specs.declared.faults.Why.{Why}
 use Rattle.flu_streams.specs.declared.intake.Intake.{Intake}
 use Rattle.flu_streams.specs.declared.intake.Refusal.{Refusal}
@@ -28,7 +28,7 @@ use Rattle.flu_streams.specs.Good.{item_in, items_at}
 use Rattle.flu_streams.specs.Lists.{items_of_list}
 use Rattle.flu_streams.specs.Intake.{IsEmpty, Adds, TakesIn, IsRefusal, Holds}
 use Rattle.flu_streams.specs.Source.{stop_at, defect_behind, WasRead, IsTakenIn, IsReading, IsGoodSource, IsFirstDefect}
-use Rattle.flu_rows.proofs.Told.{told_then, told_same}
+use Rattle.flu_lemmas.proofs.Told.{told_then, told_same}
 use Rattle.flu_streams.proofs.Befores.{with_before-append, first_some-append}
 
 -- ---- one row more

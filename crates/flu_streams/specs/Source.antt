@@ -9,7 +9,7 @@ use Rattle.flu_rows.specs.declared.row.Row.{Row}
 use Rattle.flu_rows.specs.declared.rows.Next.{Next}
 use Rattle.flu_rows.specs.declared.rows.Next.TheVariants.{Row as RowNext, Bad, TooManyLines, Done}
 use Rattle.flu_rows.specs.Reading.{Place, read_file, ahead}
-use Rattle.flu_rows.specs.Taking.{bytes_left}
+use Rattle.flu_outside.specs.Taking.{bytes_left}
 use Rattle.flu_streams.specs.declared.faults.Why.{Why}
 use Rattle.flu_streams.specs.declared.faults.Why.TheVariants.{BadRow, Unclosed, AfterEnd, TooMany}
 use Rattle.flu_streams.specs.declared.intake.Intake.{Intake}

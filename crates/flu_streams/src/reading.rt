@@ -4,7 +4,7 @@ ghost use Rattle.std.specs.Prelude.{◌≡◌, ◌≤◌, ◌<◌, ◌+◌, ◌^
 ghost use Rattle.flu_model.specs.Itags.{count_of_itags};
 ghost use Rattle.flu_model.specs.Listed.{listed};
 ghost use Rattle.flu_outside.specs.Outside.{WhereTold, Rose};
-ghost use Rattle.flu_rows.specs.Taking.{TakesFrom, TookFronts, CountsOf, IsReadOut};
+ghost use Rattle.flu_outside.specs.Taking.{TakesFrom, TookFronts, CountsOf, IsReadOut};
 ghost use Rattle.flu_streams.specs.Files.{files_of, LeavesOthers, CountsOfNames, OneRose, AreReadOut};
 ghost use Rattle.flu_streams.specs.Gathering.{AddsSource, IsFaultOf, IsFirstFault, fault_of_stop};
 ghost use Rattle.flu_streams.specs.Good.{AreGood, lists_of};

@@ -2,7 +2,7 @@
 
 ghost use Rattle.std.specs.Prelude.{◌≡◌, ◌≤◌, ◌+◌, length, OnOk, IfOk, IfErr, IsErrOf};
 ghost use Rattle.flu_outside.specs.Outside.{WhereTold, Rose};
-ghost use Rattle.flu_rows.specs.Taking.{TakesFrom, CountsOf, IsReadOut};
+ghost use Rattle.flu_outside.specs.Taking.{TakesFrom, CountsOf, IsReadOut};
 ghost use Rattle.flu_streams.specs.Tags as Tags;
 ghost use Rattle.flu_streams.specs.Source.{stop_of, stop_at, defect_behind, IsGoodSource, IsFirstDefect};
 

@@ -8,7 +8,5 @@ mod reading;
 mod words;
 
 pub use reading::{TextFault, tokens};
-pub use words::{Mark, Reserved, Token, Word};
-
-#[cfg(test)]
-mod tests;
+pub use flu_names::Reserved;
+pub use words::{Mark, Token, Word};

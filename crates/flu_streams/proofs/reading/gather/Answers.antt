@@ -5,7 +5,8 @@ use Rattle.std.proofs.lemmas.List.Sums.{sum_by-append}
 use Rattle.flu_model.specs.declared.jobs.Source.{Source}
 use Rattle.flu_model.specs.Listed.{listed}
 use Rattle.flu_outside.specs.Outside.{WhereTold}
-use Rattle.flu_rows.proofs.Told.{told_weaker, rose_behind, fronts_at, fronts_then}
+use Rattle.flu_lemmas.proofs.Named.{rose_behind, fronts_at, fronts_then}
+use Rattle.flu_lemmas.proofs.Told.{told_weaker}
 use Rattle.flu_streams.specs.declared.faults.GatherFault.TheVariants.{ReadFault}
 use Rattle.flu_streams.specs.Files.{files_of, LeavesOthers, CountsOfNames, AreReadOut}
 use Rattle.flu_streams.specs.Gathering.{IsGathered, IsFirstFault, lists_of_sources}

@@ -2,7 +2,7 @@ use Rattle.std.proofs.Common.{◌≡◌, ℕ, List, true, take, vec_len}
 use Rattle.std.specs.Prelude.{sum_by}
 use Rattle.flu_model.specs.Streaming.{are_streams}
 use Rattle.flu_outside.specs.Outside.{WhereTold, IsThere}
-use Rattle.flu_rows.specs.Taking.{TookFronts}
+use Rattle.flu_outside.specs.Taking.{TookFronts}
 use Rattle.flu_streams.specs.Files.{files_of, CountsOfNames, AreReadOut}
 use Rattle.flu_streams.specs.Gathering.{IsGathered}
 use Rattle.flu_streams.specs.Lists.{lists_in}

@@ -1,7 +1,7 @@
 use Rattle.std.proofs.Common.{◌≡◌, ◌≤◌, ◌∙◌, List, ℕ, refl, sym, ap, rules, arith}
 use Rattle.flu_outside.specs.Outside.{WhereTold, Rose}
-use Rattle.flu_rows.specs.Taking.{TakesFrom, CountsOf, IsReadOut}
-use Rattle.flu_rows.proofs.Told.{taken_then, counts_then, none_taken, no_counts, rose_behind}
+use Rattle.flu_outside.specs.Taking.{TakesFrom, CountsOf, IsReadOut}
+use Rattle.flu_lemmas.proofs.Named.{taken_then, counts_then, none_taken, no_counts, rose_behind}
 use Rattle.flu_streams.proofs.Taken.{reading_none, reading_more, refused, good_end, bad_end, at_done}
 use Rattle.flu_streams.proofs.source.read_source.Goals as goal
 

@@ -1,6 +1,6 @@
 use Rattle.std.proofs.Common.{◌≡◌, ◌-◌, ◌^◌, List}
 use Rattle.flu_outside.specs.Outside.{WhereTold}
-use Rattle.flu_rows.specs.Taking.{TakesFrom, CountsOf}
+use Rattle.flu_outside.specs.Taking.{TakesFrom, CountsOf}
 use Rattle.flu_streams.specs.Source.{IsReading}
 use Rattle.flu_streams.proofs.source.read_source.Given as goal
 

@@ -1,7 +1,7 @@
 use Rattle.std.proofs.Common.{◌∙◌, []}
 use Rattle.std.proofs.lemmas.Result.{err_from_is_err_and}
 use Rattle.flu_text.specs.declared.words.Word.TheVariants as w
-use Rattle.flu_text.specs.declared.words.Reserved.TheVariants as r
+use Rattle.flu_names.specs.declared.reserved.Reserved.TheVariants as r
 use Rattle.flu_syntax.specs.Tree.{view}
 use Rattle.flu_syntax.specs.Machine.{Guard, DeedEnd, InExpression, Want}
 use Rattle.flu_syntax.proofs.Runs.{Tells-through, opens-nil, run-behind}

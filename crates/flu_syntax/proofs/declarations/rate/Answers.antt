@@ -1,7 +1,7 @@
 use Rattle.std.proofs.Common.{◌∙◌}
 use Rattle.std.proofs.lemmas.Result.{err_from_is_err_and}
 use Rattle.flu_text.specs.declared.words.Word.TheVariants as w
-use Rattle.flu_text.specs.declared.words.Reserved.TheVariants as r
+use Rattle.flu_names.specs.declared.reserved.Reserved.TheVariants as r
 use Rattle.flu_syntax.specs.Machine.{SourceRate, SourceNumber}
 use Rattle.flu_syntax.proofs.Parts.{tells, run-word, run-passed, run-number, run-no_number, source_rate, source_plain, source_number}
 use Rattle.flu_syntax.proofs.declarations.rate.Goals as goal
