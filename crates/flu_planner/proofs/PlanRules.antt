@@ -6,7 +6,7 @@ use Rattle.std.specs.Fmt.{decimal}
 use Rattle.std.proofs.lemmas.Fmt.{decimal_injective}
 use Rattle.std.proofs.lemmas.List.{append-nil, length-map, map-append}
 use Rattle.std.proofs.lemmas.List.Sums.{sum_by-cons, sum_by-append}
-use Rattle.flu_lemmas.proofs.Tests.{and_left, and_right, both, true_eq, le_true, false_if_not, all_at}
+use Rattle.flu_lemmas.proofs.Tests.{and_left, and_right, both, true_eq, le_true, false_if_not}
 use Rattle.flu_lemmas.proofs.Searches.{eq_true}
 use Rattle.flu_lemmas.proofs.Ranges.{range_append}
 use Rattle.flu_model.specs.declared.events.Itag.{Itag}
@@ -15,7 +15,6 @@ use Rattle.flu_model.specs.declared.plans.Pred.{Pred}
 use Rattle.flu_model.specs.declared.plans.Node.{Node}
 use Rattle.flu_model.specs.Contents.{key_count}
 use Rattle.flu_model.specs.Itags.{itags, count_of_itags, tag_of_itag}
-use Rattle.flu_model.specs.Listing.{tag}
 use Rattle.flu_model.specs.Owners.{is_keyed}
 use Rattle.flu_model.specs.PlanRules.{are_subtrees, is_tree, depths_below, count_of_predicates, are_small_keys}
 use Rattle.flu_model.specs.Rules.{are_distinct, is_same_text, tag_fits}

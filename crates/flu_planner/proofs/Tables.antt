@@ -57,7 +57,7 @@ read_is p i j le other =
 
 pub agrees_with_table : DependenceIsMutual → (p : Program) → Agree (graph_of (table_of p)) (dependencies p) (all_itags p)
 unfolding graph_of
-agrees_with_table mutual p = record {
+agrees_with_table law p = record {
   same = λ i j one other.
       (let a : i < count_of_itags p = range_below (count_of_itags p) i one in
       let b : j < count_of_itags p = range_below (count_of_itags p) j other in
@@ -66,6 +66,6 @@ agrees_with_table mutual p = record {
         | inl less ↦ ap (λ c. cond c (read table i j) (read table j i)) (lt-ltb i j less) ∙ read_is p i j (omega arith) b
         | inr le ↦
             ap (λ c. cond c (read table i j) (read table j i)) (le-ltb i j le) ∙ read_is p j i le a
-            ∙ mutual p (tag_of_itag p (record { 0 = j })) (tag_of_itag p (record { 0 = i }))
+            ∙ law p (tag_of_itag p (record { 0 = j })) (tag_of_itag p (record { 0 = i }))
       ]);
 }
