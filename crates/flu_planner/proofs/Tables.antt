@@ -8,7 +8,7 @@ use Rattle.std.proofs.lemmas.List.FromFn.{length-range_with_len, get_or-range_wi
 use Rattle.flu_lemmas.proofs.Ranges.{range_below}
 use Rattle.flu_model.specs.declared.jobs.Program.{Program}
 use Rattle.flu_model.specs.Itags.{count_of_itags, tag_of_itag}
-use Rattle.flu_deps.specs.Dependencies.{DependenceIsMutual}
+use Rattle.flu_laws.specs.Lawful.{DependencyTurns}
 use Rattle.flu_planner.specs.Graphs.{dependencies}
 use Rattle.flu_planner.specs.Plans.{all_itags}
 use Rattle.flu_planner.specs.Tables.{read, is_set, entry, are_dependent, table_of, graph_of}
@@ -55,7 +55,7 @@ read_is p i j le other =
     ∙ ap (λ b. b && (nat_lt j (count_of_itags p) && dependencies p i j)) (le-leb i j le)
     ∙ ap (λ b. b && dependencies p i j) (lt-ltb j (count_of_itags p) other)
 
-pub agrees_with_table : DependenceIsMutual → (p : Program) → Agree (graph_of (table_of p)) (dependencies p) (all_itags p)
+pub agrees_with_table : DependencyTurns → (p : Program) → Agree (graph_of (table_of p)) (dependencies p) (all_itags p)
 unfolding graph_of
 agrees_with_table law p = record {
   same = λ i j one other.
