@@ -1,11 +1,11 @@
 //! Greedy plans of small jobs. A plan is told as a line for each node: its name, the kind, key and source of each of its
 //! predicates, and the numbers of its children.
 
-use crate::plan;
 use flu_check::{Checked, check};
 use flu_model::{
     Depend, Family, Keys, Kind, List, Name, Node, Pred, Program, Source, TagRef, Text, itag_count,
 };
+use flu_planner::plan;
 use flu_rules::program;
 use std::alloc::{AllocError, Global};
 use std::process::Abort;
@@ -51,6 +51,7 @@ fn sources(alloc: Global, listed: &[&[TagRef]]) -> Result<List<Source>, AllocErr
             name: Name::of(format!(in alloc; "s{number}")?),
             file: Text::of(format!(in alloc; "s{number}.csv")?),
             rate: 1,
+            slack: 0,
             tags: List::of(tags.to_vec(alloc)?),
         })?;
     }
@@ -62,7 +63,7 @@ fn accepted(alloc: Global, job: &Job<'_>) -> Result<Option<Checked>, AllocError>
     let kinds = kinds(alloc, job.keyed)?;
     let depends = depends(alloc, job.depends)?;
     let sources = sources(alloc, job.listed)?;
-    let Some(p) = program(List::of(families), kinds, depends, sources) else {
+    let Some(p) = program(1, List::of(families), kinds, depends, sources) else {
         return Ok(None);
     };
     Ok(check(p).ok())
