@@ -9,11 +9,12 @@ use Rattle.flu_model.specs.declared.jobs.Action.{Action}
 use Rattle.flu_model.specs.declared.jobs.Piece.{Piece}
 use Rattle.flu_model.specs.Contents.{is_same_cell}
 use Rattle.flu_model.specs.Order.{is_cell_before}
-use Rattle.flu_deps.specs.Named.{piece_cells, pieces_cells, action_cells, actions_cells, is_before_best, better, best_among}
+use Rattle.flu_deps.specs.LoopNamed.{piece_cells, pieces_cells, action_cells, actions_cells, is_before_best, better, best_among}
 use Rattle.flu_deps.proofs.CellLemmas.{same_cell-is}
 use Rattle.flu_deps.proofs.CellOrder.{cells_rank, not_before_itself}
 
-pub best_among-append : (passes : Cell → Bool) (best : Option Cell) (cs ds : List Cell) → best_among passes best (cs ++ ds) ≡ best_among passes (best_among passes best cs) ds
+pub best_among-append : (passes : Cell → Bool) (best : Option Cell) (cs ds : List Cell)
+    → best_among passes best (cs ++ ds) ≡ best_among passes (best_among passes best cs) ds
 best_among-append passes best [] ds = refl
 best_among-append passes best (c ∷ cs) ds = best_among-append passes (better passes best c) cs ds
 
@@ -30,7 +31,8 @@ pieces_turn passes key qs i q best now whole lt is step kept =
     ∙ sym (ap (λ xs. best_among passes best (pieces_cells key xs)) (drop_read qs i q lt is))
     ∙ kept
 
-pub actions_turn : (passes : Cell → Bool) (key : ℕ) (all : List Action) (i : ℕ) (a : Action) (best now whole : Option Cell) → i < length all → a ≡ get_or all i a
+pub actions_turn : (passes : Cell → Bool) (key : ℕ) (all : List Action) (i : ℕ) (a : Action) (best now whole : Option Cell) → i < length all
+    → a ≡ get_or all i a
     → now ≡ best_among passes best (action_cells key a) → best_among passes best (actions_cells key (drop i all)) ≡ whole → best_among passes now (actions_cells key (drop (i + 1) all)) ≡ whole
 actions_turn passes key all i a best now whole lt is step kept =
     let rest = actions_cells key (drop (i + 1) all) in
@@ -41,7 +43,8 @@ actions_turn passes key all i a best now whole lt is step kept =
 
 -- ---- what the best is
 -- what holds of the best so far and of each element of the list holds of the best among them
-pub best_is_one : (P : Cell → Type 0) (passes : Cell → Bool) (test : Cell → Bool) → ((c : Cell) → test c ≡ true → passes c ≡ true → P c) → (best : Option Cell) (cs : List Cell) → IfSome best P → list_all test cs ≡ true → IfSome (best_among passes best cs) P
+pub best_is_one : (P : Cell → Type 0) (passes : Cell → Bool) (test : Cell → Bool) → ((c : Cell) → test c ≡ true → passes c ≡ true → P c)
+    → (best : Option Cell) (cs : List Cell) → IfSome best P → list_all test cs ≡ true → IfSome (best_among passes best cs) P
 best_is_one P passes test holds best [] at_best all = at_best
 best_is_one P passes test holds best (c ∷ cs) at_best all =
     best_is_one P passes test holds (better passes best c) cs
@@ -82,7 +85,8 @@ best_keeps passes best [] x reached = reached
 best_keeps passes best (c ∷ cs) x reached = best_keeps passes (better passes best c) cs x (better_reached passes best c x reached)
 
 -- none of the list that passes is before the best
-pub best_reaches : (passes : Cell → Bool) (best : Option Cell) (cs : List Cell) (x : Cell) → list_any (λ d. is_same_cell d x) cs ≡ true → passes x ≡ true → IsReached (best_among passes best cs) x
+pub best_reaches : (passes : Cell → Bool) (best : Option Cell) (cs : List Cell) (x : Cell) → list_any (λ d. is_same_cell d x) cs ≡ true → passes x ≡ true
+    → IsReached (best_among passes best cs) x
 best_reaches passes best [] x named pass = cc
 best_reaches passes best (c ∷ cs) x named pass =
     elim (is_same_cell c x) as (λ b. is_same_cell c x ≡ b → (b || list_any (λ d. is_same_cell d x) cs) ≡ true → IsReached (best_among passes (better passes best c) cs) x) [

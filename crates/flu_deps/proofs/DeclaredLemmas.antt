@@ -26,7 +26,7 @@ use Rattle.flu_model.specs.Rules.{family_fits, is_keyed, ref_fits, expr_fits, is
 use Rattle.flu_model.specs.Templates.{written_template}
 use Rattle.flu_model.specs.Updates.{actions_of}
 use Rattle.flu_model.specs.Sorts.{key_is_in, is_cell_of}
-use Rattle.flu_deps.specs.Named.{expr_cells, guard_cells, piece_cells, pieces_cells, act_cells, action_cells, actions_cells}
+use Rattle.flu_deps.specs.LoopNamed.{expr_cells, guard_cells, piece_cells, pieces_cells, act_cells, action_cells, actions_cells}
 use Rattle.flu_deps.proofs.ConflictLemmas.{named}
 
 -- ---- keys
@@ -38,7 +38,8 @@ unkeyed_in : (b : Bool) → not b ≡ true → ((b && nat_lt 0 key_count) || (no
 unkeyed_in true e = cc
 unkeyed_in false e = refl
 
-key_in : (o : Option Family) (keyed : Bool) (at : At) (key : ℕ) → nat_lt key key_count ≡ true → family_fits o keyed at ≡ true → key_is_in o (key_of at key) ≡ true
+key_in : (o : Option Family) (keyed : Bool) (at : At) (key : ℕ) → nat_lt key key_count ≡ true → family_fits o keyed at ≡ true
+    → key_is_in o (key_of at key) ≡ true
 key_in None keyed at key lt fits = cc
 key_in (Some f) keyed Alone key lt fits = unkeyed_in f.keyed fits
 key_in (Some f) keyed OwnKey key lt fits = keyed_in f.keyed key (and_left f.keyed keyed fits) lt
@@ -89,13 +90,15 @@ module _ (families : List Family) (keyed has_value : Bool) (key : ℕ) (lt : nat
   flush_piece_in (ReadField r) fits = cc
   flush_piece_in CellValue fits = refl
 
-  pieces_in : (test : Piece → Bool) → ((q : Piece) → test q ≡ true → list_all (is_cell_of families) (piece_cells key q) ≡ true) → (qs : List Piece) → list_all test qs ≡ true → list_all (is_cell_of families) (pieces_cells key qs) ≡ true
+  pieces_in : (test : Piece → Bool) → ((q : Piece) → test q ≡ true → list_all (is_cell_of families) (piece_cells key q) ≡ true) → (qs : List Piece)
+      → list_all test qs ≡ true → list_all (is_cell_of families) (pieces_cells key qs) ≡ true
   pieces_in test one [] fits = refl
   pieces_in test one (q ∷ qs) fits =
       list_all-append (is_cell_of families) (piece_cells key q) (pieces_cells key qs)
       ∙ both (list_all (is_cell_of families) (piece_cells key q)) (list_all (is_cell_of families) (pieces_cells key qs)) (one q (and_left (test q) (list_all test qs) fits)) (pieces_in test one qs (and_right (test q) (list_all test qs) fits))
 
-  target_in : (r : CellRef) (e : Expr) (sort : Bool) → (ref_fits families keyed r && sort && is_good_expr families keyed has_value e) ≡ true → list_all (is_cell_of families) (cell_of r key ∷ expr_cells key e) ≡ true
+  target_in : (r : CellRef) (e : Expr) (sort : Bool) → (ref_fits families keyed r && sort && is_good_expr families keyed has_value e) ≡ true
+      → list_all (is_cell_of families) (cell_of r key ∷ expr_cells key e) ≡ true
   target_in r e sort fits =
       let front : (ref_fits families keyed r && sort) ≡ true = and_left (ref_fits families keyed r && sort) (is_good_expr families keyed has_value e) fits in
       both (is_cell_of families (cell_of r key)) (list_all (is_cell_of families) (expr_cells key e))
@@ -129,12 +132,14 @@ module _ (families : List Family) (keyed has_value : Bool) (key : ℕ) (lt : nat
       (act_in a.act (and_left (act_fits families keyed has_value a.act) (guard_fits families keyed has_value a.guard) one)))
       (actions_in all (and_right (action_fits families keyed has_value a) (list_all (action_fits families keyed has_value) all) fits))
 
-kind_in : (families : List Family) (kinds : List Kind) (n key : ℕ) → nat_lt key key_count ≡ true → list_all (kind_fits families) kinds ≡ true → list_all (is_cell_of families) (actions_cells key (actions_of (slice_get kinds n))) ≡ true
+kind_in : (families : List Family) (kinds : List Kind) (n key : ℕ) → nat_lt key key_count ≡ true → list_all (kind_fits families) kinds ≡ true
+    → list_all (is_cell_of families) (actions_cells key (actions_of (slice_get kinds n))) ≡ true
 kind_in families [] n key lt fits = refl
 kind_in families (k ∷ ks) zero key lt fits = actions_in families k.keyed k.has_value key lt k.actions (and_right _ _ (and_left (kind_fits families k) (list_all (kind_fits families) ks) fits))
 kind_in families (k ∷ ks) (suc n) key lt fits = kind_in families ks n key lt (and_right (kind_fits families k) (list_all (kind_fits families) ks) fits)
 
-tag_in : (p : Program) (t : Tag) → tag_fits p.kinds t ≡ true → list_all (is_cell_of p.families) (actions_cells t.key (actions_of (slice_get p.kinds t.kind))) ≡ true
+tag_in : (p : Program) (t : Tag) → tag_fits p.kinds t ≡ true
+    → list_all (is_cell_of p.families) (actions_cells t.key (actions_of (slice_get p.kinds t.kind))) ≡ true
 tag_in p t fits = kind_in p.families p.kinds t.kind t.key (and_right (nat_lt t.kind (length p.kinds)) (nat_lt t.key key_count) fits) p.kinds_fit
 
 pub named_in : (p : Program) (a b : Tag) → (tag_fits p.kinds a && tag_fits p.kinds b) ≡ true → list_all (is_cell_of p.families) (named p a b) ≡ true

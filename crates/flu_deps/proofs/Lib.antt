@@ -5,3 +5,6 @@ pub mod ConflictLemmas
 pub mod DeclaredLemmas
 pub mod NodeLemmas
 pub mod TreeLemmas
+pub mod Trees
+pub mod Within
+pub mod LawLemmas

@@ -5,6 +5,7 @@
 mod checked;
 mod conflicts;
 mod dependency;
+pub mod laws;
 mod modes;
 pub mod nodes;
 mod valid;

@@ -5,6 +5,7 @@ ghost use Rattle.flu_model.specs.Itags.{count_of_itags};
 ghost use Rattle.flu_model.specs.Owners.{node_owns, owns, owner_of, is_kid, parent_of, is_within, are_related};
 ghost use Rattle.flu_model.specs.Validity.{IsValid};
 ghost use Rattle.flu_deps.specs.Owned.{HasOwners, kids_at};
+ghost use Rattle.flu_deps.specs.Trees.{AreKids};
 
 use flu_model::{Itag, Node, Plan, Program, itag_count, matches};
 
@@ -61,6 +62,7 @@ pub fn kids(plan: &Plan, w: u32) -> Option<(u32, u32)>
     requires { w < length plan.now.nodes }
     ensures kids { result ≡ kids_at plan.now.nodes w }
     ensures nodes { IfSome result (λ kids. (kids.0 < length plan.now.nodes) × (kids.1 < length plan.now.nodes)) }
+    ensures in_order { IfSome result (λ kids. AreKids plan.now.nodes w kids.0 kids.1) }
 {
     kids_at(plan.nodes.items(), w)
 }

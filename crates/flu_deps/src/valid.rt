@@ -25,6 +25,7 @@ pub struct Valid {
 
 impl Valid {
     ghost use Rattle.flu_deps.specs.Checking.{program_of};
+    ghost use Rattle.flu_deps.specs.Trees.{AreKids};
     ghost use Rattle.flu_deps.specs.Validated.{plan_of, owner_in, IsValidFor};
 
     /// The valid plan with its owners. It takes no memory; `validate` of `flu_valid` tells whether a plan is valid.
@@ -59,6 +60,7 @@ impl Valid {
         requires { w < length (plan_of self.now).nodes }
         ensures kids { result ≡ kids_at (plan_of self.now).nodes w }
         ensures nodes { IfSome result (λ kids. (kids.0 < length (plan_of self.now).nodes) × (kids.1 < length (plan_of self.now).nodes)) }
+        ensures in_order { IfSome result (λ kids. AreKids (plan_of self.now).nodes w kids.0 kids.1) }
     {
         nodes::kids(&self.plan, w)
     }

@@ -1,4 +1,3 @@
-pub mod General
 pub mod Turns
 pub mod Trees
 pub mod Within

@@ -24,13 +24,14 @@ use Rattle.flu_laws.specs.Uses.{writes}
 use Rattle.flu_fork.specs.declared.content.Content.{Content}
 use Rattle.flu_fork.specs.declared.rights.Right.{Right}
 use Rattle.flu_fork.specs.Settings.{Setting, IsSetting}
-use Rattle.flu_fork.specs.Classes.{Itags, some_has, is_moved, is_owned, below}
+use Rattle.flu_fork.specs.Classes.{Itags, some_has, is_moved, is_needed, below}
 use Rattle.flu_fork.specs.Fitting.{Fits}
 use Rattle.flu_fork.specs.Parts.{left_part, right_part, joined_counts, ArePaired}
 use Rattle.flu_fork.specs.Laws.{NothingIsCopied}
 use Rattle.flu_fork.specs.Lots.{job, nodes, kids, setting_of}
 use Rattle.flu_fork.specs.Tables.{IsRight, IsRightAt, count_by, counts_by}
-use Rattle.flu_fork.proofs.Turns.{map_alike, slice_get_then}
+use Rattle.flu_lemmas.proofs.Ranges.{map_range_alike}
+use Rattle.flu_lemmas.proofs.Places.{slice_get_push}
 
 IsWorthOf-prop : (sort : Sort) (w : Worth) → IsProp (IsWorthOf sort w)
 IsWorthOf-prop SumSort (Sum n) = hlevel props
@@ -79,8 +80,8 @@ both_where_not_one true true e = refl
 both_where_not_one true false e = sym e
 both_where_not_one false b e = refl
 
-moved_is_owned : NothingIsCopied → (p : Program) (set : Itags) (c : Cell) → is_moved p set c ≡ is_owned p set c
-moved_is_owned law p set c = both_where_not_one (is_owned p set c) (some_has p writes set c) (law p set c)
+moved_is_owned : NothingIsCopied → (p : Program) (set : Itags) (c : Cell) → is_moved p set c ≡ is_needed p set c
+moved_is_owned law p set c = both_where_not_one (is_needed p set c) (some_has p writes set c) (law p set c)
 
 kept_where_not : (b : Bool) (o : Option Worth) → cond (not b) o None ≡ cond b None o
 kept_where_not true o = refl
@@ -114,7 +115,7 @@ counts_are p nodes r table lefts rights is =
     let inside = below p nodes r in
     ap (λ bs. counts_by bs lefts rights) is.itags
     ∙ ap (λ m. map (count_by (map inside (range_with_len 0 n)) lefts rights) (range_with_len 0 m)) (length-map-range_with_len inside 0 n)
-    ∙ map_alike (count_by (map inside (range_with_len 0 n)) lefts rights) (λ i. cond (inside i) (slice_index rights i) (slice_index lefts i)) 0 n
+    ∙ map_range_alike (count_by (map inside (range_with_len 0 n)) lefts rights) (λ i. cond (inside i) (slice_index rights i) (slice_index lefts i)) 0 n
     (λ i lt. ap (λ b. cond b (slice_index rights i) (slice_index lefts i)) (get_or-map-range_with_len inside 0 n i i false (omega arith) (omega arith)))
 
 -- ---- children
@@ -127,7 +128,7 @@ some_kids (Some kids) e = (kids.0, kids.1, refl)
 
 pub tables_turn : (p : Program) (nodes : List Node) (n : ℕ) (old new : List Right) (one : Right) → new ≡ old ++ one ∷ [] → length old ≡ n → IsRightAt p nodes n one → ((w : ℕ) (table : Right) → slice_get old w ≡ Some table → IsRightAt p nodes w table) → (w : ℕ) (table : Right) → slice_get new w ≡ Some table → IsRightAt p nodes w table
 tables_turn p nodes n old new one grown so_many last kept w table e =
-    elim (slice_get_then old one w table (ap (λ ts. slice_get ts w) (sym grown) ∙ e)) as (λ q. IsRightAt p nodes w table) [
+    elim (slice_get_push old one w table (ap (λ ts. slice_get ts w) (sym grown) ∙ e)) as (λ q. IsRightAt p nodes w table) [
       | inl f ↦ kept w table f
       | inr at ↦ subst (λ v. IsRightAt p nodes v table) (sym (at.0 ∙ so_many)) (subst (IsRightAt p nodes n) at.1 last)
     ]

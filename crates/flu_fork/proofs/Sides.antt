@@ -1,7 +1,7 @@
 -- The itags below, above and beside a node of a valid plan.
 use Rattle.std.proofs.Common.{◌≡◌, ◌<◌, ℕ, true, false, Some, None, List, length, ◌⊎◌, inl, inr, refl, sym, ap, ◌∙◌}
 use Rattle.std.specs.Prelude.{◌==◌, ◌||◌, ◌&&◌, not}
-use Rattle.std.proofs.lemmas.Bool.{ne_eqb}
+use Rattle.std.proofs.lemmas.Bool.{ne_eqb, not_from_false}
 use Rattle.std.proofs.lemmas.Option.{slice_get_within}
 use Rattle.flu_lemmas.proofs.Tests.{and_left, and_right, both, false_if_not, not_both, not_true}
 use Rattle.flu_model.specs.declared.jobs.Program.{Program}
@@ -12,9 +12,9 @@ use Rattle.flu_deps.specs.Owned.{kids_at}
 use Rattle.flu_deps.proofs.NodeLemmas.{counted_stands}
 use Rattle.flu_fork.specs.Settings.{Setting, IsSetting}
 use Rattle.flu_fork.specs.Classes.{itag, below, above, beside}
-use Rattle.flu_fork.proofs.General.{not_false, position_passes}
 use Rattle.flu_fork.proofs.Trees.{are_kids, IsPlanted, planted}
-use Rattle.flu_fork.proofs.Within.{within_itself, within_parent, not_in_both, in_root, AreApart, Siblings, left_first, right_first, apart_cases, apart_kid, apart_sibling, within_is_apart}
+use Rattle.flu_fork.proofs.Within.{within_itself, within_parent, not_in_both, in_root, AreApart, Siblings, left_first, right_first, siblings_turn, apart_cases, apart_kid, apart_sibling, within_is_apart}
+use Rattle.flu_lemmas.proofs.Places.{position_passes}
 
 -- ---- what an owner says
 below_by : (p : Program) (nodes : List Node) (w i v : ℕ) → owner_of p nodes (itag i) ≡ Some v → below p nodes w i ≡ is_within nodes w v
@@ -77,12 +77,12 @@ module _ (k : Setting) (ok : IsSetting k) where
       let outside : is_within k.nodes w v ≡ false = sym (below_by k.program k.nodes w i v e) ∙ not_true _ (and_left _ _ out) in
       let not_above : (is_within k.nodes v w && not (v == w)) ≡ false = sym (above_by k.program k.nodes w i v e) ∙ not_true _ (and_right (not (below k.program k.nodes w i)) _ out) in
       let differ : (v == w) ≡ false = ne_eqb v w (λ same. not_both _ (ap (λ n. is_within k.nodes n v) (sym same) ∙ within_itself k.nodes the_tree v lt) outside) in
-      (outside, false_if_not _ (λ h. not_both _ (both _ _ h (not_false _ differ)) not_above))
+      (outside, false_if_not _ (λ h. not_both _ (both _ _ h (not_from_false _ differ)) not_above))
 
   apart_beside : (w i v : ℕ) → owner_of k.program k.nodes (itag i) ≡ Some v → AreApart k.nodes the_tree w v → beside k.program k.nodes w i ≡ true
   apart_beside w i v e apart =
-      both _ _ (not_false _ (below_by k.program k.nodes w i v e ∙ apart.0))
-      (not_false _ (above_by k.program k.nodes w i v e ∙ false_if_not _ (λ h. not_both _ (and_left _ _ h) apart.1)))
+      both _ _ (not_from_false _ (below_by k.program k.nodes w i v e ∙ apart.0))
+      (not_from_false _ (above_by k.program k.nodes w i v e ∙ false_if_not _ (λ h. not_both _ (and_left _ _ h) apart.1)))
 
   pub beside_is_not_below : (w i : ℕ) → beside k.program k.nodes w i ≡ true → below k.program k.nodes w i ≡ false
   beside_is_not_below w i out = not_true _ (and_left _ _ out)
@@ -107,6 +107,9 @@ module _ (k : Setting) (ok : IsSetting k) where
 
   pub right_and_left : (w left right : ℕ) → kids_at k.nodes w ≡ Some (left, right) → AreSiblings w right left
   right_and_left w left right e = right_first k.nodes the_tree w left right e (are_kids k.nodes ok.one_tree w left right e)
+
+  pub turned : (w x y : ℕ) → AreSiblings w x y → AreSiblings w y x
+  turned w x y s = siblings_turn k.nodes the_tree w x y s
 
   pub kid_below : (w x y i : ℕ) → AreSiblings w x y → below k.program k.nodes x i ≡ true → below k.program k.nodes w i ≡ true
   kid_below w x y i s inside =

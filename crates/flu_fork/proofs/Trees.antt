@@ -2,7 +2,7 @@
 use Rattle.std.proofs.Common.{◌≡◌, ◌<◌, ◌≤◌, ◌+◌, ℕ, zero, suc, true, false, cond, Option, Some, None, List, [], ◌∷◌, length, ◌⊎◌, inl, inr, refl, sym, ap, subst, ◌∙◌, arith}
 use Rattle.std.specs.Prelude.{nat_le, ◌==◌, IfSome, option_map}
 use Rattle.std.specs.List.{list_all}
-use Rattle.std.proofs.lemmas.Bool.{cases_Bool, cases_lt, cases_eq, ne_eqb}
+use Rattle.std.proofs.lemmas.Bool.{cases_Bool, cases_lt, cases_eq, ne_eqb, or_left, or_right, or_cases}
 use Rattle.flu_lemmas.proofs.Searches.{eq_true}
 use Rattle.flu_lemmas.proofs.Tests.{and_left, and_right, both, true_eq, le_true, true_le, false_if_not, not_both}
 use Rattle.flu_model.specs.declared.plans.Node.{Node}
@@ -11,7 +11,7 @@ use Rattle.flu_model.specs.PlanRules.{with_kids, are_subtrees, is_tree}
 use Rattle.flu_deps.specs.Owned.{kids_at}
 use Rattle.flu_deps.proofs.NodeLemmas.{has_root}
 use Rattle.flu_deps.proofs.TreeLemmas.{kids_are_nodes}
-use Rattle.flu_fork.proofs.General.{or_left, or_right, or_cases, position-cons}
+use Rattle.flu_lemmas.proofs.Places.{position-cons}
 
 -- ---- how often a node is a child
 -- how often a number is in a list, and is one of two children

@@ -2,13 +2,12 @@
 use Rattle.std.proofs.Common.{◌≡◌, ◌<◌, ◌≤◌, ℕ, zero, suc, true, false, Some, None, List, [], ◌∷◌, length, ◌⊎◌, inl, inr, refl, sym, ap, ◌∙◌, arith}
 use Rattle.std.specs.Prelude.{◌==◌, ◌||◌}
 use Rattle.std.specs.List.{list_any}
-use Rattle.std.proofs.lemmas.Bool.{cases_Bool, cases_eq}
+use Rattle.std.proofs.lemmas.Bool.{cases_Bool, cases_eq, or_left, or_right, or_cases}
 use Rattle.flu_lemmas.proofs.Searches.{eq_true}
 use Rattle.flu_lemmas.proofs.Tests.{true_eq, false_if_not, not_both}
 use Rattle.flu_model.specs.declared.plans.Node.{Node}
 use Rattle.flu_model.specs.Owners.{parent_of, climb, path_up, is_within}
 use Rattle.flu_deps.specs.Owned.{kids_at}
-use Rattle.flu_fork.proofs.General.{or_left, or_right, or_cases}
 use Rattle.flu_fork.proofs.Trees.{IsUnder, AreKids, IsPlanted}
 
 climb_none : (n : ℕ) (nodes : List Node) → climb n nodes None ≡ []
@@ -220,17 +219,20 @@ module _ (nodes : List Node) (tree : IsPlanted nodes) where
   pub left_first : (w left right : ℕ) → kids_at nodes w ≡ Some (left, right) → AreKids nodes w left right → Siblings w left right
   left_first w left right e kids = record { first = kids.left_under; second = kids.right_under; differ = kids.apart; cover = λ v lt h. within_kid w left right v lt e h }
 
-  pub right_first : (w left right : ℕ) → kids_at nodes w ≡ Some (left, right) → AreKids nodes w left right → Siblings w right left
-  right_first w left right e kids = record {
-    first = kids.right_under;
-    second = kids.left_under;
-    differ = λ same. kids.apart (sym same);
-    cover = λ v lt h. elim (within_kid w left right v lt e h) [
+  pub siblings_turn : (w x y : ℕ) → Siblings w x y → Siblings w y x
+  siblings_turn w x y s = record {
+    first = s.second;
+    second = s.first;
+    differ = λ same. s.differ (sym same);
+    cover = λ v lt h. elim (s.cover v lt h) [
       | inl here ↦ inl here
       | inr (inl there) ↦ inr (inr there)
       | inr (inr there) ↦ inr (inl there)
     ];
   }
+
+  pub right_first : (w left right : ℕ) → kids_at nodes w ≡ Some (left, right) → AreKids nodes w left right → Siblings w right left
+  right_first w left right e kids = siblings_turn w left right (left_first w left right e kids)
 
   -- the parent is not within its child
   parent_not_within : (w x : ℕ) → IsUnder nodes w x → is_within nodes x w ≡ true → ⊥

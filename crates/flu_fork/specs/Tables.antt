@@ -7,12 +7,12 @@ use Rattle.flu_model.specs.declared.plans.Node.{Node}
 use Rattle.flu_model.specs.Itags.{count_of_itags}
 use Rattle.flu_deps.specs.Owned.{kids_at}
 use Rattle.flu_cells.specs.Sets.{is_in}
-use Rattle.flu_fork.specs.Classes.{below, is_owned}
+use Rattle.flu_fork.specs.Classes.{below, is_needed}
 use Rattle.flu_fork.specs.declared.rights.Right.{Right}
 
 -- the cells that some itag of a node's subtree needs, and whether each itag is of it
 pub record IsRight (p : Program) (nodes : List Node) (right : ℕ) (table : Right) : Type 0 where
-  pub cells : (c : Cell) → is_in table.cells c ≡ is_owned p (below p nodes right) c
+  pub cells : (c : Cell) → is_in table.cells c ≡ is_needed p (below p nodes right) c
   pub itags : table.itags.items ≡ map (below p nodes right) (range_with_len 0 (count_of_itags p))
 
 -- those of the right child of a node, where it has one

@@ -9,8 +9,6 @@ mod lots;
 mod needed;
 mod parting;
 mod rights;
-#[cfg(test)]
-mod tests;
 
 pub use case::Case;
 pub use content::Content;

@@ -1,16 +1,20 @@
 -- How sums and maxima in one cell are added, raised and joined.
-use Rattle.std.proofs.Common.{◌≡◌, ◌≢◌, ℤ, pos, ◌+ℤ◌, true, false, cond, Option, Some, None, refl, sym, ap, ◌∙◌, arith}
-use Rattle.std.specs.Prelude.{FitsSigned}
+use Rattle.std.proofs.Common.{◌≡◌, ◌≢◌, ℤ, pos, ◌+ℤ◌, true, false, cond, Option, Some, None, List, refl, sym, ap, ◌∙◌, arith}
+use Rattle.std.specs.Prelude.{FitsSigned, slice_get, ⊤}
 use Rattle.std.specs.Int.{w128, int_wrap, int_max}
 use Rattle.std.specs.Ordering.{int_eq}
 use Rattle.std.proofs.lemmas.Int.{ints, clamps, SFits-int_wrap, int_wrap_fits, int_wrap-add_left}
 use Rattle.flu_lemmas.proofs.Tests.{not_both}
+use Rattle.flu_model.specs.declared.events.Cell.{Cell}
 use Rattle.flu_model.specs.declared.events.Worth.{Worth}
 use Rattle.flu_model.specs.declared.events.Worth.TheVariants.{Sum, Max, Last}
-use Rattle.flu_model.specs.declared.jobs.Sort.TheVariants.{Sum as SumSort, Max as MaxSort}
+use Rattle.flu_model.specs.declared.jobs.Family.{Family}
+use Rattle.flu_model.specs.declared.jobs.Sort.{Sort}
+use Rattle.flu_model.specs.declared.jobs.Sort.TheVariants.{Sum as SumSort, Max as MaxSort, Last as LastSort}
 use Rattle.flu_model.specs.Contents.{sum_in, held_sum, added, raised, joined_worth}
-use Rattle.flu_model.specs.Sorts.{HoldsSort}
+use Rattle.flu_model.specs.Sorts.{IsWorthIn, is_cell_of, MayHold}
 use Rattle.flu_laws.specs.Changes.{higher}
+use Rattle.flu_laws.proofs.Values.{HoldsSort}
 
 abbrev wrap : ℤ → ℤ
 wrap z = int_wrap w128 z
@@ -224,3 +228,49 @@ joined_maxima-assoc a b (Some (Max n)) p q r =
     ∙ sym (ap (joined_worth a) (joined-max b n q))
 joined_maxima-assoc a b (Some (Sum n)) p q r = absurd r
 joined_maxima-assoc a b (Some (Last n)) p q r = absurd r
+
+-- ---- what cells of a job may hold, joined
+last_holds : (u v : Option Worth) → HoldsSort LastSort u → HoldsSort LastSort v → HoldsSort LastSort (joined_worth u v)
+last_holds None v p q = q
+last_holds (Some (Last n)) v p q = tt
+last_holds (Some (Sum n)) v p q = absurd p
+last_holds (Some (Max n)) v p q = absurd p
+
+sort_holds : (sort : Sort) (u v : Option Worth) → HoldsSort sort u → HoldsSort sort v → HoldsSort sort (joined_worth u v)
+sort_holds SumSort u v p q = joined-holds u v p q
+sort_holds MaxSort u v p q = joined_maxima-holds u v p q
+sort_holds LastSort u v p q = last_holds u v p q
+
+-- nothing, or a value of the family's sort
+InFamily : Option Family → Option Worth → Type 0
+InFamily o None = ⊤
+InFamily o (Some w) = IsWorthIn o w
+
+by_sort : (f : Family) (w : Option Worth) → InFamily (Some f) w → HoldsSort f.sort w
+unfolding InFamily
+by_sort f None p = tt
+by_sort f (Some w) p = p
+
+from_sort : (f : Family) (w : Option Worth) → HoldsSort f.sort w → InFamily (Some f) w
+unfolding InFamily
+from_sort f None p = tt
+from_sort f (Some w) p = p
+
+in_family : (o : Option Family) (u : Worth) (v : Option Worth) → IsWorthIn o u → InFamily o v → InFamily o (joined_worth (Some u) v)
+in_family None u v p q = absurd p
+in_family (Some f) u v p q = from_sort f (joined_worth (Some u) v) (sort_holds f.sort (Some u) v p (by_sort f v q))
+
+module _ (families : List Family) (c : Cell) where
+  value_of : (w : Option Worth) → MayHold families c w → InFamily (slice_get families c.family) w
+  unfolding InFamily
+  value_of None p = tt
+  value_of (Some w) p = p.1
+
+  held_there : (w : Option Worth) → is_cell_of families c ≡ true → InFamily (slice_get families c.family) w → MayHold families c w
+  unfolding InFamily
+  held_there None there p = tt
+  held_there (Some w) there p = (there, p)
+
+  pub joined_family : (u v : Option Worth) → MayHold families c u → MayHold families c v → MayHold families c (joined_worth u v)
+  joined_family None v p q = q
+  joined_family (Some u) v p q = held_there (joined_worth (Some u) v) p.0 (in_family (slice_get families c.family) u v p.1 (value_of v q))

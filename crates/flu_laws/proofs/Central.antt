@@ -17,11 +17,13 @@ use Rattle.flu_laws.specs.Uses.{AgreeOnNeeds}
 use Rattle.flu_laws.specs.Changes.{Keep, applied}
 use Rattle.flu_laws.specs.Spans.{Moment, history, is_below, is_between, change_at, changed_by, GoesWith}
 use Rattle.flu_laws.specs.Lots.{CellsFit, IsExact, depends_on, CountsOneMore, GoesWithClasses, UpdatesToFit, CentralLaw}
-use Rattle.flu_laws.proofs.General.{and_false_right, same_number, same_turns, not_less_than_itself, less_than_next, lt_false, all_of_both, all_front, all_back, all_filter, filter_same}
+use Rattle.std.proofs.lemmas.Bool.{and_right as and_false_right, le-ltb}
+use Rattle.flu_lemmas.proofs.Numbers.{same_number, same_turns, not_less_than_itself, less_than_next}
+use Rattle.flu_lemmas.proofs.Elements.{all_of_both, all_front, all_back, all_filter, filter_same}
 use Rattle.flu_laws.proofs.Laws.{no_conflict}
 use Rattle.flu_laws.proofs.InPlace.{in_place_law}
-use Rattle.flu_laws.proofs.Updating.{texts_are_local, updates_are_changes}
-use Rattle.flu_laws.proofs.Histories.{PlacesRise, places_rise, places_before, places_behind, before_is, changed-append, changed-skip, changed-idle, unwritten_keeps, independent_keeps, in_range}
+use Rattle.flu_laws.proofs.Updating.{texts_are_local, updates_are_changes, unwritten_keeps}
+use Rattle.flu_laws.proofs.Histories.{AreRising, are_rising, places_before, places_behind, before_is, changed-append, changed-skip, changed-idle, independent_keeps, in_range}
 
 module _ (p : Program) (opening : Contents) (xs : List Event) (before after : List Moment) (m : Moment) (is_base is_away : Cell → Bool) (s : Contents) (since upto more : List ℕ)
     (accepted : IsAccepted p) (start : IsStateOf p.families opening) (sorted : IsStateOf p.families s)
@@ -42,8 +44,8 @@ module _ (p : Program) (opening : Contents) (xs : List Event) (before after : Li
   after_in_range : AllByRecursion (λ (q : Moment). q.event.itag.0 < count_of_itags p) after
   after_in_range = (all_back _ before (m ∷ after) all_in_range).1
 
-  rise : PlacesRise (before ++ m ∷ after)
-  rise = subst PlacesRise split (places_rise p opening (λ i. 0) xs)
+  rise : AreRising (before ++ m ∷ after)
+  rise = subst AreRising split (are_rising p opening (λ i. 0) xs)
 
   m_not_below : is_below upto m ≡ false
   m_not_below = ap (nat_lt m.index) exact.next ∙ not_less_than_itself m.index
@@ -77,7 +79,7 @@ module _ (p : Program) (opening : Contents) (xs : List Event) (before after : Li
       let less : m.index < q.index = lt e in
       let u : slice_index upto q.event.itag.0 ≡ m.index = ap (slice_index upto) i ∙ exact.next in
       let v : slice_index more q.event.itag.0 ≡ m.index + 1 = ap (slice_index more) i ∙ more_here in
-      lt_false q.index (slice_index upto q.event.itag.0) (omega (arith, less, u)) ∙ sym (lt_false q.index (slice_index more q.event.itag.0) (omega (arith, less, v)))
+      le-ltb q.index (slice_index upto q.event.itag.0) (omega (arith, less, u)) ∙ sym (le-ltb q.index (slice_index more q.event.itag.0) (omega (arith, less, v)))
       )))
       (places_behind before after m rise) after_in_range
 
@@ -130,7 +132,7 @@ module _ (p : Program) (opening : Contents) (xs : List Event) (before after : Li
   idle_away : (c : Cell) → is_away c ≡ true → s c ≡ None → (effect_of p s m.event).cells c ≡ None
   idle_away c away none =
       updates_are_changes p s m.event c sorted
-      ∙ ap (λ h. applied h (s c)) (unwritten_keeps p (record { event = m.event; index = m.index; before = s }) c (classes.away c away))
+      ∙ ap (λ h. applied h (s c)) (unwritten_keeps p s m.event c (classes.away c away))
       ∙ none
 
   fits_again : CellsFit p (before ++ m ∷ after) opening is_base is_away (effect_of p s m.event).cells since more

@@ -1,6 +1,5 @@
--- What actions do to a cell that they do not own: nothing, a sum that is added, or a level that is reached.
+-- What actions do to a cell that they do not overwrite: nothing, a sum that is added, or a level that is reached.
 use Rattle.std.proofs.Common.{◌≡◌, ℕ, ℤ, pos, true, false, cond, Option, Some, None, List, [], ◌∷◌, refl, sym, ap, subst, ◌∙◌, arith}
-use Rattle.std.specs.Prelude.{◌==◌}
 use Rattle.std.specs.List.{list_any}
 use Rattle.std.proofs.lemmas.Grind.{common_steps}
 use Rattle.flu_model.specs.declared.events.Cell.{Cell}
@@ -14,11 +13,11 @@ use Rattle.flu_model.specs.declared.jobs.Action.{Action}
 use Rattle.flu_model.specs.Contents.{Contents, is_same_cell, with_worth, added, raised, joined_worth}
 use Rattle.flu_model.specs.Expressions.{cell_of, value_of_expr}
 use Rattle.flu_model.specs.Updates.{changes_to, effect_of_act, effect_of_action, effect_of_actions, passes_guard}
-use Rattle.flu_model.specs.Sorts.{HoldsSort}
-use Rattle.flu_model.specs.Modes.{means, guard_reads, act_owns, action_owns, act_adds, act_raises}
+use Rattle.flu_model.specs.Modes.{means, act_overwrites, act_adds, act_raises}
 use Rattle.flu_laws.specs.Changes.{amount_of_act, amount_of_action, amount_added, level_of_act, level_of_action, level_reached, higher}
-use Rattle.flu_laws.proofs.General.{or_false_left, or_false_right}
+use Rattle.flu_lemmas.proofs.Booleans.{or_false_left, or_false_right}
 use Rattle.flu_laws.proofs.Reading.{same_cell-is}
+use Rattle.flu_laws.proofs.Values.{HoldsSort}
 use Rattle.flu_laws.proofs.Algebra.{added-zero, added-added, added-holds, raised-raised, raised-joined, raised-holds}
 
 same_cell-sym : (c d : Cell) → is_same_cell c d ≡ is_same_cell d c
@@ -53,15 +52,15 @@ elsewhere s d c w e = ap (λ b. cond b w (s c)) (same_cell-sym c d ∙ e)
 
 module _ (families : List Family) (x : Event) (key : ℕ) (c : Cell) where
   -- ---- acts
-  act_keeps : (a : Act) (s : Contents) → act_owns key c a ≡ false → act_adds key c a ≡ false → act_raises key c a ≡ false → (effect_of_act families a s x key).cells c ≡ s c
+  act_keeps : (a : Act) (s : Contents) → act_overwrites key c a ≡ false → act_adds key c a ≡ false → act_raises key c a ≡ false → (effect_of_act families a s x key).cells c ≡ s c
   act_keeps (Add r e) s own add raise = elsewhere s (cell_of r key) c _ add
   act_keeps (Raise r e) s own add raise = elsewhere s (cell_of r key) c _ raise
-  act_keeps (Set r e) s own add raise = elsewhere s (cell_of r key) c _ (or_false_left _ _ own)
+  act_keeps (Set r e) s own add raise = elsewhere s (cell_of r key) c _ own
   act_keeps (Clear r) s own add raise = elsewhere s (cell_of r key) c None own
   act_keeps (Emit qs) s own add raise = refl
-  act_keeps (Flush f qs) s own add raise = ap (λ b. cond b None (s c)) (or_false_left (c.family == f) _ own)
+  act_keeps (Flush f qs) s own add raise = ap (λ b. cond b None (s c)) own
 
-  act_gains : (a : Act) (s : Contents) → act_owns key c a ≡ false → act_raises key c a ≡ false → HoldsSort SumSort (s c) → (effect_of_act families a s x key).cells c ≡ added (s c) (amount_of_act a s x key c)
+  act_gains : (a : Act) (s : Contents) → act_overwrites key c a ≡ false → act_raises key c a ≡ false → HoldsSort SumSort (s c) → (effect_of_act families a s x key).cells c ≡ added (s c) (amount_of_act a s x key c)
   act_gains (Add r e) s own raise holds =
       elim (means key c r) as (λ b. means key c r ≡ b → with_worth s (cell_of r key) (added (s (cell_of r key)) (value_of_expr e s x key)) c ≡ added (s c) (cond b (value_of_expr e s x key) (pos 0))) [
         | true ↦ λ m. there s (cell_of r key) c (λ w. added w (value_of_expr e s x key)) m
@@ -73,7 +72,7 @@ module _ (families : List Family) (x : Event) (key : ℕ) (c : Cell) where
   act_gains (Emit qs) s own raise holds = sym (added-zero (s c) holds)
   act_gains (Flush f qs) s own raise holds = act_keeps (Flush f qs) s own refl refl ∙ sym (added-zero (s c) holds)
 
-  act_reaches : (a : Act) (s : Contents) → act_owns key c a ≡ false → act_adds key c a ≡ false → (effect_of_act families a s x key).cells c ≡ raised_to (s c) (level_of_act a s x key c)
+  act_reaches : (a : Act) (s : Contents) → act_overwrites key c a ≡ false → act_adds key c a ≡ false → (effect_of_act families a s x key).cells c ≡ raised_to (s c) (level_of_act a s x key c)
   act_reaches (Add r e) s own add = act_keeps (Add r e) s own add refl
   act_reaches (Raise r e) s own add =
       elim (means key c r) as (λ b. means key c r ≡ b → with_worth s (cell_of r key) (raised (s (cell_of r key)) (value_of_expr e s x key)) c ≡ raised_to (s c) (cond b (Some (value_of_expr e s x key)) None)) [
@@ -86,35 +85,35 @@ module _ (families : List Family) (x : Event) (key : ℕ) (c : Cell) where
   act_reaches (Flush f qs) s own add = act_keeps (Flush f qs) s own refl refl
 
   -- ---- lists of actions
-  pub keeps : (all : List Action) (s : Contents) → list_any (action_owns key c) all ≡ false → list_any (λ (a : Action). act_adds key c a.act) all ≡ false → list_any (λ (a : Action). act_raises key c a.act) all ≡ false → (effect_of_actions families all s x key).cells c ≡ s c
+  pub keeps : (all : List Action) (s : Contents) → list_any (λ (a : Action). act_overwrites key c a.act) all ≡ false → list_any (λ (a : Action). act_adds key c a.act) all ≡ false → list_any (λ (a : Action). act_raises key c a.act) all ≡ false → (effect_of_actions families all s x key).cells c ≡ s c
   keeps [] s own add raise = refl
   keeps (a ∷ all) s own add raise =
-      keeps all (effect_of_action families a s x key).cells (or_false_right (action_owns key c a) _ own) (or_false_right (act_adds key c a.act) _ add) (or_false_right (act_raises key c a.act) _ raise)
+      keeps all (effect_of_action families a s x key).cells (or_false_right (act_overwrites key c a.act) _ own) (or_false_right (act_adds key c a.act) _ add) (or_false_right (act_raises key c a.act) _ raise)
       ∙ (elim (passes_guard a.guard s x key) as (λ b. (cond b (effect_of_act families a.act s x key) (changes_to s)).cells c ≡ s c) [
-        | true ↦ act_keeps a.act s (or_false_right (guard_reads key c a.guard) _ (or_false_left _ _ own)) (or_false_left _ _ add) (or_false_left _ _ raise)
+        | true ↦ act_keeps a.act s (or_false_left _ _ own) (or_false_left _ _ add) (or_false_left _ _ raise)
         | false ↦ refl
       ])
 
-  pub gains : (all : List Action) (s : Contents) → list_any (action_owns key c) all ≡ false → list_any (λ (a : Action). act_raises key c a.act) all ≡ false → HoldsSort SumSort (s c) → (effect_of_actions families all s x key).cells c ≡ added (s c) (amount_added families all s x key c)
+  pub gains : (all : List Action) (s : Contents) → list_any (λ (a : Action). act_overwrites key c a.act) all ≡ false → list_any (λ (a : Action). act_raises key c a.act) all ≡ false → HoldsSort SumSort (s c) → (effect_of_actions families all s x key).cells c ≡ added (s c) (amount_added families all s x key c)
   gains [] s own raise holds = sym (added-zero (s c) holds)
   gains (a ∷ all) s own raise holds =
       let first : (effect_of_action families a s x key).cells c ≡ added (s c) (amount_of_action a s x key c) =
       elim (passes_guard a.guard s x key) as (λ b. (cond b (effect_of_act families a.act s x key) (changes_to s)).cells c ≡ added (s c) (cond b (amount_of_act a.act s x key c) (pos 0))) [
-        | true ↦ act_gains a.act s (or_false_right (guard_reads key c a.guard) _ (or_false_left _ _ own)) (or_false_left _ _ raise) holds
+        | true ↦ act_gains a.act s (or_false_left _ _ own) (or_false_left _ _ raise) holds
         | false ↦ sym (added-zero (s c) holds)
       ] in
-      gains all (effect_of_action families a s x key).cells (or_false_right (action_owns key c a) _ own) (or_false_right (act_raises key c a.act) _ raise) (subst (HoldsSort SumSort) (sym first) (added-holds (s c) _))
+      gains all (effect_of_action families a s x key).cells (or_false_right (act_overwrites key c a.act) _ own) (or_false_right (act_raises key c a.act) _ raise) (subst (HoldsSort SumSort) (sym first) (added-holds (s c) _))
       ∙ ap (λ w. added w (amount_added families all (effect_of_action families a s x key).cells x key c)) first
       ∙ added-added (s c) (amount_of_action a s x key c) (amount_added families all (effect_of_action families a s x key).cells x key c)
 
-  pub reaches : (all : List Action) (s : Contents) → list_any (action_owns key c) all ≡ false → list_any (λ (a : Action). act_adds key c a.act) all ≡ false → (effect_of_actions families all s x key).cells c ≡ raised_to (s c) (level_reached families all s x key c)
+  pub reaches : (all : List Action) (s : Contents) → list_any (λ (a : Action). act_overwrites key c a.act) all ≡ false → list_any (λ (a : Action). act_adds key c a.act) all ≡ false → (effect_of_actions families all s x key).cells c ≡ raised_to (s c) (level_reached families all s x key c)
   reaches [] s own add = refl
   reaches (a ∷ all) s own add =
       let first : (effect_of_action families a s x key).cells c ≡ raised_to (s c) (level_of_action a s x key c) =
       elim (passes_guard a.guard s x key) as (λ b. (cond b (effect_of_act families a.act s x key) (changes_to s)).cells c ≡ raised_to (s c) (cond b (level_of_act a.act s x key c) None)) [
-        | true ↦ act_reaches a.act s (or_false_right (guard_reads key c a.guard) _ (or_false_left _ _ own)) (or_false_left _ _ add)
+        | true ↦ act_reaches a.act s (or_false_left _ _ own) (or_false_left _ _ add)
         | false ↦ refl
       ] in
-      reaches all (effect_of_action families a s x key).cells (or_false_right (action_owns key c a) _ own) (or_false_right (act_adds key c a.act) _ add)
+      reaches all (effect_of_action families a s x key).cells (or_false_right (act_overwrites key c a.act) _ own) (or_false_right (act_adds key c a.act) _ add)
       ∙ ap (λ w. raised_to w (level_reached families all (effect_of_action families a s x key).cells x key c)) first
       ∙ raised_to-higher (s c) (level_of_action a s x key c) (level_reached families all (effect_of_action families a s x key).cells x key c)

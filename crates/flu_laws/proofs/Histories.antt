@@ -1,7 +1,9 @@
 -- The moments of a fold: their places, and the states before them.
-use Rattle.std.proofs.Common.{◌≡◌, ◌≤◌, ◌<◌, ◌+◌, ℕ, Bool, true, false, cond, Option, List, [], ◌∷◌, ◌++◌, refl, sym, ap, ◌∙◌, arith}
+use Rattle.std.proofs.Common.{◌≡◌, ◌≤◌, ◌<◌, ◌+◌, ℕ, Bool, true, false, cond, Option, List, [], ◌∷◌, ◌++◌, refl, sym, ap, subst, ◌∙◌, arith}
 use Rattle.std.specs.Prelude.{◌==◌, slice_get, ⊤}
 use Rattle.std.specs.List.{filter, AllByRecursion}
+use Rattle.flu_lemmas.proofs.Elements.{all_map}
+use Rattle.flu_lemmas.proofs.Searches.{eq_true}
 use Rattle.flu_lemmas.proofs.Tests.{true_eq}
 use Rattle.flu_model.specs.declared.events.Cell.{Cell}
 use Rattle.flu_model.specs.declared.events.Event.{Event}
@@ -14,17 +16,17 @@ use Rattle.flu_model.specs.Updates.{effect_of, actions_of}
 use Rattle.flu_model.specs.Sorts.{IsStateOf}
 use Rattle.flu_model.specs.Modes.{IsAccepted}
 use Rattle.flu_laws.specs.Changes.{Keep, applied, change_by}
-use Rattle.flu_laws.specs.Spans.{Moment, history, change_at, changed_by}
+use Rattle.flu_laws.specs.Spans.{Moment, history, change_at, changed_by, MomentsAreOfEvents, PlacesRise}
 use Rattle.flu_laws.specs.Uses.{needs, writes, mode_at}
 use Rattle.flu_laws.proofs.Laws.{no_conflict}
-use Rattle.flu_laws.proofs.Updating.{updates_are_changes, keeps_sorts}
-use Rattle.flu_laws.proofs.Uses.{unwritten, needed_unwritten}
+use Rattle.flu_laws.proofs.Updating.{updates_are_changes, keeps_sorts, unwritten_keeps}
+use Rattle.flu_laws.proofs.Uses.{needed_unwritten}
 
 -- ---- the places of events
 -- of the moments of one itag, each comes later in its list than those before it
-abbrev pub PlacesRise : List Moment → Type 0
-PlacesRise [] = ⊤
-PlacesRise (m ∷ ms) = AllByRecursion (λ q. (q.event.itag.0 == m.event.itag.0) ≡ true → m.index < q.index) ms × PlacesRise ms
+abbrev pub AreRising : List Moment → Type 0
+AreRising [] = ⊤
+AreRising (m ∷ ms) = AllByRecursion (λ q. (q.event.itag.0 == m.event.itag.0) ≡ true → m.index < q.index) ms × AreRising ms
 
 from_seen : (p : Program) (s : Contents) (seen : ℕ → ℕ) (xs : List Event) → AllByRecursion (λ q. seen q.event.itag.0 ≤ q.index) (history p s seen xs)
 from_seen p s seen [] = tt
@@ -39,10 +41,10 @@ from_seen p s seen (x ∷ xs) =
     lower [] all = tt
     lower (m ∷ ms) all = (at_least (m.event.itag.0 == x.itag.0) (seen m.event.itag.0) m.index all.0, lower ms all.1)
 
-pub places_rise : (p : Program) (s : Contents) (seen : ℕ → ℕ) (xs : List Event) → PlacesRise (history p s seen xs)
-places_rise p s seen [] = tt
-places_rise p s seen (x ∷ xs) =
-    (above (history p (effect_of p s x).cells _ xs) (from_seen p (effect_of p s x).cells (λ i. cond (i == x.itag.0) (seen i + 1) (seen i)) xs), places_rise p (effect_of p s x).cells _ xs)
+pub are_rising : (p : Program) (s : Contents) (seen : ℕ → ℕ) (xs : List Event) → AreRising (history p s seen xs)
+are_rising p s seen [] = tt
+are_rising p s seen (x ∷ xs) =
+    (above (history p (effect_of p s x).cells _ xs) (from_seen p (effect_of p s x).cells (λ i. cond (i == x.itag.0) (seen i + 1) (seen i)) xs), are_rising p (effect_of p s x).cells _ xs)
   where
     one : (i j : ℕ) → (i == j) ≡ true → (m : ℕ) → cond (i == j) (seen i + 1) (seen i) ≤ m → seen j < m
     one i j e m le =
@@ -56,7 +58,7 @@ places_rise p s seen (x ∷ xs) =
     above (m ∷ ms) all = ((λ e. one m.event.itag.0 x.itag.0 e m.index all.0), above ms all.1)
 
 -- before and behind a moment
-pub places_before : (pre post : List Moment) (m : Moment) → PlacesRise (pre ++ m ∷ post) → AllByRecursion (λ q. (m.event.itag.0 == q.event.itag.0) ≡ true → q.index < m.index) pre
+pub places_before : (pre post : List Moment) (m : Moment) → AreRising (pre ++ m ∷ post) → AllByRecursion (λ q. (m.event.itag.0 == q.event.itag.0) ≡ true → q.index < m.index) pre
 places_before [] post m rise = tt
 places_before (q ∷ pre) post m rise = (at_end pre rise.0, places_before pre post m rise.1)
   where
@@ -64,7 +66,7 @@ places_before (q ∷ pre) post m rise = (at_end pre rise.0, places_before pre po
     at_end [] all = all.0
     at_end (r ∷ ms) all = at_end ms all.1
 
-pub places_behind : (pre post : List Moment) (m : Moment) → PlacesRise (pre ++ m ∷ post) → AllByRecursion (λ q. (q.event.itag.0 == m.event.itag.0) ≡ true → m.index < q.index) post
+pub places_behind : (pre post : List Moment) (m : Moment) → AreRising (pre ++ m ∷ post) → AllByRecursion (λ q. (q.event.itag.0 == m.event.itag.0) ≡ true → m.index < q.index) post
 places_behind [] post m rise = rise.0
 places_behind (q ∷ pre) post m rise = places_behind pre post m rise.1
 
@@ -110,18 +112,22 @@ changed-idle p c f (q ∷ ms) w all =
       | false ↦ λ e. changed-idle p c f ms w all.1
     ] refl
 
--- an event that does not write a cell leaves it alone
-pub unwritten_keeps : (p : Program) (q : Moment) (c : Cell) → writes (mode_at p q.event c) ≡ false → change_at p c q ≡ Keep
-unwritten_keeps p q c quiet =
-    let h : Tag = tag_of_itag p q.event.itag in
-    ap (λ n. change_by p.families n (actions_of (slice_get p.kinds h.kind)) q.before q.event h.key c) (unwritten (mode_at p q.event c) quiet)
-
 -- an event of an independent tag leaves alone the cells that another tag needs
 pub independent_keeps : (p : Program) (m q : Moment) (c : Cell) → IsAccepted p → m.event.itag.0 < count_of_itags p → q.event.itag.0 < count_of_itags p → is_dependent p (tag_of_itag p m.event.itag) (tag_of_itag p q.event.itag) ≡ false → needs (mode_at p m.event c) ≡ true → change_at p c q ≡ Keep
 independent_keeps p m q c accepted in_m in_q apart need =
-    unwritten_keeps p q c (needed_unwritten (mode_at p m.event c) (mode_at p q.event c) need (no_conflict p m.event q.event accepted in_m in_q apart c))
+    unwritten_keeps p q.before q.event c (needed_unwritten (mode_at p m.event c) (mode_at p q.event c) need (no_conflict p m.event q.event accepted in_m in_q apart c))
 
 -- the events of a history are those of its list
 pub in_range : (n : ℕ) (p : Program) (s : Contents) (seen : ℕ → ℕ) (xs : List Event) → AllByRecursion (λ x. x.itag.0 < n) xs → AllByRecursion (λ q. q.event.itag.0 < n) (history p s seen xs)
 in_range n p s seen [] all = tt
 in_range n p s seen (x ∷ xs) all = (all.0, in_range n p (effect_of p s x).cells _ xs all.1)
+
+pub moments_are_of_events : MomentsAreOfEvents
+moments_are_of_events p s seen [] = refl
+moments_are_of_events p s seen (x ∷ xs) = ap (λ us. x ∷ us) (moments_are_of_events p (effect_of p s x).cells (λ i. cond (i == x.itag.0) (seen i + 1) (seen i)) xs)
+
+pub places_rise : PlacesRise
+places_rise p s seen xs before after m split =
+    all_map (λ (q : Moment). (m.event.itag.0 == q.event.itag.0) ≡ true → q.index < m.index) (λ (q : Moment). q.event.itag.0 ≡ m.event.itag.0 → q.index < m.index) before
+    (λ q less same. less (eq_true m.event.itag.0 q.event.itag.0 (sym same)))
+    (places_before before after m (subst AreRising split (are_rising p s seen xs)))

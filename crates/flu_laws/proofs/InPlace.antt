@@ -10,7 +10,7 @@ use Rattle.flu_model.specs.declared.jobs.Action.{Action}
 use Rattle.flu_model.specs.declared.jobs.Family.{Family}
 use Rattle.flu_model.specs.declared.jobs.Program.{Program}
 use Rattle.flu_model.specs.declared.modes.Mode.{Mode}
-use Rattle.flu_model.specs.declared.modes.Mode.TheVariants.{None as NoMode, Add as AddMode, Raise as RaiseMode, Own}
+use Rattle.flu_model.specs.declared.modes.Mode.TheVariants.{None as NoMode, Add as AddMode, Raise as RaiseMode, Read as ReadMode, Own}
 use Rattle.flu_model.specs.Contents.{Contents}
 use Rattle.flu_model.specs.Itags.{tag_of_itag}
 use Rattle.flu_model.specs.Updates.{actions_of}
@@ -32,15 +32,15 @@ applied-reach-swap a b w =
 swap_by : (families : List Family) (m n : Mode) (all others : List Action) (s t : Contents) (x y : Event) (i j : ℕ) (c : Cell) (w : Option Worth) → modes_conflict m n ≡ false
     → applied (change_by families m all s x i c) (applied (change_by families n others t y j c) w) ≡ applied (change_by families n others t y j c) (applied (change_by families m all s x i c) w)
 swap_by families NoMode n all others s t x y i j c w ok = refl
-swap_by families AddMode NoMode all others s t x y i j c w ok = refl
+swap_by families ReadMode n all others s t x y i j c w ok = refl
+swap_by families m NoMode all others s t x y i j c w ok = refl
+swap_by families m ReadMode all others s t x y i j c w ok = refl
 swap_by families AddMode AddMode all others s t x y i j c w ok = added-swap w (amount_added families others t y j c) (amount_added families all s x i c)
 swap_by families AddMode RaiseMode all others s t x y i j c w ok = cc
 swap_by families AddMode Own all others s t x y i j c w ok = cc
-swap_by families RaiseMode NoMode all others s t x y i j c w ok = refl
 swap_by families RaiseMode AddMode all others s t x y i j c w ok = cc
 swap_by families RaiseMode RaiseMode all others s t x y i j c w ok = applied-reach-swap (level_reached families all s x i c) (level_reached families others t y j c) w
 swap_by families RaiseMode Own all others s t x y i j c w ok = cc
-swap_by families Own NoMode all others s t x y i j c w ok = refl
 swap_by families Own AddMode all others s t x y i j c w ok = cc
 swap_by families Own RaiseMode all others s t x y i j c w ok = cc
 swap_by families Own Own all others s t x y i j c w ok = cc

@@ -3,42 +3,59 @@ use Rattle.std.proofs.Common.{◌≡◌, ℤ, true, false, Option, Some, None, r
 use Rattle.std.specs.Prelude.{slice_get}
 use Rattle.flu_model.specs.declared.events.Cell.{Cell}
 use Rattle.flu_model.specs.declared.events.Event.{Event}
+use Rattle.flu_model.specs.declared.events.Itag.{Itag}
 use Rattle.flu_model.specs.declared.events.Tag.{Tag}
 use Rattle.flu_model.specs.declared.events.Worth.{Worth}
-use Rattle.flu_model.specs.declared.events.Worth.TheVariants.{Sum, Max, Last}
-use Rattle.flu_model.specs.declared.jobs.Family.{Family}
 use Rattle.flu_model.specs.declared.jobs.Program.{Program}
-use Rattle.flu_model.specs.declared.jobs.Sort.{Sort}
-use Rattle.flu_model.specs.declared.jobs.Sort.TheVariants.{Sum as SumSort, Max as MaxSort, Last as LastSort}
+use Rattle.flu_model.specs.declared.jobs.Sort.TheVariants.{Sum as SumSort, Max as MaxSort}
 use Rattle.flu_model.specs.declared.modes.Mode.{Mode}
-use Rattle.flu_model.specs.declared.modes.Mode.TheVariants.{None as NoMode, Add as AddMode, Raise as RaiseMode, Own}
-use Rattle.flu_model.specs.Contents.{Contents, joined_worth}
+use Rattle.flu_model.specs.declared.modes.Mode.TheVariants.{None as NoMode, Add as AddMode, Raise as RaiseMode, Read as ReadMode, Own}
+use Rattle.flu_model.specs.Contents.{Contents, added, raised, joined_worth}
 use Rattle.flu_model.specs.Itags.{tag_of_itag, is_dependent}
 use Rattle.flu_model.specs.Updates.{effect_of, actions_of}
 use Rattle.flu_model.specs.Rules.{has_sort}
 use Rattle.flu_model.specs.Modes.{mode_of, modes_conflict, IsAccepted}
-use Rattle.flu_model.specs.Sorts.{HoldsSort, HoldsFamily, IsStateOf}
+use Rattle.flu_model.specs.Sorts.{is_cell_of, MayHold, IsStateOf}
 use Rattle.flu_laws.specs.Uses.{needs, writes, mixes, mode_at}
 use Rattle.flu_laws.specs.Changes.{applied, reach, level_reached, amount_added, change_by}
-use Rattle.flu_laws.specs.Lawful.{UsesAreDependent, AcceptanceByUses, MayHold, amount_of, AcceptedIsLawful}
-use Rattle.flu_laws.proofs.Algebra.{joined-none, joined-holds, joined_sums-comm, joined_sums-assoc, joined_maxima-comm, joined_maxima-assoc, joined_maxima-holds, added-holds, added-mixes, raised-mixes}
+use Rattle.flu_laws.specs.Lawful.{UsesAreDependent, AcceptanceByUses, amount_of, AcceptedIsLawful}
+use Rattle.flu_laws.specs.Updating.{ChangesKeepSorts, ChangesMix}
+use Rattle.flu_laws.proofs.Algebra.{joined-none, joined_sums-comm, joined_sums-assoc, joined_maxima-comm, joined_maxima-assoc, added-holds, added-mixes, raised-holds, raised-mixes, joined_family}
 use Rattle.flu_laws.proofs.Changing.{keeps}
-use Rattle.flu_laws.proofs.Keeping.{from_sort}
+use Rattle.flu_laws.proofs.Keys.{key_in_range}
 use Rattle.flu_laws.proofs.Programs.{found_fits}
-use Rattle.flu_laws.proofs.SortLemmas.{adds-sort, raises-sort, holds_sum, holds_max, not_sum_and_max}
+use Rattle.flu_laws.proofs.SortLemmas.{adds-sort, raises-sort, adds-there, raises-there, not_sum_and_max}
 use Rattle.flu_laws.proofs.Updating.{texts_are_local, cells_are_local, changes_are_local, updates_are_changes, keeps_sorts}
-use Rattle.flu_laws.proofs.Uses.{adds_by_mode, raises_by_mode, idle_by_mode, unwritten, uses_conflict, dependent_turns}
+use Rattle.flu_laws.proofs.Uses.{quiet_among, sums_among, maxima_among, uses_conflict, dependent_turns}
+use Rattle.flu_laws.proofs.Values.{HoldsSort, holds_sort, may_hold}
 
 -- ---- the sorts of the cells that a tag mixes into
 pub added_sort : (p : Program) (t : Tag) (c : Cell) → mode_of p t c ≡ AddMode → has_sort (slice_get p.families c.family) SumSort ≡ true
 added_sort p t c e =
     let found = found_fits p.families p.kinds t.kind p.kinds_fit in
-    adds-sort p.families found.0 found.1.0 t.key c (actions_of (slice_get p.kinds t.kind)) found.1.1 (adds_by_mode _ _ _ e)
+    let all = actions_of (slice_get p.kinds t.kind) in
+    adds-sort p.families found.0 found.1.0 t.key c all found.1.1 (sums_among p.version all t.key c e).1
 
 pub raised_sort : (p : Program) (t : Tag) (c : Cell) → mode_of p t c ≡ RaiseMode → has_sort (slice_get p.families c.family) MaxSort ≡ true
 raised_sort p t c e =
     let found = found_fits p.families p.kinds t.kind p.kinds_fit in
-    raises-sort p.families found.0 found.1.0 t.key c (actions_of (slice_get p.kinds t.kind)) found.1.1 (raises_by_mode _ _ _ e)
+    let all = actions_of (slice_get p.kinds t.kind) in
+    raises-sort p.families found.0 found.1.0 t.key c all found.1.1 (maxima_among p.version all t.key c e).2
+
+-- and they are cells of their families
+pub added_there : (p : Program) (i : Itag) (c : Cell) → mode_of p (tag_of_itag p i) c ≡ AddMode → is_cell_of p.families c ≡ true
+added_there p i c e =
+    let t : Tag = tag_of_itag p i in
+    let found = found_fits p.families p.kinds t.kind p.kinds_fit in
+    let all = actions_of (slice_get p.kinds t.kind) in
+    adds-there p.families found.0 found.1.0 t.key c all (key_in_range p i) found.1.1 (sums_among p.version all t.key c e).1
+
+pub raised_there : (p : Program) (i : Itag) (c : Cell) → mode_of p (tag_of_itag p i) c ≡ RaiseMode → is_cell_of p.families c ≡ true
+raised_there p i c e =
+    let t : Tag = tag_of_itag p i in
+    let found = found_fits p.families p.kinds t.kind p.kinds_fit in
+    let all = actions_of (slice_get p.kinds t.kind) in
+    raises-there p.families found.0 found.1.0 t.key c all (key_in_range p i) found.1.1 (maxima_among p.version all t.key c e).2
 
 -- ---- acceptance
 accepted_uses : (p : Program) → IsAccepted p → UsesAreDependent p
@@ -55,85 +72,132 @@ uses_accepted p uses a b c in_a in_b conflict = at_modes (mode_of p a c) (mode_o
     at_modes AddMode NoMode e f h = cc
     at_modes AddMode AddMode e f h = cc
     at_modes AddMode RaiseMode e f h = absurd (not_sum_and_max (slice_get p.families c.family) (added_sort p a c e) (raised_sort p b c f))
+    at_modes AddMode ReadMode e f h = turned (ap needs f) (ap writes e)
     at_modes AddMode Own e f h = turned (ap needs f) (ap writes e)
     at_modes RaiseMode NoMode e f h = cc
     at_modes RaiseMode AddMode e f h = absurd (not_sum_and_max (slice_get p.families c.family) (added_sort p b c f) (raised_sort p a c e))
     at_modes RaiseMode RaiseMode e f h = cc
+    at_modes RaiseMode ReadMode e f h = turned (ap needs f) (ap writes e)
     at_modes RaiseMode Own e f h = turned (ap needs f) (ap writes e)
+    at_modes ReadMode NoMode e f h = cc
+    at_modes ReadMode AddMode e f h = uses a b c in_a in_b (ap needs e) (ap writes f)
+    at_modes ReadMode RaiseMode e f h = uses a b c in_a in_b (ap needs e) (ap writes f)
+    at_modes ReadMode ReadMode e f h = cc
+    at_modes ReadMode Own e f h = uses a b c in_a in_b (ap needs e) (ap writes f)
     at_modes Own NoMode e f h = cc
     at_modes Own AddMode e f h = uses a b c in_a in_b (ap needs e) (ap writes f)
     at_modes Own RaiseMode e f h = uses a b c in_a in_b (ap needs e) (ap writes f)
+    at_modes Own ReadMode e f h = turned (ap needs f) (ap writes e)
     at_modes Own Own e f h = uses a b c in_a in_b (ap needs e) (ap writes f)
 
 pub acceptance_by_uses : AcceptanceByUses
 acceptance_by_uses p = (accepted_uses p, uses_accepted p)
 
 -- ---- mixing
-mix_groups : (p : Program) (t : Tag) (c : Cell) (u v w : Option Worth) → mixes (mode_of p t c) ≡ true → MayHold p c u → MayHold p c v → MayHold p c w → joined_worth (joined_worth u v) w ≡ joined_worth u (joined_worth v w)
+mix_groups : (p : Program) (t : Tag) (c : Cell) (u v w : Option Worth) → mixes (mode_of p t c) ≡ true
+    → MayHold p.families c u → MayHold p.families c v → MayHold p.families c w → joined_worth (joined_worth u v) w ≡ joined_worth u (joined_worth v w)
 mix_groups p t c u v w mix hu hv hw = at_mode (mode_of p t c) refl mix
   where
     at_mode : (m : Mode) → mode_of p t c ≡ m → mixes m ≡ true → joined_worth (joined_worth u v) w ≡ joined_worth u (joined_worth v w)
     at_mode NoMode e h = cc
-    at_mode AddMode e h = let o = slice_get p.families c.family in let sort = added_sort p t c e in joined_sums-assoc u v w (holds_sum o u sort hu) (holds_sum o v sort hv) (holds_sum o w sort hw)
-    at_mode RaiseMode e h = let o = slice_get p.families c.family in let sort = raised_sort p t c e in joined_maxima-assoc u v w (holds_max o u sort hu) (holds_max o v sort hv) (holds_max o w sort hw)
+    at_mode AddMode e h =
+        let held : (o : Option Worth) → MayHold p.families c o → HoldsSort SumSort o = λ o may. holds_sort p.families c SumSort o (added_sort p t c e) may in
+        joined_sums-assoc u v w (held u hu) (held v hv) (held w hw)
+    at_mode RaiseMode e h =
+        let held : (o : Option Worth) → MayHold p.families c o → HoldsSort MaxSort o = λ o may. holds_sort p.families c MaxSort o (raised_sort p t c e) may in
+        joined_maxima-assoc u v w (held u hu) (held v hv) (held w hw)
+    at_mode ReadMode e h = cc
     at_mode Own e h = cc
 
-mix_turns : (p : Program) (t : Tag) (c : Cell) (u v : Option Worth) → mixes (mode_of p t c) ≡ true → MayHold p c u → MayHold p c v → joined_worth u v ≡ joined_worth v u
+mix_turns : (p : Program) (t : Tag) (c : Cell) (u v : Option Worth) → mixes (mode_of p t c) ≡ true
+    → MayHold p.families c u → MayHold p.families c v → joined_worth u v ≡ joined_worth v u
 mix_turns p t c u v mix hu hv = at_mode (mode_of p t c) refl mix
   where
     at_mode : (m : Mode) → mode_of p t c ≡ m → mixes m ≡ true → joined_worth u v ≡ joined_worth v u
     at_mode NoMode e h = cc
-    at_mode AddMode e h = let o = slice_get p.families c.family in let sort = added_sort p t c e in joined_sums-comm u v (holds_sum o u sort hu) (holds_sum o v sort hv)
-    at_mode RaiseMode e h = let o = slice_get p.families c.family in let sort = raised_sort p t c e in joined_maxima-comm u v (holds_max o u sort hu) (holds_max o v sort hv)
+    at_mode AddMode e h =
+        let sort = added_sort p t c e in
+        joined_sums-comm u v (holds_sort p.families c SumSort u sort hu) (holds_sort p.families c SumSort v sort hv)
+    at_mode RaiseMode e h =
+        let sort = raised_sort p t c e in
+        joined_maxima-comm u v (holds_sort p.families c MaxSort u sort hu) (holds_sort p.families c MaxSort v sort hv)
+    at_mode ReadMode e h = cc
     at_mode Own e h = cc
 
-last_holds : (u v : Option Worth) → HoldsSort LastSort u → HoldsSort LastSort v → HoldsSort LastSort (joined_worth u v)
-last_holds None v p q = q
-last_holds (Some (Last n)) v p q = tt
-last_holds (Some (Sum n)) v p q = absurd p
-last_holds (Some (Max n)) v p q = absurd p
-
-joined_family : (o : Option Family) (u v : Option Worth) → HoldsFamily o u → HoldsFamily o v → HoldsFamily o (joined_worth u v)
-joined_family None u v p q = ap (λ w. joined_worth w v) p ∙ q
-joined_family (Some f) u v p q = by_sort f.sort p q
-  where
-    by_sort : (sort : Sort) → HoldsSort sort u → HoldsSort sort v → HoldsSort sort (joined_worth u v)
-    by_sort SumSort p q = joined-holds u v p q
-    by_sort MaxSort p q = joined_maxima-holds u v p q
-    by_sort LastSort p q = last_holds u v p q
-
 -- ---- amounts
-reach_holds : (o : Option ℤ) → HoldsSort MaxSort (applied (reach o) None)
-reach_holds None = tt
-reach_holds (Some v) = tt
-
 reach_mixes : (o : Option ℤ) (w : Option Worth) → HoldsSort MaxSort w → applied (reach o) w ≡ joined_worth w (applied (reach o) None)
 reach_mixes None w p = sym (joined-none w)
 reach_mixes (Some v) w p = raised-mixes w v p
 
-amount_holds : (p : Program) (s : Contents) (x : Event) (c : Cell) → mixes (mode_at p x c) ≡ true → MayHold p c (amount_of p s x c)
-amount_holds p s x c mix = at_mode (mode_at p x c) refl mix
-  where
-    at_mode : (m : Mode) → mode_at p x c ≡ m → mixes m ≡ true → (let g : Tag = tag_of_itag p x.itag in MayHold p c (applied (change_by p.families m (actions_of (slice_get p.kinds g.kind)) s x g.key c) None))
-    at_mode NoMode e h = cc
-    at_mode AddMode e h = let g : Tag = tag_of_itag p x.itag in from_sort (slice_get p.families c.family) SumSort _ (added_sort p g c e) (added-holds None (amount_added p.families (actions_of (slice_get p.kinds g.kind)) s x g.key c))
-    at_mode RaiseMode e h = let g : Tag = tag_of_itag p x.itag in from_sort (slice_get p.families c.family) MaxSort _ (raised_sort p g c e) (reach_holds (level_reached p.families (actions_of (slice_get p.kinds g.kind)) s x g.key c))
-    at_mode Own e h = cc
-
-next_mixes : (p : Program) (s : Contents) (x : Event) (c : Cell) → IsStateOf p.families s → mixes (mode_at p x c) ≡ true → (effect_of p s x).cells c ≡ joined_worth (s c) (amount_of p s x c)
-next_mixes p s x c sorted mix = updates_are_changes p s x c sorted ∙ at_mode (mode_at p x c) refl mix
-  where
-    at_mode : (m : Mode) → mode_at p x c ≡ m → mixes m ≡ true → (let g : Tag = tag_of_itag p x.itag in let h = change_by p.families m (actions_of (slice_get p.kinds g.kind)) s x g.key c in applied h (s c) ≡ joined_worth (s c) (applied h None))
-    at_mode NoMode e h = cc
-    at_mode AddMode e h = let g : Tag = tag_of_itag p x.itag in added-mixes (s c) (amount_added p.families (actions_of (slice_get p.kinds g.kind)) s x g.key c) (holds_sum (slice_get p.families c.family) (s c) (added_sort p g c e) (sorted c))
-    at_mode RaiseMode e h = let g : Tag = tag_of_itag p x.itag in reach_mixes (level_reached p.families (actions_of (slice_get p.kinds g.kind)) s x g.key c) (s c) (holds_max (slice_get p.families c.family) (s c) (raised_sort p g c e) (sorted c))
-    at_mode Own e h = cc
-
 next_leaves : (p : Program) (s : Contents) (x : Event) (c : Cell) → writes (mode_at p x c) ≡ false → (effect_of p s x).cells c ≡ s c
 next_leaves p s x c quiet =
     let g : Tag = tag_of_itag p x.itag in
-    let idle = idle_by_mode _ _ _ (unwritten (mode_at p x c) quiet) in
+    let idle = quiet_among p.version (actions_of (slice_get p.kinds g.kind)) g.key c quiet in
     keeps p.families x g.key c (actions_of (slice_get p.kinds g.kind)) s idle.0 idle.1 idle.2
+
+-- ---- changes of one cell
+reach_keeps : (p : Program) (c : Cell) (l : Option ℤ) (w : Option Worth) → has_sort (slice_get p.families c.family) MaxSort ≡ true → is_cell_of p.families c ≡ true
+    → MayHold p.families c w → MayHold p.families c (applied (reach l) w)
+reach_keeps p c None w sort there h = h
+reach_keeps p c (Some v) w sort there h = may_hold p.families c MaxSort (raised w v) sort there (raised-holds w v (holds_sort p.families c MaxSort w sort h))
+
+pub changes_keep_sorts : ChangesKeepSorts
+changes_keep_sorts p s x c w sorted holds = at_mode (mode_at p x c) refl
+  where
+    at_mode : (m : Mode) → mode_at p x c ≡ m
+        → (let g : Tag = tag_of_itag p x.itag in MayHold p.families c (applied (change_by p.families m (actions_of (slice_get p.kinds g.kind)) s x g.key c) w))
+    at_mode NoMode e = holds
+    at_mode AddMode e =
+        let g : Tag = tag_of_itag p x.itag in
+        let n : ℤ = amount_added p.families (actions_of (slice_get p.kinds g.kind)) s x g.key c in
+        may_hold p.families c SumSort (added w n) (added_sort p g c e) (added_there p x.itag c e) (added-holds w n)
+    at_mode RaiseMode e =
+        let g : Tag = tag_of_itag p x.itag in
+        reach_keeps p c (level_reached p.families (actions_of (slice_get p.kinds g.kind)) s x g.key c) w (raised_sort p g c e) (raised_there p x.itag c e) holds
+    at_mode ReadMode e = holds
+    at_mode Own e = keeps_sorts p s x sorted c
+
+pub changes_mix : ChangesMix
+changes_mix p s x c w quiet holds = at_mode (mode_at p x c) refl quiet
+  where
+    at_mode : (m : Mode) → mode_at p x c ≡ m → needs m ≡ false
+        → (let g : Tag = tag_of_itag p x.itag in let h = change_by p.families m (actions_of (slice_get p.kinds g.kind)) s x g.key c in applied h w ≡ joined_worth w (applied h None))
+    at_mode NoMode e q = sym (joined-none w)
+    at_mode AddMode e q =
+        let g : Tag = tag_of_itag p x.itag in
+        added-mixes w (amount_added p.families (actions_of (slice_get p.kinds g.kind)) s x g.key c) (holds_sort p.families c SumSort w (added_sort p g c e) holds)
+    at_mode RaiseMode e q =
+        let g : Tag = tag_of_itag p x.itag in
+        reach_mixes (level_reached p.families (actions_of (slice_get p.kinds g.kind)) s x g.key c) w (holds_sort p.families c MaxSort w (raised_sort p g c e) holds)
+    at_mode ReadMode e q = cc
+    at_mode Own e q = cc
+
+mixes_quiet : (m : Mode) → mixes m ≡ true → needs m ≡ false
+mixes_quiet NoMode e = cc
+mixes_quiet AddMode e = refl
+mixes_quiet RaiseMode e = refl
+mixes_quiet ReadMode e = cc
+mixes_quiet Own e = cc
+
+next_mixes : (p : Program) (s : Contents) (x : Event) (c : Cell) → IsStateOf p.families s → mixes (mode_at p x c) ≡ true
+    → (effect_of p s x).cells c ≡ joined_worth (s c) (amount_of p s x c)
+next_mixes p s x c sorted mix = updates_are_changes p s x c sorted ∙ changes_mix p s x c (s c) (mixes_quiet (mode_at p x c) mix) (sorted c)
+
+amount_holds : (p : Program) (s : Contents) (x : Event) (c : Cell) → mixes (mode_at p x c) ≡ true → MayHold p.families c (amount_of p s x c)
+amount_holds p s x c mix = at_mode (mode_at p x c) refl mix
+  where
+    at_mode : (m : Mode) → mode_at p x c ≡ m → mixes m ≡ true
+        → (let g : Tag = tag_of_itag p x.itag in MayHold p.families c (applied (change_by p.families m (actions_of (slice_get p.kinds g.kind)) s x g.key c) None))
+    at_mode NoMode e h = cc
+    at_mode AddMode e h =
+        let g : Tag = tag_of_itag p x.itag in
+        let n : ℤ = amount_added p.families (actions_of (slice_get p.kinds g.kind)) s x g.key c in
+        may_hold p.families c SumSort (added None n) (added_sort p g c e) (added_there p x.itag c e) (added-holds None n)
+    at_mode RaiseMode e h =
+        let g : Tag = tag_of_itag p x.itag in
+        reach_keeps p c (level_reached p.families (actions_of (slice_get p.kinds g.kind)) s x g.key c) None (raised_sort p g c e) (raised_there p x.itag c e) tt
+    at_mode ReadMode e h = cc
+    at_mode Own e h = cc
 
 pub accepted_is_lawful : AcceptedIsLawful
 accepted_is_lawful p accepted = record {
@@ -143,7 +207,7 @@ accepted_is_lawful p accepted = record {
   mix_right = joined-none;
   mix_groups = mix_groups p;
   mix_turns = mix_turns p;
-  mix_holds = λ c. joined_family (slice_get p.families c.family);
+  mix_holds = λ c. joined_family p.families c;
   texts_by_needs = texts_are_local p;
   next_by_needs = λ s t x c same need. cells_are_local p s t x c same (same c need);
   amount_by_needs = λ s t x c same. ap (λ h. applied h None) (changes_are_local p s t x c same);

@@ -1,38 +1,41 @@
 -- Update of a part, and independent updates commute.
-use Rattle.std.proofs.Common.{◌≡◌, ◌<◌, true, false, None}
-use Rattle.std.specs.Prelude.{slice_get}
+use Rattle.std.proofs.Common.{◌≡◌, ◌<◌, Bool, true, false, None, Option, cond, refl, ◌∙◌}
+use Rattle.std.specs.Prelude.{◌||◌, slice_get}
 use Rattle.std.specs.List.{list_any}
 use Rattle.flu_lemmas.proofs.Tests.{not_both, false_if_not}
 use Rattle.flu_model.specs.declared.events.Cell.{Cell}
 use Rattle.flu_model.specs.declared.events.Event.{Event}
+use Rattle.flu_model.specs.declared.events.Worth.{Worth}
 use Rattle.flu_model.specs.declared.events.Tag.{Tag}
 use Rattle.flu_model.specs.declared.jobs.Program.{Program}
-use Rattle.flu_model.specs.Contents.{Contents}
+use Rattle.flu_model.specs.Contents.{Contents, joined_worth}
 use Rattle.flu_model.specs.Itags.{count_of_itags, tag_of_itag, source_of_itag, is_dependent, itags}
 use Rattle.flu_model.specs.Listing.{tag}
 use Rattle.std.proofs.lemmas.List.Elements.{Contains-get_or}
 use Rattle.flu_model.specs.Updates.{actions_of}
-use Rattle.flu_model.specs.Modes.{mode_of, modes_conflict, action_owns, IsAccepted, IsInUniverse}
-use Rattle.flu_laws.specs.Consistency.{IsNeutralAtOwn, UpdatesLeft, UpdatesRight, Commutes}
+use Rattle.flu_model.specs.Modes.{mode_of, modes_conflict, IsAccepted, IsInUniverse}
+use Rattle.flu_laws.specs.Consistency.{IsNeutralAtNeeds, UpdatesLeft, UpdatesRight, Commutes, JoinsSplits}
 use Rattle.flu_laws.proofs.Programs.{found_fits}
 use Rattle.flu_laws.proofs.Joins.{updates_left, updates_right}
 use Rattle.flu_laws.proofs.Commuting.{texts_first, texts_second, cells_commute}
-use Rattle.flu_laws.proofs.Uses.{mode_is_own}
+use Rattle.flu_laws.proofs.Algebra.{joined-none}
+use Rattle.flu_laws.proofs.Reading.{action_needs}
+use Rattle.flu_laws.proofs.Uses.{needs_among}
 
-neutral : (p : Program) (x : Event) (t : Contents) → IsNeutralAtOwn p x t → (c : Cell) → list_any (action_owns (tag_of_itag p x.itag).key c) (actions_of (slice_get p.kinds (tag_of_itag p x.itag).kind)) ≡ true → t c ≡ None
-neutral p x t n c o = n c (mode_is_own _ _ _ o)
+neutral : (p : Program) (x : Event) (t : Contents) → IsNeutralAtNeeds p x t → (c : Cell) → list_any (action_needs (tag_of_itag p x.itag).key c) (actions_of (slice_get p.kinds (tag_of_itag p x.itag).kind)) ≡ true → t c ≡ None
+neutral p x t n c o = let g : Tag = tag_of_itag p x.itag in n c (needs_among p.version (actions_of (slice_get p.kinds g.kind)) g.key c ∙ o)
 
 pub left_law : (p : Program) → UpdatesLeft p
 left_law p s t x left right in_range n =
     let g : Tag = tag_of_itag p x.itag in
     let found = found_fits p.families p.kinds g.kind p.kinds_fit in
-    updates_left p.families found.0 found.1.0 x g.key (actions_of (slice_get p.kinds g.kind)) found.1.1 s t left right (neutral p x t n)
+    updates_left p.version p.families found.0 found.1.0 x g.key (actions_of (slice_get p.kinds g.kind)) found.1.1 s t left right (neutral p x t n)
 
 pub right_law : (p : Program) → UpdatesRight p
 right_law p s t x left right in_range n =
     let g : Tag = tag_of_itag p x.itag in
     let found = found_fits p.families p.kinds g.kind p.kinds_fit in
-    updates_right p.families found.0 found.1.0 x g.key (actions_of (slice_get p.kinds g.kind)) found.1.1 s t left right (neutral p x s n)
+    updates_right p.version p.families found.0 found.1.0 x g.key (actions_of (slice_get p.kinds g.kind)) found.1.1 s t left right (neutral p x s n)
 
 in_universe : (p : Program) (x : Event) → x.itag.0 < count_of_itags p → IsInUniverse p (tag_of_itag p x.itag)
 in_universe p x lt = (source_of_itag p x.itag, Contains-get_or (itags p) x.itag.0 (tag 0 0, 0) lt)
@@ -49,7 +52,18 @@ commuting_law p accepted s x y sorted in_x in_y independent =
     let one = found_fits p.families p.kinds g.kind p.kinds_fit in
     let two = found_fits p.families p.kinds h.kind p.kinds_fit in
     let apart : (c : Cell) → modes_conflict (mode_of p g c) (mode_of p h c) ≡ false = no_conflict p x y accepted in_x in_y independent in (
-      cells_commute p.families one.0 one.1.0 two.0 two.1.0 x y g.key h.key (actions_of (slice_get p.kinds g.kind)) (actions_of (slice_get p.kinds h.kind)) one.1.1 two.1.1 apart s sorted,
-      texts_second p.families one.0 one.1.0 two.0 two.1.0 x y g.key h.key (actions_of (slice_get p.kinds g.kind)) (actions_of (slice_get p.kinds h.kind)) one.1.1 two.1.1 apart s sorted,
-      texts_first p.families one.0 one.1.0 two.0 two.1.0 x y g.key h.key (actions_of (slice_get p.kinds g.kind)) (actions_of (slice_get p.kinds h.kind)) one.1.1 two.1.1 apart s sorted,
+      cells_commute p.version p.families one.0 one.1.0 two.0 two.1.0 x y g.key h.key (actions_of (slice_get p.kinds g.kind)) (actions_of (slice_get p.kinds h.kind)) one.1.1 two.1.1 apart s sorted,
+      texts_second p.version p.families one.0 one.1.0 two.0 two.1.0 x y g.key h.key (actions_of (slice_get p.kinds g.kind)) (actions_of (slice_get p.kinds h.kind)) one.1.1 two.1.1 apart s sorted,
+      texts_first p.version p.families one.0 one.1.0 two.0 two.1.0 x y g.key h.key (actions_of (slice_get p.kinds g.kind)) (actions_of (slice_get p.kinds h.kind)) one.1.1 two.1.1 apart s sorted,
     )
+
+-- what a cell holds in the parts of a split, by whether it is moved and copied
+split_at : (moved copied : Bool) (w : Option Worth) → (moved ≡ true → copied ≡ false)
+    → joined_worth (cond moved None w) (cond copied None (cond (moved || copied) w None)) ≡ w
+split_at true true w apart = absurd (not_both true refl (apart refl))
+split_at true false w apart = refl
+split_at false true w apart = joined-none w
+split_at false false w apart = joined-none w
+
+pub splits_law : JoinsSplits
+splits_law s w v apart = λ i c. split_at (w c) (v c) (s c) (apart c) i

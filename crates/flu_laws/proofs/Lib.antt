@@ -1,5 +1,6 @@
-pub mod General
 pub mod Reading
+pub mod Values
+pub mod Keys
 pub mod Algebra
 pub mod Locality
 pub mod Changing
@@ -17,3 +18,4 @@ pub mod InPlace
 pub mod SpanLemmas
 pub mod Histories
 pub mod Central
+pub mod Versions

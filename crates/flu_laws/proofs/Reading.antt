@@ -1,12 +1,14 @@
 -- Expressions, guards and texts depend on the cells alone that they read.
 use Rattle.std.proofs.Common.{◌≡◌, ℕ, Bool, true, Option, Some, None, List, [], ◌∷◌, ◌++◌, refl, ap, arith}
-use Rattle.std.specs.Prelude.{not, is_some, neg_ℤ, slice_get}
+use Rattle.std.specs.Prelude.{not, ◌||◌, is_some, neg_ℤ, slice_get}
 use Rattle.std.specs.List.{list_any}
 use Rattle.std.proofs.lemmas.Bool.{or_left, or_right}
 use Rattle.std.proofs.lemmas.Grind.{common_steps}
 use Rattle.flu_model.specs.declared.events.Cell.{Cell}
 use Rattle.flu_model.specs.declared.events.Event.{Event}
 use Rattle.flu_model.specs.declared.events.Worth.{Worth}
+use Rattle.flu_model.specs.declared.jobs.Act.{Act}
+use Rattle.flu_model.specs.declared.jobs.Action.{Action}
 use Rattle.flu_model.specs.declared.jobs.Expr.{Expr}
 use Rattle.flu_model.specs.declared.jobs.Expr.TheVariants.{Lit, Value, Key, Time, Read, Has, Neg', Not', Two'}
 use Rattle.flu_model.specs.declared.jobs.Family.{Family}
@@ -16,7 +18,7 @@ use Rattle.flu_model.specs.Contents.{Contents, is_same_cell, number_in}
 use Rattle.flu_model.specs.Expressions.{cell_of, value_of_expr, clamped, as_number, is_true, result_of}
 use Rattle.flu_model.specs.Texts.{neutral_of, worth_text, piece_text, pieces_text}
 use Rattle.flu_model.specs.Updates.{passes_guard}
-use Rattle.flu_model.specs.Modes.{expr_reads, guard_reads, piece_reads}
+use Rattle.flu_model.specs.Modes.{expr_reads, guard_reads, piece_reads, act_reads, act_overwrites}
 
 pub same_cell-refl : (c : Cell) → is_same_cell c c ≡ true
 same_cell-refl c = grind (arith, common_steps)
@@ -26,6 +28,13 @@ same_cell-is d c e =
     let f : d.family ≡ c.family = grind (arith, common_steps) in
     let k : d.key ≡ c.key = grind (arith, common_steps) in
     λ i. record { family = f i; key = k i }
+
+-- the cells that an act needs: those that it overwrites, and those that it reads
+abbrev pub act_needs : ℕ → Cell → Act → Bool
+act_needs key c a = act_overwrites key c a || act_reads key c a
+
+abbrev pub action_needs : ℕ → Cell → Action → Bool
+action_needs key c a = guard_reads key c a.guard || act_needs key c a.act
 
 -- two states agree where a test holds
 abbrev pub Agree : (Cell → Bool) → Contents → Contents → Type 0

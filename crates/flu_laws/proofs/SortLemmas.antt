@@ -1,9 +1,8 @@
 -- A cell that a job's actions add to or raise is of a family of that sort.
 use Rattle.std.proofs.Common.{◌≡◌, ℕ, Bool, true, false, Option, Some, None, List, [], ◌∷◌, refl, sym, ap, ◌∙◌}
-use Rattle.std.specs.Prelude.{◌||◌, slice_get}
+use Rattle.std.specs.Prelude.{◌||◌, nat_lt, slice_get}
 use Rattle.std.specs.List.{list_any, list_all}
 use Rattle.flu_model.specs.declared.events.Cell.{Cell}
-use Rattle.flu_model.specs.declared.events.Worth.{Worth}
 use Rattle.flu_model.specs.declared.jobs.Sort.{Sort}
 use Rattle.flu_model.specs.declared.jobs.Sort.TheVariants.{Sum as SumSort, Max as MaxSort, Last as LastSort}
 use Rattle.flu_model.specs.declared.jobs.Family.{Family}
@@ -11,21 +10,15 @@ use Rattle.flu_model.specs.declared.jobs.CellRef.{CellRef}
 use Rattle.flu_model.specs.declared.jobs.Act.{Act}
 use Rattle.flu_model.specs.declared.jobs.Act.TheVariants.{Add, Raise, Set, Clear, Emit, Flush}
 use Rattle.flu_model.specs.declared.jobs.Action.{Action}
+use Rattle.flu_model.specs.Contents.{key_count}
 use Rattle.flu_model.specs.Expressions.{cell_of}
-use Rattle.flu_model.specs.Sorts.{HoldsSort, HoldsFamily}
-use Rattle.flu_model.specs.Rules.{has_sort, is_sort, act_fits, action_fits}
+use Rattle.flu_model.specs.Sorts.{is_cell_of}
+use Rattle.flu_model.specs.Rules.{has_sort, is_sort, ref_fits, act_fits, action_fits}
 use Rattle.flu_model.specs.Modes.{means, act_adds, act_raises}
-use Rattle.flu_lemmas.proofs.Tests.{and_left, and_right}
+use Rattle.flu_lemmas.proofs.Elements.{from_any}
+use Rattle.flu_lemmas.proofs.Tests.{and_left, and_right, false_if_not}
+use Rattle.flu_laws.proofs.Keys.{cell_is_there}
 use Rattle.flu_laws.proofs.Reading.{same_cell-is}
-
--- one of the items that all pass f passes p too
-from_any : {X Q : Type 0} (f p : X → Bool) (xs : List X) → list_all f xs ≡ true → list_any p xs ≡ true → ((x : X) → f x ≡ true → p x ≡ true → Q) → Q
-from_any f p [] all any use_one = cc
-from_any {Q = Q} f p (x ∷ xs) all any use_one =
-    elim (p x) as (λ b. p x ≡ b → (b || list_any p xs) ≡ true → Q) [
-      | true ↦ λ e a. use_one x (and_left _ _ all) e
-      | false ↦ λ e a. from_any f p xs (and_right _ _ all) a use_one
-    ] refl any
 
 meant_sort : (families : List Family) (key : ℕ) (c : Cell) (r : CellRef) (sort : Sort) → means key c r ≡ true → has_sort (slice_get families r.family) sort ≡ true → has_sort (slice_get families c.family) sort ≡ true
 meant_sort families key c r sort m e = ap (λ (d : Cell). has_sort (slice_get families d.family) sort) (sym (same_cell-is (cell_of r key) c m)) ∙ e
@@ -52,6 +45,42 @@ adds-sort families keyed has_value key c all fits any = from_any (action_fits fa
 pub raises-sort : (families : List Family) (keyed has_value : Bool) (key : ℕ) (c : Cell) (all : List Action) → list_all (action_fits families keyed has_value) all ≡ true → list_any (λ (a : Action). act_raises key c a.act) all ≡ true → has_sort (slice_get families c.family) MaxSort ≡ true
 raises-sort families keyed has_value key c all fits any = from_any (action_fits families keyed has_value) (λ (a : Action). act_raises key c a.act) all fits any (λ a f m. act_raises-sort families keyed has_value key c a.act (and_left _ _ f) m)
 
+-- such a cell is one of its family, for a key in range
+meant_is_there : (families : List Family) (keyed : Bool) (key : ℕ) (c : Cell) (r : CellRef) → nat_lt key key_count ≡ true
+    → means key c r ≡ true → ref_fits families keyed r ≡ true → is_cell_of families c ≡ true
+meant_is_there families keyed key c r lt m e = ap (is_cell_of families) (sym (same_cell-is (cell_of r key) c m)) ∙ cell_is_there families keyed r key lt e
+
+act_adds-there : (families : List Family) (keyed has_value : Bool) (key : ℕ) (c : Cell) (a : Act) → nat_lt key key_count ≡ true
+    → act_fits families keyed has_value a ≡ true → act_adds key c a ≡ true → is_cell_of families c ≡ true
+act_adds-there families keyed has_value key c (Add r e) lt fits m = meant_is_there families keyed key c r lt m (and_left _ _ (and_left _ _ fits))
+act_adds-there families keyed has_value key c (Raise r e) lt fits m = cc
+act_adds-there families keyed has_value key c (Set r e) lt fits m = cc
+act_adds-there families keyed has_value key c (Clear r) lt fits m = cc
+act_adds-there families keyed has_value key c (Emit qs) lt fits m = cc
+act_adds-there families keyed has_value key c (Flush f qs) lt fits m = cc
+
+act_raises-there : (families : List Family) (keyed has_value : Bool) (key : ℕ) (c : Cell) (a : Act) → nat_lt key key_count ≡ true
+    → act_fits families keyed has_value a ≡ true → act_raises key c a ≡ true → is_cell_of families c ≡ true
+act_raises-there families keyed has_value key c (Add r e) lt fits m = cc
+act_raises-there families keyed has_value key c (Raise r e) lt fits m = meant_is_there families keyed key c r lt m (and_left _ _ (and_left _ _ fits))
+act_raises-there families keyed has_value key c (Set r e) lt fits m = cc
+act_raises-there families keyed has_value key c (Clear r) lt fits m = cc
+act_raises-there families keyed has_value key c (Emit qs) lt fits m = cc
+act_raises-there families keyed has_value key c (Flush f qs) lt fits m = cc
+
+pub adds-there : (families : List Family) (keyed has_value : Bool) (key : ℕ) (c : Cell) (all : List Action) → nat_lt key key_count ≡ true
+    → list_all (action_fits families keyed has_value) all ≡ true → list_any (λ (a : Action). act_adds key c a.act) all ≡ true → is_cell_of families c ≡ true
+adds-there families keyed has_value key c all lt fits any =
+    from_any (action_fits families keyed has_value) (λ (a : Action). act_adds key c a.act) all fits any
+    (λ a f m. act_adds-there families keyed has_value key c a.act lt (and_left _ _ f) m)
+
+pub raises-there : (families : List Family) (keyed has_value : Bool) (key : ℕ) (c : Cell) (all : List Action) → nat_lt key key_count ≡ true
+    → list_all (action_fits families keyed has_value) all ≡ true → list_any (λ (a : Action). act_raises key c a.act) all ≡ true → is_cell_of families c ≡ true
+raises-there families keyed has_value key c all lt fits any =
+    from_any (action_fits families keyed has_value) (λ (a : Action). act_raises key c a.act) all fits any
+    (λ a f m. act_raises-there families keyed has_value key c a.act lt (and_left _ _ f) m)
+
+-- no family is both of sums and of maxima
 pub not_sum_and_max : (o : Option Family) → has_sort o SumSort ≡ true → has_sort o MaxSort ≡ true → ⊥
 not_sum_and_max None e f = cc
 not_sum_and_max (Some f) e g = by_sort f.sort e g
@@ -61,20 +90,10 @@ not_sum_and_max (Some f) e g = by_sort f.sort e g
     by_sort MaxSort e g = cc
     by_sort LastSort e g = cc
 
-pub holds_sum : (o : Option Family) (w : Option Worth) → has_sort o SumSort ≡ true → HoldsFamily o w → HoldsSort SumSort w
-holds_sum None w e h = cc
-holds_sum (Some f) w e h = by_sort f.sort w e h
-  where
-    by_sort : (sort : Sort) (w : Option Worth) → is_sort sort SumSort ≡ true → HoldsSort sort w → HoldsSort SumSort w
-    by_sort SumSort w e h = h
-    by_sort MaxSort w e h = cc
-    by_sort LastSort w e h = cc
-
-pub holds_max : (o : Option Family) (w : Option Worth) → has_sort o MaxSort ≡ true → HoldsFamily o w → HoldsSort MaxSort w
-holds_max None w e h = cc
-holds_max (Some f) w e h = by_sort f.sort w e h
-  where
-    by_sort : (sort : Sort) (w : Option Worth) → is_sort sort MaxSort ≡ true → HoldsSort sort w → HoldsSort MaxSort w
-    by_sort SumSort w e h = cc
-    by_sort MaxSort w e h = h
-    by_sort LastSort w e h = cc
+-- what is added to is not raised
+pub adds_only : (families : List Family) (keyed has_value : Bool) (key : ℕ) (c : Cell) (all : List Action)
+    → list_all (action_fits families keyed has_value) all ≡ true → list_any (λ (a : Action). act_adds key c a.act) all ≡ true
+    → list_any (λ (a : Action). act_raises key c a.act) all ≡ false
+adds_only families keyed has_value key c all fits adds =
+    false_if_not (list_any (λ (a : Action). act_raises key c a.act) all)
+    (λ raises. not_sum_and_max (slice_get families c.family) (adds-sort families keyed has_value key c all fits adds) (raises-sort families keyed has_value key c all fits raises))

@@ -1,41 +1,55 @@
 -- An update of one cell is its change.
-use Rattle.std.proofs.Common.{◌≡◌, ℕ, ℤ, Bool, true, false, Option, Some, None, List, refl, ap, ◌∙◌}
-use Rattle.std.specs.Prelude.{slice_get}
+use Rattle.std.proofs.Common.{◌≡◌, ℕ, ℤ, Bool, true, false, Option, Some, None, List, refl, sym, ap, ◌∙◌}
 use Rattle.std.specs.List.{list_any, list_all}
 use Rattle.flu_model.specs.declared.events.Cell.{Cell}
 use Rattle.flu_model.specs.declared.events.Event.{Event}
 use Rattle.flu_model.specs.declared.events.Worth.{Worth}
 use Rattle.flu_model.specs.declared.jobs.Family.{Family}
 use Rattle.flu_model.specs.declared.jobs.Action.{Action}
+use Rattle.flu_model.specs.declared.jobs.Sort.TheVariants.{Sum as SumSort}
+use Rattle.flu_model.specs.declared.modes.Mode.{Mode}
+use Rattle.flu_model.specs.declared.modes.Mode.TheVariants.{None as NoMode, Add as AddMode, Raise as RaiseMode, Read as ReadMode, Own}
 use Rattle.flu_model.specs.Contents.{Contents, added}
 use Rattle.flu_model.specs.Updates.{effect_of_actions}
 use Rattle.flu_model.specs.Sorts.{IsStateOf}
 use Rattle.flu_model.specs.Rules.{action_fits}
-use Rattle.flu_model.specs.Modes.{action_owns, act_adds, act_raises, mode_from}
+use Rattle.flu_model.specs.Modes.{mode_among}
+use Rattle.flu_laws.specs.Uses.{needs, writes}
 use Rattle.flu_laws.specs.Changes.{applied, reach, level_reached, change_by, change_among}
-use Rattle.flu_laws.proofs.Reading.{Agree}
+use Rattle.flu_laws.proofs.Reading.{Agree, action_needs}
 use Rattle.flu_laws.proofs.Locality.{cells-agree, amount-agree, level-agree}
 use Rattle.flu_laws.proofs.Changing.{raised_to, keeps, gains, reaches}
-use Rattle.flu_laws.proofs.SortLemmas.{adds-sort, raises-sort, not_sum_and_max, holds_sum}
+use Rattle.flu_laws.proofs.SortLemmas.{adds-sort, adds_only}
+use Rattle.flu_laws.proofs.Uses.{needs_among, quiet_among, sums_among, maxima_among}
+use Rattle.flu_laws.proofs.Values.{holds_sort}
 
 pub applied-reach : (o : Option ℤ) (w : Option Worth) → raised_to w o ≡ applied (reach o) w
 applied-reach None w = refl
 applied-reach (Some v) w = refl
 
-module _ (families : List Family) (keyed has_value : Bool) (x : Event) (key : ℕ) (all : List Action) (fits : list_all (action_fits families keyed has_value) all ≡ true) (s t : Contents) (sorted : IsStateOf families s) (agree : Agree (λ c. list_any (action_owns key c) all) s t) where
+module _ (version : ℕ) (families : List Family) (keyed has_value : Bool) (x : Event) (key : ℕ) (all : List Action)
+    (fits : list_all (action_fits families keyed has_value) all ≡ true) (s t : Contents) (sorted : IsStateOf families s)
+    (agree : Agree (λ c. list_any (action_needs key c) all) s t) where
+  -- what a cell that is only left alone becomes
+  stays : (c : Cell) → writes (mode_among version all key c) ≡ false → (effect_of_actions families all s x key).cells c ≡ s c
+  stays c e = let quiet = quiet_among version all key c e in keeps families x key c all s quiet.0 quiet.1 quiet.2
+
   -- what the cell becomes is the change from the other state
-  step_at : (c : Cell) (own add raise : Bool) → list_any (action_owns key c) all ≡ own → list_any (λ (a : Action). act_adds key c a.act) all ≡ add → list_any (λ (a : Action). act_raises key c a.act) all ≡ raise
-      → (effect_of_actions families all s x key).cells c ≡ applied (change_by families (mode_from own add raise) all t x key c) (s c)
-  step_at c true add raise o a r = cells-agree families keyed has_value x key all s t agree c (agree c o)
-  step_at c false true true o a r = absurd (not_sum_and_max (slice_get families c.family) (adds-sort families keyed has_value key c all fits a) (raises-sort families keyed has_value key c all fits r))
-  step_at c false true false o a r =
-      gains families x key c all s o r (holds_sum (slice_get families c.family) (s c) (adds-sort families keyed has_value key c all fits a) (sorted c))
+  step_at : (c : Cell) (m : Mode) → mode_among version all key c ≡ m
+      → (effect_of_actions families all s x key).cells c ≡ applied (change_by families m all t x key c) (s c)
+  step_at c NoMode e = stays c (ap writes e)
+  step_at c ReadMode e = stays c (ap writes e)
+  step_at c Own e = cells-agree families keyed has_value x key all s t agree c (agree c (sym (needs_among version all key c) ∙ ap needs e))
+  step_at c AddMode e =
+      let sums = sums_among version all key c e in
+      let sort = adds-sort families keyed has_value key c all fits sums.1 in
+      gains families x key c all s sums.0 (adds_only families keyed has_value key c all fits sums.1) (holds_sort families c SumSort (s c) sort (sorted c))
       ∙ ap (added (s c)) (amount-agree families keyed has_value x key all s t c agree)
-  step_at c false false true o a r =
-      reaches families x key c all s o a
+  step_at c RaiseMode e =
+      let maxima = maxima_among version all key c e in
+      reaches families x key c all s maxima.0 maxima.1
       ∙ ap (raised_to (s c)) (level-agree families keyed has_value x key all s t c agree)
       ∙ applied-reach (level_reached families all t x key c) (s c)
-  step_at c false false false o a r = keeps families x key c all s o a r
 
-  pub step : (c : Cell) → (effect_of_actions families all s x key).cells c ≡ applied (change_among families all t x key c) (s c)
-  step c = step_at c _ _ _ refl refl refl
+  pub step : (c : Cell) → (effect_of_actions families all s x key).cells c ≡ applied (change_among version families all t x key c) (s c)
+  step c = step_at c (mode_among version all key c) refl

@@ -5,3 +5,4 @@ pub mod Consistency
 pub mod Lawful
 pub mod Spans
 pub mod Lots
+pub mod Versions

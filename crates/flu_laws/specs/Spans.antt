@@ -1,5 +1,5 @@
 -- EFFECTS: what parts of the events of a fold do to a cell.
-use Rattle.std.specs.Prelude.{◌≡◌, ℕ, ◌+◌, ◌≤◌, Bool, true, false, nat_le, nat_lt, ◌==◌, ◌&&◌, Option, None, List, [], ◌∷◌, ◌++◌, slice_index, if◌then◌else◌}
+use Rattle.std.specs.Prelude.{◌≡◌, ℕ, ◌+◌, ◌<◌, ◌≤◌, Bool, true, false, nat_le, nat_lt, ◌==◌, ◌&&◌, Option, None, List, [], ◌∷◌, ◌++◌, map, slice_index, if◌then◌else◌}
 use Rattle.std.specs.List.{filter, AllByRecursion}
 use Rattle.flu_model.specs.declared.events.Cell.{Cell}
 use Rattle.flu_model.specs.declared.events.Event.{Event}
@@ -24,6 +24,17 @@ history p s seen [] = []
 history p s seen (x ∷ xs) =
     record { event = x; index = seen x.itag.0; before = s }
     ∷ history p (effect_of p s x).cells (λ i. if i == x.itag.0 then seen i + 1 else seen i) xs
+
+-- their events are those of the fold
+abbrev pub MomentsAreOfEvents : Type 0
+MomentsAreOfEvents = (p : Program) (s : Contents) (seen : ℕ → ℕ) (xs : List Event) → map (λ (m : Moment). m.event) (history p s seen xs) ≡ xs
+
+-- of the moments of one itag, each has a greater place than those before it
+abbrev pub PlacesRise : Type 0
+PlacesRise =
+    (p : Program) (s : Contents) (seen : ℕ → ℕ) (xs : List Event) (before after : List Moment) (m : Moment)
+    → history p s seen xs ≡ before ++ m ∷ after
+    → AllByRecursion (λ q. q.event.itag.0 ≡ m.event.itag.0 → q.index < m.index) before
 
 -- the moment's event is below the counts of events by itag
 abbrev pub is_below : List ℕ → Moment → Bool

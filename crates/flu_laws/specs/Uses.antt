@@ -4,7 +4,7 @@ use Rattle.flu_model.specs.declared.events.Cell.{Cell}
 use Rattle.flu_model.specs.declared.events.Event.{Event}
 use Rattle.flu_model.specs.declared.jobs.Program.{Program}
 use Rattle.flu_model.specs.declared.modes.Mode.{Mode}
-use Rattle.flu_model.specs.declared.modes.Mode.TheVariants.{None as NoMode, Add as AddMode, Raise as RaiseMode, Own}
+use Rattle.flu_model.specs.declared.modes.Mode.TheVariants.{None as NoMode, Add as AddMode, Raise as RaiseMode, Read as ReadMode, Own}
 use Rattle.flu_model.specs.Contents.{Contents}
 use Rattle.flu_model.specs.Itags.{tag_of_itag}
 use Rattle.flu_model.specs.Modes.{mode_of}
@@ -14,6 +14,7 @@ abbrev pub needs : Mode → Bool
 needs NoMode = false
 needs AddMode = false
 needs RaiseMode = false
+needs ReadMode = true
 needs Own = true
 
 -- the event may change the cell
@@ -21,6 +22,7 @@ abbrev pub writes : Mode → Bool
 writes NoMode = false
 writes AddMode = true
 writes RaiseMode = true
+writes ReadMode = false
 writes Own = true
 
 -- the event only mixes an amount into the cell: it adds to a sum, or raises a maximum

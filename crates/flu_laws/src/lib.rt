@@ -3,15 +3,16 @@
 #![tactic(auto)]
 
 ghost use Rattle.flu_laws.specs.Consistency.{UpdatesLeft, UpdatesRight, Commutes, JoinsSplits};
-ghost use Rattle.flu_laws.specs.Lawful.{AcceptanceByUses, AcceptedIsLawful};
+ghost use Rattle.flu_laws.specs.Lawful.{AcceptanceByUses, AcceptedIsLawful, DependencyTurns};
 ghost use Rattle.flu_laws.specs.Lots.{CentralLaw};
-ghost use Rattle.flu_laws.specs.Spans.{SpansAddUp, UpdatesInPlace};
-ghost use Rattle.flu_laws.specs.Updating.{TextsAreLocal, CellsAreLocal, ChangesAreLocal, UpdatesAreChanges, KeepsSorts};
+ghost use Rattle.flu_laws.specs.Spans.{MomentsAreOfEvents, PlacesRise, SpansAddUp, UpdatesInPlace};
+ghost use Rattle.flu_laws.specs.Updating.{TextsAreLocal, CellsAreLocal, ChangesAreLocal, UpdatesAreChanges, KeepsSorts, FoldKeepsSorts, UnwrittenKeeps, ChangesKeepSorts, ChangesMix};
+ghost use Rattle.flu_laws.specs.Versions.{NothingIsShared, OwnsWhatItReads, ConflictsWithoutRead};
 ghost use Rattle.flu_model.specs.Modes.{IsAccepted};
 ghost use Rattle.flu_model.specs.declared.jobs.Program.{Program};
 
 /// Update of a part: an update of one part of a state before the parts are joined is the update after it, where the other part
-/// is neutral at the cells that the event's tag owns.
+/// is neutral at the cells that the event's tag needs.
 pub fn update_of_a_part()
     ensures left { (p : Program) → UpdatesLeft p }
     ensures right { (p : Program) → UpdatesRight p }
@@ -23,7 +24,8 @@ pub fn independent_updates_commute()
     ensures { (p : Program) → IsAccepted p → Commutes p }
 {}
 
-/// Join undoes split: a state without some cells, joined with the state on these cells alone, is the state.
+/// Join undoes split: where some cells of a state are moved to another part and others are copied to it, the parts join to the
+/// state once the copies are dropped.
 pub fn join_undoes_split()
     ensures { JoinsSplits }
 {}
@@ -35,10 +37,30 @@ pub fn updates_are_local()
     ensures changes { ChangesAreLocal }
 {}
 
-/// Change: an update changes each cell as its tag's mode there says, and keeps to the sorts of the families.
+/// Change: an update changes each cell as its tag's mode there says, and keeps to the sorts of the families, as a fold does.
 pub fn updates_are_changes()
     ensures changes { UpdatesAreChanges }
     ensures sorts { KeepsSorts }
+    ensures fold { FoldKeepsSorts }
+{}
+
+/// The change of a cell, by the mode of the event's tag there: none where the tag does not write it, and a value to be joined to what
+/// it holds where the tag does not need it. It keeps to the cell's sort.
+pub fn changes_keep_to_modes()
+    ensures idle { UnwrittenKeeps }
+    ensures sorts { ChangesKeepSorts }
+    ensures mixing { ChangesMix }
+{}
+
+/// Dependency of tags goes both ways.
+pub fn dependency_turns()
+    ensures { DependencyTurns }
+{}
+
+/// The moments of a fold are its events, in order, and their places rise.
+pub fn moments_are_in_order()
+    ensures events { MomentsAreOfEvents }
+    ensures places { PlacesRise }
 {}
 
 /// An accepted job is one in which a cell that one tag needs and another writes makes them dependent; and it has all that the
@@ -62,4 +84,12 @@ pub fn updates_in_place()
 /// counted, and the texts are those of the fold.
 pub fn fits_again()
     ensures { CentralLaw }
+{}
+
+/// Version 1: no tag has the mode Read, a cell that is read is owned, and two modes conflict where both differ from None and they
+/// are neither both Add nor both Raise.
+pub fn version_1_reads_are_owned()
+    ensures nothing_is_shared { NothingIsShared }
+    ensures modes { OwnsWhatItReads }
+    ensures conflicts { ConflictsWithoutRead }
 {}

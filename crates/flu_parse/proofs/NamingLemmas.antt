@@ -5,6 +5,7 @@ use Rattle.std.specs.List.{list_any}
 use Rattle.std.specs.Str.{bytes_eq}
 use Rattle.std.specs.Map.{lookup}
 use Rattle.indexmap.specs.IndexMap.{insert_entry}
+use Rattle.flu_lemmas.proofs.Booleans.{none_of_three}
 use Rattle.flu_parse.specs.Naming.{Naming, look_up, is_declared}
 
 -- an entry by the bytes of its key
@@ -16,22 +17,12 @@ pub lookup_by_bytes : {K X : Type 0} (bytes : K → List ℕ) (name : List ℕ) 
 lookup_by_bytes bytes name [] = refl
 lookup_by_bytes bytes name (e ∷ es) = ap (λ r. if bytes_eq name (bytes e.0) then Some e.1 else r) (lookup_by_bytes bytes name es)
 
-pub any_by_bytes : {K : Type 0} (bytes : K → List ℕ) (name : List ℕ) (ks : List K) → list_any (λ k. bytes_eq name (bytes k)) ks ≡ list_any (bytes_eq name) (map bytes ks)
-any_by_bytes bytes name [] = refl
-any_by_bytes bytes name (k ∷ ks) = ap (λ b. bytes_eq name (bytes k) || b) (any_by_bytes bytes name ks)
-
 pub none_if_not_some : {X : Type 0} (o : Option X) → is_some o ≡ false → o ≡ None
 none_if_not_some None e = refl
 none_if_not_some (Some x) e = absurd (cc)
 
 none_not_some : {X : Type 0} {x : X} → None ≡ Some x → ⊥
 none_not_some e = cc
-
-pub none_of_three : (a b c : Bool) → (a || b || c) ≡ false → (a ≡ false) × (b ≡ false) × (c ≡ false)
-none_of_three true b c e = absurd (cc)
-none_of_three false true c e = absurd (cc)
-none_of_three false false true e = absurd (cc)
-none_of_three false false false e = (refl, refl, refl)
 
 module _ {K X : Type 0} (bytes : K → List ℕ) (k : K) (v : X) where
   -- what is inserted under a new name goes last

@@ -16,14 +16,16 @@ use Rattle.flu_model.specs.Validity.{IsValid}
 use Rattle.flu_planner.specs.Graphs.{dependencies}
 use Rattle.flu_planner.specs.Greedy.{Tree, Leaf, Inner, IsGreedy}
 use Rattle.flu_planner.specs.Plans.{all_itags, pred_of, node_of, size, nodes_from, IsGreedyPlan}
-use Rattle.flu_planner.proofs.General.{times, times_if_contained, contained_if_times, times_append}
+use Rattle.flu_lemmas.specs.Counting.{times}
+use Rattle.flu_lemmas.proofs.Counting.{times_if_contained, contained_if_times, times_append}
 use Rattle.flu_planner.proofs.TreeParts.{parted_times, parted_apart}
 use Rattle.flu_planner.proofs.TreeItags.{owned_in, AreOnce, parts_once, owned_times, owned_is_given, all_once, all_within, all_have}
 use Rattle.flu_planner.proofs.PlanTags.{number}
 use Rattle.flu_planner.proofs.PlanNodes.{count_of_nodes, IsPlaced, root_is_placed, left_is_placed, right_is_placed, within_root, node_owns_is, owned_is_found, AreOfJob, found_is_owned, owned_by_node}
 
 -- ---- each itag has one owner
-counted_root : (p : Program) (w : ℕ) (own : List ℕ) (kids : Option (ℕ × ℕ)) (i : ℕ) → i < count_of_itags p → AreOfJob p own → times i own ≤ 1 → cond (node_owns p (number i) (node_of p w own kids)) 1 0 ≡ times i own
+counted_root : (p : Program) (w : ℕ) (own : List ℕ) (kids : Option (ℕ × ℕ)) (i : ℕ) → i < count_of_itags p → AreOfJob p own → times i own ≤ 1
+    → cond (node_owns p (number i) (node_of p w own kids)) 1 0 ≡ times i own
 counted_root p w own kids i in_job all few =
     elim (cases_lt 0 (times i own)) [
       | inl some ↦
@@ -36,7 +38,8 @@ counted_root p w own kids i in_job all few =
           ∙ omega (arith, none)
     ]
 
-counted : (p : Program) (w : ℕ) (t : Tree) (i : ℕ) → i < count_of_itags p → AreOfJob p (owned_in t) → times i (owned_in t) ≤ 1 → count_by (node_owns p (number i)) (nodes_from p w t) ≡ times i (owned_in t)
+counted : (p : Program) (w : ℕ) (t : Tree) (i : ℕ) → i < count_of_itags p → AreOfJob p (owned_in t) → times i (owned_in t) ≤ 1
+    → count_by (node_owns p (number i)) (nodes_from p w t) ≡ times i (owned_in t)
 counted p w (Leaf own) i in_job all few =
     let root = node_of p w own None in
     let step = sum_by-cons (λ n. cond (node_owns p (number i) n) 1 0) root [] in
@@ -64,7 +67,8 @@ unrelated_back : (nodes : List Node) (a b : ℕ) → are_related nodes a b ≡ f
 unrelated_back nodes a b e within = true≢false (sym (or_right (is_within nodes a b) (is_within nodes b a) within) ∙ e)
 
 module _ (p : Program) (rates : List ℕ) (nodes : List Node) where
-  independent : (depth : ℕ) (itags : List ℕ) (w : ℕ) (t : Tree) → IsGreedy (dependencies p) rates depth itags t → AreOnce itags → AreOfJob p itags → IsPlaced p nodes w t →
+  independent : (depth : ℕ) (itags : List ℕ) (w : ℕ) (t : Tree) → IsGreedy (dependencies p) rates depth itags t → AreOnce itags → AreOfJob p itags
+      → IsPlaced p nodes w t →
       (a b i j : ℕ) → w ≤ a → a < w + size t → w ≤ b → b < w + size t → i < count_of_itags p → j < count_of_itags p →
       owns p nodes a (number i) ≡ true → owns p nodes b (number j) ≡ true → are_related nodes a b ≡ false → dependencies p i j ≡ false
   independent depth itags w (Leaf own) greedy once all at a b i j la ha lb hb in_i in_j one two apart =

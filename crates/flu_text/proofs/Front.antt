@@ -9,13 +9,14 @@ use Rattle.std.proofs.lemmas.Bool.Decides.{nat_tests}
 use Rattle.std.proofs.lemmas.List.{length-append, length-take, length-take-le, take-append-drop, take_more}
 use Rattle.std.proofs.lemmas.List.Sums.{prefix_len-le-length}
 use Rattle.std.proofs.lemmas.List.Folds.{list_all-append}
-use Rattle.flu_text.specs.declared.words.Reserved.{Reserved}
+use Rattle.flu_names.specs.declared.reserved.Reserved.{Reserved}
 use Rattle.flu_text.specs.declared.words.Mark.{Mark}
 use Rattle.flu_text.specs.declared.words.Word.{Word}
 use Rattle.flu_text.specs.declared.words.Word.TheVariants as w
-use Rattle.flu_text.specs.Spelling.{reserved_spelling, mark_spelling}
-use Rattle.flu_text.specs.Grammar.{is_name_start, is_name_byte, is_text_byte, Starts, IsLexeme, Identifier, Digits, Quoted, Punctuation, Spells}
-use Rattle.flu_text.specs.Lexeme.{reserved_of, name_at, number_of, number_at, text_at, mark_of, mark_at, word_at}
+use Rattle.flu_text.specs.Spelling.{mark_spelling}
+use Rattle.flu_names.specs.Names.{reserved_spelling, is_name_start, is_name_byte, is_text_byte, reserved_of}
+use Rattle.flu_text.specs.Grammar.{Starts, IsLexeme, Identifier, Digits, Quoted, Punctuation, Spells}
+use Rattle.flu_text.specs.Lexeme.{name_at, number_of, number_at, text_at, mark_of, mark_at, word_at}
 use Rattle.flu_text.specs.Layout.{NotFirst, makes_longer, Ends}
 use Rattle.flu_lemmas.proofs.Tests.{and_left, both}
 use Rattle.flu_lemmas.proofs.Prefixes.{within_read, chosen, mapped, list_all-prefix_len, prefix_len-longest, prefix_len-take, prefix_len_some, take_one_more}

@@ -9,8 +9,9 @@ use Rattle.std.proofs.lemmas.List.{length-append, take_at, drop_at, append-nil}
 use Rattle.flu_text.specs.declared.words.Token.{Token}
 use Rattle.flu_text.specs.declared.words.Word.{Word}
 use Rattle.flu_text.specs.declared.words.Word.TheVariants as w
-use Rattle.flu_text.specs.Spelling.{reserved_spelling, mark_spelling}
-use Rattle.flu_text.specs.Grammar.{is_blank, is_name_start, Starts, Spells, bytes_of, IsGap, LeadsTo}
+use Rattle.flu_text.specs.Spelling.{mark_spelling}
+use Rattle.flu_names.specs.Names.{reserved_spelling, is_name_start}
+use Rattle.flu_text.specs.Grammar.{is_blank, Starts, Spells, bytes_of, IsGap, LeadsTo}
 use Rattle.flu_text.specs.Lexeme.{word_at}
 use Rattle.flu_text.specs.Reading.{gap_len, next_place, token_at}
 use Rattle.flu_text.specs.Layout.{Piece, layout, tokens_of, IsLaid}

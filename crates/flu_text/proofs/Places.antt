@@ -4,7 +4,8 @@ use Rattle.std.proofs.lemmas.List.{length-take, length-drop}
 use Rattle.flu_text.specs.declared.words.Word.{Word}
 use Rattle.flu_text.specs.declared.words.Word.TheVariants as w
 use Rattle.flu_text.specs.declared.words.Token.{Token}
-use Rattle.flu_text.specs.Grammar.{is_name_start, Starts, IsLexeme, Spells, IsToken}
+use Rattle.flu_text.specs.Grammar.{Starts, IsLexeme, Spells, IsToken}
+use Rattle.flu_names.specs.Names.{is_name_start}
 use Rattle.flu_text.specs.Lexeme.{word_at}
 use Rattle.flu_text.specs.Reading.{token_at}
 use Rattle.flu_lemmas.proofs.Prefixes.{mapped}

@@ -13,8 +13,9 @@ use Rattle.flu_text.specs.declared.words.Word.{Word}
 use Rattle.flu_text.specs.declared.words.Word.TheVariants as w
 use Rattle.flu_text.specs.declared.words.Mark.{Mark}
 use Rattle.flu_text.specs.declared.words.Token.{Token}
-use Rattle.flu_text.specs.Spelling.{reserved_spelling, mark_spelling}
-use Rattle.flu_text.specs.Grammar.{is_name_byte, IsText, Spells, IsToken, LeadsTo, IsSpan, IsInside, IsInsideOfText}
+use Rattle.flu_text.specs.Spelling.{mark_spelling}
+use Rattle.flu_names.specs.Names.{reserved_spelling, is_name_byte}
+use Rattle.flu_text.specs.Grammar.{IsText, Spells, IsToken, LeadsTo, IsSpan, IsInside, IsInsideOfText}
 use Rattle.flu_text.specs.Laws.{EachIsToken, EachIsSpan, EachIsInside, TokensRise}
 use Rattle.flu_lemmas.proofs.Prefixes.{drop_one_more}
 use Rattle.flu_text.proofs.Tables.{each_mark, reserved_bytes}

@@ -7,13 +7,14 @@ use Rattle.std.specs.Str.Parse.{digits_value}
 use Rattle.std.proofs.lemmas.Bool.{lt-ltb, le-ltb, le-leb}
 use Rattle.std.proofs.lemmas.Bool.Decides.{nat_tests}
 use Rattle.std.proofs.lemmas.List.{take_at, length-append}
-use Rattle.flu_text.specs.declared.words.Reserved.{Reserved}
+use Rattle.flu_names.specs.declared.reserved.Reserved.{Reserved}
 use Rattle.flu_text.specs.declared.words.Mark.{Mark}
 use Rattle.flu_text.specs.declared.words.Word.{Word}
 use Rattle.flu_text.specs.declared.words.Word.TheVariants as w
-use Rattle.flu_text.specs.Spelling.{reserved_spelling, mark_spelling}
-use Rattle.flu_text.specs.Grammar.{quote, number_sign, is_blank, is_name_start, is_name_byte, is_text_byte, Starts, IsText, Spells}
-use Rattle.flu_text.specs.Lexeme.{reserved_of, name_at, number_of, number_at, text_at, mark_at, word_at}
+use Rattle.flu_text.specs.Spelling.{mark_spelling}
+use Rattle.flu_names.specs.Names.{reserved_spelling, is_name_start, is_name_byte, is_text_byte, reserved_of}
+use Rattle.flu_text.specs.Grammar.{quote, number_sign, is_blank, Starts, IsText, Spells}
+use Rattle.flu_text.specs.Lexeme.{name_at, number_of, number_at, text_at, mark_at, word_at}
 use Rattle.flu_text.specs.Layout.{NotFirst, makes_longer, Ends}
 use Rattle.flu_lemmas.proofs.Tests.{and_left, and_right, not_true}
 use Rattle.flu_lemmas.proofs.Prefixes.{first_and_rest}

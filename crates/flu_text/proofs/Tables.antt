@@ -7,13 +7,14 @@ use Rattle.std.specs.Str.{bytes_eq}
 use Rattle.std.proofs.lemmas.Bool.{lt-leb}
 use Rattle.std.proofs.lemmas.Bool.Decides.{nat_tests}
 use Rattle.std.proofs.lemmas.Slice.Eq.{bytes_eq-Decides}
-use Rattle.flu_text.specs.declared.words.Reserved.{Reserved}
-use Rattle.flu_text.specs.declared.words.Reserved.TheVariants as r
+use Rattle.flu_names.specs.declared.reserved.Reserved.{Reserved}
+use Rattle.flu_names.specs.declared.reserved.Reserved.TheVariants as r
 use Rattle.flu_text.specs.declared.words.Mark.{Mark}
 use Rattle.flu_text.specs.declared.words.Mark.TheVariants as m
-use Rattle.flu_text.specs.Spelling.{reserved_spelling, reserved_words, mark_spelling, marks}
-use Rattle.flu_text.specs.Grammar.{quote, number_sign, is_blank, is_name_start, is_name_byte}
-use Rattle.flu_text.specs.Lexeme.{reserved_of, mark_of}
+use Rattle.flu_text.specs.Spelling.{mark_spelling, marks}
+use Rattle.flu_names.specs.Names.{reserved_spelling, reserved_words, is_name_start, is_name_byte, reserved_of}
+use Rattle.flu_text.specs.Grammar.{quote, number_sign, is_blank}
+use Rattle.flu_text.specs.Lexeme.{mark_of}
 use Rattle.flu_text.specs.Layout.{NotFirst, makes_longer}
 use Rattle.flu_lemmas.proofs.Tests.{not_true}
 use Rattle.flu_lemmas.proofs.Prefixes.{find_all, find_passes}

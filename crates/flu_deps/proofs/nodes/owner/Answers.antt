@@ -1,6 +1,6 @@
 use Rattle.std.proofs.Common.{sym, ◌∙◌}
 use Rattle.flu_model.specs.Owners.{node_owns}
-use Rattle.flu_deps.proofs.NodeLemmas.{counted_stands}
+use Rattle.flu_lemmas.proofs.OnlyOne.{counted_stands}
 use Rattle.flu_deps.proofs.nodes.owner.Goals as goal
 
 pub unreachable-requires : goal.unreachable-requires
