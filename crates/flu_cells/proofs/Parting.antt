@@ -12,7 +12,7 @@ use Rattle.flu_lemmas.proofs.Ranges.{any_in_range}
 use Rattle.flu_lemmas.proofs.Tests.{true_eq, not_both}
 use Rattle.flu_model.specs.declared.events.Cell.{Cell}
 use Rattle.flu_model.specs.declared.events.Worth.{Worth}
-use Rattle.flu_model.specs.Contents.{Contents, cell, is_same_cell, with_worth, key_count, all_keys, held_keys}
+use Rattle.flu_model.specs.Contents.{Contents, cell, is_same_cell, with_worth, key_count, all_keys, held_keys, without_family}
 use Rattle.flu_model.specs.Order.{cell_cmp}
 use Rattle.flu_cells.specs.Entries.{contents_of, overlay, HasKeysInRange}
 use Rattle.flu_cells.specs.Sets.{only, Moves}
@@ -80,6 +80,9 @@ one_left false o = refl
 
 pub left_one : (s : Contents) (k : Cell) → with_worth s k None ≡ only (λ c. not (is_same_cell c k)) s
 left_one s k = λ i c. one_left (is_same_cell c k) (s c) i
+
+pub left_family : (s : Contents) (f : ℕ) → without_family s f ≡ only (λ c. not (c.family == f)) s
+left_family s f = λ i c. one_left (c.family == f) (s c) i
 
 pub moved_some : (s t : Contents) (k : Cell) (w : Worth) → s k ≡ Some w → with_worth t k (Some w) ≡ overlay t (only (λ c. is_same_cell c k) s)
 moved_some s t k w e = λ i c. at c i

@@ -2,7 +2,7 @@
 
 ghost use Rattle.std.specs.BTreeMap as tree;
 ghost use Rattle.std.specs.Prelude.{◌≡◌, ◌<◌, ◌==◌, map, not, Some, None, OnOk, OnErr, IfOk, IsOk, IsSome, IfSome, IfNone};
-ghost use Rattle.flu_model.specs.Contents.{cell, is_same_cell, nothing_held, with_worth, held_sum, added, raised, held_keys, key_count, join, joined_worth};
+ghost use Rattle.flu_model.specs.Contents.{cell, is_same_cell, nothing_held, with_worth, held_sum, added, raised, held_keys, key_count, without_family, join, joined_worth};
 ghost use Rattle.flu_model.specs.Order.{cell_cmp};
 ghost use Rattle.flu_cells.specs.Entries.{contents_of, overlay, IsWithoutNeutral, HasKeysInRange, IsWorthKept, entries_of_family};
 
@@ -85,6 +85,13 @@ impl State {
         ensures { held self.new ≡ with_worth (held self.old) c None }
     {
         self.take(c);
+    }
+
+    /// Makes all cells of a family neutral. Only those that hold something are gone through. It takes no memory.
+    pub fn clear_family(&mut self, family: u32)
+        ensures { held self.new ≡ without_family (held self.old) family }
+    {
+        while let Some(_) = self.pop_of(family) {}
     }
 
     /// The keys of a family whose cells are not neutral, rising. Only that family's cells are gone through.
@@ -211,13 +218,6 @@ impl State {
             Some(worth) => self.hold(cell, Some(worth)),
             None => Ok(()),
         }
-    }
-
-    // Makes a family's cells neutral.
-    fn clear_family(&mut self, family: u32)
-        ensures { held self.new ≡ only (λ c. not (c.family == family)) (held self.old) }
-    {
-        while let Some(_) = self.pop_of(family) {}
     }
 
     // Takes out the first cell of a family that holds something, with what it holds.

@@ -3,13 +3,13 @@ use Rattle.std.specs.Prelude.{◌==◌, ◌||◌, not}
 use Rattle.flu_model.specs.Contents.{is_same_cell}
 use Rattle.flu_cells.specs.Holding.{held}
 use Rattle.flu_cells.specs.Sets.{is_in, only, outside}
-use Rattle.flu_cells.proofs.Parting.{in_families, in_cells, first_family, first_cell, left_one, clear_step}
+use Rattle.flu_cells.proofs.Parting.{in_families, in_cells, first_family, first_cell, left_family, left_one, clear_step}
 use Rattle.flu_cells.proofs.state.State.clear_all.Goals as goal
 
 pub loop-family-preserved : goal.loop-family-preserved
 loop-family-preserved c =
     clear_step (λ d. d.family == c.in-Some.family.now) (in_families c.next.new.self) (in_families c.loop-family.family-iterator) (held c.loop-family.self) _ _
-    (ap in_families c.in-Some.ensures.steps ∙ first_family _ _) c.loop-family.invariant c.clear_family.ensures
+    (ap in_families c.in-Some.ensures.steps ∙ first_family _ _) c.loop-family.invariant (c.clear_family.ensures ∙ left_family _ _)
 
 pub loop-cell-init : goal.loop-cell-init
 loop-cell-init c =
