@@ -119,7 +119,7 @@ module _ {X : Type 0} where
 
   pub found_in : (same : X → X → Bool) → ((x y : X) → same x y ≡ true → x ≡ y) → (x : X) (xs : List X) → list_any (same x) xs ≡ true → In x xs
   unfolding In
-  found_in same is x [] e = absurd (cc)
+  found_in same is x [] e = absurd cc
   found_in same is x (y ∷ ys) e = by (same x y) refl (found_in same is x ys)
     where
       by : (b : Bool) → same x y ≡ b → (list_any (same x) ys ≡ true → In x ys) → (x ≡ y) ⊎ In x ys
@@ -141,8 +141,8 @@ module _ {X : Type 0} where
   distinct_from same itself (x ∷ xs) e = by (list_any (same x) xs) refl (distinct_from same itself xs)
     where
       by : (b : Bool) → list_any (same x) xs ≡ b → (are_distinct same xs ≡ true → Distinct xs) → (In x xs → ⊥) × Distinct xs
-      by true t more = let no : false ≡ true = sym (ap (λ b. not b && are_distinct same xs) t) ∙ e in absurd (cc)
-      by false t more = (λ h. (let yes = in_found same itself x xs h in let no : true ≡ false = sym yes ∙ t in absurd (cc)), more (sym (ap (λ b. not b && are_distinct same xs) t) ∙ e))
+      by true t more = let no : false ≡ true = sym (ap (λ b. not b && are_distinct same xs) t) ∙ e in absurd cc
+      by false t more = (λ h. (let yes = in_found same itself x xs h in let no : true ≡ false = sym yes ∙ t in absurd cc), more (sym (ap (λ b. not b && are_distinct same xs) t) ∙ e))
 
 -- ---- what elements are seen as
 module _ {X Y : Type 0} (f : X → Y) where
@@ -186,7 +186,7 @@ in_or_not v vs = by (list_any (λ u. v == u) vs) refl
   where
     by : (b : Bool) → list_any (λ u. v == u) vs ≡ b → In v vs ⊎ (In v vs → ⊥)
     by true t = inl (found_in (λ a b. a == b) true_eq v vs t)
-    by false t = inr (λ h. (let yes = in_found (λ a b. a == b) (λ n. eq_true n n refl) v vs h in let no : true ≡ false = sym yes ∙ t in absurd (cc)))
+    by false t = inr (λ h. (let yes = in_found (λ a b. a == b) (λ n. eq_true n n refl) v vs h in let no : true ≡ false = sym yes ∙ t in absurd cc))
 
 distinct_without : {X : Type 0} (x : X) (front back : List X) → Distinct (front ++ x ∷ back) → Distinct (front ++ back) × (In x (front ++ back) → ⊥)
 unfolding Distinct In

@@ -17,7 +17,8 @@ use Rattle.flu_plan.specs.declared.written.WrittenNode.{WrittenNode}
 use Rattle.flu_plan.specs.Faults.{Found, ◌>>=◌, each}
 use Rattle.flu_plan.specs.Machine.{terminal_of, Turn, start, stage_step, step, stage_end, ended, run}
 use Rattle.flu_plan.specs.Grammar.{FoundIsPlan, PlansAreUnique, MayGoOn, CannotTake, IsFirstThatCannotFollow, UnexpectedIsFirst}
-use Rattle.flu_plan.proofs.Finds.{ok_same, bind_ok}
+use Rattle.flu_plan.proofs.Finds.{ok_same}
+use Rattle.flu_lemmas.proofs.Loops.{bind_ok}
 use Rattle.flu_plan.proofs.Spelled.{turn, steps, run-takes, found_if_spelled}
 use Rattle.flu_plan.proofs.History.{Read, read_start, read_more, found_spelled}
 

@@ -10,23 +10,24 @@ use Rattle.std.proofs.lemmas.Option.{slice_get-get_or}
 use Rattle.std.proofs.lemmas.Str.{IsUtf8-from_is_utf8}
 use Rattle.flu_lemmas.proofs.Tests.{both}
 use Rattle.flu_text.specs.declared.words.Token.{Token}
-use Rattle.flu_text.specs.Reading.{reading}
-use Rattle.flu_text.specs.Reading.{Reading as TokenReading}
-use Rattle.flu_text.specs.Laws.{ReadingIsTokens, EachIsToken, EachIsSpan, EachIsInside}
+use Rattle.flu_text.specs.Reading.{reading, Reading as TokenReading}
 use Rattle.flu_model.specs.declared.limits.What.TheVariants.{Bytes}
 use Rattle.flu_model.specs.declared.jobs.Kind.{Kind}
 use Rattle.flu_model.specs.declared.jobs.Source.{Source}
 use Rattle.flu_model.specs.declared.jobs.Program.{Program}
 use Rattle.flu_model.specs.declared.plans.Node.{Node}
-use Rattle.flu_model.specs.Rules.{is_name, is_same_text}
+use Rattle.flu_model.specs.Rules.{is_same_text}
+use Rattle.flu_names.specs.Names.{is_name}
 use Rattle.flu_model.specs.Owners.{names_source, pred_fits, nodes_fit}
 use Rattle.flu_syntax.specs.declared.tree.WrittenSpan.{WrittenSpan}
 use Rattle.flu_syntax.specs.declared.tree.WrittenKeys.{WrittenKeys}
 use Rattle.flu_syntax.specs.Words.{Stands}
-use Rattle.flu_syntax.proofs.General.{all_back}
-use Rattle.flu_syntax.proofs.Words.{signs_stand}
-use Rattle.flu_parse.specs.Spelling.{name_of}
-use Rattle.flu_parse.proofs.WordsKept.{AreRead, name_stands}
+use Rattle.flu_syntax.specs.Laws.{SignsStand}
+use Rattle.flu_layout.specs.Spelling.{name_of}
+use Rattle.flu_layout.specs.Laws.{ReadMayBePrinted}
+use Rattle.flu_layout.specs.Stands.{AreRead}
+use Rattle.flu_lemmas.proofs.Elements.{all_back}
+use Rattle.flu_lemmas.proofs.Places.{slice_get-is_some}
 use Rattle.flu_plan.specs.declared.fault.PlanFault.TheVariants as f
 use Rattle.flu_plan.specs.declared.written.WrittenPred.{WrittenPred}
 use Rattle.flu_plan.specs.declared.written.WrittenNode.{WrittenNode}
@@ -39,18 +40,16 @@ use Rattle.flu_plan.specs.Machine.{start, written_in}
 use Rattle.flu_plan.specs.Resolving.{names_of, known, kind_named, source_named, kind_of, source_of, pred_of, kids_of, node_of, nodes_of}
 use Rattle.flu_plan.specs.Shape.{preorder, children_of, all_below}
 use Rattle.flu_plan.specs.Limits.{within_limits}
-use Rattle.flu_plan.specs.Planning.{planned_pred, planned_found, planned_at, planned}
+use Rattle.flu_plan.specs.Numbering.{planned_pred, planned_found, planned_at, planned}
 use Rattle.flu_plan.specs.Reading.{text_in, found_tokens, tokens_in, tree_in, resolved, plan_in}
 use Rattle.flu_plan.specs.Printing.{has_text}
 use Rattle.flu_plan.specs.Laws.{PlansHaveText}
-use Rattle.flu_plan.proofs.Finds.{ok_same, bind_ok, then_ok, Pairs, collected}
+use Rattle.flu_plan.proofs.Finds.{ok_same, Pairs, collected}
+use Rattle.flu_lemmas.proofs.Loops.{bind_ok, then_ok}
 use Rattle.flu_plan.proofs.Resolved.{known_ok, unless_ok}
 use Rattle.flu_plan.proofs.History.{read_start, found_spelled}
 
 -- ---- predicates
-
-there : {X : Type 0} (xs : List X) (i : ℕ) (d : X) → i < length xs → is_some (slice_get xs i) ≡ true
-there xs i d lt = ap is_some (slice_get-get_or xs i d lt)
 
 -- a kind that was looked up is one
 record KindThere (p : Program) (kind : Option ℕ) : Type 0 where
@@ -69,22 +68,22 @@ kind_there p text s kind e =
     let test = λ (k : Kind). is_same_text (name_of text s) k.name in
     let one = bind_ok (known s.from (kind_named p.kinds (name_of text s))) (λ n. Ok (Some n)) kind e in
     let place = position-Some test p.kinds one.0 d (known_ok s.from (kind_named p.kinds (name_of text s)) one.0 one.1) in
-    record { number = one.0; is = sym (ok_same (Some one.0) kind one.2); there = there p.kinds one.0 d place.0 }
+    record { number = one.0; is = sym (ok_same (Some one.0) kind one.2); there = slice_get-is_some p.kinds one.0 place.0 }
 
 source_there : (p : Program) (text : List ℕ) (s : WrittenSpan) (source : Option ℕ) → source_of p text (Some s) ≡ Ok source → SourceThere p source
 source_there p text s source e =
-    let d : Source = record { name = []; file = []; rate = 0; tags = [] } in
+    let d : Source = record { name = []; file = []; rate = 0; slack = 0; tags = [] } in
     let test = λ (x : Source). is_same_text (name_of text s) x.name in
     let one = bind_ok (known s.from (source_named p.sources (name_of text s))) (λ n. Ok (Some n)) source e in
     let place = position-Some test p.sources one.0 d (known_ok s.from (source_named p.sources (name_of text s)) one.0 one.1) in
-    record { number = one.0; is = sym (ok_same (Some one.0) source one.2); there = there p.sources one.0 d place.0 }
+    record { number = one.0; is = sym (ok_same (Some one.0) source one.2); there = slice_get-is_some p.sources one.0 place.0 }
 
 source_fits : (p : Program) (text : List ℕ) (v : Option WrittenSpan) (source : Option ℕ) → source_of p text v ≡ Ok source → names_source p source ≡ true
 source_fits p text None source e = ap (names_source p) (sym (ok_same None source e))
 source_fits p text (Some s) source e = let found = source_there p text s source e in ap (names_source p) found.is ∙ found.there
 
 source_some : (p : Program) (text : List ℕ) (v : Option WrittenSpan) (source : Option ℕ) → source_of p text v ≡ Ok source → IsSome v → is_some source ≡ true
-source_some p text None source e some = let bad : false ≡ true = some in absurd (cc)
+source_some p text None source e some = let bad : false ≡ true = some in absurd cc
 source_some p text (Some s) source e some = ap is_some (source_there p text s source e).is
 
 parts_fit : (p : Program) (text : List ℕ) (wk ws : Option WrittenSpan) (ks : WrittenKeys) (kind source : Option ℕ) → HasPart wk ks ws → kind_of p text wk ≡ Ok kind → source_of p text ws ≡ Ok source → pred_fits p (planned_pred (record { kind = kind; keys = ks; source = source })) ≡ true
@@ -137,11 +136,11 @@ NamesStand text (v ∷ vs) = (is_name (name_of text v.name) ≡ true) × NamesSt
 names_stand : (text : List ℕ) (ts : List Token) (read : AreRead text ts) (vs : List WrittenNode) → AllByRecursion (Stands ts) (plan_signs vs) → NamesStand text vs
 unfolding NamesStand
 names_stand text ts read [] all = tt
-names_stand text ts read (v ∷ vs) all = (name_stands text ts read v.name all.1.0, names_stand text ts read vs (all_back (Stands ts) (node_signs v) (plan_signs vs) all))
+names_stand text ts read (v ∷ vs) all = (read.names v.name all.1.0, names_stand text ts read vs (all_back (Stands ts) (node_signs v) (plan_signs vs) all))
 
 drafts_fit : (p : Program) (text : List ℕ) (names : List (List ℕ)) (vs : List WrittenNode) (ds : List DraftNode) → NamesStand text vs → AreNodes vs → Pairs (node_of p text names) vs ds → (v : ℕ) (d : DraftNode) → slice_get ds v ≡ Some d → DraftFits p text d
 unfolding Pairs NamesStand
-drafts_fit p text names [] [] named are h v d here = absurd (cc)
+drafts_fit p text names [] [] named are h v d here = absurd cc
 drafts_fit p text names [] (x ∷ ds) named are h v d here = absurd h
 drafts_fit p text names (w ∷ vs) [] named are h v d here = absurd h
 drafts_fit p text names (w ∷ vs) (x ∷ ds) named are h zero d here =
@@ -194,12 +193,12 @@ resolved_fits p text vs plan named are e =
 
 tokens_are : (r : TokenReading) (ts : List Token) → found_tokens r ≡ Ok ts → r ≡ Ok ts
 tokens_are (Ok x) ts e = ap (λ (l : List Token). let r : TokenReading = Ok l in r) (ok_same x ts e)
-tokens_are (Err at) ts e = absurd (cc)
+tokens_are (Err at) ts e = absurd cc
 
 -- a plan that was read has a text
-pub plans_have_text : ReadingIsTokens → EachIsToken → EachIsSpan → EachIsInside → PlansHaveText
+pub plans_have_text : ReadMayBePrinted → SignsStand → PlansHaveText
 unfolding plan_in
-plans_have_text reads each spans insides p bytes plan e =
+plans_have_text may stand p bytes plan e =
     let one = then_ok (unless (nat_le (length bytes) 1048576) (f.OverLimit Bytes 1048577)) (text_in bytes >>= λ text. tokens_in text >>= λ ts. written_in (length text) ts >>= λ written. resolved p text written) plan e in
     let text = bind_ok (text_in bytes) (λ text. tokens_in text >>= λ ts. written_in (length text) ts >>= λ written. resolved p text written) plan one.2 in
     let ts = bind_ok (tokens_in text.0) (λ ts. written_in (length text.0) ts >>= λ written. resolved p text.0 written) plan text.2 in
@@ -207,7 +206,6 @@ plans_have_text reads each spans insides p bytes plan e =
     let inner = then_ok (unless (is_utf8 bytes) (f.BadToken (utf8_valid_len bytes))) (Ok bytes) text.0 text.1 in
     let same : bytes ≡ text.0 = ok_same bytes text.0 inner.2 in
     let utf8 : IsUtf8 text.0 = subst IsUtf8 same (IsUtf8-from_is_utf8 bytes (unless_ok (is_utf8 bytes) (f.BadToken (utf8_valid_len bytes)) inner.0 inner.1)) in
-    let are = (reads text.0 ts.0).0 (tokens_are (reading text.0) ts.0 ts.1) in
-    let read : AreRead text.0 ts.0 = record { utf8 = utf8; each = each text.0 ts.0 are; spans = spans text.0 ts.0 utf8 are; insides = insides text.0 ts.0 utf8 are } in
+    let read : AreRead text.0 ts.0 = may text.0 ts.0 utf8 (tokens_are (reading text.0) ts.0 ts.1) in
     let plan_is : ArePlan ts.0 vs.0 = found_spelled (length text.0) start [] ts.0 vs.0 read_start vs.1 in
-    resolved_fits p text.0 vs.0 plan (names_stand text.0 ts.0 read vs.0 (signs_stand (plan_signs vs.0) ts.0 plan_is.spelled)) plan_is.grammar vs.2
+    resolved_fits p text.0 vs.0 plan (names_stand text.0 ts.0 read vs.0 (stand ts.0 (plan_signs vs.0) plan_is.spelled)) plan_is.grammar vs.2

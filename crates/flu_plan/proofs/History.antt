@@ -23,7 +23,8 @@ use Rattle.flu_plan.specs.declared.written.WrittenNode.{WrittenNode}
 use Rattle.flu_plan.specs.Faults.{Found, ◌>>=◌, each}
 use Rattle.flu_plan.specs.Machine.{terminal_of, Turn, start, pred, with_pred, with_node, stage_step, end_step, step, stage_end, ended, run}
 use Rattle.flu_plan.specs.Grammar.{kind_signs, pred_signs, HasPart, ArePreds, kids_signs, node_signs, AreNodes, plan_signs, ArePlan}
-use Rattle.flu_plan.proofs.Finds.{ok_same, bind_ok}
+use Rattle.flu_plan.proofs.Finds.{ok_same}
+use Rattle.flu_lemmas.proofs.Loops.{bind_ok}
 use Rattle.flu_plan.proofs.Spelled.{turn, steps}
 
 -- ---- the signs of a turn
@@ -207,11 +208,11 @@ end_took signs nodes nm preds s t k.Arrow u are preds_are word is some e =
 end_took signs nodes nm preds s t k.Node u are preds_are word is some e =
     took signs t u (with_node (turn nodes nm preds s) None) (Any (w.Reserved r.Node)) word (record { nodes_are = nodes_more nodes (node_with nm preds None) are preds_are; preds_are = tt; holds = refl })
     (ap (λ l. l ++ Any (w.Reserved r.Node) ∷ []) (node_ends nodes nm preds None (behind_preds nm preds) (ap (λ l. head nm ++ l) (sym (append-nil (all_preds preds)))) ∙ sym is)) e
-end_took signs nodes nm preds s t _ u are preds_are word is some e = absurd (cc)
+end_took signs nodes nm preds s t _ u are preds_are word is some e = absurd cc
 
 not_none : (preds : List WrittenPred) (q : WrittenPred) → preds ++ q ∷ [] ≢ []
-not_none [] q e = absurd (cc)
-not_none (p ∷ preds) q e = absurd (cc)
+not_none [] q e = absurd cc
+not_none (p ∷ preds) q e = absurd cc
 
 -- the turn behind a whole predicate, which the next token ends
 closed_took : (nodes : List WrittenNode) (nm kind : WrittenSpan) (preds : List WrittenPred) (ks : WrittenKeys) (s : Stage) (t : Token) (k : Terminal) (u : Turn) → Good nodes preds s → Said k t.word
@@ -231,22 +232,22 @@ module _ (nodes : List WrittenNode) (nm : WrittenSpan) (preds : List WrittenPred
 
   start_took : (k : Terminal) → Said k t.word → Good nodes preds stage.Start → stage_step (turn nodes nm preds stage.Start) t k stage.Start ≡ Ok u → Took (history nodes nm preds stage.Start) t u
   start_took k.Node word good e = opened stage.Start stage.Node (Any (w.Reserved r.Node)) word good good.holds refl e
-  start_took _ word good e = absurd (cc)
+  start_took _ word good e = absurd cc
 
   node_took : (k : Terminal) → Said k t.word → Good nodes preds stage.Node → stage_step (turn nodes nm preds stage.Node) t k stage.Node ≡ Ok u → Took (history nodes nm preds stage.Node) t u
   node_took k.Name word good e =
       took (history nodes nm preds stage.Node) t u (turn nodes (span_of t) preds stage.Name) (Spanned w.Name (span_of t)) (word, refl, refl) (record { nodes_are = good.nodes_are; preds_are = good.preds_are; holds = good.holds })
       (grow (plan_signs nodes) (Any (w.Reserved r.Node) ∷ []) (history nodes nm preds stage.Node) (open_signs (span_of t) preds stage.Name) (Spanned w.Name (span_of t)) refl refl) e
-  node_took _ word good e = absurd (cc)
+  node_took _ word good e = absurd cc
 
   name_took : (k : Terminal) → Said k t.word → Good nodes preds stage.Name → stage_step (turn nodes nm preds stage.Name) t k stage.Name ≡ Ok u → Took (history nodes nm preds stage.Name) t u
   name_took k.Colon word good e = opened stage.Name stage.Colon (Any (w.Mark m.Colon)) word good good.holds refl e
-  name_took _ word good e = absurd (cc)
+  name_took _ word good e = absurd cc
 
   comma_took : (k : Terminal) → Said k t.word → Good nodes preds stage.Comma → stage_step (turn nodes nm preds stage.Comma) t k stage.Comma ≡ Ok u → Took (history nodes nm preds stage.Comma) t u
   comma_took k.Name word good e = opened stage.Comma (stage.Kind (span_of t)) (Spanned w.Name (span_of t)) (word, refl, refl) good tt refl e
   comma_took k.At word good e = opened stage.Comma (stage.At None keys.Alone) (Any (w.Mark m.At)) word good refl refl e
-  comma_took _ word good e = absurd (cc)
+  comma_took _ word good e = absurd cc
 
   colon_took : (k : Terminal) → Said k t.word → Good nodes preds stage.Colon → stage_step (turn nodes nm preds stage.Colon) t k stage.Colon ≡ Ok u → Took (history nodes nm preds stage.Colon) t u
   unfolding node_with
@@ -257,7 +258,7 @@ module _ (nodes : List WrittenNode) (nm : WrittenSpan) (preds : List WrittenPred
       (ap (λ l. l ++ Any (w.Reserved r.Node) ∷ []) (node_ends nodes nm preds None (head nm) (sym (ap (λ p. head nm ++ (all_preds p ++ [])) good.holds)))) e
   colon_took k.Name word good e = opened stage.Colon (stage.Kind (span_of t)) (Spanned w.Name (span_of t)) (word, refl, refl) good tt (ap (λ p. before_pred nm p ++ name (span_of t)) good.holds) e
   colon_took k.At word good e = opened stage.Colon (stage.At None keys.Alone) (Any (w.Mark m.At)) word good refl (ap (λ p. before_pred nm p ++ Any (w.Mark m.At) ∷ []) good.holds) e
-  colon_took _ word good e = absurd (cc)
+  colon_took _ word good e = absurd cc
 
   kind_took : (kind : WrittenSpan) (k : Terminal) → Said k t.word → Good nodes preds (stage.Kind kind) → stage_step (turn nodes nm preds (stage.Kind kind)) t k (stage.Kind kind) ≡ Ok u → Took (history nodes nm preds (stage.Kind kind)) t u
   kind_took kind k.OpenBracket word good e =
@@ -267,25 +268,25 @@ module _ (nodes : List WrittenNode) (nm : WrittenSpan) (preds : List WrittenPred
   kind_took kind k.Comma word good e = closed_took nodes nm kind preds keys.Alone (stage.Kind kind) t k.Comma u good word refl e
   kind_took kind k.Arrow word good e = closed_took nodes nm kind preds keys.Alone (stage.Kind kind) t k.Arrow u good word refl e
   kind_took kind k.Node word good e = closed_took nodes nm kind preds keys.Alone (stage.Kind kind) t k.Node u good word refl e
-  kind_took kind _ word good e = absurd (cc)
+  kind_took kind _ word good e = absurd cc
 
   open_took : (kind : WrittenSpan) (k : Terminal) → Said k t.word → Good nodes preds (stage.Open kind) → stage_step (turn nodes nm preds (stage.Open kind)) t k (stage.Open kind) ≡ Ok u → Took (history nodes nm preds (stage.Open kind)) t u
   open_took kind (k.Number n) word good e =
       opened (stage.Open kind) (stage.Low kind (number_of n t)) (At (w.Number n) t.from) (word, refl) good tt (sym (append_assoc (before_pred nm preds) (name kind ++ Any (w.Mark m.OpenBracket) ∷ []) (At (w.Number n) t.from ∷ []))) e
-  open_took kind _ word good e = absurd (cc)
+  open_took kind _ word good e = absurd cc
 
   low_took : (kind : WrittenSpan) (low : WrittenNumber) (k : Terminal) → Said k t.word → Good nodes preds (stage.Low kind low) → stage_step (turn nodes nm preds (stage.Low kind low)) t k (stage.Low kind low) ≡ Ok u → Took (history nodes nm preds (stage.Low kind low)) t u
   low_took kind low k.Dots word good e =
       opened (stage.Low kind low) (stage.Dots kind low) (Any (w.Mark m.Dots)) word good tt (sym (append_assoc (before_pred nm preds) (name kind ++ part_keys (keys.One low)) (Any (w.Mark m.Dots) ∷ []))) e
   low_took kind low k.CloseBracket word good e =
       opened (stage.Low kind low) (stage.Close kind (keys.One low)) (Any (w.Mark m.CloseBracket)) word good tt (sym (append_assoc (before_pred nm preds) (name kind ++ part_keys (keys.One low)) (Any (w.Mark m.CloseBracket) ∷ []))) e
-  low_took kind low _ word good e = absurd (cc)
+  low_took kind low _ word good e = absurd cc
 
   dots_took : (kind : WrittenSpan) (low : WrittenNumber) (k : Terminal) → Said k t.word → Good nodes preds (stage.Dots kind low) → stage_step (turn nodes nm preds (stage.Dots kind low)) t k (stage.Dots kind low) ≡ Ok u → Took (history nodes nm preds (stage.Dots kind low)) t u
   dots_took kind low (k.Number n) word good e =
       opened (stage.Dots kind low) (stage.High kind (keys.Range low (number_of n t))) (At (w.Number n) t.from) (word, refl) good (low, number_of n t, refl)
       (sym (append_assoc (before_pred nm preds) (name kind ++ (part_keys (keys.One low) ++ Any (w.Mark m.Dots) ∷ [])) (At (w.Number n) t.from ∷ []))) e
-  dots_took kind low _ word good e = absurd (cc)
+  dots_took kind low _ word good e = absurd cc
 
   high_took : (kind : WrittenSpan) (ks : WrittenKeys) (k : Terminal) → Said k t.word → Good nodes preds (stage.High kind ks) → stage_step (turn nodes nm preds (stage.High kind ks)) t k (stage.High kind ks) ≡ Ok u → Took (history nodes nm preds (stage.High kind ks)) t u
   high_took kind ks k.CloseBracket word good e =
@@ -294,7 +295,7 @@ module _ (nodes : List WrittenNode) (nm : WrittenSpan) (preds : List WrittenPred
       let whole : keys_signs ks ≡ part_keys ks ++ Any (w.Mark m.CloseBracket) ∷ [] = ap keys_signs good.holds.2 ∙ ap (λ (x : WrittenKeys). part_keys x ++ Any (w.Mark m.CloseBracket) ∷ []) (sym good.holds.2) in
       opened (stage.High kind ks) (stage.Close kind ks) (Any (w.Mark m.CloseBracket)) word good tt
       (ap (λ l. before_pred nm preds ++ (name kind ++ l)) whole ∙ sym (append_assoc (before_pred nm preds) (name kind ++ part_keys ks) (Any (w.Mark m.CloseBracket) ∷ []))) e
-  high_took kind ks _ word good e = absurd (cc)
+  high_took kind ks _ word good e = absurd cc
 
   close_took : (kind : WrittenSpan) (ks : WrittenKeys) (k : Terminal) → Said k t.word → Good nodes preds (stage.Close kind ks) → stage_step (turn nodes nm preds (stage.Close kind ks)) t k (stage.Close kind ks) ≡ Ok u → Took (history nodes nm preds (stage.Close kind ks)) t u
   close_took kind ks k.At word good e =
@@ -302,7 +303,7 @@ module _ (nodes : List WrittenNode) (nm : WrittenSpan) (preds : List WrittenPred
   close_took kind ks k.Comma word good e = closed_took nodes nm kind preds ks (stage.Close kind ks) t k.Comma u good word refl e
   close_took kind ks k.Arrow word good e = closed_took nodes nm kind preds ks (stage.Close kind ks) t k.Arrow u good word refl e
   close_took kind ks k.Node word good e = closed_took nodes nm kind preds ks (stage.Close kind ks) t k.Node u good word refl e
-  close_took kind ks _ word good e = absurd (cc)
+  close_took kind ks _ word good e = absurd cc
 
   at_took : (kind : Option WrittenSpan) (ks : WrittenKeys) (k : Terminal) → Said k t.word → Good nodes preds (stage.At kind ks) → stage_step (turn nodes nm preds (stage.At kind ks)) t k (stage.At kind ks) ≡ Ok u → Took (history nodes nm preds (stage.At kind ks)) t u
   at_took kind ks k.Name word good e =
@@ -314,17 +315,17 @@ module _ (nodes : List WrittenNode) (nm : WrittenSpan) (preds : List WrittenPred
       (record { nodes_are = good.nodes_are; preds_are = preds_more preds q good.preds_are (has_source kind ks (span_of t) good.holds); holds = not_none preds q })
       (grow (plan_signs nodes) (before ++ (kind_signs kind ks ++ Any (w.Mark m.At) ∷ [])) (history nodes nm preds (stage.At kind ks)) (behind_preds nm (preds ++ q ∷ [])) sign
       (sym (append_assoc before (kind_signs kind ks ++ Any (w.Mark m.At) ∷ []) (sign ∷ []) ∙ pred_ends nm preds q ((kind_signs kind ks ++ Any (w.Mark m.At) ∷ []) ++ sign ∷ []) whole)) refl) e
-  at_took kind ks _ word good e = absurd (cc)
+  at_took kind ks _ word good e = absurd cc
 
   arrow_took : (k : Terminal) → Said k t.word → Good nodes preds stage.Arrow → stage_step (turn nodes nm preds stage.Arrow) t k stage.Arrow ≡ Ok u → Took (history nodes nm preds stage.Arrow) t u
   arrow_took k.Name word good e =
       opened stage.Arrow (stage.Left (span_of t)) (Spanned w.Name (span_of t)) (word, refl, refl) good tt (sym (append_assoc (behind_preds nm preds) (Any (w.Mark m.Arrow) ∷ []) (Spanned w.Name (span_of t) ∷ []))) e
-  arrow_took _ word good e = absurd (cc)
+  arrow_took _ word good e = absurd cc
 
   left_took : (left : WrittenSpan) (k : Terminal) → Said k t.word → Good nodes preds (stage.Left left) → stage_step (turn nodes nm preds (stage.Left left)) t k (stage.Left left) ≡ Ok u → Took (history nodes nm preds (stage.Left left)) t u
   left_took left k.Name word good e =
       opened (stage.Left left) (stage.Right left (span_of t)) (Spanned w.Name (span_of t)) (word, refl, refl) good tt (sym (append_assoc (behind_preds nm preds) (Any (w.Mark m.Arrow) ∷ name left) (Spanned w.Name (span_of t) ∷ []))) e
-  left_took left _ word good e = absurd (cc)
+  left_took left _ word good e = absurd cc
 
   right_took : (left right : WrittenSpan) (k : Terminal) → Said k t.word → Good nodes preds (stage.Right left right) → stage_step (turn nodes nm preds (stage.Right left right)) t k (stage.Right left right) ≡ Ok u → Took (history nodes nm preds (stage.Right left right)) t u
   unfolding node_with
@@ -332,7 +333,7 @@ module _ (nodes : List WrittenNode) (nm : WrittenSpan) (preds : List WrittenPred
       took (history nodes nm preds (stage.Right left right)) t u (with_node (turn nodes nm preds (stage.Right left right)) (Some (left, right))) (Any (w.Reserved r.Node)) word
       (record { nodes_are = nodes_more nodes (node_with nm preds (Some (left, right))) good.nodes_are good.preds_are; preds_are = tt; holds = refl })
       (ap (λ l. l ++ Any (w.Reserved r.Node) ∷ []) (node_ends nodes nm preds (Some (left, right)) (open_signs nm preds (stage.Right left right)) (append_assoc (head nm) (all_preds preds) (kids_signs (Some (left, right)))))) e
-  right_took left right _ word good e = absurd (cc)
+  right_took left right _ word good e = absurd cc
 
   source_took : (k : Terminal) → Said k t.word → Good nodes preds stage.Source → stage_step (turn nodes nm preds stage.Source) t k stage.Source ≡ Ok u → Took (history nodes nm preds stage.Source) t u
   source_took k word good e = end_took (history nodes nm preds stage.Source) nodes nm preds stage.Source t k u good.nodes_are good.preds_are word refl good.holds e
@@ -389,8 +390,8 @@ record Ends (signs : List Sign) (all : List WrittenNode) : Type 0 where
   is : plan_signs all ≡ signs
 
 node_some : (nodes : List WrittenNode) (n : WrittenNode) → nodes ++ n ∷ [] ≢ []
-node_some [] n e = absurd (cc)
-node_some (p ∷ nodes) n e = absurd (cc)
+node_some [] n e = absurd cc
+node_some (p ∷ nodes) n e = absurd cc
 
 ends_with : (nodes : List WrittenNode) (nm : WrittenSpan) (preds : List WrittenPred) (kids : Option (WrittenSpan × WrittenSpan)) (signs : List Sign) (all : List WrittenNode) → AreNodes nodes → ArePreds preds → signs ≡ head nm ++ (all_preds preds ++ kids_signs kids)
     → (let r : Found (List WrittenNode) = Ok (nodes ++ node_with nm preds kids ∷ []) in let v : Found (List WrittenNode) = Ok all in r ≡ v) → Ends (plan_signs nodes ++ signs) all
@@ -419,7 +420,7 @@ stage_ends end nodes nm preds (stage.Close kind ks) all good e =
 stage_ends end nodes nm preds stage.Source all good e = ends_with nodes nm preds None (behind_preds nm preds) all good.nodes_are good.preds_are (preds_end nm preds) e
 stage_ends end nodes nm preds (stage.Right left right) all good e =
     ends_with nodes nm preds (Some (left, right)) (open_signs nm preds (stage.Right left right)) all good.nodes_are good.preds_are (append_assoc (head nm) (all_preds preds) (kids_signs (Some (left, right)))) e
-stage_ends end nodes nm preds _ all good e = absurd (cc)
+stage_ends end nodes nm preds _ all good e = absurd cc
 
 pub read_end : (end : ℕ) (u : Turn) (front : List Token) (all : List WrittenNode) → Read u front → ended end u ≡ Ok all → ArePlan front all
 unfolding ended history_of

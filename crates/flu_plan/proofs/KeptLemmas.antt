@@ -26,17 +26,18 @@ use Rattle.flu_plan.specs.declared.drafts.DraftPred.{DraftPred}
 use Rattle.flu_plan.specs.declared.drafts.DraftNode.{DraftNode}
 use Rattle.flu_plan.specs.declared.drafts.Visit.{Visit}
 use Rattle.flu_plan.specs.Faults.{Found, ◌>>=◌, ◌>>◌, unless, each}
-use Rattle.flu_parse.specs.Spelling.{name_of, value_of}
+use Rattle.flu_layout.specs.Spelling.{name_of, written_value}
 use Rattle.flu_plan.specs.Shape.{name_at, name_of_node, visit, preorder, children_of, all_below}
 use Rattle.flu_plan.specs.Limits.{small_key, small_keys, keys_of_pred, keys_of_node, keys_of_nodes, predicates, within_limits}
-use Rattle.flu_plan.specs.Planning.{planned_pred, planned_keys, planned_node, planned_found, planned_at, planned}
+use Rattle.flu_plan.specs.Numbering.{planned_pred, planned_keys, planned_node, planned_found, planned_at, planned}
 use Rattle.flu_plan.specs.Machine.{Turn, start, pred, with_pred, with_node, step, whole, stage_end, ended, written_in}
 use Rattle.flu_plan.specs.Resolving.{names_of, node_of, nodes_of}
 use Rattle.flu_plan.specs.Reading.{text_in, tokens_in, tree_in, resolved, plan_in}
 use Rattle.flu_plan.specs.Kept.{KeepsRules}
-use Rattle.flu_plan.proofs.Finds.{bind_ok, then_ok, ok_same, collected, pairs_length}
+use Rattle.flu_plan.proofs.Finds.{ok_same, collected, pairs_length}
+use Rattle.flu_lemmas.proofs.Loops.{bind_ok, then_ok, each-got, both_pass}
 use Rattle.flu_plan.proofs.Distinct.{In, Distinct, in_head, in_tail, distinct_head, distinct_tail, distinct_map, are_distinct-from, sum_below}
-use Rattle.flu_plan.proofs.LimitLemmas.{Within, within, passed, each-got}
+use Rattle.flu_plan.proofs.LimitLemmas.{Within, within, passed}
 use Rattle.flu_plan.proofs.ShapeLemmas.{preorder-few}
 use Rattle.flu_plan.proofs.Resolved.{Known, nodes_known, name_drafted, children_differ, unless_ok, bytes_is}
 use Rattle.flu_plan.proofs.Spreads.{Spread, spread-start}
@@ -49,21 +50,17 @@ key_small b n e = unless_ok b (f.OverLimit Key n) tt e
 
 small_planned : (ks : WrittenKeys) → small_keys ks ≡ Ok tt → are_small_keys (planned_keys ks) ≡ true
 small_planned keys.Alone e = refl
-small_planned (keys.One n) e = key_small (nat_lt (value_of n.value) key_count) (value_of n.value) e
+small_planned (keys.One n) e = key_small (nat_lt (written_value n.value) key_count) (written_value n.value) e
 small_planned (keys.Range low high) e =
-    let both_pass = passed (nat_lt (value_of low.value) key_count) (f.OverLimit Key (value_of low.value)) (small_key high) e in
-    both (nat_lt (value_of low.value) key_count) (nat_lt (value_of high.value) key_count) both_pass.0 (key_small (nat_lt (value_of high.value) key_count) (value_of high.value) both_pass.1)
+    let two = passed (nat_lt (written_value low.value) key_count) (f.OverLimit Key (written_value low.value)) (small_key high) e in
+    both (nat_lt (written_value low.value) key_count) (nat_lt (written_value high.value) key_count) two.0 (key_small (nat_lt (written_value high.value) key_count) (written_value high.value) two.1)
 
 preds_small : (preds : List DraftPred) → each keys_of_pred tt preds ≡ Ok tt → list_all (λ (q : Pred). are_small_keys q.keys) (map planned_pred preds) ≡ true
 unfolding each
 preds_small [] e = refl
 preds_small (q ∷ preds) e =
-    let first = each-split (small_keys q.keys) (λ t. each keys_of_pred t preds) e in
+    let first = both_pass (small_keys q.keys) (λ t. each keys_of_pred t preds) e in
     both (are_small_keys (planned_keys q.keys)) (list_all (λ (q : Pred). are_small_keys q.keys) (map planned_pred preds)) (small_planned q.keys first.0) (preds_small preds first.1)
-  where
-    each-split : (r : Found (Unit {0})) (rest : Unit {0} → Found (Unit {0})) → (r >>= rest) ≡ Ok tt → (r ≡ Ok tt) × (rest tt ≡ Ok tt)
-    each-split (Ok u) rest e = (refl, e)
-    each-split (Err fault) rest e = absurd (cc)
 
 abbrev node_small : Node → Bool
 node_small node = list_all (λ (q : Pred). are_small_keys q.keys) node.preds
@@ -202,7 +199,7 @@ stage_some end u (stage.Kind kind) ws e = whole_some (with_pred u (pred (Some ki
 stage_some end u (stage.Close kind ks) ws e = whole_some (with_pred u (pred (Some kind) ks None)) None ws e
 stage_some end u stage.Source ws e = whole_some u None ws e
 stage_some end u (stage.Right left right) ws e = whole_some u (Some (left, right)) ws e
-stage_some end u _ ws e = absurd (cc)
+stage_some end u _ ws e = absurd cc
 
 -- a text that is read has a node
 written_some : (end : ℕ) (ts : List Token) (ws : List WrittenNode) → written_in end ts ≡ Ok ws → 0 < length ws

@@ -9,20 +9,20 @@ use Rattle.flu_lemmas.proofs.Searches.{eq_true}
 use Rattle.flu_model.specs.declared.limits.What.TheVariants.{Nodes, Predicates, Depth}
 use Rattle.flu_model.specs.declared.plans.Node.{Node}
 use Rattle.flu_model.specs.PlanRules.{with_kids, are_subtrees, is_tree, with_depths, depths_below, depths, count_of_predicates}
-use Rattle.flu_parse.proofs.PrintedItems.{Pairs as Zip}
+use Rattle.flu_lemmas.specs.Items.{Pairs as Zip}
 use Rattle.flu_plan.specs.declared.fault.PlanFault.TheVariants as f
 use Rattle.flu_plan.specs.declared.drafts.DraftNode.{DraftNode}
 use Rattle.flu_plan.specs.declared.drafts.Visit.{Visit}
 use Rattle.flu_plan.specs.Faults.{◌>>=◌, ◌>>◌, unless, each}
 use Rattle.flu_plan.specs.Shape.{name_at, with_child, with_kids as note_kids, with_kids_of, kids_at, visit, with_visits, walk, preorder, is_met, below, all_below}
 use Rattle.flu_plan.specs.Limits.{keys_of_node, keys_of_nodes, predicates, are_shallow, within_limits}
-use Rattle.flu_plan.specs.Planning.{planned_pred, planned_kids, planned_node, planned_found, planned_at, planned, number_of}
+use Rattle.flu_plan.specs.Numbering.{planned_pred, planned_kids, planned_node, planned_found, planned_at, planned, number_of}
 use Rattle.flu_plan.specs.Reading.{tree_in}
 use Rattle.flu_plan.specs.Kept.{KeepsRules}
 use Rattle.flu_plan.proofs.Distinct.{In, Distinct, in_nil, in_head, in_tail, in_cases, in_left, in_right, in_middle, distinct_none, distinct_cons, distinct_head, distinct_tail, distinct_middle, distinct_apart, found_in}
-use Rattle.flu_plan.proofs.ShapeLemmas.{below-met}
+use Rattle.flu_plan.proofs.ShapeLemmas.{below-met, walk-zero, walk-one}
 use Rattle.flu_plan.proofs.Resolved.{kid_list, children}
-use Rattle.flu_plan.proofs.Trees.{ids, walk-zero, walk-one}
+use Rattle.flu_plan.proofs.Trees.{ids}
 use Rattle.flu_plan.proofs.PlanRead.{DraftIs}
 
 -- ---- the children of a tree
@@ -72,8 +72,8 @@ grows_more w wanted (Some kids) n rest e g =
 
 grows : (w : ℕ) (wanted : List ℕ) (rest : List Node) → are_subtrees w wanted rest ≡ true → Grows w wanted rest
 grows w [] [] e = record { distinct = distinct_none ℕ; low = λ v i. absurd (in_nil v i); high = λ v i. absurd (in_nil v i) }
-grows w [] (n ∷ rest) e = absurd (cc)
-grows w (v ∷ wanted) [] e = absurd (cc)
+grows w [] (n ∷ rest) e = absurd cc
+grows w (v ∷ wanted) [] e = absurd cc
 grows w (v ∷ wanted) (n ∷ rest) e =
     let here : v ≡ w = true_eq v w (and_left (v == w) (are_subtrees (w + 1) (with_kids n.kids wanted) rest) e) in
     let more = grows (w + 1) (with_kids n.kids wanted) rest (and_right (v == w) (are_subtrees (w + 1) (with_kids n.kids wanted) rest) e) in
@@ -103,9 +103,9 @@ kids_of_found (Some n) = n.kids
 
 walk_numbers : (drafts : List DraftNode) (rest : List Node) (w : ℕ) (wanted : List Visit) → ((j : ℕ) → kids_at drafts (w + j) ≡ kids_of_found (slice_get rest j)) → are_subtrees w (ids wanted) rest ≡ true
     → walk drafts (length rest) wanted ≡ numbered w (depths_below (depths_of wanted) rest)
-walk_numbers drafts [] w [] same e = walk-zero drafts []
-walk_numbers drafts [] w (x ∷ wanted) same e = absurd (cc)
-walk_numbers drafts (n ∷ rest) w [] same e = absurd (cc)
+walk_numbers drafts [] w [] same e = walk-zero drafts 0 [] refl
+walk_numbers drafts [] w (x ∷ wanted) same e = absurd cc
+walk_numbers drafts (n ∷ rest) w [] same e = absurd cc
 walk_numbers drafts (n ∷ rest) w (x ∷ wanted) same e =
     let more : Bool = are_subtrees (w + 1) (with_kids n.kids (ids wanted)) rest in
     let here : x.node ≡ w = true_eq x.node w (and_left (x.node == w) more e) in
@@ -113,7 +113,7 @@ walk_numbers drafts (n ∷ rest) w (x ∷ wanted) same e =
     let kids : kids_at drafts x.node ≡ n.kids = ap (kids_at drafts) (here ∙ at) ∙ same 0 in
     let next = with_visits x.depth n.kids wanted in
     let later : (j : ℕ) → kids_at drafts (w + 1 + j) ≡ kids_of_found (slice_get rest j) = λ j. (let moved : w + 1 + j ≡ w + suc j = omega arith in ap (kids_at drafts) moved ∙ same (suc j)) in
-    walk-one drafts (length rest) x wanted
+    walk-one drafts (suc (length rest)) (length rest) wanted x refl
     ∙ ap (λ k. x ∷ walk drafts (length rest) (with_visits x.depth k wanted)) kids
     ∙ ap (λ l. x ∷ l) (walk_numbers drafts rest (w + 1) next later (ap (λ l. are_subtrees (w + 1) l rest) (visits_kids x.depth n.kids wanted) ∙ and_right (x.node == w) more e))
     ∙ ap (λ l. x ∷ numbered (w + 1) (depths_below l rest)) (visits_depths x.depth n.kids wanted)
@@ -121,10 +121,10 @@ walk_numbers drafts (n ∷ rest) w (x ∷ wanted) same e =
 
 depths_count : (w : ℕ) (wanted ds : List ℕ) (rest : List Node) → are_subtrees w wanted rest ≡ true → length ds ≡ length wanted → length (depths_below ds rest) ≡ length rest
 depths_count w [] [] [] e same = refl
-depths_count w [] [] (n ∷ rest) e same = absurd (cc)
+depths_count w [] [] (n ∷ rest) e same = absurd cc
 depths_count w [] (d ∷ ds) rest e same = absurd (omega arith)
 depths_count w (v ∷ wanted) [] rest e same = absurd (omega arith)
-depths_count w (v ∷ wanted) (d ∷ ds) [] e same = absurd (cc)
+depths_count w (v ∷ wanted) (d ∷ ds) [] e same = absurd cc
 depths_count w (v ∷ wanted) (d ∷ ds) (n ∷ rest) e same =
     let more = depths_count (w + 1) (with_kids n.kids wanted) (with_depths d n.kids ds) rest (and_right (v == w) (are_subtrees (w + 1) (with_kids n.kids wanted) rest) e) (alike n.kids) in
     omega arith
@@ -249,7 +249,7 @@ module _ (text : List ℕ) where
     is : DraftIs text n draft
 
   draft_at : (nodes : List Node) (drafts : List DraftNode) (j : ℕ) (n : Node) → Zip (DraftIs text) nodes drafts → slice_get nodes j ≡ Some n → DraftAt drafts n j
-  draft_at [] drafts j n h here = absurd (cc)
+  draft_at [] drafts j n h here = absurd cc
   draft_at (m ∷ nodes) [] j n h here = absurd h
   draft_at (m ∷ nodes) (d ∷ drafts) zero n h here = let same : m ≡ n = cc in record { draft = d; here = refl; is = subst (λ (x : Node). DraftIs text x d) same h.0 }
   draft_at (m ∷ nodes) (d ∷ drafts) (suc j) n h here = let more = draft_at nodes drafts j n h.1 here in record { draft = more.draft; here = more.here; is = more.is }

@@ -14,19 +14,20 @@ use Rattle.flu_plan.specs.declared.fault.PlanFault.TheVariants as f
 use Rattle.flu_plan.specs.declared.written.WrittenNode.{WrittenNode}
 use Rattle.flu_plan.specs.declared.drafts.DraftNode.{DraftNode}
 use Rattle.flu_plan.specs.Faults.{◌>>=◌, unless, each, found_of_each}
-use Rattle.flu_parse.specs.Spelling.{name_of}
+use Rattle.flu_layout.specs.Spelling.{name_of}
 use Rattle.flu_plan.specs.Resolving.{with_name, names_of, known, kid_of, kids_of, node_of, nodes_of, pred_of}
 use Rattle.flu_plan.specs.Shape.{name_at, with_child, with_kids, with_kids_of, children_of, kids_at}
-use Rattle.flu_plan.proofs.Finds.{ok_same, bind_ok, then_ok, Pairs, collected, pairs_length}
+use Rattle.flu_plan.proofs.Finds.{ok_same, Pairs, collected, pairs_length}
+use Rattle.flu_lemmas.proofs.Loops.{bind_ok, then_ok}
 use Rattle.flu_plan.proofs.Distinct.{In, Distinct, in_nil, in_found, distinct_none, distinct_cons, distinct_last}
 
 -- a look that passes
 pub unless_ok : (b : Bool) (fault : PlanFault) (u : Unit {0}) → unless b fault ≡ Ok u → b ≡ true
 unless_ok true fault u e = refl
-unless_ok false fault u e = absurd (cc)
+unless_ok false fault u e = absurd cc
 
 not_found : (b : Bool) → not b ≡ true → b ≡ false
-not_found true e = absurd (cc)
+not_found true e = absurd cc
 not_found false e = refl
 
 -- an element that no test finds is not there
@@ -74,7 +75,7 @@ KidsBelow n None = Unit {0}
 KidsBelow n (Some kids) = (kids.0 < n) × (kids.1 < n)
 
 pub known_ok : (at : ℕ) (o : Option ℕ) (v : ℕ) → known at o ≡ Ok v → o ≡ Some v
-known_ok at None v e = absurd (cc)
+known_ok at None v e = absurd cc
 known_ok at (Some n) v e = ap (λ (x : ℕ). Some x) (ok_same n v e)
 
 kid_below : (text : List ℕ) (names : List (List ℕ)) (s : WrittenSpan) (v : ℕ) → kid_of text names s ≡ Ok v → v < length names

@@ -11,16 +11,9 @@ use Rattle.flu_plan.specs.declared.drafts.Visit.{Visit}
 use Rattle.flu_plan.specs.declared.fault.PlanFault.{PlanFault}
 use Rattle.flu_plan.specs.declared.fault.PlanFault.TheVariants as f
 use Rattle.flu_plan.specs.Faults.{◌>>◌, unless}
-use Rattle.flu_parse.specs.Spelling.{name_of}
+use Rattle.flu_layout.specs.Spelling.{name_of}
 use Rattle.flu_plan.specs.Shape.{kids_at, visit, with_visits, walk, preorder, is_met, below}
-
-or_assoc : (a b c : Bool) → ((a || b) || c) ≡ (a || (b || c))
-or_assoc true b c = refl
-or_assoc false b c = refl
-
-or_false : (a : Bool) → (a || false) ≡ a
-or_false true = refl
-or_false false = refl
+use Rattle.flu_lemmas.proofs.Booleans.{or_assoc, or_false}
 
 or_last : (p : ℕ → Bool) (ks : List ℕ) (k : ℕ) → list_any p (ks ++ k ∷ []) ≡ (list_any p ks || p k)
 or_last p [] k = or_false (p k)
@@ -96,7 +89,7 @@ walked-start nodes order wanted none first =
 pub walked-depth : (nodes : List DraftNode) (order wanted : List Visit) (x : Visit) → Walked nodes order (x ∷ wanted) → x.depth ≤ length order
 walked-depth nodes order wanted x so_far = true_le x.depth (length order) (and_left (nat_le x.depth (length order)) (are_within (length order) wanted) so_far.shallow)
 
-walk-one : (nodes : List DraftNode) (m k : ℕ) (wanted : List Visit) (x : Visit) → m ≡ suc k → walk nodes m (x ∷ wanted) ≡ x ∷ walk nodes k (with_visits x.depth (kids_at nodes x.node) wanted)
+pub walk-one : (nodes : List DraftNode) (m k : ℕ) (wanted : List Visit) (x : Visit) → m ≡ suc k → walk nodes m (x ∷ wanted) ≡ x ∷ walk nodes k (with_visits x.depth (kids_at nodes x.node) wanted)
 unfolding walk
 walk-one nodes m k wanted x e = ap (λ n. walk nodes n (x ∷ wanted)) e
 
@@ -114,11 +107,11 @@ walked-next nodes order wanted x lt so_far =
           ∙ within_kids (length order) x.depth (kids_at nodes x.node) wanted (walked-depth nodes order wanted x so_far) (within_more (length order) wanted (and_right (nat_le x.depth (length order)) (are_within (length order) wanted) so_far.shallow));
     }
 
-walk-zero : (nodes : List DraftNode) (n : ℕ) (wanted : List Visit) → n ≡ 0 → walk nodes n wanted ≡ []
+pub walk-zero : (nodes : List DraftNode) (n : ℕ) (wanted : List Visit) → n ≡ 0 → walk nodes n wanted ≡ []
 unfolding walk
 walk-zero nodes n wanted e = ap (λ m. walk nodes m wanted) e
 
-walk-none : (nodes : List DraftNode) (n : ℕ) → walk nodes n [] ≡ []
+pub walk-none : (nodes : List DraftNode) (n : ℕ) → walk nodes n [] ≡ []
 unfolding walk
 walk-none nodes zero = refl
 walk-none nodes (suc n) = refl

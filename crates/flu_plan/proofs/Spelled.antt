@@ -231,7 +231,7 @@ kinds_read end u tokens nodes nm kind (keys.Range low high) source preds more wa
 
 pred_read : (end : ℕ) (u : Turn) (tokens : List Token) (nodes : List WrittenNode) (nm : WrittenSpan) (kind : Option WrittenSpan) (ks : WrittenKeys) (source : Option WrittenSpan) (preds : List WrittenPred) (more : List Sign)
     → Wants u nodes nm preds → HasPart kind ks source → AreSigns (pred_signs (pred kind ks source) ++ more) tokens → PredRead end u tokens nodes nm (preds ++ pred kind ks source ∷ []) more
-pred_read end u tokens nodes nm None ks None preds more wants part h = let none : false ≡ true = part.1 in absurd (cc)
+pred_read end u tokens nodes nm None ks None preds more wants part h = let none : false ≡ true = part.1 in absurd cc
 pred_read end u tokens nodes nm None ks (Some source) preds more wants part h =
     subst (λ (x : WrittenKeys). PredRead end u tokens nodes nm (preds ++ pred None x (Some source) ∷ []) more) (sym part.0) (source_read end u tokens nodes nm source None keys.Alone preds more h wants.source)
 pred_read end u tokens nodes nm (Some kind) ks source preds more wants part h =

@@ -14,9 +14,9 @@ use Rattle.flu_syntax.specs.declared.tree.WrittenNumber.{WrittenNumber}
 use Rattle.flu_syntax.specs.declared.tree.WrittenKey.{WrittenKey}
 use Rattle.flu_syntax.specs.declared.tree.WrittenKey.TheVariants as key
 use Rattle.flu_syntax.specs.declared.tree.WrittenRef.{WrittenRef}
-use Rattle.flu_syntax.specs.Tree.{Tree, NumberTree, ValueTree, KeyTree, TimeTree, ReadTree, HasTree, ParenTree, NegTree, NotTree, TwoTree, Job}
-use Rattle.flu_syntax.specs.Machine.{cell_of, Context, Frame, NegFrame, NotFrame, ParenFrame, RightFrame, Want, Have, Done, Aim, ToRead, ToTest, Now, CellFamily, CellKeys, CellKey, CellClose, InExpression, Goes, start_of, done_step, expression_step, operator_of, op_level, level_behind, is_within, opens, named, step, run}
-use Rattle.flu_syntax.specs.Grammar.{Sign, Any, At, Spanned, IsSign, AreSigns, op_word, key_signs, cell_signs, spelled, left_level, Fits, nest}
+use Rattle.flu_syntax.specs.Tree.{Tree, NumberTree, ValueTree, KeyTree, TimeTree, ReadTree, HasTree, ParenTree, NegTree, NotTree, TwoTree, Declarations}
+use Rattle.flu_syntax.specs.Machine.{cell_of, Context, Frame, NegFrame, NotFrame, ParenFrame, RightFrame, Want, Have, Done, Aim, ToRead, ToTest, Now, CellFamily, CellKeys, CellKey, CellClose, InExpression, Goes, start_of, done_step, expression_step, operator_of, level_behind, is_within, opens, named, step, run}
+use Rattle.flu_syntax.specs.Grammar.{op_level, Sign, Any, At, Spanned, IsSign, AreSigns, op_word, key_signs, cell_signs, spelled, left_level, Fits, nest}
 use Rattle.flu_syntax.specs.Reading.{NotFirst}
 use Rattle.flu_syntax.proofs.Runs.{run-takes, run-neg, run-not, run-right, pass_end, pass_word, pass_level, opens-one, opens-same, not_starts, opens_more}
 use Rattle.flu_syntax.proofs.Parts.{run-passed, cell_alone}
@@ -34,14 +34,14 @@ sign_word (At word from) t h = h.0
 sign_word (Spanned word span) t h = h.0
 
 -- tokens that lead on to others, which are these signs
-abbrev pub LeadsTo : ℕ → Job → Now → List Token → Job → Now → List Sign → Type 0
+abbrev pub LeadsTo : ℕ → Declarations → Now → List Token → Declarations → Now → List Sign → Type 0
 LeadsTo end job now tokens next other more = (rest : List Token) × AreSigns more rest × (run end job now tokens ≡ run end next other rest)
 
-pub takes_sign : (end : ℕ) (job : Job) (now next : Now) (tokens : List Token) (s : Sign) (more : List Sign) → AreSigns (s ∷ more) tokens → ((t : Token) → IsSign s t → step now t ≡ Goes next) → LeadsTo end job now tokens job next more
+pub takes_sign : (end : ℕ) (job : Declarations) (now next : Now) (tokens : List Token) (s : Sign) (more : List Sign) → AreSigns (s ∷ more) tokens → ((t : Token) → IsSign s t → step now t ≡ Goes next) → LeadsTo end job now tokens job next more
 takes_sign end job now next [] s more h takes = absurd h
 takes_sign end job now next (t ∷ rest) s more h takes = (rest, h.1, run-takes end job now next t rest (takes t h.0))
 
-pub on_to : (end : ℕ) (job next last : Job) (now other final : Now) (tokens : List Token) (middle more : List Sign) (a : LeadsTo end job now tokens next other middle) → LeadsTo end next other a.0 last final more → LeadsTo end job now tokens last final more
+pub on_to : (end : ℕ) (job next last : Declarations) (now other final : Now) (tokens : List Token) (middle more : List Sign) (a : LeadsTo end job now tokens next other middle) → LeadsTo end next other a.0 last final more → LeadsTo end job now tokens last final more
 on_to end job next last now other final tokens middle more a b = (b.0, b.1, a.2 ∙ b.2)
 
 -- the sign behind a part: no bracket opens, and no operator above a level stands there
@@ -101,7 +101,7 @@ family_step : (aim : Aim) (family : WrittenSpan) (t : Token) → IsSign (Spanned
 unfolding step
 family_step aim family t h = rw (h.0, h.1, h.2) refl
 
-pub accepts_key : (end : ℕ) (job : Job) (aim : Aim) (family : WrittenSpan) (k : WrittenKey) (tokens : List Token) (more : List Sign) → AreSigns (key_signs k ++ more) tokens → NoBracket more
+pub accepts_key : (end : ℕ) (job : Declarations) (aim : Aim) (family : WrittenSpan) (k : WrittenKey) (tokens : List Token) (more : List Sign) → AreSigns (key_signs k ++ more) tokens → NoBracket more
     → LeadsTo end job (CellKeys aim family) tokens job (named aim (cell_of family k)) more
 accepts_key end job aim family key.Alone tokens more h free = (tokens, h, run-passed end job tokens (cell_alone aim family) (not_first _ tokens more h (bracket_word more free)))
 accepts_key end job aim family (key.OwnKey at) tokens more h free =
@@ -115,7 +115,7 @@ accepts_key end job aim family (key.Fixed n) tokens more h free =
     let c = takes_sign end job (CellClose aim (cell_of family (key.Fixed n))) (named aim (cell_of family (key.Fixed n))) b.0 (Any (w.Mark m.CloseBracket)) more b.1 (close_step aim (cell_of family (key.Fixed n))) in
     (c.0, c.1, a.2 ∙ b.2 ∙ c.2)
 
-pub accepts_cell : (end : ℕ) (job : Job) (aim : Aim) (cell : WrittenRef) (tokens : List Token) (more : List Sign) → AreSigns (cell_signs cell ++ more) tokens → NoBracket more → LeadsTo end job (CellFamily aim) tokens job (named aim cell) more
+pub accepts_cell : (end : ℕ) (job : Declarations) (aim : Aim) (cell : WrittenRef) (tokens : List Token) (more : List Sign) → AreSigns (cell_signs cell ++ more) tokens → NoBracket more → LeadsTo end job (CellFamily aim) tokens job (named aim cell) more
 accepts_cell end job aim cell tokens more h free =
     let a = takes_sign end job (CellFamily aim) (CellKeys aim cell.family) tokens (Spanned w.Name cell.family) (key_signs cell.key ++ more) h (family_step aim cell.family) in
     let b = accepts_key end job aim cell.family cell.key a.0 more a.1 free in
@@ -256,13 +256,13 @@ not_within low level high n le lt = grind (arith, nat_tests)
 pub within : (low level high : ℕ) → low ≤ level → level ≤ high → is_within low level high ≡ true
 within low level high le below = grind (arith, nat_tests)
 
-not_taken : (end low high n : ℕ) (job : Job) (context : Context) (t : Tree) (frames : List Frame) (x : Token) (rest : List Token) → n < low → (o : Option Op) → o ≡ operator_of x.word → IfSome o (λ o. op_level o ≤ n)
+not_taken : (end low high n : ℕ) (job : Declarations) (context : Context) (t : Tree) (frames : List Frame) (x : Token) (rest : List Token) → n < low → (o : Option Op) → o ≡ operator_of x.word → IfSome o (λ o. op_level o ≤ n)
     → run end job (InExpression context (Have low high t) frames) (x ∷ rest) ≡ run end job (InExpression context (Done t) frames) (x ∷ rest)
 not_taken end low high n job context t frames x rest lt None e h = pass_word low high end job context t frames x (x ∷ rest) rest refl e
 not_taken end low high n job context t frames x rest lt (Some o) e h = pass_level low high end job context t frames x (x ∷ rest) rest o refl e (not_within low (op_level o) high n h lt)
 
 -- operators below a level do not take it
-pub passes_low : (end low high n : ℕ) (job : Job) (context : Context) (t : Tree) (frames : List Frame) (rest : List Token) (more : List Sign) → AreSigns more rest → n < low → Follows n more
+pub passes_low : (end low high n : ℕ) (job : Declarations) (context : Context) (t : Tree) (frames : List Frame) (rest : List Token) (more : List Sign) → AreSigns more rest → n < low → Follows n more
     → run end job (InExpression context (Have low high t) frames) rest ≡ run end job (InExpression context (Done t) frames) rest
 passes_low end low high n job context t frames [] more e lt h = pass_end low high end job context t frames [] refl
 passes_low end low high n job context t frames (x ∷ rest) [] e lt h = absurd e
@@ -280,7 +280,7 @@ pub Quiet-follows : (n : ℕ) (more : List Sign) → Quiet more → Follows n mo
 Quiet-follows n [] h = tt
 Quiet-follows n (s ∷ more) h = (rw h.0 tt, h.1)
 
-pub passes_quiet : (end low high : ℕ) (job : Job) (context : Context) (t : Tree) (frames : List Frame) (rest : List Token) (more : List Sign) → AreSigns more rest → Quiet more
+pub passes_quiet : (end low high : ℕ) (job : Declarations) (context : Context) (t : Tree) (frames : List Frame) (rest : List Token) (more : List Sign) → AreSigns more rest → Quiet more
     → run end job (InExpression context (Have low high t) frames) rest ≡ run end job (InExpression context (Done t) frames) rest
 passes_quiet end low high job context t frames [] more e h = pass_end low high end job context t frames [] refl
 passes_quiet end low high job context t frames (x ∷ rest) [] e h = absurd e
@@ -349,7 +349,7 @@ abbrev have : Context → ℕ → Tree → List Frame → Now
 have context level t frames = InExpression context (Have level (high_of t) t) frames
 
 -- what is spelled as an expression is read as that expression
-pub accepts : (end : ℕ) (job : Job) (context : Context) (t : Tree) (level : ℕ) (frames : List Frame) (tokens : List Token) (more : List Sign) → level ≤ 6 → Fits level t → AreSigns (spelled t ++ more) tokens
+pub accepts : (end : ℕ) (job : Declarations) (context : Context) (t : Tree) (level : ℕ) (frames : List Frame) (tokens : List Token) (more : List Sign) → level ≤ 6 → Fits level t → AreSigns (spelled t ++ more) tokens
     → nest t + opens frames ≤ 64 → Follows (top t) more → LeadsTo end job (want context level frames) tokens job (have context level t frames) more
 accepts end job context (NumberTree n) level frames tokens more six fits e le h = takes_sign end job (want context level frames) (InExpression context (Have level 6 (NumberTree n)) frames) tokens (At (w.Number n.value) n.at) more e (number_step context level frames n)
 accepts end job context (ValueTree at) level frames tokens more six fits e le h = takes_sign end job (want context level frames) (InExpression context (Have level 6 (ValueTree at)) frames) tokens (At (w.Reserved r.Value) at) more e (value_step context level frames at)

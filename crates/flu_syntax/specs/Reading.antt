@@ -159,7 +159,7 @@ pub record Head : Type 0 where
 abbrev pub ReadsTags : {X : Type 0} → ℕ → List Token → (X → List WrittenTag) → (X → List Token) → Result X SyntaxFault → Type 0
 ReadsTags end tokens tags rest result =
     Reads Head end tokens (λ here. (here.before, TagKind (source_of here.name here.file here.rate here.slack)))
-        (λ x here. (here.before ++ Source here.name here.file here.rate here.slack (tags x) ∷ [], Start)) rest result
+    (λ x here. (here.before ++ Source here.name here.file here.rate here.slack (tags x) ∷ [], Start)) rest result
 
 abbrev pub ReadsRate : {X : Type 0} → ℕ → List Token → (X → Option WrittenNumber) → (X → List Token) → Result X SyntaxFault → Type 0
 ReadsRate end tokens rate rest result =
@@ -168,7 +168,7 @@ ReadsRate end tokens rate rest result =
 abbrev pub ReadsSlack : {X : Type 0} → ℕ → List Token → (X → Option WrittenNumber) → (X → List Token) → Result X SyntaxFault → Type 0
 ReadsSlack end tokens slack rest result =
     Reads (Declarations × WrittenSpan × WrittenSpan × Option WrittenNumber) end tokens (λ here. (here.0, SourceSlack here.1 here.2 here.3))
-        (λ x here. (here.0, SourceColon here.1 here.2 here.3 (slack x))) rest result
+    (λ x here. (here.0, SourceColon here.1 here.2 here.3 (slack x))) rest result
 
 -- a declaration, from this turn to its end
 abbrev pub ReadsDeclaration : {X : Type 0} → ℕ → Now → List Token → (X → Declaration) → (X → List Token) → Result X SyntaxFault → Type 0

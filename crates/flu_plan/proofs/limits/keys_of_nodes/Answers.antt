@@ -1,7 +1,8 @@
 use Rattle.std.proofs.Common.{◌∙◌, sym, arith}
 use Rattle.flu_plan.specs.Faults.{each}
 use Rattle.flu_plan.specs.Limits.{keys_of_node}
-use Rattle.flu_plan.proofs.FaultLemmas.{fails_through, each-next, each-fault, each-end}
+use Rattle.flu_plan.proofs.FaultLemmas.{fails_through}
+use Rattle.flu_lemmas.proofs.Loops.{each-next, each-fault, each-end}
 use Rattle.flu_plan.proofs.limits.keys_of_nodes.Goals as goal
 
 pub returns-in-Err : goal.returns-in-Err

@@ -1,6 +1,7 @@
 use Rattle.std.proofs.Common.{◌∙◌, map, sym, arith}
 use Rattle.flu_plan.specs.Resolving.{with_name, names_of}
-use Rattle.flu_plan.proofs.FaultLemmas.{fails_through, each-next, each-fault, each-end}
+use Rattle.flu_plan.proofs.FaultLemmas.{fails_through}
+use Rattle.flu_lemmas.proofs.Loops.{each-next, each-fault, each-end}
 use Rattle.flu_plan.proofs.resolving.names_of.Goals as goal
 
 pub returns-in-Err : goal.returns-in-Err

@@ -1,7 +1,8 @@
 use Rattle.std.proofs.Common.{◌≡◌, ◌∙◌, ◌++◌, ◌∷◌, [], map, sym, arith}
 use Rattle.std.proofs.lemmas.Grind.{common_steps}
 use Rattle.flu_plan.specs.Resolving.{node_of, nodes_of}
-use Rattle.flu_plan.proofs.FaultLemmas.{fails_through, each-next, each-fault, each-end, collect, collects, collect-fault}
+use Rattle.flu_plan.proofs.FaultLemmas.{fails_through}
+use Rattle.flu_lemmas.proofs.Loops.{each-next, each-fault, each-end, collect, collects, collect-fault}
 use Rattle.flu_plan.proofs.resolving.nodes_of.Goals as goal
 
 pub returns-in-Err : goal.returns-in-Err

@@ -1,7 +1,7 @@
 use Rattle.std.proofs.Common.{◌≡◌, map, drop}
 use Rattle.flu_plan.specs.Faults.{each}
 use Rattle.flu_plan.specs.Resolving.{node_of, nodes_of}
-use Rattle.flu_plan.proofs.FaultLemmas.{collect}
+use Rattle.flu_lemmas.proofs.Loops.{collect}
 use Rattle.flu_plan.proofs.resolving.nodes_of.Given as goal
 
 abbrev pub invariant-loop-node : goal.invariant-loop-node

@@ -2,7 +2,8 @@ use Rattle.std.proofs.Common.{◌≡◌, ◌∙◌, ◌++◌, ◌∷◌, [], Ok,
 use Rattle.std.proofs.lemmas.Grind.{common_steps}
 use Rattle.flu_plan.specs.Faults.{found_of_each}
 use Rattle.flu_plan.specs.Resolving.{pred_of}
-use Rattle.flu_plan.proofs.FaultLemmas.{fails_through, each-next-at, each-fault-at, each-end, collect, collects, collect-fault}
+use Rattle.flu_plan.proofs.FaultLemmas.{fails_through}
+use Rattle.flu_lemmas.proofs.Loops.{each-next-at, each-fault-at, each-end, collect, collects, collect-fault}
 use Rattle.flu_plan.proofs.resolving.preds_of.Goals as goal
 
 pub returns-in-Err : goal.returns-in-Err

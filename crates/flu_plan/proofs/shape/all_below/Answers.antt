@@ -2,7 +2,8 @@ use Rattle.std.proofs.Common.{◌≡◌, ◌∙◌, ◌+◌, true, length, Ok, s
 use Rattle.flu_plan.specs.declared.fault.PlanFault.TheVariants as f
 use Rattle.flu_plan.specs.Faults.{unless}
 use Rattle.flu_plan.specs.Shape.{is_met, below, all_below}
-use Rattle.flu_plan.proofs.FaultLemmas.{fails_through, each-next, each-fault, each-end}
+use Rattle.flu_plan.proofs.FaultLemmas.{fails_through}
+use Rattle.flu_lemmas.proofs.Loops.{each-next, each-fault, each-end}
 use Rattle.flu_plan.proofs.ShapeLemmas.{below-met, below-fault}
 use Rattle.flu_plan.proofs.shape.all_below.Goals as goal
 

@@ -1,6 +1,7 @@
 use Rattle.std.proofs.Common.{◌∙◌, sym, arith}
 use Rattle.flu_plan.specs.Shape.{with_kids, children_of}
-use Rattle.flu_plan.proofs.FaultLemmas.{fails_through, each-next, each-fault, each-end}
+use Rattle.flu_plan.proofs.FaultLemmas.{fails_through}
+use Rattle.flu_lemmas.proofs.Loops.{each-next, each-fault, each-end}
 use Rattle.flu_plan.proofs.shape.children_of.Goals as goal
 
 pub returns-in-Err : goal.returns-in-Err

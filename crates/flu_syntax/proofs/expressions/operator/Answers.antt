@@ -1,5 +1,6 @@
 use Rattle.std.proofs.Common.{◌≡◌, true, false, rules}
-use Rattle.flu_syntax.specs.Machine.{is_within, op_level}
+use Rattle.flu_syntax.specs.Machine.{is_within}
+use Rattle.flu_syntax.specs.Grammar.{op_level}
 use Rattle.flu_syntax.proofs.Runs.{pass_end, pass_word, pass_level, take_operator}
 use Rattle.flu_syntax.proofs.expressions.operator.Goals as goal
 
