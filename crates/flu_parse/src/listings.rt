@@ -16,7 +16,7 @@ use crate::drafts::TagList;
 use crate::faults::JobFault;
 use crate::names::Names;
 use crate::naming::kind_of;
-use crate::spelling::{inside, written_value};
+use flu_layout::{inside, written_value};
 use crate::terms::shape_at;
 use flu_model::{Keys, Source, TagRef, What};
 use flu_rules::tags_meet_by_their_ends;

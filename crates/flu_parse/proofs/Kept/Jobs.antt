@@ -14,6 +14,7 @@ use Rattle.flu_lemmas.specs.Totals.{total}
 use Rattle.flu_lemmas.proofs.Elements.{all_back, all_of_each, list_all_push}
 use Rattle.flu_lemmas.proofs.Tests.{and_left, and_right, both, le_true, lt_true}
 use Rattle.flu_lemmas.proofs.Searches.{list_any-map}
+use Rattle.flu_lemmas.proofs.Loops.{bind_ok, each-keeps, each-counts, each-lists}
 use Rattle.flu_model.specs.declared.limits.What.TheVariants.{Bytes}
 use Rattle.flu_model.specs.declared.jobs.Family.{Family}
 use Rattle.flu_model.specs.declared.jobs.Kind.{Kind}
@@ -26,7 +27,6 @@ use Rattle.flu_rules.specs.Kept.{KeepsRules}
 use Rattle.flu_rules.specs.Keys.{TagsMeet, TagsDiffer}
 use Rattle.flu_text.specs.declared.words.Token.{Token}
 use Rattle.flu_text.specs.Reading.{reading, Reading}
-use Rattle.flu_text.specs.Laws.{ReadingIsTokens, EachIsToken, EachIsSpan, EachIsInside, NamesAreTested}
 use Rattle.flu_syntax.specs.declared.tree.WrittenSpan.{WrittenSpan}
 use Rattle.flu_syntax.specs.declared.tree.WrittenNumber.{WrittenNumber}
 use Rattle.flu_syntax.specs.declared.tree.WrittenTag.{WrittenTag}
@@ -39,9 +39,11 @@ use Rattle.flu_syntax.specs.Machine.{Found as IsFound}
 use Rattle.flu_syntax.specs.Grammar.{IsDeclaration, AreDeclarations}
 use Rattle.flu_syntax.specs.Laws.{FoundIsJob, WordsStand}
 use Rattle.flu_syntax.specs.Words.{Stands, action_words, number_words, declaration_words}
+use Rattle.flu_layout.specs.Spelling.{name_of, written_value}
+use Rattle.flu_layout.specs.Stands.{AreRead}
+use Rattle.flu_layout.specs.Laws.{ReadMayBePrinted}
 use Rattle.flu_parse.specs.declared.faults.JobFault.TheVariants as f
 use Rattle.flu_parse.specs.declared.names.KindHead.{KindHead}
-use Rattle.flu_parse.specs.Spelling.{name_of, written_value}
 use Rattle.flu_parse.specs.Naming.{Naming, naming_of, look_up, known}
 use Rattle.flu_parse.specs.Actions.{resolved_actions}
 use Rattle.flu_parse.specs.Listings.{Listed, tags_of, rate_of, slack_of, file_of}
@@ -49,8 +51,7 @@ use Rattle.flu_parse.specs.Resolving.{Drafted, same_of, with_depend, with_action
 use Rattle.flu_parse.specs.Reading.{text_in, found_tokens, tokens_in, found_job, written_in, job_in}
 use Rattle.flu_parse.specs.Laws.{JobsKeepRules}
 use Rattle.flu_parse.proofs.Distinct.{distinct_with}
-use Rattle.flu_parse.proofs.Looks.{bound, passed, each-keeps, each-counts, each-lists}
-use Rattle.flu_parse.proofs.Kept.Words.{AreRead, name_stands, text_stands}
+use Rattle.flu_parse.proofs.Looks.{passed}
 use Rattle.flu_parse.proofs.Kept.Plain.{plain_action_fits, plain_kind_fits, kinds-plain, keyed_at, ties_kinds, is_source, keyed_kinds, depends-plain, sources-plain}
 use Rattle.flu_parse.proofs.Kept.Names.{NamesKeep, kind_number, at_number, names_in, depends_in, sources_in, naming_counts, naming_lists, names_kept}
 use Rattle.flu_parse.proofs.Kept.Terms.{was_known, families_of}
@@ -124,9 +125,9 @@ module _ (text : List ℕ) (n : Naming) where
       × (record d { depends = d.depends ++ record { a = first.number; b = second.number; same = same } ∷ [] } ≡ next)
   unfolding with_depend
   added_depend d a b relation next e =
-      let one = bound (known a.from (look_up (name_of text a) n.kinds)) _ next e in
-      let two = bound (known b.from (look_up (name_of text b) n.kinds)) _ next one.2 in
-      let three = bound (same_of relation one.0 two.0) (λ same. Ok (record d { depends = d.depends ++ record { a = one.0.number; b = two.0.number; same = same } ∷ [] })) next two.2 in
+      let one = bind_ok (known a.from (look_up (name_of text a) n.kinds)) _ next e in
+      let two = bind_ok (known b.from (look_up (name_of text b) n.kinds)) _ next one.2 in
+      let three = bind_ok (same_of relation one.0 two.0) (λ same. Ok (record d { depends = d.depends ++ record { a = one.0.number; b = two.0.number; same = same } ∷ [] })) next two.2 in
       (one.0, two.0, three.0, was_known a.from (look_up (name_of text a) n.kinds) one.0 one.1, was_known b.from (look_up (name_of text b) n.kinds) two.0 two.1, three.1, cc)
 
   added_actions : (d : Drafted) (s : WrittenSpan) (actions : List Action) (next : Drafted) → with_on text n d s actions ≡ Ok next
@@ -134,9 +135,9 @@ module _ (text : List ℕ) (n : Naming) where
       × (record d { kinds = with_actions d.kinds kind.number done; given = d.given ++ kind.number ∷ [] } ≡ next)
   unfolding with_on
   added_actions d s actions next e =
-      let one = bound (known s.from (look_up (name_of text s) n.kinds)) _ next e in
+      let one = bind_ok (known s.from (look_up (name_of text s) n.kinds)) _ next e in
       let two = passed (not (list_any (λ g. g == one.0.number) d.given)) (f.TwiceNamed s.from) _ next one.2 in
-      let three = bound (resolved_actions text n one.0 actions) (λ done. Ok (record d { kinds = with_actions d.kinds one.0.number done; given = d.given ++ one.0.number ∷ [] })) next two.1 in
+      let three = bind_ok (resolved_actions text n one.0 actions) (λ done. Ok (record d { kinds = with_actions d.kinds one.0.number done; given = d.given ++ one.0.number ∷ [] })) next two.1 in
       (one.0, three.0, was_known s.from (look_up (name_of text s) n.kinds) one.0 one.1, three.1, cc)
 
   -- a source of what is written
@@ -158,10 +159,10 @@ module _ (text : List ℕ) (n : Naming) where
       → with_source text n d s file written late tags ≡ Ok next → AddsSource d s file written late tags next
   unfolding with_source
   added_source d s file written late tags next e =
-      let one = bound (file_of text d.sources file) _ next e in
-      let two = bound (rate_of written) _ next one.2 in
-      let three = bound (slack_of late) _ next two.2 in
-      let four = bound (tags_of text n d.itags tags)
+      let one = bind_ok (file_of text d.sources file) _ next e in
+      let two = bind_ok (rate_of written) _ next one.2 in
+      let three = bind_ok (slack_of late) _ next two.2 in
+      let four = bind_ok (tags_of text n d.itags tags)
       (λ l. Ok (record d { sources = d.sources ++ source_with s one.0 two.0 three.0 l ∷ []; itags = l.itags })) next three.2 in
       record {
         bytes = one.0;
@@ -266,8 +267,8 @@ module _ (text : List ℕ) (n : Naming) where
         )
     stays d (tree.Source s file rate slack tags) next kept well e =
         let h = added_source d s file rate slack tags next e in
-        let named = name_stands text ts read s well.0.0 in
-        let within = text_stands text ts read file well.0.1.0 in
+        let named = read.names s well.0.0 in
+        let within = read.texts file well.0.1.0 in
         let source : Source = source_with s h.bytes h.rate h.slack h.list in
         let is = source_kept text n keep.kinds meet differ d.itags d.sources s file rate slack tags h.bytes h.rate h.slack h.list named within well.1 kept.few
         h.by_file h.by_rate h.by_slack h.by_tags in
@@ -385,10 +386,10 @@ module _ (text : List ℕ) (ts : List Token) (read : AreRead text ts) (meet : Ta
   unfolding resolved
   resolved_kept written job words are e kinds same =
       let ds = written.declarations in
-      let one = bound (naming_of text ds) _ job e in
+      let one = bind_ok (naming_of text ds) _ job e in
       let n = one.0 in
-      let two = bound (version_of written.version) _ job one.2 in
-      let three = bound (draft_of text n ds) (λ d. Ok (job_with two.0 n d)) job two.2 in
+      let two = bind_ok (version_of written.version) _ job one.2 in
+      let three = bind_ok (draft_of text n ds) (λ d. Ok (job_with two.0 n d)) job two.2 in
       let is : job_with two.0 n three.0 ≡ job = cc in
       let keep = names_kept text ts read ds n words one.1 in
       let there : map plain_kind kinds ≡ three.0.kinds = same ∙ ap (λ (j : Job). j.kinds) (sym is) in
@@ -396,19 +397,18 @@ module _ (text : List ℕ) (ts : List Token) (read : AreRead text ts) (meet : Ta
       subst (λ (j : Job). KeepsRules j.version j.families kinds j.depends j.sources) is
       (rules_kept text n ts read keep meet differ two.0 ds three.0 kinds known one.1 (each_well n keep ds words are) three.1 there)
 
-pub jobs_kept : NamesAreTested → ReadingIsTokens → EachIsToken → EachIsSpan → EachIsInside → FoundIsJob → WordsStand → TagsMeet → TagsDiffer → JobsKeepRules
+pub jobs_kept : ReadMayBePrinted → FoundIsJob → WordsStand → TagsMeet → TagsDiffer → JobsKeepRules
 unfolding job_in
-jobs_kept tested exact each_token each_span each_inside found_is words_stand meet differ bytes job e kinds same =
+jobs_kept readable found_is words_stand meet differ bytes job e kinds same =
     let within = passed (nat_le (length bytes) 1048576) (f.OverLimit Bytes 1048577) _ job e in
-    let one = bound (text_in bytes) _ job within.1 in
+    let one = bind_ok (text_in bytes) _ job within.1 in
     let text = one.0 in
-    let two = bound (tokens_in text) _ job one.2 in
+    let two = bind_ok (tokens_in text) _ job one.2 in
     let ts = two.0 in
-    let three = bound (written_in (length text) ts) _ job two.2 in
+    let three = bind_ok (written_in (length text) ts) _ job two.2 in
     let utf8 = utf8_text bytes text one.1 in
-    let are = (exact text ts).0 (tokens_found (reading text) ts two.1) in
     let is = (found_is (length text) ts three.0).0 (job_found (verdict (length text) ts) three.0 three.1) in
     let ds = three.0.declarations in
     let words = all_back (Stands ts) (number_words three.0.version) (flat_map declaration_words ds) (words_stand ts three.0 is) in
-    let read : AreRead text ts = record { utf8 = utf8; each = each_token text ts are; spans = each_span text ts utf8 are; insides = each_inside text ts utf8 are; names = tested } in
+    let read : AreRead text ts = readable text ts utf8 (tokens_found (reading text) ts two.1) in
     resolved_kept text ts read meet differ three.0 job (all_of_each (Stands ts) declaration_words ds words) is.grammar three.2 kinds same

@@ -8,6 +8,7 @@ use Rattle.std.proofs.lemmas.List.{length-append, append-nil, map-append}
 use Rattle.std.proofs.lemmas.List.Folds.{list_any-append}
 use Rattle.flu_lemmas.specs.Totals.{total}
 use Rattle.flu_lemmas.proofs.Tests.{and_left, and_right, both, not_true}
+use Rattle.flu_lemmas.proofs.Loops.{bind_ok, each-keeps, each-counts, each-lists}
 use Rattle.flu_model.specs.declared.jobs.Sort.{Sort}
 use Rattle.flu_model.specs.declared.limits.What.TheVariants.{Families, Kinds, Sources, Depends}
 use Rattle.flu_model.specs.Rules.{are_distinct}
@@ -17,16 +18,16 @@ use Rattle.flu_syntax.specs.declared.tree.WrittenSpan.{WrittenSpan}
 use Rattle.flu_syntax.specs.Tree.{Declaration}
 use Rattle.flu_syntax.specs.Tree as d
 use Rattle.flu_syntax.specs.Words.{Stands, declaration_words}
+use Rattle.flu_layout.specs.Spelling.{name_of}
+use Rattle.flu_layout.specs.Stands.{AreRead}
 use Rattle.flu_parse.specs.declared.faults.JobFault.TheVariants as f
 use Rattle.flu_parse.specs.declared.names.FamilyHead.{FamilyHead}
 use Rattle.flu_parse.specs.declared.names.KindHead.{KindHead}
 use Rattle.flu_parse.specs.Faults.{◌>>◌, room}
-use Rattle.flu_parse.specs.Spelling.{name_of}
 use Rattle.flu_parse.specs.Naming.{Naming, look_up, is_declared, fresh_name, with_family, with_kind, with_source, declare, no_names, naming_of}
 use Rattle.flu_parse.proofs.Distinct.{distinct_with}
 use Rattle.flu_parse.proofs.NamingLemmas.{undeclared}
-use Rattle.flu_parse.proofs.Looks.{bound, passed, had_room, each-keeps, each-counts, each-lists}
-use Rattle.flu_parse.proofs.Kept.Words.{AreRead, name_stands}
+use Rattle.flu_parse.proofs.Looks.{passed, had_room}
 
 -- the head of what is declared at a place, and its number
 abbrev pub Numbered : {X : Type 0} → (X → ℕ) → ℕ → List (List ℕ × X) → Type 0
@@ -146,7 +147,7 @@ module _ (text : List ℕ) where
       → (is_declared n (name_of text s) ≡ false) × (length n.families < 64) × (record n { families = n.families ++ (name_of text s, record { number = length n.families; keyed = keyed; sort = sort }) ∷ [] } ≡ m)
   unfolding with_family
   added_family n s keyed sort m e =
-      let b = bound (fresh_name text n s) _ m e in
+      let b = bind_ok (fresh_name text n s) _ m e in
       let free = was_free text n s b.0 b.1 in
       let r = had_room Families 64 (length n.families) _ m b.2 in
       (free.0, r.0, ap (λ (name : List ℕ). record n { families = n.families ++ (name, record { number = length n.families; keyed = keyed; sort = sort }) ∷ [] }) free.1 ∙ cc)
@@ -155,7 +156,7 @@ module _ (text : List ℕ) where
       → (is_declared n (name_of text s) ≡ false) × (length n.kinds < 64) × (record n { kinds = n.kinds ++ (name_of text s, record { number = length n.kinds; keyed = keyed; has_value = has_value }) ∷ [] } ≡ m)
   unfolding with_kind
   added_kind n s keyed has_value m e =
-      let b = bound (fresh_name text n s) _ m e in
+      let b = bind_ok (fresh_name text n s) _ m e in
       let free = was_free text n s b.0 b.1 in
       let r = had_room Kinds 64 (length n.kinds) _ m b.2 in
       (free.0, r.0, ap (λ (name : List ℕ). record n { kinds = n.kinds ++ (name, record { number = length n.kinds; keyed = keyed; has_value = has_value }) ∷ [] }) free.1 ∙ cc)
@@ -164,7 +165,7 @@ module _ (text : List ℕ) where
       → (is_declared n (name_of text s) ≡ false) × (length n.sources < 64) × (record n { sources = n.sources ++ name_of text s ∷ [] } ≡ m)
   unfolding with_source
   added_source n s m e =
-      let b = bound (fresh_name text n s) _ m e in
+      let b = bind_ok (fresh_name text n s) _ m e in
       let free = was_free text n s b.0 b.1 in
       let r = had_room Sources 64 (length n.sources) _ m b.2 in
       (free.0, r.0, ap (λ (name : List ℕ). record n { sources = n.sources ++ name ∷ [] }) free.1 ∙ cc)
@@ -217,7 +218,7 @@ module _ (text : List ℕ) where
     stays n (d.Cell s keyed sort) m keep words e =
         let head : FamilyHead = record { number = length n.families; keyed = keyed; sort = sort } in
         let a = added_family n s keyed sort m e in
-        let p = family_put n (name_of text s) keep a.0 (name_stands text ts read s words.0) head in
+        let p = family_put n (name_of text s) keep a.0 (read.names s words.0) head in
         subst NamesKeep a.2 (
         record {
           few_families = omega (arith, a.1, length-append n.families ((name_of text s, head) ∷ []));
@@ -233,7 +234,7 @@ module _ (text : List ℕ) where
     stays n (d.Tag s keyed has_value) m keep words e =
         let head : KindHead = record { number = length n.kinds; keyed = keyed; has_value = has_value } in
         let a = added_kind n s keyed has_value m e in
-        let p = kind_put n (name_of text s) keep a.0 (name_stands text ts read s words.0) head in
+        let p = kind_put n (name_of text s) keep a.0 (read.names s words.0) head in
         subst NamesKeep a.2 (
         record {
           few_families = keep.few_families;
@@ -263,7 +264,7 @@ module _ (text : List ℕ) where
     stays n (d.On kind actions) m keep words e = let same : n ≡ m = cc in subst NamesKeep same keep
     stays n (d.Source s file rate slack tags) m keep words e =
         let a = added_source n s m e in
-        let p = source_put n (name_of text s) keep a.0 (name_stands text ts read s words.0) in
+        let p = source_put n (name_of text s) keep a.0 (read.names s words.0) in
         subst NamesKeep a.2 (
         record {
           few_families = keep.few_families;

@@ -16,14 +16,15 @@ use Rattle.flu_lemmas.proofs.Totals.{total-append}
 use Rattle.flu_lemmas.proofs.Prefixes.{chosen, mapped}
 use Rattle.flu_lemmas.proofs.Tests.{and_left, and_right, true_lt}
 use Rattle.flu_lemmas.proofs.Digits.{digit_in_range}
+use Rattle.flu_lemmas.specs.Spans.{is_boundary, spelled}
 use Rattle.flu_text.specs.Lexeme.{number_of}
 use Rattle.flu_names.specs.Names.{is_name}
 use Rattle.flu_syntax.specs.declared.tree.WrittenSpan.{WrittenSpan}
 use Rattle.flu_syntax.specs.declared.tree.WrittenKey.{WrittenKey}
 use Rattle.flu_syntax.specs.declared.tree.WrittenKey.TheVariants as k
+use Rattle.flu_layout.specs.Spelling.{inside, written_value}
 use Rattle.flu_parse.specs.declared.pieces.WrittenPiece.{WrittenPiece}
 use Rattle.flu_parse.specs.declared.pieces.WrittenPiece.TheVariants as p
-use Rattle.flu_parse.specs.Spelling.{is_boundary, spelled, inside, written_value}
 use Rattle.flu_parse.specs.Templates.{close_brace, open_brace, is_open_bracket, span, digits_at, key_at, ref_with, ref_at, field_at, braced, Scan, with_plain, with_piece, scan_byte, continued, end_of_scan, scan, scan_start, template_at}
 
 -- ---- how much of a text a piece takes at least, and is written in at most

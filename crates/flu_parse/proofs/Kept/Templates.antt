@@ -9,6 +9,9 @@ use Rattle.std.proofs.lemmas.Str.{IsCharBoundary-before_ascii, IsCharBoundary-af
 use Rattle.flu_lemmas.proofs.Tests.{and_left, and_right, both, lt_true, true_lt, true_eq}
 use Rattle.flu_lemmas.proofs.Elements.{all_push, list_all_push}
 use Rattle.flu_lemmas.proofs.Prefixes.{chosen, mapped, drop_one_more, take_one_more}
+use Rattle.flu_lemmas.specs.Spans.{spelled}
+use Rattle.flu_lemmas.proofs.Loops.{collect, bind_ok, then_ok}
+use Rattle.flu_lemmas.proofs.Spans.{spelled_slice}
 use Rattle.flu_model.specs.declared.jobs.Family.{Family}
 use Rattle.flu_model.specs.declared.jobs.Piece.{Piece}
 use Rattle.flu_model.specs.declared.jobs.Piece.TheVariants as piece
@@ -16,22 +19,20 @@ use Rattle.flu_model.specs.Rules.{is_plain_byte, is_plain, emit_piece_fits, flus
 use Rattle.flu_model.specs.Templates.{written_template}
 use Rattle.flu_names.specs.Names.{is_name, is_text_byte}
 use Rattle.flu_text.specs.declared.words.Word.TheVariants as w
-use Rattle.flu_text.specs.Grammar.{IsInside}
 use Rattle.flu_syntax.specs.declared.tree.WrittenSpan.{WrittenSpan}
 use Rattle.flu_syntax.specs.declared.tree.WrittenKey.TheVariants as k
 use Rattle.flu_syntax.specs.declared.tree.WrittenRef.{WrittenRef}
+use Rattle.flu_layout.specs.Spelling.{name_of, inside}
+use Rattle.flu_layout.specs.Stands.{IsQuoted}
 use Rattle.flu_parse.specs.declared.faults.JobFault.TheVariants as f
 use Rattle.flu_parse.specs.declared.names.KindHead.{KindHead}
 use Rattle.flu_parse.specs.declared.pieces.WrittenPiece.{WrittenPiece}
 use Rattle.flu_parse.specs.declared.pieces.WrittenPiece.TheVariants as p
 use Rattle.flu_parse.specs.Faults.{Found, each}
-use Rattle.flu_parse.specs.Spelling.{spelled, name_of, inside}
 use Rattle.flu_parse.specs.Naming.{Naming, look_up, known}
 use Rattle.flu_parse.specs.Cells.{brackets_fit, at_of}
 use Rattle.flu_parse.specs.Templates.{open_brace, close_brace, is_open_bracket, span, key_at, ref_with, ref_at, field_at, braced, Scan, with_plain, with_piece, scan_byte, continued, end_of_scan, scan, scan_start, template_at, known_names, own_key_fits, read_fits, piece_fits, piece_of, pieces_of, template_of}
-use Rattle.flu_parse.proofs.FaultLemmas.{collect}
-use Rattle.flu_parse.proofs.Looks.{bound, behind, passed}
-use Rattle.flu_parse.proofs.Kept.Words.{spelled_between, inside_bytes, inside_is_text, inside_is_short}
+use Rattle.flu_parse.proofs.Looks.{passed}
 use Rattle.flu_parse.proofs.Kept.Names.{Numbered, family_number}
 use Rattle.flu_parse.proofs.Kept.Terms.{was_known, at_kept, families_of, ref_kept}
 use Rattle.flu_parse.proofs.Kept.Written.{template_short}
@@ -211,7 +212,7 @@ module _ (text : List ℕ) (in_flush : Bool) (utf8 : IsUtf8 text) where
 
   plain_span : (start place : ℕ) → IsCharBoundary text start → IsCharBoundary text place → start < place → place ≤ length text → list_all is_plain_byte (slice_range text start place) ≡ true → is_plain (name_of text (span start place)) ≡ true
   plain_span start place begins ends some within all =
-      let bytes = spelled_between text start place (omega arith) begins ends in
+      let bytes = spelled_slice text start place (omega arith) begins ends in
       let len : 0 < length (slice_range text start place) = omega (arith, length-take (place - start) (drop start text), length-drop start text) in
       ap is_plain bytes ∙ both (nat_lt 0 (length (slice_range text start place))) (list_all is_plain_byte (slice_range text start place)) (lt_true 0 (length (slice_range text start place)) len) all
 
@@ -339,10 +340,10 @@ module _ (text : List ℕ) (in_flush : Bool) (utf8 : IsUtf8 text) where
       by (Some next) e more whole = more next e whole
 
   -- the pieces of a written text that is a whole template
-  pub template_kept : (s : WrittenSpan) → IsInside text (record { word = w.Text; from = s.from; to = s.to }) → (template_at text in_flush s).whole ≡ true → AreGood (template_at text in_flush s).pieces
+  pub template_kept : (s : WrittenSpan) → IsQuoted text s → (template_at text in_flush s).whole ≡ true → AreGood (template_at text in_flush s).pieces
   unfolding template_at
   template_kept s within whole =
-      let bytes = inside_bytes text s within in
+      let bytes = within.is in
       let len : length (inside text s) ≡ s.to - 1 - (s.from + 1) = ap length bytes ∙ omega (arith, within.room, length-take (s.to - 1 - (s.from + 1)) (drop (s.from + 1) text), length-drop (s.from + 1) text) in
       let at_end : s.from + 1 + length (inside text s) ≡ s.to - 1 = omega (arith, within.room, len) in
       let rest : drop (s.from + 1) text ≡ inside text s ++ drop (s.to - 1) text = drop_split text (s.from + 1) (s.to - 1) (omega (arith, within.room)) ∙ ap (λ bs. bs ++ drop (s.to - 1) text) (sym bytes) in
@@ -353,7 +354,7 @@ module _ (text : List ℕ) (in_flush : Bool) (utf8 : IsUtf8 text) where
         good = tt;
         is_open = (refl, ap (list_all is_plain_byte) (nothing_yet (s.from + 1)));
       }
-      ) rest (inside_is_text text s within) (subst (IsCharBoundary text) (sym at_end) within.ends) (omega (arith, at_end, within.ends.0)) whole
+      ) rest within.bytes (subst (IsCharBoundary text) (sym at_end) within.ends) (omega (arith, at_end, within.ends.0)) whole
 
 -- ---- what the pieces mean
 abbrev AreFound : {X Y : Type 0} → (X → Found Y) → List X → List Y → Type 0
@@ -367,8 +368,8 @@ each_found : {X Y : Type 0} (find : X → Found Y) (done : List Y) (xs : List X)
 unfolding each
 each_found find done [] ys e = let same : done ≡ ys = cc in ([], sym same ∙ sym (append-nil done), tt)
 each_found find done (x ∷ xs) ys e =
-    let h = bound (collect find done x) _ ys e in
-    let g = bound (find x) (λ y. Ok (done ++ y ∷ [])) h.0 h.1 in
+    let h = bind_ok (collect find done x) _ ys e in
+    let g = bind_ok (find x) (λ y. Ok (done ++ y ∷ [])) h.0 h.1 in
     let now : done ++ g.0 ∷ [] ≡ h.0 = cc in
     let rest = each_found find h.0 xs ys h.2 in
     (g.0 ∷ rest.0, rest.1 ∙ ap (λ l. l ++ rest.0) (sym now) ∙ append_assoc done (g.0 ∷ []) rest.0, (g.1, rest.2))
@@ -380,9 +381,9 @@ module _ (text : List ℕ) (utf8 : IsUtf8 text) (n : Naming) (numbered : Numbere
   read_kept : (place : ℕ) (r : WrittenRef) (q : Piece) → read_fits under r.key (look_up (name_of text r.family) n.families) ≡ true → piece_of text n under place (p.Read r) ≡ Ok q → emit_piece_fits families under.keyed under.has_value q ≡ true
   unfolding piece_of
   read_kept place r q fits e =
-      let h = bound (known place (look_up (name_of text r.family) n.families)) _ q e in
+      let h = bind_ok (known place (look_up (name_of text r.family) n.families)) _ q e in
       let is = was_known place (look_up (name_of text r.family) n.families) h.0 h.1 in
-      let g = bound (at_of under r.key) (λ at. Ok (piece.Read (record { family = h.0.number; at = at }))) q h.2 in
+      let g = bind_ok (at_of under r.key) (λ at. Ok (piece.Read (record { family = h.0.number; at = at }))) q h.2 in
       let same : piece.Read (record { family = h.0.number; at = g.0 }) ≡ q = cc in
       let fit = ap (read_fits under r.key) (sym is) ∙ fits in
       let brackets = and_left (brackets_fit h.0.keyed r.key) (own_key_fits under r.key) fit in
@@ -418,8 +419,8 @@ module _ (text : List ℕ) (utf8 : IsUtf8 text) (n : Naming) (numbered : Numbere
   plain_kept place p.Time found e = let same : piece.Time ≡ found = cc in ap is_plain_piece (sym same)
   plain_kept place p.CellValue found e = let same : piece.CellValue ≡ found = cc in ap is_plain_piece (sym same)
   plain_kept place (p.Read r) found e =
-      let h = bound (known place (look_up (name_of text r.family) n.families)) _ found e in
-      let g = bound (at_of under r.key) (λ at. Ok (piece.Read (record { family = h.0.number; at = at }))) found h.2 in
+      let h = bind_ok (known place (look_up (name_of text r.family) n.families)) _ found e in
+      let g = bind_ok (at_of under r.key) (λ at. Ok (piece.Read (record { family = h.0.number; at = at }))) found h.2 in
       let same : piece.Read (record { family = h.0.number; at = g.0 }) ≡ found = cc in
       ap is_plain_piece (sym same)
   plain_kept place p.Formless found e = absurd cc
@@ -441,23 +442,23 @@ module _ (text : List ℕ) (utf8 : IsUtf8 text) (n : Naming) (numbered : Numbere
       both (fits x) (list_all fits ps) (kept q x good.0 here are.0) (all_kept in_flush place fits kept qs ps good.1 rest are.1)
 
   -- what a text is found to mean
-  found_pieces : (in_flush : Bool) (s : WrittenSpan) (ps : List Piece) → IsInside text (record { word = w.Text; from = s.from; to = s.to }) → template_of text n under in_flush s ≡ Ok ps
+  found_pieces : (in_flush : Bool) (s : WrittenSpan) (ps : List Piece) → IsQuoted text s → template_of text n under in_flush s ≡ Ok ps
       → AreGood text in_flush utf8 (template_at text in_flush s).pieces × (list_all (piece_fits text n under in_flush) (template_at text in_flush s).pieces ≡ true) × AreFound (piece_of text n under s.from) (template_at text in_flush s).pieces ps
   unfolding template_of
   found_pieces in_flush s ps within e =
       let t = template_at text in_flush s in
-      let one = behind (known_names text n s.from t.pieces) _ ps e in
+      let one = then_ok (known_names text n s.from t.pieces) _ ps e in
       let two = passed (t.whole && list_all (piece_fits text n under in_flush) t.pieces) (f.WrongShape s.from) (pieces_of text n under s.from t.pieces) ps one.2 in
       let three = each_found (piece_of text n under s.from) [] t.pieces ps two.1 in
       let whole = and_left t.whole (list_all (piece_fits text n under in_flush) t.pieces) two.0 in
       (template_kept text in_flush utf8 s within whole, and_right t.whole (list_all (piece_fits text n under in_flush) t.pieces) two.0, subst (AreFound (piece_of text n under s.from) t.pieces) (sym three.1) three.2)
 
   -- the text that they are written as is no longer than the one that was read
-  short_kept : (in_flush : Bool) (s : WrittenSpan) (ps : List Piece) → IsInside text (record { word = w.Text; from = s.from; to = s.to })
+  short_kept : (in_flush : Bool) (s : WrittenSpan) (ps : List Piece) → IsQuoted text s
       → template_of text n under in_flush s ≡ Ok ps → is_short (written_template families ps) ≡ true
-  short_kept in_flush s ps within e = template_short text n numbered under in_flush s ps (inside_is_short text s within) e
+  short_kept in_flush s ps within e = template_short text n numbered under in_flush s ps within.short e
 
-  pub emit_kept : (s : WrittenSpan) (ps : List Piece) → IsInside text (record { word = w.Text; from = s.from; to = s.to })
+  pub emit_kept : (s : WrittenSpan) (ps : List Piece) → IsQuoted text s
       → template_of text n under false s ≡ Ok ps → emit_template_fits families under.keyed under.has_value ps ≡ true
   emit_kept s ps within e =
       let h = found_pieces false s ps within e in
@@ -469,7 +470,7 @@ module _ (text : List ℕ) (utf8 : IsUtf8 text) (n : Naming) (numbered : Numbere
       (pieces_apart ps ∙ ap apart (plains_kept s.from qs ps h.2) ∙ h.0.are_apart))
       (short_kept false s ps within e)
 
-  pub flush_kept : (s : WrittenSpan) (ps : List Piece) → IsInside text (record { word = w.Text; from = s.from; to = s.to })
+  pub flush_kept : (s : WrittenSpan) (ps : List Piece) → IsQuoted text s
       → template_of text n under true s ≡ Ok ps → flush_template_fits families under.has_value ps ≡ true
   flush_kept s ps within e =
       let h = found_pieces true s ps within e in

@@ -5,6 +5,7 @@ use Rattle.std.proofs.lemmas.Option.{slice_get-map}
 use Rattle.std.specs.List.{AllByRecursion}
 use Rattle.flu_lemmas.proofs.Elements.{all_front, all_back}
 use Rattle.flu_lemmas.proofs.Tests.{and_left, and_right, both, lt_true}
+use Rattle.flu_lemmas.proofs.Loops.{bind_ok, then_ok}
 use Rattle.flu_model.specs.declared.limits.What.TheVariants.{Key, Height}
 use Rattle.flu_model.specs.declared.jobs.Sort.{Sort}
 use Rattle.flu_model.specs.declared.jobs.Sort.TheVariants.{Sum, Max, Last}
@@ -25,16 +26,16 @@ use Rattle.flu_syntax.specs.declared.tree.WrittenKey.{WrittenKey}
 use Rattle.flu_syntax.specs.declared.tree.WrittenKey.TheVariants as k
 use Rattle.flu_syntax.specs.declared.tree.WrittenRef.{WrittenRef}
 use Rattle.flu_syntax.specs.Tree.{Tree, NumberTree, ValueTree, KeyTree, TimeTree, ReadTree, HasTree, ParenTree, NegTree, NotTree, TwoTree}
+use Rattle.flu_layout.specs.Spelling.{name_of, written_value}
+use Rattle.flu_layout.specs.Stands.{AreRead}
 use Rattle.flu_parse.specs.declared.faults.JobFault.TheVariants as f
 use Rattle.flu_parse.specs.declared.names.FamilyHead.{FamilyHead}
 use Rattle.flu_parse.specs.declared.names.KindHead.{KindHead}
-use Rattle.flu_parse.specs.Spelling.{name_of, written_value}
 use Rattle.flu_parse.specs.Naming.{Naming, look_up, known}
 use Rattle.flu_parse.specs.Cells.{resolved_key, brackets_fit, is_wanted, family_for, at_of, resolved_cell}
 use Rattle.flu_parse.specs.Terms.{height, first_part, first_token, term_of, expression_of}
 use Rattle.flu_parse.specs.Resolving.{family}
-use Rattle.flu_parse.proofs.Looks.{bound, behind, passed}
-use Rattle.flu_parse.proofs.Kept.Words.{AreRead}
+use Rattle.flu_parse.proofs.Looks.{passed}
 use Rattle.flu_parse.proofs.Kept.Plain.{term_fits, term_height, is_good_term}
 use Rattle.flu_parse.proofs.Kept.Names.{Numbered, family_number, at_number}
 
@@ -58,7 +59,7 @@ at_kept keyed under (k.OwnKey place) at fits e =
     let same : cell.OwnKey ≡ at = cc in
     ap (key_fits keyed under.keyed) (sym same) ∙ both keyed under.keyed fits h.0
 at_kept keyed under (k.Fixed number) at fits e =
-    let h = bound (resolved_key number) (λ key. Ok (cell.Fixed key)) at e in
+    let h = bind_ok (resolved_key number) (λ key. Ok (cell.Fixed key)) at e in
     let same : cell.Fixed h.0 ≡ at = cc in
     ap (key_fits keyed under.keyed) (sym same) ∙ both keyed (nat_lt h.0 65536) fits (key_kept number h.0 h.1).0
 
@@ -101,9 +102,9 @@ module _ (text : List ℕ) (n : Naming) (numbered : Numbered family_number 0 n.f
     found_cell : (wanted : Option Sort) (r : WrittenRef) (c : CellRef) → resolved_cell text n under wanted r ≡ Ok c
         → (head : FamilyHead) × (at : At) × (look_up (name_of text r.family) n.families ≡ Some head) × (is_wanted wanted head.sort ≡ true) × (key_fits head.keyed under.keyed at ≡ true) × (record { family = head.number; at = at } ≡ c)
     found_cell wanted r c e =
-        let one = bound (family_for text n wanted r) _ c e in
-        let two = bound (at_of under r.key) (λ at. Ok (record { family = one.0.number; at = at })) c one.2 in
-        let three = bound (known r.family.from (look_up (name_of text r.family) n.families)) _ one.0 one.1 in
+        let one = bind_ok (family_for text n wanted r) _ c e in
+        let two = bind_ok (at_of under r.key) (λ at. Ok (record { family = one.0.number; at = at })) c one.2 in
+        let three = bind_ok (known r.family.from (look_up (name_of text r.family) n.families)) _ one.0 one.1 in
         let four = passed (is_wanted wanted three.0.sort && brackets_fit three.0.keyed r.key) (f.WrongShape r.family.from) (Ok three.0) one.0 three.2 in
         let same : three.0 ≡ one.0 = cc in
         let fit = ap (λ (h : FamilyHead). is_wanted wanted h.sort && brackets_fit h.keyed r.key) (sym same) ∙ four.0 in
@@ -128,7 +129,7 @@ module _ (text : List ℕ) (n : Naming) (numbered : Numbered family_number 0 n.f
       number_kept : (m : WrittenNumber) → Stands ts (AtPlace (w.Number m.value) m.at) → is_literal m.value ≡ true
       number_kept m stands =
           let t : Token = stands.0 in
-          let there : IsToken text t = let h = stands.1 in subst (IsToken text) h.2 (read.each h.0 t h.1) in
+          let there : IsToken text t = let h = stands.1 in subst (IsToken text) h.2 (read.tokens h.0 t h.1) in
           let number : Spells (w.Number m.value) (bytes_of text t) = subst (λ (word : Word). Spells word (bytes_of text t)) stands.2.0 there.spelled in
           ap is_literal number.value ∙ lt_true _ (2 ^ 63) number.small
 
@@ -148,27 +149,27 @@ module _ (text : List ℕ) (n : Naming) (numbered : Numbered family_number 0 n.f
           subst (Kept (KeyTree at)) same (h.0, refl)
       term_kept (TimeTree at) t words e = let same : EventTime ≡ t = cc in subst (Kept (TimeTree at)) same (refl, refl)
       term_kept (ReadTree r) t words e =
-          let h = bound (resolved_cell text n under None r) (λ c. Ok (CellRead c)) t e in
+          let h = bind_ok (resolved_cell text n under None r) (λ c. Ok (CellRead c)) t e in
           let same : CellRead h.0 ≡ t = cc in
           subst (Kept (ReadTree r)) same (cell_kept None r h.0 h.1, refl)
       term_kept (HasTree at r) t words e =
-          let h = bound (resolved_cell text n under None r) (λ c. Ok (CellHeld c)) t e in
+          let h = bind_ok (resolved_cell text n under None r) (λ c. Ok (CellHeld c)) t e in
           let same : CellHeld h.0 ≡ t = cc in
           subst (Kept (HasTree at r)) same (cell_kept None r h.0 h.1, refl)
       term_kept (ParenTree at inner) t words e = term_kept inner t words e
       term_kept (NegTree at inner) t words e =
-          let h = bound (term_of text n under inner) (λ s. Ok (Negative s)) t e in
+          let h = bind_ok (term_of text n under inner) (λ s. Ok (Negative s)) t e in
           let same : Negative h.0 ≡ t = cc in
           let rest = term_kept inner h.0 words h.1 in
           subst (Kept (NegTree at inner)) same (rest.0, ap (λ m. m + 1) rest.1)
       term_kept (NotTree at inner) t words e =
-          let h = bound (term_of text n under inner) (λ s. Ok (Negation s)) t e in
+          let h = bind_ok (term_of text n under inner) (λ s. Ok (Negation s)) t e in
           let same : Negation h.0 ≡ t = cc in
           let rest = term_kept inner h.0 words h.1 in
           subst (Kept (NotTree at inner)) same (rest.0, ap (λ m. m + 1) rest.1)
       term_kept (TwoTree op a b) t words e =
-          let h = bound (term_of text n under a) _ t e in
-          let g = bound (term_of text n under b) (λ s. Ok (Operation op h.0 s)) t h.2 in
+          let h = bind_ok (term_of text n under a) _ t e in
+          let g = bind_ok (term_of text n under b) (λ s. Ok (Operation op h.0 s)) t h.2 in
           let same : Operation op h.0 g.0 ≡ t = cc in
           let left = term_kept a h.0 (all_front (Stands ts) (tree_words a) (tree_words b) words) h.1 in
           let right = term_kept b g.0 (all_back (Stands ts) (tree_words a) (tree_words b) words) g.1 in
@@ -178,7 +179,7 @@ module _ (text : List ℕ) (n : Naming) (numbered : Numbered family_number 0 n.f
       pub expression_kept : (e : Tree) (t : Term) → AllByRecursion (Stands ts) (tree_words e) → expression_of text n under e ≡ Ok t → is_good_term families_of under.keyed under.has_value t ≡ true
       unfolding expression_of
       expression_kept e t words found =
-          let one = behind (first_token text n under (first_part e)) _ t found in
+          let one = then_ok (first_token text n under (first_part e)) _ t found in
           let two = passed (nat_le (height e) 32) (f.OverLimit Height 33) (term_of text n under e) t one.2 in
           let kept = term_kept e t words two.1 in
           both (term_fits families_of under.keyed under.has_value t) (nat_le (term_height t) 32) kept.0 (ap (λ m. nat_le m 32) kept.1 ∙ two.0)

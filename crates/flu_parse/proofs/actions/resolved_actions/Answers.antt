@@ -1,11 +1,12 @@
 use Rattle.std.proofs.Common.{◌∙◌, [], Ok, map, ap, sym, arith}
 use Rattle.flu_model.specs.Erasure.{plain_action}
+use Rattle.flu_lemmas.proofs.Loops.{each-next, each-fault, each-end, each-map}
 use Rattle.flu_parse.specs.Naming.{naming}
 use Rattle.flu_syntax.specs.Tree.{action_of as action_seen}
 use Rattle.flu_parse.specs.Actions.{with_action, resolved_actions}
 use Rattle.flu_parse.specs.Faults.{each}
 use Rattle.flu_parse.proofs.Steps.{do_written}
-use Rattle.flu_parse.proofs.FaultLemmas.{fails_through, each-next, each-fault, each-end, each-map}
+use Rattle.flu_parse.proofs.FaultLemmas.{fails_through}
 use Rattle.flu_parse.proofs.actions.resolved_actions.Goals as goal
 
 pub loop-action-init : goal.loop-action-init

@@ -1,8 +1,9 @@
 use Rattle.std.proofs.Common.{◌∙◌, sym, arith}
+use Rattle.flu_lemmas.proofs.Loops.{each-next-at, each-fault-at, each-end}
 use Rattle.flu_parse.specs.Naming.{naming}
 use Rattle.flu_parse.specs.Listings.{with_tag, tags_of}
 use Rattle.flu_parse.specs.Resolving.{tags_listed}
-use Rattle.flu_parse.proofs.FaultLemmas.{fails_through, each-next-at, each-fault-at, each-end}
+use Rattle.flu_parse.proofs.FaultLemmas.{fails_through}
 use Rattle.flu_parse.proofs.listings.tags_of.Goals as goal
 
 pub returns-in-Err : goal.returns-in-Err

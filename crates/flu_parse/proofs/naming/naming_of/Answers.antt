@@ -1,9 +1,10 @@
 use Rattle.std.proofs.Common.{◌∙◌, sym, ap, arith, map}
 use Rattle.flu_syntax.specs.Tree.{declaration_of}
+use Rattle.flu_lemmas.proofs.Loops.{each-next, each-fault, each-end, each-map}
 use Rattle.flu_parse.specs.Naming.{naming, no_names, declare, naming_of}
 use Rattle.flu_parse.specs.Faults.{each}
 use Rattle.flu_parse.proofs.Steps.{declare_written}
-use Rattle.flu_parse.proofs.FaultLemmas.{fails_through, each-next, each-fault, each-end, each-map}
+use Rattle.flu_parse.proofs.FaultLemmas.{fails_through}
 use Rattle.flu_parse.proofs.naming.naming_of.Goals as goal
 
 pub loop-declaration-init : goal.loop-declaration-init

@@ -1,10 +1,11 @@
 use Rattle.std.proofs.Common.{◌∙◌, sym, ap, arith, map}
+use Rattle.flu_lemmas.proofs.Loops.{each-next, each-fault, each-end, each-map}
 use Rattle.flu_parse.specs.Faults.{each}
 use Rattle.flu_parse.specs.Naming.{naming}
 use Rattle.flu_parse.specs.Resolving.{drafted, draft_of, first_draft, with_declaration}
 use Rattle.flu_syntax.specs.Tree.{declaration_of}
 use Rattle.flu_parse.proofs.Steps.{read_written}
-use Rattle.flu_parse.proofs.FaultLemmas.{fails_through, each-next, each-fault, each-end, each-map}
+use Rattle.flu_parse.proofs.FaultLemmas.{fails_through}
 use Rattle.flu_parse.proofs.resolving.draft_of.Goals as goal
 
 pub loop-declaration-init : goal.loop-declaration-init

@@ -1,9 +1,10 @@
 use Rattle.std.proofs.Common.{◌+◌, ◌∷◌, ◌++◌, [], List, drop, ◌∙◌, sym, ap, arith}
 use Rattle.flu_model.specs.declared.jobs.Piece.{Piece}
+use Rattle.flu_lemmas.proofs.Loops.{each-next-at, each-fault-at, each-end, collect, collects, collect-fault}
 use Rattle.flu_parse.specs.Faults.{each}
 use Rattle.flu_parse.specs.Naming.{naming}
 use Rattle.flu_parse.specs.Templates.{piece_of, pieces_of}
-use Rattle.flu_parse.proofs.FaultLemmas.{fails_through, each-next-at, each-fault-at, each-end, collect, collects, collect-fault}
+use Rattle.flu_parse.proofs.FaultLemmas.{fails_through}
 use Rattle.flu_parse.proofs.templates.pieces_of.Goals as goal
 
 pub returns-in-Err : goal.returns-in-Err

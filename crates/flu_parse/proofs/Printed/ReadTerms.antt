@@ -4,6 +4,7 @@ use Rattle.std.specs.Prelude.{nat_lt, nat_le, slice_get}
 use Rattle.std.specs.List.{list_all}
 use Rattle.std.specs.Str.{IsUtf8}
 use Rattle.flu_lemmas.proofs.Tests.{and_left, and_right, both, true_le}
+use Rattle.flu_lemmas.proofs.Items.{begins_append, Took}
 use Rattle.flu_text.specs.declared.words.Token.{Token}
 use Rattle.flu_text.specs.Layout.{Piece as Laid}
 use Rattle.flu_model.specs.declared.jobs.Sort.{Sort}
@@ -15,27 +16,28 @@ use Rattle.flu_model.specs.declared.limits.What.TheVariants.{Key, Height}
 use Rattle.flu_text.specs.declared.words.Mark.TheVariants as m
 use Rattle.flu_model.specs.Contents.{key_count}
 use Rattle.flu_model.specs.Erasure.{Term, Literal, EventValue, EventKey, EventTime, CellRead, CellHeld, Negative, Negation, Operation}
-use Rattle.flu_model.specs.Rules.{is_name, key_fits, ref_fits}
+use Rattle.flu_model.specs.Rules.{key_fits, ref_fits}
+use Rattle.flu_model.specs.Templates.{family_name}
 use Rattle.flu_syntax.specs.declared.tree.WrittenKey.{WrittenKey}
 use Rattle.flu_syntax.specs.declared.tree.WrittenKey.TheVariants as k
 use Rattle.flu_syntax.specs.declared.tree.WrittenRef.{WrittenRef}
 use Rattle.flu_syntax.specs.Machine.{span_of, op_level}
 use Rattle.flu_syntax.specs.Tree.{Tree, NumberTree, ValueTree, KeyTree, TimeTree, ReadTree, HasTree, ParenTree, NegTree, NotTree, TwoTree}
-use Rattle.flu_syntax.specs.Grammar.{key_signs, cell_signs, spelled, Fits, nest, left_level, IsExpression}
+use Rattle.flu_syntax.specs.Grammar.{IsSign, key_signs, cell_signs, spelled, Fits, nest, left_level, IsExpression}
+use Rattle.flu_names.specs.Names.{is_name}
+use Rattle.flu_layout.specs.Spelling.{name_of}
+use Rattle.flu_layout.specs.Laid.{mark}
+use Rattle.flu_layout.specs.Stands.{Stand}
 use Rattle.flu_parse.specs.declared.faults.JobFault.TheVariants as f
 use Rattle.flu_parse.specs.declared.names.FamilyHead.{FamilyHead}
 use Rattle.flu_parse.specs.declared.names.KindHead.{KindHead}
 use Rattle.flu_parse.specs.Faults.{Found, ◌>>=◌, ◌>>◌, unless}
-use Rattle.flu_parse.specs.Spelling.{name_of}
 use Rattle.flu_parse.specs.Naming.{Naming, look_up, known, family_of}
-use Rattle.flu_parse.specs.Cells.{brackets_fit, is_wanted, family_for, at_of, cell_of}
+use Rattle.flu_parse.specs.Cells.{brackets_fit, is_wanted, family_for, at_of, resolved_cell}
 use Rattle.flu_parse.specs.Terms.{height, first_part, first_token, term_of, expression_of}
-use Rattle.flu_parse.specs.Printing.{family_name}
-use Rattle.flu_parse.proofs.PlainRules.{term_fits, term_height, is_good_term}
-use Rattle.flu_parse.proofs.PrintedWords.{mark, key_words, cell_words, term_words}
-use Rattle.flu_parse.proofs.PrintedTokens.{Stand, begins-append, Took}
-use Rattle.flu_parse.proofs.PrintedSpans.{name_stands}
-use Rattle.flu_parse.proofs.PrintedCells.{family_at, family_named}
+use Rattle.flu_parse.proofs.Printed.Words.{key_words, cell_words, term_words}
+use Rattle.flu_parse.proofs.Printed.LaidCells.{family_at, family_named}
+use Rattle.flu_parse.proofs.Kept.Plain.{term_fits, term_height, is_good_term}
 
 abbrev pub family_head : ℕ → Family → FamilyHead
 family_head i f = record { number = i; keyed = f.keyed; sort = f.sort }
@@ -48,7 +50,7 @@ module _ (whole : List ℕ) (utf8 : IsUtf8 whole) (families : List Family) (name
   -- a key that was printed, as it is read
   record KeyRead (a : At) (family_keyed : Bool) (rest : List Laid) (ts : List Token) : Type 0 where
     key : WrittenKey
-    took : Took whole (key_signs key) rest ts
+    took : Took IsSign (Stand whole) (key_signs key) rest ts
     brackets : brackets_fit family_keyed key ≡ true
     means : at_of under key ≡ Ok a
 
@@ -70,11 +72,11 @@ module _ (whole : List ℕ) (utf8 : IsUtf8 whole) (families : List Family) (name
   -- a cell that was printed, as it is read
   pub record CellIs (c : CellRef) (rest : List Laid) (ts : List Token) : Type 0 where
     pub written : WrittenRef
-    pub took : Took whole (cell_signs written) rest ts
+    pub took : Took IsSign (Stand whole) (cell_signs written) rest ts
     pub family : Family
     pub found : slice_get families c.family ≡ Some family
     pub named : (wanted : Option Sort) → is_wanted wanted family.sort ≡ true → family_for whole n wanted written ≡ Ok (family_head c.family family)
-    pub means : (wanted : Option Sort) → is_wanted wanted family.sort ≡ true → cell_of whole n under wanted written ≡ Ok c
+    pub means : (wanted : Option Sort) → is_wanted wanted family.sort ≡ true → resolved_cell whole n under wanted written ≡ Ok c
 
   pub read_cell : (c : CellRef) (behind : List ℕ) (rest : List Laid) (ts : List Token) → ref_fits families under.keyed c ≡ true → Stand whole (cell_words families c behind rest) ts → CellIs c rest ts
   read_cell c behind rest ts fits h =
@@ -82,7 +84,7 @@ module _ (whole : List ℕ) (utf8 : IsUtf8 whole) (families : List Family) (name
       let key = read_key c.at at_family.family.keyed behind rest h.1 at_family.fits h.4 in
       let r : WrittenRef = record { family = span_of h.0; key = key.key } in
       let spelled_so : name_of whole r.family ≡ at_family.family.name =
-      name_stands whole (family_name (slice_get families c.family)) _ h.0 utf8 (family_named families names c.family at_family.family at_family.found) h.3 ∙ ap family_name at_family.found in
+      h.3.named refl ∙ ap family_name at_family.found in
       let head = family_head c.family at_family.family in
       let looked : family_of whole n r.family ≡ Ok head =
       ap (λ name. known r.family.from (look_up name n.families)) spelled_so ∙ ap (known r.family.from) (known_families c.family at_family.family at_family.found) in
@@ -104,7 +106,7 @@ module _ (whole : List ℕ) (utf8 : IsUtf8 whole) (families : List Family) (name
   -- an expression that was printed, as it is read: it stands alone wherever operators are wanted
   pub record TermIs (e : Term) (rest : List Laid) (ts : List Token) : Type 0 where
     pub tree : Tree
-    pub took : Took whole (spelled tree) rest ts
+    pub took : Took IsSign (Stand whole) (spelled tree) rest ts
     pub fits : (level : ℕ) → Fits level tree
     pub opens : nest tree + 2 ≤ 2 * term_height e
     pub high : height tree ≡ term_height e
@@ -178,7 +180,7 @@ module _ (whole : List ℕ) (utf8 : IsUtf8 whole) (families : List Family) (name
         tree = ParenTree h.0.from (NegTree h.4.0.from inner.tree);
         took = record {
           rest = close.1;
-          begins = (h.0, h.1, h.2, (h.3.word, refl), (h.4.0, h.4.1, h.4.2, (h.4.3.word, refl), begins-append (spelled inner.tree) _ h.4.1 inner.took.rest close.1 inner.took.begins (close.0, close.1, close.2, close.3.word, refl)));
+          begins = (h.0, h.1, h.2, (h.3.word, refl), (h.4.0, h.4.1, h.4.2, (h.4.3.word, refl), begins_append IsSign (spelled inner.tree) _ h.4.1 inner.took.rest close.1 inner.took.begins (close.0, close.1, close.2, close.3.word, refl)));
           stand = close.4;
         };
         fits = λ level. inner.fits 6;
@@ -194,7 +196,7 @@ module _ (whole : List ℕ) (utf8 : IsUtf8 whole) (families : List Family) (name
         tree = ParenTree h.0.from (NotTree h.4.0.from inner.tree);
         took = record {
           rest = close.1;
-          begins = (h.0, h.1, h.2, (h.3.word, refl), (h.4.0, h.4.1, h.4.2, (h.4.3.word, refl), begins-append (spelled inner.tree) _ h.4.1 inner.took.rest close.1 inner.took.begins (close.0, close.1, close.2, close.3.word, refl)));
+          begins = (h.0, h.1, h.2, (h.3.word, refl), (h.4.0, h.4.1, h.4.2, (h.4.3.word, refl), begins_append IsSign (spelled inner.tree) _ h.4.1 inner.took.rest close.1 inner.took.begins (close.0, close.1, close.2, close.3.word, refl)));
           stand = close.4;
         };
         fits = λ level. (omega arith, inner.fits 2);
@@ -218,8 +220,8 @@ module _ (whole : List ℕ) (utf8 : IsUtf8 whole) (families : List Family) (name
             h.1,
             h.2,
             (h.3.word, refl),
-            begins-append (spelled two) _ h.1 right.took.rest close.1
-                (begins-append (spelled left.tree) _ h.1 left.took.rest right.took.rest left.took.begins (sign.0, sign.1, sign.2, sign.3.word, right.took.begins)) (close.0, close.1, close.2, close.3.word, refl),
+            begins_append IsSign (spelled two) _ h.1 right.took.rest close.1
+                (begins_append IsSign (spelled left.tree) _ h.1 left.took.rest right.took.rest left.took.begins (sign.0, sign.1, sign.2, sign.3.word, right.took.begins)) (close.0, close.1, close.2, close.3.word, refl),
           );
           stand = close.4;
         };
@@ -233,7 +235,7 @@ module _ (whole : List ℕ) (utf8 : IsUtf8 whole) (families : List Family) (name
   -- a whole expression
   pub record ExpressionIs (e : Term) (rest : List Laid) (ts : List Token) : Type 0 where
     pub tree : Tree
-    pub took : Took whole (spelled tree) rest ts
+    pub took : Took IsSign (Stand whole) (spelled tree) rest ts
     pub is : IsExpression tree
     pub means : expression_of whole n under tree ≡ Ok e
 

@@ -7,7 +7,9 @@ use Rattle.std.proofs.lemmas.Grind.{common_steps}
 use Rattle.std.proofs.lemmas.List.{append-nil, length-map, map-append}
 use Rattle.std.proofs.lemmas.List.Folds.{list_any-append}
 use Rattle.flu_lemmas.proofs.Tests.{and_left, and_right, true_le, not_true}
+use Rattle.flu_lemmas.proofs.Places.{slice_get-behind}
 use Rattle.flu_lemmas.proofs.Searches.{list_any-map}
+use Rattle.flu_lemmas.proofs.Booleans.{or_false_left, or_false_right, three_middle}
 use Rattle.flu_model.specs.declared.limits.What.TheVariants.{Rate}
 use Rattle.flu_model.specs.declared.events.Tag.{Tag as TagOf}
 use Rattle.flu_model.specs.declared.jobs.Family.{Family}
@@ -15,26 +17,27 @@ use Rattle.flu_model.specs.declared.jobs.Depend.{Depend}
 use Rattle.flu_model.specs.declared.jobs.Source.{Source}
 use Rattle.flu_model.specs.Erasure.{PlainAction, PlainKind}
 use Rattle.flu_model.specs.Listing.{tags_of_source, itags_of_sources}
-use Rattle.flu_model.specs.Rules.{is_name, is_same_text, are_distinct}
+use Rattle.flu_model.specs.Rules.{is_same_text, are_distinct}
+use Rattle.flu_rules.specs.Keys.{TagsMeet, TagsDiffer}
 use Rattle.flu_syntax.specs.Tree.{Declaration, Cell, Tag, Depends, Source as SourceLine}
 use Rattle.flu_syntax.specs.Tree.{Action as WrittenDo}
+use Rattle.flu_names.specs.Names.{is_name}
+use Rattle.flu_layout.specs.Spelling.{name_of}
 use Rattle.flu_parse.specs.declared.faults.JobFault.TheVariants as f
 use Rattle.flu_parse.specs.declared.names.KindHead.{KindHead}
 use Rattle.flu_parse.specs.Faults.{Found, ◌>>=◌, ◌>>◌, unless, each}
-use Rattle.flu_parse.specs.Spelling.{name_of}
 use Rattle.flu_parse.specs.Naming.{Naming, look_up, known, kind_of}
-use Rattle.flu_parse.specs.Deeds.{actions_of}
-use Rattle.flu_parse.specs.Listings.{Listed, tags_of, rate_of, file_of}
+use Rattle.flu_parse.specs.Listings.{Listed, tags_of, rate_of, slack_of, file_of}
 use Rattle.flu_parse.specs.Resolving.{Drafted, same_of, with_depend, with_actions, with_on, with_source, with_declaration}
-use Rattle.flu_parse.proofs.General.{or_left, or_right, three_middle}
-use Rattle.flu_parse.proofs.PlainRules.{plain_action_fits, plain_kind_fits}
-use Rattle.flu_parse.proofs.PrintedRules.{plain_source_fits}
-use Rattle.flu_parse.proofs.PrintedLines.{source_facts}
-use Rattle.flu_parse.proofs.PrintedTerms.{FamiliesKnown}
-use Rattle.flu_parse.proofs.PrintedDeeds.{do_all}
-use Rattle.flu_parse.proofs.PrintedTags.{kind_head, KindsKnown, all_tags, list_all_tags}
-use Rattle.flu_parse.proofs.PrintedDeclarations.{Lines, CellIs, TagIs, DependsIs, SourceIs, ActionsAre, Ons}
-use Rattle.flu_parse.proofs.PrintedNames.{differs_too}
+use Rattle.flu_parse.proofs.Printed.Rules.{plain_source_fits}
+use Rattle.flu_parse.proofs.Printed.LaidLines.{source_facts}
+use Rattle.flu_parse.proofs.Printed.ReadTerms.{FamiliesKnown}
+use Rattle.flu_parse.proofs.Printed.ReadActions.{do_all}
+use Rattle.flu_parse.proofs.Printed.ReadTags.{kind_head, KindsKnown, all_tags, list_all_tags}
+use Rattle.flu_parse.proofs.Printed.ReadLines.{Lines, CellIs, TagIs, DependsIs, SourceIs, ActionsAre, Ons}
+use Rattle.flu_parse.proofs.Printed.Names.{differs_too}
+use Rattle.flu_parse.specs.Actions.{resolved_actions}
+use Rattle.flu_parse.proofs.Kept.Plain.{plain_action_fits, plain_kind_fits}
 
 -- a kind whose actions are not met yet
 abbrev pub without_actions : PlainKind → PlainKind
@@ -53,10 +56,6 @@ with_all_sources d sources itags = record d { sources = sources; itags = itags }
 given_actions : (done : List PlainKind) (k : PlainKind) (rest : List PlainKind) (actions : List PlainAction) → with_actions (done ++ k ∷ rest) (length done) actions ≡ done ++ record k { actions = actions } ∷ rest
 given_actions [] k rest actions = refl
 given_actions (d ∷ done) k rest actions = ap (λ ks. d ∷ ks) (given_actions done k rest actions)
-
-at_place : {X : Type 0} (done : List X) (x : X) (rest : List X) → slice_get (done ++ x ∷ rest) (length done) ≡ Some x
-at_place [] x rest = refl
-at_place (d ∷ done) x rest = at_place done x rest
 
 -- the itags of sources, from whichever number
 abbrev pub total_itags : List Source → ℕ
@@ -79,7 +78,7 @@ not_before (d ∷ done) x rest h =
     let apart : Bool = are_distinct is_same_text (done ++ x ∷ rest) in
     let none : later ≡ false = not_true later (and_left (not later) apart h) in
     let split : (list_any (is_same_text d) done || (is_same_text d x || list_any (is_same_text d) rest)) ≡ false = sym (list_any-append (is_same_text d) done (x ∷ rest)) ∙ none in
-    let here : is_same_text d x ≡ false = or_left (is_same_text d x) (list_any (is_same_text d) rest) (or_right (list_any (is_same_text d) done) (is_same_text d x || list_any (is_same_text d) rest) split) in
+    let here : is_same_text d x ≡ false = or_false_left (is_same_text d x) (list_any (is_same_text d) rest) (or_false_right (list_any (is_same_text d) done) (is_same_text d x || list_any (is_same_text d) rest) split) in
     ap (λ b. b || list_any (is_same_text x) done) (differs_too d x here) ∙ not_before done x rest (and_right (not later) apart h)
 
 module _ (whole : List ℕ) (utf8 : IsUtf8 whole) (n : Naming) where
@@ -120,15 +119,15 @@ module _ (whole : List ℕ) (utf8 : IsUtf8 whole) (n : Naming) where
         ∙ add_depends deps next lines.1 more lines.4
         ∙ ap (λ l. each (with_declaration whole n) (with_all_depends d l) more) (append_assoc d.depends (e ∷ []) deps)
 
-    pub add_sources : (done ss : List Source) (d : Drafted) (ds more : List Declaration) → Lines (SourceIs whole utf8 kinds named_kinds n known_kinds) ss ds → d.sources ≡ done
+    pub add_sources : TagsMeet → TagsDiffer → (done ss : List Source) (d : Drafted) (ds more : List Declaration) → Lines (SourceIs whole utf8 kinds named_kinds n known_kinds) ss ds → d.sources ≡ done
         → list_all (plain_source_fits kinds) ss ≡ true → are_distinct is_same_text (map (λ (s : Source). s.file) (done ++ ss)) ≡ true → d.itags + total_itags ss ≤ 256
         → each (with_declaration whole n) d (ds ++ more) ≡ each (with_declaration whole n) (with_all_sources d (done ++ ss) (d.itags + total_itags ss)) more
     unfolding with_declaration with_source
-    add_sources done [] d ds more lines so_far fits apart few =
+    add_sources meet differ done [] d ds more lines so_far fits apart few =
         nothing d ds more lines
         ∙ ap (λ l. each (with_declaration whole n) (with_all_sources d l d.itags) more) (so_far ∙ sym (append-nil done))
         ∙ ap (λ k. each (with_declaration whole n) (with_all_sources d (done ++ []) k) more) (let same : d.itags ≡ d.itags + 0 = omega arith in same)
-    add_sources done (s ∷ ss) d ds more lines so_far fits apart few =
+    add_sources meet differ done (s ∷ ss) d ds more lines so_far fits apart few =
         let line = lines.3 in
         let facts = source_facts kinds s (and_left (plain_source_fits kinds s) (list_all (plain_source_fits kinds) ss) fits) in
         let file = line.file in
@@ -142,18 +141,20 @@ module _ (whole : List ℕ) (utf8 : IsUtf8 whole) (n : Naming) where
         ∙ ap (λ l. unless (not (list_any (λ (t : Source). is_same_text s.file t.file) l)) (f.TwiceNamed file.from) >> Ok s.file) so_far
         ∙ ap (λ t. unless t (f.TwiceNamed file.from) >> Ok s.file) unread in
         let rate_found : rate_of (Some (record { value = pos s.rate; at = line.rate_at })) ≡ Ok s.rate = ap (λ t. unless t (f.OverLimit Rate s.rate) >> Ok s.rate) facts.rate in
-        let tags_found : tags_of whole n d.itags line.tags ≡ Ok (record { tags = s.tags; itags = d.itags + all_tags s.tags }) = list_all_tags whole utf8 kinds named_kinds n known_kinds [] s.tags line.tags d.itags (omega (arith, few)) facts.apart line.are in
+        let tags_found : tags_of whole n d.itags line.tags ≡ Ok (record { tags = s.tags; itags = d.itags + all_tags s.tags }) = list_all_tags whole utf8 kinds named_kinds n known_kinds meet [] s.tags line.tags d.itags (omega (arith, few)) (sym (differ s.tags) ∙ facts.apart) line.are in
         let next : Drafted = with_all_sources d (done ++ s ∷ []) (d.itags + all_tags s.tags) in
-        let end : List ℕ → List ℕ → ℕ → Listed → Found Drafted = λ name bytes rate listed. Ok (with_all_sources d (d.sources ++ record { name = name; file = bytes; rate = rate; tags = listed.tags } ∷ []) listed.itags) in
-        let found : with_source whole n d line.named file (Some (record { value = pos s.rate; at = line.rate_at })) line.tags ≡ Ok next =
-        ap (λ (r : Found (List ℕ)). r >>= λ bytes. rate_of (Some (record { value = pos s.rate; at = line.rate_at })) >>= λ rate. tags_of whole n d.itags line.tags >>= λ listed. end (name_of whole line.named) bytes rate listed) file_found
-        ∙ ap (λ (r : Found ℕ). r >>= λ rate. tags_of whole n d.itags line.tags >>= λ listed. end (name_of whole line.named) s.file rate listed) rate_found
-        ∙ ap (λ (r : Found Listed). r >>= λ listed. end (name_of whole line.named) s.file s.rate listed) tags_found
-        ∙ ap (λ name. Ok (with_all_sources d (d.sources ++ record { name = name; file = s.file; rate = s.rate; tags = s.tags } ∷ []) (d.itags + all_tags s.tags))) line.name_is
+        let end : List ℕ → List ℕ → ℕ → ℕ → Listed → Found Drafted =
+        λ name bytes rate slack listed. Ok (with_all_sources d (d.sources ++ record { name = name; file = bytes; rate = rate; slack = slack; tags = listed.tags } ∷ []) listed.itags) in
+        let found : with_source whole n d line.named file (Some (record { value = pos s.rate; at = line.rate_at })) line.slack line.tags ≡ Ok next =
+        ap (λ (r : Found (List ℕ)). r >>= λ bytes. rate_of (Some (record { value = pos s.rate; at = line.rate_at })) >>= λ rate. slack_of line.slack >>= λ slack. tags_of whole n d.itags line.tags >>= λ listed. end (name_of whole line.named) bytes rate slack listed) file_found
+        ∙ ap (λ (r : Found ℕ). r >>= λ rate. slack_of line.slack >>= λ slack. tags_of whole n d.itags line.tags >>= λ listed. end (name_of whole line.named) s.file rate slack listed) rate_found
+        ∙ ap (λ (r : Found ℕ). r >>= λ slack. tags_of whole n d.itags line.tags >>= λ listed. end (name_of whole line.named) s.file s.rate slack listed) line.slack_is
+        ∙ ap (λ (r : Found Listed). r >>= λ listed. end (name_of whole line.named) s.file s.rate s.slack listed) tags_found
+        ∙ ap (λ name. Ok (with_all_sources d (d.sources ++ record { name = name; file = s.file; rate = s.rate; slack = s.slack; tags = s.tags } ∷ []) (d.itags + all_tags s.tags))) line.name_is
         ∙ ap (λ l. Ok (with_all_sources d (l ++ s ∷ []) (d.itags + all_tags s.tags))) so_far in
         let regrouped : (done ++ s ∷ []) ++ ss ≡ done ++ s ∷ ss = append_assoc done (s ∷ []) ss in
-        one d next ds lines.0 lines.1 more (SourceLine line.named file (Some (record { value = pos s.rate; at = line.rate_at })) line.tags) lines.2 line.is found
-        ∙ add_sources (done ++ s ∷ []) ss next lines.1 more lines.4 refl (and_right (plain_source_fits kinds s) (list_all (plain_source_fits kinds) ss) fits)
+        one d next ds lines.0 lines.1 more (SourceLine line.named file (Some (record { value = pos s.rate; at = line.rate_at })) line.slack line.tags) lines.2 line.is found
+        ∙ add_sources meet differ (done ++ s ∷ []) ss next lines.1 more lines.4 refl (and_right (plain_source_fits kinds s) (list_all (plain_source_fits kinds) ss) fits)
         (ap (λ l. are_distinct is_same_text (map (λ (s : Source). s.file) l)) regrouped ∙ apart) (omega (arith, few))
         ∙ ap (λ l. each (with_declaration whole n) (with_all_sources d l (d.itags + all_tags s.tags + total_itags ss)) more) regrouped
         ∙ ap (λ k. each (with_declaration whole n) (with_all_sources d (done ++ s ∷ ss) k) more) (let same : d.itags + all_tags s.tags + total_itags ss ≡ d.itags + (all_tags s.tags + total_itags ss) = omega arith in same)
@@ -191,12 +192,12 @@ module _ (whole : List ℕ) (utf8 : IsUtf8 whole) (n : Naming) where
         let head : KindHead = kind_head i k in
         let dos : List WrittenDo = line.first ∷ line.others in
         let looked : kind_of whole n line.named ≡ Ok head = ap (λ name. known line.named.from (look_up name n.kinds)) line.name_is ∙ ap (known line.named.from) (known_kinds i k found) in
-        let means : actions_of whole n head dos ≡ Ok (a ∷ actions) = do_all whole utf8 families names n known_families head [] (a ∷ actions) dos (omega (arith, few)) line.are in
+        let means : resolved_actions whole n head dos ≡ Ok (a ∷ actions) = do_all whole utf8 families names n known_families head [] (a ∷ actions) dos (omega (arith, few)) line.are in
         let new : with_actions old i (a ∷ actions) ≡ done ++ k ∷ rest = given_actions done (without_actions k) rest (a ∷ actions) ∙ ap (λ l. done ++ record k { actions = l } ∷ rest) (sym are) in
         let end : ℕ → List PlainAction → Found Drafted = λ number actions. Ok (with_kinds d (with_actions old number actions) (given ++ number ∷ [])) in
         let done_so : with_on whole n (with_kinds d old given) line.named dos ≡ Ok (with_kinds d (done ++ k ∷ rest) (given ++ i ∷ [])) =
-        ap (λ (r : Found KindHead). r >>= λ kind. unless (not (list_any (λ g. g == kind.number) given)) (f.TwiceNamed line.named.from) >> (actions_of whole n kind dos >>= λ actions. end kind.number actions)) looked
-        ∙ ap (λ b. unless (not b) (f.TwiceNamed line.named.from) >> (actions_of whole n head dos >>= λ actions. end i actions)) (free i (omega arith))
+        ap (λ (r : Found KindHead). r >>= λ kind. unless (not (list_any (λ g. g == kind.number) given)) (f.TwiceNamed line.named.from) >> (resolved_actions whole n kind dos >>= λ actions. end kind.number actions)) looked
+        ∙ ap (λ b. unless (not b) (f.TwiceNamed line.named.from) >> (resolved_actions whole n head dos >>= λ actions. end i actions)) (free i (omega arith))
         ∙ ap (λ (r : Found (List PlainAction)). r >>= λ actions. end i actions) means
         ∙ ap (λ ks. Ok (with_kinds d ks (given ++ i ∷ []))) new in
         record {
@@ -216,7 +217,7 @@ module _ (whole : List ℕ) (utf8 : IsUtf8 whole) (n : Naming) where
     add_ons done [] d given ds more all fits free lines = record { now = given; leads = ap (λ l. each (with_declaration whole n) (with_kinds d (done ++ []) given) (l ++ more)) lines }
     add_ons done (k ∷ ks) d given ds more all fits free lines =
         let few = true_le (length k.actions) 32 (three_middle (is_name k.name) (nat_le (length k.actions) 32) (list_all (plain_action_fits families k.keyed k.has_value) k.actions) (and_left (plain_kind_fits families k) (list_all (plain_kind_fits families) ks) fits)) in
-        let found : slice_get kinds (length done) ≡ Some k = ap (λ l. slice_get l (length done)) all ∙ at_place done k ks in
+        let found : slice_get kinds (length done) ≡ Some k = ap (λ l. slice_get l (length done)) all ∙ slice_get-behind done k ks in
         let first = one_on done k (map without_actions ks) d given k.actions lines.0 (lines.1 ++ more) refl few found free lines.3 in
         let next : List PlainKind = done ++ k ∷ [] in
         let size : length done + 1 ≡ length next = sym (length-append done (k ∷ [])) in

@@ -1,40 +1,48 @@
 -- The normal form of a job is read as that job.
-use Rattle.std.proofs.Common.{◌≡◌, ◌≤◌, ◌+◌, ℕ, true, ◌&&◌, List, [], ◌∷◌, ◌++◌, map, length, Some, Ok, refl, sym, ap, subst, ◌∙◌, append_assoc, arith}
-use Rattle.std.specs.Prelude.{not}
+use Rattle.std.proofs.Common.{◌≡◌, ◌≤◌, ◌+◌, ℕ, pos, Bool, true, false, ◌&&◌, ◌||◌, Option, None, List, [], ◌∷◌, ◌++◌, map, length, Some, Ok, refl, sym, ap, subst, ◌∙◌, append_assoc, arith}
+use Rattle.std.specs.Prelude.{not, ◌==◌, if◌then◌else◌}
 use Rattle.std.specs.List.{list_all, list_any}
 use Rattle.std.specs.Str.{IsUtf8}
 use Rattle.std.proofs.lemmas.List.Concat.{flat_map-append}
-use Rattle.flu_lemmas.proofs.Tests.{le_true}
+use Rattle.flu_lemmas.proofs.Tests.{le_true, true_eq}
+use Rattle.flu_lemmas.proofs.Booleans.{or_front, three_left, three_right}
+use Rattle.flu_lemmas.specs.Items.{Begins}
+use Rattle.flu_lemmas.proofs.Items.{begins_append, Took, took_none}
 use Rattle.flu_text.specs.declared.words.Token.{Token}
-use Rattle.flu_text.specs.Layout.{layout, tokens_of}
-use Rattle.flu_text.specs.Laws.{LayoutIsRead}
+use Rattle.flu_text.specs.Layout.{Piece as Laid, layout, tokens_of}
 use Rattle.flu_text.specs.Reading.{Reading as TokenReading}
 use Rattle.flu_rules.proofs.DistinctLemmas.{distinct-append}
 use Rattle.flu_model.specs.declared.limits.What.TheVariants.{Bytes}
 use Rattle.flu_model.specs.declared.jobs.Family.{Family}
 use Rattle.flu_model.specs.declared.jobs.Source.{Source}
 use Rattle.flu_model.specs.Erasure.{PlainKind, Job}
-use Rattle.flu_model.specs.Rules.{is_name, is_same_text, are_distinct}
-use Rattle.flu_syntax.specs.Tree.{Declaration}
+use Rattle.flu_model.specs.Rules.{is_same_text, are_distinct}
+use Rattle.flu_names.specs.declared.reserved.Reserved.TheVariants as r
+use Rattle.flu_rules.specs.Keys.{TagsMeet, TagsDiffer}
+use Rattle.flu_syntax.specs.declared.tree.WrittenNumber.{WrittenNumber}
+use Rattle.flu_syntax.specs.Tree.{Declaration, Job as WrittenJob}
 use Rattle.flu_syntax.specs.Machine.{Verdict}
-use Rattle.flu_syntax.specs.Grammar.{declaration_signs, job_signs, IsJob, FoundIsJob}
+use Rattle.flu_syntax.specs.Grammar.{IsSign, declaration_signs, declarations_signs, version_signs, job_signs, IsJob}
+use Rattle.flu_syntax.specs.Laws.{FoundIsJob}
+use Rattle.flu_names.specs.Names.{is_name}
+use Rattle.flu_layout.specs.Laid.{blank, line_end, reserved, number}
+use Rattle.flu_layout.specs.Stands.{Stand}
+use Rattle.flu_layout.specs.Laws.{LaidIsRead, BegunAreSigns, KeysAreSpelled, KeysAreLaid}
 use Rattle.flu_parse.specs.declared.faults.JobFault.TheVariants as f
 use Rattle.flu_parse.specs.Faults.{Found, ◌>>=◌, ◌>>◌, unless, each}
 use Rattle.flu_parse.specs.Naming.{Naming, no_names, naming_of}
-use Rattle.flu_parse.specs.Resolving.{Drafted, with_declaration, family, idle_kind, draft_of, resolved}
+use Rattle.flu_parse.specs.Resolving.{Drafted, with_declaration, family, idle_kind, draft_of, version_of, job_with as draft_with, resolved}
 use Rattle.flu_parse.specs.Reading.{text_in, found_tokens, tokens_in, found_job, written_in, job_in}
 use Rattle.flu_parse.specs.Printing.{normal_form}
 use Rattle.flu_parse.proofs.ReadingLemmas.{text_in-utf8}
-use Rattle.flu_parse.proofs.General.{three_left, three_right}
-use Rattle.flu_parse.proofs.PrintedRules.{plain_depend_fits, plain_source_fits, names_of_job, JobFits}
-use Rattle.flu_parse.proofs.PrintedWords.{cell_line_words, tag_line_words, depends_line_words, source_line_words, job_words, job_layout}
-use Rattle.flu_parse.proofs.PrintedTokens.{Stand, Begins, begins-append, all_signs, stand}
-use Rattle.flu_parse.proofs.PrintedLines.{names_of_kinds, job_laid}
-use Rattle.flu_parse.proofs.PrintedTerms.{family_head, FamiliesKnown}
-use Rattle.flu_parse.proofs.PrintedTags.{kind_head, KindsKnown}
-use Rattle.flu_parse.proofs.PrintedDeclarations.{Lines, CellIs, TagIs, DependsIs, SourceIs, Ons, declarations-append, read_lines, read_cell_line, read_tag_line, read_depends_line, read_ons, read_source_line}
-use Rattle.flu_parse.proofs.PrintedNames.{family_heads, kind_heads, naming_of_job, own_head, Left, all_fresh, declare_cells, declare_tags, declare_depends, declare_ons, declare_sources, counted}
-use Rattle.flu_parse.proofs.PrintedDrafts.{without_actions, itags_counted, total_itags, skip_cells, skip_tags, add_depends, add_ons, add_sources}
+use Rattle.flu_parse.proofs.Printed.Rules.{plain_depend_fits, plain_source_fits, names_of_job, JobFits}
+use Rattle.flu_parse.proofs.Printed.Words.{version_words, cell_line_words, tag_line_words, depends_line_words, source_line_words, job_words, job_layout}
+use Rattle.flu_parse.proofs.Printed.LaidLines.{names_of_kinds, job_laid}
+use Rattle.flu_parse.proofs.Printed.ReadTerms.{family_head, FamiliesKnown}
+use Rattle.flu_parse.proofs.Printed.ReadTags.{kind_head, KindsKnown}
+use Rattle.flu_parse.proofs.Printed.ReadLines.{Lines, CellIs, TagIs, DependsIs, SourceIs, Ons, declarations-append, read_lines, read_cell_line, read_tag_line, read_depends_line, read_ons, read_source_line}
+use Rattle.flu_parse.proofs.Printed.Names.{family_heads, kind_heads, naming_of_job, own_head, Left, all_fresh, declare_cells, declare_tags, declare_depends, declare_ons, declare_sources, counted}
+use Rattle.flu_parse.proofs.Printed.Drafts.{without_actions, itags_counted, total_itags, skip_cells, skip_tags, add_depends, add_ons, add_sources}
 
 families_back : (i : ℕ) (fs : List Family) → map family (family_heads i fs) ≡ fs
 families_back i [] = refl
@@ -63,7 +71,7 @@ apart job h =
       kinds = three_right (are_distinct is_same_text a) (not (list_any (λ x. list_any (is_same_text x) b) a)) (are_distinct is_same_text b) both;
     }
 
-module _ (job : Job) (fits : JobFits job) (whole : List ℕ) (utf8 : IsUtf8 whole) where
+module _ (begun : BegunAreSigns) (meet : TagsMeet) (differ : TagsDiffer) (job : Job) (fits : JobFits job) (whole : List ℕ) (utf8 : IsUtf8 whole) where
   n : Naming
   n = naming_of_job job
 
@@ -100,15 +108,40 @@ module _ (job : Job) (fits : JobFits job) (whole : List ℕ) (utf8 : IsUtf8 whol
 
   -- the tokens are these declarations
   record IsRead (ts : List Token) : Type 0 where
+    version : Option WrittenNumber
     parts : Parts
-    is : IsJob ts (all_parts parts)
+    version_is : version_of version ≡ Ok job.version
+    is : IsJob ts (record { version = version; declarations = all_parts parts })
 
-  begin_more : (a b : List Declaration) (ts more rest : List Token) → Begins (job_signs a) ts more → Begins (job_signs b) more rest → Begins (job_signs (a ++ b)) ts rest
-  begin_more a b ts more rest h k = subst (λ l. Begins l ts rest) (sym (flat_map-append declaration_signs a b)) (begins-append (job_signs a) (job_signs b) ts more rest h k)
+  -- the version, as it is read
+  record VersionIs (rest : List Laid) (ts : List Token) : Type 0 where
+    written : Option WrittenNumber
+    took : Took IsSign (Stand whole) (version_signs written) rest ts
+    is : version_of written ≡ Ok job.version
+
+  read_version : (rest : List Laid) (ts : List Token) → Stand whole (version_words job.version rest) ts → VersionIs rest ts
+  read_version rest ts h = by (job.version == 2) refl h
+    where
+      by : (two : Bool) → (job.version == 2) ≡ two → Stand whole (if two then reserved r.Version blank ∷ number (pos 2) line_end ∷ rest else rest) ts → VersionIs rest ts
+      by true e h = record {
+        written = Some (record { value = pos 2; at = h.4.0.from });
+        took = record { rest = h.4.1; begins = (h.0, h.1, h.2, h.3.word, (h.4.0, h.4.1, h.4.2, (h.4.3.word, refl), refl)); stand = h.4.4 };
+        is = ap Ok (sym (true_eq job.version 2 e));
+      }
+      by false e h = record {
+        written = None;
+        took = took_none IsSign (Stand whole) rest ts h;
+        is = ap Ok (sym (true_eq job.version 1 (or_front (job.version == 1) (job.version == 2) fits.known_version e)));
+      }
+
+  begin_more : (a b : List Declaration) (ts more rest : List Token) → Begins IsSign (declarations_signs a) ts more → Begins IsSign (declarations_signs b) more rest → Begins IsSign (declarations_signs (a ++ b)) ts rest
+  begin_more a b ts more rest h k = subst (λ l. Begins IsSign l ts rest) (sym (flat_map-append declaration_signs a b)) (begins_append IsSign (declarations_signs a) (declarations_signs b) ts more rest h k)
 
   read_parts : (ts : List Token) → Stand whole (job_words job) ts → IsRead ts
-  read_parts ts h =
-      let cells = read_lines whole cell_line_words (CellIs whole utf8) (λ (g : Family). is_name g.name) (read_cell_line whole utf8) job.families _ ts fits.families h in
+  read_parts tokens h =
+      let version = read_version _ tokens h in
+      let ts = version.took.rest in
+      let cells = read_lines whole cell_line_words (CellIs whole utf8) (λ (g : Family). is_name g.name) (read_cell_line whole utf8) job.families _ ts fits.families version.took.stand in
       let tags = read_lines whole tag_line_words (TagIs whole utf8) (λ (k : PlainKind). is_name k.name) (read_tag_line whole utf8) job.kinds _ cells.took.rest named_kinds cells.took.stand in
       let deps = read_lines whole (depends_line_words job.kinds) (DependsIs whole utf8 job.kinds named_kinds n known_kinds) (plain_depend_fits job.kinds) (read_depends_line whole utf8 job.kinds named_kinds n known_kinds) job.depends _ tags.took.rest fits.depends tags.took.stand in
       let ons = read_ons whole utf8 job.families fits.families n known_families 0 job.kinds _ deps.took.rest fits.kinds deps.took.stand in
@@ -130,13 +163,17 @@ module _ (job : Job) (fits : JobFits job) (whole : List ℕ) (utf8 : IsUtf8 whol
       let third = begin_more deps.written (ons.written ++ (sources.written ++ [])) tags.took.rest deps.took.rest sources.took.rest deps.took.begins fourth in
       let second = begin_more tags.written (deps.written ++ (ons.written ++ (sources.written ++ []))) cells.took.rest tags.took.rest sources.took.rest tags.took.begins third in
       let first = begin_more cells.written (tags.written ++ (deps.written ++ (ons.written ++ (sources.written ++ [])))) ts cells.took.rest sources.took.rest cells.took.begins second in
+      let written : WrittenJob = record { version = version.written; declarations = all_parts p } in
+      let whole_job = begins_append IsSign (version_signs version.written) (declarations_signs (all_parts p)) tokens ts sources.took.rest version.took.begins first in
       record {
+        version = version.written;
         parts = p;
+        version_is = version.is;
         is = record {
           grammar =
               declarations-append cells.written _ cells.are (declarations-append tags.written _ tags.are (declarations-append deps.written _ deps.are
               (declarations-append ons.written _ ons.are (declarations-append sources.written [] sources.are tt))));
-          spelled = all_signs (job_signs (all_parts p)) ts (subst (λ l. Begins (job_signs (all_parts p)) ts l) sources.took.stand first);
+          spelled = begun (job_signs written) tokens (subst (λ l. Begins IsSign (job_signs written) tokens l) sources.took.stand whole_job);
         };
       }
 
@@ -177,32 +214,36 @@ module _ (job : Job) (fits : JobFits job) (whole : List ℕ) (utf8 : IsUtf8 whol
             ∙ skip_tags whole utf8 n job.kinds start p.tags behind_tags p.are_tags
             ∙ add_depends whole utf8 n job.kinds named_kinds known_kinds job.depends start p.deps (p.ons ++ (p.sources ++ [])) p.are_deps
             ∙ ons.leads
-            ∙ add_sources whole utf8 n job.kinds named_kinds known_kinds [] job.sources with_ons p.sources [] p.are_sources refl fits.sources fits.own_files few,
+            ∙ add_sources whole utf8 n job.kinds named_kinds known_kinds meet differ [] job.sources with_ons p.sources [] p.are_sources refl fits.sources fits.own_files few,
       )
 
-  resolved_is : (p : Parts) → resolved whole (all_parts p) ≡ Ok job
+  resolved_is : (p : Parts) (version : Option WrittenNumber) → version_of version ≡ Ok job.version → resolved whole (record { version = version; declarations = all_parts p }) ≡ Ok job
   unfolding n resolved
-  resolved_is p =
+  resolved_is p version known =
       let d = drafted p in
-      ap (λ (r : Found Naming). r >>= λ n. draft_of whole n (all_parts p) >>= λ d. Ok (let j : Job = record { families = map family n.families; kinds = d.kinds; depends = d.depends; sources = d.sources } in j)) (named p)
-      ∙ ap (λ (r : Found Drafted). r >>= λ d. Ok (let j : Job = record { families = map family n.families; kinds = d.kinds; depends = d.depends; sources = d.sources } in j)) d.2
-      ∙ ap (λ fs. Ok (let j : Job = record { families = fs; kinds = job.kinds; depends = job.depends; sources = job.sources } in j)) (families_back 0 job.families)
+      ap (λ (r : Found Naming). r >>= λ n. version_of version >>= λ v. draft_of whole n (all_parts p) >>= λ d. Ok (draft_with v n d)) (named p)
+      ∙ ap (λ (r : Found ℕ). r >>= λ v. draft_of whole n (all_parts p) >>= λ d. Ok (draft_with v n d)) known
+      ∙ ap (λ (r : Found Drafted). r >>= λ d. Ok (draft_with job.version n d)) d.2
+      ∙ ap (λ fs. Ok (let j : Job = record { version = job.version; families = fs; kinds = job.kinds; depends = job.depends; sources = job.sources } in j)) (families_back 0 job.families)
 
 -- the words of the normal form are read as the job
-laid_is_read : LayoutIsRead → FoundIsJob → (job : Job) → JobFits job → IsUtf8 (layout (job_words job)) → length (layout (job_words job)) ≤ 1048576 → job_in (layout (job_words job)) ≡ Ok job
+laid_is_read : LaidIsRead → BegunAreSigns → KeysAreLaid → FoundIsJob → TagsMeet → TagsDiffer → (job : Job) → JobFits job → IsUtf8 (layout (job_words job))
+    → length (layout (job_words job)) ≤ 1048576 → job_in (layout (job_words job)) ≡ Ok job
 unfolding job_in
-laid_is_read read found job fits utf8 few =
+laid_is_read read begun keys found meet differ job fits utf8 few =
     let whole : List ℕ = layout (job_words job) in
     let ts : List Token = tokens_of 0 (job_words job) in
-    let parts = read_parts job fits whole utf8 ts (stand (job_words job)) in
-    let written : List Declaration = all_parts job fits whole utf8 parts.parts in
+    let reads = read (job_words job) (job_laid keys job fits) utf8 in
+    let parts = read_parts begun meet differ job fits whole utf8 ts reads.1 in
+    let written : WrittenJob = record { version = parts.version; declarations = all_parts begun meet differ job fits whole utf8 parts.parts } in
     let rest : List ℕ → Found Job = λ text. tokens_in text >>= λ ts. written_in (length text) ts >>= λ written. resolved text written in
     ap (λ b. unless b (f.OverLimit Bytes 1048577) >> (text_in whole >>= rest)) (le_true (length whole) 1048576 few)
     ∙ ap (λ (r : Found (List ℕ)). r >>= rest) (text_in-utf8 whole whole refl utf8)
-    ∙ ap (λ (r : TokenReading). found_tokens r >>= λ ts. written_in (length whole) ts >>= λ written. resolved whole written) (read (job_words job) (job_laid job fits).laid)
-    ∙ ap (λ (v : Verdict). found_job v >>= λ written. resolved whole written) ((found (length whole) ts written).1 parts.is)
-    ∙ resolved_is job fits whole utf8 parts.parts
+    ∙ ap (λ (r : TokenReading). found_tokens r >>= λ ts. written_in (length whole) ts >>= λ written. resolved whole written) reads.0
+    ∙ ap (λ (v : Verdict WrittenJob). found_job v >>= λ written. resolved whole written) ((found (length whole) ts written).1 parts.is)
+    ∙ resolved_is begun meet differ job fits whole utf8 parts.parts parts.version parts.version_is
 
-pub job_is_read : LayoutIsRead → FoundIsJob → (job : Job) → JobFits job → IsUtf8 (normal_form job) → length (normal_form job) ≤ 1048576 → job_in (normal_form job) ≡ Ok job
-job_is_read read found job fits =
-    subst (λ text. IsUtf8 text → length text ≤ 1048576 → job_in text ≡ Ok job) (job_layout job) (laid_is_read read found job fits)
+pub job_is_read : LaidIsRead → BegunAreSigns → KeysAreSpelled → KeysAreLaid → FoundIsJob → TagsMeet → TagsDiffer → (job : Job) → JobFits job → IsUtf8 (normal_form job)
+    → length (normal_form job) ≤ 1048576 → job_in (normal_form job) ≡ Ok job
+job_is_read read begun spelled keys found meet differ job fits =
+    subst (λ text. IsUtf8 text → length text ≤ 1048576 → job_in text ≡ Ok job) (job_layout spelled job) (laid_is_read read begun keys found meet differ job fits)

@@ -1,6 +1,6 @@
 -- A field that was printed is read as that field.
 use Rattle.std.proofs.Common.{◌≡◌, ◌<◌, ◌^◌, ◌+◌, ◌-◌, ℕ, pos, Bool, true, false, cond, ◌&&◌, List, [], ◌∷◌, ◌++◌, length, Option, Some, None, Ok, refl, sym, ap, ◌∙◌, append_assoc, length-append, arith}
-use Rattle.std.specs.Prelude.{nat_lt, not, option_map, slice_get, codes, if◌then◌else◌}
+use Rattle.std.specs.Prelude.{nat_lt, nat_le, not, option_map, slice_get, codes, if◌then◌else◌}
 use Rattle.std.specs.Char.{is_ascii_digit}
 use Rattle.std.specs.Fmt.{decimal}
 use Rattle.std.specs.List.{list_all, list_any, prefix_len, position}
@@ -12,33 +12,43 @@ use Rattle.std.proofs.lemmas.List.{append-nil}
 use Rattle.std.proofs.lemmas.List.Folds.{list_all-append, list_any-append}
 use Rattle.std.proofs.lemmas.Slice.Eq.{bytes_eq-Decides}
 use Rattle.flu_lemmas.proofs.Tests.{and_left, and_right, both, true_lt, lt_true, not_true, not_both, false_if_not}
+use Rattle.flu_lemmas.specs.Spans.{is_boundary, spelled}
+use Rattle.flu_lemmas.proofs.Booleans.{or_true}
+use Rattle.flu_lemmas.proofs.Elements.{list_all_weaker, fails_at}
+use Rattle.flu_lemmas.proofs.Spans.{Place, before_ascii, after_ascii, spelled_between}
+use Rattle.flu_lemmas.proofs.Digits.{decimal_digits}
 use Rattle.flu_text.specs.Lexeme.{number_of}
 use Rattle.flu_model.specs.declared.jobs.At.{At}
 use Rattle.flu_model.specs.declared.jobs.At.TheVariants as at
 use Rattle.flu_model.specs.declared.limits.What.TheVariants.{Key}
 use Rattle.flu_model.specs.Contents.{key_count}
-use Rattle.flu_model.specs.Rules.{is_name, is_letter_or_digit, is_same_text, reserved_words, key_fits}
+use Rattle.flu_model.specs.Rules.{key_fits}
+use Rattle.flu_model.specs.Templates.{written_key}
 use Rattle.flu_syntax.specs.declared.tree.WrittenKey.{WrittenKey}
 use Rattle.flu_syntax.specs.declared.tree.WrittenKey.TheVariants as k
 use Rattle.flu_syntax.specs.declared.tree.WrittenRef.{WrittenRef}
+use Rattle.flu_names.specs.declared.reserved.Reserved.{Reserved}
+use Rattle.flu_names.specs.declared.reserved.Reserved.TheVariants as r
+use Rattle.flu_names.specs.Names.{is_name, is_name_byte, begins_as_name, is_reserved, reserved_spelling, reserved_words}
+use Rattle.flu_layout.specs.Spelling.{name_of}
 use Rattle.flu_parse.specs.declared.faults.JobFault.TheVariants as f
 use Rattle.flu_parse.specs.declared.names.KindHead.{KindHead}
 use Rattle.flu_parse.specs.declared.pieces.WrittenPiece.{WrittenPiece}
 use Rattle.flu_parse.specs.declared.pieces.WrittenPiece.TheVariants as p
 use Rattle.flu_parse.specs.Faults.{◌>>=◌, ◌>>◌, unless}
-use Rattle.flu_parse.specs.Spelling.{is_boundary, spelled, name_of}
 use Rattle.flu_parse.specs.Cells.{brackets_fit, at_of}
 use Rattle.flu_parse.specs.Templates.{span, is_open_bracket, digits_at, key_at, ref_with, ref_at, field_at, own_key_fits}
-use Rattle.flu_parse.specs.Printing.{key_text}
-use Rattle.flu_parse.proofs.General.{or_true, passes_too, fails_at}
-use Rattle.flu_parse.proofs.PrintedSpans.{Place, before_ascii, after_ascii, spelled_between, name_facts, name_between}
-use Rattle.flu_parse.proofs.PrintedLaid.{decimal_digits}
-use Rattle.flu_parse.proofs.PrintedScans.{no_brace}
+use Rattle.flu_parse.proofs.Printed.Quotes.{name_bytes, name_between}
+use Rattle.flu_parse.proofs.Printed.Scans.{no_brace}
 
 -- ---- names are none of the words that a field may be
 
-not_reserved : (n word : List ℕ) (i : ℕ) → is_name n ≡ true → slice_get reserved_words i ≡ Some word → bytes_eq n word ≡ false
-not_reserved n word i named found = fails_at (is_same_text n) reserved_words i word (not_true (list_any (is_same_text n) reserved_words) (name_facts n named).free) found
+not_reserved : (n : List ℕ) (word : Reserved) (i : ℕ) → is_name n ≡ true → slice_get reserved_words i ≡ Some word → bytes_eq n (reserved_spelling word) ≡ false
+not_reserved n word i named found =
+    let free = and_right (begins_as_name n && list_all is_name_byte n && nat_le (length n) 32) (not (is_reserved n)) named in
+    let other = fails_at (λ (r : Reserved). bytes_eq (reserved_spelling r) n) reserved_words i word (not_true (is_reserved n) free) found in
+    false_if_not (bytes_eq n (reserved_spelling word)) (λ e.
+      not_both (bytes_eq (reserved_spelling word) n) ((bytes_eq-Decides (reserved_spelling word) n).1 (sym ((bytes_eq-Decides n (reserved_spelling word)).0 e))) other)
 
 -- what has a bracket is no word without one
 not_bracketed : (n more word : List ℕ) → list_any is_open_bracket word ≡ false → bytes_eq (n ++ 91 ∷ more) word ≡ false
@@ -77,7 +87,7 @@ own_key at = refl
 
 -- ---- the first bracket
 
-no_bracket : (b : ℕ) → is_letter_or_digit b ≡ true → not (is_open_bracket b) ≡ true
+no_bracket : (b : ℕ) → is_name_byte b ≡ true → not (is_open_bracket b) ≡ true
 no_bracket b h = grind (arith, nat_tests)
 
 prefix_all : (q : ℕ → Bool) (n : List ℕ) → list_all q n ≡ true → prefix_len q n ≡ length n
@@ -95,15 +105,15 @@ prefix_to q (b ∷ n) y more h stop =
 abbrev position_with : List ℕ → ℕ → Option ℕ
 position_with xs n = cond (nat_lt n (length xs)) (Some n) None
 
-no_position : (n : List ℕ) → list_all is_letter_or_digit n ≡ true → position is_open_bracket n ≡ None
+no_position : (n : List ℕ) → list_all is_name_byte n ≡ true → position is_open_bracket n ≡ None
 no_position n h =
     let none : nat_lt (length n) (length n) ≡ false = grind (arith, nat_tests) in
-    ap (position_with n) (prefix_all (λ b. not (is_open_bracket b)) n (passes_too is_letter_or_digit (λ b. not (is_open_bracket b)) no_bracket n h)) ∙ ap (λ t. cond t (Some (length n)) None) none
+    ap (position_with n) (prefix_all (λ b. not (is_open_bracket b)) n (list_all_weaker is_name_byte (λ b. not (is_open_bracket b)) n no_bracket h)) ∙ ap (λ t. cond t (Some (length n)) None) none
 
-position_is : (n more : List ℕ) → list_all is_letter_or_digit n ≡ true → position is_open_bracket (n ++ 91 ∷ more) ≡ Some (length n)
+position_is : (n more : List ℕ) → list_all is_name_byte n ≡ true → position is_open_bracket (n ++ 91 ∷ more) ≡ Some (length n)
 position_is n more h =
     let inside : length n < length (n ++ 91 ∷ more) = omega (arith, length-append n (91 ∷ more)) in
-    ap (position_with (n ++ 91 ∷ more)) (prefix_to (λ b. not (is_open_bracket b)) n 91 more (passes_too is_letter_or_digit (λ b. not (is_open_bracket b)) no_bracket n h) refl)
+    ap (position_with (n ++ 91 ∷ more)) (prefix_to (λ b. not (is_open_bracket b)) n 91 more (list_all_weaker is_name_byte (λ b. not (is_open_bracket b)) n no_bracket h) refl)
     ∙ ap (λ t. cond t (Some (length n)) None) (lt_true (length n) (length (n ++ 91 ∷ more)) inside)
 
 -- ---- what stands between braces
@@ -122,7 +132,7 @@ module _ (whole : List ℕ) (utf8 : IsUtf8 whole) (before n after : List ℕ) (f
   alone at size =
       let word = word_between whole before n after from to at size begins in
       ap (λ w. ref_with whole from to (position is_open_bracket w)) word
-      ∙ ap (ref_with whole from to) (no_position n (name_facts n named).bytes)
+      ∙ ap (ref_with whole from to) (no_position n (name_bytes n named))
       ∙ ap (λ w. if is_name w then Some (p.Read (record { family = span from to; key = k.Alone })) else None) word
       ∙ ap (λ t. if t then Some (p.Read (record { family = span from to; key = k.Alone })) else None) named
 
@@ -152,7 +162,7 @@ module _ (whole : List ℕ) (utf8 : IsUtf8 whole) (before n after : List ℕ) (f
       spelled_between whole (((before ++ n) ++ 91 ∷ []) ++ inner) (93 ∷ []) (125 ∷ after) (to - 1) to (record { is = close_is; here = close_here }) (omega (arith, size, sizes)) before_close before_brace in
       let make : WrittenKey → WrittenPiece = λ key. p.Read (record { family = span from (from + i); key = key }) in
       ap (λ w. ref_with whole from to (position is_open_bracket w)) (word_between whole before (n ++ 91 ∷ (inner ++ 93 ∷ [])) after from to at size begins)
-      ∙ ap (ref_with whole from to) (position_is n (inner ++ 93 ∷ []) (name_facts n named).bytes)
+      ∙ ap (ref_with whole from to) (position_is n (inner ++ 93 ∷ []) (name_bytes n named))
       ∙ ap (λ w. if is_name w && bytes_eq (spelled whole (to - 1) to) (codes "]") then option_map make (key_at (spelled whole (from + i + 1) (to - 1)) (from + i + 1)) else None) name_spelled
       ∙ ap (λ t. if t && bytes_eq (spelled whole (to - 1) to) (codes "]") then option_map make (key_at (spelled whole (from + i + 1) (to - 1)) (from + i + 1)) else None) named
       ∙ ap (λ w. if bytes_eq w (codes "]") then option_map make (key_at (spelled whole (from + i + 1) (to - 1)) (from + i + 1)) else None) close_spelled
@@ -169,7 +179,7 @@ pub record FieldIs (whole : List ℕ) (under : KindHead) (n : List ℕ) (family_
   pub means : at_of under written.key ≡ Ok a
 
 module _ (whole : List ℕ) (utf8 : IsUtf8 whole) (under : KindHead) (before n after : List ℕ) (from to : ℕ) (named : is_name n ≡ true) (begins : is_boundary whole from ≡ true) where
-  pub read_field : (family_keyed : Bool) (a : At) → key_fits family_keyed under.keyed a ≡ true → Place whole before ((n ++ key_text a) ++ 125 ∷ after) from → to ≡ from + length (n ++ key_text a) → FieldIs whole under n family_keyed a from to
+  pub read_field : (family_keyed : Bool) (a : At) → key_fits family_keyed under.keyed a ≡ true → Place whole before ((n ++ written_key a) ++ 125 ∷ after) from → to ≡ from + length (n ++ written_key a) → FieldIs whole under n family_keyed a from to
   read_field family_keyed at.Alone fits place size =
       let at_name : Place whole before (n ++ 125 ∷ after) from = record { is = place.is ∙ ap (λ w. before ++ (w ++ 125 ∷ after)) (append-nil n); here = place.here } in
       let name_size : to ≡ from + length n = size ∙ ap (λ w. from + length w) (append-nil n) in
@@ -193,11 +203,11 @@ module _ (whole : List ℕ) (utf8 : IsUtf8 whole) (under : KindHead) (before n a
       }
   read_field family_keyed (at.Fixed m) fits place size =
       let small = and_right family_keyed (nat_lt m key_count) fits in
-      let name_at : Place whole before (n ++ (key_text (at.Fixed m) ++ 125 ∷ after)) from = record { is = place.is ∙ ap (λ w. before ++ w) (append_assoc n (key_text (at.Fixed m)) (125 ∷ after)); here = place.here } in
+      let name_at : Place whole before (n ++ (written_key (at.Fixed m) ++ 125 ∷ after)) from = record { is = place.is ∙ ap (λ w. before ++ w) (append_assoc n (written_key (at.Fixed m)) (125 ∷ after)); here = place.here } in
       record {
         written = record { family = span from (from + length n); key = k.Fixed (record { value = pos m; at = from + length n + 1 }) };
         read = bracketed whole utf8 before n after from to named begins (decimal m) (k.Fixed (record { value = pos m; at = from + length n + 1 })) place size (key_of_number m (from + length n + 1) (true_lt m 65536 small));
-        named = name_between whole before n (key_text (at.Fixed m) ++ 125 ∷ after) from (from + length n) utf8 named name_at refl;
+        named = name_between whole before n (written_key (at.Fixed m) ++ 125 ∷ after) from (from + length n) utf8 named name_at refl;
         brackets = and_left family_keyed (nat_lt m key_count) fits;
         own = refl;
         means = ap (λ b. unless b (f.OverLimit Key m) >> Ok m >>= λ key. Ok (at.Fixed key)) small;
@@ -218,35 +228,36 @@ unfolding field_at
 field_of_word whole in_flush from to word e = ap (field_with whole in_flush from to) e
 
 -- the word of a reference is none of the others
-other_word : (n : List ℕ) (a : At) (i : ℕ) (word : List ℕ) → is_name n ≡ true → slice_get reserved_words i ≡ Some word → list_any is_open_bracket word ≡ false → bytes_eq (n ++ key_text a) word ≡ false
-other_word n at.Alone i word named found none = ap (λ w. bytes_eq w word) (append-nil n) ∙ not_reserved n word i named found
-other_word n at.OwnKey i word named found none = not_bracketed n (codes "key]") word none
-other_word n (at.Fixed m) i word named found none = not_bracketed n (decimal m ++ codes "]") word none
+other_word : (n : List ℕ) (a : At) (i : ℕ) (word : Reserved) → is_name n ≡ true → slice_get reserved_words i ≡ Some word
+    → list_any is_open_bracket (reserved_spelling word) ≡ false → bytes_eq (n ++ written_key a) (reserved_spelling word) ≡ false
+other_word n at.Alone i word named found none = ap (λ w. bytes_eq w (reserved_spelling word)) (append-nil n) ∙ not_reserved n word i named found
+other_word n at.OwnKey i word named found none = not_bracketed n (codes "key]") (reserved_spelling word) none
+other_word n (at.Fixed m) i word named found none = not_bracketed n (decimal m ++ codes "]") (reserved_spelling word) none
 
-pub field_of_ref : (whole : List ℕ) (from to : ℕ) (n : List ℕ) (a : At) → is_name n ≡ true → spelled whole from to ≡ n ++ key_text a → field_at whole false from to ≡ ref_at whole from to
+pub field_of_ref : (whole : List ℕ) (from to : ℕ) (n : List ℕ) (a : At) → is_name n ≡ true → spelled whole from to ≡ n ++ written_key a → field_at whole false from to ≡ ref_at whole from to
 field_of_ref whole from to n a named e =
-    let word : List ℕ = n ++ key_text a in
+    let word : List ℕ = n ++ written_key a in
     field_of_word whole false from to word e
-    ∙ ap (λ t. if t then Some p.Value else if bytes_eq word (codes "key") then Some p.Key else if bytes_eq word (codes "time") then Some p.Time else ref_at whole from to) (other_word n a 21 (codes "value") named refl refl)
-    ∙ ap (λ t. if t then Some p.Key else if bytes_eq word (codes "time") then Some p.Time else ref_at whole from to) (other_word n a 22 (codes "key") named refl refl)
-    ∙ ap (λ t. if t then Some p.Time else ref_at whole from to) (other_word n a 23 (codes "time") named refl refl)
+    ∙ ap (λ t. if t then Some p.Value else if bytes_eq word (codes "key") then Some p.Key else if bytes_eq word (codes "time") then Some p.Time else ref_at whole from to) (other_word n a 21 r.Value named refl refl)
+    ∙ ap (λ t. if t then Some p.Key else if bytes_eq word (codes "time") then Some p.Time else ref_at whole from to) (other_word n a 22 r.Key named refl refl)
+    ∙ ap (λ t. if t then Some p.Time else ref_at whole from to) (other_word n a 23 r.Time named refl refl)
 
 -- no word of a field has a closing brace
-key_closed : (a : At) (family_keyed keyed : Bool) → key_fits family_keyed keyed a ≡ true → list_all no_brace (key_text a) ≡ true
+key_closed : (a : At) (family_keyed keyed : Bool) → key_fits family_keyed keyed a ≡ true → list_all no_brace (written_key a) ≡ true
 key_closed at.Alone family_keyed keyed fits = refl
 key_closed at.OwnKey family_keyed keyed fits = refl
 key_closed (at.Fixed m) family_keyed keyed fits =
     let small : m < 65536 = true_lt m 65536 (and_right family_keyed (nat_lt m key_count) fits) in
-    let digits = passes_too is_ascii_digit no_brace digit_no_brace (decimal m) (decimal_digits m (omega arith)) in
+    let digits = list_all_weaker is_ascii_digit no_brace (decimal m) digit_no_brace (decimal_digits m (omega arith)) in
     list_all-append no_brace (codes "[" ++ decimal m) (codes "]") ∙ both (list_all no_brace (codes "[" ++ decimal m)) true digits refl
   where
     digit_no_brace : (b : ℕ) → is_ascii_digit b ≡ true → no_brace b ≡ true
     digit_no_brace b h = grind (arith, nat_tests)
 
-name_no_brace : (b : ℕ) → is_letter_or_digit b ≡ true → no_brace b ≡ true
+name_no_brace : (b : ℕ) → is_name_byte b ≡ true → no_brace b ≡ true
 name_no_brace b h = grind (arith, nat_tests)
 
-pub ref_closed : (n : List ℕ) (a : At) (family_keyed keyed : Bool) → is_name n ≡ true → key_fits family_keyed keyed a ≡ true → list_all no_brace (n ++ key_text a) ≡ true
+pub ref_closed : (n : List ℕ) (a : At) (family_keyed keyed : Bool) → is_name n ≡ true → key_fits family_keyed keyed a ≡ true → list_all no_brace (n ++ written_key a) ≡ true
 ref_closed n a family_keyed keyed named fits =
-    list_all-append no_brace n (key_text a)
-    ∙ both (list_all no_brace n) (list_all no_brace (key_text a)) (passes_too is_letter_or_digit no_brace name_no_brace n (name_facts n named).bytes) (key_closed a family_keyed keyed fits)
+    list_all-append no_brace n (written_key a)
+    ∙ both (list_all no_brace n) (list_all no_brace (written_key a)) (list_all_weaker is_name_byte no_brace n name_no_brace (name_bytes n named)) (key_closed a family_keyed keyed fits)

@@ -5,30 +5,33 @@ use Rattle.std.specs.List.{list_all}
 use Rattle.std.specs.Str.{IsUtf8}
 use Rattle.std.proofs.lemmas.List.{append-nil}
 use Rattle.flu_lemmas.proofs.Tests.{and_left, and_right, both, not_true}
+use Rattle.flu_lemmas.specs.Spans.{is_boundary}
+use Rattle.flu_lemmas.proofs.Loops.{collect}
+use Rattle.flu_lemmas.proofs.Spans.{Place, before_ascii, after_ascii, spelled_between}
 use Rattle.flu_model.specs.declared.jobs.Family.{Family}
 use Rattle.flu_model.specs.declared.jobs.At.{At}
 use Rattle.flu_model.specs.declared.jobs.CellRef.{CellRef}
 use Rattle.flu_model.specs.declared.jobs.Piece.{Piece}
 use Rattle.flu_model.specs.declared.jobs.Piece.TheVariants as piece
-use Rattle.flu_model.specs.Rules.{is_name, is_plain_byte, is_plain, ref_fits, follows_plain, are_apart}
+use Rattle.flu_model.specs.Rules.{is_plain_byte, is_plain, ref_fits, follows_plain, are_apart}
+use Rattle.flu_model.specs.Templates.{family_name, written_key, written_piece, written_template}
 use Rattle.flu_syntax.specs.declared.tree.WrittenSpan.{WrittenSpan}
+use Rattle.flu_names.specs.Names.{is_name}
+use Rattle.flu_layout.specs.Spelling.{name_of}
 use Rattle.flu_parse.specs.declared.faults.JobFault.TheVariants as f
 use Rattle.flu_parse.specs.declared.names.FamilyHead.{FamilyHead}
 use Rattle.flu_parse.specs.declared.names.KindHead.{KindHead}
 use Rattle.flu_parse.specs.declared.pieces.WrittenPiece.{WrittenPiece}
 use Rattle.flu_parse.specs.declared.pieces.WrittenPiece.TheVariants as p
 use Rattle.flu_parse.specs.Faults.{Found, ◌>>=◌, ◌>>◌, unless, each}
-use Rattle.flu_parse.specs.Spelling.{is_boundary, name_of}
 use Rattle.flu_parse.specs.Naming.{Naming, look_up, known}
 use Rattle.flu_parse.specs.Cells.{brackets_fit, at_of}
 use Rattle.flu_parse.specs.Templates.{span, Template, scan, ref_at, field_at, template_at, known_name, known_names, own_key_fits, read_fits, piece_fits, piece_of, pieces_of, template_of}
-use Rattle.flu_parse.specs.Printing.{family_name, key_text, piece_text, template_text}
-use Rattle.flu_parse.proofs.FaultLemmas.{collect}
-use Rattle.flu_parse.proofs.PrintedSpans.{Place, before_ascii, after_ascii, spelled_between, Quoted, inside_stands}
-use Rattle.flu_parse.proofs.PrintedCells.{family_at, family_named}
-use Rattle.flu_parse.proofs.PrintedTerms.{family_head, FamiliesKnown}
-use Rattle.flu_parse.proofs.PrintedScans.{outside, whole_template, no_brace, plain_part, scan_plain, scan_field, part_is, scan_end}
-use Rattle.flu_parse.proofs.PrintedFields.{word_between, FieldIs, read_field, field_of_word, field_of_ref, ref_closed}
+use Rattle.flu_parse.proofs.Printed.Quotes.{Quoted, inside_stands}
+use Rattle.flu_parse.proofs.Printed.LaidCells.{family_at, family_named}
+use Rattle.flu_parse.proofs.Printed.ReadTerms.{family_head, FamiliesKnown}
+use Rattle.flu_parse.proofs.Printed.Scans.{outside, whole_template, no_brace, plain_part, scan_plain, scan_field, part_is, scan_end}
+use Rattle.flu_parse.proofs.Printed.Fields.{word_between, FieldIs, read_field, field_of_word, field_of_ref, ref_closed}
 
 -- a plain piece that is still open, and the pieces behind it
 abbrev pub with_open : List ℕ → List Piece → List Piece
@@ -174,7 +177,7 @@ module _ (whole : List ℕ) (utf8 : IsUtf8 whole) (families : List Family) (name
             ∙ ap (λ (found : Found At). found >>= λ a. Ok (piece.Read (record { family = r.family; at = a }))) w.means;
       }
 
-  scan_pieces : (rs : List Piece) (before pend after : List ℕ) (start place : ℕ) → Opened before pend (template_text families rs ++ 34 ∷ after) start place → IsApart pend rs → list_all piece_ok rs ≡ true → are_apart rs ≡ true → Scanned start place (template_text families rs) (with_open pend rs)
+  scan_pieces : (rs : List Piece) (before pend after : List ℕ) (start place : ℕ) → Opened before pend (written_template families rs ++ 34 ∷ after) start place → IsApart pend rs → list_all piece_ok rs ≡ true → are_apart rs ≡ true → Scanned start place (written_template families rs) (with_open pend rs)
   scan_pieces [] before pend after start place o apart ok own = record {
     pieces = plain_part pend start place ++ [];
     scanned = λ done. scan_end (field_at whole in_flush) done pend start place o.size ∙ ap (λ l. whole_template (done ++ l)) (sym (append-nil (plain_part pend start place)));
@@ -183,7 +186,7 @@ module _ (whole : List ℕ) (utf8 : IsUtf8 whole) (families : List Family) (name
   scan_pieces (piece.Plain t ∷ rs) before (b ∷ pend) after start place o apart ok own = absurd cc
   scan_pieces (piece.Plain t ∷ rs) before [] after start place o apart ok own =
       let plain = and_left (is_plain t) (list_all piece_ok rs) ok in
-      let more : List ℕ = template_text families rs in
+      let more : List ℕ = written_template families rs in
       let next : Opened before t (more ++ 34 ∷ after) start (place + length t) = record {
         is = record { is = o.is.is ∙ ap (λ l. before ++ l) (append_assoc t more (34 ∷ after)); here = o.is.here };
         size = (let same : place + length t ≡ start + length t = omega (arith, o.size) in same);
@@ -197,28 +200,28 @@ module _ (whole : List ℕ) (utf8 : IsUtf8 whole) (families : List Family) (name
         are = subst (ArePieces rest.pieces) (open_some t rs (and_left (nat_lt 0 (length t)) (list_all is_plain_byte t) plain)) rest.are;
       }
   scan_pieces (piece.Value ∷ rs) before pend after start place o apart ok own =
-      let more : List ℕ = template_text families rs in
+      let more : List ℕ = written_template families rs in
       let f = field_place before pend (codes "value") more (34 ∷ after) start place o in
       scan_one before pend (codes "value") more (34 ∷ after) start place piece.Value rs p.Value o refl
       (field_of_word whole in_flush (place + 1) (place + 1 + 5) (codes "value") (word_between whole f.before (codes "value") (more ++ 34 ∷ after) (place + 1) (place + 1 + 5) f.word_at refl f.begins))
       (value_is (and_left under.has_value (list_all piece_ok rs) ok))
       (scan_pieces rs ((f.before ++ codes "value") ++ 125 ∷ []) [] after (place + 1 + 5 + 1) (place + 1 + 5 + 1) f.next tt (and_right under.has_value (list_all piece_ok rs) ok) own)
   scan_pieces (piece.Key ∷ rs) before pend after start place o apart ok own =
-      let more : List ℕ = template_text families rs in
+      let more : List ℕ = written_template families rs in
       let f = field_place before pend (codes "key") more (34 ∷ after) start place o in
       scan_one before pend (codes "key") more (34 ∷ after) start place piece.Key rs p.Key o refl
       (field_of_word whole in_flush (place + 1) (place + 1 + 3) (codes "key") (word_between whole f.before (codes "key") (more ++ 34 ∷ after) (place + 1) (place + 1 + 3) f.word_at refl f.begins))
       (key_is (and_left (in_flush || under.keyed) (list_all piece_ok rs) ok))
       (scan_pieces rs ((f.before ++ codes "key") ++ 125 ∷ []) [] after (place + 1 + 3 + 1) (place + 1 + 3 + 1) f.next tt (and_right (in_flush || under.keyed) (list_all piece_ok rs) ok) own)
   scan_pieces (piece.Time ∷ rs) before pend after start place o apart ok own =
-      let more : List ℕ = template_text families rs in
+      let more : List ℕ = written_template families rs in
       let f = field_place before pend (codes "time") more (34 ∷ after) start place o in
       scan_one before pend (codes "time") more (34 ∷ after) start place piece.Time rs p.Time o refl
       (field_of_word whole in_flush (place + 1) (place + 1 + 4) (codes "time") (word_between whole f.before (codes "time") (more ++ 34 ∷ after) (place + 1) (place + 1 + 4) f.word_at refl f.begins))
       time_is
       (scan_pieces rs ((f.before ++ codes "time") ++ 125 ∷ []) [] after (place + 1 + 4 + 1) (place + 1 + 4 + 1) f.next tt ok own)
   scan_pieces (piece.CellValue ∷ rs) before pend after start place o apart ok own =
-      let more : List ℕ = template_text families rs in
+      let more : List ℕ = written_template families rs in
       let f = field_place before pend (codes "cell") more (34 ∷ after) start place o in
       scan_one before pend (codes "cell") more (34 ∷ after) start place piece.CellValue rs p.CellValue o refl
       (field_of_word whole in_flush (place + 1) (place + 1 + 4) (codes "cell") (word_between whole f.before (codes "cell") (more ++ 34 ∷ after) (place + 1) (place + 1 + 4) f.word_at refl f.begins)
@@ -226,14 +229,14 @@ module _ (whole : List ℕ) (utf8 : IsUtf8 whole) (families : List Family) (name
       cell_is
       (scan_pieces rs ((f.before ++ codes "cell") ++ 125 ∷ []) [] after (place + 1 + 4 + 1) (place + 1 + 4 + 1) f.next tt (and_right in_flush (list_all piece_ok rs) ok) own)
   scan_pieces (piece.Read r ∷ rs) before pend after start place o apart ok own =
-      let more : List ℕ = template_text families rs in
+      let more : List ℕ = written_template families rs in
       let name : List ℕ = family_name (slice_get families r.family) in
-      let word : List ℕ = name ++ key_text r.at in
+      let word : List ℕ = name ++ written_key r.at in
       let to : ℕ = place + 1 + length word in
       let here = and_left (not in_flush && ref_fits families under.keyed r) (list_all piece_ok rs) ok in
       let family = family_at families under.keyed r (and_right (not in_flush) (ref_fits families under.keyed r) here) in
       let named = family_named families names r.family family.family family.found in
-      let bytes : piece_text families (piece.Read r) ++ more ≡ 123 ∷ (word ++ (125 ∷ more)) = ap (λ l. 123 ∷ l) (append_assoc word (125 ∷ []) more) in
+      let bytes : written_piece families (piece.Read r) ++ more ≡ 123 ∷ (word ++ (125 ∷ more)) = ap (λ l. 123 ∷ l) (append_assoc word (125 ∷ []) more) in
       let opened : Opened before pend (123 ∷ (word ++ (125 ∷ (more ++ 34 ∷ after)))) start place = record {
         is = record { is = o.is.is ∙ ap (λ l. before ++ (pend ++ l)) (ap (λ l. l ++ 34 ∷ after) bytes ∙ ap (λ l. 123 ∷ l) (append_assoc word (125 ∷ more) (34 ∷ after))); here = o.is.here };
         size = o.size;
@@ -274,13 +277,13 @@ module _ (whole : List ℕ) (utf8 : IsUtf8 whole) (families : List Family) (name
       ∙ all_mean (done ++ r ∷ []) qs rs h.1
       ∙ ap Ok (append_assoc done (r ∷ []) rs)
 
-  pub read_template : (rs : List Piece) (s : WrittenSpan) → s.from ≡ at → Quoted whole (template_text families rs) s → list_all piece_ok rs ≡ true → are_apart rs ≡ true → template_of whole n under in_flush s ≡ Ok rs
+  pub read_template : (rs : List Piece) (s : WrittenSpan) → s.from ≡ at → Quoted whole (written_template families rs) s → list_all piece_ok rs ≡ true → are_apart rs ≡ true → template_of whole n under in_flush s ≡ Ok rs
   unfolding template_of template_at
   read_template rs s here q ok own =
       let start : ℕ = s.from + 1 in
-      let opened : Opened q.before [] (template_text families rs ++ 34 ∷ q.after) start start = record { is = q.place; size = (let same : start ≡ start + 0 = omega arith in same); begins = q.begins } in
+      let opened : Opened q.before [] (written_template families rs ++ 34 ∷ q.after) start start = record { is = q.place; size = (let same : start ≡ start + 0 = omega arith in same); begins = q.begins } in
       let r = scan_pieces rs q.before [] q.after start start opened tt ok own in
-      let template : template_at whole in_flush s ≡ whole_template r.pieces = ap (scan (field_at whole in_flush) (outside [] start) start) (inside_stands whole (template_text families rs) s q) ∙ r.scanned [] in
+      let template : template_at whole in_flush s ≡ whole_template r.pieces = ap (scan (field_at whole in_flush) (outside [] start) start) (inside_stands whole (written_template families rs) s q) ∙ r.scanned [] in
       ap (λ (t : Template). known_names whole n s.from t.pieces >> (unless (t.whole && list_all (piece_fits whole n under in_flush) t.pieces) (f.WrongShape s.from) >> pieces_of whole n under s.from t.pieces)) template
       ∙ ap (λ k. known_names whole n k r.pieces >> (unless (list_all (piece_fits whole n under in_flush) r.pieces) (f.WrongShape s.from) >> pieces_of whole n under k r.pieces)) here
       ∙ ap (λ (found : Found (Unit {0})). found >> (unless (list_all (piece_fits whole n under in_flush) r.pieces) (f.WrongShape s.from) >> pieces_of whole n under at r.pieces)) (all_known r.pieces rs r.are)

@@ -1,12 +1,15 @@
 -- The tags of a source in normal form are read as what was printed.
-use Rattle.std.proofs.Common.{◌≡◌, ◌≤◌, ◌+◌, ℕ, pos, Bool, true, false, ◌&&◌, ◌||◌, List, [], ◌∷◌, ◌++◌, length, Some, Ok, refl, sym, ap, ◌∙◌, append_assoc, length-append, max, min, arith}
+use Rattle.std.proofs.Common.{◌≡◌, ◌≤◌, ◌+◌, ℕ, pos, Bool, true, false, ◌&&◌, ◌||◌, List, [], ◌∷◌, ◌++◌, length, Some, Ok, refl, sym, ap, ◌∙◌, append_assoc, length-append, arith}
 use Rattle.std.specs.Prelude.{nat_lt, nat_le, not, ◌==◌, slice_get}
 use Rattle.std.specs.List.{list_all, list_any, flat_map}
 use Rattle.std.specs.Str.{IsUtf8}
-use Rattle.std.proofs.lemmas.Grind.{common_steps}
 use Rattle.std.proofs.lemmas.List.{append-nil, length-map}
 use Rattle.std.proofs.lemmas.List.Folds.{list_any-append}
 use Rattle.flu_lemmas.proofs.Tests.{and_left, and_right, le_true, not_true}
+use Rattle.flu_lemmas.proofs.Booleans.{or_false_left, or_false_right}
+use Rattle.flu_lemmas.proofs.Items.{Took, ItemIs}
+use Rattle.flu_lemmas.proofs.Numbers.{met_either_way}
+use Rattle.flu_lemmas.specs.Items.{Pairs}
 use Rattle.flu_text.specs.declared.words.Token.{Token}
 use Rattle.flu_text.specs.Layout.{Piece as Laid}
 use Rattle.flu_model.specs.declared.limits.What.TheVariants.{Key, Itags}
@@ -16,29 +19,26 @@ use Rattle.flu_model.specs.declared.jobs.TagRef.{TagRef}
 use Rattle.flu_model.specs.Contents.{key_count}
 use Rattle.flu_model.specs.Erasure.{PlainKind}
 use Rattle.flu_model.specs.Listing.{tag, listed_keys, listed_tags}
-use Rattle.flu_model.specs.Rules.{is_name, keys_fit, are_distinct, is_same_tag}
-use Rattle.flu_rules.specs.Keys.{first_key, last_key}
-use Rattle.flu_rules.proofs.TagLemmas.{distinct_tags}
-use Rattle.flu_rules.proofs.TagLemmas.{share_tag as shares}
+use Rattle.flu_model.specs.Rules.{keys_fit, are_distinct}
+use Rattle.flu_rules.specs.Keys.{first_key, last_key, share_tag, TagsMeet}
 use Rattle.flu_syntax.specs.declared.tree.WrittenKeys.{WrittenKeys}
 use Rattle.flu_syntax.specs.declared.tree.WrittenKeys.TheVariants as w
 use Rattle.flu_syntax.specs.declared.tree.WrittenTag.{WrittenTag}
 use Rattle.flu_syntax.specs.Machine.{span_of}
-use Rattle.flu_syntax.specs.Grammar.{keys_signs, tag_signs}
+use Rattle.flu_syntax.specs.Grammar.{IsSign, keys_signs, tag_signs}
+use Rattle.flu_names.specs.Names.{is_name}
+use Rattle.flu_layout.specs.Lists.{keys_words}
+use Rattle.flu_layout.specs.Stands.{Stand}
 use Rattle.flu_parse.specs.declared.faults.JobFault.TheVariants as f
 use Rattle.flu_parse.specs.declared.names.KindHead.{KindHead}
 use Rattle.flu_parse.specs.Faults.{Found, ◌>>=◌, ◌>>◌, unless, each}
 use Rattle.flu_parse.specs.Naming.{Naming, look_up, known, kind_of}
-use Rattle.flu_parse.specs.Cells.{key_of}
-use Rattle.flu_parse.specs.Listings.{are_bracketed, written_keys, keys_of, tag_count, share_tag, Listed, with_tag}
+use Rattle.flu_parse.specs.Listings.{are_bracketed, written_keys, keys_of, tag_count, Listed, with_tag}
 use Rattle.flu_parse.specs.Printing.{kind_name}
-use Rattle.flu_parse.proofs.General.{or_left, or_right}
-use Rattle.flu_parse.proofs.PrintedRules.{plain_tag_fits}
-use Rattle.flu_parse.proofs.PrintedWords.{keys_words, tag_words}
-use Rattle.flu_parse.proofs.PrintedTokens.{Stand, Took}
-use Rattle.flu_parse.proofs.PrintedSpans.{name_stands}
-use Rattle.flu_parse.proofs.PrintedLines.{tag_at, low_high, low_small, kind_named}
-use Rattle.flu_parse.proofs.PrintedItems.{Pairs, ItemIs}
+use Rattle.flu_parse.proofs.Printed.Rules.{plain_tag_fits}
+use Rattle.flu_parse.proofs.Printed.Words.{tag_words}
+use Rattle.flu_parse.proofs.Printed.LaidLines.{tag_at, low_high, low_small, kind_named}
+use Rattle.flu_parse.specs.Cells.{resolved_key}
 
 abbrev pub kind_head : ℕ → PlainKind → KindHead
 kind_head i k = record { number = i; keyed = k.keyed; has_value = k.has_value }
@@ -47,42 +47,32 @@ kind_head i k = record { number = i; keyed = k.keyed; has_value = k.has_value }
 abbrev pub KindsKnown : List PlainKind → Naming → Type 0
 KindsKnown kinds n = (i : ℕ) (k : PlainKind) → slice_get kinds i ≡ Some k → look_up k.name n.kinds ≡ Some (kind_head i k)
 
-key_is : (k : ℕ) (at : ℕ) → nat_lt k key_count ≡ true → key_of (record { value = pos k; at = at }) ≡ Ok k
+key_is : (k : ℕ) (at : ℕ) → nat_lt k key_count ≡ true → resolved_key (record { value = pos k; at = at }) ≡ Ok k
 key_is k at small = ap (λ b. unless b (f.OverLimit Key k) >> Ok k) small
 
 -- the tags of a list of references
 abbrev pub all_tags : List TagRef → ℕ
 all_tags ts = length (flat_map listed_tags ts)
 
-shares_alike : (a b : TagRef) → share_tag a b ≡ share_tag b a
-shares_alike a b = shares a b ∙ same a.kind b.kind (first_key a.keys) (first_key b.keys) (last_key a.keys) (last_key b.keys) ∙ sym (shares b a)
-  where
-    kinds_alike : (k l : ℕ) → (k == l) ≡ (l == k)
-    kinds_alike k l = grind (arith, common_steps)
-
-    same : (k l p q r s : ℕ) → ((k == l) && nat_le (max p q) (min r s)) ≡ ((l == k) && nat_le (max q p) (min s r))
-    same k l p q r s =
-        let first : max p q ≡ max q p = omega arith in
-        let last : min r s ≡ min s r = omega arith in
-        ap (λ b. b && nat_le (max p q) (min r s)) (kinds_alike k l) ∙ ap (λ n. (l == k) && nat_le n (min r s)) first ∙ ap (λ n. (l == k) && nat_le (max q p) n) last
+shares_alike : TagsMeet → (a b : TagRef) → share_tag a b ≡ share_tag b a
+shares_alike meet a b = meet a b ∙ met_either_way a.kind b.kind (first_key a.keys) (first_key b.keys) (last_key a.keys) (last_key b.keys) ∙ sym (meet b a)
 
 -- a reference shares no tag with one before it
-none_shared : (done : List TagRef) (t : TagRef) (ts : List TagRef) → are_distinct is_same_tag (flat_map listed_tags (done ++ t ∷ ts)) ≡ true → list_any (share_tag t) done ≡ false
-none_shared [] t ts h = refl
-none_shared (d ∷ done) t ts h =
-    let parts = sym (distinct_tags d (done ++ t ∷ ts)) ∙ h in
+none_shared : TagsMeet → (done : List TagRef) (t : TagRef) (ts : List TagRef) → are_distinct share_tag (done ++ t ∷ ts) ≡ true → list_any (share_tag t) done ≡ false
+none_shared meet [] t ts h = refl
+none_shared meet (d ∷ done) t ts h =
     let later : Bool = list_any (share_tag d) (done ++ t ∷ ts) in
-    let rest : Bool = are_distinct is_same_tag (flat_map listed_tags (done ++ t ∷ ts)) in
-    let none : list_any (share_tag d) (done ++ t ∷ ts) ≡ false = not_true later (and_left (not later) rest parts) in
+    let rest : Bool = are_distinct share_tag (done ++ t ∷ ts) in
+    let none : list_any (share_tag d) (done ++ t ∷ ts) ≡ false = not_true later (and_left (not later) rest h) in
     let split : (list_any (share_tag d) done || (share_tag d t || list_any (share_tag d) ts)) ≡ false = sym (list_any-append (share_tag d) done (t ∷ ts)) ∙ none in
-    let here : share_tag d t ≡ false = or_left (share_tag d t) (list_any (share_tag d) ts) (or_right (list_any (share_tag d) done) (share_tag d t || list_any (share_tag d) ts) split) in
-    ap (λ b. b || list_any (share_tag t) done) (shares_alike t d ∙ here) ∙ none_shared done t ts (and_right (not later) rest parts)
+    let here : share_tag d t ≡ false = or_false_left (share_tag d t) (list_any (share_tag d) ts) (or_false_right (list_any (share_tag d) done) (share_tag d t || list_any (share_tag d) ts) split) in
+    ap (λ b. b || list_any (share_tag t) done) (shares_alike meet t d ∙ here) ∙ none_shared meet done t ts (and_right (not later) rest h)
 
 module _ (whole : List ℕ) (utf8 : IsUtf8 whole) (kinds : List PlainKind) (named_kinds : list_all (λ (k : PlainKind). is_name k.name) kinds ≡ true) (n : Naming) (known_kinds : KindsKnown kinds n) where
   -- keys that were printed, as they are read
   record KeysAre (ks : Keys) (keyed : Bool) (rest : List Laid) (ts : List Token) : Type 0 where
     written : WrittenKeys
-    took : Took whole (keys_signs written) rest ts
+    took : Took IsSign (Stand whole) (keys_signs written) rest ts
     bracketed : are_bracketed keyed written ≡ true
     same : written_keys written ≡ ks
     means : keys_of written ≡ Ok ks
@@ -112,8 +102,8 @@ module _ (whole : List ℕ) (utf8 : IsUtf8 whole) (kinds : List PlainKind) (name
         bracketed = ends.keyed_is;
         same = refl;
         means =
-            ap (λ t. unless t (f.WrongShape a.0.from) >> (key_of (record { value = pos low; at = a.0.from }) >>= λ first. key_of (record { value = pos high; at = b.0.from }) >>= λ last. Ok (keys.Range first last))) ends.rises
-            ∙ ap (λ (found : Found ℕ). found >>= λ first. key_of (record { value = pos high; at = b.0.from }) >>= λ last. Ok (keys.Range first last)) (key_is low a.0.from (low_small low high ends.rises ends.small))
+            ap (λ t. unless t (f.WrongShape a.0.from) >> (resolved_key (record { value = pos low; at = a.0.from }) >>= λ first. resolved_key (record { value = pos high; at = b.0.from }) >>= λ last. Ok (keys.Range first last))) ends.rises
+            ∙ ap (λ (found : Found ℕ). found >>= λ first. resolved_key (record { value = pos high; at = b.0.from }) >>= λ last. Ok (keys.Range first last)) (key_is low a.0.from (low_small low high ends.rises ends.small))
             ∙ ap (λ (found : Found ℕ). found >>= λ last. Ok (keys.Range low last)) (key_is high b.0.from ends.small);
       }
 
@@ -125,7 +115,7 @@ module _ (whole : List ℕ) (utf8 : IsUtf8 whole) (kinds : List PlainKind) (name
     pub same : written_keys v.keys ≡ t.keys
     pub means : keys_of v.keys ≡ Ok t.keys
 
-  pub read_tag : (t : TagRef) (behind : List ℕ) (rest : List Laid) (ts : List Token) → plain_tag_fits kinds t ≡ true → Stand whole (tag_words kinds t behind rest) ts → ItemIs whole tag_signs Lists t rest ts
+  pub read_tag : (t : TagRef) (behind : List ℕ) (rest : List Laid) (ts : List Token) → plain_tag_fits kinds t ≡ true → Stand whole (tag_words kinds t behind rest) ts → ItemIs IsSign (Stand whole) tag_signs Lists t rest ts
   read_tag t behind rest ts fits h =
       let at_kind = tag_at kinds t fits in
       let k = read_keys t.keys at_kind.kind.keyed behind rest h.1 at_kind.fits h.4 in
@@ -136,7 +126,7 @@ module _ (whole : List ℕ) (utf8 : IsUtf8 whole) (kinds : List PlainKind) (name
         is = record {
           kind = at_kind.kind;
           looked =
-              ap (λ name. known span.from (look_up name n.kinds)) (name_stands whole (kind_name (slice_get kinds t.kind)) _ h.0 utf8 (kind_named kinds named_kinds t.kind at_kind.kind at_kind.found) h.3 ∙ ap kind_name at_kind.found)
+              ap (λ name. known span.from (look_up name n.kinds)) (h.3.named refl ∙ ap kind_name at_kind.found)
               ∙ ap (known span.from) (known_kinds t.kind at_kind.kind at_kind.found);
           bracketed = k.bracketed;
           same = k.same;
@@ -145,15 +135,15 @@ module _ (whole : List ℕ) (utf8 : IsUtf8 whole) (kinds : List PlainKind) (name
       }
 
   -- the tags of a source in order
-  pub list_all_tags : (done ts : List TagRef) (vs : List WrittenTag) (itags : ℕ) → itags + all_tags ts ≤ 256 → are_distinct is_same_tag (flat_map listed_tags (done ++ ts)) ≡ true → Pairs Lists ts vs
+  pub list_all_tags : TagsMeet → (done ts : List TagRef) (vs : List WrittenTag) (itags : ℕ) → itags + all_tags ts ≤ 256 → are_distinct share_tag (done ++ ts) ≡ true → Pairs Lists ts vs
       → each (with_tag whole n) (record { tags = done; itags = itags }) vs ≡ Ok (record { tags = done ++ ts; itags = itags + all_tags ts })
   unfolding each with_tag
-  list_all_tags done [] [] itags few apart h =
+  list_all_tags meet done [] [] itags few apart h =
       ap (λ tags. Ok (let l : Listed = record { tags = tags; itags = itags } in l)) (sym (append-nil done))
       ∙ ap (λ m. Ok (let l : Listed = record { tags = done ++ []; itags = m } in l)) (let same : itags ≡ itags + 0 = omega arith in same)
-  list_all_tags done [] (v ∷ vs) itags few apart h = absurd h
-  list_all_tags done (t ∷ ts) [] itags few apart h = absurd h
-  list_all_tags done (t ∷ ts) (v ∷ vs) itags few apart h =
+  list_all_tags meet done [] (v ∷ vs) itags few apart h = absurd h
+  list_all_tags meet done (t ∷ ts) [] itags few apart h = absurd h
+  list_all_tags meet done (t ∷ ts) (v ∷ vs) itags few apart h =
       let l = h.0 in
       let count : tag_count v.keys ≡ length (listed_tags t) = ap (λ ks. length (listed_keys ks)) l.same ∙ sym (length-map (listed_keys t.keys) (λ k. tag t.kind k)) in
       let sizes : all_tags (t ∷ ts) ≡ length (listed_tags t) + all_tags ts = length-append (listed_tags t) (flat_map listed_tags ts) in
@@ -161,7 +151,7 @@ module _ (whole : List ℕ) (utf8 : IsUtf8 whole) (kinds : List PlainKind) (name
       let new : List TagRef = done ++ t ∷ [] in
       let more : ℕ = itags + tag_count v.keys in
       let unshared : not (list_any (share_tag (record { kind = t.kind; keys = written_keys v.keys })) done) ≡ true =
-      ap (λ ks. not (list_any (share_tag (record { kind = t.kind; keys = ks })) done)) l.same ∙ ap not (none_shared done t ts apart) in
+      ap (λ ks. not (list_any (share_tag (record { kind = t.kind; keys = ks })) done)) l.same ∙ ap not (none_shared meet done t ts apart) in
       let end : Keys → Found Listed = λ keys. Ok (record { tags = done ++ record { kind = t.kind; keys = keys } ∷ []; itags = more }) in
       let step : with_tag whole n (record { tags = done; itags = itags }) v ≡ Ok (record { tags = new; itags = more }) =
       ap (λ (found : Found KindHead). found >>= λ kind. unless (are_bracketed kind.keyed v.keys) (f.WrongShape v.kind.from) >> (unless (nat_le more 256) (f.OverLimit Itags 257) >> (unless (not (list_any (share_tag (record { kind = kind.number; keys = written_keys v.keys })) done)) (f.TwiceNamed v.kind.from) >> (keys_of v.keys >>= λ keys. Ok (let r : Listed = record { tags = done ++ record { kind = kind.number; keys = keys } ∷ []; itags = more } in r))))) l.looked
@@ -169,8 +159,8 @@ module _ (whole : List ℕ) (utf8 : IsUtf8 whole) (kinds : List PlainKind) (name
       ∙ ap (λ b. unless b (f.OverLimit Itags 257) >> (unless (not (list_any (share_tag (record { kind = t.kind; keys = written_keys v.keys })) done)) (f.TwiceNamed v.kind.from) >> (keys_of v.keys >>= end))) room
       ∙ ap (λ b. unless b (f.TwiceNamed v.kind.from) >> (keys_of v.keys >>= end)) unshared
       ∙ ap (λ (found : Found Keys). found >>= end) l.means in
-      let apart_more : are_distinct is_same_tag (flat_map listed_tags (new ++ ts)) ≡ true = ap (λ rs. are_distinct is_same_tag (flat_map listed_tags rs)) (append_assoc done (t ∷ []) ts) ∙ apart in
+      let apart_more : are_distinct share_tag (new ++ ts) ≡ true = ap (are_distinct share_tag) (append_assoc done (t ∷ []) ts) ∙ apart in
       ap (λ (found : Found Listed). found >>= λ s. each (with_tag whole n) s vs) step
-      ∙ list_all_tags new ts vs more (omega (arith, few, count, sizes)) apart_more h.1
+      ∙ list_all_tags meet new ts vs more (omega (arith, few, count, sizes)) apart_more h.1
       ∙ ap (λ tags. Ok (let r : Listed = record { tags = tags; itags = more + all_tags ts } in r)) (append_assoc done (t ∷ []) ts)
       ∙ ap (λ m. Ok (let r : Listed = record { tags = done ++ t ∷ ts; itags = m } in r)) (let same : more + all_tags ts ≡ itags + all_tags (t ∷ ts) = omega (arith, count, sizes) in same)

@@ -7,24 +7,26 @@ use Rattle.std.proofs.lemmas.List.{append-nil}
 use Rattle.std.proofs.lemmas.List.Folds.{list_any-append}
 use Rattle.std.proofs.lemmas.Slice.Eq.{bytes_eq-Decides}
 use Rattle.flu_lemmas.proofs.Tests.{and_left, and_right, lt_true, not_true, false_if_not, not_both}
+use Rattle.flu_lemmas.proofs.Booleans.{or_false_left, or_false_right}
+use Rattle.flu_lemmas.proofs.Elements.{fails_at}
 use Rattle.flu_model.specs.declared.limits.What.TheVariants.{Families, Kinds, Sources, Depends as DependsLimit}
 use Rattle.flu_model.specs.declared.jobs.Family.{Family}
 use Rattle.flu_model.specs.declared.jobs.Depend.{Depend}
 use Rattle.flu_model.specs.declared.jobs.Source.{Source}
 use Rattle.flu_model.specs.Erasure.{PlainAction, PlainKind, Job}
-use Rattle.flu_model.specs.Rules.{is_name, is_same_text, are_distinct}
+use Rattle.flu_model.specs.Rules.{is_same_text, are_distinct}
 use Rattle.flu_syntax.specs.Tree.{Declaration, Cell, Tag, Depends, Source as SourceLine}
 use Rattle.flu_syntax.specs.declared.tree.WrittenSpan.{WrittenSpan}
+use Rattle.flu_names.specs.Names.{is_name}
+use Rattle.flu_layout.specs.Spelling.{name_of}
 use Rattle.flu_parse.specs.declared.faults.JobFault.TheVariants as f
 use Rattle.flu_parse.specs.declared.names.FamilyHead.{FamilyHead}
 use Rattle.flu_parse.specs.declared.names.KindHead.{KindHead}
 use Rattle.flu_parse.specs.Faults.{Found, ◌>>=◌, ◌>>◌, unless, room, each}
-use Rattle.flu_parse.specs.Spelling.{name_of}
 use Rattle.flu_parse.specs.Naming.{Naming, look_up, is_declared, fresh_name, with_family, with_kind, with_source, declare, no_names}
-use Rattle.flu_parse.proofs.General.{or_left, or_right, fails_at}
-use Rattle.flu_parse.proofs.PrintedTerms.{family_head, FamiliesKnown}
-use Rattle.flu_parse.proofs.PrintedTags.{kind_head, KindsKnown}
-use Rattle.flu_parse.proofs.PrintedDeclarations.{Lines, CellIs, TagIs, DependsIs, SourceIs, ActionsAre, Ons}
+use Rattle.flu_parse.proofs.Printed.ReadTerms.{family_head, FamiliesKnown}
+use Rattle.flu_parse.proofs.Printed.ReadTags.{kind_head, KindsKnown}
+use Rattle.flu_parse.proofs.Printed.ReadLines.{Lines, CellIs, TagIs, DependsIs, SourceIs, ActionsAre, Ons}
 
 -- ---- the heads of declarations, numbered
 
@@ -102,7 +104,7 @@ look_up_more {H} y x h (g ∷ hs) none other = by (bytes_eq y g.0) none (λ rest
 still_fresh : (m next : Naming) (x : List ℕ) (ys : List (List ℕ)) → ((y : List ℕ) → Fresh m y → bytes_eq y x ≡ false → Fresh next y) → AllFresh m ys → list_any (is_same_text x) ys ≡ false → AllFresh next ys
 still_fresh m next x [] step fresh none = tt
 still_fresh m next x (y ∷ ys) step fresh none =
-    (step y fresh.0 (differs_too x y (or_left (is_same_text x y) (list_any (is_same_text x) ys) none)), still_fresh m next x ys step fresh.1 (or_right (is_same_text x y) (list_any (is_same_text x) ys) none))
+    (step y fresh.0 (differs_too x y (or_false_left (is_same_text x y) (list_any (is_same_text x) ys) none)), still_fresh m next x ys step fresh.1 (or_false_right (is_same_text x y) (list_any (is_same_text x) ys) none))
 
 pub all_fresh : (ys : List (List ℕ)) → AllFresh no_names ys
 all_fresh [] = tt
@@ -255,7 +257,7 @@ module _ (whole : List ℕ) (utf8 : IsUtf8 whole) where
         let line = lines.3 in
         let next : Naming = with_sources m (m.sources ++ s.name ∷ []) in
         let size = length-append m.sources (s.name ∷ []) in
-        one m next ds lines.0 lines.1 more (SourceLine line.named line.file (Some (record { value = pos s.rate; at = line.rate_at })) line.tags) lines.2 line.is (one_source m line.named s.name line.name_is left.fresh.0 (omega (arith, few)))
+        one m next ds lines.0 lines.1 more (SourceLine line.named line.file (Some (record { value = pos s.rate; at = line.rate_at })) line.slack line.tags) lines.2 line.is (one_source m line.named s.name line.name_is left.fresh.0 (omega (arith, few)))
         ∙ declare_sources ss next lines.1 more lines.4 (left_after m next s.name (map (λ (s : Source). s.name) ss) (source_fresh m s.name) left) (omega (arith, few, size))
         ∙ ap (λ l. each (declare whole) (with_sources m l) more) (append_assoc m.sources (s.name ∷ []) (map (λ (s : Source). s.name) ss))
 

@@ -5,7 +5,8 @@ use Rattle.std.specs.List.{list_all}
 use Rattle.std.proofs.lemmas.Grind.{common_steps}
 use Rattle.std.proofs.lemmas.List.{append-nil}
 use Rattle.flu_lemmas.proofs.Tests.{and_left, and_right, not_true, lt_true}
-use Rattle.flu_model.specs.Rules.{is_text_byte, is_plain_byte}
+use Rattle.flu_model.specs.Rules.{is_plain_byte}
+use Rattle.flu_names.specs.Names.{is_text_byte}
 use Rattle.flu_parse.specs.declared.pieces.WrittenPiece.{WrittenPiece}
 use Rattle.flu_parse.specs.declared.pieces.WrittenPiece.TheVariants as p
 use Rattle.flu_parse.specs.Templates.{span, braced, Scan, Template, with_plain, with_piece, scan_byte, continued, scan}
