@@ -87,7 +87,10 @@ fn tag_count(keys: &WrittenKeys) -> u64
 {
     match keys {
         WrittenKeys::Alone | WrittenKeys::One(_) => 1,
-        WrittenKeys::Range(lo, hi) => count_between(written_value(lo.value), written_value(hi.value)),
+        WrittenKeys::Range(lo, hi) => count_between(
+            written_value(lo.value),
+            written_value(hi.value),
+        ),
     }
 }
 
