@@ -15,7 +15,7 @@ use Rattle.flu_laws.specs.Changes.{Keep, applied}
 use Rattle.flu_laws.specs.Lawful.{IsLawful}
 use Rattle.flu_laws.specs.Spans.{Moment, is_between, change_at, changed_by, span}
 use Rattle.flu_laws.specs.Updating.{UnwrittenKeeps}
-use Rattle.flu_fork.specs.JobLaws.{JobLaws}
+use Rattle.flu_fork.specs.LawsBelow.{LawsBelow}
 
 -- ---- tests that choose alike
 idle_step : UnwrittenKeeps → (p : Program) (c : Cell) (f : Moment → Bool) (m : Moment) (ms : List Moment) (w : Option Worth) → writes (mode_at p m.event c) ≡ false → changed_by p c w (filter f (m ∷ ms)) ≡ changed_by p c w (filter f ms)
@@ -51,7 +51,7 @@ pub no_span : (p : Program) (ms : List Moment) (c : Cell) (upto : List ℕ) → 
 no_span p ms c upto = none_chosen p c (is_between upto upto) ms None (λ m. never_between (slice_index upto m.event.itag.0) m.index)
 
 -- ---- changes that mix into a cell
-module _ (laws : JobLaws) (p : Program) (law : IsLawful p) (c : Cell) where
+module _ (laws : LawsBelow) (p : Program) (law : IsLawful p) (c : Cell) where
   abbrev Holds : Option Worth → Type 0
   Holds w = MayHold p.families c w
 

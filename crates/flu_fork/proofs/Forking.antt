@@ -12,14 +12,15 @@ use Rattle.flu_model.specs.declared.jobs.Program.{Program}
 use Rattle.flu_model.specs.Contents.{Contents}
 use Rattle.flu_model.specs.Itags.{count_of_itags}
 use Rattle.flu_deps.specs.Owned.{kids_at}
+use Rattle.flu_deps.specs.Trees.{Siblings}
 use Rattle.flu_laws.specs.Spans.{Moment, is_below}
-use Rattle.flu_fork.specs.JobLaws.{JobLaws}
+use Rattle.flu_fork.specs.LawsBelow.{LawsBelow}
 use Rattle.flu_fork.specs.Settings.{Setting, IsSetting, moments}
 use Rattle.flu_fork.specs.Classes.{below, beside, is_moved, is_needed, is_base, is_away}
 use Rattle.flu_fork.specs.Fitting.{Fits}
 use Rattle.flu_fork.specs.Parts.{left_part, right_part}
 use Rattle.flu_fork.specs.Laws.{no_counts, OpeningFits, PartsFit, ForksFit}
-use Rattle.flu_fork.proofs.Sides.{AreSiblings, left_and_right}
+use Rattle.flu_fork.proofs.Sides.{left_and_right}
 use Rattle.flu_fork.proofs.Cells.{not_needed_not_moved, root_base, left_base, right_base, all_needed_is_base, beside_across, beside_down, away_up}
 use Rattle.flu_fork.proofs.Effects.{none_chosen, no_span}
 
@@ -40,7 +41,7 @@ not_below_none p m = ap (nat_lt m.index) (no_count p m.event.itag.0) ∙ never m
     never : (n : ℕ) → nat_lt n 0 ≡ false
     never n = grind (arith, common_steps)
 
-pub opening_law : JobLaws → OpeningFits
+pub opening_law : LawsBelow → OpeningFits
 opening_law laws k ok = record {
   since_each = length-map-range_with_len (λ j. 0) 0 (count_of_itags k.program);
   upto_each = length-map-range_with_len (λ j. 0) 0 (count_of_itags k.program);
@@ -55,7 +56,7 @@ opening_law laws k ok = record {
 }
 
 -- ---- the parts
-module _ (laws : JobLaws) (k : Setting) (w left right : ℕ) (s : Contents) (since upto : List ℕ)
+module _ (laws : LawsBelow) (k : Setting) (w left right : ℕ) (s : Contents) (since upto : List ℕ)
     (ok : IsSetting k) (there : w < length k.nodes) (kids : kids_at k.nodes w ≡ Some (left, right)) (fits : Fits k w s since upto) where
   abbrev moves : Cell → Bool
   moves c = is_moved k.program (below k.program k.nodes right) c
@@ -63,8 +64,8 @@ module _ (laws : JobLaws) (k : Setting) (w left right : ℕ) (s : Contents) (sin
   abbrev goes : Cell → Bool
   goes c = is_needed k.program (below k.program k.nodes right) c
 
-  siblings : AreSiblings k ok w left right
-  siblings = left_and_right k ok w left right kids
+  siblings : Siblings k.nodes w left right
+  siblings = left_and_right laws k ok w left right kids
 
   -- what the left part holds
   left_gone : (c : Cell) → moves c ≡ true → left_part k.program k.nodes right s c ≡ None
@@ -146,5 +147,5 @@ module _ (laws : JobLaws) (k : Setting) (w left right : ℕ) (s : Contents) (sin
     };
   }
 
-pub forks_law : JobLaws → ForksFit
+pub forks_law : LawsBelow → ForksFit
 forks_law laws k w left right s since upto ok there kids fits = parts_fit laws k w left right s since upto ok there kids fits

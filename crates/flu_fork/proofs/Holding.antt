@@ -10,7 +10,7 @@ use Rattle.flu_model.specs.Sorts.{MayHold, IsStateOf}
 use Rattle.flu_laws.specs.Changes.{applied}
 use Rattle.flu_laws.specs.Spans.{Moment, is_below, is_between, change_at, changed_by}
 use Rattle.flu_laws.specs.Updating.{ChangesKeepSorts}
-use Rattle.flu_fork.specs.JobLaws.{JobLaws}
+use Rattle.flu_fork.specs.LawsBelow.{LawsBelow}
 use Rattle.flu_fork.specs.Settings.{moments}
 use Rattle.flu_fork.specs.Classes.{is_base, is_away}
 use Rattle.flu_fork.specs.Laws.{FittingHasSorts}
@@ -29,7 +29,7 @@ chosen_holds keeps p c f ms w all holds =
     (all_map (λ (m : Moment). IsStateOf p.families m.before) (λ (m : Moment). f m ≡ true → IsStateOf p.families m.before) ms (λ m h e. h) all))
     holds
 
-pub fitting_law : JobLaws → FittingHasSorts
+pub fitting_law : LawsBelow → FittingHasSorts
 fitting_law laws k w s since upto ok lt fits c =
     let keeps = laws.changes_keep_sorts in
     let all = moments_sorted laws k ok in

@@ -14,16 +14,17 @@ use Rattle.flu_model.specs.declared.jobs.Program.{Program}
 use Rattle.flu_model.specs.Contents.{Contents, joined_worth}
 use Rattle.flu_model.specs.Itags.{count_of_itags}
 use Rattle.flu_deps.specs.Owned.{kids_at}
+use Rattle.flu_deps.specs.Trees.{Siblings}
 use Rattle.flu_laws.specs.Lots.{depends_on}
 use Rattle.flu_laws.specs.Spans.{Moment, is_below, is_between, value_below, span, AreAtMost}
 use Rattle.flu_laws.specs.Uses.{needs, writes, mode_at}
 use Rattle.flu_fork.specs.Settings.{Setting, IsSetting, events_at, moments}
-use Rattle.flu_fork.specs.JobLaws.{JobLaws}
+use Rattle.flu_fork.specs.LawsBelow.{LawsBelow}
 use Rattle.flu_fork.specs.Classes.{below, is_needed, is_moved, is_copied, is_base, is_away}
 use Rattle.flu_fork.specs.Fitting.{IsPrefix, Fits}
 use Rattle.flu_fork.specs.Parts.{joined_state, joined_counts, ArePaired}
 use Rattle.flu_fork.specs.Laws.{JoinsFit}
-use Rattle.flu_fork.proofs.Sides.{AreSiblings, left_and_right, right_and_left, not_below_both, across}
+use Rattle.flu_fork.proofs.Sides.{left_and_right, right_and_left, not_below_both, across}
 use Rattle.flu_fork.proofs.Cells.{some_there, moved_if_written, moved_not_copied, copied_not_moved, not_needed_not_moved, not_needed_not_copied, lawful, uses_depend, away_unwritten, left_base, right_base, needed_is_base_up, not_base_down, away_kid, away_up, needed_away, copied_unwritten_right}
 use Rattle.flu_fork.proofs.Moments.{moments_in_range, moments_sorted}
 use Rattle.flu_fork.proofs.Effects.{same_effects, IsApart, AreOldFirst, appended}
@@ -51,7 +52,7 @@ same_below us vs m e = ap (nat_lt m.index) e
 prefix_rest : (p : Program) (m : Moment) (ms : List Moment) (upto : List ℕ) → IsPrefix p (m ∷ ms) upto → IsPrefix p ms upto
 prefix_rest p m ms upto prefix = λ before after q split counted. (prefix (m ∷ before) after q (ap (λ us. m ∷ us) split) counted).1
 
-module _ (laws : JobLaws) (k : Setting) (w left right : ℕ) (s t : Contents) (left_since left_upto right_since right_upto : List ℕ)
+module _ (laws : LawsBelow) (k : Setting) (w left right : ℕ) (s t : Contents) (left_since left_upto right_since right_upto : List ℕ)
     (ok : IsSetting k) (there : w < length k.nodes) (kids : kids_at k.nodes w ≡ Some (left, right))
     (left_fits : Fits k left s left_since left_upto) (right_fits : Fits k right t right_since right_upto) (paired : ArePaired k.program k.nodes left right left_since left_upto right_since right_upto) where
   abbrev upto : List ℕ
@@ -66,11 +67,11 @@ module _ (laws : JobLaws) (k : Setting) (w left right : ℕ) (s t : Contents) (l
   abbrev goes : Cell → Bool
   goes c = is_needed k.program (below k.program k.nodes right) c
 
-  by_left : AreSiblings k ok w left right
-  by_left = left_and_right k ok w left right kids
+  by_left : Siblings k.nodes w left right
+  by_left = left_and_right laws k ok w left right kids
 
-  by_right : AreSiblings k ok w right left
-  by_right = right_and_left k ok w left right kids
+  by_right : Siblings k.nodes w right left
+  by_right = right_and_left laws k ok w left right kids
 
   -- ---- the joined counts
   past_end : (us : List ℕ) (i : ℕ) → length us ≡ count_of_itags k.program → count_of_itags k.program ≤ i → slice_index us i ≡ 0
@@ -105,10 +106,10 @@ module _ (laws : JobLaws) (k : Setting) (w left right : ℕ) (s t : Contents) (l
       ]
 
   right_not_left : (i : ℕ) → in_right i ≡ true → in_left i ≡ false
-  right_not_left i e = not_below_both k ok w right left i by_right e
+  right_not_left i e = not_below_both laws k ok w right left i by_right e
 
   left_not_right : (i : ℕ) → in_left i ≡ true → in_right i ≡ false
-  left_not_right i e = not_below_both k ok w left right i by_left e
+  left_not_right i e = not_below_both laws k ok w left right i by_left e
 
   since_first : AreAtMost left_since upto
   since_first i =
@@ -131,11 +132,11 @@ module _ (laws : JobLaws) (k : Setting) (w left right : ℕ) (s t : Contents) (l
   -- dependent itags are not below different children
   not_across : (m q : Moment) → InRange m → InRange q → depends_on k.program m q ≡ true → in_left m.event.itag.0 ≡ true → in_right q.event.itag.0 ≡ false
   unfolding InRange
-  not_across m q hm hq d e = false_if_not _ (λ h. not_both _ d (across k ok w left right m.event.itag.0 q.event.itag.0 by_left hm hq e h))
+  not_across m q hm hq d e = false_if_not _ (λ h. not_both _ d (across laws k ok w left right m.event.itag.0 q.event.itag.0 by_left hm hq e h))
 
   not_across_back : (m q : Moment) → InRange m → InRange q → depends_on k.program m q ≡ true → in_right m.event.itag.0 ≡ true → in_left q.event.itag.0 ≡ false
   unfolding InRange
-  not_across_back m q hm hq d e = false_if_not _ (λ h. not_both _ d (across k ok w right left m.event.itag.0 q.event.itag.0 by_right hm hq e h))
+  not_across_back m q hm hq d e = false_if_not _ (λ h. not_both _ d (across laws k ok w right left m.event.itag.0 q.event.itag.0 by_right hm hq e h))
 
   all_in_range : AllByRecursion InRange (moments k)
   unfolding InRange
@@ -361,6 +362,6 @@ module _ (laws : JobLaws) (k : Setting) (w left right : ℕ) (s t : Contents) (l
     cells = record { base = joined_base; away = joined_away; rest = joined_rest };
   }
 
-pub joins_law : JobLaws → JoinsFit
+pub joins_law : LawsBelow → JoinsFit
 joins_law laws k w left right s t left_since left_upto right_since right_upto ok there kids left_fits right_fits paired =
     joined_fits laws k w left right s t left_since left_upto right_since right_upto ok there kids left_fits right_fits paired

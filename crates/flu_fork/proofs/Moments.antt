@@ -22,7 +22,7 @@ use Rattle.flu_model.specs.Streaming.{is_stream_from, are_streams}
 use Rattle.flu_model.specs.Updates.{effect_of}
 use Rattle.flu_laws.specs.Spans.{Moment, history}
 use Rattle.flu_laws.specs.Updating.{KeepsSorts}
-use Rattle.flu_fork.specs.JobLaws.{JobLaws}
+use Rattle.flu_fork.specs.LawsBelow.{LawsBelow}
 use Rattle.flu_fork.specs.Settings.{Setting, IsSetting, events_at, moments}
 
 -- ---- the itags of events
@@ -115,7 +115,7 @@ sorted_before keeps p s seen [] sorted = tt
 sorted_before keeps p s seen (x ∷ xs) sorted =
     (sorted, sorted_before keeps p (effect_of p s x).cells (λ i. cond (i == x.itag.0) (seen i + 1) (seen i)) xs (keeps p s x sorted))
 
-module _ (laws : JobLaws) (k : Setting) (ok : IsSetting k) where
+module _ (laws : LawsBelow) (k : Setting) (ok : IsSetting k) where
   pub events_in_range : AllByRecursion (λ (x : Event). x.itag.0 < count_of_itags k.program) (merged k.lists)
   events_in_range =
       all_map (λ (x : Event). nat_lt x.itag.0 (count_of_itags k.program) ≡ true) (λ (x : Event). x.itag.0 < count_of_itags k.program) (merged k.lists)

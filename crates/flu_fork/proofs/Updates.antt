@@ -14,7 +14,7 @@ use Rattle.flu_model.specs.Merging.{merged}
 use Rattle.flu_model.specs.Updates.{effect_of}
 use Rattle.flu_laws.specs.Spans.{Moment, is_below}
 use Rattle.flu_laws.specs.Lots.{CellsFit, IsExact, CountsOneMore, GoesWithClasses, UpdatesToFit, depends_on}
-use Rattle.flu_fork.specs.JobLaws.{JobLaws}
+use Rattle.flu_fork.specs.LawsBelow.{LawsBelow}
 use Rattle.flu_fork.specs.Settings.{Setting, IsSetting, events_at, moments}
 use Rattle.flu_fork.specs.Classes.{below, is_base, is_away}
 use Rattle.flu_fork.specs.Fitting.{IsPrefix, Fits}
@@ -102,17 +102,17 @@ module _ (p : Program) (ms before after : List Moment) (m : Moment) (upto more :
             (subst (λ n. AllByRecursion (λ (r : Moment). depends_on p n r ≡ true → is_below more r ≡ true) before) same.1 exact_before)
       ]
 
-module _ (laws : JobLaws) (k : Setting) (w : ℕ) (before after : List Moment) (m : Moment) (s : Contents) (since upto more : List ℕ)
+module _ (laws : LawsBelow) (k : Setting) (w : ℕ) (before after : List Moment) (m : Moment) (s : Contents) (since upto more : List ℕ)
     (ok : IsSetting k) (owner : owner_of k.program k.nodes m.event.itag ≡ Some w)
     (split : moments k ≡ before ++ m ∷ after) (exact : IsExact k.program before after m upto) (size : length more ≡ count_of_itags k.program) (one_more : CountsOneMore m.event.itag.0 upto more) (fits : Fits k w s since upto) where
   in_range : m.event.itag.0 < count_of_itags k.program
   in_range = all_at_place (λ (q : Moment). q.event.itag.0 < count_of_itags k.program) (moments k) before after m split (moments_in_range laws k ok)
 
   there : w < length k.nodes
-  there = owner_is_there k ok w m.event.itag.0 owner
+  there = owner_is_there laws k ok w m.event.itag.0 owner
 
   inside : below k.program k.nodes w m.event.itag.0 ≡ true
-  inside = owner_is_below k ok w m.event.itag.0 owner
+  inside = owner_is_below laws k ok w m.event.itag.0 owner
 
   classes : GoesWithClasses k.program m.event (is_base k.program k.nodes w) (is_away k.program k.nodes w)
   classes = record {
@@ -151,6 +151,6 @@ module _ (laws : JobLaws) (k : Setting) (w : ℕ) (before after : List Moment) (
     texts = updated.texts;
   }
 
-pub updates_law : JobLaws → CentralLaw
+pub updates_law : LawsBelow → CentralLaw
 updates_law laws k w before after m s since upto more ok owner split exact size one_more fits =
     updates_well laws k w before after m s since upto more ok owner split exact size one_more fits

@@ -2,4 +2,4 @@ use Rattle.flu_fork.proofs.Cells.{unwritten_law}
 use Rattle.flu_fork.proofs.laws.copied_cells_are_unwritten.Goals as goal
 
 pub returns : goal.returns
-returns c = unwritten_law c.job_laws.ensures
+returns c = unwritten_law c.laws_below.ensures

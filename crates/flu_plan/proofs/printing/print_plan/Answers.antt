@@ -18,7 +18,8 @@ rules_of plan = record {
   small_keys = plan.small_keys;
 }
 
-again : PrintedIsRead → (p : Program) (plan : Plan) (text : List ℕ) → text ≡ printed p plan.nodes → IsTrue (has_text p plan.nodes) → plan_in p text ≡ Ok plan.nodes
+again : PrintedIsRead → (p : Program) (plan : Plan) (text : List ℕ) → text ≡ printed p plan.nodes → IsTrue (has_text p plan.nodes)
+    → plan_in p text ≡ Ok plan.nodes
 again law p plan text is has = ap (plan_in p) is ∙ law p plan.nodes (rules_of plan) has
 
 pub returns-clause-read_again : goal.returns-clause-read_again

@@ -1,6 +1,8 @@
-use crate::whole_jobs::{JOB_J, JOB_K, JOB_M};
-use crate::{print_job, read_job};
+//! The normal form of a job, and that it is read again.
+
+use crate::whole_jobs::{JOB_J, JOB_K, JOB_M, JOB_X};
 use flu_model::Program;
+use flu_parse::{print_job, read_job};
 use std::alloc::Global;
 use std::process::Abort;
 use std::test::Fail;
@@ -25,6 +27,35 @@ fn jobs_in_normal_form(rt: HostRuntime) -> Result<(), Fail> {
     expect_printed(&rt, rt.alloc(), "", "")?;
     expect_printed(&rt, rt.alloc(), JOB_J, JOB_J)?;
     expect_printed(&rt, rt.alloc(), JOB_K, JOB_K)?;
+    Ok(())
+}
+
+// Only a version other than 1 and a slack other than 0 are printed.
+#[test]
+fn versions_and_slacks(rt: HostRuntime) -> Result<(), Fail> {
+    let expected = "version 2
+cell price last
+cell vol sum
+tag quote int
+tag trade int
+tag shut none
+depends quote quote
+depends quote trade
+depends trade shut
+depends shut shut
+on quote: set price value
+on trade: add vol (value * price); emit \"at {price}\"
+on shut: emit \"vol {vol}\"; clear vol
+source q \"q.csv\" rate 1: quote
+source t \"t.csv\" rate 100 slack 250: trade
+source s \"s.csv\" rate 1: shut
+";
+    expect_printed(&rt, rt.alloc(), JOB_X, expected)?;
+    let text = "version 01 source s \"s.csv\" slack 0: t tag t none";
+    let expected = "tag t none
+source s \"s.csv\" rate 1: t
+";
+    expect_printed(&rt, rt.alloc(), text, expected)?;
     Ok(())
 }
 

@@ -1,4 +1,4 @@
-use Rattle.flu_fork.proofs.laws.job_laws.Goals as goal
+use Rattle.flu_fork.proofs.laws.laws_below.Goals as goal
 
 pub returns : goal.returns
 returns c = record {
@@ -10,4 +10,9 @@ returns c = record {
   of_events = c.moments_are_in_order.ensures.events;
   places_rise = c.moments_are_in_order.ensures.places;
   central = c.fits_again.ensures;
+  rooted = c.plans_are_trees.ensures.parents;
+  paths = c.plans_are_trees.ensures.paths;
+  ordered = c.plans_are_trees.ensures.order;
+  apart = c.plans_are_trees.ensures.apart;
+  owned = c.itags_are_owned.ensures;
 }
