@@ -291,11 +291,11 @@ job_layout spelled job =
     let cells = lines_before cell_line_words job.families tags in
     version_layout job.version cells
     ∙ ap (λ l. version_line job.version ++ l) (lines_out cell_line_words layout cell_line cell_line_layout job.families tags
-      ∙ rw (
-        lines_out tag_line_words layout tag_line tag_line_layout job.kinds depends,
-        lines_out (depends_line_words job.kinds) layout (depends_line job.kinds) (depends_line_layout job.kinds) job.depends ons,
-        lines_out (on_line_words job.families) layout (on_line job.families) (λ k rest. actions_layout job.families k.name k.actions rest) job.kinds sources,
-        lines_out (source_line_words job.kinds) layout (source_line job.kinds) (source_line_layout spelled job.kinds) job.sources [],
-      ) refl)
+    ∙ rw (
+      lines_out tag_line_words layout tag_line tag_line_layout job.kinds depends,
+      lines_out (depends_line_words job.kinds) layout (depends_line job.kinds) (depends_line_layout job.kinds) job.depends ons,
+      lines_out (on_line_words job.families) layout (on_line job.families) (λ k rest. actions_layout job.families k.name k.actions rest) job.kinds sources,
+      lines_out (source_line_words job.kinds) layout (source_line job.kinds) (source_line_layout spelled job.kinds) job.sources [],
+    ) refl)
     ∙ regroup_job (version_line job.version) (flat_map cell_line job.families) (flat_map tag_line job.kinds) (flat_map (depends_line job.kinds) job.depends)
     (flat_map (on_line job.families) job.kinds) (flat_map (source_line job.kinds) job.sources)
