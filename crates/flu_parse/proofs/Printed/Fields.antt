@@ -48,7 +48,7 @@ not_reserved n word i named found =
     let free = and_right (begins_as_name n && list_all is_name_byte n && nat_le (length n) 32) (not (is_reserved n)) named in
     let other = fails_at (λ (r : Reserved). bytes_eq (reserved_spelling r) n) reserved_words i word (not_true (is_reserved n) free) found in
     false_if_not (bytes_eq n (reserved_spelling word)) (λ e.
-      not_both (bytes_eq (reserved_spelling word) n) ((bytes_eq-Decides (reserved_spelling word) n).1 (sym ((bytes_eq-Decides n (reserved_spelling word)).0 e))) other)
+    not_both (bytes_eq (reserved_spelling word) n) ((bytes_eq-Decides (reserved_spelling word) n).1 (sym ((bytes_eq-Decides n (reserved_spelling word)).0 e))) other)
 
 -- what has a bracket is no word without one
 not_bracketed : (n more word : List ℕ) → list_any is_open_bracket word ≡ false → bytes_eq (n ++ 91 ∷ more) word ≡ false

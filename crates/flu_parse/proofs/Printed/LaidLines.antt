@@ -55,8 +55,8 @@ module _ (families : List Family) (named_families : list_all (λ (f : Family). i
   laid_actions keyed has_value n [] rest named fits laid = laid
   laid_actions keyed has_value n (a ∷ actions) rest named fits laid =
       let items = items_hold (action_words families) [] (between m.Semicolon) (plain_action_fits families keyed has_value) AreLaid Follows
-          (laid_action families named_families keyed has_value) (λ rest laid. record { blank = refl; ends = refl; laid = laid_spaced m.Semicolon rest laid })
-          a actions line_end rest fits (record { blank = refl; ends = refl; laid = laid }) in
+      (laid_action families named_families keyed has_value) (λ rest laid. record { blank = refl; ends = refl; laid = laid_spaced m.Semicolon rest laid })
+      a actions line_end rest fits (record { blank = refl; ends = refl; laid = laid }) in
       laid_reserved r.On blank _ refl refl (laid_name n [] _ named refl refl (laid_mark m.Colon blank _ (λ b. refl) refl items))
 
   laid_on_line : (k : PlainKind) (rest : List Laid) → plain_kind_fits families k ≡ true → AreLaid rest → AreLaid (on_line_words families k rest)
@@ -188,7 +188,7 @@ module _ (laid_keys : KeysAreLaid) (kinds : List PlainKind) (named_kinds : list_
   laid_listed (t ∷ ts) rest fits laid =
       laid_mark m.Colon blank _ (λ b. refl) refl
       (items_hold (tag_words kinds) [] (between m.Comma) (plain_tag_fits kinds) AreLaid Follows laid_tag
-        (λ rest laid. record { blank = refl; ends = refl; laid = laid_spaced m.Comma rest laid }) t ts line_end rest fits (record { blank = refl; ends = refl; laid = laid }))
+      (λ rest laid. record { blank = refl; ends = refl; laid = laid_spaced m.Comma rest laid }) t ts line_end rest fits (record { blank = refl; ends = refl; laid = laid }))
 
   listed_ends : (ts : List TagRef) (rest : List Laid) → EndsName [] (listed_words kinds ts rest)
   listed_ends [] rest = refl
@@ -212,7 +212,7 @@ module _ (laid_keys : KeysAreLaid) (kinds : List PlainKind) (named_kinds : list_
       let slack = laid_slack s.slack s.tags rest facts.slack (laid_listed s.tags rest facts.tags laid) in
       let rate : s.rate ≤ 1000000000 = true_le s.rate 1000000000 facts.rate in
       let amount = laid_number (pos s.rate) (behind_rate s.slack) (slack_words s.slack (listed_words kinds s.tags rest)) (lt_true s.rate (2 ^ 63) (omega arith))
-          slack.blank slack.ends slack.laid in
+      slack.blank slack.ends slack.laid in
       let file = laid_text s.file blank _ facts.file_bytes facts.file_short refl (laid_reserved r.Rate blank _ refl refl amount) in
       laid_reserved r.Source blank _ refl refl (laid_name s.name blank _ facts.name refl refl file)
 

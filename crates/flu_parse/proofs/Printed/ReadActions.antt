@@ -45,7 +45,7 @@ use Rattle.flu_parse.proofs.Printed.LaidActions.{keyed_at}
 use Rattle.flu_parse.proofs.Printed.ReadTerms.{family_head, FamiliesKnown, read_cell, read_expression}
 use Rattle.flu_parse.proofs.Kept.Terms.{sort_swapped}
 use Rattle.flu_parse.proofs.Printed.Templates.{piece_ok, read_template}
-use Rattle.flu_parse.specs.Actions.{sort_for, written_act, resolved_act, guard_of, action_of, with_action}
+use Rattle.flu_parse.specs.Actions.{sort_for, act_with, resolved_act, guard_of, action_of, with_action}
 use Rattle.flu_parse.proofs.Kept.Plain.{is_good_term, plain_act_fits, plain_guard_fits, plain_action_fits}
 
 module _ (whole : List ℕ) (utf8 : IsUtf8 whole) (families : List Family) (names : list_all (λ (f : Family). is_name f.name) families ≡ true) (n : Naming) (known_families : FamiliesKnown families n) (under : KindHead) where
@@ -75,7 +75,7 @@ module _ (whole : List ℕ) (utf8 : IsUtf8 whole) (families : List Family) (name
 
   read_writing : (v : Verb) (word : Reserved) (c : CellRef) (e : Term) (behind : List ℕ) (rest : List Laid) (ts : List Token) → w.Reserved word ≡ verb_word v
       → (ref_fits families under.keyed c && ref_has_sort families (sort_for v) c && is_good_term families under.keyed under.has_value e) ≡ true
-      → Stand whole (reserved word blank ∷ cell_words families c blank (term_words families e behind rest)) ts → ActIs (written_act v c e) rest ts
+      → Stand whole (reserved word blank ∷ cell_words families c blank (term_words families e behind rest)) ts → ActIs (act_with v c e) rest ts
   unfolding resolved_act
   read_writing v word c e behind rest ts same fits h =
       let ref_ok = ref_fits families under.keyed c in
@@ -94,8 +94,8 @@ module _ (whole : List ℕ) (utf8 : IsUtf8 whole) (families : List Family) (name
         };
         is = amount.is;
         means =
-            ap (λ (found : Found CellRef). found >>= λ cell. expression_of whole n under amount.tree >>= λ term. Ok (written_act v cell term)) (cell.means (Some (sort_for v)) (sort_swapped cell.family.sort (sort_for v) sort))
-            ∙ ap (λ (found : Found Term). found >>= λ term. Ok (written_act v c term)) amount.means;
+            ap (λ (found : Found CellRef). found >>= λ cell. expression_of whole n under amount.tree >>= λ term. Ok (act_with v cell term)) (cell.means (Some (sort_for v)) (sort_swapped cell.family.sort (sort_for v) sort))
+            ∙ ap (λ (found : Found Term). found >>= λ term. Ok (act_with v c term)) amount.means;
       }
 
   read_act : (d : PlainAct) (behind : List ℕ) (rest : List Laid) (ts : List Token) → plain_act_fits families under.keyed under.has_value d ≡ true → Stand whole (act_words families d behind rest) ts → ActIs d rest ts

@@ -221,7 +221,7 @@ module _ (whole : List ℕ) (utf8 : IsUtf8 whole) where
     read_listed [] rest ts some fits h = absurd cc
     read_listed (t ∷ tags) rest ts some fits h =
         let all = read_items IsSign (Stand whole) (tag_words kinds) [] (between m.Comma) tag_signs (Lists whole utf8 kinds named_kinds n known_kinds) (plain_tag_fits kinds)
-            (Any (w.Mark m.Comma)) (read_tag whole utf8 kinds named_kinds n known_kinds) (λ r ts h. (h.0, h.1, h.2, h.3.word, h.4)) t tags line_end rest h.1 fits h.4 in
+        (Any (w.Mark m.Comma)) (read_tag whole utf8 kinds named_kinds n known_kinds) (λ r ts h. (h.0, h.1, h.2, h.3.word, h.4)) t tags line_end rest h.1 fits h.4 in
         record { first = all.first; others = all.others; took = record { rest = all.took.rest; begins = (h.0, h.1, h.2, h.3.word, all.took.begins); stand = all.took.stand }; are = all.are }
 
     -- a slack, as it is read
@@ -253,12 +253,29 @@ module _ (whole : List ℕ) (utf8 : IsUtf8 whole) where
         let listed = read_listed s.tags rest slack.took.rest facts.some facts.tags slack.took.stand in
         let tags : List WrittenTag = listed.first ∷ listed.others in
         let behind = begins_append IsSign (slack_signs slack.written) (Any (w.Mark m.Colon) ∷ separated (w.Mark m.Comma) tag_signs tags) d.1 slack.took.rest
-            listed.took.rest slack.took.begins listed.took.begins in
+        listed.took.rest slack.took.begins listed.took.begins in
         one_line whole (SourceIs s) rest ts (SourceLine (span_of a.0) (span_of b.0) (Some (record { value = pos s.rate; at = d.0.from })) slack.written tags)
         (record {
           rest = listed.took.rest;
-          begins = (h.0, h.1, h.2, h.3.word, (a.0, a.1, a.2, (a.3.word, refl, refl), (b.0, b.1, b.2, (b.3.word, refl, refl),
-              (c.0, c.1, c.2, c.3.word, (d.0, d.1, d.2, (d.3.word, refl), behind)))));
+          begins = (
+            h.0,
+            h.1,
+            h.2,
+            h.3.word,
+            (
+              a.0,
+              a.1,
+              a.2,
+              (a.3.word, refl, refl),
+              (
+                b.0,
+                b.1,
+                b.2,
+                (b.3.word, refl, refl),
+                (c.0, c.1, c.2, c.3.word, (d.0, d.1, d.2, (d.3.word, refl), behind)),
+              ),
+            ),
+          );
           stand = listed.took.stand;
         })
         (λ none. absurd cc)
@@ -296,8 +313,8 @@ module _ (whole : List ℕ) (utf8 : IsUtf8 whole) where
         let b = h.4 in
         let c = b.4 in
         let all = read_items IsSign (Stand whole) (action_words families) [] (between m.Semicolon) action_signs (Does whole utf8 families names n known_families under)
-            (plain_action_fits families under.keyed under.has_value) (Any (w.Mark m.Semicolon)) (read_action whole utf8 families names n known_families under) (λ r ts h. (h.0, h.1, h.2, h.3.word, h.4))
-            a actions line_end rest c.1 fits c.4 in
+        (plain_action_fits families under.keyed under.has_value) (Any (w.Mark m.Semicolon)) (read_action whole utf8 families names n known_families under) (λ r ts h. (h.0, h.1, h.2, h.3.word, h.4))
+        a actions line_end rest c.1 fits c.4 in
         one_line whole (OnIs under kind a actions) rest ts (On (span_of b.0) (all.first ∷ all.others))
         (record { rest = all.took.rest; begins = (h.0, h.1, h.2, h.3.word, (b.0, b.1, b.2, (b.3.word, refl, refl), (c.0, c.1, c.2, c.3.word, all.took.begins))); stand = all.took.stand })
         ((λ none. absurd cc), are_actions whole utf8 families names n known_families under (a ∷ actions) (all.first ∷ all.others) all.are)

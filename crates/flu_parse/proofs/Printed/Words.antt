@@ -1,8 +1,9 @@
 -- The words of the normal form, each with the blanks behind it; and that they are laid out as that text.
-use Rattle.std.proofs.Common.{◌≡◌, ℕ, ℤ, pos, Bool, true, false, Option, Some, None, List, [], ◌∷◌, ◌++◌, refl, ap, ◌∙◌, append_assoc}
+use Rattle.std.proofs.Common.{◌≡◌, ℕ, ℤ, pos, Bool, true, false, Option, Some, None, List, [], ◌∷◌, ◌++◌, refl, ap, ◌∙◌, append_assoc, arith}
 use Rattle.std.specs.Prelude.{nat_lt, ◌==◌, if◌then◌else◌, slice_get, codes}
 use Rattle.std.specs.Fmt.{decimal, signed_decimal}
 use Rattle.std.specs.List.{flat_map}
+use Rattle.std.proofs.lemmas.Fmt.{decimal_digit}
 use Rattle.std.proofs.lemmas.List.{append-nil}
 use Rattle.flu_lemmas.specs.Items.{lines_before}
 use Rattle.flu_lemmas.proofs.Items.{items_out, lines_out}
@@ -150,7 +151,7 @@ version_layout : (version : ℕ) (rest : List Laid) → layout (version_words ve
 version_layout version rest = by (version == 2)
   where
     by : (two : Bool) → layout (if two then reserved r.Version blank ∷ number (pos 2) line_end ∷ rest else rest) ≡ (if two then codes "version 2" ++ line_end else []) ++ layout rest
-    by true = refl
+    by true = ap (λ d. codes "version " ++ (d ++ (line_end ++ layout rest))) (decimal_digit 2 (omega arith))
     by false = refl
 
 abbrev pub keyed_words : Bool → List Laid → List Laid
@@ -290,11 +291,11 @@ job_layout spelled job =
     let cells = lines_before cell_line_words job.families tags in
     version_layout job.version cells
     ∙ ap (λ l. version_line job.version ++ l) (lines_out cell_line_words layout cell_line cell_line_layout job.families tags
-      ∙ rw (
-        lines_out tag_line_words layout tag_line tag_line_layout job.kinds depends,
-        lines_out (depends_line_words job.kinds) layout (depends_line job.kinds) (depends_line_layout job.kinds) job.depends ons,
-        lines_out (on_line_words job.families) layout (on_line job.families) (λ k rest. actions_layout job.families k.name k.actions rest) job.kinds sources,
-        lines_out (source_line_words job.kinds) layout (source_line job.kinds) (source_line_layout spelled job.kinds) job.sources [],
-      ) refl)
+    ∙ rw (
+      lines_out tag_line_words layout tag_line tag_line_layout job.kinds depends,
+      lines_out (depends_line_words job.kinds) layout (depends_line job.kinds) (depends_line_layout job.kinds) job.depends ons,
+      lines_out (on_line_words job.families) layout (on_line job.families) (λ k rest. actions_layout job.families k.name k.actions rest) job.kinds sources,
+      lines_out (source_line_words job.kinds) layout (source_line job.kinds) (source_line_layout spelled job.kinds) job.sources [],
+    ) refl)
     ∙ regroup_job (version_line job.version) (flat_map cell_line job.families) (flat_map tag_line job.kinds) (flat_map (depends_line job.kinds) job.depends)
     (flat_map (on_line job.families) job.kinds) (flat_map (source_line job.kinds) job.sources)
