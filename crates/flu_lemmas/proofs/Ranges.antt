@@ -82,6 +82,9 @@ range_within lo (suc n) i there =
       | inr later ↦ (let more = range_within (lo + 1) n i later in let a = more.0 in let b = more.1 in (omega (arith, a), omega (arith, b)))
     ]
 
+pub range_below : (n i : ℕ) → Contains (range_with_len 0 n) i → i < n
+range_below n i there = let both = range_within 0 n i there in omega (arith, both.1)
+
 pub range_has : (lo n i : ℕ) → lo ≤ i → i < lo + n → Contains (range_with_len lo n) i
 range_has lo zero i low high = absurd (omega arith)
 range_has lo (suc n) i low high =

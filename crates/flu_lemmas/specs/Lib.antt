@@ -1,5 +1,9 @@
 pub mod Counting
 pub mod Elements
+pub mod Items
 pub mod Loops
 pub mod Sorting
+pub mod Spans
 pub mod Totals
+pub mod Told
+pub mod Named

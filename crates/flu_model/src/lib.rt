@@ -5,6 +5,7 @@ pub mod cells;
 pub mod events;
 pub mod itags;
 pub mod jobs;
+pub mod laws;
 pub mod limits;
 pub mod lists;
 pub mod modes;

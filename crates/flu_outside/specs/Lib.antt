@@ -4,3 +4,5 @@ pub mod MemFiles
 pub mod MemSink
 pub mod Outside
 pub mod Shared
+pub mod Taking
+pub mod Writing

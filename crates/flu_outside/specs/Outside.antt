@@ -1,9 +1,7 @@
 -- What the outside tells of its bytes and its faults, and what a call does to them.
-use Rattle.std.specs.Prelude.{◌≡◌, ◌≢◌, ℕ, ◌+◌, ◌-◌, ◌^◌, ◌≤◌, List, [], ◌++◌, length, take, drop, min, Option, Some, None, IsSome, ⊤, ◌⊎◌}
-
--- the bytes that each name has left, where the name is there
-abbrev pub Contents : Type 0
-Contents = List ℕ → Option (List ℕ)
+use Rattle.std.specs.Prelude.{◌≡◌, ◌≢◌, ℕ, ◌+◌, ◌-◌, ◌^◌, ◌≤◌, List, [], ◌++◌, length, take, drop, min, Option, Some}
+pub use Rattle.flu_lemmas.specs.Told.{WhereTold}
+pub use Rattle.flu_lemmas.specs.Named.{Contents, IsThere, CountApart, SameCounts}
 
 -- a count of faults has risen, or stands at the last number that it can have
 abbrev pub Rose : ℕ → ℕ → Type 0
@@ -20,29 +18,9 @@ pub record Takes (old new : Contents) (name : List ℕ) (n : ℕ) (buffer : List
   pub end : n ≡ 0 → bytes ≡ []
   pub others : (other : List ℕ) → other ≢ name → new other ≡ old other
 
--- a fact of what is told before and after, which both are or neither is
-abbrev pub WhereTold : {A : Type 0} → Option A → Option A → (A → A → Type 0) → Type 0
-WhereTold None None P = ⊤
-WhereTold None (Some b) P = ⊥
-WhereTold (Some a) None P = ⊥
-WhereTold (Some a) (Some b) P = P a b
-
 -- each name has the same left
 abbrev pub SameLeft : Contents → Contents → Type 0
 SameLeft old new = (name : List ℕ) → new name ≡ old name
-
--- each name has the same count
-abbrev pub SameCounts : (List ℕ → ℕ) → (List ℕ → ℕ) → Type 0
-SameCounts old new = (name : List ℕ) → new name ≡ old name
-
--- the files tell that a name is there
-abbrev pub IsThere : Option Contents → List ℕ → Type 0
-IsThere None name = ⊥
-IsThere (Some left) name = IsSome (left name)
-
--- two names have counts of their own: they differ, and one of them is there
-abbrev pub CountApart : Option Contents → List ℕ → List ℕ → Type 0
-CountApart left a b = (a ≢ b) × (IsThere left a ⊎ IsThere left b)
 
 -- all names that are not there have one and the same count
 abbrev pub ShareOneCount : Option Contents → (List ℕ → ℕ) → Type 0

@@ -1,7 +1,8 @@
 //! The outside of the program: files, whose bytes are taken from the front, and a sink, which takes bytes.
 //!
 //! `Files` and `Sink` say what the program may rely on, whatever stands behind them. `MemFiles`,
-//! `HonestFiles` and `MemSink` hold their bytes in memory.
+//! `HonestFiles` and `MemSink` hold their bytes in memory. `read_whole` reads a name to its end, and `write_all` writes all
+//! of some bytes.
 #![tactic(auto)]
 
 mod files;
@@ -11,11 +12,15 @@ mod mem_sink;
 mod rest;
 mod schedule;
 mod sink;
+mod taking;
 #[cfg(test)]
 mod tests;
+mod writing;
 
 pub use files::{Files, TakeFault};
 pub use honest_files::HonestFiles;
 pub use mem_files::MemFiles;
 pub use mem_sink::MemSink;
 pub use sink::{Failed, Sink};
+pub use taking::{read_whole, take_behind};
+pub use writing::write_all;

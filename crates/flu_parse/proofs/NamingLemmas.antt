@@ -5,6 +5,7 @@ use Rattle.std.specs.List.{list_any}
 use Rattle.std.specs.Str.{bytes_eq}
 use Rattle.std.specs.Map.{lookup}
 use Rattle.indexmap.specs.IndexMap.{insert_entry}
+use Rattle.flu_lemmas.proofs.Booleans.{none_of_three}
 use Rattle.flu_parse.specs.Naming.{Naming, look_up, is_declared}
 
 -- an entry by the bytes of its key
@@ -12,13 +13,10 @@ abbrev pub shown : {K X : Type 0} → (K → List ℕ) → K × X → List ℕ �
 shown bytes e = (bytes e.0, e.1)
 
 -- looking up a key is looking up its bytes
-pub lookup_by_bytes : {K X : Type 0} (bytes : K → List ℕ) (name : List ℕ) (es : List (K × X)) → lookup (λ k. bytes_eq name (bytes k)) es ≡ look_up name (map (shown bytes) es)
+pub lookup_by_bytes : {K X : Type 0} (bytes : K → List ℕ) (name : List ℕ) (es : List (K × X))
+    → lookup (λ k. bytes_eq name (bytes k)) es ≡ look_up name (map (shown bytes) es)
 lookup_by_bytes bytes name [] = refl
 lookup_by_bytes bytes name (e ∷ es) = ap (λ r. if bytes_eq name (bytes e.0) then Some e.1 else r) (lookup_by_bytes bytes name es)
-
-pub any_by_bytes : {K : Type 0} (bytes : K → List ℕ) (name : List ℕ) (ks : List K) → list_any (λ k. bytes_eq name (bytes k)) ks ≡ list_any (bytes_eq name) (map bytes ks)
-any_by_bytes bytes name [] = refl
-any_by_bytes bytes name (k ∷ ks) = ap (λ b. bytes_eq name (bytes k) || b) (any_by_bytes bytes name ks)
 
 pub none_if_not_some : {X : Type 0} (o : Option X) → is_some o ≡ false → o ≡ None
 none_if_not_some None e = refl
@@ -27,20 +25,16 @@ none_if_not_some (Some x) e = absurd (cc)
 none_not_some : {X : Type 0} {x : X} → None ≡ Some x → ⊥
 none_not_some e = cc
 
-pub none_of_three : (a b c : Bool) → (a || b || c) ≡ false → (a ≡ false) × (b ≡ false) × (c ≡ false)
-none_of_three true b c e = absurd (cc)
-none_of_three false true c e = absurd (cc)
-none_of_three false false true e = absurd (cc)
-none_of_three false false false e = (refl, refl, refl)
-
 module _ {K X : Type 0} (bytes : K → List ℕ) (k : K) (v : X) where
   -- what is inserted under a new name goes last
-  pub insert_new : (es : List (K × X)) → look_up (bytes k) (map (shown bytes) es) ≡ None → map (shown bytes) (insert_entry (λ a b. bytes_eq (bytes a) (bytes b)) es k v) ≡ map (shown bytes) es ++ (bytes k, v) ∷ []
+  pub insert_new : (es : List (K × X)) → look_up (bytes k) (map (shown bytes) es) ≡ None
+      → map (shown bytes) (insert_entry (λ a b. bytes_eq (bytes a) (bytes b)) es k v) ≡ map (shown bytes) es ++ (bytes k, v) ∷ []
   insert_new [] absent = refl
   insert_new (e ∷ es) absent = by (bytes_eq (bytes k) (bytes e.0)) refl (insert_new es)
     where
       by : (b : Bool) → bytes_eq (bytes k) (bytes e.0) ≡ b
-          → (look_up (bytes k) (map (shown bytes) es) ≡ None → map (shown bytes) (insert_entry (λ a b. bytes_eq (bytes a) (bytes b)) es k v) ≡ map (shown bytes) es ++ (bytes k, v) ∷ [])
+          → (look_up (bytes k) (map (shown bytes) es) ≡ None → map (shown bytes) (insert_entry (λ a b. bytes_eq (bytes a) (bytes b)) es k v) ≡ map
+          (shown bytes) es ++ (bytes k, v) ∷ [])
           → map (shown bytes) (insert_entry (λ a b. bytes_eq (bytes a) (bytes b)) (e ∷ es) k v) ≡ map (shown bytes) (e ∷ es) ++ (bytes k, v) ∷ []
       by true t rest = absurd (none_not_some (sym absent ∙ ap (λ b. if b then Some e.1 else look_up (bytes k) (map (shown bytes) es)) t))
       by false t rest =
@@ -48,7 +42,8 @@ module _ {K X : Type 0} (bytes : K → List ℕ) (k : K) (v : X) where
           ∙ ap (λ l. (bytes e.0, e.1) ∷ l) (rest (sym (ap (λ b. if b then Some e.1 else look_up (bytes k) (map (shown bytes) es)) t) ∙ absent))
 
 -- a name that nothing has, among families, kinds and sources
-pub undeclared : (n : Naming) (name : List ℕ) → is_declared n name ≡ false → (look_up name n.families ≡ None) × (look_up name n.kinds ≡ None) × (list_any (bytes_eq name) n.sources ≡ false)
+pub undeclared : (n : Naming) (name : List ℕ) → is_declared n name ≡ false
+    → (look_up name n.families ≡ None) × (look_up name n.kinds ≡ None) × (list_any (bytes_eq name) n.sources ≡ false)
 undeclared n name e =
     let none = none_of_three (is_some (look_up name n.families)) (is_some (look_up name n.kinds)) (list_any (bytes_eq name) n.sources) e in
     (none_if_not_some (look_up name n.families) none.0, none_if_not_some (look_up name n.kinds) none.1, none.2)

@@ -3,6 +3,7 @@ use Rattle.std.proofs.Common.{◌≡◌, ℕ, Bool, true, false, List, refl, sym
 use Rattle.std.specs.Prelude.{Ok, Err}
 use Rattle.std.specs.Str.{IsUtf8, is_utf8}
 use Rattle.std.specs.Str.Lossy.{utf8_valid_len}
+use Rattle.std.proofs.lemmas.Bool.{false_from_ne_true}
 use Rattle.std.proofs.lemmas.Str.{IsUtf8-from_is_utf8, is_utf8-from_IsUtf8}
 use Rattle.flu_parse.specs.declared.faults.JobFault.TheVariants as f
 use Rattle.flu_parse.specs.Faults.{Found, ◌>>◌, unless}
@@ -15,11 +16,7 @@ tested bytes passes = unless passes (f.BadUtf8 (utf8_valid_len bytes)) >> Ok byt
 pub text_in-utf8 : (bytes text : List ℕ) → text ≡ bytes → IsUtf8 bytes → text_in bytes ≡ Ok text
 text_in-utf8 bytes text same utf8 = ap (tested bytes) (is_utf8-from_IsUtf8 bytes utf8) ∙ ap Ok (sym same)
 
-fails : (bytes : List ℕ) → (IsUtf8 bytes → ⊥) → (b : Bool) → is_utf8 bytes ≡ b → b ≡ false
-fails bytes other true e = absurd (other (IsUtf8-from_is_utf8 bytes e))
-fails bytes other false e = refl
-
 pub text_in-other : (bytes : List ℕ) (at : ℕ) → (IsUtf8 bytes → ⊥) → at ≡ utf8_valid_len bytes → text_in bytes ≡ Err (f.BadUtf8 at)
 text_in-other bytes at other place =
-    ap (tested bytes) (fails bytes other (is_utf8 bytes) refl)
+    ap (tested bytes) (false_from_ne_true (is_utf8 bytes) (λ e. other (IsUtf8-from_is_utf8 bytes e)))
     ∙ ap (λ n. let r : Found (List ℕ) = Err (f.BadUtf8 n) in r) (sym place)

@@ -7,7 +7,7 @@ use Rattle.flu_syntax.specs.Tree.{action_of as action_seen, declaration_of}
 use Rattle.flu_parse.specs.declared.names.KindHead.{KindHead}
 use Rattle.flu_parse.specs.Faults.{Found}
 use Rattle.flu_parse.specs.Naming.{Naming, declare}
-use Rattle.flu_parse.specs.Deeds.{with_action}
+use Rattle.flu_parse.specs.Actions.{with_action}
 use Rattle.flu_parse.specs.Resolving.{Drafted, with_declaration}
 
 abbrev pub declare_written : List ℕ → Naming → WrittenDeclaration → Found Naming

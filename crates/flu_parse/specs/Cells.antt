@@ -5,23 +5,24 @@ use Rattle.flu_model.specs.declared.jobs.Sort.{Sort}
 use Rattle.flu_model.specs.declared.jobs.At.{At}
 use Rattle.flu_model.specs.declared.jobs.At.TheVariants as at
 use Rattle.flu_model.specs.declared.jobs.CellRef.{CellRef}
+use Rattle.flu_model.specs.Contents.{key_count}
 use Rattle.flu_model.specs.Rules.{is_sort}
 use Rattle.flu_syntax.specs.declared.tree.WrittenNumber.{WrittenNumber}
 use Rattle.flu_syntax.specs.declared.tree.WrittenKey.{WrittenKey}
 use Rattle.flu_syntax.specs.declared.tree.WrittenKey.TheVariants as k
 use Rattle.flu_syntax.specs.declared.tree.WrittenRef.{WrittenRef}
+use Rattle.flu_layout.specs.Spelling.{written_value}
 use Rattle.flu_parse.specs.declared.faults.JobFault.TheVariants as f
 use Rattle.flu_parse.specs.declared.names.FamilyHead.{FamilyHead}
 use Rattle.flu_parse.specs.declared.names.KindHead.{KindHead}
 use Rattle.flu_parse.specs.Faults.{Found, ◌>>=◌, ◌>>◌, unless}
-use Rattle.flu_parse.specs.Spelling.{value_of}
 use Rattle.flu_parse.specs.Naming.{Naming, family_of}
 
 -- a key is at most 65,535
-abbrev pub key_of : WrittenNumber → Found ℕ
-key_of k = do
-  unless (nat_lt (value_of k.value) 65536) (f.OverLimit Key (value_of k.value))
-  Ok (value_of k.value)
+abbrev pub resolved_key : WrittenNumber → Found ℕ
+resolved_key k = do
+  unless (nat_lt (written_value k.value) key_count) (f.OverLimit Key (written_value k.value))
+  Ok (written_value k.value)
 
 -- brackets stand where the family is keyed
 abbrev pub brackets_fit : Bool → WrittenKey → Bool
@@ -48,11 +49,11 @@ at_of under (k.OwnKey place) = do
   unless under.keyed (f.WrongShape place)
   Ok at.OwnKey
 at_of under (k.Fixed number) = do
-  key ← key_of number
+  key ← resolved_key number
   Ok (at.Fixed key)
 
-abbrev pub cell_of : List ℕ → Naming → KindHead → Option Sort → WrittenRef → Found CellRef
-cell_of text n under wanted r = do
+abbrev pub resolved_cell : List ℕ → Naming → KindHead → Option Sort → WrittenRef → Found CellRef
+resolved_cell text n under wanted r = do
   family ← family_for text n wanted r
   at ← at_of under r.key
   Ok (record { family = family.number; at = at })

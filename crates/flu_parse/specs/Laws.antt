@@ -1,5 +1,5 @@
 -- What holds of the job of every text, and of the text of every job.
-use Rattle.std.specs.Prelude.{◌≡◌, ◌≤◌, ℕ, List, map, length, Ok, IsTrue}
+use Rattle.std.specs.Prelude.{◌≡◌, ◌≤◌, ℕ, List, map, length, Ok}
 use Rattle.std.specs.Str.{IsUtf8}
 use Rattle.flu_model.specs.declared.jobs.Family.{Family}
 use Rattle.flu_model.specs.declared.jobs.Kind.{Kind}
@@ -8,26 +8,30 @@ use Rattle.flu_model.specs.declared.jobs.Source.{Source}
 use Rattle.flu_model.specs.Erasure.{Job, plain_kind}
 use Rattle.flu_rules.specs.Kept.{KeepsRules}
 use Rattle.flu_parse.specs.Reading.{job_in}
-use Rattle.flu_parse.specs.Printing.{has_text, normal_form}
+use Rattle.flu_parse.specs.Printing.{normal_form}
 
 -- the job of a text keeps the rules of the language, wherever the boxes of its expressions lie
 abbrev pub JobsKeepRules : Type 0
-JobsKeepRules = (bytes : List ℕ) (job : Job) → job_in bytes ≡ Ok job → (kinds : List Kind) → map plain_kind kinds ≡ job.kinds → KeepsRules job.families kinds job.depends job.sources
-
--- the job of a text has a text: it may be printed, and is read again
-abbrev pub JobsHaveText : Type 0
-JobsHaveText = (bytes : List ℕ) (job : Job) → job_in bytes ≡ Ok job → IsTrue (has_text job)
+JobsKeepRules =
+    (bytes : List ℕ) (job : Job) → job_in bytes ≡ Ok job
+    → (kinds : List Kind) → map plain_kind kinds ≡ job.kinds
+    → KeepsRules job.version job.families kinds job.depends job.sources
 
 -- a job of these parts
-abbrev pub job_with : List Family → List Kind → List Depend → List Source → Job
-job_with families kinds depends sources = record { families = families; kinds = map plain_kind kinds; depends = depends; sources = sources }
+abbrev pub job_with : ℕ → List Family → List Kind → List Depend → List Source → Job
+job_with version families kinds depends sources = record {
+  version = version;
+  families = families;
+  kinds = map plain_kind kinds;
+  depends = depends;
+  sources = sources;
+}
 
--- the normal form of a job that keeps the rules, and has a text, is read as that job, where it is not too long to be read
+-- the normal form of a job that keeps the rules is read as that job, where it is not too long to be read
 abbrev pub PrintedIsRead : Type 0
 PrintedIsRead =
-    (families : List Family) (kinds : List Kind) (depends : List Depend) (sources : List Source)
-    → KeepsRules families kinds depends sources
-    → IsTrue (has_text (job_with families kinds depends sources))
-    → IsUtf8 (normal_form (job_with families kinds depends sources))
-    → length (normal_form (job_with families kinds depends sources)) ≤ 1048576
-    → job_in (normal_form (job_with families kinds depends sources)) ≡ Ok (job_with families kinds depends sources)
+    (version : ℕ) (families : List Family) (kinds : List Kind) (depends : List Depend) (sources : List Source)
+    → KeepsRules version families kinds depends sources
+    → IsUtf8 (normal_form (job_with version families kinds depends sources))
+    → length (normal_form (job_with version families kinds depends sources)) ≤ 1048576
+    → job_in (normal_form (job_with version families kinds depends sources)) ≡ Ok (job_with version families kinds depends sources)

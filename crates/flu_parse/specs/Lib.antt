@@ -1,11 +1,10 @@
 pub mod Faults
-pub mod Spelling
 pub mod Naming
 pub mod Cells
 pub mod Terms
 pub mod Templates
 pub mod Scans
-pub mod Deeds
+pub mod Actions
 pub mod Listings
 pub mod Resolving
 pub mod Reading

@@ -1,23 +1,24 @@
 -- Written sources and the tags that they list.
 use Rattle.std.specs.Prelude.{ℕ, ◌+◌, Bool, not, nat_lt, nat_le, List, [], ◌∷◌, ◌++◌, length, Option, Some, None, Ok}
 use Rattle.std.specs.List.{list_any}
-use Rattle.flu_model.specs.declared.limits.What.TheVariants.{Itags, Rate}
+use Rattle.flu_model.specs.declared.limits.What.TheVariants.{Itags, Rate, Slack}
 use Rattle.flu_model.specs.declared.jobs.Keys.{Keys}
 use Rattle.flu_model.specs.declared.jobs.Keys.TheVariants as keys
 use Rattle.flu_model.specs.declared.jobs.TagRef.{TagRef}
 use Rattle.flu_model.specs.declared.jobs.Source.{Source}
-use Rattle.flu_model.specs.Listing.{listed_keys, listed_tags}
-use Rattle.flu_model.specs.Rules.{is_same_tag, is_same_text}
+use Rattle.flu_model.specs.Listing.{listed_keys}
+use Rattle.flu_model.specs.Rules.{is_same_text}
+use Rattle.flu_rules.specs.Keys.{share_tag}
 use Rattle.flu_syntax.specs.declared.tree.WrittenSpan.{WrittenSpan}
 use Rattle.flu_syntax.specs.declared.tree.WrittenNumber.{WrittenNumber}
 use Rattle.flu_syntax.specs.declared.tree.WrittenKeys.{WrittenKeys}
 use Rattle.flu_syntax.specs.declared.tree.WrittenKeys.TheVariants as w
 use Rattle.flu_syntax.specs.declared.tree.WrittenTag.{WrittenTag}
+use Rattle.flu_layout.specs.Spelling.{inside, written_value}
 use Rattle.flu_parse.specs.declared.faults.JobFault.TheVariants as f
 use Rattle.flu_parse.specs.Faults.{Found, ◌>>=◌, ◌>>◌, unless, each}
-use Rattle.flu_parse.specs.Spelling.{inside, value_of}
 use Rattle.flu_parse.specs.Naming.{Naming, kind_of}
-use Rattle.flu_parse.specs.Cells.{key_of}
+use Rattle.flu_parse.specs.Cells.{resolved_key}
 
 -- brackets stand where the kind is keyed
 abbrev pub are_bracketed : Bool → WrittenKeys → Bool
@@ -28,28 +29,24 @@ are_bracketed keyed (w.Range lo hi) = keyed
 -- the keys as they are written, of whatever size
 abbrev pub written_keys : WrittenKeys → Keys
 written_keys w.Alone = keys.Alone
-written_keys (w.One k) = keys.One (value_of k.value)
-written_keys (w.Range lo hi) = keys.Range (value_of lo.value) (value_of hi.value)
+written_keys (w.One k) = keys.One (written_value k.value)
+written_keys (w.Range lo hi) = keys.Range (written_value lo.value) (written_value hi.value)
 
 -- the same where they are keys: a wrong range, then each number
 abbrev pub keys_of : WrittenKeys → Found Keys
 keys_of w.Alone = Ok keys.Alone
 keys_of (w.One k) = do
-  key ← key_of k
+  key ← resolved_key k
   Ok (keys.One key)
 keys_of (w.Range lo hi) = do
-  unless (nat_le (value_of lo.value) (value_of hi.value)) (f.WrongShape lo.at)
-  first ← key_of lo
-  last ← key_of hi
+  unless (nat_le (written_value lo.value) (written_value hi.value)) (f.WrongShape lo.at)
+  first ← resolved_key lo
+  last ← resolved_key hi
   Ok (keys.Range first last)
 
 -- how many tags are listed
 abbrev pub tag_count : WrittenKeys → ℕ
 tag_count ks = length (listed_keys (written_keys ks))
-
--- whether two parts of a list have a tag in common
-abbrev pub share_tag : TagRef → TagRef → Bool
-share_tag a b = list_any (λ t. list_any (is_same_tag t) (listed_tags b)) (listed_tags a)
 
 -- the tags that a source lists so far, and how many itags the sources have so far
 pub record Listed : Type 0 where
@@ -73,8 +70,15 @@ tags_of text n itags ts = each (with_tag text n) (record { tags = []; itags = it
 abbrev pub rate_of : Option WrittenNumber → Found ℕ
 rate_of None = Ok 1
 rate_of (Some r) = do
-  unless (nat_le (value_of r.value) 1000000000) (f.OverLimit Rate (value_of r.value))
-  Ok (value_of r.value)
+  unless (nat_le (written_value r.value) 1000000000) (f.OverLimit Rate (written_value r.value))
+  Ok (written_value r.value)
+
+-- the slack is 0 where none is written
+abbrev pub slack_of : Option WrittenNumber → Found ℕ
+slack_of None = Ok 0
+slack_of (Some s) = do
+  unless (nat_le (written_value s.value) 60000) (f.OverLimit Slack (written_value s.value))
+  Ok (written_value s.value)
 
 -- a file that no source before reads
 abbrev pub file_of : List ℕ → List Source → WrittenSpan → Found (List ℕ)

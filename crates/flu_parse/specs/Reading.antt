@@ -7,7 +7,7 @@ use Rattle.flu_model.specs.Erasure.{Job}
 use Rattle.flu_text.specs.declared.words.Token.{Token}
 use Rattle.flu_text.specs.Reading.{reading}
 use Rattle.flu_text.specs.Reading.{Reading as TokenReading}
-use Rattle.flu_syntax.specs.Tree.{Declaration}
+use Rattle.flu_syntax.specs.Tree.{Job as Written}
 use Rattle.flu_syntax.specs.Machine.{Verdict, verdict, Found as IsJob, Unexpected, TooDeep}
 use Rattle.flu_parse.specs.declared.faults.JobFault.TheVariants as f
 use Rattle.flu_parse.specs.Faults.{Found, ◌>>=◌, ◌>>◌, unless}
@@ -26,12 +26,12 @@ found_tokens (Err at) = Err (f.BadToken at)
 abbrev pub tokens_in : List ℕ → Found (List Token)
 tokens_in text = found_tokens (reading text)
 
-abbrev pub found_job : Verdict → Found (List Declaration)
+abbrev pub found_job : Verdict Written → Found Written
 found_job (IsJob written) = Ok written
 found_job (Unexpected at) = Err (f.Unexpected at)
 found_job TooDeep = Err (f.OverLimit Nesting 65)
 
-abbrev pub written_in : ℕ → List Token → Found (List Declaration)
+abbrev pub written_in : ℕ → List Token → Found Written
 written_in end ts = found_job (verdict end ts)
 
 -- the job of a text, or the first fault: bytes, UTF-8, tokens, grammar, names, and then declaration by declaration

@@ -1,9 +1,10 @@
 -- A written job: its names first, then its declarations in order again, token by token.
-use Rattle.std.specs.Prelude.{ℕ, zero, suc, Bool, true, false, not, ◌&&◌, ◌==◌, List, [], ◌∷◌, ◌++◌, map, Option, Ok}
+use Rattle.std.specs.Prelude.{ℕ, zero, suc, Bool, true, false, not, ◌&&◌, ◌==◌, List, [], ◌∷◌, ◌++◌, map, Option, Some, None, Ok}
 use Rattle.std.specs.List.{list_any}
 use Rattle.flu_model.specs.declared.jobs.Family.{Family}
 use Rattle.flu_model.specs.declared.jobs.Depend.{Depend}
 use Rattle.flu_model.specs.declared.jobs.Source.{Source}
+use Rattle.flu_model.specs.Rules.{is_version}
 use Rattle.flu_model.specs.Erasure.{PlainAction, PlainKind, Job, plain_kind}
 use Rattle.flu_syntax.specs.declared.tree.WrittenSpan.{WrittenSpan}
 use Rattle.flu_syntax.specs.declared.tree.WrittenNumber.{WrittenNumber}
@@ -12,6 +13,7 @@ use Rattle.flu_syntax.specs.declared.tree.WrittenRelation.{WrittenRelation}
 use Rattle.flu_syntax.specs.declared.tree.WrittenRelation.TheVariants as r
 use Rattle.flu_syntax.specs.Tree.{Action, Declaration}
 use Rattle.flu_syntax.specs.Tree as w
+use Rattle.flu_layout.specs.Spelling.{name_of, written_value}
 use Rattle.flu_parse.specs.declared.faults.JobFault.TheVariants as f
 use Rattle.flu_parse.specs.declared.names.FamilyHead.{FamilyHead}
 use Rattle.flu_parse.specs.declared.names.KindHead.{KindHead}
@@ -19,10 +21,9 @@ use Rattle.flu_parse.specs.declared.drafts.Draft.{Draft}
 use Rattle.flu_parse.specs.declared.drafts.JobParts.{JobParts}
 use Rattle.flu_parse.specs.declared.drafts.TagList.{TagList}
 use Rattle.flu_parse.specs.Faults.{Found, ◌>>=◌, ◌>>◌, unless, each}
-use Rattle.flu_parse.specs.Spelling.{name_of}
 use Rattle.flu_parse.specs.Naming.{Naming, naming_of, kind_of}
-use Rattle.flu_parse.specs.Deeds.{actions_of}
-use Rattle.flu_parse.specs.Listings.{Listed, tags_of, rate_of, file_of}
+use Rattle.flu_parse.specs.Actions.{resolved_actions}
+use Rattle.flu_parse.specs.Listings.{Listed, tags_of, rate_of, slack_of, file_of}
 
 -- the job as far as its declarations are looked at, with the numbers of the kinds whose `on` was met
 pub record Drafted : Type 0 where
@@ -64,15 +65,20 @@ unfoldable pub with_on : List ℕ → Naming → Drafted → WrittenSpan → Lis
 with_on text n d name actions = do
   kind ← kind_of text n name
   unless (not (list_any (λ g. g == kind.number) d.given)) (f.TwiceNamed name.from)
-  done ← actions_of text n kind actions
+  done ← resolved_actions text n kind actions
   Ok (record d { kinds = with_actions d.kinds kind.number done; given = d.given ++ kind.number ∷ [] })
 
-unfoldable pub with_source : List ℕ → Naming → Drafted → WrittenSpan → WrittenSpan → Option WrittenNumber → List WrittenTag → Found Drafted
-with_source text n d name file written_rate tags = do
+unfoldable pub with_source : List ℕ → Naming → Drafted → WrittenSpan → WrittenSpan → Option WrittenNumber → Option WrittenNumber → List WrittenTag
+    → Found Drafted
+with_source text n d name file written_rate written_slack tags = do
   bytes ← file_of text d.sources file
   rate ← rate_of written_rate
+  slack ← slack_of written_slack
   listed ← tags_of text n d.itags tags
-  Ok (record d { sources = d.sources ++ record { name = name_of text name; file = bytes; rate = rate; tags = listed.tags } ∷ []; itags = listed.itags })
+  Ok (record d {
+    sources = d.sources ++ record { name = name_of text name; file = bytes; rate = rate; slack = slack; tags = listed.tags } ∷ [];
+    itags = listed.itags;
+  })
 
 -- one declaration more
 unfoldable pub with_declaration : List ℕ → Naming → Drafted → Declaration → Found Drafted
@@ -80,7 +86,7 @@ with_declaration text n d (w.Cell name keyed sort) = Ok d
 with_declaration text n d (w.Tag name keyed has_value) = Ok d
 with_declaration text n d (w.Depends a b relation) = with_depend text n d a b relation
 with_declaration text n d (w.On name actions) = with_on text n d name actions
-with_declaration text n d (w.Source name file rate tags) = with_source text n d name file rate tags
+with_declaration text n d (w.Source name file rate slack tags) = with_source text n d name file rate slack tags
 
 abbrev pub family : List ℕ × FamilyHead → Family
 family h = record { name = h.0; keyed = h.1.keyed; sort = h.1.sort }
@@ -95,13 +101,36 @@ first_draft n = record { kinds = map idle_kind n.kinds; given = []; depends = []
 abbrev pub draft_of : List ℕ → Naming → List Declaration → Found Drafted
 draft_of text n ds = each (with_declaration text n) (first_draft n) ds
 
--- the job that declarations write, or the first fault
-unfoldable pub resolved : List ℕ → List Declaration → Found Job
-resolved text ds = do
-  n ← naming_of text ds
-  d ← draft_of text n ds
-  Ok (record { families = map family n.families; kinds = d.kinds; depends = d.depends; sources = d.sources })
+-- the version of the language is 1 where none is written
+abbrev pub version_of : Option WrittenNumber → Found ℕ
+version_of None = Ok 1
+version_of (Some v) = do
+  unless (is_version (written_value v.value)) (f.WrongShape v.at)
+  Ok (written_value v.value)
+
+abbrev pub job_with : ℕ → Naming → Drafted → Job
+job_with version n d = record {
+  version = version;
+  families = map family n.families;
+  kinds = d.kinds;
+  depends = d.depends;
+  sources = d.sources;
+}
+
+-- The job that is written, or the first fault: the names of all declarations, then the version, then the declarations again.
+unfoldable pub resolved : List ℕ → w.Job → Found Job
+resolved text job = do
+  n ← naming_of text job.declarations
+  version ← version_of job.version
+  d ← draft_of text n job.declarations
+  Ok (job_with version n d)
 
 -- the parts of a job as plain data
 abbrev pub job_of_parts : JobParts → Job
-job_of_parts p = record { families = p.families; kinds = map plain_kind p.kinds; depends = p.depends; sources = p.sources }
+job_of_parts p = record {
+  version = p.version;
+  families = p.families;
+  kinds = map plain_kind p.kinds;
+  depends = p.depends;
+  sources = p.sources;
+}

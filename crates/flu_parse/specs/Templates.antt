@@ -1,22 +1,23 @@
 -- A written template: its plain pieces and its fields.
-use Rattle.std.specs.Prelude.{ℕ, ◌+◌, ◌-◌, Bool, true, false, not, ◌&&◌, ◌||◌, ◌==◌, nat_lt, if◌then◌else◌, List, [], ◌∷◌, ◌++◌, Option, Some, None, option_map, pos, position, codes, Ok}
+use Rattle.std.specs.Prelude.{ℕ, ◌+◌, ◌-◌, Bool, true, false, not, ◌&&◌, ◌||◌, ◌==◌, nat_lt, if◌then◌else◌, List, [], ◌∷◌, ◌++◌, Option, Some, None, option_map, pos, position, codes, Ok, Err}
 use Rattle.std.specs.Char.{is_ascii_digit}
 use Rattle.std.specs.List.{list_all}
 use Rattle.std.specs.Str.{bytes_eq}
 use Rattle.flu_model.specs.declared.jobs.Piece.{Piece}
 use Rattle.flu_model.specs.declared.jobs.Piece.TheVariants as piece
-use Rattle.flu_model.specs.Rules.{is_name}
 use Rattle.flu_text.specs.Lexeme.{number_of}
 use Rattle.flu_syntax.specs.declared.tree.WrittenSpan.{WrittenSpan}
 use Rattle.flu_syntax.specs.declared.tree.WrittenKey.{WrittenKey}
 use Rattle.flu_syntax.specs.declared.tree.WrittenKey.TheVariants as k
+use Rattle.flu_names.specs.Names.{is_name}
+use Rattle.flu_lemmas.specs.Spans.{spelled}
+use Rattle.flu_layout.specs.Spelling.{name_of, inside}
 use Rattle.flu_parse.specs.declared.faults.JobFault.TheVariants as f
 use Rattle.flu_parse.specs.declared.names.FamilyHead.{FamilyHead}
 use Rattle.flu_parse.specs.declared.names.KindHead.{KindHead}
 use Rattle.flu_parse.specs.declared.pieces.WrittenPiece.{WrittenPiece}
 use Rattle.flu_parse.specs.declared.pieces.WrittenPiece.TheVariants as p
 use Rattle.flu_parse.specs.Faults.{Found, ◌>>=◌, ◌>>◌, unless, each, found_of_each}
-use Rattle.flu_parse.specs.Spelling.{spelled, name_of, inside}
 use Rattle.flu_parse.specs.Naming.{Naming, look_up, known}
 use Rattle.flu_parse.specs.Cells.{brackets_fit, at_of}
 
@@ -64,7 +65,15 @@ field_at text in_flush from to =
     else if in_flush then (if bytes_eq word (codes "cell") then Some p.CellValue else None)
     else ref_at text from to
 
+-- what stands between two braces: a field, or what has the form of none
+abbrev pub braced : Option WrittenPiece → WrittenPiece
+braced None = p.Formless
+braced (Some field) = field
+
 -- ---- the pieces of a template, byte by byte
+
+-- A brace is faulty where it has no partner: a `{` without a `}` behind it before the next brace, or a `}` without a `{` before it.
+-- What stands between two braces that match is a piece, even where it has the form of no field.
 
 -- the pieces so far, where the next one begins, and whether it is a field
 pub record Scan : Type 0 where
@@ -72,7 +81,7 @@ pub record Scan : Type 0 where
   pub start : ℕ
   pub in_field : Bool
 
--- the pieces up to the first faulty brace, and whether there is none
+-- the pieces before the first faulty brace, and whether there is none
 pub record Template : Type 0 where
   pub pieces : List WrittenPiece
   pub whole : Bool
@@ -81,13 +90,13 @@ pub record Template : Type 0 where
 abbrev pub with_plain : Scan → ℕ → List WrittenPiece
 with_plain s place = if nat_lt s.start place then s.pieces ++ p.Plain (span s.start place) ∷ [] else s.pieces
 
-abbrev pub with_field : Scan → ℕ → WrittenPiece → Scan
-with_field s place piece = record { pieces = s.pieces ++ piece ∷ []; start = place + 1; in_field = false }
+abbrev pub with_piece : Scan → ℕ → WrittenPiece → Scan
+with_piece s place piece = record { pieces = s.pieces ++ piece ∷ []; start = place + 1; in_field = false }
 
--- one byte more, at a place; none where it is or ends a faulty brace
+-- one byte more, at a place; none where it is a faulty brace, or a `{` behind one
 unfoldable pub scan_byte : (ℕ → ℕ → Option WrittenPiece) → Scan → ℕ → ℕ → Option Scan
 scan_byte field s place b =
-    if s.in_field then (if b == close_brace then option_map (with_field s place) (field s.start place) else Some s)
+    if s.in_field then (if b == close_brace then Some (with_piece s place (braced (field s.start place))) else if b == open_brace then None else Some s)
     else if b == open_brace then Some (record { pieces = with_plain s place; start = place + 1; in_field = true })
     else if b == close_brace then None
     else Some s
@@ -121,6 +130,7 @@ known_name text n place p.Key = Ok tt
 known_name text n place p.Time = Ok tt
 known_name text n place p.CellValue = Ok tt
 known_name text n place (p.Read r) = known place (look_up (name_of text r.family) n.families) >>= λ _. Ok tt
+known_name text n place p.Formless = Ok tt
 
 abbrev pub known_names : List ℕ → Naming → ℕ → List WrittenPiece → Found (Unit {0})
 known_names text n place qs = each (λ done q. known_name text n place q) tt qs
@@ -142,6 +152,7 @@ piece_fits text n under in_flush p.Key = in_flush || under.keyed
 piece_fits text n under in_flush p.Time = true
 piece_fits text n under in_flush p.CellValue = true
 piece_fits text n under in_flush (p.Read r) = read_fits under r.key (look_up (name_of text r.family) n.families)
+piece_fits text n under in_flush p.Formless = false
 
 -- what a piece means: a key that is too great is found here
 unfoldable pub piece_of : List ℕ → Naming → KindHead → ℕ → WrittenPiece → Found Piece
@@ -154,6 +165,7 @@ piece_of text n under place (p.Read r) = do
   family ← known place (look_up (name_of text r.family) n.families)
   at ← at_of under r.key
   Ok (piece.Read (record { family = family.number; at = at }))
+piece_of text n under place p.Formless = Err (f.WrongShape place)
 
 abbrev pub pieces_of : List ℕ → Naming → KindHead → ℕ → List WrittenPiece → Found (List Piece)
 pieces_of text n under place qs = found_of_each (piece_of text n under place) qs

@@ -7,7 +7,7 @@ use Rattle.flu_parse.specs.declared.faults.JobFault.TheVariants as f
 use Rattle.flu_parse.specs.declared.names.KindHead.{KindHead}
 use Rattle.flu_parse.specs.Faults.{Found, ◌>>=◌, ◌>>◌, unless}
 use Rattle.flu_parse.specs.Naming.{Naming}
-use Rattle.flu_parse.specs.Cells.{family_for, cell_of}
+use Rattle.flu_parse.specs.Cells.{family_for, resolved_cell}
 
 -- a word counts 1, parentheses nothing
 abbrev pub height : Tree → ℕ
@@ -59,8 +59,8 @@ module _ (text : List ℕ) (n : Naming) (under : KindHead) where
     unless under.keyed (f.WrongShape at)
     Ok EventKey
   term_of (TimeTree at) = Ok EventTime
-  term_of (ReadTree r) = cell_of text n under None r >>= λ c. Ok (CellRead c)
-  term_of (HasTree at r) = cell_of text n under None r >>= λ c. Ok (CellHeld c)
+  term_of (ReadTree r) = resolved_cell text n under None r >>= λ c. Ok (CellRead c)
+  term_of (HasTree at r) = resolved_cell text n under None r >>= λ c. Ok (CellHeld c)
   term_of (ParenTree at e) = term_of e
   term_of (NegTree at e) = term_of e >>= λ t. Ok (Negative t)
   term_of (NotTree at e) = term_of e >>= λ t. Ok (Negation t)

@@ -4,24 +4,21 @@ ghost use Rattle.std.specs.Prelude.{◌≡◌};
 ghost use Rattle.flu_model.specs.Rules.{is_sort};
 ghost use Rattle.flu_parse.specs.Faults.{Gives};
 ghost use Rattle.flu_parse.specs.Naming.{naming};
-ghost use Rattle.flu_parse.specs.Cells.{key_of, brackets_fit, is_wanted, family_for, at_of, cell_of};
+ghost use Rattle.flu_parse.specs.Cells.{resolved_key, brackets_fit, is_wanted, family_for, at_of, resolved_cell};
 
 use crate::faults::JobFault;
 use crate::names::{FamilyHead, KindHead, Names};
 use crate::naming::family_of;
-use crate::spelling::value_of;
-use flu_model::{At, CellRef, Sort, What};
+use flu_layout::written_value;
+use flu_model::{At, CellRef, KEY_COUNT, Sort, What};
 use flu_syntax::{WrittenKey, WrittenNumber, WrittenRef};
 
-/// How many keys a keyed family or kind has.
-const KEY_COUNT: u64 = 65_536;
-
 /// The key that a number is.
-pub fn key_of(number: WrittenNumber) -> Result<u32, JobFault>
-    ensures { Gives (λ key. key) result (key_of number) }
+pub fn resolved_key(number: WrittenNumber) -> Result<u32, JobFault>
+    ensures { Gives (λ key. key) result (resolved_key number) }
 {
-    let key = value_of(number.value);
-    if key < KEY_COUNT {
+    let key = written_value(number.value);
+    if key < u64::from(KEY_COUNT) {
         Ok(key as u32)
     } else {
         Err(JobFault::OverLimit {
@@ -82,21 +79,21 @@ pub fn at_of(under: KindHead, key: &WrittenKey) -> Result<At, JobFault>
             }
         }
         WrittenKey::Fixed(number) => {
-            let key = key_of(*number)?;
+            let key = resolved_key(*number)?;
             Ok(At::Fixed(key))
         }
     }
 }
 
 /// The cell that is meant, under a kind.
-pub fn cell_of(
+pub fn resolved_cell(
     text: &str,
     names: &Names,
     under: KindHead,
     wanted: Option<Sort>,
     written: &WrittenRef,
 ) -> Result<CellRef, JobFault>
-    ensures { Gives (λ cell. cell) result (cell_of text.now (naming names.now) under wanted written.now) }
+    ensures { Gives (λ cell. cell) result (resolved_cell text.now (naming names.now) under wanted written.now) }
 {
     let family = family_for(text, names, wanted, written)?;
     let at = at_of(under, &written.key)?;

@@ -21,8 +21,9 @@ pub struct TagList {
 }
 
 /// The parts of a job.
-#[derive(Debug, Drop)]
+#[derive(Drop)]
 pub struct JobParts {
+    pub version: u32,
     pub families: List<Family>,
     pub kinds: List<Kind>,
     pub depends: List<Depend>,

@@ -4,11 +4,11 @@ ghost use Rattle.std.specs.Prelude.{◌≡◌, ◌+◌, ◌<◌, ◌≤◌, leng
 ghost use Rattle.std.specs.Char.{is_ascii_digit};
 ghost use Rattle.std.specs.List.{list_all};
 ghost use Rattle.flu_text.specs.Lexeme.{number_of};
-ghost use Rattle.flu_parse.specs.Templates.{is_open_bracket, digits_at, key_at, ref_with, ref_at, field_at};
+ghost use Rattle.flu_parse.specs.Templates.{is_open_bracket, digits_at, key_at, ref_with, ref_at, field_at, braced};
 
 use crate::pieces::WrittenPiece;
-use crate::spelling::spelled;
-use flu_rules::is_name;
+use flu_layout::spelled;
+use flu_names::is_name;
 use flu_syntax::{WrittenKey, WrittenNumber, WrittenRef, WrittenSpan};
 
 fn are_digits(bytes: &[u8]) -> bool
@@ -102,9 +102,9 @@ fn ref_at(text: &str, from: usize, to: usize) -> Option<WrittenPiece>
     }
 }
 
-/// What a field is, in an emit or in a flush, if it has the form of one.
+// What a field is, in an emit or in a flush, if it has the form of one.
 #[tactic(auto, unfolding(crate::specs::Templates::field_at))]
-pub fn field_at(text: &str, in_flush: bool, from: usize, to: usize) -> Option<WrittenPiece>
+fn field_at(text: &str, in_flush: bool, from: usize, to: usize) -> Option<WrittenPiece>
     ensures { result ≡ field_at text.now in_flush from to }
 {
     let word = spelled(text, from, to);
@@ -122,5 +122,15 @@ pub fn field_at(text: &str, in_flush: bool, from: usize, to: usize) -> Option<Wr
         }
     } else {
         ref_at(text, from, to)
+    }
+}
+
+/// What stands between two braces, in an emit or in a flush: a field, or what has the form of none.
+pub fn piece_between(text: &str, in_flush: bool, from: usize, to: usize) -> WrittenPiece
+    ensures { result ≡ braced (field_at text.now in_flush from to) }
+{
+    match field_at(text, in_flush, from, to) {
+        Some(field) => field,
+        None => WrittenPiece::Formless,
     }
 }

@@ -1,36 +1,27 @@
 //! Laws of the reading and of the normal form, each the contract of a function that does nothing.
 
-ghost use Rattle.flu_parse.specs.Laws.{JobsKeepRules, JobsHaveText, PrintedIsRead};
+ghost use Rattle.flu_parse.specs.Laws.{JobsKeepRules, PrintedIsRead};
 
+use flu_layout::laws::{keys_are_laid, laid_is_read, read_may_be_printed};
+use flu_rules::tags_meet_by_their_ends;
 use flu_syntax::laws::{found_is_job, words_stand};
-use flu_text::laws::{layout_is_read, reading_is_exact, tokens_stand};
 
 /// The job that a text is keeps the rules of the language.
 pub fn jobs_keep_rules()
     ensures { JobsKeepRules }
 {
-    reading_is_exact();
-    tokens_stand();
+    read_may_be_printed();
     found_is_job();
     words_stand();
+    tags_meet_by_their_ends();
 }
 
-/// The literals of the job that a text is are not negative, and the texts of its templates have at most 256 bytes as they are
-/// printed.
-pub fn jobs_have_text()
-    ensures { JobsHaveText }
-{
-    reading_is_exact();
-    tokens_stand();
-    found_is_job();
-    words_stand();
-}
-
-/// The normal form of a job is read as that job, where its literals are not negative and the texts of its templates have at most
-/// 256 bytes, and where it has at most 1,048,576 bytes.
+/// The normal form of a job is read as that job, where it has at most 1,048,576 bytes.
 pub fn printed_is_read()
     ensures { PrintedIsRead }
 {
-    layout_is_read();
+    laid_is_read();
+    keys_are_laid();
     found_is_job();
+    tags_meet_by_their_ends();
 }

@@ -1,8 +1,8 @@
 //! The readings of a job text (`docs/LANGUAGE.md`): from what is written to a job, or to the first fault with its place.
 #![tactic(auto)]
 
+mod actions;
 mod cells;
-mod deeds;
 mod drafts;
 mod faults;
 mod fields;
@@ -17,17 +17,9 @@ mod printing_terms;
 mod reading;
 mod resolving;
 mod scanning;
-pub mod spelling;
 mod templates;
 mod terms;
 
 pub use faults::JobFault;
-pub use printing::{add_keys, print_job};
+pub use printing::print_job;
 pub use reading::read_job;
-
-#[cfg(test)]
-mod printing_tests;
-#[cfg(test)]
-mod tests;
-#[cfg(test)]
-mod whole_jobs;

@@ -5,20 +5,21 @@ ghost use Rattle.std.specs.List.{list_any};
 ghost use Rattle.flu_model.specs.Rules.{is_same_text};
 ghost use Rattle.flu_model.specs.Listing.{listed_keys};
 ghost use Rattle.flu_model.specs.declared.jobs.Keys.TheVariants.{Range};
-ghost use Rattle.flu_rules.specs.Keys.{first_key, last_key};
+ghost use Rattle.flu_rules.specs.Keys.{first_key, last_key, share_tag};
 ghost use Rattle.flu_parse.specs.Faults.{Gives};
 ghost use Rattle.flu_parse.specs.Naming.{naming};
-ghost use Rattle.flu_parse.specs.Listings.{are_bracketed, written_keys, keys_of, tag_count, share_tag, Listed, with_tag, tags_of, rate_of, file_of};
+ghost use Rattle.flu_parse.specs.Listings.{are_bracketed, written_keys, keys_of, tag_count, Listed, with_tag, tags_of, rate_of, slack_of, file_of};
 ghost use Rattle.flu_parse.specs.Resolving.{tags_listed};
 
-use crate::cells::key_of;
+use crate::cells::resolved_key;
 use crate::drafts::TagList;
 use crate::faults::JobFault;
 use crate::names::Names;
 use crate::naming::kind_of;
-use crate::spelling::{inside, value_of};
 use crate::terms::shape_at;
+use flu_layout::{inside, written_value};
 use flu_model::{Keys, Source, TagRef, What};
+use flu_rules::tags_meet_by_their_ends;
 use flu_syntax::{WrittenKeys, WrittenNumber, WrittenSpan, WrittenTag};
 use std::alloc::Global;
 
@@ -27,6 +28,9 @@ const MOST_ITAGS: u64 = 256;
 
 /// The greatest rate of a source, in events a second.
 const GREATEST_RATE: u64 = 1_000_000_000;
+
+/// The greatest slack of a source, in the unit of its times.
+const GREATEST_SLACK: u64 = 60_000;
 
 fn are_bracketed(keyed: bool, keys: &WrittenKeys) -> bool
     ensures { result ≡ are_bracketed keyed keys.now }
@@ -43,13 +47,13 @@ fn keys_of(keys: &WrittenKeys) -> Result<Keys, JobFault>
     match keys {
         WrittenKeys::Alone => Ok(Keys::Alone),
         WrittenKeys::One(key) => {
-            let key = key_of(*key)?;
+            let key = resolved_key(*key)?;
             Ok(Keys::One(key))
         }
         WrittenKeys::Range(lo, hi) => {
-            shape_at(value_of(lo.value) <= value_of(hi.value), lo.at)?;
-            let first = key_of(*lo)?;
-            let last = key_of(*hi)?;
+            shape_at(written_value(lo.value) <= written_value(hi.value), lo.at)?;
+            let first = resolved_key(*lo)?;
+            let last = resolved_key(*hi)?;
             Ok(Keys::Range(first, last))
         }
     }
@@ -61,8 +65,8 @@ fn written_first(keys: &WrittenKeys) -> u64
 {
     match keys {
         WrittenKeys::Alone => 0,
-        WrittenKeys::One(key) => value_of(key.value),
-        WrittenKeys::Range(lo, _) => value_of(lo.value),
+        WrittenKeys::One(key) => written_value(key.value),
+        WrittenKeys::Range(lo, _) => written_value(lo.value),
     }
 }
 
@@ -72,8 +76,8 @@ fn written_last(keys: &WrittenKeys) -> u64
 {
     match keys {
         WrittenKeys::Alone => 0,
-        WrittenKeys::One(key) => value_of(key.value),
-        WrittenKeys::Range(_, hi) => value_of(hi.value),
+        WrittenKeys::One(key) => written_value(key.value),
+        WrittenKeys::Range(_, hi) => written_value(hi.value),
     }
 }
 
@@ -83,7 +87,10 @@ fn tag_count(keys: &WrittenKeys) -> u64
 {
     match keys {
         WrittenKeys::Alone | WrittenKeys::One(_) => 1,
-        WrittenKeys::Range(lo, hi) => count_between(value_of(lo.value), value_of(hi.value)),
+        WrittenKeys::Range(lo, hi) => count_between(
+            written_value(lo.value),
+            written_value(hi.value),
+        ),
     }
 }
 
@@ -123,6 +130,7 @@ fn meets(kind: u32, first: u64, last: u64, other: &TagRef) -> bool
 fn is_listed(kind: u32, keys: &WrittenKeys, tags: &[TagRef]) -> bool
     ensures { result ≡ list_any (share_tag (record { kind = kind; keys = written_keys keys.now })) tags.now }
 {
+    tags_meet_by_their_ends();
     let first = written_first(keys);
     let last = written_last(keys);
     any_meets(kind, first, last, tags)
@@ -195,13 +203,33 @@ pub fn rate_of(written: &Option<WrittenNumber>) -> Result<u64, JobFault>
     match written {
         None => Ok(1),
         Some(number) => {
-            let rate = value_of(number.value);
+            let rate = written_value(number.value);
             if rate <= GREATEST_RATE {
                 Ok(rate)
             } else {
                 Err(JobFault::OverLimit {
                     what: What::Rate,
                     count: rate,
+                })
+            }
+        }
+    }
+}
+
+/// The slack that is written, or 0.
+pub fn slack_of(written: &Option<WrittenNumber>) -> Result<u64, JobFault>
+    ensures { Gives (λ slack. slack) result (slack_of written.now) }
+{
+    match written {
+        None => Ok(0),
+        Some(number) => {
+            let slack = written_value(number.value);
+            if slack <= GREATEST_SLACK {
+                Ok(slack)
+            } else {
+                Err(JobFault::OverLimit {
+                    what: What::Slack,
+                    count: slack,
                 })
             }
         }

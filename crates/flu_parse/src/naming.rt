@@ -1,15 +1,15 @@
 //! Which names are declared, and as what.
 
-ghost use Rattle.std.specs.Prelude.{◌≡◌, ◌∷◌, ◌++◌, [], false, IfOk, OnOk, OnErr};
+ghost use Rattle.std.specs.Prelude.{◌≡◌, ◌∷◌, ◌++◌, [], map, false, IfOk, OnOk, OnErr};
 ghost use Rattle.std.specs.List.{list_any};
 ghost use Rattle.std.specs.Str.{bytes_eq};
-ghost use Rattle.flu_syntax.specs.Tree.{declaration_of, job_of};
+ghost use Rattle.flu_syntax.specs.Tree.{declaration_of};
 ghost use Rattle.flu_parse.specs.Faults.{Gives};
 ghost use Rattle.flu_parse.specs.Naming.{naming, no_names, look_up, is_declared, fresh_name, with_family, with_kind, with_source, declare, naming_of, family_of, kind_of};
 
 use crate::faults::JobFault;
 use crate::names::{FamilyHead, KindHead, Names};
-use crate::spelling::name_of;
+use flu_layout::name_of;
 use flu_model::{Sort, What};
 use flu_syntax::{WrittenDeclaration, WrittenSpan};
 use indexmap::{IndexMap, IndexSet};
@@ -221,7 +221,7 @@ pub fn naming_of<'t>(
     text: &'t str,
     declarations: &[WrittenDeclaration],
 ) -> Result<Names<'t>, JobFault>
-    ensures { Gives naming result (naming_of text.now (job_of declarations.now)) }
+    ensures { Gives naming result (naming_of text.now (map declaration_of declarations.now)) }
 {
     let mut names = no_names(alloc);
     for declaration in declarations {

@@ -2,7 +2,8 @@
 
 use flu_syntax::{WrittenRef, WrittenSpan};
 
-/// A piece: plain bytes by their places, or a field. The value of a flushed cell is written `{cell}`.
+/// A piece: plain bytes by their places, or a field. The value of a flushed cell is written `{cell}`; what stands between two
+/// braces may also have the form of no field.
 #[derive(Clone, Copy)]
 pub enum WrittenPiece {
     Plain(WrittenSpan),
@@ -11,6 +12,7 @@ pub enum WrittenPiece {
     Time,
     CellValue,
     Read(WrittenRef),
+    Formless,
 }
 
 /// The pieces so far, where the next one begins, and whether it is a field.

@@ -13,7 +13,7 @@ use crate::laws::jobs_keep_rules;
 use crate::resolving::resolve;
 use flu_model::{Program, What};
 use flu_rules::program;
-use flu_syntax::{SyntaxFault, WrittenDeclaration, read_syntax};
+use flu_syntax::{SyntaxFault, WrittenJob, read_syntax};
 use flu_text::{TextFault, Token, tokens};
 use std::alloc::Global;
 use std::str;
@@ -42,12 +42,8 @@ fn tokens_in(alloc: Global, text: &str) -> Result<Vec<Token>, JobFault>
     }
 }
 
-fn written_in(
-    alloc: Global,
-    found: &[Token],
-    end: usize,
-) -> Result<Vec<WrittenDeclaration>, JobFault>
-    ensures { Gives (λ written. written_job written.items) result (written_in end found.now) }
+fn written_in(alloc: Global, found: &[Token], end: usize) -> Result<WrittenJob, JobFault>
+    ensures { Gives written_job result (written_in end found.now) }
 {
     match read_syntax(alloc, found, end) {
         Ok(written) => Ok(written),
@@ -73,7 +69,7 @@ fn read_parts(alloc: Global, bytes: &[u8]) -> Result<JobParts, JobFault>
     let text = text_in(bytes)?;
     let found = tokens_in(alloc, text)?;
     let written = written_in(alloc, found.as_slice(), text.len())?;
-    resolve(alloc, text, written.as_slice())
+    resolve(alloc, text, &written)
 }
 
 /// The job that a text is, or the first fault in it (`docs/LANGUAGE.md`).
@@ -86,15 +82,21 @@ fn read_parts(alloc: Global, bytes: &[u8]) -> Result<JobParts, JobFault>
 /// [`JobFault::OverLimit`] at the 65th parenthesis or unary operator that is open at once.
 ///
 /// Then names are looked at, in the order of the declarations: [`JobFault::TwiceNamed`] at the second declaration of a name,
-/// [`JobFault::OverLimit`] for a family, kind, source or `depends` that is one too many. At last the declarations are looked at
-/// again, token by token, where [`JobFault::UnknownName`] comes before [`JobFault::WrongShape`], that before
+/// [`JobFault::OverLimit`] for a family, kind, source or `depends` that is one too many. Then [`JobFault::WrongShape`] at a version
+/// other than 1 and 2. At last the declarations are looked at again, token by token, where [`JobFault::UnknownName`] comes before [`JobFault::WrongShape`], that before
 /// [`JobFault::OverLimit`], and that before [`JobFault::TwiceNamed`]. [`JobFault::NoMemory`] where memory is wanting.
 pub fn read_job(alloc: Global, bytes: &[u8]) -> Result<Program, JobFault>
     ensures { Gives job_of result (job_in bytes.now) }
 {
     jobs_keep_rules();
     let parts = read_parts(alloc, bytes)?;
-    match program(parts.families, parts.kinds, parts.depends, parts.sources) {
+    match program(
+        parts.version,
+        parts.families,
+        parts.kinds,
+        parts.depends,
+        parts.sources,
+    ) {
         Some(job) => Ok(job),
         None => unreachable!(),
     }

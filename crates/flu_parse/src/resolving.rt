@@ -6,19 +6,20 @@ ghost use Rattle.flu_model.specs.Erasure.{plain_action, plain_kind};
 ghost use Rattle.flu_syntax.specs.Tree.{action_of as action_seen, declaration_of, job_of};
 ghost use Rattle.flu_parse.specs.Faults.{Gives};
 ghost use Rattle.flu_parse.specs.Naming.{naming};
-ghost use Rattle.flu_parse.specs.Resolving.{drafted, same_of, with_depend, with_actions, with_on, with_source, with_declaration, family, idle_kind, first_draft, draft_of, resolved, job_of_parts};
+ghost use Rattle.flu_parse.specs.Resolving.{drafted, same_of, with_depend, with_actions, with_on, with_source, with_declaration, family, idle_kind, first_draft, draft_of, version_of, resolved, job_of_parts};
 
-use crate::deeds::actions_of;
+use crate::actions::resolved_actions;
 use crate::drafts::{Draft, JobParts};
 use crate::faults::JobFault;
-use crate::listings::{file_of, rate_of, tags_of};
+use crate::listings::{file_of, rate_of, slack_of, tags_of};
 use crate::names::{KindHead, Names};
 use crate::naming::{kind_of, naming_of};
-use crate::spelling::name_of;
 use crate::terms::shape_at;
+use flu_layout::{name_of, written_value};
 use flu_model::{Action, Depend, Family, Kind, List, Name, Source, Text};
 use flu_syntax::{
-    WrittenAction, WrittenDeclaration, WrittenNumber, WrittenRelation, WrittenSpan, WrittenTag,
+    WrittenAction, WrittenDeclaration, WrittenJob, WrittenNumber, WrittenRelation, WrittenSpan,
+    WrittenTag,
 };
 use std::alloc::{AllocError, Global};
 
@@ -87,7 +88,7 @@ fn add_on(
     if is_given(draft.given.as_slice(), kind.number) {
         return Err(JobFault::TwiceNamed { at: name.from });
     }
-    let actions = actions_of(alloc, text, names, kind, written)?;
+    let actions = resolved_actions(alloc, text, names, kind, written)?;
     draft.given.push(kind.number)?;
     set_actions(&mut draft.kinds, kind.number, actions);
     Ok(())
@@ -102,12 +103,14 @@ fn add_source(
     name: WrittenSpan,
     file: WrittenSpan,
     rate: &Option<WrittenNumber>,
+    slack: &Option<WrittenNumber>,
     tags: &[WrittenTag],
 ) -> Result<(), JobFault>
-    ensures { Gives (λ done. drafted draft.new) result (with_source text.now (naming names.now) (drafted draft.old) name file rate.now tags.now) }
+    ensures { Gives (λ done. drafted draft.new) result (with_source text.now (naming names.now) (drafted draft.old) name file rate.now slack.now tags.now) }
 {
     let file = file_of(text, draft.sources.as_slice(), file)?;
     let rate = rate_of(rate)?;
+    let slack = slack_of(slack)?;
     let listed = tags_of(alloc, text, names, draft.itags, tags)?;
     let itags = listed.itags;
     let name = String::from_str(alloc, name_of(text, name))?;
@@ -116,6 +119,7 @@ fn add_source(
         name: Name::of(name),
         file: Text::of(file),
         rate,
+        slack,
         tags: List::of(listed.tags),
     })?;
     draft.itags = itags;
@@ -144,8 +148,19 @@ fn add_declaration(
             name,
             file,
             rate,
+            slack,
             tags,
-        } => add_source(alloc, text, names, draft, *name, *file, rate, tags.items()),
+        } => add_source(
+            alloc,
+            text,
+            names,
+            draft,
+            *name,
+            *file,
+            rate,
+            slack,
+            tags.items(),
+        ),
     }
 }
 
@@ -201,7 +216,7 @@ fn draft_of(
     names: &Names,
     declarations: &[WrittenDeclaration],
 ) -> Result<Draft, JobFault>
-    ensures { Gives drafted result (draft_of text.now (naming names.now) (job_of declarations.now)) }
+    ensures { Gives drafted result (draft_of text.now (naming names.now) (map declaration_of declarations.now)) }
 {
     let mut draft = first_draft(alloc, names)?;
     for declaration in declarations {
@@ -213,29 +228,42 @@ fn draft_of(
     Ok(draft)
 }
 
-/// The parts of the job that declarations write, or the first fault in them (`docs/LANGUAGE.md`).
+// The version that is written, or 1.
+fn version_of(written: &Option<WrittenNumber>) -> Result<u32, JobFault>
+    ensures { Gives (λ version. version) result (version_of written.now) }
+{
+    match written {
+        None => Ok(1),
+        Some(number) => {
+            let version = written_value(number.value);
+            shape_at(version == 1 || version == 2, number.at)?;
+            Ok(version as u32)
+        }
+    }
+}
+
+/// The parts of the job that is written, or the first fault in it (`docs/LANGUAGE.md`).
 ///
 /// # Errors
 ///
 /// Names are looked at first, in the order of the declarations: [`JobFault::TwiceNamed`] at the second declaration of a name,
-/// [`JobFault::OverLimit`] for a family, kind, source or `depends` that is one too many. Then the declarations are looked at
-/// again, token by token, where an unknown name comes before a wrong shape, that before a limit, and that before what is
-/// named twice. [`JobFault::NoMemory`] where memory is wanting.
+/// [`JobFault::OverLimit`] for a family, kind, source or `depends` that is one too many. Then [`JobFault::WrongShape`] at a
+/// version other than 1 and 2. Then the declarations are looked at again, token by token, where an unknown name comes before a
+/// wrong shape, that before a limit, and that before what is named twice. [`JobFault::NoMemory`] where memory is wanting.
 #[tactic(auto, unfolding(crate::specs::Resolving::resolved))]
-pub fn resolve(
-    alloc: Global,
-    text: &str,
-    declarations: &[WrittenDeclaration],
-) -> Result<JobParts, JobFault>
-    ensures { Gives job_of_parts result (resolved text.now (job_of declarations.now)) }
+pub fn resolve(alloc: Global, text: &str, job: &WrittenJob) -> Result<JobParts, JobFault>
+    ensures { Gives job_of_parts result (resolved text.now (job_of job.now)) }
 {
+    let declarations = job.declarations.items();
     let names = match naming_of(alloc, text, declarations) {
         Ok(names) => names,
         Err(fault) => return Err(fault),
     };
+    let version = version_of(&job.version)?;
     let draft = draft_of(alloc, text, &names, declarations)?;
     let families = families_of(alloc, &names)?;
     Ok(JobParts {
+        version,
         families: List::of(families),
         kinds: List::of(draft.kinds),
         depends: List::of(draft.depends),

@@ -4,9 +4,9 @@ ghost use Rattle.std.specs.Prelude.{◌≡◌, ◌+◌, ◌<◌, ◌≤◌, leng
 ghost use Rattle.flu_parse.specs.Templates.{with_plain, field_at, scan_byte, end_of_scan, scan, scan_start, template_at};
 ghost use Rattle.flu_parse.specs.Scans.{scan_of, template_of_scan, Steps};
 
-use crate::fields::field_at;
+use crate::fields::piece_between;
 use crate::pieces::{ScannedTemplate, Scanner, WrittenPiece};
-use crate::spelling::inside;
+use flu_layout::inside;
 use flu_syntax::WrittenSpan;
 use std::alloc::{AllocError, Global};
 
@@ -25,7 +25,7 @@ fn end_plain(scanner: &mut Scanner, place: usize) -> Result<(), AllocError>
     Ok(())
 }
 
-// One byte more, at a place: false where it is or ends a faulty brace.
+// One byte more, at a place: false where a brace has no partner, this one or the one that opened the field.
 #[tactic(auto, unfolding(crate::specs::Templates::scan_byte))]
 fn scan_byte(
     scanner: &mut Scanner,
@@ -39,12 +39,10 @@ fn scan_byte(
 {
     if scanner.in_field {
         if byte != b'}' {
-            return Ok(true);
+            return Ok(byte != b'{');
         }
-        let Some(field) = field_at(text, in_flush, scanner.start, place) else {
-            return Ok(false);
-        };
-        scanner.pieces.push(field)?;
+        let piece = piece_between(text, in_flush, scanner.start, place);
+        scanner.pieces.push(piece)?;
         scanner.start = place + 1;
         scanner.in_field = false;
         return Ok(true);

@@ -2,9 +2,9 @@
 
 ghost use Rattle.std.specs.Prelude.{◌≡◌};
 ghost use Rattle.std.specs.List.{list_all};
+ghost use Rattle.flu_layout.specs.Spelling.{name_of};
 ghost use Rattle.flu_parse.specs.Faults.{Gives};
 ghost use Rattle.flu_parse.specs.Naming.{naming, look_up, known};
-ghost use Rattle.flu_parse.specs.Spelling.{name_of};
 ghost use Rattle.flu_parse.specs.Templates.{known_name, known_names, own_key_fits, read_fits, piece_fits, piece_of, pieces_of, template_of};
 
 use crate::cells::{at_of, brackets_fit};
@@ -13,7 +13,7 @@ use crate::names::{FamilyHead, KindHead, Names};
 use crate::naming::find_family;
 use crate::pieces::WrittenPiece;
 use crate::scanning::template_at;
-use crate::spelling::name_of;
+use flu_layout::name_of;
 use flu_model::{CellRef, List, Piece, Text};
 use flu_syntax::{WrittenKey, WrittenRef, WrittenSpan};
 use std::alloc::Global;
@@ -42,7 +42,8 @@ fn known_name(text: &str, names: &Names, place: usize, piece: &WrittenPiece) -> 
         | WrittenPiece::Value
         | WrittenPiece::Key
         | WrittenPiece::Time
-        | WrittenPiece::CellValue => Ok(()),
+        | WrittenPiece::CellValue
+        | WrittenPiece::Formless => Ok(()),
     }
 }
 
@@ -99,6 +100,7 @@ fn piece_fits(
             &written.key,
             find_family(names, name_of(text, written.family)),
         ),
+        WrittenPiece::Formless => false,
     }
 }
 
@@ -144,6 +146,7 @@ fn piece_of(
                 at,
             }))
         }
+        WrittenPiece::Formless => Err(JobFault::WrongShape { at: place }),
     }
 }
 

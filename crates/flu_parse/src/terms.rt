@@ -7,7 +7,7 @@ ghost use Rattle.flu_parse.specs.Faults.{Gives, unless};
 ghost use Rattle.flu_parse.specs.Naming.{naming};
 ghost use Rattle.flu_parse.specs.Terms.{height, first_part, first_token, term_of, expression_of};
 
-use crate::cells::{cell_of, family_for};
+use crate::cells::{family_for, resolved_cell};
 use crate::faults::JobFault;
 use crate::names::{KindHead, Names};
 use flu_model::{Expr, What};
@@ -112,11 +112,11 @@ fn term_of(
         }
         WrittenExpr::Time { .. } => Ok(Expr::Time),
         WrittenExpr::Read(cell) => {
-            let cell = cell_of(text, names, under, None, cell)?;
+            let cell = resolved_cell(text, names, under, None, cell)?;
             Ok(Expr::Read(cell))
         }
         WrittenExpr::Has { cell, .. } => {
-            let cell = cell_of(text, names, under, None, cell)?;
+            let cell = resolved_cell(text, names, under, None, cell)?;
             Ok(Expr::Has(cell))
         }
         WrittenExpr::Paren { inner, .. } => term_of(alloc, text, names, under, inner),

@@ -1,16 +1,17 @@
 -- Two graphs that agree on some itags have the same components, cuts and greedy trees there.
-use Rattle.std.proofs.Common.{◌≡◌, ◌≤◌, ℕ, zero, suc, List, [], ◌∷◌, drop, inl, inr, refl, sym, ap, ◌∙◌, arith}
+use Rattle.std.proofs.Common.{◌≡◌, ◌≤◌, ℕ, zero, suc, List, [], ◌∷◌, inl, inr, refl, sym, ap, ◌∙◌, arith}
 use Rattle.std.specs.Prelude.{Contains, ◌&&◌, nat_lt}
-use Rattle.flu_lemmas.specs.Sorting.{in_order}
 use Rattle.flu_lemmas.specs.Totals.{total}
 use Rattle.flu_planner.specs.Graphs.{Graph, AreConnected, IsApart, IsComponent, AreComponents, is_walk}
-use Rattle.flu_planner.specs.Cuts.{IsLeastCut, IsWhole, remaining, removal_order, is_removed_first}
+use Rattle.flu_planner.specs.Cuts.{IsLeastCut, IsWhole, removed, remaining}
 use Rattle.flu_planner.specs.Groups.{grouped}
 use Rattle.flu_planner.specs.Greedy.{Tree, Leaf, Inner, IsGreedy, IsLeaf, IsParting}
-use Rattle.flu_planner.specs.Reaching.{occurs}
-use Rattle.flu_planner.proofs.Occurs.{contains_first, contains_later, counted, found, occurs-in_order, occurs-parts}
+use Rattle.flu_lemmas.specs.Counting.{times}
+use Rattle.flu_lemmas.proofs.Containing.{contains_here, contains_later}
+use Rattle.flu_lemmas.proofs.Counting.{times_if_contained, contained_if_times, times_in_order}
 use Rattle.flu_planner.proofs.Cutting.{grouped_once}
 use Rattle.flu_planner.proofs.Finding.{some_list}
+use Rattle.flu_planner.proofs.TreeParts.{times_of_cut, remaining_in}
 
 pub record Agree (g h : Graph) (itags : List ℕ) : Type 0 where
   pub same : (i j : ℕ) → Contains itags i → Contains itags j → g i j ≡ h i j
@@ -22,12 +23,13 @@ within : (g h : Graph) (itags few : List ℕ) → ((k : ℕ) → Contains few k 
 within g h itags few inside a = record { same = λ i j one other. a.same i j (inside i one) (inside j other) }
 
 -- ---- walks
-walks_agree : (g h : Graph) (itags : List ℕ) → Agree g h itags → (i : ℕ) (walk : List ℕ) → Contains itags i → ((k : ℕ) → Contains walk k → Contains itags k) → is_walk g i walk ≡ is_walk h i walk
+walks_agree : (g h : Graph) (itags : List ℕ) → Agree g h itags → (i : ℕ) (walk : List ℕ) → Contains itags i → ((k : ℕ) → Contains walk k → Contains itags k)
+    → is_walk g i walk ≡ is_walk h i walk
 walks_agree g h itags a i [] there inside = refl
 walks_agree g h itags a i (j ∷ walk) there inside =
-    let next : Contains itags j = inside j (contains_first j walk) in
+    let next : Contains itags j = inside j (contains_here j walk) in
     ap (λ b. b && is_walk g j walk) (a.same i j there next)
-    ∙ ap (λ b. h i j && b) (walks_agree g h itags a j walk next (λ k here. inside k (contains_later j walk k here)))
+    ∙ ap (λ b. h i j && b) (walks_agree g h itags a j walk next (λ k here. inside k (contains_later j k walk here)))
 
 connected_agrees : (g h : Graph) (itags : List ℕ) → Agree g h itags → (i j : ℕ) → Contains itags i → AreConnected g itags i j → AreConnected h itags i j
 connected_agrees g h itags a i j there c = record {
@@ -60,15 +62,6 @@ components_agree : (g h : Graph) (rates itags : List ℕ) (cs : List (List ℕ))
 components_agree g h rates itags cs a x = record { each = λ c there. component_agrees g h itags c a (x.each c there); every = x.every; in_turn = x.in_turn }
 
 -- ---- cuts
-remaining_in : (rates itags : List ℕ) (n k : ℕ) → Contains (remaining rates itags n) k → Contains itags k
-remaining_in rates itags n k there =
-    let some = counted k (remaining rates itags n) there in
-    let order : List ℕ = removal_order rates itags in
-    let rest = occurs-in_order k nat_lt (drop n order) in
-    let parts = occurs-parts k n order in
-    let all = occurs-in_order k (is_removed_first rates) itags in
-    found k itags (omega arith)
-
 agree_remaining : (g h : Graph) (rates itags : List ℕ) (n : ℕ) → Agree g h itags → Agree g h (remaining rates itags n)
 agree_remaining g h rates itags n a = within g h itags (remaining rates itags n) (remaining_in rates itags n) a
 
@@ -82,7 +75,8 @@ whole_agrees : (g h : Graph) (rates itags : List ℕ) → Agree g h itags → Is
 whole_agrees g h rates itags a x = λ n y. x n (apart_agrees h g (remaining rates itags n) (turned g h (remaining rates itags n) (agree_remaining g h rates itags n a)) y)
 
 -- ---- partings
-parting_agrees : (g h : Graph) (rates itags own left right : List ℕ) → Agree g h itags → IsParting g rates itags own left right → IsParting h rates itags own left right
+parting_agrees : (g h : Graph) (rates itags own left right : List ℕ) → Agree g h itags → IsParting g rates itags own left right
+    → IsParting h rates itags own left right
 parting_agrees g h rates itags own left right a x = record {
   count = x.count;
   least_cut = cut_agrees g h rates itags x.count a x.least_cut;
@@ -93,25 +87,33 @@ parting_agrees g h rates itags own left right a x = record {
   right_group = x.right_group;
 }
 
+-- what stands in a part stands in the whole
 module _ (g : Graph) (rates itags own left right : List ℕ) (x : IsParting g rates itags own left right) where
-  grouped_in : (k : ℕ) → 1 ≤ total (occurs k) x.components → Contains itags k
+  grouped_in : (k : ℕ) → 1 ≤ total (times k) x.components → Contains itags k
   grouped_in k some =
       let c = some_list k x.components some in
       remaining_in rates itags x.count k ((x.are.each c.0 c.1).inside k c.2)
 
-  left_of : (k : ℕ) → Contains left k → Contains itags k
+  pub own_of : (k : ℕ) → Contains own k → Contains itags k
+  own_of k there =
+      let some = times_if_contained k own there in
+      let same : times k own ≡ times k (removed rates itags x.count) = ap (times k) x.own_removed in
+      let cut = times_of_cut rates itags x.count k in
+      contained_if_times k itags (omega (arith, some, same, cut))
+
+  pub left_of : (k : ℕ) → Contains left k → Contains itags k
   left_of k there =
-      let some = counted k left there in
+      let some = times_if_contained k left there in
       let groups = grouped rates [] [] x.components in
-      let same : occurs k left ≡ occurs k groups.0 = ap (occurs k) x.left_group ∙ occurs-in_order k nat_lt groups.0 in
+      let same : times k left ≡ times k groups.0 = ap (times k) x.left_group ∙ times_in_order k nat_lt groups.0 in
       let all = grouped_once k rates [] [] x.components in
       grouped_in k (omega arith)
 
-  right_of : (k : ℕ) → Contains right k → Contains itags k
+  pub right_of : (k : ℕ) → Contains right k → Contains itags k
   right_of k there =
-      let some = counted k right there in
+      let some = times_if_contained k right there in
       let groups = grouped rates [] [] x.components in
-      let same : occurs k right ≡ occurs k groups.1 = ap (occurs k) x.right_group ∙ occurs-in_order k nat_lt groups.1 in
+      let same : times k right ≡ times k groups.1 = ap (times k) x.right_group ∙ times_in_order k nat_lt groups.1 in
       let all = grouped_once k rates [] [] x.components in
       grouped_in k (omega arith)
 
@@ -120,7 +122,8 @@ leaf_agrees : (g h : Graph) (rates : List ℕ) (depth : ℕ) (itags : List ℕ) 
 leaf_agrees g h rates depth itags a leaf =
     elim leaf [ inl none ↦ inl none | inr more ↦ elim more [ inl few ↦ inr (inl few) | inr whole ↦ inr (inr (whole_agrees g h rates itags a whole)) ] ]
 
-pub greedy_agrees : (g h : Graph) (rates : List ℕ) (depth : ℕ) (itags : List ℕ) (tree : Tree) → Agree g h itags → IsGreedy g rates depth itags tree → IsGreedy h rates depth itags tree
+pub greedy_agrees : (g h : Graph) (rates : List ℕ) (depth : ℕ) (itags : List ℕ) (tree : Tree) → Agree g h itags → IsGreedy g rates depth itags tree
+    → IsGreedy h rates depth itags tree
 greedy_agrees g h rates depth itags (Leaf own) a x = (x.0, leaf_agrees g h rates depth itags a x.1)
 greedy_agrees g h rates zero itags (Inner own left right) a x = absurd x
 greedy_agrees g h rates (suc depth) itags (Inner own left right) a x =

@@ -4,16 +4,18 @@ use Rattle.std.specs.Prelude.{Contains}
 use Rattle.std.proofs.lemmas.Bool.{and_parts, and_from}
 use Rattle.std.proofs.lemmas.List.Elements.{Contains-append_cases}
 use Rattle.flu_planner.specs.Graphs.{Graph, AreConnected, is_walk, end_of_walk}
-use Rattle.flu_planner.proofs.Occurs.{contains_first, contains_later, contains_cases, contains_none}
+use Rattle.flu_lemmas.proofs.Containing.{contains_here, contains_later, contains_cases, contains_none}
 
 -- ---- what each step of a walk keeps holds at its end
-pub kept_along : (g : Graph) (itags : List ℕ) (Q : ℕ → Type 0) → ((i j : ℕ) → Q i → Contains itags j → g i j ≡ true → Q j) → (i : ℕ) (walk : List ℕ) → Q i → is_walk g i walk ≡ true → ((k : ℕ) → Contains walk k → Contains itags k) → Q (end_of_walk i walk)
+pub kept_along : (g : Graph) (itags : List ℕ) (Q : ℕ → Type 0) → ((i j : ℕ) → Q i → Contains itags j → g i j ≡ true → Q j) → (i : ℕ) (walk : List ℕ) → Q i
+    → is_walk g i walk ≡ true → ((k : ℕ) → Contains walk k → Contains itags k) → Q (end_of_walk i walk)
 kept_along g itags Q step i [] here joined inside = here
 kept_along g itags Q step i (j ∷ walk) here joined inside =
     let parts = and_parts (g i j) (is_walk g j walk) joined in
-    kept_along g itags Q step j walk (step i j here (inside j (contains_first j walk)) parts.0) parts.1 (λ k there. inside k (contains_later j walk k there))
+    kept_along g itags Q step j walk (step i j here (inside j (contains_here j walk)) parts.0) parts.1 (λ k there. inside k (contains_later j k walk there))
 
-pub kept_where_connected : (g : Graph) (itags : List ℕ) (Q : ℕ → Type 0) → ((i j : ℕ) → Q i → Contains itags j → g i j ≡ true → Q j) → (i j : ℕ) → AreConnected g itags i j → Q i → Q j
+pub kept_where_connected : (g : Graph) (itags : List ℕ) (Q : ℕ → Type 0) → ((i j : ℕ) → Q i → Contains itags j → g i j ≡ true → Q j) → (i j : ℕ)
+    → AreConnected g itags i j → Q i → Q j
 kept_where_connected g itags Q step i j c here = subst Q c.ends (kept_along g itags Q step i c.walk here c.joined c.inside)
 
 -- ---- walks one after another
@@ -44,19 +46,21 @@ connected_step g itags i j k a joined there =
     connected_on g itags i j k a (record {
       walk = k ∷ [];
       joined = and_from (g j k) true joined refl;
-      inside = λ n here. elim (contains_cases k [] n here) [ inl e ↦ subst (Contains itags) e there | inr none ↦ absurd (contains_none n none) ];
+      inside = λ n here. elim (contains_cases k n [] here) [ inl e ↦ subst (Contains itags) e there | inr none ↦ absurd (contains_none n none) ];
       ends = refl;
     })
 
 -- ---- walks over more itags, and back
-pub connected_within : (g : Graph) (itags more : List ℕ) (i j : ℕ) → ((k : ℕ) → Contains itags k → Contains more k) → AreConnected g itags i j → AreConnected g more i j
+pub connected_within : (g : Graph) (itags more : List ℕ) (i j : ℕ) → ((k : ℕ) → Contains itags k → Contains more k) → AreConnected g itags i j
+    → AreConnected g more i j
 connected_within g itags more i j within a = record { walk = a.walk; joined = a.joined; inside = λ k there. within k (a.inside k there); ends = a.ends }
 
 -- the itags of which a walk leads back to one, of those that can be reached from it
 IsBack : Graph → List ℕ → ℕ → ℕ → Type 0
 IsBack g itags i j = AreConnected g itags j i × Contains itags j
 
-pub connected_back : (g : Graph) (itags : List ℕ) → ((i j : ℕ) → g i j ≡ g j i) → (i j : ℕ) → Contains itags i → AreConnected g itags i j → AreConnected g itags j i
+pub connected_back : (g : Graph) (itags : List ℕ) → ((i j : ℕ) → g i j ≡ g j i) → (i j : ℕ) → Contains itags i → AreConnected g itags i j
+    → AreConnected g itags j i
 unfolding IsBack
 connected_back g itags both i j there a =
     (kept_where_connected g itags (IsBack g itags i)

@@ -6,42 +6,47 @@ use Rattle.flu_lemmas.specs.Totals.{total}
 use Rattle.flu_planner.specs.Graphs.{Graph, IsApart, AreComponents, is_rising, rising}
 use Rattle.flu_planner.specs.Cuts.{removal_order, removed, remaining, is_removed_first}
 use Rattle.flu_planner.specs.Groups.{grouped, goes_left}
-use Rattle.flu_planner.specs.Reaching.{occurs}
+use Rattle.flu_lemmas.specs.Counting.{times}
 use Rattle.flu_planner.specs.Search.{IsFirstApart, IsPartingOnce}
-use Rattle.flu_planner.proofs.Occurs.{occurs-append, occurs-in_order, occurs-parts}
+use Rattle.flu_lemmas.proofs.Counting.{times_append, times_in_order, times_parted}
 use Rattle.flu_planner.proofs.Rising.{rising_in_order}
 use Rattle.flu_planner.proofs.Searching.{none_apart}
 
-pub rest_rising : (order : List ℕ) (n : ℕ) → ((k : ℕ) → occurs k order ≤ 1) → IsTrue (is_rising (rising (drop n order)))
-rest_rising order n once = rising_in_order (drop n order) (λ k. let parts = occurs-parts k n order in let all = once k in omega arith)
+pub rest_rising : (order : List ℕ) (n : ℕ) → ((k : ℕ) → times k order ≤ 1) → IsTrue (is_rising (rising (drop n order)))
+rest_rising order n once = rising_in_order (drop n order) (λ k. let parts = times_parted k n order in let all = once k in omega arith)
 
 -- where all is removed nothing falls apart
 pub never_past : (g : Graph) (order : List ℕ) (n : ℕ) → length order ≤ n → IsApart g (rising (drop n order)) → ⊥
 never_past g order n le a = none_apart g (subst (λ xs. IsApart g (rising xs)) (drop_all n order le) a)
 
 -- ---- groups
-pub grouped_more : (rates left right : List ℕ) (components : List (List ℕ)) (i : ℕ) (d : List ℕ) → i < length components → grouped rates left right (drop i components) ≡ cond (goes_left rates left right) (grouped rates (left ++ get_or components i d) right (drop (i + 1) components)) (grouped rates left (right ++ get_or components i d) (drop (i + 1) components))
+pub grouped_more : (rates left right : List ℕ) (components : List (List ℕ)) (i : ℕ) (d : List ℕ) → i < length components
+    → grouped rates left right (drop i components) ≡ cond (goes_left rates left right) (grouped rates (left ++ get_or components i d) right (drop (i + 1) components)) (grouped rates left (right ++ get_or components i d) (drop (i + 1) components))
 grouped_more rates left right components i d lt = ap (grouped rates left right) (drop_more components i d lt)
 
-pub grouped_once : (k : ℕ) (rates left right : List ℕ) (cs : List (List ℕ)) → occurs k (grouped rates left right cs).0 + occurs k (grouped rates left right cs).1 ≡ occurs k left + occurs k right + total (occurs k) cs
+pub grouped_once : (k : ℕ) (rates left right : List ℕ) (cs : List (List ℕ))
+    → times k (grouped rates left right cs).0 + times k (grouped rates left right cs).1 ≡ times k left + times k right + total (times k) cs
 grouped_once k rates left right [] = omega arith
 grouped_once k rates left right (c ∷ cs) =
-    elim (goes_left rates left right) as (λ b. let groups = cond b (grouped rates (left ++ c) right cs) (grouped rates left (right ++ c) cs) in occurs k groups.0 + occurs k groups.1 ≡ occurs k left + occurs k right + total (occurs k) (c ∷ cs)) [
-      | true ↦ (let rest = grouped_once k rates (left ++ c) right cs in let more = occurs-append k left c in omega arith)
-      | false ↦ (let rest = grouped_once k rates left (right ++ c) cs in let more = occurs-append k right c in omega arith)
+    elim (goes_left rates left right) as (λ b. let groups = cond b (grouped rates (left ++ c) right cs) (grouped rates left (right ++ c) cs) in times k groups.0 + times k groups.1 ≡ times k left + times k right + total (times k) (c ∷ cs)) [
+      | true ↦ (let rest = grouped_once k rates (left ++ c) right cs in let more = times_append k left c in omega arith)
+      | false ↦ (let rest = grouped_once k rates left (right ++ c) cs in let more = times_append k right c in omega arith)
     ]
 
 -- ---- partings
-pub parted : (g : Graph) (rates itags : List ℕ) (count : ℕ) (components : List (List ℕ)) → ((k : ℕ) → occurs k itags ≤ 1) → IsFirstApart g (removal_order rates itags) count → AreComponents g rates (remaining rates itags count) components → ((k : ℕ) → total (occurs k) components ≡ occurs k (remaining rates itags count)) → IsPartingOnce g rates itags (removed rates itags count) (rising (grouped rates [] [] components).0) (rising (grouped rates [] [] components).1)
+pub parted : (g : Graph) (rates itags : List ℕ) (count : ℕ) (components : List (List ℕ)) → ((k : ℕ) → times k itags ≤ 1)
+    → IsFirstApart g (removal_order rates itags) count → AreComponents g rates (remaining rates itags count) components
+    → ((k : ℕ) → total (times k) components ≡ times k (remaining rates itags count))
+    → IsPartingOnce g rates itags (removed rates itags count) (rising (grouped rates [] [] components).0) (rising (grouped rates [] [] components).1)
 parted g rates itags count components single first are once =
     let order : List ℕ = removal_order rates itags in
     let groups = grouped rates [] [] components in
-    let all : (k : ℕ) → occurs k (removed rates itags count) + occurs k groups.0 + occurs k groups.1 ≡ occurs k itags =
+    let all : (k : ℕ) → times k (removed rates itags count) + times k groups.0 + times k groups.1 ≡ times k itags =
     λ k.
-    (let own = occurs-in_order k nat_lt (take count order) in
-    let others = occurs-in_order k nat_lt (drop count order) in
-    let parts = occurs-parts k count order in
-    let whole = occurs-in_order k (is_removed_first rates) itags in
+    (let own = times_in_order k nat_lt (take count order) in
+    let others = times_in_order k nat_lt (drop count order) in
+    let parts = times_parted k count order in
+    let whole = times_in_order k (is_removed_first rates) itags in
     let both = grouped_once k rates [] [] components in
     let found = once k in
     omega arith) in
@@ -55,7 +60,7 @@ parted g rates itags count components single first are once =
         left_group = refl;
         right_group = refl;
       };
-      once = λ k. (let left = occurs-in_order k nat_lt groups.0 in let right = occurs-in_order k nat_lt groups.1 in let sum = all k in omega arith);
+      once = λ k. (let left = times_in_order k nat_lt groups.0 in let right = times_in_order k nat_lt groups.1 in let sum = all k in omega arith);
       left_in_order = rising_in_order groups.0 (λ k. let sum = all k in let one = single k in omega arith);
       right_in_order = rising_in_order groups.1 (λ k. let sum = all k in let one = single k in omega arith);
     }

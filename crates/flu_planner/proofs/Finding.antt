@@ -2,25 +2,28 @@
 use Rattle.std.proofs.Common.{◌≡◌, ◌<◌, ◌≤◌, ◌+◌, ℕ, Bool, true, false, cond, List, [], ◌∷◌, inl, inr, refl, sym, ap, subst, ◌∙◌, arith}
 use Rattle.std.specs.Prelude.{Contains, IsTrue, ◌&&◌, ◌==◌, nat_lt, ◌⊎◌}
 use Rattle.std.proofs.lemmas.Bool.{cases_lt, cases_eq, both_ways, or_cases, or_left, or_right, and_parts, and_from, lt-ltb, ltb-true, ltb-false, eqb-true, eq-eqb}
-use Rattle.flu_lemmas.specs.Sorting.{in_order, put_in_order}
+use Rattle.flu_lemmas.specs.Sorting.{put_in_order}
 use Rattle.flu_lemmas.specs.Totals.{total}
 use Rattle.flu_planner.specs.Graphs.{Graph, IsComponent, AreComponents, IsInTurn, comes_first, is_rising, least, rising, total_rate}
-use Rattle.flu_planner.specs.Reaching.{occurs, has_greater_total, IsReached}
+use Rattle.flu_lemmas.specs.Counting.{times}
+use Rattle.flu_planner.specs.Reaching.{has_greater_total, IsReached}
 use Rattle.flu_planner.proofs.Connections.{kept_where_connected, connected_within}
-use Rattle.flu_planner.proofs.Occurs.{contains_first, contains_later, contains_cases, contains_none, occurs-in_order, counted, found}
+use Rattle.flu_lemmas.proofs.Containing.{contains_here, contains_later, contains_cases, contains_none}
+use Rattle.flu_lemmas.proofs.Counting.{times_in_order, times_if_contained, contained_if_times}
 use Rattle.flu_planner.proofs.Rising.{rising_above, rising_once, rising_in_order}
+use Rattle.flu_planner.proofs.TreeParts.{IsPart}
 use Rattle.flu_planner.proofs.Searching.{connected_in, rest_in, one_side, some_side, stays_step, all_connected}
 
 -- ---- an element put in order among others
 contains_put : {X : Type 0} (before : X → X → Bool) (x : X) (ys : List X) (z : X) → Contains (put_in_order before x ys) z → (x ≡ z) ⊎ Contains ys z
-contains_put before x [] z there = elim (contains_cases x [] z there) [ inl e ↦ inl e | inr none ↦ absurd (contains_none z none) ]
+contains_put before x [] z there = elim (contains_cases x z [] there) [ inl e ↦ inl e | inr none ↦ absurd (contains_none z none) ]
 contains_put before x (y ∷ ys) z there =
     elim (before x y) as (λ b. Contains (cond b (x ∷ y ∷ ys) (y ∷ put_in_order before x ys)) z → (x ≡ z) ⊎ Contains (y ∷ ys) z) [
-      | true ↦ λ here. contains_cases x (y ∷ ys) z here
+      | true ↦ λ here. contains_cases x z (y ∷ ys) here
       | false ↦ λ here.
-          elim (contains_cases y (put_in_order before x ys) z here) [
-            | inl e ↦ inr (subst (Contains (y ∷ ys)) e (contains_first y ys))
-            | inr later ↦ elim (contains_put before x ys z later) [ inl e ↦ inl e | inr more ↦ inr (contains_later y ys z more) ]
+          elim (contains_cases y z (put_in_order before x ys) here) [
+            | inl e ↦ inr (subst (Contains (y ∷ ys)) e (contains_here y ys))
+            | inr later ↦ elim (contains_put before x ys z later) [ inl e ↦ inl e | inr more ↦ inr (contains_later y z ys more) ]
           ]
     ] there
 
@@ -57,14 +60,15 @@ first_not_less rates a b first =
     ]
 
 -- a component whose least itag is greater than those of all others
-put_in_turn : (rates c : List ℕ) (cs : List (List ℕ)) → IsInTurn (comes_first rates) cs → ((d : List ℕ) → Contains cs d → least d < least c) → IsInTurn (comes_first rates) (put_in_order (has_greater_total rates) c cs)
+put_in_turn : (rates c : List ℕ) (cs : List (List ℕ)) → IsInTurn (comes_first rates) cs → ((d : List ℕ) → Contains cs d → least d < least c)
+    → IsInTurn (comes_first rates) (put_in_order (has_greater_total rates) c cs)
 put_in_turn rates c [] turn lower = (λ d none. absurd (contains_none d none), tt)
 put_in_turn rates c (d ∷ ds) turn lower =
     elim (has_greater_total rates c d) as (λ b. has_greater_total rates c d ≡ b → IsInTurn (comes_first rates) (cond b (c ∷ d ∷ ds) (d ∷ put_in_order (has_greater_total rates) c ds))) [
       | true ↦ λ less.
           (let lt : total_rate rates d < total_rate rates c = ltb-true (total_rate rates d) (total_rate rates c) less in (
             λ e there.
-                elim (contains_cases d ds e there) [
+                elim (contains_cases d e ds there) [
                   | inl same ↦ subst (λ x. comes_first rates c x ≡ true) same (first_by_total rates c d lt)
                   | inr later ↦ (let le : total_rate rates e ≤ total_rate rates d = first_not_less rates d e (turn.0 e later) in first_by_total rates c e (omega arith))
                 ],
@@ -74,17 +78,17 @@ put_in_turn rates c (d ∷ ds) turn lower =
           (let le : total_rate rates c ≤ total_rate rates d = ltb-false (total_rate rates d) (total_rate rates c) not_less in (
             λ e there.
                 elim (contains_put (has_greater_total rates) c ds e there) [
-                  | inl same ↦ subst (λ x. comes_first rates d x ≡ true) same (first_by_least rates d c le (lower d (contains_first d ds)))
+                  | inl same ↦ subst (λ x. comes_first rates d x ≡ true) same (first_by_least rates d c le (lower d (contains_here d ds)))
                   | inr later ↦ turn.0 e later
                 ],
-            put_in_turn rates c ds turn.1 (λ e there. lower e (contains_later d ds e there)),
+            put_in_turn rates c ds turn.1 (λ e there. lower e (contains_later d e ds there)),
           ))
     ] refl
 
 -- ---- what is found so far
 pub record IsFinding (g : Graph) (rates itags : List ℕ) (components : List (List ℕ)) (rest : List ℕ) : Type 0 where
   pub up : IsTrue (is_rising rest)
-  pub once : (k : ℕ) → total (occurs k) components + occurs k rest ≡ occurs k itags
+  pub once : (k : ℕ) → total (times k) components + times k rest ≡ times k itags
   pub closed : (i j : ℕ) → Contains rest i → Contains itags j → g i j ≡ true → Contains rest j
   pub each : (c : List ℕ) → Contains components c → IsComponent g itags c
   pub in_turn : IsInTurn (comes_first rates) components
@@ -102,11 +106,11 @@ none_found g rates itags up = record {
 
 least_of_rising : (c : List ℕ) → IsTrue (is_rising c) → (k : ℕ) → Contains c k → least c ≤ k
 least_of_rising [] up k there = absurd (contains_none k there)
-least_of_rising (x ∷ xs) up k there = elim (contains_cases x xs k there) [ inl e ↦ omega arith | inr later ↦ (let lt : x < k = rising_above x xs up k later in omega arith) ]
+least_of_rising (x ∷ xs) up k there = elim (contains_cases x k xs there) [ inl e ↦ omega arith | inr later ↦ (let lt : x < k = rising_above x xs up k later in omega arith) ]
 
 least_in : (c : List ℕ) (k : ℕ) → Contains c k → Contains c (least c)
 least_in [] k there = absurd (contains_none k there)
-least_in (x ∷ xs) k there = contains_first x xs
+least_in (x ∷ xs) k there = contains_here x xs
 
 module _ (g : Graph) (both : (i j : ℕ) → g i j ≡ g j i) (rates itags : List ℕ) (components : List (List ℕ)) (rest : List ℕ) (now : IsFinding g rates itags components rest) (connected others : List ℕ) (reached : IsReached g rest connected others) where
   component : List ℕ
@@ -114,11 +118,11 @@ module _ (g : Graph) (both : (i j : ℕ) → g i j ≡ g j i) (rates itags : Lis
 
   to_connected : (k : ℕ) → Contains component k → Contains connected k
   unfolding component
-  to_connected k there = let once = counted k (rising connected) there in let same = occurs-in_order k nat_lt connected in found k connected (omega arith)
+  to_connected k there = let once = times_if_contained k (rising connected) there in let same = times_in_order k nat_lt connected in contained_if_times k connected (omega arith)
 
   to_component : (k : ℕ) → Contains connected k → Contains component k
   unfolding component
-  to_component k there = let once = counted k connected there in let same = occurs-in_order k nat_lt connected in found k (rising connected) (omega arith)
+  to_component k there = let once = times_if_contained k connected there in let same = times_in_order k nat_lt connected in contained_if_times k (rising connected) (omega arith)
 
   in_rest : (k : ℕ) → Contains connected k → Contains rest k
   in_rest = connected_in g both rest now.up connected others reached
@@ -126,16 +130,12 @@ module _ (g : Graph) (both : (i j : ℕ) → g i j ≡ g j i) (rates itags : Lis
   others_in_rest : (k : ℕ) → Contains others k → Contains rest k
   others_in_rest = rest_in g both rest now.up connected others reached
 
-  in_itags : (k : ℕ) → Contains rest k → Contains itags k
-  in_itags k there = let some = counted k rest there in let all = now.once k in found k itags (omega arith)
+  in_itags : IsPart rest itags
+  in_itags k there = let some = times_if_contained k rest there in let all = now.once k in contained_if_times k itags (omega arith)
 
   component_rising : IsTrue (is_rising component)
   unfolding component
   component_rising = rising_in_order connected (λ k. let parts = reached.parts k in let once = rising_once rest now.up k in omega arith)
-
-  leaves_step : (i j : ℕ) → Contains connected i → Contains itags j → g i j ≡ true → Contains connected j
-  leaves_step i j here there joined =
-      stays_step g both rest now.up connected others reached i j here (now.closed i j (in_rest i here) there joined) joined
 
   is_component : IsComponent g itags component
   is_component = record {
@@ -143,7 +143,11 @@ module _ (g : Graph) (both : (i j : ℕ) → g i j ≡ g j i) (rates itags : Lis
     in_order = component_rising;
     inside = λ k there. in_itags k (in_rest k (to_connected k there));
     connected = λ i j one other. connected_within g rest itags i j in_itags (all_connected g both rest now.up connected others reached i j (to_connected i one) (to_connected j other));
-    closed = λ i j one there c. to_component j (kept_where_connected g itags (Contains connected) leaves_step i j c (to_connected i one));
+    closed = λ i j one there c.
+        to_component j
+        (kept_where_connected g itags (Contains connected)
+        (λ n m here other joined. stays_step g both rest now.up connected others reached n m here (now.closed n m (in_rest n here) other joined) joined)
+        i j c (to_connected i one));
   }
 
   least_is : least component ≤ least rest
@@ -166,8 +170,8 @@ module _ (g : Graph) (both : (i j : ℕ) → g i j ≡ g j i) (rates itags : Lis
   one_more_found = record {
     up = reached.in_order;
     once = λ k.
-        (let put = total_put (occurs k) (has_greater_total rates) (rising connected) components in
-        let same = occurs-in_order k nat_lt connected in
+        (let put = total_put (times k) (has_greater_total rates) (rising connected) components in
+        let same = times_in_order k nat_lt connected in
         let parts = reached.parts k in
         let old = now.once k in
         omega arith);
@@ -191,23 +195,25 @@ module _ (g : Graph) (both : (i j : ℕ) → g i j ≡ g j i) (rates itags : Lis
   }
 
 -- ---- all are found
-pub some_list : (k : ℕ) (lists : List (List ℕ)) → 1 ≤ total (occurs k) lists → (c : List ℕ) × Contains lists c × Contains c k
+pub some_list : (k : ℕ) (lists : List (List ℕ)) → 1 ≤ total (times k) lists → (c : List ℕ) × Contains lists c × Contains c k
 some_list k [] some = absurd (omega arith)
 some_list k (c ∷ cs) some =
-    elim (cases_lt 0 (occurs k c)) [
-      | inl here ↦ (c, contains_first c cs, found k c (omega arith))
-      | inr none ↦ (let rest = some_list k cs (omega arith) in (rest.0, contains_later c cs rest.0 rest.1, rest.2))
+    elim (cases_lt 0 (times k c)) [
+      | inl here ↦ (c, contains_here c cs, contained_if_times k c (omega arith))
+      | inr none ↦ (let rest = some_list k cs (omega arith) in (rest.0, contains_later c rest.0 cs rest.1, rest.2))
     ]
 
-pub all_once : (g : Graph) (rates itags : List ℕ) (components : List (List ℕ)) (rest : List ℕ) → rest ≡ [] → IsFinding g rates itags components rest → (k : ℕ) → total (occurs k) components ≡ occurs k itags
+pub all_once : (g : Graph) (rates itags : List ℕ) (components : List (List ℕ)) (rest : List ℕ) → rest ≡ [] → IsFinding g rates itags components rest
+    → (k : ℕ) → total (times k) components ≡ times k itags
 all_once g rates itags components rest none now k =
-    let empty : occurs k rest ≡ 0 = ap (occurs k) none in
+    let empty : times k rest ≡ 0 = ap (times k) none in
     let all = now.once k in
     omega arith
 
-pub all_found : (g : Graph) (rates itags : List ℕ) (components : List (List ℕ)) (rest : List ℕ) → rest ≡ [] → IsFinding g rates itags components rest → AreComponents g rates itags components
+pub all_found : (g : Graph) (rates itags : List ℕ) (components : List (List ℕ)) (rest : List ℕ) → rest ≡ [] → IsFinding g rates itags components rest
+    → AreComponents g rates itags components
 all_found g rates itags components rest none now = record {
   each = now.each;
-  every = λ i there. some_list i components (let once = counted i itags there in let all = all_once g rates itags components rest none now i in omega arith);
+  every = λ i there. some_list i components (let once = times_if_contained i itags there in let all = all_once g rates itags components rest none now i in omega arith);
   in_turn = now.in_turn;
 }

@@ -1,4 +1,3 @@
-pub mod General
 pub mod TreeParts
 pub mod TreeItags
 pub mod PlanTags
@@ -7,8 +6,6 @@ pub mod PlanValid
 pub mod PlanRules
 pub mod PlanText
 pub mod TreeUnique
-pub mod PlanLength
-pub mod Occurs
 pub mod Rising
 pub mod Putting
 pub mod Connections

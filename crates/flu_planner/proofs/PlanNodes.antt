@@ -1,12 +1,13 @@
 -- The nodes of a tree in preorder: where they stand, which is the parent of which, and what they own.
-use Rattle.std.proofs.Common.{◌≡◌, ◌<◌, ◌≤◌, ◌+◌, ℕ, zero, suc, Bool, true, false, cond, inl, inr, Option, Some, None, List, [], ◌∷◌, ◌++◌, map, length, refl, sym, ap, subst, ◌∙◌, arith, append_assoc, length-append}
-use Rattle.std.specs.Prelude.{◌==◌, ◌||◌, not, slice_get, position, Contains}
-use Rattle.std.specs.List.{list_all, list_any, position_or_len}
-use Rattle.std.proofs.lemmas.Bool.{cases_lt, cases_eq, cases_Bool, or_left, or_right, or_parts, ne_eqb}
+use Rattle.std.proofs.Common.{◌≡◌, ◌<◌, ◌≤◌, ◌+◌, ℕ, zero, suc, Bool, true, false, inl, inr, Option, Some, None, List, [], ◌∷◌, ◌++◌, map, length, refl, sym, ap, subst, ◌∙◌, arith, append_assoc, length-append}
+use Rattle.std.specs.Prelude.{◌==◌, ◌||◌, Contains}
+use Rattle.std.specs.List.{list_all, list_any}
+use Rattle.std.proofs.lemmas.Bool.{cases_lt, cases_eq, cases_Bool, or_left, or_right, ne_eqb}
 use Rattle.std.proofs.lemmas.List.Folds.{list_any-append, list_all-append}
 use Rattle.std.proofs.lemmas.List.Elements.{Contains-append_left, Contains-append_right}
-use Rattle.flu_lemmas.proofs.Tests.{both, true_eq, lt_true}
+use Rattle.flu_lemmas.proofs.Tests.{both, true_eq}
 use Rattle.flu_lemmas.proofs.Searches.{eq_true, list_any-map}
+use Rattle.flu_lemmas.proofs.Places.{slice_get-behind, position_behind}
 use Rattle.flu_model.specs.declared.jobs.Program.{Program}
 use Rattle.flu_model.specs.declared.plans.Pred.{Pred}
 use Rattle.flu_model.specs.declared.plans.Node.{Node}
@@ -14,37 +15,19 @@ use Rattle.flu_model.specs.Itags.{count_of_itags}
 use Rattle.flu_model.specs.Owners.{matches, node_owns, found_owns, owns, is_kid, parent_of, climb, is_within}
 use Rattle.flu_planner.specs.Greedy.{Tree, Leaf, Inner}
 use Rattle.flu_planner.specs.Plans.{pred_of, node_of, size, nodes_from}
-use Rattle.flu_planner.proofs.General.{contains_here, contains_later, contains_cases, contains_none}
+use Rattle.flu_lemmas.proofs.Containing.{contains_here, contains_later, contains_cases, contains_none}
 use Rattle.flu_planner.proofs.TreeItags.{owned_in}
 use Rattle.flu_planner.proofs.PlanTags.{number, matches_itself, matches_only}
 
 -- ---- lists
-regroup_left : {X : Type 0} (before left right after : List X) (x : X) → before ++ ((x ∷ (left ++ right)) ++ after) ≡ (before ++ x ∷ []) ++ (left ++ (right ++ after))
+regroup_left : {X : Type 0} (before left right after : List X) (x : X)
+    → before ++ ((x ∷ (left ++ right)) ++ after) ≡ (before ++ x ∷ []) ++ (left ++ (right ++ after))
 regroup_left [] left right after x = ap (λ l. x ∷ l) (append_assoc left right after)
 regroup_left (y ∷ ys) left right after x = ap (λ l. y ∷ l) (regroup_left ys left right after x)
 
 regroup_right : {X : Type 0} (before left right after : List X) (x : X) → before ++ ((x ∷ (left ++ right)) ++ after) ≡ (before ++ x ∷ left) ++ (right ++ after)
 regroup_right [] left right after x = ap (λ l. x ∷ l) (append_assoc left right after)
 regroup_right (y ∷ ys) left right after x = ap (λ l. y ∷ l) (regroup_right ys left right after x)
-
-place_behind : {X : Type 0} (test : X → Bool) (before after : List X) (x : X) → list_any test before ≡ false → test x ≡ true → position_or_len test (before ++ x ∷ after) ≡ length before
-place_behind test [] after x none e = ap (λ b. cond (not b) (1 + position_or_len test after) 0) e
-place_behind test (y ∷ ys) after x none e =
-    let parts = or_parts (test y) (list_any test ys) none in
-    let rest : position_or_len test (ys ++ x ∷ after) ≡ length ys = place_behind test ys after x parts.1 e in
-    ap (λ b. cond (not b) (1 + position_or_len test (ys ++ x ∷ after)) 0) parts.0 ∙ omega (arith, rest)
-
-position_behind : {X : Type 0} (test : X → Bool) (before after : List X) (x : X) → list_any test before ≡ false → test x ≡ true → position test (before ++ x ∷ after) ≡ Some (length before)
-position_behind test before after x none e =
-    let place = place_behind test before after x none e in
-    let long : length (before ++ x ∷ after) ≡ length before + length (x ∷ after) = length-append before (x ∷ after) in
-    let inside : position_or_len test (before ++ x ∷ after) < length (before ++ x ∷ after) = omega (arith, place, long) in
-    ap (λ b. cond b (Some (position_or_len test (before ++ x ∷ after))) None) (lt_true (position_or_len test (before ++ x ∷ after)) (length (before ++ x ∷ after)) inside)
-    ∙ ap Some place
-
-get_behind : {X : Type 0} (before after : List X) (x : X) → slice_get (before ++ x ∷ after) (length before) ≡ Some x
-get_behind [] after x = refl
-get_behind (y ∷ ys) after x = get_behind ys after x
 
 -- ---- the nodes of a tree
 pub count_of_nodes : (p : Program) (w : ℕ) (t : Tree) → length (nodes_from p w t) ≡ size t
@@ -99,7 +82,8 @@ placed_within p nodes w t at =
     let place = at.place in
     omega (arith, here, one, two, all, place)
 
-pub left_is_placed : (p : Program) (nodes : List Node) (w : ℕ) (own : List ℕ) (left right : Tree) → IsPlaced p nodes w (Inner own left right) → IsPlaced p nodes (w + 1) left
+pub left_is_placed : (p : Program) (nodes : List Node) (w : ℕ) (own : List ℕ) (left right : Tree) → IsPlaced p nodes w (Inner own left right)
+    → IsPlaced p nodes (w + 1) left
 left_is_placed p nodes w own left right at =
     let root = node_of p w own (Some (w + 1, w + 1 + size left)) in
     let some_right = some_nodes right in
@@ -114,7 +98,8 @@ left_is_placed p nodes w own left right at =
           ∙ ap (λ b. b || false) (not_kids v (w + 1) (w + 1 + size left) (λ e. omega (arith, e, lt)) (λ e. omega (arith, e, less)));
     }
 
-pub right_is_placed : (p : Program) (nodes : List Node) (w : ℕ) (own : List ℕ) (left right : Tree) → IsPlaced p nodes w (Inner own left right) → IsPlaced p nodes (w + 1 + size left) right
+pub right_is_placed : (p : Program) (nodes : List Node) (w : ℕ) (own : List ℕ) (left right : Tree) → IsPlaced p nodes w (Inner own left right)
+    → IsPlaced p nodes (w + 1 + size left) right
 right_is_placed p nodes w own left right at =
     let root = node_of p w own (Some (w + 1, w + 1 + size left)) in
     let some_left = some_nodes left in
@@ -135,19 +120,22 @@ root_of : Program → ℕ → Tree → Node
 root_of p w (Leaf own) = node_of p w own None
 root_of p w (Inner own left right) = node_of p w own (Some (w + 1, w + 1 + size left))
 
-parent_is : (p : Program) (nodes : List Node) (w : ℕ) (own : List ℕ) (left right : Tree) (v : ℕ) → IsPlaced p nodes w (Inner own left right) → w < v → v < w + size (Inner own left right) → is_kid v (Some (w + 1, w + 1 + size left)) ≡ true → parent_of nodes v ≡ Some w
+parent_is : (p : Program) (nodes : List Node) (w : ℕ) (own : List ℕ) (left right : Tree) (v : ℕ) → IsPlaced p nodes w (Inner own left right) → w < v
+    → v < w + size (Inner own left right) → is_kid v (Some (w + 1, w + 1 + size left)) ≡ true → parent_of nodes v ≡ Some w
 parent_is p nodes w own left right v at lt less kid =
     let root = node_of p w own (Some (w + 1, w + 1 + size left)) in
     ap (λ ns. parent_of ns v) at.is
     ∙ position_behind (has_kid v) at.before ((nodes_from p (w + 1) left ++ nodes_from p (w + 1 + size left) right) ++ at.after) root (at.clear v lt less) kid
     ∙ ap Some at.place
 
-pub left_parent : (p : Program) (nodes : List Node) (w : ℕ) (own : List ℕ) (left right : Tree) → IsPlaced p nodes w (Inner own left right) → parent_of nodes (w + 1) ≡ Some w
+pub left_parent : (p : Program) (nodes : List Node) (w : ℕ) (own : List ℕ) (left right : Tree) → IsPlaced p nodes w (Inner own left right)
+    → parent_of nodes (w + 1) ≡ Some w
 left_parent p nodes w own left right at =
     let some_left = some_nodes left in
     parent_is p nodes w own left right (w + 1) at (omega arith) (omega (arith, some_left)) (or_left (w + 1 == w + 1) _ (eq_true (w + 1) (w + 1) refl))
 
-pub right_parent : (p : Program) (nodes : List Node) (w : ℕ) (own : List ℕ) (left right : Tree) → IsPlaced p nodes w (Inner own left right) → parent_of nodes (w + 1 + size left) ≡ Some w
+pub right_parent : (p : Program) (nodes : List Node) (w : ℕ) (own : List ℕ) (left right : Tree) → IsPlaced p nodes w (Inner own left right)
+    → parent_of nodes (w + 1 + size left) ≡ Some w
 right_parent p nodes w own left right at =
     let v = w + 1 + size left in
     let some_left = some_nodes left in
@@ -180,7 +168,8 @@ met_up x w (suc n) nodes (Some v) up e =
       | inr there ↦ or_right (v == w) (is_met w (suc n) nodes (parent_of nodes v)) (met_up x w n nodes (parent_of nodes v) up (sym (ap (λ b. b || is_met x n nodes (parent_of nodes v)) there) ∙ e))
     ]
 
-root_is_met : (p : Program) (nodes : List Node) (w : ℕ) (t : Tree) → IsPlaced p nodes w t → (v : ℕ) → w ≤ v → v < w + size t → is_met w (size t) nodes (Some v) ≡ true
+root_is_met : (p : Program) (nodes : List Node) (w : ℕ) (t : Tree) → IsPlaced p nodes w t → (v : ℕ) → w ≤ v → v < w + size t
+    → is_met w (size t) nodes (Some v) ≡ true
 root_is_met p nodes w (Leaf own) at v le lt = let same : v ≡ w = omega (arith, le, lt) in or_left (v == w) (is_met w 0 nodes (parent_of nodes v)) (eq_true v w same)
 root_is_met p nodes w (Inner own left right) at v le lt =
     elim (cases_eq w v) [
@@ -204,7 +193,8 @@ within_root p nodes w t at v le lt =
     met_more w (size t) (length nodes) nodes (Some v) (omega (arith, long)) (root_is_met p nodes w t at v le lt)
 
 -- ---- owners
-pub node_owns_is : (p : Program) (w : ℕ) (own : List ℕ) (kids : Option (ℕ × ℕ)) (i : ℕ) → node_owns p (number i) (node_of p w own kids) ≡ list_any (λ j. matches p (pred_of p j) (number i)) own
+pub node_owns_is : (p : Program) (w : ℕ) (own : List ℕ) (kids : Option (ℕ × ℕ)) (i : ℕ)
+    → node_owns p (number i) (node_of p w own kids) ≡ list_any (λ j. matches p (pred_of p j) (number i)) own
 node_owns_is p w own kids i = list_any-map (λ pred. matches p pred (number i)) (pred_of p) own
 
 pub owned_is_found : (p : Program) (i : ℕ) (own : List ℕ) → Contains own i → list_any (λ j. matches p (pred_of p j) (number i)) own ≡ true
@@ -219,7 +209,8 @@ owned_is_found p i (j ∷ own) there =
 abbrev pub AreOfJob : Program → List ℕ → Type 0
 AreOfJob p itags = (i : ℕ) → Contains itags i → i < count_of_itags p
 
-pub found_is_owned : (p : Program) (i : ℕ) (own : List ℕ) → i < count_of_itags p → AreOfJob p own → list_any (λ j. matches p (pred_of p j) (number i)) own ≡ true → Contains own i
+pub found_is_owned : (p : Program) (i : ℕ) (own : List ℕ) → i < count_of_itags p → AreOfJob p own
+    → list_any (λ j. matches p (pred_of p j) (number i)) own ≡ true → Contains own i
 found_is_owned p i [] in_job all e = cc
 found_is_owned p i (j ∷ own) in_job all e =
     elim (cases_Bool (matches p (pred_of p j) (number i))) [
@@ -231,15 +222,17 @@ found_is_owned p i (j ∷ own) in_job all e =
     ]
 
 -- node w is the root
-root_owns : (p : Program) (nodes : List Node) (i : ℕ) (before after : List Node) (w : ℕ) (own : List ℕ) (kids : Option (ℕ × ℕ)) → nodes ≡ before ++ (node_of p w own kids ∷ after) → length before ≡ w → owns p nodes w (number i) ≡ list_any (λ j. matches p (pred_of p j) (number i)) own
+root_owns : (p : Program) (nodes : List Node) (i : ℕ) (before after : List Node) (w : ℕ) (own : List ℕ) (kids : Option (ℕ × ℕ))
+    → nodes ≡ before ++ (node_of p w own kids ∷ after) → length before ≡ w → owns p nodes w (number i) ≡ list_any (λ j. matches p (pred_of p j) (number i)) own
 root_owns p nodes i before after w own kids is place =
     ap (λ ns. owns p ns w (number i)) is
     ∙ ap (λ v. owns p (before ++ (node_of p w own kids ∷ after)) v (number i)) (sym place)
-    ∙ ap (found_owns p (number i)) (get_behind before after (node_of p w own kids))
+    ∙ ap (found_owns p (number i)) (slice_get-behind before (node_of p w own kids) after)
     ∙ node_owns_is p w own kids i
 
 -- what a node of a tree owns is among the itags of the tree
-pub owned_by_node : (p : Program) (nodes : List Node) (w : ℕ) (t : Tree) → IsPlaced p nodes w t → (v i : ℕ) → w ≤ v → v < w + size t → i < count_of_itags p → AreOfJob p (owned_in t) → owns p nodes v (number i) ≡ true → Contains (owned_in t) i
+pub owned_by_node : (p : Program) (nodes : List Node) (w : ℕ) (t : Tree) → IsPlaced p nodes w t → (v i : ℕ) → w ≤ v → v < w + size t → i < count_of_itags p
+    → AreOfJob p (owned_in t) → owns p nodes v (number i) ≡ true → Contains (owned_in t) i
 owned_by_node p nodes w (Leaf own) at v i le lt in_job all e =
     let same : w ≡ v = omega (arith, le, lt) in
     found_is_owned p i own in_job all (sym (root_owns p nodes i at.before at.after w own None at.is at.place) ∙ ap (λ u. owns p nodes u (number i)) same ∙ e)
@@ -266,13 +259,15 @@ owned_by_node p nodes w (Inner own left right) at v i le lt in_job all e =
     ]
 
 -- ---- a test of all predicates
-preds_pass : (p : Program) (test : Pred → Bool) → ((i : ℕ) → i < count_of_itags p → test (pred_of p i) ≡ true) → (own : List ℕ) → AreOfJob p own → list_all test (map (pred_of p) own) ≡ true
+preds_pass : (p : Program) (test : Pred → Bool) → ((i : ℕ) → i < count_of_itags p → test (pred_of p i) ≡ true) → (own : List ℕ) → AreOfJob p own
+    → list_all test (map (pred_of p) own) ≡ true
 preds_pass p test pass [] all = refl
 preds_pass p test pass (i ∷ own) all =
     both (test (pred_of p i)) _ (pass i (all i (contains_here i own))) (preds_pass p test pass own (λ j there. all j (contains_later i j own there)))
 
 -- what holds of the predicate of each itag of the job holds of all predicates of the nodes
-pub each_pred : (p : Program) (test : Pred → Bool) → ((i : ℕ) → i < count_of_itags p → test (pred_of p i) ≡ true) → (w : ℕ) (t : Tree) → AreOfJob p (owned_in t) → list_all (λ (node : Node). list_all test node.preds) (nodes_from p w t) ≡ true
+pub each_pred : (p : Program) (test : Pred → Bool) → ((i : ℕ) → i < count_of_itags p → test (pred_of p i) ≡ true) → (w : ℕ) (t : Tree)
+    → AreOfJob p (owned_in t) → list_all (λ (node : Node). list_all test node.preds) (nodes_from p w t) ≡ true
 each_pred p test pass w (Leaf own) all = both (list_all test (map (pred_of p) own)) true (preds_pass p test pass own all) refl
 each_pred p test pass w (Inner own left right) all =
     both (list_all test (map (pred_of p) own)) _ (preds_pass p test pass own (λ j there. all j (Contains-append_left own (owned_in left ++ owned_in right) j there)))

@@ -4,20 +4,20 @@ use Rattle.std.specs.Prelude.{nat_lt, nat_le, ◌==◌, ◌||◌, not, sum_by}
 use Rattle.std.specs.List.{list_all, list_any, range_with_len}
 use Rattle.std.specs.Fmt.{decimal}
 use Rattle.std.proofs.lemmas.Fmt.{decimal_injective}
-use Rattle.std.proofs.lemmas.List.{append-nil, map-append}
+use Rattle.std.proofs.lemmas.List.{append-nil, length-map, map-append}
 use Rattle.std.proofs.lemmas.List.Sums.{sum_by-cons, sum_by-append}
-use Rattle.flu_lemmas.proofs.Tests.{and_left, and_right, both, true_eq, le_true, false_if_not, all_at}
+use Rattle.flu_lemmas.proofs.Tests.{and_left, and_right, both, true_eq, le_true, false_if_not}
 use Rattle.flu_lemmas.proofs.Searches.{eq_true}
+use Rattle.flu_lemmas.proofs.Ranges.{range_append}
+use Rattle.flu_model.specs.declared.events.Itag.{Itag}
 use Rattle.flu_model.specs.declared.jobs.Program.{Program}
 use Rattle.flu_model.specs.declared.plans.Pred.{Pred}
 use Rattle.flu_model.specs.declared.plans.Node.{Node}
 use Rattle.flu_model.specs.Contents.{key_count}
 use Rattle.flu_model.specs.Itags.{itags, count_of_itags, tag_of_itag}
-use Rattle.flu_model.specs.Listing.{tag}
 use Rattle.flu_model.specs.Owners.{is_keyed}
 use Rattle.flu_model.specs.PlanRules.{are_subtrees, is_tree, depths_below, count_of_predicates, are_small_keys}
 use Rattle.flu_model.specs.Rules.{are_distinct, is_same_text, tag_fits}
-use Rattle.flu_model.proofs.ItagLemmas.{itags_fit}
 use Rattle.flu_plan.specs.Kept.{KeepsRules}
 use Rattle.flu_planner.specs.Graphs.{Graph, dependencies}
 use Rattle.flu_planner.specs.Greedy.{Tree, Leaf, Inner, IsGreedy}
@@ -28,10 +28,12 @@ use Rattle.flu_planner.proofs.PlanNodes.{count_of_nodes, AreOfJob, each_pred}
 
 -- ---- the tree
 -- the nodes of a tree before others
-grouped_nodes : (p : Program) (w : ℕ) (left right : Tree) (rest : List Node) → (nodes_from p (w + 1) left ++ nodes_from p (w + 1 + size left) right) ++ rest ≡ nodes_from p (w + 1) left ++ (nodes_from p (w + 1 + size left) right ++ rest)
+grouped_nodes : (p : Program) (w : ℕ) (left right : Tree) (rest : List Node)
+    → (nodes_from p (w + 1) left ++ nodes_from p (w + 1 + size left) right) ++ rest ≡ nodes_from p (w + 1) left ++ (nodes_from p (w + 1 + size left) right ++ rest)
 grouped_nodes p w left right rest = append_assoc (nodes_from p (w + 1) left) (nodes_from p (w + 1 + size left) right) rest
 
-subtrees_of : (p : Program) (w : ℕ) (t : Tree) (wanted : List ℕ) (rest : List Node) → are_subtrees (w + size t) wanted rest ≡ true → are_subtrees w (w ∷ wanted) (nodes_from p w t ++ rest) ≡ true
+subtrees_of : (p : Program) (w : ℕ) (t : Tree) (wanted : List ℕ) (rest : List Node) → are_subtrees (w + size t) wanted rest ≡ true
+    → are_subtrees w (w ∷ wanted) (nodes_from p w t ++ rest) ≡ true
 subtrees_of p w (Leaf own) wanted rest e = both (w == w) (are_subtrees (w + 1) wanted rest) (eq_true w w refl) e
 subtrees_of p w (Inner own left right) wanted rest e =
     let v = w + 1 + size left in
@@ -48,7 +50,9 @@ nodes_are_tree p t = ap (are_subtrees 0 (0 ∷ [])) (sym (append-nil (nodes_from
 abbrev is_few : ℕ → Bool
 is_few d = nat_le d 6
 
-shallow_from : (p : Program) (g : Graph) (rates : List ℕ) (depth : ℕ) (itags : List ℕ) (w : ℕ) (t : Tree) (d : ℕ) (wanted : List ℕ) (rest : List Node) → IsGreedy g rates depth itags t → d + depth ≤ 6 → list_all is_few (depths_below wanted rest) ≡ true → list_all is_few (depths_below (d ∷ wanted) (nodes_from p w t ++ rest)) ≡ true
+shallow_from : (p : Program) (g : Graph) (rates : List ℕ) (depth : ℕ) (itags : List ℕ) (w : ℕ) (t : Tree) (d : ℕ) (wanted : List ℕ) (rest : List Node)
+    → IsGreedy g rates depth itags t → d + depth ≤ 6 → list_all is_few (depths_below wanted rest) ≡ true
+    → list_all is_few (depths_below (d ∷ wanted) (nodes_from p w t ++ rest)) ≡ true
 shallow_from p g rates depth itags w (Leaf own) d wanted rest greedy le e = both (nat_le d 6) _ (le_true d 6 (omega (arith, le))) e
 shallow_from p g rates zero itags w (Inner own left right) d wanted rest greedy le e = absurd greedy
 shallow_from p g rates (suc depth) itags w (Inner own left right) d wanted rest greedy le e =
@@ -104,13 +108,6 @@ same_texts (x ∷ xs) (y ∷ ys) e =
 same_names : (v w : ℕ) → v < 2 ^ 64 → w < 2 ^ 64 → is_same_text (name_of v) (name_of w) ≡ true → v ≡ w
 same_names v w lv lw e = decimal_injective v w lv lw (same_texts (decimal v) (decimal w) e)
 
-range_append : (lo m n : ℕ) → range_with_len lo (m + n) ≡ range_with_len lo m ++ range_with_len (lo + m) n
-range_append lo zero n = let none : lo + 0 ≡ lo = omega arith in let same : 0 + n ≡ n = omega arith in ap (range_with_len lo) same ∙ sym (ap (λ k. range_with_len k n) none)
-range_append lo (suc m) n =
-    let more : suc m + n ≡ suc (m + n) = omega arith in
-    let next : lo + 1 + m ≡ lo + suc m = omega arith in
-    ap (range_with_len lo) more ∙ ap (λ l. lo ∷ l) (range_append (lo + 1) m n ∙ ap (λ k. range_with_len (lo + 1) m ++ range_with_len k n) next)
-
 abbrev name : Node → List ℕ
 name node = node.name
 
@@ -139,10 +136,6 @@ names_differ lo (suc n) le =
     (ap not (not_among lo (lo + 1) n (omega arith) (omega arith))) (names_differ (lo + 1) n (omega arith))
 
 -- ---- predicates
-map_length : {X Y : Type 0} (f : X → Y) (xs : List X) → length (map f xs) ≡ length xs
-map_length f [] = refl
-map_length f (x ∷ xs) = let rest : length (map f xs) ≡ length xs = map_length f xs in omega (arith, rest)
-
 count_of_preds : Node → ℕ
 count_of_preds node = length node.preds
 
@@ -151,7 +144,7 @@ unfolding count_of_preds
 preds_are p w (Leaf own) =
     let root : Node = node_of p w own None in
     let step : sum_by count_of_preds (root ∷ []) ≡ count_of_preds root + 0 = sum_by-cons count_of_preds root [] in
-    let long : length (map (pred_of p) own) ≡ length own = map_length (pred_of p) own in
+    let long : length (map (pred_of p) own) ≡ length own = length-map own (pred_of p) in
     omega (arith, step, long)
 preds_are p w (Inner own left right) =
     let root : Node = node_of p w own (Some (w + 1, w + 1 + size left)) in
@@ -159,7 +152,7 @@ preds_are p w (Inner own left right) =
     let rs = nodes_from p (w + 1 + size left) right in
     let step = sum_by-cons count_of_preds root (ls ++ rs) in
     let split = sum_by-append count_of_preds ls rs in
-    let long : length (map (pred_of p) own) ≡ length own = map_length (pred_of p) own in
+    let long : length (map (pred_of p) own) ≡ length own = length-map own (pred_of p) in
     let one = preds_are p (w + 1) left in
     let two = preds_are p (w + 1 + size left) right in
     let first : length (own ++ (owned_in left ++ owned_in right)) ≡ length own + length (owned_in left ++ owned_in right) = length-append own (owned_in left ++ owned_in right) in
@@ -175,17 +168,19 @@ small_own_key : (keyed : Bool) (key : ℕ) → nat_lt key key_count ≡ true →
 small_own_key true key e = e
 small_own_key false key e = refl
 
-pub tag_of_job : (p : Program) (i : ℕ) → i < count_of_itags p → tag_fits p.kinds (tag_of_itag p (number i)) ≡ true
-tag_of_job p i lt = all_at (λ e. tag_fits p.kinds e.0) (itags p) i (tag 0 0, 0) (itags_fit p.kinds 0 p.sources p.sources_fit) lt
+-- the tags of a job's itags are those of declared kinds, with keys in range
+abbrev pub TagsFit : Type 0
+TagsFit = (p : Program) (i : Itag) → i.0 < count_of_itags p → tag_fits p.kinds (tag_of_itag p i) ≡ true
 
-pub small_keys : (p : Program) (i : ℕ) → i < count_of_itags p → are_small_keys (pred_of p i).keys ≡ true
-small_keys p i lt =
+small_keys : TagsFit → (p : Program) (i : ℕ) → i < count_of_itags p → are_small_keys (pred_of p i).keys ≡ true
+small_keys fits p i lt =
     let t = tag_of_itag p (number i) in
-    small_own_key (is_keyed p.kinds t.kind) t.key (and_right (nat_lt t.kind (length p.kinds)) (nat_lt t.key key_count) (tag_of_job p i lt))
+    small_own_key (is_keyed p.kinds t.kind) t.key (and_right (nat_lt t.kind (length p.kinds)) (nat_lt t.key key_count) (fits p (number i) lt))
 
 -- ---- the whole
-tree_keeps_rules : (p : Program) (rates : List ℕ) (depth : ℕ) (t : Tree) → depth ≤ 6 → IsGreedy (dependencies p) rates depth (all_itags p) t → KeepsRules (nodes_from p 0 t)
-tree_keeps_rules p rates depth t le greedy =
+tree_keeps_rules : TagsFit → (p : Program) (rates : List ℕ) (depth : ℕ) (t : Tree) → depth ≤ 6 → IsGreedy (dependencies p) rates depth (all_itags p) t
+    → KeepsRules (nodes_from p 0 t)
+tree_keeps_rules fits p rates depth t le greedy =
     let g = dependencies p in
     let itags = all_itags p in
     let nodes = nodes_from p 0 t in
@@ -200,8 +195,9 @@ tree_keeps_rules p rates depth t le greedy =
       few_nodes = omega (arith, few, long);
       few_predicates = (let count = count_is p t in let number = few_numbers (count_of_itags p) (owned_in t) once owned in let all = p.few_itags in omega (arith, count, number, all));
       shallow = ap (λ ns. list_all is_few (depths_below (0 ∷ []) ns)) (sym same) ∙ shallow_from p g rates depth itags 0 t 0 [] [] greedy (omega (arith, le)) refl;
-      small_keys = each_pred p (λ (pred : Pred). are_small_keys pred.keys) (small_keys p) 0 t owned;
+      small_keys = each_pred p (λ (pred : Pred). are_small_keys pred.keys) (small_keys fits p) 0 t owned;
     }
 
-pub greedy_keeps_rules : (p : Program) (rates : List ℕ) (depth : ℕ) (nodes : List Node) → depth ≤ 6 → IsGreedyPlan p rates depth nodes → KeepsRules nodes
-greedy_keeps_rules p rates depth nodes le plan = subst (λ (ns : List Node). KeepsRules ns) (sym plan.nodes_of_tree) (tree_keeps_rules p rates depth plan.tree le plan.greedy)
+pub greedy_keeps_rules : TagsFit → (p : Program) (rates : List ℕ) (depth : ℕ) (nodes : List Node) → depth ≤ 6 → IsGreedyPlan p rates depth nodes → KeepsRules nodes
+greedy_keeps_rules fits p rates depth nodes le plan =
+    subst (λ (ns : List Node). KeepsRules ns) (sym plan.nodes_of_tree) (tree_keeps_rules fits p rates depth plan.tree le plan.greedy)

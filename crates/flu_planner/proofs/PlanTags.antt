@@ -3,8 +3,9 @@ use Rattle.std.proofs.Common.{◌≡◌, ◌<◌, ◌+◌, ℕ, zero, suc, Bool,
 use Rattle.std.specs.Prelude.{nat_lt, nat_le, ◌==◌, ◌&&◌, ◌||◌, not, slice_get}
 use Rattle.std.specs.List.{flat_map, list_all, list_any}
 use Rattle.std.proofs.lemmas.Bool.{cases_lt, cases_eq, cases_Bool, or_right, or_left, ne_eqb, true≢false}
-use Rattle.std.proofs.lemmas.List.Folds.{list_all-append, list_any-append, list_all-map}
+use Rattle.std.proofs.lemmas.List.Folds.{list_all-append, list_any-append, list_all-map, list_any_at}
 use Rattle.flu_lemmas.proofs.Tests.{and_left, and_right, both, true_eq, all_at, not_true, not_both}
+use Rattle.flu_lemmas.proofs.Booleans.{and_false}
 use Rattle.flu_lemmas.proofs.Searches.{eq_true}
 use Rattle.flu_model.specs.declared.events.Tag.{Tag}
 use Rattle.flu_model.specs.declared.events.Itag.{Itag}
@@ -38,7 +39,8 @@ keys_of_found : (o : Option Kind) (keys : Keys) → listed_kind_fits o keys ≡ 
 keys_of_found None keys e = cc
 keys_of_found (Some k) keys e = bare_keys k.keyed keys e
 
-bare_tags : (kinds : List Kind) (n : ℕ) (ks : List ℕ) → list_all (λ k. is_keyed kinds n || (k == 0)) ks ≡ true → list_all (has_own_key kinds) (map (λ k. tag n k) ks) ≡ true
+bare_tags : (kinds : List Kind) (n : ℕ) (ks : List ℕ) → list_all (λ k. is_keyed kinds n || (k == 0)) ks ≡ true
+    → list_all (has_own_key kinds) (map (λ k. tag n k) ks) ≡ true
 bare_tags kinds n [] e = refl
 bare_tags kinds n (k ∷ ks) e = both (is_keyed kinds n || (k == 0)) _ (and_left (is_keyed kinds n || (k == 0)) _ e) (bare_tags kinds n ks (and_right (is_keyed kinds n || (k == 0)) _ e))
 
@@ -57,7 +59,8 @@ bare_itags kinds n (s ∷ ss) e =
     (bare_itags kinds (n + 1) ss (and_right (source_fits kinds s) _ e))
 
 -- ---- lists whose elements all differ by a test
-distinct_append : {X : Type 0} (same : X → X → Bool) (xs ys : List X) → are_distinct same xs ≡ true → are_distinct same ys ≡ true → list_all (λ x. not (list_any (same x) ys)) xs ≡ true → are_distinct same (xs ++ ys) ≡ true
+distinct_append : {X : Type 0} (same : X → X → Bool) (xs ys : List X) → are_distinct same xs ≡ true → are_distinct same ys ≡ true
+    → list_all (λ x. not (list_any (same x) ys)) xs ≡ true → are_distinct same (xs ++ ys) ≡ true
 distinct_append same [] ys d e apart = e
 distinct_append same (x ∷ xs) ys d e apart =
     let here : list_any (same x) xs ≡ false = not_true (list_any (same x) xs) (and_left (not (list_any (same x) xs)) _ d) in
@@ -65,16 +68,12 @@ distinct_append same (x ∷ xs) ys d e apart =
     both (not (list_any (same x) (xs ++ ys))) _ (ap not (list_any-append (same x) xs ys ∙ ap (λ b. b || list_any (same x) ys) here ∙ there))
     (distinct_append same xs ys (and_right (not (list_any (same x) xs)) _ d) e (and_right (not (list_any (same x) ys)) _ apart))
 
-any_at : {X : Type 0} (test : X → Bool) (xs : List X) (i : ℕ) (d : X) → i < length xs → test (get_or xs i d) ≡ true → list_any test xs ≡ true
-any_at test [] i d lt e = absurd (omega arith)
-any_at test (x ∷ xs) zero d lt e = or_left (test x) (list_any test xs) e
-any_at test (x ∷ xs) (suc i) d lt e = or_right (test x) (list_any test xs) (any_at test xs i d (omega arith) e)
-
-pub distinct_at : {X : Type 0} (same : X → X → Bool) (xs : List X) (i j : ℕ) (d : X) → are_distinct same xs ≡ true → i < j → j < length xs → same (get_or xs i d) (get_or xs j d) ≡ true → ⊥
+pub distinct_at : {X : Type 0} (same : X → X → Bool) (xs : List X) (i j : ℕ) (d : X) → are_distinct same xs ≡ true → i < j → j < length xs
+    → same (get_or xs i d) (get_or xs j d) ≡ true → ⊥
 distinct_at same [] i j d e lt in_list same_ij = omega arith
 distinct_at same (x ∷ xs) i zero d e lt in_list same_ij = omega arith
 distinct_at same (x ∷ xs) zero (suc j) d e lt in_list same_ij =
-    not_both (list_any (same x) xs) (any_at (same x) xs j d (omega arith) same_ij) (not_true (list_any (same x) xs) (and_left (not (list_any (same x) xs)) _ e))
+    not_both (list_any (same x) xs) (list_any_at (same x) xs j d (omega arith) same_ij) (not_true (list_any (same x) xs) (and_left (not (list_any (same x) xs)) _ e))
 distinct_at same (x ∷ xs) (suc i) (suc j) d e lt in_list same_ij =
     distinct_at same xs i j d (and_right (not (list_any (same x) xs)) _ e) (omega arith) (omega arith) same_ij
 
@@ -103,11 +102,7 @@ not_of_source : (a : Tag × ℕ) (n : ℕ) (ts : List Tag) → a.1 < n → list_
 not_of_source a n [] lt = refl
 not_of_source a n (t ∷ ts) lt =
     ap (λ b. (is_same_tag a.0 t && b) || list_any (is_same_itag a) (map (λ u. (u, n)) ts)) (ne_eqb a.1 n (λ e. omega (arith, lt, e)))
-    ∙ ap (λ b. b || list_any (is_same_itag a) (map (λ u. (u, n)) ts)) (and_none (is_same_tag a.0 t)) ∙ not_of_source a n ts lt
-  where
-    and_none : (b : Bool) → (b && false) ≡ false
-    and_none true = refl
-    and_none false = refl
+    ∙ ap (λ b. b || list_any (is_same_itag a) (map (λ u. (u, n)) ts)) (and_false (is_same_tag a.0 t)) ∙ not_of_source a n ts lt
 
 not_of_later : (a : Tag × ℕ) (n : ℕ) (ss : List Source) → a.1 < n → list_any (is_same_itag a) (itags_of_sources n ss) ≡ false
 not_of_later a n [] lt = refl
@@ -116,7 +111,8 @@ not_of_later a n (s ∷ ss) lt =
     ∙ ap (λ b. b || list_any (is_same_itag a) (itags_of_sources (n + 1) ss)) (not_of_source a n (tags_of_source s) lt)
     ∙ not_of_later a (n + 1) ss (omega (arith, lt))
 
-apart_from_later : (n : ℕ) (ts : List Tag) (ss : List Source) → list_all (λ x. not (list_any (is_same_itag x) (itags_of_sources (n + 1) ss))) (map (λ u. (u, n)) ts) ≡ true
+apart_from_later : (n : ℕ) (ts : List Tag) (ss : List Source)
+    → list_all (λ x. not (list_any (is_same_itag x) (itags_of_sources (n + 1) ss))) (map (λ u. (u, n)) ts) ≡ true
 apart_from_later n [] ss = refl
 apart_from_later n (t ∷ ts) ss =
     both (not (list_any (is_same_itag (t, n)) (itags_of_sources (n + 1) ss))) _ (ap not (not_of_later (t, n) (n + 1) ss (omega arith))) (apart_from_later n ts ss)
@@ -137,7 +133,9 @@ same_itag a b kinds keys sources =
     both (is_same_tag a.0 b.0) (a.1 == b.1) (both (a.0.kind == b.0.kind) (a.0.key == b.0.key) (eq_true a.0.kind b.0.kind kinds) (eq_true a.0.key b.0.key keys)) (eq_true a.1 b.1 sources)
 
 -- itags of one tag and one source are one
-pub itag_is_tag_and_source : (p : Program) (i j : ℕ) → i < count_of_itags p → j < count_of_itags p → (tag_of_itag p (number i)).kind ≡ (tag_of_itag p (number j)).kind → (tag_of_itag p (number i)).key ≡ (tag_of_itag p (number j)).key → source_of_itag p (number i) ≡ source_of_itag p (number j) → i ≡ j
+pub itag_is_tag_and_source : (p : Program) (i j : ℕ) → i < count_of_itags p → j < count_of_itags p
+    → (tag_of_itag p (number i)).kind ≡ (tag_of_itag p (number j)).kind → (tag_of_itag p (number i)).key ≡ (tag_of_itag p (number j)).key
+    → source_of_itag p (number i) ≡ source_of_itag p (number j) → i ≡ j
 itag_is_tag_and_source p i j in_i in_j kinds keys sources =
     let differ = distinct_itags p.kinds 0 p.sources p.sources_fit in
     let a = tag_and_source p (number i) in
@@ -150,7 +148,8 @@ itag_is_tag_and_source p i j in_i in_j kinds keys sources =
       ]
     ]
 
-pub itag_has_own_key : (p : Program) (i : ℕ) → i < count_of_itags p → is_keyed p.kinds (tag_of_itag p (number i)).kind ≡ false → (tag_of_itag p (number i)).key ≡ 0
+pub itag_has_own_key : (p : Program) (i : ℕ) → i < count_of_itags p → is_keyed p.kinds (tag_of_itag p (number i)).kind ≡ false
+    → (tag_of_itag p (number i)).key ≡ 0
 itag_has_own_key p i lt bare =
     let t = tag_of_itag p (number i) in
     let own : has_own_key p.kinds t ≡ true = all_at (λ e. has_own_key p.kinds e.0) (itags p) i (tag 0 0, 0) (bare_itags p.kinds 0 p.sources p.sources_fit) lt in

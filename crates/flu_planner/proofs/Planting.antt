@@ -1,16 +1,15 @@
 -- The nodes of a subtree: how many there are, a leaf, and a node with two children.
 use Rattle.std.proofs.Common.{◌≡◌, ◌<◌, ◌+◌, ◌*◌, ◌^◌, ℕ, suc, Some, None, List, [], ◌∷◌, ◌++◌, length, refl, ap, ◌∙◌, arith}
-use Rattle.std.specs.Prelude.{Contains}
 use Rattle.std.proofs.Math.Nat.{pow-suc}
 use Rattle.std.proofs.lemmas.List.{length-append}
 use Rattle.std.proofs.lemmas.Nat.{pow_pos}
 use Rattle.flu_model.specs.declared.jobs.Program.{Program}
 use Rattle.flu_model.specs.declared.plans.Node.{Node}
 use Rattle.flu_planner.specs.Graphs.{Graph}
-use Rattle.flu_planner.specs.Greedy.{Tree, Leaf, Inner, IsLeaf, IsParting}
+use Rattle.flu_planner.specs.Greedy.{Leaf, Inner, IsLeaf, IsParting}
 use Rattle.flu_planner.specs.Plans.{node_of, nodes_from, size}
-use Rattle.flu_planner.specs.Search.{IsPartingOnce, IsSubtree}
-use Rattle.flu_planner.proofs.Occurs.{counted, found}
+use Rattle.flu_planner.specs.Search.{IsSubtree}
+use Rattle.flu_planner.proofs.PlanNodes.{count_of_nodes}
 
 pub doubled : (d : ℕ) → 2 ^ (d + 1) ≡ 2 ^ d + 2 ^ d
 doubled d =
@@ -18,15 +17,8 @@ doubled d =
     let double : 2 ^ suc d ≡ 2 ^ d * 2 = pow-suc 2 d in
     ap (λ n. 2 ^ n) next ∙ double ∙ omega arith
 
-pub count_of_nodes : (p : Program) (w : ℕ) (tree : Tree) → length (nodes_from p w tree) ≡ size tree
-count_of_nodes p w (Leaf own) = refl
-count_of_nodes p w (Inner own left right) =
-    let one = count_of_nodes p (w + 1) left in
-    let other = count_of_nodes p (w + 1 + size left) right in
-    let both = length-append (nodes_from p (w + 1) left) (nodes_from p (w + 1 + size left) right) in
-    omega arith
-
-pub leaf_is : (p : Program) (g : Graph) (rates : List ℕ) (depth number : ℕ) (itags : List ℕ) (nodes : List Node) → IsLeaf g rates depth itags → nodes ≡ node_of p number itags None ∷ [] → IsSubtree p g rates depth number itags nodes
+pub leaf_is : (p : Program) (g : Graph) (rates : List ℕ) (depth number : ℕ) (itags : List ℕ) (nodes : List Node) → IsLeaf g rates depth itags
+    → nodes ≡ node_of p number itags None ∷ [] → IsSubtree p g rates depth number itags nodes
 leaf_is p g rates depth number itags nodes leaf e = record {
   tree = Leaf itags;
   greedy = (refl, leaf);
@@ -34,7 +26,9 @@ leaf_is p g rates depth number itags nodes leaf e = record {
   few = (let one : length nodes ≡ 1 = ap length e in let double = doubled depth in let some = pow_pos depth in omega arith);
 }
 
-pub inner_is : (p : Program) (g : Graph) (rates : List ℕ) (depth number : ℕ) (itags own lefts rights : List ℕ) (l r nodes : List Node) → IsParting g rates itags own lefts rights → IsSubtree p g rates depth (number + 1) lefts l → IsSubtree p g rates depth (number + 1 + length l) rights r → nodes ≡ node_of p number own (Some (number + 1, number + 1 + length l)) ∷ (l ++ r) → IsSubtree p g rates (suc depth) number itags nodes
+pub inner_is : (p : Program) (g : Graph) (rates : List ℕ) (depth number : ℕ) (itags own lefts rights : List ℕ) (l r nodes : List Node)
+    → IsParting g rates itags own lefts rights → IsSubtree p g rates depth (number + 1) lefts l → IsSubtree p g rates depth (number + 1 + length l) rights r
+    → nodes ≡ node_of p number own (Some (number + 1, number + 1 + length l)) ∷ (l ++ r) → IsSubtree p g rates (suc depth) number itags nodes
 inner_is p g rates depth number itags own lefts rights l r nodes parting left right e =
     let size_is : length l ≡ size left.tree = ap length left.nodes_of_tree ∙ count_of_nodes p (number + 1) left.tree in
     let r_is : r ≡ nodes_from p (number + 1 + size left.tree) right.tree = right.nodes_of_tree ∙ ap (λ n. nodes_from p (number + 1 + n) right.tree) size_is in
@@ -54,14 +48,3 @@ inner_is p g rates depth number itags own lefts rights l r nodes parting left ri
           let double : 2 ^ (suc depth + 1) ≡ 2 ^ (depth + 1) + 2 ^ (depth + 1) = doubled (suc depth) ∙ ap (λ n. 2 ^ n + 2 ^ n) next in
           omega arith);
     }
-
--- what stands in a part stands in the whole
-module _ (g : Graph) (rates itags own left right : List ℕ) (parting : IsPartingOnce g rates itags own left right) where
-  pub own_in : (k : ℕ) → Contains own k → Contains itags k
-  own_in k there = let some = counted k own there in let sum = parting.once k in found k itags (omega arith)
-
-  pub left_in : (k : ℕ) → Contains left k → Contains itags k
-  left_in k there = let some = counted k left there in let sum = parting.once k in found k itags (omega arith)
-
-  pub right_in : (k : ℕ) → Contains right k → Contains itags k
-  right_in k there = let some = counted k right there in let sum = parting.once k in found k itags (omega arith)

@@ -18,7 +18,8 @@ put_at_place before x (y ∷ ys) =
     ] refl
 
 -- a loop that puts the elements in order from the last one on
-pub in_order_more : {X : Type 0} (before : X → X → Bool) (xs : List X) (k : ℕ) (d : X) (order : List X) → k < length xs → order ≡ in_order before (drop (k + 1) xs) → insert order (position_or_len (before (get_or xs k d)) order) (get_or xs k d) ≡ in_order before (drop k xs)
+pub in_order_more : {X : Type 0} (before : X → X → Bool) (xs : List X) (k : ℕ) (d : X) (order : List X) → k < length xs
+    → order ≡ in_order before (drop (k + 1) xs) → insert order (position_or_len (before (get_or xs k d)) order) (get_or xs k d) ≡ in_order before (drop k xs)
 in_order_more before xs k d order lt e =
     sym (put_at_place before (get_or xs k d) order) ∙ ap (put_in_order before (get_or xs k d)) e ∙ sym (ap (in_order before) (drop_more xs k d lt))
 

@@ -6,18 +6,19 @@ use Rattle.std.proofs.lemmas.Bool.{cases_lt, both_ways, not-true, eqb-true, eqb-
 use Rattle.std.proofs.lemmas.List.{length-append, get_or_append_left, get_or_default, nil_from_length}
 use Rattle.std.proofs.lemmas.List.Filters.{length-filter_both}
 use Rattle.std.proofs.lemmas.List.Elements.{Contains-append_left, Contains-append_cases, Contains-get_or}
-use Rattle.flu_lemmas.specs.Sorting.{in_order}
 use Rattle.flu_planner.specs.Graphs.{Graph, AreConnected, IsApart, is_rising, least}
-use Rattle.flu_planner.specs.Reaching.{occurs, IsReached}
+use Rattle.flu_lemmas.specs.Counting.{times}
+use Rattle.flu_planner.specs.Reaching.{IsReached}
 use Rattle.flu_planner.proofs.Connections.{kept_where_connected, connected_itself, connected_on, connected_step, connected_back}
-use Rattle.flu_planner.proofs.Occurs.{contains_first, contains_cases, contains_none, occurs-cons, occurs-append, occurs-filter, counted, found}
+use Rattle.flu_lemmas.proofs.Containing.{contains_here, contains_cases, contains_none}
+use Rattle.flu_lemmas.proofs.Counting.{times-cons, times_append, times_filter, times_if_contained, contained_if_times}
 use Rattle.flu_planner.proofs.Rising.{rising_rest, rising_once, kept, rising_filter}
 
 -- ---- the search
 -- Some itags are connected with the first, those of them before a place have no neighbour among the rest, and each itag stands
 -- on one side.
 pub record IsReaching (g : Graph) (itags : List ℕ) (place : ℕ) (connected rest : List ℕ) : Type 0 where
-  pub parts : (k : ℕ) → occurs k connected + occurs k rest ≡ occurs k itags
+  pub parts : (k : ℕ) → times k connected + times k rest ≡ times k itags
   pub sizes : length connected + length rest ≡ length itags
   pub start : Contains connected (least itags)
   pub walks : (k : ℕ) → Contains connected k → AreConnected g itags (least itags) k
@@ -28,11 +29,11 @@ pub record IsReaching (g : Graph) (itags : List ℕ) (place : ℕ) (connected re
 pub starts : (g : Graph) (itags : List ℕ) → 0 < length itags → IsTrue (is_rising itags) → IsReaching g itags 0 (get_or itags 0 0 ∷ []) (drop 1 itags)
 starts g [] some up = absurd (omega arith)
 starts g (x ∷ xs) some up = record {
-  parts = λ k. (let one = occurs-cons k x [] in let all = occurs-cons k x xs in omega arith);
+  parts = λ k. (let one = times-cons k x [] in let all = times-cons k x xs in omega arith);
   sizes = omega arith;
-  start = contains_first x [];
+  start = contains_here x [];
   walks = λ k there.
-      elim (contains_cases x [] k there) [
+      elim (contains_cases x k [] there) [
         | inl e ↦ subst (AreConnected g (x ∷ xs) x) e (connected_itself g (x ∷ xs) x)
         | inr none ↦ absurd (contains_none k none)
       ];
@@ -41,14 +42,15 @@ starts g (x ∷ xs) some up = record {
   within = omega arith;
 }
 
-pub goes_on : (g : Graph) (itags : List ℕ) (place : ℕ) (connected rest : List ℕ) → place < length connected → IsReaching g itags place connected rest → IsReaching g itags (place + 1) (connected ++ filter (g (get_or connected place 0)) rest) (filter (λ j. not (g (get_or connected place 0) j)) rest)
+pub goes_on : (g : Graph) (itags : List ℕ) (place : ℕ) (connected rest : List ℕ) → place < length connected → IsReaching g itags place connected rest
+    → IsReaching g itags (place + 1) (connected ++ filter (g (get_or connected place 0)) rest) (filter (λ j. not (g (get_or connected place 0) j)) rest)
 goes_on g itags place connected rest lt now =
     let i : ℕ = get_or connected place 0 in
     let next : List ℕ = filter (g i) rest in
     let others : List ℕ = filter (λ j. not (g i j)) rest in
     let lengths : length (connected ++ next) ≡ length connected + length next = length-append connected next in
     record {
-      parts = λ k. (let one = occurs-append k connected next in let both = occurs-filter k (g i) rest in let old = now.parts k in omega arith);
+      parts = λ k. (let one = times_append k connected next in let both = times_filter k (g i) rest in let old = now.parts k in omega arith);
       sizes = (let both = length-filter_both (g i) (λ j. not (g i j)) (λ j. refl) rest in let old = now.sizes in omega arith);
       start = Contains-append_left connected next (least itags) now.start;
       walks = λ k there.
@@ -56,9 +58,9 @@ goes_on g itags place connected rest lt now =
             | inl before ↦ now.walks k before
             | inr new ↦
                 (let kept_here = kept (g i) rest k new in
-                let once = counted k rest kept_here.0 in
+                let once = times_if_contained k rest kept_here.0 in
                 let old = now.parts k in
-                connected_step g itags (least itags) i k (now.walks i (Contains-get_or connected place 0 lt)) kept_here.1 (found k itags (omega arith)))
+                connected_step g itags (least itags) i k (now.walks i (Contains-get_or connected place 0 lt)) kept_here.1 (contained_if_times k itags (omega arith)))
           ];
       seen = λ d less k there.
           (let kept_here = kept (λ j. not (g i j)) rest k there in
@@ -76,7 +78,8 @@ goes_on g itags place connected rest lt now =
 place_in : (xs : List ℕ) (x : ℕ) → Contains xs x → (d : ℕ) × (d < length xs) × (get_or xs d 0 ≡ x)
 place_in xs x there = (there.0, there.1, get_or_default xs there.0 0 x there.1 ∙ there.2)
 
-pub ends : (g : Graph) (itags : List ℕ) (place : ℕ) (connected rest : List ℕ) → length connected ≤ place → 0 < length itags → IsReaching g itags place connected rest → IsReached g itags connected rest
+pub ends : (g : Graph) (itags : List ℕ) (place : ℕ) (connected rest : List ℕ) → length connected ≤ place → 0 < length itags
+    → IsReaching g itags place connected rest → IsReached g itags connected rest
 ends g itags place connected rest le some now = record {
   parts = now.parts;
   start = now.start;
@@ -92,16 +95,16 @@ ends g itags place connected rest le some now = record {
 -- ---- what is found
 module _ (g : Graph) (both : (i j : ℕ) → g i j ≡ g j i) (itags : List ℕ) (up : IsTrue (is_rising itags)) (connected rest : List ℕ) (now : IsReached g itags connected rest) where
   pub connected_in : (k : ℕ) → Contains connected k → Contains itags k
-  connected_in k there = let once = counted k connected there in let parts = now.parts k in found k itags (omega arith)
+  connected_in k there = let once = times_if_contained k connected there in let parts = now.parts k in contained_if_times k itags (omega arith)
 
   pub rest_in : (k : ℕ) → Contains rest k → Contains itags k
-  rest_in k there = let once = counted k rest there in let parts = now.parts k in found k itags (omega arith)
+  rest_in k there = let once = times_if_contained k rest there in let parts = now.parts k in contained_if_times k itags (omega arith)
 
   -- no itag stands on both sides
   pub one_side : (k : ℕ) → Contains connected k → Contains rest k → ⊥
   one_side k here there =
-      let a = counted k connected here in
-      let b = counted k rest there in
+      let a = times_if_contained k connected here in
+      let b = times_if_contained k rest there in
       let parts = now.parts k in
       let once = rising_once itags up k in
       absurd (omega arith)
@@ -109,9 +112,9 @@ module _ (g : Graph) (both : (i j : ℕ) → g i j ≡ g j i) (itags : List ℕ)
   -- each stands on one
   pub some_side : (k : ℕ) → Contains itags k → Contains connected k ⊎ Contains rest k
   some_side k there =
-      let once = counted k itags there in
+      let once = times_if_contained k itags there in
       let parts = now.parts k in
-      elim (cases_lt 0 (occurs k connected)) [ inl some ↦ inl (found k connected (omega arith)) | inr none ↦ inr (found k rest (omega arith)) ]
+      elim (cases_lt 0 (times k connected)) [ inl some ↦ inl (contained_if_times k connected (omega arith)) | inr none ↦ inr (contained_if_times k rest (omega arith)) ]
 
   -- no walk leads out of what is connected
   pub stays_step : (i j : ℕ) → Contains connected i → Contains itags j → g i j ≡ true → Contains connected j
@@ -145,7 +148,8 @@ pub none_apart : (g : Graph) → IsApart g [] → ⊥
 none_apart g a = absurd (contains_none a.one a.one_in)
 
 -- whether there is a rest tells whether the graph is apart
-pub rest_tells : (g : Graph) → ((i j : ℕ) → g i j ≡ g j i) → (itags : List ℕ) → IsTrue (is_rising itags) → (connected rest : List ℕ) → IsReached g itags connected rest → (b : Bool) → b ≡ (length rest == 0) → IsTrue (not b) ↔ IsApart g itags
+pub rest_tells : (g : Graph) → ((i j : ℕ) → g i j ≡ g j i) → (itags : List ℕ) → IsTrue (is_rising itags) → (connected rest : List ℕ)
+    → IsReached g itags connected rest → (b : Bool) → b ≡ (length rest == 0) → IsTrue (not b) ↔ IsApart g itags
 rest_tells g both itags up connected rest now true e =
     (λ wrong. cc, λ a. absurd (not_apart_if_none g both itags up connected rest now (nil_from_length rest (eqb-true (length rest) 0 (sym e))) a))
 rest_tells g both itags up connected rest now false e =

@@ -5,13 +5,13 @@ use Rattle.std.specs.List.{range_with_len}
 use Rattle.std.proofs.lemmas.Bool.{cases_lt, cases_order, lt-ltb, le-ltb, le-leb}
 use Rattle.std.proofs.lemmas.List.{get_or-map}
 use Rattle.std.proofs.lemmas.List.FromFn.{length-range_with_len, get_or-range_with_len}
+use Rattle.flu_lemmas.proofs.Ranges.{range_below}
 use Rattle.flu_model.specs.declared.jobs.Program.{Program}
 use Rattle.flu_model.specs.Itags.{count_of_itags, tag_of_itag}
-use Rattle.flu_laws.proofs.Uses.{dependent_turns}
+use Rattle.flu_laws.specs.Lawful.{DependencyTurns}
 use Rattle.flu_planner.specs.Graphs.{dependencies}
 use Rattle.flu_planner.specs.Plans.{all_itags}
 use Rattle.flu_planner.specs.Tables.{read, is_set, entry, are_dependent, table_of, graph_of}
-use Rattle.flu_planner.proofs.Rising.{range_below}
 use Rattle.flu_planner.proofs.Agreement.{Agree}
 
 -- each edge leads both ways
@@ -55,9 +55,9 @@ read_is p i j le other =
     ∙ ap (λ b. b && (nat_lt j (count_of_itags p) && dependencies p i j)) (le-leb i j le)
     ∙ ap (λ b. b && dependencies p i j) (lt-ltb j (count_of_itags p) other)
 
-pub agrees_with_table : (p : Program) → Agree (graph_of (table_of p)) (dependencies p) (all_itags p)
+pub agrees_with_table : DependencyTurns → (p : Program) → Agree (graph_of (table_of p)) (dependencies p) (all_itags p)
 unfolding graph_of
-agrees_with_table p = record {
+agrees_with_table law p = record {
   same = λ i j one other.
       (let a : i < count_of_itags p = range_below (count_of_itags p) i one in
       let b : j < count_of_itags p = range_below (count_of_itags p) j other in
@@ -66,6 +66,6 @@ agrees_with_table p = record {
         | inl less ↦ ap (λ c. cond c (read table i j) (read table j i)) (lt-ltb i j less) ∙ read_is p i j (omega arith) b
         | inr le ↦
             ap (λ c. cond c (read table i j) (read table j i)) (le-ltb i j le) ∙ read_is p j i le a
-            ∙ dependent_turns p (tag_of_itag p (record { 0 = j })) (tag_of_itag p (record { 0 = i }))
+            ∙ law p (tag_of_itag p (record { 0 = j })) (tag_of_itag p (record { 0 = i }))
       ]);
 }

@@ -1,17 +1,19 @@
 -- The itags that the nodes of a greedy tree own: each of the itags that it is made of stands in one node.
-use Rattle.std.proofs.Common.{◌≡◌, ◌<◌, ◌≤◌, ◌+◌, ℕ, zero, suc, true, cond, inl, inr, List, [], ◌∷◌, ◌++◌, length, refl, ap, subst, arith}
+use Rattle.std.proofs.Common.{◌≡◌, ◌<◌, ◌≤◌, ◌+◌, ℕ, zero, suc, cond, List, [], ◌∷◌, ◌++◌, length, refl, ap, arith}
 use Rattle.std.specs.Prelude.{nat_lt, ◌==◌, Contains}
-use Rattle.std.specs.List.{range_with_len}
-use Rattle.std.proofs.lemmas.Bool.{cases_eq}
 use Rattle.std.proofs.lemmas.Grind.{common_steps}
 use Rattle.flu_lemmas.specs.Totals.{total}
-use Rattle.flu_lemmas.proofs.Tests.{both, lt_true}
+use Rattle.flu_lemmas.proofs.Tests.{lt_true}
 use Rattle.flu_model.specs.declared.jobs.Program.{Program}
 use Rattle.flu_model.specs.Itags.{count_of_itags}
-use Rattle.flu_planner.specs.Graphs.{Graph, is_rising}
+use Rattle.flu_planner.specs.Graphs.{Graph}
 use Rattle.flu_planner.specs.Greedy.{Tree, Leaf, Inner, IsParting, IsGreedy}
 use Rattle.flu_planner.specs.Plans.{all_itags}
-use Rattle.flu_planner.proofs.General.{contains_here, contains_later, contains_cases, contains_none, times, times_if_contained, contained_if_times, times_append, rising_once}
+use Rattle.flu_lemmas.specs.Counting.{times}
+use Rattle.flu_lemmas.proofs.Containing.{contains_here, contains_later}
+use Rattle.flu_lemmas.proofs.Ranges.{range_below, range_has}
+use Rattle.flu_lemmas.proofs.Counting.{times-cons, times_if_contained, contained_if_times, times_append}
+use Rattle.flu_planner.proofs.Rising.{rising_once, rising_range}
 use Rattle.flu_planner.proofs.TreeParts.{parted_times}
 
 -- the itags that the nodes of a tree own, node after node in preorder
@@ -29,7 +31,8 @@ parts_once g rates itags own left right once p = (
   λ i. (let few = once i in let parts = parted_times g rates itags own left right once p i in omega (arith, few, parts)),
 )
 
-pub owned_times : (g : Graph) (rates : List ℕ) (depth : ℕ) (itags : List ℕ) (tree : Tree) → IsGreedy g rates depth itags tree → AreOnce itags → (i : ℕ) → times i (owned_in tree) ≡ times i itags
+pub owned_times : (g : Graph) (rates : List ℕ) (depth : ℕ) (itags : List ℕ) (tree : Tree) → IsGreedy g rates depth itags tree → AreOnce itags → (i : ℕ)
+    → times i (owned_in tree) ≡ times i itags
 owned_times g rates depth itags (Leaf own) greedy once i = ap (times i) greedy.0
 owned_times g rates zero itags (Inner own left right) greedy once i = absurd greedy
 owned_times g rates (suc depth) itags (Inner own left right) greedy once i =
@@ -41,39 +44,19 @@ owned_times g rates (suc depth) itags (Inner own left right) greedy once i =
     let second = times_append i (owned_in left) (owned_in right) in
     omega (arith, parts, one, two, first, second)
 
-pub owned_is_given : (g : Graph) (rates : List ℕ) (depth : ℕ) (itags : List ℕ) (tree : Tree) → IsGreedy g rates depth itags tree → AreOnce itags → (i : ℕ) → Contains (owned_in tree) i → Contains itags i
+pub owned_is_given : (g : Graph) (rates : List ℕ) (depth : ℕ) (itags : List ℕ) (tree : Tree) → IsGreedy g rates depth itags tree → AreOnce itags → (i : ℕ)
+    → Contains (owned_in tree) i → Contains itags i
 owned_is_given g rates depth itags tree greedy once i there =
     let some = times_if_contained i (owned_in tree) there in
     let same = owned_times g rates depth itags tree greedy once i in
     contained_if_times i itags (omega (arith, some, same))
 
 -- ---- all itags of a job
-range_rising : (lo n : ℕ) → is_rising (range_with_len lo n) ≡ true
-range_rising lo zero = refl
-range_rising lo (suc zero) = refl
-range_rising lo (suc (suc n)) = both (nat_lt lo (lo + 1)) (is_rising (range_with_len (lo + 1) (suc n))) (lt_true lo (lo + 1) (omega arith)) (range_rising (lo + 1) (suc n))
-
-range_within : (lo n i : ℕ) → Contains (range_with_len lo n) i → (lo ≤ i) × (i < lo + n)
-range_within lo zero i there = absurd (contains_none i there)
-range_within lo (suc n) i there =
-    elim (contains_cases lo i (range_with_len (lo + 1) n) there) [
-      | inl same ↦ (omega (arith, same), omega (arith, same))
-      | inr later ↦ (let more = range_within (lo + 1) n i later in let a = more.0 in let b = more.1 in (omega (arith, a), omega (arith, b)))
-    ]
-
-range_has : (lo n i : ℕ) → lo ≤ i → i < lo + n → Contains (range_with_len lo n) i
-range_has lo zero i le lt = absurd (omega arith)
-range_has lo (suc n) i le lt =
-    elim (cases_eq lo i) [
-      | inl same ↦ subst (λ (k : ℕ). Contains (range_with_len lo (suc n)) k) same (contains_here lo (range_with_len (lo + 1) n))
-      | inr other ↦ contains_later lo i (range_with_len (lo + 1) n) (range_has (lo + 1) n i (omega arith) (omega arith))
-    ]
-
 pub all_once : (p : Program) → AreOnce (all_itags p)
-all_once p i = rising_once i (all_itags p) (range_rising 0 (count_of_itags p))
+all_once p i = rising_once (all_itags p) (rising_range 0 (count_of_itags p)) i
 
 pub all_within : (p : Program) (i : ℕ) → Contains (all_itags p) i → i < count_of_itags p
-all_within p i there = let within = (range_within 0 (count_of_itags p) i there).1 in omega (arith, within)
+all_within p i there = range_below (count_of_itags p) i there
 
 pub all_have : (p : Program) (i : ℕ) → i < count_of_itags p → times i (all_itags p) ≡ 1
 all_have p i lt =
@@ -90,16 +73,17 @@ unfolding below
 below_none [] = refl
 below_none (x ∷ xs) = let rest : total (λ j. cond (nat_lt j 0) 1 0) xs ≡ 0 = below_none xs in grind (arith, common_steps, rest)
 
-one_more : (n x : ℕ) → cond {A = ℕ} (nat_lt x (suc n)) 1 0 ≡ cond (nat_lt x n) 1 0 + cond (x == n) 1 0
-one_more n x = grind (arith, common_steps)
+below_here : (n x : ℕ) → cond {A = ℕ} (nat_lt x (suc n)) 1 0 ≡ cond (nat_lt x n) 1 0 + cond (x == n) 1 0
+below_here n x = grind (arith, common_steps)
 
 below_more : (n : ℕ) (xs : List ℕ) → below (suc n) xs ≡ below n xs + times n xs
 unfolding below
 below_more n [] = omega arith
 below_more n (x ∷ xs) =
     let rest : total (λ j. cond (nat_lt j (suc n)) 1 0) xs ≡ total (λ j. cond (nat_lt j n) 1 0) xs + times n xs = below_more n xs in
-    let here = one_more n x in
-    omega (arith, rest, here)
+    let here = below_here n x in
+    let first = times-cons n x xs in
+    omega (arith, rest, here, first)
 
 below_few : (n : ℕ) (xs : List ℕ) → AreOnce xs → below n xs ≤ n
 below_few zero xs once = let none = below_none xs in omega (arith, none)

@@ -11,7 +11,10 @@ use Rattle.flu_planner.specs.Graphs.{Graph, AreConnected, IsComponent, AreCompon
 use Rattle.flu_planner.specs.Cuts.{is_removed_first, removal_order, removed, remaining}
 use Rattle.flu_planner.specs.Groups.{goes_left, grouped}
 use Rattle.flu_planner.specs.Greedy.{IsParting}
-use Rattle.flu_planner.proofs.General.{contains_here, contains_later, contains_cases, contains_none, times, times_if_contained, contained_if_times, times_append, times_moved, times_parted, rising_once, rising_same}
+use Rattle.flu_lemmas.specs.Counting.{times}
+use Rattle.flu_lemmas.proofs.Containing.{contains_here, contains_later, contains_cases, contains_none}
+use Rattle.flu_lemmas.proofs.Counting.{times_if_contained, contained_if_times, times_append, times_moved, times_parted}
+use Rattle.flu_planner.proofs.Rising.{rising_once, rising_same}
 
 -- ---- in rising order
 pub times_rising : (i : ℕ) (xs : List ℕ) → times i (rising xs) ≡ times i xs
@@ -32,6 +35,12 @@ times_of_cut rates itags count i =
     let parts = times_parted i count order in
     let whole = times_moved i itags order (in_order-permutation (is_removed_first rates) itags) in
     omega (arith, front, back, parts, whole)
+
+pub remaining_in : (rates itags : List ℕ) (count i : ℕ) → Contains (remaining rates itags count) i → Contains itags i
+remaining_in rates itags count i there =
+    let some = times_if_contained i (remaining rates itags count) there in
+    let cut = times_of_cut rates itags count i in
+    contained_if_times i itags (omega (arith, some, cut))
 
 -- ---- components
 abbrev pub joined : List (List ℕ) → List ℕ
@@ -65,12 +74,13 @@ pub not_before_itself : (rates c : List ℕ) → comes_first rates c c ≡ true 
 not_before_itself rates c e = grind (arith, common_steps)
 
 -- components in turn share no itag
-pub joined_once : (g : Graph) (rates itags : List ℕ) (cs : List (List ℕ)) → ((c : List ℕ) → Contains cs c → IsComponent g itags c) → IsInTurn (comes_first rates) cs → (i : ℕ) → times i (joined cs) ≤ 1
+pub joined_once : (g : Graph) (rates itags : List ℕ) (cs : List (List ℕ)) → ((c : List ℕ) → Contains cs c → IsComponent g itags c)
+    → IsInTurn (comes_first rates) cs → (i : ℕ) → times i (joined cs) ≤ 1
 joined_once g rates itags [] each turn i = omega arith
 joined_once g rates itags (c ∷ cs) each turn i =
     let parts = times_append i c (joined cs) in
     let here = each c (contains_here c cs) in
-    let once = rising_once i c here.in_order in
+    let once = rising_once c here.in_order i in
     let rest = joined_once g rates itags cs (λ d there. each d (contains_later c d cs there)) turn.1 i in
     elim (cases_lt 0 (times i c)) [
       | inr none ↦ omega (arith, parts, none, rest)
@@ -86,7 +96,8 @@ joined_once g rates itags (c ∷ cs) each turn i =
     ]
 
 -- all components together are the itags
-pub joined_is_all : (g : Graph) (rates itags : List ℕ) (cs : List (List ℕ)) → AreComponents g rates itags cs → (i : ℕ) → times i itags ≤ 1 → times i (joined cs) ≡ times i itags
+pub joined_is_all : (g : Graph) (rates itags : List ℕ) (cs : List (List ℕ)) → AreComponents g rates itags cs → (i : ℕ) → times i itags ≤ 1
+    → times i (joined cs) ≡ times i itags
 joined_is_all g rates itags cs are i once =
     let few = joined_once g rates itags cs are.each are.in_turn i in
     elim (cases_lt 0 (times i itags)) [
@@ -104,7 +115,8 @@ joined_is_all g rates itags cs are i once =
     ]
 
 -- ---- groups
-pub times_of_groups : (rates left right : List ℕ) (cs : List (List ℕ)) (i : ℕ) → times i (grouped rates left right cs).0 + times i (grouped rates left right cs).1 ≡ times i left + times i right + times i (joined cs)
+pub times_of_groups : (rates left right : List ℕ) (cs : List (List ℕ)) (i : ℕ)
+    → times i (grouped rates left right cs).0 + times i (grouped rates left right cs).1 ≡ times i left + times i right + times i (joined cs)
 times_of_groups rates left right [] i = omega arith
 times_of_groups rates left right (c ∷ cs) i =
     elim (goes_left rates left right) as (λ b. times i (cond b (grouped rates (left ++ c) right cs) (grouped rates left (right ++ c) cs)).0 + times i (cond b (grouped rates (left ++ c) right cs) (grouped rates left (right ++ c) cs)).1 ≡ times i left + times i right + times i (c ++ joined cs)) [

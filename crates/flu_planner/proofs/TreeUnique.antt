@@ -1,5 +1,5 @@
 -- Itags have one greedy tree for some rates and a depth, and so a job has one greedy plan.
-use Rattle.std.proofs.Common.{◌≡◌, ◌≤◌, ℕ, zero, suc, true, inl, inr, List, [], ◌∷◌, length, refl, sym, ap, subst, ◌∙◌, arith}
+use Rattle.std.proofs.Common.{◌≡◌, ℕ, zero, suc, true, inl, inr, List, [], ◌∷◌, refl, sym, ap, subst, ◌∙◌, arith}
 use Rattle.std.specs.Prelude.{Contains, Bool}
 use Rattle.std.proofs.lemmas.Bool.{cases_order}
 use Rattle.std.proofs.lemmas.Grind.{common_steps}
@@ -10,8 +10,9 @@ use Rattle.flu_planner.specs.Cuts.{removed, remaining}
 use Rattle.flu_planner.specs.Groups.{grouped}
 use Rattle.flu_planner.specs.Greedy.{Tree, Leaf, Inner, IsParting, IsLeaf, IsGreedy}
 use Rattle.flu_planner.specs.Plans.{all_itags, nodes_from, IsGreedyPlan}
-use Rattle.flu_planner.proofs.General.{contains_here, contains_later, contains_cases, contains_none, times_if_contained, contained_if_times}
-use Rattle.flu_planner.proofs.TreeParts.{times_of_cut, same_component}
+use Rattle.flu_lemmas.proofs.Containing.{contains_here, contains_later, contains_cases, contains_none, only_one}
+use Rattle.flu_planner.proofs.Connections.{connected_itself}
+use Rattle.flu_planner.proofs.TreeParts.{remaining_in, same_component}
 
 -- ---- lists in turn
 -- each comes before all that follow it
@@ -53,7 +54,8 @@ turn_same {X} first one_way (x ∷ xs) (y ∷ ys) there back a b =
 one_way : (rates c d : List ℕ) → comes_first rates c d ≡ true → comes_first rates d c ≡ true → ⊥
 one_way rates c d e f = grind (arith, common_steps)
 
-component_is_listed : (g : Graph) (rates itags : List ℕ) (cs ds : List (List ℕ)) → AreComponents g rates itags cs → AreComponents g rates itags ds → (c : List ℕ) → Contains cs c → Contains ds c
+component_is_listed : (g : Graph) (rates itags : List ℕ) (cs ds : List (List ℕ)) → AreComponents g rates itags cs → AreComponents g rates itags ds
+    → (c : List ℕ) → Contains cs c → Contains ds c
 component_is_listed g rates itags cs ds one two [] there = absurd ((one.each [] there).some refl)
 component_is_listed g rates itags cs ds one two (x ∷ xs) there =
     let here = one.each (x ∷ xs) there in
@@ -66,34 +68,14 @@ components_same g rates itags cs ds one two =
     turn_same (comes_first rates) (one_way rates) cs ds (component_is_listed g rates itags cs ds one two) (component_is_listed g rates itags ds cs two one) (from_turn (comes_first rates) cs one.in_turn) (from_turn (comes_first rates) ds two.in_turn)
 
 -- ---- a leaf has no parting
-only_one : (xs : List ℕ) (i j : ℕ) → length xs ≤ 1 → Contains xs i → Contains xs j → i ≡ j
-only_one [] i j few in_i in_j = absurd (contains_none i in_i)
-only_one (x ∷ []) i j few in_i in_j =
-    elim (contains_cases x i [] in_i) [
-      | inr none ↦ absurd (contains_none i none)
-      | inl e ↦ elim (contains_cases x j [] in_j) [
-        | inr none ↦ absurd (contains_none j none)
-        | inl f ↦ sym e ∙ f
-      ]
-    ]
-only_one (x ∷ y ∷ xs) i j few in_i in_j = absurd (omega arith)
-
-connected_with_itself : (g : Graph) (itags : List ℕ) (i : ℕ) → AreConnected g itags i i
-connected_with_itself g itags i = record { walk = []; joined = refl; inside = λ k none. absurd (contains_none k none); ends = refl }
-
-remains_of : (rates itags : List ℕ) (count i : ℕ) → Contains (remaining rates itags count) i → Contains itags i
-remains_of rates itags count i there =
-    let some = times_if_contained i (remaining rates itags count) there in
-    let cut = times_of_cut rates itags count i in
-    contained_if_times i itags (omega (arith, some, cut))
-
-not_leaf : (g : Graph) (rates : List ℕ) (depth : ℕ) (itags own left right : List ℕ) → IsLeaf g rates (suc depth) itags → IsParting g rates itags own left right → ⊥
+not_leaf : (g : Graph) (rates : List ℕ) (depth : ℕ) (itags own left right : List ℕ) → IsLeaf g rates (suc depth) itags
+    → IsParting g rates itags own left right → ⊥
 not_leaf g rates depth itags own left right (inl none) p = omega (arith, none)
 not_leaf g rates depth itags own left right (inr (inl few)) p =
     let cut = p.least_cut.apart in
     let rest = remaining rates itags p.count in
-    let same : cut.one ≡ cut.other = only_one itags cut.one cut.other few (remains_of rates itags p.count cut.one cut.one_in) (remains_of rates itags p.count cut.other cut.other_in) in
-    cut.apart (subst (λ (k : ℕ). AreConnected g rest cut.one k) same (connected_with_itself g rest cut.one))
+    let same : cut.one ≡ cut.other = only_one itags cut.one cut.other few (remaining_in rates itags p.count cut.one cut.one_in) (remaining_in rates itags p.count cut.other cut.other_in) in
+    cut.apart (subst (λ (k : ℕ). AreConnected g rest cut.one k) same (connected_itself g rest cut.one))
 not_leaf g rates depth itags own left right (inr (inr whole)) p = whole p.count p.least_cut.apart
 
 -- ---- a parting is the only one
@@ -102,7 +84,8 @@ record SameParts (own left right own' left' right' : List ℕ) : Type 0 where
   same_left : left ≡ left'
   same_right : right ≡ right'
 
-parting_same : (g : Graph) (rates itags own left right own' left' right' : List ℕ) → IsParting g rates itags own left right → IsParting g rates itags own' left' right' → SameParts own left right own' left' right'
+parting_same : (g : Graph) (rates itags own left right own' left' right' : List ℕ) → IsParting g rates itags own left right
+    → IsParting g rates itags own' left' right' → SameParts own left right own' left' right'
 parting_same g rates itags own left right own' left' right' p q =
     let count : p.count ≡ q.count = elim (cases_order p.count q.count) [
       | inl e ↦ e

@@ -5,7 +5,7 @@ use Rattle.flu_model.specs.declared.plans.Node.{Node}
 use Rattle.flu_planner.specs.Graphs.{Graph, IsApart, rising, is_rising}
 use Rattle.flu_planner.specs.Greedy.{Tree, IsGreedy, IsParting}
 use Rattle.flu_planner.specs.Plans.{nodes_from}
-use Rattle.flu_planner.specs.Reaching.{occurs}
+use Rattle.flu_lemmas.specs.Counting.{times}
 
 -- what remains of itags in an order when so many are removed has at least two components, and with no fewer it has
 pub record IsFirstApart (g : Graph) (order : List ℕ) (count : ℕ) : Type 0 where
@@ -19,7 +19,7 @@ IsNeverApart g order = (count : ℕ) → IsApart g (rising (drop count order)) �
 -- a parting in which each itag stands on one side, once
 pub record IsPartingOnce (g : Graph) (rates itags own left right : List ℕ) : Type 0 where
   pub parting : IsParting g rates itags own left right
-  pub once : (k : ℕ) → occurs k own + occurs k left + occurs k right ≡ occurs k itags
+  pub once : (k : ℕ) → times k own + times k left + times k right ≡ times k itags
   pub left_in_order : IsTrue (is_rising left)
   pub right_in_order : IsTrue (is_rising right)
 

@@ -5,7 +5,8 @@ ghost use Rattle.std.specs.List.{position_or_len, filter};
 ghost use Rattle.flu_lemmas.specs.Sorting.{put_in_order};
 ghost use Rattle.flu_lemmas.specs.Totals.{total};
 ghost use Rattle.flu_planner.specs.Graphs.{IsApart, AreComponents, is_rising, total_rate};
-ghost use Rattle.flu_planner.specs.Reaching.{occurs, has_greater_total, IsReached};
+ghost use Rattle.flu_lemmas.specs.Counting.{times};
+ghost use Rattle.flu_planner.specs.Reaching.{has_greater_total, IsReached};
 ghost use Rattle.flu_planner.specs.Tables.{graph_of};
 
 use crate::dependencies::joined;
@@ -88,7 +89,7 @@ pub fn components(
 ) -> Result<Vec<List<u32>>, AllocError>
     requires { IsTrue (is_rising itags.now) }
     ensures are { IfOk result (λ found. AreComponents (graph_of table.now) rates.now itags.now found.items) }
-    ensures once { IfOk result (λ found. (k : ℕ) → total (occurs k) found.items ≡ occurs k itags.now) }
+    ensures once { IfOk result (λ found. (k : ℕ) → total (times k) found.items ≡ times k itags.now) }
 {
     let mut components = Vec::new(alloc);
     let mut rest = itags.to_vec(alloc)?;

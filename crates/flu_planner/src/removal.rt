@@ -4,7 +4,7 @@ ghost use Rattle.std.specs.Prelude.{◌≡◌, ℕ, ◌≤◌, nat_lt, IfOk, Mat
 ghost use Rattle.std.specs.List.{position_or_len};
 ghost use Rattle.flu_planner.specs.Graphs.{rate_of, total_rate, rising};
 ghost use Rattle.flu_planner.specs.Cuts.{is_removed_first, removal_order};
-ghost use Rattle.flu_planner.specs.Reaching.{occurs};
+ghost use Rattle.flu_lemmas.specs.Counting.{times};
 ghost use Rattle.flu_planner.specs.Tables.{graph_of};
 ghost use Rattle.flu_planner.specs.Search.{IsFirstApart, IsNeverApart};
 
@@ -106,7 +106,7 @@ pub fn rising(alloc: Global, itags: &[u32]) -> Result<Vec<u32>, AllocError>
 /// How many of the itags, in the order of removal, have to be removed so that the others have at least two components; none
 /// where no number of them does.
 pub fn least_cut(alloc: Global, table: &[bool], order: &[u32]) -> Result<Option<usize>, AllocError>
-    requires { (k : ℕ) → occurs k order.now ≤ 1 }
+    requires { (k : ℕ) → times k order.now ≤ 1 }
     ensures { IfOk result (λ cut. MatchOption cut (IsNeverApart (graph_of table.now) order.now) (IsFirstApart (graph_of table.now) order.now)) }
 {
     for count in 0..order.len() {

@@ -1,3 +1,2 @@
 pub mod TagLemmas
 pub mod ReportLemmas
-pub mod WritingLemmas

@@ -1,3 +1,2 @@
 pub mod Entries
 pub mod Tagging
-pub mod Writing

@@ -1,4 +1,4 @@
-//! The report of a run, and the writing of all bytes to a sink.
+//! The report of a run. The writing of all bytes to a sink is passed on.
 #![tactic(auto)]
 
 mod lines;
@@ -6,7 +6,6 @@ mod report;
 mod tags;
 #[cfg(test)]
 mod tests;
-mod writing;
 
+pub use flu_outside::write_all;
 pub use report::report_text;
-pub use writing::write_all;

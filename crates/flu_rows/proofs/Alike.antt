@@ -1,19 +1,18 @@
 -- Bytes that read the same, whatever stands before and behind them.
-use Rattle.std.proofs.Common.{◌≡◌, ◌≢◌, ◌⊎◌, inl, inr, ℕ, zero, suc, ◌+◌, ◌<◌, ◌≤◌, ◌^◌, Bool, true, false, not, ◌&&◌, if◌then◌else◌, eqb, ltb, List, [], ◌∷◌, ◌++◌, length, take, drop, ◌-◌, refl, sym, ap, ◌∙◌, append_assoc, Option, Some, None, arith}
+use Rattle.std.proofs.Common.{◌≡◌, ◌⊎◌, inl, inr, ℕ, ◌+◌, ◌<◌, ◌^◌, Bool, true, false, not, ◌&&◌, if◌then◌else◌, eqb, ltb, List, [], ◌∷◌, ◌++◌, length, take, drop, ◌-◌, refl, sym, ap, ◌∙◌, append_assoc, Some, None, arith}
 use Rattle.std.proofs.lemmas.Bool.Decides.{nat_tests}
 use Rattle.std.proofs.lemmas.List.{append-nil}
-use Rattle.csv.specs.Machine.{Read, next_record}
+use Rattle.csv.specs.Machine.{next_record}
 use Rattle.csv.specs.Reading.{default_config, strip_bom}
 use Rattle.flu_rows.specs.declared.rows.Next.{Next}
 use Rattle.flu_rows.specs.declared.rows.Next.TheVariants.{TooManyLines}
 use Rattle.flu_rows.specs.declared.line.Line.TheVariants.{Blank}
-use Rattle.flu_rows.specs.declared.scan.Quotes.TheVariants.{FieldStart}
 use Rattle.flu_rows.specs.Filling.{line_len}
-use Rattle.flu_rows.specs.Records.{first_record, record_after}
+use Rattle.flu_rows.specs.Records.{first_record}
 use Rattle.flu_rows.specs.Row.{filled_len}
-use Rattle.flu_rows.specs.Lines.{lines_of, line_of, line_of_fields, begins_with_mark}
+use Rattle.flu_rows.specs.Lines.{line_of, line_of_fields}
 use Rattle.flu_rows.specs.Reading.{read_line, read_lines, read_bytes}
-use Rattle.flu_rows.specs.Run.{IsAlike, AreAlike, joined, IsRun, ReadAlike, state_after, lead, quotes_after, Closes}
+use Rattle.flu_rows.specs.Run.{IsAlike, AreAlike, joined, IsRun, ReadAlike, state_after, quotes_after}
 use Rattle.std.proofs.lemmas.Grind.{common_steps}
 use Rattle.flu_rows.proofs.Cuts.{lines_of-cut, take_line, split_line, one_line}
 use Rattle.flu_rows.proofs.Scanning.{alike}

@@ -1,7 +1,6 @@
 pub mod Digits
 pub mod NameBytes
 pub mod RecordFields
-pub mod Told
 pub mod Cuts
 pub mod Scanning
 pub mod Alike

@@ -1,9 +1,9 @@
 -- A line whose quotes close, as csv reads it alone and before other lines.
-use Rattle.std.proofs.Common.{◌≡◌, ◌≢◌, ◌⊎◌, inl, inr, ℕ, zero, suc, ◌+◌, ◌<◌, ◌≤◌, Bool, true, false, not, cond, eqb, List, [], ◌∷◌, ◌++◌, length, refl, sym, ap, ◌∙◌, append_assoc, get_or, Option, Some, None, arith}
+use Rattle.std.proofs.Common.{◌≡◌, ◌≢◌, inl, inr, ℕ, ◌<◌, ◌≤◌, true, false, eqb, List, [], ◌∷◌, ◌++◌, length, refl, ◌∙◌, append_assoc, get_or, Some, arith}
 use Rattle.std.proofs.lemmas.Bool.{cases_Bool}
 use Rattle.std.proofs.lemmas.List.{append-nil}
 use Rattle.std.specs.List.{list_any}
-use Rattle.csv.specs.Machine.{Read, next_record}
+use Rattle.csv.specs.Machine.{next_record}
 use Rattle.csv.specs.Reading.{default_config, strip_bom}
 use Rattle.csv.specs.declared.parser.State.{State}
 use Rattle.csv.specs.declared.parser.State.TheVariants as state
@@ -11,7 +11,7 @@ use Rattle.flu_rows.specs.declared.scan.Quotes.{Quotes}
 use Rattle.flu_rows.specs.declared.scan.Quotes.TheVariants.{FieldStart, Bare, Quoted, Closed}
 use Rattle.flu_rows.specs.Filling.{line_len}
 use Rattle.flu_rows.specs.Lines.{begins_with_mark}
-use Rattle.flu_rows.specs.Run.{next_quotes, quotes_after, Closes, IsTextOf, IsAlike, state_after, lead}
+use Rattle.flu_rows.specs.Run.{next_quotes, quotes_after, Closes, IsTextOf, IsAlike}
 
 -- no byte ends a record
 unfoldable NoEnds : List ℕ → Type 0

@@ -1,5 +1,5 @@
 -- What one line does to what is still to be read.
-use Rattle.std.proofs.Common.{◌≡◌, ◌≢◌, ◌⊎◌, inl, inr, ℕ, ◌+◌, ◌^◌, ◌<◌, ◌≤◌, Bool, true, false, eqb, List, [], ◌∷◌, ◌++◌, length, take, drop, Option, Some, None, refl, sym, ap, ◌∙◌, append_assoc, arith}
+use Rattle.std.proofs.Common.{◌≡◌, ◌≢◌, inl, inr, ℕ, ◌+◌, ◌^◌, ◌<◌, List, [], ◌∷◌, ◌++◌, length, take, drop, Option, Some, None, refl, ap, ◌∙◌, append_assoc}
 use Rattle.std.proofs.lemmas.Bool.{ne_eqb, lt-ltb}
 use Rattle.std.proofs.lemmas.Bool.Decides.{eqb_tells}
 use Rattle.std.proofs.lemmas.List.{append-nil}
@@ -9,18 +9,18 @@ use Rattle.flu_rows.specs.declared.held.Found.TheVariants.{Line as LineFound, La
 use Rattle.flu_rows.specs.declared.line.Line.{Line}
 use Rattle.flu_rows.specs.declared.line.Line.TheVariants.{Blank, Bad as BadLine, Row as RowLine}
 use Rattle.flu_rows.specs.declared.rows.Next.{Next}
-use Rattle.flu_rows.specs.declared.rows.Next.TheVariants.{Row, Bad, TooManyLines, Done}
+use Rattle.flu_rows.specs.declared.rows.Next.TheVariants.{Row, TooManyLines, Done}
 use Rattle.flu_rows.specs.declared.rows.Step.{Step}
 use Rattle.flu_rows.specs.declared.rows.Step.TheVariants.{Skip, Give}
-use Rattle.flu_rows.specs.Filling.{line_len, KeepsBytes, IsFound, IsLast}
+use Rattle.flu_rows.specs.Filling.{line_len, IsFound, IsLast}
 use Rattle.flu_rows.specs.Lines.{lines_of, line_of, line_of_fields}
 use Rattle.flu_rows.specs.Reading.{read_line, read_lines, read_bytes}
-use Rattle.flu_rows.specs.Run.{GivesLine, ReadAlike}
+use Rattle.flu_rows.specs.Run.{GivesLine}
 use Rattle.flu_rows.specs.Steps.{step_of, row_step, step_behind, BeginsWith, ReadsStep}
-use Rattle.flu_rows.specs.Taking.{bytes_left, IsReadOut}
+use Rattle.flu_outside.specs.Taking.{KeepsBytes, bytes_left, IsReadOut}
 use Rattle.flu_rows.proofs.Alike.{line_of-alike}
 use Rattle.flu_rows.proofs.Cuts.{lines_of-cut, lines_of-line, lines_of-last, lines_of-long}
-use Rattle.flu_rows.proofs.Told.{told_same}
+use Rattle.flu_lemmas.proofs.Told.{told_same}
 
 -- where something was found but the end, a line stands there
 some_line : (now coming : List ℕ) (found : Found) → IsFound now found → found ≢ End → (found ≡ Last → coming ≡ []) → (bytes : List ℕ) × (lines : List (List ℕ)) × (lines_of (now ++ coming) ≡ bytes ∷ lines)

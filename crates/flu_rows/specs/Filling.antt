@@ -1,18 +1,12 @@
 -- What stands at the front of the bytes that are held of a file.
-use Rattle.std.specs.Prelude.{◌≡◌, ℕ, ◌≤◌, ◌<◌, ◌+◌, ◌^◌, not, ◌==◌, List, [], ◌++◌, length, ◌⊎◌}
+use Rattle.std.specs.Prelude.{◌≡◌, ℕ, ◌≤◌, ◌<◌, not, ◌==◌, List, [], length, ◌⊎◌}
 use Rattle.std.specs.List.{prefix_len}
-use Rattle.flu_outside.specs.Outside.{Contents}
 use Rattle.flu_rows.specs.declared.held.Found.{Found}
 use Rattle.flu_rows.specs.declared.held.Found.TheVariants.{Line, Last, TooLong, End}
-use Rattle.flu_rows.specs.Taking.{bytes_left}
 
 -- how many bytes stand before the first line feed
 abbrev pub line_len : List ℕ → ℕ
 line_len bytes = prefix_len (λ b. not (b == 10)) bytes
-
--- the bytes that are held, and behind them those that the name has left, are as they were
-abbrev pub KeepsBytes : List ℕ → List ℕ → List ℕ → Contents → Contents → Type 0
-KeepsBytes name held now old new = now ++ bytes_left new name ≡ held ++ bytes_left old name
 
 -- what was found
 abbrev pub IsFound : List ℕ → Found → Type 0

@@ -3,7 +3,6 @@ pub mod Row
 pub mod Records
 pub mod Lines
 pub mod Reading
-pub mod Taking
 pub mod Filling
 pub mod Run
 pub mod Steps

@@ -1,5 +1,5 @@
 -- What reading one line gives.
-use Rattle.std.specs.Prelude.{◌≡◌, ◌≢◌, ℕ, ◌+◌, ◌<◌, ◌^◌, ◌==◌, if◌then◌else◌, List, [], ◌∷◌, ◌++◌, ⊤}
+use Rattle.std.specs.Prelude.{◌≡◌, ◌≢◌, ℕ, ◌+◌, ◌<◌, ◌^◌, ◌==◌, if◌then◌else◌, List, ◌∷◌, ◌++◌, ⊤}
 use Rattle.flu_outside.specs.Outside.{Contents}
 use Rattle.flu_rows.specs.declared.line.Line.{Line}
 use Rattle.flu_rows.specs.declared.line.Line.TheVariants.{Blank, Bad as BadLine, Row as RowLine}
@@ -9,7 +9,7 @@ use Rattle.flu_rows.specs.declared.rows.Step.{Step}
 use Rattle.flu_rows.specs.declared.rows.Step.TheVariants.{Skip, Give}
 use Rattle.flu_rows.specs.Lines.{lines_of, line_of, line_of_fields}
 use Rattle.flu_rows.specs.Reading.{read_bytes, then_behind, NextInRange, OnDone}
-use Rattle.flu_rows.specs.Taking.{bytes_left}
+use Rattle.flu_outside.specs.Taking.{bytes_left}
 
 -- what the line of this number gives
 abbrev pub step_of : Line → ℕ → Step

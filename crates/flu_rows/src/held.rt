@@ -1,14 +1,14 @@
 //! The bytes that are held of a file.
 
-ghost use Rattle.std.specs.Prelude.{◌≡◌, ℕ, List, not, ◌==◌, ◌+◌, ◌≤◌, ◌<◌, [], ◌++◌, drop, length, IfOk, OnOk, IsErrOf};
+ghost use Rattle.std.specs.Prelude.{◌≡◌, ◌≢◌, ℕ, List, not, ◌==◌, ◌+◌, ◌≤◌, ◌<◌, [], ◌++◌, drop, length, IfOk, OnOk, IsErrOf, Err};
 ghost use Rattle.std.specs.List.{prefix_len};
-ghost use Rattle.flu_outside.specs.Outside.{WhereTold, Rose};
-ghost use Rattle.flu_rows.specs.Filling.{line_len, KeepsBytes, IsFound, IsLast};
-ghost use Rattle.flu_rows.specs.Taking.{TakesFrom, CountsOf, IsReadOut};
+ghost use Rattle.flu_outside.specs.Outside.{WhereTold, Rose, SameCounts};
+ghost use Rattle.flu_outside.specs.Taking.{TakesFrom, KeepsBytes, CountsOf, IsReadOut};
+ghost use Rattle.flu_rows.specs.Filling.{line_len, IsFound, IsLast};
 
 use crate::line::LONGEST_LINE;
-use flu_outside::{Files, TakeFault};
-use std::alloc::{AllocError, Global};
+use flu_outside::{Files, TakeFault, take_behind};
+use std::alloc::Global;
 use std::marker::Model;
 use thiserror::Error;
 
@@ -22,9 +22,6 @@ pub enum RowsFault {
     #[error("out of memory")]
     NoMemory,
 }
-
-/// How many bytes are asked for at once.
-const CHUNK: usize = 16_384;
 
 /// What stands at the front of the bytes that are held.
 #[derive(Clone, Copy)]
@@ -98,35 +95,22 @@ impl Held {
         self.at = 0;
     }
 
-    // Puts bytes behind those that are held.
-    fn extend(&mut self, more: &[u8]) -> Result<(), AllocError>
-        ensures { OnOk result (self.new ≡ self.old ++ more.now) }
-    {
-        self.bytes.extend_from_slice(more)?;
-        Ok(())
-    }
-
     // Takes some bytes of the file, or none where none are left.
-    #[inline(never)]
     fn take_more<F: Files>(&mut self, file: &str, files: &mut F) -> Result<usize, RowsFault>
         ensures bytes { OnOk result (WhereTold (F.left files.old) (F.left files.new) (KeepsBytes file.now self.old self.new)) }
         ensures behind { IfOk result (λ count. (more : List ℕ) × (length more ≡ count) × (self.new ≡ self.old ++ more)) }
         ensures end { IfOk result (λ count. count ≡ 0 → IsReadOut file.now (F.left files.new)) }
         ensures taken { WhereTold (F.left files.old) (F.left files.new) (TakesFrom file.now) }
         ensures counts { CountsOf (F.left files.old) file.now (F.faults files.old) (F.faults files.new) }
+        ensures quiet { result ≢ Err RowsFault.ReadFault → SameCounts (F.faults files.old) (F.faults files.new) }
         ensures cause { IsErrOf result RowsFault.ReadFault → Rose (F.faults files.old file.now) (F.faults files.new file.now) }
     {
         self.move_up();
-        let mut chunk = [0u8; CHUNK];
-        let count = match files.take(file, &mut chunk) {
-            Ok(count) => count,
-            Err(TakeFault::Failed) => return Err(RowsFault::ReadFault),
-            Err(TakeFault::NoMemory) => return Err(RowsFault::NoMemory),
-        };
-        if self.extend(&chunk[..count]).is_err() {
-            return Err(RowsFault::NoMemory);
+        match take_behind(files, file, &mut self.bytes) {
+            Ok(count) => Ok(count),
+            Err(TakeFault::Failed) => Err(RowsFault::ReadFault),
+            Err(TakeFault::NoMemory) => Err(RowsFault::NoMemory),
         }
-        Ok(count)
     }
 
     /// Takes bytes of the file until a line is held, or its end, or more than a line.
@@ -136,6 +120,7 @@ impl Held {
         ensures bytes { OnOk result (WhereTold (F.left files.old) (F.left files.new) (KeepsBytes file.now self.old self.new)) }
         ensures taken { WhereTold (F.left files.old) (F.left files.new) (TakesFrom file.now) }
         ensures counts { CountsOf (F.left files.old) file.now (F.faults files.old) (F.faults files.new) }
+        ensures quiet { result ≢ Err RowsFault.ReadFault → SameCounts (F.faults files.old) (F.faults files.new) }
         ensures cause { IsErrOf result RowsFault.ReadFault → Rose (F.faults files.old file.now) (F.faults files.new file.now) }
     {
         let mut len = line_len(self.bytes());

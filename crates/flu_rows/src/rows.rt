@@ -2,12 +2,12 @@
 
 ghost use Rattle.std.specs.Prelude.{◌≡◌, ◌≢◌, ◌+◌, ◌^◌, ◌++◌, List, ℕ, [], IfOk, IsErrOf, Err};
 ghost use Rattle.csv.specs.Records.{fields_of};
-ghost use Rattle.flu_outside.specs.Outside.{WhereTold, Rose};
+ghost use Rattle.flu_outside.specs.Outside.{WhereTold, Rose, SameCounts};
+ghost use Rattle.flu_outside.specs.Taking.{TakesFrom, CountsOf, IsReadOut};
 ghost use Rattle.flu_rows.specs.Filling.{IsFound};
 ghost use Rattle.flu_rows.specs.Lines.{LineInRange};
 ghost use Rattle.flu_rows.specs.Reading.{ahead, front_of, then_behind, read_bytes, NextInRange, CountsLines, OnDone};
 ghost use Rattle.flu_rows.specs.Steps.{step_of, row_step, step_behind, BeginsWith, StepInRange, StepCounts, StepOnDone, ReadsStep};
-ghost use Rattle.flu_rows.specs.Taking.{TakesFrom, CountsOf, IsReadOut};
 
 use crate::held::{Found, Held, RowsFault};
 use crate::line::{Line, line_of, line_of_record};
@@ -87,9 +87,11 @@ impl Rows {
         ensures lines { IfOk result (CountsLines self.old.lines self.new.lines) }
         ensures same { self.new.file ≡ self.old.file }
 
-        // It takes bytes from the front of its file alone, and a read fault has its cause there.
+        // It takes bytes from the front of its file alone, and a read fault has its cause there: no other answer comes behind
+        // a take that failed.
         ensures taken { WhereTold (F.left files.old) (F.left files.new) (TakesFrom self.old.file) }
         ensures counts { CountsOf (F.left files.old) self.old.file (F.faults files.old) (F.faults files.new) }
+        ensures quiet { result ≢ Err RowsFault.ReadFault → SameCounts (F.faults files.old) (F.faults files.new) }
         ensures cause { IsErrOf result RowsFault.ReadFault → Rose (F.faults files.old self.old.file) (F.faults files.new self.old.file) }
     {
         loop {
@@ -120,6 +122,7 @@ impl Hold {
         ensures lines { IfOk result (StepCounts self.old.lines self.new.lines) }
         ensures taken { WhereTold (F.left files.old) (F.left files.new) (TakesFrom file.now) }
         ensures counts { CountsOf (F.left files.old) file.now (F.faults files.old) (F.faults files.new) }
+        ensures quiet { result ≢ Err RowsFault.ReadFault → SameCounts (F.faults files.old) (F.faults files.new) }
         ensures cause { IsErrOf result RowsFault.ReadFault → Rose (F.faults files.old file.now) (F.faults files.new file.now) }
     {
         let Ok(found) = self.run.next(&mut self.row) else {

@@ -1,3 +1,4 @@
 pub mod HeightLemmas
 pub mod DistinctLemmas
 pub mod TagLemmas
+pub mod DigitLemmas

@@ -12,6 +12,7 @@ use Rattle.flu_model.specs.Listing.{tag, listed_keys, listed_tags}
 use Rattle.flu_model.specs.Rules.{are_distinct, is_same_tag}
 use Rattle.flu_lemmas.proofs.Tests.{false_if_not, true_eq}
 use Rattle.flu_rules.specs.Keys.{first_key, last_key}
+use Rattle.flu_rules.specs.Keys.{share_tag as both_list}
 use Rattle.flu_lemmas.proofs.Searches.{eq_true, rest_whole, list_any-map, list_any_never, list_any_or, list_any_and, list_any_within, list_any-range, ranges_meet}
 use Rattle.flu_rules.proofs.DistinctLemmas.{distinct-append, from_place}
 
@@ -103,6 +104,11 @@ distinct_tags r rs =
     distinct-append is_same_tag (listed_tags r) (flat_map listed_tags rs)
     ∙ ap (λ b. b && not (list_any (λ t. list_any (is_same_tag t) (flat_map listed_tags rs)) (listed_tags r)) && are_distinct is_same_tag (flat_map listed_tags rs)) (listed_are_distinct r.kind r.keys)
     ∙ ap (λ b. not b && are_distinct is_same_tag (flat_map listed_tags rs)) (among_rest (listed_tags r) rs)
+
+-- no tag is listed twice where no two parts share one
+pub parts_distinct : (rs : List TagRef) → are_distinct is_same_tag (flat_map listed_tags rs) ≡ are_distinct both_list rs
+parts_distinct [] = refl
+parts_distinct (r ∷ rs) = distinct_tags r rs ∙ ap (λ b. not (list_any (both_list r) rs) && b) (parts_distinct rs)
 
 pub tags_step : (refs : List TagRef) (i : ℕ) (r : TagRef) → i < length refs → r ≡ get_or refs i r
     → are_distinct is_same_tag (flat_map listed_tags (drop i refs))

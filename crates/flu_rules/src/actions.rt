@@ -5,9 +5,9 @@ ghost use Rattle.std.specs.List.{list_all};
 ghost use Rattle.flu_model.specs.Rules.{act_fits, guard_fits, action_fits, kind_fits};
 
 use crate::expressions::{is_good_expr, is_keyed, ref_fits, ref_has_sort};
-use crate::names::is_name;
 use crate::templates::{emit_template_fits, flush_template_fits};
 use flu_model::{Act, Action, Expr, Family, Kind, Sort};
+use flu_names::is_name;
 
 /// The most actions that a kind has.
 const MOST_ACTIONS: usize = 32;
@@ -68,6 +68,6 @@ fn act_fits(families: &[Family], keyed: bool, has_value: bool, act: &Act) -> boo
         Act::Clear(cell) => ref_fits(families, keyed, cell),
         Act::Emit(pieces) => emit_template_fits(families, keyed, has_value, pieces.items()),
         Act::Flush(family, pieces) => is_keyed(families, *family)
-            && flush_template_fits(has_value, pieces.items()),
+            && flush_template_fits(families, has_value, pieces.items()),
     }
 }

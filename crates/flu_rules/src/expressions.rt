@@ -1,12 +1,9 @@
 //! References to cells and expressions, under a kind that is keyed or not and has a value or not.
 
 ghost use Rattle.std.specs.Prelude.{◌≡◌, nat_le, slice_get};
-ghost use Rattle.flu_model.specs.Rules.{key_fits, family_fits, has_sort, is_keyed, ref_fits, ref_has_sort, expr_fits, height, is_good_expr};
+ghost use Rattle.flu_model.specs.Rules.{is_literal, key_fits, family_fits, has_sort, is_keyed, ref_fits, ref_has_sort, expr_fits, height, is_good_expr};
 
-use flu_model::{At, CellRef, Expr, Family, Sort};
-
-/// How many keys a keyed family or kind has.
-pub const KEY_COUNT: u32 = 65_536;
+use flu_model::{At, CellRef, Expr, Family, KEY_COUNT, Sort};
 
 /// The greatest height of an expression.
 const MOST_LEVELS: u32 = 32;
@@ -76,7 +73,8 @@ fn expr_fits(families: &[Family], keyed: bool, has_value: bool, expr: &Expr) -> 
     ensures { result ≡ expr_fits families.now keyed has_value expr.now }
 {
     match expr {
-        Expr::Lit(_) | Expr::Time => true,
+        Expr::Lit(number) => is_literal(*number),
+        Expr::Time => true,
         Expr::Value => has_value,
         Expr::Key => keyed,
         Expr::Read(cell) | Expr::Has(cell) => ref_fits(families, keyed, cell),
@@ -86,4 +84,11 @@ fn expr_fits(families: &[Family], keyed: bool, has_value: bool, expr: &Expr) -> 
                 && expr_fits(families, keyed, has_value, right)
         }
     }
+}
+
+// A job text writes no negative number.
+fn is_literal(number: i64) -> bool
+    ensures { result ≡ is_literal number }
+{
+    number >= 0
 }

@@ -3,25 +3,23 @@
 
 ghost use Rattle.std.specs.Prelude.{◌≡◌, ◌↔◌, IsTrue, IfSome, IfNone};
 ghost use Rattle.std.specs.List.{list_all};
-ghost use Rattle.flu_model.specs.Rules.{are_families, are_kinds, are_depends, are_sources};
+ghost use Rattle.flu_model.specs.Rules.{is_version, are_families, are_kinds, are_depends, are_sources};
 ghost use Rattle.flu_rules.specs.Kept.{KeepsRules};
+ghost use Rattle.flu_rules.specs.Keys.{TagsMeet, TagsDiffer};
 
 mod actions;
 mod distinct;
 mod expressions;
-mod names;
 mod sources;
 mod tags;
 mod templates;
-#[cfg(test)]
-mod tests;
 
 use crate::actions::kind_fits;
 use crate::distinct::{have_own_files, have_own_names};
-pub use crate::names::{are_name, is_letter_or_digit, is_name};
 use crate::sources::{depend_fits, source_fits};
 use crate::tags::has_few_itags;
 use flu_model::{Depend, Family, Kind, List, Program, Source};
+pub use flu_names::{are_name, is_name};
 
 /// The most families, kinds and sources of a job.
 const MOST_PARTS: usize = 64;
@@ -29,27 +27,39 @@ const MOST_PARTS: usize = 64;
 /// The most dependencies of a job.
 const MOST_DEPENDS: usize = 4096;
 
-/// The job with these parts, where they keep the rules of the language (`docs/LANGUAGE.md`); none where they break one.
+/// Parts of sources' lists share a tag where they are of one kind and their keys meet; and no tag is listed twice where no two
+/// parts share one.
+pub fn tags_meet_by_their_ends()
+    ensures meet { TagsMeet }
+    ensures differ { TagsDiffer }
+{}
+
+/// The job of this version with these parts, where they keep the rules of the language (`docs/LANGUAGE.md`); none where they
+/// break one.
 ///
 /// The parts may be any, so what the lists hold need not have been looked at before. It takes no memory: ranges of keys
 /// are not written out, and expressions are looked at no deeper than they may be high.
 pub fn program(
+    version: u32,
     families: List<Family>,
     kinds: List<Kind>,
     depends: List<Depend>,
     sources: List<Source>,
 ) -> Option<Program>
+    ensures version { IfSome result (λ p. p.version ≡ version) }
     ensures parts { IfSome result (λ p. (p.families ≡ families) × (p.kinds ≡ kinds) × (p.depends ≡ depends) × (p.sources ≡ sources)) }
-    ensures kept { IfSome result (λ p. KeepsRules families kinds depends sources) }
-    ensures refused { IfNone result (¬ (KeepsRules families kinds depends sources)) }
+    ensures kept { IfSome result (λ p. KeepsRules version families kinds depends sources) }
+    ensures refused { IfNone result (¬ (KeepsRules version families kinds depends sources)) }
 {
     if keep_rules(
+        version,
         families.items(),
         kinds.items(),
         depends.items(),
         sources.items(),
     ) {
         Some(Program {
+            version,
             families,
             kinds,
             depends,
@@ -60,10 +70,17 @@ pub fn program(
     }
 }
 
-fn keep_rules(families: &[Family], kinds: &[Kind], depends: &[Depend], sources: &[Source]) -> bool
-    ensures { IsTrue result ↔ KeepsRules families.now kinds.now depends.now sources.now }
+fn keep_rules(
+    version: u32,
+    families: &[Family],
+    kinds: &[Kind],
+    depends: &[Depend],
+    sources: &[Source],
+) -> bool
+    ensures { IsTrue result ↔ KeepsRules version families.now kinds.now depends.now sources.now }
 {
-    families.len() <= MOST_PARTS
+    is_version(version)
+        && families.len() <= MOST_PARTS
         && kinds.len() <= MOST_PARTS
         && depends.len() <= MOST_DEPENDS
         && sources.len() <= MOST_PARTS
@@ -74,6 +91,12 @@ fn keep_rules(families: &[Family], kinds: &[Kind], depends: &[Depend], sources: 
         && are_sources(kinds, sources)
         && have_own_names(families, kinds, sources)
         && have_own_files(sources)
+}
+
+fn is_version(version: u32) -> bool
+    ensures { result ≡ is_version version }
+{
+    version == 1 || version == 2
 }
 
 fn are_families(families: &[Family]) -> bool

@@ -2,19 +2,18 @@
 
 ghost use Rattle.std.specs.Prelude.{◌≡◌};
 ghost use Rattle.std.specs.List.{list_all};
-ghost use Rattle.flu_model.specs.Rules.{depend_fits, keys_fit, tag_ref_fits, is_file_text, is_text_byte, source_fits};
+ghost use Rattle.flu_model.specs.Rules.{depend_fits, keys_fit, tag_ref_fits, is_file_text, source_fits};
+ghost use Rattle.flu_names.specs.Names.{is_text_byte};
 
-use crate::expressions::KEY_COUNT;
-use crate::names::is_name;
 use crate::tags::are_distinct;
-use crate::templates::is_text_byte;
-use flu_model::{Depend, Keys, Kind, Source, TagRef};
+use flu_model::{Depend, KEY_COUNT, Keys, Kind, Source, TagRef};
+use flu_names::{LONGEST_TEXT, is_name, is_text_byte};
 
 /// The greatest rate of a source, in events a second.
 const GREATEST_RATE: u64 = 1_000_000_000;
 
-/// The most bytes of a file's name.
-const MOST_FILE_BYTES: usize = 256;
+/// The greatest slack of a source, in the unit of its times.
+const GREATEST_SLACK: u64 = 60_000;
 
 /// Whether a dependency names declared kinds, and keyed ones where it is at the same key.
 pub fn depend_fits(kinds: &[Kind], depend: &Depend) -> bool
@@ -26,7 +25,8 @@ pub fn depend_fits(kinds: &[Kind], depend: &Depend) -> bool
     }
 }
 
-/// Whether a source has a name, a file, a rate that is not too great and tags, each a declared one that is listed once.
+/// Whether a source has a name, a file, a rate and a slack that are not too great, and tags, each a declared one that is
+/// listed once.
 pub fn source_fits(kinds: &[Kind], source: &Source) -> bool
     ensures { result ≡ source_fits kinds.now source.now }
 {
@@ -34,6 +34,7 @@ pub fn source_fits(kinds: &[Kind], source: &Source) -> bool
     is_name(source.name.as_str())
         && is_file_text(source.file.as_str())
         && source.rate <= GREATEST_RATE
+        && source.slack <= GREATEST_SLACK
         && tags.len() > 0
         && tags_fit(kinds, tags)
         && are_distinct(tags)
@@ -68,7 +69,7 @@ fn keys_fit(keyed: bool, keys: &Keys) -> bool
 fn is_file_text(text: &str) -> bool
     ensures { result ≡ is_file_text text.now }
 {
-    text.len() > 0 && text.len() <= MOST_FILE_BYTES && are_text_bytes(text.as_bytes())
+    text.len() > 0 && text.len() <= LONGEST_TEXT && are_text_bytes(text.as_bytes())
 }
 
 fn are_text_bytes(bytes: &[u8]) -> bool

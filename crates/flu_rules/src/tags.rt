@@ -41,7 +41,7 @@ fn left_after(tags: &[TagRef], room: u64) -> Option<u64>
     Some(left)
 }
 
-// How many keys are listed.
+// How many keys are listed. They have not been looked at, so they may be more than 32 bits hold.
 fn key_count(keys: &Keys) -> u64
     ensures { result ≡ length (listed_keys keys.now) }
 {

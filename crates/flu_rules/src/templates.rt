@@ -1,11 +1,14 @@
-//! Templates of texts, and the bytes that a text may have.
+//! Templates of texts.
 
-ghost use Rattle.std.specs.Prelude.{◌≡◌};
+ghost use Rattle.std.specs.Prelude.{◌≡◌, ◌+◌, ◌<◌, ◌≤◌, ◌^◌, length, slice_get};
+ghost use Rattle.std.specs.Fmt.{decimal};
 ghost use Rattle.std.specs.List.{list_all};
-ghost use Rattle.flu_model.specs.Rules.{is_text_byte, is_plain_byte, is_plain, emit_piece_fits, flush_piece_fits, are_apart, emit_template_fits, flush_template_fits};
+ghost use Rattle.flu_model.specs.Rules.{is_plain_byte, is_plain, emit_piece_fits, flush_piece_fits, are_apart, is_short, emit_template_fits, flush_template_fits};
+ghost use Rattle.flu_model.specs.Templates.{family_name, written_key, written_cell, written_piece, written_template};
 
 use crate::expressions::ref_fits;
-use flu_model::{Family, Piece};
+use flu_model::{At, CellRef, Family, Piece};
+use flu_names::{LONGEST_TEXT, is_text_byte};
 
 /// Whether the pieces make a template of an emit.
 pub fn emit_template_fits(
@@ -16,7 +19,9 @@ pub fn emit_template_fits(
 ) -> bool
     ensures { result ≡ emit_template_fits families.now keyed has_value pieces.now }
 {
-    emit_pieces_fit(families, keyed, has_value, pieces) && are_apart(pieces)
+    emit_pieces_fit(families, keyed, has_value, pieces)
+        && are_apart(pieces)
+        && is_short(families, pieces)
 }
 
 fn emit_pieces_fit(families: &[Family], keyed: bool, has_value: bool, pieces: &[Piece]) -> bool
@@ -28,10 +33,10 @@ fn emit_pieces_fit(families: &[Family], keyed: bool, has_value: bool, pieces: &[
 }
 
 /// Whether the pieces make a template of a flush.
-pub fn flush_template_fits(has_value: bool, pieces: &[Piece]) -> bool
-    ensures { result ≡ flush_template_fits has_value pieces.now }
+pub fn flush_template_fits(families: &[Family], has_value: bool, pieces: &[Piece]) -> bool
+    ensures { result ≡ flush_template_fits families.now has_value pieces.now }
 {
-    flush_pieces_fit(has_value, pieces) && are_apart(pieces)
+    flush_pieces_fit(has_value, pieces) && are_apart(pieces) && is_short(families, pieces)
 }
 
 fn flush_pieces_fit(has_value: bool, pieces: &[Piece]) -> bool
@@ -100,9 +105,72 @@ fn is_plain_byte(byte: u8) -> bool
     is_text_byte(byte) && byte != b'{' && byte != b'}'
 }
 
-/// Whether a text between quotes may have this byte: no quote and no control character.
-pub fn is_text_byte(byte: u8) -> bool
-    ensures { result ≡ is_text_byte byte }
+// Whether the template, as a job text writes it, fits between two quotes. It is measured and not written out, no further than
+// needed.
+fn is_short(families: &[Family], pieces: &[Piece]) -> bool
+    ensures { result ≡ is_short (written_template families.now pieces.now) }
 {
-    byte != b'"' && byte >= b' ' && byte != 127
+    let mut left = LONGEST_TEXT;
+    for piece in pieces {
+        let length = piece_length(families, piece);
+        if left < length {
+            return false;
+        }
+        left -= length;
+    }
+    true
+}
+
+// How many bytes a piece has as it is written.
+fn piece_length(families: &[Family], piece: &Piece) -> usize
+    ensures { result ≡ length (written_piece families.now piece.now) }
+{
+    match piece {
+        Piece::Plain(text) => text.as_str().len(),
+        Piece::Value => "{value}".len(),
+        Piece::Key => "{key}".len(),
+        Piece::Time => "{time}".len(),
+        Piece::Read(cell) => "{}".len() + cell_length(families, cell),
+        Piece::CellValue => "{cell}".len(),
+    }
+}
+
+fn cell_length(families: &[Family], cell: &CellRef) -> usize
+    ensures length { result ≡ length (written_cell families.now cell.now) }
+    ensures room { result < 2 ^ 63 + 12 }
+{
+    name_length(families, cell.family) + key_length(&cell.at)
+}
+
+fn name_length(families: &[Family], family: u32) -> usize
+    ensures length { result ≡ length (family_name (slice_get families.now family)) }
+    ensures room { result < 2 ^ 63 }
+{
+    match families.get(family as usize) {
+        Some(family) => family.name.as_str().len(),
+        None => 0,
+    }
+}
+
+fn key_length(at: &At) -> usize
+    ensures length { result ≡ length (written_key at.now) }
+    ensures few { result ≤ 12 }
+{
+    match at {
+        At::Alone => 0,
+        At::OwnKey => "[key]".len(),
+        At::Fixed(key) => "[]".len() + digit_count(*key),
+    }
+}
+
+// How many digits a number is written with.
+fn digit_count(number: u32) -> usize
+    ensures count { result ≡ length (decimal number) }
+    ensures few { result ≤ 10 }
+{
+    if number < 10 {
+        1
+    } else {
+        digit_count(number / 10) + 1
+    }
 }

@@ -2,7 +2,7 @@
 use Rattle.std.specs.Prelude.{◌≡◌, ℕ, ◌≤◌, List, map, Contains, Option}
 use Rattle.flu_model.specs.declared.jobs.Source.{Source}
 use Rattle.flu_outside.specs.Outside.{Contents, Rose, CountApart}
-use Rattle.flu_rows.specs.Taking.{IsReadOut}
+use Rattle.flu_outside.specs.Taking.{IsReadOut}
 
 abbrev pub files_of : List Source → List (List ℕ)
 files_of sources = map (λ (s : Source). s.file) sources

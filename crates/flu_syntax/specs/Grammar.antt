@@ -1,9 +1,9 @@
--- How a job is spelled.
-use Rattle.std.specs.Prelude.{◌≡◌, ◌≢◌, ◌↔◌, ℕ, ◌+◌, ◌≤◌, max, ◌==◌, if◌then◌else◌, Bool, true, false, List, [], ◌∷◌, ◌++◌, Option, Some, None}
+-- How a job is spelled. This is the grammar that the machine of `Machine` is proved to follow.
+use Rattle.std.specs.Prelude.{◌≡◌, ◌≢◌, ℕ, ◌+◌, ◌≤◌, max, ◌==◌, if◌then◌else◌, Bool, true, false, List, [], ◌∷◌, ◌++◌, Option, Some, None}
 use Rattle.std.specs.List.{flat_map}
 use Rattle.flu_text.specs.declared.words.Word.{Word}
 use Rattle.flu_text.specs.declared.words.Word.TheVariants as w
-use Rattle.flu_text.specs.declared.words.Reserved.TheVariants as r
+use Rattle.flu_names.specs.declared.reserved.Reserved.TheVariants as r
 use Rattle.flu_text.specs.declared.words.Mark.TheVariants as m
 use Rattle.flu_text.specs.declared.words.Token.{Token}
 use Rattle.flu_model.specs.declared.jobs.Op.{Op}
@@ -22,8 +22,7 @@ use Rattle.flu_syntax.specs.declared.tree.WrittenKeys.TheVariants as keys
 use Rattle.flu_syntax.specs.declared.tree.WrittenTag.{WrittenTag}
 use Rattle.flu_syntax.specs.declared.tree.WrittenRelation.{WrittenRelation}
 use Rattle.flu_syntax.specs.declared.tree.WrittenRelation.TheVariants as relation
-use Rattle.flu_syntax.specs.Tree.{Tree, NumberTree, ValueTree, KeyTree, TimeTree, ReadTree, HasTree, ParenTree, NegTree, NotTree, TwoTree, Deed, Writes, Clears, Emits, Flushes, Action, Declaration, Cell, Tag, Depends, On, Source, Job}
-use Rattle.flu_syntax.specs.Machine.{op_level, Found, Unexpected, place_of, verdict}
+use Rattle.flu_syntax.specs.Tree.{Tree, NumberTree, ValueTree, KeyTree, TimeTree, ReadTree, HasTree, ParenTree, NegTree, NotTree, TwoTree, Deed, Writes, Clears, Emits, Flushes, Action, Declaration, Cell, Tag, Depends, On, Source, Declarations, Job}
 
 -- A sign stands for a token: of a word, at any place; of a word that begins at a place; of a word that takes these bytes.
 pub data Sign : Type 0 where
@@ -110,6 +109,20 @@ spelled (ParenTree at inner) = At (w.Mark m.OpenParen) at ∷ (spelled inner ++ 
 spelled (NegTree at inner) = At (w.Mark m.Minus) at ∷ spelled inner
 spelled (NotTree at inner) = At (w.Reserved r.Not) at ∷ spelled inner
 spelled (TwoTree o left right) = spelled left ++ Any (op_word o) ∷ spelled right
+
+-- the level of an operator: the greater, the closer it binds
+abbrev pub op_level : Op → ℕ
+op_level op.Either = 0
+op_level op.Both = 1
+op_level op.Less = 3
+op_level op.LessEq = 3
+op_level op.More = 3
+op_level op.MoreEq = 3
+op_level op.Same = 3
+op_level op.Differs = 3
+op_level op.Plus = 4
+op_level op.Minus = 4
+op_level op.Times = 5
 
 -- the level of a left operand: operators group to the left, and comparisons do not group
 abbrev pub left_level : ℕ → ℕ
@@ -200,45 +213,56 @@ abbrev pub rate_signs : Option WrittenNumber → List Sign
 rate_signs None = []
 rate_signs (Some n) = Any (w.Reserved r.Rate) ∷ number n
 
+-- ["slack" NUMBER]
+abbrev pub slack_signs : Option WrittenNumber → List Sign
+slack_signs None = []
+slack_signs (Some n) = Any (w.Reserved r.Slack) ∷ number n
+
 -- "cell" NAME ["keyed"] ("sum" | "max" | "last") | "tag" NAME ["keyed"] ("int" | "none") | "depends" NAME NAME ["same" | "all"]
---     | "on" NAME ":" action { ";" action } | "source" NAME TEXT ["rate" NUMBER] ":" tagref { "," tagref }
+--     | "on" NAME ":" action { ";" action }
+--     | "source" NAME TEXT ["rate" NUMBER] ["slack" NUMBER] ":" tagref { "," tagref }
 abbrev pub declaration_signs : Declaration → List Sign
 declaration_signs (Cell n keyed s) = Any (w.Reserved r.Cell) ∷ (name n ++ keyed_signs keyed ++ Any (sort_word s) ∷ [])
 declaration_signs (Tag n keyed has_value) = Any (w.Reserved r.Tag) ∷ (name n ++ keyed_signs keyed ++ Any (value_word has_value) ∷ [])
 declaration_signs (Depends a b how) = Any (w.Reserved r.Depends) ∷ (name a ++ name b ++ relation_signs how)
 declaration_signs (On kind actions) = Any (w.Reserved r.On) ∷ (name kind ++ Any (w.Mark m.Colon) ∷ separated (w.Mark m.Semicolon) action_signs actions)
-declaration_signs (Source n file rate tags) =
-    Any (w.Reserved r.Source) ∷ (name n ++ text file ++ rate_signs rate ++ Any (w.Mark m.Colon) ∷ separated (w.Mark m.Comma) tag_signs tags)
+declaration_signs (Source n file rate slack tags) =
+    Any (w.Reserved r.Source) ∷
+    (name n ++ text file ++ rate_signs rate ++ slack_signs slack ++ Any (w.Mark m.Colon) ∷ separated (w.Mark m.Comma) tag_signs tags)
 
 abbrev pub IsDeclaration : Declaration → Type 0
 IsDeclaration (Cell n keyed s) = Unit {0}
 IsDeclaration (Tag n keyed has_value) = Unit {0}
 IsDeclaration (Depends a b how) = Unit {0}
 IsDeclaration (On kind actions) = (actions ≢ []) × AreActions actions
-IsDeclaration (Source n file rate tags) = tags ≢ []
+IsDeclaration (Source n file rate slack tags) = tags ≢ []
 
 -- { decl }
-abbrev pub job_signs : Job → List Sign
-job_signs job = flat_map declaration_signs job
+abbrev pub declarations_signs : Declarations → List Sign
+declarations_signs all = flat_map declaration_signs all
 
-abbrev pub AreDeclarations : Job → Type 0
+abbrev pub AreDeclarations : Declarations → Type 0
 AreDeclarations [] = Unit {0}
-AreDeclarations (d ∷ job) = IsDeclaration d × AreDeclarations job
+AreDeclarations (d ∷ all) = IsDeclaration d × AreDeclarations all
 
--- ---- the laws
+-- ["version" NUMBER]
+abbrev pub version_signs : Option WrittenNumber → List Sign
+version_signs None = []
+version_signs (Some n) = Any (w.Reserved r.Version) ∷ number n
+
+-- ["version" NUMBER] { decl }
+abbrev pub job_signs : Job → List Sign
+job_signs job = version_signs job.version ++ declarations_signs job.declarations
 
 -- The tokens are this job: they are its signs, one by one, and it keeps the levels of operators and the limit on what is open.
 pub record IsJob (tokens : List Token) (job : Job) : Type 0 where
-  pub grammar : AreDeclarations job
+  pub grammar : AreDeclarations job.declarations
   pub spelled : AreSigns (job_signs job) tokens
 
--- what is found is what the tokens are
-abbrev pub FoundIsJob : Type 0
-FoundIsJob = (end : ℕ) (tokens : List Token) (job : Job) → (verdict end tokens ≡ Found job) ↔ IsJob tokens job
-
--- no tokens are two jobs
-abbrev pub JobsAreUnique : Type 0
-JobsAreUnique = (tokens : List Token) (a b : Job) → IsJob tokens a → IsJob tokens b → a ≡ b
+-- the place of the first token, or of the end
+abbrev pub place_of : ℕ → List Token → ℕ
+place_of end [] = end
+place_of end (t ∷ tokens) = t.from
 
 -- these tokens may be continued to a job
 abbrev pub MayGoOn : List Token → Type 0
@@ -257,6 +281,3 @@ pub record IsFirstThatCannotFollow (end : ℕ) (tokens : List Token) (place : �
   pub here : place ≡ place_of end rest
   pub may : MayGoOn front
   pub cannot : CannotTake front rest
-
-abbrev pub UnexpectedIsFirst : Type 0
-UnexpectedIsFirst = (end : ℕ) (tokens : List Token) (place : ℕ) → verdict end tokens ≡ Unexpected place → IsFirstThatCannotFollow end tokens place

@@ -1,5 +1,6 @@
 pub mod Tree
-pub mod Machine
 pub mod Grammar
-pub mod Reading
 pub mod Words
+pub mod Machine
+pub mod Reading
+pub mod Laws

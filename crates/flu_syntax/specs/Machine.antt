@@ -1,10 +1,10 @@
 -- What the tokens of a job are read as, token by token: a machine that keeps what it has read and what is still open, and so
--- finds the job, or the first token that cannot follow.
+-- finds the job, or the first token that cannot follow. `Grammar` says what a job is, and `Laws` that the machine finds exactly that.
 use Rattle.std.specs.Prelude.{ℕ, ◌+◌, Bool, true, false, ◌&&◌, nat_lt, nat_le, ◌==◌, if◌then◌else◌, ℤ, List, [], ◌∷◌, ◌++◌, Option, Some, None}
 use Rattle.flu_text.specs.declared.words.Word.{Word}
 use Rattle.flu_text.specs.declared.words.Word.TheVariants as w
-use Rattle.flu_text.specs.declared.words.Reserved.{Reserved}
-use Rattle.flu_text.specs.declared.words.Reserved.TheVariants as r
+use Rattle.flu_names.specs.declared.reserved.Reserved.{Reserved}
+use Rattle.flu_names.specs.declared.reserved.Reserved.TheVariants as r
 use Rattle.flu_text.specs.declared.words.Mark.{Mark}
 use Rattle.flu_text.specs.declared.words.Mark.TheVariants as m
 use Rattle.flu_text.specs.declared.words.Token.{Token}
@@ -29,7 +29,8 @@ use Rattle.flu_syntax.specs.declared.tokens.Doing.{Doing}
 use Rattle.flu_syntax.specs.declared.tokens.Doing.TheVariants as doing
 use Rattle.flu_syntax.specs.declared.tokens.Heading.{Heading}
 use Rattle.flu_syntax.specs.declared.tokens.Heading.TheVariants as heading
-use Rattle.flu_syntax.specs.Tree.{Tree, NumberTree, ValueTree, KeyTree, TimeTree, ReadTree, HasTree, ParenTree, NegTree, NotTree, TwoTree, Deed, Writes, Clears, Emits, Flushes, Action, Declaration, Cell, Tag, Depends, On, Source, Job}
+use Rattle.flu_syntax.specs.Tree.{Tree, NumberTree, ValueTree, KeyTree, TimeTree, ReadTree, HasTree, ParenTree, NegTree, NotTree, TwoTree, Deed, Writes, Clears, Emits, Flushes, Action, Declaration, Cell, Tag, Depends, On, Source, Declarations, Job}
+use Rattle.flu_syntax.specs.Grammar.{op_level}
 
 -- the bytes that a token takes
 abbrev pub span_of : Token → WrittenSpan
@@ -56,6 +57,7 @@ pub record Tags : Type 0 where
   pub name : WrittenSpan
   pub file : WrittenSpan
   pub rate : Option WrittenNumber
+  pub slack : Option WrittenNumber
   pub all : List WrittenTag
 
 -- where an expression stands: the amount of an action, or its guard; `at` is the place of the action's first token
@@ -104,12 +106,14 @@ pub data Now : Type 0 where
   DependsFirst : Now
   DependsSecond : (a : WrittenSpan) → Now
   DependsHow : (a b : WrittenSpan) → Now
-  -- behind `source`, behind its name, behind its file, behind `rate`, behind the rate
+  -- behind `source`, behind its name, behind its file, behind `rate`, behind the rate, behind `slack`, behind the slack
   SourceName : Now
   SourceFile : (name : WrittenSpan) → Now
   SourceRate : (name file : WrittenSpan) → Now
-  SourceNumber : (name file : WrittenSpan) → Now
-  SourceColon : (name file : WrittenSpan) (rate : Option WrittenNumber) → Now
+  RateNumber : (name file : WrittenSpan) → Now
+  SourceSlack : (name file : WrittenSpan) (rate : Option WrittenNumber) → Now
+  SlackNumber : (name file : WrittenSpan) (rate : Option WrittenNumber) → Now
+  SourceColon : (name file : WrittenSpan) (rate slack : Option WrittenNumber) → Now
   -- where a tag is wanted, behind its kind, behind `[`, behind the first number, behind `..`, behind the last number, behind it
   TagKind : (so_far : Tags) → Now
   TagKeys : (so_far : Tags) (kind : WrittenSpan) → Now
@@ -143,19 +147,6 @@ pub data Next : Type 0 where
   Refused : Next
 
 -- ---- operators
-
-abbrev pub op_level : Op → ℕ
-op_level op.Either = 0
-op_level op.Both = 1
-op_level op.Less = 3
-op_level op.LessEq = 3
-op_level op.More = 3
-op_level op.MoreEq = 3
-op_level op.Same = 3
-op_level op.Differs = 3
-op_level op.Plus = 4
-op_level op.Minus = 4
-op_level op.Times = 5
 
 abbrev pub mark_operator : Mark → Option Op
 mark_operator m.Plus = Some op.Plus
@@ -193,7 +184,7 @@ is_within low level high = nat_le low level && nat_le level high
 abbrev pub acted : Actions → ℕ → Deed → Option Tree → Actions
 acted so_far at deed guard = record { kind = so_far.kind; all = so_far.all ++ record { at = at; deed = deed; guard = guard } ∷ [] }
 
-abbrev pub on_line : Actions → Job
+abbrev pub on_line : Actions → Declarations
 on_line so_far = On so_far.kind so_far.all ∷ []
 
 unfoldable pub action_step : Actions → Word → Next
@@ -269,8 +260,10 @@ take_or context low high t frames (Some o) others =
 -- an expression that no operator takes is a part of what is open
 unfoldable pub done_step : Context → Tree → List Frame → Word → Next
 done_step context t [] word = behind_step context t word
-done_step context t (NegFrame level at ∷ frames) word = take_or context level 6 (NegTree at t) frames (operator_of word) (done_step context (NegTree at t) frames word)
-done_step context t (NotFrame level at ∷ frames) word = take_or context level 2 (NotTree at t) frames (operator_of word) (done_step context (NotTree at t) frames word)
+done_step context t (NegFrame level at ∷ frames) word =
+    take_or context level 6 (NegTree at t) frames (operator_of word) (done_step context (NegTree at t) frames word)
+done_step context t (NotFrame level at ∷ frames) word =
+    take_or context level 2 (NotTree at t) frames (operator_of word) (done_step context (NotTree at t) frames word)
 done_step context t (ParenFrame level at ∷ frames) word = if is_close word then atom context level frames (ParenTree at t) else Refused
 done_step context t (RightFrame level o left ∷ frames) word =
     take_or context level (level_behind (op_level o)) (TwoTree o left t) frames (operator_of word) (done_step context (TwoTree o left t) frames word)
@@ -359,18 +352,22 @@ how_step a b t (w.Reserved r.Same) = Goes (Declared (Depends a b (relation.Same 
 how_step a b t (w.Reserved r.All) = Goes (Declared (Depends a b relation.All))
 how_step a b t _ = Refused
 
-abbrev pub source_of : WrittenSpan → WrittenSpan → Option WrittenNumber → Tags
-source_of name file rate = record { name = name; file = file; rate = rate; all = [] }
+abbrev pub source_of : WrittenSpan → WrittenSpan → Option WrittenNumber → Option WrittenNumber → Tags
+source_of name file rate slack = record { name = name; file = file; rate = rate; slack = slack; all = [] }
+
+abbrev pub slack_step : WrittenSpan → WrittenSpan → Option WrittenNumber → Word → Next
+slack_step name file rate (w.Reserved r.Slack) = Goes (SlackNumber name file rate)
+slack_step name file rate word = on_colon word (TagKind (source_of name file rate None))
 
 abbrev pub rate_step : WrittenSpan → WrittenSpan → Word → Next
-rate_step name file (w.Reserved r.Rate) = Goes (SourceNumber name file)
-rate_step name file word = on_colon word (TagKind (source_of name file None))
+rate_step name file (w.Reserved r.Rate) = Goes (RateNumber name file)
+rate_step name file word = slack_step name file None word
 
 abbrev pub listed : Tags → WrittenTag → Tags
-listed so_far t = record { name = so_far.name; file = so_far.file; rate = so_far.rate; all = so_far.all ++ t ∷ [] }
+listed so_far t = record { name = so_far.name; file = so_far.file; rate = so_far.rate; slack = so_far.slack; all = so_far.all ++ t ∷ [] }
 
-abbrev pub source_line : Tags → Job
-source_line so_far = Source so_far.name so_far.file so_far.rate so_far.all ∷ []
+abbrev pub source_line : Tags → Declarations
+source_line so_far = Source so_far.name so_far.file so_far.rate so_far.slack so_far.all ∷ []
 
 abbrev pub tags_step : Tags → Word → Next
 tags_step so_far (w.Mark m.Comma) = Goes (TagKind so_far)
@@ -417,8 +414,10 @@ step (DependsHow a b) t = how_step a b t t.word
 step SourceName t = on_name t.word (SourceFile (span_of t))
 step (SourceFile name) t = on_text t.word (SourceRate name (span_of t))
 step (SourceRate name file) t = rate_step name file t.word
-step (SourceNumber name file) t = on_number t.word (λ n. SourceColon name file (Some (number_of n t)))
-step (SourceColon name file rate) t = on_colon t.word (TagKind (source_of name file rate))
+step (RateNumber name file) t = on_number t.word (λ n. SourceSlack name file (Some (number_of n t)))
+step (SourceSlack name file rate) t = slack_step name file rate t.word
+step (SlackNumber name file rate) t = on_number t.word (λ n. SourceColon name file rate (Some (number_of n t)))
+step (SourceColon name file rate slack) t = on_colon t.word (TagKind (source_of name file rate slack))
 step (TagKind so_far) t = on_name t.word (TagKeys so_far (span_of t))
 step (TagKeys so_far kind) t = tag_keys_step so_far kind t.word
 step (TagLow so_far kind) t = on_number t.word (λ n. TagMore so_far kind (number_of n t))
@@ -442,30 +441,30 @@ step (InExpression context mode frames) t = expression_step context mode frames 
 
 -- ---- the end of a declaration
 
-abbrev pub behind_whole : Context → Tree → Option Job
+abbrev pub behind_whole : Context → Tree → Option Declarations
 behind_whole (Amount so_far at verb cell) t = Some (on_line (acted so_far at (Writes verb cell t) None))
 behind_whole (Guard so_far at deed) t = Some (on_line (acted so_far at deed (Some t)))
 
-unfoldable pub done_whole : Context → Tree → List Frame → Option Job
+unfoldable pub done_whole : Context → Tree → List Frame → Option Declarations
 done_whole context t [] = behind_whole context t
 done_whole context t (NegFrame level at ∷ frames) = done_whole context (NegTree at t) frames
 done_whole context t (NotFrame level at ∷ frames) = done_whole context (NotTree at t) frames
 done_whole context t (ParenFrame level at ∷ frames) = None
 done_whole context t (RightFrame level o left ∷ frames) = done_whole context (TwoTree o left t) frames
 
-abbrev pub expression_whole : Context → Mode → List Frame → Option Job
+abbrev pub expression_whole : Context → Mode → List Frame → Option Declarations
 expression_whole context (Want level) frames = None
 expression_whole context (Have low high t) frames = done_whole context t frames
 expression_whole context (Done t) frames = done_whole context t frames
 
-abbrev pub named_whole : Aim → WrittenRef → Option Job
+abbrev pub named_whole : Aim → WrittenRef → Option Declarations
 named_whole (ToWrite so_far at verb) cell = None
 named_whole (ToClear so_far at) cell = Some (on_line (acted so_far at (Clears cell) None))
 named_whole (ToRead context level frames) cell = done_whole context (ReadTree cell) frames
 named_whole (ToTest context level frames at) cell = done_whole context (HasTree at cell) frames
 
 -- what is declared, where a declaration may end here or begin
-unfoldable pub whole : Now → Option Job
+unfoldable pub whole : Now → Option Declarations
 whole Start = Some []
 whole (Declared d) = Some (d ∷ [])
 whole (DependsHow a b) = Some (Depends a b relation.None ∷ [])
@@ -494,39 +493,58 @@ opening heading.On = Some OnKind
 opening heading.Source = Some SourceName
 opening heading.Other = None
 
--- ---- all tokens
+-- ---- all declarations
 
-pub data Verdict : Type 0 where
-  -- the tokens are this job
-  Found : (job : Job) → Verdict
+-- what tokens are: what is found is declarations, or a whole job
+pub data Verdict (X : Type 0) : Type 0 where
+  -- the tokens are this
+  Found : (found : X) → Verdict X
   -- the token at this place cannot follow, or the end, if that is the place
-  Unexpected : (place : ℕ) → Verdict
+  Unexpected : (place : ℕ) → Verdict X
   -- a token opens one parenthesis or unary operator too many
-  TooDeep : Verdict
-
-abbrev pub place_of : ℕ → List Token → ℕ
-place_of end [] = end
-place_of end (t ∷ tokens) = t.from
+  TooDeep : Verdict X
 
 -- a token that cannot follow within a declaration begins the next one, if that one may end
-abbrev pub next_declaration : ℕ → Job → Option Job → Option Now → (Job → Now → Verdict) → Verdict
+abbrev pub next_declaration : ℕ → Declarations → Option Declarations → Option Now → (Declarations → Now → Verdict Declarations) → Verdict Declarations
 next_declaration place before None opened more = Unexpected place
 next_declaration place before (Some one) None more = Unexpected place
 next_declaration place before (Some one) (Some now) more = more (before ++ one) now
 
-abbrev pub goes_on : Token → Job → Now → Next → (Job → Now → Verdict) → Verdict
+abbrev pub goes_on : Token → Declarations → Now → Next → (Declarations → Now → Verdict Declarations) → Verdict Declarations
 goes_on t before now (Goes next) more = more before next
 goes_on t before now Deep more = TooDeep
 goes_on t before now Refused more = next_declaration t.from before (whole now) (opening (heading_of t.word)) more
 
-abbrev pub ended : ℕ → Job → Option Job → Verdict
+abbrev pub ended : ℕ → Declarations → Option Declarations → Verdict Declarations
 ended end before None = Unexpected end
 ended end before (Some one) = Found (before ++ one)
 
-unfoldable pub run : ℕ → Job → Now → List Token → Verdict
+unfoldable pub run : ℕ → Declarations → Now → List Token → Verdict Declarations
 run end before now [] = ended end before (whole now)
-run end before now (t ∷ tokens) = goes_on t before now (step now t) (λ job next. run end job next tokens)
+run end before now (t ∷ tokens) = goes_on t before now (step now t) (λ all next. run end all next tokens)
+
+-- ---- all tokens
+
+-- the declarations of a job with this version, or the same fault
+abbrev pub with_version : Option WrittenNumber → Verdict Declarations → Verdict Job
+with_version version (Found all) = Found (record { version = version; declarations = all })
+with_version version (Unexpected place) = Unexpected place
+with_version version TooDeep = TooDeep
+
+-- behind `version`
+abbrev pub numbered : ℕ → Token → Word → List Token → Verdict Job
+numbered end t (w.Number n) tokens = with_version (Some (number_of n t)) (run end [] Start tokens)
+numbered end t _ tokens = Unexpected t.from
+
+abbrev pub behind_version : ℕ → List Token → Verdict Job
+behind_version end [] = Unexpected end
+behind_version end (t ∷ tokens) = numbered end t t.word tokens
+
+abbrev pub headed : ℕ → Token → Word → List Token → Verdict Job
+headed end t (w.Reserved r.Version) tokens = behind_version end tokens
+headed end t _ tokens = with_version None (run end [] Start (t ∷ tokens))
 
 -- what the tokens of a text are, where end is the text's length
-abbrev pub verdict : ℕ → List Token → Verdict
-verdict end tokens = run end [] Start tokens
+unfoldable pub verdict : ℕ → List Token → Verdict Job
+verdict end [] = with_version None (run end [] Start [])
+verdict end (t ∷ tokens) = headed end t t.word tokens

@@ -2,7 +2,7 @@
 use Rattle.std.specs.Prelude.{◌≡◌, ◌≢◌, ℕ, ℤ, Bool, true, false, List, [], ◌∷◌, ◌++◌, ◌+◌, Option, Result, Ok, Err}
 use Rattle.flu_text.specs.declared.words.Word.{Word}
 use Rattle.flu_text.specs.declared.words.Word.TheVariants as w
-use Rattle.flu_text.specs.declared.words.Reserved.TheVariants as r
+use Rattle.flu_names.specs.declared.reserved.Reserved.TheVariants as r
 use Rattle.flu_text.specs.declared.words.Token.{Token}
 use Rattle.flu_model.specs.declared.jobs.Op.{Op}
 use Rattle.flu_syntax.specs.declared.fault.SyntaxFault.{SyntaxFault}
@@ -15,11 +15,12 @@ use Rattle.flu_syntax.specs.declared.tree.WrittenRef.{WrittenRef}
 use Rattle.flu_syntax.specs.declared.tree.WrittenKeys.{WrittenKeys}
 use Rattle.flu_syntax.specs.declared.tree.WrittenTag.{WrittenTag}
 use Rattle.flu_syntax.specs.declared.tree.WrittenRelation.{WrittenRelation}
-use Rattle.flu_syntax.specs.Tree.{Tree, ParenTree, Deed, Action, Declaration, Depends, On, Source, Job}
-use Rattle.flu_syntax.specs.Machine.{Now, Start, CellFamily, CellKeys, CellKey, CellClose, InExpression, ActionStart, ActionEnd, DeedEnd, TagKind, TagKeys, TagMore, TagClose, TagEnd, SourceRate, SourceColon, DependsHow, Actions, Tags, Context, Aim, ToWrite, Frame, ParenFrame, RightFrame, Mode, Want, Have, Done, opens, op_level, named, cell_of, tag_of, listed, source_of, acted, Verdict, Unexpected, TooDeep, run, place_of, number_of}
+use Rattle.flu_syntax.specs.Tree.{Tree, ParenTree, Deed, Action, Declaration, Depends, On, Source, Declarations}
+use Rattle.flu_syntax.specs.Grammar.{op_level, place_of}
+use Rattle.flu_syntax.specs.Machine.{Now, Start, CellFamily, CellKeys, CellKey, CellClose, InExpression, ActionStart, ActionEnd, DeedEnd, TagKind, TagKeys, TagMore, TagClose, TagEnd, SourceRate, SourceSlack, SourceColon, DependsHow, Actions, Tags, Context, Aim, ToWrite, Frame, ParenFrame, RightFrame, Mode, Want, Have, Done, opens, named, cell_of, tag_of, listed, source_of, acted, Verdict, Found, Unexpected, TooDeep, run, verdict, with_version, number_of}
 
 -- the fault tells the verdict, unless memory is wanting
-abbrev pub Tells : SyntaxFault → Verdict → Type 0
+abbrev pub Tells : {X : Type 0} → SyntaxFault → Verdict X → Type 0
 Tells (f.Unexpected place) verdict = verdict ≡ Unexpected place
 Tells f.TooDeep verdict = verdict ≡ TooDeep
 Tells f.NoMemory verdict = Unit {0}
@@ -46,9 +47,9 @@ NotNumber tokens = (n : ℤ) → NotFirst (w.Number n) tokens
 
 -- what is declared so far, and how far the declaration is
 abbrev pub Turn : Type 0
-Turn = Job × Now
+Turn = Declarations × Now
 
-abbrev pub from_turn : ℕ → Turn → List Token → Verdict
+abbrev pub from_turn : ℕ → Turn → List Token → Verdict Declarations
 from_turn end turn tokens = run end turn.0 turn.1 tokens
 
 -- A part of the grammar is read, wherever it stands: the verdict on the tokens is that on those behind the part, or the fault
@@ -60,69 +61,77 @@ Reads Where end tokens before after rest (Err fault) = (here : Where) → Tells 
 -- what stands in brackets behind a family, if anything
 abbrev pub ReadsKey : {X : Type 0} → ℕ → List Token → (X → WrittenKey) → (X → List Token) → Result X SyntaxFault → Type 0
 ReadsKey end tokens key rest result =
-    Reads (Job × Aim × WrittenSpan) end tokens (λ here. (here.0, CellKeys here.1 here.2)) (λ x here. (here.0, named here.1 (cell_of here.2 (key x)))) rest result
+    Reads (Declarations × Aim × WrittenSpan) end tokens (λ here. (here.0, CellKeys here.1 here.2))
+    (λ x here. (here.0, named here.1 (cell_of here.2 (key x)))) rest result
 
 -- the same, behind the opening bracket and before the closing one
 abbrev pub ReadsInside : {X : Type 0} → ℕ → List Token → (X → WrittenKey) → (X → List Token) → Result X SyntaxFault → Type 0
 ReadsInside end tokens key rest result =
-    Reads (Job × Aim × WrittenSpan) end tokens (λ here. (here.0, CellKey here.1 here.2)) (λ x here. (here.0, CellClose here.1 (cell_of here.2 (key x)))) rest result
+    Reads (Declarations × Aim × WrittenSpan) end tokens (λ here. (here.0, CellKey here.1 here.2))
+    (λ x here. (here.0, CellClose here.1 (cell_of here.2 (key x)))) rest result
 
 abbrev pub ReadsCell : {X : Type 0} → ℕ → List Token → (X → WrittenRef) → (X → List Token) → Result X SyntaxFault → Type 0
 ReadsCell end tokens cell rest result =
-    Reads (Job × Aim) end tokens (λ here. (here.0, CellFamily here.1)) (λ x here. (here.0, named here.1 (cell x))) rest result
+    Reads (Declarations × Aim) end tokens (λ here. (here.0, CellFamily here.1)) (λ x here. (here.0, named here.1 (cell x))) rest result
 
 -- where an expression stands, with so many parentheses and unary operators open
 pub record Inside (opened : ℕ) : Type 0 where
-  pub job : Job
+  pub before : Declarations
   pub context : Context
   pub frames : List Frame
   pub many : opens frames ≡ opened
 
 abbrev pub in_mode : {opened : ℕ} → Mode → Inside opened → Turn
-in_mode mode here = (here.job, InExpression here.context mode here.frames)
+in_mode mode here = (here.before, InExpression here.context mode here.frames)
 
 abbrev pub ReadsExpression : {X : Type 0} → ℕ → ℕ → Mode → List Token → (X → Mode) → (X → List Token) → Result X SyntaxFault → Type 0
-ReadsExpression end opened mode tokens now rest result = Reads (Inside opened) end tokens (λ here. in_mode mode here) (λ x here. in_mode (now x) here) rest result
+ReadsExpression end opened mode tokens now rest result =
+    Reads (Inside opened) end tokens (λ here. in_mode mode here) (λ x here. in_mode (now x) here) rest result
 
 -- the end of a parenthesis
 abbrev pub Closes : {X : Type 0} → ℕ → List Token → (X → List Token) → Result X SyntaxFault → Type 0
 Closes end tokens rest (Ok x) =
-    (job : Job) (context : Context) (t : Tree) (level at : ℕ) (frames : List Frame)
-    → run end job (InExpression context (Done t) (ParenFrame level at ∷ frames)) tokens ≡ run end job (InExpression context (Have level 6 (ParenTree at t)) frames) (rest x)
+    (before : Declarations) (context : Context) (t : Tree) (level at : ℕ) (frames : List Frame)
+    → run end before (InExpression context (Done t) (ParenFrame level at ∷ frames)) tokens ≡ run end before (InExpression context (Have level 6 (ParenTree at t)) frames) (rest x)
 Closes end tokens rest (Err fault) =
-    (job : Job) (context : Context) (t : Tree) (level at : ℕ) (frames : List Frame) → Tells fault (run end job (InExpression context (Done t) (ParenFrame level at ∷ frames)) tokens)
+    (before : Declarations) (context : Context) (t : Tree) (level at : ℕ) (frames : List Frame) → Tells fault
+    (run end before (InExpression context (Done t) (ParenFrame level at ∷ frames)) tokens)
 
 -- no operator of these levels stands here
 abbrev pub IsPassed : ℕ → ℕ → List Token → Type 0
 IsPassed low high tokens =
-    (end : ℕ) (job : Job) (context : Context) (t : Tree) (frames : List Frame) → run end job (InExpression context (Have low high t) frames) tokens ≡ run end job (InExpression context (Done t) frames) tokens
+    (end : ℕ) (before : Declarations) (context : Context) (t : Tree) (frames : List Frame) → run end before (InExpression context (Have low high t) frames)
+    tokens ≡ run end before (InExpression context (Done t) frames) tokens
 
 -- this one stands here
 abbrev pub IsTaken : ℕ → ℕ → List Token → Op → List Token → Type 0
 IsTaken low high tokens o rest =
-    (end : ℕ) (job : Job) (context : Context) (t : Tree) (frames : List Frame)
-    → run end job (InExpression context (Have low high t) frames) tokens ≡ run end job (InExpression context (Want (op_level o + 1)) (RightFrame low o t ∷ frames)) rest
+    (end : ℕ) (before : Declarations) (context : Context) (t : Tree) (frames : List Frame)
+    → run end before (InExpression context (Have low high t) frames) tokens ≡ run end before (InExpression context (Want (op_level o + 1)) (RightFrame low o t ∷ frames)) rest
 
 -- what an action does; its first token stands at a place
 abbrev pub ReadsWriting : {X : Type 0} → ℕ → Verb → List Token → (X → Deed) → (X → List Token) → Result X SyntaxFault → Type 0
 ReadsWriting end verb tokens deed rest result =
-    Reads (Job × Actions × ℕ) end tokens (λ here. (here.0, CellFamily (ToWrite here.1 here.2 verb))) (λ x here. (here.0, DeedEnd here.1 here.2 (deed x))) rest result
+    Reads (Declarations × Actions × ℕ) end tokens (λ here. (here.0, CellFamily (ToWrite here.1 here.2 verb)))
+    (λ x here. (here.0, DeedEnd here.1 here.2 (deed x))) rest result
 
 abbrev pub ReadsDeed : {X : Type 0} → ℕ → List Token → (X → Deed) → (X → List Token) → Result X SyntaxFault → Type 0
 ReadsDeed end tokens deed rest result =
-    Reads (Job × Actions) end tokens (λ here. (here.0, ActionStart here.1)) (λ x here. (here.0, DeedEnd here.1 (place_of end tokens) (deed x))) rest result
+    Reads (Declarations × Actions) end tokens (λ here. (here.0, ActionStart here.1)) (λ x here. (here.0, DeedEnd here.1 (place_of end tokens) (deed x))) rest
+    result
 
 abbrev pub with_action : Actions → Action → Actions
 with_action so_far a = acted so_far a.at a.deed a.guard
 
 abbrev pub ReadsAction : {X : Type 0} → ℕ → List Token → (X → Action) → (X → List Token) → Result X SyntaxFault → Type 0
 ReadsAction end tokens action rest result =
-    Reads (Job × Actions) end tokens (λ here. (here.0, ActionStart here.1)) (λ x here. (here.0, ActionEnd (with_action here.1 (action x)))) rest result
+    Reads (Declarations × Actions) end tokens (λ here. (here.0, ActionStart here.1)) (λ x here. (here.0, ActionEnd (with_action here.1 (action x)))) rest result
 
 -- an expression behind `when`, if that stands here
 abbrev pub ReadsGuard : {X : Type 0} → ℕ → List Token → (X → Option Tree) → (X → List Token) → Result X SyntaxFault → Type 0
 ReadsGuard end tokens guard rest result =
-    Reads (Job × Actions × ℕ × Deed) end tokens (λ here. (here.0, DeedEnd here.1 here.2 here.3)) (λ x here. (here.0, ActionEnd (acted here.1 here.2 here.3 (guard x)))) rest result
+    Reads (Declarations × Actions × ℕ × Deed) end tokens (λ here. (here.0, DeedEnd here.1 here.2 here.3))
+    (λ x here. (here.0, ActionEnd (acted here.1 here.2 here.3 (guard x)))) rest result
 
 abbrev pub no_actions : WrittenSpan → Actions
 no_actions kind = record { kind = kind; all = [] }
@@ -130,42 +139,53 @@ no_actions kind = record { kind = kind; all = [] }
 -- actions to the end of their declaration
 abbrev pub ReadsActions : {X : Type 0} → ℕ → List Token → (X → List Action) → (X → List Token) → Result X SyntaxFault → Type 0
 ReadsActions end tokens actions rest result =
-    Reads (Job × WrittenSpan) end tokens (λ here. (here.0, ActionStart (no_actions here.1))) (λ x here. (here.0 ++ On here.1 (actions x) ∷ [], Start)) rest result
+    Reads (Declarations × WrittenSpan) end tokens (λ here. (here.0, ActionStart (no_actions here.1)))
+    (λ x here. (here.0 ++ On here.1 (actions x) ∷ [], Start)) rest result
 
 -- what stands in brackets behind a kind, if anything
 abbrev pub ReadsKeys : {X : Type 0} → ℕ → List Token → (X → WrittenKeys) → (X → List Token) → Result X SyntaxFault → Type 0
 ReadsKeys end tokens keys rest result =
-    Reads (Job × Tags × WrittenSpan) end tokens (λ here. (here.0, TagKeys here.1 here.2)) (λ x here. (here.0, TagEnd (listed here.1 (tag_of here.2 (keys x))))) rest result
+    Reads (Declarations × Tags × WrittenSpan) end tokens (λ here. (here.0, TagKeys here.1 here.2))
+    (λ x here. (here.0, TagEnd (listed here.1 (tag_of here.2 (keys x))))) rest result
 
 -- the same, behind the first number and before the closing bracket
 abbrev pub ReadsRange : {X : Type 0} → ℕ → WrittenNumber → List Token → (X → WrittenKeys) → (X → List Token) → Result X SyntaxFault → Type 0
 ReadsRange end low tokens keys rest result =
-    Reads (Job × Tags × WrittenSpan) end tokens (λ here. (here.0, TagMore here.1 here.2 low)) (λ x here. (here.0, TagClose here.1 here.2 (keys x))) rest result
+    Reads (Declarations × Tags × WrittenSpan) end tokens (λ here. (here.0, TagMore here.1 here.2 low)) (λ x here. (here.0, TagClose here.1 here.2 (keys x)))
+    rest result
 
 abbrev pub ReadsTag : {X : Type 0} → ℕ → List Token → (X → WrittenTag) → (X → List Token) → Result X SyntaxFault → Type 0
 ReadsTag end tokens tag rest result =
-    Reads (Job × Tags) end tokens (λ here. (here.0, TagKind here.1)) (λ x here. (here.0, TagEnd (listed here.1 (tag x)))) rest result
+    Reads (Declarations × Tags) end tokens (λ here. (here.0, TagKind here.1)) (λ x here. (here.0, TagEnd (listed here.1 (tag x)))) rest result
 
 -- where the tags of a source stand
 pub record Head : Type 0 where
-  pub job : Job
+  pub before : Declarations
   pub name : WrittenSpan
   pub file : WrittenSpan
   pub rate : Option WrittenNumber
+  pub slack : Option WrittenNumber
 
 -- tags to the end of their declaration
 abbrev pub ReadsTags : {X : Type 0} → ℕ → List Token → (X → List WrittenTag) → (X → List Token) → Result X SyntaxFault → Type 0
 ReadsTags end tokens tags rest result =
-    Reads Head end tokens (λ here. (here.job, TagKind (source_of here.name here.file here.rate))) (λ x here. (here.job ++ Source here.name here.file here.rate (tags x) ∷ [], Start)) rest result
+    Reads Head end tokens (λ here. (here.before, TagKind (source_of here.name here.file here.rate here.slack)))
+    (λ x here. (here.before ++ Source here.name here.file here.rate here.slack (tags x) ∷ [], Start)) rest result
 
 abbrev pub ReadsRate : {X : Type 0} → ℕ → List Token → (X → Option WrittenNumber) → (X → List Token) → Result X SyntaxFault → Type 0
 ReadsRate end tokens rate rest result =
-    Reads (Job × WrittenSpan × WrittenSpan) end tokens (λ here. (here.0, SourceRate here.1 here.2)) (λ x here. (here.0, SourceColon here.1 here.2 (rate x))) rest result
+    Reads (Declarations × WrittenSpan × WrittenSpan) end tokens (λ here. (here.0, SourceRate here.1 here.2))
+    (λ x here. (here.0, SourceSlack here.1 here.2 (rate x))) rest result
+
+abbrev pub ReadsSlack : {X : Type 0} → ℕ → List Token → (X → Option WrittenNumber) → (X → List Token) → Result X SyntaxFault → Type 0
+ReadsSlack end tokens slack rest result =
+    Reads (Declarations × WrittenSpan × WrittenSpan × Option WrittenNumber) end tokens (λ here. (here.0, SourceSlack here.1 here.2 here.3))
+    (λ x here. (here.0, SourceColon here.1 here.2 here.3 (slack x))) rest result
 
 -- a declaration, from this turn to its end
 abbrev pub ReadsDeclaration : {X : Type 0} → ℕ → Now → List Token → (X → Declaration) → (X → List Token) → Result X SyntaxFault → Type 0
 ReadsDeclaration end now tokens declaration rest result =
-    Reads Job end tokens (λ job. (job, now)) (λ x job. (job ++ declaration x ∷ [], Start)) rest result
+    Reads Declarations end tokens (λ before. (before, now)) (λ x before. (before ++ declaration x ∷ [], Start)) rest result
 
 -- whether `keyed` stands here, and what stands behind it
 abbrev pub TakesKeyed : List Token → Bool → List Token → Type 0
@@ -174,4 +194,15 @@ TakesKeyed tokens false rest = (rest ≡ tokens) × NotFirst (w.Reserved r.Keyed
 
 -- the relation of two kinds, to the end of their declaration
 abbrev pub ReadsRelation : List Token → WrittenRelation → List Token → Type 0
-ReadsRelation tokens how rest = (end : ℕ) (job : Job) (a b : WrittenSpan) → run end job (DependsHow a b) tokens ≡ run end (job ++ Depends a b how ∷ []) Start rest
+ReadsRelation tokens how rest =
+    (end : ℕ) (before : Declarations) (a b : WrittenSpan) → run end before (DependsHow a b) tokens ≡ run end (before ++ Depends a b how ∷ []) Start rest
+
+-- all declarations, to the end of the tokens
+abbrev pub ReadsDeclarations : {X : Type 0} → ℕ → List Token → (X → Declarations) → Result X SyntaxFault → Type 0
+ReadsDeclarations end tokens declarations (Ok x) = run end [] Start tokens ≡ Found (declarations x)
+ReadsDeclarations end tokens declarations (Err fault) = Tells fault (run end [] Start tokens)
+
+-- the version of a job, if one is written: the verdict on all tokens is that on the declarations behind it, or the fault tells it
+abbrev pub ReadsVersion : {X : Type 0} → ℕ → List Token → (X → Option WrittenNumber) → (X → List Token) → Result X SyntaxFault → Type 0
+ReadsVersion end tokens version rest (Ok x) = verdict end tokens ≡ with_version (version x) (run end [] Start (rest x))
+ReadsVersion end tokens version rest (Err fault) = Tells fault (verdict end tokens)

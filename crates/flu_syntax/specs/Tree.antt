@@ -16,6 +16,7 @@ use Rattle.flu_syntax.specs.declared.tree.WrittenAct.TheVariants as act
 use Rattle.flu_syntax.specs.declared.tree.WrittenAction.{WrittenAction}
 use Rattle.flu_syntax.specs.declared.tree.WrittenDeclaration.{WrittenDeclaration}
 use Rattle.flu_syntax.specs.declared.tree.WrittenDeclaration.TheVariants as declaration
+use Rattle.flu_syntax.specs.declared.tree.WrittenJob.{WrittenJob}
 
 -- an expression, with the places of its words
 pub data Tree : Type 0 where
@@ -71,18 +72,22 @@ pub data Declaration : Type 0 where
   Tag : (name : WrittenSpan) (keyed has_value : Bool) → Declaration
   Depends : (a b : WrittenSpan) (relation : WrittenRelation) → Declaration
   On : (kind : WrittenSpan) (actions : List Action) → Declaration
-  Source : (name file : WrittenSpan) (rate : Option WrittenNumber) (tags : List WrittenTag) → Declaration
+  Source : (name file : WrittenSpan) (rate slack : Option WrittenNumber) (tags : List WrittenTag) → Declaration
 
 abbrev pub declaration_of : WrittenDeclaration → Declaration
 declaration_of (declaration.Cell name keyed sort) = Cell name keyed sort
 declaration_of (declaration.Tag name keyed has_value) = Tag name keyed has_value
 declaration_of (declaration.Depends a b relation) = Depends a b relation
 declaration_of (declaration.On kind actions) = On kind (map action_of actions)
-declaration_of (declaration.Source name file rate tags) = Source name file rate tags
+declaration_of (declaration.Source name file rate slack tags) = Source name file rate slack tags
 
--- a whole job
-abbrev pub Job : Type 0
-Job = List Declaration
+abbrev pub Declarations : Type 0
+Declarations = List Declaration
 
-abbrev pub job_of : List WrittenDeclaration → Job
-job_of all = map declaration_of all
+-- a whole job: the number behind `version`, if that is written, and the declarations
+pub record Job : Type 0 where
+  pub version : Option WrittenNumber
+  pub declarations : Declarations
+
+abbrev pub job_of : WrittenJob → Job
+job_of job = record { version = job.version; declarations = map declaration_of job.declarations }

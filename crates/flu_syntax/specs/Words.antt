@@ -1,7 +1,7 @@
 -- The names, the texts and the numbers that a job keeps, as signs: what is left of its spelling without the words that are the
 -- same in every job.
 use Rattle.std.specs.Prelude.{List, [], ◌++◌, Option, Some, None, Contains}
-use Rattle.std.specs.List.{flat_map, AllByRecursion}
+use Rattle.std.specs.List.{flat_map}
 use Rattle.flu_text.specs.declared.words.Token.{Token}
 use Rattle.flu_syntax.specs.declared.tree.WrittenNumber.{WrittenNumber}
 use Rattle.flu_syntax.specs.declared.tree.WrittenKey.{WrittenKey}
@@ -11,7 +11,7 @@ use Rattle.flu_syntax.specs.declared.tree.WrittenKeys.{WrittenKeys}
 use Rattle.flu_syntax.specs.declared.tree.WrittenKeys.TheVariants as keys
 use Rattle.flu_syntax.specs.declared.tree.WrittenTag.{WrittenTag}
 use Rattle.flu_syntax.specs.Tree.{Tree, NumberTree, ValueTree, KeyTree, TimeTree, ReadTree, HasTree, ParenTree, NegTree, NotTree, TwoTree, Deed, Writes, Clears, Emits, Flushes, Action, Declaration, Cell, Tag, Depends, On, Source, Job}
-use Rattle.flu_syntax.specs.Grammar.{Sign, IsSign, name, text, number, IsJob}
+use Rattle.flu_syntax.specs.Grammar.{Sign, IsSign, name, text, number}
 
 -- those of a cell: its family's name, and perhaps the number in its brackets
 abbrev pub key_words : WrittenKey → List Sign
@@ -58,10 +58,10 @@ keys_words (keys.Range low high) = number low ++ number high
 abbrev pub tag_words : WrittenTag → List Sign
 tag_words t = name t.kind ++ keys_words t.keys
 
--- that of a rate, if one is written
-abbrev pub rate_words : Option WrittenNumber → List Sign
-rate_words None = []
-rate_words (Some n) = number n
+-- that of a version, a rate or a slack, if one is written
+abbrev pub number_words : Option WrittenNumber → List Sign
+number_words None = []
+number_words (Some n) = number n
 
 -- those of a declaration, and of a whole job
 abbrev pub declaration_words : Declaration → List Sign
@@ -69,15 +69,11 @@ declaration_words (Cell n keyed sort) = name n
 declaration_words (Tag n keyed has_value) = name n
 declaration_words (Depends a b relation) = name a ++ name b
 declaration_words (On kind actions) = name kind ++ flat_map action_words actions
-declaration_words (Source n file rate tags) = name n ++ text file ++ rate_words rate ++ flat_map tag_words tags
+declaration_words (Source n file rate slack tags) = name n ++ text file ++ number_words rate ++ number_words slack ++ flat_map tag_words tags
 
 abbrev pub job_words : Job → List Sign
-job_words job = flat_map declaration_words job
+job_words job = number_words job.version ++ flat_map declaration_words job.declarations
 
 -- one of the tokens is what the sign stands for
 abbrev pub Stands : List Token → Sign → Type 0
 Stands tokens s = (t : Token) × Contains tokens t × IsSign s t
-
--- each name, text and number of a job is a token of the tokens that are the job
-abbrev pub WordsStand : Type 0
-WordsStand = (tokens : List Token) (job : Job) → IsJob tokens job → AllByRecursion (Stands tokens) (job_words job)

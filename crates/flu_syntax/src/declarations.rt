@@ -3,7 +3,7 @@
 ghost use Rattle.std.specs.Prelude.{◌≡◌, ◌≤◌, ◌<◌, length, map, option_map, IfOk, MatchOption};
 ghost use Rattle.flu_syntax.specs.Tree.{view, deed_of, Writes, action_of, declaration_of};
 ghost use Rattle.flu_syntax.specs.Machine.{Start, CellName, TagName, DependsFirst, OnKind, SourceName};
-ghost use Rattle.flu_syntax.specs.Reading.{ReadsWriting, ReadsDeed, ReadsGuard, ReadsAction, ReadsActions, ReadsRange, ReadsKeys, ReadsTag, ReadsTags, ReadsRate, ReadsRelation, ReadsDeclaration, IsFirst, NotFirst, TakesKeyed};
+ghost use Rattle.flu_syntax.specs.Reading.{ReadsWriting, ReadsDeed, ReadsGuard, ReadsAction, ReadsActions, ReadsRange, ReadsKeys, ReadsTag, ReadsTags, ReadsRate, ReadsSlack, ReadsRelation, ReadsDeclaration, IsFirst, NotFirst, TakesKeyed};
 
 use crate::cells::cell;
 use crate::expressions::expression;
@@ -292,6 +292,18 @@ fn rate(tokens: &[Token], end: usize) -> Result<(Option<WrittenNumber>, &[Token]
     Ok((Some(rate), rest))
 }
 
+/// The slack of a source, if one is written.
+fn slack(tokens: &[Token], end: usize) -> Result<(Option<WrittenNumber>, &[Token]), SyntaxFault>
+    ensures run { ReadsSlack end tokens.now (λ x. x.0) (λ x. x.1.now) result }
+    ensures shorter { IfOk result (λ x. length x.1.now ≤ length tokens.now) }
+{
+    let Some((_, rest)) = take(tokens, Word::Reserved(Reserved::Slack)) else {
+        return Ok((None, tokens));
+    };
+    let (slack, rest) = number(rest, end)?;
+    Ok((Some(slack), rest))
+}
+
 /// A source, behind its first word.
 fn source_line(
     alloc: Global,
@@ -304,6 +316,7 @@ fn source_line(
     let (word, rest) = expect(tokens, end, Word::Name)?;
     let (text, rest) = expect(rest, end, Word::Text)?;
     let (rate, rest) = rate(rest, end)?;
+    let (slack, rest) = slack(rest, end)?;
     let (_, rest) = expect(rest, end, Word::Mark(Mark::Colon))?;
     let (tags, rest) = tags(alloc, rest, end)?;
     let name = span_of(word);
@@ -313,6 +326,7 @@ fn source_line(
             name,
             file,
             rate,
+            slack,
             tags,
         },
         rest,

@@ -1,7 +1,6 @@
 //! Laws of the grammar, each the contract of a function that does nothing.
 
-ghost use Rattle.flu_syntax.specs.Grammar.{FoundIsJob, JobsAreUnique, UnexpectedIsFirst};
-ghost use Rattle.flu_syntax.specs.Words.{WordsStand};
+ghost use Rattle.flu_syntax.specs.Laws.{FoundIsJob, JobsAreUnique, UnexpectedIsFirst, SignsStand, WordsStand};
 
 /// What is found is exactly what the tokens are by the grammar, word by word and place by place; and that is one job at most.
 pub fn found_is_job()
@@ -13,6 +12,11 @@ pub fn found_is_job()
 /// end, they can be and are none yet.
 pub fn unexpected_is_first()
     ensures { UnexpectedIsFirst }
+{}
+
+/// Where tokens are signs, one by one, each sign stands for one of the tokens.
+pub fn signs_stand()
+    ensures { SignsStand }
 {}
 
 /// Each span of a job that is a name is the span of a name's token, each that is a text that of a text's, and each number is

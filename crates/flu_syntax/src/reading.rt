@@ -1,37 +1,37 @@
 //! The job that all tokens of a text are.
 
-ghost use Rattle.std.specs.Prelude.{◌≡◌, ℕ, IfOk, MatchResult};
-ghost use Rattle.flu_syntax.specs.Tree.{job_of};
+ghost use Rattle.std.specs.Prelude.{◌≡◌, ℕ, map, IfOk, MatchResult};
+ghost use Rattle.flu_syntax.specs.Tree.{job_of, declaration_of};
 ghost use Rattle.flu_syntax.specs.Grammar.{IsJob, IsFirstThatCannotFollow};
 ghost use Rattle.flu_syntax.specs.Machine.{verdict, Found};
-ghost use Rattle.flu_syntax.specs.Reading.{Tells};
+ghost use Rattle.flu_syntax.specs.Reading.{ReadsVersion, ReadsDeclarations, Tells};
 
 use crate::declarations::declaration;
 use crate::fault::SyntaxFault;
-use crate::tree::WrittenDeclaration;
-use flu_text::Token;
+use crate::tokens::{number, take};
+use crate::tree::{WrittenDeclaration, WrittenJob, WrittenNumber};
+use flu_model::List;
+use flu_text::{Reserved, Token, Word};
 use std::alloc::Global;
 
-/// The declarations that the tokens of a text are, in order; `end` is the text's length in bytes. The grammar is that of
-/// `docs/LANGUAGE.md`.
-///
-/// # Errors
-///
-/// [`SyntaxFault::Unexpected`] at the first token with which the tokens before it can no longer be continued to a job, or at
-/// `end` where all of them can and are none yet. [`SyntaxFault::TooDeep`] where, before that, a token opens the 65th parenthesis
-/// or unary operator at once. [`SyntaxFault::NoMemory`] where memory is wanting.
-pub fn read_syntax(
+/// The version of a job, if one is written.
+fn version(tokens: &[Token], end: usize) -> Result<(Option<WrittenNumber>, &[Token]), SyntaxFault>
+    ensures run { ReadsVersion end tokens.now (λ x. x.0) (λ x. x.1.now) result }
+{
+    let Some((_, rest)) = take(tokens, Word::Reserved(Reserved::Version)) else {
+        return Ok((None, tokens));
+    };
+    let (version, rest) = number(rest, end)?;
+    Ok((Some(version), rest))
+}
+
+/// Declarations up to the end.
+fn declarations(
     alloc: Global,
     tokens: &[Token],
     end: usize,
-) -> Result<Vec<WrittenDeclaration>, SyntaxFault>
-    // The declarations are the job that the tokens are, and no other.
-    ensures job { IfOk result (λ found. IsJob tokens.now (job_of found.items)) }
-    // The place of the first token with which the tokens may no longer go on.
-    ensures unexpected { (at : ℕ) → result ≡ Err (SyntaxFault.Unexpected at) → IsFirstThatCannotFollow end tokens.now at }
-
-    // All that is told, but want of memory, is the verdict on the tokens.
-    ensures verdict { MatchResult result (λ found. verdict end tokens.now ≡ Found (job_of found.items)) (λ fault. Tells fault (verdict end tokens.now)) }
+) -> Result<List<WrittenDeclaration>, SyntaxFault>
+    ensures run { ReadsDeclarations end tokens.now (λ found. map declaration_of found) result }
 {
     let mut all = Vec::new(alloc);
     let mut rest = tokens;
@@ -40,5 +40,29 @@ pub fn read_syntax(
         all.push(declaration).map_err(|_| SyntaxFault::NoMemory)?;
         rest = behind;
     }
-    Ok(all)
+    Ok(List::of(all))
+}
+
+/// The job that the tokens of a text are; `end` is the text's length in bytes. The grammar is that of `docs/LANGUAGE.md`.
+///
+/// # Errors
+///
+/// [`SyntaxFault::Unexpected`] at the first token with which the tokens before it can no longer be continued to a job, or at
+/// `end` where all of them can and are none yet. [`SyntaxFault::TooDeep`] where, before that, a token opens the 65th parenthesis
+/// or unary operator at once. [`SyntaxFault::NoMemory`] where memory is wanting.
+pub fn read_syntax(alloc: Global, tokens: &[Token], end: usize) -> Result<WrittenJob, SyntaxFault>
+    // What is found is the job that the tokens are, and no other.
+    ensures job { IfOk result (λ found. IsJob tokens.now (job_of found)) }
+    // The place of the first token with which the tokens may no longer go on.
+    ensures unexpected { (at : ℕ) → result ≡ Err (SyntaxFault.Unexpected at) → IsFirstThatCannotFollow end tokens.now at }
+
+    // All that is told, but want of memory, is the verdict on the tokens.
+    ensures verdict { MatchResult result (λ found. verdict end tokens.now ≡ Found (job_of found)) (λ fault. Tells fault (verdict end tokens.now)) }
+{
+    let (version, rest) = version(tokens, end)?;
+    let declarations = declarations(alloc, rest, end)?;
+    Ok(WrittenJob {
+        version,
+        declarations,
+    })
 }

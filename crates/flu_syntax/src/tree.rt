@@ -1,23 +1,23 @@
-//! A job as it is written: declarations whose names and texts are spans of bytes of the job text.
+//! A job as it is written: a version, and declarations whose names and texts are spans of bytes of the job text.
 
 use flu_model::{List, Op, Sort};
 
 /// Bytes of the text, from one place to before another: a name, or a text with its quotes.
-#[derive(Clone, Copy, Debug, PartialEq, Eq)]
+#[derive(Clone, Copy, PartialEq, Eq)]
 pub struct WrittenSpan {
     pub from: usize,
     pub to: usize,
 }
 
 /// A number, and the place of its first digit.
-#[derive(Clone, Copy, Debug, PartialEq, Eq)]
+#[derive(Clone, Copy, PartialEq, Eq)]
 pub struct WrittenNumber {
     pub value: i64,
     pub at: usize,
 }
 
 /// What stands in brackets behind a family's name, if anything: `key`, by the place of that word, or a number.
-#[derive(Clone, Copy, Debug, PartialEq, Eq)]
+#[derive(Clone, Copy, PartialEq, Eq)]
 pub enum WrittenKey {
     Alone,
     OwnKey { at: usize },
@@ -25,14 +25,13 @@ pub enum WrittenKey {
 }
 
 /// A cell: a family's name and what stands in brackets.
-#[derive(Clone, Copy, Debug, PartialEq, Eq)]
+#[derive(Clone, Copy, PartialEq, Eq)]
 pub struct WrittenRef {
     pub family: WrittenSpan,
     pub key: WrittenKey,
 }
 
 /// An expression; `at` is the place of a word that stands alone. Parentheses are kept, so that a tree has one spelling.
-#[derive(Debug)]
 pub enum WrittenExpr {
     Number(WrittenNumber),
     Value { at: usize },
@@ -68,7 +67,7 @@ impl Drop for WrittenExpr {
 }
 
 /// What an action does.
-#[derive(Debug, Drop)]
+#[derive(Drop)]
 pub enum WrittenAct {
     Add(WrittenRef, WrittenExpr),
     Raise(WrittenRef, WrittenExpr),
@@ -79,7 +78,7 @@ pub enum WrittenAct {
 }
 
 /// An action, with the place of its first token, and its guard.
-#[derive(Debug, Drop)]
+#[derive(Drop)]
 pub struct WrittenAction {
     pub at: usize,
     pub act: WrittenAct,
@@ -87,7 +86,7 @@ pub struct WrittenAction {
 }
 
 /// The keys that a tag reference lists.
-#[derive(Clone, Copy, Debug, PartialEq, Eq)]
+#[derive(Clone, Copy, PartialEq, Eq)]
 pub enum WrittenKeys {
     Alone,
     One(WrittenNumber),
@@ -95,7 +94,7 @@ pub enum WrittenKeys {
 }
 
 /// Tags of one kind that a source lists.
-#[derive(Clone, Copy, Debug, PartialEq, Eq)]
+#[derive(Clone, Copy, PartialEq, Eq)]
 pub struct WrittenTag {
     pub kind: WrittenSpan,
     pub keys: WrittenKeys,
@@ -103,7 +102,7 @@ pub struct WrittenTag {
 
 /// A declaration. The relation of a `depends` is `same` where that word stands, by its place; a written `all` means the
 /// same as none, so it is kept only as that word.
-#[derive(Debug, Drop)]
+#[derive(Drop)]
 pub enum WrittenDeclaration {
     Cell {
         name: WrittenSpan,
@@ -128,14 +127,22 @@ pub enum WrittenDeclaration {
         name: WrittenSpan,
         file: WrittenSpan,
         rate: Option<WrittenNumber>,
+        slack: Option<WrittenNumber>,
         tags: List<WrittenTag>,
     },
 }
 
 /// The relation of a `depends`, as it is written.
-#[derive(Clone, Copy, Debug, PartialEq, Eq)]
+#[derive(Clone, Copy, PartialEq, Eq)]
 pub enum WrittenRelation {
     None,
     All,
     Same { at: usize },
+}
+
+/// A whole job: the number behind `version`, if that is written, and the declarations in order.
+#[derive(Drop)]
+pub struct WrittenJob {
+    pub version: Option<WrittenNumber>,
+    pub declarations: List<WrittenDeclaration>,
 }

@@ -1,4 +1,3 @@
-pub mod Digits
 pub mod Tables
 pub mod Spelled
 pub mod Front
@@ -7,3 +6,4 @@ pub mod Places
 pub mod Readings
 pub mod Spans
 pub mod Laid
+pub mod Names

@@ -7,13 +7,14 @@ use Rattle.std.specs.Str.{bytes_eq}
 use Rattle.std.proofs.lemmas.Bool.{lt-leb}
 use Rattle.std.proofs.lemmas.Bool.Decides.{nat_tests}
 use Rattle.std.proofs.lemmas.Slice.Eq.{bytes_eq-Decides}
-use Rattle.flu_text.specs.declared.words.Reserved.{Reserved}
-use Rattle.flu_text.specs.declared.words.Reserved.TheVariants as r
+use Rattle.flu_names.specs.declared.reserved.Reserved.{Reserved}
+use Rattle.flu_names.specs.declared.reserved.Reserved.TheVariants as r
 use Rattle.flu_text.specs.declared.words.Mark.{Mark}
 use Rattle.flu_text.specs.declared.words.Mark.TheVariants as m
-use Rattle.flu_text.specs.Spelling.{reserved_spelling, reserved_words, mark_spelling, marks}
-use Rattle.flu_text.specs.Grammar.{quote, number_sign, is_blank, is_name_start, is_name_byte}
-use Rattle.flu_text.specs.Lexeme.{reserved_of, mark_of}
+use Rattle.flu_text.specs.Spelling.{mark_spelling, marks}
+use Rattle.flu_names.specs.Names.{reserved_spelling, reserved_words, is_name_start, is_name_byte, reserved_of}
+use Rattle.flu_text.specs.Grammar.{quote, number_sign, is_blank}
+use Rattle.flu_text.specs.Lexeme.{mark_of}
 use Rattle.flu_text.specs.Layout.{NotFirst, makes_longer}
 use Rattle.flu_lemmas.proofs.Tests.{not_true}
 use Rattle.flu_lemmas.proofs.Prefixes.{find_all, find_passes}
@@ -57,7 +58,8 @@ reserved_of-spelling r.Slack = refl
 -- a test that all reserved words pass
 pub each_reserved : (q : Reserved → Bool) (word : Reserved) → list_all q reserved_words ≡ true → q word ≡ true
 unfolding reserved_of
-each_reserved q word all = find_all (λ (r : Reserved). bytes_eq (reserved_spelling r) (reserved_spelling word)) q reserved_words word (reserved_of-spelling word) all
+each_reserved q word all =
+    find_all (λ (r : Reserved). bytes_eq (reserved_spelling r) (reserved_spelling word)) q reserved_words word (reserved_of-spelling word) all
 
 pub reserved_bytes : (word : Reserved) → list_all is_name_byte (reserved_spelling word) ≡ true
 reserved_bytes word = each_reserved (λ (r : Reserved). list_all is_name_byte (reserved_spelling r)) word refl
@@ -113,7 +115,8 @@ nothing_behind mark = mark_of-spelling mark [] tt
 -- a test that all marks pass
 pub each_mark : (q : Mark → Bool) (mark : Mark) → list_all q marks ≡ true → q mark ≡ true
 unfolding mark_of
-each_mark q mark all = find_all (λ (m : Mark). bytes_eq (mark_spelling m) (take (length (mark_spelling m)) (mark_spelling mark ++ []))) q marks mark (nothing_behind mark) all
+each_mark q mark all =
+    find_all (λ (m : Mark). bytes_eq (mark_spelling m) (take (length (mark_spelling m)) (mark_spelling mark ++ []))) q marks mark (nothing_behind mark) all
 
 -- no mark begins as another token, a blank or a comment
 abbrev begins_a_mark : ℕ → Bool

@@ -1,15 +1,16 @@
 -- The lexical grammar, as relations: which bytes spell which word, where a token stands in a text, and what stands between tokens.
-use Rattle.std.specs.Prelude.{◌≡◌, ◌≢◌, ◌⊎◌, ℕ, ◌+◌, ◌-◌, ◌<◌, ◌≤◌, ◌^◌, Bool, ◌||◌, ◌&&◌, not, ◌==◌, nat_le, IsTrue, ℤ, pos, List, [], ◌∷◌, ◌++◌, length, slice_index, slice_range}
-use Rattle.std.specs.Char.{is_ascii_alphabetic, is_ascii_alphanumeric, is_ascii_digit}
+use Rattle.std.specs.Prelude.{◌≡◌, ◌≢◌, ◌⊎◌, ℕ, ◌+◌, ◌-◌, ◌<◌, ◌≤◌, ◌^◌, Bool, ◌||◌, ◌==◌, IsTrue, ℤ, pos, List, [], ◌∷◌, ◌++◌, length, slice_index, slice_range}
+use Rattle.std.specs.Char.{is_ascii_digit}
 use Rattle.std.specs.List.{list_all, AllAdjacentBelow}
 use Rattle.std.specs.Str.{IsCharBoundary}
 use Rattle.std.specs.Str.Parse.{digits_value}
-use Rattle.flu_text.specs.declared.words.Reserved.{Reserved}
+use Rattle.flu_names.specs.declared.reserved.Reserved.{Reserved}
 use Rattle.flu_text.specs.declared.words.Mark.{Mark}
 use Rattle.flu_text.specs.declared.words.Word.{Word}
 use Rattle.flu_text.specs.declared.words.Word.TheVariants as w
 use Rattle.flu_text.specs.declared.words.Token.{Token}
-use Rattle.flu_text.specs.Spelling.{reserved_spelling, mark_spelling}
+use Rattle.flu_text.specs.Spelling.{mark_spelling}
+use Rattle.flu_names.specs.Names.{is_name_start, is_name_byte, is_text_byte, reserved_spelling}
 
 -- the bytes of `"`, of `#` and of a line feed
 abbrev pub quote : ℕ
@@ -24,18 +25,6 @@ line_feed = 10
 -- space, tab, carriage return, line feed
 abbrev pub is_blank : ℕ → Bool
 is_blank b = (b == 32) || (b == 9) || (b == 13) || (b == 10)
-
--- a letter or `_`
-abbrev pub is_name_start : ℕ → Bool
-is_name_start b = is_ascii_alphabetic b || (b == 95)
-
--- a letter, a digit or `_`
-abbrev pub is_name_byte : ℕ → Bool
-is_name_byte b = is_ascii_alphanumeric b || (b == 95)
-
--- a byte of a character that may stand in a text: neither `"` nor below U+0020 nor U+007F
-abbrev pub is_text_byte : ℕ → Bool
-is_text_byte b = nat_le 32 b && not (b == 34) && not (b == 127)
 
 -- there is a first byte, and it passes
 abbrev pub Starts : (ℕ → Bool) → List ℕ → Type 0

@@ -1,8 +1,10 @@
 -- What holds of every text.
-use Rattle.std.specs.Prelude.{◌≡◌, ◌↔◌, ℕ, List, map, All, Ok, Err}
+use Rattle.std.specs.Prelude.{◌≡◌, ◌↔◌, ℕ, true, List, map, All, Some, Ok, Err}
 use Rattle.std.specs.Str.{IsUtf8}
+use Rattle.flu_names.specs.declared.reserved.Reserved.{Reserved}
+use Rattle.flu_names.specs.Names.{reserved_spelling, reserved_of, is_name}
 use Rattle.flu_text.specs.declared.words.Token.{Token}
-use Rattle.flu_text.specs.Grammar.{bytes_of, AreTokens, IsFirstBadPlace, IsToken, IsSpan, IsInsideOfText, Rise}
+use Rattle.flu_text.specs.Grammar.{bytes_of, IsName, AreTokens, IsFirstBadPlace, IsToken, IsSpan, IsInsideOfText, Rise}
 use Rattle.flu_text.specs.Reading.{reading}
 use Rattle.flu_text.specs.Layout.{Piece, layout, tokens_of, IsLaid}
 
@@ -49,3 +51,11 @@ LayoutIsRead = (ps : List Piece) → IsLaid ps → reading (layout ps) ≡ Ok (t
 -- and the bytes of those tokens are the spellings of the words
 abbrev pub LayoutIsSpelled : Type 0
 LayoutIsSpelled = (ps : List Piece) → map (bytes_of (layout ps)) (tokens_of 0 ps) ≡ map (λ p. p.spelling) ps
+
+-- the names of the lexical grammar are those that pass the test of a name
+abbrev pub NamesAreTested : Type 0
+NamesAreTested = (s : List ℕ) → (is_name s ≡ true) ↔ IsName s
+
+-- and the reserved word that is found is the one that is spelled so
+abbrev pub ReservedIsSpelled : Type 0
+ReservedIsSpelled = (s : List ℕ) (word : Reserved) → (reserved_of s ≡ Some word) ↔ (s ≡ reserved_spelling word)

@@ -7,7 +7,8 @@ use Rattle.flu_text.specs.declared.words.Mark.TheVariants as m
 use Rattle.flu_text.specs.declared.words.Word.{Word}
 use Rattle.flu_text.specs.declared.words.Word.TheVariants as w
 use Rattle.flu_text.specs.declared.words.Token.{Token}
-use Rattle.flu_text.specs.Grammar.{is_blank, is_name_byte, Spells}
+use Rattle.flu_text.specs.Grammar.{is_blank, Spells}
+use Rattle.flu_names.specs.Names.{is_name_byte}
 
 -- the first byte, if there is one, does not pass
 abbrev pub NotFirst : (ℕ → Bool) → List ℕ → Type 0

@@ -4,16 +4,12 @@ use Rattle.std.specs.Char.{is_ascii_digit}
 use Rattle.std.specs.List.{prefix_len}
 use Rattle.std.specs.Str.{bytes_eq}
 use Rattle.std.specs.Str.Parse.{digits_value}
-use Rattle.flu_text.specs.declared.words.Reserved.{Reserved}
 use Rattle.flu_text.specs.declared.words.Mark.{Mark}
 use Rattle.flu_text.specs.declared.words.Word.{Word}
 use Rattle.flu_text.specs.declared.words.Word.TheVariants as w
-use Rattle.flu_text.specs.Spelling.{reserved_spelling, reserved_words, mark_spelling, marks}
-use Rattle.flu_text.specs.Grammar.{quote, is_name_start, is_name_byte, is_text_byte}
-
--- the reserved word that is spelled so
-unfoldable pub reserved_of : List ℕ → Option Reserved
-reserved_of name = find (λ r. bytes_eq (reserved_spelling r) name) reserved_words
+use Rattle.flu_text.specs.Spelling.{mark_spelling, marks}
+use Rattle.flu_text.specs.Grammar.{quote}
+use Rattle.flu_names.specs.Names.{is_name_start, is_name_byte, is_text_byte, reserved_of}
 
 -- a name or a reserved word, where the first byte is known to begin one
 unfoldable pub name_at : List ℕ → Option (Word × ℕ)

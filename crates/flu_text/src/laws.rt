@@ -1,6 +1,6 @@
 //! Laws of the lexical grammar, each the contract of a function that does nothing.
 
-ghost use Rattle.flu_text.specs.Laws.{TokensAreUnique, BadPlaceIsUnique, TokensOrBadPlace, ReadingIsTokens, ReadingIsBadPlace, EachIsToken, EachIsSpan, EachIsInside, TokensRise, LayoutIsRead, LayoutIsSpelled};
+ghost use Rattle.flu_text.specs.Laws.{TokensAreUnique, BadPlaceIsUnique, TokensOrBadPlace, ReadingIsTokens, ReadingIsBadPlace, EachIsToken, EachIsSpan, EachIsInside, TokensRise, LayoutIsRead, LayoutIsSpelled, NamesAreTested, ReservedIsSpelled};
 
 /// A text has one reading: its tokens, or the first place where none begins.
 pub fn one_reading()
@@ -28,4 +28,10 @@ pub fn tokens_stand()
 pub fn layout_is_read()
     ensures tokens { LayoutIsRead }
     ensures spellings { LayoutIsSpelled }
+{}
+
+/// A name of the lexical grammar is what `flu_names` takes for one, and the reserved word that it finds is the one that is spelled so.
+pub fn names_are_tested()
+    ensures names { NamesAreTested }
+    ensures reserved { ReservedIsSpelled }
 {}

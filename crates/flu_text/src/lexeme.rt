@@ -3,52 +3,14 @@
 ghost use Rattle.std.specs.Prelude.{◌≡◌, option_map, pos};
 ghost use Rattle.std.specs.Char.{is_ascii_digit};
 ghost use Rattle.std.specs.List.{prefix_len, AllPass};
-ghost use Rattle.flu_text.specs.Grammar.{is_blank, is_name_start, is_name_byte, is_text_byte};
-ghost use Rattle.flu_text.specs.Lexeme.{reserved_of, name_at, number_of, number_at, text_at, mark_of, mark_at, word_at};
+ghost use Rattle.flu_text.specs.Grammar.{is_blank};
+ghost use Rattle.flu_names.specs.Names.{is_name_start, is_name_byte, is_text_byte, reserved_of};
+ghost use Rattle.flu_text.specs.Lexeme.{name_at, number_of, number_at, text_at, mark_of, mark_at, word_at};
 
-use crate::words::{Mark, Reserved, Word};
-
-/// How many bytes a name may have.
-const LONGEST_NAME: usize = 32;
-
-/// How many bytes may stand between the quotes of a text.
-const LONGEST_TEXT: usize = 256;
-
-const RESERVED: [Reserved; 33] = [
-    Reserved::Cell,
-    Reserved::Tag,
-    Reserved::Depends,
-    Reserved::On,
-    Reserved::Source,
-    Reserved::Keyed,
-    Reserved::Sum,
-    Reserved::Max,
-    Reserved::Last,
-    Reserved::Int,
-    Reserved::None,
-    Reserved::Same,
-    Reserved::All,
-    Reserved::Rate,
-    Reserved::Add,
-    Reserved::Raise,
-    Reserved::Set,
-    Reserved::Clear,
-    Reserved::Emit,
-    Reserved::Flush,
-    Reserved::When,
-    Reserved::Value,
-    Reserved::Key,
-    Reserved::Time,
-    Reserved::Has,
-    Reserved::And,
-    Reserved::Or,
-    Reserved::Not,
-    Reserved::Beat,
-    Reserved::End,
-    Reserved::Node,
-    Reserved::Version,
-    Reserved::Slack,
-];
+use crate::words::{Mark, Word};
+use flu_names::{
+    LONGEST_NAME, LONGEST_TEXT, is_name_byte, is_name_start, is_text_byte, reserved_of,
+};
 
 /// The marks, the longer ones first.
 const MARKS: [Mark; 19] = [
@@ -79,38 +41,10 @@ pub fn is_blank(byte: u8) -> bool
     byte == b' ' || byte == b'\t' || byte == b'\r' || byte == b'\n'
 }
 
-fn is_name_start(byte: u8) -> bool
-    ensures { result ≡ is_name_start byte }
-{
-    byte.is_ascii_alphabetic() || byte == b'_'
-}
-
-fn is_name_byte(byte: u8) -> bool
-    ensures { result ≡ is_name_byte byte }
-{
-    byte.is_ascii_alphanumeric() || byte == b'_'
-}
-
-fn is_text_byte(byte: u8) -> bool
-    ensures { result ≡ is_text_byte byte }
-{
-    byte >= b' ' && byte != b'"' && byte != 0x7F
-}
-
 fn name_len(bytes: &[u8]) -> usize
     ensures { result ≡ prefix_len is_name_byte bytes.now }
 {
     bytes.iter().take_while(|byte| is_name_byte(**byte)).count()
-}
-
-#[tactic(auto, unfolding(crate::specs::Lexeme::reserved_of))]
-fn reserved_of(name: &[u8]) -> Option<Reserved>
-    ensures { result ≡ reserved_of name.now }
-{
-    RESERVED
-        .iter()
-        .copied()
-        .find(|reserved| reserved.spelling() == name)
 }
 
 /// The name or the reserved word at the front, of which the first byte is known to begin one.

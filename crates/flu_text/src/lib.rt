@@ -7,8 +7,6 @@ mod lexeme;
 mod reading;
 mod words;
 
+pub use flu_names::Reserved;
 pub use reading::{TextFault, tokens};
-pub use words::{Mark, Reserved, Token, Word};
-
-#[cfg(test)]
-mod tests;
+pub use words::{Mark, Token, Word};

@@ -4,7 +4,7 @@ use Rattle.std.specs.Prelude.{IsTrue}
 use Rattle.std.proofs.lemmas.Bool.{false≢true}
 use Rattle.flu_outside.specs.Outside.{WhereTold, Contents}
 use Rattle.flu_model.specs.declared.jobs.Program.{Program}
-use Rattle.flu_rows.proofs.Told.{told_weaker}
+use Rattle.flu_lemmas.proofs.Told.{told_weaker}
 use Rattle.flu_top.specs.declared.refusals.Refusal.{Refusal}
 use Rattle.flu_top.specs.declared.refusals.Refusal.TheVariants as refusals
 use Rattle.flu_top.specs.Words.{Command, Check}

@@ -12,7 +12,7 @@ use Rattle.flu_parse.specs.declared.faults.JobFault.{JobFault}
 use Rattle.flu_parse.specs.Reading.{job_in}
 use Rattle.flu_check.specs.declared.CheckFault.{CheckFault}
 use Rattle.flu_plan.specs.declared.fault.PlanFault.{PlanFault}
-use Rattle.flu_rows.specs.Taking.{bytes_left}
+use Rattle.flu_outside.specs.Taking.{bytes_left}
 use Rattle.flu_streams.specs.declared.faults.SourceFault.{SourceFault}
 use Rattle.flu_top.specs.declared.refusals.PlanDefect.{PlanDefect}
 use Rattle.flu_top.specs.declared.refusals.PlanDefect.TheVariants as defects

@@ -5,8 +5,8 @@ use Rattle.flu_outside.specs.Outside.{WhereTold, Rose}
 use Rattle.flu_model.specs.declared.jobs.Program.{Program}
 use Rattle.flu_parse.specs.declared.faults.JobFault.{JobFault}
 use Rattle.flu_check.specs.declared.CheckFault.{CheckFault}
-use Rattle.flu_report.specs.Writing.{AppendsAll, AppendsPart}
-use Rattle.flu_rows.proofs.Told.{told_weaker}
+use Rattle.flu_outside.specs.Writing.{AppendsAll, AppendsPart}
+use Rattle.flu_lemmas.proofs.Told.{told_weaker}
 use Rattle.flu_streams.specs.declared.faults.SourceFault.{SourceFault}
 use Rattle.flu_outside.specs.Outside.{Contents}
 use Rattle.flu_top.specs.declared.refusals.PlanDefect.{PlanDefect}

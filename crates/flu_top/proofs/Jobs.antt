@@ -6,13 +6,13 @@ use Rattle.flu_outside.specs.Outside.{WhereTold, Contents}
 use Rattle.flu_model.specs.declared.jobs.Program.{Program}
 use Rattle.flu_model.specs.declared.limits.What.TheVariants.{Bytes}
 use Rattle.flu_model.specs.Erasure.{Job, job_of}
-use Rattle.flu_rows.specs.Taking.{bytes_left}
-use Rattle.flu_rows.proofs.Told.{told_weaker}
+use Rattle.flu_outside.specs.Taking.{bytes_left}
+use Rattle.flu_lemmas.proofs.Told.{told_weaker}
 use Rattle.flu_parse.specs.declared.faults.JobFault.{JobFault}
 use Rattle.flu_parse.specs.declared.faults.JobFault.TheVariants as f
 use Rattle.flu_parse.specs.Faults.{Fails}
 use Rattle.flu_parse.specs.Reading.{job_in}
-use Rattle.flu_top.specs.Taking.{TookWhole}
+use Rattle.flu_outside.specs.Taking.{TookWhole}
 use Rattle.flu_top.specs.Jobs.{IsJobRead, HasJobFault, IsJobRefusal}
 use Rattle.flu_top.specs.Answer.{refusal_of_job}
 

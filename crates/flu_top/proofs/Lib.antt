@@ -1,7 +1,6 @@
 pub mod Written
 pub mod WrittenConflicts
 pub mod WrittenPlans
-pub mod Whole
 pub mod Jobs
 pub mod PlanTexts
 pub mod Sequence

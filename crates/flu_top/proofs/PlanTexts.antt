@@ -5,13 +5,13 @@ use Rattle.flu_outside.specs.Outside.{WhereTold, Contents}
 use Rattle.flu_model.specs.declared.jobs.Program.{Program}
 use Rattle.flu_model.specs.declared.plans.Node.{Node}
 use Rattle.flu_model.specs.declared.limits.What.TheVariants.{Bytes}
-use Rattle.flu_rows.specs.Taking.{bytes_left}
-use Rattle.flu_rows.proofs.Told.{told_weaker}
+use Rattle.flu_outside.specs.Taking.{bytes_left}
+use Rattle.flu_lemmas.proofs.Told.{told_weaker}
 use Rattle.flu_plan.specs.declared.fault.PlanFault.{PlanFault}
 use Rattle.flu_plan.specs.declared.fault.PlanFault.TheVariants as f
 use Rattle.flu_plan.specs.Faults.{Fails}
 use Rattle.flu_plan.specs.Reading.{plan_in}
-use Rattle.flu_top.specs.Taking.{TookWhole}
+use Rattle.flu_outside.specs.Taking.{TookWhole}
 use Rattle.flu_top.specs.Plans.{IsPlanRead, HasTextFault, IsTextRefusal}
 use Rattle.flu_top.specs.Answer.{refusal_of_plan}
 

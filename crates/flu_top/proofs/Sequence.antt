@@ -12,8 +12,9 @@ use Rattle.flu_model.specs.declared.jobs.Program.{Program}
 use Rattle.flu_model.specs.Contents.{nothing_held}
 use Rattle.flu_model.specs.Folding.{final_outputs}
 use Rattle.flu_model.specs.Reports as reports
-use Rattle.flu_rows.specs.Taking.{TakesFrom}
-use Rattle.flu_rows.proofs.Told.{told_then, told_weaker, rose_behind}
+use Rattle.flu_outside.specs.Taking.{TakesFrom}
+use Rattle.flu_lemmas.proofs.Named.{rose_behind}
+use Rattle.flu_lemmas.proofs.Told.{told_then, told_weaker}
 use Rattle.flu_streams.specs.Files.{files_of, LeavesOthers, AreReadOut}
 use Rattle.flu_streams.specs.Good.{first_fault, lists_of, AreGood}
 use Rattle.flu_top.specs.declared.refusals.Refusal.{Refusal}

@@ -10,8 +10,9 @@ use Rattle.flu_model.specs.declared.plans.Node.{Node}
 use Rattle.flu_model.specs.Modes.{IsAccepted}
 use Rattle.flu_deps.specs.declared.checked.Checked.{Checked}
 use Rattle.flu_deps.specs.Checking.{program_of}
-use Rattle.flu_rows.specs.Taking.{bytes_left, TakesFrom}
-use Rattle.flu_rows.proofs.Told.{told_then, rose_behind}
+use Rattle.flu_outside.specs.Taking.{bytes_left, TakesFrom}
+use Rattle.flu_lemmas.proofs.Named.{rose_behind}
+use Rattle.flu_lemmas.proofs.Told.{told_then}
 use Rattle.flu_plan.specs.Reading.{plan_in}
 use Rattle.flu_top.specs.declared.refusals.PlanDefect.TheVariants as defects
 use Rattle.flu_top.specs.declared.refusals.Refusal.{Refusal}

@@ -11,7 +11,7 @@ use Rattle.flu_streams.specs.declared.faults.Why.TheVariants.{Disordered, TooMan
 use Rattle.flu_top.specs.Lines.{what_word, limit_text, fault_line, row_line, source_fault_line}
 use Rattle.flu_outside.specs.declared.sink.Failed.{Failed}
 use Rattle.flu_outside.specs.Outside.{WhereTold}
-use Rattle.flu_report.specs.Writing.{AppendsAll, AppendsPart}
+use Rattle.flu_outside.specs.Writing.{AppendsAll, AppendsPart}
 
 pub part_of_second : (a b x y z : List ℕ) → AppendsAll a x y → AppendsPart b y z → AppendsPart (a ++ b) x z
 part_of_second a b x y z e part = (

@@ -5,8 +5,8 @@ use Rattle.std.proofs.lemmas.List.{take-append-le}
 use Rattle.std.proofs.lemmas.Result.{on_ok_weaker, on_err_weaker}
 use Rattle.flu_outside.specs.declared.sink.Failed.{Failed}
 use Rattle.flu_outside.specs.Outside.{WhereTold}
-use Rattle.flu_report.specs.Writing.{AppendsAll, AppendsPart}
-use Rattle.flu_rows.proofs.Told.{told_then, told_weaker}
+use Rattle.flu_outside.specs.Writing.{AppendsAll, AppendsPart}
+use Rattle.flu_lemmas.proofs.Told.{told_then, told_weaker}
 use Rattle.flu_top.proofs.Written.{part_of_second}
 
 -- ---- bytes that are written one after another

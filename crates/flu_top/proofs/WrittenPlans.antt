@@ -9,7 +9,7 @@ use Rattle.flu_model.specs.declared.events.Tag.{Tag}
 use Rattle.flu_model.specs.declared.jobs.Program.{Program}
 use Rattle.flu_model.specs.Itags.{count_of_itags, tag_of_itag, source_of_itag}
 use Rattle.flu_model.specs.Reports.{text_of_tag}
-use Rattle.flu_report.specs.Writing.{AppendsAll, AppendsPart}
+use Rattle.flu_outside.specs.Writing.{AppendsAll, AppendsPart}
 use Rattle.flu_top.specs.Names.{source_name, itag_text}
 use Rattle.flu_top.specs.Lines.{plan_line}
 use Rattle.flu_top.proofs.Written.{joined_4}

@@ -7,7 +7,7 @@ use Rattle.flu_model.specs.Contents.{nothing_held}
 use Rattle.flu_model.specs.Erasure.{job_of}
 use Rattle.flu_model.specs.Folding.{final_outputs}
 use Rattle.flu_model.specs.Reports as reports
-use Rattle.flu_rows.specs.Taking.{bytes_left}
+use Rattle.flu_outside.specs.Taking.{bytes_left}
 use Rattle.flu_model.specs.declared.plans.Node.{Node}
 use Rattle.flu_parse.specs.Reading.{job_in}
 use Rattle.flu_plan.specs.Faults.{Found}

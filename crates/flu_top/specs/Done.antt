@@ -5,7 +5,7 @@ use Rattle.flu_model.specs.declared.jobs.Program.{Program}
 use Rattle.flu_model.specs.declared.plans.Node.{Node}
 use Rattle.flu_model.specs.Modes.{IsAccepted}
 use Rattle.flu_model.specs.Validity.{IsValid}
-use Rattle.flu_report.specs.Writing.{AppendsAll, AppendsPart}
+use Rattle.flu_outside.specs.Writing.{AppendsAll, AppendsPart}
 use Rattle.flu_top.specs.Words.{Command, command_in}
 use Rattle.flu_top.specs.Behind.{HasJob, fault_behind, plan_behind}
 use Rattle.flu_top.specs.Commands.{job_named, plan_named, asks_accepted, reads_sources, files_read, Writes}

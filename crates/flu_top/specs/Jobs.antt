@@ -2,7 +2,7 @@
 use Rattle.std.specs.Prelude.{◌≡◌, ◌≢◌, ℕ, List, [], Option, Some, Err, ⊤}
 use Rattle.flu_outside.specs.Outside.{Contents, WhereTold, Rose}
 use Rattle.flu_model.specs.declared.jobs.Program.{Program}
-use Rattle.flu_rows.specs.Taking.{bytes_left}
+use Rattle.flu_outside.specs.Taking.{bytes_left}
 use Rattle.flu_parse.specs.declared.faults.JobFault.{JobFault}
 use Rattle.flu_parse.specs.declared.faults.JobFault.TheVariants as faults
 use Rattle.flu_parse.specs.Reading.{job_in}

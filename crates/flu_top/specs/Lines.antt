@@ -2,7 +2,7 @@
 use Rattle.std.specs.Prelude.{ℕ, List, ◌++◌, codes, Option, ◌⊎◌}
 use Rattle.std.specs.Fmt.{decimal}
 use Rattle.flu_outside.specs.Outside.{Rose, WhereTold}
-use Rattle.flu_report.specs.Writing.{AppendsAll, AppendsPart}
+use Rattle.flu_outside.specs.Writing.{AppendsAll, AppendsPart}
 use Rattle.flu_model.specs.Reports.{text_of_tag, text_of_cell}
 use Rattle.flu_model.specs.declared.events.Itag.{Itag}
 use Rattle.flu_model.specs.declared.jobs.Program.{Program}

@@ -6,7 +6,7 @@ use Rattle.flu_model.specs.declared.plans.Node.{Node}
 use Rattle.flu_model.specs.Validity.{IsValid}
 use Rattle.flu_deps.specs.declared.checked.Checked.{Checked}
 use Rattle.flu_deps.specs.Checking.{program_of}
-use Rattle.flu_rows.specs.Taking.{bytes_left}
+use Rattle.flu_outside.specs.Taking.{bytes_left}
 use Rattle.flu_plan.specs.declared.fault.PlanFault.{PlanFault}
 use Rattle.flu_plan.specs.declared.fault.PlanFault.TheVariants as faults
 use Rattle.flu_plan.specs.Reading.{plan_in}

@@ -7,7 +7,7 @@ ghost use Rattle.flu_model.specs.Folding.{final_outputs};
 ghost use Rattle.flu_model.specs.Itags.{count_of_itags};
 ghost use Rattle.flu_model.specs.Listed.{listed};
 ghost use Rattle.flu_model.specs.Reports.{report};
-ghost use Rattle.flu_rows.specs.Taking.{TookFronts};
+ghost use Rattle.flu_outside.specs.Taking.{TookFronts};
 ghost use Rattle.flu_streams.specs.Files.{files_of, LeavesOthers};
 ghost use Rattle.flu_top.specs.Words.{Fold};
 ghost use Rattle.flu_top.specs.Taking.{TookOnly};

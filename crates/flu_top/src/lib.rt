@@ -5,7 +5,6 @@ mod checking;
 mod commands;
 mod depths;
 mod folding;
-mod input;
 mod lines;
 mod names;
 mod pieces;

@@ -2,7 +2,7 @@
 
 ghost use Rattle.std.specs.Prelude.{◌≡◌, ◌≤◌, ◌++◌, OnOk, OnErr};
 ghost use Rattle.flu_outside.specs.Outside.{Rose, WhereTold};
-ghost use Rattle.flu_report.specs.Writing.{AppendsAll, AppendsPart};
+ghost use Rattle.flu_outside.specs.Writing.{AppendsAll, AppendsPart};
 ghost use Rattle.flu_model.specs.Reports.{name_with_key, text_of_tag, text_of_cell};
 ghost use Rattle.flu_top.specs.Names.{source_name, node_name, itag_text};
 

@@ -4,7 +4,7 @@ ghost use Rattle.std.specs.Prelude.{◌≡◌, ◌≤◌, map, OnOk, OnErr};
 ghost use Rattle.std.specs.Fmt.{decimal};
 ghost use Rattle.std.specs.List.{concat};
 ghost use Rattle.flu_outside.specs.Outside.{Rose, WhereTold};
-ghost use Rattle.flu_report.specs.Writing.{AppendsAll, AppendsPart};
+ghost use Rattle.flu_outside.specs.Writing.{AppendsAll, AppendsPart};
 
 use flu_outside::{Failed, Sink};
 use flu_report::write_all;

@@ -2,7 +2,7 @@
 
 ghost use Rattle.std.specs.Prelude.{◌≤◌, ◌++◌, OnOk, OnErr};
 ghost use Rattle.flu_outside.specs.Outside.{Rose, WhereTold};
-ghost use Rattle.flu_report.specs.Writing.{AppendsAll, AppendsPart};
+ghost use Rattle.flu_outside.specs.Writing.{AppendsAll, AppendsPart};
 ghost use Rattle.flu_valid.specs.declared.faults.Invalid.{Invalid};
 ghost use Rattle.flu_top.specs.Lines.{plan_line, plan_fault_text, owned_text, invalid_text, plan_defect_line};
 

@@ -2,13 +2,12 @@
 
 ghost use Rattle.std.specs.Prelude.{◌≤◌, List, ℕ, IfOk, IfErr};
 ghost use Rattle.flu_outside.specs.Outside.{WhereTold};
-ghost use Rattle.flu_rows.specs.Taking.{TakesFrom};
+ghost use Rattle.flu_outside.specs.Taking.{TakesFrom};
 ghost use Rattle.flu_top.specs.Plans.{IsPlanRead, IsTextRefusal};
 
-use crate::input::read_all;
 use crate::refusals::Refusal;
 use flu_model::{Plan, Program};
-use flu_outside::Files;
+use flu_outside::{Files, read_whole};
 use flu_plan::read_plan;
 use std::alloc::Global;
 
@@ -26,7 +25,7 @@ pub fn plan_of<F: Files>(
     ensures refused { IfErr result (IsTextRefusal program.now plan.now (F.left files.old) (F.left files.new) (F.faults files.old) (F.faults files.new)) }
     ensures taken { WhereTold (F.left files.old) (F.left files.new) (TakesFrom plan.now) }
 {
-    let bytes = read_all(alloc, files, plan, MOST_BYTES)?;
+    let bytes = read_whole(alloc, files, plan, MOST_BYTES)?;
     let found = read_plan(alloc, program, &bytes)?;
     Ok(found)
 }

@@ -2,13 +2,12 @@
 
 ghost use Rattle.std.specs.Prelude.{◌≤◌, List, ℕ, IfOk, IfErr};
 ghost use Rattle.flu_outside.specs.Outside.{WhereTold};
-ghost use Rattle.flu_rows.specs.Taking.{TakesFrom};
+ghost use Rattle.flu_outside.specs.Taking.{TakesFrom};
 ghost use Rattle.flu_top.specs.Jobs.{IsJobRead, IsJobRefusal};
 
-use crate::input::read_all;
 use crate::refusals::Refusal;
 use flu_model::Program;
-use flu_outside::Files;
+use flu_outside::{Files, read_whole};
 use flu_parse::read_job;
 use std::alloc::Global;
 
@@ -22,7 +21,7 @@ pub fn program_of<F: Files>(alloc: Global, files: &mut F, job: &str) -> Result<P
     ensures taken { WhereTold (F.left files.old) (F.left files.new) (TakesFrom job.now) }
     ensures counts { (n : List ℕ) → F.faults files.old n ≤ F.faults files.new n }
 {
-    let bytes = read_all(alloc, files, job, MOST_BYTES)?;
+    let bytes = read_whole(alloc, files, job, MOST_BYTES)?;
     let program = read_job(alloc, &bytes)?;
     Ok(program)
 }

@@ -4,7 +4,7 @@ ghost use Rattle.std.specs.Prelude.{◌≡◌, ◌≢◌, ◌↔◌, ◌⊎◌, 
 ghost use Rattle.flu_outside.specs.Outside.{Contents, WhereTold, Rose};
 ghost use Rattle.flu_model.specs.declared.jobs.Program.{Program};
 ghost use Rattle.flu_model.specs.Modes.{IsAccepted};
-ghost use Rattle.flu_rows.specs.Taking.{bytes_left, TookFronts};
+ghost use Rattle.flu_outside.specs.Taking.{bytes_left, TookFronts};
 ghost use Rattle.flu_parse.specs.declared.faults.JobFault.{JobFault};
 ghost use Rattle.flu_parse.specs.Reading.{job_in};
 ghost use Rattle.flu_check.specs.declared.CheckFault.{CheckFault};

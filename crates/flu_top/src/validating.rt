@@ -3,7 +3,7 @@
 ghost use Rattle.std.specs.Prelude.{IfOk, IfErr};
 ghost use Rattle.flu_outside.specs.Outside.{WhereTold};
 ghost use Rattle.flu_deps.specs.Checking.{program_of};
-ghost use Rattle.flu_rows.specs.Taking.{TookFronts};
+ghost use Rattle.flu_outside.specs.Taking.{TookFronts};
 ghost use Rattle.flu_top.specs.Words.{Valid};
 ghost use Rattle.flu_top.specs.Taking.{TookOnly};
 ghost use Rattle.flu_top.specs.Done.{IsReadName, IsWritten};

@@ -7,7 +7,8 @@ use Rattle.flu_planner.specs.Cuts.{IsWhole}
 use Rattle.flu_planner.specs.Plans.{node_of}
 use Rattle.flu_planner.specs.Search.{IsPartingOnce, IsSubtree}
 use Rattle.flu_planner.specs.Tables.{graph_of}
-use Rattle.flu_planner.proofs.Planting.{doubled, leaf_is, inner_is, own_in, left_in, right_in}
+use Rattle.flu_planner.proofs.Planting.{doubled, leaf_is, inner_is}
+use Rattle.flu_planner.proofs.Agreement.{own_of, left_of, right_of}
 use Rattle.flu_planner.proofs.nodes.+subtree.Goals as goal
 
 pub returns-then-depth-eq0 : goal.returns-then-depth-eq0
@@ -48,7 +49,7 @@ subtree-requires t c =
       omega arith,
       (
         rw c.deref.ensures.value parting.left_in_order,
-        (rw c.deref.ensures.value (λ i there. c.requires.declared i (left_in g rates itags own left right parting i there)), omega arith),
+        (rw c.deref.ensures.value (λ i there. c.requires.declared i (left_of g rates itags own left right parting.parting i there)), omega arith),
       ),
     )
 
@@ -71,7 +72,7 @@ subtree-requires-2 t c =
       omega arith,
       (
         rw c.deref-2.ensures.value parting.right_in_order,
-        (rw c.deref-2.ensures.value (λ i there. c.requires.declared i (right_in g rates itags own left right parting i there)), omega arith),
+        (rw c.deref-2.ensures.value (λ i there. c.requires.declared i (right_of g rates itags own left right parting.parting i there)), omega arith),
       ),
     )
 
@@ -84,7 +85,7 @@ node_of-requires t c =
     let left = c.in-Some.parting.left.items in
     let right = c.in-Some.parting.right.items in
     let parting : IsPartingOnce g rates itags own left right = rw c.in-Some.is at c.in_ok-parting.ensures in
-    rw c.deref-3.ensures.value (λ i there. c.requires.declared i (own_in g rates itags own left right parting i there))
+    rw c.deref-3.ensures.value (λ i there. c.requires.declared i (own_of g rates itags own left right parting.parting i there))
 
 pub returns : goal.returns
 returns t c =

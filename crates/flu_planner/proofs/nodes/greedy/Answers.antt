@@ -4,7 +4,8 @@ use Rattle.flu_planner.specs.Graphs.{dependencies}
 use Rattle.flu_planner.specs.Plans.{all_itags}
 use Rattle.flu_planner.specs.Tables.{table_of, graph_of}
 use Rattle.flu_planner.proofs.Agreement.{greedy_agrees}
-use Rattle.flu_planner.proofs.Rising.{range_below, rising_range}
+use Rattle.flu_planner.proofs.Rising.{rising_range}
+use Rattle.flu_lemmas.proofs.Ranges.{range_below}
 use Rattle.flu_planner.proofs.Tables.{agrees_with_table}
 use Rattle.flu_planner.proofs.nodes.greedy.Goals as goal
 
@@ -23,7 +24,7 @@ returns c =
     IfOk-weaker c.subtree.result _ _
     (λ nodes tree. record {
       tree = tree.tree;
-      greedy = greedy_agrees (graph_of (table_of p)) (dependencies p) rates depth (all_itags p) tree.tree (agrees_with_table p) tree.greedy;
+      greedy = greedy_agrees (graph_of (table_of p)) (dependencies p) rates depth (all_itags p) tree.tree (agrees_with_table c.dependency_turns.ensures p) tree.greedy;
       nodes_of_tree = tree.nodes_of_tree;
     })
     found

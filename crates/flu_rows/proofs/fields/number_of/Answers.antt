@@ -1,7 +1,6 @@
 use Rattle.std.proofs.Common.{◌-◌, ◌^◌, arith, rules, get_or, ◌≡◌, true, refl}
 use Rattle.std.specs.Char.{is_ascii_digit}
 use Rattle.std.proofs.lemmas.List.Folds.{list_all_more}
-use Rattle.std.proofs.lemmas.Bool.Decides.{nat_tests}
 use Rattle.flu_rows.proofs.Digits.{digits_value_capped}
 use Rattle.flu_rows.proofs.fields.number_of.Goals as goal
 

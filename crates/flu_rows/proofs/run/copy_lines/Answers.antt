@@ -1,8 +1,7 @@
-use Rattle.std.proofs.Common.{◌≡◌, ◌≤◌, ◌<◌, ◌+◌, ◌-◌, ◌++◌, List, ℕ, [], ◌∷◌, take, drop, length, length-append, append_assoc, refl, sym, ap, ◌∙◌, arith, rules}
+use Rattle.std.proofs.Common.{◌≡◌, ◌<◌, ◌+◌, ◌-◌, ◌++◌, [], ◌∷◌, take, drop, length, length-append, refl, ap, arith}
 use Rattle.std.proofs.lemmas.Grind.{common_steps}
-use Rattle.flu_rows.specs.declared.scan.Kind.TheVariants.{Empty, Alike}
 use Rattle.flu_rows.specs.Filling.{line_len}
-use Rattle.flu_rows.specs.Run.{IsRun, ReadAlike, HasKind}
+use Rattle.flu_rows.specs.Run.{HasKind}
 use Rattle.flu_rows.proofs.Alike.{no_run, copied_alike, copied_empty, alike_same, whole_rest}
 use Rattle.flu_rows.proofs.Cuts.{one_line}
 use Rattle.flu_rows.proofs.run.copy_lines.Goals as goal

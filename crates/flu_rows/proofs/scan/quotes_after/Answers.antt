@@ -1,4 +1,4 @@
-use Rattle.std.proofs.Common.{arith, rules, drop-cons, add-one, ◌∙◌, sym}
+use Rattle.std.proofs.Common.{arith, ◌∙◌, sym}
 use Rattle.std.proofs.lemmas.Grind.{common_steps}
 use Rattle.std.proofs.lemmas.List.{at_drop_more, at_drop_all}
 use Rattle.flu_rows.specs.Run.{quotes_after}

@@ -1,5 +1,5 @@
 use Rattle.std.proofs.lemmas.Result.{IfOk-weaker, IfErr-weaker}
-use Rattle.flu_rows.proofs.Told.{fronts_at, fronts_then}
+use Rattle.flu_lemmas.proofs.Named.{fronts_at, fronts_then}
 use Rattle.flu_top.specs.Words.{Fold}
 use Rattle.flu_top.proofs.Sequence.{is_folded, job_refusal, report_refusal, only_job, only_both}
 use Rattle.flu_top.proofs.folding.fold_job.Goals as goal

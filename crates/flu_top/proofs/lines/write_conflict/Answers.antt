@@ -1,5 +1,5 @@
 use Rattle.flu_model.specs.Reports.{text_of_tag, text_of_cell}
-use Rattle.flu_report.proofs.WritingLemmas.{on_err}
+use Rattle.flu_lemmas.proofs.Results.{on_err}
 use Rattle.flu_top.proofs.WrittenConflicts.{part_of_head, part_of_a, part_of_b, part_of_c, all_of_line}
 use Rattle.flu_top.proofs.lines.write_conflict.Goals as goal
 

@@ -3,7 +3,7 @@ use Rattle.std.specs.Prelude.{codes}
 use Rattle.std.proofs.lemmas.Bool.Decides.{nat_tests}
 use Rattle.flu_model.specs.Itags.{count_of_itags}
 use Rattle.flu_model.specs.Reports.{text_of_tag}
-use Rattle.flu_report.proofs.WritingLemmas.{on_err}
+use Rattle.flu_lemmas.proofs.Results.{on_err}
 use Rattle.flu_top.specs.Names.{source_name, itag_text}
 use Rattle.flu_top.proofs.WrittenPlans.{part_of_step, part_of_two, itag_steps}
 use Rattle.flu_top.proofs.names.write_itag.Goals as goal

@@ -2,8 +2,8 @@ use Rattle.std.proofs.Common.{List, â„•, [], map, take, drop, length, get_or, â—
 use Rattle.std.specs.List.{concat}
 use Rattle.std.proofs.lemmas.Result.{on_err_weaker}
 use Rattle.flu_outside.specs.Outside.{WhereTold}
-use Rattle.flu_report.specs.Writing.{AppendsAll, AppendsPart}
-use Rattle.flu_rows.proofs.Told.{told_then}
+use Rattle.flu_outside.specs.Writing.{AppendsAll, AppendsPart}
+use Rattle.flu_lemmas.proofs.Told.{told_then}
 use Rattle.flu_top.proofs.Written.{part_of_second, pieces_split}
 use Rattle.flu_top.proofs.pieces.+write_pieces.Goals as goal
 

@@ -1,6 +1,6 @@
 use Rattle.std.proofs.Common.{◌∙◌, ◌++◌}
 use Rattle.std.specs.Prelude.{codes}
-use Rattle.flu_report.proofs.WritingLemmas.{on_err}
+use Rattle.flu_lemmas.proofs.Results.{on_err}
 use Rattle.flu_top.specs.Names.{node_name, itag_text}
 use Rattle.flu_top.specs.Lines.{plan_line}
 use Rattle.flu_top.proofs.WrittenPlans.{part_of_step, part_of_second_step, part_of_three, all_of_three, twice_steps}

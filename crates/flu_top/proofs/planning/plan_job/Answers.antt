@@ -1,6 +1,6 @@
 use Rattle.std.proofs.Common.{refl}
 use Rattle.std.proofs.lemmas.Result.{IfOk-weaker, IfErr-weaker}
-use Rattle.flu_rows.proofs.Told.{fronts_at}
+use Rattle.flu_lemmas.proofs.Named.{fronts_at}
 use Rattle.flu_top.specs.Words.{Plan}
 use Rattle.flu_top.proofs.Sequence.{job_refusal, only_job}
 use Rattle.flu_top.proofs.Checks.{check_refusal}

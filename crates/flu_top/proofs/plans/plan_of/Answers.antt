@@ -16,10 +16,10 @@ returns-in_err-found-clause-refused g c =
     let plan = c.args.plan.now in
     let fault = c.in_err-found.field-0.0 in
     let fails = subst (λ (bytes : List ℕ). Fails fault (plan_in p bytes)) c.deref.ensures.value c.in_err-found.ensures in
-    if_err_at (IsTextRefusal p plan (left c.args.files.now) (left c.read_all.new.files) (faults c.args.files.now) (faults c.read_all.new.files))
+    if_err_at (IsTextRefusal p plan (left c.args.files.now) (left c.read_whole.new.files) (faults c.args.files.now) (faults c.read_whole.new.files))
     c.from_residual-in_err-found.result (refusal_of_plan fault)
     (err_from_is_err_and c.from_residual-in_err-found.result c.from_residual-in_err-found.ensures.1)
-    (plan_is_refused p plan c.in_ok-bytes.bytes.items fault _ _ (faults c.args.files.now) (faults c.read_all.new.files) c.in_ok-bytes.ensures.whole fails)
+    (plan_is_refused p plan c.in_ok-bytes.bytes.items fault _ _ (faults c.args.files.now) (faults c.read_whole.new.files) c.in_ok-bytes.ensures.whole fails)
 
 pub returns-clause-read : goal.returns-clause-read
 returns-clause-read g c =

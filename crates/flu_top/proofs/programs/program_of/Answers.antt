@@ -14,10 +14,10 @@ returns-in_err-program-clause-refused g c =
     let job = c.args.job.now in
     let fault = c.in_err-program.field-0.0 in
     let fails = subst (λ (bytes : List ℕ). Fails fault (job_in bytes)) c.deref.ensures.value c.in_err-program.ensures in
-    if_err_at (IsJobRefusal job (left c.args.files.now) (left c.read_all.new.files) (faults c.args.files.now) (faults c.read_all.new.files))
+    if_err_at (IsJobRefusal job (left c.args.files.now) (left c.read_whole.new.files) (faults c.args.files.now) (faults c.read_whole.new.files))
     c.from_residual-in_err-program.result (refusal_of_job fault)
     (err_from_is_err_and c.from_residual-in_err-program.result c.from_residual-in_err-program.ensures.1)
-    (job_is_refused job c.in_ok-bytes.bytes.items fault _ _ (faults c.args.files.now) (faults c.read_all.new.files) c.in_ok-bytes.ensures.whole fails)
+    (job_is_refused job c.in_ok-bytes.bytes.items fault _ _ (faults c.args.files.now) (faults c.read_whole.new.files) c.in_ok-bytes.ensures.whole fails)
 
 pub returns-clause-read : goal.returns-clause-read
 returns-clause-read g c =

@@ -1,9 +1,8 @@
-use Rattle.std.proofs.Common.{◌≡◌, ◌++◌, ℕ, List, not, eqb, drop, length, arith, rules, sym, ◌∙◌, ap}
+use Rattle.std.proofs.Common.{◌≡◌, ℕ, List, not, eqb, length, arith, rules, sym, ◌∙◌, ap}
 use Rattle.std.proofs.lemmas.List.Sums.{prefix_len-le-length}
-use Rattle.std.proofs.lemmas.Grind.{common_steps}
 use Rattle.flu_rows.specs.Filling.{line_len}
 use Rattle.flu_rows.proofs.Cuts.{line_len-more, behind_held}
-use Rattle.flu_rows.proofs.Told.{taken_then, kept_then, counts_then}
+use Rattle.flu_lemmas.proofs.Named.{taken_then, kept_then, counts_then}
 use Rattle.flu_rows.proofs.held.Held.fill.Goals as goal
 use Rattle.flu_rows.proofs.held.Held.fill.Goals.{then-loop-len-test+else-len-le-LONGEST_LINE, else-loop-len-test}
 
@@ -27,6 +26,7 @@ loop-len-preserved g c =
       bytes = kept_then file c.args.self.now c.loop-len.self c.take_more.new.self (left old) (left mid) (left new) c.loop-len.invariant.bytes c.in_ok-count.ensures.bytes;
       taken = taken_then file (left old) (left mid) (left new) c.loop-len.invariant.taken c.in_ok-count.ensures.taken;
       counts = counts_then file (left old) (left mid) (faults old) (faults mid) (faults new) c.loop-len.invariant.taken c.loop-len.invariant.counts c.in_ok-count.ensures.counts;
+      quiet = search rules;
     }
 
 pub returns-else-len-gt-LONGEST_LINE-clause-found : goal.returns-else-len-gt-LONGEST_LINE-clause-found

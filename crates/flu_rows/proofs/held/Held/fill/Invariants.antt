@@ -1,7 +1,7 @@
 use Rattle.std.proofs.Common.{◌≡◌, ◌-◌, length}
-use Rattle.flu_outside.specs.Outside.{WhereTold}
-use Rattle.flu_rows.specs.Filling.{line_len, KeepsBytes}
-use Rattle.flu_rows.specs.Taking.{TakesFrom, CountsOf}
+use Rattle.flu_outside.specs.Outside.{WhereTold, SameCounts}
+use Rattle.flu_rows.specs.Filling.{line_len}
+use Rattle.flu_outside.specs.Taking.{KeepsBytes, TakesFrom, CountsOf}
 use Rattle.flu_rows.proofs.held.Held.fill.Given as goal
 
 abbrev pub invariant-loop-len : goal.invariant-loop-len
@@ -13,6 +13,7 @@ invariant-loop-len g l =
       bytes : WhereTold (left l.fn.files) (left l.files) (KeepsBytes l.file l.fn.self l.self);
       taken : WhereTold (left l.fn.files) (left l.files) (TakesFrom l.file);
       counts : CountsOf (left l.fn.files) l.file (faults l.fn.files) (faults l.files);
+      quiet : SameCounts (faults l.fn.files) (faults l.files);
     }
 
 abbrev pub decreases-loop-len : goal.decreases-loop-len

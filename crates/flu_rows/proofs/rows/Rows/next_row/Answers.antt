@@ -1,6 +1,6 @@
-use Rattle.std.proofs.Common.{◌≡◌, ◌++◌, ◌≤◌, ◌+◌, ◌∙◌, List, ℕ, rules, arith}
+use Rattle.std.proofs.Common.{◌≡◌, ◌++◌, ◌∙◌, rules, arith}
 use Rattle.flu_rows.specs.declared.rows.Step.TheVariants.{Skip}
-use Rattle.flu_rows.proofs.Told.{taken_then, counts_then}
+use Rattle.flu_lemmas.proofs.Named.{taken_then, counts_then}
 use Rattle.flu_rows.proofs.StepLemmas.{steps_then}
 use Rattle.flu_rows.proofs.rows.Rows.next_row.Goals as goal
 
@@ -27,6 +27,7 @@ loop-next-preserved g c =
       lines = omega (arith, lines.0, c.loop-next.invariant.lines);
       taken = taken_then file (left old) (left mid) (left new) c.loop-next.invariant.taken (rw name at c.in_ok-read_line.ensures.taken);
       counts = counts_then file (left old) (left mid) (faults old) (faults mid) (faults new) c.loop-next.invariant.taken c.loop-next.invariant.counts (rw name at c.in_ok-read_line.ensures.counts);
+      quiet = search rules;
     }
 
 pub returns-in-Give-clause-taken : goal.returns-in-Give-clause-taken

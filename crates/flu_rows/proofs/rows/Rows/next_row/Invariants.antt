@@ -1,8 +1,8 @@
 use Rattle.std.proofs.Common.{◌≡◌, ◌++◌, ◌≤◌, ◌-◌, ◌^◌}
-use Rattle.flu_outside.specs.Outside.{WhereTold}
+use Rattle.flu_outside.specs.Outside.{WhereTold, SameCounts}
 use Rattle.flu_rows.specs.declared.rows.Step.TheVariants.{Skip}
 use Rattle.flu_rows.specs.Steps.{ReadsStep}
-use Rattle.flu_rows.specs.Taking.{TakesFrom, CountsOf}
+use Rattle.flu_outside.specs.Taking.{TakesFrom, CountsOf}
 use Rattle.flu_rows.proofs.rows.Rows.next_row.Given as goal
 
 abbrev pub invariant-loop-next : goal.invariant-loop-next
@@ -16,6 +16,7 @@ invariant-loop-next g l =
       lines : old.lines ≤ l.self-inside.hold.lines;
       taken : WhereTold (left l.fn.files) (left l.files) (TakesFrom old.file);
       counts : CountsOf (left l.fn.files) old.file (faults l.fn.files) (faults l.files);
+      quiet : SameCounts (faults l.fn.files) (faults l.files);
     }
 
 abbrev pub decreases-loop-next : goal.decreases-loop-next

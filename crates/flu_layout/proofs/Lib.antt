@@ -1,0 +1,4 @@
+pub mod Laid
+pub mod Standing
+pub mod Kept
+pub mod KeyWords

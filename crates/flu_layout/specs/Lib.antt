@@ -1,0 +1,5 @@
+pub mod Spelling
+pub mod Laid
+pub mod Lists
+pub mod Stands
+pub mod Laws

@@ -1,0 +1,10 @@
+-- What is read keeps the rules of the language: of names, expressions, templates, actions, listings and whole jobs.
+pub mod Plain
+pub mod Names
+pub mod Terms
+pub mod Sizes
+pub mod Written
+pub mod Templates
+pub mod Actions
+pub mod Listings
+pub mod Jobs
