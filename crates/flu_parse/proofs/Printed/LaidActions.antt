@@ -1,5 +1,5 @@
 -- The laying out of actions.
-use Rattle.std.proofs.Common.{◌≡◌, ℕ, Bool, true, false, ◌&&◌, List, [], ◌∷◌, ◌++◌, length, Option, Some, None, refl}
+use Rattle.std.proofs.Common.{◌≡◌, ℕ, Bool, true, ◌&&◌, List, ◌∷◌, length, Option, Some, None, refl}
 use Rattle.std.specs.Prelude.{nat_le, slice_get}
 use Rattle.std.specs.List.{list_all}
 use Rattle.flu_lemmas.proofs.Booleans.{three_left, three_right}

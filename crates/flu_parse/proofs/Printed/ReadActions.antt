@@ -40,7 +40,6 @@ use Rattle.flu_parse.specs.Terms.{expression_of}
 use Rattle.flu_parse.specs.Templates.{template_of}
 use Rattle.flu_parse.proofs.Printed.Words.{cell_words, term_words, act_words, behind_act, guard_words, action_words}
 use Rattle.flu_parse.proofs.Printed.Quotes.{text_stands}
-use Rattle.flu_parse.proofs.Printed.LaidCells.{family_named}
 use Rattle.flu_parse.proofs.Printed.LaidActions.{keyed_at}
 use Rattle.flu_parse.proofs.Printed.ReadTerms.{family_head, FamiliesKnown, read_cell, read_expression}
 use Rattle.flu_parse.proofs.Kept.Terms.{sort_swapped}

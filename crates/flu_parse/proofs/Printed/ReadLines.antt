@@ -48,7 +48,7 @@ use Rattle.flu_parse.specs.Printing.{kind_name}
 use Rattle.flu_parse.proofs.Printed.Rules.{plain_kind_is_keyed, plain_depend_fits, plain_tag_fits, plain_source_fits}
 use Rattle.flu_parse.proofs.Printed.Words.{action_words, keyed_words, sort_reserved, cell_line_words, value_reserved, tag_line_words, behind_depends, same_words, depends_line_words, actions_words, on_line_words, tag_words, listed_words, slack_words, source_line_words}
 use Rattle.flu_parse.proofs.Printed.Quotes.{text_stands, inside_stands}
-use Rattle.flu_parse.proofs.Printed.LaidLines.{kind_at, kind_named, source_facts}
+use Rattle.flu_parse.proofs.Printed.LaidLines.{kind_at, source_facts}
 use Rattle.flu_parse.proofs.Printed.ReadTerms.{FamiliesKnown}
 use Rattle.flu_parse.proofs.Printed.ReadActions.{Does, read_action, are_actions}
 use Rattle.flu_parse.proofs.Printed.ReadTags.{kind_head, KindsKnown, Lists, read_tag}

@@ -1,6 +1,6 @@
 -- The tags of a source in normal form are read as what was printed.
-use Rattle.std.proofs.Common.{◌≡◌, ◌≤◌, ◌+◌, ℕ, pos, Bool, true, false, ◌&&◌, ◌||◌, List, [], ◌∷◌, ◌++◌, length, Some, Ok, refl, sym, ap, ◌∙◌, append_assoc, length-append, arith}
-use Rattle.std.specs.Prelude.{nat_lt, nat_le, not, ◌==◌, slice_get}
+use Rattle.std.proofs.Common.{◌≡◌, ◌≤◌, ◌+◌, ℕ, pos, Bool, true, false, ◌||◌, List, [], ◌∷◌, ◌++◌, length, Some, Ok, refl, sym, ap, ◌∙◌, append_assoc, length-append, arith}
+use Rattle.std.specs.Prelude.{nat_lt, nat_le, not, slice_get}
 use Rattle.std.specs.List.{list_all, list_any, flat_map}
 use Rattle.std.specs.Str.{IsUtf8}
 use Rattle.std.proofs.lemmas.List.{append-nil, length-map}
@@ -37,7 +37,7 @@ use Rattle.flu_parse.specs.Listings.{are_bracketed, written_keys, keys_of, tag_c
 use Rattle.flu_parse.specs.Printing.{kind_name}
 use Rattle.flu_parse.proofs.Printed.Rules.{plain_tag_fits}
 use Rattle.flu_parse.proofs.Printed.Words.{tag_words}
-use Rattle.flu_parse.proofs.Printed.LaidLines.{tag_at, low_high, low_small, kind_named}
+use Rattle.flu_parse.proofs.Printed.LaidLines.{tag_at, low_high, low_small}
 use Rattle.flu_parse.specs.Cells.{resolved_key}
 
 abbrev pub kind_head : ℕ → PlainKind → KindHead

@@ -36,7 +36,7 @@ use Rattle.flu_parse.specs.Naming.{Naming, look_up, known, family_of}
 use Rattle.flu_parse.specs.Cells.{brackets_fit, is_wanted, family_for, at_of, resolved_cell}
 use Rattle.flu_parse.specs.Terms.{height, first_part, first_token, term_of, expression_of}
 use Rattle.flu_parse.proofs.Printed.Words.{key_words, cell_words, term_words}
-use Rattle.flu_parse.proofs.Printed.LaidCells.{family_at, family_named}
+use Rattle.flu_parse.proofs.Printed.LaidCells.{family_at}
 use Rattle.flu_parse.proofs.Kept.Plain.{term_fits, term_height, is_good_term}
 
 abbrev pub family_head : ℕ → Family → FamilyHead
