@@ -80,9 +80,9 @@ not_before (d ∷ done) x rest h =
     let apart : Bool = are_distinct is_same_text (done ++ x ∷ rest) in
     let none : later ≡ false = not_true later (and_left (not later) apart h) in
     let split : (list_any (is_same_text d) done || (is_same_text d x || list_any (is_same_text d) rest)) ≡ false =
-        sym (list_any-append (is_same_text d) done (x ∷ rest)) ∙ none in
+    sym (list_any-append (is_same_text d) done (x ∷ rest)) ∙ none in
     let here : is_same_text d x ≡ false = or_false_left (is_same_text d x) (list_any (is_same_text d) rest)
-        (or_false_right (list_any (is_same_text d) done) (is_same_text d x || list_any (is_same_text d) rest) split) in
+    (or_false_right (list_any (is_same_text d) done) (is_same_text d x || list_any (is_same_text d) rest) split) in
     ap (λ b. b || list_any (is_same_text x) done) (differs_too d x here) ∙ not_before done x rest (and_right (not later) apart h)
 
 module _ (whole : List ℕ) (utf8 : IsUtf8 whole) (n : Naming) where
@@ -121,12 +121,12 @@ module _ (whole : List ℕ) (utf8 : IsUtf8 whole) (n : Naming) where
         let line = lines.3 in
         let next : Drafted = with_all_depends d (d.depends ++ e ∷ []) in
         let end : KindHead → KindHead → Bool → Found Drafted = λ first second same. Ok
-            (with_all_depends d (d.depends ++ record { a = first.number; b = second.number; same = same } ∷ [])) in
+        (with_all_depends d (d.depends ++ record { a = first.number; b = second.number; same = same } ∷ [])) in
         let found : with_depend whole n d line.a line.b line.how ≡ Ok next =
         ap (λ (r : Found KindHead). r >>= λ first. kind_of whole n line.b >>= λ second. same_of line.how first second >>=
-            λ same. end first second same) line.looked_a
+        λ same. end first second same) line.looked_a
         ∙ ap (λ (r : Found KindHead). r >>= λ second. same_of line.how (kind_head e.a line.first) second >>=
-          λ same. end (kind_head e.a line.first) second same) line.looked_b
+        λ same. end (kind_head e.a line.first) second same) line.looked_b
         ∙ ap (λ (r : Found Bool). r >>= λ same. end (kind_head e.a line.first) (kind_head e.b line.second) same) line.same in
         one d next ds lines.0 lines.1 more (Depends line.a line.b line.how) lines.2 line.is found
         ∙ add_depends deps next lines.1 more lines.4
@@ -135,7 +135,7 @@ module _ (whole : List ℕ) (utf8 : IsUtf8 whole) (n : Naming) where
     pub add_sources : TagsMeet → TagsDiffer → (done ss : List Source) (d : Drafted) (ds more : List Declaration)
         → Lines (SourceIs whole utf8 kinds named_kinds n known_kinds) ss ds → d.sources ≡ done
         → list_all (plain_source_fits kinds) ss ≡ true → are_distinct is_same_text
-            (map (λ (s : Source). s.file) (done ++ ss)) ≡ true → d.itags + total_itags ss ≤ 256
+        (map (λ (s : Source). s.file) (done ++ ss)) ≡ true → d.itags + total_itags ss ≤ 256
         → each (with_declaration whole n) d (ds ++ more) ≡ each (with_declaration whole n) (with_all_sources d (done ++ ss) (d.itags + total_itags ss)) more
     unfolding with_declaration with_source
     add_sources meet differ done [] d ds more lines so_far fits apart few =
@@ -150,43 +150,49 @@ module _ (whole : List ℕ) (utf8 : IsUtf8 whole) (n : Naming) where
         let unread : not (list_any (λ (t : Source). is_same_text s.file t.file) done) ≡ true =
         ap not (sym (list_any-map (is_same_text s.file) (λ (t : Source). t.file) done)
         ∙ not_before names s.file (map (λ (s : Source). s.file) ss) (ap (are_distinct is_same_text) (sym (map-append (λ (s : Source). s.file) done (s ∷ ss)))
-          ∙ apart)) in
+        ∙ apart)) in
         let file_found : file_of whole d.sources file ≡ Ok s.file =
         ap (λ b. unless (nat_lt 0 (length b)) (f.WrongShape file.from) >>
-            (unless (not (list_any (λ (t : Source). is_same_text b t.file) d.sources)) (f.TwiceNamed file.from) >> Ok b)) line.file_is
+        (unless (not (list_any (λ (t : Source). is_same_text b t.file) d.sources)) (f.TwiceNamed file.from) >> Ok b)) line.file_is
         ∙ ap (λ t. unless t (f.WrongShape file.from) >> (unless (not (list_any (λ (t : Source). is_same_text s.file t.file) d.sources))
-          (f.TwiceNamed file.from) >> Ok s.file)) facts.file_some
+        (f.TwiceNamed file.from) >> Ok s.file)) facts.file_some
         ∙ ap (λ l. unless (not (list_any (λ (t : Source). is_same_text s.file t.file) l)) (f.TwiceNamed file.from) >> Ok s.file) so_far
         ∙ ap (λ t. unless t (f.TwiceNamed file.from) >> Ok s.file) unread in
         let rate_found : rate_of (Some (record { value = pos s.rate; at = line.rate_at })) ≡ Ok s.rate =
-            ap (λ t. unless t (f.OverLimit Rate s.rate) >> Ok s.rate) facts.rate in
+        ap (λ t. unless t (f.OverLimit Rate s.rate) >> Ok s.rate) facts.rate in
         let tags_found : tags_of whole n d.itags line.tags ≡ Ok (record { tags = s.tags; itags = d.itags + all_tags s.tags }) =
-            list_all_tags whole utf8 kinds named_kinds n known_kinds meet [] s.tags line.tags d.itags (omega (arith, few))
-            (sym (differ s.tags) ∙ facts.apart) line.are in
+        list_all_tags whole utf8 kinds named_kinds n known_kinds meet [] s.tags line.tags d.itags (omega (arith, few))
+        (sym (differ s.tags) ∙ facts.apart) line.are in
         let next : Drafted = with_all_sources d (done ++ s ∷ []) (d.itags + all_tags s.tags) in
         let end : List ℕ → List ℕ → ℕ → ℕ → Listed → Found Drafted =
-        λ name bytes rate slack listed. Ok (with_all_sources d (d.sources ++ record { name = name; file = bytes; rate = rate; slack = slack; tags =
-            listed.tags } ∷ []) listed.itags) in
+        λ name bytes rate slack listed. Ok (with_all_sources d (d.sources ++ record {
+          name = name;
+          file = bytes;
+          rate = rate;
+          slack = slack;
+          tags =
+              listed.tags;
+        } ∷ []) listed.itags) in
         let found : with_source whole n d line.named file (Some (record { value = pos s.rate; at = line.rate_at })) line.slack line.tags ≡ Ok next =
         ap (λ (r : Found (List ℕ)). r >>= λ bytes. rate_of (Some (record { value = pos s.rate; at = line.rate_at })) >>= λ rate. slack_of line.slack >>=
-            λ slack. tags_of whole n d.itags line.tags >>= λ listed. end (name_of whole line.named) bytes rate slack listed) file_found
+        λ slack. tags_of whole n d.itags line.tags >>= λ listed. end (name_of whole line.named) bytes rate slack listed) file_found
         ∙ ap (λ (r : Found ℕ). r >>= λ rate. slack_of line.slack >>= λ slack. tags_of whole n d.itags line.tags >>=
-          λ listed. end (name_of whole line.named) s.file rate slack listed) rate_found
+        λ listed. end (name_of whole line.named) s.file rate slack listed) rate_found
         ∙ ap (λ (r : Found ℕ). r >>= λ slack. tags_of whole n d.itags line.tags >>=
-          λ listed. end (name_of whole line.named) s.file s.rate slack listed) line.slack_is
+        λ listed. end (name_of whole line.named) s.file s.rate slack listed) line.slack_is
         ∙ ap (λ (r : Found Listed). r >>= λ listed. end (name_of whole line.named) s.file s.rate s.slack listed) tags_found
         ∙ ap (λ name. Ok (with_all_sources d (d.sources ++ record { name = name; file = s.file; rate = s.rate; slack = s.slack; tags = s.tags } ∷ [])
-          (d.itags + all_tags s.tags))) line.name_is
+        (d.itags + all_tags s.tags))) line.name_is
         ∙ ap (λ l. Ok (with_all_sources d (l ++ s ∷ []) (d.itags + all_tags s.tags))) so_far in
         let regrouped : (done ++ s ∷ []) ++ ss ≡ done ++ s ∷ ss = append_assoc done (s ∷ []) ss in
         one d next ds lines.0 lines.1 more (SourceLine line.named file (Some
-            (record { value = pos s.rate; at = line.rate_at })) line.slack line.tags) lines.2 line.is found
+        (record { value = pos s.rate; at = line.rate_at })) line.slack line.tags) lines.2 line.is found
         ∙ add_sources meet differ (done ++ s ∷ []) ss next lines.1 more lines.4 refl
-          (and_right (plain_source_fits kinds s) (list_all (plain_source_fits kinds) ss) fits)
+        (and_right (plain_source_fits kinds s) (list_all (plain_source_fits kinds) ss) fits)
         (ap (λ l. are_distinct is_same_text (map (λ (s : Source). s.file) l)) regrouped ∙ apart) (omega (arith, few))
         ∙ ap (λ l. each (with_declaration whole n) (with_all_sources d l (d.itags + all_tags s.tags + total_itags ss)) more) regrouped
         ∙ ap (λ k. each (with_declaration whole n) (with_all_sources d (done ++ s ∷ ss) k) more)
-          (let same : d.itags + all_tags s.tags + total_itags ss ≡ d.itags + (all_tags s.tags + total_itags ss) = omega arith in same)
+        (let same : d.itags + all_tags s.tags + total_itags ss ≡ d.itags + (all_tags s.tags + total_itags ss) = omega arith in same)
 
   module _ (families : List Family) (names : list_all (λ (f : Family). is_name f.name) families ≡ true) (known_families : FamiliesKnown families n)
       (kinds : List PlainKind) (known_kinds : KindsKnown kinds n) where
@@ -207,7 +213,7 @@ module _ (whole : List ℕ) (utf8 : IsUtf8 whole) (n : Naming) where
 
     one_on : (done : List PlainKind) (k : PlainKind) (rest : List PlainKind) (d : Drafted) (given : List ℕ) (actions : List PlainAction) (here more : List Declaration) → k.actions ≡ actions → length actions ≤ 32
         → slice_get kinds (length done) ≡ Some k → Free (length done) given → ActionsAre whole utf8 families names n known_families
-            (kind_head (length done) k) k.name actions here
+        (kind_head (length done) k) k.name actions here
         → Given (length done + 1) d (done ++ k ∷ rest) given (done ++ without_actions k ∷ rest) here more
     unfolding each with_declaration with_on
     one_on done k rest d given [] here more are few found free line = record {
@@ -223,15 +229,15 @@ module _ (whole : List ℕ) (utf8 : IsUtf8 whole) (n : Naming) where
         let head : KindHead = kind_head i k in
         let dos : List WrittenDo = line.first ∷ line.others in
         let looked : kind_of whole n line.named ≡ Ok head = ap (λ name. known line.named.from (look_up name n.kinds)) line.name_is
-            ∙ ap (known line.named.from) (known_kinds i k found) in
+        ∙ ap (known line.named.from) (known_kinds i k found) in
         let means : resolved_actions whole n head dos ≡ Ok (a ∷ actions) =
-            do_all whole utf8 families names n known_families head [] (a ∷ actions) dos (omega (arith, few)) line.are in
+        do_all whole utf8 families names n known_families head [] (a ∷ actions) dos (omega (arith, few)) line.are in
         let new : with_actions old i (a ∷ actions) ≡ done ++ k ∷ rest = given_actions done (without_actions k) rest (a ∷ actions)
-            ∙ ap (λ l. done ++ record k { actions = l } ∷ rest) (sym are) in
+        ∙ ap (λ l. done ++ record k { actions = l } ∷ rest) (sym are) in
         let end : ℕ → List PlainAction → Found Drafted = λ number actions. Ok (with_kinds d (with_actions old number actions) (given ++ number ∷ [])) in
         let done_so : with_on whole n (with_kinds d old given) line.named dos ≡ Ok (with_kinds d (done ++ k ∷ rest) (given ++ i ∷ [])) =
         ap (λ (r : Found KindHead). r >>= λ kind. unless (not (list_any (λ g. g == kind.number) given)) (f.TwiceNamed line.named.from) >>
-            (resolved_actions whole n kind dos >>= λ actions. end kind.number actions)) looked
+        (resolved_actions whole n kind dos >>= λ actions. end kind.number actions)) looked
         ∙ ap (λ b. unless (not b) (f.TwiceNamed line.named.from) >> (resolved_actions whole n head dos >>= λ actions. end i actions)) (free i (omega arith))
         ∙ ap (λ (r : Found (List PlainAction)). r >>= λ actions. end i actions) means
         ∙ ap (λ ks. Ok (with_kinds d ks (given ++ i ∷ []))) new in
@@ -250,27 +256,30 @@ module _ (whole : List ℕ) (utf8 : IsUtf8 whole) (n : Naming) where
     pub add_ons : (done ks : List PlainKind) (d : Drafted) (given : List ℕ) (ds more : List Declaration) → kinds ≡ done ++ ks
         → list_all (plain_kind_fits families) ks ≡ true → Free (length done) given → Ons whole utf8 families names n known_families (length done) ks ds
         → AllGiven d (done ++ ks) given (done ++ map without_actions ks) ds more
-    add_ons done [] d given ds more all fits free lines = record { now = given; leads =
-        ap (λ l. each (with_declaration whole n) (with_kinds d (done ++ []) given) (l ++ more)) lines }
+    add_ons done [] d given ds more all fits free lines = record {
+      now = given;
+      leads =
+          ap (λ l. each (with_declaration whole n) (with_kinds d (done ++ []) given) (l ++ more)) lines;
+    }
     add_ons done (k ∷ ks) d given ds more all fits free lines =
         let few = true_le (length k.actions) 32 (three_middle (is_name k.name) (nat_le (length k.actions) 32)
-            (list_all (plain_action_fits families k.keyed k.has_value) k.actions)
-            (and_left (plain_kind_fits families k) (list_all (plain_kind_fits families) ks) fits)) in
+        (list_all (plain_action_fits families k.keyed k.has_value) k.actions)
+        (and_left (plain_kind_fits families k) (list_all (plain_kind_fits families) ks) fits)) in
         let found : slice_get kinds (length done) ≡ Some k = ap (λ l. slice_get l (length done)) all ∙ slice_get-behind done k ks in
         let first = one_on done k (map without_actions ks) d given k.actions lines.0 (lines.1 ++ more) refl few found free lines.3 in
         let next : List PlainKind = done ++ k ∷ [] in
         let size : length done + 1 ≡ length next = sym (length-append done (k ∷ [])) in
         let rest = add_ons next ks d first.now lines.1 more (all ∙ sym (append_assoc done (k ∷ []) ks))
-            (and_right (plain_kind_fits families k) (list_all (plain_kind_fits families) ks) fits)
+        (and_right (plain_kind_fits families k) (list_all (plain_kind_fits families) ks) fits)
         (subst (λ i. Free i first.now) size first.free) (subst (λ i. Ons whole utf8 families names n known_families i ks lines.1) size lines.4) in
         record {
           now = rest.now;
           leads =
               ap (λ l. each (with_declaration whole n) (with_kinds d (done ++ map without_actions (k ∷ ks)) given) l)
-                  (ap (λ l. l ++ more) lines.2 ∙ append_assoc lines.0 lines.1 more)
+              (ap (λ l. l ++ more) lines.2 ∙ append_assoc lines.0 lines.1 more)
               ∙ first.leads
               ∙ ap (λ l. each (with_declaration whole n) (with_kinds d l first.now) (lines.1 ++ more))
-                (sym (append_assoc done (k ∷ []) (map without_actions ks)))
+              (sym (append_assoc done (k ∷ []) (map without_actions ks)))
               ∙ rest.leads
               ∙ ap (λ l. each (with_declaration whole n) (with_kinds d l rest.now) more) (append_assoc done (k ∷ []) ks);
         }

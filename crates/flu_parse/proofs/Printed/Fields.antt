@@ -49,14 +49,14 @@ not_reserved n word i named found =
     let other = fails_at (λ (r : Reserved). bytes_eq (reserved_spelling r) n) reserved_words i word (not_true (is_reserved n) free) found in
     false_if_not (bytes_eq n (reserved_spelling word)) (λ e.
     not_both (bytes_eq (reserved_spelling word) n) ((bytes_eq-Decides (reserved_spelling word) n).1
-        (sym ((bytes_eq-Decides n (reserved_spelling word)).0 e))) other)
+    (sym ((bytes_eq-Decides n (reserved_spelling word)).0 e))) other)
 
 -- what has a bracket is no word without one
 not_bracketed : (n more word : List ℕ) → list_any is_open_bracket word ≡ false → bytes_eq (n ++ 91 ∷ more) word ≡ false
 not_bracketed n more word none = false_if_not (bytes_eq (n ++ 91 ∷ more) word) (λ e.
     not_both (list_any is_open_bracket word)
     (ap (list_any is_open_bracket) (sym ((bytes_eq-Decides (n ++ 91 ∷ more) word).0 e)) ∙ list_any-append is_open_bracket n (91 ∷ more)
-        ∙ or_true (list_any is_open_bracket n)) none)
+    ∙ or_true (list_any is_open_bracket n)) none)
 
 -- ---- the key of a field
 
@@ -113,13 +113,13 @@ no_position : (n : List ℕ) → list_all is_name_byte n ≡ true → position i
 no_position n h =
     let none : nat_lt (length n) (length n) ≡ false = grind (arith, nat_tests) in
     ap (position_with n) (prefix_all (λ b. not (is_open_bracket b)) n (list_all_weaker is_name_byte (λ b. not (is_open_bracket b)) n no_bracket h))
-        ∙ ap (λ t. cond t (Some (length n)) None) none
+    ∙ ap (λ t. cond t (Some (length n)) None) none
 
 position_is : (n more : List ℕ) → list_all is_name_byte n ≡ true → position is_open_bracket (n ++ 91 ∷ more) ≡ Some (length n)
 position_is n more h =
     let inside : length n < length (n ++ 91 ∷ more) = omega (arith, length-append n (91 ∷ more)) in
     ap (position_with (n ++ 91 ∷ more)) (prefix_to (λ b. not (is_open_bracket b)) n 91 more
-        (list_all_weaker is_name_byte (λ b. not (is_open_bracket b)) n no_bracket h) refl)
+    (list_all_weaker is_name_byte (λ b. not (is_open_bracket b)) n no_bracket h) refl)
     ∙ ap (λ t. cond t (Some (length n)) None) (lt_true (length n) (length (n ++ 91 ∷ more)) inside)
 
 -- ---- what stands between braces
@@ -131,7 +131,7 @@ word_between whole before word after from to at size begins =
     let is : whole ≡ (before ++ word) ++ 125 ∷ after = at.is ∙ simp append_assoc in
     let here : to ≡ length (before ++ word) = omega (arith, size, at.here, length-append before word) in
     spelled_between whole before word (125 ∷ after) from to at size begins
-        (before_ascii whole (before ++ word) 125 after to (record { is = is; here = here }) (omega arith))
+    (before_ascii whole (before ++ word) 125 after to (record { is = is; here = here }) (omega arith))
 
 module _ (whole : List ℕ) (utf8 : IsUtf8 whole) (before n after : List ℕ) (from to : ℕ) (named : is_name n ≡ true)
     (begins : is_boundary whole from ≡ true) where
@@ -154,7 +154,7 @@ module _ (whole : List ℕ) (utf8 : IsUtf8 whole) (before n after : List ℕ) (f
   bracketed inner key at size found =
       let i : ℕ = length n in
       let sizes : length (n ++ 91 ∷ (inner ++ 93 ∷ [])) ≡ length n + length inner + 2 =
-          omega (arith, length-append n (91 ∷ (inner ++ 93 ∷ [])), length-append inner (93 ∷ [])) in
+      omega (arith, length-append n (91 ∷ (inner ++ 93 ∷ [])), length-append inner (93 ∷ [])) in
       let name_is : whole ≡ before ++ (n ++ (91 ∷ (inner ++ (93 ∷ 125 ∷ after)))) = at.is ∙ simp append_assoc in
       let open_is : whole ≡ (before ++ n) ++ (91 ∷ (inner ++ (93 ∷ 125 ∷ after))) = name_is ∙ simp append_assoc in
       let open_here : from + i ≡ length (before ++ n) = omega (arith, at.here, length-append before n) in
@@ -162,31 +162,31 @@ module _ (whole : List ℕ) (utf8 : IsUtf8 whole) (before n after : List ℕ) (f
       let inner_here : from + i + 1 ≡ length ((before ++ n) ++ 91 ∷ []) = omega (arith, open_here, length-append (before ++ n) (91 ∷ [])) in
       let close_is : whole ≡ (((before ++ n) ++ 91 ∷ []) ++ inner) ++ (93 ∷ 125 ∷ after) = inner_is ∙ simp append_assoc in
       let close_here : to - 1 ≡ length (((before ++ n) ++ 91 ∷ []) ++ inner) =
-          omega (arith, inner_here, size, sizes, length-append ((before ++ n) ++ 91 ∷ []) inner) in
+      omega (arith, inner_here, size, sizes, length-append ((before ++ n) ++ 91 ∷ []) inner) in
       let brace_is : whole ≡ ((((before ++ n) ++ 91 ∷ []) ++ inner) ++ 93 ∷ []) ++ (125 ∷ after) = close_is ∙ simp append_assoc in
       let brace_here : to ≡ length ((((before ++ n) ++ 91 ∷ []) ++ inner) ++ 93 ∷ []) =
-          omega (arith, close_here, size, sizes, length-append (((before ++ n) ++ 91 ∷ []) ++ inner) (93 ∷ [])) in
+      omega (arith, close_here, size, sizes, length-append (((before ++ n) ++ 91 ∷ []) ++ inner) (93 ∷ [])) in
       let behind_open = after_ascii whole (before ++ n) 91 (inner ++ (93 ∷ 125 ∷ after)) (from + i) utf8 (record { is = open_is; here = open_here })
-          (omega arith) in
+      (omega arith) in
       let before_close = before_ascii whole (((before ++ n) ++ 91 ∷ []) ++ inner) 93 (125 ∷ after) (to - 1) (record { is = close_is; here = close_here })
-          (omega arith) in
+      (omega arith) in
       let before_brace = before_ascii whole ((((before ++ n) ++ 91 ∷ []) ++ inner) ++ 93 ∷ []) 125 after to (record { is = brace_is; here = brace_here })
-          (omega arith) in
+      (omega arith) in
       let name_spelled = name_between whole before n (91 ∷ (inner ++ (93 ∷ 125 ∷ after))) from (from + i) utf8 named
-          (record { is = name_is; here = at.here }) refl in
+      (record { is = name_is; here = at.here }) refl in
       let inner_spelled : spelled whole (from + i + 1) (to - 1) ≡ inner =
       spelled_between whole ((before ++ n) ++ 91 ∷ []) inner (93 ∷ 125 ∷ after) (from + i + 1) (to - 1) (record { is = inner_is; here = inner_here })
-          (omega (arith, size, sizes)) behind_open before_close in
+      (omega (arith, size, sizes)) behind_open before_close in
       let close_spelled : spelled whole (to - 1) to ≡ 93 ∷ [] =
       spelled_between whole (((before ++ n) ++ 91 ∷ []) ++ inner) (93 ∷ []) (125 ∷ after) (to - 1) to (record { is = close_is; here = close_here })
-          (omega (arith, size, sizes)) before_close before_brace in
+      (omega (arith, size, sizes)) before_close before_brace in
       let make : WrittenKey → WrittenPiece = λ key. p.Read (record { family = span from (from + i); key = key }) in
       ap (λ w. ref_with whole from to (position is_open_bracket w)) (word_between whole before (n ++ 91 ∷ (inner ++ 93 ∷ [])) after from to at size begins)
       ∙ ap (ref_with whole from to) (position_is n (inner ++ 93 ∷ []) (name_bytes n named))
       ∙ ap (λ w. if is_name w && bytes_eq (spelled whole (to - 1) to) (codes "]") then option_map make
-        (key_at (spelled whole (from + i + 1) (to - 1)) (from + i + 1)) else None) name_spelled
+      (key_at (spelled whole (from + i + 1) (to - 1)) (from + i + 1)) else None) name_spelled
       ∙ ap (λ t. if t && bytes_eq (spelled whole (to - 1) to) (codes "]") then option_map make
-        (key_at (spelled whole (from + i + 1) (to - 1)) (from + i + 1)) else None) named
+      (key_at (spelled whole (from + i + 1) (to - 1)) (from + i + 1)) else None) named
       ∙ ap (λ w. if bytes_eq w (codes "]") then option_map make (key_at (spelled whole (from + i + 1) (to - 1)) (from + i + 1)) else None) close_spelled
       ∙ ap (λ w. option_map make (key_at w (from + i + 1))) inner_spelled
       ∙ ap (option_map make) found
@@ -205,8 +205,11 @@ module _ (whole : List ℕ) (utf8 : IsUtf8 whole) (under : KindHead) (before n a
   pub read_field : (family_keyed : Bool) (a : At) → key_fits family_keyed under.keyed a ≡ true → Place whole before ((n ++ written_key a) ++ 125 ∷ after) from
       → to ≡ from + length (n ++ written_key a) → FieldIs whole under n family_keyed a from to
   read_field family_keyed at.Alone fits place size =
-      let at_name : Place whole before (n ++ 125 ∷ after) from = record { is = place.is
-          ∙ ap (λ w. before ++ (w ++ 125 ∷ after)) (append-nil n); here = place.here } in
+      let at_name : Place whole before (n ++ 125 ∷ after) from = record {
+        is = place.is
+            ∙ ap (λ w. before ++ (w ++ 125 ∷ after)) (append-nil n);
+        here = place.here;
+      } in
       let name_size : to ≡ from + length n = size ∙ ap (λ w. from + length w) (append-nil n) in
       record {
         written = record { family = span from to; key = k.Alone };
@@ -218,7 +221,7 @@ module _ (whole : List ℕ) (utf8 : IsUtf8 whole) (under : KindHead) (before n a
       }
   read_field family_keyed at.OwnKey fits place size =
       let name_at : Place whole before (n ++ (codes "[key]" ++ 125 ∷ after)) from =
-          record { is = place.is ∙ ap (λ w. before ++ w) (append_assoc n (codes "[key]") (125 ∷ after)); here = place.here } in
+      record { is = place.is ∙ ap (λ w. before ++ w) (append_assoc n (codes "[key]") (125 ∷ after)); here = place.here } in
       record {
         written = record { family = span from (from + length n); key = k.OwnKey (from + length n + 1) };
         read = bracketed whole utf8 before n after from to named begins (codes "key") (k.OwnKey (from + length n + 1)) place size
@@ -231,7 +234,7 @@ module _ (whole : List ℕ) (utf8 : IsUtf8 whole) (under : KindHead) (before n a
   read_field family_keyed (at.Fixed m) fits place size =
       let small = and_right family_keyed (nat_lt m key_count) fits in
       let name_at : Place whole before (n ++ (written_key (at.Fixed m) ++ 125 ∷ after)) from =
-          record { is = place.is ∙ ap (λ w. before ++ w) (append_assoc n (written_key (at.Fixed m)) (125 ∷ after)); here = place.here } in
+      record { is = place.is ∙ ap (λ w. before ++ w) (append_assoc n (written_key (at.Fixed m)) (125 ∷ after)); here = place.here } in
       record {
         written = record { family = span from (from + length n); key = k.Fixed (record { value = pos m; at = from + length n + 1 }) };
         read = bracketed whole utf8 before n after from to named begins (decimal m) (k.Fixed (record { value = pos m; at = from + length n + 1 })) place size
@@ -270,7 +273,7 @@ field_of_ref whole from to n a named e =
     let word : List ℕ = n ++ written_key a in
     field_of_word whole false from to word e
     ∙ ap (λ t. if t then Some p.Value else if bytes_eq word (codes "key") then Some p.Key else if bytes_eq word
-      (codes "time") then Some p.Time else ref_at whole from to) (other_word n a 21 r.Value named refl refl)
+    (codes "time") then Some p.Time else ref_at whole from to) (other_word n a 21 r.Value named refl refl)
     ∙ ap (λ t. if t then Some p.Key else if bytes_eq word (codes "time") then Some p.Time else ref_at whole from to) (other_word n a 22 r.Key named refl refl)
     ∙ ap (λ t. if t then Some p.Time else ref_at whole from to) (other_word n a 23 r.Time named refl refl)
 
@@ -294,4 +297,4 @@ pub ref_closed : (n : List ℕ) (a : At) (family_keyed keyed : Bool) → is_name
 ref_closed n a family_keyed keyed named fits =
     list_all-append no_brace n (written_key a)
     ∙ both (list_all no_brace n) (list_all no_brace (written_key a)) (list_all_weaker is_name_byte no_brace n name_no_brace (name_bytes n named))
-      (key_closed a family_keyed keyed fits)
+    (key_closed a family_keyed keyed fits)

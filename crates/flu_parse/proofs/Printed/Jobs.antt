@@ -1,11 +1,11 @@
 -- The normal form of a job is read as that job.
-use Rattle.std.proofs.Common.{◌≡◌, ◌≤◌, ◌+◌, ℕ, pos, Bool, true, false, ◌&&◌, ◌||◌, Option, None, List, [], ◌∷◌, ◌++◌, map, length, Some, Ok, refl, sym, ap, subst, ◌∙◌, append_assoc, arith}
-use Rattle.std.specs.Prelude.{not, ◌==◌, if◌then◌else◌}
-use Rattle.std.specs.List.{list_all, list_any}
+use Rattle.std.proofs.Common.{◌≡◌, ◌≤◌, ◌+◌, ℕ, pos, Bool, true, false, Option, None, List, [], ◌∷◌, ◌++◌, map, length, Some, Ok, refl, sym, ap, subst, ◌∙◌, append_assoc, arith}
+use Rattle.std.specs.Prelude.{◌==◌, if◌then◌else◌}
+use Rattle.std.specs.List.{list_all}
 use Rattle.std.specs.Str.{IsUtf8}
 use Rattle.std.proofs.lemmas.List.Concat.{flat_map-append}
 use Rattle.flu_lemmas.proofs.Tests.{le_true, true_eq}
-use Rattle.flu_lemmas.proofs.Booleans.{or_front, three_left, three_right}
+use Rattle.flu_lemmas.proofs.Booleans.{or_front}
 use Rattle.flu_lemmas.specs.Items.{Begins}
 use Rattle.flu_lemmas.proofs.Items.{begins_append, Took, took_none}
 use Rattle.flu_text.specs.declared.words.Token.{Token}
@@ -145,14 +145,14 @@ module _ (begun : BegunAreSigns) (meet : TagsMeet) (differ : TagsDiffer) (job : 
       let version = read_version _ tokens h in
       let ts = version.took.rest in
       let cells = read_lines whole cell_line_words (CellIs whole utf8) (λ (g : Family). is_name g.name)
-          (read_cell_line whole utf8) job.families _ ts fits.families version.took.stand in
+      (read_cell_line whole utf8) job.families _ ts fits.families version.took.stand in
       let tags = read_lines whole tag_line_words (TagIs whole utf8) (λ (k : PlainKind). is_name k.name)
-          (read_tag_line whole utf8) job.kinds _ cells.took.rest named_kinds cells.took.stand in
+      (read_tag_line whole utf8) job.kinds _ cells.took.rest named_kinds cells.took.stand in
       let deps = read_lines whole (depends_line_words job.kinds) (DependsIs whole utf8 job.kinds named_kinds n known_kinds) (plain_depend_fits job.kinds)
-          (read_depends_line whole utf8 job.kinds named_kinds n known_kinds) job.depends _ tags.took.rest fits.depends tags.took.stand in
+      (read_depends_line whole utf8 job.kinds named_kinds n known_kinds) job.depends _ tags.took.rest fits.depends tags.took.stand in
       let ons = read_ons whole utf8 job.families fits.families n known_families 0 job.kinds _ deps.took.rest fits.kinds deps.took.stand in
       let sources = read_lines whole (source_line_words job.kinds) (SourceIs whole utf8 job.kinds named_kinds n known_kinds) (plain_source_fits job.kinds)
-          (read_source_line whole utf8 job.kinds named_kinds n known_kinds) job.sources [] ons.took.rest fits.sources ons.took.stand in
+      (read_source_line whole utf8 job.kinds named_kinds n known_kinds) job.sources [] ons.took.rest fits.sources ons.took.stand in
       let p : Parts = record {
         cells = cells.written;
         tags = tags.written;
@@ -169,12 +169,12 @@ module _ (begun : BegunAreSigns) (meet : TagsMeet) (differ : TagsDiffer) (job : 
       let fourth = begin_more ons.written (sources.written ++ []) deps.took.rest ons.took.rest sources.took.rest ons.took.begins last in
       let third = begin_more deps.written (ons.written ++ (sources.written ++ [])) tags.took.rest deps.took.rest sources.took.rest deps.took.begins fourth in
       let second = begin_more tags.written
-          (deps.written ++ (ons.written ++ (sources.written ++ []))) cells.took.rest tags.took.rest sources.took.rest tags.took.begins third in
+      (deps.written ++ (ons.written ++ (sources.written ++ []))) cells.took.rest tags.took.rest sources.took.rest tags.took.begins third in
       let first = begin_more cells.written
-          (tags.written ++ (deps.written ++ (ons.written ++ (sources.written ++ [])))) ts cells.took.rest sources.took.rest cells.took.begins second in
+      (tags.written ++ (deps.written ++ (ons.written ++ (sources.written ++ [])))) ts cells.took.rest sources.took.rest cells.took.begins second in
       let written : WrittenJob = record { version = version.written; declarations = all_parts p } in
       let whole_job = begins_append IsSign (version_signs version.written)
-          (declarations_signs (all_parts p)) tokens ts sources.took.rest version.took.begins first in
+      (declarations_signs (all_parts p)) tokens ts sources.took.rest version.took.begins first in
       record {
         version = version.written;
         parts = p;
@@ -195,24 +195,34 @@ module _ (begun : BegunAreSigns) (meet : TagsMeet) (differ : TagsDiffer) (job : 
       let source_names : List (List ℕ) = map (λ (s : Source). s.name) job.sources in
       let rest : List (List ℕ) = map (λ (k : PlainKind). k.name) job.kinds ++ source_names in
       let left : Left no_names (map (λ (g : Family). g.name) job.families ++ rest) =
-          record { fresh = all_fresh (map (λ (g : Family). g.name) job.families ++ rest); apart = (apart job fits.own_names).all } in
+      record { fresh = all_fresh (map (λ (g : Family). g.name) job.families ++ rest); apart = (apart job fits.own_names).all } in
       let with_cells : Naming = record { families = family_heads 0 job.families; kinds = []; sources = []; depends = 0 } in
       let with_tags : Naming = record { families = family_heads 0 job.families; kinds = kind_heads 0 job.kinds; sources = []; depends = 0 } in
-      let with_deps : Naming = record { families = family_heads 0 job.families; kinds = kind_heads 0 job.kinds; sources = []; depends =
-          0 + length job.depends } in
+      let with_deps : Naming = record {
+        families = family_heads 0 job.families;
+        kinds = kind_heads 0 job.kinds;
+        sources = [];
+        depends =
+            0 + length job.depends;
+      } in
       let cells = declare_cells whole utf8 job.families no_names p.cells (p.tags ++ (p.deps ++ (p.ons ++ (p.sources ++ [])))) rest p.are_cells left
-          (omega (arith, fits.few_families)) in
+      (omega (arith, fits.few_families)) in
       let tags = declare_tags whole utf8 job.kinds with_cells p.tags (p.deps ++ (p.ons ++ (p.sources ++ []))) source_names p.are_tags cells.left
-          (omega (arith, fits.few_kinds)) in
+      (omega (arith, fits.few_kinds)) in
       cells.leads
       ∙ tags.leads
       ∙ declare_depends whole utf8 job.kinds named_kinds n known_kinds job.depends with_tags p.deps (p.ons ++ (p.sources ++ [])) p.are_deps
-        (omega (arith, fits.few_depends))
+      (omega (arith, fits.few_depends))
       ∙ declare_ons whole utf8 job.families fits.families n known_families 0 job.kinds with_deps p.ons (p.sources ++ []) p.are_ons
       ∙ declare_sources whole utf8 job.kinds named_kinds n known_kinds job.sources with_deps p.sources [] p.are_sources
-        (counted whole utf8 with_tags (0 + length job.depends) source_names tags.left) (omega (arith, fits.few_sources))
-      ∙ ap (λ k. Ok (let m : Naming = record { families = family_heads 0 job.families; kinds = kind_heads 0 job.kinds; sources = source_names; depends =
-        k } in m)) (let same : 0 + length job.depends ≡ length job.depends = omega arith in same)
+      (counted whole utf8 with_tags (0 + length job.depends) source_names tags.left) (omega (arith, fits.few_sources))
+      ∙ ap (λ k. Ok (let m : Naming = record {
+        families = family_heads 0 job.families;
+        kinds = kind_heads 0 job.kinds;
+        sources = source_names;
+        depends =
+            k;
+      } in m)) (let same : 0 + length job.depends ≡ length job.depends = omega arith in same)
 
   drafted : (p : Parts) → (given : List ℕ) × (itags : ℕ) × (draft_of whole n (all_parts p) ≡ Ok (record { kinds = job.kinds; given = given; depends = job.depends; sources = job.sources; itags = itags }))
   unfolding n each
@@ -222,7 +232,7 @@ module _ (begun : BegunAreSigns) (meet : TagsMeet) (differ : TagsDiffer) (job : 
       let start : Drafted = record { kinds = idle; given = []; depends = []; sources = []; itags = 0 } in
       let with_deps : Drafted = record { kinds = idle; given = []; depends = job.depends; sources = []; itags = 0 } in
       let ons = add_ons whole utf8 n job.families fits.families known_families job.kinds known_kinds [] job.kinds with_deps [] p.ons
-          (p.sources ++ []) refl fits.kinds (λ j le. refl) p.are_ons in
+      (p.sources ++ []) refl fits.kinds (λ j le. refl) p.are_ons in
       let with_ons : Drafted = record { kinds = job.kinds; given = ons.now; depends = job.depends; sources = []; itags = 0 } in
       let few : 0 + total_itags job.sources ≤ 256 = omega (arith, fits.few_itags, itags_counted 0 job.sources) in (
         ons.now,
@@ -245,7 +255,7 @@ module _ (begun : BegunAreSigns) (meet : TagsMeet) (differ : TagsDiffer) (job : 
       ∙ ap (λ (r : Found ℕ). r >>= λ v. draft_of whole n (all_parts p) >>= λ d. Ok (draft_with v n d)) known
       ∙ ap (λ (r : Found Drafted). r >>= λ d. Ok (draft_with job.version n d)) d.2
       ∙ ap (λ fs. Ok (let j : Job = record { version = job.version; families = fs; kinds = job.kinds; depends = job.depends; sources = job.sources } in j))
-        (families_back 0 job.families)
+      (families_back 0 job.families)
 
 -- the words of the normal form are read as the job
 laid_is_read : LaidIsRead → BegunAreSigns → KeysAreLaid → FoundIsJob → TagsMeet → TagsDiffer → (job : Job) → JobFits job → IsUtf8 (layout (job_words job))
@@ -269,4 +279,4 @@ pub job_is_read : LaidIsRead → BegunAreSigns → KeysAreSpelled → KeysAreLai
     → length (normal_form job) ≤ 1048576 → job_in (normal_form job) ≡ Ok job
 job_is_read read begun spelled keys found meet differ job fits =
     subst (λ text. IsUtf8 text → length text ≤ 1048576 → job_in text ≡ Ok job) (job_layout spelled job)
-        (laid_is_read read begun keys found meet differ job fits)
+    (laid_is_read read begun keys found meet differ job fits)

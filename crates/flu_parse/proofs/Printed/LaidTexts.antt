@@ -1,5 +1,5 @@
 -- The bytes of templates may stand between quotes.
-use Rattle.std.proofs.Common.{◌≡◌, ◌<◌, ℕ, Bool, true, ◌&&◌, List, [], ◌∷◌, ◌++◌, refl, ◌∙◌, arith}
+use Rattle.std.proofs.Common.{◌≡◌, ◌<◌, ℕ, Bool, true, List, [], ◌∷◌, ◌++◌, refl, ◌∙◌, arith}
 use Rattle.std.specs.Prelude.{nat_lt, not, ◌==◌, length, slice_get, codes}
 use Rattle.std.specs.Char.{is_ascii_digit}
 use Rattle.std.specs.Fmt.{decimal}
@@ -78,7 +78,7 @@ module _ (families : List Family) (names : list_all (λ (f : Family). is_name f.
       let found = family_at families keyed r h in
       let n : List ℕ = family_name (slice_get families r.family) in
       let name_bytes = list_all_weaker is_name_byte is_text_byte n name_byte_quoted
-          (name_bytes n (family_named families names r.family found.family found.found)) in
+      (name_bytes n (family_named families names r.family found.family found.found)) in
       let cell = append_all n (written_key r.at) name_bytes (key_bytes r.at found.family.keyed keyed found.fits) in
       append_all (codes "{" ++ written_cell families r) (codes "}") cell refl
   piece_bytes piece.CellValue h = refl
@@ -87,5 +87,5 @@ module _ (families : List Family) (names : list_all (λ (f : Family). is_name f.
   template_bytes [] h = refl
   template_bytes (p ∷ ps) h =
       append_all (written_piece families p) (written_template families ps)
-          (piece_bytes p (and_left (piece_keeps families keyed p) (list_all (piece_keeps families keyed) ps) h))
+      (piece_bytes p (and_left (piece_keeps families keyed p) (list_all (piece_keeps families keyed) ps) h))
       (template_bytes ps (and_right (piece_keeps families keyed p) (list_all (piece_keeps families keyed) ps) h))

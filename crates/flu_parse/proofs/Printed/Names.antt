@@ -42,8 +42,13 @@ kind_heads = heads (λ (k : PlainKind). k.name) kind_head
 
 -- the names of a job
 abbrev pub naming_of_job : Job → Naming
-naming_of_job job = record { families = family_heads 0 job.families; kinds = kind_heads 0 job.kinds; sources =
-    map (λ (s : Source). s.name) job.sources; depends = length job.depends }
+naming_of_job job = record {
+  families = family_heads 0 job.families;
+  kinds = kind_heads 0 job.kinds;
+  sources =
+      map (λ (s : Source). s.name) job.sources;
+  depends = length job.depends;
+}
 
 -- ---- names that differ
 
@@ -71,10 +76,10 @@ module _ {X H : Type 0} (name : X → List ℕ) (head : ℕ → X → H) where
       ∙ ap (λ z. Some (head j z)) same ∙ ap (λ k. Some (head k x)) number
   own_head j (y ∷ ys) (suc i) x apart found =
       let none : list_any (is_same_text (name y)) (map name ys) ≡ false =
-          not_true (list_any (is_same_text (name y)) (map name ys)) (and_left (not (list_any (is_same_text (name y)) (map name ys)))
-          (are_distinct is_same_text (map name ys)) apart) in
+      not_true (list_any (is_same_text (name y)) (map name ys)) (and_left (not (list_any (is_same_text (name y)) (map name ys)))
+      (are_distinct is_same_text (map name ys)) apart) in
       let other : bytes_eq (name x) (name y) ≡ false = differs_too (name y) (name x)
-          (fails_at (is_same_text (name y)) (map name ys) i (name x) none (name_found ys i x found)) in
+      (fails_at (is_same_text (name y)) (map name ys) i (name x) none (name_found ys i x found)) in
       let number : j + 1 + i ≡ j + suc i = omega arith in
       ap (λ b. if b then Some (head j y) else look_up (name x) (heads name head (j + 1) ys)) other
       ∙ own_head (j + 1) ys i x (and_right (not (list_any (is_same_text (name y)) (map name ys))) (are_distinct is_same_text (map name ys)) apart) found
@@ -110,9 +115,11 @@ look_up_more {H} y x h (g ∷ hs) none other = by (bytes_eq y g.0) none (λ rest
 still_fresh : (m next : Naming) (x : List ℕ) (ys : List (List ℕ)) → ((y : List ℕ) → Fresh m y → bytes_eq y x ≡ false → Fresh next y) → AllFresh m ys
     → list_any (is_same_text x) ys ≡ false → AllFresh next ys
 still_fresh m next x [] step fresh none = tt
-still_fresh m next x (y ∷ ys) step fresh none =
-    (step y fresh.0 (differs_too x y (or_false_left (is_same_text x y) (list_any (is_same_text x) ys) none)), still_fresh m next x ys step fresh.1
-        (or_false_right (is_same_text x y) (list_any (is_same_text x) ys) none))
+still_fresh m next x (y ∷ ys) step fresh none = (
+  step y fresh.0 (differs_too x y (or_false_left (is_same_text x y) (list_any (is_same_text x) ys) none)),
+  still_fresh m next x ys step fresh.1
+      (or_false_right (is_same_text x y) (list_any (is_same_text x) ys) none),
+)
 
 pub all_fresh : (ys : List (List ℕ)) → AllFresh no_names ys
 all_fresh [] = tt
@@ -138,7 +145,7 @@ module _ (whole : List ℕ) (utf8 : IsUtf8 whole) where
   fresh_is : (m : Naming) (s : WrittenSpan) (name : List ℕ) → name_of whole s ≡ name → Fresh m name → fresh_name whole m s ≡ Ok name
   fresh_is m s name is fresh =
       ap (λ n. unless (not (is_declared m n)) (f.TwiceNamed s.from) >> Ok n) is
-          ∙ ap (λ b. unless (not b) (f.TwiceNamed s.from) >> Ok name) (not_declared m name fresh)
+      ∙ ap (λ b. unless (not b) (f.TwiceNamed s.from) >> Ok name) (not_declared m name fresh)
 
   abbrev pub with_families : Naming → List (List ℕ × FamilyHead) → Naming
   with_families m hs = record m { families = hs }
@@ -186,14 +193,18 @@ module _ (whole : List ℕ) (utf8 : IsUtf8 whole) where
   unfolding with_family
   one_family m s g is fresh few =
       ap (λ (r : Found (List ℕ)). r >>= λ name. room Families 64 (length m.families) >> Ok
-          (with_families m (m.families ++ (name, family_head (length m.families) g) ∷ []))) (fresh_is m s g.name is fresh)
+      (with_families m (m.families ++ (name, family_head (length m.families) g) ∷ []))) (fresh_is m s g.name is fresh)
       ∙ ap (λ b. unless b (f.OverLimit Families 65) >> Ok (with_families m (m.families ++ (g.name, family_head (length m.families) g) ∷ [])))
-        (lt_true (length m.families) 64 few)
+      (lt_true (length m.families) 64 few)
 
   family_fresh : (m : Naming) (g : Family) (y : List ℕ) → Fresh m y → bytes_eq y g.name ≡ false
       → Fresh (with_families m (m.families ++ (g.name, family_head (length m.families) g) ∷ [])) y
-  family_fresh m g y h other = record { family = look_up_more y g.name (family_head (length m.families) g) m.families h.family other; kind = h.kind; source =
-      h.source }
+  family_fresh m g y h other = record {
+    family = look_up_more y g.name (family_head (length m.families) g) m.families h.family other;
+    kind = h.kind;
+    source =
+        h.source;
+  }
 
   pub declare_cells : (fs : List Family) (m : Naming) (ds more : List Declaration) (ys : List (List ℕ)) → Lines (CellIs whole utf8) fs ds
       → Left m (map (λ (g : Family). g.name) fs ++ ys) → length m.families + length fs ≤ 64
@@ -207,9 +218,9 @@ module _ (whole : List ℕ) (utf8 : IsUtf8 whole) where
       let next : Naming = with_families m (m.families ++ (g.name, family_head (length m.families) g) ∷ []) in
       let size = length-append m.families ((g.name, family_head (length m.families) g) ∷ []) in
       let rest = declare_cells fs next lines.1 more ys lines.4 (left_after m next g.name (map (λ (g : Family). g.name) fs ++ ys) (family_fresh m g) left)
-          (omega (arith, few, size)) in
+      (omega (arith, few, size)) in
       let same : with_families m (next.families ++ family_heads (length next.families) fs) ≡ with_families m
-          (m.families ++ family_heads (length m.families) (g ∷ fs)) =
+      (m.families ++ family_heads (length m.families) (g ∷ fs)) =
       ap (with_families m) (one_more m.families (g.name, family_head (length m.families) g) (λ k. family_heads k fs)) in
       record {
         leads = one m next ds lines.0 lines.1 more (Cell line.0 g.keyed g.sort) lines.2 line.1
@@ -222,9 +233,9 @@ module _ (whole : List ℕ) (utf8 : IsUtf8 whole) where
   unfolding with_kind
   one_kind m s k is fresh few =
       ap (λ (r : Found (List ℕ)). r >>= λ name. room Kinds 64 (length m.kinds) >> Ok (with_kinds m (m.kinds ++ (name, kind_head (length m.kinds) k) ∷ [])))
-          (fresh_is m s k.name is fresh)
+      (fresh_is m s k.name is fresh)
       ∙ ap (λ b. unless b (f.OverLimit Kinds 65) >> Ok (with_kinds m (m.kinds ++ (k.name, kind_head (length m.kinds) k) ∷ [])))
-        (lt_true (length m.kinds) 64 few)
+      (lt_true (length m.kinds) 64 few)
 
   kind_fresh : (m : Naming) (k : PlainKind) (y : List ℕ) → Fresh m y → bytes_eq y k.name ≡ false
       → Fresh (with_kinds m (m.kinds ++ (k.name, kind_head (length m.kinds) k) ∷ [])) y
@@ -242,7 +253,7 @@ module _ (whole : List ℕ) (utf8 : IsUtf8 whole) where
       let next : Naming = with_kinds m (m.kinds ++ (k.name, kind_head (length m.kinds) k) ∷ []) in
       let size = length-append m.kinds ((k.name, kind_head (length m.kinds) k) ∷ []) in
       let rest = declare_tags ks next lines.1 more ys lines.4 (left_after m next k.name (map (λ (k : PlainKind). k.name) ks ++ ys) (kind_fresh m k) left)
-          (omega (arith, few, size)) in
+      (omega (arith, few, size)) in
       let same : with_kinds m (next.kinds ++ kind_heads (length next.kinds) ks) ≡ with_kinds m (m.kinds ++ kind_heads (length m.kinds) (k ∷ ks)) =
       ap (with_kinds m) (one_more m.kinds (k.name, kind_head (length m.kinds) k) (λ i. kind_heads i ks)) in
       record {
@@ -277,7 +288,7 @@ module _ (whole : List ℕ) (utf8 : IsUtf8 whole) where
         let line = lines.3 in
         let next : Naming = with_count m (m.depends + 1) in
         let found : declare whole m (Depends line.a line.b line.how) ≡ Ok next =
-            ap (λ b. unless b (f.OverLimit DependsLimit 4097) >> Ok next) (lt_true m.depends 4096 (omega (arith, few))) in
+        ap (λ b. unless b (f.OverLimit DependsLimit 4097) >> Ok next) (lt_true m.depends 4096 (omega (arith, few))) in
         one m next ds lines.0 lines.1 more (Depends line.a line.b line.how) lines.2 line.is found
         ∙ declare_depends deps next lines.1 more lines.4 (omega (arith, few))
         ∙ ap (λ k. each (declare whole) (with_count m k) more) (let same : m.depends + 1 + length deps ≡ m.depends + suc (length deps) = omega arith in same)
@@ -292,10 +303,10 @@ module _ (whole : List ℕ) (utf8 : IsUtf8 whole) where
         let next : Naming = with_sources m (m.sources ++ s.name ∷ []) in
         let size = length-append m.sources (s.name ∷ []) in
         one m next ds lines.0 lines.1 more (SourceLine line.named line.file
-            (Some (record { value = pos s.rate; at = line.rate_at })) line.slack line.tags) lines.2 line.is
-            (one_source m line.named s.name line.name_is left.fresh.0 (omega (arith, few)))
+        (Some (record { value = pos s.rate; at = line.rate_at })) line.slack line.tags) lines.2 line.is
+        (one_source m line.named s.name line.name_is left.fresh.0 (omega (arith, few)))
         ∙ declare_sources ss next lines.1 more lines.4 (left_after m next s.name (map (λ (s : Source). s.name) ss) (source_fresh m s.name) left)
-          (omega (arith, few, size))
+        (omega (arith, few, size))
         ∙ ap (λ l. each (declare whole) (with_sources m l) more) (append_assoc m.sources (s.name ∷ []) (map (λ (s : Source). s.name) ss))
 
   module _ (families : List Family) (names : list_all (λ (f : Family). is_name f.name) families ≡ true) (n : Naming)

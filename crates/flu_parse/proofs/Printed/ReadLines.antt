@@ -48,7 +48,7 @@ use Rattle.flu_parse.specs.Printing.{kind_name}
 use Rattle.flu_parse.proofs.Printed.Rules.{plain_kind_is_keyed, plain_depend_fits, plain_tag_fits, plain_source_fits}
 use Rattle.flu_parse.proofs.Printed.Words.{action_words, keyed_words, sort_reserved, cell_line_words, value_reserved, tag_line_words, behind_depends, same_words, depends_line_words, actions_words, on_line_words, tag_words, listed_words, slack_words, source_line_words}
 use Rattle.flu_parse.proofs.Printed.Quotes.{text_stands, inside_stands}
-use Rattle.flu_parse.proofs.Printed.LaidLines.{kind_at, kind_named, source_facts}
+use Rattle.flu_parse.proofs.Printed.LaidLines.{kind_at, source_facts}
 use Rattle.flu_parse.proofs.Printed.ReadTerms.{FamiliesKnown}
 use Rattle.flu_parse.proofs.Printed.ReadActions.{Does, read_action, are_actions}
 use Rattle.flu_parse.proofs.Printed.ReadTags.{kind_head, KindsKnown, Lists, read_tag}
@@ -73,7 +73,7 @@ pub record LinesAre (whole : List ℕ) (Means : List Declaration → Type 0) (re
 pub read_lines : {X : Type 0} (whole : List ℕ) (line : X → List Laid → List Laid) (R : X → List Declaration → Type 0) (test : X → Bool)
     → ((x : X) (rest : List Laid) (ts : List Token) → test x ≡ true → Stand whole (line x rest) ts → LinesAre whole (R x) rest ts)
     → (xs : List X) (rest : List Laid) (ts : List Token) → list_all test xs ≡ true → Stand whole (lines_before line xs rest) ts → LinesAre whole
-        (Lines R xs) rest ts
+    (Lines R xs) rest ts
 read_lines whole line R test each [] rest ts all h = record { written = []; took = record { rest = ts; begins = refl; stand = h }; are = tt; means = refl }
 read_lines whole line R test each (x ∷ xs) rest ts all h =
     let here = each x (lines_before line xs rest) ts (and_left (test x) (list_all test xs) all) h in
@@ -127,10 +127,26 @@ module _ (whole : List ℕ) (utf8 : IsUtf8 whole) where
       let n = h.4 in
       let end = read_end f.keyed (sort_reserved f.sort) rest n.1 n.4 in
       let signs : keyed_signs f.keyed ++ Any (w.Reserved (sort_reserved f.sort)) ∷ [] ≡ keyed_signs f.keyed ++ Any (sort_word f.sort)
-          ∷ [] = ap (λ (word : Word). keyed_signs f.keyed ++ Any word ∷ []) (same_word f.sort) in
+      ∷ [] = ap (λ (word : Word). keyed_signs f.keyed ++ Any word ∷ []) (same_word f.sort) in
       one_line whole (CellIs f) rest ts (Cell (span_of n.0) f.keyed f.sort)
-      (record { rest = end.rest; begins = (h.0, h.1, h.2, h.3.word, (n.0, n.1, n.2, (n.3.word, refl, refl), subst
-          (λ l. Begins IsSign l n.1 end.rest) signs end.begins)); stand = end.stand })
+      (record {
+        rest = end.rest;
+        begins = (
+          h.0,
+          h.1,
+          h.2,
+          h.3.word,
+          (
+            n.0,
+            n.1,
+            n.2,
+            (n.3.word, refl, refl),
+            subst
+                (λ l. Begins IsSign l n.1 end.rest) signs end.begins,
+          ),
+        );
+        stand = end.stand;
+      })
       tt (span_of n.0, refl, n.3.named refl)
 
   -- the declaration of a kind
@@ -143,10 +159,26 @@ module _ (whole : List ℕ) (utf8 : IsUtf8 whole) where
       let n = h.4 in
       let end = read_end k.keyed (value_reserved k.has_value) rest n.1 n.4 in
       let signs : keyed_signs k.keyed ++ Any (w.Reserved (value_reserved k.has_value)) ∷ [] ≡ keyed_signs k.keyed ++ Any (value_word k.has_value)
-          ∷ [] = ap (λ (word : Word). keyed_signs k.keyed ++ Any word ∷ []) (same_value k.has_value) in
+      ∷ [] = ap (λ (word : Word). keyed_signs k.keyed ++ Any word ∷ []) (same_value k.has_value) in
       one_line whole (TagIs k) rest ts (Tag (span_of n.0) k.keyed k.has_value)
-      (record { rest = end.rest; begins = (h.0, h.1, h.2, h.3.word, (n.0, n.1, n.2, (n.3.word, refl, refl), subst
-          (λ l. Begins IsSign l n.1 end.rest) signs end.begins)); stand = end.stand })
+      (record {
+        rest = end.rest;
+        begins = (
+          h.0,
+          h.1,
+          h.2,
+          h.3.word,
+          (
+            n.0,
+            n.1,
+            n.2,
+            (n.3.word, refl, refl),
+            subst
+                (λ l. Begins IsSign l n.1 end.rest) signs end.begins,
+          ),
+        );
+        stand = end.stand;
+      })
       tt (span_of n.0, refl, n.3.named refl)
 
   module _ (kinds : List PlainKind) (named_kinds : list_all (λ (k : PlainKind). is_name k.name) kinds ≡ true) (n : Naming)
@@ -197,11 +229,20 @@ module _ (whole : List ℕ) (utf8 : IsUtf8 whole) where
         let b = a.4 in
         let ok : (not d.same || (first.kind.keyed && second.kind.keyed)) ≡ true =
         ap (λ o. not d.same || (plain_kind_is_keyed o && second.kind.keyed)) (sym first.found)
-            ∙ ap (λ o. not d.same || (keyed_a && plain_kind_is_keyed o)) (sym second.found) ∙ three_right in_a in_b same_ok fits in
+        ∙ ap (λ o. not d.same || (keyed_a && plain_kind_is_keyed o)) (sym second.found) ∙ three_right in_a in_b same_ok fits in
         let same = read_same d.same (kind_head d.a first.kind) (kind_head d.b second.kind) rest b.1 ok b.4 in
         one_line whole (DependsIs d) rest ts (Depends (span_of a.0) (span_of b.0) same.how)
-        (record { rest = same.took.rest; begins = (h.0, h.1, h.2, h.3.word,
-            (a.0, a.1, a.2, (a.3.word, refl, refl), (b.0, b.1, b.2, (b.3.word, refl, refl), same.took.begins))); stand = same.took.stand })
+        (record {
+          rest = same.took.rest;
+          begins = (
+            h.0,
+            h.1,
+            h.2,
+            h.3.word,
+            (a.0, a.1, a.2, (a.3.word, refl, refl), (b.0, b.1, b.2, (b.3.word, refl, refl), same.took.begins)),
+          );
+          stand = same.took.stand;
+        })
         tt (record {
           a = span_of a.0;
           b = span_of b.0;
@@ -239,11 +280,20 @@ module _ (whole : List ℕ) (utf8 : IsUtf8 whole) where
     read_listed [] rest ts some fits h = absurd cc
     read_listed (t ∷ tags) rest ts some fits h =
         let all = read_items IsSign (Stand whole) (tag_words kinds) [] (between m.Comma) tag_signs (Lists whole utf8 kinds named_kinds n known_kinds)
-            (plain_tag_fits kinds)
+        (plain_tag_fits kinds)
         (Any (w.Mark m.Comma)) (read_tag whole utf8 kinds named_kinds n known_kinds)
-            (λ r ts h. (h.0, h.1, h.2, h.3.word, h.4)) t tags line_end rest h.1 fits h.4 in
-        record { first = all.first; others = all.others; took = record { rest = all.took.rest; begins = (h.0, h.1, h.2, h.3.word, all.took.begins); stand =
-            all.took.stand }; are = all.are }
+        (λ r ts h. (h.0, h.1, h.2, h.3.word, h.4)) t tags line_end rest h.1 fits h.4 in
+        record {
+          first = all.first;
+          others = all.others;
+          took = record {
+            rest = all.took.rest;
+            begins = (h.0, h.1, h.2, h.3.word, all.took.begins);
+            stand =
+                all.took.stand;
+          };
+          are = all.are;
+        }
 
     -- a slack, as it is read
     record SlackIs (slack : ℕ) (rest : List Laid) (ts : List Token) : Type 0 where
@@ -339,13 +389,22 @@ module _ (whole : List ℕ) (utf8 : IsUtf8 whole) where
         let b = h.4 in
         let c = b.4 in
         let all = read_items IsSign (Stand whole) (action_words families) [] (between m.Semicolon) action_signs
-            (Does whole utf8 families names n known_families under)
+        (Does whole utf8 families names n known_families under)
         (plain_action_fits families under.keyed under.has_value) (Any (w.Mark m.Semicolon)) (read_action whole utf8 families names n known_families under)
-            (λ r ts h. (h.0, h.1, h.2, h.3.word, h.4))
+        (λ r ts h. (h.0, h.1, h.2, h.3.word, h.4))
         a actions line_end rest c.1 fits c.4 in
         one_line whole (OnIs under kind a actions) rest ts (On (span_of b.0) (all.first ∷ all.others))
-        (record { rest = all.took.rest; begins = (h.0, h.1, h.2, h.3.word,
-            (b.0, b.1, b.2, (b.3.word, refl, refl), (c.0, c.1, c.2, c.3.word, all.took.begins))); stand = all.took.stand })
+        (record {
+          rest = all.took.rest;
+          begins = (
+            h.0,
+            h.1,
+            h.2,
+            h.3.word,
+            (b.0, b.1, b.2, (b.3.word, refl, refl), (c.0, c.1, c.2, c.3.word, all.took.begins)),
+          );
+          stand = all.took.stand;
+        })
         ((λ none. absurd cc), are_actions whole utf8 families names n known_families under (a ∷ actions) (all.first ∷ all.others) all.are)
         (record { named = span_of b.0; first = all.first; others = all.others; is = refl; name_is = b.3.named refl; are = all.are })
 
@@ -364,9 +423,9 @@ module _ (whole : List ℕ) (utf8 : IsUtf8 whole) where
         let few : Bool = nat_le (length k.actions) 32 in
         let actions : Bool = list_all (plain_action_fits families k.keyed k.has_value) k.actions in
         let here = read_on_line (kind_head i k) k.name k.actions (lines_before (on_line_words families) ks rest) ts (three_left named few actions fits)
-            (three_right named few actions fits) h in
+        (three_right named few actions fits) h in
         let more = read_ons (i + 1) ks rest here.took.rest (and_right (plain_kind_fits families k)
-            (list_all (plain_kind_fits families) ks) all) here.took.stand in
+        (list_all (plain_kind_fits families) ks) all) here.took.stand in
         record {
           written = here.written ++ more.written;
           took = record {

@@ -1,6 +1,6 @@
 -- The tags of a source in normal form are read as what was printed.
-use Rattle.std.proofs.Common.{◌≡◌, ◌≤◌, ◌+◌, ℕ, pos, Bool, true, false, ◌&&◌, ◌||◌, List, [], ◌∷◌, ◌++◌, length, Some, Ok, refl, sym, ap, ◌∙◌, append_assoc, length-append, arith}
-use Rattle.std.specs.Prelude.{nat_lt, nat_le, not, ◌==◌, slice_get}
+use Rattle.std.proofs.Common.{◌≡◌, ◌≤◌, ◌+◌, ℕ, pos, Bool, true, false, ◌||◌, List, [], ◌∷◌, ◌++◌, length, Some, Ok, refl, sym, ap, ◌∙◌, append_assoc, length-append, arith}
+use Rattle.std.specs.Prelude.{nat_lt, nat_le, not, slice_get}
 use Rattle.std.specs.List.{list_all, list_any, flat_map}
 use Rattle.std.specs.Str.{IsUtf8}
 use Rattle.std.proofs.lemmas.List.{append-nil, length-map}
@@ -37,7 +37,7 @@ use Rattle.flu_parse.specs.Printing.{kind_name}
 use Rattle.flu_parse.proofs.Kept.Listings.{share_symm}
 use Rattle.flu_parse.proofs.Printed.Rules.{plain_tag_fits}
 use Rattle.flu_parse.proofs.Printed.Words.{tag_words}
-use Rattle.flu_parse.proofs.Printed.LaidLines.{tag_at, low_high, low_small, kind_named}
+use Rattle.flu_parse.proofs.Printed.LaidLines.{tag_at, low_high, low_small}
 use Rattle.flu_parse.specs.Cells.{resolved_key}
 
 abbrev pub kind_head : ℕ → PlainKind → KindHead
@@ -63,9 +63,9 @@ none_shared meet (d ∷ done) t ts h =
     let rest : Bool = are_distinct share_tag (done ++ t ∷ ts) in
     let none : list_any (share_tag d) (done ++ t ∷ ts) ≡ false = not_true later (and_left (not later) rest h) in
     let split : (list_any (share_tag d) done || (share_tag d t || list_any (share_tag d) ts)) ≡ false = sym (list_any-append (share_tag d) done (t ∷ ts))
-        ∙ none in
+    ∙ none in
     let here : share_tag d t ≡ false = or_false_left (share_tag d t) (list_any (share_tag d) ts)
-        (or_false_right (list_any (share_tag d) done) (share_tag d t || list_any (share_tag d) ts) split) in
+    (or_false_right (list_any (share_tag d) done) (share_tag d t || list_any (share_tag d) ts) split) in
     ap (λ b. b || list_any (share_tag t) done) (share_symm meet t d ∙ here) ∙ none_shared meet done t ts (and_right (not later) rest h)
 
 module _ (whole : List ℕ) (utf8 : IsUtf8 whole) (kinds : List PlainKind) (named_kinds : list_all (λ (k : PlainKind). is_name k.name) kinds ≡ true)
@@ -80,12 +80,33 @@ module _ (whole : List ℕ) (utf8 : IsUtf8 whole) (kinds : List PlainKind) (name
 
   read_keys : (ks : Keys) (keyed : Bool) (behind : List ℕ) (rest : List Laid) (ts : List Token) → keys_fit keyed ks ≡ true
       → Stand whole (keys_words ks behind rest) ts → KeysAre ks keyed rest ts
-  read_keys keys.Alone keyed behind rest ts fits h = record { written = w.Alone; took = record { rest = ts; begins = refl; stand = h }; bracketed =
-      fits; same = refl; means = refl }
+  read_keys keys.Alone keyed behind rest ts fits h = record {
+    written = w.Alone;
+    took = record { rest = ts; begins = refl; stand = h };
+    bracketed =
+        fits;
+    same = refl;
+    means = refl;
+  }
   read_keys (keys.One k) keyed behind rest ts fits h = record {
     written = w.One (record { value = pos k; at = h.4.0.from });
-    took = record { rest = h.4.4.1; begins = (h.0, h.1, h.2, h.3.word, (h.4.0, h.4.1, h.4.2, (h.4.3.word, refl),
-        (h.4.4.0, h.4.4.1, h.4.4.2, h.4.4.3.word, refl))); stand = h.4.4.4 };
+    took = record {
+      rest = h.4.4.1;
+      begins = (
+        h.0,
+        h.1,
+        h.2,
+        h.3.word,
+        (
+          h.4.0,
+          h.4.1,
+          h.4.2,
+          (h.4.3.word, refl),
+          (h.4.4.0, h.4.4.1, h.4.4.2, h.4.4.3.word, refl),
+        ),
+      );
+      stand = h.4.4.4;
+    };
     bracketed = and_left keyed (nat_lt k key_count) fits;
     same = refl;
     means = ap (λ (found : Found ℕ). found >>= λ key. Ok (keys.One key)) (key_is k h.4.0.from (and_right keyed (nat_lt k key_count) fits));
@@ -100,17 +121,28 @@ module _ (whole : List ℕ) (utf8 : IsUtf8 whole) (kinds : List PlainKind) (name
         written = w.Range (record { value = pos low; at = a.0.from }) (record { value = pos high; at = b.0.from });
         took = record {
           rest = close.1;
-          begins = (h.0, h.1, h.2, h.3.word, (a.0, a.1, a.2, (a.3.word, refl),
-              (dots.0, dots.1, dots.2, dots.3.word, (b.0, b.1, b.2, (b.3.word, refl), (close.0, close.1, close.2, close.3.word, refl)))));
+          begins = (
+            h.0,
+            h.1,
+            h.2,
+            h.3.word,
+            (
+              a.0,
+              a.1,
+              a.2,
+              (a.3.word, refl),
+              (dots.0, dots.1, dots.2, dots.3.word, (b.0, b.1, b.2, (b.3.word, refl), (close.0, close.1, close.2, close.3.word, refl))),
+            ),
+          );
           stand = close.4;
         };
         bracketed = ends.keyed_is;
         same = refl;
         means =
             ap (λ t. unless t (f.WrongShape a.0.from) >> (resolved_key (record { value = pos low; at = a.0.from }) >>=
-                λ first. resolved_key (record { value = pos high; at = b.0.from }) >>= λ last. Ok (keys.Range first last))) ends.rises
+            λ first. resolved_key (record { value = pos high; at = b.0.from }) >>= λ last. Ok (keys.Range first last))) ends.rises
             ∙ ap (λ (found : Found ℕ). found >>= λ first. resolved_key (record { value = pos high; at = b.0.from }) >>= λ last. Ok (keys.Range first last))
-              (key_is low a.0.from (low_small low high ends.rises ends.small))
+            (key_is low a.0.from (low_small low high ends.rises ends.small))
             ∙ ap (λ (found : Found ℕ). found >>= λ last. Ok (keys.Range low last)) (key_is high b.0.from ends.small);
       }
 
@@ -155,7 +187,7 @@ module _ (whole : List ℕ) (utf8 : IsUtf8 whole) (kinds : List PlainKind) (name
   list_all_tags meet done (t ∷ ts) (v ∷ vs) itags few apart h =
       let l = h.0 in
       let count : tag_count v.keys ≡ length (listed_tags t) = ap (λ ks. length (listed_keys ks)) l.same
-          ∙ sym (length-map (listed_keys t.keys) (λ k. tag t.kind k)) in
+      ∙ sym (length-map (listed_keys t.keys) (λ k. tag t.kind k)) in
       let sizes : all_tags (t ∷ ts) ≡ length (listed_tags t) + all_tags ts = length-append (listed_tags t) (flat_map listed_tags ts) in
       let room : nat_le (itags + tag_count v.keys) 256 ≡ true = le_true (itags + tag_count v.keys) 256 (omega (arith, few, count, sizes)) in
       let new : List TagRef = done ++ t ∷ [] in
@@ -165,15 +197,15 @@ module _ (whole : List ℕ) (utf8 : IsUtf8 whole) (kinds : List PlainKind) (name
       let end : Keys → Found Listed = λ keys. Ok (record { tags = done ++ record { kind = t.kind; keys = keys } ∷ []; itags = more }) in
       let step : with_tag whole n (record { tags = done; itags = itags }) v ≡ Ok (record { tags = new; itags = more }) =
       ap (λ (found : Found KindHead). found >>= λ kind. unless (are_bracketed kind.keyed v.keys) (f.WrongShape v.kind.from) >>
-          (unless (nat_le more 256) (f.OverLimit Itags 257) >> (unless (not
-          (list_any (share_tag (record { kind = kind.number; keys = written_keys v.keys })) done)) (f.TwiceNamed v.kind.from) >>
-          (keys_of v.keys >>= λ keys. Ok (let r : Listed = record { tags = done ++ record { kind = kind.number; keys = keys } ∷ []; itags = more } in
-          r))))) l.looked
+      (unless (nat_le more 256) (f.OverLimit Itags 257) >> (unless (not
+      (list_any (share_tag (record { kind = kind.number; keys = written_keys v.keys })) done)) (f.TwiceNamed v.kind.from) >>
+      (keys_of v.keys >>= λ keys. Ok (let r : Listed = record { tags = done ++ record { kind = kind.number; keys = keys } ∷ []; itags = more } in
+      r))))) l.looked
       ∙ ap (λ b. unless b (f.WrongShape v.kind.from) >> (unless (nat_le more 256) (f.OverLimit Itags 257) >>
-        (unless (not (list_any (share_tag (record { kind = t.kind; keys = written_keys v.keys })) done)) (f.TwiceNamed v.kind.from) >>
-        (keys_of v.keys >>= end)))) l.bracketed
+      (unless (not (list_any (share_tag (record { kind = t.kind; keys = written_keys v.keys })) done)) (f.TwiceNamed v.kind.from) >>
+      (keys_of v.keys >>= end)))) l.bracketed
       ∙ ap (λ b. unless b (f.OverLimit Itags 257) >> (unless (not (list_any (share_tag (record { kind = t.kind; keys = written_keys v.keys })) done))
-        (f.TwiceNamed v.kind.from) >> (keys_of v.keys >>= end))) room
+      (f.TwiceNamed v.kind.from) >> (keys_of v.keys >>= end))) room
       ∙ ap (λ b. unless b (f.TwiceNamed v.kind.from) >> (keys_of v.keys >>= end)) unshared
       ∙ ap (λ (found : Found Keys). found >>= end) l.means in
       let apart_more : are_distinct share_tag (new ++ ts) ≡ true = ap (are_distinct share_tag) (append_assoc done (t ∷ []) ts) ∙ apart in
@@ -181,4 +213,4 @@ module _ (whole : List ℕ) (utf8 : IsUtf8 whole) (kinds : List PlainKind) (name
       ∙ list_all_tags meet new ts vs more (omega (arith, few, count, sizes)) apart_more h.1
       ∙ ap (λ tags. Ok (let r : Listed = record { tags = tags; itags = more + all_tags ts } in r)) (append_assoc done (t ∷ []) ts)
       ∙ ap (λ m. Ok (let r : Listed = record { tags = done ++ t ∷ ts; itags = m } in r))
-        (let same : more + all_tags ts ≡ itags + all_tags (t ∷ ts) = omega (arith, count, sizes) in same)
+      (let same : more + all_tags ts ≡ itags + all_tags (t ∷ ts) = omega (arith, count, sizes) in same)

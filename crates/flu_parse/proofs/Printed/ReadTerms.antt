@@ -36,7 +36,7 @@ use Rattle.flu_parse.specs.Naming.{Naming, look_up, known, family_of}
 use Rattle.flu_parse.specs.Cells.{brackets_fit, is_wanted, family_for, at_of, resolved_cell}
 use Rattle.flu_parse.specs.Terms.{height, first_part, first_token, term_of, expression_of}
 use Rattle.flu_parse.proofs.Printed.Words.{key_words, cell_words, term_words}
-use Rattle.flu_parse.proofs.Printed.LaidCells.{family_at, family_named}
+use Rattle.flu_parse.proofs.Printed.LaidCells.{family_at}
 use Rattle.flu_parse.proofs.Kept.Plain.{term_fits, term_height, is_good_term}
 
 abbrev pub family_head : ℕ → Family → FamilyHead
@@ -57,19 +57,54 @@ module _ (whole : List ℕ) (utf8 : IsUtf8 whole) (families : List Family) (name
 
   read_key : (a : At) (family_keyed : Bool) (behind : List ℕ) (rest : List Laid) (ts : List Token) → key_fits family_keyed under.keyed a ≡ true
       → Stand whole (key_words a behind rest) ts → KeyRead a family_keyed rest ts
-  read_key at.Alone family_keyed behind rest ts fits h = record { key = k.Alone; took = record { rest = ts; begins = refl; stand = h }; brackets =
-      fits; means = refl }
+  read_key at.Alone family_keyed behind rest ts fits h = record {
+    key = k.Alone;
+    took = record { rest = ts; begins = refl; stand = h };
+    brackets =
+        fits;
+    means = refl;
+  }
   read_key at.OwnKey family_keyed behind rest ts fits h = record {
     key = k.OwnKey h.4.0.from;
-    took = record { rest = h.4.4.1; begins = (h.0, h.1, h.2, h.3.word, (h.4.0, h.4.1, h.4.2, (h.4.3.word, refl),
-        (h.4.4.0, h.4.4.1, h.4.4.2, h.4.4.3.word, refl))); stand = h.4.4.4 };
+    took = record {
+      rest = h.4.4.1;
+      begins = (
+        h.0,
+        h.1,
+        h.2,
+        h.3.word,
+        (
+          h.4.0,
+          h.4.1,
+          h.4.2,
+          (h.4.3.word, refl),
+          (h.4.4.0, h.4.4.1, h.4.4.2, h.4.4.3.word, refl),
+        ),
+      );
+      stand = h.4.4.4;
+    };
     brackets = and_left family_keyed under.keyed fits;
     means = ap (λ b. unless b (f.WrongShape h.4.0.from) >> Ok at.OwnKey) (and_right family_keyed under.keyed fits);
   }
   read_key (at.Fixed m) family_keyed behind rest ts fits h = record {
     key = k.Fixed (record { value = pos m; at = h.4.0.from });
-    took = record { rest = h.4.4.1; begins = (h.0, h.1, h.2, h.3.word, (h.4.0, h.4.1, h.4.2, (h.4.3.word, refl),
-        (h.4.4.0, h.4.4.1, h.4.4.2, h.4.4.3.word, refl))); stand = h.4.4.4 };
+    took = record {
+      rest = h.4.4.1;
+      begins = (
+        h.0,
+        h.1,
+        h.2,
+        h.3.word,
+        (
+          h.4.0,
+          h.4.1,
+          h.4.2,
+          (h.4.3.word, refl),
+          (h.4.4.0, h.4.4.1, h.4.4.2, h.4.4.3.word, refl),
+        ),
+      );
+      stand = h.4.4.4;
+    };
     brackets = and_left family_keyed (nat_lt m key_count) fits;
     means = ap (λ b. unless b (f.OverLimit Key m) >> Ok m >>= λ key. Ok (at.Fixed key)) (and_right family_keyed (nat_lt m key_count) fits);
   }
@@ -94,11 +129,11 @@ module _ (whole : List ℕ) (utf8 : IsUtf8 whole) (families : List Family) (name
       let head = family_head c.family at_family.family in
       let looked : family_of whole n r.family ≡ Ok head =
       ap (λ name. known r.family.from (look_up name n.families)) spelled_so
-          ∙ ap (known r.family.from) (known_families c.family at_family.family at_family.found) in
+      ∙ ap (known r.family.from) (known_families c.family at_family.family at_family.found) in
       let named : (wanted : Option Sort) → is_wanted wanted at_family.family.sort ≡ true → family_for whole n wanted r ≡ Ok head =
       λ wanted right.
       ap (λ (found : Found FamilyHead). found >>= λ family. unless (is_wanted wanted family.sort && brackets_fit family.keyed r.key)
-          (f.WrongShape r.family.from) >> Ok family) looked
+      (f.WrongShape r.family.from) >> Ok family) looked
       ∙ ap (λ b. unless b (f.WrongShape r.family.from) >> Ok head) (both (is_wanted wanted head.sort) (brackets_fit head.keyed r.key) right key.brackets) in
       record {
         written = r;
@@ -108,7 +143,7 @@ module _ (whole : List ℕ) (utf8 : IsUtf8 whole) (families : List Family) (name
         named = named;
         means = λ wanted right.
             ap (λ (found : Found FamilyHead). found >>= λ family. at_of under r.key >>=
-                λ at. Ok (let cell : CellRef = record { family = family.number; at = at } in cell)) (named wanted right)
+            λ at. Ok (let cell : CellRef = record { family = family.number; at = at } in cell)) (named wanted right)
             ∙ ap (λ (found : Found At). found >>= λ at. Ok (let cell : CellRef = record { family = c.family; at = at } in cell)) key.means;
       }
 
@@ -190,8 +225,20 @@ module _ (whole : List ℕ) (utf8 : IsUtf8 whole) (families : List Family) (name
         tree = ParenTree h.0.from (NegTree h.4.0.from inner.tree);
         took = record {
           rest = close.1;
-          begins = (h.0, h.1, h.2, (h.3.word, refl), (h.4.0, h.4.1, h.4.2, (h.4.3.word, refl), begins_append IsSign
-              (spelled inner.tree) _ h.4.1 inner.took.rest close.1 inner.took.begins (close.0, close.1, close.2, close.3.word, refl)));
+          begins = (
+            h.0,
+            h.1,
+            h.2,
+            (h.3.word, refl),
+            (
+              h.4.0,
+              h.4.1,
+              h.4.2,
+              (h.4.3.word, refl),
+              begins_append IsSign
+                  (spelled inner.tree) _ h.4.1 inner.took.rest close.1 inner.took.begins (close.0, close.1, close.2, close.3.word, refl),
+            ),
+          );
           stand = close.4;
         };
         fits = λ level. inner.fits 6;
@@ -207,8 +254,20 @@ module _ (whole : List ℕ) (utf8 : IsUtf8 whole) (families : List Family) (name
         tree = ParenTree h.0.from (NotTree h.4.0.from inner.tree);
         took = record {
           rest = close.1;
-          begins = (h.0, h.1, h.2, (h.3.word, refl), (h.4.0, h.4.1, h.4.2, (h.4.3.word, refl), begins_append IsSign
-              (spelled inner.tree) _ h.4.1 inner.took.rest close.1 inner.took.begins (close.0, close.1, close.2, close.3.word, refl)));
+          begins = (
+            h.0,
+            h.1,
+            h.2,
+            (h.3.word, refl),
+            (
+              h.4.0,
+              h.4.1,
+              h.4.2,
+              (h.4.3.word, refl),
+              begins_append IsSign
+                  (spelled inner.tree) _ h.4.1 inner.took.rest close.1 inner.took.begins (close.0, close.1, close.2, close.3.word, refl),
+            ),
+          );
           stand = close.4;
         };
         fits = λ level. (omega arith, inner.fits 2);
@@ -219,10 +278,10 @@ module _ (whole : List ℕ) (utf8 : IsUtf8 whole) (families : List Family) (name
       }
   read_term has_value (Operation o a b) behind rest ts same fits h =
       let left = read_term has_value a _ _ h.1 same (and_left (term_fits families under.keyed has_value a)
-          (term_fits families under.keyed has_value b) fits) h.4 in
+      (term_fits families under.keyed has_value b) fits) h.4 in
       let sign = left.took.stand in
       let right = read_term has_value b [] (mark m.CloseParen behind ∷ rest) sign.1 same
-          (and_right (term_fits families under.keyed has_value a) (term_fits families under.keyed has_value b) fits) sign.4 in
+      (and_right (term_fits families under.keyed has_value a) (term_fits families under.keyed has_value b) fits) sign.4 in
       let close = right.took.stand in
       let two = TwoTree o left.tree right.tree in
       record {
@@ -236,7 +295,7 @@ module _ (whole : List ℕ) (utf8 : IsUtf8 whole) (families : List Family) (name
             (h.3.word, refl),
             begins_append IsSign (spelled two) _ h.1 right.took.rest close.1
                 (begins_append IsSign (spelled left.tree) _ h.1 left.took.rest right.took.rest left.took.begins
-                    (sign.0, sign.1, sign.2, sign.3.word, right.took.begins)) (close.0, close.1, close.2, close.3.word, refl),
+                (sign.0, sign.1, sign.2, sign.3.word, right.took.begins)) (close.0, close.1, close.2, close.3.word, refl),
           );
           stand = close.4;
         };

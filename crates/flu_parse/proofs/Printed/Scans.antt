@@ -1,6 +1,6 @@
 -- The bytes of a template are scanned to the pieces that were printed.
 use Rattle.std.proofs.Common.{◌≡◌, ◌+◌, ℕ, suc, Bool, true, false, ◌&&◌, List, [], ◌∷◌, ◌++◌, length, Option, Some, None, refl, sym, ap, ◌∙◌, arith}
-use Rattle.std.specs.Prelude.{nat_lt, not, ◌==◌, option_map, if◌then◌else◌}
+use Rattle.std.specs.Prelude.{nat_lt, not, ◌==◌, if◌then◌else◌}
 use Rattle.std.specs.List.{list_all}
 use Rattle.std.proofs.lemmas.Grind.{common_steps}
 use Rattle.std.proofs.lemmas.List.{append-nil}
@@ -41,7 +41,7 @@ module _ (field : ℕ → ℕ → Option WrittenPiece) where
   plain_byte pieces start place b h =
       let unopened : (is_text_byte b && not (b == 123)) ≡ true = and_left (is_text_byte b && not (b == 123)) (not (b == 125)) h in
       ap (λ t. if t then Some (within_field (with_plain (outside pieces start) place) (place + 1)) else if b == 125 then None else Some
-          (outside pieces start)) (not_true (b == 123) (and_right (is_text_byte b) (not (b == 123)) unopened))
+      (outside pieces start)) (not_true (b == 123) (and_right (is_text_byte b) (not (b == 123)) unopened))
       ∙ ap (λ t. if t then None else Some (outside pieces start)) (not_true (b == 125) (and_right (is_text_byte b && not (b == 123)) (not (b == 125)) h))
 
   -- plain bytes leave the scan as it is
@@ -50,7 +50,7 @@ module _ (field : ℕ → ℕ → Option WrittenPiece) where
   scan_plain pieces start place [] more h = ap (λ k. scan field (outside pieces start) k more) (let same : place ≡ place + 0 = omega arith in same)
   scan_plain pieces start place (b ∷ t) more h =
       one_byte (outside pieces start) place b (t ++ more) (outside pieces start)
-          (plain_byte pieces start place b (and_left (is_plain_byte b) (list_all is_plain_byte t) h))
+      (plain_byte pieces start place b (and_left (is_plain_byte b) (list_all is_plain_byte t) h))
       ∙ scan_plain pieces start (place + 1) t more (and_right (is_plain_byte b) (list_all is_plain_byte t) h)
       ∙ ap (λ k. scan field (outside pieces start) k more) (let same : place + 1 + length t ≡ place + suc (length t) = omega arith in same)
 
@@ -69,7 +69,7 @@ module _ (field : ℕ → ℕ → Option WrittenPiece) where
   scan_word pieces start place [] more h = ap (λ k. scan field (within_field pieces start) k more) (let same : place ≡ place + 0 = omega arith in same)
   scan_word pieces start place (b ∷ word) more h =
       one_byte (within_field pieces start) place b (word ++ more) (within_field pieces start)
-          (field_byte pieces start place b (and_left (no_brace b) (list_all no_brace word) h))
+      (field_byte pieces start place b (and_left (no_brace b) (list_all no_brace word) h))
       ∙ scan_word pieces start (place + 1) word more (and_right (no_brace b) (list_all no_brace word) h)
       ∙ ap (λ k. scan field (within_field pieces start) k more) (let same : place + 1 + length word ≡ place + suc (length word) = omega arith in same)
 
@@ -87,13 +87,13 @@ module _ (field : ℕ → ℕ → Option WrittenPiece) where
   pub scan_field : (pieces : List WrittenPiece) (start place : ℕ) (word more : List ℕ) (q : WrittenPiece) → list_all no_brace word ≡ true
       → field (place + 1) (place + 1 + length word) ≡ Some q
       → scan field (outside pieces start) place (123 ∷ (word ++ 125 ∷ more)) ≡ scan field
-          (outside (with_plain (outside pieces start) place ++ q ∷ []) (place + 1 + length word + 1)) (place + 1 + length word + 1) more
+      (outside (with_plain (outside pieces start) place ++ q ∷ []) (place + 1 + length word + 1)) (place + 1 + length word + 1) more
   scan_field pieces start place word more q h e =
       let inner : List WrittenPiece = with_plain (outside pieces start) place in
       one_byte (outside pieces start) place 123 (word ++ 125 ∷ more) (within_field inner (place + 1)) (opens pieces start place)
       ∙ scan_word inner (place + 1) (place + 1) word (125 ∷ more) h
       ∙ one_byte (within_field inner (place + 1)) (place + 1 + length word) 125 more (outside (inner ++ q ∷ []) (place + 1 + length word + 1))
-        (closes inner (place + 1) (place + 1 + length word) q e)
+      (closes inner (place + 1) (place + 1 + length word) q e)
 
   -- what is still open at a brace or at the end
   pub part_is : (pieces : List WrittenPiece) (pend : List ℕ) (start place : ℕ) → place ≡ start + length pend

@@ -80,7 +80,7 @@ module _ (whole : List ℕ) (utf8 : IsUtf8 whole) (families : List Family) (name
       let is : whole ≡ (before ++ pend) ++ (b ∷ after) = o.is.is ∙ simp append_assoc in
       let here : place ≡ length (before ++ pend) = omega (arith, o.size, o.is.here, length-append before pend) in
       spelled_between whole before pend (b ∷ after) start place o.is o.size o.begins
-          (before_ascii whole (before ++ pend) b after place (record { is = is; here = here }) ascii)
+      (before_ascii whole (before ++ pend) b after place (record { is = is; here = here }) ascii)
 
   -- a field: its word stands in braces, and then come the pieces that are left
   scan_one : (before pend word more after : List ℕ) (start place : ℕ) (r : Piece) (rs : List Piece) (q : WrittenPiece)
@@ -95,7 +95,7 @@ module _ (whole : List ℕ) (utf8 : IsUtf8 whole) (families : List Family) (name
         scanned = λ done.
             scan_field (field_at whole in_flush) done start place word more q closed found
             ∙ ap (λ l. scan (field_at whole in_flush) (outside (l ++ q ∷ []) (place + 1 + length word + 1)) (place + 1 + length word + 1) more)
-              (part_is (field_at whole in_flush) done pend start place o.size)
+            (part_is (field_at whole in_flush) done pend start place o.size)
             ∙ rest.scanned ((done ++ part) ++ q ∷ [])
             ∙ ap whole_template (let same : ((done ++ part) ++ q ∷ []) ++ rest.pieces ≡ done ++ (part ++ (q ∷ rest.pieces)) = simp append_assoc in same);
         are = pend_are pend start place (q ∷ rest.pieces) (r ∷ rs) (pend_spelled before pend 123 (word ++ (125 ∷ (more ++ after))) start place o
@@ -121,7 +121,7 @@ module _ (whole : List ℕ) (utf8 : IsUtf8 whole) (families : List Family) (name
       let close_here : place + 1 + length word ≡ length (front ++ word) = omega (arith, word_here, length-append front word) in
       let next_is : whole ≡ ((front ++ word) ++ 125 ∷ []) ++ (more ++ after) = close_is ∙ simp append_assoc in
       let next_here : place + 1 + length word + 1 ≡ length ((front ++ word) ++ 125 ∷ []) =
-          omega (arith, close_here, length-append (front ++ word) (125 ∷ [])) in
+      omega (arith, close_here, length-append (front ++ word) (125 ∷ [])) in
       record {
         before = front;
         word_at = record { is = word_is; here = word_here };
@@ -206,7 +206,7 @@ module _ (whole : List ℕ) (utf8 : IsUtf8 whole) (families : List Family) (name
         begins = o.begins;
       } in
       let rest = scan_pieces rs before t after start (place + length t) next
-          (apart_of t rs (not_true (follows_plain rs) (and_left (not (follows_plain rs)) (are_apart rs) own)))
+      (apart_of t rs (not_true (follows_plain rs) (and_left (not (follows_plain rs)) (are_apart rs) own)))
       (and_right (is_plain t) (list_all piece_ok rs) ok) (and_right (not (follows_plain rs)) (are_apart rs) own) in
       record {
         pieces = rest.pieces;
@@ -219,25 +219,25 @@ module _ (whole : List ℕ) (utf8 : IsUtf8 whole) (families : List Family) (name
       let f = field_place before pend (codes "value") more (34 ∷ after) start place o in
       scan_one before pend (codes "value") more (34 ∷ after) start place piece.Value rs p.Value o refl
       (field_of_word whole in_flush (place + 1) (place + 1 + 5) (codes "value")
-          (word_between whole f.before (codes "value") (more ++ 34 ∷ after) (place + 1) (place + 1 + 5) f.word_at refl f.begins))
+      (word_between whole f.before (codes "value") (more ++ 34 ∷ after) (place + 1) (place + 1 + 5) f.word_at refl f.begins))
       (value_is (and_left under.has_value (list_all piece_ok rs) ok))
       (scan_pieces rs ((f.before ++ codes "value") ++ 125 ∷ []) [] after (place + 1 + 5 + 1) (place + 1 + 5 + 1) f.next tt
-          (and_right under.has_value (list_all piece_ok rs) ok) own)
+      (and_right under.has_value (list_all piece_ok rs) ok) own)
   scan_pieces (piece.Key ∷ rs) before pend after start place o apart ok own =
       let more : List ℕ = written_template families rs in
       let f = field_place before pend (codes "key") more (34 ∷ after) start place o in
       scan_one before pend (codes "key") more (34 ∷ after) start place piece.Key rs p.Key o refl
       (field_of_word whole in_flush (place + 1) (place + 1 + 3) (codes "key")
-          (word_between whole f.before (codes "key") (more ++ 34 ∷ after) (place + 1) (place + 1 + 3) f.word_at refl f.begins))
+      (word_between whole f.before (codes "key") (more ++ 34 ∷ after) (place + 1) (place + 1 + 3) f.word_at refl f.begins))
       (key_is (and_left (in_flush || under.keyed) (list_all piece_ok rs) ok))
       (scan_pieces rs ((f.before ++ codes "key") ++ 125 ∷ []) [] after (place + 1 + 3 + 1) (place + 1 + 3 + 1) f.next tt
-          (and_right (in_flush || under.keyed) (list_all piece_ok rs) ok) own)
+      (and_right (in_flush || under.keyed) (list_all piece_ok rs) ok) own)
   scan_pieces (piece.Time ∷ rs) before pend after start place o apart ok own =
       let more : List ℕ = written_template families rs in
       let f = field_place before pend (codes "time") more (34 ∷ after) start place o in
       scan_one before pend (codes "time") more (34 ∷ after) start place piece.Time rs p.Time o refl
       (field_of_word whole in_flush (place + 1) (place + 1 + 4) (codes "time")
-          (word_between whole f.before (codes "time") (more ++ 34 ∷ after) (place + 1) (place + 1 + 4) f.word_at refl f.begins))
+      (word_between whole f.before (codes "time") (more ++ 34 ∷ after) (place + 1) (place + 1 + 4) f.word_at refl f.begins))
       time_is
       (scan_pieces rs ((f.before ++ codes "time") ++ 125 ∷ []) [] after (place + 1 + 4 + 1) (place + 1 + 4 + 1) f.next tt ok own)
   scan_pieces (piece.CellValue ∷ rs) before pend after start place o apart ok own =
@@ -245,11 +245,11 @@ module _ (whole : List ℕ) (utf8 : IsUtf8 whole) (families : List Family) (name
       let f = field_place before pend (codes "cell") more (34 ∷ after) start place o in
       scan_one before pend (codes "cell") more (34 ∷ after) start place piece.CellValue rs p.CellValue o refl
       (field_of_word whole in_flush (place + 1) (place + 1 + 4) (codes "cell")
-          (word_between whole f.before (codes "cell") (more ++ 34 ∷ after) (place + 1) (place + 1 + 4) f.word_at refl f.begins)
+      (word_between whole f.before (codes "cell") (more ++ 34 ∷ after) (place + 1) (place + 1 + 4) f.word_at refl f.begins)
       ∙ ap (λ b. if b then Some p.CellValue else ref_at whole (place + 1) (place + 1 + 4)) (and_left in_flush (list_all piece_ok rs) ok))
       cell_is
       (scan_pieces rs ((f.before ++ codes "cell") ++ 125 ∷ []) [] after (place + 1 + 4 + 1) (place + 1 + 4 + 1) f.next tt
-          (and_right in_flush (list_all piece_ok rs) ok) own)
+      (and_right in_flush (list_all piece_ok rs) ok) own)
   scan_pieces (piece.Read r ∷ rs) before pend after start place o apart ok own =
       let more : List ℕ = written_template families rs in
       let name : List ℕ = family_name (slice_get families r.family) in
@@ -260,23 +260,26 @@ module _ (whole : List ℕ) (utf8 : IsUtf8 whole) (families : List Family) (name
       let named = family_named families names r.family family.family family.found in
       let bytes : written_piece families (piece.Read r) ++ more ≡ 123 ∷ (word ++ (125 ∷ more)) = ap (λ l. 123 ∷ l) (append_assoc word (125 ∷ []) more) in
       let opened : Opened before pend (123 ∷ (word ++ (125 ∷ (more ++ 34 ∷ after)))) start place = record {
-        is = record { is = o.is.is ∙ ap (λ l. before ++ (pend ++ l)) (ap (λ l. l ++ 34 ∷ after) bytes
-            ∙ ap (λ l. 123 ∷ l) (append_assoc word (125 ∷ more) (34 ∷ after))); here = o.is.here };
+        is = record {
+          is = o.is.is ∙ ap (λ l. before ++ (pend ++ l)) (ap (λ l. l ++ 34 ∷ after) bytes
+              ∙ ap (λ l. 123 ∷ l) (append_assoc word (125 ∷ more) (34 ∷ after)));
+          here = o.is.here;
+        };
         size = o.size;
         begins = o.begins;
       } in
       let f = field_place before pend word more (34 ∷ after) start place opened in
       let field = read_field whole utf8 under f.before name (more ++ 34 ∷ after)
-          (place + 1) to named f.begins family.family.keyed r.at family.fits f.word_at refl in
+      (place + 1) to named f.begins family.family.keyed r.at family.fits f.word_at refl in
       let found : field_at whole in_flush (place + 1) to ≡ Some (p.Read field.written) =
       ap (λ b. field_at whole b (place + 1) to) (not_true in_flush (and_left (not in_flush) (ref_fits families under.keyed r) here))
       ∙ field_of_ref whole (place + 1) to name r.at named (word_between whole f.before word (more ++ 34 ∷ after) (place + 1) to f.word_at refl f.begins)
       ∙ field.read in
       let rest = scan_pieces rs ((f.before ++ word) ++ 125 ∷ []) [] after (to + 1) (to + 1) f.next tt
-          (and_right (not in_flush && ref_fits families under.keyed r) (list_all piece_ok rs) ok) own in
+      (and_right (not in_flush && ref_fits families under.keyed r) (list_all piece_ok rs) ok) own in
       subst (λ l. Scanned start place l (with_open pend (piece.Read r ∷ rs))) (sym bytes)
       (scan_one before pend word more (34 ∷ after) start place (piece.Read r) rs (p.Read field.written) opened
-          (ref_closed name r.at family.family.keyed under.keyed named family.fits) found (read_is r family.family (place + 1) to family.found field) rest)
+      (ref_closed name r.at family.family.keyed under.keyed named family.fits) found (read_is r family.family (place + 1) to family.found field) rest)
 
   -- ---- the whole template
 
@@ -311,15 +314,15 @@ module _ (whole : List ℕ) (utf8 : IsUtf8 whole) (families : List Family) (name
   read_template rs s here q ok own =
       let start : ℕ = s.from + 1 in
       let opened : Opened q.before [] (written_template families rs ++ 34 ∷ q.after) start start =
-          record { is = q.place; size = (let same : start ≡ start + 0 = omega arith in same); begins = q.begins } in
+      record { is = q.place; size = (let same : start ≡ start + 0 = omega arith in same); begins = q.begins } in
       let r = scan_pieces rs q.before [] q.after start start opened tt ok own in
       let template : template_at whole in_flush s ≡ whole_template r.pieces =
-          ap (scan (field_at whole in_flush) (outside [] start) start) (inside_stands whole (written_template families rs) s q) ∙ r.scanned [] in
+      ap (scan (field_at whole in_flush) (outside [] start) start) (inside_stands whole (written_template families rs) s q) ∙ r.scanned [] in
       ap (λ (t : Template). known_names whole n s.from t.pieces >> (unless (t.whole && list_all (piece_fits whole n under in_flush) t.pieces)
-          (f.WrongShape s.from) >> pieces_of whole n under s.from t.pieces)) template
+      (f.WrongShape s.from) >> pieces_of whole n under s.from t.pieces)) template
       ∙ ap (λ k. known_names whole n k r.pieces >> (unless (list_all (piece_fits whole n under in_flush) r.pieces)
-        (f.WrongShape s.from) >> pieces_of whole n under k r.pieces)) here
+      (f.WrongShape s.from) >> pieces_of whole n under k r.pieces)) here
       ∙ ap (λ (found : Found (Unit {0})). found >> (unless (list_all (piece_fits whole n under in_flush) r.pieces)
-        (f.WrongShape s.from) >> pieces_of whole n under at r.pieces)) (all_known r.pieces rs r.are)
+      (f.WrongShape s.from) >> pieces_of whole n under at r.pieces)) (all_known r.pieces rs r.are)
       ∙ ap (λ b. unless b (f.WrongShape s.from) >> pieces_of whole n under at r.pieces) (all_fit r.pieces rs r.are)
       ∙ all_mean [] r.pieces rs r.are

@@ -1,7 +1,7 @@
 -- The words of the normal form, each with the blanks behind it; and that they are laid out as that text.
-use Rattle.std.proofs.Common.{◌≡◌, ℕ, ℤ, pos, Bool, true, false, Option, Some, None, List, [], ◌∷◌, ◌++◌, refl, ap, ◌∙◌, append_assoc, arith}
+use Rattle.std.proofs.Common.{◌≡◌, ℕ, pos, Bool, true, false, Option, Some, None, List, [], ◌∷◌, ◌++◌, refl, ap, ◌∙◌, append_assoc, arith}
 use Rattle.std.specs.Prelude.{nat_lt, ◌==◌, if◌then◌else◌, slice_get, codes}
-use Rattle.std.specs.Fmt.{decimal, signed_decimal}
+use Rattle.std.specs.Fmt.{decimal}
 use Rattle.std.specs.List.{flat_map}
 use Rattle.std.proofs.lemmas.Fmt.{decimal_digit}
 use Rattle.std.proofs.lemmas.List.{append-nil}
@@ -101,8 +101,11 @@ term_layout families (CellHeld c) behind rest = ap (λ l. codes "has " ++ l) (ce
 term_layout families (Negative e) behind rest = rw (term_layout families e [] (mark m.CloseParen behind ∷ rest)) (simp append_assoc)
 term_layout families (Negation e) behind rest = rw (term_layout families e [] (mark m.CloseParen behind ∷ rest)) (simp append_assoc)
 term_layout families (Operation o a b) behind rest =
-    rw (term_layout families a blank (operator o blank ∷ term_words families b [] (mark m.CloseParen behind ∷ rest)), term_layout families b []
-        (mark m.CloseParen behind ∷ rest)) (simp append_assoc)
+    rw (
+      term_layout families a blank (operator o blank ∷ term_words families b [] (mark m.CloseParen behind ∷ rest)),
+      term_layout families b []
+          (mark m.CloseParen behind ∷ rest),
+    ) (simp append_assoc)
 
 -- ---- actions
 
@@ -150,7 +153,7 @@ pub action_layout : (families : List Family) (a : PlainAction) (behind : List �
 action_layout families a behind rest =
     act_layout families a.act (behind_act a.guard behind) (guard_words families a.guard behind rest)
     ∙ rw (append_assoc (act_text families a.act) (guard_text families a.guard) (behind ++ layout rest))
-      (ap (λ l. act_text families a.act ++ l) (guard_layout families a.guard behind rest))
+    (ap (λ l. act_text families a.act ++ l) (guard_layout families a.guard behind rest))
 
 -- ---- declarations
 
@@ -222,7 +225,7 @@ same_layout false rest = refl
 abbrev pub depends_line_words : List PlainKind → Depend → List Laid → List Laid
 depends_line_words kinds d rest =
     reserved r.Depends blank ∷ name (kind_name (slice_get kinds d.a)) blank ∷ name (kind_name (slice_get kinds d.b)) (behind_depends d.same)
-        ∷ same_words d.same rest
+    ∷ same_words d.same rest
 
 depends_line_layout : (kinds : List PlainKind) (d : Depend) (rest : List Laid) → layout (depends_line_words kinds d rest) ≡ depends_line kinds d ++ layout rest
 depends_line_layout kinds d rest = rw (same_layout d.same rest) (simp append_assoc)
@@ -237,7 +240,7 @@ actions_layout : (families : List Family) (kind : List ℕ) (actions : List Plai
 actions_layout families kind [] rest = refl
 actions_layout families kind (a ∷ actions) rest =
     ap (λ l. codes "on " ++ (kind ++ (codes ": " ++ l))) (items_out (action_words families) (between m.Semicolon) layout (action_text families) (codes "; ")
-        (action_layout families) (λ rest. refl) a actions line_end rest)
+    (action_layout families) (λ rest. refl) a actions line_end rest)
     ∙ regroup_five (codes "on ") kind (codes ": ") (separated (codes "; ") (action_text families) (a ∷ actions)) line_end (layout rest)
 
 abbrev pub on_line_words : List Family → PlainKind → List Laid → List Laid
@@ -294,7 +297,7 @@ source_line_layout spelled kinds s rest =
 abbrev pub job_words : Job → List Laid
 job_words job =
     version_words job.version (lines_before cell_line_words job.families
-        (lines_before tag_line_words job.kinds (lines_before (depends_line_words job.kinds) job.depends
+    (lines_before tag_line_words job.kinds (lines_before (depends_line_words job.kinds) job.depends
     (lines_before (on_line_words job.families) job.kinds (lines_before (source_line_words job.kinds) job.sources [])))))
 
 -- the normal form is these words, laid out
