@@ -20,7 +20,7 @@ use std::alloc::{AllocError, Global};
 use std::marker::Model;
 
 /// What comes next in a file. Lines count from 1.
-#[derive(Debug, Drop)]
+#[derive(Drop)]
 pub enum Next {
     /// A row, and the number of its line.
     Row { line: u32, row: Row },
