@@ -1,10 +1,12 @@
 -- A list in order of a number of each element, to which elements are added late.
-use Rattle.std.proofs.Common.{◌≡◌, inl, inr, ℕ, zero, suc, ◌+◌, ◌<◌, ◌≤◌, Bool, true, false, ◌||◌, ltb, eqb, List, [], ◌∷◌, ◌++◌, length, map, get_or, refl, sym, ap, subst, ◌∙◌, arith}
+use Rattle.std.proofs.Common.{◌≡◌, inl, inr, ℕ, zero, suc, ◌+◌, ◌<◌, ◌≤◌, Bool, true, false, ◌||◌, ltb, leb, eqb, List, [], ◌∷◌, ◌++◌, length, map, get_or, refl, sym, ap, subst, ◌∙◌, arith}
+use Rattle.std.specs.Prelude.{⊤}
 use Rattle.std.specs.List.{list_any, insert}
 use Rattle.std.proofs.lemmas.Bool.{cases_Bool}
 use Rattle.std.proofs.lemmas.Bool.Decides.{nat_tests}
-use Rattle.flu_lemmas.specs.Late.{is_less, put_late, RisesFrom}
+use Rattle.flu_lemmas.specs.Late.{is_less, put_late, rises_from}
 use Rattle.flu_lemmas.specs.Sorting.{put_in_order, in_order}
+use Rattle.flu_lemmas.proofs.Tests.{and_left, and_right, both, le_true}
 
 -- ---- one element more
 late-below : {X : Type 0} (number : X → ℕ) (x z : X) (zs : List X) → ltb (number z) (number x) ≡ true → put_late number x (z ∷ zs) ≡ z ∷ put_late number x zs
@@ -88,6 +90,21 @@ put_late-at number x d (y ∷ ys) (suc at) few below above =
     rw less (ap (λ (l : List _). y ∷ l) (put_late-at number x d ys at (omega (arith, few)) (λ i lt. below (suc i) (omega (arith, lt))) (λ i le lt. above (suc i) (omega (arith, le)) (omega (arith, lt)))))
 
 -- ---- numbers that rise
+abbrev pub RisesFrom : {X : Type 0} → (X → ℕ) → ℕ → List X → Type 0
+RisesFrom number low [] = ⊤
+RisesFrom number low (x ∷ xs) = (low ≤ number x) × RisesFrom number (number x + 1) xs
+
+pub rising : {X : Type 0} (number : X → ℕ) (low : ℕ) (xs : List X) → rises_from number low xs ≡ true → RisesFrom number low xs
+rising number low [] up = tt
+rising number low (x ∷ xs) up =
+    let first = and_left (leb low (number x)) (rises_from number (number x + 1) xs) up in
+    let le : low ≤ number x = grind (arith, nat_tests) in
+    (le, rising number (number x + 1) xs (and_right (leb low (number x)) (rises_from number (number x + 1) xs) up))
+
+pub is_rising : {X : Type 0} (number : X → ℕ) (low : ℕ) (xs : List X) → RisesFrom number low xs → rises_from number low xs ≡ true
+is_rising number low [] up = refl
+is_rising number low (x ∷ xs) up = both (leb low (number x)) (rises_from number (number x + 1) xs) (le_true low (number x) up.0) (is_rising number (number x + 1) xs up.1)
+
 pub rises_lower : {X : Type 0} (number : X → ℕ) (low lower : ℕ) (xs : List X) → lower ≤ low → RisesFrom number low xs → RisesFrom number lower xs
 rises_lower number low lower [] le up = tt
 rises_lower number low lower (x ∷ xs) le up = (omega (arith, le, up.0), up.1)

@@ -1,5 +1,5 @@
 -- A list in order of a number of each element, to which elements are added late.
-use Rattle.std.specs.Prelude.{ℕ, ◌+◌, ◌≤◌, Bool, nat_lt, List, [], ◌∷◌, if◌then◌else◌, ⊤}
+use Rattle.std.specs.Prelude.{ℕ, ◌+◌, Bool, true, ◌&&◌, nat_lt, nat_le, List, [], ◌∷◌, if◌then◌else◌}
 
 -- the number of one element is less than that of another
 abbrev pub is_less : {X : Type 0} → (X → ℕ) → X → X → Bool
@@ -11,6 +11,6 @@ put_late number x [] = x ∷ []
 put_late number x (y ∷ ys) = if nat_lt (number y) (number x) then y ∷ put_late number x ys else x ∷ y ∷ ys
 
 -- the numbers rise from `low` on
-abbrev pub RisesFrom : {X : Type 0} → (X → ℕ) → ℕ → List X → Type 0
-RisesFrom number low [] = ⊤
-RisesFrom number low (x ∷ xs) = (low ≤ number x) × RisesFrom number (number x + 1) xs
+abbrev pub rises_from : {X : Type 0} → (X → ℕ) → ℕ → List X → Bool
+rises_from number low [] = true
+rises_from number low (x ∷ xs) = nat_le low (number x) && rises_from number (number x + 1) xs
