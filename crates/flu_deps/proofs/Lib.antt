@@ -8,3 +8,7 @@ pub mod TreeLemmas
 pub mod Trees
 pub mod Within
 pub mod LawLemmas
+pub mod VisitLemmas
+pub mod ClashTables
+pub mod TouchLemmas
+pub mod ClashLemmas

@@ -6,3 +6,6 @@ pub mod Validated
 pub mod Dependencies
 pub mod Trees
 pub mod Owners
+pub mod LoopVisits
+pub mod LoopFollows
+pub mod LoopClashes

@@ -3,14 +3,17 @@
 #![tactic(auto)]
 
 mod checked;
+mod clashes;
 mod conflicts;
 mod dependency;
 pub mod laws;
 mod modes;
 pub mod nodes;
 mod valid;
+mod visits;
 
 pub use checked::Checked;
+pub use clashes::Clashes;
 pub use conflicts::conflict;
 pub use dependency::dep;
 pub use flu_model::Mode;

@@ -4,9 +4,9 @@
 mod case;
 mod content;
 mod counts;
+mod gathering;
 pub mod laws;
 mod lots;
-mod needed;
 mod parting;
 mod rights;
 #[cfg(test)]

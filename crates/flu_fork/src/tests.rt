@@ -1,4 +1,4 @@
-//! Lots of two small jobs, parted at the root of a plan and joined there.
+//! Lots of small jobs, parted at the root of a plan and joined there.
 
 ghost use Rattle.std.specs.Prelude.{◌≡◌, ◌+◌, ◌<◌, ◌≤◌, ◌∷◌, ◌++◌, [], length, map, IfOk, IfSome, IsTrue, Some, None};
 ghost use Rattle.flu_model.specs.declared.jobs.Keys.TheVariants.{One};
@@ -19,7 +19,7 @@ use flu_check::check;
 use flu_deps::{Checked, Valid};
 use flu_model::{
     Act, Action, At, CellRef, Depend, Event, Expr, Family, Itag, Item, Keys, Kind, List, Name,
-    Node, Piece, Plan, Pred, Program, Sort, Source, Streams, TagRef, Text, itag_count,
+    Node, Op, Piece, Plan, Pred, Program, Sort, Source, Streams, TagRef, Text, itag_count,
 };
 use flu_rules::program;
 use flu_valid::validate;
@@ -51,14 +51,27 @@ fn kind(
     has_value: bool,
     act: Act,
 ) -> Result<Kind, AllocError> {
+    kind_with(alloc, name, keyed, has_value, vec![in alloc; always(act)]?)
+}
+
+fn kind_with(
+    alloc: Global,
+    name: &str,
+    keyed: bool,
+    has_value: bool,
+    actions: Vec<Action>,
+) -> Result<Kind, AllocError> {
     let name = Name::of(String::from_str(alloc, name)?);
-    let actions = List::of(vec![in alloc; Action { act, guard: None }]?);
     Ok(Kind {
         name,
         keyed,
         has_value,
-        actions,
+        actions: List::of(actions),
     })
+}
+
+const fn always(act: Act) -> Action {
+    Action { act, guard: None }
 }
 
 fn source(alloc: Global, name: &str, rate: u64, tags: &[TagRef]) -> Result<Source, AllocError> {
@@ -69,17 +82,15 @@ fn source(alloc: Global, name: &str, rate: u64, tags: &[TagRef]) -> Result<Sourc
         name,
         file,
         rate,
+        slack: 0,
         tags,
     })
 }
 
-fn three_sources(
-    alloc: Global,
-    listed: [(&str, u64, &[TagRef]); 3],
-) -> Result<List<Source>, AllocError> {
+fn sources(alloc: Global, listed: &[(&str, u64, &[TagRef])]) -> Result<List<Source>, AllocError> {
     let mut sources = Vec::new(alloc);
     for (name, rate, tags) in listed {
-        sources.push(source(alloc, name, rate, tags)?)?;
+        sources.push(source(alloc, name, *rate, tags)?)?;
     }
     Ok(List::of(sources))
 }
@@ -133,15 +144,15 @@ fn count(alloc: Global) -> Result<Option<Program>, AllocError> {
         kind(alloc, "read", false, false, Act::Clear(COUNT))?,
     ]?;
     let depends = depends(alloc, &[(0, 1, false), (1, 1, false)])?;
-    let sources = three_sources(
+    let sources = sources(
         alloc,
-        [
+        &[
             ("a", 1, &[only(0)]),
             ("b", 1, &[only(0)]),
             ("c", 1, &[only(1)]),
         ],
     )?;
-    Ok(program(List::of(families), List::of(kinds), depends, sources))
+    Ok(program(1, List::of(families), List::of(kinds), depends, sources))
 }
 
 /// Two sources count the views of ten pages, one of them also sets the zip codes of ten users, and a tick puts out the views of
@@ -158,15 +169,76 @@ fn pages(alloc: Global) -> Result<Option<Program>, AllocError> {
         kind(alloc, "tick", false, false, Act::Flush(0, texts))?,
     ]?;
     let depends = depends(alloc, &[(1, 1, true), (0, 2, false), (2, 2, false)])?;
-    let sources = three_sources(
+    let sources = sources(
         alloc,
-        [
+        &[
             ("web", 1000, &[ten(0)]),
             ("app", 500, &[ten(0), ten(1)]),
             ("clock", 1, &[only(2)]),
         ],
     )?;
-    Ok(program(List::of(families), List::of(kinds), depends, sources))
+    Ok(program(1, List::of(families), List::of(kinds), depends, sources))
+}
+
+const PRICE: CellRef = CellRef {
+    family: 0,
+    at: At::Alone,
+};
+
+const VOLUME: CellRef = CellRef {
+    family: 1,
+    at: At::Alone,
+};
+
+/// What a quote does to the price: it sets it, or as a sum it clears it first.
+fn quoted(alloc: Global, sort: Sort) -> Result<Vec<Action>, AllocError> {
+    if sort == Sort::Last {
+        return Ok(vec![in alloc; always(Act::Set(PRICE, Expr::Value))]?);
+    }
+    Ok(vec![in alloc;
+        always(Act::Clear(PRICE)),
+        always(Act::Add(PRICE, Expr::Value)),
+    ]?)
+}
+
+/// What a trade does: it adds its worth at the price to the volume, and tells the price.
+fn traded(alloc: Global) -> Result<Vec<Action>, AllocError> {
+    let value = Box::new(alloc, Expr::Value)?;
+    let price = Box::new(alloc, Expr::Read(PRICE))?;
+    let at = List::of(vec![in alloc; Piece::Read(PRICE)]?);
+    Ok(vec![in alloc;
+        always(Act::Add(VOLUME, Expr::Two(Op::Times, value, price))),
+        always(Act::Emit(at)),
+    ]?)
+}
+
+/// In version 2: quotes set a price, trades from two sources read it and add to a volume, and a shut tells and clears the volume.
+fn prices(alloc: Global, sort: Sort) -> Result<Option<Program>, AllocError> {
+    let families = vec![in alloc;
+        family(alloc, "price", false, sort)?,
+        family(alloc, "vol", false, Sort::Sum)?,
+    ]?;
+    let told = List::of(vec![in alloc; Piece::Read(VOLUME)]?);
+    let shut = vec![in alloc; always(Act::Emit(told)), always(Act::Clear(VOLUME))]?;
+    let kinds = vec![in alloc;
+        kind_with(alloc, "quote", false, true, quoted(alloc, sort)?)?,
+        kind_with(alloc, "trade", false, true, traded(alloc)?)?,
+        kind_with(alloc, "shut", false, false, shut)?,
+    ]?;
+    let depends = depends(
+        alloc,
+        &[(0, 0, false), (0, 1, false), (1, 2, false), (2, 2, false)],
+    )?;
+    let sources = sources(
+        alloc,
+        &[
+            ("q", 1, &[only(0)]),
+            ("t1", 100, &[only(1)]),
+            ("t2", 100, &[only(1)]),
+            ("s", 1, &[only(2)]),
+        ],
+    )?;
+    Ok(program(2, List::of(families), List::of(kinds), depends, sources))
 }
 
 // ---- plans
@@ -217,6 +289,22 @@ fn count_plan(alloc: Global) -> Result<Plan, AllocError> {
         node(alloc, "root", reads, Some((1, 2)))?,
         node(alloc, "l", left, None)?,
         node(alloc, "r", right, None)?,
+    ]?;
+    Ok(plan_with(nodes))
+}
+
+/// The quotes and the shut are at the root, and the trades of each source are at a leaf.
+fn price_plan(alloc: Global) -> Result<Plan, AllocError> {
+    let quotes = vec![in alloc;
+        of_kind(0, Keys::Alone, Some(0)),
+        of_kind(2, Keys::Alone, Some(3)),
+    ]?;
+    let first = vec![in alloc; of_kind(1, Keys::Alone, Some(1))]?;
+    let second = vec![in alloc; of_kind(1, Keys::Alone, Some(2))]?;
+    let nodes = vec![in alloc;
+        node(alloc, "n0", quotes, Some((1, 2)))?,
+        node(alloc, "n1", first, None)?,
+        node(alloc, "n2", second, None)?,
     ]?;
     Ok(plan_with(nodes))
 }
@@ -415,6 +503,66 @@ fn cells_go_to_the_child_whose_itags_need_them(rt: HostRuntime) -> Result<(), Fa
     assert_eq!(rt; left.state.get(cell(1, 3)), None);
     assert_eq!(rt; other.state.get(cell(0, 0)), None);
     assert_eq!(rt; other.state.get(cell(1, 3)), Some(Worth::Last(94_105)));
+    Ok(())
+}
+
+/// A price and a volume, before any event.
+fn priced(alloc: Global, sort: Sort) -> Result<Lot, AllocError> {
+    let mut state = State::new(alloc);
+    if sort == Sort::Last {
+        state.put(cell(0, 0), 10)?;
+    } else {
+        state.add(cell(0, 0), 10)?;
+    }
+    state.add(cell(1, 0), 70)?;
+    Ok(Lot {
+        state,
+        since: Counts::of(vec![in alloc; 0, 0, 0, 0]?),
+        upto: Counts::of(vec![in alloc; 0, 0, 0, 0]?),
+    })
+}
+
+/// What the price and the volume are in the left part, in the right part, and when these are joined again.
+fn price_and_volume(
+    alloc: Global,
+    sort: Sort,
+) -> Result<Option<[(Option<Worth>, Option<Worth>); 3]>, AllocError> {
+    let Some(table) = right(alloc, prices(alloc, sort)?, price_plan(alloc)?, 2)? else {
+        return Ok(None);
+    };
+    let (left, other) = part(alloc, &table, priced(alloc, sort)?)?;
+    let first = (left.state.get(cell(0, 0)), left.state.get(cell(1, 0)));
+    let second = (other.state.get(cell(0, 0)), other.state.get(cell(1, 0)));
+    let whole = merge(alloc, &table, left, other)?;
+    let third = (whole.state.get(cell(0, 0)), whole.state.get(cell(1, 0)));
+    Ok(Some([first, second, third]))
+}
+
+#[test]
+fn a_cell_that_is_only_read_below_is_copied_and_the_copy_is_dropped(
+    rt: HostRuntime,
+) -> Result<(), Fail> {
+    let alloc = rt.alloc();
+    let price = Some(Worth::Last(10));
+    let volume = Some(Worth::Sum(70));
+    let parts = price_and_volume(alloc, Sort::Last)?;
+    assert_eq!(rt;
+        parts,
+        Some([(price, volume), (price, None), (price, volume)])
+    );
+    Ok(())
+}
+
+#[test]
+fn a_sum_that_is_copied_is_not_added_twice(rt: HostRuntime) -> Result<(), Fail> {
+    let alloc = rt.alloc();
+    let price = Some(Worth::Sum(10));
+    let volume = Some(Worth::Sum(70));
+    let parts = price_and_volume(alloc, Sort::Sum)?;
+    assert_eq!(rt;
+        parts,
+        Some([(price, volume), (price, None), (price, volume)])
+    );
     Ok(())
 }
 

@@ -20,3 +20,4 @@ pub mod Told
 pub mod Totals
 pub mod TwoNumbers
 pub mod Late
+pub mod Mapped

@@ -68,7 +68,8 @@ with_on text n d name actions = do
   done ← resolved_actions text n kind actions
   Ok (record d { kinds = with_actions d.kinds kind.number done; given = d.given ++ kind.number ∷ [] })
 
-unfoldable pub with_source : List ℕ → Naming → Drafted → WrittenSpan → WrittenSpan → Option WrittenNumber → Option WrittenNumber → List WrittenTag → Found Drafted
+unfoldable pub with_source : List ℕ → Naming → Drafted → WrittenSpan → WrittenSpan → Option WrittenNumber → Option WrittenNumber → List WrittenTag
+    → Found Drafted
 with_source text n d name file written_rate written_slack tags = do
   bytes ← file_of text d.sources file
   rate ← rate_of written_rate

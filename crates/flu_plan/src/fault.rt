@@ -49,7 +49,7 @@ impl<T: Drop> From<AllocFailed<T>> for PlanFault {
 
 // An error needs it. The name in it has none, so that the text is that of `Display`.
 impl fmt::Debug for PlanFault {
-    fn fmt(&self, f: &mut fmt::Formatter) -> fmt::Result {
+    fn fmt<W: fmt::Write>(&self, f: &mut fmt::Formatter<W>) -> fmt::Result {
         fmt::Display::fmt(self, f)
     }
 }

@@ -1,15 +1,14 @@
 -- Two graphs that agree on some itags have the same components, cuts and greedy trees there.
-use Rattle.std.proofs.Common.{◌≡◌, ◌≤◌, ℕ, zero, suc, List, [], ◌∷◌, drop, inl, inr, refl, sym, ap, ◌∙◌, arith}
+use Rattle.std.proofs.Common.{◌≡◌, ◌≤◌, ℕ, zero, suc, List, [], ◌∷◌, inl, inr, refl, sym, ap, ◌∙◌, arith}
 use Rattle.std.specs.Prelude.{Contains, ◌&&◌, nat_lt}
-use Rattle.flu_lemmas.specs.Sorting.{in_order}
 use Rattle.flu_lemmas.specs.Totals.{total}
 use Rattle.flu_planner.specs.Graphs.{Graph, AreConnected, IsApart, IsComponent, AreComponents, is_walk}
-use Rattle.flu_planner.specs.Cuts.{IsLeastCut, IsWhole, removed, remaining, removal_order, is_removed_first}
+use Rattle.flu_planner.specs.Cuts.{IsLeastCut, IsWhole, removed, remaining}
 use Rattle.flu_planner.specs.Groups.{grouped}
 use Rattle.flu_planner.specs.Greedy.{Tree, Leaf, Inner, IsGreedy, IsLeaf, IsParting}
 use Rattle.flu_lemmas.specs.Counting.{times}
 use Rattle.flu_lemmas.proofs.Containing.{contains_here, contains_later}
-use Rattle.flu_lemmas.proofs.Counting.{times_if_contained, contained_if_times, times_in_order, times_parted}
+use Rattle.flu_lemmas.proofs.Counting.{times_if_contained, contained_if_times, times_in_order}
 use Rattle.flu_planner.proofs.Cutting.{grouped_once}
 use Rattle.flu_planner.proofs.Finding.{some_list}
 use Rattle.flu_planner.proofs.TreeParts.{times_of_cut, remaining_in}
@@ -69,11 +68,13 @@ agree_remaining g h rates itags n a = within g h itags (remaining rates itags n)
 cut_agrees : (g h : Graph) (rates itags : List ℕ) (n : ℕ) → Agree g h itags → IsLeastCut g rates itags n → IsLeastCut h rates itags n
 cut_agrees g h rates itags n a x = record {
   apart = apart_agrees g h (remaining rates itags n) (agree_remaining g h rates itags n a) x.apart;
-  least = λ m less y. x.least m less (apart_agrees h g (remaining rates itags m) (turned g h (remaining rates itags m) (agree_remaining g h rates itags m a)) y);
+  least = λ m less y. x.least m less (apart_agrees h g (remaining rates itags m)
+      (turned g h (remaining rates itags m) (agree_remaining g h rates itags m a)) y);
 }
 
 whole_agrees : (g h : Graph) (rates itags : List ℕ) → Agree g h itags → IsWhole g rates itags → IsWhole h rates itags
-whole_agrees g h rates itags a x = λ n y. x n (apart_agrees h g (remaining rates itags n) (turned g h (remaining rates itags n) (agree_remaining g h rates itags n a)) y)
+whole_agrees g h rates itags a x = λ n y. x n (apart_agrees h g (remaining rates itags n)
+    (turned g h (remaining rates itags n) (agree_remaining g h rates itags n a)) y)
 
 -- ---- partings
 parting_agrees : (g h : Graph) (rates itags own left right : List ℕ) → Agree g h itags → IsParting g rates itags own left right

@@ -6,19 +6,18 @@ use Rattle.std.specs.Fmt.{decimal}
 use Rattle.std.proofs.lemmas.Fmt.{decimal_injective}
 use Rattle.std.proofs.lemmas.List.{append-nil, length-map, map-append}
 use Rattle.std.proofs.lemmas.List.Sums.{sum_by-cons, sum_by-append}
-use Rattle.flu_lemmas.proofs.Tests.{and_left, and_right, both, true_eq, le_true, false_if_not, all_at}
+use Rattle.flu_lemmas.proofs.Tests.{and_left, and_right, both, true_eq, le_true, false_if_not}
 use Rattle.flu_lemmas.proofs.Searches.{eq_true}
 use Rattle.flu_lemmas.proofs.Ranges.{range_append}
+use Rattle.flu_model.specs.declared.events.Itag.{Itag}
 use Rattle.flu_model.specs.declared.jobs.Program.{Program}
 use Rattle.flu_model.specs.declared.plans.Pred.{Pred}
 use Rattle.flu_model.specs.declared.plans.Node.{Node}
 use Rattle.flu_model.specs.Contents.{key_count}
 use Rattle.flu_model.specs.Itags.{itags, count_of_itags, tag_of_itag}
-use Rattle.flu_model.specs.Listing.{tag}
 use Rattle.flu_model.specs.Owners.{is_keyed}
 use Rattle.flu_model.specs.PlanRules.{are_subtrees, is_tree, depths_below, count_of_predicates, are_small_keys}
 use Rattle.flu_model.specs.Rules.{are_distinct, is_same_text, tag_fits}
-use Rattle.flu_model.proofs.ItagLemmas.{itags_fit}
 use Rattle.flu_plan.specs.Kept.{KeepsRules}
 use Rattle.flu_planner.specs.Graphs.{Graph, dependencies}
 use Rattle.flu_planner.specs.Greedy.{Tree, Leaf, Inner, IsGreedy}
@@ -30,7 +29,8 @@ use Rattle.flu_planner.proofs.PlanNodes.{count_of_nodes, AreOfJob, each_pred}
 -- ---- the tree
 -- the nodes of a tree before others
 grouped_nodes : (p : Program) (w : ℕ) (left right : Tree) (rest : List Node)
-    → (nodes_from p (w + 1) left ++ nodes_from p (w + 1 + size left) right) ++ rest ≡ nodes_from p (w + 1) left ++ (nodes_from p (w + 1 + size left) right ++ rest)
+    → (nodes_from p (w + 1) left ++ nodes_from p (w + 1 + size left) right) ++ rest ≡ nodes_from p
+    (w + 1) left ++ (nodes_from p (w + 1 + size left) right ++ rest)
 grouped_nodes p w left right rest = append_assoc (nodes_from p (w + 1) left) (nodes_from p (w + 1 + size left) right) rest
 
 subtrees_of : (p : Program) (w : ℕ) (t : Tree) (wanted : List ℕ) (rest : List Node) → are_subtrees (w + size t) wanted rest ≡ true
@@ -127,7 +127,8 @@ names_are p w (Inner own left right) =
 not_among : (w lo n : ℕ) → w < lo → lo + n ≤ 2 ^ 64 → list_any (is_same_text (name_of w)) (map name_of (range_with_len lo n)) ≡ false
 not_among w lo zero lt le = refl
 not_among w lo (suc n) lt le =
-    ap (λ b. b || list_any (is_same_text (name_of w)) (map name_of (range_with_len (lo + 1) n))) (false_if_not (is_same_text (name_of w) (name_of lo)) (λ e. (let same = same_names w lo (omega arith) (omega arith) e in omega (arith, same, lt))))
+    ap (λ b. b || list_any (is_same_text (name_of w)) (map name_of (range_with_len (lo + 1) n)))
+    (false_if_not (is_same_text (name_of w) (name_of lo)) (λ e. (let same = same_names w lo (omega arith) (omega arith) e in omega (arith, same, lt))))
     ∙ not_among w (lo + 1) n (omega arith) (omega arith)
 
 names_differ : (lo n : ℕ) → lo + n ≤ 2 ^ 64 → are_distinct is_same_text (map name_of (range_with_len lo n)) ≡ true
@@ -156,7 +157,8 @@ preds_are p w (Inner own left right) =
     let long : length (map (pred_of p) own) ≡ length own = length-map own (pred_of p) in
     let one = preds_are p (w + 1) left in
     let two = preds_are p (w + 1 + size left) right in
-    let first : length (own ++ (owned_in left ++ owned_in right)) ≡ length own + length (owned_in left ++ owned_in right) = length-append own (owned_in left ++ owned_in right) in
+    let first : length (own ++ (owned_in left ++ owned_in right)) ≡ length own + length (owned_in left ++ owned_in right) =
+    length-append own (owned_in left ++ owned_in right) in
     let second : length (owned_in left ++ owned_in right) ≡ length (owned_in left) + length (owned_in right) = length-append (owned_in left) (owned_in right) in
     omega (arith, step, split, long, one, two, first, second)
 
@@ -169,34 +171,40 @@ small_own_key : (keyed : Bool) (key : ℕ) → nat_lt key key_count ≡ true →
 small_own_key true key e = e
 small_own_key false key e = refl
 
-pub tag_of_job : (p : Program) (i : ℕ) → i < count_of_itags p → tag_fits p.kinds (tag_of_itag p (number i)) ≡ true
-tag_of_job p i lt = all_at (λ e. tag_fits p.kinds e.0) (itags p) i (tag 0 0, 0) (itags_fit p.kinds 0 p.sources p.sources_fit) lt
+-- the tags of a job's itags are those of declared kinds, with keys in range
+abbrev pub TagsFit : Type 0
+TagsFit = (p : Program) (i : Itag) → i.0 < count_of_itags p → tag_fits p.kinds (tag_of_itag p i) ≡ true
 
-pub small_keys : (p : Program) (i : ℕ) → i < count_of_itags p → are_small_keys (pred_of p i).keys ≡ true
-small_keys p i lt =
+small_keys : TagsFit → (p : Program) (i : ℕ) → i < count_of_itags p → are_small_keys (pred_of p i).keys ≡ true
+small_keys fits p i lt =
     let t = tag_of_itag p (number i) in
-    small_own_key (is_keyed p.kinds t.kind) t.key (and_right (nat_lt t.kind (length p.kinds)) (nat_lt t.key key_count) (tag_of_job p i lt))
+    small_own_key (is_keyed p.kinds t.kind) t.key (and_right (nat_lt t.kind (length p.kinds)) (nat_lt t.key key_count) (fits p (number i) lt))
 
 -- ---- the whole
-tree_keeps_rules : (p : Program) (rates : List ℕ) (depth : ℕ) (t : Tree) → depth ≤ 6 → IsGreedy (dependencies p) rates depth (all_itags p) t
+tree_keeps_rules : TagsFit → (p : Program) (rates : List ℕ) (depth : ℕ) (t : Tree) → depth ≤ 6 → IsGreedy (dependencies p) rates depth (all_itags p) t
     → KeepsRules (nodes_from p 0 t)
-tree_keeps_rules p rates depth t le greedy =
+tree_keeps_rules fits p rates depth t le greedy =
     let g = dependencies p in
     let itags = all_itags p in
     let nodes = nodes_from p 0 t in
     let few = few_nodes g rates depth itags t le greedy in
     let long = count_of_nodes p 0 t in
     let same = append-nil nodes in
-    let once : AreOnce (owned_in t) = λ i. (let all = owned_times g rates depth itags t greedy (all_once p) i in let one = all_once p i in omega (arith, all, one)) in
+    let once : AreOnce (owned_in t) = λ i. (let all = owned_times g rates depth itags t greedy (all_once p) i in let one =
+    all_once p i in omega (arith, all, one)) in
     let owned : AreOfJob p (owned_in t) = λ i there. all_within p i (owned_is_given g rates depth itags t greedy (all_once p) i there) in
     record {
       one_tree = nodes_are_tree p t;
       own_names = ap (are_distinct is_same_text) (names_are p 0 t) ∙ names_differ 0 (size t) (omega (arith, few));
       few_nodes = omega (arith, few, long);
-      few_predicates = (let count = count_is p t in let number = few_numbers (count_of_itags p) (owned_in t) once owned in let all = p.few_itags in omega (arith, count, number, all));
-      shallow = ap (λ ns. list_all is_few (depths_below (0 ∷ []) ns)) (sym same) ∙ shallow_from p g rates depth itags 0 t 0 [] [] greedy (omega (arith, le)) refl;
-      small_keys = each_pred p (λ (pred : Pred). are_small_keys pred.keys) (small_keys p) 0 t owned;
+      few_predicates = (let count = count_is p t in let number = few_numbers (count_of_itags p) (owned_in t) once owned in let all =
+          p.few_itags in omega (arith, count, number, all));
+      shallow = ap (λ ns. list_all is_few (depths_below (0 ∷ []) ns)) (sym same)
+          ∙ shallow_from p g rates depth itags 0 t 0 [] [] greedy (omega (arith, le)) refl;
+      small_keys = each_pred p (λ (pred : Pred). are_small_keys pred.keys) (small_keys fits p) 0 t owned;
     }
 
-pub greedy_keeps_rules : (p : Program) (rates : List ℕ) (depth : ℕ) (nodes : List Node) → depth ≤ 6 → IsGreedyPlan p rates depth nodes → KeepsRules nodes
-greedy_keeps_rules p rates depth nodes le plan = subst (λ (ns : List Node). KeepsRules ns) (sym plan.nodes_of_tree) (tree_keeps_rules p rates depth plan.tree le plan.greedy)
+pub greedy_keeps_rules : TagsFit → (p : Program) (rates : List ℕ) (depth : ℕ) (nodes : List Node) → depth ≤ 6 → IsGreedyPlan p rates depth nodes
+    → KeepsRules nodes
+greedy_keeps_rules fits p rates depth nodes le plan =
+    subst (λ (ns : List Node). KeepsRules ns) (sym plan.nodes_of_tree) (tree_keeps_rules fits p rates depth plan.tree le plan.greedy)

@@ -1,5 +1,5 @@
 -- A greedy plan is valid for its job.
-use Rattle.std.proofs.Common.{◌≡◌, ◌<◌, ◌≤◌, ◌+◌, ℕ, zero, suc, true, false, cond, inl, inr, Option, Some, None, List, [], ◌∷◌, ◌++◌, length, sym, ap, subst, ◌∙◌, arith}
+use Rattle.std.proofs.Common.{◌≡◌, ◌<◌, ◌≤◌, ◌+◌, ℕ, zero, suc, true, false, cond, inl, inr, Option, Some, None, List, [], ◌++◌, refl, sym, ap, subst, ◌∙◌, arith}
 use Rattle.std.specs.Prelude.{count_by, Contains}
 use Rattle.std.specs.List.{list_any}
 use Rattle.std.proofs.lemmas.Bool.{cases_lt, cases_eq, or_left, or_right, true≢false}
@@ -7,15 +7,15 @@ use Rattle.std.proofs.lemmas.List.{append-nil}
 use Rattle.std.proofs.lemmas.List.Elements.{Contains-append_left, Contains-append_right}
 use Rattle.std.proofs.lemmas.List.Sums.{sum_by-cons, sum_by-append}
 use Rattle.flu_lemmas.proofs.Tests.{false_if_not}
-use Rattle.flu_model.specs.declared.events.Itag.{Itag}
 use Rattle.flu_model.specs.declared.jobs.Program.{Program}
 use Rattle.flu_model.specs.declared.plans.Node.{Node}
 use Rattle.flu_model.specs.Itags.{count_of_itags}
-use Rattle.flu_model.specs.Owners.{matches, node_owns, owns, is_within, are_related}
+use Rattle.flu_model.specs.Owners.{matches, node_owns, found_owns, owns, is_within, are_related}
 use Rattle.flu_model.specs.Validity.{IsValid}
 use Rattle.flu_planner.specs.Graphs.{dependencies}
 use Rattle.flu_planner.specs.Greedy.{Tree, Leaf, Inner, IsGreedy}
 use Rattle.flu_planner.specs.Plans.{all_itags, pred_of, node_of, size, nodes_from, IsGreedyPlan}
+use Rattle.flu_lemmas.proofs.Places.{slice_get-within}
 use Rattle.flu_lemmas.specs.Counting.{times}
 use Rattle.flu_lemmas.proofs.Counting.{times_if_contained, contained_if_times, times_append}
 use Rattle.flu_planner.proofs.TreeParts.{parted_times, parted_apart}
@@ -54,9 +54,13 @@ counted p w (Inner own left right) i in_job all few =
     let split = sum_by-append (λ n. cond (node_owns p (number i) n) 1 0) ls rs in
     let first = times_append i own (owned_in left ++ owned_in right) in
     let second = times_append i (owned_in left) (owned_in right) in
-    let here = counted_root p w own kids i in_job (λ j there. all j (Contains-append_left own (owned_in left ++ owned_in right) j there)) (omega (arith, few, first)) in
-    let one = counted p (w + 1) left i in_job (λ j there. all j (Contains-append_right own (owned_in left ++ owned_in right) j (Contains-append_left (owned_in left) (owned_in right) j there))) (omega (arith, few, first, second)) in
-    let two = counted p (w + 1 + size left) right i in_job (λ j there. all j (Contains-append_right own (owned_in left ++ owned_in right) j (Contains-append_right (owned_in left) (owned_in right) j there))) (omega (arith, few, first, second)) in
+    let here = counted_root p w own kids i in_job (λ j there. all j (Contains-append_left own (owned_in left ++ owned_in right) j there))
+    (omega (arith, few, first)) in
+    let one = counted p (w + 1) left i in_job (λ j there. all j (Contains-append_right own (owned_in left ++ owned_in right) j
+    (Contains-append_left (owned_in left) (owned_in right) j there))) (omega (arith, few, first, second)) in
+    let two = counted p (w + 1 + size left) right i in_job (λ j there. all j
+    (Contains-append_right own (owned_in left ++ owned_in right) j (Contains-append_right (owned_in left) (owned_in right) j there)))
+    (omega (arith, few, first, second)) in
     omega (arith, step, split, first, second, here, one, two)
 
 -- ---- the itags of unrelated nodes are independent
@@ -90,22 +94,27 @@ module _ (p : Program) (rates : List ℕ) (nodes : List Node) where
       all k (contained_if_times k itags (omega (arith, parts, some)))) in
       let at_left = left_is_placed p nodes w own left right at in
       let at_right = right_is_placed p nodes w own left right at in
-      let of_left : (v k : ℕ) → w + 1 ≤ v → v < w + 1 + size left → k < count_of_itags p → owns p nodes v (number k) ≡ true → Contains lefts k = λ v k lo hi in_k owned.
+      let of_left : (v k : ℕ) → w + 1 ≤ v → v < w + 1 + size left → k < count_of_itags p → owns p nodes v (number k) ≡ true → Contains lefts k =
+      λ v k lo hi in_k owned.
       owned_is_given (dependencies p) rates depth lefts left greedy.3 few.0 k
       (owned_by_node p nodes (w + 1) left at_left v k lo hi in_k
       (λ x there. in_lefts x (owned_is_given (dependencies p) rates depth lefts left greedy.3 few.0 x there)) owned) in
-      let of_right : (v k : ℕ) → w + 1 + size left ≤ v → v < w + 1 + size left + size right → k < count_of_itags p → owns p nodes v (number k) ≡ true → Contains rights k = λ v k lo hi in_k owned.
+      let of_right : (v k : ℕ) → w + 1 + size left ≤ v → v < w + 1 + size left + size right → k < count_of_itags p → owns p nodes v
+      (number k) ≡ true → Contains rights k = λ v k lo hi in_k owned.
       owned_is_given (dependencies p) rates depth rights right greedy.4 few.1 k
       (owned_by_node p nodes (w + 1 + size left) right at_right v k lo hi in_k
       (λ x there. in_rights x (owned_is_given (dependencies p) rates depth rights right greedy.4 few.1 x there)) owned) in
       elim (cases_eq w a) [
-        | inl same ↦ absurd (unrelated nodes a b apart (subst (λ (u : ℕ). is_within nodes u b ≡ true) same (within_root p nodes w (Inner own left right) at b lb hb)))
+        | inl same ↦ absurd (unrelated nodes a b apart (subst (λ (u : ℕ). is_within nodes u b ≡ true) same
+            (within_root p nodes w (Inner own left right) at b lb hb)))
         | inr a_below ↦ elim (cases_eq w b) [
-          | inl same ↦ absurd (unrelated_back nodes a b apart (subst (λ (u : ℕ). is_within nodes u a ≡ true) same (within_root p nodes w (Inner own left right) at a la ha)))
+          | inl same ↦ absurd (unrelated_back nodes a b apart (subst (λ (u : ℕ). is_within nodes u a ≡ true) same
+              (within_root p nodes w (Inner own left right) at a la ha)))
           | inr b_below ↦ elim (cases_lt a (w + 1 + size left)) [
             | inl a_left ↦ elim (cases_lt b (w + 1 + size left)) [
               | inl b_left ↦
-                  independent depth lefts (w + 1) left greedy.3 few.0 in_lefts at_left a b i j (omega (arith, la, a_below)) a_left (omega (arith, lb, b_below)) b_left in_i in_j one two apart
+                  independent depth lefts (w + 1) left greedy.3 few.0 in_lefts at_left a b i j (omega (arith, la, a_below)) a_left
+                  (omega (arith, lb, b_below)) b_left in_i in_j one two apart
               | inr b_right ↦
                   (parted_apart (dependencies p) rates itags own lefts rights once parting i j
                   (of_left a i (omega (arith, la, a_below)) a_left in_i one)
@@ -117,16 +126,12 @@ module _ (p : Program) (rates : List ℕ) (nodes : List Node) where
                   (of_left b j (omega (arith, lb, b_below)) b_left in_j two)
                   (of_right a i a_right (omega (arith, ha)) in_i one)).1
               | inr b_right ↦
-                  independent depth rights (w + 1 + size left) right greedy.4 few.1 in_rights at_right a b i j a_right (omega (arith, ha)) b_right (omega (arith, hb)) in_i in_j one two apart
+                  independent depth rights (w + 1 + size left) right greedy.4 few.1 in_rights at_right a b i j a_right (omega (arith, ha)) b_right
+                  (omega (arith, hb)) in_i in_j one two apart
             ]
           ]
         ]
       ]
-
-owner_is_there : (p : Program) (nodes : List Node) (w : ℕ) (i : Itag) → owns p nodes w i ≡ true → w < length nodes
-owner_is_there p [] w i owned = cc
-owner_is_there p (x ∷ xs) zero i owned = omega arith
-owner_is_there p (x ∷ xs) (suc w) i owned = let there : w < length xs = owner_is_there p xs w i owned in omega (arith, there)
 
 -- the nodes of a greedy tree of all itags
 tree_is_valid : (p : Program) (rates : List ℕ) (depth : ℕ) (t : Tree) → IsGreedy (dependencies p) rates depth (all_itags p) t → IsValid p (nodes_from p 0 t)
@@ -142,8 +147,8 @@ tree_is_valid p rates depth t greedy =
           let once = all_have p i.0 in_job in
           counted p 0 t i.0 in_job owned (omega (arith, all, once)) ∙ all ∙ once);
       independent = λ a b i j in_i in_j one two apart.
-          (let ha = owner_is_there p nodes a i one in
-          let hb = owner_is_there p nodes b j two in
+          (let ha = slice_get-within (found_owns p i) refl nodes a one in
+          let hb = slice_get-within (found_owns p j) refl nodes b two in
           independent p rates nodes depth (all_itags p) 0 t greedy (all_once p) (all_within p) at a b i.0 j.0
           (omega arith) (omega (arith, ha, long)) (omega arith) (omega (arith, hb, long)) in_i in_j one two apart);
     }

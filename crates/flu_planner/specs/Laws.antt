@@ -3,7 +3,7 @@ use Rattle.std.specs.Prelude.{◌≡◌, ℕ, ◌≤◌, List, Ok, IsTrue}
 use Rattle.std.specs.List.{list_all}
 use Rattle.flu_model.specs.declared.jobs.Program.{Program}
 use Rattle.flu_model.specs.declared.plans.Node.{Node}
-use Rattle.flu_model.specs.Rules.{is_name}
+use Rattle.flu_names.specs.Names.{is_name}
 use Rattle.flu_model.specs.Owners.{nodes_fit}
 use Rattle.flu_model.specs.Validity.{IsValid}
 use Rattle.flu_plan.specs.Kept.{KeepsRules}
@@ -21,11 +21,13 @@ GreedyIsValid = (p : Program) (rates : List ℕ) (depth : ℕ) (nodes : List Nod
 
 -- its predicates name kinds and sources of the job, and its names are names of the language
 abbrev pub GreedyHasText : Type 0
-GreedyHasText = (p : Program) (rates : List ℕ) (depth : ℕ) (nodes : List Node) → depth ≤ 6 → IsGreedyPlan p rates depth nodes → IsTrue (nodes_fit p nodes) × IsTrue (list_all (λ (node : Node). is_name node.name) nodes)
+GreedyHasText = (p : Program) (rates : List ℕ) (depth : ℕ) (nodes : List Node) → depth ≤ 6 → IsGreedyPlan p rates depth nodes → IsTrue
+    (nodes_fit p nodes) × IsTrue (list_all (λ (node : Node). is_name node.name) nodes)
 
 -- its text is read as this plan again
 abbrev pub GreedyIsReadAgain : Type 0
-GreedyIsReadAgain = (p : Program) (rates : List ℕ) (depth : ℕ) (nodes : List Node) → depth ≤ 6 → IsGreedyPlan p rates depth nodes → plan_in p (printed p nodes) ≡ Ok nodes
+GreedyIsReadAgain = (p : Program) (rates : List ℕ) (depth : ℕ) (nodes : List Node) → depth ≤ 6 → IsGreedyPlan p rates depth nodes → plan_in p
+    (printed p nodes) ≡ Ok nodes
 
 -- a job has one greedy plan for some rates and a depth
 abbrev pub GreedyIsUnique : Type 0

@@ -42,7 +42,13 @@ fn said(alloc: Global, p: &Program, text: &str) -> Result<String, AllocError> {
             let name = name.as_str();
             format!(in alloc; "not a tree at {name}")
         }
-        Err(fault) => format!(in alloc; "{fault:?}"),
+        Err(PlanFault::BadToken { at }) => format!(in alloc; "bad token at {at}"),
+        Err(PlanFault::Unexpected { at }) => format!(in alloc; "unexpected at {at}"),
+        Err(PlanFault::UnknownName { at }) => format!(in alloc; "unknown name at {at}"),
+        Err(PlanFault::OverLimit { what, count }) => {
+            format!(in alloc; "over limit {what:?} {count}")
+        }
+        Err(PlanFault::NoMemory) => Err(AllocError),
     }
 }
 
@@ -63,19 +69,19 @@ fn expect_all(
 fn first_faults(rt: HostRuntime) -> Result<(), Fail> {
     let p = read_job(rt.alloc(), JOB_J.as_bytes()).expect(&rt, "a job");
     let cases = [
-        ("", "Unexpected { at: 0 }"),
-        ("  # nothing\n", "Unexpected { at: 12 }"),
-        ("node a: foo", "UnknownName { at: 8 }"),
-        ("node a: $", "BadToken { at: 8 }"),
-        ("node a: inc[", "Unexpected { at: 12 }"),
-        ("node a: inc[1..", "Unexpected { at: 15 }"),
-        ("node a: , inc", "Unexpected { at: 8 }"),
-        ("node a: inc, -> b c", "Unexpected { at: 13 }"),
-        ("node a: -> b", "Unexpected { at: 12 }"),
-        ("node a: inc read", "Unexpected { at: 12 }"),
-        ("node a: inc@read", "UnknownName { at: 12 }"),
-        ("node a: inc@b@c", "Unexpected { at: 13 }"),
-        ("node a: -> b c node b:", "UnknownName { at: 13 }"),
+        ("", "unexpected at 0"),
+        ("  # nothing\n", "unexpected at 12"),
+        ("node a: foo", "unknown name at 8"),
+        ("node a: $", "bad token at 8"),
+        ("node a: inc[", "unexpected at 12"),
+        ("node a: inc[1..", "unexpected at 15"),
+        ("node a: , inc", "unexpected at 8"),
+        ("node a: inc, -> b c", "unexpected at 13"),
+        ("node a: -> b", "unexpected at 12"),
+        ("node a: inc read", "unexpected at 12"),
+        ("node a: inc@read", "unknown name at 12"),
+        ("node a: inc@b@c", "unexpected at 13"),
+        ("node a: -> b c node b:", "unknown name at 13"),
     ];
     expect_all(&rt, rt.alloc(), &p, &cases)?;
     Ok(())
@@ -96,7 +102,7 @@ fn nodes_that_are_no_tree(rt: HostRuntime) -> Result<(), Fail> {
             "not a tree at b",
         ),
         ("node a: foo node a:", "not a tree at a"),
-        ("node a: -> b b node b: foo", "UnknownName { at: 23 }"),
+        ("node a: -> b b node b: foo", "unknown name at 23"),
     ];
     expect_all(&rt, rt.alloc(), &p, &cases)?;
     Ok(())
@@ -137,17 +143,17 @@ fn keys_over_the_limit(rt: HostRuntime) -> Result<(), Fail> {
         ("node a: view[65535..0]", "node a: view[65535..0]\n"),
         (
             "node a: tick[65536]",
-            "OverLimit { what: Key, count: 65536 }",
+            "over limit Key 65536",
         ),
         (
             "node a: view[1], view[2..70000], view[80000]",
-            "OverLimit { what: Key, count: 70000 }",
+            "over limit Key 70000",
         ),
         (
             "node a: view[70000..80000]",
-            "OverLimit { what: Key, count: 70000 }",
+            "over limit Key 70000",
         ),
-        ("node a: view[9223372036854775808]", "BadToken { at: 13 }"),
+        ("node a: view[9223372036854775808]", "bad token at 13"),
     ];
     expect_all(&rt, rt.alloc(), &p, &cases)?;
     Ok(())
@@ -201,14 +207,14 @@ fn nodes_and_depth(rt: HostRuntime) -> Result<(), Fail> {
     let more = levels(alloc, 65, 129)?;
     assert_eq!(&rt;
         lines_of(alloc, &p, &more)?.as_str(),
-        "OverLimit { what: Nodes, count: 128 }"
+        "over limit Nodes 128"
     );
     let six = chain(alloc, 6)?;
     assert_eq!(&rt; lines_of(alloc, &p, &six)?.as_str(), "a plan");
     let seven = chain(alloc, 7)?;
     assert_eq!(&rt;
         lines_of(alloc, &p, &seven)?.as_str(),
-        "OverLimit { what: Depth, count: 7 }"
+        "over limit Depth 7"
     );
     Ok(())
 }
@@ -231,7 +237,7 @@ fn predicates(rt: HostRuntime) -> Result<(), Fail> {
     let more = with_predicates(alloc, 4097)?;
     assert_eq!(&rt;
         lines_of(alloc, &p, &more)?.as_str(),
-        "OverLimit { what: Predicates, count: 4097 }"
+        "over limit Predicates 4097"
     );
     Ok(())
 }

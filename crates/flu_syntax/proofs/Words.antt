@@ -66,7 +66,8 @@ module _ (P : Sign → Type 0) where
 
   deed_has : (at : ℕ) (d : Deed) → AllByRecursion P (deed_signs at d) → AllByRecursion P (deed_words d)
   deed_has at (Writes verb cell amount) all =
-      all_append P (cell_words cell) (tree_words amount) (cell_has cell (all_front P (cell_signs cell) (spelled amount) all.1)) (tree_has amount (all_back P (cell_signs cell) (spelled amount) all.1))
+      all_append P (cell_words cell) (tree_words amount) (cell_has cell (all_front P (cell_signs cell) (spelled amount) all.1))
+      (tree_has amount (all_back P (cell_signs cell) (spelled amount) all.1))
   deed_has at (Clears cell) all = cell_has cell all.1
   deed_has at (Emits template) all = all.1
   deed_has at (Flushes family template) all = all.1
