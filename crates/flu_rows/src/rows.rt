@@ -76,7 +76,8 @@ impl Rows {
         })
     }
 
-    /// Reads the next line that is not blank.
+    /// Reads the next line that is not blank. A byte order mark may stand at the front of the first line; a later line that
+    /// begins with one is bad.
     ///
     /// What a call gives after one that answered anything but a row is not promised to be of use.
     pub fn next_row<F: Files>(&mut self, files: &mut F) -> Result<Next, RowsFault>

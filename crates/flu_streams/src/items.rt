@@ -19,7 +19,7 @@ pub(crate) fn time_of(item: &Item) -> u64
     }
 }
 
-/// How many items come no later than a time. It looks only at those that come later, and at one before them.
+/// How many of some items in order of time come no later than a time.
 pub(crate) fn count_until(items: &[Item], time: u64) -> usize
     requires { IsTrue (rises_from item_time 0 items.now) }
     ensures within { result ≤ length items.now }
@@ -82,7 +82,7 @@ fn push_item(lists: &mut Vec<Vec<Item>>, first: u32, item: Item) -> Result<(), A
     }
 }
 
-/// Puts an item at the end of one list.
+// Puts an item at the end of one list.
 fn push_at(lists: &mut Vec<Vec<Item>>, place: usize, item: Item) -> Result<(), AllocError>
     requires { place < vec_len lists.old }
     ensures len { vec_len lists.new ≡ vec_len lists.old }
@@ -93,7 +93,7 @@ fn push_at(lists: &mut Vec<Vec<Item>>, place: usize, item: Item) -> Result<(), A
     Ok(())
 }
 
-/// Puts an item at the end of each list.
+// Puts an item at the end of each list.
 fn push_each(lists: &mut Vec<Vec<Item>>, item: Item) -> Result<(), AllocError>
     ensures len { vec_len lists.new ≡ vec_len lists.old }
     ensures each { OnOk result ((i : ℕ) → i < vec_len lists.old → items_of_list lists.new i ≡ items_of_list lists.old i ++ item ∷ []) }

@@ -19,7 +19,8 @@ use flu_model::{Kind, Program, Source, Streams};
 use flu_outside::Files;
 use std::alloc::Global;
 
-/// Reads each source of a job to its end, in declared order, and gives the items of each itag.
+/// Reads each source of a job to its end, in declared order, and gives the items of each itag, sorted by time: a row may be
+/// late within its source's slack (`docs/LANGUAGE.md`, "Late rows").
 ///
 /// A source fault is that of the first source, as declared, that has a defect, by its first defect. Which sources are good
 /// and what they give stands in `specs/Good.antt`, over the bytes that the files have left when the call begins.
