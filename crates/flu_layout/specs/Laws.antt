@@ -26,8 +26,12 @@ BegunAreSigns = (signs : List Sign) (ts : List Token) → Begins IsSign signs ts
 
 -- the words of keys are laid out as their text
 abbrev pub KeysAreSpelled : Type 0
-KeysAreSpelled = (ks : Keys) (behind : List ℕ) (rest : List Piece) → behind_kind ks behind ++ layout (keys_words ks behind rest) ≡ keys_text ks ++ (behind ++ layout rest)
+KeysAreSpelled =
+    (ks : Keys) (behind : List ℕ) (rest : List Piece)
+    → behind_kind ks behind ++ layout (keys_words ks behind rest) ≡ keys_text ks ++ (behind ++ layout rest)
 
 -- by the rules, where the keys are in range
 abbrev pub KeysAreLaid : Type 0
-KeysAreLaid = (ks : Keys) (behind : List ℕ) (rest : List Piece) → IsTrue (are_small_keys ks) → Follows behind rest → Follows (behind_kind ks behind) (keys_words ks behind rest)
+KeysAreLaid =
+    (ks : Keys) (behind : List ℕ) (rest : List Piece) → IsTrue (are_small_keys ks) → Follows behind rest
+    → Follows (behind_kind ks behind) (keys_words ks behind rest)

@@ -225,7 +225,8 @@ module _ (begun : BegunAreSigns) (meet : TagsMeet) (differ : TagsDiffer) (job : 
             k;
       } in m)) (let same : 0 + length job.depends ≡ length job.depends = omega arith in same)
 
-  drafted : (p : Parts) → (given : List ℕ) × (itags : ℕ) × (draft_of whole n (all_parts p) ≡ Ok (record { kinds = job.kinds; given = given; depends = job.depends; sources = job.sources; itags = itags }))
+  drafted : (p : Parts) → (given : List ℕ) × (itags : ℕ)
+      × (draft_of whole n (all_parts p) ≡ Ok (record { kinds = job.kinds; given = given; depends = job.depends; sources = job.sources; itags = itags }))
   unfolding n each
   drafted p =
       let idle : List PlainKind = map without_actions job.kinds in
@@ -244,7 +245,8 @@ module _ (begun : BegunAreSigns) (meet : TagsMeet) (differ : TagsDiffer) (job : 
             ∙ skip_tags whole utf8 n job.kinds start p.tags behind_tags p.are_tags
             ∙ add_depends whole utf8 n job.kinds named_kinds known_kinds job.depends start p.deps (p.ons ++ (p.sources ++ [])) p.are_deps
             ∙ ons.leads
-            ∙ add_sources whole utf8 n job.kinds named_kinds known_kinds meet differ [] job.sources with_ons p.sources [] p.are_sources refl fits.sources fits.own_files few,
+            ∙ add_sources whole utf8 n job.kinds named_kinds known_kinds meet differ [] job.sources with_ons p.sources []
+            p.are_sources refl fits.sources fits.own_files few,
       )
 
   resolved_is : (p : Parts) (version : Option WrittenNumber) → version_of version ≡ Ok job.version
