@@ -1,11 +1,11 @@
 -- The normal form of a job is read as that job.
-use Rattle.std.proofs.Common.{◌≡◌, ◌≤◌, ◌+◌, ℕ, pos, Bool, true, false, ◌&&◌, Option, None, List, [], ◌∷◌, ◌++◌, map, length, Some, Ok, refl, sym, ap, subst, ◌∙◌, append_assoc, arith}
-use Rattle.std.specs.Prelude.{not, ◌==◌, if◌then◌else◌}
-use Rattle.std.specs.List.{list_all, list_any}
+use Rattle.std.proofs.Common.{◌≡◌, ◌≤◌, ◌+◌, ℕ, pos, Bool, true, false, Option, None, List, [], ◌∷◌, ◌++◌, map, length, Some, Ok, refl, sym, ap, subst, ◌∙◌, append_assoc, arith}
+use Rattle.std.specs.Prelude.{◌==◌, if◌then◌else◌}
+use Rattle.std.specs.List.{list_all}
 use Rattle.std.specs.Str.{IsUtf8}
 use Rattle.std.proofs.lemmas.List.Concat.{flat_map-append}
 use Rattle.flu_lemmas.proofs.Tests.{le_true, true_eq}
-use Rattle.flu_lemmas.proofs.Booleans.{or_front, three_left, three_right}
+use Rattle.flu_lemmas.proofs.Booleans.{or_front}
 use Rattle.flu_lemmas.specs.Items.{Begins}
 use Rattle.flu_lemmas.proofs.Items.{begins_append, Took, took_none}
 use Rattle.flu_text.specs.declared.words.Token.{Token}
