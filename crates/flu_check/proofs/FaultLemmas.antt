@@ -9,7 +9,7 @@ use Rattle.std.proofs.lemmas.Bool.{cases_lt}
 use Rattle.std.proofs.lemmas.Cmp.{on_total, then_total, tied_itself}
 use Rattle.std.proofs.lemmas.List.{get_or_default}
 use Rattle.std.proofs.lemmas.List.MinMax.{ranks_by}
-use Rattle.flu_lemmas.proofs.Tests.{and_left, and_right}
+use Rattle.flu_lemmas.proofs.Tests.{and_left, and_right, not_both}
 use Rattle.flu_lemmas.proofs.Sorting.{both_equal}
 use Rattle.flu_model.specs.declared.events.Cell.{Cell}
 use Rattle.flu_model.specs.declared.events.Tag.{Tag}
@@ -21,7 +21,7 @@ use Rattle.flu_model.specs.Listing.{tag}
 use Rattle.flu_model.specs.Modes.{mode_of, modes_conflict, IsInUniverse, IsAccepted}
 use Rattle.flu_laws.specs.Lawful.{DependencyTurns}
 use Rattle.flu_model.specs.Order.{cell_cmp, is_cell_before, tag_cmp, is_tag_before}
-use Rattle.flu_deps.specs.Conflicts.{conflicts_on, IsFirstConflict}
+use Rattle.flu_deps.specs.Conflicts.{conflicts_on, IsFirstConflict, NeverConflict}
 use Rattle.flu_deps.specs.Dependencies.{ConflictIsMutual}
 use Rattle.flu_lemmas.proofs.TwoNumbers.{by_two-total, by_two-ties}
 use Rattle.flu_check.specs.declared.search.Fault.{Fault}
@@ -116,6 +116,14 @@ sought_keeps p a b c found e x passed =
 
 pub first_passes : (p : Program) (a b : Tag) (c : Cell) → IsFirstConflict p a b c → PassesPair p a b (Some (record { a = a; b = b; cell = c }))
 first_passes p a b c first d f = Passed (same_tags a b d c ∙ first.first d f.conflict)
+
+-- what never conflicts is passed
+pub never_passes : (p : Program) (a b : Tag) (found : Option Fault) → NeverConflict p a b → PassesPair p a b found
+never_passes p a b found never c f = absurd (not_both (conflicts_on p a b c) f.conflict (never c))
+
+pub same_pair : (p : Program) (a b d e : Tag) (found : Option Fault) → a ≡ d → b ≡ e → PassesPair p a b found → PassesPair p d e found
+same_pair p a b d e found first second passes =
+    subst (λ t. PassesPair p t e found) first (subst (λ t. PassesPair p a t found) second passes)
 
 -- ---- all tags
 -- all faults are passed
