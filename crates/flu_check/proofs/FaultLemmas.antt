@@ -105,7 +105,8 @@ not_sought p a b found good e c f =
               Passed ((λ i. is_lt (fault_cmp (one i) (two i) c h.a h.b h.cell)) ∙ same_tags h.a h.b c h.cell ∙ g.cell.first c here)
         ]
 
-pub sought_keeps : (p : Program) (a b : Tag) (c : Cell) (found : Option Fault) → is_sought p a b found ≡ true → KeepsPassed found (Some (record { a = a; b = b; cell = c }))
+pub sought_keeps : (p : Program) (a b : Tag) (c : Cell) (found : Option Fault) → is_sought p a b found ≡ true
+    → KeepsPassed found (Some (record { a = a; b = b; cell = c }))
 sought_keeps p a b c found e x passed =
     at_found found (and_right (not (is_tag_before b a)) (is_pair_before a b found) (and_left (not (is_tag_before b a) && is_pair_before a b found) (not (is_dependent p a b)) e)) passed
   where
@@ -130,7 +131,8 @@ same_pair p a b d e found first second passes =
 abbrev pub AllPassed : Program → Option Fault → Type 0
 AllPassed p found = (i : ℕ) → i < count_of_itags p → PassesTag p (tag_at p i) found
 
-passes : (p : Program) (found : Option Fault) → AllPassed p found → (a b : Tag) (c : Cell) → IsCheckFault p a b c → IsPassed found (record { a = a; b = b; cell = c })
+passes : (p : Program) (found : Option Fault) → AllPassed p found → (a b : Tag) (c : Cell) → IsCheckFault p a b c
+    → IsPassed found (record { a = a; b = b; cell = c })
 passes p found all a b c f =
     let one : HasItag p a = listed_has_itag p a f.a_listed in
     let two : HasItag p b = listed_has_itag p b f.b_listed in
@@ -138,7 +140,8 @@ passes p found all a b c f =
     (subst (λ (t : Tag). IsCheckFault p (tag_at p one.number) t c → IsPassed found (record { a = tag_at p one.number; b = t; cell = c })) two.is (all one.number one.in_range two.number two.in_range c))
     f
 
-pub passed_is_first : (p : Program) (found : Option Fault) → IfSome found (IsFound p) → AllPassed p found → IfSome found (λ f. IsFirstCheckFault p f.a f.b f.cell)
+pub passed_is_first : (p : Program) (found : Option Fault) → IfSome found (IsFound p) → AllPassed p found
+    → IfSome found (λ f. IsFirstCheckFault p f.a f.b f.cell)
 passed_is_first p None good all = tt
 passed_is_first p (Some f) good all = record {
   fault = good.fault;

@@ -1,11 +1,11 @@
 -- Where two tags conflict on a cell, something clashes that a quick test has noted.
-use Rattle.std.proofs.Common.{◌≡◌, ◌<◌, ◌%◌, ℕ, Bool, true, false, cond, List, length, refl, sym, ap, subst, ◌∙◌}
-use Rattle.std.specs.Prelude.{not, nat_lt, ◌==◌, ◌&&◌, ◌||◌, IsTrue, slice_index}
-use Rattle.std.specs.List.{list_any, list_all}
+use Rattle.std.proofs.Common.{◌≡◌, ◌<◌, ◌%◌, ℕ, Bool, true, false, cond, List, length, refl, sym, ap, ◌∙◌}
+use Rattle.std.specs.Prelude.{not, nat_lt, ◌==◌, ◌&&◌, ◌||◌, slice_index}
+use Rattle.std.specs.List.{list_any}
 use Rattle.std.proofs.lemmas.Bool.{or_left, or_right}
 use Rattle.flu_lemmas.proofs.Booleans.{second_of}
 use Rattle.flu_lemmas.proofs.Searches.{eq_true}
-use Rattle.flu_lemmas.proofs.Tests.{and_left, and_right, both, true_eq, true_lt, false_if_not, not_both, not_true}
+use Rattle.flu_lemmas.proofs.Tests.{and_left, and_right, both, true_eq, true_lt, false_if_not, not_both}
 use Rattle.flu_model.specs.declared.events.Cell.{Cell}
 use Rattle.flu_model.specs.declared.events.Tag.{Tag}
 use Rattle.flu_model.specs.declared.jobs.Action.{Action}
@@ -22,10 +22,10 @@ use Rattle.flu_deps.specs.declared.visits.Place.TheVariants.{Own, Fixed, All}
 use Rattle.flu_deps.specs.declared.visits.Class.{Class}
 use Rattle.flu_deps.specs.declared.visits.Class.TheVariants.{Needs, Writes, Adds, Raises}
 use Rattle.flu_deps.specs.declared.clashes.Clashes.{Clashes}
-use Rattle.flu_deps.specs.Conflicts.{conflicts_on, NeverConflict}
-use Rattle.flu_deps.specs.LoopVisits.{has, word_at, in_class, is_marked, is_met, action_all}
+use Rattle.flu_deps.specs.Conflicts.{conflicts_on}
+use Rattle.flu_deps.specs.LoopVisits.{has, word_at, in_class, is_marked, is_met}
 use Rattle.flu_deps.specs.LoopClashes.{kind_actions, tag_at, marked_test, met_test, IsDone, AreDone, FindsClashes, may_clash}
-use Rattle.flu_deps.proofs.TouchLemmas.{at_place, covers, FoundIn, of_way, use_found}
+use Rattle.flu_deps.proofs.TouchLemmas.{at_place, of_way, use_found}
 
 -- ---- two modes that conflict, and the ways of which they are
 -- a way of a class in which the cell is used

@@ -55,7 +55,8 @@ ref_found holds key c r way meant passes = record {
   passes = passes;
 }
 
-widened : (holds more : Test → Bool) (key : ℕ) (c : Cell) (way : Way) → ((test : Test) → more test ≡ true → holds test ≡ true) → FoundIn holds key c way → FoundIn more key c way
+widened : (holds more : Test → Bool) (key : ℕ) (c : Cell) (way : Way) → ((test : Test) → more test ≡ true → holds test ≡ true) → FoundIn holds key c way
+    → FoundIn more key c way
 widened holds more key c way weaker found = record {
   family = found.family;
   place = found.place;

@@ -1,5 +1,5 @@
 -- Words of numbers, and what stays in a walk over actions.
-use Rattle.std.proofs.Common.{◌≡◌, ◌<◌, ◌≤◌, ◌+◌, ◌*◌, ◌^◌, ◌%◌, ◌/◌, ℕ, Bool, true, false, cond, List, [], ◌∷◌, ◌++◌, length, take, get_or, bit_and, bit_or, w64, inl, inr, refl, sym, ap, ◌∙◌, arith}
+use Rattle.std.proofs.Common.{◌≡◌, ◌<◌, ◌+◌, ◌*◌, ◌^◌, ◌%◌, ◌/◌, ℕ, Bool, true, false, cond, List, [], ◌∷◌, ◌++◌, length, take, get_or, bit_and, bit_or, w64, inl, inr, refl, sym, ap, ◌∙◌, arith}
 use Rattle.std.specs.Prelude.{◌==◌, ◌||◌, not, min}
 use Rattle.std.specs.Int.{bit_at}
 use Rattle.std.specs.List.{list_all}
@@ -9,15 +9,12 @@ use Rattle.std.proofs.lemmas.Nat.Bits.{shr_and_one, bit_at-zero, bit_at_and, bit
 use Rattle.flu_lemmas.proofs.Elements.{list_all_push}
 use Rattle.flu_lemmas.proofs.Searches.{eq_true}
 use Rattle.flu_lemmas.proofs.Tests.{true_eq}
-use Rattle.flu_deps.specs.declared.visits.Way.{Way}
-use Rattle.flu_deps.specs.declared.visits.Place.{Place}
 use Rattle.flu_deps.specs.declared.visits.Class.{Class}
 use Rattle.flu_deps.specs.declared.visits.Marks.{Marks}
-use Rattle.flu_deps.specs.declared.visits.Meeting.{Meeting}
 use Rattle.flu_deps.specs.declared.visits.Visit.{Visit}
 use Rattle.flu_deps.specs.LoopVisits.{Test, has, in_class, is_marked, is_met}
 use Rattle.flu_deps.specs.LoopClashes.{marked_test, met_test}
-use Rattle.flu_deps.specs.LoopFollows.{KeepsMarks, is_told, Follows, Tells}
+use Rattle.flu_deps.specs.LoopFollows.{KeepsMarks, is_told, Follows}
 
 -- ---- words
 pub has_is : (word n : ℕ) → (bit_and (word / 2 ^ (n % 64)) 1 == 1) ≡ has word n

@@ -1,7 +1,6 @@
 -- What a quick test of conflicts notes. No theorem's meaning rests on these: they serve the test alone.
-use Rattle.std.specs.Prelude.{◌≡◌, ℕ, ◌<◌, ◌%◌, Bool, true, false, not, ◌==◌, ◌&&◌, ◌||◌, List, length, slice_get, slice_index}
+use Rattle.std.specs.Prelude.{◌≡◌, ℕ, ◌<◌, ◌%◌, Bool, true, not, ◌==◌, ◌&&◌, ◌||◌, List, length, slice_get, slice_index}
 use Rattle.std.specs.List.{list_all}
-use Rattle.flu_model.specs.declared.events.Itag.{Itag}
 use Rattle.flu_model.specs.declared.events.Tag.{Tag}
 use Rattle.flu_model.specs.declared.jobs.Action.{Action}
 use Rattle.flu_model.specs.declared.jobs.Program.{Program}

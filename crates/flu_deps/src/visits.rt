@@ -171,7 +171,7 @@ impl Visit {
         self.marks.any = 0;
         self.marks.own = 0;
         self.marks.whole = 0;
-        self.marks.fixed.fill(0);
+        self.marks.fixed = [0; 65_536];
         self.actions(actions);
     }
 

@@ -18,10 +18,11 @@ use Rattle.flu_model.specs.Erasure.{PlainKind, Job}
 use Rattle.flu_model.specs.Rules.{is_same_text, are_distinct}
 use Rattle.flu_names.specs.declared.reserved.Reserved.TheVariants as r
 use Rattle.flu_rules.specs.Keys.{TagsMeet, TagsDiffer}
-use Rattle.flu_syntax.specs.declared.tree.WrittenNumber.{WrittenNumber}
+use Rattle.flu_text.specs.declared.written.WrittenNumber.{WrittenNumber}
 use Rattle.flu_syntax.specs.Tree.{Declaration, Job as WrittenJob}
 use Rattle.flu_syntax.specs.Machine.{Verdict}
-use Rattle.flu_syntax.specs.Grammar.{IsSign, declaration_signs, declarations_signs, version_signs, job_signs, IsJob}
+use Rattle.flu_text.specs.Signs.{IsSign}
+use Rattle.flu_syntax.specs.Grammar.{declaration_signs, declarations_signs, version_signs, job_signs, IsJob}
 use Rattle.flu_syntax.specs.Laws.{FoundIsJob}
 use Rattle.flu_names.specs.Names.{is_name}
 use Rattle.flu_layout.specs.Laid.{blank, line_end, reserved, number}

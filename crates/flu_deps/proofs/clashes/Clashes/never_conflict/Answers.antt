@@ -1,4 +1,4 @@
-use Rattle.std.proofs.Common.{◌≡◌, true, false, sym, ap, ◌∙◌}
+use Rattle.std.proofs.Common.{◌≡◌, true, false, sym, ◌∙◌}
 use Rattle.std.specs.Prelude.{◌&&◌}
 use Rattle.flu_lemmas.proofs.Tests.{not_true}
 use Rattle.flu_model.specs.Rules.{tag_fits}
