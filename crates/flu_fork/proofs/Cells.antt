@@ -213,7 +213,7 @@ module _ (laws : LawsBelow) (k : Setting) (ok : IsSetting k) where
   needed_is_base_up w x y c s need =
       let one = some_found k.program needs (below k.program k.nodes x) c need in
       needed_is_base w one.number c (let a = s.first.there in let b = s.first.earlier in omega arith) one.in_range
-          (kid_below laws k ok w x y one.number s one.in_set) one.has
+      (kid_below laws k ok w x y one.number s one.in_set) one.has
 
   -- ---- away cells
   -- a cell that is base at a child is base at its parent

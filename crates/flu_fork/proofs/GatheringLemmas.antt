@@ -26,13 +26,13 @@ module _ (key : ℕ) (c : Cell) (all : List Action) where
   overwritten : list_any (λ (a : Action). is_target false key c a.act) all ≡ overwrites
   overwritten =
       list_any_within (λ (a : Action). is_target false key c a.act) (λ (a : Action). act_overwrites key c a.act) all
-          (λ a. or_false (act_overwrites key c a.act))
+      (λ a. or_false (act_overwrites key c a.act))
 
   written : list_any (λ (a : Action). is_target true key c a.act) all
       ≡ (overwrites || (list_any (λ (a : Action). act_adds key c a.act) all || list_any (λ (a : Action). act_raises key c a.act) all))
   written =
       list_any_or (λ (a : Action). act_overwrites key c a.act) (λ (a : Action). act_adds key c a.act || act_raises key c a.act) all
-          ∙ ap (λ b. overwrites || b) (list_any_or (λ (a : Action). act_adds key c a.act) (λ (a : Action). act_raises key c a.act) all)
+      ∙ ap (λ b. overwrites || b) (list_any_or (λ (a : Action). act_adds key c a.act) (λ (a : Action). act_raises key c a.act) all)
 
 -- reads that are put in after nothing is left out, and targets after them
 two_steps : (old mid new nothing reads targets : Bool) → nothing ≡ false → mid ≡ (old || (not nothing && reads)) → new ≡ (mid || targets)
@@ -47,8 +47,8 @@ pub needed_grows : NeedsByActions → (p : Program) (t : Tag) (c : Cell) (old mi
 needed_grows law p t c old mid new nothing none first second =
     let all = actions_of (slice_get p.kinds t.kind) in
     two_steps old mid new nothing (list_any (action_reads t.key c) all) (list_any (λ (a : Action). is_target false t.key c a.act) all) none first second
-        ∙ ap (λ b. old || (list_any (action_reads t.key c) all || b)) (overwritten t.key c all)
-        ∙ ap (λ b. old || b) (sym (law p t c))
+    ∙ ap (λ b. old || (list_any (action_reads t.key c) all || b)) (overwritten t.key c all)
+    ∙ ap (λ b. old || b) (sym (law p t c))
 
 pub written_grows : WritesByActions → (p : Program) (t : Tag) (c : Cell) (old new : Bool) → p.version ≡ 2
     → new ≡ (old || list_any (λ (a : Action). is_target true t.key c a.act) (actions_of (slice_get p.kinds t.kind))) → new ≡ (old || writes (mode_of p t c))

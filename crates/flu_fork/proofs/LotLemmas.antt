@@ -115,9 +115,9 @@ pub paired_as : (p : Program) (nodes : List Node) (l r : ℕ) (a a' b b' c c' d 
     → ArePaired p nodes l r a b c d → ArePaired p nodes l r a' b' c' d'
 paired_as p nodes l r a a' b b' c c' d d' ea eb ec ed paired =
     subst (λ (u : List ℕ). ArePaired p nodes l r u b' c' d') (sym ea)
-        (subst (λ (u : List ℕ). ArePaired p nodes l r a u c' d') (sym eb)
-        (subst (λ (u : List ℕ). ArePaired p nodes l r a b u d') (sym ec)
-        (subst (λ (u : List ℕ). ArePaired p nodes l r a b c u) (sym ed) paired)))
+    (subst (λ (u : List ℕ). ArePaired p nodes l r a u c' d') (sym eb)
+    (subst (λ (u : List ℕ). ArePaired p nodes l r a b u d') (sym ec)
+    (subst (λ (u : List ℕ). ArePaired p nodes l r a b c u) (sym ed) paired)))
 
 -- ---- the counts
 

@@ -94,14 +94,14 @@ module _ (p : Program) (ms before after : List Moment) (m : Moment) (upto more :
       elim (cases_Bool (is_below upto q)) [
         | inl old ↦
             all_map (λ (r : Moment). depends_on p q r ≡ true → is_below upto r ≡ true) (λ (r : Moment). depends_on p q r ≡ true → is_below more r ≡ true) front
-                (λ r h d. below_more m.event.itag.0 upto more one_more r (h d)) (prefix front back q there old)
+            (λ r h d. below_more m.event.itag.0 upto more one_more r (h d)) (prefix front back q there old)
         | inr new ↦
             let same = one_place front back q there counted new in
             let exact_before : AllByRecursion (λ (r : Moment). depends_on p m r ≡ true → is_below more r ≡ true) before =
             all_map (λ (r : Moment). depends_on p m r ≡ true → is_below upto r ≡ true) (λ (r : Moment). depends_on p m r ≡ true → is_below more r ≡ true) before
-                (λ r h d. below_more m.event.itag.0 upto more one_more r (h d)) exact.counted in
+            (λ r h d. below_more m.event.itag.0 upto more one_more r (h d)) exact.counted in
             subst (λ us. AllByRecursion (λ (r : Moment). depends_on p q r ≡ true → is_below more r ≡ true) us) same.0
-                (subst (λ n. AllByRecursion (λ (r : Moment). depends_on p n r ≡ true → is_below more r ≡ true) before) same.1 exact_before)
+            (subst (λ n. AllByRecursion (λ (r : Moment). depends_on p n r ≡ true → is_below more r ≡ true) before) same.1 exact_before)
       ]
 
 module _ (laws : LawsBelow) (k : Setting) (w : ℕ) (before after : List Moment) (m : Moment) (s : Contents) (since upto more : List ℕ)
