@@ -5,7 +5,7 @@ use Rattle.flu_lemmas.specs.Items.{Begins}
 use Rattle.flu_text.specs.declared.words.Token.{Token}
 use Rattle.flu_text.specs.Reading.{reading}
 use Rattle.flu_text.specs.Layout.{Piece, layout, tokens_of}
-use Rattle.flu_syntax.specs.Grammar.{Sign, IsSign, AreSigns}
+use Rattle.flu_text.specs.Signs.{Sign, IsSign, AreSigns}
 use Rattle.flu_model.specs.declared.jobs.Keys.{Keys}
 use Rattle.flu_model.specs.PlanRules.{are_small_keys}
 use Rattle.flu_layout.specs.Laid.{AreLaid, Follows}

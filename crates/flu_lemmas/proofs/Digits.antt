@@ -1,5 +1,5 @@
 -- Digits, and runs of digits.
-use Rattle.std.proofs.Common.{◌≡◌, ℕ, ◌+◌, ◌*◌, ◌%◌, ◌-◌, ◌<◌, ◌^◌, min, true, List, [], ◌∷◌, ◌++◌, length, get_or, take, ◌∙◌, arith}
+use Rattle.std.proofs.Common.{◌≡◌, ℕ, ◌+◌, ◌*◌, ◌%◌, ◌-◌, ◌<◌, ◌^◌, min, true, List, [], ◌∷◌, length, get_or, take, ◌∙◌, arith}
 use Rattle.std.specs.Prelude.{◌||◌, ◌==◌}
 use Rattle.std.specs.Char.{is_ascii_digit, is_ascii_alphanumeric}
 use Rattle.std.specs.Fmt.{decimal}
@@ -41,4 +41,4 @@ pub decimal_digits : (n : ℕ) → n < 2 ^ 64 → list_all is_ascii_digit (decim
 decimal_digits n lt =
     decimal_by_steps (λ n ds. list_all is_ascii_digit ds ≡ true) one_digit
     (λ n ds low so_far. list_all-append is_ascii_digit ds ((48 + n % 10) ∷ [])
-      ∙ both (list_all is_ascii_digit ds) (list_all is_ascii_digit ((48 + n % 10) ∷ [])) so_far (last_digit n)) n lt
+    ∙ both (list_all is_ascii_digit ds) (list_all is_ascii_digit ((48 + n % 10) ∷ [])) so_far (last_digit n)) n lt

@@ -6,8 +6,8 @@ use Rattle.flu_model.specs.declared.jobs.Depend.{Depend}
 use Rattle.flu_model.specs.declared.jobs.Source.{Source}
 use Rattle.flu_model.specs.Rules.{is_version}
 use Rattle.flu_model.specs.Erasure.{PlainAction, PlainKind, Job, plain_kind}
-use Rattle.flu_syntax.specs.declared.tree.WrittenSpan.{WrittenSpan}
-use Rattle.flu_syntax.specs.declared.tree.WrittenNumber.{WrittenNumber}
+use Rattle.flu_text.specs.declared.written.WrittenSpan.{WrittenSpan}
+use Rattle.flu_text.specs.declared.written.WrittenNumber.{WrittenNumber}
 use Rattle.flu_syntax.specs.declared.tree.WrittenTag.{WrittenTag}
 use Rattle.flu_syntax.specs.declared.tree.WrittenRelation.{WrittenRelation}
 use Rattle.flu_syntax.specs.declared.tree.WrittenRelation.TheVariants as r
@@ -68,7 +68,8 @@ with_on text n d name actions = do
   done ← resolved_actions text n kind actions
   Ok (record d { kinds = with_actions d.kinds kind.number done; given = d.given ++ kind.number ∷ [] })
 
-unfoldable pub with_source : List ℕ → Naming → Drafted → WrittenSpan → WrittenSpan → Option WrittenNumber → Option WrittenNumber → List WrittenTag → Found Drafted
+unfoldable pub with_source : List ℕ → Naming → Drafted → WrittenSpan → WrittenSpan → Option WrittenNumber → Option WrittenNumber → List WrittenTag
+    → Found Drafted
 with_source text n d name file written_rate written_slack tags = do
   bytes ← file_of text d.sources file
   rate ← rate_of written_rate

@@ -23,6 +23,3 @@ mod terms;
 pub use faults::JobFault;
 pub use printing::print_job;
 pub use reading::read_job;
-
-#[cfg(test)]
-mod printing_tests;

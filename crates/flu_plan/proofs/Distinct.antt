@@ -129,7 +129,8 @@ module _ {X : Type 0} where
   pub are_distinct-from : (same : X → X → Bool) → ((x y : X) → same x y ≡ true → x ≡ y) → (xs : List X) → Distinct xs → are_distinct same xs ≡ true
   unfolding Distinct
   are_distinct-from same is [] d = refl
-  are_distinct-from same is (x ∷ xs) d = both (not (list_any (same x) xs)) (are_distinct same xs) (absent (list_any (same x) xs) refl) (are_distinct-from same is xs d.1)
+  are_distinct-from same is (x ∷ xs) d =
+      both (not (list_any (same x) xs)) (are_distinct same xs) (absent (list_any (same x) xs) refl) (are_distinct-from same is xs d.1)
     where
       absent : (b : Bool) → list_any (same x) xs ≡ b → not b ≡ true
       absent true t = absurd (d.0 (found_in same is x xs t))
@@ -142,7 +143,11 @@ module _ {X : Type 0} where
     where
       by : (b : Bool) → list_any (same x) xs ≡ b → (are_distinct same xs ≡ true → Distinct xs) → (In x xs → ⊥) × Distinct xs
       by true t more = let no : false ≡ true = sym (ap (λ b. not b && are_distinct same xs) t) ∙ e in absurd cc
-      by false t more = (λ h. (let yes = in_found same itself x xs h in let no : true ≡ false = sym yes ∙ t in absurd cc), more (sym (ap (λ b. not b && are_distinct same xs) t) ∙ e))
+      by false t more = (
+        λ h. (let yes = in_found same itself x xs h in let no : true ≡ false = sym yes
+            ∙ t in absurd cc),
+        more (sym (ap (λ b. not b && are_distinct same xs) t) ∙ e),
+      )
 
 -- ---- what elements are seen as
 module _ {X Y : Type 0} (f : X → Y) where
@@ -202,7 +207,8 @@ unfolding In
 in_without v x front back h = elim (in_either v front back h) [ inl a ↦ in_left v front (x ∷ back) a | inr b ↦ in_right v front (x ∷ back) (inr b) ]
 
 -- Different numbers below a bound have together at most what all below it have.
-pub sum_below : (g total : ℕ → ℕ) (n : ℕ) → ((k : ℕ) → k < n → total k + g k ≡ total (suc k)) → (vs : List ℕ) → Distinct vs → ((v : ℕ) → In v vs → v < n) → sum_by g vs ≤ total n
+pub sum_below : (g total : ℕ → ℕ) (n : ℕ) → ((k : ℕ) → k < n → total k + g k ≡ total (suc k)) → (vs : List ℕ) → Distinct vs → ((v : ℕ) → In v vs → v < n)
+    → sum_by g vs ≤ total n
 sum_below g total zero adds [] d low = omega arith
 sum_below g total zero adds (v ∷ vs) d low = let bad = low v (in_head v vs) in absurd (omega arith)
 sum_below g total (suc n) adds vs d low =

@@ -6,7 +6,8 @@ use Rattle.std.proofs.lemmas.List.{drop_all, append-nil, get_or_default}
 
 module _ {X Y : Type 0} (list : X → List Y) where
   -- the lists of one element more
-  pub lists-next : (done : List Y) (xs : List X) (i : ℕ) (d : X) → i < length xs → (done ++ list (get_or xs i d)) ++ flat_map list (drop (i + 1) xs) ≡ done ++ flat_map list (drop i xs)
+  pub lists-next : (done : List Y) (xs : List X) (i : ℕ) (d : X) → i < length xs
+      → (done ++ list (get_or xs i d)) ++ flat_map list (drop (i + 1) xs) ≡ done ++ flat_map list (drop i xs)
   lists-next done xs i d lt =
       let x = get_or xs i d in
       append_assoc done (list x) (flat_map list (drop (i + 1) xs))

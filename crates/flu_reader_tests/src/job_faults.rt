@@ -145,7 +145,7 @@ fn faults_of_expressions(rt: HostRuntime) -> Result<(), Fail> {
 fn long_row_of_operators(rt: HostRuntime) -> Result<(), Fail> {
     let alloc = rt.alloc();
     let mut text = String::from_str(alloc, "cell a sum tag t none on t: add a 1")?;
-    for _ in 0..500_000 {
+    for _ in 0..200_000 {
         text.push_str("+1")?;
     }
     match read_job(alloc, text.as_bytes()) {

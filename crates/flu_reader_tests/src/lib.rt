@@ -6,6 +6,8 @@ mod job_faults;
 #[cfg(test)]
 mod plans;
 #[cfg(test)]
+mod printed_jobs;
+#[cfg(test)]
 mod syntax;
 #[cfg(test)]
 mod texts;

@@ -3,7 +3,7 @@
 ghost use Rattle.std.specs.Prelude.{◌≡◌, ◌≤◌, length};
 ghost use Rattle.flu_rows.specs.Fields.{name_len};
 
-use flu_rules::is_letter_or_digit;
+use flu_names::is_name_byte;
 
 /// How many letters, digits and underscores stand at the front.
 pub(crate) fn name_len(bytes: &[u8]) -> usize
@@ -12,6 +12,6 @@ pub(crate) fn name_len(bytes: &[u8]) -> usize
 {
     bytes
         .iter()
-        .take_while(|byte| is_letter_or_digit(**byte))
+        .take_while(|byte| is_name_byte(**byte))
         .count()
 }

@@ -6,10 +6,13 @@ use Rattle.flu_text.specs.declared.words.Word.TheVariants as w
 use Rattle.flu_names.specs.declared.reserved.Reserved.TheVariants as r
 use Rattle.flu_syntax.specs.declared.fault.SyntaxFault.{SyntaxFault}
 use Rattle.flu_syntax.specs.declared.fault.SyntaxFault.TheVariants as f
-use Rattle.flu_syntax.specs.declared.tree.WrittenNumber.{WrittenNumber}
+use Rattle.flu_text.specs.declared.written.WrittenNumber.{WrittenNumber}
 use Rattle.flu_syntax.specs.Tree.{Declaration, Cell, Tag, Depends, On, Source, Declarations, Job}
-use Rattle.flu_syntax.specs.Grammar.{Sign, At, IsSign, AreSigns, declaration_signs, declarations_signs, version_signs, IsJob, place_of, MayGoOn, CannotTake, IsFirstThatCannotFollow}
-use Rattle.flu_syntax.specs.Machine.{Start, Verdict, Found, Unexpected, TooDeep, number_of, run, with_version, numbered, behind_version, headed, verdict}
+use Rattle.flu_text.specs.Signs.{Sign, At, IsSign, AreSigns}
+use Rattle.flu_text.specs.Signs.{place_of}
+use Rattle.flu_syntax.specs.Grammar.{declaration_signs, declarations_signs, version_signs, IsJob, MayGoOn, CannotTake, IsFirstThatCannotFollow}
+use Rattle.flu_text.specs.Signs.{number_of}
+use Rattle.flu_syntax.specs.Machine.{Start, Verdict, Found, Unexpected, TooDeep, run, with_version, numbered, behind_version, headed, verdict}
 use Rattle.flu_syntax.specs.Reading.{Tells, IsFirst as Begins, NotFirst, IsNumber, NotNumber}
 use Rattle.flu_syntax.proofs.Found.{declarations_are_found}
 use Rattle.flu_syntax.proofs.Levels.{declarations_are_kept}
@@ -65,7 +68,8 @@ with_found version (Found all) job e =
 with_found version (Unexpected place) job e = absurd cc
 with_found version TooDeep job e = absurd cc
 
-with_unexpected : (version : Option WrittenNumber) (all : Verdict Declarations) (place : ℕ) → with_version version all ≡ Unexpected place → all ≡ Unexpected place
+with_unexpected : (version : Option WrittenNumber) (all : Verdict Declarations) (place : ℕ) → with_version version all ≡ Unexpected place
+    → all ≡ Unexpected place
 with_unexpected version (Found all) place e = absurd cc
 with_unexpected version (Unexpected found) place e = let same : found ≡ place = cc in ap Unexpected same
 with_unexpected version TooDeep place e = absurd cc
@@ -116,7 +120,8 @@ is_job end (v ∷ tokens) job e =
 
 -- ---- a job is found
 -- no declaration begins with `version`
-not_version : (d : Declaration) (more : List Sign) (t : Token) (tokens : List Token) → AreSigns (declaration_signs d ++ more) (t ∷ tokens) → t.word ≢ version_word
+not_version : (d : Declaration) (more : List Sign) (t : Token) (tokens : List Token) → AreSigns (declaration_signs d ++ more) (t ∷ tokens)
+    → t.word ≢ version_word
 not_version (Cell n keyed sort) more t tokens are = let first : t.word ≡ w.Reserved r.Cell = are.0 in λ e. cc
 not_version (Tag n keyed has_value) more t tokens are = let first : t.word ≡ w.Reserved r.Tag = are.0 in λ e. cc
 not_version (Depends a b how) more t tokens are = let first : t.word ≡ w.Reserved r.Depends = are.0 in λ e. cc
@@ -185,7 +190,8 @@ job_is_found end (v ∷ tokens) job h =
       | inr other ↦
           let p = is_plain (v ∷ tokens) job other h in
           let found = declarations_are_found end (v ∷ tokens) job.declarations h.grammar p.spelled in
-          verdict-plain end (v ∷ tokens) other ∙ found_with end None (run end [] Start (v ∷ tokens)) job.declarations found ∙ ap Found (job_with job None p.version)
+          verdict-plain end (v ∷ tokens) other ∙ found_with end None (run end [] Start (v ∷ tokens)) job.declarations found
+          ∙ ap Found (job_with job None p.version)
     ]
 
 -- ---- the first token that cannot follow
@@ -194,7 +200,8 @@ front_plain : (front rest : List Token) → NotFirst version_word (front ++ rest
 front_plain [] rest other = tt
 front_plain (t ∷ front) rest other = other
 
-more_plain : (front : List Token) (t : Token) (rest more : List Token) → NotFirst version_word (front ++ t ∷ rest) → NotFirst version_word ((front ++ t ∷ []) ++ more)
+more_plain : (front : List Token) (t : Token) (rest more : List Token) → NotFirst version_word (front ++ t ∷ rest)
+    → NotFirst version_word ((front ++ t ∷ []) ++ more)
 more_plain [] t rest more other = other
 more_plain (u ∷ front) t rest more other = other
 
@@ -206,7 +213,8 @@ plain_cannot end front [] other h = λ job is. h job.declarations (plain_found e
 plain_cannot end front (t ∷ rest) other h = λ more job is.
     h more job.declarations (plain_found end ((front ++ t ∷ []) ++ more) job (more_plain front t rest more other) is)
 
-plain_first : (end : ℕ) (tokens : List Token) (place : ℕ) → NotFirst version_word tokens → run end [] Start tokens ≡ Unexpected place → IsFirstThatCannotFollow end tokens place
+plain_first : (end : ℕ) (tokens : List Token) (place : ℕ) → NotFirst version_word tokens → run end [] Start tokens ≡ Unexpected place
+    → IsFirstThatCannotFollow end tokens place
 plain_first end tokens place other e =
     let h = first_of_all end place tokens [] Start e in
     let job : Job = record { version = None; declarations = h.may.1 } in

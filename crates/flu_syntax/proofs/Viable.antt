@@ -5,15 +5,17 @@ use Rattle.flu_text.specs.declared.words.Word.{Word}
 use Rattle.flu_text.specs.declared.words.Word.TheVariants as w
 use Rattle.flu_names.specs.declared.reserved.Reserved.TheVariants as r
 use Rattle.flu_text.specs.declared.words.Mark.TheVariants as m
-use Rattle.flu_syntax.specs.declared.tree.WrittenSpan.{WrittenSpan}
-use Rattle.flu_syntax.specs.declared.tree.WrittenNumber.{WrittenNumber}
+use Rattle.flu_text.specs.declared.written.WrittenSpan.{WrittenSpan}
+use Rattle.flu_text.specs.declared.written.WrittenNumber.{WrittenNumber}
 use Rattle.flu_syntax.specs.declared.tree.WrittenKey.TheVariants as key
 use Rattle.flu_syntax.specs.declared.tree.WrittenRef.{WrittenRef}
-use Rattle.flu_syntax.specs.declared.tree.WrittenKeys.{WrittenKeys}
-use Rattle.flu_syntax.specs.declared.tree.WrittenKeys.TheVariants as keys
+use Rattle.flu_text.specs.declared.written.WrittenKeys.{WrittenKeys}
+use Rattle.flu_text.specs.declared.written.WrittenKeys.TheVariants as keys
 use Rattle.flu_syntax.specs.Tree.{Tree, NumberTree, ParenTree, NegTree, NotTree, TwoTree, Deed, Emits, Flushes, Declarations}
-use Rattle.flu_syntax.specs.Machine.{span_of, number_of, cell_of, tag_of, Actions, Tags, Context, Amount, Guard, Frame, NegFrame, NotFrame, ParenFrame, RightFrame, Mode, Want, Have, Done, Aim, ToWrite, ToClear, ToRead, ToTest, Now, Start, Declared, CellName, CellForm, CellSort, TagName, TagForm, TagValue, DependsFirst, DependsSecond, DependsHow, SourceName, SourceFile, SourceRate, RateNumber, SourceSlack, SlackNumber, SourceColon, TagKind, TagKeys, TagLow, TagMore, TagHigh, TagClose, TagEnd, OnKind, OnColon, ActionStart, DeedEnd, ActionEnd, EmitText, FlushFamily, FlushText, CellFamily, CellKeys, CellKey, CellClose, InExpression, Next, Goes, Deep, Refused, operator_of, start_of, doing_of, sort_of, value_of, level_behind, behind, named, source_of, listed, heading_of, opening, expression_step, step, whole, Verdict, Found, Unexpected, TooDeep, goes_on, next_declaration, ended, run}
-use Rattle.flu_syntax.specs.Grammar.{op_level, place_of}
+use Rattle.flu_text.specs.Signs.{span_of, number_of}
+use Rattle.flu_syntax.specs.Machine.{cell_of, tag_of, Actions, Tags, Context, Amount, Guard, Frame, NegFrame, NotFrame, ParenFrame, RightFrame, Mode, Want, Have, Done, Aim, ToWrite, ToClear, ToRead, ToTest, Now, Start, Declared, CellName, CellForm, CellSort, TagName, TagForm, TagValue, DependsFirst, DependsSecond, DependsHow, SourceName, SourceFile, SourceRate, RateNumber, SourceSlack, SlackNumber, SourceColon, TagKind, TagKeys, TagLow, TagMore, TagHigh, TagClose, TagEnd, OnKind, OnColon, ActionStart, DeedEnd, ActionEnd, EmitText, FlushFamily, FlushText, CellFamily, CellKeys, CellKey, CellClose, InExpression, Next, Goes, Deep, Refused, operator_of, start_of, doing_of, sort_of, value_of, level_behind, behind, named, source_of, listed, heading_of, opening, expression_step, step, whole, Verdict, Found, Unexpected, TooDeep, goes_on, next_declaration, ended, run}
+use Rattle.flu_text.specs.Signs.{place_of}
+use Rattle.flu_syntax.specs.Grammar.{op_level}
 use Rattle.flu_syntax.specs.Reading.{no_actions}
 use Rattle.flu_syntax.proofs.Runs.{run-takes, run-neg, run-not, run-right, run-paren, run-behind, pass_end, pass_word}
 
@@ -50,7 +52,8 @@ unfolding operator_of
 quiet low high end job context t frames [] = pass_end low high end job context t frames [] refl
 quiet low high end job context t frames (NegFrame level at ∷ fs) = quiet low high end job context t frames fs
 quiet low high end job context t frames (NotFrame level at ∷ fs) = quiet low high end job context t frames fs
-quiet low high end job context t frames (ParenFrame level at ∷ fs) = pass_word low high end job context t frames (token (w.Mark m.CloseParen)) (closing (ParenFrame level at ∷ fs)) (closing fs) refl refl
+quiet low high end job context t frames (ParenFrame level at ∷ fs) =
+    pass_word low high end job context t frames (token (w.Mark m.CloseParen)) (closing (ParenFrame level at ∷ fs)) (closing fs) refl refl
 quiet low high end job context t frames (RightFrame level o left ∷ fs) = quiet low high end job context t frames fs
 
 so : (end : ℕ) (job : Declarations) (a b : Now) (xs ys : List Token) → run end job a xs ≡ run end job b ys → Ended end job b ys → Ended end job a xs
@@ -61,19 +64,24 @@ unfolding run whole
 behind_ended end job (Amount so_far at verb cell) t = (_, refl)
 behind_ended end job (Guard so_far at deed) t = (_, refl)
 
-closed : (end : ℕ) (job : Declarations) (context : Context) (t : Tree) (frames : List Frame) → Ended end job (InExpression context (Done t) frames) (closing frames)
+closed : (end : ℕ) (job : Declarations) (context : Context) (t : Tree) (frames : List Frame)
+    → Ended end job (InExpression context (Done t) frames) (closing frames)
 closed end job context t [] = so end job _ _ _ _ (run-behind end job context t []) (behind_ended end job context t)
 closed end job context t (NegFrame level at ∷ frames) =
-    so end job _ _ _ _ (run-neg end level at job context t frames (closing frames) ∙ quiet level 6 end job context (NegTree at t) frames frames) (closed end job context (NegTree at t) frames)
+    so end job _ _ _ _ (run-neg end level at job context t frames (closing frames)
+    ∙ quiet level 6 end job context (NegTree at t) frames frames) (closed end job context (NegTree at t) frames)
 closed end job context t (NotFrame level at ∷ frames) =
-    so end job _ _ _ _ (run-not end level at job context t frames (closing frames) ∙ quiet level 2 end job context (NotTree at t) frames frames) (closed end job context (NotTree at t) frames)
+    so end job _ _ _ _ (run-not end level at job context t frames (closing frames)
+    ∙ quiet level 2 end job context (NotTree at t) frames frames) (closed end job context (NotTree at t) frames)
 closed end job context t (ParenFrame level at ∷ frames) =
     so end job _ _ _ _
-    (run-paren end level at job context t frames (token (w.Mark m.CloseParen)) (token (w.Mark m.CloseParen) ∷ closing frames) (closing frames) refl refl ∙ quiet level 6 end job context (ParenTree at t) frames frames)
+    (run-paren end level at job context t frames (token (w.Mark m.CloseParen)) (token (w.Mark m.CloseParen) ∷ closing frames) (closing frames) refl refl
+    ∙ quiet level 6 end job context (ParenTree at t) frames frames)
     (closed end job context (ParenTree at t) frames)
 closed end job context t (RightFrame level o left ∷ frames) =
     so end job _ _ _ _
-    (run-right end level job context o left t frames (closing frames) ∙ quiet level (level_behind (op_level o)) end job context (TwoTree o left t) frames frames)
+    (run-right end level job context o left t frames (closing frames)
+    ∙ quiet level (level_behind (op_level o)) end job context (TwoTree o left t) frames frames)
     (closed end job context (TwoTree o left t) frames)
 
 expression_can : (end : ℕ) (job : Declarations) (context : Context) (mode : Mode) (frames : List Frame) → Can end job (InExpression context mode frames)
@@ -81,8 +89,10 @@ unfolding step expression_step start_of
 expression_can end job context (Want level) frames =
     let zero_ = NumberTree (number_of (pos 0) (token (w.Number (pos 0)))) in
     let h = closed end job context zero_ frames in
-    via end job _ (InExpression context (Have level 6 zero_) frames) (token (w.Number (pos 0))) refl (closing frames, h.0, quiet level 6 end job context zero_ frames frames ∙ h.1)
-expression_can end job context (Have low high t) frames = let h = closed end job context t frames in (closing frames, h.0, quiet low high end job context t frames frames ∙ h.1)
+    via end job _ (InExpression context (Have level 6 zero_) frames) (token (w.Number (pos 0))) refl
+    (closing frames, h.0, quiet level 6 end job context zero_ frames frames ∙ h.1)
+expression_can end job context (Have low high t) frames =
+    let h = closed end job context t frames in (closing frames, h.0, quiet low high end job context t frames frames ∙ h.1)
 expression_can end job context (Done t) frames = let h = closed end job context t frames in (closing frames, h.0, h.1)
 
 -- ---- cells
@@ -103,7 +113,8 @@ close_can end job aim cell = via end job _ (named aim cell) (token (w.Mark m.Clo
 
 key_can : (end : ℕ) (job : Declarations) (aim : Aim) (family : WrittenSpan) → Can end job (CellKey aim family)
 unfolding step
-key_can end job aim family = via end job _ (CellClose aim (cell_of family (key.OwnKey 0))) (token (w.Reserved r.Key)) refl (close_can end job aim (cell_of family (key.OwnKey 0)))
+key_can end job aim family =
+    via end job _ (CellClose aim (cell_of family (key.OwnKey 0))) (token (w.Reserved r.Key)) refl (close_can end job aim (cell_of family (key.OwnKey 0)))
 
 keys_can : (end : ℕ) (job : Declarations) (aim : Aim) (family : WrittenSpan) → Can end job (CellKeys aim family)
 unfolding step
@@ -113,7 +124,8 @@ keys_can end job aim family = via end job _ (CellKey aim family) (token (w.Mark 
 
 kind_can : (end : ℕ) (job : Declarations) (so_far : Tags) → Can end job (TagKind so_far)
 unfolding step whole
-kind_can end job so_far = via end job _ (TagKeys so_far (span_of (token w.Name))) (token w.Name) refl (whole_can end job _ (TagKeys so_far (span_of (token w.Name))) refl)
+kind_can end job so_far =
+    via end job _ (TagKeys so_far (span_of (token w.Name))) (token w.Name) refl (whole_can end job _ (TagKeys so_far (span_of (token w.Name))) refl)
 
 tag_end_can : (end : ℕ) (job : Declarations) (so_far : Tags) → Can end job (TagEnd so_far)
 unfolding whole
@@ -121,7 +133,8 @@ tag_end_can end job so_far = whole_can end job _ (TagEnd so_far) refl
 
 more_can : (end : ℕ) (job : Declarations) (so_far : Tags) (kind : WrittenSpan) (low : WrittenNumber) → Can end job (TagMore so_far kind low)
 unfolding step
-more_can end job so_far kind low = via end job _ (TagEnd (listed so_far (tag_of kind (keys.One low)))) (token (w.Mark m.CloseBracket)) refl (tag_end_can end job _)
+more_can end job so_far kind low =
+    via end job _ (TagEnd (listed so_far (tag_of kind (keys.One low)))) (token (w.Mark m.CloseBracket)) refl (tag_end_can end job _)
 
 tag_close_can : (end : ℕ) (job : Declarations) (so_far : Tags) (kind : WrittenSpan) (ks : WrittenKeys) → Can end job (TagClose so_far kind ks)
 unfolding step
@@ -149,7 +162,8 @@ emit_can end job so_far at = via end job _ (DeedEnd so_far at (Emits (span_of (t
 
 flush_can : (end : ℕ) (job : Declarations) (so_far : Actions) (at : ℕ) (family : WrittenSpan) → Can end job (FlushText so_far at family)
 unfolding step
-flush_can end job so_far at family = via end job _ (DeedEnd so_far at (Flushes family (span_of (token w.Text)))) (token w.Text) refl (deed_can end job so_far at _)
+flush_can end job so_far at family =
+    via end job _ (DeedEnd so_far at (Flushes family (span_of (token w.Text)))) (token w.Text) refl (deed_can end job so_far at _)
 
 action_can : (end : ℕ) (job : Declarations) (so_far : Actions) → Can end job (ActionStart so_far)
 unfolding step doing_of
@@ -201,9 +215,12 @@ can end job (SlackNumber name file rate) =
 can end job (SourceColon name file rate slack) = colon_can end job name file rate slack
 can end job (TagKind so_far) = kind_can end job so_far
 can end job (TagKeys so_far kind) = whole_can end job _ (TagKeys so_far kind) refl
-can end job (TagLow so_far kind) = via end job _ (TagMore so_far kind (number_of (pos 0) (token (w.Number (pos 0))))) (token (w.Number (pos 0))) refl (more_can end job _ _ _)
+can end job (TagLow so_far kind) =
+    via end job _ (TagMore so_far kind (number_of (pos 0) (token (w.Number (pos 0))))) (token (w.Number (pos 0))) refl (more_can end job _ _ _)
 can end job (TagMore so_far kind low) = more_can end job so_far kind low
-can end job (TagHigh so_far kind low) = via end job _ (TagClose so_far kind (keys.Range low (number_of (pos 0) (token (w.Number (pos 0)))))) (token (w.Number (pos 0))) refl (tag_close_can end job _ _ _)
+can end job (TagHigh so_far kind low) =
+    via end job _ (TagClose so_far kind (keys.Range low (number_of (pos 0) (token (w.Number (pos 0)))))) (token (w.Number (pos 0))) refl
+    (tag_close_can end job _ _ _)
 can end job (TagClose so_far kind ks) = tag_close_can end job so_far kind ks
 can end job (TagEnd so_far) = tag_end_can end job so_far
 can end job OnKind = via end job _ (OnColon (span_of (token w.Name))) (token w.Name) refl (on_can end job _)
@@ -256,7 +273,8 @@ at_end end place job now e = record {
   cannot = λ found f. not_both (run end job now []) place found e f;
 }
 
-here_it_is : (end place : ℕ) (job : Declarations) (now : Now) (t : Token) (tokens : List Token) → place ≡ t.from → ((more : List Token) → run end job now (t ∷ more) ≡ Unexpected t.from) → IsFirst end job now (t ∷ tokens) place
+here_it_is : (end place : ℕ) (job : Declarations) (now : Now) (t : Token) (tokens : List Token) → place ≡ t.from
+    → ((more : List Token) → run end job now (t ∷ more) ≡ Unexpected t.from) → IsFirst end job now (t ∷ tokens) place
 here_it_is end place job now t tokens e all = record {
   front = [];
   rest = t ∷ tokens;
@@ -266,12 +284,14 @@ here_it_is end place job now t tokens e all = record {
   cannot = λ more found f. not_both (run end job now (t ∷ more)) t.from found (all more) f;
 }
 
-later_cannot : (end : ℕ) (job next : Declarations) (now other : Now) (t : Token) (front rest : List Token) → ((more : List Token) → run end job now (t ∷ more) ≡ run end next other more) → Cannot end next other front rest
+later_cannot : (end : ℕ) (job next : Declarations) (now other : Now) (t : Token) (front rest : List Token)
+    → ((more : List Token) → run end job now (t ∷ more) ≡ run end next other more) → Cannot end next other front rest
     → Cannot end job now (t ∷ front) rest
 later_cannot end job next now other t front [] leads h = λ found f. h found (sym (leads front) ∙ f)
 later_cannot end job next now other t front (u ∷ rest) leads h = λ more found f. h more found (sym (leads ((front ++ u ∷ []) ++ more)) ∙ f)
 
-later : (end place : ℕ) (job next : Declarations) (now other : Now) (t : Token) (tokens : List Token) → ((more : List Token) → run end job now (t ∷ more) ≡ run end next other more) → IsFirst end next other tokens place
+later : (end place : ℕ) (job next : Declarations) (now other : Now) (t : Token) (tokens : List Token)
+    → ((more : List Token) → run end job now (t ∷ more) ≡ run end next other more) → IsFirst end next other tokens place
     → IsFirst end job now (t ∷ tokens) place
 later end place job next now other t tokens leads h = record {
   front = t ∷ h.front;
@@ -283,24 +303,30 @@ later end place job next now other t tokens leads h = record {
 }
 
 -- all that a token may do
-unrolled : (end : ℕ) (job : Declarations) (now : Now) (t : Token) (tokens : List Token) → run end job now (t ∷ tokens) ≡ goes_on t job now (step now t) (λ next other. run end next other tokens)
+unrolled : (end : ℕ) (job : Declarations) (now : Now) (t : Token) (tokens : List Token)
+    → run end job now (t ∷ tokens) ≡ goes_on t job now (step now t) (λ next other. run end next other tokens)
 unfolding run
 unrolled end job now t tokens = refl
 
-goes_at : (end : ℕ) (job : Declarations) (now : Now) (t : Token) (n : Next) (tokens : List Token) → step now t ≡ n → run end job now (t ∷ tokens) ≡ goes_on t job now n (λ next other. run end next other tokens)
+goes_at : (end : ℕ) (job : Declarations) (now : Now) (t : Token) (n : Next) (tokens : List Token) → step now t ≡ n
+    → run end job now (t ∷ tokens) ≡ goes_on t job now n (λ next other. run end next other tokens)
 goes_at end job now t n tokens e = unrolled end job now t tokens ∙ ap (λ (x : Next). goes_on t job now x (λ next other. run end next other tokens)) e
 
-declares_at : (end : ℕ) (job : Declarations) (now : Now) (t : Token) (o : Option Declarations) (p : Option Now) (tokens : List Token) → step now t ≡ Refused → whole now ≡ o → opening (heading_of t.word) ≡ p
+declares_at : (end : ℕ) (job : Declarations) (now : Now) (t : Token) (o : Option Declarations) (p : Option Now) (tokens : List Token) → step now t ≡ Refused
+    → whole now ≡ o → opening (heading_of t.word) ≡ p
     → run end job now (t ∷ tokens) ≡ next_declaration t.from job o p (λ next other. run end next other tokens)
 declares_at end job now t o p tokens s e h = goes_at end job now t Refused tokens s ∙ (rw (e, h) refl)
 
 by_declaration : (end place : ℕ) (job : Declarations) (now : Now) (t : Token) (tokens : List Token) → run end job now (t ∷ tokens) ≡ Unexpected place
     → ((next : Declarations) (other : Now) → run end next other tokens ≡ Unexpected place → IsFirst end next other tokens place)
-    → step now t ≡ Refused → (o : Option Declarations) → whole now ≡ o → (p : Option Now) → opening (heading_of t.word) ≡ p → IsFirst end job now (t ∷ tokens) place
+    → step now t ≡ Refused → (o : Option Declarations) → whole now ≡ o → (p : Option Now) → opening (heading_of t.word) ≡ p
+    → IsFirst end job now (t ∷ tokens) place
 by_declaration end place job now t tokens e ih s None a p b =
-    here_it_is end place job now t tokens (same_place t.from place (run end job now (t ∷ tokens)) (declares_at end job now t None p tokens s a b) e) (λ more. declares_at end job now t None p more s a b)
+    here_it_is end place job now t tokens (same_place t.from place (run end job now (t ∷ tokens)) (declares_at end job now t None p tokens s a b) e)
+    (λ more. declares_at end job now t None p more s a b)
 by_declaration end place job now t tokens e ih s (Some one) a None b =
-    here_it_is end place job now t tokens (same_place t.from place (run end job now (t ∷ tokens)) (declares_at end job now t (Some one) None tokens s a b) e) (λ more. declares_at end job now t (Some one) None more s a b)
+    here_it_is end place job now t tokens (same_place t.from place (run end job now (t ∷ tokens)) (declares_at end job now t (Some one) None tokens s a b) e)
+    (λ more. declares_at end job now t (Some one) None more s a b)
 by_declaration end place job now t tokens e ih s (Some one) a (Some other) b =
     later end place job (job ++ one) now other t tokens (λ more. declares_at end job now t (Some one) (Some other) more s a b)
     (ih (job ++ one) other (sym (declares_at end job now t (Some one) (Some other) tokens s a b) ∙ e))
@@ -309,10 +335,12 @@ by_step : (end place : ℕ) (job : Declarations) (now : Now) (t : Token) (tokens
     → ((next : Declarations) (other : Now) → run end next other tokens ≡ Unexpected place → IsFirst end next other tokens place)
     → (n : Next) → step now t ≡ n → IsFirst end job now (t ∷ tokens) place
 by_step end place job now t tokens e ih (Goes other) s =
-    later end place job job now other t tokens (λ more. goes_at end job now t (Goes other) more s) (ih job other (sym (goes_at end job now t (Goes other) tokens s) ∙ e))
+    later end place job job now other t tokens (λ more. goes_at end job now t (Goes other) more s)
+    (ih job other (sym (goes_at end job now t (Goes other) tokens s) ∙ e))
 by_step end place job now t tokens e ih Deep s = absurd (let both : TooDeep ≡ Unexpected place = sym (goes_at end job now t Deep tokens s) ∙ e in cc)
 by_step end place job now t tokens e ih Refused s = by_declaration end place job now t tokens e ih s (whole now) refl (opening (heading_of t.word)) refl
 
-pub first_of_all : (end place : ℕ) (tokens : List Token) (job : Declarations) (now : Now) → run end job now tokens ≡ Unexpected place → IsFirst end job now tokens place
+pub first_of_all : (end place : ℕ) (tokens : List Token) (job : Declarations) (now : Now) → run end job now tokens ≡ Unexpected place
+    → IsFirst end job now tokens place
 first_of_all end place [] job now e = at_end end place job now e
 first_of_all end place (t ∷ tokens) job now e = by_step end place job now t tokens e (first_of_all end place tokens) (step now t) refl

@@ -19,7 +19,8 @@ none_of : (s : List ℕ) (words : List Reserved) → ((word : Reserved) → s �
     → list_any (λ word. bytes_eq (reserved_spelling word) s) words ≡ true → ⊥
 none_of s [] free e = absurd cc
 none_of s (word ∷ words) free e =
-    elim (bytes_eq (reserved_spelling word) s) as (λ b. bytes_eq (reserved_spelling word) s ≡ b → (b || list_any (λ word. bytes_eq (reserved_spelling word) s) words) ≡ true → ⊥) [
+    elim (bytes_eq (reserved_spelling word) s) as
+    (λ b. bytes_eq (reserved_spelling word) s ≡ b → (b || list_any (λ word. bytes_eq (reserved_spelling word) s) words) ≡ true → ⊥) [
       | true ↦ λ here e. free word (sym ((bytes_eq-Decides (reserved_spelling word) s).0 here))
       | false ↦ λ here e. none_of s words free e
     ] refl e

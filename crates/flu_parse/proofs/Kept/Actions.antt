@@ -16,7 +16,8 @@ use Rattle.flu_syntax.specs.declared.tokens.Verb.{Verb}
 use Rattle.flu_syntax.specs.declared.tokens.Verb.TheVariants as verb
 use Rattle.flu_syntax.specs.Tree.{Tree, Writes, Clears, Emits, Flushes}
 use Rattle.flu_syntax.specs.Tree.{Deed as WrittenDeed, Action as WrittenDo}
-use Rattle.flu_syntax.specs.Words.{Stands, cell_words, tree_words, deed_words, guard_words, action_words}
+use Rattle.flu_text.specs.Signs.{Stands}
+use Rattle.flu_syntax.specs.Words.{cell_words, tree_words, deed_words, guard_words, action_words}
 use Rattle.flu_layout.specs.Spelling.{name_of}
 use Rattle.flu_layout.specs.Stands.{AreRead}
 use Rattle.flu_parse.specs.declared.faults.JobFault.TheVariants as f
@@ -51,7 +52,8 @@ module _ (bytes : List ℕ) (ts : List Token) (read : AreRead bytes ts) (n : Nam
   abbrev families : List Family
   families = families_of bytes n numbered
 
-  act_kept : (d : WrittenDeed) (act : PlainAct) → AllByRecursion (Stands ts) (deed_words d) → resolved_act bytes n under d ≡ Ok act → plain_act_fits families under.keyed under.has_value act ≡ true
+  act_kept : (d : WrittenDeed) (act : PlainAct) → AllByRecursion (Stands ts) (deed_words d) → resolved_act bytes n under d ≡ Ok act
+      → plain_act_fits families under.keyed under.has_value act ≡ true
   unfolding resolved_act
   act_kept (Writes v r e) act words found =
       let one = bind_ok (resolved_cell bytes n under (Some (sort_for v)) r) _ act found in
@@ -68,7 +70,8 @@ module _ (bytes : List ℕ) (ts : List Token) (read : AreRead bytes ts) (n : Nam
   act_kept (Emits template) act words found =
       let one = bind_ok (template_of bytes n under false template) (λ pieces. Ok (Emitting pieces)) act found in
       let same : Emitting one.0 ≡ act = cc in
-      ap (plain_act_fits families under.keyed under.has_value) (sym same) ∙ emit_kept bytes read.utf8 n numbered under template one.0 (read.texts template words.0) one.1
+      ap (plain_act_fits families under.keyed under.has_value) (sym same)
+      ∙ emit_kept bytes read.utf8 n numbered under template one.0 (read.texts template words.0) one.1
   act_kept (Flushes family template) act words found =
       let one = bind_ok (known family.from (look_up (name_of bytes family) n.families)) _ act found in
       let two = passed one.0.keyed (f.WrongShape family.from) _ act one.2 in
@@ -76,10 +79,12 @@ module _ (bytes : List ℕ) (ts : List Token) (read : AreRead bytes ts) (n : Nam
       let same : Flushing one.0.number three.0 ≡ act = cc in
       let is = was_known family.from (look_up (name_of bytes family) n.families) one.0 one.1 in
       ap (plain_act_fits families under.keyed under.has_value) (sym same)
-      ∙ both (is_keyed (slice_get families one.0.number)) (flush_template_fits families under.has_value three.0) (keyed_kept bytes n numbered (name_of bytes family) one.0 is two.0)
+      ∙ both (is_keyed (slice_get families one.0.number)) (flush_template_fits families under.has_value three.0)
+      (keyed_kept bytes n numbered (name_of bytes family) one.0 is two.0)
       (flush_kept bytes read.utf8 n numbered under template three.0 (read.texts template words.1.0) three.1)
 
-  guard_kept : (g : Option Tree) (guard : Option Term) → AllByRecursion (Stands ts) (guard_words g) → guard_of bytes n under g ≡ Ok guard → plain_guard_fits families under.keyed under.has_value guard ≡ true
+  guard_kept : (g : Option Tree) (guard : Option Term) → AllByRecursion (Stands ts) (guard_words g) → guard_of bytes n under g ≡ Ok guard
+      → plain_guard_fits families under.keyed under.has_value guard ≡ true
   unfolding guard_of
   guard_kept None guard words found = let same : None ≡ guard = cc in ap (plain_guard_fits families under.keyed under.has_value) (sym same)
   guard_kept (Some e) guard words found =
@@ -87,19 +92,23 @@ module _ (bytes : List ℕ) (ts : List Token) (read : AreRead bytes ts) (n : Nam
       let same : Some one.0 ≡ guard = cc in
       ap (plain_guard_fits families under.keyed under.has_value) (sym same) ∙ expression_kept bytes n numbered under ts read e one.0 words one.1
 
-  action_kept : (a : WrittenDo) (action : PlainAction) → AllByRecursion (Stands ts) (action_words a) → action_of bytes n under a ≡ Ok action → plain_action_fits families under.keyed under.has_value action ≡ true
+  action_kept : (a : WrittenDo) (action : PlainAction) → AllByRecursion (Stands ts) (action_words a) → action_of bytes n under a ≡ Ok action
+      → plain_action_fits families under.keyed under.has_value action ≡ true
   unfolding action_of
   action_kept a action words found =
       let one = bind_ok (resolved_act bytes n under a.deed) _ action found in
       let two = bind_ok (guard_of bytes n under a.guard) (λ guard. Ok (record { act = one.0; guard = guard })) action one.2 in
       let same : record { act = one.0; guard = two.0 } ≡ action = cc in
       ap (plain_action_fits families under.keyed under.has_value) (sym same)
-      ∙ both (plain_act_fits families under.keyed under.has_value one.0) (plain_guard_fits families under.keyed under.has_value two.0) (act_kept a.deed one.0 (all_front (Stands ts) (deed_words a.deed) (guard_words a.guard) words) one.1) (guard_kept a.guard two.0 (all_back (Stands ts) (deed_words a.deed) (guard_words a.guard) words) two.1)
+      ∙ both (plain_act_fits families under.keyed under.has_value one.0) (plain_guard_fits families under.keyed under.has_value two.0)
+      (act_kept a.deed one.0 (all_front (Stands ts) (deed_words a.deed) (guard_words a.guard) words) one.1)
+      (guard_kept a.guard two.0 (all_back (Stands ts) (deed_words a.deed) (guard_words a.guard) words) two.1)
 
   abbrev ActionsKeep : List PlainAction → Type 0
   ActionsKeep done = (length done ≤ 32) × (list_all (plain_action_fits families under.keyed under.has_value) done ≡ true)
 
-  one_more : (done : List PlainAction) (a : WrittenDo) (next : List PlainAction) → ActionsKeep done → AllByRecursion (Stands ts) (action_words a) → with_action bytes n under done a ≡ Ok next → ActionsKeep next
+  one_more : (done : List PlainAction) (a : WrittenDo) (next : List PlainAction) → ActionsKeep done → AllByRecursion (Stands ts) (action_words a)
+      → with_action bytes n under done a ≡ Ok next → ActionsKeep next
   unfolding with_action
   one_more done a next keep words found =
       let fits = plain_action_fits families under.keyed under.has_value in
@@ -108,6 +117,9 @@ module _ (bytes : List ℕ) (ts : List Token) (read : AreRead bytes ts) (n : Nam
       let same : done ++ two.0 ∷ [] ≡ next = cc in
       subst ActionsKeep same (omega (arith, one.0, length-append done (two.0 ∷ [])), list_all_push fits done two.0 keep.1 (action_kept a two.0 words two.1))
 
-  pub actions_kept : (actions : List WrittenDo) (done : List PlainAction) → AllByRecursion (λ a. AllByRecursion (Stands ts) (action_words a)) actions → resolved_actions bytes n under actions ≡ Ok done
+  pub actions_kept : (actions : List WrittenDo) (done : List PlainAction) → AllByRecursion (λ a. AllByRecursion (Stands ts) (action_words a)) actions
+      → resolved_actions bytes n under actions ≡ Ok done
       → (length done ≤ 32) × (list_all (plain_action_fits families under.keyed under.has_value) done ≡ true)
-  actions_kept actions done words found = each-keeps (with_action bytes n under) ActionsKeep (λ a. AllByRecursion (Stands ts) (action_words a)) one_more [] actions done (omega arith, refl) words found
+  actions_kept actions done words found =
+      each-keeps (with_action bytes n under) ActionsKeep (λ a. AllByRecursion (Stands ts) (action_words a)) one_more [] actions done
+      (omega arith, refl) words found

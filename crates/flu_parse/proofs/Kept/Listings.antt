@@ -1,8 +1,7 @@
 -- Sources that are read keep the rules: their names, files and rates, and the tags that they list.
 use Rattle.std.proofs.Common.{◌≡◌, ℕ, ◌+◌, ◌<◌, ◌≤◌, Bool, true, false, List, [], ◌∷◌, ◌++◌, map, length, Option, Some, None, Ok, refl, sym, ap, subst, ◌∙◌, arith}
-use Rattle.std.specs.Prelude.{◌&&◌, ◌==◌, ◌≢◌, not, nat_lt, nat_le, max, min, slice_get, option_map}
+use Rattle.std.specs.Prelude.{◌&&◌, ◌≢◌, not, nat_lt, nat_le, slice_get, option_map}
 use Rattle.std.specs.List.{list_all, list_any, flat_map}
-use Rattle.std.proofs.lemmas.Grind.{common_steps}
 use Rattle.std.proofs.lemmas.List.{length-append, length-map, append-nil}
 use Rattle.std.proofs.lemmas.Option.{slice_get-map}
 use Rattle.flu_lemmas.specs.Totals.{total}
@@ -19,11 +18,10 @@ use Rattle.flu_model.specs.Listing.{tag, listed_keys, listed_tags, tags_of_sourc
 use Rattle.flu_model.specs.Rules.{is_file_text, is_same_tag, is_same_text, are_distinct, keys_fit}
 use Rattle.flu_names.specs.Names.{is_name, is_text_byte}
 use Rattle.flu_rules.specs.Keys.{first_key, last_key, share_tag, TagsMeet, TagsDiffer}
-use Rattle.flu_text.specs.declared.words.Word.TheVariants as word
-use Rattle.flu_syntax.specs.declared.tree.WrittenSpan.{WrittenSpan}
-use Rattle.flu_syntax.specs.declared.tree.WrittenNumber.{WrittenNumber}
-use Rattle.flu_syntax.specs.declared.tree.WrittenKeys.{WrittenKeys}
-use Rattle.flu_syntax.specs.declared.tree.WrittenKeys.TheVariants as w
+use Rattle.flu_text.specs.declared.written.WrittenSpan.{WrittenSpan}
+use Rattle.flu_text.specs.declared.written.WrittenNumber.{WrittenNumber}
+use Rattle.flu_text.specs.declared.written.WrittenKeys.{WrittenKeys}
+use Rattle.flu_text.specs.declared.written.WrittenKeys.TheVariants as w
 use Rattle.flu_syntax.specs.declared.tree.WrittenTag.{WrittenTag}
 use Rattle.flu_layout.specs.Spelling.{name_of, inside, written_value}
 use Rattle.flu_layout.specs.Stands.{IsQuoted}
@@ -39,7 +37,8 @@ use Rattle.flu_parse.proofs.Kept.Names.{Numbered, kind_number, at_number}
 use Rattle.flu_parse.proofs.Kept.Terms.{was_known, key_kept}
 
 -- ---- keys
-keys_kept : (keyed : Bool) (ks : WrittenKeys) (found : Keys) → are_bracketed keyed ks ≡ true → keys_of ks ≡ Ok found → (written_keys ks ≡ found) × (keys_fit keyed found ≡ true)
+keys_kept : (keyed : Bool) (ks : WrittenKeys) (found : Keys) → are_bracketed keyed ks ≡ true → keys_of ks ≡ Ok found
+    → (written_keys ks ≡ found) × (keys_fit keyed found ≡ true)
 keys_kept keyed w.Alone found fits e = let same : keys.Alone ≡ found = cc in (same, ap (keys_fit keyed) (sym same) ∙ fits)
 keys_kept keyed (w.One k) found fits e =
     let one = bind_ok (resolved_key k) (λ key. Ok (keys.One key)) found e in
@@ -53,8 +52,11 @@ keys_kept keyed (w.Range lo hi) found fits e =
     let same : keys.Range one.0 two.0 ≡ found = cc in
     let low = key_kept lo one.0 one.1 in
     let high = key_kept hi two.0 two.1 in
-    let rises : nat_le one.0 two.0 ≡ true = sym (λ i. nat_le (low.1 i) (high.1 i)) ∙ rising.0 in
-    ((λ i. keys.Range (low.1 i) (high.1 i)) ∙ same, ap (keys_fit keyed) (sym same) ∙ both (keyed && nat_le one.0 two.0) (nat_lt two.0 65536) (both keyed (nat_le one.0 two.0) fits rises) high.0)
+    let rises : nat_le one.0 two.0 ≡ true = sym (λ i. nat_le (low.1 i) (high.1 i)) ∙ rising.0 in (
+      (λ i. keys.Range (low.1 i) (high.1 i)) ∙ same,
+      ap (keys_fit keyed) (sym same)
+          ∙ both (keyed && nat_le one.0 two.0) (nat_lt two.0 65536) (both keyed (nat_le one.0 two.0) fits rises) high.0,
+    )
 
 -- ---- tags
 pub share_symm : TagsMeet → (a b : TagRef) → share_tag a b ≡ share_tag b a
@@ -97,7 +99,8 @@ module _ (text : List ℕ) (n : Naming) (numbered : Numbered kind_number 0 n.kin
 
   -- what is listed with one reference more
   added_tag : (l : Listed) (t : WrittenTag) (next : Listed) → with_tag text n l t ≡ Ok next
-      → (head : KindHead) × (found : Keys) × (look_up (name_of text t.kind) n.kinds ≡ Some head) × (written_keys t.keys ≡ found) × (keys_fit head.keyed found ≡ true)
+      → (head : KindHead) × (found : Keys) × (look_up (name_of text t.kind) n.kinds ≡ Some head) × (written_keys t.keys ≡ found)
+      × (keys_fit head.keyed found ≡ true)
       × (l.itags + tag_count t.keys ≤ 256) × (list_any (share_tag (record { kind = head.number; keys = found })) l.tags ≡ false)
       × (record { tags = l.tags ++ record { kind = head.number; keys = found } ∷ []; itags = l.itags + tag_count t.keys } ≡ next)
   unfolding with_tag
@@ -105,8 +108,10 @@ module _ (text : List ℕ) (n : Naming) (numbered : Numbered kind_number 0 n.kin
       let one = bind_ok (known t.kind.from (look_up (name_of text t.kind) n.kinds)) _ next e in
       let bracketed = passed (are_bracketed one.0.keyed t.keys) (f.WrongShape t.kind.from) _ next one.2 in
       let few = passed (nat_le (l.itags + tag_count t.keys) 256) (f.OverLimit Itags 257) _ next bracketed.1 in
-      let fresh = passed (not (list_any (share_tag (record { kind = one.0.number; keys = written_keys t.keys })) l.tags)) (f.TwiceNamed t.kind.from) _ next few.1 in
-      let two = bind_ok (keys_of t.keys) (λ ks. Ok (record { tags = l.tags ++ record { kind = one.0.number; keys = ks } ∷ []; itags = l.itags + tag_count t.keys })) next fresh.1 in
+      let fresh = passed (not (list_any (share_tag (record { kind = one.0.number; keys = written_keys t.keys })) l.tags))
+      (f.TwiceNamed t.kind.from) _ next few.1 in
+      let two = bind_ok (keys_of t.keys)
+      (λ ks. Ok (record { tags = l.tags ++ record { kind = one.0.number; keys = ks } ∷ []; itags = l.itags + tag_count t.keys })) next fresh.1 in
       let kept = keys_kept one.0.keyed t.keys two.0 bracketed.0 two.1 in (
         one.0,
         two.0,
@@ -114,11 +119,13 @@ module _ (text : List ℕ) (n : Naming) (numbered : Numbered kind_number 0 n.kin
         kept.0,
         kept.1,
         true_le (l.itags + tag_count t.keys) 256 few.0,
-        ap (λ (ks : Keys). list_any (share_tag (record { kind = one.0.number; keys = ks })) l.tags) (sym kept.0) ∙ not_true (list_any (share_tag (record { kind = one.0.number; keys = written_keys t.keys })) l.tags) fresh.0,
+        ap (λ (ks : Keys). list_any (share_tag (record { kind = one.0.number; keys = ks })) l.tags) (sym kept.0)
+            ∙ not_true (list_any (share_tag (record { kind = one.0.number; keys = written_keys t.keys })) l.tags) fresh.0,
         cc,
       )
 
-  one_more : TagsMeet → TagsDiffer → (before : ℕ) (l : Listed) (t : WrittenTag) (next : Listed) → ListKeeps before l → with_tag text n l t ≡ Ok next → ListKeeps before next
+  one_more : TagsMeet → TagsDiffer → (before : ℕ) (l : Listed) (t : WrittenTag) (next : Listed) → ListKeeps before l → with_tag text n l t ≡ Ok next
+      → ListKeeps before next
   one_more meet differ before l t next keep e =
       let a = added_tag l t next e in
       let r : TagRef = record { kind = a.0.number; keys = a.1 } in
@@ -142,12 +149,14 @@ module _ (text : List ℕ) (n : Naming) (numbered : Numbered kind_number 0 n.kin
   -- the tags of a source
   tags_kept : TagsMeet → TagsDiffer → (before : ℕ) (ts : List WrittenTag) (l : Listed) → before ≤ 256 → tags_of text n before ts ≡ Ok l → ListKeeps before l
   tags_kept meet differ before ts l few e =
-      each-keeps-any (with_tag text n) (ListKeeps before) (one_more meet differ before) (record { tags = []; itags = before }) ts l (record { fit = refl; distinct = refl; count = omega arith; few = few }) e
+      each-keeps-any (with_tag text n) (ListKeeps before) (one_more meet differ before) (record { tags = []; itags = before }) ts l
+      (record { fit = refl; distinct = refl; count = omega arith; few = few }) e
 
   some_tags : (before : ℕ) (ts : List WrittenTag) (l : Listed) → ts ≢ [] → tags_of text n before ts ≡ Ok l → 0 < length l.tags
   some_tags before [] l some e = absurd (some refl)
   some_tags before (t ∷ ts) l some e =
-      let count : length l.tags ≡ 0 + (1 + total (λ (x : WrittenTag). 1) ts) = each-counts (with_tag text n) (λ (m : Listed). length m.tags) (λ (x : WrittenTag). 1) longer (record { tags = []; itags = before }) (t ∷ ts) l e in
+      let count : length l.tags ≡ 0 + (1 + total (λ (x : WrittenTag). 1) ts) =
+      each-counts (with_tag text n) (λ (m : Listed). length m.tags) (λ (x : WrittenTag). 1) longer (record { tags = []; itags = before }) (t ∷ ts) l e in
       omega (arith, count)
 
   rate_kept : (written : Option WrittenNumber) (rate : ℕ) → rate_of written ≡ Ok rate → rate ≤ 1000000000
@@ -175,7 +184,8 @@ module _ (text : List ℕ) (n : Naming) (numbered : Numbered kind_number 0 n.kin
       let fresh = passed (not (list_any (λ (x : Source). is_same_text bytes x.file) sources)) (f.TwiceNamed s.from) (Ok bytes) file some.1 in
       let same : bytes ≡ file = cc in
       subst (λ (t : List ℕ). (is_file_text t ≡ true) × (list_any (λ (x : Source). is_same_text t x.file) sources ≡ false)) same (
-        both (nat_lt 0 (length bytes) && nat_le (length bytes) 256) (list_all is_text_byte bytes) (both (nat_lt 0 (length bytes)) (nat_le (length bytes) 256) some.0 (le_true (length bytes) 256 within.short)) within.bytes,
+        both (nat_lt 0 (length bytes) && nat_le (length bytes) 256) (list_all is_text_byte bytes)
+            (both (nat_lt 0 (length bytes)) (nat_le (length bytes) 256) some.0 (le_true (length bytes) 256 within.short)) within.bytes,
         not_true (list_any (λ (x : Source). is_same_text bytes x.file) sources) fresh.0,
       )
 
@@ -186,7 +196,8 @@ module _ (text : List ℕ) (n : Naming) (numbered : Numbered kind_number 0 n.kin
     pub count : itags ≡ before + length (tags_of_source s)
     pub few : itags ≤ 256
 
-  pub source_kept : TagsMeet → TagsDiffer → (before : ℕ) (sources : List Source) (name file : WrittenSpan) (written late : Option WrittenNumber) (ts : List WrittenTag)
+  pub source_kept : TagsMeet → TagsDiffer
+      → (before : ℕ) (sources : List Source) (name file : WrittenSpan) (written late : Option WrittenNumber) (ts : List WrittenTag)
       (bytes : List ℕ) (rate slack : ℕ) (l : Listed)
       → is_name (name_of text name) ≡ true → IsQuoted text file → ts ≢ [] → before ≤ 256
       → file_of text sources file ≡ Ok bytes → rate_of written ≡ Ok rate → slack_of late ≡ Ok slack → tags_of text n before ts ≡ Ok l

@@ -14,10 +14,11 @@ use Rattle.flu_model.specs.declared.limits.What.TheVariants.{Families, Kinds, So
 use Rattle.flu_model.specs.Rules.{are_distinct}
 use Rattle.flu_names.specs.Names.{is_name}
 use Rattle.flu_text.specs.declared.words.Token.{Token}
-use Rattle.flu_syntax.specs.declared.tree.WrittenSpan.{WrittenSpan}
+use Rattle.flu_text.specs.declared.written.WrittenSpan.{WrittenSpan}
 use Rattle.flu_syntax.specs.Tree.{Declaration}
 use Rattle.flu_syntax.specs.Tree as d
-use Rattle.flu_syntax.specs.Words.{Stands, declaration_words}
+use Rattle.flu_text.specs.Signs.{Stands}
+use Rattle.flu_syntax.specs.Words.{declaration_words}
 use Rattle.flu_layout.specs.Spelling.{name_of}
 use Rattle.flu_layout.specs.Stands.{AreRead}
 use Rattle.flu_parse.specs.declared.faults.JobFault.TheVariants as f
@@ -59,12 +60,14 @@ pub record NamesKeep (n : Naming) : Type 0 where
 
 -- ---- numbers
 module _ {X : Type 0} (number : X → ℕ) where
-  pub numbered_more : (i : ℕ) (hs : List (List ℕ × X)) (name : List ℕ) (x : X) → Numbered number i hs → number x ≡ i + length hs → Numbered number i (hs ++ (name, x) ∷ [])
+  pub numbered_more : (i : ℕ) (hs : List (List ℕ × X)) (name : List ℕ) (x : X) → Numbered number i hs → number x ≡ i + length hs
+      → Numbered number i (hs ++ (name, x) ∷ [])
   numbered_more i [] name x all here = (omega (arith, here), tt)
   numbered_more i (h ∷ hs) name x all here = (all.0, numbered_more (i + 1) hs name x all.1 (omega (arith, here)))
 
   -- what is looked up stands at its number
-  pub looked_up : (i : ℕ) (hs : List (List ℕ × X)) (name : List ℕ) (x : X) → Numbered number i hs → look_up name hs ≡ Some x → (k : ℕ) × (number x ≡ i + k) × (h : List ℕ × X) × (slice_get hs k ≡ Some h) × (h.1 ≡ x)
+  pub looked_up : (i : ℕ) (hs : List (List ℕ × X)) (name : List ℕ) (x : X) → Numbered number i hs → look_up name hs ≡ Some x
+      → (k : ℕ) × (number x ≡ i + k) × (h : List ℕ × X) × (slice_get hs k ≡ Some h) × (h.1 ≡ x)
   looked_up i [] name x all e = absurd cc
   looked_up i (h ∷ hs) name x all e = by (bytes_eq name h.0) e (looked_up (i + 1) hs name x all.1)
     where
@@ -74,7 +77,8 @@ module _ {X : Type 0} (number : X → ℕ) where
       by true e rest = let same : h.1 ≡ x = cc in (0, ap number (sym same) ∙ all.0 ∙ sym (add-zero i), h, refl, same)
       by false e rest = let r = rest e in (suc r.0, omega (arith, r.1), r.2, r.3, r.4)
 
-  pub at_number : (hs : List (List ℕ × X)) (name : List ℕ) (x : X) → Numbered number 0 hs → look_up name hs ≡ Some x → (h : List ℕ × X) × (slice_get hs (number x) ≡ Some h) × (h.1 ≡ x)
+  pub at_number : (hs : List (List ℕ × X)) (name : List ℕ) (x : X) → Numbered number 0 hs → look_up name hs ≡ Some x
+      → (h : List ℕ × X) × (slice_get hs (number x) ≡ Some h) × (h.1 ≡ x)
   at_number hs name x all e =
       let r = looked_up 0 hs name x all e in
       let here : number x ≡ r.0 = omega (arith, r.1) in
@@ -85,7 +89,8 @@ any_named : {X : Type 0} (name : List ℕ) (hs : List (List ℕ × X)) → look_
 any_named name [] e = refl
 any_named name (h ∷ hs) e = by (bytes_eq name h.0) e (any_named name hs)
   where
-    by : (b : Bool) → (if b then Some h.1 else look_up name hs) ≡ None → (look_up name hs ≡ None → list_any (bytes_eq name) (names_in hs) ≡ false) → (b || list_any (bytes_eq name) (names_in hs)) ≡ false
+    by : (b : Bool) → (if b then Some h.1 else look_up name hs) ≡ None → (look_up name hs ≡ None → list_any (bytes_eq name) (names_in hs) ≡ false)
+        → (b || list_any (bytes_eq name) (names_in hs)) ≡ false
     by true e rest = absurd cc
     by false e rest = rest e
 
@@ -104,12 +109,15 @@ module _ (n : Naming) (name : List ℕ) (keep : NamesKeep n) (free : is_declared
   put : (front back : List (List ℕ)) → all_names n ≡ front ++ back → AreOwnNames (front ++ name ∷ back)
   put front back parts = (
     put_passes front back (ap (list_all is_name) (sym parts) ∙ keep.are_names),
-    distinct_with bytes_eq nat_list_eq_equiv.symm front back name (ap (are_distinct bytes_eq) (sym parts) ∙ keep.distinct) (ap (list_any (bytes_eq name)) (sym parts) ∙ none_has n name free),
+    distinct_with bytes_eq nat_list_eq_equiv.symm front back name (ap (are_distinct bytes_eq) (sym parts) ∙ keep.distinct)
+        (ap (list_any (bytes_eq name)) (sym parts) ∙ none_has n name free),
   )
     where
       put_passes : (front back : List (List ℕ)) → list_all is_name (front ++ back) ≡ true → list_all is_name (front ++ name ∷ back) ≡ true
       put_passes [] back all = both (is_name name) (list_all is_name back) is all
-      put_passes (x ∷ front) back all = both (is_name x) (list_all is_name (front ++ name ∷ back)) (and_left (is_name x) (list_all is_name (front ++ back)) all) (put_passes front back (and_right (is_name x) (list_all is_name (front ++ back)) all))
+      put_passes (x ∷ front) back all =
+          both (is_name x) (list_all is_name (front ++ name ∷ back)) (and_left (is_name x) (list_all is_name (front ++ back)) all)
+          (put_passes front back (and_right (is_name x) (list_all is_name (front ++ back)) all))
 
   family_put : (head : FamilyHead) → AreOwnNames (names_in (n.families ++ (name, head) ∷ []) ++ names_in n.kinds ++ n.sources)
   family_put head =
@@ -135,7 +143,8 @@ module _ (n : Naming) (name : List ℕ) (keep : NamesKeep n) (free : is_declared
       subst AreOwnNames (append_assoc front n.sources (name ∷ [])) (put (front ++ n.sources) [] none)
 
 -- a name that was free
-was_free : (text : List ℕ) (n : Naming) (s : WrittenSpan) (name : List ℕ) → fresh_name text n s ≡ Ok name → (is_declared n (name_of text s) ≡ false) × (name_of text s ≡ name)
+was_free : (text : List ℕ) (n : Naming) (s : WrittenSpan) (name : List ℕ) → fresh_name text n s ≡ Ok name
+    → (is_declared n (name_of text s) ≡ false) × (name_of text s ≡ name)
 was_free text n s name e =
     let h = passed (not (is_declared n (name_of text s))) (f.TwiceNamed s.from) (Ok (name_of text s)) name e in
     (not_true (is_declared n (name_of text s)) h.0, cc)
@@ -144,22 +153,32 @@ was_free text n s name e =
 module _ (text : List ℕ) where
   -- what the names are with one declaration more
   added_family : (n : Naming) (s : WrittenSpan) (keyed : Bool) (sort : Sort) (m : Naming) → with_family text n s keyed sort ≡ Ok m
-      → (is_declared n (name_of text s) ≡ false) × (length n.families < 64) × (record n { families = n.families ++ (name_of text s, record { number = length n.families; keyed = keyed; sort = sort }) ∷ [] } ≡ m)
+      → (is_declared n (name_of text s) ≡ false) × (length n.families < 64)
+      × (record n { families = n.families ++ (name_of text s, record { number = length n.families; keyed = keyed; sort = sort }) ∷ [] } ≡ m)
   unfolding with_family
   added_family n s keyed sort m e =
       let b = bind_ok (fresh_name text n s) _ m e in
       let free = was_free text n s b.0 b.1 in
-      let r = had_room Families 64 (length n.families) _ m b.2 in
-      (free.0, r.0, ap (λ (name : List ℕ). record n { families = n.families ++ (name, record { number = length n.families; keyed = keyed; sort = sort }) ∷ [] }) free.1 ∙ cc)
+      let r = had_room Families 64 (length n.families) _ m b.2 in (
+        free.0,
+        r.0,
+        ap
+            (λ (name : List ℕ). record n { families = n.families ++ (name, record { number = length n.families; keyed = keyed; sort = sort }) ∷ [] }) free.1 ∙ cc,
+      )
 
   added_kind : (n : Naming) (s : WrittenSpan) (keyed has_value : Bool) (m : Naming) → with_kind text n s keyed has_value ≡ Ok m
-      → (is_declared n (name_of text s) ≡ false) × (length n.kinds < 64) × (record n { kinds = n.kinds ++ (name_of text s, record { number = length n.kinds; keyed = keyed; has_value = has_value }) ∷ [] } ≡ m)
+      → (is_declared n (name_of text s) ≡ false) × (length n.kinds < 64)
+      × (record n { kinds = n.kinds ++ (name_of text s, record { number = length n.kinds; keyed = keyed; has_value = has_value }) ∷ [] } ≡ m)
   unfolding with_kind
   added_kind n s keyed has_value m e =
       let b = bind_ok (fresh_name text n s) _ m e in
       let free = was_free text n s b.0 b.1 in
-      let r = had_room Kinds 64 (length n.kinds) _ m b.2 in
-      (free.0, r.0, ap (λ (name : List ℕ). record n { kinds = n.kinds ++ (name, record { number = length n.kinds; keyed = keyed; has_value = has_value }) ∷ [] }) free.1 ∙ cc)
+      let r = had_room Kinds 64 (length n.kinds) _ m b.2 in (
+        free.0,
+        r.0,
+        ap
+            (λ (name : List ℕ). record n { kinds = n.kinds ++ (name, record { number = length n.kinds; keyed = keyed; has_value = has_value }) ∷ [] }) free.1 ∙ cc,
+      )
 
   added_source : (n : Naming) (s : WrittenSpan) (m : Naming) → with_source text n s ≡ Ok m
       → (is_declared n (name_of text s) ≡ false) × (length n.sources < 64) × (record n { sources = n.sources ++ name_of text s ∷ [] } ≡ m)
@@ -170,7 +189,8 @@ module _ (text : List ℕ) where
       let r = had_room Sources 64 (length n.sources) _ m b.2 in
       (free.0, r.0, ap (λ (name : List ℕ). record n { sources = n.sources ++ name ∷ [] }) free.1 ∙ cc)
 
-  added_depend : (n : Naming) (m : Naming) → (room Depends 4096 n.depends >> Ok (record n { depends = n.depends + 1 })) ≡ Ok m → (n.depends < 4096) × (record n { depends = n.depends + 1 } ≡ m)
+  added_depend : (n : Naming) (m : Naming) → (room Depends 4096 n.depends >> Ok (record n { depends = n.depends + 1 })) ≡ Ok m
+      → (n.depends < 4096) × (record n { depends = n.depends + 1 } ≡ m)
   added_depend n m e = let r = had_room Depends 4096 n.depends _ m e in (r.0, cc)
 
   -- how many dependencies a declaration is, and the sources' names that it declares
@@ -279,7 +299,8 @@ module _ (text : List ℕ) where
         )
 
     -- the names of a job
-    pub names_kept : (ds : List Declaration) (n : Naming) → AllByRecursion (λ w. AllByRecursion (Stands ts) (declaration_words w)) ds → naming_of text ds ≡ Ok n → NamesKeep n
+    pub names_kept : (ds : List Declaration) (n : Naming) → AllByRecursion (λ w. AllByRecursion (Stands ts) (declaration_words w)) ds
+        → naming_of text ds ≡ Ok n → NamesKeep n
     names_kept ds n words e =
         each-keeps (declare text) NamesKeep (λ w. AllByRecursion (Stands ts) (declaration_words w)) stays no_names ds n (
         record {

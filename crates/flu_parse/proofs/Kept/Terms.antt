@@ -19,9 +19,10 @@ use Rattle.flu_text.specs.declared.words.Word.{Word}
 use Rattle.flu_text.specs.declared.words.Word.TheVariants as w
 use Rattle.flu_text.specs.declared.words.Token.{Token}
 use Rattle.flu_text.specs.Grammar.{Spells, IsToken, bytes_of}
-use Rattle.flu_syntax.specs.Grammar.{At as AtPlace}
-use Rattle.flu_syntax.specs.Words.{Stands, tree_words}
-use Rattle.flu_syntax.specs.declared.tree.WrittenNumber.{WrittenNumber}
+use Rattle.flu_text.specs.Signs.{At as AtPlace}
+use Rattle.flu_text.specs.Signs.{Stands}
+use Rattle.flu_syntax.specs.Words.{tree_words}
+use Rattle.flu_text.specs.declared.written.WrittenNumber.{WrittenNumber}
 use Rattle.flu_syntax.specs.declared.tree.WrittenKey.{WrittenKey}
 use Rattle.flu_syntax.specs.declared.tree.WrittenKey.TheVariants as k
 use Rattle.flu_syntax.specs.declared.tree.WrittenRef.{WrittenRef}
@@ -52,7 +53,8 @@ key_kept number key e =
     (ap (λ n. nat_lt n 65536) (sym same) ∙ h.0, same)
 
 -- where brackets fit, so does the key
-pub at_kept : (keyed : Bool) (under : KindHead) (key : WrittenKey) (at : At) → brackets_fit keyed key ≡ true → at_of under key ≡ Ok at → key_fits keyed under.keyed at ≡ true
+pub at_kept : (keyed : Bool) (under : KindHead) (key : WrittenKey) (at : At) → brackets_fit keyed key ≡ true → at_of under key ≡ Ok at
+    → key_fits keyed under.keyed at ≡ true
 at_kept keyed under k.Alone at fits e = let same : cell.Alone ≡ at = cc in ap (key_fits keyed under.keyed) (sym same) ∙ fits
 at_kept keyed under (k.OwnKey place) at fits e =
     let h = passed under.keyed (f.WrongShape place) (Ok cell.OwnKey) at e in
@@ -79,28 +81,38 @@ module _ (text : List ℕ) (n : Naming) (numbered : Numbered family_number 0 n.f
   families_of = map family n.families
 
   -- the family of a head is declared at its number
-  pub family_at : (name : List ℕ) (head : FamilyHead) → look_up name n.families ≡ Some head → (fam : Family) × (slice_get families_of head.number ≡ Some fam) × (fam.keyed ≡ head.keyed) × (fam.sort ≡ head.sort)
+  pub family_at : (name : List ℕ) (head : FamilyHead) → look_up name n.families ≡ Some head
+      → (fam : Family) × (slice_get families_of head.number ≡ Some fam) × (fam.keyed ≡ head.keyed) × (fam.sort ≡ head.sort)
   family_at name head e =
-      let h = at_number family_number n.families name head numbered e in
-      (family h.0, slice_get-map family n.families head.number ∙ ap (option_map family) h.1, ap (λ (x : FamilyHead). x.keyed) h.2, ap (λ (x : FamilyHead). x.sort) h.2)
+      let h = at_number family_number n.families name head numbered e in (
+        family h.0,
+        slice_get-map family n.families head.number
+            ∙ ap (option_map family) h.1,
+        ap (λ (x : FamilyHead). x.keyed) h.2,
+        ap (λ (x : FamilyHead). x.sort) h.2,
+      )
 
-  pub ref_kept : (name : List ℕ) (head : FamilyHead) (kind_keyed : Bool) (at : At) → look_up name n.families ≡ Some head → key_fits head.keyed kind_keyed at ≡ true → ref_fits families_of kind_keyed (record { family = head.number; at = at }) ≡ true
+  pub ref_kept : (name : List ℕ) (head : FamilyHead) (kind_keyed : Bool) (at : At) → look_up name n.families ≡ Some head
+      → key_fits head.keyed kind_keyed at ≡ true → ref_fits families_of kind_keyed (record { family = head.number; at = at }) ≡ true
   ref_kept name head kind_keyed at e fits =
       let h = family_at name head e in
       ap (λ o. family_fits o kind_keyed at) h.1 ∙ ap (λ b. key_fits b kind_keyed at) h.2 ∙ fits
 
-  pub sort_kept : (name : List ℕ) (head : FamilyHead) (sort : Sort) (at : At) → look_up name n.families ≡ Some head → is_sort sort head.sort ≡ true → ref_has_sort families_of sort (record { family = head.number; at = at }) ≡ true
+  pub sort_kept : (name : List ℕ) (head : FamilyHead) (sort : Sort) (at : At) → look_up name n.families ≡ Some head → is_sort sort head.sort ≡ true
+      → ref_has_sort families_of sort (record { family = head.number; at = at }) ≡ true
   sort_kept name head sort at e is =
       let h = family_at name head e in
       ap (λ o. has_sort o sort) h.1 ∙ ap (λ s. is_sort s sort) h.3 ∙ sort_swapped sort head.sort is
 
-  pub keyed_kept : (name : List ℕ) (head : FamilyHead) → look_up name n.families ≡ Some head → head.keyed ≡ true → is_keyed (slice_get families_of head.number) ≡ true
+  pub keyed_kept : (name : List ℕ) (head : FamilyHead) → look_up name n.families ≡ Some head → head.keyed ≡ true
+      → is_keyed (slice_get families_of head.number) ≡ true
   keyed_kept name head e keyed = let h = family_at name head e in ap is_keyed h.1 ∙ h.2 ∙ keyed
 
   module _ (under : KindHead) where
     -- a cell that is found: its family is looked up, of the wanted sort and with brackets that fit
     found_cell : (wanted : Option Sort) (r : WrittenRef) (c : CellRef) → resolved_cell text n under wanted r ≡ Ok c
-        → (head : FamilyHead) × (at : At) × (look_up (name_of text r.family) n.families ≡ Some head) × (is_wanted wanted head.sort ≡ true) × (key_fits head.keyed under.keyed at ≡ true) × (record { family = head.number; at = at } ≡ c)
+        → (head : FamilyHead) × (at : At) × (look_up (name_of text r.family) n.families ≡ Some head) × (is_wanted wanted head.sort ≡ true)
+        × (key_fits head.keyed under.keyed at ≡ true) × (record { family = head.number; at = at } ≡ c)
     found_cell wanted r c e =
         let one = bind_ok (family_for text n wanted r) _ c e in
         let two = bind_ok (at_of under r.key) (λ at. Ok (record { family = one.0.number; at = at })) c one.2 in
@@ -117,11 +129,14 @@ module _ (text : List ℕ) (n : Naming) (numbered : Numbered family_number 0 n.f
           cc,
         )
 
-    pub cell_kept : (wanted : Option Sort) (r : WrittenRef) (c : CellRef) → resolved_cell text n under wanted r ≡ Ok c → ref_fits families_of under.keyed c ≡ true
-    cell_kept wanted r c e = let h = found_cell wanted r c e in ap (ref_fits families_of under.keyed) (sym h.5) ∙ ref_kept (name_of text r.family) h.0 under.keyed h.1 h.2 h.4
+    pub cell_kept : (wanted : Option Sort) (r : WrittenRef) (c : CellRef) → resolved_cell text n under wanted r ≡ Ok c
+        → ref_fits families_of under.keyed c ≡ true
+    cell_kept wanted r c e =
+        let h = found_cell wanted r c e in ap (ref_fits families_of under.keyed) (sym h.5) ∙ ref_kept (name_of text r.family) h.0 under.keyed h.1 h.2 h.4
 
     pub cell_has_sort : (sort : Sort) (r : WrittenRef) (c : CellRef) → resolved_cell text n under (Some sort) r ≡ Ok c → ref_has_sort families_of sort c ≡ true
-    cell_has_sort sort r c e = let h = found_cell (Some sort) r c e in ap (ref_has_sort families_of sort) (sym h.5) ∙ sort_kept (name_of text r.family) h.0 sort h.1 h.2 h.3
+    cell_has_sort sort r c e =
+        let h = found_cell (Some sort) r c e in ap (ref_has_sort families_of sort) (sym h.5) ∙ sort_kept (name_of text r.family) h.0 sort h.1 h.2 h.3
 
     -- ---- expressions of words that stand in the text
 
@@ -176,7 +191,8 @@ module _ (text : List ℕ) (n : Naming) (numbered : Numbered family_number 0 n.f
           let fits = term_fits families_of under.keyed under.has_value in
           subst (Kept (TwoTree op a b)) same (both (fits h.0) (fits g.0) left.0 right.0, λ i. max (left.1 i) (right.1 i) + 1)
 
-      pub expression_kept : (e : Tree) (t : Term) → AllByRecursion (Stands ts) (tree_words e) → expression_of text n under e ≡ Ok t → is_good_term families_of under.keyed under.has_value t ≡ true
+      pub expression_kept : (e : Tree) (t : Term) → AllByRecursion (Stands ts) (tree_words e) → expression_of text n under e ≡ Ok t
+          → is_good_term families_of under.keyed under.has_value t ≡ true
       unfolding expression_of
       expression_kept e t words found =
           let one = then_ok (first_token text n under (first_part e)) _ t found in

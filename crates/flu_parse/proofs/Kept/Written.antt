@@ -1,5 +1,5 @@
 -- A template is written in no more bytes than the text that it was read from.
-use Rattle.std.proofs.Common.{◌≡◌, ◌≤◌, ◌+◌, ◌-◌, ℕ, suc, Bool, true, false, ◌&&◌, List, [], ◌∷◌, ◌++◌, map, length, Option, Some, Ok, refl, sym, ap, subst, ◌∙◌, length-append, arith}
+use Rattle.std.proofs.Common.{◌≡◌, ◌≤◌, ◌+◌, ◌-◌, ℕ, suc, Bool, true, false, ◌&&◌, List, [], ◌∷◌, ◌++◌, map, length, Some, Ok, refl, sym, ap, subst, ◌∙◌, length-append, arith}
 use Rattle.std.specs.Prelude.{slice_get, if◌then◌else◌}
 use Rattle.std.specs.Fmt.{decimal}
 use Rattle.std.specs.List.{list_all}
@@ -15,7 +15,7 @@ use Rattle.flu_model.specs.declared.jobs.Piece.{Piece}
 use Rattle.flu_model.specs.declared.jobs.Piece.TheVariants as piece
 use Rattle.flu_model.specs.Templates.{family_name, written_key, written_piece, written_template}
 use Rattle.flu_model.specs.Rules.{is_short}
-use Rattle.flu_syntax.specs.declared.tree.WrittenSpan.{WrittenSpan}
+use Rattle.flu_text.specs.declared.written.WrittenSpan.{WrittenSpan}
 use Rattle.flu_syntax.specs.declared.tree.WrittenKey.{WrittenKey}
 use Rattle.flu_syntax.specs.declared.tree.WrittenKey.TheVariants as k
 use Rattle.flu_layout.specs.Spelling.{name_of, inside, written_value}
@@ -36,11 +36,13 @@ use Rattle.flu_parse.proofs.Kept.Sizes.{key_size, piece_size, pieces_size, spell
 
 -- ---- what is looked up has the name that it was looked up by
 
-named : (i : ℕ) (hs : List (List ℕ × FamilyHead)) (name : List ℕ) (x : FamilyHead) → Numbered family_number i hs → look_up name hs ≡ Some x → (j : ℕ) × (x.number ≡ i + j) × (family_name (slice_get (map family hs) j) ≡ name)
+named : (i : ℕ) (hs : List (List ℕ × FamilyHead)) (name : List ℕ) (x : FamilyHead) → Numbered family_number i hs → look_up name hs ≡ Some x
+    → (j : ℕ) × (x.number ≡ i + j) × (family_name (slice_get (map family hs) j) ≡ name)
 named i [] name x all e = absurd cc
 named i (h ∷ hs) name x all e = by (bytes_eq name h.0) refl e (named (i + 1) hs name x all.1)
   where
-    by : (b : Bool) → bytes_eq name h.0 ≡ b → (if b then Some h.1 else look_up name hs) ≡ Some x → (look_up name hs ≡ Some x → (j : ℕ) × (x.number ≡ i + 1 + j) × (family_name (slice_get (map family hs) j) ≡ name))
+    by : (b : Bool) → bytes_eq name h.0 ≡ b → (if b then Some h.1 else look_up name hs) ≡ Some x
+        → (look_up name hs ≡ Some x → (j : ℕ) × (x.number ≡ i + 1 + j) × (family_name (slice_get (map family hs) j) ≡ name))
         → (j : ℕ) × (x.number ≡ i + j) × (family_name (slice_get (map family (h ∷ hs)) j) ≡ name)
     by true same e rest =
         let head : h.1 ≡ x = cc in
@@ -77,7 +79,8 @@ module _ (text : List ℕ) (n : Naming) (numbered : Numbered family_number 0 n.f
   module _ (under : KindHead) where
     piece_written : (place : ℕ) (q : WrittenPiece) (r : Piece) → piece_of text n under place q ≡ Ok r → length (written_piece families r) ≤ piece_size q
     unfolding piece_of
-    piece_written place (p.Plain s) r e = let same : piece.Plain (name_of text s) ≡ r = cc in subst (λ r. length (written_piece families r) ≤ s.to - s.from) same (spelled_size text s.from s.to)
+    piece_written place (p.Plain s) r e =
+        let same : piece.Plain (name_of text s) ≡ r = cc in subst (λ r. length (written_piece families r) ≤ s.to - s.from) same (spelled_size text s.from s.to)
     piece_written place p.Value r e = let same : piece.Value ≡ r = cc in subst (λ r. length (written_piece families r) ≤ 7) same (omega arith)
     piece_written place p.Key r e = let same : piece.Key ≡ r = cc in subst (λ r. length (written_piece families r) ≤ 5) same (omega arith)
     piece_written place p.Time r e = let same : piece.Time ≡ r = cc in subst (λ r. length (written_piece families r) ≤ 6) same (omega arith)
@@ -87,17 +90,22 @@ module _ (text : List ℕ) (n : Naming) (numbered : Numbered family_number 0 n.f
         let g = bind_ok (at_of under v.key) (λ a. Ok (piece.Read (record { family = h.0.number; at = a }))) r h.2 in
         let same : piece.Read (record { family = h.0.number; at = g.0 }) ≡ r = cc in
         let name : List ℕ = family_name (slice_get families h.0.number) in
-        let is : name ≡ name_of text v.family = name_written (name_of text v.family) h.0 (was_known place (look_up (name_of text v.family) n.families) h.0 h.1) in
+        let is : name ≡ name_of text v.family =
+        name_written (name_of text v.family) h.0 (was_known place (look_up (name_of text v.family) n.families) h.0 h.1) in
         let name_size = ap length is in
         let key = key_written under v.key g.0 g.1 in
         let inner = length-append name (written_key g.0) in
         let outer = length-append (123 ∷ (name ++ written_key g.0)) (125 ∷ []) in
-        subst (λ r. length (written_piece families r) ≤ piece_size (p.Read v)) same (omega (arith, name_size, spelled_size text v.family.from v.family.to, key, inner, outer))
+        subst (λ r. length (written_piece families r) ≤ piece_size (p.Read v)) same
+        (omega (arith, name_size, spelled_size text v.family.from v.family.to, key, inner, outer))
     piece_written place p.Formless r e = absurd cc
 
-    pieces_written : (place : ℕ) (done : List Piece) (qs : List WrittenPiece) (rs : List Piece) → each (collect (piece_of text n under place)) done qs ≡ Ok rs → length (written_template families rs) ≤ length (written_template families done) + pieces_size qs
+    pieces_written : (place : ℕ) (done : List Piece) (qs : List WrittenPiece) (rs : List Piece)
+        → each (collect (piece_of text n under place)) done qs ≡ Ok rs
+        → length (written_template families rs) ≤ length (written_template families done) + pieces_size qs
     unfolding each
-    pieces_written place done [] rs e = let same : done ≡ rs = cc in subst (λ rs. length (written_template families rs) ≤ length (written_template families done) + 0) same (omega arith)
+    pieces_written place done [] rs e =
+        let same : done ≡ rs = cc in subst (λ rs. length (written_template families rs) ≤ length (written_template families done) + 0) same (omega arith)
     pieces_written place done (q ∷ qs) rs e =
         let h = bind_ok (collect (piece_of text n under place) done q) _ rs e in
         let g = bind_ok (piece_of text n under place q) (λ y. Ok (done ++ y ∷ [])) h.0 h.1 in
@@ -106,10 +114,13 @@ module _ (text : List ℕ) (n : Naming) (numbered : Numbered family_number 0 n.f
         let all = pieces_written place h.0 qs rs h.2 in
         let split = flat_map-append (written_piece families) done (g.0 ∷ []) in
         let size : length (written_template families h.0) ≡ length (written_template families done) + (length (written_piece families g.0) + 0) =
-        ap (λ l. length (written_template families l)) (sym now) ∙ ap length split ∙ length-append (written_template families done) (written_piece families g.0 ++ []) ∙ ap (λ k. length (written_template families done) + k) (length-append (written_piece families g.0) []) in
+        ap (λ l. length (written_template families l)) (sym now) ∙ ap length split
+        ∙ length-append (written_template families done) (written_piece families g.0 ++ [])
+        ∙ ap (λ k. length (written_template families done) + k) (length-append (written_piece families g.0) []) in
         omega (arith, here, all, size)
 
-    pub template_short : (in_flush : Bool) (s : WrittenSpan) (rs : List Piece) → length (inside text s) ≤ 256 → template_of text n under in_flush s ≡ Ok rs → is_short (written_template families rs) ≡ true
+    pub template_short : (in_flush : Bool) (s : WrittenSpan) (rs : List Piece) → length (inside text s) ≤ 256 → template_of text n under in_flush s ≡ Ok rs
+        → is_short (written_template families rs) ≡ true
     unfolding template_of
     template_short in_flush s rs few e =
         let t = template_at text in_flush s in

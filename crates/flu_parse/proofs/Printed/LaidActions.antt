@@ -1,5 +1,5 @@
 -- The laying out of actions.
-use Rattle.std.proofs.Common.{◌≡◌, ℕ, Bool, true, false, ◌&&◌, List, [], ◌∷◌, ◌++◌, length, Option, Some, None, refl}
+use Rattle.std.proofs.Common.{◌≡◌, ℕ, Bool, true, ◌&&◌, List, ◌∷◌, length, Option, Some, None, refl}
 use Rattle.std.specs.Prelude.{nat_le, slice_get}
 use Rattle.std.specs.List.{list_all}
 use Rattle.flu_lemmas.proofs.Booleans.{three_left, three_right}
@@ -42,14 +42,14 @@ module _ (families : List Family) (names : list_all (λ (f : Family). is_name f.
       let pieces = list_all (emit_piece_fits families keyed has_value) ps in
       template_bytes families names keyed ps
       (list_all_weaker (emit_piece_fits families keyed has_value) (piece_keeps families keyed) ps (emit_keeps families keyed has_value)
-        (three_left pieces (are_apart ps) (is_short (written_template families ps)) h))
+      (three_left pieces (are_apart ps) (is_short (written_template families ps)) h))
 
   flush_bytes : (ps : List Piece) → flush_template_fits families has_value ps ≡ true → list_all is_text_byte (written_template families ps) ≡ true
   flush_bytes ps h =
       let pieces = list_all (flush_piece_fits has_value) ps in
       template_bytes families names keyed ps
       (list_all_weaker (flush_piece_fits has_value) (piece_keeps families keyed) ps (flush_keeps families keyed has_value)
-        (three_left pieces (are_apart ps) (is_short (written_template families ps)) h))
+      (three_left pieces (are_apart ps) (is_short (written_template families ps)) h))
 
   -- a cell, and an expression behind it
   laid_writing : (word : Reserved) (sort : Sort) (c : CellRef) (e : Term) (behind : List ℕ) (rest : List Laid)
@@ -59,9 +59,11 @@ module _ (families : List Family) (names : list_all (λ (f : Family). is_name f.
       let ref_ok = ref_fits families keyed c in
       let sort_ok = ref_has_sort families sort c in
       let good = three_right ref_ok sort_ok (is_good_term families keyed has_value e) fits in
-      let amount = laid_term families names keyed has_value e behind rest (and_left (term_fits families keyed has_value e) (nat_le (term_height e) 32) good) f in
-      let cell = laid_cell families names keyed c blank (term_words families e behind rest) (three_left ref_ok sort_ok (is_good_term families keyed has_value e) fits)
-          (record { blank = refl; ends = refl; laid = amount }) in
+      let amount = laid_term families names keyed has_value e behind rest
+      (and_left (term_fits families keyed has_value e) (nat_le (term_height e) 32) good) f in
+      let cell = laid_cell families names keyed c blank (term_words families e behind rest)
+      (three_left ref_ok sort_ok (is_good_term families keyed has_value e) fits)
+      (record { blank = refl; ends = refl; laid = amount }) in
       laid_reserved word blank _ refl refl cell
 
   laid_act : (act : PlainAct) (behind : List ℕ) (rest : List Laid) → plain_act_fits families keyed has_value act ≡ true → Follows behind rest

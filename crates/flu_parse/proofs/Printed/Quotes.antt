@@ -1,5 +1,5 @@
 -- What stands between the quotes of a text's token, and a name at a place of a text.
-use Rattle.std.proofs.Common.{◌≡◌, ℕ, ◌+◌, ◌-◌, ◌<◌, Bool, true, List, [], ◌∷◌, ◌++◌, length, refl, ◌∙◌, append_assoc, length-append, arith}
+use Rattle.std.proofs.Common.{◌≡◌, ℕ, ◌+◌, ◌-◌, true, List, [], ◌∷◌, ◌++◌, length, ◌∙◌, append_assoc, length-append, arith}
 use Rattle.std.specs.Prelude.{nat_le, not}
 use Rattle.std.specs.List.{list_all}
 use Rattle.std.specs.Str.{IsUtf8}
@@ -9,8 +9,8 @@ use Rattle.flu_lemmas.proofs.Digits.{alphanumeric_ascii}
 use Rattle.flu_lemmas.proofs.Spans.{Place, before_ascii, after_ascii, spelled_between, spelled_passing}
 use Rattle.flu_names.specs.Names.{is_name, is_name_byte, begins_as_name, is_reserved}
 use Rattle.flu_text.specs.declared.words.Token.{Token}
-use Rattle.flu_syntax.specs.declared.tree.WrittenSpan.{WrittenSpan}
-use Rattle.flu_syntax.specs.Machine.{span_of}
+use Rattle.flu_text.specs.declared.written.WrittenSpan.{WrittenSpan}
+use Rattle.flu_text.specs.Signs.{span_of}
 use Rattle.flu_layout.specs.Spelling.{inside}
 use Rattle.flu_layout.specs.Laid.{text}
 use Rattle.flu_layout.specs.Stands.{StandsFor}

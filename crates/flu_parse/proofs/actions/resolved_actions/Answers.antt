@@ -21,7 +21,9 @@ returns-in-Err c =
     let n = naming c.args.names.now in
     let so_far = map plain_action c.loop-action.done.items in
     fails_through _ (do_written text n c.args.under so_far c.action-item.result) (resolved_actions text n c.args.under (map action_seen c.args.written.now))
-    (λ e h. sym c.loop-action.invariant ∙ each-fault (do_written text n c.args.under) so_far e c.args.written.now c.loop-action.action-index c.action-item.result c.loop-action-test.true c.action-item.is h)
+    (λ e h. sym c.loop-action.invariant
+    ∙ each-fault
+    (do_written text n c.args.under) so_far e c.args.written.now c.loop-action.action-index c.action-item.result c.loop-action-test.true c.action-item.is h)
     c.in-Err.ensures
 
 pub loop-action-preserved : goal.loop-action-preserved
@@ -29,12 +31,14 @@ loop-action-preserved c =
     let text = c.args.text.now in
     let n = naming c.args.names.now in
     let so_far = map plain_action c.loop-action.done.items in
-    sym (each-next (do_written text n c.args.under) so_far (map plain_action c.add_action.new.done.items) c.args.written.now c.loop-action.action-index c.action-item.result c.loop-action-test.true c.action-item.is c.in-Ok.ensures)
+    sym (each-next (do_written text n c.args.under) so_far
+    (map plain_action c.add_action.new.done.items) c.args.written.now c.loop-action.action-index c.action-item.result c.loop-action-test.true c.action-item.is c.in-Ok.ensures)
     ∙ c.loop-action.invariant
 
 pub returns : goal.returns
 returns c =
     let n = naming c.args.names.now in
     sym c.loop-action.invariant
-    ∙ each-end (do_written c.args.text.now n c.args.under) (map plain_action c.loop-action.done.items) c.args.written.now c.loop-action.action-index (omega arith)
+    ∙ each-end (do_written c.args.text.now n c.args.under) (map plain_action c.loop-action.done.items) c.args.written.now c.loop-action.action-index
+    (omega arith)
     ∙ ap (λ all. Ok (map plain_action all)) (sym c.of.ensures)

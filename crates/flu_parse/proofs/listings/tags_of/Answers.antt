@@ -19,7 +19,8 @@ pub loop-tag-preserved : goal.loop-tag-preserved
 loop-tag-preserved c =
     let text = c.args.text.now in
     let n = naming c.args.names.now in
-    sym (each-next-at (with_tag text n) _ (tags_listed c.loop-tag.listed) (tags_listed c.add_tag.new.listed) c.args.written.now c.loop-tag.tag-index c.loop-tag-test.true c.in-Ok.ensures)
+    sym (each-next-at (with_tag text n) _ (tags_listed c.loop-tag.listed)
+    (tags_listed c.add_tag.new.listed) c.args.written.now c.loop-tag.tag-index c.loop-tag-test.true c.in-Ok.ensures)
     ∙ c.loop-tag.invariant
 
 pub returns : goal.returns

@@ -20,16 +20,19 @@ returns-in-Err c =
     let d = drafted c.loop-declaration.draft in
     let ds = c.args.declarations.now in
     fails_through _ (step d c.declaration-item.result) (draft_of c.args.text.now (naming c.args.names.now) (map declaration_of ds))
-    (λ e h. sym c.loop-declaration.invariant ∙ each-fault step d e ds c.loop-declaration.declaration-index c.declaration-item.result c.loop-declaration-test.true c.declaration-item.is h)
+    (λ e h. sym c.loop-declaration.invariant
+    ∙ each-fault step d e ds c.loop-declaration.declaration-index c.declaration-item.result c.loop-declaration-test.true c.declaration-item.is h)
     c.in-Err.ensures
 
 pub loop-declaration-preserved : goal.loop-declaration-preserved
 loop-declaration-preserved c =
     let step = read_written c.args.text.now (naming c.args.names.now) in
-    sym (each-next step (drafted c.loop-declaration.draft) (drafted c.add_declaration.new.draft) c.args.declarations.now c.loop-declaration.declaration-index c.declaration-item.result c.loop-declaration-test.true c.declaration-item.is c.in-Ok.ensures)
+    sym (each-next step (drafted c.loop-declaration.draft)
+    (drafted c.add_declaration.new.draft) c.args.declarations.now c.loop-declaration.declaration-index c.declaration-item.result c.loop-declaration-test.true c.declaration-item.is c.in-Ok.ensures)
     ∙ c.loop-declaration.invariant
 
 pub returns : goal.returns
 returns c =
     sym c.loop-declaration.invariant
-    ∙ each-end (read_written c.args.text.now (naming c.args.names.now)) (drafted c.loop-declaration.draft) c.args.declarations.now c.loop-declaration.declaration-index (omega arith)
+    ∙ each-end (read_written c.args.text.now (naming c.args.names.now))
+    (drafted c.loop-declaration.draft) c.args.declarations.now c.loop-declaration.declaration-index (omega arith)

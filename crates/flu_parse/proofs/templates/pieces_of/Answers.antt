@@ -14,7 +14,9 @@ returns-in-Err c =
     let ps = c.args.pieces.now in
     let find = piece_of text n c.args.under c.args.place in
     fails_through _ _ (pieces_of text n c.args.under c.args.place ps)
-    (λ e h. sym c.loop-piece.invariant ∙ each-fault-at (collect find) _ c.loop-piece.found.items e ps c.loop-piece.piece-index c.loop-piece-test.true (collect-fault find c.loop-piece.found.items _ e h))
+    (λ e h. sym c.loop-piece.invariant
+    ∙ each-fault-at (collect find) _ c.loop-piece.found.items e ps c.loop-piece.piece-index c.loop-piece-test.true
+    (collect-fault find c.loop-piece.found.items _ e h))
     c.in-Err.ensures
 
 pub loop-piece-preserved : goal.loop-piece-preserved

@@ -18,7 +18,8 @@ rules_of plan = record {
   small_keys = plan.small_keys;
 }
 
-again : PrintedIsRead → (p : Program) (plan : Plan) (text : List ℕ) → text ≡ printed p plan.nodes → IsTrue (has_text p plan.nodes) → plan_in p text ≡ Ok plan.nodes
+again : PrintedIsRead → (p : Program) (plan : Plan) (text : List ℕ) → text ≡ printed p plan.nodes → IsTrue (has_text p plan.nodes)
+    → plan_in p text ≡ Ok plan.nodes
 again law p plan text is has = ap (plan_in p) is ∙ law p plan.nodes (rules_of plan) has
 
 pub returns-clause-read_again : goal.returns-clause-read_again
@@ -28,4 +29,4 @@ returns-clause-read_again c =
 pub returns-clause-round_trip : goal.returns-clause-round_trip
 returns-clause-round_trip c = λ bytes was_read.
     again c.printed_is_read.ensures c.args.p.now c.args.plan.now c.of.result (c.of.ensures ∙ c.in_ok-text.ensures ∙ ap (printed c.args.p.now) c.items.ensures)
-        (c.plans_have_text.ensures c.args.p.now bytes c.args.plan.now.nodes was_read)
+    (c.plans_have_text.ensures c.args.p.now bytes c.args.plan.now.nodes was_read)

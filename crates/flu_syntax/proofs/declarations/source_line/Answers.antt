@@ -1,6 +1,6 @@
 use Rattle.std.proofs.Common.{◌∙◌}
 use Rattle.std.proofs.lemmas.Result.{err_from_is_err_and}
-use Rattle.flu_syntax.specs.Machine.{span_of}
+use Rattle.flu_text.specs.Signs.{span_of}
 use Rattle.flu_syntax.specs.Reading.{Head}
 use Rattle.flu_syntax.proofs.Runs.{Tells-through}
 use Rattle.flu_syntax.proofs.Parts.{tells, run-expected, run-unexpected, source_name, source_file, source_colon}
@@ -29,7 +29,8 @@ returns-in_err-rate-clause-run c =
     rw (p.1, p.2) (λ job.
     Tells-through _ _ _ (
     run-expected c.args.end job c.args.tokens.now c.in_ok-word.rest.now c.in_ok-word.word source_name c.in_ok-word.ensures.front
-    ∙ run-expected c.args.end job c.in_ok-word.rest.now c.in_ok-text.rest.now c.in_ok-text.text (source_file name) c.in_ok-text.ensures.front) (c.in_err-rate.ensures.run (job, name, file)))
+    ∙ run-expected c.args.end job c.in_ok-word.rest.now c.in_ok-text.rest.now c.in_ok-text.text (source_file name) c.in_ok-text.ensures.front)
+    (c.in_err-rate.ensures.run (job, name, file)))
 
 pub returns-in_err-slack-clause-run : goal.returns-in_err-slack-clause-run
 returns-in_err-slack-clause-run c =
@@ -69,7 +70,8 @@ returns-in_err-tags-clause-run c =
     ∙ run-expected c.args.end job c.in_ok-word.rest.now c.in_ok-text.rest.now c.in_ok-text.text (source_file name) c.in_ok-text.ensures.front
     ∙ c.in_ok-rate.ensures.run (job, name, file)
     ∙ c.in_ok-slack.ensures.run (job, name, file, c.in_ok-rate.rate)
-    ∙ run-expected c.args.end job c.in_ok-slack.rest.now c.in_ok-rest.rest.now c.in_ok-rest.field-0-0 colon c.in_ok-rest.ensures.front) (c.in_err-tags.ensures.run head))
+    ∙ run-expected c.args.end job c.in_ok-slack.rest.now c.in_ok-rest.rest.now c.in_ok-rest.field-0-0 colon c.in_ok-rest.ensures.front)
+    (c.in_err-tags.ensures.run head))
 
 pub returns-clause-run : goal.returns-clause-run
 returns-clause-run c =

@@ -33,5 +33,6 @@ returns-in_err-declarations c =
 pub returns : goal.returns
 returns c =
     let job = job_of (record { version = c.in_ok-version.version; declarations = c.in_ok-declarations.declarations }) in
-    let found : verdict c.args.end c.args.tokens.now ≡ Found job = c.in_ok-version.ensures.run ∙ ap (with_version c.in_ok-version.version) c.in_ok-declarations.ensures.run in
+    let found : verdict c.args.end c.args.tokens.now ≡ Found job = c.in_ok-version.ensures.run
+    ∙ ap (with_version c.in_ok-version.version) c.in_ok-declarations.ensures.run in
     record { job = is_job c.args.end c.args.tokens.now job found; unexpected = λ at e. cc; verdict = found }
