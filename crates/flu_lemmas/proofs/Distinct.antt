@@ -13,7 +13,7 @@ regrouped false false c d e = refl
 module _ {X : Type 0} (same : X → X → Bool) (distinct : List X → Bool) (none : distinct [] ≡ true)
     (more : (x : X) (xs : List X) → distinct (x ∷ xs) ≡ (not (list_any (same x) xs) && distinct xs)) where
   pub distinct-append : (xs ys : List X) → distinct (xs ++ ys) ≡ (distinct xs && not (list_any (λ x. list_any (same x) ys) xs) && distinct ys)
-  distinct-append [] ys = ap (λ b. b && distinct ys) (sym none)
+  distinct-append [] ys = ap (λ b. b && true && distinct ys) (sym none)
   distinct-append (x ∷ xs) ys =
       more x (xs ++ ys)
       ∙ ap (λ b. not b && distinct (xs ++ ys)) (list_any-append (same x) xs ys)
