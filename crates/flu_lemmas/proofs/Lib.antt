@@ -2,6 +2,7 @@ pub mod Booleans
 pub mod Containing
 pub mod Counting
 pub mod Digits
+pub mod Distinct
 pub mod Elements
 pub mod Items
 pub mod Late
