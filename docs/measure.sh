@@ -70,6 +70,28 @@ cmp out.txt folded.txt
 measure 'three sources, 1,000,000 rows: sort -m and gawk in C' sort_and_count C
 cmp out.txt folded.txt
 
+# ---- 1,000,000 rows that come late by less than 1,000, beside the same rows in order
+cat > late.job <<'JOB'
+cell count sum
+tag inc int
+tag read none
+depends inc read
+depends read read
+on inc: add count value
+on read: emit "count {count}"; clear count
+source a "late.csv" slack 1000: inc
+source c "c.csv": read
+JOB
+gawk 'BEGIN { srand(1); for (t = 1; t <= 1000000; t++) print t + int(rand() * 999) "\t" t ",inc," t % 100 }' \
+    | sort -n -s -k1,1 | cut -f2 > late.csv
+echo end >> late.csv
+sed 's/late.csv/ordered.csv/' late.job > ordered.job
+gawk 'BEGIN { for (t = 1; t <= 1000000; t++) print t ",inc," t % 100; print "end" }' > ordered.csv
+measure '1,000,000 rows in order, slack 1,000: flumina fold' "$program" fold ordered.job
+cp out.txt folded.txt
+measure '1,000,000 rows late by less than 1,000: flumina fold' "$program" fold late.job
+cmp out.txt folded.txt
+
 # ---- a job text of about 1,048,576 bytes: 64 kinds of 32 long actions, comments, 4,096 dependencies
 gawk 'BEGIN {
     for (i = 0; i < 64; i++) print "cell c" i " sum # the cell of kind " i

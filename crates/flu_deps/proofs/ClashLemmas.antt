@@ -218,7 +218,7 @@ module _ (p : Program) (t : Clashes) (finds : FindsClashes p t) (i j : ℕ) (li 
       let a2 : Bool = list_any (λ (a : Action). act_adds second.key c a.act) theirs in
       let x2 : Bool = list_any (λ (a : Action). act_raises second.key c a.act) theirs in
       let clash : Clashing p.version r o a x r2 o2 a2 x2 =
-          paired p.version r o a x r2 o2 a2 x2 (mode_of p first c) (mode_of p second c) conflict (carried p.version r o a x) (carried p.version r2 o2 a2 x2) in
+      paired p.version r o a x r2 o2 a2 x2 (mode_of p first c) (mode_of p second c) conflict (carried p.version r o a x) (carried p.version r2 o2 a2 x2) in
       let done = noted p t clash.one clash.other finds clash.pair first.kind second.kind first_kind second_kind in
       let back = noted p t clash.other clash.one finds (turned clash.one clash.other clash.pair) second.kind first.kind second_kind first_kind in
       let ways = clash.first.way in
@@ -228,16 +228,16 @@ module _ (p : Program) (t : Clashes) (finds : FindsClashes p t) (i j : ℕ) (li 
       let one_family : one.family ≡ c.family = true_eq one.family c.family (and_left (one.family == c.family) (at_place first.key c.key one.place) one.covered) in
       let other_family : other.family ≡ c.family = true_eq other.family c.family (and_left (other.family == c.family) (at_place second.key c.key other.place) other.covered) in
       let marked : is_marked done.marks one.family one.place ≡ true =
-          second_of (in_class p.version clash.one ways) (is_marked done.marks one.family one.place) clash.first.is (one.passes (marked_test p.version clash.one done.marks) done.marked) in
+      second_of (in_class p.version clash.one ways) (is_marked done.marks one.family one.place) clash.first.is (one.passes (marked_test p.version clash.one done.marks) done.marked) in
       let met : is_met done.marks done.meeting other.family other.place ≡ true =
-          second_of (in_class p.version clash.other others) (is_met done.marks done.meeting other.family other.place) clash.second.is
-          (other.passes (met_test p.version clash.other done.marks done.meeting) done.met) in
+      second_of (in_class p.version clash.other others) (is_met done.marks done.meeting other.family other.place) clash.second.is
+      (other.passes (met_test p.version clash.other done.marks done.meeting) done.met) in
       let marked_back : is_marked back.marks other.family other.place ≡ true =
-          second_of (in_class p.version clash.other others) (is_marked back.marks other.family other.place) clash.second.is
-          (other.passes (marked_test p.version clash.other back.marks) back.marked) in
+      second_of (in_class p.version clash.other others) (is_marked back.marks other.family other.place) clash.second.is
+      (other.passes (marked_test p.version clash.other back.marks) back.marked) in
       let met_back : is_met back.marks back.meeting one.family one.place ≡ true =
-          second_of (in_class p.version clash.one ways) (is_met back.marks back.meeting one.family one.place) clash.first.is
-          (one.passes (met_test p.version clash.one back.marks back.meeting) back.met) in
+      second_of (in_class p.version clash.one ways) (is_met back.marks back.meeting one.family one.place) clash.first.is
+      (one.passes (met_test p.version clash.one back.marks back.meeting) back.met) in
       noted_at p t i j li lj clash.one clash.other done back c.family c.key one.place other.place
       (and_right (one.family == c.family) (at_place first.key c.key one.place) one.covered)
       (and_right (other.family == c.family) (at_place second.key c.key other.place) other.covered)

@@ -141,18 +141,12 @@ fn keys_over_the_limit(rt: HostRuntime) -> Result<(), Fail> {
     let p = read_job(rt.alloc(), JOB_K.as_bytes()).expect(&rt, "a job");
     let cases = [
         ("node a: view[65535..0]", "node a: view[65535..0]\n"),
-        (
-            "node a: tick[65536]",
-            "over limit Key 65536",
-        ),
+        ("node a: tick[65536]", "over limit Key 65536"),
         (
             "node a: view[1], view[2..70000], view[80000]",
             "over limit Key 70000",
         ),
-        (
-            "node a: view[70000..80000]",
-            "over limit Key 70000",
-        ),
+        ("node a: view[70000..80000]", "over limit Key 70000"),
         ("node a: view[9223372036854775808]", "bad token at 13"),
     ];
     expect_all(&rt, rt.alloc(), &p, &cases)?;
@@ -212,10 +206,7 @@ fn nodes_and_depth(rt: HostRuntime) -> Result<(), Fail> {
     let six = chain(alloc, 6)?;
     assert_eq!(&rt; lines_of(alloc, &p, &six)?.as_str(), "a plan");
     let seven = chain(alloc, 7)?;
-    assert_eq!(&rt;
-        lines_of(alloc, &p, &seven)?.as_str(),
-        "over limit Depth 7"
-    );
+    assert_eq!(&rt; lines_of(alloc, &p, &seven)?.as_str(), "over limit Depth 7");
     Ok(())
 }
 

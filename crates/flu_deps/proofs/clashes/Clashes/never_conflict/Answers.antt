@@ -14,7 +14,7 @@ returns c = λ quiet d.
     let i = c.args.i.0 in
     let j = c.args.j.0 in
     let fits : (tag_fits p.kinds (tag_at p i) && tag_fits p.kinds (tag_at p j)) ≡ true =
-        (λ e. tag_fits p.kinds (sym c.requires.a e) && tag_fits p.kinds (sym c.requires.b e)) ∙ c.requires.fit in
+    (λ e. tag_fits p.kinds (sym c.requires.a e) && tag_fits p.kinds (sym c.requires.b e)) ∙ c.requires.fit in
     let none : may_clash t i (tag_at p i) j (tag_at p j) ≡ false =
-        (λ e. may_clash t i (sym c.requires.a e) j (sym c.requires.b e)) ∙ sym c.may_clash.ensures ∙ not_true c.may_clash.result quiet in
+    (λ e. may_clash t i (sym c.requires.a e) j (sym c.requires.b e)) ∙ sym c.may_clash.ensures ∙ not_true c.may_clash.result quiet in
     (λ e. conflicts_on p (c.requires.a e) (c.requires.b e) d) ∙ no_conflict p t c.requires.found i j c.requires.i c.requires.j fits d none
