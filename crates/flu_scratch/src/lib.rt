@@ -1,0 +1,6 @@
+//! Scratch.
+#![tactic(auto)]
+
+pub mod lines;
+pub mod names;
+pub mod pieces;

@@ -1,0 +1,30 @@
+//! Bytes that are written piece by piece, so that a line with values takes no memory.
+
+ghost use Rattle.std.specs.Prelude.{◌≡◌, ◌≤◌, map, OnOk, OnErr};
+ghost use Rattle.std.specs.Fmt.{decimal};
+ghost use Rattle.std.specs.List.{concat};
+ghost use Rattle.flu_outside.specs.Writing.{Writes};
+
+use flu_outside::{Failed, Sink};
+use flu_outside::write_all;
+use itoa::Buffer;
+
+/// Writes all of some pieces, one after another.
+///
+/// Where the sink fails, it has taken fewer than all of their bytes, from their front.
+pub fn write_pieces<K: Sink>(out: &mut K, pieces: &[&[u8]]) -> Result<(), Failed>
+    ensures { Writes (concat (map (λ p. p.now) pieces.now)) (K.taken out.old) (K.taken out.new) (K.faults out.old) (K.faults out.new) result }
+{
+    let [first, others @ ..] = pieces else {
+        return Ok(());
+    };
+    write_all(out, first)?;
+    write_pieces(out, others)
+}
+
+/// The digits of a number, which stand in a buffer.
+pub fn digits_of(buffer: &mut Buffer, n: u64) -> &[u8]
+    ensures { result.now ≡ decimal n }
+{
+    buffer.format(n).as_bytes()
+}
