@@ -1,6 +1,0 @@
-//! Scratch.
-#![tactic(auto)]
-
-pub mod lines;
-pub mod names;
-pub mod pieces;
