@@ -3,8 +3,6 @@
 
 pub mod sets;
 pub mod state;
-#[cfg(test)]
-mod tests;
 
 pub use flu_model::{Cell, Worth};
 pub use sets::CellSet;

@@ -1,15 +1,15 @@
 //! A state, which holds a value in each cell that is not neutral (`docs/MODEL.md`).
 
 ghost use Rattle.std.specs.BTreeMap as tree;
-ghost use Rattle.std.specs.Prelude.{◌≡◌, ◌<◌, ◌==◌, map, Some, None, OnOk, OnErr, IfOk, IsOk};
-ghost use Rattle.flu_model.specs.Contents.{nothing_held, with_worth, held_sum, added, raised, held_keys, key_count, join, joined_worth};
-ghost use Rattle.flu_cells.specs.Entries.{cell_cmp, contents_of, IsWithoutNeutral, HasKeysInRange, IsWorthKept, entries_of_family};
+ghost use Rattle.std.specs.Prelude.{◌≡◌, ◌<◌, ◌==◌, map, not, Some, None, OnOk, OnErr, IfOk, IsOk, IsSome, IfSome, IfNone};
+ghost use Rattle.flu_model.specs.Contents.{cell, is_same_cell, nothing_held, with_worth, held_sum, added, raised, held_keys, key_count, without_family, join, joined_worth};
+ghost use Rattle.flu_model.specs.Order.{cell_cmp};
+ghost use Rattle.flu_cells.specs.Entries.{contents_of, overlay, IsWithoutNeutral, HasKeysInRange, IsWorthKept, entries_of_family};
 
 use crate::sets::CellSet;
 use flu_model::{Cell, Worth};
 use std::alloc::{AllocError, Global};
 use std::collections::BTreeMap;
-use std::mem;
 
 // The greatest key of a keyed family.
 const LAST_KEY: u32 = 65_535;
@@ -28,7 +28,7 @@ pub struct State {
 
 impl State {
     ghost use Rattle.flu_cells.specs.Holding.{held};
-    ghost use Rattle.flu_cells.specs.Sets.{within, outside};
+    ghost use Rattle.flu_cells.specs.Sets.{within, outside, only, Moves};
 
     /// The state in which every cell is neutral. It takes no memory.
     pub fn new(alloc: Global) -> State
@@ -84,7 +84,14 @@ impl State {
     pub fn clear(&mut self, c: Cell)
         ensures { held self.new ≡ with_worth (held self.old) c None }
     {
-        self.cells.remove(&c);
+        self.take(c);
+    }
+
+    /// Makes all cells of a family neutral. Only those that hold something are gone through. It takes no memory.
+    pub fn clear_family(&mut self, family: u32)
+        ensures { held self.new ≡ without_family (held self.old) family }
+    {
+        while let Some(_) = self.pop_of(family) {}
     }
 
     /// The keys of a family whose cells are not neutral, rising. Only that family's cells are gone through.
@@ -97,7 +104,8 @@ impl State {
     /// Joins another state to this one (`docs/MODEL.md`): sums are added, the greater maximum is taken, and of last values
     /// this one's comes first.
     ///
-    /// An empty state takes no memory. Where memory is refused, this state is of no further use.
+    /// An empty state takes no memory. Where memory is refused, part of the other state may have been joined and the rest is
+    /// gone: this state is of no further use.
     pub fn absorb(&mut self, other: State) -> Result<(), AllocError>
         ensures ok { OnOk result (held self.new ≡ join (held self.old) (held other)) }
         ensures empty { held other ≡ nothing_held → IsOk result }
@@ -112,24 +120,50 @@ impl State {
         Ok(())
     }
 
-    /// Moves what the cells of a set hold into a state of its own; the other cells keep what they hold.
+    /// Moves what the cells of a set hold into a state of its own; the other cells keep what they hold. The set is gone
+    /// through, and of the cells those that move.
     ///
-    /// Where memory is refused, this state is of no further use.
+    /// Where memory is refused, some of the cells may have moved and what they held is gone: this state is of no further use.
     pub fn take_out(&mut self, wanted: &CellSet) -> Result<State, AllocError>
         ensures taken { IfOk result (λ s. held s ≡ within wanted.now (held self.old)) }
         ensures left { OnOk result (held self.new ≡ outside wanted.now (held self.old)) }
     {
-        let all = mem::replace(self, State::new(self.alloc));
-        let State { mut cells, alloc } = all;
-        let mut taken = State::new(alloc);
-        while let Some((cell, worth)) = cells.pop_first() {
-            if wanted.has(cell) {
-                taken.hold(cell, Some(worth))?;
-            } else {
-                self.hold(cell, Some(worth))?;
-            }
+        let mut taken = State::new(self.alloc);
+        for family in &wanted.whole {
+            self.move_family(*family, &mut taken)?;
+        }
+        for cell in &wanted.single {
+            self.move_cell(*cell, &mut taken)?;
         }
         Ok(taken)
+    }
+
+    /// A state whose cells of a set hold what they hold here; its other cells are neutral. The set is gone through, and of
+    /// the cells those that are copied.
+    pub fn copy_of(&self, wanted: &CellSet) -> Result<State, AllocError>
+        ensures { IfOk result (λ s. held s ≡ within wanted.now (held self.now)) }
+    {
+        let mut copy = State::new(self.alloc);
+        for family in &wanted.whole {
+            copy.copy_family(self, *family)?;
+        }
+        for cell in &wanted.single {
+            copy.copy_cell(self, *cell)?;
+        }
+        Ok(copy)
+    }
+
+    /// Makes the cells of a set neutral. The set is gone through, and of the cells those that hold something. It takes no
+    /// memory.
+    pub fn clear_all(&mut self, unwanted: &CellSet)
+        ensures { held self.new ≡ outside unwanted.now (held self.old) }
+    {
+        for family in &unwanted.whole {
+            self.clear_family(*family);
+        }
+        for cell in &unwanted.single {
+            self.clear(*cell);
+        }
     }
 
     /// Another state whose cells hold the same.
@@ -140,6 +174,73 @@ impl State {
             cells: self.cells.clone()?,
             alloc: self.alloc,
         })
+    }
+
+    // Moves what a family's cells hold to another state.
+    fn move_family(&mut self, family: u32, other: &mut State) -> Result<(), AllocError>
+        ensures { OnOk result (Moves (λ c. c.family == family) (held self.old) (held self.new) (held other.old) (held other.new)) }
+    {
+        while let Some((cell, worth)) = self.pop_of(family) {
+            other.hold(cell, Some(worth))?;
+        }
+        Ok(())
+    }
+
+    // Moves what a cell holds to another state.
+    fn move_cell(&mut self, cell: Cell, other: &mut State) -> Result<(), AllocError>
+        ensures { OnOk result (Moves (λ c. is_same_cell c cell) (held self.old) (held self.new) (held other.old) (held other.new)) }
+    {
+        match self.take(cell) {
+            Some(worth) => {
+                other.hold(cell, Some(worth))?;
+                Ok(())
+            }
+            None => Ok(()),
+        }
+    }
+
+    // Makes the cells of a family hold what they hold in another state, where that is something.
+    fn copy_family(&mut self, other: &State, family: u32) -> Result<(), AllocError>
+        ensures { OnOk result (held self.new ≡ overlay (held self.old) (only (λ c. c.family == family) (held other.now))) }
+    {
+        let keys = other.keys(family)?;
+        for key in keys.as_slice() {
+            self.copy_cell(other, Cell { family, key: *key })?;
+        }
+        Ok(())
+    }
+
+    // Makes a cell hold what it holds in another state, where that is something.
+    fn copy_cell(&mut self, other: &State, cell: Cell) -> Result<(), AllocError>
+        ensures { OnOk result (held self.new ≡ overlay (held self.old) (only (λ c. is_same_cell c cell) (held other.now))) }
+    {
+        match other.get(cell) {
+            Some(worth) => self.hold(cell, Some(worth)),
+            None => Ok(()),
+        }
+    }
+
+    // Takes out the first cell of a family that holds something, with what it holds.
+    fn pop_of(&mut self, family: u32) -> Option<(Cell, Worth)>
+        ensures family { IfSome result (λ e. e.0.family ≡ family) }
+        ensures held { IfSome result (λ e. held self.old e.0 ≡ Some e.1) }
+        ensures left { IfSome result (λ e. held self.new ≡ with_worth (held self.old) e.0 None) }
+        ensures fewer { IfSome result (λ e. tree.btree_map_len self.new.cells < tree.btree_map_len self.old.cells) }
+        ensures none { IfNone result ((c : Cell) → c.family ≡ family → held self.old c ≡ None) }
+        ensures same { IfNone result (held self.new ≡ held self.old) }
+    {
+        let cell = first_of_family(&self.cells, family)?;
+        let worth = self.take(cell)?;
+        Some((cell, worth))
+    }
+
+    // Takes out what a cell holds.
+    fn take(&mut self, c: Cell) -> Option<Worth>
+        ensures worth { result ≡ held self.old c }
+        ensures left { held self.new ≡ with_worth (held self.old) c None }
+        ensures fewer { IfSome result (λ w. tree.btree_map_len self.new.cells < tree.btree_map_len self.old.cells) }
+    {
+        self.cells.remove(&c)
     }
 
     // Sets what a cell holds.
@@ -222,10 +323,34 @@ fn keys_of_family(
     ensures ordered { tree.IsOrdered cell_cmp cells.now }
     ensures listed { IfOk result (λ v. v.items ≡ map (λ e. e.0.key) (entries_of_family cells.now family)) }
 {
-    let first = Cell { family, key: 0 };
-    let last = Cell {
+    cells
+        .range(first_cell(family)..=last_cell(family))
+        .map(|(c, _)| c.key)
+        .collect(alloc)
+}
+
+// The first cell of a family that a map has.
+fn first_of_family(cells: &BTreeMap<Cell, Worth>, family: u32) -> Option<Cell>
+    ensures found { IfSome result (λ c. (c.family ≡ family) × IsSome (contents_of cells.now c)) }
+    ensures none { IfNone result ((c : Cell) → c.family ≡ family → c.key < key_count → contents_of cells.now c ≡ None) }
+{
+    match cells.range(first_cell(family)..=last_cell(family)).next() {
+        Some((cell, _)) => Some(*cell),
+        None => None,
+    }
+}
+
+fn first_cell(family: u32) -> Cell
+    ensures { result ≡ cell family 0 }
+{
+    Cell { family, key: 0 }
+}
+
+fn last_cell(family: u32) -> Cell
+    ensures { result ≡ cell family 65535 }
+{
+    Cell {
         family,
         key: LAST_KEY,
-    };
-    cells.range(first..=last).map(|(c, _)| c.key).collect(alloc)
+    }
 }

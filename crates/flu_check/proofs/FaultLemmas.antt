@@ -19,15 +19,27 @@ use Rattle.flu_model.specs.declared.modes.Mode.TheVariants.{None as NoMode, Add 
 use Rattle.flu_model.specs.Itags.{itags, count_of_itags, is_dependent}
 use Rattle.flu_model.specs.Listing.{tag}
 use Rattle.flu_model.specs.Modes.{mode_of, modes_conflict, IsInUniverse, IsAccepted}
-use Rattle.flu_laws.proofs.Uses.{dependent_turns}
+use Rattle.flu_laws.specs.Lawful.{DependencyTurns}
 use Rattle.flu_model.specs.Order.{cell_cmp, is_cell_before, tag_cmp, is_tag_before}
 use Rattle.flu_deps.specs.Conflicts.{conflicts_on, IsFirstConflict}
-use Rattle.flu_deps.proofs.OrderLemmas.{cells_total, tags_total, tags_tie}
+use Rattle.flu_deps.specs.Dependencies.{ConflictIsMutual}
+use Rattle.flu_lemmas.proofs.TwoNumbers.{by_two-total, by_two-ties}
 use Rattle.flu_check.specs.declared.search.Fault.{Fault}
-use Rattle.flu_check.specs.Faults.{IsFault, fault_cmp, IsFirstFault}
-use Rattle.flu_check.specs.Found.{tag_at, is_fault_before, IsFound, IsPassed, Passed, KeepsPassed, PassesPair, PassesTag, is_pair_before, is_sought}
+use Rattle.flu_check.specs.Faults.{IsCheckFault, fault_cmp, IsFirstCheckFault}
+use Rattle.flu_check.specs.LoopFound.{tag_at, is_fault_before, IsFound, IsPassed, Passed, KeepsPassed, PassesPair, PassesTag, is_pair_before, is_sought}
 
 -- ---- the order of faults
+cells_total : IsTotalOrder cell_cmp
+cells_total = by_two-total (λ (c : Cell). c.family) (λ (c : Cell). c.key)
+
+tags_total : IsTotalOrder tag_cmp
+tags_total = by_two-total (λ (t : Tag). t.kind) (λ (t : Tag). t.key)
+
+tags_tie : (a b : Tag) → tag_cmp a b ≡ Equal → a ≡ b
+tags_tie a b e =
+    let both = by_two-ties (λ (t : Tag). t.kind) (λ (t : Tag). t.key) a b e in
+    λ i. record { kind = both.0 i; key = both.1 i }
+
 faults_total : IsTotalOrder (λ (x y : Fault). fault_cmp x.a x.b x.cell y.a y.b y.cell)
 faults_total = then_total (on_total (λ (f : Fault). f.a) tags_total) (then_total (on_total (λ (f : Fault). f.b) tags_total) (on_total (λ (f : Fault). f.cell) cells_total))
 
@@ -105,28 +117,20 @@ sought_keeps p a b c found e x passed =
 pub first_passes : (p : Program) (a b : Tag) (c : Cell) → IsFirstConflict p a b c → PassesPair p a b (Some (record { a = a; b = b; cell = c }))
 first_passes p a b c first d f = Passed (same_tags a b d c ∙ first.first d f.conflict)
 
--- ---- one more tag
-pub one_more : (P : ℕ → Type 0) (i : ℕ) → ((k : ℕ) → k < i → P k) → P i → (k : ℕ) → k < i + 1 → P k
-one_more P i below here k lt =
-    elim (cases_lt k i) [
-      | inl less ↦ below k less
-      | inr le ↦ let same : i ≡ k = omega arith in subst P same here
-    ]
-
 -- ---- all tags
 -- all faults are passed
 abbrev pub AllPassed : Program → Option Fault → Type 0
 AllPassed p found = (i : ℕ) → i < count_of_itags p → PassesTag p (tag_at p i) found
 
-passes : (p : Program) (found : Option Fault) → AllPassed p found → (a b : Tag) (c : Cell) → IsFault p a b c → IsPassed found (record { a = a; b = b; cell = c })
+passes : (p : Program) (found : Option Fault) → AllPassed p found → (a b : Tag) (c : Cell) → IsCheckFault p a b c → IsPassed found (record { a = a; b = b; cell = c })
 passes p found all a b c f =
     let one : HasItag p a = listed_has_itag p a f.a_listed in
     let two : HasItag p b = listed_has_itag p b f.b_listed in
-    subst (λ (t : Tag). IsFault p t b c → IsPassed found (record { a = t; b = b; cell = c })) one.is
-    (subst (λ (t : Tag). IsFault p (tag_at p one.number) t c → IsPassed found (record { a = tag_at p one.number; b = t; cell = c })) two.is (all one.number one.in_range two.number two.in_range c))
+    subst (λ (t : Tag). IsCheckFault p t b c → IsPassed found (record { a = t; b = b; cell = c })) one.is
+    (subst (λ (t : Tag). IsCheckFault p (tag_at p one.number) t c → IsPassed found (record { a = tag_at p one.number; b = t; cell = c })) two.is (all one.number one.in_range two.number two.in_range c))
     f
 
-pub passed_is_first : (p : Program) (found : Option Fault) → IfSome found (IsFound p) → AllPassed p found → IfSome found (λ f. IsFirstFault p f.a f.b f.cell)
+pub passed_is_first : (p : Program) (found : Option Fault) → IfSome found (IsFound p) → AllPassed p found → IfSome found (λ f. IsFirstCheckFault p f.a f.b f.cell)
 passed_is_first p None good all = tt
 passed_is_first p (Some f) good all = record {
   fault = good.fault;
@@ -136,27 +140,9 @@ passed_is_first p (Some f) good all = record {
     not_before : (d e : Tag) (g : Cell) → IsPassed (Some f) (record { a = d; b = e; cell = g }) → is_lt (fault_cmp d e g f.a f.b f.cell) ≡ false
     not_before d e g (Passed h) = h
 
-conflict_turns : (m n : Mode) → modes_conflict m n ≡ modes_conflict n m
-conflict_turns NoMode NoMode = refl
-conflict_turns NoMode AddMode = refl
-conflict_turns NoMode RaiseMode = refl
-conflict_turns NoMode Own = refl
-conflict_turns AddMode NoMode = refl
-conflict_turns AddMode AddMode = refl
-conflict_turns AddMode RaiseMode = refl
-conflict_turns AddMode Own = refl
-conflict_turns RaiseMode NoMode = refl
-conflict_turns RaiseMode AddMode = refl
-conflict_turns RaiseMode RaiseMode = refl
-conflict_turns RaiseMode Own = refl
-conflict_turns Own NoMode = refl
-conflict_turns Own AddMode = refl
-conflict_turns Own RaiseMode = refl
-conflict_turns Own Own = refl
-
 -- a job without a fault is accepted
-no_fault : (p : Program) → ((a b : Tag) (c : Cell) → IsFault p a b c → ⊥) → IsAccepted p
-no_fault p none a b c in_a in_b conflict = at_test (is_dependent p a b) (is_tag_before b a) refl refl
+no_fault : (p : Program) → DependencyTurns → ConflictIsMutual → ((a b : Tag) (c : Cell) → IsCheckFault p a b c → ⊥) → IsAccepted p
+no_fault p turns either none a b c in_a in_b conflict = at_test (is_dependent p a b) (is_tag_before b a) refl refl
   where
     at_test : (d o : Bool) → is_dependent p a b ≡ d → is_tag_before b a ≡ o → is_dependent p a b ≡ true
     at_test true o e f = e
@@ -166,13 +152,13 @@ no_fault p none a b c in_a in_b conflict = at_test (is_dependent p a b) (is_tag_
           a_listed = in_b;
           b_listed = in_a;
           in_order = (ranks_by tags_total (λ t. t)).one_way b a f;
-          independent = dependent_turns p b a ∙ e;
-          conflict = conflict_turns (mode_of p b c) (mode_of p a c) ∙ conflict;
+          independent = turns p b a ∙ e;
+          conflict = either p b a c ∙ conflict;
         }))
 
-pub passed_none : (p : Program) (found : Option Fault) → AllPassed p found → IfNone found (IsAccepted p)
-passed_none p None all = no_fault p (λ a b c f. impossible (passes p None all a b c f))
+pub passed_none : (p : Program) (found : Option Fault) → DependencyTurns → ConflictIsMutual → AllPassed p found → IfNone found (IsAccepted p)
+passed_none p None turns either all = no_fault p turns either (λ a b c f. impossible (passes p None all a b c f))
   where
     impossible : {x : Fault} → IsPassed None x → ⊥
     impossible passed = elim passed [ ]
-passed_none p (Some f) all = tt
+passed_none p (Some f) turns either all = tt

@@ -11,7 +11,7 @@ use Rattle.flu_deps.specs.Conflicts.{conflicts_on}
 use Rattle.flu_model.specs.Order.{cell_cmp, tag_cmp, is_tag_before}
 
 -- two tags that the job's sources list, equal or not, are independent and conflict on a cell; the second is not before the first
-pub record IsFault (p : Program) (a b : Tag) (c : Cell) : Type 0 where
+pub record IsCheckFault (p : Program) (a b : Tag) (c : Cell) : Type 0 where
   pub a_listed : IsInUniverse p a
   pub b_listed : IsInUniverse p b
   pub in_order : is_tag_before b a ≡ false
@@ -23,6 +23,6 @@ abbrev pub fault_cmp : Tag → Tag → Cell → Tag → Tag → Cell → Orderin
 fault_cmp a b c d e g = ordering_then (tag_cmp a d) (ordering_then (tag_cmp b e) (cell_cmp c g))
 
 -- FIRST FAULT: a fault, and none is before it
-pub record IsFirstFault (p : Program) (a b : Tag) (c : Cell) : Type 0 where
-  pub fault : IsFault p a b c
-  pub first : (d e : Tag) (g : Cell) → IsFault p d e g → is_lt (fault_cmp d e g a b c) ≡ false
+pub record IsFirstCheckFault (p : Program) (a b : Tag) (c : Cell) : Type 0 where
+  pub fault : IsCheckFault p a b c
+  pub first : (d e : Tag) (g : Cell) → IsCheckFault p d e g → is_lt (fault_cmp d e g a b c) ≡ false

@@ -7,7 +7,7 @@ ghost use Rattle.flu_laws.specs.Lawful.{IsLawful};
 use crate::Checked;
 
 /// Update of a part: an update of one part of a state before the parts are joined is the update after it, where the other part
-/// is neutral at the cells that the event's tag owns.
+/// is neutral at the cells that the event's tag needs.
 pub fn update_of_a_part(checked: &Checked)
     ensures left { UpdatesLeft (program_of checked.now) }
     ensures right { UpdatesRight (program_of checked.now) }
@@ -22,7 +22,8 @@ pub fn independent_updates_commute(checked: &Checked)
     flu_laws::independent_updates_commute();
 }
 
-/// Join undoes split: a state without some cells, joined with the state on these cells alone, is the state.
+/// Join undoes split: where some cells of a state are moved to another part and others are copied to it, the parts join to the
+/// state once the copies are dropped.
 pub fn join_undoes_split(_checked: &Checked)
     ensures { JoinsSplits }
 {

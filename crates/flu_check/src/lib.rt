@@ -4,8 +4,8 @@
 ghost use Rattle.std.specs.Prelude.{◌≡◌, ◌↔◌, IsOk, IfOk, IfErr, IsTrue};
 ghost use Rattle.flu_model.specs.Modes.{IsAccepted};
 ghost use Rattle.flu_deps.specs.Checking.{program_of};
-ghost use Rattle.flu_deps.specs.Conflicts.{is_cell_of};
-ghost use Rattle.flu_check.specs.Faults.{IsFirstFault};
+ghost use Rattle.flu_model.specs.Sorts.{is_cell_of};
+ghost use Rattle.flu_check.specs.Faults.{IsFirstCheckFault};
 
 pub mod laws;
 mod search;
@@ -15,7 +15,7 @@ use flu_model::{Cell, Program, Tag};
 use search::first_fault;
 
 /// Two independent tags of a job's sources that conflict on a cell, and the job.
-#[derive(Debug, Drop)]
+#[derive(Drop)]
 pub struct CheckFault {
     pub program: Program,
     pub a: Tag,
@@ -32,7 +32,7 @@ pub struct CheckFault {
 pub fn check(p: Program) -> Result<Checked, CheckFault>
     ensures accepted { IsOk result ↔ IsAccepted p }
     ensures same { IfOk result (λ c. program_of c ≡ p) }
-    ensures fault { IfErr result (λ f. IsFirstFault p f.a f.b f.cell) }
+    ensures fault { IfErr result (λ f. IsFirstCheckFault p f.a f.b f.cell) }
     ensures declared { IfErr result (λ f. IsTrue (is_cell_of p.families f.cell)) }
     ensures back { IfErr result (λ f. f.program ≡ p) }
 {

@@ -4,10 +4,11 @@ ghost use Rattle.std.specs.Prelude.{◌≡◌, ◌&&◌, IfSome, IfNone, IsTrue}
 ghost use Rattle.flu_model.specs.Itags.{count_of_itags};
 ghost use Rattle.flu_model.specs.Modes.{IsAccepted, IsInUniverse};
 ghost use Rattle.flu_model.specs.Rules.{tag_fits};
-ghost use Rattle.flu_deps.specs.Conflicts.{is_cell_of};
-ghost use Rattle.flu_check.specs.Faults.{IsFirstFault};
-ghost use Rattle.flu_check.specs.Found.{IsFound, KeepsPassed, PassesPair, PassesTag, is_pair_before, is_sought};
+ghost use Rattle.flu_model.specs.Sorts.{is_cell_of};
+ghost use Rattle.flu_check.specs.Faults.{IsFirstCheckFault};
+ghost use Rattle.flu_check.specs.LoopFound.{IsFound, KeepsPassed, PassesPair, PassesTag, is_pair_before, is_sought};
 
+use flu_deps::laws::conflict_is_mutual;
 use flu_deps::{conflict, dep};
 use flu_model::{Cell, Itag, Program, Tag, itag_count, tag_of};
 
@@ -21,10 +22,12 @@ pub struct Fault {
 
 /// The first conflict of two independent tags of a job; none where the job is accepted.
 pub fn first_fault(p: &Program) -> Option<Fault>
-    ensures first { IfSome result (λ f. IsFirstFault p.now f.a f.b f.cell) }
+    ensures first { IfSome result (λ f. IsFirstCheckFault p.now f.a f.b f.cell) }
     ensures declared { IfSome result (λ f. IsTrue (is_cell_of p.now.families f.cell)) }
     ensures none { IfNone result (IsAccepted p.now) }
 {
+    flu_laws::dependency_turns();
+    conflict_is_mutual();
     let count = itag_count(p);
     let mut found = None;
     for i in 0..count {

@@ -9,7 +9,7 @@ use Rattle.flu_model.specs.declared.jobs.Action.{Action}
 use Rattle.flu_model.specs.declared.jobs.Piece.{Piece}
 use Rattle.flu_model.specs.Contents.{is_same_cell}
 use Rattle.flu_model.specs.Order.{is_cell_before}
-use Rattle.flu_deps.specs.Named.{piece_cells, pieces_cells, action_cells, actions_cells, is_before_best, better, best_among}
+use Rattle.flu_deps.specs.LoopNamed.{piece_cells, pieces_cells, action_cells, actions_cells, is_before_best, better, best_among}
 use Rattle.flu_deps.proofs.CellLemmas.{same_cell-is}
 use Rattle.flu_deps.proofs.CellOrder.{cells_rank, not_before_itself}
 

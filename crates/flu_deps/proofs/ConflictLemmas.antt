@@ -16,7 +16,7 @@ use Rattle.flu_model.specs.Updates.{actions_of}
 use Rattle.flu_model.specs.Modes.{mode_of, modes_conflict}
 use Rattle.flu_model.specs.Order.{is_cell_before}
 use Rattle.flu_deps.specs.Conflicts.{conflicts_on, IsFirstConflict}
-use Rattle.flu_deps.specs.Named.{actions_cells, best_among}
+use Rattle.flu_deps.specs.LoopNamed.{actions_cells, best_among}
 use Rattle.flu_deps.proofs.BestLemmas.{best_among-append, best_is_one, IsReached, best_reaches, reached_some, reached_none}
 use Rattle.flu_deps.proofs.CellLemmas.{names, used_is_named, flushed_is_owned, flushed_is_named}
 use Rattle.flu_deps.proofs.CellOrder.{cells_rank, not_before_itself, first_of_family}

@@ -26,7 +26,7 @@ use Rattle.flu_model.specs.Rules.{family_fits, is_keyed, ref_fits, expr_fits, is
 use Rattle.flu_model.specs.Templates.{written_template}
 use Rattle.flu_model.specs.Updates.{actions_of}
 use Rattle.flu_model.specs.Sorts.{key_is_in, is_cell_of}
-use Rattle.flu_deps.specs.Named.{expr_cells, guard_cells, piece_cells, pieces_cells, act_cells, action_cells, actions_cells}
+use Rattle.flu_deps.specs.LoopNamed.{expr_cells, guard_cells, piece_cells, pieces_cells, act_cells, action_cells, actions_cells}
 use Rattle.flu_deps.proofs.ConflictLemmas.{named}
 
 -- ---- keys

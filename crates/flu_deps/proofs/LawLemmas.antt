@@ -1,4 +1,4 @@
--- What the laws of dependence, of trees and of owners rest on.
+-- What the laws of conflicts, of trees and of owners rest on.
 use Rattle.std.proofs.Common.{◌≡◌, ◌<◌, ℕ, zero, suc, Bool, true, false, Option, Some, None, List, length, inl, inr, refl, sym, ap, ◌∙◌, arith}
 use Rattle.std.specs.Prelude.{not, ◌==◌, ◌&&◌, ◌||◌, slice_get}
 use Rattle.std.proofs.lemmas.Bool.{cases_eq, or_left, or_right, or_cases, or_from}
@@ -19,7 +19,7 @@ use Rattle.flu_model.specs.declared.plans.Node.{Node}
 use Rattle.flu_model.specs.Itags.{ties_tags}
 use Rattle.flu_model.specs.Modes.{mode_of, uses, share, modes_conflict}
 use Rattle.flu_model.specs.Owners.{node_owns, found_owns, is_within}
-use Rattle.flu_deps.specs.Dependencies.{DependenceIsMutual, ConflictIsMutual}
+use Rattle.flu_deps.specs.Dependencies.{ConflictIsMutual}
 use Rattle.flu_deps.specs.Owned.{kids_at}
 use Rattle.flu_deps.specs.Owners.{ItagsAreOwned}
 use Rattle.flu_deps.specs.Trees.{AreKids, IsRooted, PathsGoUp, SubtreesAreOfChildren, NodesAreOrdered, NodesAreApart}
@@ -27,13 +27,6 @@ use Rattle.flu_deps.proofs.Trees.{are_kids, rooted}
 use Rattle.flu_deps.proofs.Within.{path_root, path_step, within_itself, within_step, within_cases, within_is_later, in_root, within_through, within_parent, on_one_line, sibling_not_within, not_in_both, within_kid, within_root, left_first, right_first, apart_cases, apart_kid, apart_sibling, within_is_apart}
 
 -- ---- mutual
-ties_turn : (a b : Tag) (d : Depend) → ties_tags a b d ≡ ties_tags b a d
-ties_turn a b d =
-    (λ i. or_turns (d.a == a.kind && d.b == b.kind) (d.a == b.kind && d.b == a.kind) i && (not d.same || same_turns a.key b.key i))
-
-pub dependence_turns : DependenceIsMutual
-dependence_turns p a b = list_any_within (ties_tags a b) (ties_tags b a) p.depends (ties_turn a b)
-
 share_turns : (m n : Mode) → share m n ≡ share n m
 share_turns AddMode NoMode = refl
 share_turns AddMode AddMode = refl

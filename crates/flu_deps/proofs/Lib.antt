@@ -8,3 +8,4 @@ pub mod TreeLemmas
 pub mod Trees
 pub mod Within
 pub mod LawLemmas
+pub mod VisitLemmas

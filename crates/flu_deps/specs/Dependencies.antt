@@ -1,4 +1,4 @@
--- Which itags depend on each other, and that dependence and conflict are mutual.
+-- Which itags depend on each other, and that conflict is mutual.
 use Rattle.std.specs.Prelude.{◌≡◌, Bool}
 use Rattle.flu_model.specs.declared.events.Cell.{Cell}
 use Rattle.flu_model.specs.declared.events.Itag.{Itag}
@@ -11,9 +11,6 @@ use Rattle.flu_deps.specs.Conflicts.{conflicts_on}
 abbrev pub itags_depend : Program → Itag → Itag → Bool
 itags_depend p i j = is_dependent p (tag_of_itag p i) (tag_of_itag p j)
 
--- MUTUAL: which of two tags comes first is all the same
-abbrev pub DependenceIsMutual : Type 0
-DependenceIsMutual = (p : Program) (a b : Tag) → is_dependent p a b ≡ is_dependent p b a
-
+-- MUTUAL: of two tags each conflicts with the other on a cell, or neither does
 abbrev pub ConflictIsMutual : Type 0
 ConflictIsMutual = (p : Program) (a b : Tag) (c : Cell) → conflicts_on p a b c ≡ conflicts_on p b a c

@@ -1,8 +1,10 @@
 pub mod Conflicts
-pub mod Named
+pub mod LoopNamed
 pub mod Checking
 pub mod Owned
 pub mod Validated
 pub mod Dependencies
 pub mod Trees
 pub mod Owners
+pub mod LoopVisits
+pub mod LoopFollows

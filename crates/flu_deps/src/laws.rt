@@ -1,13 +1,12 @@
-//! What holds of dependence, of trees and of owners. Each law is the contract of a function that does nothing.
+//! What holds of conflicts, of trees and of owners. Each law is the contract of a function that does nothing.
 
-ghost use Rattle.flu_deps.specs.Dependencies.{DependenceIsMutual, ConflictIsMutual};
+ghost use Rattle.flu_deps.specs.Dependencies.{ConflictIsMutual};
 ghost use Rattle.flu_deps.specs.Owners.{ItagsAreOwned};
 ghost use Rattle.flu_deps.specs.Trees.{ChildrenAreLater, TreesAreRooted, PathsGoUp, SubtreesAreOfChildren, NodesAreOrdered, NodesAreApart};
 
-/// Of two tags each depends on the other, or neither does, and each conflicts with the other on a cell, or neither does.
-pub fn dependence_is_mutual()
-    ensures dependence { DependenceIsMutual }
-    ensures conflict { ConflictIsMutual }
+/// Of two tags each conflicts with the other on a cell, or neither does.
+pub fn conflict_is_mutual()
+    ensures { ConflictIsMutual }
 {}
 
 /// How the nodes of a tree stand to each other: which are children, parents and ancestors, and what is below a node.

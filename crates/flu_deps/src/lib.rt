@@ -9,6 +9,7 @@ pub mod laws;
 mod modes;
 pub mod nodes;
 mod valid;
+mod visits;
 
 pub use checked::Checked;
 pub use conflicts::conflict;

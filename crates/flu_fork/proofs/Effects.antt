@@ -1,37 +1,27 @@
 -- The effects of chosen events on a cell.
-use Rattle.std.proofs.Common.{◌≡◌, ℕ, ℤ, Bool, true, false, cond, Option, Some, None, List, [], ◌∷◌, inl, inr, refl, sym, ap, ◌∙◌, arith}
-use Rattle.std.specs.Prelude.{nat_lt, nat_le, ◌&&◌, ◌||◌, not, slice_get, slice_index, ⊤}
+use Rattle.std.proofs.Common.{◌≡◌, ℕ, Bool, true, false, cond, Option, None, List, [], ◌∷◌, inl, inr, refl, sym, ap, ◌∙◌}
+use Rattle.std.specs.Prelude.{◌&&◌, ◌||◌, not, slice_index, ⊤}
 use Rattle.std.specs.List.{filter, AllByRecursion}
 use Rattle.std.proofs.lemmas.Bool.{cases_Bool}
-use Rattle.std.proofs.lemmas.Grind.{common_steps}
+use Rattle.flu_lemmas.proofs.Numbers.{never_between}
 use Rattle.flu_model.specs.declared.events.Cell.{Cell}
-use Rattle.flu_model.specs.declared.events.Tag.{Tag}
 use Rattle.flu_model.specs.declared.events.Worth.{Worth}
 use Rattle.flu_model.specs.declared.jobs.Program.{Program}
-use Rattle.flu_model.specs.declared.jobs.Sort.TheVariants.{Max as MaxSort}
-use Rattle.flu_model.specs.declared.modes.Mode.{Mode}
-use Rattle.flu_model.specs.declared.modes.Mode.TheVariants.{None as NoMode, Add as AddMode, Raise as RaiseMode, Own}
 use Rattle.flu_model.specs.Contents.{joined_worth}
 use Rattle.flu_model.specs.Itags.{tag_of_itag}
-use Rattle.flu_model.specs.Rules.{has_sort}
-use Rattle.flu_model.specs.Sorts.{HoldsFamily, IsStateOf}
-use Rattle.flu_model.specs.Updates.{actions_of}
+use Rattle.flu_model.specs.Sorts.{MayHold, IsStateOf}
 use Rattle.flu_laws.specs.Uses.{needs, writes, mixes, mode_at}
-use Rattle.flu_laws.specs.Changes.{applied, reach, amount_added, level_reached, change_by}
+use Rattle.flu_laws.specs.Changes.{Keep, applied}
 use Rattle.flu_laws.specs.Lawful.{IsLawful}
 use Rattle.flu_laws.specs.Spans.{Moment, is_between, change_at, changed_by, span}
-use Rattle.flu_laws.proofs.Algebra.{joined-none, added-mixes, raised-mixes}
-use Rattle.flu_laws.proofs.Histories.{unwritten_keeps}
-use Rattle.flu_laws.proofs.Keeping.{holds_none}
-use Rattle.flu_laws.proofs.Lawful.{added_sort, raised_sort}
-use Rattle.flu_laws.proofs.SortLemmas.{holds_sum, holds_max}
-use Rattle.flu_fork.proofs.Holding.{change_holds}
+use Rattle.flu_laws.specs.Updating.{UnwrittenKeeps}
+use Rattle.flu_fork.specs.LawsBelow.{LawsBelow}
 
 -- ---- tests that choose alike
-idle_step : (p : Program) (c : Cell) (f : Moment → Bool) (m : Moment) (ms : List Moment) (w : Option Worth) → writes (mode_at p m.event c) ≡ false → changed_by p c w (filter f (m ∷ ms)) ≡ changed_by p c w (filter f ms)
-idle_step p c f m ms w quiet =
+idle_step : UnwrittenKeeps → (p : Program) (c : Cell) (f : Moment → Bool) (m : Moment) (ms : List Moment) (w : Option Worth) → writes (mode_at p m.event c) ≡ false → changed_by p c w (filter f (m ∷ ms)) ≡ changed_by p c w (filter f ms)
+idle_step idle p c f m ms w quiet =
     elim (f m) as (λ b. changed_by p c w (cond b (m ∷ filter f ms) (filter f ms)) ≡ changed_by p c w (filter f ms)) [
-      | true ↦ ap (λ h. changed_by p c (applied h w) (filter f ms)) (unwritten_keeps p m c quiet)
+      | true ↦ ap (λ h. changed_by p c (applied h w) (filter f ms)) (idle p m.before m.event c quiet)
       | false ↦ refl
     ]
 
@@ -44,12 +34,12 @@ same_step p c f g m ms w e again =
     ])
 
 -- two tests that differ only where nothing happens to the cell
-pub same_effects : (p : Program) (c : Cell) (f g : Moment → Bool) (ms : List Moment) (w : Option Worth) → AllByRecursion (λ (m : Moment). writes (mode_at p m.event c) ≡ true → f m ≡ g m) ms → changed_by p c w (filter f ms) ≡ changed_by p c w (filter g ms)
-same_effects p c f g [] w all = refl
-same_effects p c f g (m ∷ ms) w all =
+pub same_effects : UnwrittenKeeps → (p : Program) (c : Cell) (f g : Moment → Bool) (ms : List Moment) (w : Option Worth) → AllByRecursion (λ (m : Moment). writes (mode_at p m.event c) ≡ true → f m ≡ g m) ms → changed_by p c w (filter f ms) ≡ changed_by p c w (filter g ms)
+same_effects idle p c f g [] w all = refl
+same_effects idle p c f g (m ∷ ms) w all =
     elim (cases_Bool (writes (mode_at p m.event c))) [
-      | inl write ↦ same_step p c f g m ms w (all.0 write) (λ u. same_effects p c f g ms u all.1)
-      | inr quiet ↦ idle_step p c f m ms w quiet ∙ same_effects p c f g ms w all.1 ∙ sym (idle_step p c g m ms w quiet)
+      | inl write ↦ same_step p c f g m ms w (all.0 write) (λ u. same_effects idle p c f g ms u all.1)
+      | inr quiet ↦ idle_step idle p c f m ms w quiet ∙ same_effects idle p c f g ms w all.1 ∙ sym (idle_step idle p c g m ms w quiet)
     ]
 
 -- a test that chooses nothing
@@ -57,47 +47,36 @@ pub none_chosen : (p : Program) (c : Cell) (f : Moment → Bool) (ms : List Mome
 none_chosen p c f [] w none = refl
 none_chosen p c f (m ∷ ms) w none = ap (λ b. changed_by p c w (cond b (m ∷ filter f ms) (filter f ms))) (none m) ∙ none_chosen p c f ms w none
 
-never_between : (a x : ℕ) → (nat_le a x && nat_lt x a) ≡ false
-never_between a x = grind (arith, common_steps)
-
 pub no_span : (p : Program) (ms : List Moment) (c : Cell) (upto : List ℕ) → span p ms c upto upto ≡ None
 no_span p ms c upto = none_chosen p c (is_between upto upto) ms None (λ m. never_between (slice_index upto m.event.itag.0) m.index)
 
 -- ---- changes that mix into a cell
-module _ (p : Program) (law : IsLawful p) (c : Cell) where
-  abbrev pub Holds : Option Worth → Type 0
-  Holds w = HoldsFamily (slice_get p.families c.family) w
+module _ (laws : LawsBelow) (p : Program) (law : IsLawful p) (c : Cell) where
+  abbrev Holds : Option Worth → Type 0
+  Holds w = MayHold p.families c w
 
   abbrev amount : Moment → Option Worth
   amount m = applied (change_at p c m) None
 
   -- an event that does not need the cell mixes its amount into it
   mixed_in : (m : Moment) (u : Option Worth) → needs (mode_at p m.event c) ≡ false → Holds u → applied (change_at p c m) u ≡ joined_worth u (amount m)
-  mixed_in m u quiet holds = at_mode (mode_at p m.event c) refl quiet
-    where
-      reaches : (l : Option ℤ) → has_sort (slice_get p.families c.family) MaxSort ≡ true → applied (reach l) u ≡ joined_worth u (applied (reach l) None)
-      reaches None sort = sym (joined-none u)
-      reaches (Some v) sort = raised-mixes u v (holds_max (slice_get p.families c.family) u sort holds)
+  mixed_in m u quiet holds = laws.changes_mix p m.before m.event c u quiet holds
 
-      at_mode : (n : Mode) → mode_at p m.event c ≡ n → needs n ≡ false → (let g : Tag = tag_of_itag p m.event.itag in let h = change_by p.families n (actions_of (slice_get p.kinds g.kind)) m.before m.event g.key c in applied h u ≡ joined_worth u (applied h None))
-      at_mode NoMode e q = sym (joined-none u)
-      at_mode AddMode e q =
-          let g : Tag = tag_of_itag p m.event.itag in
-          added-mixes u (amount_added p.families (actions_of (slice_get p.kinds g.kind)) m.before m.event g.key c) (holds_sum (slice_get p.families c.family) u (added_sort p g c e) holds)
-      at_mode RaiseMode e q =
-          let g : Tag = tag_of_itag p m.event.itag in
-          reaches (level_reached p.families (actions_of (slice_get p.kinds g.kind)) m.before m.event g.key c) (raised_sort p g c e)
-      at_mode Own e q = cc
+  no_change : (m : Moment) → writes (mode_at p m.event c) ≡ false → change_at p c m ≡ Keep
+  no_change m quiet = laws.unwritten_keeps p m.before m.event c quiet
 
   -- its amount is nothing where it does not write the cell
   no_amount : (m : Moment) → writes (mode_at p m.event c) ≡ false → amount m ≡ None
-  no_amount m quiet = ap (λ h. applied h None) (unwritten_keeps p m c quiet)
+  no_amount m quiet = ap (λ h. applied h None) (no_change m quiet)
+
+  change_holds : (m : Moment) (u : Option Worth) → IsStateOf p.families m.before → Holds u → Holds (applied (change_at p c m) u)
+  change_holds m u sorted holds = laws.changes_keep_sorts p m.before m.event c u sorted holds
 
   is_mixing : (m : Moment) → writes (mode_at p m.event c) ≡ true → needs (mode_at p m.event c) ≡ false → mixes (mode_at p m.event c) ≡ true
   is_mixing m write quiet = λ i. write i && not (quiet i)
 
   amount_holds : (m : Moment) → IsStateOf p.families m.before → Holds (amount m)
-  amount_holds m sorted = change_holds p c m None sorted (holds_none (slice_get p.families c.family))
+  amount_holds m sorted = change_holds m None sorted tt
 
   grouped : (m : Moment) (u v w : Option Worth) → needs (mode_at p m.event c) ≡ false → writes (mode_at p m.event c) ≡ true → Holds u → Holds v → Holds w → joined_worth (joined_worth u v) w ≡ joined_worth u (joined_worth v w)
   grouped m u v w quiet write hu hv hw = law.mix_groups (tag_of_itag p m.event.itag) c u v w (is_mixing m write quiet) hu hv hw
@@ -109,7 +88,7 @@ module _ (p : Program) (law : IsLawful p) (c : Cell) where
   in_right : (m : Moment) (u v : Option Worth) → IsStateOf p.families m.before → needs (mode_at p m.event c) ≡ false → Holds u → Holds v → applied (change_at p c m) (joined_worth u v) ≡ joined_worth u (applied (change_at p c m) v)
   in_right m u v sorted quiet hu hv =
       elim (cases_Bool (writes (mode_at p m.event c))) [
-        | inr idle ↦ ap (λ h. applied h (joined_worth u v)) (unwritten_keeps p m c idle) ∙ sym (ap (λ h. joined_worth u (applied h v)) (unwritten_keeps p m c idle))
+        | inr idle ↦ ap (λ h. applied h (joined_worth u v)) (no_change m idle) ∙ sym (ap (λ h. joined_worth u (applied h v)) (no_change m idle))
         | inl write ↦
             mixed_in m (joined_worth u v) quiet (law.mix_holds c u v hu hv)
             ∙ grouped m u v (amount m) quiet write hu hv (amount_holds m sorted)
@@ -119,7 +98,7 @@ module _ (p : Program) (law : IsLawful p) (c : Cell) where
   in_left : (m : Moment) (u v : Option Worth) → IsStateOf p.families m.before → needs (mode_at p m.event c) ≡ false → Holds u → Holds v → applied (change_at p c m) (joined_worth u v) ≡ joined_worth (applied (change_at p c m) u) v
   in_left m u v sorted quiet hu hv =
       elim (cases_Bool (writes (mode_at p m.event c))) [
-        | inr idle ↦ ap (λ h. applied h (joined_worth u v)) (unwritten_keeps p m c idle) ∙ sym (ap (λ h. joined_worth (applied h u) v) (unwritten_keeps p m c idle))
+        | inr idle ↦ ap (λ h. applied h (joined_worth u v)) (no_change m idle) ∙ sym (ap (λ h. joined_worth (applied h u) v) (no_change m idle))
         | inl write ↦
             mixed_in m (joined_worth u v) quiet (law.mix_holds c u v hu hv)
             ∙ grouped m u v (amount m) quiet write hu hv (amount_holds m sorted)
@@ -162,12 +141,12 @@ module _ (p : Program) (law : IsLawful p) (c : Cell) where
           | inl new ↦
               let none = apart.0.disjoint new in
               with_choices m ms u v (joined_worth u v) false true true none new (apart.0.whole ∙ (λ i. none i || new i))
-              (blended ms u (applied (change_at p c m) v) apart.1 quiet.1 sorted.1 hu (change_holds p c m v sorted.0 hv)
+              (blended ms u (applied (change_at p c m) v) apart.1 quiet.1 sorted.1 hu (change_holds m v sorted.0 hv)
               ∙ sym (ap (λ w. changed_by p c w (filter all ms)) (in_right m u v sorted.0 (apart.0.quiet new) hu hv)))
           | inr not_new ↦ elim (cases_Bool (old m)) [
             | inl was ↦
                 with_choices m ms u v (joined_worth u v) true false true was not_new (apart.0.whole ∙ (λ i. was i || not_new i))
-                (blended ms (applied (change_at p c m) u) v apart.1 quiet.1 sorted.1 (change_holds p c m u sorted.0 hu) hv
+                (blended ms (applied (change_at p c m) u) v apart.1 quiet.1 sorted.1 (change_holds m u sorted.0 hu) hv
                 ∙ sym (ap (λ w. changed_by p c w (filter all ms)) (in_left m u v sorted.0 (quiet.0 was) hu hv)))
             | inr was_not ↦
                 with_choices m ms u v (joined_worth u v) false false false was_not not_new (apart.0.whole ∙ (λ i. was_not i || not_new i))
@@ -178,7 +157,7 @@ module _ (p : Program) (law : IsLawful p) (c : Cell) where
     -- later mixes may be counted apart
     pub appended : (ms : List Moment) (u : Option Worth) → AllByRecursion (IsApart old extra all) ms → AreOldFirst ms → AllByRecursion (λ (m : Moment). IsStateOf p.families m.before) ms → Holds u
         → joined_worth (changed_by p c u (filter old ms)) (changed_by p c None (filter extra ms)) ≡ changed_by p c u (filter all ms)
-    appended [] u apart first sorted hu = joined-none u
+    appended [] u apart first sorted hu = law.mix_right u
     appended (m ∷ ms) u apart first sorted hu =
         elim (cases_Bool (extra m)) [
           | inl new ↦
@@ -192,12 +171,12 @@ module _ (p : Program) (law : IsLawful p) (c : Cell) where
                 | inr idle ↦
                     ap (λ w. joined_worth (changed_by p c u (filter old ms)) (changed_by p c w (filter extra ms))) (no_amount m idle)
                     ∙ appended ms u apart.1 first.1 sorted.1 hu
-                    ∙ sym (ap (λ h. changed_by p c (applied h u) (filter all ms)) (unwritten_keeps p m c idle))
+                    ∙ sym (ap (λ h. changed_by p c (applied h u) (filter all ms)) (no_change m idle))
               ])
           | inr not_new ↦ elim (cases_Bool (old m)) [
             | inl was ↦
                 with_choices m ms u None u true false true was not_new (apart.0.whole ∙ (λ i. was i || not_new i))
-                (appended ms (applied (change_at p c m) u) apart.1 first.1 sorted.1 (change_holds p c m u sorted.0 hu))
+                (appended ms (applied (change_at p c m) u) apart.1 first.1 sorted.1 (change_holds m u sorted.0 hu))
             | inr was_not ↦
                 with_choices m ms u None u false false false was_not not_new (apart.0.whole ∙ (λ i. was_not i || not_new i))
                 (appended ms u apart.1 first.1 sorted.1 hu)

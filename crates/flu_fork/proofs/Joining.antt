@@ -1,40 +1,36 @@
 -- What fits the two children of a node, with paired counts, comes together to what fits the node.
 use Rattle.std.proofs.Common.{◌≡◌, ◌≤◌, ◌<◌, ℕ, Bool, true, false, cond, Some, None, List, [], ◌∷◌, length, inl, inr, refl, sym, ap, subst, ◌∙◌, arith}
-use Rattle.std.specs.Prelude.{nat_lt, nat_le, ◌&&◌, ◌||◌, slice_get, slice_index}
+use Rattle.std.specs.Prelude.{nat_lt, nat_le, ◌&&◌, ◌||◌, not, slice_index}
 use Rattle.std.specs.List.{AllByRecursion}
-use Rattle.std.proofs.lemmas.Bool.{cases_Bool, cases_lt}
+use Rattle.std.proofs.lemmas.Bool.{cases_Bool, cases_lt, and_left as and_false_left, and_right as and_false_right, le-ltb, not_from_false}
 use Rattle.std.proofs.lemmas.Grind.{common_steps}
 use Rattle.std.proofs.lemmas.List.{get_or_past}
 use Rattle.std.proofs.lemmas.List.FromFn.{length-map-range_with_len}
-use Rattle.flu_lemmas.proofs.Elements.{all_map}
+use Rattle.flu_lemmas.proofs.Elements.{all_map, all_front, all_of_both, all_at_place, all_from_places}
+use Rattle.flu_lemmas.proofs.Numbers.{le_lower, never_between}
 use Rattle.flu_lemmas.proofs.Tests.{and_left, and_right, both, true_le, false_if_not, not_both}
 use Rattle.flu_model.specs.declared.events.Cell.{Cell}
 use Rattle.flu_model.specs.declared.jobs.Program.{Program}
-use Rattle.flu_model.specs.Contents.{Contents, join, joined_worth}
+use Rattle.flu_model.specs.Contents.{Contents, joined_worth}
 use Rattle.flu_model.specs.Itags.{count_of_itags}
 use Rattle.flu_deps.specs.Owned.{kids_at}
+use Rattle.flu_deps.specs.Trees.{Siblings}
 use Rattle.flu_laws.specs.Lots.{depends_on}
 use Rattle.flu_laws.specs.Spans.{Moment, is_below, is_between, value_below, span, AreAtMost}
 use Rattle.flu_laws.specs.Uses.{needs, writes, mode_at}
-use Rattle.flu_laws.proofs.Algebra.{joined-none}
-use Rattle.flu_laws.proofs.General.{and_false_left, and_false_right, lt_false, all_front, all_of_both}
-use Rattle.flu_laws.proofs.Keeping.{holds_none}
 use Rattle.flu_fork.specs.Settings.{Setting, IsSetting, events_at, moments}
-use Rattle.flu_fork.specs.Classes.{below, is_owned, is_base, is_away}
+use Rattle.flu_fork.specs.LawsBelow.{LawsBelow}
+use Rattle.flu_fork.specs.Classes.{below, is_needed, is_moved, is_copied, is_base, is_away}
 use Rattle.flu_fork.specs.Fitting.{IsPrefix, Fits}
-use Rattle.flu_fork.specs.Parts.{joined_counts, ArePaired}
+use Rattle.flu_fork.specs.Parts.{joined_state, joined_counts, ArePaired}
 use Rattle.flu_fork.specs.Laws.{JoinsFit}
-use Rattle.flu_fork.proofs.General.{not_false, all_at_place, all_from_places}
-use Rattle.flu_fork.proofs.Sides.{AreSiblings, left_and_right, right_and_left, not_below_both, across}
-use Rattle.flu_fork.proofs.Cells.{some_there, lawful, uses_depend, away_unwritten, left_base, right_base, owned_is_base_up, away_kid, owned_away, away_cases}
+use Rattle.flu_fork.proofs.Sides.{left_and_right, right_and_left, not_below_both, across}
+use Rattle.flu_fork.proofs.Cells.{some_there, moved_if_written, moved_not_copied, copied_not_moved, not_needed_not_moved, not_needed_not_copied, lawful, uses_depend, away_unwritten, left_base, right_base, needed_is_base_up, not_base_down, away_kid, away_up, needed_away, copied_unwritten_right}
 use Rattle.flu_fork.proofs.Moments.{moments_in_range, moments_sorted}
 use Rattle.flu_fork.proofs.Effects.{same_effects, IsApart, AreOldFirst, appended}
 use Rattle.flu_fork.proofs.Forking.{counts_at}
 
 -- ---- tests of numbers
-never : (a x : ℕ) → (nat_le a x && nat_lt x a) ≡ false
-never a x = grind (arith, common_steps)
-
 -- below the later number is below the earlier one, or between them
 split_below : (x a b : ℕ) → a ≤ b → nat_lt x b ≡ (nat_lt x a || (nat_le a x && nat_lt x b))
 split_below x a b le = grind (arith, common_steps)
@@ -42,9 +38,6 @@ split_below x a b le = grind (arith, common_steps)
 or_nothing : (a b : Bool) → b ≡ false → a ≡ (a || b)
 or_nothing true b e = refl
 or_nothing false b e = sym e
-
-le_lower : (a b x : ℕ) → a ≤ b → nat_le b x ≡ true → nat_le a x ≡ true
-le_lower a b x le e = grind (arith, common_steps)
 
 -- a condition that all of the second choice meets
 met_by_second : (a b e : Bool) → (e ≡ true → a ≡ true) → (a && (b || e)) ≡ ((a && b) || e)
@@ -59,7 +52,8 @@ same_below us vs m e = ap (nat_lt m.index) e
 prefix_rest : (p : Program) (m : Moment) (ms : List Moment) (upto : List ℕ) → IsPrefix p (m ∷ ms) upto → IsPrefix p ms upto
 prefix_rest p m ms upto prefix = λ before after q split counted. (prefix (m ∷ before) after q (ap (λ us. m ∷ us) split) counted).1
 
-module _ (k : Setting) (w left right : ℕ) (s t : Contents) (left_since left_upto right_since right_upto : List ℕ) (ok : IsSetting k) (there : w < length k.nodes) (kids : kids_at k.nodes w ≡ Some (left, right))
+module _ (laws : LawsBelow) (k : Setting) (w left right : ℕ) (s t : Contents) (left_since left_upto right_since right_upto : List ℕ)
+    (ok : IsSetting k) (there : w < length k.nodes) (kids : kids_at k.nodes w ≡ Some (left, right))
     (left_fits : Fits k left s left_since left_upto) (right_fits : Fits k right t right_since right_upto) (paired : ArePaired k.program k.nodes left right left_since left_upto right_since right_upto) where
   abbrev upto : List ℕ
   upto = joined_counts k.program k.nodes right left_upto right_upto
@@ -71,13 +65,13 @@ module _ (k : Setting) (w left right : ℕ) (s t : Contents) (left_since left_up
   in_right i = below k.program k.nodes right i
 
   abbrev goes : Cell → Bool
-  goes c = is_owned k.program (below k.program k.nodes right) c
+  goes c = is_needed k.program (below k.program k.nodes right) c
 
-  by_left : AreSiblings k ok w left right
-  by_left = left_and_right k ok w left right kids
+  by_left : Siblings k.nodes w left right
+  by_left = left_and_right laws k ok w left right kids
 
-  by_right : AreSiblings k ok w right left
-  by_right = right_and_left k ok w left right kids
+  by_right : Siblings k.nodes w right left
+  by_right = right_and_left laws k ok w left right kids
 
   -- ---- the joined counts
   past_end : (us : List ℕ) (i : ℕ) → length us ≡ count_of_itags k.program → count_of_itags k.program ≤ i → slice_index us i ≡ 0
@@ -112,10 +106,10 @@ module _ (k : Setting) (w left right : ℕ) (s t : Contents) (left_since left_up
       ]
 
   right_not_left : (i : ℕ) → in_right i ≡ true → in_left i ≡ false
-  right_not_left i e = not_below_both k ok w right left i by_right e
+  right_not_left i e = not_below_both laws k ok w right left i by_right e
 
   left_not_right : (i : ℕ) → in_left i ≡ true → in_right i ≡ false
-  left_not_right i e = not_below_both k ok w left right i by_left e
+  left_not_right i e = not_below_both laws k ok w left right i by_left e
 
   since_first : AreAtMost left_since upto
   since_first i =
@@ -138,15 +132,15 @@ module _ (k : Setting) (w left right : ℕ) (s t : Contents) (left_since left_up
   -- dependent itags are not below different children
   not_across : (m q : Moment) → InRange m → InRange q → depends_on k.program m q ≡ true → in_left m.event.itag.0 ≡ true → in_right q.event.itag.0 ≡ false
   unfolding InRange
-  not_across m q hm hq d e = false_if_not _ (λ h. not_both _ d (across k ok w left right m.event.itag.0 q.event.itag.0 by_left hm hq e h))
+  not_across m q hm hq d e = false_if_not _ (λ h. not_both _ d (across laws k ok w left right m.event.itag.0 q.event.itag.0 by_left hm hq e h))
 
   not_across_back : (m q : Moment) → InRange m → InRange q → depends_on k.program m q ≡ true → in_right m.event.itag.0 ≡ true → in_left q.event.itag.0 ≡ false
   unfolding InRange
-  not_across_back m q hm hq d e = false_if_not _ (λ h. not_both _ d (across k ok w right left m.event.itag.0 q.event.itag.0 by_right hm hq e h))
+  not_across_back m q hm hq d e = false_if_not _ (λ h. not_both _ d (across laws k ok w right left m.event.itag.0 q.event.itag.0 by_right hm hq e h))
 
   all_in_range : AllByRecursion InRange (moments k)
   unfolding InRange
-  all_in_range = moments_in_range k ok
+  all_in_range = moments_in_range laws k ok
 
   counted_before : List ℕ → Moment → Moment → Type 0
   counted_before us m q = depends_on k.program m q ≡ true → is_below us q ≡ true
@@ -186,7 +180,7 @@ module _ (k : Setting) (w left right : ℕ) (s t : Contents) (left_since left_up
   new_is_right m new =
       elim (cases_Bool (in_right m.event.itag.0)) [
         | inl h ↦ h
-        | inr h ↦ absurd (not_both _ new (ap (λ n. nat_le (slice_index right_since m.event.itag.0) m.index && nat_lt m.index n) (paired.right_outside m.event.itag.0 h) ∙ never (slice_index right_since m.event.itag.0) m.index))
+        | inr h ↦ absurd (not_both _ new (ap (λ n. nat_le (slice_index right_since m.event.itag.0) m.index && nat_lt m.index n) (paired.right_outside m.event.itag.0 h) ∙ never_between (slice_index right_since m.event.itag.0) m.index))
       ]
 
   new_is_not_old : (m : Moment) → is_new m ≡ true → is_below left_upto m ≡ false
@@ -194,7 +188,7 @@ module _ (k : Setting) (w left right : ℕ) (s t : Contents) (left_since left_up
       let i = m.event.itag.0 in
       let same : slice_index left_upto i ≡ slice_index right_since i = paired.left_outside i (right_not_left i (new_is_right m new)) in
       let least : slice_index right_since i ≤ m.index = true_le (slice_index right_since i) m.index (and_left _ _ new) in
-      lt_false m.index (slice_index left_upto i) (omega arith)
+      le-ltb m.index (slice_index left_upto i) (omega arith)
 
   all_or_new : (m : Moment) → is_below upto m ≡ (is_below left_upto m || is_new m)
   all_or_new m =
@@ -207,7 +201,7 @@ module _ (k : Setting) (w left right : ℕ) (s t : Contents) (left_since left_up
             ∙ sym (ap (λ n. nat_lt m.index n || is_new m) same)
         | inr h ↦
             same_below upto left_upto m (upto_left i h)
-            ∙ or_nothing (is_below left_upto m) (is_new m) (ap (λ n. nat_le (slice_index right_since i) m.index && nat_lt m.index n) (paired.right_outside i h) ∙ never (slice_index right_since i) m.index)
+            ∙ or_nothing (is_below left_upto m) (is_new m) (ap (λ n. nat_le (slice_index right_since i) m.index && nat_lt m.index n) (paired.right_outside i h) ∙ never_between (slice_index right_since i) m.index)
       ]
 
   between_or_new : (m : Moment) → is_between left_since upto m ≡ (is_between left_since left_upto m || is_new m)
@@ -223,7 +217,7 @@ module _ (k : Setting) (w left right : ℕ) (s t : Contents) (left_since left_up
     new_is_quiet m lt new = false_if_not _ (λ h. not_both _ (some_there k.program needs (below k.program k.nodes right) c m.event.itag.0 lt (new_is_right m new) h) stays)
 
     abbrev Apart : (Moment → Bool) → (Moment → Bool) → Moment → Type 0
-    Apart old all m = IsApart k.program (lawful k ok) c old is_new all m
+    Apart old all m = IsApart laws k.program (lawful laws k ok) c old is_new all m
 
     values_apart : AllByRecursion (Apart (is_below left_upto) (is_below upto)) (moments k)
     values_apart = all_map InRange (Apart (is_below left_upto) (is_below upto)) (moments k) (λ m lt. record { disjoint = new_is_not_old m; whole = all_or_new m; quiet = new_is_quiet m lt }) all_in_range
@@ -235,10 +229,10 @@ module _ (k : Setting) (w left right : ℕ) (s t : Contents) (left_since left_up
 
     needs_depend : (q n : Moment) → InRange q → InRange n → needs (mode_at k.program q.event c) ≡ true → writes (mode_at k.program n.event c) ≡ true → depends_on k.program q n ≡ true
     unfolding InRange
-    needs_depend q n hq hn need write = uses_depend k ok q.event.itag.0 n.event.itag.0 c hq hn need write
+    needs_depend q n hq hn need write = uses_depend laws k ok q.event.itag.0 n.event.itag.0 c hq hn need write
 
     -- an old event that needs the cell comes before each new one that writes it
-    old_first : (old all : Moment → Bool) → ((m : Moment) → old m ≡ true → is_below left_upto m ≡ true) → (ms : List Moment) → AllByRecursion InRange ms → IsPrefix k.program ms left_upto → AreOldFirst k.program (lawful k ok) c old is_new all ms
+    old_first : (old all : Moment → Bool) → ((m : Moment) → old m ≡ true → is_below left_upto m ≡ true) → (ms : List Moment) → AllByRecursion InRange ms → IsPrefix k.program ms left_upto → AreOldFirst laws k.program (lawful laws k ok) c old is_new all ms
     unfolding InRange
     old_first old all counted [] in_range prefix = tt
     old_first old all counted (m ∷ ms) in_range prefix = (
@@ -251,73 +245,114 @@ module _ (k : Setting) (w left right : ℕ) (s t : Contents) (left_since left_up
 
     values_add : joined_worth (value_below k.program (moments k) (k.opening c) c left_upto) (span k.program (moments k) c right_since right_upto) ≡ value_below k.program (moments k) (k.opening c) c upto
     values_add =
-        appended k.program (lawful k ok) c (is_below left_upto) is_new (is_below upto) (moments k) (k.opening c) values_apart
-        (old_first (is_below left_upto) (is_below upto) (λ m e. e) (moments k) all_in_range left_fits.prefix) (moments_sorted k ok) (ok.opening_sorts c)
+        appended laws k.program (lawful laws k ok) c (is_below left_upto) is_new (is_below upto) (moments k) (k.opening c) values_apart
+        (old_first (is_below left_upto) (is_below upto) (λ m e. e) (moments k) all_in_range left_fits.prefix) (moments_sorted laws k ok) (ok.opening_sorts c)
 
     spans_add : joined_worth (span k.program (moments k) c left_since left_upto) (span k.program (moments k) c right_since right_upto) ≡ span k.program (moments k) c left_since upto
     spans_add =
-        appended k.program (lawful k ok) c (is_between left_since left_upto) is_new (is_between left_since upto) (moments k) None spans_apart
-        (old_first (is_between left_since left_upto) (is_between left_since upto) (λ m e. and_right _ _ e) (moments k) all_in_range left_fits.prefix) (moments_sorted k ok) (holds_none (slice_get k.program.families c.family))
+        appended laws k.program (lawful laws k ok) c (is_between left_since left_upto) is_new (is_between left_since upto) (moments k) None spans_apart
+        (old_first (is_between left_since left_upto) (is_between left_since upto) (λ m e. and_right _ _ e) (moments k) all_in_range left_fits.prefix) (moments_sorted laws k ok) tt
 
   -- ---- cells
   -- where no itag below the right child writes the cell, the counts of the left part say all of it; and the other way round
   value_by_left : (c : Cell) → ((m : Moment) → InRange m → in_right m.event.itag.0 ≡ true → writes (mode_at k.program m.event c) ≡ false) → value_below k.program (moments k) (k.opening c) c left_upto ≡ value_below k.program (moments k) (k.opening c) c upto
   value_by_left c quiet =
-      same_effects k.program c (is_below left_upto) (is_below upto) (moments k) (k.opening c)
+      same_effects laws.unwritten_keeps k.program c (is_below left_upto) (is_below upto) (moments k) (k.opening c)
       (all_map InRange (λ (m : Moment). writes (mode_at k.program m.event c) ≡ true → is_below left_upto m ≡ is_below upto m) (moments k)
       (λ m lt write. same_below left_upto upto m (sym (upto_left m.event.itag.0 (false_if_not _ (λ h. not_both _ write (quiet m lt h)))))) all_in_range)
 
   value_by_right : (c : Cell) → ((m : Moment) → InRange m → in_left m.event.itag.0 ≡ true → writes (mode_at k.program m.event c) ≡ false) → value_below k.program (moments k) (k.opening c) c right_upto ≡ value_below k.program (moments k) (k.opening c) c upto
   value_by_right c quiet =
-      same_effects k.program c (is_below right_upto) (is_below upto) (moments k) (k.opening c)
+      same_effects laws.unwritten_keeps k.program c (is_below right_upto) (is_below upto) (moments k) (k.opening c)
       (all_map InRange (λ (m : Moment). writes (mode_at k.program m.event c) ≡ true → is_below right_upto m ≡ is_below upto m) (moments k)
       (λ m lt write. same_below right_upto upto m (sym (upto_not_left m.event.itag.0 (false_if_not _ (λ h. not_both _ write (quiet m lt h)))))) all_in_range)
 
-  right_not_base : (c : Cell) → goes c ≡ false → is_base k.program k.nodes right c ≡ false
-  right_not_base c stays = right_base k ok w left right c kids ∙ and_false_right _ _ stays
+  -- ---- the joined state, without the copies in the right part
+  abbrev copies : Cell → Bool
+  copies c = is_copied k.program in_right c
 
-  joined_base : (c : Cell) → is_base k.program k.nodes w c ≡ true → join s t c ≡ value_below k.program (moments k) (k.opening c) c upto
+  abbrev joined : Contents
+  joined = joined_state k.program k.nodes right s t
+
+  with_copy : (c : Cell) → copies c ≡ true → joined c ≡ s c
+  with_copy c h = ap (λ b. joined_worth (s c) (cond b None (t c))) h ∙ (lawful laws k ok).mix_right (s c)
+
+  without_copy : (c : Cell) → copies c ≡ false → joined c ≡ joined_worth (s c) (t c)
+  without_copy c h = ap (λ b. joined_worth (s c) (cond b None (t c))) h
+
+  right_not_base : (c : Cell) → goes c ≡ false → is_base k.program k.nodes right c ≡ false
+  right_not_base c stays = right_base laws k ok w left right c kids ∙ and_false_right _ _ stays
+
+  -- a cell that is not moved is base at the left child
+  base_of_left : (c : Cell) → is_base k.program k.nodes w c ≡ true → is_moved k.program in_right c ≡ false
+      → s c ≡ value_below k.program (moments k) (k.opening c) c left_upto
+  base_of_left c base stays = left_fits.cells.base c (left_base laws k ok w left right c kids ∙ both _ _ base (not_from_false _ stays))
+
+  -- a moved one is at the right child alone
+  moved_base : (c : Cell) → is_base k.program k.nodes w c ≡ true → is_moved k.program in_right c ≡ true
+      → joined c ≡ value_below k.program (moments k) (k.opening c) c upto
   unfolding InRange
+  moved_base c base moved =
+      let need : goes c ≡ true = and_left _ _ moved in
+      let gone : is_base k.program k.nodes left c ≡ false = left_base laws k ok w left right c kids ∙ and_false_right _ _ (ap not moved) in
+      let away : is_away k.program k.nodes left c ≡ true = needed_away laws k ok w left right c by_left gone need in
+      without_copy c (moved_not_copied k.program in_right c moved)
+      ∙ ap (λ x. joined_worth x (t c)) (left_fits.cells.away c away)
+      ∙ right_fits.cells.base c (right_base laws k ok w left right c kids ∙ both _ _ base need)
+      ∙ value_by_right c (λ m lt inside. away_unwritten laws k ok left m.event.itag.0 c lt inside away)
+
+  copied_base : (c : Cell) → is_base k.program k.nodes w c ≡ true → copies c ≡ true → joined c ≡ value_below k.program (moments k) (k.opening c) c upto
+  unfolding InRange
+  copied_base c base copied =
+      with_copy c copied
+      ∙ base_of_left c base (copied_not_moved k.program in_right c copied)
+      ∙ value_by_left c (λ m lt inside. copied_unwritten_right laws k ok right m.event.itag.0 c lt copied inside)
+
+  kept_base : (c : Cell) → is_base k.program k.nodes w c ≡ true → goes c ≡ false → joined c ≡ value_below k.program (moments k) (k.opening c) c upto
+  unfolding InRange
+  kept_base c base stays =
+      let left_is = base_of_left c base (not_needed_not_moved k.program in_right c stays) in
+      without_copy c (not_needed_not_copied k.program in_right c stays)
+      ∙ (elim (cases_Bool (is_away k.program k.nodes right c)) [
+        | inl away ↦
+            ap (joined_worth (s c)) (right_fits.cells.away c away)
+            ∙ (lawful laws k ok).mix_right (s c)
+            ∙ left_is
+            ∙ value_by_left c (λ m lt inside. away_unwritten laws k ok right m.event.itag.0 c lt inside away)
+        | inr here ↦
+            (λ i. joined_worth (left_is i) (right_fits.cells.rest c (right_not_base c stays) here i))
+            ∙ values_add c stays
+      ])
+
+  joined_base : (c : Cell) → is_base k.program k.nodes w c ≡ true → joined c ≡ value_below k.program (moments k) (k.opening c) c upto
   joined_base c base =
       elim (cases_Bool (goes c)) [
-        | inl needed ↦
-            let away : is_away k.program k.nodes left c ≡ true = owned_away k ok w left right c by_left needed in
-            ap (λ x. joined_worth x (t c)) (left_fits.cells.away c away)
-            ∙ right_fits.cells.base c (right_base k ok w left right c kids ∙ both _ _ base needed)
-            ∙ value_by_right c (λ m lt inside. away_unwritten k ok left m.event.itag.0 c lt inside away)
-        | inr stays ↦
-            let left_is : s c ≡ value_below k.program (moments k) (k.opening c) c left_upto = left_fits.cells.base c (left_base k ok w left right c kids ∙ both _ _ base (not_false _ stays)) in
-            elim (cases_Bool (is_away k.program k.nodes right c)) [
-              | inl away ↦
-                  ap (joined_worth (s c)) (right_fits.cells.away c away)
-                  ∙ joined-none (s c)
-                  ∙ left_is
-                  ∙ value_by_left c (λ m lt inside. away_unwritten k ok right m.event.itag.0 c lt inside away)
-              | inr here ↦
-                  (λ i. joined_worth (left_is i) (right_fits.cells.rest c (right_not_base c stays) here i))
-                  ∙ values_add c stays
-            ]
+        | inr stays ↦ kept_base c base stays
+        | inl need ↦ elim (cases_Bool (copies c)) [
+          | inl copied ↦ copied_base c base copied
+          | inr alone ↦ moved_base c base (moved_if_written k.program in_right c need alone)
+        ]
       ]
 
-  joined_away : (c : Cell) → is_away k.program k.nodes w c ≡ true → join s t c ≡ None
-  joined_away c away = λ i. joined_worth (left_fits.cells.away c (away_kid k ok w left right c by_left away) i) (right_fits.cells.away c (away_kid k ok w right left c by_right away) i)
+  joined_away : (c : Cell) → is_away k.program k.nodes w c ≡ true → joined c ≡ None
+  joined_away c away =
+      let none : s c ≡ None = left_fits.cells.away c (away_kid laws k ok w left right c by_left away) in
+      elim (cases_Bool (copies c)) [
+        | inl copied ↦ with_copy c copied ∙ none
+        | inr alone ↦ without_copy c alone ∙ (λ i. joined_worth (none i) (right_fits.cells.away c (away_kid laws k ok w right left c by_right away) i))
+      ]
 
-  joined_rest : (c : Cell) → is_base k.program k.nodes w c ≡ false → is_away k.program k.nodes w c ≡ false → join s t c ≡ span k.program (moments k) c left_since upto
+  joined_rest : (c : Cell) → is_base k.program k.nodes w c ≡ false → is_away k.program k.nodes w c ≡ false → joined c ≡ span k.program (moments k) c left_since upto
   joined_rest c not_base here =
-      let stays : goes c ≡ false = false_if_not _ (λ h. not_both _ (owned_is_base_up k ok w right left c by_right h) not_base) in
-      let left_not_base : is_base k.program k.nodes left c ≡ false = left_base k ok w left right c kids ∙ and_false_left _ _ not_base in
-      let left_here : is_away k.program k.nodes left c ≡ false = false_if_not _ (λ h. (elim (away_cases k ok w left right c by_left h) [
-        | inl up ↦ not_both _ up here
-        | inr owned ↦ not_both _ owned stays
-      ])) in
-      let right_here : is_away k.program k.nodes right c ≡ false = false_if_not _ (λ h. (elim (away_cases k ok w right left c by_right h) [
-        | inl up ↦ not_both _ up here
-        | inr owned ↦ not_both _ (owned_is_base_up k ok w left right c by_left owned) not_base
-      ])) in
-      (λ i. joined_worth (left_fits.cells.rest c left_not_base left_here i) (right_fits.cells.rest c (right_not_base c stays) right_here i))
+      let stays : goes c ≡ false = false_if_not _ (λ h. not_both _ (needed_is_base_up laws k ok w right left c by_right h) not_base) in
+      let left_not_base : is_base k.program k.nodes left c ≡ false = not_base_down laws k ok w left right c by_left not_base in
+      let left_here : is_away k.program k.nodes left c ≡ false = false_if_not _ (λ h. not_both _ (away_up laws k ok w left right c by_left not_base h) here) in
+      let right_here : is_away k.program k.nodes right c ≡ false = false_if_not _ (λ h. not_both _ (away_up laws k ok w right left c by_right not_base h) here) in
+      without_copy c (not_needed_not_copied k.program in_right c stays)
+      ∙ (λ i. joined_worth (left_fits.cells.rest c left_not_base left_here i) (right_fits.cells.rest c (right_not_base c stays) right_here i))
       ∙ spans_add c stays
 
-  joined_fits : Fits k w (join s t) left_since upto
+  joined_fits : Fits k w joined left_since upto
   joined_fits = record {
     since_each = left_fits.since_each;
     upto_each = upto_each;
@@ -327,5 +362,6 @@ module _ (k : Setting) (w left right : ℕ) (s t : Contents) (left_since left_up
     cells = record { base = joined_base; away = joined_away; rest = joined_rest };
   }
 
-pub joins_law : JoinsFit
-joins_law k w left right s t left_since left_upto right_since right_upto ok there kids left_fits right_fits paired = joined_fits k w left right s t left_since left_upto right_since right_upto ok there kids left_fits right_fits paired
+pub joins_law : LawsBelow → JoinsFit
+joins_law laws k w left right s t left_since left_upto right_since right_upto ok there kids left_fits right_fits paired =
+    joined_fits laws k w left right s t left_since left_upto right_since right_upto ok there kids left_fits right_fits paired

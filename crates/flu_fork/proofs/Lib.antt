@@ -1,7 +1,4 @@
-pub mod General
 pub mod Turns
-pub mod Trees
-pub mod Within
 pub mod Sides
 pub mod Cells
 pub mod Moments
@@ -11,3 +8,4 @@ pub mod Effects
 pub mod Forking
 pub mod Joining
 pub mod LotLemmas
+pub mod GatheringLemmas

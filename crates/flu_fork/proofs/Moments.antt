@@ -4,7 +4,8 @@ use Rattle.std.specs.Prelude.{nat_lt, ◌==◌, slice_index_or}
 use Rattle.std.specs.List.{AllByRecursion}
 use Rattle.std.proofs.lemmas.Bool.{cases_eq, ne_eqb}
 use Rattle.flu_lemmas.specs.Totals.{total}
-use Rattle.flu_lemmas.proofs.Elements.{all_map}
+use Rattle.flu_lemmas.proofs.Elements.{all_map, all_append}
+use Rattle.flu_lemmas.proofs.Mapped.{all_of_mapped}
 use Rattle.flu_lemmas.proofs.Searches.{eq_true}
 use Rattle.flu_lemmas.proofs.Sorting.{in_order-permutation}
 use Rattle.flu_lemmas.proofs.Tests.{and_left, and_right, true_eq, true_lt, lt_true}
@@ -20,10 +21,9 @@ use Rattle.flu_model.specs.Sorts.{IsStateOf}
 use Rattle.flu_model.specs.Streaming.{is_stream_from, are_streams}
 use Rattle.flu_model.specs.Updates.{effect_of}
 use Rattle.flu_laws.specs.Spans.{Moment, history}
-use Rattle.flu_laws.proofs.Histories.{PlacesRise, places_rise, in_range}
-use Rattle.flu_laws.proofs.Updating.{keeps_sorts}
+use Rattle.flu_laws.specs.Updating.{KeepsSorts}
+use Rattle.flu_fork.specs.LawsBelow.{LawsBelow}
 use Rattle.flu_fork.specs.Settings.{Setting, IsSetting, events_at, moments}
-use Rattle.flu_fork.proofs.General.{all_append}
 
 -- ---- the itags of events
 -- the events of a stream are of its itag
@@ -109,11 +109,13 @@ indices_less p s seen (x ∷ xs) = (
         ]
 
 -- the states before the moments hold values of the job's sorts
-sorted_before : (p : Program) (s : Contents) (seen : ℕ → ℕ) (xs : List Event) → IsStateOf p.families s → AllByRecursion (λ (m : Moment). IsStateOf p.families m.before) (history p s seen xs)
-sorted_before p s seen [] sorted = tt
-sorted_before p s seen (x ∷ xs) sorted = (sorted, sorted_before p (effect_of p s x).cells (λ i. cond (i == x.itag.0) (seen i + 1) (seen i)) xs (keeps_sorts p s x sorted))
+sorted_before : KeepsSorts → (p : Program) (s : Contents) (seen : ℕ → ℕ) (xs : List Event) → IsStateOf p.families s
+    → AllByRecursion (λ (m : Moment). IsStateOf p.families m.before) (history p s seen xs)
+sorted_before keeps p s seen [] sorted = tt
+sorted_before keeps p s seen (x ∷ xs) sorted =
+    (sorted, sorted_before keeps p (effect_of p s x).cells (λ i. cond (i == x.itag.0) (seen i + 1) (seen i)) xs (keeps p s x sorted))
 
-module _ (k : Setting) (ok : IsSetting k) where
+module _ (laws : LawsBelow) (k : Setting) (ok : IsSetting k) where
   pub events_in_range : AllByRecursion (λ (x : Event). x.itag.0 < count_of_itags k.program) (merged k.lists)
   events_in_range =
       all_map (λ (x : Event). nat_lt x.itag.0 (count_of_itags k.program) ≡ true) (λ (x : Event). x.itag.0 < count_of_itags k.program) (merged k.lists)
@@ -122,13 +124,12 @@ module _ (k : Setting) (ok : IsSetting k) where
       (streams_in_range 0 (count_of_itags k.program) k.lists (let one = ok.one_each in omega arith) ok.streams))
 
   pub moments_in_range : AllByRecursion (λ (m : Moment). m.event.itag.0 < count_of_itags k.program) (moments k)
-  moments_in_range = in_range (count_of_itags k.program) k.program k.opening (λ i. 0) (merged k.lists) events_in_range
+  moments_in_range =
+      all_of_mapped (λ (x : Event). x.itag.0 < count_of_itags k.program) (λ (m : Moment). m.event) (moments k)
+      (subst (AllByRecursion (λ (x : Event). x.itag.0 < count_of_itags k.program)) (sym (laws.of_events k.program k.opening (λ i. 0) (merged k.lists))) events_in_range)
 
   pub moments_sorted : AllByRecursion (λ (m : Moment). IsStateOf k.program.families m.before) (moments k)
-  moments_sorted = sorted_before k.program k.opening (λ i. 0) (merged k.lists) ok.opening_sorts
-
-  pub moments_rise : PlacesRise (moments k)
-  moments_rise = places_rise k.program k.opening (λ i. 0) (merged k.lists)
+  moments_sorted = sorted_before laws.keeps_sorts k.program k.opening (λ i. 0) (merged k.lists) ok.opening_sorts
 
   all_counted : (i : ℕ) → total (one_of i) (merged k.lists) ≡ length (events_at k i)
   all_counted i =

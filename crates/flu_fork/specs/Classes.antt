@@ -41,23 +41,24 @@ abbrev pub some_has : Program → (Mode → Bool) → Itags → Cell → Bool
 some_has p test set c = list_any (λ i. set i && test (mode_by p i c)) (range_with_len 0 (count_of_itags p))
 
 -- some itag of the set needs the cell
-abbrev pub is_owned : Program → Itags → Cell → Bool
-is_owned p set c = some_has p needs set c
+abbrev pub is_needed : Program → Itags → Cell → Bool
+is_needed p set c = some_has p needs set c
 
 -- a cell that some itag of a child's subtree needs is moved to it where some itag there writes it, and is copied to it where none does
 abbrev pub is_moved : Program → Itags → Cell → Bool
-is_moved p set c = is_owned p set c && some_has p writes set c
+is_moved p set c = is_needed p set c && some_has p writes set c
 
 abbrev pub is_copied : Program → Itags → Cell → Bool
-is_copied p set c = is_owned p set c && not (some_has p writes set c)
+is_copied p set c = is_needed p set c && not (some_has p writes set c)
 
 -- ---- the classes
 
--- of a cell that is base at their parent: it is base at the right child where some itag below that one needs it, and at the left one where it is not moved to the right
+-- of a cell that is base at their parent: it is base at the right child where it is moved or copied to it, so where some itag below that one needs it,
+-- and at the left one where it is not moved to the right
 abbrev pub is_base_at_child : Program → List Node → ℕ → Option (ℕ × ℕ) → Cell → Bool
 is_base_at_child p nodes w None c = true
 is_base_at_child p nodes w (Some kids) c =
-    if kids.0 == w then not (is_moved p (below p nodes kids.1) c) else is_owned p (below p nodes kids.1) c
+    if kids.0 == w then not (is_moved p (below p nodes kids.1) c) else is_needed p (below p nodes kids.1) c
 
 -- a cell is base at the first node of a path from it up to the root
 abbrev pub is_base_on : Program → List Node → List ℕ → Cell → Bool
@@ -69,6 +70,6 @@ is_base_on p nodes (w ∷ u ∷ up) c = is_base_on p nodes (u ∷ up) c && is_ba
 abbrev pub is_base : Program → List Node → ℕ → Cell → Bool
 is_base p nodes w c = is_base_on p nodes (path_up nodes w) c
 
--- a cell is away where some itag of an unrelated node needs it
+-- a cell is away where it is not base and some itag of an unrelated node needs it
 abbrev pub is_away : Program → List Node → ℕ → Cell → Bool
-is_away p nodes w c = is_owned p (beside p nodes w) c
+is_away p nodes w c = not (is_base p nodes w c) && is_needed p (beside p nodes w) c

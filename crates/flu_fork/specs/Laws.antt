@@ -1,41 +1,54 @@
 -- What holds of every lot that fits.
-use Rattle.std.specs.Prelude.{◌≡◌, ◌<◌, ℕ, true, false, Some, List, ◌∷◌, ◌++◌, length, map}
+use Rattle.std.specs.Prelude.{◌≡◌, ◌<◌, ℕ, true, false, ◌||◌, Some, List, ◌∷◌, ◌++◌, length, map}
 use Rattle.std.specs.List.{range_with_len}
 use Rattle.flu_model.specs.declared.events.Cell.{Cell}
 use Rattle.flu_model.specs.declared.jobs.Program.{Program}
-use Rattle.flu_model.specs.Contents.{Contents, join}
+use Rattle.flu_model.specs.Contents.{Contents}
 use Rattle.flu_model.specs.Itags.{count_of_itags}
 use Rattle.flu_model.specs.Owners.{owner_of}
 use Rattle.flu_model.specs.Sorts.{IsStateOf}
 use Rattle.flu_model.specs.Updates.{effect_of}
 use Rattle.flu_deps.specs.Owned.{kids_at}
-use Rattle.flu_laws.specs.Uses.{needs}
+use Rattle.flu_laws.specs.Uses.{needs, writes}
 use Rattle.flu_laws.specs.Spans.{Moment}
 use Rattle.flu_laws.specs.Lots.{IsExact, CountsOneMore}
 use Rattle.flu_fork.specs.Settings.{Setting, IsSetting, moments}
 use Rattle.flu_fork.specs.Classes.{Itags, below, mode_by, is_base, is_away, is_copied}
 use Rattle.flu_fork.specs.Fitting.{Fits}
-use Rattle.flu_fork.specs.Parts.{left_part, right_part, joined_counts, ArePaired}
+use Rattle.flu_fork.specs.Parts.{left_part, right_part, joined_state, joined_counts, ArePaired}
 
 -- ---- classes
 
--- as the language is, an itag that needs a cell may write it too, so nothing is copied
+-- in version 1 of the language an itag that needs a cell may write it too, so nothing is copied
 abbrev pub NothingIsCopied : Type 0
-NothingIsCopied = (p : Program) (set : Itags) (c : Cell) → is_copied p set c ≡ false
+NothingIsCopied = (p : Program) (set : Itags) (c : Cell) → p.version ≡ 1 → is_copied p set c ≡ false
 
 -- a cell that an itag of a node's subtree needs is base there
 abbrev pub NeededIsBase : Type 0
-NeededIsBase = (k : Setting) (w i : ℕ) (c : Cell) → IsSetting k → w < length k.nodes → i < count_of_itags k.program → below k.program k.nodes w i ≡ true → needs (mode_by k.program i c) ≡ true → is_base k.program k.nodes w c ≡ true
+NeededIsBase =
+    (k : Setting) (w i : ℕ) (c : Cell) → IsSetting k → w < length k.nodes → i < count_of_itags k.program
+    → below k.program k.nodes w i ≡ true → needs (mode_by k.program i c) ≡ true → is_base k.program k.nodes w c ≡ true
 
 -- no cell is both base and away
 abbrev pub BaseIsNotAway : Type 0
-BaseIsNotAway = (k : Setting) (w : ℕ) (c : Cell) → IsSetting k → w < length k.nodes → is_base k.program k.nodes w c ≡ true → is_away k.program k.nodes w c ≡ false
+BaseIsNotAway =
+    (k : Setting) (w : ℕ) (c : Cell) → IsSetting k → w < length k.nodes
+    → is_base k.program k.nodes w c ≡ true → is_away k.program k.nodes w c ≡ false
+
+-- a cell that is copied at a node is not written by any itag of its children's subtrees
+abbrev pub CopiedIsUnwritten : Type 0
+CopiedIsUnwritten =
+    (k : Setting) (w left right i : ℕ) (c : Cell) → IsSetting k → kids_at k.nodes w ≡ Some (left, right) → i < count_of_itags k.program
+    → is_copied k.program (below k.program k.nodes right) c ≡ true
+    → (below k.program k.nodes left i || below k.program k.nodes right i) ≡ true → writes (mode_by k.program i c) ≡ false
 
 -- ---- lots
 
 -- what fits holds values of the job's sorts
 abbrev pub FittingHasSorts : Type 0
-FittingHasSorts = (k : Setting) (w : ℕ) (s : Contents) (since upto : List ℕ) → IsSetting k → w < length k.nodes → Fits k w s since upto → IsStateOf k.program.families s
+FittingHasSorts =
+    (k : Setting) (w : ℕ) (s : Contents) (since upto : List ℕ)
+    → IsSetting k → w < length k.nodes → Fits k w s since upto → IsStateOf k.program.families s
 
 -- no event of any itag
 abbrev pub no_counts : Program → List ℕ
@@ -63,7 +76,7 @@ JoinsFit =
     → IsSetting k → w < length k.nodes → kids_at k.nodes w ≡ Some (left, right)
     → Fits k left s left_since left_upto → Fits k right t right_since right_upto
     → ArePaired k.program k.nodes left right left_since left_upto right_since right_upto
-    → Fits k w (join s t) left_since (joined_counts k.program k.nodes right left_upto right_upto)
+    → Fits k w (joined_state k.program k.nodes right s t) left_since (joined_counts k.program k.nodes right left_upto right_upto)
 
 -- what is said of a lot at a node, updated with an event that is exact for its counts
 pub record UpdatesWell (k : Setting) (w : ℕ) (m : Moment) (s : Contents) (since more : List ℕ) : Type 0 where

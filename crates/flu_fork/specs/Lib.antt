@@ -3,6 +3,7 @@ pub mod Classes
 pub mod Fitting
 pub mod Parts
 pub mod Laws
+pub mod LawsBelow
 pub mod Gathering
 pub mod Tables
 pub mod Lots

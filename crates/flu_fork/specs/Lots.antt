@@ -16,7 +16,7 @@ use Rattle.flu_fork.specs.declared.lots.Lot.{Lot}
 use Rattle.flu_fork.specs.Settings.{Setting}
 use Rattle.flu_fork.specs.Fitting.{Fits}
 use Rattle.flu_fork.specs.Laws.{no_counts}
-use Rattle.flu_fork.specs.Parts.{left_part, right_part, joined_counts, ArePaired}
+use Rattle.flu_fork.specs.Parts.{left_part, right_part, joined_state, joined_counts, ArePaired}
 
 abbrev pub job : Content → Program
 job k = program_of k.checked
@@ -46,7 +46,7 @@ pub record CountsNothing (k : Content) (lot : Lot) : Type 0 where
 
 -- ---- two parts, the left one first
 
--- what the cells of the right child's subtree hold is in the right part, and all else in the left one
+-- what the cells hold that the right child's subtree needs is in the right part, and all but what is moved there in the left one
 pub record HasParts (k : Content) (r : ℕ) (lot : Lot) (parts : Lot × Lot) : Type 0 where
   pub left : held parts.0.state ≡ left_part (job k) (nodes k) r (held lot.state)
   pub right : held parts.1.state ≡ right_part (job k) (nodes k) r (held lot.state)
@@ -65,6 +65,10 @@ pub record PartsFitKids (k : Content) (l r : ℕ) (parts : Lot × Lot) : Type 0 
   pub paired : LotsPaired k l r parts.0 parts.1
 
 -- ---- two lots together
+
+-- the join of the states, without the copies in the right one
+abbrev pub IsJoined : Content → ℕ → Lot → Lot → Lot → Type 0
+IsJoined k r left right lot = held lot.state ≡ joined_state (job k) (nodes k) r (held left.state) (held right.state)
 
 -- the counts of the joined lot of a node: it begins where the left lot does, and the events of the right child's subtree are counted as in the right lot
 pub record HasJoinedCounts (k : Content) (w : ℕ) (left right lot : Lot) : Type 0 where

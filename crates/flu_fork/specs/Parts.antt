@@ -3,18 +3,23 @@ use Rattle.std.specs.Prelude.{◌≡◌, ℕ, ◌≤◌, true, false, List, map,
 use Rattle.std.specs.List.{range_with_len}
 use Rattle.flu_model.specs.declared.jobs.Program.{Program}
 use Rattle.flu_model.specs.declared.plans.Node.{Node}
-use Rattle.flu_model.specs.Contents.{Contents}
+use Rattle.flu_model.specs.Contents.{Contents, join}
 use Rattle.flu_model.specs.Itags.{count_of_itags}
 use Rattle.flu_laws.specs.Consistency.{within, outside}
 use Rattle.flu_laws.specs.Spans.{AreAtMost}
-use Rattle.flu_fork.specs.Classes.{below, is_moved, is_owned}
+use Rattle.flu_fork.specs.Classes.{below, is_moved, is_copied, is_needed}
 
--- the cells that some itag of the right child's subtree needs go to that child, all else stays with the left one
+-- the cells that some itag of the right child's subtree needs go to that child: those that some itag there writes are moved, and the others are copied, so
+-- that the left child has all but the moved ones
 abbrev pub left_part : Program → List Node → ℕ → Contents → Contents
 left_part p nodes right s = outside (is_moved p (below p nodes right)) s
 
 abbrev pub right_part : Program → List Node → ℕ → Contents → Contents
-right_part p nodes right s = within (is_owned p (below p nodes right)) s
+right_part p nodes right s = within (is_needed p (below p nodes right)) s
+
+-- the state of a joined lot: the copies in the right part are dropped, then the parts are joined
+abbrev pub joined_state : Program → List Node → ℕ → Contents → Contents → Contents
+joined_state p nodes right s t = join s (outside (is_copied p (below p nodes right)) t)
 
 -- the counts of a joined lot: those of the right part where the right subtree owns the itag, and else those of the left part
 abbrev pub joined_counts : Program → List Node → ℕ → List ℕ → List ℕ → List ℕ

@@ -3,16 +3,27 @@ use Rattle.std.specs.Prelude.{◌≡◌, ℕ, Bool, false, Some, List, map, leng
 use Rattle.std.specs.List.{range_with_len}
 use Rattle.flu_model.specs.declared.events.Cell.{Cell}
 use Rattle.flu_model.specs.declared.jobs.Program.{Program}
+use Rattle.flu_model.specs.declared.modes.Mode.{Mode}
 use Rattle.flu_model.specs.declared.plans.Node.{Node}
 use Rattle.flu_model.specs.Itags.{count_of_itags}
 use Rattle.flu_deps.specs.Owned.{kids_at}
 use Rattle.flu_cells.specs.Sets.{is_in}
-use Rattle.flu_fork.specs.Classes.{below, is_owned}
+use Rattle.flu_cells.specs.declared.sets.CellSet.{CellSet}
+use Rattle.flu_fork.specs.Classes.{below, some_has, is_needed, is_copied}
 use Rattle.flu_fork.specs.declared.rights.Right.{Right}
 
--- the cells that some itag of a node's subtree needs, and whether each itag is of it
+-- the cells on which some itag of a node's subtree has such a mode
+abbrev pub IsSetOf : Program → List Node → ℕ → (Mode → Bool) → CellSet → Type 0
+IsSetOf p nodes w test set = (c : Cell) → is_in set c ≡ some_has p test (below p nodes w) c
+
+-- those that are copied to a node, where that is a right child
+abbrev pub IsCopiedSet : Program → List Node → ℕ → CellSet → Type 0
+IsCopiedSet p nodes right set = (c : Cell) → is_in set c ≡ is_copied p (below p nodes right) c
+
+-- the cells that some itag of a node's subtree needs, those of them that are copied, and whether each itag is of that subtree
 pub record IsRight (p : Program) (nodes : List Node) (right : ℕ) (table : Right) : Type 0 where
-  pub cells : (c : Cell) → is_in table.cells c ≡ is_owned p (below p nodes right) c
+  pub needed : (c : Cell) → is_in table.needed c ≡ is_needed p (below p nodes right) c
+  pub copied : (c : Cell) → is_in table.copied c ≡ is_copied p (below p nodes right) c
   pub itags : table.itags.items ≡ map (below p nodes right) (range_with_len 0 (count_of_itags p))
 
 -- those of the right child of a node, where it has one

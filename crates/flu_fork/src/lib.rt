@@ -4,13 +4,11 @@
 mod case;
 mod content;
 mod counts;
+mod gathering;
 pub mod laws;
 mod lots;
-mod needed;
 mod parting;
 mod rights;
-#[cfg(test)]
-mod tests;
 
 pub use case::Case;
 pub use content::Content;

@@ -4,14 +4,15 @@ ghost use Rattle.std.specs.Prelude.{◌≡◌, ◌<◌, ℕ, Some, length, IsSom
 ghost use Rattle.flu_model.specs.Contents as contents;
 ghost use Rattle.flu_cells.specs.Holding.{held};
 ghost use Rattle.flu_cells.specs.Sets.{within, outside};
-ghost use Rattle.flu_fork.specs.Lots.{nodes, kids, LotFits, LotsPaired, CountsNothing, HasParts, HasCounts, PartsFitKids, HasJoinedCounts};
+ghost use Rattle.flu_fork.specs.Lots.{nodes, kids, LotFits, LotsPaired, CountsNothing, HasParts, HasCounts, PartsFitKids, IsJoined, HasJoinedCounts};
 ghost use Rattle.flu_fork.specs.Tables.{counts_by, count_by};
 
 use crate::case::Case;
 use crate::counts::{Counts, no_counts};
-use crate::laws::{forks_fit, joins_fit, nothing_is_copied, openings_fit};
+use crate::laws::{forks_fit, joins_fit, openings_fit};
 use crate::lots::Lot;
 use crate::rights::Right;
+use flu_laws::join_undoes_split;
 use flu_model::itag_count;
 use std::alloc::{AllocError, Global};
 
@@ -35,9 +36,10 @@ pub fn opening_lot(alloc: Global, case: &Case) -> Result<Lot, AllocError>
 }
 
 /// The two parts of a lot for the children of its node, the left one first: what the cells hold that some itag of the right
-/// child's subtree needs goes to the right part, and all else to the left one (`docs/TREE.md`).
+/// child's subtree needs goes to the right part. It is moved there where some itag of that subtree writes the cell, and else
+/// copied; the left part has all but what is moved (`docs/TREE.md`).
 ///
-/// The left part keeps the counts, and the right one begins where they end. The time is that of the state's size.
+/// The left part keeps the counts, and the right one begins where they end.
 ///
 /// # Errors
 ///
@@ -51,14 +53,15 @@ pub fn fork(alloc: Global, case: &Case, node: u32, lot: Lot) -> Result<(Lot, Lot
     ensures fits { IfOk result (λ parts. (l r : ℕ) → kids case.now node ≡ Some (l, r) → PartsFitKids case.now l r parts) }
 {
     forks_fit();
-    nothing_is_copied();
+    join_undoes_split();
     part(alloc, case.right(node), lot)
 }
 
-/// The two parts of a lot where the cells of a set go to the right one.
+/// The two parts of a lot where the cells of one set go to the right one, and those of another set, of these, stay in the left
+/// one as well.
 pub(crate) fn part(alloc: Global, right: &Right, lot: Lot) -> Result<(Lot, Lot), AllocError>
-    ensures left { IfOk result (λ parts. held parts.0.state ≡ outside right.now.cells (held lot.state)) }
-    ensures right { IfOk result (λ parts. held parts.1.state ≡ within right.now.cells (held lot.state)) }
+    ensures left { IfOk result (λ parts. held parts.0.state ≡ contents.join (outside right.now.needed (held lot.state)) (within right.now.copied (held parts.1.state))) }
+    ensures right { IfOk result (λ parts. held parts.1.state ≡ within right.now.needed (held lot.state)) }
     ensures counts { IfOk result (HasCounts lot) }
 {
     let Lot {
@@ -66,7 +69,8 @@ pub(crate) fn part(alloc: Global, right: &Right, lot: Lot) -> Result<(Lot, Lot),
         since,
         upto,
     } = lot;
-    let taken = state.take_out(&right.cells)?;
+    let taken = state.take_out(&right.needed)?;
+    state.absorb(taken.copy_of(&right.copied)?)?;
     let other = Lot {
         state: taken,
         since: upto.copy(alloc)?,
@@ -75,7 +79,8 @@ pub(crate) fn part(alloc: Global, right: &Right, lot: Lot) -> Result<(Lot, Lot),
     Ok((Lot { state, since, upto }, other))
 }
 
-/// The lot of a node from those of its children: the join of the states (`docs/MODEL.md`), with the left one first.
+/// The lot of a node from those of its children: the copies in the right one are dropped, and the states are joined
+/// (`docs/MODEL.md`), with the left one first.
 ///
 /// It begins where the left lot did; the events of the right child's subtree are counted as in the right lot, and all others
 /// as in the left one.
@@ -89,7 +94,7 @@ pub fn join(alloc: Global, case: &Case, node: u32, left: Lot, right: Lot) -> Res
     requires left { (l r : ℕ) → kids case.now node ≡ Some (l, r) → LotFits case.now l left }
     requires right { (l r : ℕ) → kids case.now node ≡ Some (l, r) → LotFits case.now r right }
     requires paired { (l r : ℕ) → kids case.now node ≡ Some (l, r) → LotsPaired case.now l r left right }
-    ensures state { IfOk result (λ lot. held lot.state ≡ contents.join (held left.state) (held right.state)) }
+    ensures state { IfOk result (λ lot. (l r : ℕ) → kids case.now node ≡ Some (l, r) → IsJoined case.now r left right lot) }
     ensures counts { IfOk result (HasJoinedCounts case.now node left right) }
     ensures fits { IfOk result (λ lot. LotFits case.now node lot) }
 {
@@ -97,9 +102,10 @@ pub fn join(alloc: Global, case: &Case, node: u32, left: Lot, right: Lot) -> Res
     merge(alloc, case.right(node), left, right)
 }
 
-/// Two lots together, where the events of some itags are counted as in the right one, and all others as in the left one.
+/// Two lots together, where the right one's cells of a set are dropped, and the events of some itags are counted as in the right
+/// one, all others as in the left one.
 pub(crate) fn merge(alloc: Global, table: &Right, left: Lot, right: Lot) -> Result<Lot, AllocError>
-    ensures state { IfOk result (λ lot. held lot.state ≡ contents.join (held left.state) (held right.state)) }
+    ensures state { IfOk result (λ lot. held lot.state ≡ contents.join (held left.state) (outside table.now.copied (held right.state))) }
     ensures since { IfOk result (λ lot. lot.since ≡ left.since) }
     ensures upto { IfOk result (λ lot. lot.upto ≡ counts_by table.now.itags.items left.upto right.upto) }
 {
@@ -108,8 +114,14 @@ pub(crate) fn merge(alloc: Global, table: &Right, left: Lot, right: Lot) -> Resu
         since,
         upto,
     } = left;
-    let upto = counts_by(alloc, table.itags.as_slice(), &upto, &right.upto)?;
-    state.absorb(right.state)?;
+    let Lot {
+        state: mut others,
+        since: _,
+        upto: others_upto,
+    } = right;
+    let upto = counts_by(alloc, table.itags.as_slice(), &upto, &others_upto)?;
+    others.clear_all(&table.copied);
+    state.absorb(others)?;
     Ok(Lot { state, since, upto })
 }
 

@@ -1,5 +1,5 @@
 -- What modes need and write, and which modes conflict.
-use Rattle.std.proofs.Common.{◌≡◌, ℕ, Bool, true, false, cond, List, refl, sym, ◌∙◌}
+use Rattle.std.proofs.Common.{◌≡◌, ℕ, Bool, true, false, cond, List, refl, sym, ap, ◌∙◌}
 use Rattle.std.specs.Prelude.{◌==◌, ◌||◌, ◌&&◌, not, slice_get}
 use Rattle.std.specs.List.{list_any}
 use Rattle.flu_lemmas.proofs.Searches.{list_any_within, list_any_or}
@@ -16,7 +16,7 @@ use Rattle.flu_model.specs.Contents.{Contents}
 use Rattle.flu_model.specs.Itags.{tag_of_itag, ties_tags, is_dependent}
 use Rattle.flu_model.specs.Updates.{actions_of}
 use Rattle.flu_model.specs.Modes.{mode_in_version_1, mode_in_version_2, mode_among, modes_conflict, guard_reads, act_reads, action_reads, act_overwrites, act_adds, act_raises}
-use Rattle.flu_laws.specs.Uses.{needs, writes, AgreeOnNeeds}
+use Rattle.flu_laws.specs.Uses.{needs, writes, AgreeOnNeeds, NeedsByActions, WritesByActions}
 use Rattle.flu_lemmas.proofs.Booleans.{or_turns}
 use Rattle.flu_lemmas.proofs.Numbers.{same_turns}
 use Rattle.flu_laws.proofs.Reading.{Agree, action_needs}
@@ -41,6 +41,32 @@ needs_where false false true a m = refl
 needs_where false false false true m = refl
 needs_where false false false false true = refl
 needs_where false false false false false = refl
+
+-- in version 2
+writes_shared : (r o a m : Bool) → writes (mode_in_version_2 r o a m) ≡ (o || (a || m))
+writes_shared true true a m = refl
+writes_shared true false true m = refl
+writes_shared true false false true = refl
+writes_shared true false false false = refl
+writes_shared false true a m = refl
+writes_shared false false true m = refl
+writes_shared false false false true = refl
+writes_shared false false false false = refl
+
+pub needs_by_actions : NeedsByActions
+needs_by_actions p t c =
+    let all = actions_of (slice_get p.kinds t.kind) in
+    needs_where (p.version == 2) (list_any (action_reads t.key c) all) (list_any (λ (a : Action). act_overwrites t.key c a.act) all)
+    (list_any (λ (a : Action). act_adds t.key c a.act) all) (list_any (λ (a : Action). act_raises t.key c a.act) all)
+
+pub writes_by_actions : WritesByActions
+writes_by_actions p t c second =
+    let all = actions_of (slice_get p.kinds t.kind) in
+    let reads = list_any (action_reads t.key c) all in
+    let overwrites = list_any (λ (a : Action). act_overwrites t.key c a.act) all in
+    let adds = list_any (λ (a : Action). act_adds t.key c a.act) all in
+    let raises = list_any (λ (a : Action). act_raises t.key c a.act) all in
+    ap (λ n. writes (mode_where (n == 2) reads overwrites adds raises)) second ∙ writes_shared reads overwrites adds raises
 
 -- no overwriting, adding and raising
 abbrev Quiet : Bool → Bool → Bool → Type 0

@@ -8,6 +8,7 @@ ghost use Rattle.flu_laws.specs.Lots.{CentralLaw};
 ghost use Rattle.flu_laws.specs.Spans.{MomentsAreOfEvents, PlacesRise, SpansAddUp, UpdatesInPlace};
 ghost use Rattle.flu_laws.specs.Updating.{TextsAreLocal, CellsAreLocal, ChangesAreLocal, UpdatesAreChanges, KeepsSorts, FoldKeepsSorts, UnwrittenKeeps, ChangesKeepSorts, ChangesMix};
 ghost use Rattle.flu_laws.specs.Versions.{NothingIsShared, OwnsWhatItReads, ConflictsWithoutRead};
+ghost use Rattle.flu_laws.specs.Uses.{NeedsByActions, WritesByActions};
 ghost use Rattle.flu_model.specs.Modes.{IsAccepted};
 ghost use Rattle.flu_model.specs.declared.jobs.Program.{Program};
 
@@ -84,6 +85,12 @@ pub fn updates_in_place()
 /// counted, and the texts are those of the fold.
 pub fn fits_again()
     ensures { CentralLaw }
+{}
+
+/// What a tag needs and writes, by the text of its kind's actions.
+pub fn modes_are_of_actions()
+    ensures needs { NeedsByActions }
+    ensures writes { WritesByActions }
 {}
 
 /// Version 1: no tag has the mode Read, a cell that is read is owned, and two modes conflict where both differ from None and they

@@ -62,6 +62,8 @@ pub read_may_be_printed : NamesAreTested → ReadingIsTokens → EachIsToken →
 read_may_be_printed names reads each spans insides text ts utf8 found =
     let are = (reads text ts).0 found in
     record {
+      utf8 = utf8;
+      tokens = each text ts are;
       names = λ s stands. name_stands text ts names (each text ts are) (spans text ts utf8 are) s stands;
       texts = λ s stands. text_stands text ts (insides text ts utf8 are) s stands;
     }

@@ -3,11 +3,11 @@ use Rattle.std.proofs.Common.{◌≡◌, ◌≢◌, ◌<◌, ℕ, ◌+◌, ◌-�
 use Rattle.std.specs.Prelude.{nat_le, not}
 use Rattle.std.specs.List.{list_all}
 use Rattle.std.specs.Str.{IsUtf8}
-use Rattle.std.proofs.lemmas.Bool.Decides.{nat_tests}
 use Rattle.flu_lemmas.specs.Items.{Begins}
 use Rattle.flu_lemmas.specs.Spans.{spelled}
-use Rattle.flu_lemmas.proofs.Tests.{and_left, and_right, all_at}
-use Rattle.flu_lemmas.proofs.Spans.{spelled_ascii}
+use Rattle.flu_lemmas.proofs.Booleans.{four_second}
+use Rattle.flu_lemmas.proofs.Digits.{alphanumeric_ascii}
+use Rattle.flu_lemmas.proofs.Spans.{spelled_passing}
 use Rattle.flu_names.specs.Names.{is_name, is_name_byte, begins_as_name, is_reserved}
 use Rattle.flu_text.specs.declared.words.Word.{Word}
 use Rattle.flu_text.specs.declared.words.Word.TheVariants as w
@@ -21,24 +21,16 @@ use Rattle.flu_layout.specs.Laws.{LaidIsRead, BegunAreSigns}
 use Rattle.flu_layout.proofs.Laid.{is_laid}
 
 -- ---- names
-name_byte_ascii : (b : ℕ) → is_name_byte b ≡ true → b < 128
-name_byte_ascii b e = grind (arith, nat_tests)
-
-name_some : (n : List ℕ) → begins_as_name n ≡ true → 0 < length n
-name_some [] h = absurd cc
-name_some (b ∷ n) h = omega arith
+some : (n : List ℕ) → is_name n ≡ true → 0 < length n
+some [] h = absurd cc
+some (b ∷ n) h = omega arith
 
 -- a name in a text, by its places
-name_between : (whole before n after : List ℕ) (from to : ℕ) → IsUtf8 whole → is_name n ≡ true → whole ≡ before ++ (n ++ after) → from ≡ length before
-    → to ≡ from + length n → spelled whole from to ≡ n
-name_between whole before n after from to utf8 named is here size =
-    let front = begins_as_name n && list_all is_name_byte n in
-    let two = and_left front (nat_le (length n) 32) (and_left (front && nat_le (length n) 32) (not (is_reserved n)) named) in
-    let bytes = and_right (begins_as_name n) (list_all is_name_byte n) two in
-    let some : 0 < length n = name_some n (and_left (begins_as_name n) (list_all is_name_byte n) two) in
-    let first : get_or n 0 0 < 128 = name_byte_ascii (get_or n 0 0) (all_at is_name_byte n 0 0 bytes some) in
-    let last : get_or n (length n - 1) 0 < 128 = name_byte_ascii (get_or n (length n - 1) 0) (all_at is_name_byte n (length n - 1) 0 bytes (omega arith)) in
-    spelled_ascii whole before n after from to utf8 (record { is = is; here = here }) size some first last
+name_at : (whole before n after : List ℕ) (from : ℕ) → IsUtf8 whole → is_name n ≡ true → whole ≡ before ++ (n ++ after) → from ≡ length before
+    → spelled whole from (from + length n) ≡ n
+name_at whole before n after from utf8 named is here =
+    spelled_passing is_name_byte alphanumeric_ascii whole before n after from (from + length n) utf8 (record { is = is; here = here }) refl (some n named)
+    (four_second (begins_as_name n) (list_all is_name_byte n) (nat_le (length n) 32) (not (is_reserved n)) named)
 
 -- ---- words
 -- the first word stands in the text, and the others behind it
@@ -62,7 +54,7 @@ stand_from : (whole : List ℕ) → IsUtf8 whole → (ps : List Piece) → AreLa
     → Stand whole ps (tokens_of place ps)
 stand_from whole utf8 ps laid_none before place is at = refl
 stand_from whole utf8 ps (laid_name n behind rest named blank ends more) before place is at =
-    put before _ rest whole place is at (λ e. name_between whole before n (behind ++ layout rest) place (place + length n) utf8 named is at refl) (λ next here. stand_from whole utf8 rest more _ _ next here)
+    put before _ rest whole place is at (λ e. name_at whole before n (behind ++ layout rest) place utf8 named is at) (λ next here. stand_from whole utf8 rest more _ _ next here)
 stand_from whole utf8 ps (laid_reserved word behind rest blank ends more) before place is at =
     put before _ rest whole place is at (λ e. absurd cc) (λ next here. stand_from whole utf8 rest more _ _ next here)
 stand_from whole utf8 ps (laid_number n behind rest literal blank ends more) before place is at =

@@ -12,6 +12,6 @@ abbrev pub inside : List ℕ → WrittenSpan → List ℕ
 inside text s = spelled text (s.from + 1) (s.to - 1)
 
 -- the value of a written number, which is never below 0
-abbrev pub value_of : ℤ → ℕ
-value_of (pos n) = n
-value_of (negsuc n) = 0
+abbrev pub written_value : ℤ → ℕ
+written_value (pos n) = n
+written_value (negsuc n) = 0

@@ -1,10 +1,11 @@
 -- Tokens of a text that stand for words that were laid out, and words of a text that tokens stand for.
-use Rattle.std.specs.Prelude.{◌≡◌, ◌≤◌, ◌+◌, ◌-◌, ℕ, IsTrue, List, [], ◌∷◌, ◌++◌, length, slice_range}
+use Rattle.std.specs.Prelude.{◌≡◌, ◌≤◌, ◌+◌, ◌-◌, ℕ, IsTrue, All, List, [], ◌∷◌, ◌++◌, length, slice_range}
 use Rattle.std.specs.List.{list_all}
-use Rattle.std.specs.Str.{IsCharBoundary}
+use Rattle.std.specs.Str.{IsUtf8, IsCharBoundary}
 use Rattle.flu_names.specs.Names.{is_name, is_text_byte}
 use Rattle.flu_text.specs.declared.words.Word.TheVariants as w
 use Rattle.flu_text.specs.declared.words.Token.{Token}
+use Rattle.flu_text.specs.Grammar.{IsToken}
 use Rattle.flu_text.specs.Layout.{Piece}
 use Rattle.flu_syntax.specs.declared.tree.WrittenSpan.{WrittenSpan}
 use Rattle.flu_syntax.specs.Grammar.{Spanned}
@@ -36,7 +37,9 @@ pub record IsQuoted (whole : List ℕ) (s : WrittenSpan) : Type 0 where
   pub bytes : IsTrue (list_all is_text_byte (inside whole s))
   pub short : length (inside whole s) ≤ 256
 
--- the names and texts of the tokens that a text was read as
+-- the tokens that a text was read as, its names and its texts
 pub record AreRead (whole : List ℕ) (ts : List Token) : Type 0 where
+  pub utf8 : IsUtf8 whole
+  pub tokens : All (IsToken whole) ts
   pub names : (s : WrittenSpan) → Stands ts (Spanned w.Name s) → IsTrue (is_name (name_of whole s))
   pub texts : (s : WrittenSpan) → Stands ts (Spanned w.Text s) → IsQuoted whole s

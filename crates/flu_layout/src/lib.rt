@@ -7,4 +7,4 @@ pub mod laws;
 mod spelling;
 
 pub use keys::add_keys;
-pub use spelling::{inside, name_of, spelled, value_of};
+pub use spelling::{inside, name_of, spelled, written_value};

@@ -2,7 +2,7 @@
 
 ghost use Rattle.std.specs.Prelude.{◌≡◌, ◌+◌, ◌<◌, ◌≤◌, ◌^◌, length};
 ghost use Rattle.flu_lemmas.specs.Spans.{is_boundary, spelled};
-ghost use Rattle.flu_layout.specs.Spelling.{name_of, inside, value_of};
+ghost use Rattle.flu_layout.specs.Spelling.{name_of, inside, written_value};
 
 use flu_syntax::WrittenSpan;
 
@@ -45,8 +45,8 @@ pub fn inside(text: &str, span: WrittenSpan) -> &str
 }
 
 /// The value of a written number, which is never below 0.
-pub fn value_of(number: i64) -> u64
-    ensures value { result ≡ value_of number }
+pub fn written_value(number: i64) -> u64
+    ensures value { result ≡ written_value number }
     ensures small { result < 2 ^ 63 }
 {
     u64::try_from(number).unwrap_or(0)

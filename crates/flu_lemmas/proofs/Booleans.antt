@@ -24,6 +24,11 @@ or_false_left a b e = (or_parts a b e).0
 pub or_false_right : (a b : Bool) → (a || b) ≡ false → b ≡ false
 or_false_right a b e = (or_parts a b e).1
 
+-- the one of two that passes, where the other fails
+pub or_front : (a b : Bool) → (a || b) ≡ true → b ≡ false → a ≡ true
+or_front true b e f = refl
+or_front false b e f = absurd cc
+
 pub none_of_three : (a b c : Bool) → (a || b || c) ≡ false → (a ≡ false) × (b ≡ false) × (c ≡ false)
 none_of_three a b c e = let front = or_false_left (a || b) c e in (or_false_left a b front, or_false_right a b front, or_false_right (a || b) c e)
 
@@ -35,6 +40,13 @@ three_middle a b c h = and_right a b (and_left (a && b) c h)
 
 pub three_right : (a b c : Bool) → (a && b && c) ≡ true → c ≡ true
 three_right a b c h = and_right (a && b) c h
+
+-- of the first two of four tests
+pub four_first : (a b c d : Bool) → (a && b && c && d) ≡ true → a ≡ true
+four_first a b c d h = three_left a b c (and_left (a && b && c) d h)
+
+pub four_second : (a b c d : Bool) → (a && b && c && d) ≡ true → b ≡ true
+four_second a b c d h = three_middle a b c (and_left (a && b && c) d h)
 
 -- ---- regrouped
 pub or_turns : (a b : Bool) → (a || b) ≡ (b || a)

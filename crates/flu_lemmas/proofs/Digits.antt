@@ -1,6 +1,7 @@
 -- Digits, and runs of digits.
 use Rattle.std.proofs.Common.{◌≡◌, ℕ, ◌+◌, ◌*◌, ◌%◌, ◌-◌, ◌<◌, ◌^◌, min, true, List, [], ◌∷◌, ◌++◌, length, get_or, take, ◌∙◌, arith}
-use Rattle.std.specs.Char.{is_ascii_digit}
+use Rattle.std.specs.Prelude.{◌||◌, ◌==◌}
+use Rattle.std.specs.Char.{is_ascii_digit, is_ascii_alphanumeric}
 use Rattle.std.specs.Fmt.{decimal}
 use Rattle.std.specs.Int.{IsInRange}
 use Rattle.std.specs.List.{list_all}
@@ -24,6 +25,10 @@ digits_value_capped ds i limit number some passes lt so_far =
     let d = digit_value_digit (get_or ds i 0) r in
     let m = digits_value_more 10 ds i lt in
     omega arith
+
+-- a letter, a digit or `_` is ASCII
+pub alphanumeric_ascii : (c : ℕ) → (is_ascii_alphanumeric c || (c == 95)) ≡ true → c < 128
+alphanumeric_ascii c e = grind (arith, nat_tests)
 
 -- ---- the digits that a number is written by
 one_digit : (n : ℕ) → n < 10 → list_all is_ascii_digit ((48 + n) ∷ []) ≡ true

@@ -19,3 +19,4 @@ pub mod Tests
 pub mod Told
 pub mod Totals
 pub mod TwoNumbers
+pub mod Mapped

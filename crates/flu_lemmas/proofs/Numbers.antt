@@ -21,6 +21,12 @@ pub above_from : (a b : ℕ) → a ≤ b → (b == a) ≡ false → a + 1 ≤ b
 above_from a b le e = grind (arith, common_steps)
 
 -- ---- less or not
+pub none_left : (n : ℕ) → nat_lt 0 n ≡ false → 0 ≡ n
+none_left n e = grind (arith, common_steps)
+
+pub lt_wider : (n low high : ℕ) → low ≤ high → nat_lt n low ≡ true → nat_lt n high ≡ true
+lt_wider n low high le e = grind (arith, common_steps)
+
 pub not_less_than_itself : (n : ℕ) → nat_lt n n ≡ false
 not_less_than_itself n = grind (arith, common_steps)
 

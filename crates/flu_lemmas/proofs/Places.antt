@@ -19,6 +19,12 @@ slice_get-there (x ∷ xs) (suc i) lt = slice_get-there xs i (omega arith)
 pub slice_get-is_some : {X : Type 0} (xs : List X) (i : ℕ) → i < length xs → is_some (slice_get xs i) ≡ true
 slice_get-is_some xs i lt = ap is_some (slice_get-there xs i lt).1
 
+-- a test that nothing passes tells that there is an element
+pub slice_get-within : {X : Type 0} (test : Option X → Bool) → test None ≡ false → (xs : List X) (i : ℕ) → test (slice_get xs i) ≡ true → i < length xs
+slice_get-within test none [] i e = cc
+slice_get-within test none (x ∷ xs) zero e = omega arith
+slice_get-within test none (x ∷ xs) (suc i) e = let later : i < length xs = slice_get-within test none xs i e in omega (arith, later)
+
 -- what stands behind a front
 pub slice_get-behind : {X : Type 0} (front : List X) (x : X) (rest : List X) → slice_get (front ++ x ∷ rest) (length front) ≡ Some x
 slice_get-behind [] x rest = refl

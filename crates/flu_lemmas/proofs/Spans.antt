@@ -1,12 +1,13 @@
 -- Places of a text between its characters, and the bytes between two of them.
 use Rattle.std.proofs.Common.{◌≡◌, ℕ, ◌+◌, ◌-◌, ◌<◌, ◌≤◌, Bool, true, List, [], ◌∷◌, ◌++◌, length, take, drop, get_or, sym, ap, subst, ◌∙◌, append_assoc, length-append, arith}
 use Rattle.std.specs.Prelude.{◌&&◌, ◌||◌, nat_le, nat_lt, if◌then◌else◌, slice_index, slice_range}
+use Rattle.std.specs.List.{list_all}
 use Rattle.std.specs.Str.{IsUtf8, IsCharBoundary}
 use Rattle.std.proofs.lemmas.List.{take_at, drop_at, get_or-append-add, get_or_append_left, get_or-append_right}
 use Rattle.std.proofs.lemmas.Str.{IsCharBoundary-before_ascii, IsCharBoundary-after_ascii}
 use Rattle.std.proofs.lemmas.Grind.{common_steps}
 use Rattle.flu_lemmas.specs.Spans.{is_boundary, spelled}
-use Rattle.flu_lemmas.proofs.Tests.{both, le_true}
+use Rattle.flu_lemmas.proofs.Tests.{both, le_true, all_at}
 
 boundary_test : (i n b : ℕ) → i ≤ n → (i < n → 128 ≤ b → 192 ≤ b) → (nat_le i n && (nat_le n i || nat_lt b 128 || nat_le 192 b)) ≡ true
 boundary_test i n b le high = grind (arith, common_steps)
@@ -92,3 +93,10 @@ pub spelled_ascii : (whole before bytes after : List ℕ) (from to : ℕ) → Is
 spelled_ascii whole before bytes after from to utf8 p size some first last =
     spelled_between whole before bytes after from to p size (begins_ascii whole before bytes after from p some first)
       (ends_ascii whole before bytes after from to utf8 p size some last)
+
+-- the same where all of them pass a test that only ASCII bytes pass
+pub spelled_passing : (test : ℕ → Bool) → ((b : ℕ) → test b ≡ true → b < 128) → (whole before bytes after : List ℕ) (from to : ℕ) → IsUtf8 whole
+    → Place whole before (bytes ++ after) from → to ≡ from + length bytes → 0 < length bytes → list_all test bytes ≡ true → spelled whole from to ≡ bytes
+spelled_passing test ascii whole before bytes after from to utf8 p size some all =
+    spelled_ascii whole before bytes after from to utf8 p size some (ascii (get_or bytes 0 0) (all_at test bytes 0 0 all some))
+    (ascii (get_or bytes (length bytes - 1) 0) (all_at test bytes (length bytes - 1) 0 all (omega arith)))

@@ -1,4 +1,3 @@
-pub mod General
 pub mod PlaceLemmas
 pub mod PassingLemmas
 pub mod WaitingLemmas

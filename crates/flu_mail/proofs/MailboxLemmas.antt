@@ -4,8 +4,12 @@ use Rattle.std.specs.Prelude.{◌&&◌, ◌||◌, ◌==◌, not, map, slice_get,
 use Rattle.std.specs.List.{list_all, range_with_len}
 use Rattle.std.proofs.Math.ListN.{set}
 use Rattle.std.proofs.lemmas.List.{length-set, length-map, get_or_past}
-use Rattle.std.proofs.lemmas.Option.{slice_get_past}
+use Rattle.std.proofs.lemmas.Option.{slice_get_past, slice_get_read}
 use Rattle.std.proofs.lemmas.Bool.{cases_lt}
+use Rattle.flu_lemmas.proofs.Elements.{each_set}
+use Rattle.flu_lemmas.proofs.Places.{slice_get-there}
+use Rattle.flu_lemmas.proofs.Ranges.{not_any_in_range}
+use Rattle.flu_lemmas.proofs.Booleans.{not_and_not}
 use Rattle.flu_model.specs.declared.events.Event.{Event}
 use Rattle.flu_model.specs.declared.events.Item.{Item}
 use Rattle.flu_model.specs.declared.events.Itag.{Itag}
@@ -24,8 +28,7 @@ use Rattle.flu_mail.specs.Passing.{seen_items, passes}
 use Rattle.flu_mail.specs.Waiting.{itag, is_leaf, waits_for, serving_waits_for, all_pass}
 use Rattle.flu_mail.specs.Entries.{role_at, IsEntryAt, IsEntryOver}
 use Rattle.flu_mail.specs.Mailboxes.{seen_of, counts_of, IsAt, IsOver}
-use Rattle.flu_mail.specs.Parts.{is_own, is_own_or_above, tag_in, awaits, entry_waits, holds_up, is_held_up}
-use Rattle.flu_mail.proofs.General.{each_set, slice_get-there, slice_get_read, not_list_any}
+use Rattle.flu_mail.specs.LoopParts.{is_own, is_own_or_above, tag_in, awaits, entry_waits, holds_up, is_held_up}
 
 -- an entry for each
 pub length-seen : (m : Mailbox) → length (seen_of m) ≡ length m.entries.items
@@ -36,7 +39,7 @@ entry_there m n j one_each lt = let size = length-seen m in omega arith
 
 -- the entry that was read
 pub entry_read : (m : Mailbox) (n j : ℕ) (e : Entry) → length (seen_of m) ≡ n → j < n → e ≡ get_or m.entries.items j e → slice_get m.entries.items j ≡ Some e
-entry_read m n j e one_each lt is = slice_get_read m.entries.items j e (entry_there m n j one_each lt) is
+entry_read m n j e one_each lt is = slice_get_read m.entries.items (length m.entries.items) j e refl (entry_there m n j one_each lt) is
 
 -- no stream has more items than there are numbers for
 pub few_items : (vs : List (Vec Item Global)) (i : ℕ) → length (slice_index_or (map (λ (v : Vec Item Global). v.items) vs) i []) < 2 ^ 63
@@ -101,18 +104,13 @@ abbrev pub waits_by : Purpose → Program → List Node → ℕ → Itag → ℕ
 waits_by Take p nodes w i j = waits_for p nodes w i j
 waits_by Serve p nodes w i j = serving_waits_for p nodes w i j
 
-not_and_not : (a b : Bool) → not (a && not b) ≡ (not a || b)
-not_and_not true true = refl
-not_and_not true false = refl
-not_and_not false b = refl
-
 -- whose itags are waited for, and d of them
-waits_by_role : (purpose : Purpose) (p : Program) (nodes : List Node) (w : ℕ) (i : Itag) (j : ℕ) → (awaits purpose i j (role_at p nodes w (itag j)) && (not (is_leaf nodes w) || is_dependent p (tag_of_itag p (itag j)) (tag_of_itag p i))) ≡ waits_by purpose p nodes w i j
+waits_by_role : (purpose : Purpose) (p : Program) (nodes : List Node) (w : ℕ) (i : Itag) (j : ℕ) → (awaits purpose i j (role_at p nodes w (itag j)) && (not (is_leaf nodes w) || is_dependent p (tag_of_itag p i) (tag_of_itag p (itag j)))) ≡ waits_by purpose p nodes w i j
 waits_by_role Take p nodes w i j =
-    ap (λ b. (not (j == i.0) && b) && (not (is_leaf nodes w) || is_dependent p (tag_of_itag p (itag j)) (tag_of_itag p i)))
+    ap (λ b. (not (j == i.0) && b) && (not (is_leaf nodes w) || is_dependent p (tag_of_itag p i) (tag_of_itag p (itag j))))
     (own_or_above_by_role (owns p nodes w (itag j)) (ancestors_own p nodes w (itag j)))
 waits_by_role Serve p nodes w i j =
-    ap (λ b. b && (not (is_leaf nodes w) || is_dependent p (tag_of_itag p (itag j)) (tag_of_itag p i)))
+    ap (λ b. b && (not (is_leaf nodes w) || is_dependent p (tag_of_itag p i) (tag_of_itag p (itag j))))
     (own_by_role (owns p nodes w (itag j)) (ancestors_own p nodes w (itag j)))
 
 waits_told : (purpose : Purpose) (p : Program) (nodes : List Node) (m : Mailbox) (i : Itag) (j : ℕ) → IsAt p nodes m → j < count_of_itags p → entry_waits p m.leaf purpose i (tag_in (slice_get m.entries.items i.0)) j (slice_get m.entries.items j) ≡ waits_by purpose p nodes m.node i j
@@ -121,10 +119,10 @@ waits_told purpose p nodes m i j at lt =
     let e = found.0 in
     let here = at.at_node j e found.1 in
     ap (entry_waits p m.leaf purpose i (tag_in (slice_get m.entries.items i.0)) j) found.1
-    ∙ ap (λ r. awaits purpose i j r && (not m.leaf || is_dependent p e.tag (tag_in (slice_get m.entries.items i.0)))) here.role
-    ∙ ap (λ b. awaits purpose i j (role_at p nodes m.node (itag j)) && (not b || is_dependent p e.tag (tag_in (slice_get m.entries.items i.0)))) at.leaf
-    ∙ ap (λ t. awaits purpose i j (role_at p nodes m.node (itag j)) && (not (is_leaf nodes m.node) || is_dependent p t (tag_in (slice_get m.entries.items i.0)))) here.tag
-    ∙ ap (λ t. awaits purpose i j (role_at p nodes m.node (itag j)) && (not (is_leaf nodes m.node) || is_dependent p (tag_of_itag p (itag j)) t)) (tag_told p nodes m i at)
+    ∙ ap (λ r. awaits purpose i j r && (not m.leaf || is_dependent p (tag_in (slice_get m.entries.items i.0)) e.tag)) here.role
+    ∙ ap (λ b. awaits purpose i j (role_at p nodes m.node (itag j)) && (not b || is_dependent p (tag_in (slice_get m.entries.items i.0)) e.tag)) at.leaf
+    ∙ ap (λ t. awaits purpose i j (role_at p nodes m.node (itag j)) && (not (is_leaf nodes m.node) || is_dependent p (tag_in (slice_get m.entries.items i.0)) t)) here.tag
+    ∙ ap (λ t. awaits purpose i j (role_at p nodes m.node (itag j)) && (not (is_leaf nodes m.node) || is_dependent p t (tag_of_itag p (itag j)))) (tag_told p nodes m i at)
     ∙ waits_by_role purpose p nodes m.node i j
 
 -- what is not held up by the entries is let pass by all
@@ -132,7 +130,7 @@ pub waiting_told : (p : Program) (nodes : List Node) (lists : List (List Item)) 
 waiting_told p nodes lists m purpose x at =
     let q : ℕ → Bool = λ j. not (waits_by purpose p nodes m.node x.itag j) || passes (seen_items lists (seen_of m) j) (slice_index (counts_of m) j) x in
     let all = at.one_each in
-    not_list_any (holds_up p m lists purpose x (tag_in (slice_get m.entries.items x.itag.0))) q 0 (length (seen_of m))
+    not_any_in_range (holds_up p m lists purpose x (tag_in (slice_get m.entries.items x.itag.0))) q 0 (length (seen_of m))
     (λ j lt.
     not_and_not (entry_waits p m.leaf purpose x.itag (tag_in (slice_get m.entries.items x.itag.0)) j (slice_get m.entries.items j)) (passes (seen_items lists (seen_of m) j) (slice_index (counts_of m) j) x)
     ∙ ap (λ b. not b || passes (seen_items lists (seen_of m) j) (slice_index (counts_of m) j) x) (waits_told purpose p nodes m x.itag j at (omega arith)))

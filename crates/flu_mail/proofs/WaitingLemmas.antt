@@ -4,6 +4,9 @@ use Rattle.std.specs.Prelude.{◌⊎◌, ◌≢◌, ◌||◌, not, slice_get, sl
 use Rattle.std.proofs.lemmas.List.{take_all}
 use Rattle.std.specs.List.{range_with_len}
 use Rattle.flu_lemmas.proofs.Tests.{and_left, and_right}
+use Rattle.flu_lemmas.proofs.Elements.{list_all_weaker}
+use Rattle.flu_lemmas.proofs.Ranges.{all_in_range, all_of_range}
+use Rattle.flu_lemmas.proofs.Booleans.{or_still, second_of, first_or}
 use Rattle.flu_model.specs.declared.events.Event.{Event}
 use Rattle.flu_model.specs.declared.events.Item.{Item}
 use Rattle.flu_model.specs.declared.jobs.Program.{Program}
@@ -13,7 +16,6 @@ use Rattle.flu_model.specs.Streaming.{is_stream_from, are_streams}
 use Rattle.flu_mail.specs.Passing.{seen_items, passes}
 use Rattle.flu_mail.specs.Waiting.{all_pass}
 use Rattle.flu_mail.specs.Laws.{SeesMore, IsUncounted, IsAllSeen}
-use Rattle.flu_mail.proofs.General.{list_all_weaker, list_all_at, list_all_of}
 use Rattle.flu_mail.proofs.PassingLemmas.{passing_stays, passing_clears, passes_when_clear, event_of_stream, not_after, before_or_after}
 
 -- the items at a place are a stream, or there are none
@@ -37,10 +39,6 @@ list_passes_still items seen more count x (inl none) le h =
     ap (λ is. passes is count x) (sym same) ∙ h
 list_passes_still items seen more count x (inr s) le h = passing_stays s.0 0 items seen more count x s.1 le h
 
-or_still : (a b c : Bool) → (b ≡ true → c ≡ true) → (a || b) ≡ true → (a || c) ≡ true
-or_still true b c h e = refl
-or_still false b c h e = h e
-
 pub all_pass_still : (p : Program) (waits : ℕ → Bool) (lists : List (List Item)) (seen more counts : List ℕ) (x : Event) → are_streams 0 lists ≡ true → SeesMore seen more → all_pass p waits lists seen counts x ≡ true → all_pass p waits lists more counts x ≡ true
 all_pass_still p waits lists seen more counts x s le h =
     list_all_weaker (λ j. not (waits j) || passes (seen_items lists seen j) (slice_index counts j) x) (λ j. not (waits j) || passes (seen_items lists more j) (slice_index counts j) x) (range_with_len 0 (count_of_itags p))
@@ -48,10 +46,6 @@ all_pass_still p waits lists seen more counts x s le h =
     h
 
 -- ---- what is let pass
-
-second_of : (a b : Bool) → a ≡ true → (not a || b) ≡ true → b ≡ true
-second_of true b e h = h
-second_of false b e h = cc
 
 list_clears : (items : List Item) (seen count : ℕ) (x y : Event) → (items ≡ nothing) ⊎ ((n : ℕ) × (is_stream_from n 0 items ≡ true)) → passes (take seen items) count x ≡ true → IsUncounted items count y → is_before x y ≡ true
 list_clears items seen count x y (inl none) h uncounted = absurd (not_some y (sym (ap (λ is. slice_get (events_of is) uncounted.0) none) ∙ uncounted.2))
@@ -62,7 +56,7 @@ list_clears items seen count x y (inr s) h uncounted = passing_clears s.0 0 item
 
 pub all_pass_clears : (p : Program) (waits : ℕ → Bool) (lists : List (List Item)) (seen counts : List ℕ) (x : Event) (j : ℕ) (y : Event) → are_streams 0 lists ≡ true → all_pass p waits lists seen counts x ≡ true → j < count_of_itags p → waits j ≡ true → IsUncounted (slice_index_or lists j []) (slice_index counts j) y → (is_before x y ≡ true) × (is_before y x ≡ false)
 all_pass_clears p waits lists seen counts x j y s h lt waited uncounted =
-    let here = list_all_at (λ k. not (waits k) || passes (seen_items lists seen k) (slice_index counts k) x) 0 (count_of_itags p) j h (omega arith) (omega arith) in
+    let here = all_in_range (λ k. not (waits k) || passes (seen_items lists seen k) (slice_index counts k) x) 0 (count_of_itags p) j h (omega arith) (omega arith) in
     let after = list_clears (slice_index_or lists j []) (slice_index seen j) (slice_index counts j) x y (stream_at 0 lists j s) (second_of (waits j) _ waited here) uncounted in
     (after, not_after x y after)
 
@@ -75,13 +69,9 @@ stream_of i (items ∷ rest) (suc j) s lt =
     let there : i + suc j ≡ i + 1 + j = omega arith in
     ap (λ n. is_stream_from n 0 (slice_index_or rest j [])) there ∙ stream_of (i + 1) rest j (and_right (is_stream_from i 0 items) _ s) (omega arith)
 
-first_or : (a b : Bool) → (a ≡ true → b ≡ true) → (not a || b) ≡ true
-first_or true b h = h refl
-first_or false b h = refl
-
 pub all_pass_when_clear : (p : Program) (waits : ℕ → Bool) (lists : List (List Item)) (seen counts : List ℕ) (x : Event) → are_streams 0 lists ≡ true → length lists ≡ count_of_itags p → IsAllSeen lists seen → ((j : ℕ) → waits j ≡ true → x.itag.0 ≢ j) → ((j : ℕ) (y : Event) → j < count_of_itags p → waits j ≡ true → IsUncounted (slice_index_or lists j []) (slice_index counts j) y → is_before y x ≡ false) → all_pass p waits lists seen counts x ≡ true
 all_pass_when_clear p waits lists seen counts x s each all other clear =
-    list_all_of (λ j. not (waits j) || passes (seen_items lists seen j) (slice_index counts j) x) 0 (count_of_itags p)
+    all_of_range (λ j. not (waits j) || passes (seen_items lists seen j) (slice_index counts j) x) 0 (count_of_itags p)
     (λ j lt. first_or (waits j) _ (λ waited.
     let items = slice_index_or lists j [] in
     let count = slice_index counts j in

@@ -4,4 +4,4 @@ pub mod Places
 pub mod Entries
 pub mod Mailboxes
 pub mod Laws
-pub mod Parts
+pub mod LoopParts

@@ -6,8 +6,9 @@ use Rattle.flu_model.specs.declared.events.Itag.{Itag}
 use Rattle.flu_model.specs.declared.events.Item.{Item}
 use Rattle.flu_model.specs.declared.jobs.Program.{Program}
 use Rattle.flu_model.specs.declared.plans.Node.{Node}
-use Rattle.flu_model.specs.Itags.{count_of_itags, tag_of_itag, is_dependent}
+use Rattle.flu_model.specs.Itags.{count_of_itags}
 use Rattle.flu_model.specs.Owners.{owns, ancestors_own}
+use Rattle.flu_deps.specs.Dependencies.{itags_depend}
 use Rattle.flu_deps.specs.Owned.{kids_at}
 use Rattle.flu_mail.specs.Passing.{seen_items, passes}
 
@@ -17,18 +18,14 @@ itag i = record { 0 = i }
 abbrev pub is_leaf : List Node → ℕ → Bool
 is_leaf nodes w = is_none (kids_at nodes w)
 
--- itag j's tag is dependent on itag i's
-abbrev pub are_dependent : Program → ℕ → Itag → Bool
-are_dependent p j i = is_dependent p (tag_of_itag p (itag j)) (tag_of_itag p i)
-
--- at node w an event of itag i waits for itag j: another one, which the node or an ancestor owns, and at a leaf only where it is dependent on i
+-- at node w an event of itag i waits for itag j: another one, which the node or an ancestor owns, and at a leaf only where the two are dependent
 abbrev pub waits_for : Program → List Node → ℕ → Itag → ℕ → Bool
 waits_for p nodes w i j =
-    not (j == i.0) && (owns p nodes w (itag j) || ancestors_own p nodes w (itag j)) && (not (is_leaf nodes w) || are_dependent p j i)
+    not (j == i.0) && (owns p nodes w (itag j) || ancestors_own p nodes w (itag j)) && (not (is_leaf nodes w) || itags_depend p i (itag j))
 
--- at node w an ancestor's event of itag i waits for itag j: one that the node owns, and at a leaf only where it is dependent on i
+-- at node w an ancestor's event of itag i waits for itag j: one that the node owns, and at a leaf only where the two are dependent
 abbrev pub serving_waits_for : Program → List Node → ℕ → Itag → ℕ → Bool
-serving_waits_for p nodes w i j = owns p nodes w (itag j) && (not (is_leaf nodes w) || are_dependent p j i)
+serving_waits_for p nodes w i j = owns p nodes w (itag j) && (not (is_leaf nodes w) || itags_depend p i (itag j))
 
 -- each itag that is waited for lets x pass
 abbrev pub all_pass : Program → (ℕ → Bool) → List (List Item) → List ℕ → List ℕ → Event → Bool

@@ -13,7 +13,7 @@ use flu_deps::{Checked, Valid};
 use flu_model::{Itag, Streams, Tag, tag_of};
 
 /// Whose an itag is, seen from a node.
-#[derive(Clone, Copy, PartialEq, Eq, Debug)]
+#[derive(Clone, Copy, PartialEq, Eq)]
 pub enum Role {
     /// The node owns it.
     Own,
@@ -24,7 +24,7 @@ pub enum Role {
 }
 
 /// What a node's mailbox keeps of an itag.
-#[derive(Clone, Copy, PartialEq, Eq, Debug)]
+#[derive(Clone, Copy, PartialEq, Eq)]
 pub struct Entry {
     pub role: Role,
     pub tag: Tag,

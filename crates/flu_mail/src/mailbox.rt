@@ -24,7 +24,7 @@ use std::alloc::{AllocError, Global};
 ///
 /// It is made over the streams of a job with a valid plan, and its calls are for these. For each itag it keeps where the next
 /// event stands, so that `next` and `passes` look at one item each.
-#[derive(Debug, Drop)]
+#[derive(Drop)]
 pub struct Mailbox {
     node: u32,
     leaf: bool,
@@ -33,7 +33,7 @@ pub struct Mailbox {
 
 impl Mailbox {
     ghost use Rattle.flu_mail.specs.Mailboxes.{node_of, seen_of, counts_of, IsAt, IsOver};
-    ghost use Rattle.flu_mail.specs.Parts.{tag_in, holds_up, is_held_up};
+    ghost use Rattle.flu_mail.specs.LoopParts.{tag_in, holds_up, is_held_up};
 
     /// The mailbox of a node, which has seen and counted nothing. It looks at the items before each itag's first event.
     pub fn new(
@@ -160,7 +160,7 @@ impl Mailbox {
         let entry = self.entries[j.0 as usize];
         awaits(purpose, x.itag, j, entry.role)
             && !self.passes(s, j, x)
-            && (!self.leaf || dep(p, entry.tag, tag))
+            && (!self.leaf || dep(p, tag, entry.tag))
     }
 
     // The tag of an itag.

@@ -1,13 +1,13 @@
 //! Which itags an event waits for.
 
 ghost use Rattle.std.specs.Prelude.{◌≡◌};
-ghost use Rattle.flu_mail.specs.Parts.{awaits};
+ghost use Rattle.flu_mail.specs.LoopParts.{awaits};
 
 use crate::entries::Role;
 use flu_model::Itag;
 
 /// What an event waits for: that the node takes it, or that the node gives up its state for it.
-#[derive(Clone, Copy, PartialEq, Eq, Debug)]
+#[derive(Clone, Copy, PartialEq, Eq)]
 pub enum Purpose {
     Take,
     Serve,

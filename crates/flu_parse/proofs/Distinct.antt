@@ -10,7 +10,8 @@ use Rattle.flu_model.specs.Rules.{are_distinct}
 
 module _ {X : Type 0} (same : X → X → Bool) (symm : (x y : X) → same x y ≡ same y x) where
   -- an element that is like none of a list may be put at any place of it
-  pub distinct_with : (xs ys : List X) (x : X) → are_distinct same (xs ++ ys) ≡ true → list_any (same x) (xs ++ ys) ≡ false → are_distinct same (xs ++ x ∷ ys) ≡ true
+  pub distinct_with : (xs ys : List X) (x : X) → are_distinct same (xs ++ ys) ≡ true → list_any (same x) (xs ++ ys) ≡ false
+      → are_distinct same (xs ++ x ∷ ys) ≡ true
   distinct_with [] ys x apart other = ap (λ b. not b && are_distinct same ys) other ∙ apart
   distinct_with (a ∷ xs) ys x apart other =
       let not_again = not_true (list_any (same a) (xs ++ ys)) (and_left (not (list_any (same a) (xs ++ ys))) (are_distinct same (xs ++ ys)) apart) in
@@ -19,5 +20,7 @@ module _ {X : Type 0} (same : X → X → Bool) (symm : (x y : X) → same x y �
       let before = or_false_left (list_any (same a) xs) (list_any (same a) ys) (sym parts ∙ not_again) in
       let behind = or_false_right (list_any (same a) xs) (list_any (same a) ys) (sym parts ∙ not_again) in
       let here = symm a x ∙ or_false_left (same x a) (list_any (same x) (xs ++ ys)) other in
-      let still = list_any-append (same a) xs (x ∷ ys) ∙ or_from (list_any (same a) xs) (same a x || list_any (same a) ys) before (or_from (same a x) (list_any (same a) ys) here behind) in
-      both (not (list_any (same a) (xs ++ x ∷ ys))) (are_distinct same (xs ++ x ∷ ys)) (ap not still) (distinct_with xs ys x rest (or_false_right (same x a) (list_any (same x) (xs ++ ys)) other))
+      let still = list_any-append (same a) xs (x ∷ ys)
+      ∙ or_from (list_any (same a) xs) (same a x || list_any (same a) ys) before (or_from (same a x) (list_any (same a) ys) here behind) in
+      both (not (list_any (same a) (xs ++ x ∷ ys))) (are_distinct same (xs ++ x ∷ ys)) (ap not still)
+      (distinct_with xs ys x rest (or_false_right (same x a) (list_any (same x) (xs ++ ys)) other))

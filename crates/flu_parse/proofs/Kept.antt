@@ -1,5 +1,4 @@
--- What is read keeps the rules of the language: of words, names, expressions, templates, actions, listings and whole jobs.
-pub mod Words
+-- What is read keeps the rules of the language: of names, expressions, templates, actions, listings and whole jobs.
 pub mod Plain
 pub mod Names
 pub mod Terms

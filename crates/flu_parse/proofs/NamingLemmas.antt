@@ -13,7 +13,8 @@ abbrev pub shown : {K X : Type 0} → (K → List ℕ) → K × X → List ℕ �
 shown bytes e = (bytes e.0, e.1)
 
 -- looking up a key is looking up its bytes
-pub lookup_by_bytes : {K X : Type 0} (bytes : K → List ℕ) (name : List ℕ) (es : List (K × X)) → lookup (λ k. bytes_eq name (bytes k)) es ≡ look_up name (map (shown bytes) es)
+pub lookup_by_bytes : {K X : Type 0} (bytes : K → List ℕ) (name : List ℕ) (es : List (K × X))
+    → lookup (λ k. bytes_eq name (bytes k)) es ≡ look_up name (map (shown bytes) es)
 lookup_by_bytes bytes name [] = refl
 lookup_by_bytes bytes name (e ∷ es) = ap (λ r. if bytes_eq name (bytes e.0) then Some e.1 else r) (lookup_by_bytes bytes name es)
 
@@ -26,12 +27,14 @@ none_not_some e = cc
 
 module _ {K X : Type 0} (bytes : K → List ℕ) (k : K) (v : X) where
   -- what is inserted under a new name goes last
-  pub insert_new : (es : List (K × X)) → look_up (bytes k) (map (shown bytes) es) ≡ None → map (shown bytes) (insert_entry (λ a b. bytes_eq (bytes a) (bytes b)) es k v) ≡ map (shown bytes) es ++ (bytes k, v) ∷ []
+  pub insert_new : (es : List (K × X)) → look_up (bytes k) (map (shown bytes) es) ≡ None
+      → map (shown bytes) (insert_entry (λ a b. bytes_eq (bytes a) (bytes b)) es k v) ≡ map (shown bytes) es ++ (bytes k, v) ∷ []
   insert_new [] absent = refl
   insert_new (e ∷ es) absent = by (bytes_eq (bytes k) (bytes e.0)) refl (insert_new es)
     where
       by : (b : Bool) → bytes_eq (bytes k) (bytes e.0) ≡ b
-          → (look_up (bytes k) (map (shown bytes) es) ≡ None → map (shown bytes) (insert_entry (λ a b. bytes_eq (bytes a) (bytes b)) es k v) ≡ map (shown bytes) es ++ (bytes k, v) ∷ [])
+          → (look_up (bytes k) (map (shown bytes) es) ≡ None → map (shown bytes) (insert_entry (λ a b. bytes_eq (bytes a) (bytes b)) es k v) ≡ map
+          (shown bytes) es ++ (bytes k, v) ∷ [])
           → map (shown bytes) (insert_entry (λ a b. bytes_eq (bytes a) (bytes b)) (e ∷ es) k v) ≡ map (shown bytes) (e ∷ es) ++ (bytes k, v) ∷ []
       by true t rest = absurd (none_not_some (sym absent ∙ ap (λ b. if b then Some e.1 else look_up (bytes k) (map (shown bytes) es)) t))
       by false t rest =
@@ -39,7 +42,8 @@ module _ {K X : Type 0} (bytes : K → List ℕ) (k : K) (v : X) where
           ∙ ap (λ l. (bytes e.0, e.1) ∷ l) (rest (sym (ap (λ b. if b then Some e.1 else look_up (bytes k) (map (shown bytes) es)) t) ∙ absent))
 
 -- a name that nothing has, among families, kinds and sources
-pub undeclared : (n : Naming) (name : List ℕ) → is_declared n name ≡ false → (look_up name n.families ≡ None) × (look_up name n.kinds ≡ None) × (list_any (bytes_eq name) n.sources ≡ false)
+pub undeclared : (n : Naming) (name : List ℕ) → is_declared n name ≡ false
+    → (look_up name n.families ≡ None) × (look_up name n.kinds ≡ None) × (list_any (bytes_eq name) n.sources ≡ false)
 undeclared n name e =
     let none = none_of_three (is_some (look_up name n.families)) (is_some (look_up name n.kinds)) (list_any (bytes_eq name) n.sources) e in
     (none_if_not_some (look_up name n.families) none.0, none_if_not_some (look_up name n.kinds) none.1, none.2)

@@ -15,7 +15,8 @@ set_kind [] i k actions lt is = absurd (omega arith)
 set_kind (q ∷ qs) zero k actions lt is = ap (λ (p : Kind). plain_kind (active p actions) ∷ map plain_kind qs) is
 set_kind (q ∷ qs) (suc i) k actions lt is = ap (λ rest. plain_kind q ∷ rest) (set_kind qs i k actions (omega arith) is)
 
-pub no_kind : (kinds : List Kind) (i : ℕ) (actions : List Action) → length kinds ≤ i → map plain_kind kinds ≡ with_actions (map plain_kind kinds) i (map plain_action actions)
+pub no_kind : (kinds : List Kind) (i : ℕ) (actions : List Action) → length kinds ≤ i
+    → map plain_kind kinds ≡ with_actions (map plain_kind kinds) i (map plain_action actions)
 no_kind [] i actions past = refl
 no_kind (q ∷ qs) zero actions past = absurd (omega arith)
 no_kind (q ∷ qs) (suc i) actions past = ap (λ rest. plain_kind q ∷ rest) (no_kind qs i actions (omega arith))

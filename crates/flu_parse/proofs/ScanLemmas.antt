@@ -7,14 +7,16 @@ use Rattle.flu_parse.specs.Scans.{Steps}
 use Rattle.flu_parse.specs.Templates.{Scan, scan_byte, scan, continued, end_of_scan}
 
 module _ (field : ℕ → ℕ → Option WrittenPiece) where
-  pub scan-next : (s t : Scan) (place : ℕ) (bs : List ℕ) (i : ℕ) → i < length bs → scan_byte field s place (get_or bs i 0) ≡ Some t → scan field s place (drop i bs) ≡ scan field t (place + 1) (drop (i + 1) bs)
+  pub scan-next : (s t : Scan) (place : ℕ) (bs : List ℕ) (i : ℕ) → i < length bs → scan_byte field s place (get_or bs i 0) ≡ Some t
+      → scan field s place (drop i bs) ≡ scan field t (place + 1) (drop (i + 1) bs)
   unfolding scan
   scan-next s t place bs i lt found =
       ap (scan field s place) (drop-cons bs i 0 lt)
       ∙ ap (λ r. continued s r (λ next. scan field next (place + 1) (drop (suc i) bs))) found
       ∙ ap (λ j. scan field t (place + 1) (drop j bs)) (sym (add-one i))
 
-  pub scan-fault : (s : Scan) (place : ℕ) (bs : List ℕ) (i : ℕ) → i < length bs → scan_byte field s place (get_or bs i 0) ≡ None → scan field s place (drop i bs) ≡ record { pieces = s.pieces; whole = false }
+  pub scan-fault : (s : Scan) (place : ℕ) (bs : List ℕ) (i : ℕ) → i < length bs → scan_byte field s place (get_or bs i 0) ≡ None
+      → scan field s place (drop i bs) ≡ record { pieces = s.pieces; whole = false }
   unfolding scan
   scan-fault s place bs i lt found =
       ap (scan field s place) (drop-cons bs i 0 lt)

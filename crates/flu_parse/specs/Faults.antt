@@ -1,5 +1,7 @@
 -- Looks that may find a fault: the first one found is the answer. Want of memory alone is free.
-use Rattle.std.specs.Prelude.{◌≡◌, ℕ, ◌+◌, Bool, nat_lt, if◌then◌else◌, List, [], ◌∷◌, ◌++◌, Result, Ok, Err}
+use Rattle.std.specs.Prelude.{◌≡◌, ℕ, ◌+◌, Bool, nat_lt, if◌then◌else◌, Result, Ok, Err}
+pub use Rattle.flu_lemmas.specs.Loops.{◌>>=◌, ◌>>◌, found_of_each}
+unfoldable pub use Rattle.flu_lemmas.specs.Loops.{each}
 use Rattle.flu_model.specs.declared.limits.What.{What}
 use Rattle.flu_parse.specs.declared.faults.JobFault.{JobFault}
 use Rattle.flu_parse.specs.declared.faults.JobFault.TheVariants as f
@@ -8,16 +10,6 @@ use Rattle.flu_parse.specs.declared.faults.JobFault.TheVariants as f
 abbrev pub Found : Type 0 → Type 0
 Found A = Result A JobFault
 
-infixl 10 ◌>>=◌
-abbrev pub ◌>>=◌ : {A B : Type 0} → Found A → (A → Found B) → Found B
-(Ok x) >>= g = g x
-(Err e) >>= g = Err e
-
-infixl 10 ◌>>◌
-abbrev pub ◌>>◌ : {A B : Type 0} → Found A → Found B → Found B
-(Ok x) >> g = g
-(Err e) >> g = Err e
-
 -- the fault, unless the test passes
 abbrev pub unless : Bool → JobFault → Found (Unit {0})
 unless passes fault = if passes then Ok tt else Err fault
@@ -25,15 +17,6 @@ unless passes fault = if passes then Ok tt else Err fault
 -- there is room for one more where so many of at most `limit` are there
 abbrev pub room : What → ℕ → ℕ → Found (Unit {0})
 room what limit count = unless (nat_lt count limit) (f.OverLimit what (limit + 1))
-
--- step by step through a list, up to the first fault
-unfoldable pub each : {S X : Type 0} → (S → X → Found S) → S → List X → Found S
-each step s [] = Ok s
-each step s (x ∷ xs) = step s x >>= λ t. each step t xs
-
--- what is found of each element, in order, up to the first fault
-abbrev pub found_of_each : {X Y : Type 0} → (X → Found Y) → List X → Found (List Y)
-found_of_each {X} {Y} find xs = each (λ (done : List Y) (x : X). find x >>= λ y. Ok (done ++ y ∷ [])) [] xs
 
 -- the fault is the one that was found, or want of memory
 abbrev pub Fails : {Y : Type 0} → JobFault → Found Y → Type 0

@@ -1,5 +1,4 @@
 pub mod Faults
-pub mod Spelling
 pub mod Naming
 pub mod Cells
 pub mod Terms

@@ -14,9 +14,9 @@ use Rattle.flu_syntax.specs.declared.tree.WrittenNumber.{WrittenNumber}
 use Rattle.flu_syntax.specs.declared.tree.WrittenKeys.{WrittenKeys}
 use Rattle.flu_syntax.specs.declared.tree.WrittenKeys.TheVariants as w
 use Rattle.flu_syntax.specs.declared.tree.WrittenTag.{WrittenTag}
+use Rattle.flu_layout.specs.Spelling.{inside, written_value}
 use Rattle.flu_parse.specs.declared.faults.JobFault.TheVariants as f
 use Rattle.flu_parse.specs.Faults.{Found, ◌>>=◌, ◌>>◌, unless, each}
-use Rattle.flu_parse.specs.Spelling.{inside, written_value}
 use Rattle.flu_parse.specs.Naming.{Naming, kind_of}
 use Rattle.flu_parse.specs.Cells.{resolved_key}
 

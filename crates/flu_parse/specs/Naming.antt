@@ -7,12 +7,12 @@ use Rattle.flu_model.specs.declared.limits.What.TheVariants.{Families, Kinds, So
 use Rattle.flu_syntax.specs.declared.tree.WrittenSpan.{WrittenSpan}
 use Rattle.flu_syntax.specs.Tree.{Declaration}
 use Rattle.flu_syntax.specs.Tree as w
+use Rattle.flu_layout.specs.Spelling.{name_of}
 use Rattle.flu_parse.specs.declared.faults.JobFault.TheVariants as f
 use Rattle.flu_parse.specs.declared.names.FamilyHead.{FamilyHead}
 use Rattle.flu_parse.specs.declared.names.KindHead.{KindHead}
 use Rattle.flu_parse.specs.declared.names.Names.{Names}
 use Rattle.flu_parse.specs.Faults.{Found, ◌>>=◌, ◌>>◌, unless, room, each}
-use Rattle.flu_parse.specs.Spelling.{name_of}
 
 -- the declared names, with the heads of their declarations, and how many `depends` there are
 pub record Naming : Type 0 where

@@ -26,7 +26,7 @@ found_tokens (Err at) = Err (f.BadToken at)
 abbrev pub tokens_in : List ℕ → Found (List Token)
 tokens_in text = found_tokens (reading text)
 
-abbrev pub found_job : Verdict → Found Written
+abbrev pub found_job : Verdict Written → Found Written
 found_job (IsJob written) = Ok written
 found_job (Unexpected at) = Err (f.Unexpected at)
 found_job TooDeep = Err (f.OverLimit Nesting 65)

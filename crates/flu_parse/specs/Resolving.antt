@@ -13,6 +13,7 @@ use Rattle.flu_syntax.specs.declared.tree.WrittenRelation.{WrittenRelation}
 use Rattle.flu_syntax.specs.declared.tree.WrittenRelation.TheVariants as r
 use Rattle.flu_syntax.specs.Tree.{Action, Declaration}
 use Rattle.flu_syntax.specs.Tree as w
+use Rattle.flu_layout.specs.Spelling.{name_of, written_value}
 use Rattle.flu_parse.specs.declared.faults.JobFault.TheVariants as f
 use Rattle.flu_parse.specs.declared.names.FamilyHead.{FamilyHead}
 use Rattle.flu_parse.specs.declared.names.KindHead.{KindHead}
@@ -20,7 +21,6 @@ use Rattle.flu_parse.specs.declared.drafts.Draft.{Draft}
 use Rattle.flu_parse.specs.declared.drafts.JobParts.{JobParts}
 use Rattle.flu_parse.specs.declared.drafts.TagList.{TagList}
 use Rattle.flu_parse.specs.Faults.{Found, ◌>>=◌, ◌>>◌, unless, each}
-use Rattle.flu_parse.specs.Spelling.{name_of, written_value}
 use Rattle.flu_parse.specs.Naming.{Naming, naming_of, kind_of}
 use Rattle.flu_parse.specs.Actions.{resolved_actions}
 use Rattle.flu_parse.specs.Listings.{Listed, tags_of, rate_of, slack_of, file_of}
@@ -68,7 +68,8 @@ with_on text n d name actions = do
   done ← resolved_actions text n kind actions
   Ok (record d { kinds = with_actions d.kinds kind.number done; given = d.given ++ kind.number ∷ [] })
 
-unfoldable pub with_source : List ℕ → Naming → Drafted → WrittenSpan → WrittenSpan → Option WrittenNumber → Option WrittenNumber → List WrittenTag → Found Drafted
+unfoldable pub with_source : List ℕ → Naming → Drafted → WrittenSpan → WrittenSpan → Option WrittenNumber → Option WrittenNumber → List WrittenTag
+    → Found Drafted
 with_source text n d name file written_rate written_slack tags = do
   bytes ← file_of text d.sources file
   rate ← rate_of written_rate

@@ -5,18 +5,19 @@ use Rattle.std.specs.List.{list_all}
 use Rattle.std.specs.Str.{bytes_eq}
 use Rattle.flu_model.specs.declared.jobs.Piece.{Piece}
 use Rattle.flu_model.specs.declared.jobs.Piece.TheVariants as piece
-use Rattle.flu_model.specs.Rules.{is_name}
 use Rattle.flu_text.specs.Lexeme.{number_of}
 use Rattle.flu_syntax.specs.declared.tree.WrittenSpan.{WrittenSpan}
 use Rattle.flu_syntax.specs.declared.tree.WrittenKey.{WrittenKey}
 use Rattle.flu_syntax.specs.declared.tree.WrittenKey.TheVariants as k
+use Rattle.flu_names.specs.Names.{is_name}
+use Rattle.flu_lemmas.specs.Spans.{spelled}
+use Rattle.flu_layout.specs.Spelling.{name_of, inside}
 use Rattle.flu_parse.specs.declared.faults.JobFault.TheVariants as f
 use Rattle.flu_parse.specs.declared.names.FamilyHead.{FamilyHead}
 use Rattle.flu_parse.specs.declared.names.KindHead.{KindHead}
 use Rattle.flu_parse.specs.declared.pieces.WrittenPiece.{WrittenPiece}
 use Rattle.flu_parse.specs.declared.pieces.WrittenPiece.TheVariants as p
 use Rattle.flu_parse.specs.Faults.{Found, ◌>>=◌, ◌>>◌, unless, each, found_of_each}
-use Rattle.flu_parse.specs.Spelling.{spelled, name_of, inside}
 use Rattle.flu_parse.specs.Naming.{Naming, look_up, known}
 use Rattle.flu_parse.specs.Cells.{brackets_fit, at_of}
 

@@ -9,7 +9,7 @@ ghost use Rattle.flu_parse.specs.Cells.{resolved_key, brackets_fit, is_wanted, f
 use crate::faults::JobFault;
 use crate::names::{FamilyHead, KindHead, Names};
 use crate::naming::family_of;
-use crate::spelling::written_value;
+use flu_layout::written_value;
 use flu_model::{At, CellRef, KEY_COUNT, Sort, What};
 use flu_syntax::{WrittenKey, WrittenNumber, WrittenRef};
 

@@ -7,8 +7,8 @@ ghost use Rattle.flu_text.specs.Lexeme.{number_of};
 ghost use Rattle.flu_parse.specs.Templates.{is_open_bracket, digits_at, key_at, ref_with, ref_at, field_at, braced};
 
 use crate::pieces::WrittenPiece;
-use crate::spelling::spelled;
-use flu_rules::is_name;
+use flu_layout::spelled;
+use flu_names::is_name;
 use flu_syntax::{WrittenKey, WrittenNumber, WrittenRef, WrittenSpan};
 
 fn are_digits(bytes: &[u8]) -> bool

@@ -2,17 +2,15 @@
 
 ghost use Rattle.flu_parse.specs.Laws.{JobsKeepRules, PrintedIsRead};
 
+use flu_layout::laws::{keys_are_laid, laid_is_read, read_may_be_printed};
 use flu_rules::tags_meet_by_their_ends;
 use flu_syntax::laws::{found_is_job, words_stand};
-use flu_text::laws::{layout_is_read, names_are_tested, reading_is_exact, tokens_stand};
 
 /// The job that a text is keeps the rules of the language.
 pub fn jobs_keep_rules()
     ensures { JobsKeepRules }
 {
-    names_are_tested();
-    reading_is_exact();
-    tokens_stand();
+    read_may_be_printed();
     found_is_job();
     words_stand();
     tags_meet_by_their_ends();
@@ -22,8 +20,8 @@ pub fn jobs_keep_rules()
 pub fn printed_is_read()
     ensures { PrintedIsRead }
 {
-    names_are_tested();
-    layout_is_read();
+    laid_is_read();
+    keys_are_laid();
     found_is_job();
     tags_meet_by_their_ends();
 }

@@ -17,13 +17,9 @@ mod printing_terms;
 mod reading;
 mod resolving;
 mod scanning;
-pub mod spelling;
 mod templates;
 mod terms;
 
 pub use faults::JobFault;
-pub use printing::{add_keys, print_job};
+pub use printing::print_job;
 pub use reading::read_job;
-
-#[cfg(test)]
-mod printing_tests;

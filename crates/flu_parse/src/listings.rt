@@ -16,8 +16,8 @@ use crate::drafts::TagList;
 use crate::faults::JobFault;
 use crate::names::Names;
 use crate::naming::kind_of;
-use crate::spelling::{inside, written_value};
 use crate::terms::shape_at;
+use flu_layout::{inside, written_value};
 use flu_model::{Keys, Source, TagRef, What};
 use flu_rules::tags_meet_by_their_ends;
 use flu_syntax::{WrittenKeys, WrittenNumber, WrittenSpan, WrittenTag};
@@ -87,7 +87,10 @@ fn tag_count(keys: &WrittenKeys) -> u64
 {
     match keys {
         WrittenKeys::Alone | WrittenKeys::One(_) => 1,
-        WrittenKeys::Range(lo, hi) => count_between(written_value(lo.value), written_value(hi.value)),
+        WrittenKeys::Range(lo, hi) => count_between(
+            written_value(lo.value),
+            written_value(hi.value),
+        ),
     }
 }
 

@@ -9,7 +9,7 @@ ghost use Rattle.flu_parse.specs.Naming.{naming, no_names, look_up, is_declared,
 
 use crate::faults::JobFault;
 use crate::names::{FamilyHead, KindHead, Names};
-use crate::spelling::name_of;
+use flu_layout::name_of;
 use flu_model::{Sort, What};
 use flu_syntax::{WrittenDeclaration, WrittenSpan};
 use indexmap::{IndexMap, IndexSet};

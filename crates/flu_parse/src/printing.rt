@@ -1,16 +1,27 @@
 //! The normal form of a job text.
 
-ghost use Rattle.std.specs.Prelude.{◌≡◌, ◌≤◌, ℕ, List, ◌++◌, length, OnOk, IfOk, IsTrue, map, slice_get, codes};
+ghost use Rattle.std.specs.Prelude.{◌≡◌, ◌≤◌, ◌++◌, length, OnOk, IfOk, map, slice_get, codes};
 ghost use Rattle.std.specs.List.{flat_map};
 ghost use Rattle.std.specs.String.{string_bytes};
 ghost use Rattle.flu_model.specs.Erasure.{job_of, plain_kind};
-ghost use Rattle.flu_parse.specs.Printing.{sort_text, keyed_text, cell_line, value_text, tag_line, kind_name, same_text, depends_line, on_line, keys_text, tag_text, separated, source_head, source_line, normal_form, has_text};
+ghost use Rattle.flu_layout.specs.Lists.{separated};
+ghost use Rattle.flu_parse.specs.Printing.{version_line, sort_text, keyed_text, cell_line, value_text, tag_line, kind_name, same_text, depends_line, on_line, tag_text, slack_text, source_head, source_line, normal_form};
 ghost use Rattle.flu_parse.specs.Reading.{job_in};
 
-use crate::laws::{jobs_have_text, printed_is_read};
+use crate::laws::printed_is_read;
 use crate::printing_actions::add_actions;
-use flu_model::{Depend, Family, Keys, Kind, Program, Sort, Source, TagRef, Text};
+use flu_layout::add_keys;
+use flu_model::{Depend, Family, Kind, Program, Sort, Source, TagRef, Text};
 use std::alloc::{AllocError, Global};
+
+fn add_version(text: &mut String, version: u32) -> Result<(), AllocError>
+    ensures { OnOk result (string_bytes text.new ≡ string_bytes text.old ++ version_line version) }
+{
+    if version == 2 {
+        text.push_str("version 2\n")?;
+    }
+    Ok(())
+}
 
 fn keyed_text(keyed: bool) -> &'static str
     ensures { result.now ≡ keyed_text keyed }
@@ -107,17 +118,6 @@ fn add_ons(text: &mut String, families: &[Family], kinds: &[Kind]) -> Result<(),
     Ok(())
 }
 
-/// Puts the keys that are listed of a kind behind a text: nothing, a number in brackets, or two of them with `..` between.
-pub fn add_keys(text: &mut String, keys: Keys) -> Result<(), AllocError>
-    ensures { OnOk result (string_bytes text.new ≡ string_bytes text.old ++ keys_text keys) }
-{
-    match keys {
-        Keys::Alone => Ok(()),
-        Keys::One(key) => write!(text, "[{key}]"),
-        Keys::Range(low, high) => write!(text, "[{low}..{high}]"),
-    }
-}
-
 fn add_tag(text: &mut String, kinds: &[Kind], tag: TagRef) -> Result<(), AllocError>
     ensures { OnOk result (string_bytes text.new ≡ string_bytes text.old ++ tag_text (map plain_kind kinds.now) tag) }
 {
@@ -139,13 +139,24 @@ fn add_listed(text: &mut String, kinds: &[Kind], tags: &[TagRef]) -> Result<(), 
     Ok(())
 }
 
+fn add_slack(text: &mut String, slack: u64) -> Result<(), AllocError>
+    ensures { OnOk result (string_bytes text.new ≡ string_bytes text.old ++ slack_text slack) }
+{
+    if slack > 0 {
+        write!(text, " slack {slack}")?;
+    }
+    Ok(())
+}
+
 fn add_source_head(text: &mut String, source: &Source) -> Result<(), AllocError>
     ensures { OnOk result (string_bytes text.new ≡ string_bytes text.old ++ source_head source.now) }
 {
     let name = source.name.as_str();
     let file = source.file.as_str();
     let rate = source.rate;
-    write!(text, "source {name} \"{file}\" rate {rate}: ")
+    write!(text, "source {name} \"{file}\" rate {rate}")?;
+    add_slack(text, source.slack)?;
+    text.push_str(": ")
 }
 
 fn add_source(text: &mut String, kinds: &[Kind], source: &Source) -> Result<(), AllocError>
@@ -171,6 +182,7 @@ fn printed(alloc: Global, p: &Program) -> Result<String, AllocError>
     let families = p.families.items();
     let kinds = p.kinds.items();
     let mut text = String::new(alloc);
+    add_version(&mut text, p.version)?;
     add_cells(&mut text, families)?;
     add_tags(&mut text, kinds)?;
     add_depends(&mut text, kinds, p.depends.items())?;
@@ -179,23 +191,20 @@ fn printed(alloc: Global, p: &Program) -> Result<String, AllocError>
     Ok(text)
 }
 
-/// A job as a text, in normal form (`docs/LANGUAGE.md`): cells, tags, `depends`, the actions of the kinds that have some, and
-/// sources, each on a line of its own with one blank between words. Each operator stands in parentheses of its own, numbers
-/// have no needless zeros, and the rate always stands there.
+/// A job as a text, in normal form (`docs/LANGUAGE.md`): the version where it is 2, cells, tags, `depends`, the actions of the
+/// kinds that have some, and sources, each on a line of its own with one blank between words. Each operator stands in parentheses
+/// of its own, numbers have no needless zeros, the rate always stands there, and the slack where it is not 0.
 ///
-/// The text is read as this job again, where it has at most 1,048,576 bytes, for each job that was read, and for any other whose
-/// literals are not negative and whose templates' texts have at most 256 bytes.
+/// The text is read as this job again, where it has at most 1,048,576 bytes.
 ///
 /// # Errors
 ///
 /// Only where memory is wanting.
 pub fn print_job(alloc: Global, p: &Program) -> Result<Text, AllocError>
     ensures text { IfOk result (λ text. text ≡ normal_form (job_of p.now)) }
-    ensures read_again { IfOk result (λ text. IsTrue (has_text (job_of p.now)) → length text ≤ 1048576 → job_in text ≡ Ok (job_of p.now)) }
-    ensures round_trip { IfOk result (λ text. (bytes : List ℕ) → job_in bytes ≡ Ok (job_of p.now) → length text ≤ 1048576 → job_in text ≡ Ok (job_of p.now)) }
+    ensures read_again { IfOk result (λ text. length text ≤ 1048576 → job_in text ≡ Ok (job_of p.now)) }
 {
     printed_is_read();
-    jobs_have_text();
     let text = printed(alloc, p)?;
     Ok(Text::of(text))
 }

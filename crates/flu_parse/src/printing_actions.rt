@@ -2,15 +2,18 @@
 
 ghost use Rattle.std.specs.Prelude.{◌≡◌, ◌++◌, OnOk, map, option_map, codes};
 ghost use Rattle.std.specs.String.{string_bytes};
-ghost use Rattle.flu_model.specs.Erasure.{term_of, deed_of, plain_action};
-ghost use Rattle.flu_parse.specs.Printing.{cell_text, term_text, piece_text, template_text, quoted, deed_text, guard_text, action_text, separated};
+ghost use Rattle.flu_model.specs.Erasure.{term_of, plain_action, plain_act};
+ghost use Rattle.flu_model.specs.Templates.{written_cell, written_piece, written_template};
+ghost use Rattle.flu_layout.specs.Laid.{quoted};
+ghost use Rattle.flu_layout.specs.Lists.{separated};
+ghost use Rattle.flu_parse.specs.Printing.{term_text, act_text, guard_text, action_text};
 
 use crate::printing_terms::{add_cell, add_term, family_name};
 use flu_model::{Act, Action, CellRef, Expr, Family, Piece};
 use std::alloc::AllocError;
 
 fn add_piece(text: &mut String, families: &[Family], piece: &Piece) -> Result<(), AllocError>
-    ensures { OnOk result (string_bytes text.new ≡ string_bytes text.old ++ piece_text families.now piece.now) }
+    ensures { OnOk result (string_bytes text.new ≡ string_bytes text.old ++ written_piece families.now piece.now) }
 {
     match piece {
         Piece::Plain(plain) => text.push_str(plain.as_str()),
@@ -27,7 +30,7 @@ fn add_piece(text: &mut String, families: &[Family], piece: &Piece) -> Result<()
 }
 
 fn add_pieces(text: &mut String, families: &[Family], pieces: &[Piece]) -> Result<(), AllocError>
-    ensures { OnOk result (string_bytes text.new ≡ string_bytes text.old ++ template_text families.now pieces.now) }
+    ensures { OnOk result (string_bytes text.new ≡ string_bytes text.old ++ written_template families.now pieces.now) }
 {
     for piece in pieces {
         add_piece(text, families, piece)?;
@@ -36,7 +39,7 @@ fn add_pieces(text: &mut String, families: &[Family], pieces: &[Piece]) -> Resul
 }
 
 fn add_template(text: &mut String, families: &[Family], pieces: &[Piece]) -> Result<(), AllocError>
-    ensures { OnOk result (string_bytes text.new ≡ string_bytes text.old ++ quoted (template_text families.now pieces.now)) }
+    ensures { OnOk result (string_bytes text.new ≡ string_bytes text.old ++ quoted (written_template families.now pieces.now)) }
 {
     text.push_str("\"")?;
     add_pieces(text, families, pieces)?;
@@ -50,7 +53,7 @@ fn add_writing(
     cell: CellRef,
     amount: &Expr,
 ) -> Result<(), AllocError>
-    ensures { OnOk result (string_bytes text.new ≡ string_bytes text.old ++ verb.now ++ cell_text families.now cell ++ codes " " ++ term_text families.now (term_of amount.now)) }
+    ensures { OnOk result (string_bytes text.new ≡ string_bytes text.old ++ verb.now ++ written_cell families.now cell ++ codes " " ++ term_text families.now (term_of amount.now)) }
 {
     text.push_str(verb)?;
     add_cell(text, families, cell)?;
@@ -58,8 +61,8 @@ fn add_writing(
     add_term(text, families, amount)
 }
 
-fn add_deed(text: &mut String, families: &[Family], act: &Act) -> Result<(), AllocError>
-    ensures { OnOk result (string_bytes text.new ≡ string_bytes text.old ++ deed_text families.now (deed_of act.now)) }
+fn add_act(text: &mut String, families: &[Family], act: &Act) -> Result<(), AllocError>
+    ensures { OnOk result (string_bytes text.new ≡ string_bytes text.old ++ act_text families.now (plain_act act.now)) }
 {
     match act {
         Act::Add(cell, amount) => add_writing(text, families, "add ", *cell, amount),
@@ -96,7 +99,7 @@ fn add_guard(text: &mut String, families: &[Family], guard: &Option<Expr>) -> Re
 fn add_action(text: &mut String, families: &[Family], action: &Action) -> Result<(), AllocError>
     ensures { OnOk result (string_bytes text.new ≡ string_bytes text.old ++ action_text families.now (plain_action action.now)) }
 {
-    add_deed(text, families, &action.act)?;
+    add_act(text, families, &action.act)?;
     add_guard(text, families, &action.guard)
 }
 

@@ -3,7 +3,8 @@
 ghost use Rattle.std.specs.Prelude.{◌≡◌, ◌++◌, OnOk, slice_get};
 ghost use Rattle.std.specs.String.{string_bytes};
 ghost use Rattle.flu_model.specs.Erasure.{term_of};
-ghost use Rattle.flu_parse.specs.Printing.{family_name, key_text, cell_text, op_text, term_text};
+ghost use Rattle.flu_model.specs.Templates.{family_name, written_key, written_cell};
+ghost use Rattle.flu_parse.specs.Printing.{op_text, term_text};
 
 use flu_model::{At, CellRef, Expr, Family, Op};
 use std::alloc::AllocError;
@@ -19,7 +20,7 @@ pub fn family_name(families: &[Family], family: u32) -> &str
 }
 
 fn add_key(text: &mut String, at: At) -> Result<(), AllocError>
-    ensures { OnOk result (string_bytes text.new ≡ string_bytes text.old ++ key_text at) }
+    ensures { OnOk result (string_bytes text.new ≡ string_bytes text.old ++ written_key at) }
 {
     match at {
         At::Alone => Ok(()),
@@ -30,7 +31,7 @@ fn add_key(text: &mut String, at: At) -> Result<(), AllocError>
 
 /// Adds a cell, `name`, `name[key]` or `name[digits]`.
 pub fn add_cell(text: &mut String, families: &[Family], cell: CellRef) -> Result<(), AllocError>
-    ensures { OnOk result (string_bytes text.new ≡ string_bytes text.old ++ cell_text families.now cell) }
+    ensures { OnOk result (string_bytes text.new ≡ string_bytes text.old ++ written_cell families.now cell) }
 {
     text.push_str(family_name(families, cell.family))?;
     add_key(text, cell.at)

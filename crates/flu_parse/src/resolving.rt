@@ -14,8 +14,8 @@ use crate::faults::JobFault;
 use crate::listings::{file_of, rate_of, slack_of, tags_of};
 use crate::names::{KindHead, Names};
 use crate::naming::{kind_of, naming_of};
-use crate::spelling::{name_of, written_value};
 use crate::terms::shape_at;
+use flu_layout::{name_of, written_value};
 use flu_model::{Action, Depend, Family, Kind, List, Name, Source, Text};
 use flu_syntax::{
     WrittenAction, WrittenDeclaration, WrittenJob, WrittenNumber, WrittenRelation, WrittenSpan,

@@ -6,7 +6,7 @@ ghost use Rattle.flu_parse.specs.Scans.{scan_of, template_of_scan, Steps};
 
 use crate::fields::piece_between;
 use crate::pieces::{ScannedTemplate, Scanner, WrittenPiece};
-use crate::spelling::inside;
+use flu_layout::inside;
 use flu_syntax::WrittenSpan;
 use std::alloc::{AllocError, Global};
 

@@ -2,9 +2,9 @@
 
 ghost use Rattle.std.specs.Prelude.{◌≡◌};
 ghost use Rattle.std.specs.List.{list_all};
+ghost use Rattle.flu_layout.specs.Spelling.{name_of};
 ghost use Rattle.flu_parse.specs.Faults.{Gives};
 ghost use Rattle.flu_parse.specs.Naming.{naming, look_up, known};
-ghost use Rattle.flu_parse.specs.Spelling.{name_of};
 ghost use Rattle.flu_parse.specs.Templates.{known_name, known_names, own_key_fits, read_fits, piece_fits, piece_of, pieces_of, template_of};
 
 use crate::cells::{at_of, brackets_fit};
@@ -13,7 +13,7 @@ use crate::names::{FamilyHead, KindHead, Names};
 use crate::naming::find_family;
 use crate::pieces::WrittenPiece;
 use crate::scanning::template_at;
-use crate::spelling::name_of;
+use flu_layout::name_of;
 use flu_model::{CellRef, List, Piece, Text};
 use flu_syntax::{WrittenKey, WrittenRef, WrittenSpan};
 use std::alloc::Global;

@@ -7,7 +7,7 @@ ghost use Rattle.flu_parse.specs.Faults.{Gives, unless};
 ghost use Rattle.flu_parse.specs.Naming.{naming};
 ghost use Rattle.flu_parse.specs.Terms.{height, first_part, first_token, term_of, expression_of};
 
-use crate::cells::{resolved_cell, family_for};
+use crate::cells::{family_for, resolved_cell};
 use crate::faults::JobFault;
 use crate::names::{KindHead, Names};
 use flu_model::{Expr, What};

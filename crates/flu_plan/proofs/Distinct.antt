@@ -119,7 +119,7 @@ module _ {X : Type 0} where
 
   pub found_in : (same : X → X → Bool) → ((x y : X) → same x y ≡ true → x ≡ y) → (x : X) (xs : List X) → list_any (same x) xs ≡ true → In x xs
   unfolding In
-  found_in same is x [] e = absurd (cc)
+  found_in same is x [] e = absurd cc
   found_in same is x (y ∷ ys) e = by (same x y) refl (found_in same is x ys)
     where
       by : (b : Bool) → same x y ≡ b → (list_any (same x) ys ≡ true → In x ys) → (x ≡ y) ⊎ In x ys
@@ -129,7 +129,8 @@ module _ {X : Type 0} where
   pub are_distinct-from : (same : X → X → Bool) → ((x y : X) → same x y ≡ true → x ≡ y) → (xs : List X) → Distinct xs → are_distinct same xs ≡ true
   unfolding Distinct
   are_distinct-from same is [] d = refl
-  are_distinct-from same is (x ∷ xs) d = both (not (list_any (same x) xs)) (are_distinct same xs) (absent (list_any (same x) xs) refl) (are_distinct-from same is xs d.1)
+  are_distinct-from same is (x ∷ xs) d =
+      both (not (list_any (same x) xs)) (are_distinct same xs) (absent (list_any (same x) xs) refl) (are_distinct-from same is xs d.1)
     where
       absent : (b : Bool) → list_any (same x) xs ≡ b → not b ≡ true
       absent true t = absurd (d.0 (found_in same is x xs t))
@@ -141,8 +142,10 @@ module _ {X : Type 0} where
   distinct_from same itself (x ∷ xs) e = by (list_any (same x) xs) refl (distinct_from same itself xs)
     where
       by : (b : Bool) → list_any (same x) xs ≡ b → (are_distinct same xs ≡ true → Distinct xs) → (In x xs → ⊥) × Distinct xs
-      by true t more = let no : false ≡ true = sym (ap (λ b. not b && are_distinct same xs) t) ∙ e in absurd (cc)
-      by false t more = (λ h. (let yes = in_found same itself x xs h in let no : true ≡ false = sym yes ∙ t in absurd (cc)), more (sym (ap (λ b. not b && are_distinct same xs) t) ∙ e))
+      by true t more = let no : false ≡ true = sym (ap (λ b. not b && are_distinct same xs) t) ∙ e in absurd cc
+      by false t more =
+          (λ h. (let yes = in_found same itself x xs h in let no : true ≡ false = sym yes
+              ∙ t in absurd cc), more (sym (ap (λ b. not b && are_distinct same xs) t) ∙ e))
 
 -- ---- what elements are seen as
 module _ {X Y : Type 0} (f : X → Y) where
@@ -186,7 +189,7 @@ in_or_not v vs = by (list_any (λ u. v == u) vs) refl
   where
     by : (b : Bool) → list_any (λ u. v == u) vs ≡ b → In v vs ⊎ (In v vs → ⊥)
     by true t = inl (found_in (λ a b. a == b) true_eq v vs t)
-    by false t = inr (λ h. (let yes = in_found (λ a b. a == b) (λ n. eq_true n n refl) v vs h in let no : true ≡ false = sym yes ∙ t in absurd (cc)))
+    by false t = inr (λ h. (let yes = in_found (λ a b. a == b) (λ n. eq_true n n refl) v vs h in let no : true ≡ false = sym yes ∙ t in absurd cc))
 
 distinct_without : {X : Type 0} (x : X) (front back : List X) → Distinct (front ++ x ∷ back) → Distinct (front ++ back) × (In x (front ++ back) → ⊥)
 unfolding Distinct In
@@ -202,7 +205,8 @@ unfolding In
 in_without v x front back h = elim (in_either v front back h) [ inl a ↦ in_left v front (x ∷ back) a | inr b ↦ in_right v front (x ∷ back) (inr b) ]
 
 -- Different numbers below a bound have together at most what all below it have.
-pub sum_below : (g total : ℕ → ℕ) (n : ℕ) → ((k : ℕ) → k < n → total k + g k ≡ total (suc k)) → (vs : List ℕ) → Distinct vs → ((v : ℕ) → In v vs → v < n) → sum_by g vs ≤ total n
+pub sum_below : (g total : ℕ → ℕ) (n : ℕ) → ((k : ℕ) → k < n → total k + g k ≡ total (suc k)) → (vs : List ℕ) → Distinct vs → ((v : ℕ) → In v vs → v < n)
+    → sum_by g vs ≤ total n
 sum_below g total zero adds [] d low = omega arith
 sum_below g total zero adds (v ∷ vs) d low = let bad = low v (in_head v vs) in absurd (omega arith)
 sum_below g total (suc n) adds vs d low =

@@ -17,7 +17,8 @@ use Rattle.flu_plan.specs.declared.written.WrittenNode.{WrittenNode}
 use Rattle.flu_plan.specs.Faults.{Found, ◌>>=◌, each}
 use Rattle.flu_plan.specs.Machine.{terminal_of, Turn, start, stage_step, step, stage_end, ended, run}
 use Rattle.flu_plan.specs.Grammar.{FoundIsPlan, PlansAreUnique, MayGoOn, CannotTake, IsFirstThatCannotFollow, UnexpectedIsFirst}
-use Rattle.flu_plan.proofs.Finds.{ok_same, bind_ok}
+use Rattle.flu_plan.proofs.Finds.{ok_same}
+use Rattle.flu_lemmas.proofs.Loops.{bind_ok}
 use Rattle.flu_plan.proofs.Spelled.{turn, steps, run-takes, found_if_spelled}
 use Rattle.flu_plan.proofs.History.{Read, read_start, read_more, found_spelled}
 
@@ -88,7 +89,8 @@ run-refused : (end : ℕ) (u : Turn) (t : Token) (tokens : List Token) (e : Plan
 unfolding each
 run-refused end u t tokens e refused = ap (λ r. (r >>= λ v. each step v tokens) >>= ended end) refused
 
-cannot_take : (u : Turn) (front : List Token) (t : Token) (rest : List Token) (e : PlanFault) → each step start front ≡ Ok u → step u t ≡ Err e → CannotTake front (t ∷ rest)
+cannot_take : (u : Turn) (front : List Token) (t : Token) (rest : List Token) (e : PlanFault) → each step start front ≡ Ok u → step u t ≡ Err e
+    → CannotTake front (t ∷ rest)
 cannot_take u front t rest e behind refused = λ more nodes plan. (
     let found = found_if_spelled 0 ((front ++ t ∷ []) ++ more) nodes plan in
     let same = ap (run 0 start) (append_assoc front (t ∷ []) more) in
@@ -176,7 +178,8 @@ end_refuses end u _ e h = cc
 place_is : (a b : ℕ) → f.Unexpected a ≡ f.Unexpected b → a ≡ b
 place_is a b e = cc
 
-first_of_all : (end place : ℕ) (u : Turn) (front tokens : List Token) → each step start front ≡ Ok u → Read u front → run end u tokens ≡ Err (f.Unexpected place) → IsFirstThatCannotFollow end (front ++ tokens) place
+first_of_all : (end place : ℕ) (u : Turn) (front tokens : List Token) → each step start front ≡ Ok u → Read u front
+    → run end u tokens ≡ Err (f.Unexpected place) → IsFirstThatCannotFollow end (front ++ tokens) place
 unfolding each ended
 first_of_all end place u front [] behind read e =
     record {
@@ -189,9 +192,11 @@ first_of_all end place u front [] behind read e =
     }
 first_of_all end place u front (t ∷ tokens) behind read e =
     by (step u t) refl
-    (λ next one. first_of_all end place next (front ++ t ∷ []) tokens (each-push start u next front t behind one) (read_more u next front t read one) (sym (run-takes end u next t tokens one) ∙ e))
+    (λ next one. first_of_all end place next (front ++ t ∷ []) tokens (each-push start u next front t behind one) (read_more u next front t read one)
+        (sym (run-takes end u next t tokens one) ∙ e))
   where
-    by : (r : Found Turn) → step u t ≡ r → ((next : Turn) → step u t ≡ Ok next → IsFirstThatCannotFollow end ((front ++ t ∷ []) ++ tokens) place) → IsFirstThatCannotFollow end (front ++ t ∷ tokens) place
+    by : (r : Found Turn) → step u t ≡ r → ((next : Turn) → step u t ≡ Ok next → IsFirstThatCannotFollow end ((front ++ t ∷ []) ++ tokens) place)
+        → IsFirstThatCannotFollow end (front ++ t ∷ tokens) place
     by (Ok next) one more = subst (λ (l : List Token). IsFirstThatCannotFollow end l place) (append_assoc front (t ∷ []) tokens) (more next one)
     by (Err fault) one more =
         let stops = run-refused end u t tokens fault one in

@@ -2,18 +2,10 @@
 use Rattle.std.proofs.Common.{◌≡◌, List, [], ◌∷◌, ◌++◌, length, Ok, Err, refl, sym, ap, ◌∙◌, append_assoc, arith}
 use Rattle.std.proofs.lemmas.List.{append-nil}
 use Rattle.flu_plan.specs.Faults.{Found, ◌>>=◌, ◌>>◌, each}
-use Rattle.flu_plan.proofs.FaultLemmas.{collect}
+use Rattle.flu_lemmas.proofs.Loops.{bind_ok, collect}
 
 pub ok_same : {A : Type 0} (a b : A) → (let r : Found A = Ok a in let s : Found A = Ok b in r ≡ s) → a ≡ b
 ok_same a b e = cc
-
-pub bind_ok : {A B : Type 0} (r : Found A) (g : A → Found B) (y : B) → (r >>= g) ≡ Ok y → (x : A) × (r ≡ Ok x) × (g x ≡ Ok y)
-bind_ok (Ok x) g y e = (x, refl, e)
-bind_ok (Err fault) g y e = absurd (cc)
-
-pub then_ok : {A B : Type 0} (r : Found A) (g : Found B) (y : B) → (r >> g) ≡ Ok y → (x : A) × (r ≡ Ok x) × (g ≡ Ok y)
-then_ok (Ok x) g y e = (x, refl, e)
-then_ok (Err fault) g y e = absurd (cc)
 
 module _ {X Y : Type 0} (find : X → Found Y) where
   -- of each element one thing is found

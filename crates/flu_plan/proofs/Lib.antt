@@ -3,7 +3,7 @@ pub mod NameLemmas
 pub mod ShapeLemmas
 pub mod ReadingLemmas
 pub mod LimitLemmas
-pub mod PlanningLemmas
+pub mod NumberingLemmas
 pub mod Distinct
 pub mod Finds
 pub mod Resolved
@@ -16,5 +16,6 @@ pub mod Exact
 pub mod PlanWords
 pub mod PlanRead
 pub mod PlanBack
+pub mod Lengths
 pub mod PrintedPlan
 pub mod HasText

@@ -5,11 +5,8 @@ use Rattle.std.specs.List.{list_any, position, position_or_len}
 use Rattle.std.specs.Str.{bytes_eq}
 use Rattle.std.proofs.lemmas.List.{length-map}
 
-pub any_by_bytes : {K : Type 0} (bytes : K → List ℕ) (name : List ℕ) (ks : List K) → list_any (λ k. bytes_eq name (bytes k)) ks ≡ list_any (bytes_eq name) (map bytes ks)
-any_by_bytes bytes name [] = refl
-any_by_bytes bytes name (k ∷ ks) = ap (λ b. bytes_eq name (bytes k) || b) (any_by_bytes bytes name ks)
-
-prefix_by_bytes : {K : Type 0} (bytes : K → List ℕ) (name : List ℕ) (ks : List K) → position_or_len (λ k. bytes_eq name (bytes k)) ks ≡ position_or_len (bytes_eq name) (map bytes ks)
+prefix_by_bytes : {K : Type 0} (bytes : K → List ℕ) (name : List ℕ) (ks : List K)
+    → position_or_len (λ k. bytes_eq name (bytes k)) ks ≡ position_or_len (bytes_eq name) (map bytes ks)
 prefix_by_bytes bytes name [] = refl
 prefix_by_bytes bytes name (k ∷ ks) = ap (λ n. cond (not (bytes_eq name (bytes k))) (1 + n) 0) (prefix_by_bytes bytes name ks)
 
@@ -17,7 +14,8 @@ prefix_by_bytes bytes name (k ∷ ks) = ap (λ n. cond (not (bytes_eq name (byte
 abbrev found_at : ℕ → ℕ → Option ℕ
 found_at place count = cond (nat_lt place count) (Some place) None
 
-pub position_by_bytes : {K : Type 0} (bytes : K → List ℕ) (name : List ℕ) (ks : List K) → position (λ k. bytes_eq name (bytes k)) ks ≡ position (bytes_eq name) (map bytes ks)
+pub position_by_bytes : {K : Type 0} (bytes : K → List ℕ) (name : List ℕ) (ks : List K)
+    → position (λ k. bytes_eq name (bytes k)) ks ≡ position (bytes_eq name) (map bytes ks)
 position_by_bytes bytes name ks =
     ap (λ n. found_at n (length ks)) (prefix_by_bytes bytes name ks)
     ∙ ap (λ n. found_at (position_or_len (bytes_eq name) (map bytes ks)) n) (sym (length-map ks bytes))

@@ -9,20 +9,20 @@ use Rattle.flu_lemmas.proofs.Searches.{eq_true}
 use Rattle.flu_model.specs.declared.limits.What.TheVariants.{Nodes, Predicates, Depth}
 use Rattle.flu_model.specs.declared.plans.Node.{Node}
 use Rattle.flu_model.specs.PlanRules.{with_kids, are_subtrees, is_tree, with_depths, depths_below, depths, count_of_predicates}
-use Rattle.flu_parse.proofs.PrintedItems.{Pairs as Zip}
+use Rattle.flu_lemmas.specs.Items.{Pairs as Zip}
 use Rattle.flu_plan.specs.declared.fault.PlanFault.TheVariants as f
 use Rattle.flu_plan.specs.declared.drafts.DraftNode.{DraftNode}
 use Rattle.flu_plan.specs.declared.drafts.Visit.{Visit}
 use Rattle.flu_plan.specs.Faults.{◌>>=◌, ◌>>◌, unless, each}
 use Rattle.flu_plan.specs.Shape.{name_at, with_child, with_kids as note_kids, with_kids_of, kids_at, visit, with_visits, walk, preorder, is_met, below, all_below}
 use Rattle.flu_plan.specs.Limits.{keys_of_node, keys_of_nodes, predicates, are_shallow, within_limits}
-use Rattle.flu_plan.specs.Planning.{planned_pred, planned_kids, planned_node, planned_found, planned_at, planned, number_of}
+use Rattle.flu_plan.specs.Numbering.{planned_pred, planned_kids, planned_node, planned_found, planned_at, planned, number_of}
 use Rattle.flu_plan.specs.Reading.{tree_in}
 use Rattle.flu_plan.specs.Kept.{KeepsRules}
 use Rattle.flu_plan.proofs.Distinct.{In, Distinct, in_nil, in_head, in_tail, in_cases, in_left, in_right, in_middle, distinct_none, distinct_cons, distinct_head, distinct_tail, distinct_middle, distinct_apart, found_in}
-use Rattle.flu_plan.proofs.ShapeLemmas.{below-met}
+use Rattle.flu_plan.proofs.ShapeLemmas.{below-met, walk-zero, walk-one}
 use Rattle.flu_plan.proofs.Resolved.{kid_list, children}
-use Rattle.flu_plan.proofs.Trees.{ids, walk-zero, walk-one}
+use Rattle.flu_plan.proofs.Trees.{ids}
 use Rattle.flu_plan.proofs.PlanRead.{DraftIs}
 
 -- ---- the children of a tree
@@ -40,10 +40,12 @@ record Grows (w : ℕ) (wanted : List ℕ) (rest : List Node) : Type 0 where
   high : (v : ℕ) → In v (wanted ++ all_kids rest) → v < w + length rest
 
 -- behind the first of them
-grows_more : (w : ℕ) (wanted : List ℕ) (kids : Option (ℕ × ℕ)) (n : Node) (rest : List Node) → n.kids ≡ kids → Grows (w + 1) (with_kids kids wanted) rest → Grows w (w ∷ wanted) (n ∷ rest)
+grows_more : (w : ℕ) (wanted : List ℕ) (kids : Option (ℕ × ℕ)) (n : Node) (rest : List Node) → n.kids ≡ kids → Grows (w + 1) (with_kids kids wanted) rest
+    → Grows w (w ∷ wanted) (n ∷ rest)
 grows_more w wanted None n rest e g =
     let same : wanted ++ all_kids (n ∷ rest) ≡ wanted ++ all_kids rest = ap (λ k. wanted ++ (kid_list k ++ all_kids rest)) e in
-    subst (λ (l : List ℕ). Distinct (w ∷ l) × ((v : ℕ) → In v (w ∷ l) → w ≤ v) × ((v : ℕ) → In v (w ∷ l) → v < w + length (n ∷ rest)) → Grows w (w ∷ wanted) (n ∷ rest)) same
+    subst (λ (l : List ℕ). Distinct (w ∷ l) × ((v : ℕ) → In v (w ∷ l) → w ≤ v) × ((v : ℕ) → In v (w ∷ l) → v < w + length (n ∷ rest)) → Grows w (w ∷ wanted)
+        (n ∷ rest)) same
     (λ h. record { distinct = h.0; low = h.1; high = h.2 }) (
       distinct_cons w (wanted ++ all_kids rest) (λ i. (let le = g.low w i in absurd (omega arith))) g.distinct,
       λ v i. elim (in_cases v w (wanted ++ all_kids rest) i) [ inl same ↦ (omega arith) | inr b ↦ (let le = g.low v b in omega arith) ],
@@ -57,13 +59,20 @@ grows_more w wanted (Some kids) n rest e g =
     let tail = distinct_tail l (r ∷ (wanted ++ others)) g.distinct in
     let new_right = distinct_head r (wanted ++ others) tail in
     let one = distinct_middle r wanted others (distinct_tail r (wanted ++ others) tail) new_right in
-    let two : Distinct (wanted ++ l ∷ r ∷ others) = distinct_middle l wanted (r ∷ others) one (λ h. elim (in_middle l r wanted others h) [ inl same ↦ new_left (subst (λ (z : ℕ). In z (r ∷ (wanted ++ others))) (sym same) (in_head r (wanted ++ others))) | inr b ↦ new_left (in_tail l r (wanted ++ others) b) ]) in
+    let two : Distinct (wanted ++ l ∷ r ∷ others) = distinct_middle l wanted (r ∷ others) one
+        (λ h. elim (in_middle l r wanted others h)
+            [ inl same ↦ new_left (subst (λ (z : ℕ). In z (r ∷ (wanted ++ others))) (sym same) (in_head r (wanted ++ others))) | inr b ↦ new_left
+                (in_tail l r (wanted ++ others) b) ]) in
     let back : (v : ℕ) → In v (wanted ++ l ∷ r ∷ others) → In v (l ∷ r ∷ (wanted ++ others)) = λ v i. elim (in_middle v l wanted (r ∷ others) i) [
       | inl same ↦ subst (λ (z : ℕ). In z (l ∷ r ∷ (wanted ++ others))) (sym same) (in_head l (r ∷ (wanted ++ others)))
-      | inr b ↦ in_tail v l (r ∷ (wanted ++ others)) (elim (in_middle v r wanted others b) [ inl same ↦ subst (λ (z : ℕ). In z (r ∷ (wanted ++ others))) (sym same) (in_head r (wanted ++ others)) | inr d ↦ in_tail v r (wanted ++ others) d ])
+      | inr b ↦ in_tail v l (r ∷ (wanted ++ others))
+          (elim (in_middle v r wanted others b)
+              [ inl same ↦ subst (λ (z : ℕ). In z (r ∷ (wanted ++ others))) (sym same) (in_head r (wanted ++ others)) | inr d ↦ in_tail v r
+                  (wanted ++ others) d ])
     ] in
     let same : wanted ++ all_kids (n ∷ rest) ≡ wanted ++ (l ∷ r ∷ others) = ap (λ k. wanted ++ (kid_list k ++ others)) e in
-    subst (λ (x : List ℕ). Distinct (w ∷ x) × ((v : ℕ) → In v (w ∷ x) → w ≤ v) × ((v : ℕ) → In v (w ∷ x) → v < w + length (n ∷ rest)) → Grows w (w ∷ wanted) (n ∷ rest)) same
+    subst (λ (x : List ℕ). Distinct (w ∷ x) × ((v : ℕ) → In v (w ∷ x) → w ≤ v) × ((v : ℕ) → In v (w ∷ x) → v < w + length (n ∷ rest)) → Grows w (w ∷ wanted)
+        (n ∷ rest)) same
     (λ h. record { distinct = h.0; low = h.1; high = h.2 }) (
       distinct_cons w (wanted ++ l ∷ r ∷ others) (λ i. (let le = g.low w (back w i) in absurd (omega arith))) two,
       λ v i. elim (in_cases v w (wanted ++ l ∷ r ∷ others) i) [ inl same ↦ (omega arith) | inr b ↦ (let le = g.low v (back v b) in omega arith) ],
@@ -72,8 +81,8 @@ grows_more w wanted (Some kids) n rest e g =
 
 grows : (w : ℕ) (wanted : List ℕ) (rest : List Node) → are_subtrees w wanted rest ≡ true → Grows w wanted rest
 grows w [] [] e = record { distinct = distinct_none ℕ; low = λ v i. absurd (in_nil v i); high = λ v i. absurd (in_nil v i) }
-grows w [] (n ∷ rest) e = absurd (cc)
-grows w (v ∷ wanted) [] e = absurd (cc)
+grows w [] (n ∷ rest) e = absurd cc
+grows w (v ∷ wanted) [] e = absurd cc
 grows w (v ∷ wanted) (n ∷ rest) e =
     let here : v ≡ w = true_eq v w (and_left (v == w) (are_subtrees (w + 1) (with_kids n.kids wanted) rest) e) in
     let more = grows (w + 1) (with_kids n.kids wanted) rest (and_right (v == w) (are_subtrees (w + 1) (with_kids n.kids wanted) rest) e) in
@@ -101,32 +110,37 @@ abbrev kids_of_found : Option Node → Option (ℕ × ℕ)
 kids_of_found None = None
 kids_of_found (Some n) = n.kids
 
-walk_numbers : (drafts : List DraftNode) (rest : List Node) (w : ℕ) (wanted : List Visit) → ((j : ℕ) → kids_at drafts (w + j) ≡ kids_of_found (slice_get rest j)) → are_subtrees w (ids wanted) rest ≡ true
+walk_numbers : (drafts : List DraftNode) (rest : List Node) (w : ℕ) (wanted : List Visit)
+    → ((j : ℕ) → kids_at drafts (w + j) ≡ kids_of_found (slice_get rest j)) → are_subtrees w (ids wanted) rest ≡ true
     → walk drafts (length rest) wanted ≡ numbered w (depths_below (depths_of wanted) rest)
-walk_numbers drafts [] w [] same e = walk-zero drafts []
-walk_numbers drafts [] w (x ∷ wanted) same e = absurd (cc)
-walk_numbers drafts (n ∷ rest) w [] same e = absurd (cc)
+walk_numbers drafts [] w [] same e = walk-zero drafts 0 [] refl
+walk_numbers drafts [] w (x ∷ wanted) same e = absurd cc
+walk_numbers drafts (n ∷ rest) w [] same e = absurd cc
 walk_numbers drafts (n ∷ rest) w (x ∷ wanted) same e =
     let more : Bool = are_subtrees (w + 1) (with_kids n.kids (ids wanted)) rest in
     let here : x.node ≡ w = true_eq x.node w (and_left (x.node == w) more e) in
     let at : w ≡ w + 0 = omega arith in
     let kids : kids_at drafts x.node ≡ n.kids = ap (kids_at drafts) (here ∙ at) ∙ same 0 in
     let next = with_visits x.depth n.kids wanted in
-    let later : (j : ℕ) → kids_at drafts (w + 1 + j) ≡ kids_of_found (slice_get rest j) = λ j. (let moved : w + 1 + j ≡ w + suc j = omega arith in ap (kids_at drafts) moved ∙ same (suc j)) in
-    walk-one drafts (length rest) x wanted
+    let later : (j : ℕ) → kids_at drafts (w + 1 + j) ≡ kids_of_found (slice_get rest j) = λ j.
+        (let moved : w + 1 + j ≡ w + suc j = omega arith in ap (kids_at drafts) moved ∙ same (suc j)) in
+    walk-one drafts (suc (length rest)) (length rest) wanted x refl
     ∙ ap (λ k. x ∷ walk drafts (length rest) (with_visits x.depth k wanted)) kids
-    ∙ ap (λ l. x ∷ l) (walk_numbers drafts rest (w + 1) next later (ap (λ l. are_subtrees (w + 1) l rest) (visits_kids x.depth n.kids wanted) ∙ and_right (x.node == w) more e))
+    ∙ ap (λ l. x ∷ l) (walk_numbers drafts rest (w + 1) next later (ap (λ l. are_subtrees (w + 1) l rest) (visits_kids x.depth n.kids wanted)
+        ∙ and_right (x.node == w) more e))
     ∙ ap (λ l. x ∷ numbered (w + 1) (depths_below l rest)) (visits_depths x.depth n.kids wanted)
     ∙ ap (λ (v : ℕ). visit v x.depth ∷ numbered (w + 1) (depths_below (with_depths x.depth n.kids (depths_of wanted)) rest)) here
 
-depths_count : (w : ℕ) (wanted ds : List ℕ) (rest : List Node) → are_subtrees w wanted rest ≡ true → length ds ≡ length wanted → length (depths_below ds rest) ≡ length rest
+depths_count : (w : ℕ) (wanted ds : List ℕ) (rest : List Node) → are_subtrees w wanted rest ≡ true → length ds ≡ length wanted
+    → length (depths_below ds rest) ≡ length rest
 depths_count w [] [] [] e same = refl
-depths_count w [] [] (n ∷ rest) e same = absurd (cc)
+depths_count w [] [] (n ∷ rest) e same = absurd cc
 depths_count w [] (d ∷ ds) rest e same = absurd (omega arith)
 depths_count w (v ∷ wanted) [] rest e same = absurd (omega arith)
-depths_count w (v ∷ wanted) (d ∷ ds) [] e same = absurd (cc)
+depths_count w (v ∷ wanted) (d ∷ ds) [] e same = absurd cc
 depths_count w (v ∷ wanted) (d ∷ ds) (n ∷ rest) e same =
-    let more = depths_count (w + 1) (with_kids n.kids wanted) (with_depths d n.kids ds) rest (and_right (v == w) (are_subtrees (w + 1) (with_kids n.kids wanted) rest) e) (alike n.kids) in
+    let more = depths_count (w + 1) (with_kids n.kids wanted) (with_depths d n.kids ds) rest
+        (and_right (v == w) (are_subtrees (w + 1) (with_kids n.kids wanted) rest) e) (alike n.kids) in
     omega arith
   where
     alike : (kids : Option (ℕ × ℕ)) → length (with_depths d kids ds) ≡ length (with_kids kids wanted)
@@ -142,7 +156,8 @@ child_noted : (text : List ℕ) (nodes : List DraftNode) (cs : List ℕ) (v : �
 unfolding with_child
 child_noted text nodes cs v new = ap (λ b. unless b (f.NotATree (name_at text nodes v)) >> Ok (cs ++ v ∷ [])) (not_there v cs new)
 
-kids_noted : (text : List ℕ) (nodes : List DraftNode) (cs others : List ℕ) (kids : Option (ℕ × ℕ)) → Distinct (cs ++ (kid_list kids ++ others)) → with_kids_of text nodes cs kids ≡ Ok (cs ++ kid_list kids)
+kids_noted : (text : List ℕ) (nodes : List DraftNode) (cs others : List ℕ) (kids : Option (ℕ × ℕ)) → Distinct (cs ++ (kid_list kids ++ others))
+    → with_kids_of text nodes cs kids ≡ Ok (cs ++ kid_list kids)
 kids_noted text nodes cs others None d = ap Ok (sym (append-nil cs))
 kids_noted text nodes cs others (Some kids) d =
     let l = kids.0 in
@@ -152,7 +167,8 @@ kids_noted text nodes cs others (Some kids) d =
     let second = child_noted text nodes (cs ++ l ∷ []) r (λ h. distinct_apart r (cs ++ l ∷ []) (r ∷ others) later h (in_head r others)) in
     ap (λ x. x >>= λ more. with_child text nodes more r) first ∙ second ∙ ap Ok (append_assoc cs (l ∷ []) (r ∷ []))
 
-children_noted : (text : List ℕ) (nodes : List DraftNode) (cs : List ℕ) (rest : List DraftNode) → Distinct (cs ++ children rest) → each (note_kids text nodes) cs rest ≡ Ok (cs ++ children rest)
+children_noted : (text : List ℕ) (nodes : List DraftNode) (cs : List ℕ) (rest : List DraftNode) → Distinct (cs ++ children rest)
+    → each (note_kids text nodes) cs rest ≡ Ok (cs ++ children rest)
 unfolding each note_kids
 children_noted text nodes cs [] d = ap Ok (sym (append-nil cs))
 children_noted text nodes cs (n ∷ rest) d =
@@ -175,7 +191,8 @@ met_numbered (d ∷ ds) a (suc j) lt =
     or_true true = refl
     or_true false = refl
 
-below_all : (text : List ℕ) (order : List Visit) (w : ℕ) (rest : List DraftNode) → ((j : ℕ) → j < length rest → is_met order (w + j) ≡ true) → each (below text order) w rest ≡ Ok (w + length rest)
+below_all : (text : List ℕ) (order : List Visit) (w : ℕ) (rest : List DraftNode) → ((j : ℕ) → j < length rest → is_met order (w + j) ≡ true)
+    → each (below text order) w rest ≡ Ok (w + length rest)
 unfolding each
 below_all text order w [] met = let none : w ≡ w + 0 = omega arith in ap Ok none
 below_all text order w (n ∷ rest) met =
@@ -221,7 +238,8 @@ module _ (text : List ℕ) where
   drafts_children [] [] h = refl
   drafts_children [] (d ∷ drafts) h = absurd h
   drafts_children (n ∷ nodes) [] h = absurd h
-  drafts_children (n ∷ nodes) (d ∷ drafts) h = ap (λ k. kid_list k ++ children drafts) h.0.kids ∙ ap (λ l. kid_list n.kids ++ l) (drafts_children nodes drafts h.1)
+  drafts_children (n ∷ nodes) (d ∷ drafts) h =
+      ap (λ k. kid_list k ++ children drafts) h.0.kids ∙ ap (λ l. kid_list n.kids ++ l) (drafts_children nodes drafts h.1)
 
   drafts_predicates : (nodes : List Node) (drafts : List DraftNode) → Zip (DraftIs text) nodes drafts → predicates drafts ≡ count_of_predicates nodes
   drafts_predicates [] [] h = refl
@@ -248,27 +266,33 @@ module _ (text : List ℕ) where
     here : slice_get drafts j ≡ Some draft
     is : DraftIs text n draft
 
-  draft_at : (nodes : List Node) (drafts : List DraftNode) (j : ℕ) (n : Node) → Zip (DraftIs text) nodes drafts → slice_get nodes j ≡ Some n → DraftAt drafts n j
-  draft_at [] drafts j n h here = absurd (cc)
+  draft_at : (nodes : List Node) (drafts : List DraftNode) (j : ℕ) (n : Node) → Zip (DraftIs text) nodes drafts → slice_get nodes j ≡ Some n
+      → DraftAt drafts n j
+  draft_at [] drafts j n h here = absurd cc
   draft_at (m ∷ nodes) [] j n h here = absurd h
-  draft_at (m ∷ nodes) (d ∷ drafts) zero n h here = let same : m ≡ n = cc in record { draft = d; here = refl; is = subst (λ (x : Node). DraftIs text x d) same h.0 }
-  draft_at (m ∷ nodes) (d ∷ drafts) (suc j) n h here = let more = draft_at nodes drafts j n h.1 here in record { draft = more.draft; here = more.here; is = more.is }
+  draft_at (m ∷ nodes) (d ∷ drafts) zero n h here =
+      let same : m ≡ n = cc in record { draft = d; here = refl; is = subst (λ (x : Node). DraftIs text x d) same h.0 }
+  draft_at (m ∷ nodes) (d ∷ drafts) (suc j) n h here =
+      let more = draft_at nodes drafts j n h.1 here in record { draft = more.draft; here = more.here; is = more.is }
 
   kids_planned : (ds : List ℕ) (kids : Option (ℕ × ℕ)) → ((v : ℕ) → In v (kid_list kids) → v < length ds) → planned_kids (numbered 0 ds) kids ≡ kids
   kids_planned ds None low = refl
   kids_planned ds (Some kids) low =
-      let own : (v : ℕ) → v < length ds → number_of (numbered 0 ds) v ≡ v = λ v lt. (let at : v ≡ 0 + v = omega arith in ap (number_of (numbered 0 ds)) at ∙ number_numbered ds 0 v lt) in
+      let own : (v : ℕ) → v < length ds → number_of (numbered 0 ds) v ≡ v = λ v lt. (let at : v ≡ 0 + v = omega arith in ap (number_of (numbered 0 ds)) at
+          ∙ number_numbered ds 0 v lt) in
       let left = own kids.0 (low kids.0 (in_head kids.0 (kids.1 ∷ []))) in
       let right = own kids.1 (low kids.1 (in_tail kids.1 kids.0 (kids.1 ∷ []) (in_head kids.1 []))) in
       ap (λ (v : ℕ). Some (v, number_of (numbered 0 ds) kids.1)) left ∙ ap (λ (v : ℕ). Some (kids.0, v)) right
 
-  node_planned : (ds : List ℕ) (n : Node) (d : DraftNode) → DraftIs text n d → ((v : ℕ) → In v (kid_list n.kids) → v < length ds) → planned_node text (numbered 0 ds) d ≡ n
+  node_planned : (ds : List ℕ) (n : Node) (d : DraftNode) → DraftIs text n d → ((v : ℕ) → In v (kid_list n.kids) → v < length ds)
+      → planned_node text (numbered 0 ds) d ≡ n
   node_planned ds n d is low =
       let kids : planned_kids (numbered 0 ds) d.kids ≡ n.kids = ap (planned_kids (numbered 0 ds)) is.kids ∙ kids_planned ds n.kids low in
       λ i. record { name = is.name_is i; preds = is.preds i; kids = kids i }
 
   -- the nodes from a place on
-  rest_planned : (drafts : List DraftNode) (ds all : List ℕ) (w : ℕ) (rest : List Node) → length ds ≡ length rest → ((j : ℕ) (n : Node) → slice_get rest j ≡ Some n → DraftAt drafts n (w + j)) → ((v : ℕ) → In v (all_kids rest) → v < length all)
+  rest_planned : (drafts : List DraftNode) (ds all : List ℕ) (w : ℕ) (rest : List Node) → length ds ≡ length rest
+      → ((j : ℕ) (n : Node) → slice_get rest j ≡ Some n → DraftAt drafts n (w + j)) → ((v : ℕ) → In v (all_kids rest) → v < length all)
       → flat_map (planned_at text (numbered 0 all) drafts) (numbered w ds) ≡ rest
   rest_planned drafts [] all w [] same at low = refl
   rest_planned drafts [] all w (n ∷ rest) same at low = absurd (omega arith)
@@ -278,7 +302,9 @@ module _ (text : List ℕ) where
       let first = at 0 n refl in
       let here : slice_get drafts w ≡ Some first.draft = ap (slice_get drafts) start ∙ first.here in
       let tail = flat_map (planned_at text (numbered 0 all) drafts) (numbered (w + 1) ds) in
-      let more = rest_planned drafts ds all (w + 1) rest (omega arith) (λ j m e. subst (λ (i : ℕ). DraftAt drafts m i) (let moved : w + suc j ≡ w + 1 + j = omega arith in moved) (at (suc j) m e)) (λ v h. low v (in_right v (kid_list n.kids) (all_kids rest) h)) in
+      let more = rest_planned drafts ds all (w + 1) rest (omega arith)
+          (λ j m e. subst (λ (i : ℕ). DraftAt drafts m i) (let moved : w + suc j ≡ w + 1 + j = omega arith in moved) (at (suc j) m e))
+              (λ v h. low v (in_right v (kid_list n.kids) (all_kids rest) h)) in
       ap (λ o. planned_found text (numbered 0 all) o ++ tail) here
       ∙ ap (λ x. x ∷ tail) (node_planned all n first.draft first.is (λ v h. low v (in_left v (kid_list n.kids) (all_kids rest) h)))
       ∙ ap (λ l. n ∷ l) more
@@ -292,21 +318,27 @@ module _ (text : List ℕ) where
       let count = drafts_count nodes drafts are in
       let deep : length ds ≡ length nodes = depths_count 0 (0 ∷ []) (0 ∷ []) nodes kept.one_tree refl in
       let g = grows 0 (0 ∷ []) nodes kept.one_tree in
-      let kids : (j : ℕ) → kids_at drafts (0 + j) ≡ kids_of_found (slice_get nodes j) = λ j. (let at : 0 + j ≡ j = omega arith in ap (kids_at drafts) at ∙ drafts_kids nodes drafts are j) in
+      let kids : (j : ℕ) → kids_at drafts (0 + j) ≡ kids_of_found (slice_get nodes j) = λ j. (let at : 0 + j ≡ j = omega arith in ap (kids_at drafts) at
+          ∙ drafts_kids nodes drafts are j) in
       let walked : preorder drafts ≡ order = ap (λ n. walk drafts n (visit 0 0 ∷ [])) count ∙ walk_numbers drafts nodes 0 (visit 0 0 ∷ []) kids kept.one_tree in
       let apart : Distinct (0 ∷ children drafts) = subst (λ (l : List ℕ). Distinct (0 ∷ l)) (sym (drafts_children nodes drafts are)) g.distinct in
       let noted = children_noted text drafts (0 ∷ []) drafts apart in
       let met = below_all text order 0 drafts (λ j lt. met_numbered ds 0 j (omega arith)) in
       let few_nodes : nat_le (length drafts) 127 ≡ true = le_true (length drafts) 127 (omega (arith, kept.few_nodes)) in
-      let few_predicates : nat_le (predicates drafts) 4096 ≡ true = le_true (predicates drafts) 4096 (omega (arith, kept.few_predicates, drafts_predicates nodes drafts are)) in
+      let few_predicates : nat_le (predicates drafts) 4096 ≡ true = le_true (predicates drafts) 4096
+          (omega (arith, kept.few_predicates, drafts_predicates nodes drafts are)) in
       let shallow : are_shallow order ≡ true = shallow_numbered 0 ds ∙ kept.shallow in
       let low : (v : ℕ) → In v (all_kids nodes) → v < length ds = λ v h. (let high = g.high v (in_tail v 0 (all_kids nodes) h) in omega arith) in
-      let nodes_back = rest_planned drafts ds ds 0 nodes deep (λ j n e. subst (λ (i : ℕ). DraftAt drafts n i) (let at : j ≡ 0 + j = omega arith in at) (draft_at nodes drafts j n are e)) low in
+      let nodes_back = rest_planned drafts ds ds 0 nodes deep
+          (λ j n e. subst (λ (i : ℕ). DraftAt drafts n i) (let at : j ≡ 0 + j = omega arith in at) (draft_at nodes drafts j n are e)) low in
       ap (λ x. x >> (all_below text (preorder drafts) drafts >> (within_limits (preorder drafts) drafts >> Ok (planned text (preorder drafts) drafts)))) noted
       ∙ ap (λ o. all_below text o drafts >> (within_limits o drafts >> Ok (planned text o drafts))) walked
       ∙ ap (λ x. x >> (within_limits order drafts >> Ok (planned text order drafts))) met
-      ∙ ap (λ b. (unless b (f.OverLimit Nodes 128) >> (unless (nat_le (predicates drafts) 4096) (f.OverLimit Predicates 4097) >> (unless (are_shallow order) (f.OverLimit Depth 7) >> keys_of_nodes drafts))) >> Ok (planned text order drafts)) few_nodes
-      ∙ ap (λ b. (unless b (f.OverLimit Predicates 4097) >> (unless (are_shallow order) (f.OverLimit Depth 7) >> keys_of_nodes drafts)) >> Ok (planned text order drafts)) few_predicates
+      ∙ ap (λ b. (unless b (f.OverLimit Nodes 128) >>
+          (unless (nat_le (predicates drafts) 4096) (f.OverLimit Predicates 4097) >>
+              (unless (are_shallow order) (f.OverLimit Depth 7) >> keys_of_nodes drafts))) >> Ok (planned text order drafts)) few_nodes
+      ∙ ap (λ b. (unless b (f.OverLimit Predicates 4097) >> (unless (are_shallow order) (f.OverLimit Depth 7) >> keys_of_nodes drafts)) >> Ok
+          (planned text order drafts)) few_predicates
       ∙ ap (λ b. (unless b (f.OverLimit Depth 7) >> keys_of_nodes drafts) >> Ok (planned text order drafts)) shallow
       ∙ ap (λ x. x >> Ok (planned text order drafts)) (drafts_keys nodes drafts are)
       ∙ ap Ok nodes_back

@@ -7,6 +7,7 @@ use Rattle.std.proofs.lemmas.Str.{IsUtf8-from_is_utf8, is_utf8-from_IsUtf8}
 use Rattle.flu_plan.specs.declared.fault.PlanFault.TheVariants as f
 use Rattle.flu_plan.specs.Faults.{Found, ◌>>◌, unless}
 use Rattle.flu_plan.specs.Reading.{text_in}
+use Rattle.std.proofs.lemmas.Bool.{false_from_ne_true}
 
 -- the bytes, where a test of them passes
 abbrev tested : List ℕ → Bool → Found (List ℕ)
@@ -15,11 +16,7 @@ tested bytes passes = unless passes (f.BadToken (utf8_valid_len bytes)) >> Ok by
 pub text_in-utf8 : (bytes text : List ℕ) → text ≡ bytes → IsUtf8 bytes → text_in bytes ≡ Ok text
 text_in-utf8 bytes text same utf8 = ap (tested bytes) (is_utf8-from_IsUtf8 bytes utf8) ∙ ap Ok (sym same)
 
-fails : (bytes : List ℕ) → (IsUtf8 bytes → ⊥) → (b : Bool) → is_utf8 bytes ≡ b → b ≡ false
-fails bytes other true e = absurd (other (IsUtf8-from_is_utf8 bytes e))
-fails bytes other false e = refl
-
 pub text_in-other : (bytes : List ℕ) (at : ℕ) → (IsUtf8 bytes → ⊥) → at ≡ utf8_valid_len bytes → text_in bytes ≡ Err (f.BadToken at)
 text_in-other bytes at other place =
-    ap (tested bytes) (fails bytes other (is_utf8 bytes) refl)
+    ap (tested bytes) (false_from_ne_true (is_utf8 bytes) (λ e. other (IsUtf8-from_is_utf8 bytes e)))
     ∙ ap (λ n. let r : Found (List ℕ) = Err (f.BadToken n) in r) (sym place)

@@ -46,11 +46,13 @@ run-ends end u = refl
 abbrev pub LeadsTo : ℕ → Turn → List Token → Turn → List Sign → Type 0
 LeadsTo end u tokens next more = (rest : List Token) × AreSigns more rest × (run end u tokens ≡ run end next rest)
 
-takes_sign : (end : ℕ) (u next : Turn) (tokens : List Token) (s : Sign) (more : List Sign) → AreSigns (s ∷ more) tokens → ((t : Token) → IsSign s t → step u t ≡ Ok next) → LeadsTo end u tokens next more
+takes_sign : (end : ℕ) (u next : Turn) (tokens : List Token) (s : Sign) (more : List Sign) → AreSigns (s ∷ more) tokens
+    → ((t : Token) → IsSign s t → step u t ≡ Ok next) → LeadsTo end u tokens next more
 takes_sign end u next [] s more h takes = absurd h
 takes_sign end u next (t ∷ rest) s more h takes = (rest, h.1, run-takes end u next t rest (takes t h.0))
 
-on_to : (end : ℕ) (u next last : Turn) (tokens : List Token) (middle more : List Sign) (a : LeadsTo end u tokens next middle) → LeadsTo end next a.0 last more → LeadsTo end u tokens last more
+on_to : (end : ℕ) (u next last : Turn) (tokens : List Token) (middle more : List Sign) (a : LeadsTo end u tokens next middle)
+    → LeadsTo end next a.0 last more → LeadsTo end u tokens last more
 on_to end u next last tokens middle more a b = (b.0, b.1, a.2 ∙ b.2)
 
 terminal-name : (t : Token) → t.word ≡ w.Name → terminal_of t.word ≡ k.Name
@@ -103,17 +105,24 @@ same_number : (t : Token) (n : WrittenNumber) → t.from ≡ n.at → number_of 
 same_number t n a = λ i. record { value = n.value; at = a i }
 
 -- a mark leads on
-takes_mark : (end : ℕ) (u next : Turn) (tokens : List Token) (mark : Mark) (k : Terminal) (more : List Sign) → AreSigns (Any (w.Mark mark) ∷ more) tokens → terminal_of (w.Mark mark) ≡ k → ((t : Token) → stage_step u t k u.stage ≡ Ok next) → LeadsTo end u tokens next more
-takes_mark end u next tokens mark k more h is takes = takes_sign end u next tokens (Any (w.Mark mark)) more h (λ t sign. steps u t k (terminal-mark t mark k sign is) ∙ takes t)
+takes_mark : (end : ℕ) (u next : Turn) (tokens : List Token) (mark : Mark) (k : Terminal) (more : List Sign) → AreSigns (Any (w.Mark mark) ∷ more) tokens
+    → terminal_of (w.Mark mark) ≡ k → ((t : Token) → stage_step u t k u.stage ≡ Ok next) → LeadsTo end u tokens next more
+takes_mark end u next tokens mark k more h is takes =
+    takes_sign end u next tokens (Any (w.Mark mark)) more h (λ t sign. steps u t k (terminal-mark t mark k sign is) ∙ takes t)
 
 -- a name leads on
-takes_name : (end : ℕ) (u : Turn) (next : WrittenSpan → Turn) (tokens : List Token) (s : WrittenSpan) (more : List Sign) → AreSigns (name s ++ more) tokens → ((t : Token) → stage_step u t k.Name u.stage ≡ Ok (next (span_of t))) → LeadsTo end u tokens (next s) more
+takes_name : (end : ℕ) (u : Turn) (next : WrittenSpan → Turn) (tokens : List Token) (s : WrittenSpan) (more : List Sign) → AreSigns (name s ++ more) tokens
+    → ((t : Token) → stage_step u t k.Name u.stage ≡ Ok (next (span_of t))) → LeadsTo end u tokens (next s) more
 takes_name end u next tokens s more h takes =
-    takes_sign end u (next s) tokens (Spanned w.Name s) more h (λ t sign. steps u t k.Name (terminal-name t sign.0) ∙ takes t ∙ ap (λ x. Ok (next x)) (same_span t s sign.1 sign.2))
+    takes_sign end u (next s) tokens (Spanned w.Name s) more h (λ t sign. steps u t k.Name (terminal-name t sign.0) ∙ takes t
+        ∙ ap (λ x. Ok (next x)) (same_span t s sign.1 sign.2))
 
-takes_number : (end : ℕ) (u : Turn) (next : WrittenNumber → Turn) (tokens : List Token) (n : WrittenNumber) (more : List Sign) → AreSigns (number n ++ more) tokens → ((t : Token) → stage_step u t (k.Number n.value) u.stage ≡ Ok (next (number_of n.value t))) → LeadsTo end u tokens (next n) more
+takes_number : (end : ℕ) (u : Turn) (next : WrittenNumber → Turn) (tokens : List Token) (n : WrittenNumber) (more : List Sign)
+    → AreSigns (number n ++ more) tokens → ((t : Token) → stage_step u t (k.Number n.value) u.stage ≡ Ok (next (number_of n.value t)))
+    → LeadsTo end u tokens (next n) more
 takes_number end u next tokens n more h takes =
-    takes_sign end u (next n) tokens (At (w.Number n.value) n.at) more h (λ t sign. steps u t (k.Number n.value) (terminal-number t n.value sign.0) ∙ takes t ∙ ap (λ x. Ok (next x)) (same_number t n sign.1))
+    takes_sign end u (next n) tokens (At (w.Number n.value) n.at) more h (λ t sign. steps u t (k.Number n.value) (terminal-number t n.value sign.0) ∙ takes t
+        ∙ ap (λ x. Ok (next x)) (same_number t n sign.1))
 
 -- ---- behind a node
 
@@ -142,14 +151,19 @@ record Wants (u : Turn) (nodes : List WrittenNode) (name : WrittenSpan) (preds :
   kind : (t : Token) → stage_step u t k.Name u.stage ≡ Ok (turn nodes name preds (stage.Kind (span_of t)))
   source : (t : Token) → stage_step u t k.At u.stage ≡ Ok (turn nodes name preds (stage.At None keys.Alone))
 
-end-kind : (nodes : List WrittenNode) (name kind : WrittenSpan) (preds : List WrittenPred) → PredEnd (turn nodes name preds (stage.Kind kind)) nodes name (preds ++ pred (Some kind) keys.Alone None ∷ [])
-end-kind nodes name kind preds = record { node = record { after = record { before = record { name = name; next = λ t. refl }; end = λ e. refl }; arrow = λ t. refl }; comma = λ t. refl }
+end-kind : (nodes : List WrittenNode) (name kind : WrittenSpan) (preds : List WrittenPred)
+    → PredEnd (turn nodes name preds (stage.Kind kind)) nodes name (preds ++ pred (Some kind) keys.Alone None ∷ [])
+end-kind nodes name kind preds = record
+    { node = record { after = record { before = record { name = name; next = λ t. refl }; end = λ e. refl }; arrow = λ t. refl }; comma = λ t. refl }
 
-end-close : (nodes : List WrittenNode) (name kind : WrittenSpan) (preds : List WrittenPred) (ks : WrittenKeys) → PredEnd (turn nodes name preds (stage.Close kind ks)) nodes name (preds ++ pred (Some kind) ks None ∷ [])
-end-close nodes name kind preds ks = record { node = record { after = record { before = record { name = name; next = λ t. refl }; end = λ e. refl }; arrow = λ t. refl }; comma = λ t. refl }
+end-close : (nodes : List WrittenNode) (name kind : WrittenSpan) (preds : List WrittenPred) (ks : WrittenKeys)
+    → PredEnd (turn nodes name preds (stage.Close kind ks)) nodes name (preds ++ pred (Some kind) ks None ∷ [])
+end-close nodes name kind preds ks = record
+    { node = record { after = record { before = record { name = name; next = λ t. refl }; end = λ e. refl }; arrow = λ t. refl }; comma = λ t. refl }
 
 end-source : (nodes : List WrittenNode) (name : WrittenSpan) (preds : List WrittenPred) → PredEnd (turn nodes name preds stage.Source) nodes name preds
-end-source nodes name preds = record { node = record { after = record { before = record { name = name; next = λ t. refl }; end = λ e. refl }; arrow = λ t. refl }; comma = λ t. refl }
+end-source nodes name preds = record
+    { node = record { after = record { before = record { name = name; next = λ t. refl }; end = λ e. refl }; arrow = λ t. refl }; comma = λ t. refl }
 
 end-colon : (nodes : List WrittenNode) (name : WrittenSpan) → NodeEnd (turn nodes name [] stage.Colon) nodes name []
 end-colon nodes name = record { after = record { before = record { name = name; next = λ t. refl }; end = λ e. refl }; arrow = λ t. refl }
@@ -163,7 +177,8 @@ wants-comma nodes name preds = record { kind = λ t. refl; source = λ t. refl }
 -- ---- predicates
 
 -- a predicate is read to its end
-record PredRead (end : ℕ) (u : Turn) (tokens : List Token) (nodes : List WrittenNode) (name : WrittenSpan) (preds : List WrittenPred) (more : List Sign) : Type 0 where
+record PredRead (end : ℕ) (u : Turn) (tokens : List Token) (nodes : List WrittenNode) (name : WrittenSpan) (preds : List WrittenPred)
+    (more : List Sign) : Type 0 where
   last : Turn
   leads : LeadsTo end u tokens last more
   ends : PredEnd last nodes name preds
@@ -177,11 +192,13 @@ source_read end u tokens nodes nm source kind ks preds more h takes =
     let next = λ (s : WrittenSpan). turn nodes nm (preds ++ pred kind ks (Some s) ∷ []) stage.Source in
     let first = takes_mark end u at tokens m.At k.At (name source ++ more) h mark-at takes in
     let second = takes_name end at next first.0 source more first.1 (λ t. refl) in
-    record { last = next source; leads = on_to end u at (next source) tokens (name source ++ more) more first second; ends = end-source nodes nm (preds ++ pred kind ks (Some source) ∷ []) }
+    record { last = next source; leads = on_to end u at (next source) tokens (name source ++ more) more first second; ends = end-source nodes nm
+        (preds ++ pred kind ks (Some source) ∷ []) }
 
 -- what stands behind a kind and its keys
 kind_read : (end : ℕ) (u v : Turn) (tokens : List Token) (nodes : List WrittenNode) (nm kind : WrittenSpan) (ks : WrittenKeys) (source : Option WrittenSpan) (preds : List WrittenPred) (more : List Sign)
-    → LeadsTo end u tokens v (source_signs source ++ more) → PredEnd v nodes nm (preds ++ pred (Some kind) ks None ∷ []) → ((t : Token) → stage_step v t k.At v.stage ≡ Ok (turn nodes nm preds (stage.At (Some kind) ks)))
+    → LeadsTo end u tokens v (source_signs source ++ more) → PredEnd v nodes nm (preds ++ pred (Some kind) ks None ∷ [])
+    → ((t : Token) → stage_step v t k.At v.stage ≡ Ok (turn nodes nm preds (stage.At (Some kind) ks)))
     → PredRead end u tokens nodes nm (preds ++ pred (Some kind) ks source ∷ []) more
 kind_read end u v tokens nodes nm kind ks None preds more first ends takes = record { last = v; leads = first; ends = ends }
 kind_read end u v tokens nodes nm kind ks (Some source) preds more first ends takes =
@@ -189,7 +206,8 @@ kind_read end u v tokens nodes nm kind ks (Some source) preds more first ends ta
     record { last = second.last; leads = on_to end u v second.last tokens (source_signs (Some source) ++ more) more first second.leads; ends = second.ends }
 
 kinds_read : (end : ℕ) (u : Turn) (tokens : List Token) (nodes : List WrittenNode) (nm kind : WrittenSpan) (ks : WrittenKeys) (source : Option WrittenSpan) (preds : List WrittenPred) (more : List Sign)
-    → Wants u nodes nm preds → AreSigns (name kind ++ (keys_signs ks ++ (source_signs source ++ more))) tokens → PredRead end u tokens nodes nm (preds ++ pred (Some kind) ks source ∷ []) more
+    → Wants u nodes nm preds → AreSigns (name kind ++ (keys_signs ks ++ (source_signs source ++ more))) tokens
+    → PredRead end u tokens nodes nm (preds ++ pred (Some kind) ks source ∷ []) more
 kinds_read end u tokens nodes nm kind keys.Alone source preds more wants h =
     let next = λ (s : WrittenSpan). turn nodes nm preds (stage.Kind s) in
     let first = takes_name end u next tokens kind (source_signs source ++ more) h wants.kind in
@@ -201,7 +219,8 @@ kinds_read end u tokens nodes nm kind (keys.One low) source preds more wants h =
     let opened = turn nodes nm preds (stage.Open kind) in
     let close = turn nodes nm preds (stage.Close kind (keys.One low)) in
     let a = takes_name end u next tokens kind (keys_signs (keys.One low) ++ behind) h wants.kind in
-    let b = takes_mark end (next kind) opened a.0 m.OpenBracket k.OpenBracket ((number low ++ Any (w.Mark m.CloseBracket) ∷ []) ++ behind) a.1 mark-open (λ t. refl) in
+    let b = takes_mark end (next kind) opened a.0 m.OpenBracket k.OpenBracket ((number low ++ Any (w.Mark m.CloseBracket) ∷ []) ++ behind) a.1 mark-open
+        (λ t. refl) in
     let c = takes_number end opened low_next b.0 low (Any (w.Mark m.CloseBracket) ∷ behind) b.1 (λ t. refl) in
     let d = takes_mark end (low_next low) close c.0 m.CloseBracket k.CloseBracket behind c.1 mark-close (λ t. refl) in
     let three = on_to end opened (low_next low) close b.0 (Any (w.Mark m.CloseBracket) ∷ behind) behind c d in
@@ -217,7 +236,8 @@ kinds_read end u tokens nodes nm kind (keys.Range low high) source preds more wa
     let dots = turn nodes nm preds (stage.Dots kind low) in
     let close = turn nodes nm preds (stage.Close kind (keys.Range low high)) in
     let a = takes_name end u next tokens kind (keys_signs (keys.Range low high) ++ behind) h wants.kind in
-    let b = takes_mark end (next kind) opened a.0 m.OpenBracket k.OpenBracket ((number low ++ Any (w.Mark m.Dots) ∷ (number high ++ Any (w.Mark m.CloseBracket) ∷ [])) ++ behind) a.1 mark-open (λ t. refl) in
+    let b = takes_mark end (next kind) opened a.0 m.OpenBracket k.OpenBracket
+        ((number low ++ Any (w.Mark m.Dots) ∷ (number high ++ Any (w.Mark m.CloseBracket) ∷ [])) ++ behind) a.1 mark-open (λ t. refl) in
     let c = takes_number end opened low_next b.0 low (Any (w.Mark m.Dots) ∷ ((number high ++ Any (w.Mark m.CloseBracket) ∷ []) ++ behind)) b.1 (λ t. refl) in
     let d = takes_mark end (low_next low) dots c.0 m.Dots k.Dots ((number high ++ Any (w.Mark m.CloseBracket) ∷ []) ++ behind) c.1 mark-dots (λ t. refl) in
     let e = takes_number end dots high_next d.0 high (Any (w.Mark m.CloseBracket) ∷ behind) d.1 (λ t. refl) in
@@ -225,17 +245,21 @@ kinds_read end u tokens nodes nm kind (keys.Range low high) source preds more wa
     let five = on_to end dots (high_next high) close d.0 (Any (w.Mark m.CloseBracket) ∷ behind) behind e f in
     let four = on_to end (low_next low) dots close c.0 ((number high ++ Any (w.Mark m.CloseBracket) ∷ []) ++ behind) behind d five in
     let three = on_to end opened (low_next low) close b.0 (Any (w.Mark m.Dots) ∷ ((number high ++ Any (w.Mark m.CloseBracket) ∷ []) ++ behind)) behind c four in
-    let two = on_to end (next kind) opened close a.0 ((number low ++ Any (w.Mark m.Dots) ∷ (number high ++ Any (w.Mark m.CloseBracket) ∷ [])) ++ behind) behind b three in
+    let two = on_to end (next kind) opened close a.0 ((number low ++ Any (w.Mark m.Dots) ∷ (number high ++ Any (w.Mark m.CloseBracket) ∷ [])) ++ behind)
+        behind b three in
     let one = on_to end u (next kind) close tokens (keys_signs (keys.Range low high) ++ behind) behind a two in
     kind_read end u close tokens nodes nm kind (keys.Range low high) source preds more one (end-close nodes nm kind preds (keys.Range low high)) (λ t. refl)
 
 pred_read : (end : ℕ) (u : Turn) (tokens : List Token) (nodes : List WrittenNode) (nm : WrittenSpan) (kind : Option WrittenSpan) (ks : WrittenKeys) (source : Option WrittenSpan) (preds : List WrittenPred) (more : List Sign)
-    → Wants u nodes nm preds → HasPart kind ks source → AreSigns (pred_signs (pred kind ks source) ++ more) tokens → PredRead end u tokens nodes nm (preds ++ pred kind ks source ∷ []) more
-pred_read end u tokens nodes nm None ks None preds more wants part h = let none : false ≡ true = part.1 in absurd (cc)
+    → Wants u nodes nm preds → HasPart kind ks source → AreSigns (pred_signs (pred kind ks source) ++ more) tokens
+    → PredRead end u tokens nodes nm (preds ++ pred kind ks source ∷ []) more
+pred_read end u tokens nodes nm None ks None preds more wants part h = let none : false ≡ true = part.1 in absurd cc
 pred_read end u tokens nodes nm None ks (Some source) preds more wants part h =
-    subst (λ (x : WrittenKeys). PredRead end u tokens nodes nm (preds ++ pred None x (Some source) ∷ []) more) (sym part.0) (source_read end u tokens nodes nm source None keys.Alone preds more h wants.source)
+    subst (λ (x : WrittenKeys). PredRead end u tokens nodes nm (preds ++ pred None x (Some source) ∷ []) more) (sym part.0)
+        (source_read end u tokens nodes nm source None keys.Alone preds more h wants.source)
 pred_read end u tokens nodes nm (Some kind) ks source preds more wants part h =
-    kinds_read end u tokens nodes nm kind ks source preds more wants (subst (λ (l : List Sign). AreSigns l tokens) (append_assoc (kind_signs (Some kind) ks) (source_signs source) more) h)
+    kinds_read end u tokens nodes nm kind ks source preds more wants
+        (subst (λ (l : List Sign). AreSigns l tokens) (append_assoc (kind_signs (Some kind) ks) (source_signs source) more) h)
 
 abbrev comma_signs : WrittenPred → List Sign
 comma_signs q = Any (w.Mark m.Comma) ∷ pred_signs q
@@ -244,7 +268,8 @@ comma_signs q = Any (w.Mark m.Comma) ∷ pred_signs q
 rest_read : (end : ℕ) (u : Turn) (tokens : List Token) (nodes : List WrittenNode) (nm : WrittenSpan) (before preds : List WrittenPred) (more : List Sign)
     → PredEnd u nodes nm before → ArePreds preds → AreSigns (flat_map comma_signs preds ++ more) tokens → PredRead end u tokens nodes nm (before ++ preds) more
 rest_read end u tokens nodes nm before [] more ends are h =
-    subst (λ (l : List WrittenPred). PredRead end u tokens nodes nm l more) (sym (append-nil before)) (record { last = u; leads = (tokens, h, refl); ends = ends })
+    subst (λ (l : List WrittenPred). PredRead end u tokens nodes nm l more) (sym (append-nil before))
+        (record { last = u; leads = (tokens, h, refl); ends = ends })
 rest_read end u tokens nodes nm before (q ∷ preds) more ends are h =
     let behind = flat_map comma_signs preds ++ more in
     let comma = turn nodes nm before stage.Comma in
@@ -260,13 +285,15 @@ rest_read end u tokens nodes nm before (q ∷ preds) more ends are h =
     }
 
 -- a node is read as far as its predicates go
-record NodeRead (end : ℕ) (u : Turn) (tokens : List Token) (nodes : List WrittenNode) (name : WrittenSpan) (preds : List WrittenPred) (more : List Sign) : Type 0 where
+record NodeRead (end : ℕ) (u : Turn) (tokens : List Token) (nodes : List WrittenNode) (name : WrittenSpan) (preds : List WrittenPred)
+    (more : List Sign) : Type 0 where
   last : Turn
   leads : LeadsTo end u tokens last more
   ends : NodeEnd last nodes name preds
 
 preds_read : (end : ℕ) (tokens : List Token) (nodes : List WrittenNode) (nm : WrittenSpan) (preds : List WrittenPred) (more : List Sign)
-    → ArePreds preds → AreSigns (separated (w.Mark m.Comma) pred_signs preds ++ more) tokens → NodeRead end (turn nodes nm [] stage.Colon) tokens nodes nm preds more
+    → ArePreds preds → AreSigns (separated (w.Mark m.Comma) pred_signs preds ++ more) tokens
+    → NodeRead end (turn nodes nm [] stage.Colon) tokens nodes nm preds more
 preds_read end tokens nodes nm [] more are h = record { last = turn nodes nm [] stage.Colon; leads = (tokens, h, refl); ends = end-colon nodes nm }
 preds_read end tokens nodes nm (q ∷ preds) more are h =
     let colon = turn nodes nm [] stage.Colon in
@@ -285,7 +312,8 @@ record NodesRead (end : ℕ) (u : Turn) (tokens : List Token) (nodes : List Writ
   after : After last nodes
 
 kids_read : (end : ℕ) (u : Turn) (tokens : List Token) (nodes : List WrittenNode) (nm : WrittenSpan) (preds : List WrittenPred) (kids : Option (WrittenSpan × WrittenSpan)) (more : List Sign)
-    → NodeEnd u nodes nm preds → AreSigns (kids_signs kids ++ more) tokens → NodesRead end u tokens (nodes ++ record { name = nm; preds = preds; kids = kids } ∷ []) more
+    → NodeEnd u nodes nm preds → AreSigns (kids_signs kids ++ more) tokens
+    → NodesRead end u tokens (nodes ++ record { name = nm; preds = preds; kids = kids } ∷ []) more
 kids_read end u tokens nodes nm preds None more ends h = record { last = u; leads = (tokens, h, refl); after = ends.after }
 kids_read end u tokens nodes nm preds (Some kids) more ends h =
     let arrow = turn nodes nm preds stage.Arrow in
@@ -301,15 +329,18 @@ kids_read end u tokens nodes nm preds (Some kids) more ends h =
       after = record { before = record { name = nm; next = λ t. refl }; end = λ e. refl };
     }
 
-node_read : (end : ℕ) (u : Turn) (tokens : List Token) (nodes : List WrittenNode) (n : WrittenNode) (more : List Sign) → Before u nodes → ArePreds n.preds → AreSigns (node_signs n ++ more) tokens → NodesRead end u tokens (nodes ++ n ∷ []) more
+node_read : (end : ℕ) (u : Turn) (tokens : List Token) (nodes : List WrittenNode) (n : WrittenNode) (more : List Sign) → Before u nodes → ArePreds n.preds
+    → AreSigns (node_signs n ++ more) tokens → NodesRead end u tokens (nodes ++ n ∷ []) more
 node_read end u tokens nodes n more before are h =
     let comma = separated (w.Mark m.Comma) pred_signs n.preds in
     let tail = kids_signs n.kids ++ more in
     let node = turn nodes before.name [] stage.Node in
     let named = λ (s : WrittenSpan). turn nodes s [] stage.Name in
     let colon = turn nodes n.name [] stage.Colon in
-    let split = subst (λ (l : List Sign). AreSigns (Any (w.Reserved r.Node) ∷ (name n.name ++ Any (w.Mark m.Colon) ∷ l)) tokens) (append_assoc comma (kids_signs n.kids) more) h in
-    let a = takes_sign end u node tokens (Any (w.Reserved r.Node)) (name n.name ++ Any (w.Mark m.Colon) ∷ (comma ++ tail)) split (λ t sign. steps u t k.Node (terminal-node t sign) ∙ before.next t) in
+    let split = subst (λ (l : List Sign). AreSigns (Any (w.Reserved r.Node) ∷ (name n.name ++ Any (w.Mark m.Colon) ∷ l)) tokens)
+        (append_assoc comma (kids_signs n.kids) more) h in
+    let a = takes_sign end u node tokens (Any (w.Reserved r.Node)) (name n.name ++ Any (w.Mark m.Colon) ∷ (comma ++ tail)) split
+        (λ t sign. steps u t k.Node (terminal-node t sign) ∙ before.next t) in
     let b = takes_name end node named a.0 n.name (Any (w.Mark m.Colon) ∷ (comma ++ tail)) a.1 (λ t. refl) in
     let d = takes_mark end (named n.name) colon b.0 m.Colon k.Colon (comma ++ tail) b.1 mark-colon (λ t. refl) in
     let e = preds_read end d.0 nodes n.name n.preds tail are d.1 in
@@ -319,7 +350,8 @@ node_read end u tokens nodes n more before are h =
     let two = on_to end node (named n.name) f.last a.0 (Any (w.Mark m.Colon) ∷ (comma ++ tail)) more b three in
     record { last = f.last; leads = on_to end u node f.last tokens (name n.name ++ Any (w.Mark m.Colon) ∷ (comma ++ tail)) more a two; after = f.after }
 
-more_read : (end : ℕ) (u : Turn) (tokens : List Token) (before nodes : List WrittenNode) → After u before → AreNodes nodes → AreSigns (plan_signs nodes) tokens → run end u tokens ≡ Ok (before ++ nodes)
+more_read : (end : ℕ) (u : Turn) (tokens : List Token) (before nodes : List WrittenNode) → After u before → AreNodes nodes
+    → AreSigns (plan_signs nodes) tokens → run end u tokens ≡ Ok (before ++ nodes)
 unfolding ended
 more_read end u [] before [] after are h = run-ends end u ∙ after.end end ∙ ap Ok (sym (append-nil before))
 more_read end u (t ∷ tokens) before [] after are h = absurd h

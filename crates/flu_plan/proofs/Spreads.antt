@@ -57,29 +57,35 @@ module _ (text : List ℕ) (nodes : List DraftNode) (known : Known text nodes) (
       let children_apart = distinct_tail 0 (children nodes) differ in
       elim (s.rooted k (subst (λ (l : List ℕ). In k l) (append_assoc met (v ∷ []) wanted) h)) [
         | inl e ↦ distinct_head 0 (children nodes) differ (subst (λ (z : ℕ). In z (children nodes)) e (kid_in nodes v k kid))
-        | inr b ↦ distinct_apart v met (v ∷ wanted) s.distinct (subst (λ (z : ℕ). In z met) (one_parent nodes b.0 v k children_apart b.2 kid) b.1) (in_head v wanted)
+        | inr b ↦ distinct_apart v met (v ∷ wanted) s.distinct (subst (λ (z : ℕ). In z met) (one_parent nodes b.0 v k children_apart b.2 kid) b.1)
+            (in_head v wanted)
       ]
 
-  with_one : (v k : ℕ) (met wanted : List ℕ) → Spread nodes met wanted → In v met → In k (kids_list_at nodes v) → k < length nodes → (In k (met ++ wanted) → ⊥) → Spread nodes met (k ∷ wanted)
+  with_one : (v k : ℕ) (met wanted : List ℕ) → Spread nodes met wanted → In v met → In k (kids_list_at nodes v) → k < length nodes
+      → (In k (met ++ wanted) → ⊥) → Spread nodes met (k ∷ wanted)
   with_one v k met wanted s h kid lt new = record {
     distinct = distinct_middle k met wanted s.distinct new;
     rooted = λ w i. elim (in_middle w k met wanted i) [ inl e ↦ inr (v, h, subst (λ (z : ℕ). In z (kids_list_at nodes v)) (sym e) kid) | inr b ↦ s.rooted w b ];
     below = λ w i. elim (in_middle w k met wanted i) [ inl e ↦ (omega arith) | inr b ↦ s.below w b ];
   }
 
-  spread-kids : (v : ℕ) (met wanted : List ℕ) (kids : Option (ℕ × ℕ)) → kids_at nodes v ≡ kids → Spread nodes met (v ∷ wanted) → Spread nodes (met ++ v ∷ []) (kid_list kids ++ wanted)
+  spread-kids : (v : ℕ) (met wanted : List ℕ) (kids : Option (ℕ × ℕ)) → kids_at nodes v ≡ kids → Spread nodes met (v ∷ wanted)
+      → Spread nodes (met ++ v ∷ []) (kid_list kids ++ wanted)
   unfolding KidsBelow
   spread-kids v met wanted None e s = moved v met wanted s
   spread-kids v met wanted (Some kids) e s =
       let met_now = in_right v met (v ∷ []) (in_head v []) in
       let kids_here : kids_list_at nodes v ≡ kids.0 ∷ kids.1 ∷ [] = ap kid_list e in
       let left : In kids.0 (kids_list_at nodes v) = subst (λ (l : List ℕ). In kids.0 l) (sym kids_here) (in_head kids.0 (kids.1 ∷ [])) in
-      let right : In kids.1 (kids_list_at nodes v) = subst (λ (l : List ℕ). In kids.1 l) (sym kids_here) (in_tail kids.1 kids.0 (kids.1 ∷ []) (in_head kids.1 [])) in
-      let apart = distinct_head kids.0 (kids.1 ∷ []) (subst (λ (l : List ℕ). Distinct l) kids_here (kids_differ nodes v (distinct_tail 0 (children nodes) differ))) in
+      let right : In kids.1 (kids_list_at nodes v) = subst (λ (l : List ℕ). In kids.1 l) (sym kids_here)
+          (in_tail kids.1 kids.0 (kids.1 ∷ []) (in_head kids.1 [])) in
+      let apart = distinct_head kids.0 (kids.1 ∷ [])
+          (subst (λ (l : List ℕ). Distinct l) kids_here (kids_differ nodes v (distinct_tail 0 (children nodes) differ))) in
       let low : KidsBelow (length nodes) (Some kids) = subst (λ (k : Option (ℕ × ℕ)). KidsBelow (length nodes) k) e (known.below v) in
       let second = with_one v kids.1 (met ++ v ∷ []) wanted (moved v met wanted s) met_now right low.1 (fresh v kids.1 met wanted s right) in
       with_one v kids.0 (met ++ v ∷ []) (kids.1 ∷ wanted) second met_now left low.0
-      (λ h. elim (in_middle kids.0 kids.1 (met ++ v ∷ []) wanted h) [ inl same ↦ apart (subst (λ (z : ℕ). In z (kids.1 ∷ [])) (sym same) (in_head kids.1 [])) | inr b ↦ fresh v kids.0 met wanted s left b ])
+      (λ h. elim (in_middle kids.0 kids.1 (met ++ v ∷ []) wanted h)
+          [ inl same ↦ apart (subst (λ (z : ℕ). In z (kids.1 ∷ [])) (sym same) (in_head kids.1 [])) | inr b ↦ fresh v kids.0 met wanted s left b ])
 
   pub spread-next : (v : ℕ) (met wanted : List ℕ) → Spread nodes met (v ∷ wanted) → Spread nodes (met ++ v ∷ []) (kids_list_at nodes v ++ wanted)
   spread-next v met wanted s = spread-kids v met wanted (kids_at nodes v) refl s

@@ -8,8 +8,7 @@ use Rattle.flu_text.specs.declared.words.Token.{Token}
 use Rattle.flu_syntax.specs.declared.tree.WrittenSpan.{WrittenSpan}
 use Rattle.flu_syntax.specs.declared.tree.WrittenKeys.{WrittenKeys}
 use Rattle.flu_syntax.specs.declared.tree.WrittenKeys.TheVariants as keys
-use Rattle.flu_syntax.specs.Grammar.{Sign, Any, AreSigns, name, keys_signs, separated}
-use Rattle.flu_syntax.specs.Machine.{place_of}
+use Rattle.flu_syntax.specs.Grammar.{Sign, Any, AreSigns, name, keys_signs, separated, place_of}
 use Rattle.flu_plan.specs.declared.fault.PlanFault.TheVariants as f
 use Rattle.flu_plan.specs.declared.written.WrittenPred.{WrittenPred}
 use Rattle.flu_plan.specs.declared.written.WrittenNode.{WrittenNode}

@@ -1,6 +1,5 @@
 -- What holds of the text of every plan, and of the plan of every text.
-use Rattle.std.specs.Prelude.{◌≡◌, ◌≤◌, ℕ, List, length, Ok, IsTrue}
-use Rattle.std.specs.Str.{IsUtf8}
+use Rattle.std.specs.Prelude.{◌≡◌, ℕ, List, Ok, IsTrue}
 use Rattle.flu_model.specs.declared.jobs.Program.{Program}
 use Rattle.flu_model.specs.declared.plans.Node.{Node}
 use Rattle.flu_plan.specs.Kept.{KeepsRules}
@@ -11,9 +10,9 @@ use Rattle.flu_plan.specs.Reading.{plan_in}
 abbrev pub PlansKeepRules : Type 0
 PlansKeepRules = (p : Program) (bytes : List ℕ) (nodes : List Node) → plan_in p bytes ≡ Ok nodes → KeepsRules nodes
 
--- the text of a plan that keeps the rules, and has a text, is read as that plan, where it is not too long to be read
+-- the text of a plan that keeps the rules, and has a text, is read as that plan
 abbrev pub PrintedIsRead : Type 0
-PrintedIsRead = (p : Program) (nodes : List Node) → KeepsRules nodes → IsTrue (has_text p nodes) → IsUtf8 (printed p nodes) → length (printed p nodes) ≤ 1048576 → plan_in p (printed p nodes) ≡ Ok nodes
+PrintedIsRead = (p : Program) (nodes : List Node) → KeepsRules nodes → IsTrue (has_text p nodes) → plan_in p (printed p nodes) ≡ Ok nodes
 
 -- the plan of a text has a text: it may be printed, and is read again
 abbrev pub PlansHaveText : Type 0

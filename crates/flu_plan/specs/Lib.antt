@@ -3,7 +3,7 @@ pub mod Machine
 pub mod Resolving
 pub mod Shape
 pub mod Limits
-pub mod Planning
+pub mod Numbering
 pub mod Reading
 pub mod Kept
 pub mod Printing

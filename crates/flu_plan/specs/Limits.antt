@@ -11,10 +11,10 @@ use Rattle.flu_plan.specs.declared.drafts.DraftPred.{DraftPred}
 use Rattle.flu_plan.specs.declared.drafts.DraftNode.{DraftNode}
 use Rattle.flu_plan.specs.declared.drafts.Visit.{Visit}
 use Rattle.flu_plan.specs.Faults.{Found, ◌>>◌, unless, each}
-use Rattle.flu_parse.specs.Spelling.{value_of}
+use Rattle.flu_layout.specs.Spelling.{written_value}
 
 abbrev pub small_key : WrittenNumber → Found (Unit {0})
-small_key n = unless (nat_lt (value_of n.value) key_count) (f.OverLimit Key (value_of n.value))
+small_key n = unless (nat_lt (written_value n.value) key_count) (f.OverLimit Key (written_value n.value))
 
 -- the keys of a predicate, or the first that is too great
 abbrev pub small_keys : WrittenKeys → Found (Unit {0})

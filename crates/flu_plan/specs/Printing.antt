@@ -7,9 +7,10 @@ use Rattle.flu_model.specs.declared.jobs.Keys.{Keys}
 use Rattle.flu_model.specs.declared.jobs.Program.{Program}
 use Rattle.flu_model.specs.declared.plans.Pred.{Pred}
 use Rattle.flu_model.specs.declared.plans.Node.{Node}
-use Rattle.flu_model.specs.Rules.{is_name}
+use Rattle.flu_names.specs.Names.{is_name}
 use Rattle.flu_model.specs.Owners.{nodes_fit}
-use Rattle.flu_parse.specs.Printing.{keys_text, separated, line_end}
+use Rattle.flu_layout.specs.Lists.{keys_text, separated}
+use Rattle.flu_layout.specs.Laid.{line_end}
 
 abbrev pub name_of_kind : Option Kind → List ℕ
 name_of_kind None = []

@@ -6,8 +6,7 @@ use Rattle.flu_model.specs.declared.limits.What.TheVariants.{Bytes}
 use Rattle.flu_model.specs.declared.jobs.Program.{Program}
 use Rattle.flu_model.specs.declared.plans.Node.{Node}
 use Rattle.flu_text.specs.declared.words.Token.{Token}
-use Rattle.flu_text.specs.Reading.{reading}
-use Rattle.flu_text.specs.Reading.{Reading as TokenReading}
+use Rattle.flu_text.specs.Reading.{reading, Reading as TokenReading}
 use Rattle.flu_plan.specs.declared.fault.PlanFault.TheVariants as f
 use Rattle.flu_plan.specs.declared.written.WrittenNode.{WrittenNode}
 use Rattle.flu_plan.specs.declared.drafts.DraftNode.{DraftNode}
@@ -16,7 +15,7 @@ use Rattle.flu_plan.specs.Machine.{written_in}
 use Rattle.flu_plan.specs.Resolving.{names_of, nodes_of}
 use Rattle.flu_plan.specs.Shape.{children_of, preorder, all_below}
 use Rattle.flu_plan.specs.Limits.{within_limits}
-use Rattle.flu_plan.specs.Planning.{planned}
+use Rattle.flu_plan.specs.Numbering.{planned}
 
 -- the bytes where they are UTF-8
 abbrev pub text_in : List ℕ → Found (List ℕ)

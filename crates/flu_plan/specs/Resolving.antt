@@ -13,7 +13,7 @@ use Rattle.flu_plan.specs.declared.written.WrittenNode.{WrittenNode}
 use Rattle.flu_plan.specs.declared.drafts.DraftPred.{DraftPred}
 use Rattle.flu_plan.specs.declared.drafts.DraftNode.{DraftNode}
 use Rattle.flu_plan.specs.Faults.{Found, ◌>>=◌, ◌>>◌, unless, each, found_of_each}
-use Rattle.flu_parse.specs.Spelling.{name_of}
+use Rattle.flu_layout.specs.Spelling.{name_of}
 
 -- ---- the names of nodes
 

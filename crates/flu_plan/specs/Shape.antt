@@ -5,7 +5,7 @@ use Rattle.flu_plan.specs.declared.fault.PlanFault.TheVariants as f
 use Rattle.flu_plan.specs.declared.drafts.DraftNode.{DraftNode}
 use Rattle.flu_plan.specs.declared.drafts.Visit.{Visit}
 use Rattle.flu_plan.specs.Faults.{Found, ◌>>=◌, ◌>>◌, unless, each}
-use Rattle.flu_parse.specs.Spelling.{name_of}
+use Rattle.flu_layout.specs.Spelling.{name_of}
 
 abbrev pub name_of_node : List ℕ → Option DraftNode → List ℕ
 name_of_node text None = []

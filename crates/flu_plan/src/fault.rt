@@ -5,10 +5,11 @@ ghost use Rattle.flu_plan.specs.declared.fault.PlanFault.TheVariants.{NoMemory};
 
 use flu_model::{Name, What};
 use std::alloc::{AllocError, AllocFailed};
+use std::fmt;
 use thiserror::Error;
 
 /// Why a text is no plan of a job. Places are byte offsets from 0 (`docs/LANGUAGE.md`).
-#[derive(Debug, Drop, Error)]
+#[derive(Drop, Error)]
 pub enum PlanFault {
     /// No token begins here, or the first sequence of bytes that is not UTF-8 does.
     #[error("no token begins here")]
@@ -43,5 +44,12 @@ impl<T: Drop> From<AllocFailed<T>> for PlanFault {
 
     fn from(_e: AllocFailed<T>) -> PlanFault {
         PlanFault::NoMemory
+    }
+}
+
+// An error needs it. The name in it has none, so that the text is that of `Display`.
+impl fmt::Debug for PlanFault {
+    fn fmt<W: fmt::Write>(&self, f: &mut fmt::Formatter<W>) -> fmt::Result {
+        fmt::Display::fmt(self, f)
     }
 }

@@ -3,7 +3,8 @@
 ghost use Rattle.flu_plan.specs.Grammar.{FoundIsPlan, PlansAreUnique, UnexpectedIsFirst};
 ghost use Rattle.flu_plan.specs.Laws.{PlansKeepRules, PlansHaveText, PrintedIsRead};
 
-use flu_text::laws::{layout_is_read, reading_is_exact, tokens_stand};
+use flu_layout::laws::{keys_are_laid, laid_is_read, read_may_be_printed};
+use flu_syntax::laws::signs_stand;
 
 /// What is found is exactly what the tokens are by the grammar, word by word and place by place; and that is one plan at most.
 pub fn found_is_plan()
@@ -26,14 +27,15 @@ pub fn plans_keep_rules()
 pub fn plans_have_text()
     ensures { PlansHaveText }
 {
-    reading_is_exact();
-    tokens_stand();
+    read_may_be_printed();
+    signs_stand();
 }
 
 /// The text of a plan is read as that plan, where its nodes have names of the language and its predicates name kinds and sources
-/// of the job, and where it has at most 1,048,576 bytes.
+/// of the job.
 pub fn printed_is_read()
     ensures { PrintedIsRead }
 {
-    layout_is_read();
+    laid_is_read();
+    keys_are_laid();
 }

@@ -6,7 +6,7 @@ mod fault;
 mod grammar;
 pub mod laws;
 mod limits;
-mod planning;
+mod numbering;
 mod printing;
 mod reading;
 mod resolving;
@@ -17,6 +17,3 @@ mod written;
 pub use fault::PlanFault;
 pub use printing::print_plan;
 pub use reading::read_plan;
-
-#[cfg(test)]
-mod tests;

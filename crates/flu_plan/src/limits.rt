@@ -7,8 +7,8 @@ ghost use Rattle.flu_plan.specs.Limits.{small_key, small_keys, keys_of_pred, key
 
 use crate::drafts::{DraftNode, DraftPred, Visit};
 use crate::fault::PlanFault;
-use flu_model::What;
-use flu_parse::spelling::value_of;
+use flu_model::{KEY_COUNT, What};
+use flu_layout::written_value;
 use flu_syntax::{WrittenKeys, WrittenNumber};
 
 /// The most nodes of a plan.
@@ -19,9 +19,6 @@ const MOST_PREDICATES: usize = 4096;
 
 /// The greatest depth of a node, where that of the root is 0.
 const GREATEST_DEPTH: usize = 6;
-
-/// How many keys a keyed kind has.
-const KEY_COUNT: u64 = 65_536;
 
 // The fault of what is over a limit, unless it is not.
 fn within(passes: bool, what: What, count: u64) -> Result<(), PlanFault>
@@ -37,8 +34,8 @@ fn within(passes: bool, what: What, count: u64) -> Result<(), PlanFault>
 fn small_key(number: WrittenNumber) -> Result<(), PlanFault>
     ensures { Gives (λ done. tt) result (small_key number) }
 {
-    let key = value_of(number.value);
-    within(key < KEY_COUNT, What::Key, key)
+    let key = written_value(number.value);
+    within(key < u64::from(KEY_COUNT), What::Key, key)
 }
 
 fn small_keys(keys: &WrittenKeys) -> Result<(), PlanFault>

@@ -1,15 +1,15 @@
 //! The text of a plan.
 
-ghost use Rattle.std.specs.Prelude.{◌≡◌, ◌≤◌, ℕ, List, ◌++◌, length, OnOk, IfOk, IsTrue, slice_get, codes};
+ghost use Rattle.std.specs.Prelude.{◌≡◌, ℕ, List, ◌++◌, OnOk, IfOk, IsTrue, slice_get, codes};
 ghost use Rattle.std.specs.List.{flat_map};
 ghost use Rattle.std.specs.String.{string_bytes};
-ghost use Rattle.flu_parse.specs.Printing.{separated};
+ghost use Rattle.flu_layout.specs.Lists.{separated};
 ghost use Rattle.flu_plan.specs.Printing.{name_of_kind, name_of_source, name_of_child, kind_text, source_text, pred_text, preds_text, kids_text, node_line, printed, has_text};
 ghost use Rattle.flu_plan.specs.Reading.{plan_in};
 
 use crate::laws::{plans_have_text, printed_is_read};
 use flu_model::{Keys, Kind, Node, Plan, Pred, Program, Source, Text};
-use flu_parse::add_keys;
+use flu_layout::add_keys;
 use std::alloc::{AllocError, Global};
 
 fn name_of_kind(kinds: &[Kind], kind: u32) -> &str
@@ -114,16 +114,16 @@ fn printed(alloc: Global, p: &Program, nodes: &[Node]) -> Result<String, AllocEr
 
 /// A plan of a job as a text (`docs/LANGUAGE.md`): its nodes in preorder, each on a line of its own.
 ///
-/// The text is read as this plan again, where it has at most 1,048,576 bytes, for each plan of the job that was read, and for any
-/// other whose nodes have names of the language and whose predicates name kinds and sources of the job.
+/// The text is read as this plan again, for each plan of the job that was read, and for any other whose nodes have names of the
+/// language and whose predicates name kinds and sources of the job.
 ///
 /// # Errors
 ///
 /// Only where memory is wanting.
 pub fn print_plan(alloc: Global, p: &Program, plan: &Plan) -> Result<Text, AllocError>
     ensures text { IfOk result (λ text. text ≡ printed p.now plan.now.nodes) }
-    ensures read_again { IfOk result (λ text. IsTrue (has_text p.now plan.now.nodes) → length text ≤ 1048576 → plan_in p.now text ≡ Ok plan.now.nodes) }
-    ensures round_trip { IfOk result (λ text. (bytes : List ℕ) → plan_in p.now bytes ≡ Ok plan.now.nodes → length text ≤ 1048576 → plan_in p.now text ≡ Ok plan.now.nodes) }
+    ensures read_again { IfOk result (λ text. IsTrue (has_text p.now plan.now.nodes) → plan_in p.now text ≡ Ok plan.now.nodes) }
+    ensures round_trip { IfOk result (λ text. (bytes : List ℕ) → plan_in p.now bytes ≡ Ok plan.now.nodes → plan_in p.now text ≡ Ok plan.now.nodes) }
 {
     printed_is_read();
     plans_have_text();

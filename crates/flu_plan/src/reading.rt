@@ -9,7 +9,7 @@ use crate::drafts::DraftNode;
 use crate::fault::PlanFault;
 use crate::grammar::written_in;
 use crate::limits::within_limits;
-use crate::planning::planned;
+use crate::numbering::planned;
 use crate::resolving::{names_of, nodes_of};
 use crate::shape::{all_below, children_of, preorder};
 use crate::written::WrittenNode;

@@ -11,7 +11,7 @@ use crate::drafts::{DraftNode, DraftPred};
 use crate::fault::PlanFault;
 use crate::written::{WrittenNode, WrittenPred};
 use flu_model::{Kind, List, Name, Program, Source};
-use flu_parse::spelling::name_of;
+use flu_layout::name_of;
 use flu_syntax::WrittenSpan;
 use indexmap::IndexSet;
 use std::alloc::Global;

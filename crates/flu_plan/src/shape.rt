@@ -8,7 +8,7 @@ ghost use Rattle.flu_plan.specs.Shape.{name_at, with_child, with_kids, with_kids
 use crate::drafts::{DraftNode, Visit};
 use crate::fault::PlanFault;
 use crate::resolving::tree_at;
-use flu_parse::spelling::name_of;
+use flu_layout::name_of;
 use indexmap::IndexSet;
 use std::alloc::{AllocError, Global};
 

@@ -4,7 +4,7 @@ use flu_model::List;
 use flu_syntax::{WrittenKeys, WrittenSpan};
 
 /// A predicate: a kind and perhaps keys of it, or `@`, or both.
-#[derive(Clone, Copy, Debug, PartialEq, Eq)]
+#[derive(Clone, Copy)]
 pub struct WrittenPred {
     pub kind: Option<WrittenSpan>,
     pub keys: WrittenKeys,
@@ -12,7 +12,7 @@ pub struct WrittenPred {
 }
 
 /// A node: its name, its predicates, and the names of its left and right child, where it has some.
-#[derive(Debug, Drop)]
+#[derive(Drop)]
 pub struct WrittenNode {
     pub name: WrittenSpan,
     pub preds: List<WrittenPred>,

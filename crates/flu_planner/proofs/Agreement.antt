@@ -1,15 +1,14 @@
 -- Two graphs that agree on some itags have the same components, cuts and greedy trees there.
-use Rattle.std.proofs.Common.{◌≡◌, ◌≤◌, ℕ, zero, suc, List, [], ◌∷◌, drop, inl, inr, refl, sym, ap, ◌∙◌, arith}
+use Rattle.std.proofs.Common.{◌≡◌, ◌≤◌, ℕ, zero, suc, List, [], ◌∷◌, inl, inr, refl, sym, ap, ◌∙◌, arith}
 use Rattle.std.specs.Prelude.{Contains, ◌&&◌, nat_lt}
-use Rattle.flu_lemmas.specs.Sorting.{in_order}
 use Rattle.flu_lemmas.specs.Totals.{total}
 use Rattle.flu_planner.specs.Graphs.{Graph, AreConnected, IsApart, IsComponent, AreComponents, is_walk}
-use Rattle.flu_planner.specs.Cuts.{IsLeastCut, IsWhole, removed, remaining, removal_order, is_removed_first}
+use Rattle.flu_planner.specs.Cuts.{IsLeastCut, IsWhole, removed, remaining}
 use Rattle.flu_planner.specs.Groups.{grouped}
 use Rattle.flu_planner.specs.Greedy.{Tree, Leaf, Inner, IsGreedy, IsLeaf, IsParting}
 use Rattle.flu_lemmas.specs.Counting.{times}
 use Rattle.flu_lemmas.proofs.Containing.{contains_here, contains_later}
-use Rattle.flu_lemmas.proofs.Counting.{times_if_contained, contained_if_times, times_in_order, times_parted}
+use Rattle.flu_lemmas.proofs.Counting.{times_if_contained, contained_if_times, times_in_order}
 use Rattle.flu_planner.proofs.Cutting.{grouped_once}
 use Rattle.flu_planner.proofs.Finding.{some_list}
 use Rattle.flu_planner.proofs.TreeParts.{times_of_cut, remaining_in}

@@ -6,7 +6,6 @@ pub mod PlanValid
 pub mod PlanRules
 pub mod PlanText
 pub mod TreeUnique
-pub mod PlanLength
 pub mod Rising
 pub mod Putting
 pub mod Connections

@@ -6,19 +6,18 @@ use Rattle.std.specs.Fmt.{decimal}
 use Rattle.std.proofs.lemmas.Fmt.{decimal_injective}
 use Rattle.std.proofs.lemmas.List.{append-nil, length-map, map-append}
 use Rattle.std.proofs.lemmas.List.Sums.{sum_by-cons, sum_by-append}
-use Rattle.flu_lemmas.proofs.Tests.{and_left, and_right, both, true_eq, le_true, false_if_not, all_at}
+use Rattle.flu_lemmas.proofs.Tests.{and_left, and_right, both, true_eq, le_true, false_if_not}
 use Rattle.flu_lemmas.proofs.Searches.{eq_true}
 use Rattle.flu_lemmas.proofs.Ranges.{range_append}
+use Rattle.flu_model.specs.declared.events.Itag.{Itag}
 use Rattle.flu_model.specs.declared.jobs.Program.{Program}
 use Rattle.flu_model.specs.declared.plans.Pred.{Pred}
 use Rattle.flu_model.specs.declared.plans.Node.{Node}
 use Rattle.flu_model.specs.Contents.{key_count}
 use Rattle.flu_model.specs.Itags.{itags, count_of_itags, tag_of_itag}
-use Rattle.flu_model.specs.Listing.{tag}
 use Rattle.flu_model.specs.Owners.{is_keyed}
 use Rattle.flu_model.specs.PlanRules.{are_subtrees, is_tree, depths_below, count_of_predicates, are_small_keys}
 use Rattle.flu_model.specs.Rules.{are_distinct, is_same_text, tag_fits}
-use Rattle.flu_model.proofs.ItagLemmas.{itags_fit}
 use Rattle.flu_plan.specs.Kept.{KeepsRules}
 use Rattle.flu_planner.specs.Graphs.{Graph, dependencies}
 use Rattle.flu_planner.specs.Greedy.{Tree, Leaf, Inner, IsGreedy}
@@ -169,18 +168,19 @@ small_own_key : (keyed : Bool) (key : ℕ) → nat_lt key key_count ≡ true →
 small_own_key true key e = e
 small_own_key false key e = refl
 
-pub tag_of_job : (p : Program) (i : ℕ) → i < count_of_itags p → tag_fits p.kinds (tag_of_itag p (number i)) ≡ true
-tag_of_job p i lt = all_at (λ e. tag_fits p.kinds e.0) (itags p) i (tag 0 0, 0) (itags_fit p.kinds 0 p.sources p.sources_fit) lt
+-- the tags of a job's itags are those of declared kinds, with keys in range
+abbrev pub TagsFit : Type 0
+TagsFit = (p : Program) (i : Itag) → i.0 < count_of_itags p → tag_fits p.kinds (tag_of_itag p i) ≡ true
 
-pub small_keys : (p : Program) (i : ℕ) → i < count_of_itags p → are_small_keys (pred_of p i).keys ≡ true
-small_keys p i lt =
+small_keys : TagsFit → (p : Program) (i : ℕ) → i < count_of_itags p → are_small_keys (pred_of p i).keys ≡ true
+small_keys fits p i lt =
     let t = tag_of_itag p (number i) in
-    small_own_key (is_keyed p.kinds t.kind) t.key (and_right (nat_lt t.kind (length p.kinds)) (nat_lt t.key key_count) (tag_of_job p i lt))
+    small_own_key (is_keyed p.kinds t.kind) t.key (and_right (nat_lt t.kind (length p.kinds)) (nat_lt t.key key_count) (fits p (number i) lt))
 
 -- ---- the whole
-tree_keeps_rules : (p : Program) (rates : List ℕ) (depth : ℕ) (t : Tree) → depth ≤ 6 → IsGreedy (dependencies p) rates depth (all_itags p) t
+tree_keeps_rules : TagsFit → (p : Program) (rates : List ℕ) (depth : ℕ) (t : Tree) → depth ≤ 6 → IsGreedy (dependencies p) rates depth (all_itags p) t
     → KeepsRules (nodes_from p 0 t)
-tree_keeps_rules p rates depth t le greedy =
+tree_keeps_rules fits p rates depth t le greedy =
     let g = dependencies p in
     let itags = all_itags p in
     let nodes = nodes_from p 0 t in
@@ -195,8 +195,9 @@ tree_keeps_rules p rates depth t le greedy =
       few_nodes = omega (arith, few, long);
       few_predicates = (let count = count_is p t in let number = few_numbers (count_of_itags p) (owned_in t) once owned in let all = p.few_itags in omega (arith, count, number, all));
       shallow = ap (λ ns. list_all is_few (depths_below (0 ∷ []) ns)) (sym same) ∙ shallow_from p g rates depth itags 0 t 0 [] [] greedy (omega (arith, le)) refl;
-      small_keys = each_pred p (λ (pred : Pred). are_small_keys pred.keys) (small_keys p) 0 t owned;
+      small_keys = each_pred p (λ (pred : Pred). are_small_keys pred.keys) (small_keys fits p) 0 t owned;
     }
 
-pub greedy_keeps_rules : (p : Program) (rates : List ℕ) (depth : ℕ) (nodes : List Node) → depth ≤ 6 → IsGreedyPlan p rates depth nodes → KeepsRules nodes
-greedy_keeps_rules p rates depth nodes le plan = subst (λ (ns : List Node). KeepsRules ns) (sym plan.nodes_of_tree) (tree_keeps_rules p rates depth plan.tree le plan.greedy)
+pub greedy_keeps_rules : TagsFit → (p : Program) (rates : List ℕ) (depth : ℕ) (nodes : List Node) → depth ≤ 6 → IsGreedyPlan p rates depth nodes → KeepsRules nodes
+greedy_keeps_rules fits p rates depth nodes le plan =
+    subst (λ (ns : List Node). KeepsRules ns) (sym plan.nodes_of_tree) (tree_keeps_rules fits p rates depth plan.tree le plan.greedy)

@@ -1,5 +1,5 @@
 -- A greedy plan is valid for its job.
-use Rattle.std.proofs.Common.{◌≡◌, ◌<◌, ◌≤◌, ◌+◌, ℕ, zero, suc, true, false, cond, inl, inr, Option, Some, None, List, [], ◌∷◌, ◌++◌, length, sym, ap, subst, ◌∙◌, arith}
+use Rattle.std.proofs.Common.{◌≡◌, ◌<◌, ◌≤◌, ◌+◌, ℕ, zero, suc, true, false, cond, inl, inr, Option, Some, None, List, [], ◌∷◌, ◌++◌, length, refl, sym, ap, subst, ◌∙◌, arith}
 use Rattle.std.specs.Prelude.{count_by, Contains}
 use Rattle.std.specs.List.{list_any}
 use Rattle.std.proofs.lemmas.Bool.{cases_lt, cases_eq, or_left, or_right, true≢false}
@@ -11,11 +11,12 @@ use Rattle.flu_model.specs.declared.events.Itag.{Itag}
 use Rattle.flu_model.specs.declared.jobs.Program.{Program}
 use Rattle.flu_model.specs.declared.plans.Node.{Node}
 use Rattle.flu_model.specs.Itags.{count_of_itags}
-use Rattle.flu_model.specs.Owners.{matches, node_owns, owns, is_within, are_related}
+use Rattle.flu_model.specs.Owners.{matches, node_owns, found_owns, owns, is_within, are_related}
 use Rattle.flu_model.specs.Validity.{IsValid}
 use Rattle.flu_planner.specs.Graphs.{dependencies}
 use Rattle.flu_planner.specs.Greedy.{Tree, Leaf, Inner, IsGreedy}
 use Rattle.flu_planner.specs.Plans.{all_itags, pred_of, node_of, size, nodes_from, IsGreedyPlan}
+use Rattle.flu_lemmas.proofs.Places.{slice_get-within}
 use Rattle.flu_lemmas.specs.Counting.{times}
 use Rattle.flu_lemmas.proofs.Counting.{times_if_contained, contained_if_times, times_append}
 use Rattle.flu_planner.proofs.TreeParts.{parted_times, parted_apart}
@@ -123,11 +124,6 @@ module _ (p : Program) (rates : List ℕ) (nodes : List Node) where
         ]
       ]
 
-owner_is_there : (p : Program) (nodes : List Node) (w : ℕ) (i : Itag) → owns p nodes w i ≡ true → w < length nodes
-owner_is_there p [] w i owned = cc
-owner_is_there p (x ∷ xs) zero i owned = omega arith
-owner_is_there p (x ∷ xs) (suc w) i owned = let there : w < length xs = owner_is_there p xs w i owned in omega (arith, there)
-
 -- the nodes of a greedy tree of all itags
 tree_is_valid : (p : Program) (rates : List ℕ) (depth : ℕ) (t : Tree) → IsGreedy (dependencies p) rates depth (all_itags p) t → IsValid p (nodes_from p 0 t)
 tree_is_valid p rates depth t greedy =
@@ -142,8 +138,8 @@ tree_is_valid p rates depth t greedy =
           let once = all_have p i.0 in_job in
           counted p 0 t i.0 in_job owned (omega (arith, all, once)) ∙ all ∙ once);
       independent = λ a b i j in_i in_j one two apart.
-          (let ha = owner_is_there p nodes a i one in
-          let hb = owner_is_there p nodes b j two in
+          (let ha = slice_get-within (found_owns p i) refl nodes a one in
+          let hb = slice_get-within (found_owns p j) refl nodes b two in
           independent p rates nodes depth (all_itags p) 0 t greedy (all_once p) (all_within p) at a b i.0 j.0
           (omega arith) (omega (arith, ha, long)) (omega arith) (omega (arith, hb, long)) in_i in_j one two apart);
     }

@@ -1,17 +1,15 @@
 -- The nodes of a subtree: how many there are, a leaf, and a node with two children.
 use Rattle.std.proofs.Common.{◌≡◌, ◌<◌, ◌+◌, ◌*◌, ◌^◌, ℕ, suc, Some, None, List, [], ◌∷◌, ◌++◌, length, refl, ap, ◌∙◌, arith}
-use Rattle.std.specs.Prelude.{Contains}
 use Rattle.std.proofs.Math.Nat.{pow-suc}
 use Rattle.std.proofs.lemmas.List.{length-append}
 use Rattle.std.proofs.lemmas.Nat.{pow_pos}
 use Rattle.flu_model.specs.declared.jobs.Program.{Program}
 use Rattle.flu_model.specs.declared.plans.Node.{Node}
 use Rattle.flu_planner.specs.Graphs.{Graph}
-use Rattle.flu_planner.specs.Greedy.{Tree, Leaf, Inner, IsLeaf, IsParting}
+use Rattle.flu_planner.specs.Greedy.{Leaf, Inner, IsLeaf, IsParting}
 use Rattle.flu_planner.specs.Plans.{node_of, nodes_from, size}
-use Rattle.flu_planner.specs.Search.{IsPartingOnce, IsSubtree}
+use Rattle.flu_planner.specs.Search.{IsSubtree}
 use Rattle.flu_planner.proofs.PlanNodes.{count_of_nodes}
-use Rattle.flu_lemmas.proofs.Counting.{times_if_contained, contained_if_times}
 
 pub doubled : (d : ℕ) → 2 ^ (d + 1) ≡ 2 ^ d + 2 ^ d
 doubled d =

@@ -6,7 +6,6 @@ use Rattle.std.proofs.lemmas.Bool.{cases_lt, both_ways, not-true, eqb-true, eqb-
 use Rattle.std.proofs.lemmas.List.{length-append, get_or_append_left, get_or_default, nil_from_length}
 use Rattle.std.proofs.lemmas.List.Filters.{length-filter_both}
 use Rattle.std.proofs.lemmas.List.Elements.{Contains-append_left, Contains-append_cases, Contains-get_or}
-use Rattle.flu_lemmas.specs.Sorting.{in_order}
 use Rattle.flu_planner.specs.Graphs.{Graph, AreConnected, IsApart, is_rising, least}
 use Rattle.flu_lemmas.specs.Counting.{times}
 use Rattle.flu_planner.specs.Reaching.{IsReached}

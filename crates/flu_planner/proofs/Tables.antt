@@ -1,18 +1,14 @@
 -- The graph that is read from the table of a job.
 use Rattle.std.proofs.Common.{◌≡◌, ◌<◌, ◌≤◌, ◌+◌, ◌*◌, ◌/◌, ◌%◌, ℕ, zero, suc, Bool, false, cond, List, [], ◌∷◌, map, length, get_or, inl, inr, refl, sym, ap, ◌∙◌, arith}
-use Rattle.std.specs.Prelude.{nat_lt, ◌==◌, ◌&&◌, ◌||◌, not, slice_get}
+use Rattle.std.specs.Prelude.{nat_lt, ◌&&◌, slice_get}
 use Rattle.std.specs.List.{range_with_len}
 use Rattle.std.proofs.lemmas.Bool.{cases_lt, cases_order, lt-ltb, le-ltb, le-leb}
 use Rattle.std.proofs.lemmas.List.{get_or-map}
 use Rattle.std.proofs.lemmas.List.FromFn.{length-range_with_len, get_or-range_with_len}
-use Rattle.flu_lemmas.proofs.Booleans.{or_turns}
-use Rattle.flu_lemmas.proofs.Numbers.{same_turns}
 use Rattle.flu_lemmas.proofs.Ranges.{range_below}
-use Rattle.flu_lemmas.proofs.Searches.{list_any_within}
-use Rattle.flu_model.specs.declared.events.Tag.{Tag}
-use Rattle.flu_model.specs.declared.jobs.Depend.{Depend}
 use Rattle.flu_model.specs.declared.jobs.Program.{Program}
-use Rattle.flu_model.specs.Itags.{count_of_itags, tag_of_itag, ties_tags}
+use Rattle.flu_model.specs.Itags.{count_of_itags, tag_of_itag}
+use Rattle.flu_laws.specs.Lawful.{DependencyTurns}
 use Rattle.flu_planner.specs.Graphs.{dependencies}
 use Rattle.flu_planner.specs.Plans.{all_itags}
 use Rattle.flu_planner.specs.Tables.{read, is_set, entry, are_dependent, table_of, graph_of}
@@ -33,15 +29,6 @@ graph_turns table i j =
             ∙ sym (ap (λ b. cond b (read table j i) (read table i j)) (lt-ltb j i more))
       ]
     ]
-
-ties_either_way : (a b : Tag) (d : Depend) → ties_tags a b d ≡ ties_tags b a d
-ties_either_way a b d = λ k. or_turns ((d.a == a.kind) && (d.b == b.kind)) ((d.a == b.kind) && (d.b == a.kind)) k && (not d.same || same_turns a.key b.key k)
-
-edge_turns : (p : Program) (i j : ℕ) → dependencies p i j ≡ dependencies p j i
-edge_turns p i j =
-    let a = tag_of_itag p (record { 0 = i }) in
-    let b = tag_of_itag p (record { 0 = j }) in
-    list_any_within (ties_tags a b) (ties_tags b a) p.depends (ties_either_way a b)
 
 -- ---- the table of a job
 set_is : (set : List Bool) (k : ℕ) → is_set (slice_get set k) ≡ get_or set k false
@@ -68,9 +55,9 @@ read_is p i j le other =
     ∙ ap (λ b. b && (nat_lt j (count_of_itags p) && dependencies p i j)) (le-leb i j le)
     ∙ ap (λ b. b && dependencies p i j) (lt-ltb j (count_of_itags p) other)
 
-pub agrees_with_table : (p : Program) → Agree (graph_of (table_of p)) (dependencies p) (all_itags p)
+pub agrees_with_table : DependencyTurns → (p : Program) → Agree (graph_of (table_of p)) (dependencies p) (all_itags p)
 unfolding graph_of
-agrees_with_table p = record {
+agrees_with_table law p = record {
   same = λ i j one other.
       (let a : i < count_of_itags p = range_below (count_of_itags p) i one in
       let b : j < count_of_itags p = range_below (count_of_itags p) j other in
@@ -79,6 +66,6 @@ agrees_with_table p = record {
         | inl less ↦ ap (λ c. cond c (read table i j) (read table j i)) (lt-ltb i j less) ∙ read_is p i j (omega arith) b
         | inr le ↦
             ap (λ c. cond c (read table i j) (read table j i)) (le-ltb i j le) ∙ read_is p j i le a
-            ∙ edge_turns p j i
+            ∙ law p (tag_of_itag p (record { 0 = j })) (tag_of_itag p (record { 0 = i }))
       ]);
 }

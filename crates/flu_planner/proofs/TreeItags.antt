@@ -1,18 +1,16 @@
 -- The itags that the nodes of a greedy tree own: each of the itags that it is made of stands in one node.
-use Rattle.std.proofs.Common.{◌≡◌, ◌<◌, ◌≤◌, ◌+◌, ℕ, zero, suc, true, cond, inl, inr, List, [], ◌∷◌, ◌++◌, length, refl, ap, subst, arith}
+use Rattle.std.proofs.Common.{◌≡◌, ◌<◌, ◌≤◌, ◌+◌, ℕ, zero, suc, cond, List, [], ◌∷◌, ◌++◌, length, refl, ap, arith}
 use Rattle.std.specs.Prelude.{nat_lt, ◌==◌, Contains}
-use Rattle.std.specs.List.{range_with_len}
-use Rattle.std.proofs.lemmas.Bool.{cases_eq}
 use Rattle.std.proofs.lemmas.Grind.{common_steps}
 use Rattle.flu_lemmas.specs.Totals.{total}
-use Rattle.flu_lemmas.proofs.Tests.{both, lt_true}
+use Rattle.flu_lemmas.proofs.Tests.{lt_true}
 use Rattle.flu_model.specs.declared.jobs.Program.{Program}
 use Rattle.flu_model.specs.Itags.{count_of_itags}
-use Rattle.flu_planner.specs.Graphs.{Graph, is_rising}
+use Rattle.flu_planner.specs.Graphs.{Graph}
 use Rattle.flu_planner.specs.Greedy.{Tree, Leaf, Inner, IsParting, IsGreedy}
 use Rattle.flu_planner.specs.Plans.{all_itags}
 use Rattle.flu_lemmas.specs.Counting.{times}
-use Rattle.flu_lemmas.proofs.Containing.{contains_here, contains_later, contains_cases, contains_none}
+use Rattle.flu_lemmas.proofs.Containing.{contains_here, contains_later}
 use Rattle.flu_lemmas.proofs.Ranges.{range_below, range_has}
 use Rattle.flu_lemmas.proofs.Counting.{times-cons, times_if_contained, contained_if_times, times_append}
 use Rattle.flu_planner.proofs.Rising.{rising_once, rising_range}

@@ -3,7 +3,7 @@ use Rattle.std.specs.Prelude.{◌≡◌, ℕ, ◌≤◌, List, Ok, IsTrue}
 use Rattle.std.specs.List.{list_all}
 use Rattle.flu_model.specs.declared.jobs.Program.{Program}
 use Rattle.flu_model.specs.declared.plans.Node.{Node}
-use Rattle.flu_model.specs.Rules.{is_name}
+use Rattle.flu_names.specs.Names.{is_name}
 use Rattle.flu_model.specs.Owners.{nodes_fit}
 use Rattle.flu_model.specs.Validity.{IsValid}
 use Rattle.flu_plan.specs.Kept.{KeepsRules}

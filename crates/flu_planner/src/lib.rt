@@ -15,8 +15,6 @@ mod groups;
 pub mod laws;
 mod nodes;
 mod removal;
-#[cfg(test)]
-mod tests;
 
 pub use flu_deps::{Checked, Valid};
 use flu_model::{List, Plan};

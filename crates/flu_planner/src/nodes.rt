@@ -10,6 +10,7 @@ ghost use Rattle.flu_planner.specs.Tables.{graph_of};
 
 use crate::dependencies::table;
 use crate::groups::part;
+use flu_laws::dependency_turns;
 use flu_model::{Itag, Keys, List, Name, Node, Pred, Program, itag_count, source_of, tag_of};
 use std::alloc::{AllocError, Global};
 
@@ -124,6 +125,7 @@ pub fn greedy(
     requires { depth ≤ 6 }
     ensures { IfOk result (λ nodes. IsGreedyPlan p.now rates.now depth nodes.items) }
 {
+    dependency_turns();
     let table = table(alloc, p)?;
     let itags = all_itags(alloc, p)?;
     subtree(alloc, p, &table, rates, depth, 0, &itags)

@@ -4,6 +4,10 @@
 #[cfg(test)]
 mod job_faults;
 #[cfg(test)]
+mod plans;
+#[cfg(test)]
+mod printed_jobs;
+#[cfg(test)]
 mod syntax;
 #[cfg(test)]
 mod texts;

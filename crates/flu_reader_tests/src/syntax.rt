@@ -93,7 +93,10 @@ fn unexpected(rt: HostRuntime) {
         ("source s \"f\" rate : t", Answer::Unexpected(18)),
         ("source s \"f\": t[1..]", Answer::Unexpected(19)),
         ("source s \"f\" slack 2 rate 1: t", Answer::Unexpected(21)),
-        ("source s \"f\" rate 1 slack 2 slack 3: t", Answer::Unexpected(28)),
+        (
+            "source s \"f\" rate 1 slack 2 slack 3: t",
+            Answer::Unexpected(28),
+        ),
         ("source s \"f\" slack: t", Answer::Unexpected(18)),
         ("version", Answer::Unexpected(7)),
         ("version two", Answer::Unexpected(8)),

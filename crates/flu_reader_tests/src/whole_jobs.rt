@@ -385,12 +385,7 @@ fn job_x(alloc: Global) -> Result<Option<Program>, AllocError> {
         kinds_of_x(alloc)?,
         depends(
             alloc,
-            &[
-                (0, 0, false),
-                (0, 1, false),
-                (1, 2, false),
-                (2, 2, false),
-            ],
+            &[(0, 0, false), (0, 1, false), (1, 2, false), (2, 2, false)],
         )?,
         sources(
             alloc,

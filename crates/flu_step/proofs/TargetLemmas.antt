@@ -1,9 +1,8 @@
 -- The targets of a job's actions are in range, and what the writing calls leave.
-use Rattle.std.proofs.Common.{◌≡◌, ◌<◌, ℕ, Bool, true, Option, Some, None, Result, OnOk, List, refl, sym, ap, subst, ◌∙◌, arith, zero, suc, ◌+◌, [], ◌∷◌, ◌++◌, length, drop, get_or, drop-cons, add-one, append_assoc}
+use Rattle.std.proofs.Common.{◌≡◌, ◌<◌, ℕ, Bool, true, Option, Some, None, Result, OnOk, List, refl, sym, ap, subst, ◌∙◌, ◌+◌, [], ◌∷◌, ◌++◌, length, drop, get_or, drop-cons, add-one, append_assoc}
 use Rattle.std.proofs.lemmas.List.{map-append}
 use Rattle.std.specs.Prelude.{nat_lt, ◌&&◌, slice_get}
 use Rattle.std.specs.List.{list_all}
-use Rattle.std.proofs.lemmas.Grind.{common_steps}
 use Rattle.flu_model.specs.declared.events.Event.{Event}
 use Rattle.flu_model.specs.declared.events.Tag.{Tag}
 use Rattle.flu_model.specs.declared.events.Out.{Out}
@@ -22,7 +21,8 @@ use Rattle.flu_model.specs.Contents.{Contents, key_count}
 use Rattle.flu_model.specs.Rules.{are_kinds, kind_fits, tag_fits, key_fits, family_fits, act_fits, action_fits}
 use Rattle.flu_model.specs.Expressions.{key_of}
 use Rattle.flu_model.specs.Updates.{Effect, actions_of, effect_of, effect_of_action, effect_of_actions}
-use Rattle.flu_lemmas.proofs.Tests.{all_at, and_left, and_right, lt_true, true_lt}
+use Rattle.flu_lemmas.proofs.Elements.{passes_at}
+use Rattle.flu_lemmas.proofs.Tests.{and_left, and_right, lt_true, true_lt}
 use Rattle.flu_step.specs.Targets.{is_in_range, has_target_in_range}
 
 key_in_range : (family_keyed keyed : Bool) (at : At) (key : ℕ) → key_fits family_keyed keyed at ≡ true → key < key_count → nat_lt (key_of at key) key_count ≡ true
@@ -44,12 +44,6 @@ target_in_range families keyed has_value (Flush f ps) key fits lt = refl
 
 pub on_ok_at : {T E : Type 0} (r : Result T E) (h x y : Contents) → OnOk r (h ≡ x) → x ≡ y → OnOk r (h ≡ y)
 on_ok_at r h x y e f = subst (λ z. OnOk r (h ≡ z)) f e
-
--- the actions of a kind that a tag names
-pub kind_of_tag : (kinds : List Kind) (n : ℕ) (d : Kind) → n < length kinds → slice_get kinds n ≡ Some (get_or kinds n d)
-kind_of_tag [] n d lt = absurd (omega arith)
-kind_of_tag (k ∷ ks) zero d lt = refl
-kind_of_tag (k ∷ ks) (suc n) d lt = kind_of_tag ks n d (omega arith)
 
 -- one action first, and then the others
 pub effect-drop : (families : List Family) (all : List Action) (s : Contents) (x : Event) (key i : ℕ) (d : Action) → i < length all
@@ -85,17 +79,19 @@ targets_in_range families keyed has_value (a ∷ all) key fits lt =
     ap (λ b. b && list_all (λ (a : Action). has_target_in_range a.act key) all) (target_in_range families keyed has_value a.act key (and_left _ _ (and_left _ _ fits)) lt)
     ∙ targets_in_range families keyed has_value all key (and_right _ _ fits) lt
 
--- what a tag's kind does, where the kind was read at the tag's place
-pub kind_targets : (families : List Family) (kinds : List Kind) (t : Tag) (k : Kind) → are_kinds families kinds ≡ true → tag_fits kinds t ≡ true → k ≡ get_or kinds t.kind k → list_all (λ (a : Action). has_target_in_range a.act t.key) k.actions ≡ true
-kind_targets families kinds t k fits small is =
-    let kind_lt : t.kind < length kinds = true_lt _ _ (and_left _ _ small) in
-    let key_lt : t.key < key_count = true_lt _ _ (and_right _ _ small) in
-    let one : kind_fits families k ≡ true = ap (kind_fits families) is ∙ all_at (kind_fits families) kinds t.kind k fits kind_lt in
-    targets_in_range families k.keyed k.has_value k.actions t.key (and_right _ _ one) key_lt
+-- the actions of a tag's kind write in range
+pub tag_targets : (families : List Family) (kinds : List Kind) (t : Tag) → are_kinds families kinds ≡ true → tag_fits kinds t ≡ true
+    → list_all (λ (a : Action). has_target_in_range a.act t.key) (actions_of (slice_get kinds t.kind)) ≡ true
+tag_targets families kinds t fits small = of (slice_get kinds t.kind) refl
+  where
+    of : (o : Option Kind) → slice_get kinds t.kind ≡ o → list_all (λ (a : Action). has_target_in_range a.act t.key) (actions_of o) ≡ true
+    of None e = refl
+    of (Some k) e =
+        targets_in_range families k.keyed k.has_value k.actions t.key (and_right _ _ (passes_at (kind_fits families) kinds t.kind k fits e)) (true_lt _ _ (and_right _ _ small))
 
-pub effect-at : (p : Program) (s : Contents) (x : Event) (t : Tag) (k : Kind) → t ≡ tag_of_itag p x.itag → tag_fits p.kinds t ≡ true → k ≡ get_or p.kinds t.kind k → effect_of_actions p.families k.actions s x t.key ≡ effect_of p s x
-effect-at p s x t k at small is =
-    let kind_lt : t.kind < length p.kinds = true_lt _ _ (and_left _ _ small) in
-    let found : slice_get p.kinds t.kind ≡ Some k = kind_of_tag p.kinds t.kind k kind_lt ∙ sym (ap Some is) in
-    sym (ap (λ o. effect_of_actions p.families (actions_of o) s x t.key) found)
-    ∙ ap (λ u. effect_of_actions p.families (actions_of (slice_get p.kinds u.kind)) s x u.key) at
+pub effect-at : (p : Program) (s : Contents) (x : Event) (t : Tag) (families : List Family) (all : List Action) → families ≡ p.families
+    → all ≡ actions_of (slice_get p.kinds t.kind) → t ≡ tag_of_itag p x.itag → effect_of_actions families all s x t.key ≡ effect_of p s x
+effect-at p s x t families all is_families is_all is =
+    ap (λ fs. effect_of_actions fs all s x t.key) is_families
+    ∙ ap (λ acts. effect_of_actions p.families acts s x t.key) is_all
+    ∙ ap (λ u. effect_of_actions p.families (actions_of (slice_get p.kinds u.kind)) s x u.key) is

@@ -6,7 +6,7 @@ ghost use Rattle.flu_model.specs.Expressions as meaning;
 ghost use Rattle.flu_cells.specs.Holding.{held};
 
 use flu_cells::State;
-use flu_model::{At, Cell, CellRef, Event, Expr, Op, Worth};
+use flu_model::{Event, Expr, Op, Worth, cell_of};
 
 /// The value of an expression in a state, at an event whose tag has this key. It takes no memory.
 ///
@@ -25,21 +25,6 @@ pub fn value_of(e: &Expr, s: &State, x: &Event, key: u32) -> i64
         Expr::Neg(e) => value_of(e, s, x, key).saturating_neg(),
         Expr::Not(e) => as_number(!is_true(value_of(e, s, x, key))),
         Expr::Two(op, a, b) => result_of(*op, value_of(a, s, x, key), value_of(b, s, x, key)),
-    }
-}
-
-/// The cell that a reference means, for an event whose tag has this key.
-pub fn cell_of(r: CellRef, key: u32) -> Cell
-    ensures { result ≡ meaning.cell_of r key }
-{
-    let key = match r.at {
-        At::Alone => 0,
-        At::OwnKey => key,
-        At::Fixed(k) => k,
-    };
-    Cell {
-        family: r.family,
-        key,
     }
 }
 

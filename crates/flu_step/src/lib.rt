@@ -2,8 +2,6 @@
 #![tactic(auto)]
 
 pub mod expressions;
-#[cfg(test)]
-mod tests;
 mod texts;
 pub mod updates;
 

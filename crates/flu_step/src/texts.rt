@@ -6,52 +6,46 @@ ghost use Rattle.std.specs.String.{string_bytes};
 ghost use Rattle.flu_model.specs.Texts as meaning;
 ghost use Rattle.flu_cells.specs.Holding.{held};
 
-use crate::expressions::cell_of;
 use flu_cells::State;
-use flu_model::{Event, Family, Piece, Sort, Text, Worth};
+use flu_model::{Event, Family, Piece, Sort, Text, Worth, cell_of};
 use std::alloc::{AllocError, Global};
 
-/// The text of a template, where `{key}` is this key and `{cell}` is what this cell holds, which is not neutral.
-pub fn text_of(
-    alloc: Global,
-    families: &[Family],
-    pieces: &[Piece],
-    s: &State,
-    x: &Event,
-    key: u32,
-    there: Option<Worth>,
-) -> Result<Text, AllocError>
-    ensures { IfOk result (λ t. t ≡ meaning.pieces_text families.now pieces.now (held s.now) x.now key there) }
+/// What the fields of a template are filled from: the families of the job, a state, an event, the key that `{key}` is, and what
+/// the cell that `{cell}` names holds, which is not neutral.
+#[derive(Clone, Copy)]
+pub struct Filling<'a> {
+    pub families: &'a [Family],
+    pub state: &'a State,
+    pub event: &'a Event,
+    pub key: u32,
+    pub there: Option<Worth>,
+}
+
+/// The text of a template.
+pub fn text_of(alloc: Global, pieces: &[Piece], at: &Filling<'_>) -> Result<Text, AllocError>
+    ensures { IfOk result (λ t. t ≡ meaning.pieces_text at.now.families.now pieces.now (held at.now.state.now) at.now.event.now at.now.key at.now.there) }
 {
     let mut text = String::new(alloc);
     for piece in pieces {
-        push_piece(&mut text, families, piece, s, x, key, there)?;
+        push_piece(&mut text, piece, at)?;
     }
     Ok(Text::of(text))
 }
 
 // One piece at the end of a text.
-fn push_piece(
-    text: &mut String,
-    families: &[Family],
-    piece: &Piece,
-    s: &State,
-    x: &Event,
-    key: u32,
-    there: Option<Worth>,
-) -> Result<(), AllocError>
-    ensures { OnOk result (string_bytes text.new ≡ string_bytes text.old ++ meaning.piece_text families.now piece.now (held s.now) x.now key there) }
+fn push_piece(text: &mut String, piece: &Piece, at: &Filling<'_>) -> Result<(), AllocError>
+    ensures { OnOk result (string_bytes text.new ≡ string_bytes text.old ++ meaning.piece_text at.now.families.now piece.now (held at.now.state.now) at.now.event.now at.now.key at.now.there) }
 {
     match piece {
         Piece::Plain(plain) => text.push_str(plain.as_str()),
-        Piece::Value => push_signed(text, x.value),
-        Piece::Key => push_number(text, u64::from(key)),
-        Piece::Time => push_number(text, x.time),
+        Piece::Value => push_signed(text, at.event.value),
+        Piece::Key => push_number(text, u64::from(at.key)),
+        Piece::Time => push_number(text, at.event.time),
         Piece::Read(r) => {
-            let neutral = neutral_of(families, r.family);
-            push_worth(text, neutral, s.get(cell_of(*r, key)))
+            let neutral = neutral_of(at.families, r.family);
+            push_worth(text, neutral, at.state.get(cell_of(*r, at.key)))
         }
-        Piece::CellValue => push_worth(text, "none", there),
+        Piece::CellValue => push_worth(text, "none", at.there),
     }
 }
 

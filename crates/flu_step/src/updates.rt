@@ -1,6 +1,6 @@
 //! What an event does to a state: the actions of its tag's kind, in order (`docs/MODEL.md`).
 
-ghost use Rattle.std.specs.Prelude.{◌≡◌, ◌<◌, [], ◌∷◌, ◌++◌, map, Some, None, OnOk, IsTrue};
+ghost use Rattle.std.specs.Prelude.{◌≡◌, ◌<◌, [], ◌∷◌, ◌++◌, map, Some, None, OnOk, IsTrue, slice_get};
 ghost use Rattle.std.specs.List.{list_all};
 ghost use Rattle.flu_model.specs.Contents.{key_count, cell, held_keys, without_family};
 ghost use Rattle.flu_model.specs.Expressions as expressions;
@@ -8,17 +8,26 @@ ghost use Rattle.flu_model.specs.Folding.{outputs_at, outputs_with};
 ghost use Rattle.flu_model.specs.Itags.{count_of_itags};
 ghost use Rattle.flu_model.specs.Rules.{act_fits, action_fits};
 ghost use Rattle.flu_model.specs.Texts.{pieces_text};
-ghost use Rattle.flu_model.specs.Updates.{effect_of, effect_of_act, effect_of_action, effect_of_actions, passes_guard};
+ghost use Rattle.flu_model.specs.Updates.{actions_of, effect_of, effect_of_act, effect_of_action, effect_of_actions, passes_guard};
 ghost use Rattle.flu_cells.specs.Holding.{held};
 ghost use Rattle.flu_step.specs.Targets.{has_target_in_range};
 
-use crate::expressions::{cell_of, is_true, value_of};
-use crate::texts::text_of;
+use crate::expressions::{is_true, value_of};
+use crate::texts::{Filling, text_of};
 use flu_cells::State;
 use flu_model::{
-    Act, Action, Cell, Event, Expr, Family, Out, Outs, Piece, Program, Tag, Text, tag_of,
+    Act, Action, Cell, Event, Expr, Family, Out, Outs, Piece, Program, Tag, Text, actions_of,
+    cell_of, tag_of,
 };
 use std::alloc::{AllocError, Global};
+
+/// What actions are done at: an event with its tag, beside the families of the job.
+#[derive(Clone, Copy)]
+struct Moment<'a> {
+    families: &'a [Family],
+    event: &'a Event,
+    tag: Tag,
+}
 
 /// Updates a state by an event, whose itag is one of the job's, and appends its outputs in the order in which its actions
 /// put them out. Nothing else of the outputs changes.
@@ -36,28 +45,28 @@ pub fn update(
     ensures outputs { OnOk result (outs.new ≡ outs.old ++ outputs_with p.now x.now (effect_of p.now (held s.old) x.now).texts) }
 {
     let tag = tag_of(p, x.itag);
-    let kind = &p.kinds.items()[tag.kind as usize];
-    let families = p.families.items();
-    let actions = kind.actions.items();
-    do_actions(alloc, families, actions, s, x, tag, outs)
+    let moment = Moment {
+        families: p.families.items(),
+        event: x,
+        tag,
+    };
+    do_actions(alloc, &moment, actions_of(p, tag), s, outs)
 }
 
 // Does actions in order.
 fn do_actions(
     alloc: Global,
-    families: &[Family],
+    at: &Moment<'_>,
     actions: &[Action],
     s: &mut State,
-    x: &Event,
-    tag: Tag,
     outs: &mut Outs,
 ) -> Result<(), AllocError>
-    requires { IsTrue (list_all (λ a. has_target_in_range a.act tag.key) actions.now) }
-    ensures cells { OnOk result (held s.new ≡ (effect_of_actions families.now actions.now (held s.old) x.now tag.key).cells) }
-    ensures outputs { OnOk result (outs.new ≡ outs.old ++ outputs_at x.now.time tag (effect_of_actions families.now actions.now (held s.old) x.now tag.key).texts) }
+    requires { IsTrue (list_all (λ a. has_target_in_range a.act at.now.tag.key) actions.now) }
+    ensures cells { OnOk result (held s.new ≡ (effect_of_actions at.now.families.now actions.now (held s.old) at.now.event.now at.now.tag.key).cells) }
+    ensures outputs { OnOk result (outs.new ≡ outs.old ++ outputs_at at.now.event.now.time at.now.tag (effect_of_actions at.now.families.now actions.now (held s.old) at.now.event.now at.now.tag.key).texts) }
 {
     for action in actions {
-        do_action(alloc, families, action, s, x, tag, outs)?;
+        do_action(alloc, at, action, s, outs)?;
     }
     Ok(())
 }
@@ -65,19 +74,17 @@ fn do_actions(
 // Does an action whose guard holds.
 fn do_action(
     alloc: Global,
-    families: &[Family],
+    at: &Moment<'_>,
     action: &Action,
     s: &mut State,
-    x: &Event,
-    tag: Tag,
     outs: &mut Outs,
 ) -> Result<(), AllocError>
-    requires { IsTrue (has_target_in_range action.now.act tag.key) }
-    ensures cells { OnOk result (held s.new ≡ (effect_of_action families.now action.now (held s.old) x.now tag.key).cells) }
-    ensures outputs { OnOk result (outs.new ≡ outs.old ++ outputs_at x.now.time tag (effect_of_action families.now action.now (held s.old) x.now tag.key).texts) }
+    requires { IsTrue (has_target_in_range action.now.act at.now.tag.key) }
+    ensures cells { OnOk result (held s.new ≡ (effect_of_action at.now.families.now action.now (held s.old) at.now.event.now at.now.tag.key).cells) }
+    ensures outputs { OnOk result (outs.new ≡ outs.old ++ outputs_at at.now.event.now.time at.now.tag (effect_of_action at.now.families.now action.now (held s.old) at.now.event.now at.now.tag.key).texts) }
 {
-    if guard_holds(&action.guard, s, x, tag.key) {
-        do_act(alloc, families, &action.act, s, x, tag, outs)
+    if guard_holds(&action.guard, s, at.event, at.tag.key) {
+        do_act(alloc, at, &action.act, s, outs)
     } else {
         Ok(())
     }
@@ -96,58 +103,55 @@ fn guard_holds(guard: &Option<Expr>, s: &State, x: &Event, key: u32) -> bool
 // Does an act.
 fn do_act(
     alloc: Global,
-    families: &[Family],
+    at: &Moment<'_>,
     act: &Act,
     s: &mut State,
-    x: &Event,
-    tag: Tag,
     outs: &mut Outs,
 ) -> Result<(), AllocError>
-    requires { IsTrue (has_target_in_range act.now tag.key) }
-    ensures cells { OnOk result (held s.new ≡ (effect_of_act families.now act.now (held s.old) x.now tag.key).cells) }
-    ensures outputs { OnOk result (outs.new ≡ outs.old ++ outputs_at x.now.time tag (effect_of_act families.now act.now (held s.old) x.now tag.key).texts) }
+    requires { IsTrue (has_target_in_range act.now at.now.tag.key) }
+    ensures cells { OnOk result (held s.new ≡ (effect_of_act at.now.families.now act.now (held s.old) at.now.event.now at.now.tag.key).cells) }
+    ensures outputs { OnOk result (outs.new ≡ outs.old ++ outputs_at at.now.event.now.time at.now.tag (effect_of_act at.now.families.now act.now (held s.old) at.now.event.now at.now.tag.key).texts) }
 {
+    let key = at.tag.key;
     match act {
         Act::Add(r, e) => {
-            let amount = value_of(e, s, x, tag.key);
-            s.add(cell_of(*r, tag.key), i128::from(amount))
+            let amount = value_of(e, s, at.event, key);
+            s.add(cell_of(*r, key), i128::from(amount))
         }
         Act::Raise(r, e) => {
-            let amount = value_of(e, s, x, tag.key);
-            s.raise(cell_of(*r, tag.key), amount)
+            let amount = value_of(e, s, at.event, key);
+            s.raise(cell_of(*r, key), amount)
         }
         Act::Set(r, e) => {
-            let amount = value_of(e, s, x, tag.key);
-            s.put(cell_of(*r, tag.key), amount)
+            let amount = value_of(e, s, at.event, key);
+            s.put(cell_of(*r, key), amount)
         }
         Act::Clear(r) => {
-            s.clear(cell_of(*r, tag.key));
+            s.clear(cell_of(*r, key));
             Ok(())
         }
         Act::Emit(pieces) => {
-            let text = text_of(alloc, families, pieces.items(), s, x, tag.key, None)?;
-            put_out(outs, x, tag, text)
+            let filling = Filling {
+                families: at.families,
+                state: &*s,
+                event: at.event,
+                key,
+                there: None,
+            };
+            let text = text_of(alloc, pieces.items(), &filling)?;
+            put_out(outs, at, text)
         }
-        Act::Flush(family, pieces) => flush(
-            alloc,
-            families,
-            *family,
-            pieces.items(),
-            s,
-            x,
-            tag,
-            outs,
-        ),
+        Act::Flush(family, pieces) => flush(alloc, at, *family, pieces.items(), s, outs),
     }
 }
 
 // One output.
-fn put_out(outs: &mut Outs, x: &Event, tag: Tag, text: Text) -> Result<(), AllocError>
-    ensures { OnOk result (outs.new ≡ outs.old ++ outputs_at x.now.time tag (text ∷ [])) }
+fn put_out(outs: &mut Outs, at: &Moment<'_>, text: Text) -> Result<(), AllocError>
+    ensures { OnOk result (outs.new ≡ outs.old ++ outputs_at at.now.event.now.time at.now.tag (text ∷ [])) }
 {
     outs.push(Out {
-        time: x.time,
-        tag,
+        time: at.event.time,
+        tag: at.tag,
         text,
     })
 }
@@ -155,25 +159,27 @@ fn put_out(outs: &mut Outs, x: &Event, tag: Tag, text: Text) -> Result<(), Alloc
 // One output for each key of a family whose cell is not neutral, and then all its cells become neutral.
 fn flush(
     alloc: Global,
-    families: &[Family],
+    at: &Moment<'_>,
     family: u32,
     pieces: &[Piece],
     s: &mut State,
-    x: &Event,
-    tag: Tag,
     outs: &mut Outs,
 ) -> Result<(), AllocError>
     ensures cells { OnOk result (held s.new ≡ without_family (held s.old) family) }
-    ensures outputs { OnOk result (outs.new ≡ outs.old ++ outputs_at x.now.time tag (map (λ k. pieces_text families.now pieces.now (held s.old) x.now k (held s.old (cell family k))) (held_keys (held s.old) family))) }
+    ensures outputs { OnOk result (outs.new ≡ outs.old ++ outputs_at at.now.event.now.time at.now.tag (map (λ k. pieces_text at.now.families.now pieces.now (held s.old) at.now.event.now k (held s.old (cell family k))) (held_keys (held s.old) family))) }
 {
     let keys = s.keys(family)?;
     for key in &keys {
-        let there = s.get(Cell { family, key: *key });
-        let text = text_of(alloc, families, pieces, s, x, *key, there)?;
-        put_out(outs, x, tag, text)?;
+        let filling = Filling {
+            families: at.families,
+            state: &*s,
+            event: at.event,
+            key: *key,
+            there: s.get(Cell { family, key: *key }),
+        };
+        let text = text_of(alloc, pieces, &filling)?;
+        put_out(outs, at, text)?;
     }
-    for key in &keys {
-        s.clear(Cell { family, key: *key });
-    }
+    s.clear_family(family);
     Ok(())
 }

@@ -1,7 +1,7 @@
 -- The lists of the sources that were read, and what reading them did to the files.
-use Rattle.std.proofs.Common.{◌≡◌, ◌≢◌, ◌⊎◌, inl, inr, ℕ, zero, suc, ◌+◌, ◌-◌, ◌<◌, ◌≤◌, Bool, true, false, not, ◌&&◌, ◌||◌, List, [], ◌∷◌, ◌++◌, length, map, get_or, take, drop, vec_len, Option, Some, None, refl, sym, ap, ◌∙◌, append_assoc, length-append, subst, arith}
-use Rattle.std.specs.Prelude.{IsSome, is_some, unwrap_or, option_map, sum_by, slice_index_or}
-use Rattle.std.specs.List.{flat_map, range_with_len, list_any, Contains}
+use Rattle.std.proofs.Common.{◌≡◌, ◌≢◌, inl, inr, ℕ, zero, suc, ◌+◌, ◌<◌, Bool, true, false, not, List, [], ◌∷◌, ◌++◌, length, map, get_or, take, drop, vec_len, Option, Some, None, refl, sym, ap, ◌∙◌, append_assoc, length-append, subst, arith}
+use Rattle.std.specs.Prelude.{IsSome, is_some, unwrap_or, sum_by}
+use Rattle.std.specs.List.{flat_map, list_any, Contains}
 use Rattle.std.specs.Cmp.Lexicographic.{bytes_decides}
 use Rattle.std.proofs.lemmas.Bool.{cases_Bool}
 use Rattle.std.proofs.lemmas.List.{ext_get_or, length-map, map-append, append-nil, take-append-drop, drop_more}
@@ -22,18 +22,18 @@ use Rattle.flu_rows.specs.declared.row.Row.{Row}
 use Rattle.flu_rows.specs.declared.rows.Next.{Next}
 use Rattle.flu_rows.specs.Reading.{read_file}
 use Rattle.flu_outside.specs.Taking.{bytes_left, TakesFrom, CountsOf, IsReadOut}
-use Rattle.flu_lemmas.proofs.Told.{told_then, told_weaker, told_same}
+use Rattle.flu_lemmas.proofs.Told.{told_then, told_same}
 use Rattle.flu_streams.specs.declared.faults.GatherFault.{GatherFault}
 use Rattle.flu_streams.specs.declared.faults.GatherFault.TheVariants.{Source as SourceFaulty, ReadFault, NoMemory}
 use Rattle.flu_streams.specs.declared.faults.SourceFault.{SourceFault}
 use Rattle.flu_streams.specs.declared.gathered.Gathered.{Gathered}
 use Rattle.flu_streams.specs.declared.intake.Intake.{Intake}
-use Rattle.flu_streams.specs.Before.{with_before, each_with_before, first_some, or_else}
+use Rattle.flu_streams.specs.Before.{with_before, each_with_before, first_some}
 use Rattle.flu_streams.specs.Tags.{width}
 use Rattle.flu_streams.specs.Tests.{rows_of, items_of, first_of, first_defect}
 use Rattle.flu_streams.specs.Good.{items_at, lists_of_rows, rows_in, items_held, fault_of_source, first_fault}
 use Rattle.flu_streams.specs.Files.{files_of, LeavesOthers, CountsOfNames, AreReadOut}
-use Rattle.flu_streams.specs.Lists.{lists_in, items_of_list}
+use Rattle.flu_streams.specs.Lists.{lists_in}
 use Rattle.flu_streams.specs.Intake.{Holds}
 use Rattle.flu_streams.specs.Source.{WasRead}
 use Rattle.flu_streams.specs.Gathering.{AddsSource, IsFaultOf, IsGathered, IsFirstFault, lists_of_sources}

@@ -1,9 +1,8 @@
 -- The items of good sources are streams.
-use Rattle.std.proofs.Common.{◌≡◌, ◌≢◌, ◌⊎◌, inl, inr, ℕ, zero, suc, ◌+◌, ◌-◌, ◌<◌, ◌≤◌, Bool, true, false, not, ◌&&◌, ◌||◌, eqb, leb, List, [], ◌∷◌, ◌++◌, length, map, Option, Some, None, refl, sym, ap, ◌∙◌, append_assoc, arith}
+use Rattle.std.proofs.Common.{◌≡◌, ◌⊎◌, inl, inr, ℕ, zero, suc, ◌+◌, ◌≤◌, Bool, true, false, ◌&&◌, eqb, leb, List, [], ◌∷◌, ◌++◌, length, map, Option, Some, None, refl, ap, ◌∙◌, append_assoc, arith}
 use Rattle.std.specs.Prelude.{nat_le, option_map, unwrap_or, pos, if◌then◌else◌}
-use Rattle.std.specs.List.{filter_map, range_with_len}
+use Rattle.std.specs.List.{range_with_len}
 use Rattle.std.specs.Option.{option_to_list}
-use Rattle.std.proofs.lemmas.Bool.{cases_Bool}
 use Rattle.std.proofs.lemmas.Bool.Decides.{nat_tests}
 use Rattle.std.proofs.lemmas.List.{append-nil}
 use Rattle.flu_lemmas.proofs.Tests.{and_left, and_right, both, le_true, not_both}
@@ -21,7 +20,7 @@ use Rattle.flu_streams.specs.declared.faults.Why.{Why}
 use Rattle.flu_streams.specs.declared.faults.Why.TheVariants.{AfterEnd, Disordered}
 use Rattle.flu_streams.specs.Before.{with_before, first_some, or_else}
 use Rattle.flu_streams.specs.Tags.{place_named, width}
-use Rattle.flu_streams.specs.Tests.{row_in, rows_of, is_end, has_ended, time_in, last_time, items_of, where_true, test_tag, test_value, test_times, fault_of, defect_of, first_of}
+use Rattle.flu_streams.specs.Tests.{rows_of, is_end, has_ended, time_in, last_time, items_of, where_true, test_tag, test_value, test_times, fault_of, defect_of, first_of}
 use Rattle.flu_streams.specs.Good.{item_in, items_at, lists_of_rows}
 use Rattle.flu_streams.proofs.Taken.{filter_more, last_more, ended_more, rows_more, no_row_more, IsNoRow}
 

@@ -1,21 +1,19 @@
 -- The rows of a source that were taken in, and its first defect.
-use Rattle.std.proofs.Common.{◌≡◌, ◌≢◌, ℕ, zero, suc, ◌+◌, ◌-◌, ◌<◌, ◌≤◌, ◌^◌, Bool, true, false, ◌||◌, List, [], ◌∷◌, ◌++◌, length, Option, Some, None, refl, sym, ap, ◌∙◌, append_assoc, length-append, arith}
-use Rattle.std.specs.Prelude.{slice_get, option_map, if◌then◌else◌, sum_by}
-use Rattle.std.specs.List.{filter_map, list_any, cons_option}
+use Rattle.std.proofs.Common.{◌≡◌, ℕ, ◌+◌, ◌-◌, Bool, true, false, ◌||◌, List, [], ◌∷◌, ◌++◌, length, Option, Some, None, refl, sym, ap, ◌∙◌, append_assoc, length-append, arith}
+use Rattle.std.specs.Prelude.{slice_get, option_map}
+use Rattle.std.specs.List.{filter_map, cons_option}
 use Rattle.std.specs.Option.{option_to_list}
 use Rattle.std.proofs.lemmas.List.{append-nil}
 use Rattle.std.proofs.lemmas.List.Elements.{filter_map-append}
 use Rattle.std.proofs.lemmas.List.Folds.{list_any-append}
 use Rattle.std.proofs.lemmas.List.Sums.{sum_by-append}
-use Rattle.flu_model.specs.declared.events.Item.{Item}
 use Rattle.flu_model.specs.declared.jobs.Kind.{Kind}
 use Rattle.flu_model.specs.declared.jobs.Source.{Source}
 use Rattle.flu_outside.specs.Outside.{Contents, WhereTold}
 use Rattle.flu_rows.specs.declared.row.Row.{Row}
-use Rattle.flu_rows.specs.declared.row.Row.TheVariants.{Event, Beat, End}
 use Rattle.flu_rows.specs.declared.rows.Next.{Next}
 use Rattle.flu_rows.specs.declared.rows.Next.TheVariants.{Row as RowNext, Bad, TooManyLines, Done}
-use Rattle.flu_rows.specs.Reading.{Place, read_file, ahead, then_behind, front_of, OnDone}
+use Rattle.flu_rows.specs.Reading.{Place, ahead, then_behind, front_of, OnDone}
 use Rattle.flu_outside.specs.Taking.{bytes_left}
 use Rattle.flu_streams.specs.declared.faults.Why.{Why}
 use Rattle.flu_streams.specs.declared.intake.Intake.{Intake}
@@ -25,8 +23,7 @@ use Rattle.flu_streams.specs.Before.{with_before, first_some, or_else}
 use Rattle.flu_streams.specs.Tags.{width}
 use Rattle.flu_streams.specs.Tests.{row_in, rows_of, is_end, has_ended, time_in, last_of, last_time, items_in, items_of, fault_of, defect_of, first_of, first_defect}
 use Rattle.flu_streams.specs.Good.{item_in, items_at}
-use Rattle.flu_streams.specs.Lists.{items_of_list}
-use Rattle.flu_streams.specs.Intake.{IsEmpty, Adds, TakesIn, IsRefusal, Holds}
+use Rattle.flu_streams.specs.Intake.{IsEmpty, TakesIn, IsRefusal, Holds}
 use Rattle.flu_streams.specs.Source.{stop_at, defect_behind, WasRead, IsTakenIn, IsReading, IsGoodSource, IsFirstDefect}
 use Rattle.flu_lemmas.proofs.Told.{told_then, told_same}
 use Rattle.flu_streams.proofs.Befores.{with_before-append, first_some-append}

@@ -1,13 +1,11 @@
 -- What was read of a source, and how a row is taken in.
-use Rattle.std.specs.Prelude.{◌≡◌, ℕ, ℤ, ◌+◌, ◌<◌, ◌==◌, Bool, true, false, ◌||◌, nat_lt, Option, Some, None, List, [], ◌∷◌, ◌++◌, map, slice_index_or, vec_len, Vec, ⊤, if◌then◌else◌}
+use Rattle.std.specs.Prelude.{◌≡◌, ℕ, ℤ, ◌+◌, ◌<◌, ◌==◌, Bool, true, false, ◌||◌, nat_lt, Option, Some, None, List, [], ◌∷◌, ◌++◌, vec_len, ⊤, if◌then◌else◌}
 use Rattle.std.specs.Option.{option_to_list}
-use Rattle.std.specs.Global.{Global}
 use Rattle.flu_model.specs.declared.events.Item.{Item}
 use Rattle.flu_model.specs.declared.events.Item.TheVariants.{Event as EventItem, Beat as BeatItem, End as EndItem}
 use Rattle.flu_model.specs.declared.jobs.Kind.{Kind}
 use Rattle.flu_model.specs.declared.jobs.Source.{Source}
 use Rattle.flu_rows.specs.declared.row.Row.{Row}
-use Rattle.flu_rows.specs.declared.rows.Next.{Next}
 use Rattle.flu_streams.specs.declared.faults.Why.{Why}
 use Rattle.flu_streams.specs.declared.faults.Why.TheVariants.{TooMany}
 use Rattle.flu_streams.specs.declared.intake.Intake.{Intake}
@@ -16,7 +14,7 @@ use Rattle.flu_streams.specs.declared.intake.Refusal.TheVariants.{Fault, NoMemor
 use Rattle.flu_streams.specs.Before.{or_else, first_some}
 use Rattle.flu_streams.specs.Lists.{items_of_list}
 use Rattle.flu_streams.specs.Tags.{width}
-use Rattle.flu_streams.specs.Tests.{where_true, test_times, fault_of, first_of, time_in, is_end, items_in, rows_of, has_ended, last_time, items_of}
+use Rattle.flu_streams.specs.Tests.{where_true, test_times, fault_of, time_in, is_end, items_in, has_ended, last_time, items_of}
 use Rattle.flu_streams.specs.Good.{item_in, items_at}
 
 -- nothing was read of a source

@@ -1,11 +1,10 @@
 -- How one source is read.
-use Rattle.std.specs.Prelude.{◌≡◌, ℕ, ◌+◌, ◌^◌, Bool, true, Option, Some, None, List, [], ◌∷◌, ◌++◌, if◌then◌else◌, ⊤}
+use Rattle.std.specs.Prelude.{◌≡◌, ℕ, ◌+◌, ◌^◌, Bool, true, Option, Some, None, List, [], ◌++◌, if◌then◌else◌, ⊤}
 use Rattle.flu_model.specs.declared.jobs.Kind.{Kind}
 use Rattle.flu_model.specs.declared.jobs.Source.{Source}
 use Rattle.flu_outside.specs.Outside.{Contents, WhereTold}
 use Rattle.flu_rows.specs.declared.held.RowsFault.{RowsFault}
 use Rattle.flu_rows.specs.declared.held.RowsFault.TheVariants.{ReadFault as RowsReadFault, NoMemory as RowsNoMemory}
-use Rattle.flu_rows.specs.declared.row.Row.{Row}
 use Rattle.flu_rows.specs.declared.rows.Next.{Next}
 use Rattle.flu_rows.specs.declared.rows.Next.TheVariants.{Row as RowNext, Bad, TooManyLines, Done}
 use Rattle.flu_rows.specs.Reading.{Place, read_file, ahead}

@@ -14,9 +14,9 @@ use Rattle.flu_syntax.specs.declared.tree.WrittenNumber.{WrittenNumber}
 use Rattle.flu_syntax.specs.declared.tree.WrittenKey.{WrittenKey}
 use Rattle.flu_syntax.specs.declared.tree.WrittenKey.TheVariants as key
 use Rattle.flu_syntax.specs.declared.tree.WrittenRef.{WrittenRef}
-use Rattle.flu_syntax.specs.Tree.{Tree, NumberTree, ValueTree, KeyTree, TimeTree, ReadTree, HasTree, ParenTree, NegTree, NotTree, TwoTree, Job}
-use Rattle.flu_syntax.specs.Machine.{cell_of, Context, Frame, NegFrame, NotFrame, ParenFrame, RightFrame, Want, Have, Done, Aim, ToRead, ToTest, Now, CellFamily, CellKeys, CellKey, CellClose, InExpression, Goes, start_of, done_step, expression_step, operator_of, op_level, level_behind, is_within, opens, named, step, run}
-use Rattle.flu_syntax.specs.Grammar.{Sign, Any, At, Spanned, IsSign, AreSigns, op_word, key_signs, cell_signs, spelled, left_level, Fits, nest}
+use Rattle.flu_syntax.specs.Tree.{Tree, NumberTree, ValueTree, KeyTree, TimeTree, ReadTree, HasTree, ParenTree, NegTree, NotTree, TwoTree, Declarations}
+use Rattle.flu_syntax.specs.Machine.{cell_of, Context, Frame, NegFrame, NotFrame, ParenFrame, RightFrame, Want, Have, Done, Aim, ToRead, ToTest, Now, CellFamily, CellKeys, CellKey, CellClose, InExpression, Goes, start_of, done_step, expression_step, operator_of, level_behind, is_within, opens, named, step, run}
+use Rattle.flu_syntax.specs.Grammar.{op_level, Sign, Any, At, Spanned, IsSign, AreSigns, op_word, key_signs, cell_signs, spelled, left_level, Fits, nest}
 use Rattle.flu_syntax.specs.Reading.{NotFirst}
 use Rattle.flu_syntax.proofs.Runs.{run-takes, run-neg, run-not, run-right, pass_end, pass_word, pass_level, opens-one, opens-same, not_starts, opens_more}
 use Rattle.flu_syntax.proofs.Parts.{run-passed, cell_alone}
@@ -34,14 +34,15 @@ sign_word (At word from) t h = h.0
 sign_word (Spanned word span) t h = h.0
 
 -- tokens that lead on to others, which are these signs
-abbrev pub LeadsTo : ℕ → Job → Now → List Token → Job → Now → List Sign → Type 0
+abbrev pub LeadsTo : ℕ → Declarations → Now → List Token → Declarations → Now → List Sign → Type 0
 LeadsTo end job now tokens next other more = (rest : List Token) × AreSigns more rest × (run end job now tokens ≡ run end next other rest)
 
-pub takes_sign : (end : ℕ) (job : Job) (now next : Now) (tokens : List Token) (s : Sign) (more : List Sign) → AreSigns (s ∷ more) tokens → ((t : Token) → IsSign s t → step now t ≡ Goes next) → LeadsTo end job now tokens job next more
+pub takes_sign : (end : ℕ) (job : Declarations) (now next : Now) (tokens : List Token) (s : Sign) (more : List Sign) → AreSigns (s ∷ more) tokens
+    → ((t : Token) → IsSign s t → step now t ≡ Goes next) → LeadsTo end job now tokens job next more
 takes_sign end job now next [] s more h takes = absurd h
 takes_sign end job now next (t ∷ rest) s more h takes = (rest, h.1, run-takes end job now next t rest (takes t h.0))
 
-pub on_to : (end : ℕ) (job next last : Job) (now other final : Now) (tokens : List Token) (middle more : List Sign) (a : LeadsTo end job now tokens next other middle) → LeadsTo end next other a.0 last final more → LeadsTo end job now tokens last final more
+pub on_to : (end : ℕ) (job next last : Declarations) (now other final : Now) (tokens : List Token) (middle more : List Sign) (a : LeadsTo end job now tokens next other middle) → LeadsTo end next other a.0 last final more → LeadsTo end job now tokens last final more
 on_to end job next last now other final tokens middle more a b = (b.0, b.1, a.2 ∙ b.2)
 
 -- the sign behind a part: no bracket opens, and no operator above a level stands there
@@ -85,11 +86,13 @@ bracket_step : (aim : Aim) (family : WrittenSpan) (t : Token) → IsSign (Any (w
 unfolding step
 bracket_step aim family t h = rw h refl
 
-own_step : (aim : Aim) (family : WrittenSpan) (at : ℕ) (t : Token) → IsSign (At (w.Reserved r.Key) at) t → step (CellKey aim family) t ≡ Goes (CellClose aim (cell_of family (key.OwnKey at)))
+own_step : (aim : Aim) (family : WrittenSpan) (at : ℕ) (t : Token) → IsSign (At (w.Reserved r.Key) at) t
+    → step (CellKey aim family) t ≡ Goes (CellClose aim (cell_of family (key.OwnKey at)))
 unfolding step
 own_step aim family at t h = rw (h.0, h.1) refl
 
-fixed_step : (aim : Aim) (family : WrittenSpan) (n : WrittenNumber) (t : Token) → IsSign (At (w.Number n.value) n.at) t → step (CellKey aim family) t ≡ Goes (CellClose aim (cell_of family (key.Fixed n)))
+fixed_step : (aim : Aim) (family : WrittenSpan) (n : WrittenNumber) (t : Token) → IsSign (At (w.Number n.value) n.at) t
+    → step (CellKey aim family) t ≡ Goes (CellClose aim (cell_of family (key.Fixed n)))
 unfolding step
 fixed_step aim family n t h = rw (h.0, h.1) refl
 
@@ -101,23 +104,33 @@ family_step : (aim : Aim) (family : WrittenSpan) (t : Token) → IsSign (Spanned
 unfolding step
 family_step aim family t h = rw (h.0, h.1, h.2) refl
 
-pub accepts_key : (end : ℕ) (job : Job) (aim : Aim) (family : WrittenSpan) (k : WrittenKey) (tokens : List Token) (more : List Sign) → AreSigns (key_signs k ++ more) tokens → NoBracket more
+pub accepts_key : (end : ℕ) (job : Declarations) (aim : Aim) (family : WrittenSpan) (k : WrittenKey) (tokens : List Token) (more : List Sign)
+    → AreSigns (key_signs k ++ more) tokens → NoBracket more
     → LeadsTo end job (CellKeys aim family) tokens job (named aim (cell_of family k)) more
-accepts_key end job aim family key.Alone tokens more h free = (tokens, h, run-passed end job tokens (cell_alone aim family) (not_first _ tokens more h (bracket_word more free)))
+accepts_key end job aim family key.Alone tokens more h free =
+    (tokens, h, run-passed end job tokens (cell_alone aim family) (not_first _ tokens more h (bracket_word more free)))
 accepts_key end job aim family (key.OwnKey at) tokens more h free =
-    let a = takes_sign end job (CellKeys aim family) (CellKey aim family) tokens (Any (w.Mark m.OpenBracket)) (At (w.Reserved r.Key) at ∷ Any (w.Mark m.CloseBracket) ∷ more) h (bracket_step aim family) in
-    let b = takes_sign end job (CellKey aim family) (CellClose aim (cell_of family (key.OwnKey at))) a.0 (At (w.Reserved r.Key) at) (Any (w.Mark m.CloseBracket) ∷ more) a.1 (own_step aim family at) in
-    let c = takes_sign end job (CellClose aim (cell_of family (key.OwnKey at))) (named aim (cell_of family (key.OwnKey at))) b.0 (Any (w.Mark m.CloseBracket)) more b.1 (close_step aim (cell_of family (key.OwnKey at))) in
+    let a = takes_sign end job (CellKeys aim family) (CellKey aim family) tokens (Any (w.Mark m.OpenBracket))
+    (At (w.Reserved r.Key) at ∷ Any (w.Mark m.CloseBracket) ∷ more) h (bracket_step aim family) in
+    let b = takes_sign end job (CellKey aim family) (CellClose aim (cell_of family (key.OwnKey at))) a.0 (At (w.Reserved r.Key) at)
+    (Any (w.Mark m.CloseBracket) ∷ more) a.1 (own_step aim family at) in
+    let c = takes_sign end job (CellClose aim (cell_of family (key.OwnKey at))) (named aim (cell_of family (key.OwnKey at))) b.0
+    (Any (w.Mark m.CloseBracket)) more b.1 (close_step aim (cell_of family (key.OwnKey at))) in
     (c.0, c.1, a.2 ∙ b.2 ∙ c.2)
 accepts_key end job aim family (key.Fixed n) tokens more h free =
-    let a = takes_sign end job (CellKeys aim family) (CellKey aim family) tokens (Any (w.Mark m.OpenBracket)) (At (w.Number n.value) n.at ∷ Any (w.Mark m.CloseBracket) ∷ more) h (bracket_step aim family) in
-    let b = takes_sign end job (CellKey aim family) (CellClose aim (cell_of family (key.Fixed n))) a.0 (At (w.Number n.value) n.at) (Any (w.Mark m.CloseBracket) ∷ more) a.1 (fixed_step aim family n) in
-    let c = takes_sign end job (CellClose aim (cell_of family (key.Fixed n))) (named aim (cell_of family (key.Fixed n))) b.0 (Any (w.Mark m.CloseBracket)) more b.1 (close_step aim (cell_of family (key.Fixed n))) in
+    let a = takes_sign end job (CellKeys aim family) (CellKey aim family) tokens (Any (w.Mark m.OpenBracket))
+    (At (w.Number n.value) n.at ∷ Any (w.Mark m.CloseBracket) ∷ more) h (bracket_step aim family) in
+    let b = takes_sign end job (CellKey aim family) (CellClose aim (cell_of family (key.Fixed n))) a.0 (At (w.Number n.value) n.at)
+    (Any (w.Mark m.CloseBracket) ∷ more) a.1 (fixed_step aim family n) in
+    let c = takes_sign end job (CellClose aim (cell_of family (key.Fixed n))) (named aim (cell_of family (key.Fixed n))) b.0 (Any (w.Mark m.CloseBracket))
+    more b.1 (close_step aim (cell_of family (key.Fixed n))) in
     (c.0, c.1, a.2 ∙ b.2 ∙ c.2)
 
-pub accepts_cell : (end : ℕ) (job : Job) (aim : Aim) (cell : WrittenRef) (tokens : List Token) (more : List Sign) → AreSigns (cell_signs cell ++ more) tokens → NoBracket more → LeadsTo end job (CellFamily aim) tokens job (named aim cell) more
+pub accepts_cell : (end : ℕ) (job : Declarations) (aim : Aim) (cell : WrittenRef) (tokens : List Token) (more : List Sign)
+    → AreSigns (cell_signs cell ++ more) tokens → NoBracket more → LeadsTo end job (CellFamily aim) tokens job (named aim cell) more
 accepts_cell end job aim cell tokens more h free =
-    let a = takes_sign end job (CellFamily aim) (CellKeys aim cell.family) tokens (Spanned w.Name cell.family) (key_signs cell.key ++ more) h (family_step aim cell.family) in
+    let a = takes_sign end job (CellFamily aim) (CellKeys aim cell.family) tokens (Spanned w.Name cell.family) (key_signs cell.key ++ more) h
+    (family_step aim cell.family) in
     let b = accepts_key end job aim cell.family cell.key a.0 more a.1 free in
     (b.0, b.1, a.2 ∙ b.2)
 
@@ -256,13 +269,16 @@ not_within low level high n le lt = grind (arith, nat_tests)
 pub within : (low level high : ℕ) → low ≤ level → level ≤ high → is_within low level high ≡ true
 within low level high le below = grind (arith, nat_tests)
 
-not_taken : (end low high n : ℕ) (job : Job) (context : Context) (t : Tree) (frames : List Frame) (x : Token) (rest : List Token) → n < low → (o : Option Op) → o ≡ operator_of x.word → IfSome o (λ o. op_level o ≤ n)
+not_taken : (end low high n : ℕ) (job : Declarations) (context : Context) (t : Tree) (frames : List Frame) (x : Token) (rest : List Token) → n < low
+    → (o : Option Op) → o ≡ operator_of x.word → IfSome o (λ o. op_level o ≤ n)
     → run end job (InExpression context (Have low high t) frames) (x ∷ rest) ≡ run end job (InExpression context (Done t) frames) (x ∷ rest)
 not_taken end low high n job context t frames x rest lt None e h = pass_word low high end job context t frames x (x ∷ rest) rest refl e
-not_taken end low high n job context t frames x rest lt (Some o) e h = pass_level low high end job context t frames x (x ∷ rest) rest o refl e (not_within low (op_level o) high n h lt)
+not_taken end low high n job context t frames x rest lt (Some o) e h =
+    pass_level low high end job context t frames x (x ∷ rest) rest o refl e (not_within low (op_level o) high n h lt)
 
 -- operators below a level do not take it
-pub passes_low : (end low high n : ℕ) (job : Job) (context : Context) (t : Tree) (frames : List Frame) (rest : List Token) (more : List Sign) → AreSigns more rest → n < low → Follows n more
+pub passes_low : (end low high n : ℕ) (job : Declarations) (context : Context) (t : Tree) (frames : List Frame) (rest : List Token) (more : List Sign)
+    → AreSigns more rest → n < low → Follows n more
     → run end job (InExpression context (Have low high t) frames) rest ≡ run end job (InExpression context (Done t) frames) rest
 passes_low end low high n job context t frames [] more e lt h = pass_end low high end job context t frames [] refl
 passes_low end low high n job context t frames (x ∷ rest) [] e lt h = absurd e
@@ -280,50 +296,61 @@ pub Quiet-follows : (n : ℕ) (more : List Sign) → Quiet more → Follows n mo
 Quiet-follows n [] h = tt
 Quiet-follows n (s ∷ more) h = (rw h.0 tt, h.1)
 
-pub passes_quiet : (end low high : ℕ) (job : Job) (context : Context) (t : Tree) (frames : List Frame) (rest : List Token) (more : List Sign) → AreSigns more rest → Quiet more
+pub passes_quiet : (end low high : ℕ) (job : Declarations) (context : Context) (t : Tree) (frames : List Frame) (rest : List Token) (more : List Sign)
+    → AreSigns more rest → Quiet more
     → run end job (InExpression context (Have low high t) frames) rest ≡ run end job (InExpression context (Done t) frames) rest
 passes_quiet end low high job context t frames [] more e h = pass_end low high end job context t frames [] refl
 passes_quiet end low high job context t frames (x ∷ rest) [] e h = absurd e
-passes_quiet end low high job context t frames (x ∷ rest) (s ∷ more) e h = pass_word low high end job context t frames x (x ∷ rest) rest refl (sym (ap operator_of (sign_word s x e.0) ∙ h.0))
+passes_quiet end low high job context t frames (x ∷ rest) (s ∷ more) e h =
+    pass_word low high end job context t frames x (x ∷ rest) rest refl (sym (ap operator_of (sign_word s x e.0) ∙ h.0))
 
 -- ---- steps of an expression
 
 abbrev want : Context → ℕ → List Frame → Now
 want context level frames = InExpression context (Want level) frames
 
-number_step : (context : Context) (level : ℕ) (frames : List Frame) (n : WrittenNumber) (t : Token) → IsSign (At (w.Number n.value) n.at) t → step (want context level frames) t ≡ Goes (InExpression context (Have level 6 (NumberTree n)) frames)
+number_step : (context : Context) (level : ℕ) (frames : List Frame) (n : WrittenNumber) (t : Token) → IsSign (At (w.Number n.value) n.at) t
+    → step (want context level frames) t ≡ Goes (InExpression context (Have level 6 (NumberTree n)) frames)
 unfolding step expression_step start_of
 number_step context level frames n t h = rw (h.0, h.1) refl
 
-value_step : (context : Context) (level : ℕ) (frames : List Frame) (at : ℕ) (t : Token) → IsSign (At (w.Reserved r.Value) at) t → step (want context level frames) t ≡ Goes (InExpression context (Have level 6 (ValueTree at)) frames)
+value_step : (context : Context) (level : ℕ) (frames : List Frame) (at : ℕ) (t : Token) → IsSign (At (w.Reserved r.Value) at) t
+    → step (want context level frames) t ≡ Goes (InExpression context (Have level 6 (ValueTree at)) frames)
 unfolding step expression_step start_of
 value_step context level frames at t h = rw (h.0, h.1) refl
 
-key_step : (context : Context) (level : ℕ) (frames : List Frame) (at : ℕ) (t : Token) → IsSign (At (w.Reserved r.Key) at) t → step (want context level frames) t ≡ Goes (InExpression context (Have level 6 (KeyTree at)) frames)
+key_step : (context : Context) (level : ℕ) (frames : List Frame) (at : ℕ) (t : Token) → IsSign (At (w.Reserved r.Key) at) t
+    → step (want context level frames) t ≡ Goes (InExpression context (Have level 6 (KeyTree at)) frames)
 unfolding step expression_step start_of
 key_step context level frames at t h = rw (h.0, h.1) refl
 
-time_step : (context : Context) (level : ℕ) (frames : List Frame) (at : ℕ) (t : Token) → IsSign (At (w.Reserved r.Time) at) t → step (want context level frames) t ≡ Goes (InExpression context (Have level 6 (TimeTree at)) frames)
+time_step : (context : Context) (level : ℕ) (frames : List Frame) (at : ℕ) (t : Token) → IsSign (At (w.Reserved r.Time) at) t
+    → step (want context level frames) t ≡ Goes (InExpression context (Have level 6 (TimeTree at)) frames)
 unfolding step expression_step start_of
 time_step context level frames at t h = rw (h.0, h.1) refl
 
-read_step : (context : Context) (level : ℕ) (frames : List Frame) (family : WrittenSpan) (t : Token) → IsSign (Spanned w.Name family) t → step (want context level frames) t ≡ Goes (CellKeys (ToRead context level frames) family)
+read_step : (context : Context) (level : ℕ) (frames : List Frame) (family : WrittenSpan) (t : Token) → IsSign (Spanned w.Name family) t
+    → step (want context level frames) t ≡ Goes (CellKeys (ToRead context level frames) family)
 unfolding step expression_step start_of
 read_step context level frames family t h = rw (h.0, h.1, h.2) refl
 
-has_step : (context : Context) (level : ℕ) (frames : List Frame) (at : ℕ) (t : Token) → IsSign (At (w.Reserved r.Has) at) t → step (want context level frames) t ≡ Goes (CellFamily (ToTest context level frames at))
+has_step : (context : Context) (level : ℕ) (frames : List Frame) (at : ℕ) (t : Token) → IsSign (At (w.Reserved r.Has) at) t
+    → step (want context level frames) t ≡ Goes (CellFamily (ToTest context level frames at))
 unfolding step expression_step start_of
 has_step context level frames at t h = rw (h.0, h.1) refl
 
-open_step : (context : Context) (level : ℕ) (frames : List Frame) (at : ℕ) → opens frames < 64 → (t : Token) → IsSign (At (w.Mark m.OpenParen) at) t → step (want context level frames) t ≡ Goes (want context 0 (ParenFrame level at ∷ frames))
+open_step : (context : Context) (level : ℕ) (frames : List Frame) (at : ℕ) → opens frames < 64 → (t : Token) → IsSign (At (w.Mark m.OpenParen) at) t
+    → step (want context level frames) t ≡ Goes (want context 0 (ParenFrame level at ∷ frames))
 unfolding step expression_step start_of
 open_step context level frames at lt t h = rw (h.0, h.1) (opens_more frames _ lt)
 
-minus_step : (context : Context) (level : ℕ) (frames : List Frame) (at : ℕ) → opens frames < 64 → (t : Token) → IsSign (At (w.Mark m.Minus) at) t → step (want context level frames) t ≡ Goes (want context 6 (NegFrame level at ∷ frames))
+minus_step : (context : Context) (level : ℕ) (frames : List Frame) (at : ℕ) → opens frames < 64 → (t : Token) → IsSign (At (w.Mark m.Minus) at) t
+    → step (want context level frames) t ≡ Goes (want context 6 (NegFrame level at ∷ frames))
 unfolding step expression_step start_of
 minus_step context level frames at lt t h = rw (h.0, h.1) (opens_more frames _ lt)
 
-not_step : (context : Context) (level : ℕ) (frames : List Frame) (at : ℕ) → level ≤ 2 → opens frames < 64 → (t : Token) → IsSign (At (w.Reserved r.Not) at) t → step (want context level frames) t ≡ Goes (want context 2 (NotFrame level at ∷ frames))
+not_step : (context : Context) (level : ℕ) (frames : List Frame) (at : ℕ) → level ≤ 2 → opens frames < 64 → (t : Token) → IsSign (At (w.Reserved r.Not) at) t
+    → step (want context level frames) t ≡ Goes (want context 2 (NotFrame level at ∷ frames))
 unfolding step expression_step start_of
 not_step context level frames at le lt t h = rw h.0 (not_starts context level frames t le ∙ (rw h.1 (opens_more frames _ lt)))
 
@@ -332,7 +359,8 @@ paren_close : (context : Context) (level at : ℕ) (inner : Tree) (frames : List
 unfolding step expression_step done_step
 paren_close context level at inner frames t h = rw h refl
 
-operator_step : (low high : ℕ) (context : Context) (t : Tree) (frames : List Frame) (o : Op) → low ≤ op_level o → op_level o ≤ high → (x : Token) → IsSign (Any (op_word o)) x
+operator_step : (low high : ℕ) (context : Context) (t : Tree) (frames : List Frame) (o : Op) → low ≤ op_level o → op_level o ≤ high → (x : Token)
+    → IsSign (Any (op_word o)) x
     → step (InExpression context (Have low high t) frames) x ≡ Goes (want context (op_level o + 1) (RightFrame low o t ∷ frames))
 unfolding step expression_step
 operator_step low high context t frames o le below x h = rw (h, operator_of-op_word o, within low (op_level o) high le below) refl
@@ -349,18 +377,29 @@ abbrev have : Context → ℕ → Tree → List Frame → Now
 have context level t frames = InExpression context (Have level (high_of t) t) frames
 
 -- what is spelled as an expression is read as that expression
-pub accepts : (end : ℕ) (job : Job) (context : Context) (t : Tree) (level : ℕ) (frames : List Frame) (tokens : List Token) (more : List Sign) → level ≤ 6 → Fits level t → AreSigns (spelled t ++ more) tokens
+pub accepts : (end : ℕ) (job : Declarations) (context : Context) (t : Tree) (level : ℕ) (frames : List Frame) (tokens : List Token) (more : List Sign)
+    → level ≤ 6 → Fits level t → AreSigns (spelled t ++ more) tokens
     → nest t + opens frames ≤ 64 → Follows (top t) more → LeadsTo end job (want context level frames) tokens job (have context level t frames) more
-accepts end job context (NumberTree n) level frames tokens more six fits e le h = takes_sign end job (want context level frames) (InExpression context (Have level 6 (NumberTree n)) frames) tokens (At (w.Number n.value) n.at) more e (number_step context level frames n)
-accepts end job context (ValueTree at) level frames tokens more six fits e le h = takes_sign end job (want context level frames) (InExpression context (Have level 6 (ValueTree at)) frames) tokens (At (w.Reserved r.Value) at) more e (value_step context level frames at)
-accepts end job context (KeyTree at) level frames tokens more six fits e le h = takes_sign end job (want context level frames) (InExpression context (Have level 6 (KeyTree at)) frames) tokens (At (w.Reserved r.Key) at) more e (key_step context level frames at)
-accepts end job context (TimeTree at) level frames tokens more six fits e le h = takes_sign end job (want context level frames) (InExpression context (Have level 6 (TimeTree at)) frames) tokens (At (w.Reserved r.Time) at) more e (time_step context level frames at)
+accepts end job context (NumberTree n) level frames tokens more six fits e le h =
+    takes_sign end job (want context level frames) (InExpression context (Have level 6 (NumberTree n)) frames) tokens (At (w.Number n.value) n.at) more e
+    (number_step context level frames n)
+accepts end job context (ValueTree at) level frames tokens more six fits e le h =
+    takes_sign end job (want context level frames) (InExpression context (Have level 6 (ValueTree at)) frames) tokens (At (w.Reserved r.Value) at) more e
+    (value_step context level frames at)
+accepts end job context (KeyTree at) level frames tokens more six fits e le h =
+    takes_sign end job (want context level frames) (InExpression context (Have level 6 (KeyTree at)) frames) tokens (At (w.Reserved r.Key) at) more e
+    (key_step context level frames at)
+accepts end job context (TimeTree at) level frames tokens more six fits e le h =
+    takes_sign end job (want context level frames) (InExpression context (Have level 6 (TimeTree at)) frames) tokens (At (w.Reserved r.Time) at) more e
+    (time_step context level frames at)
 accepts end job context (ReadTree cell) level frames tokens more six fits e le h =
-    let a = takes_sign end job (want context level frames) (CellKeys (ToRead context level frames) cell.family) tokens (Spanned w.Name cell.family) (key_signs cell.key ++ more) e (read_step context level frames cell.family) in
+    let a = takes_sign end job (want context level frames) (CellKeys (ToRead context level frames) cell.family) tokens (Spanned w.Name cell.family)
+    (key_signs cell.key ++ more) e (read_step context level frames cell.family) in
     let b = accepts_key end job (ToRead context level frames) cell.family cell.key a.0 more a.1 (Follows-bracket 5 more h) in
     (b.0, b.1, a.2 ∙ b.2)
 accepts end job context (HasTree at cell) level frames tokens more six fits e le h =
-    let a = takes_sign end job (want context level frames) (CellFamily (ToTest context level frames at)) tokens (At (w.Reserved r.Has) at) (cell_signs cell ++ more) e (has_step context level frames at) in
+    let a = takes_sign end job (want context level frames) (CellFamily (ToTest context level frames at)) tokens (At (w.Reserved r.Has) at)
+    (cell_signs cell ++ more) e (has_step context level frames at) in
     let b = accepts_cell end job (ToTest context level frames at) cell a.0 more a.1 (Follows-bracket 5 more h) in
     (b.0, b.1, a.2 ∙ b.2)
 accepts end job context (ParenTree at inner) level frames tokens more six fits e le h =
@@ -368,23 +407,30 @@ accepts end job context (ParenTree at inner) level frames tokens more six fits e
     let i = opens-one f frames (opens frames) refl refl in
     let g : AreSigns (At (w.Mark m.OpenParen) at ∷ (spelled inner ++ (Any (w.Mark m.CloseParen) ∷ more))) tokens =
     subst (λ (x : List Sign). AreSigns (At (w.Mark m.OpenParen) at ∷ x) tokens) (append_assoc (spelled inner) (Any (w.Mark m.CloseParen) ∷ []) more) e in
-    let a = takes_sign end job (want context level frames) (want context 0 (f ∷ frames)) tokens (At (w.Mark m.OpenParen) at) (spelled inner ++ (Any (w.Mark m.CloseParen) ∷ more)) g (open_step context level frames at (omega arith)) in
-    let b = accepts end job context inner 0 (f ∷ frames) a.0 (Any (w.Mark m.CloseParen) ∷ more) (omega arith) fits a.1 (omega arith) (close_follows (top inner) more) in
+    let a = takes_sign end job (want context level frames) (want context 0 (f ∷ frames)) tokens (At (w.Mark m.OpenParen) at)
+    (spelled inner ++ (Any (w.Mark m.CloseParen) ∷ more)) g (open_step context level frames at (omega arith)) in
+    let b = accepts end job context inner 0 (f ∷ frames) a.0 (Any (w.Mark m.CloseParen) ∷ more) (omega arith) fits a.1 (omega arith)
+    (close_follows (top inner) more) in
     let c = passes_quiet end 0 (high_of inner) job context inner (f ∷ frames) b.0 (Any (w.Mark m.CloseParen) ∷ more) b.1 (close_quiet more) in
-    let d = takes_sign end job (InExpression context (Done inner) (f ∷ frames)) (InExpression context (Have level 6 (ParenTree at inner)) frames) b.0 (Any (w.Mark m.CloseParen)) more b.1 (paren_close context level at inner frames) in
+    let d = takes_sign end job (InExpression context (Done inner) (f ∷ frames)) (InExpression context (Have level 6 (ParenTree at inner)) frames) b.0
+    (Any (w.Mark m.CloseParen)) more b.1 (paren_close context level at inner frames) in
     (d.0, d.1, a.2 ∙ b.2 ∙ c ∙ d.2)
 accepts end job context (NegTree at inner) level frames tokens more six fits e le h =
     let f = NegFrame level at in
     let i = opens-one f frames (opens frames) refl refl in
-    let a = takes_sign end job (want context level frames) (want context 6 (f ∷ frames)) tokens (At (w.Mark m.Minus) at) (spelled inner ++ more) e (minus_step context level frames at (omega arith)) in
-    let b = accepts end job context inner 6 (f ∷ frames) a.0 more (omega arith) fits a.1 (omega arith) (Follows-more 5 (top inner) more (six_fits inner fits) h) in
+    let a = takes_sign end job (want context level frames) (want context 6 (f ∷ frames)) tokens (At (w.Mark m.Minus) at) (spelled inner ++ more) e
+    (minus_step context level frames at (omega arith)) in
+    let b = accepts end job context inner 6 (f ∷ frames) a.0 more (omega arith) fits a.1 (omega arith)
+    (Follows-more 5 (top inner) more (six_fits inner fits) h) in
     let c = passes_low end 6 (high_of inner) 5 job context inner (f ∷ frames) b.0 more b.1 (omega arith) h in
     (b.0, b.1, a.2 ∙ b.2 ∙ c ∙ run-neg end level at job context inner frames b.0)
 accepts end job context (NotTree at inner) level frames tokens more six fits e le h =
     let f = NotFrame level at in
     let i = opens-one f frames (opens frames) refl refl in
-    let a = takes_sign end job (want context level frames) (want context 2 (f ∷ frames)) tokens (At (w.Reserved r.Not) at) (spelled inner ++ more) e (not_step context level frames at fits.0 (omega arith)) in
-    let b = accepts end job context inner 2 (f ∷ frames) a.0 more (omega arith) fits.1 a.1 (omega arith) (Follows-more 1 (top inner) more (right_fits 1 inner (omega arith) fits.1) h) in
+    let a = takes_sign end job (want context level frames) (want context 2 (f ∷ frames)) tokens (At (w.Reserved r.Not) at) (spelled inner ++ more) e
+    (not_step context level frames at fits.0 (omega arith)) in
+    let b = accepts end job context inner 2 (f ∷ frames) a.0 more (omega arith) fits.1 a.1 (omega arith)
+    (Follows-more 1 (top inner) more (right_fits 1 inner (omega arith) fits.1) h) in
     let c = passes_low end 2 (high_of inner) 1 job context inner (f ∷ frames) b.0 more b.1 (omega arith) h in
     (b.0, b.1, a.2 ∙ b.2 ∙ c ∙ run-not end level at job context inner frames b.0)
 accepts end job context (TwoTree o left right) level frames tokens more six fits e le h =
@@ -392,11 +438,15 @@ accepts end job context (TwoTree o left right) level frames tokens more six fits
     let is = level_is o in
     let lf = left_fits p left is fits.1 in
     let f = RightFrame level o left in
-    let g : AreSigns (spelled left ++ (Any (op_word o) ∷ (spelled right ++ more))) tokens = subst (λ (x : List Sign). AreSigns x tokens) (append_assoc (spelled left) (Any (op_word o) ∷ spelled right) more) e in
-    let a = accepts end job context left level frames tokens (Any (op_word o) ∷ (spelled right ++ more)) six (Fits-below level (left_level p) left (omega arith) fits.1) g (omega arith) (op_follows o (top left) (spelled right ++ more) lf.0) in
+    let g : AreSigns (spelled left ++ (Any (op_word o) ∷ (spelled right ++ more))) tokens = subst (λ (x : List Sign). AreSigns x tokens)
+    (append_assoc (spelled left) (Any (op_word o) ∷ spelled right) more) e in
+    let a = accepts end job context left level frames tokens (Any (op_word o) ∷ (spelled right ++ more)) six
+    (Fits-below level (left_level p) left (omega arith) fits.1) g (omega arith) (op_follows o (top left) (spelled right ++ more) lf.0) in
     let i = opens-same f frames (opens frames) refl refl in
-    let t = takes_sign end job (have context level left frames) (want context (p + 1) (f ∷ frames)) a.0 (Any (op_word o)) (spelled right ++ more) a.1 (operator_step level (high_of left) context left frames o fits.0 lf.1) in
-    let b = accepts end job context right (p + 1) (f ∷ frames) t.0 more (omega (arith, is.below)) fits.2 t.1 (omega arith) (Follows-more p (top right) more (right_fits p right is.below fits.2) h) in
+    let t = takes_sign end job (have context level left frames) (want context (p + 1) (f ∷ frames)) a.0 (Any (op_word o)) (spelled right ++ more) a.1
+    (operator_step level (high_of left) context left frames o fits.0 lf.1) in
+    let b = accepts end job context right (p + 1) (f ∷ frames) t.0 more (omega (arith, is.below)) fits.2 t.1 (omega arith)
+    (Follows-more p (top right) more (right_fits p right is.below fits.2) h) in
     let c = passes_low end (p + 1) (high_of right) p job context right (f ∷ frames) b.0 more b.1 (omega arith) h in
     (b.0, b.1, a.2 ∙ t.2 ∙ b.2 ∙ c ∙ run-right end level job context o left right frames b.0)
 
@@ -411,4 +461,5 @@ no_bracket (HasTree at cell) more = λ e. cc
 no_bracket (ParenTree at inner) more = λ e. cc
 no_bracket (NegTree at inner) more = λ e. cc
 no_bracket (NotTree at inner) more = λ e. cc
-no_bracket (TwoTree o left right) more = subst NoBracket (sym (append_assoc (spelled left) (Any (op_word o) ∷ spelled right) more)) (no_bracket left (Any (op_word o) ∷ (spelled right ++ more)))
+no_bracket (TwoTree o left right) more =
+    subst NoBracket (sym (append_assoc (spelled left) (Any (op_word o) ∷ spelled right) more)) (no_bracket left (Any (op_word o) ∷ (spelled right ++ more)))

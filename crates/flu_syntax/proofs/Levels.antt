@@ -20,9 +20,11 @@ use Rattle.flu_syntax.specs.declared.tree.WrittenNumber.{WrittenNumber}
 use Rattle.flu_syntax.specs.declared.tree.WrittenKey.TheVariants as key
 use Rattle.flu_syntax.specs.declared.tree.WrittenRef.{WrittenRef}
 use Rattle.flu_syntax.specs.declared.tree.WrittenKeys.TheVariants as keys
-use Rattle.flu_syntax.specs.Tree.{Tree, NumberTree, ValueTree, KeyTree, TimeTree, ReadTree, HasTree, ParenTree, NegTree, NotTree, TwoTree, Deed, Writes, Clears, Emits, Flushes, Action, On, Job}
-use Rattle.flu_syntax.specs.Machine.{span_of, cell_of, tag_of, Actions, Tags, Context, Amount, Guard, Frame, NegFrame, NotFrame, ParenFrame, RightFrame, Mode, Want, Have, Done, Aim, ToWrite, ToClear, ToRead, ToTest, Now, Start, Declared, CellName, CellForm, CellSort, TagName, TagForm, TagValue, DependsFirst, DependsSecond, DependsHow, SourceName, SourceFile, SourceRate, SourceNumber, SourceColon, TagKind, TagKeys, TagLow, TagMore, TagHigh, TagClose, TagEnd, OnKind, OnColon, ActionStart, DeedEnd, ActionEnd, EmitText, FlushFamily, FlushText, CellFamily, CellKeys, CellKey, CellClose, InExpression, Next, Goes, Deep, Refused, begin, take_or, done_step, expression_step, behind_step, deed_step, action_step, acted, listed, named, named_step, keys_step, key_step, on_name, on_text, on_colon, on_bracket, on_number, sort_of, sort_step, cell_step, value_of, value_step, tag_step, how_step, rate_step, tags_step, tag_keys_step, range_step, doing_of, act_step, start_of, operator_of, op_level, is_within, is_close, level_behind, opens, heading_of, opening, done_whole, behind_whole, named_whole, step, whole, Verdict, Found, goes_on, next_declaration, ended, run, verdict}
-use Rattle.flu_syntax.specs.Grammar.{left_level, Fits, nest, IsDeed, IsGuard, AreActions, IsDeclaration, AreDeclarations}
+use Rattle.flu_lemmas.proofs.Elements.{push_some}
+use Rattle.flu_lemmas.proofs.Tests.{true_lt, true_le}
+use Rattle.flu_syntax.specs.Tree.{Tree, NumberTree, ValueTree, KeyTree, TimeTree, ReadTree, HasTree, ParenTree, NegTree, NotTree, TwoTree, Deed, Writes, Clears, Emits, Flushes, Action, On, Declarations}
+use Rattle.flu_syntax.specs.Machine.{span_of, cell_of, tag_of, Actions, Tags, Context, Amount, Guard, Frame, NegFrame, NotFrame, ParenFrame, RightFrame, Mode, Want, Have, Done, Aim, ToWrite, ToClear, ToRead, ToTest, Now, Start, Declared, CellName, CellForm, CellSort, TagName, TagForm, TagValue, DependsFirst, DependsSecond, DependsHow, SourceName, SourceFile, SourceRate, RateNumber, SourceSlack, SlackNumber, SourceColon, TagKind, TagKeys, TagLow, TagMore, TagHigh, TagClose, TagEnd, OnKind, OnColon, ActionStart, DeedEnd, ActionEnd, EmitText, FlushFamily, FlushText, CellFamily, CellKeys, CellKey, CellClose, InExpression, Next, Goes, Deep, Refused, begin, take_or, done_step, expression_step, behind_step, deed_step, action_step, acted, listed, named, named_step, keys_step, key_step, on_name, on_text, on_colon, on_bracket, on_number, sort_of, sort_step, cell_step, value_of, value_step, tag_step, how_step, rate_step, slack_step, source_of, tags_step, tag_keys_step, range_step, doing_of, act_step, start_of, operator_of, is_within, is_close, level_behind, opens, heading_of, opening, done_whole, behind_whole, named_whole, step, whole, Verdict, Found, goes_on, next_declaration, ended, run}
+use Rattle.flu_syntax.specs.Grammar.{op_level, left_level, Fits, nest, IsDeed, IsGuard, AreActions, IsDeclaration, AreDeclarations}
 use Rattle.flu_syntax.proofs.Accepts.{high_of, IsLevel, level_is}
 
 -- the level of the operand that is wanted on top
@@ -38,7 +40,8 @@ Stack [] = Unit {0}
 Stack (NegFrame level at ∷ frames) = (level ≡ hole frames) × Stack frames
 Stack (NotFrame level at ∷ frames) = (level ≡ hole frames) × (level ≤ 2) × Stack frames
 Stack (ParenFrame level at ∷ frames) = (level ≡ hole frames) × Stack frames
-Stack (RightFrame level o left ∷ frames) = (level ≡ hole frames) × (level ≤ op_level o) × Fits (left_level (op_level o)) left × (nest left + opens frames ≤ 64) × Stack frames
+Stack (RightFrame level o left ∷ frames) =
+    (level ≡ hole frames) × (level ≤ op_level o) × Fits (left_level (op_level o)) left × (nest left + opens frames ≤ 64) × Stack frames
 
 abbrev KeptMode : Mode → List Frame → Type 0
 KeptMode (Want level) frames = (level ≡ hole frames) × (opens frames ≤ 64)
@@ -94,7 +97,8 @@ bracket_keeps : (word : Word) (now : Now) → Kept now → Keeps (on_bracket wor
 bracket_keeps (w.Mark m.CloseBracket) now h = h
 bracket_keeps _ now h = tt
 
-number_keeps : (word : Word) (t : Token) (now : WrittenNumber → Now) → ((n : WrittenNumber) → Kept (now n)) → Keeps (on_number word (λ n. now (record { value = n; at = t.from })))
+number_keeps : (word : Word) (t : Token) (now : WrittenNumber → Now) → ((n : WrittenNumber) → Kept (now n))
+    → Keeps (on_number word (λ n. now (record { value = n; at = t.from })))
 number_keeps (w.Number n) t now h = h (record { value = n; at = t.from })
 number_keeps _ t now h = tt
 
@@ -121,13 +125,13 @@ how_keeps a b t (w.Reserved r.Same) = tt
 how_keeps a b t (w.Reserved r.All) = tt
 how_keeps a b t _ = tt
 
+slack_keeps : (n file : WrittenSpan) (rate : Option WrittenNumber) (word : Word) → Keeps (slack_step n file rate word)
+slack_keeps n file rate (w.Reserved r.Slack) = tt
+slack_keeps n file rate word = colon_keeps word (TagKind (source_of n file rate None)) tt
+
 rate_keeps : (n file : WrittenSpan) (word : Word) → Keeps (rate_step n file word)
 rate_keeps n file (w.Reserved r.Rate) = tt
-rate_keeps n file word = colon_keeps word (TagKind (record { name = n; file = file; rate = None; all = [] })) tt
-
-some_more : {X : Type 0} (xs : List X) (x : X) → xs ++ x ∷ [] ≢ []
-some_more [] x = λ e. cc
-some_more (y ∷ xs) x = λ e. cc
+rate_keeps n file word = slack_keeps n file None word
 
 tags_keeps : (so_far : Tags) (word : Word) → Keeps (tags_step so_far word)
 tags_keeps so_far (w.Mark m.Comma) = tt
@@ -139,7 +143,7 @@ tag_keys_keeps so_far kind word = tags_keeps (listed so_far (tag_of kind keys.Al
 
 range_keeps : (so_far : Tags) (kind : WrittenSpan) (low : WrittenNumber) (word : Word) → Keeps (range_step so_far kind low word)
 range_keeps so_far kind low (w.Mark m.Dots) = tt
-range_keeps so_far kind low word = bracket_keeps word (TagEnd (listed so_far (tag_of kind (keys.One low)))) (some_more so_far.all (tag_of kind (keys.One low)))
+range_keeps so_far kind low word = bracket_keeps word (TagEnd (listed so_far (tag_of kind (keys.One low)))) (push_some so_far.all (tag_of kind (keys.One low)))
 
 -- ---- actions
 
@@ -147,7 +151,8 @@ actions_more : (xs : List Action) (a : Action) → AreActions xs → IsDeed a.de
 actions_more [] a h d g = (d, g, tt)
 actions_more (x ∷ xs) a h d g = (h.0, h.1, actions_more xs a h.2 d g)
 
-action_keeps : (so_far : Actions) (at : ℕ) (deed : Deed) (guard : Option Tree) (word : Word) → AreActions so_far.all → IsDeed deed → IsGuard guard → Keeps (action_step (acted so_far at deed guard) word)
+action_keeps : (so_far : Actions) (at : ℕ) (deed : Deed) (guard : Option Tree) (word : Word) → AreActions so_far.all → IsDeed deed → IsGuard guard
+    → Keeps (action_step (acted so_far at deed guard) word)
 unfolding action_step
 action_keeps so_far at deed guard (w.Mark m.Semicolon) h d g = actions_more so_far.all (record { at = at; deed = deed; guard = guard }) h d g
 action_keeps so_far at deed guard _ h d g = tt
@@ -179,19 +184,14 @@ kept_deeper : (b : Bool) (now : Now) → (b ≡ true → Kept now) → Keeps (co
 kept_deeper true now h = h refl
 kept_deeper false now h = tt
 
-lt_of : (a b : ℕ) → ltb a b ≡ true → a < b
-lt_of a b e = grind (arith, nat_tests)
-
-le_of : (a b : ℕ) → leb a b ≡ true → a ≤ b
-le_of a b e = grind (arith, nat_tests)
-
 within_low : (low level high : ℕ) → is_within low level high ≡ true → low ≤ level
 within_low low level high e = grind (arith, nat_tests)
 
 within_high : (low level high : ℕ) → is_within low level high ≡ true → level ≤ high
 within_high low level high e = grind (arith, nat_tests)
 
-begin_keeps : (context : Context) (level : ℕ) (frames : List Frame) (t : Token) (s : Front) → KeptContext context → Stack frames → level ≡ hole frames → opens frames ≤ 64 → Keeps (begin context level frames t s)
+begin_keeps : (context : Context) (level : ℕ) (frames : List Frame) (t : Token) (s : Front) → KeptContext context → Stack frames → level ≡ hole frames
+    → opens frames ≤ 64 → Keeps (begin context level frames t s)
 unfolding opens
 begin_keeps context level frames t (start.Number n) c k e o = (c, k, (e, tt, refl, omega arith))
 begin_keeps context level frames t start.Value c k e o = (c, k, (e, tt, refl, omega arith))
@@ -203,11 +203,13 @@ begin_keeps context level frames t start.Not c k e o =
     kept_if (leb level 2) _
     (λ low.
     kept_deeper (ltb (opens frames) 64) (InExpression context (Want 2) (NotFrame level t.from ∷ frames))
-    (λ few. (let few_ : opens frames < 64 = lt_of (opens frames) 64 few in (c, (e, le_of level 2 low, k), (refl, omega arith)))))
+    (λ few. (let few_ : opens frames < 64 = true_lt (opens frames) 64 few in (c, (e, true_le level 2 low, k), (refl, omega arith)))))
 begin_keeps context level frames t start.Minus c k e o =
-    kept_deeper (ltb (opens frames) 64) (InExpression context (Want 6) (NegFrame level t.from ∷ frames)) (λ few. (let few_ : opens frames < 64 = lt_of (opens frames) 64 few in (c, (e, k), (refl, omega arith))))
+    kept_deeper (ltb (opens frames) 64) (InExpression context (Want 6) (NegFrame level t.from ∷ frames))
+    (λ few. (let few_ : opens frames < 64 = true_lt (opens frames) 64 few in (c, (e, k), (refl, omega arith))))
 begin_keeps context level frames t start.Open c k e o =
-    kept_deeper (ltb (opens frames) 64) (InExpression context (Want 0) (ParenFrame level t.from ∷ frames)) (λ few. (let few_ : opens frames < 64 = lt_of (opens frames) 64 few in (c, (e, k), (refl, omega arith))))
+    kept_deeper (ltb (opens frames) 64) (InExpression context (Want 0) (ParenFrame level t.from ∷ frames))
+    (λ few. (let few_ : opens frames < 64 = true_lt (opens frames) 64 few in (c, (e, k), (refl, omega arith))))
 begin_keeps context level frames t start.Other c k e o = tt
 
 two_level : (p q : ℕ) → IsLevel p → p ≤ level_behind q → left_level p ≤ q
@@ -233,7 +235,8 @@ kept_or : (b : Bool) (now : Now) (others : Next) → (b ≡ true → Kept now) �
 kept_or true now others h k = h refl
 kept_or false now others h k = k
 
-take_keeps : (context : Context) (low high : ℕ) (tree : Tree) (frames : List Frame) (o : Option Op) (others : Next) → KeptContext context → Stack frames → low ≡ hole frames → Fits low tree → high ≡ high_of tree
+take_keeps : (context : Context) (low high : ℕ) (tree : Tree) (frames : List Frame) (o : Option Op) (others : Next) → KeptContext context → Stack frames
+    → low ≡ hole frames → Fits low tree → high ≡ high_of tree
     → nest tree + opens frames ≤ 64 → Keeps others → Keeps (take_or context low high tree frames o others)
 unfolding opens
 take_keeps context low high tree frames None others c k e fits top few h = h
@@ -257,24 +260,30 @@ unfolding behind_step
 behind_keeps (Amount so_far at verb cell) tree word c fits few = deed_keeps so_far at (Writes verb cell tree) word c (fits, few)
 behind_keeps (Guard so_far at deed) tree word c fits few = action_keeps so_far at deed (Some tree) word c.0 c.1 (fits, few)
 
-done_keeps : (context : Context) (tree : Tree) (frames : List Frame) (word : Word) → KeptContext context → Stack frames → Fits (hole frames) tree → nest tree + opens frames ≤ 64 → Keeps (done_step context tree frames word)
+done_keeps : (context : Context) (tree : Tree) (frames : List Frame) (word : Word) → KeptContext context → Stack frames → Fits (hole frames) tree
+    → nest tree + opens frames ≤ 64 → Keeps (done_step context tree frames word)
 unfolding done_step opens
 done_keeps context tree [] word c k fits few = behind_keeps context tree word c fits (omega arith)
 done_keeps context tree (NegFrame level at ∷ frames) word c k fits few =
-    take_keeps context level 6 (NegTree at tree) frames (operator_of word) (done_step context (NegTree at tree) frames word) c k.1 k.0 fits refl (omega arith) (done_keeps context (NegTree at tree) frames word c k.1 fits (omega arith))
+    take_keeps context level 6 (NegTree at tree) frames (operator_of word) (done_step context (NegTree at tree) frames word) c k.1 k.0 fits refl
+    (omega arith) (done_keeps context (NegTree at tree) frames word c k.1 fits (omega arith))
 done_keeps context tree (NotFrame level at ∷ frames) word c k fits few =
-    take_keeps context level 2 (NotTree at tree) frames (operator_of word) (done_step context (NotTree at tree) frames word) c k.2 k.0 (k.1, fits) refl (omega arith)
+    take_keeps context level 2 (NotTree at tree) frames (operator_of word) (done_step context (NotTree at tree) frames word) c k.2 k.0 (k.1, fits) refl
+    (omega arith)
     (done_keeps context (NotTree at tree) frames word c k.2 (subst (λ (x : ℕ). x ≤ 2) k.0 k.1, fits) (omega arith))
 done_keeps context tree (ParenFrame level at ∷ frames) word c k fits few = kept_if (is_close word) _ (λ hit. (c, k.1, (k.0, fits, refl, omega arith)))
 done_keeps context tree (RightFrame level o left ∷ frames) word c k fits few =
-    take_keeps context level (level_behind (op_level o)) (TwoTree o left tree) frames (operator_of word) (done_step context (TwoTree o left tree) frames word) c k.4 k.0 (k.1, k.2, fits) refl (omega (arith, k.3))
+    take_keeps context level (level_behind (op_level o)) (TwoTree o left tree) frames (operator_of word)
+    (done_step context (TwoTree o left tree) frames word) c k.4 k.0 (k.1, k.2, fits) refl (omega (arith, k.3))
     (done_keeps context (TwoTree o left tree) frames word c k.4 (subst (λ (x : ℕ). x ≤ op_level o) k.0 k.1, k.2, fits) (omega (arith, k.3)))
 
-expression_keeps : (context : Context) (mode : Mode) (frames : List Frame) (t : Token) → KeptContext context → Stack frames → KeptMode mode frames → Keeps (expression_step context mode frames t)
+expression_keeps : (context : Context) (mode : Mode) (frames : List Frame) (t : Token) → KeptContext context → Stack frames → KeptMode mode frames
+    → Keeps (expression_step context mode frames t)
 unfolding expression_step
 expression_keeps context (Want level) frames t c k h = begin_keeps context level frames t (start_of t.word) c k h.0 h.1
 expression_keeps context (Have low high tree) frames t c k h =
-    take_keeps context low high tree frames (operator_of t.word) (done_step context tree frames t.word) c k h.0 h.1 h.2 h.3 (done_keeps context tree frames t.word c k (subst (λ (x : ℕ). Fits x tree) h.0 h.1) h.3)
+    take_keeps context low high tree frames (operator_of t.word) (done_step context tree frames t.word) c k h.0 h.1 h.2 h.3
+    (done_keeps context tree frames t.word c k (subst (λ (x : ℕ). Fits x tree) h.0 h.1) h.3)
 expression_keeps context (Done tree) frames t c k h = done_keeps context tree frames t.word c k h.0 h.1
 
 -- ---- cells
@@ -283,8 +292,10 @@ named_keeps : (aim : Aim) (cell : WrittenRef) (t : Token) → KeptAim aim → Ke
 unfolding named_step
 named_keeps (ToWrite so_far at verb) cell t h = expression_keeps (Amount so_far at verb cell) (Want 0) [] t h tt (refl, zero_hole [] refl)
 named_keeps (ToClear so_far at) cell t h = deed_keeps so_far at (Clears cell) t.word h tt
-named_keeps (ToRead context level frames) cell t h = expression_keeps context (Have level 6 (ReadTree cell)) frames t h.0 h.1 (h.2, tt, refl, omega (arith, h.3))
-named_keeps (ToTest context level frames at) cell t h = expression_keeps context (Have level 6 (HasTree at cell)) frames t h.0 h.1 (h.2, tt, refl, omega (arith, h.3))
+named_keeps (ToRead context level frames) cell t h =
+    expression_keeps context (Have level 6 (ReadTree cell)) frames t h.0 h.1 (h.2, tt, refl, omega (arith, h.3))
+named_keeps (ToTest context level frames at) cell t h =
+    expression_keeps context (Have level 6 (HasTree at cell)) frames t h.0 h.1 (h.2, tt, refl, omega (arith, h.3))
 
 kept_named : (aim : Aim) (cell : WrittenRef) → KeptAim aim → Kept (named aim cell)
 kept_named (ToWrite so_far at verb) cell h = (h, tt, (refl, zero_hole [] refl))
@@ -319,14 +330,16 @@ step_keeps (DependsHow a b) t h = how_keeps a b t t.word
 step_keeps SourceName t h = name_keeps t.word (SourceFile (span_of t)) tt
 step_keeps (SourceFile n) t h = text_keeps t.word (SourceRate n (span_of t)) tt
 step_keeps (SourceRate n file) t h = rate_keeps n file t.word
-step_keeps (SourceNumber n file) t h = number_keeps t.word t (λ rate. SourceColon n file (Some rate)) (λ rate. tt)
-step_keeps (SourceColon n file rate) t h = colon_keeps t.word (TagKind (record { name = n; file = file; rate = rate; all = [] })) tt
+step_keeps (RateNumber n file) t h = number_keeps t.word t (λ rate. SourceSlack n file (Some rate)) (λ rate. tt)
+step_keeps (SourceSlack n file rate) t h = slack_keeps n file rate t.word
+step_keeps (SlackNumber n file rate) t h = number_keeps t.word t (λ slack. SourceColon n file rate (Some slack)) (λ slack. tt)
+step_keeps (SourceColon n file rate slack) t h = colon_keeps t.word (TagKind (source_of n file rate slack)) tt
 step_keeps (TagKind so_far) t h = name_keeps t.word (TagKeys so_far (span_of t)) tt
 step_keeps (TagKeys so_far kind) t h = tag_keys_keeps so_far kind t.word
 step_keeps (TagLow so_far kind) t h = number_keeps t.word t (λ low. TagMore so_far kind low) (λ low. tt)
 step_keeps (TagMore so_far kind low) t h = range_keeps so_far kind low t.word
 step_keeps (TagHigh so_far kind low) t h = number_keeps t.word t (λ high. TagClose so_far kind (keys.Range low high)) (λ high. tt)
-step_keeps (TagClose so_far kind ks) t h = bracket_keeps t.word (TagEnd (listed so_far (tag_of kind ks))) (some_more so_far.all (tag_of kind ks))
+step_keeps (TagClose so_far kind ks) t h = bracket_keeps t.word (TagEnd (listed so_far (tag_of kind ks))) (push_some so_far.all (tag_of kind ks))
 step_keeps (TagEnd so_far) t h = tags_keeps so_far t.word
 step_keeps OnKind t h = name_keeps t.word (OnColon (span_of t)) tt
 step_keeps (OnColon kind) t h = colon_keeps t.word (ActionStart (record { kind = kind; all = [] })) tt
@@ -344,22 +357,26 @@ step_keeps (InExpression context mode frames) t h = expression_keeps context mod
 
 -- ---- the end of a declaration
 
-line_kept : (so_far : Actions) (at : ℕ) (deed : Deed) (guard : Option Tree) → AreActions so_far.all → IsDeed deed → IsGuard guard → AreDeclarations (On so_far.kind (acted so_far at deed guard).all ∷ [])
+line_kept : (so_far : Actions) (at : ℕ) (deed : Deed) (guard : Option Tree) → AreActions so_far.all → IsDeed deed → IsGuard guard
+    → AreDeclarations (On so_far.kind (acted so_far at deed guard).all ∷ [])
 line_kept so_far at deed guard h d g =
     let a : Action = record { at = at; deed = deed; guard = guard } in
-    ((some_more so_far.all a, actions_more so_far.all a h d g), tt)
+    ((push_some so_far.all a, actions_more so_far.all a h d g), tt)
 
 behind_kept : (context : Context) (tree : Tree) → KeptContext context → Fits 0 tree → nest tree ≤ 64 → IfSome (behind_whole context tree) AreDeclarations
 behind_kept (Amount so_far at verb cell) tree c fits few = line_kept so_far at (Writes verb cell tree) None c (fits, few) tt
 behind_kept (Guard so_far at deed) tree c fits few = line_kept so_far at deed (Some tree) c.0 c.1 (fits, few)
 
-done_kept : (context : Context) (tree : Tree) (frames : List Frame) → KeptContext context → Stack frames → Fits (hole frames) tree → nest tree + opens frames ≤ 64 → IfSome (done_whole context tree frames) AreDeclarations
+done_kept : (context : Context) (tree : Tree) (frames : List Frame) → KeptContext context → Stack frames → Fits (hole frames) tree
+    → nest tree + opens frames ≤ 64 → IfSome (done_whole context tree frames) AreDeclarations
 unfolding done_whole opens
 done_kept context tree [] c k fits few = behind_kept context tree c fits (omega arith)
 done_kept context tree (NegFrame level at ∷ frames) c k fits few = done_kept context (NegTree at tree) frames c k.1 fits (omega arith)
-done_kept context tree (NotFrame level at ∷ frames) c k fits few = done_kept context (NotTree at tree) frames c k.2 (subst (λ (x : ℕ). x ≤ 2) k.0 k.1, fits) (omega arith)
+done_kept context tree (NotFrame level at ∷ frames) c k fits few =
+    done_kept context (NotTree at tree) frames c k.2 (subst (λ (x : ℕ). x ≤ 2) k.0 k.1, fits) (omega arith)
 done_kept context tree (ParenFrame level at ∷ frames) c k fits few = tt
-done_kept context tree (RightFrame level o left ∷ frames) c k fits few = done_kept context (TwoTree o left tree) frames c k.4 (subst (λ (x : ℕ). x ≤ op_level o) k.0 k.1, k.2, fits) (omega (arith, k.3))
+done_kept context tree (RightFrame level o left ∷ frames) c k fits few =
+    done_kept context (TwoTree o left tree) frames c k.4 (subst (λ (x : ℕ). x ≤ op_level o) k.0 k.1, k.2, fits) (omega (arith, k.3))
 
 keys_kept : (aim : Aim) (cell : WrittenRef) → KeptAim aim → IfSome (named_whole aim cell) AreDeclarations
 keys_kept (ToWrite so_far at verb) cell h = tt
@@ -370,7 +387,7 @@ keys_kept (ToTest context level frames at) cell h = done_kept context (HasTree a
 whole_kept : (now : Now) → Kept now → IfSome (whole now) AreDeclarations
 unfolding whole
 whole_kept (Declared d) h = (h, tt)
-whole_kept (TagKeys so_far kind) h = (some_more so_far.all (tag_of kind keys.Alone), tt)
+whole_kept (TagKeys so_far kind) h = (push_some so_far.all (tag_of kind keys.Alone), tt)
 whole_kept (TagEnd so_far) h = (h, tt)
 whole_kept (DeedEnd so_far at deed) h = line_kept so_far at deed None h.0 h.1 tt
 whole_kept (ActionEnd so_far) h = absurd h
@@ -383,7 +400,7 @@ whole_kept _ h = tt
 
 -- ---- to the end
 
-declarations_more : (job one : Job) → AreDeclarations job → AreDeclarations one → AreDeclarations (job ++ one)
+declarations_more : (job one : Declarations) → AreDeclarations job → AreDeclarations one → AreDeclarations (job ++ one)
 declarations_more [] one h k = k
 declarations_more (d ∷ job) one h k = (h.0, declarations_more job one h.1 k)
 
@@ -395,28 +412,33 @@ heading_kept heading.On = tt
 heading_kept heading.Source = tt
 heading_kept heading.Other = tt
 
-end_kept : (end : ℕ) (job found : Job) (o : Option Job) → AreDeclarations job → IfSome o AreDeclarations → ended end job o ≡ Found found → AreDeclarations found
+end_kept : (end : ℕ) (job found : Declarations) (o : Option Declarations) → AreDeclarations job → IfSome o AreDeclarations → ended end job o ≡ Found found
+    → AreDeclarations found
 end_kept end job found None h k e = cc
 end_kept end job found (Some one) h k e = let same : job ++ one ≡ found = cc in subst AreDeclarations same (declarations_more job one h k)
 
-declares_kept : (place : ℕ) (job found : Job) (o : Option Job) (p : Option Now) (more : Job → Now → Verdict) → AreDeclarations job → IfSome o AreDeclarations → IfSome p Kept
-    → ((next : Job) (now : Now) → AreDeclarations next → Kept now → more next now ≡ Found found → AreDeclarations found) → next_declaration place job o p more ≡ Found found → AreDeclarations found
+declares_kept : (place : ℕ) (job found : Declarations) (o : Option Declarations) (p : Option Now) (more : Declarations → Now → Verdict Declarations)
+    → AreDeclarations job → IfSome o AreDeclarations → IfSome p Kept
+    → ((next : Declarations) (now : Now) → AreDeclarations next → Kept now → more next now ≡ Found found → AreDeclarations found)
+    → next_declaration place job o p more ≡ Found found → AreDeclarations found
 declares_kept place job found None p more h k l ih e = cc
 declares_kept place job found (Some one) None more h k l ih e = cc
 declares_kept place job found (Some one) (Some now) more h k l ih e = ih (job ++ one) now (declarations_more job one h k) l e
 
-goes_kept : (end : ℕ) (job found : Job) (now : Now) (t : Token) (tokens : List Token) (next : Next) → AreDeclarations job → Kept now → Keeps next
-    → ((job : Job) (now : Now) → AreDeclarations job → Kept now → run end job now tokens ≡ Found found → AreDeclarations found)
+goes_kept : (end : ℕ) (job found : Declarations) (now : Now) (t : Token) (tokens : List Token) (next : Next) → AreDeclarations job → Kept now → Keeps next
+    → ((job : Declarations) (now : Now) → AreDeclarations job → Kept now → run end job now tokens ≡ Found found → AreDeclarations found)
     → goes_on t job now next (λ job now. run end job now tokens) ≡ Found found → AreDeclarations found
 goes_kept end job found now t tokens (Goes next) h k n ih e = ih job next h n e
 goes_kept end job found now t tokens Deep h k n ih e = cc
 goes_kept end job found now t tokens Refused h k n ih e =
-    declares_kept t.from job found (whole now) (opening (heading_of t.word)) (λ job now. run end job now tokens) h (whole_kept now k) (heading_kept (heading_of t.word)) ih e
+    declares_kept t.from job found (whole now) (opening (heading_of t.word)) (λ job now. run end job now tokens) h (whole_kept now k)
+    (heading_kept (heading_of t.word)) ih e
 
-run_kept : (end : ℕ) (found : Job) (tokens : List Token) (job : Job) (now : Now) → AreDeclarations job → Kept now → run end job now tokens ≡ Found found → AreDeclarations found
+run_kept : (end : ℕ) (found : Declarations) (tokens : List Token) (job : Declarations) (now : Now) → AreDeclarations job → Kept now
+    → run end job now tokens ≡ Found found → AreDeclarations found
 unfolding run
 run_kept end found [] job now h k e = end_kept end job found (whole now) h (whole_kept now k) e
 run_kept end found (t ∷ tokens) job now h k e = goes_kept end job found now t tokens (step now t) h k (step_keeps now t k) (run_kept end found tokens) e
 
-pub found_is_kept : (end : ℕ) (tokens : List Token) (job : Job) → verdict end tokens ≡ Found job → AreDeclarations job
-found_is_kept end tokens job e = run_kept end job tokens [] Start tt tt e
+pub declarations_are_kept : (end : ℕ) (tokens : List Token) (ds : Declarations) → run end [] Start tokens ≡ Found ds → AreDeclarations ds
+declarations_are_kept end tokens ds e = run_kept end ds tokens [] Start tt tt e

@@ -1,4 +1,3 @@
-pub mod General
 pub mod Runs
 pub mod Parts
 pub mod Viable
@@ -6,5 +5,6 @@ pub mod Accepts
 pub mod Found
 pub mod Spelling
 pub mod Levels
+pub mod Versions
 pub mod Exact
 pub mod Words

@@ -19,9 +19,10 @@ use Rattle.flu_syntax.specs.declared.tokens.Verb.{Verb}
 use Rattle.flu_syntax.specs.declared.tokens.Heading.{Heading}
 use Rattle.flu_syntax.specs.declared.tokens.Doing.{Doing}
 use Rattle.flu_syntax.specs.declared.tokens.Doing.TheVariants as doing
-use Rattle.flu_syntax.specs.Tree.{Deed, Emits, Flushes, Declaration, Cell, Tag, Depends, On, Source, Job}
+use Rattle.flu_syntax.specs.Tree.{Deed, Emits, Flushes, Declaration, Cell, Tag, Depends, On, Source, Declarations}
 use Rattle.flu_syntax.specs.Reading.{Tells, NotFirst, IsFirst, IsNumber, NotNumber, no_actions, TakesKeyed, ReadsWriting, ReadsDeed, ReadsDeclaration}
-use Rattle.flu_syntax.specs.Machine.{span_of, number_of, cell_of, tag_of, Actions, Tags, Aim, ToWrite, ToClear, ToRead, ToTest, Guard, InExpression, Want, Now, Start, Declared, CellName, CellForm, CellSort, TagName, TagForm, TagValue, DependsFirst, DependsSecond, DependsHow, SourceName, SourceFile, SourceRate, SourceNumber, SourceColon, TagKind, TagKeys, TagLow, TagMore, TagHigh, TagClose, TagEnd, OnKind, OnColon, ActionStart, DeedEnd, ActionEnd, EmitText, FlushFamily, FlushText, CellFamily, CellKeys, CellKey, CellClose, Goes, Refused, Verdict, Unexpected, acted, action_step, deed_step, named, named_step, keys_step, key_step, on_name, on_text, on_colon, on_bracket, on_number, sort_of, sort_step, cell_step, value_of, value_step, tag_step, how_step, source_of, rate_step, listed, tags_step, tag_keys_step, range_step, doing_of, act_step, heading_of, opening, step, whole, place_of, run}
+use Rattle.flu_syntax.specs.Machine.{span_of, number_of, cell_of, tag_of, Actions, Tags, Aim, ToWrite, ToClear, ToRead, ToTest, Guard, InExpression, Want, Now, Start, Declared, CellName, CellForm, CellSort, TagName, TagForm, TagValue, DependsFirst, DependsSecond, DependsHow, SourceName, SourceFile, SourceRate, RateNumber, SourceSlack, SlackNumber, SourceColon, TagKind, TagKeys, TagLow, TagMore, TagHigh, TagClose, TagEnd, OnKind, OnColon, ActionStart, DeedEnd, ActionEnd, EmitText, FlushFamily, FlushText, CellFamily, CellKeys, CellKey, CellClose, Goes, Refused, Verdict, Unexpected, acted, action_step, deed_step, named, named_step, keys_step, key_step, on_name, on_text, on_colon, on_bracket, on_number, sort_of, sort_step, cell_step, value_of, value_step, tag_step, how_step, source_of, rate_step, slack_step, listed, tags_step, tag_keys_step, range_step, doing_of, act_step, heading_of, opening, step, whole, run}
+use Rattle.flu_syntax.specs.Grammar.{place_of}
 use Rattle.flu_syntax.proofs.Runs.{run-takes, run-misses, run-ends, run-same, run-same_empty, closes_empty, closes_token, begins, begins_none, Tells-through}
 
 -- ---- a word, or none
@@ -32,15 +33,17 @@ pub record Expects (now : Now) (word : Word) (next : Token → Now) : Type 0 whe
   pub refuses : (t : Token) → t.word ≢ word → step now t ≡ Refused
   pub none : whole now ≡ None
 
-pub run-expected : {now : Now} {word : Word} {next : Token → Now} (end : ℕ) (job : Job) (tokens rest : List Token) (t : Token) → Expects now word next → IsFirst word tokens t rest → run end job now tokens ≡ run end job (next t) rest
+pub run-expected : {now : Now} {word : Word} {next : Token → Now} (end : ℕ) (job : Declarations) (tokens rest : List Token) (t : Token)
+    → Expects now word next → IsFirst word tokens t rest → run end job now tokens ≡ run end job (next t) rest
 run-expected {now = now} {next = next} end job tokens rest t expects h = rw h.0 (run-takes end job now (next t) t rest (expects.takes t h.1))
 
-pub run-unexpected : {now : Now} {word : Word} {next : Token → Now} (end : ℕ) (job : Job) (tokens : List Token) → Expects now word next → NotFirst word tokens → run end job now tokens ≡ Unexpected (place_of end tokens)
+pub run-unexpected : {now : Now} {word : Word} {next : Token → Now} (end : ℕ) (job : Declarations) (tokens : List Token) → Expects now word next
+    → NotFirst word tokens → run end job now tokens ≡ Unexpected (place_of end tokens)
 run-unexpected {now = now} end job [] expects h = run-ends end job now expects.none
 run-unexpected {now = now} end job (t ∷ tokens) expects h = run-misses end job now t tokens (expects.refuses t h) expects.none
 
 -- the fault of it
-pub tells : (fault : SyntaxFault) (place : ℕ) (v : Verdict) → fault ≡ f.Unexpected place → v ≡ Unexpected place → Tells fault v
+pub tells : {X : Type 0} (fault : SyntaxFault) (place : ℕ) (v : Verdict X) → fault ≡ f.Unexpected place → v ≡ Unexpected place → Tells fault v
 tells fault place v e h = rw e h
 
 -- at this turn a number alone may stand
@@ -49,11 +52,13 @@ pub record ExpectsNumber (now : Now) (next : WrittenNumber → Now) : Type 0 whe
   pub refuses : (t : Token) → ((n : ℤ) → t.word ≢ w.Number n) → step now t ≡ Refused
   pub none : whole now ≡ None
 
-pub run-number : {now : Now} {next : WrittenNumber → Now} (end : ℕ) (job : Job) (tokens rest : List Token) (n : WrittenNumber) → ExpectsNumber now next → IsNumber tokens n rest → run end job now tokens ≡ run end job (next n) rest
+pub run-number : {now : Now} {next : WrittenNumber → Now} (end : ℕ) (job : Declarations) (tokens rest : List Token) (n : WrittenNumber)
+    → ExpectsNumber now next → IsNumber tokens n rest → run end job now tokens ≡ run end job (next n) rest
 run-number {now = now} {next = next} end job tokens rest n expects h =
     rw h.1.0 (run-takes end job now (next n) h.0 rest (expects.takes h.0 n.value h.1.1 ∙ ap (λ (x : WrittenNumber). Goes (next x)) (sym h.2)))
 
-pub run-no_number : {now : Now} {next : WrittenNumber → Now} (end : ℕ) (job : Job) (tokens : List Token) → ExpectsNumber now next → NotNumber tokens → run end job now tokens ≡ Unexpected (place_of end tokens)
+pub run-no_number : {now : Now} {next : WrittenNumber → Now} (end : ℕ) (job : Declarations) (tokens : List Token) → ExpectsNumber now next → NotNumber tokens
+    → run end job now tokens ≡ Unexpected (place_of end tokens)
 run-no_number {now = now} end job [] expects h = run-ends end job now expects.none
 run-no_number {now = now} end job (t ∷ tokens) expects h = run-misses end job now t tokens (expects.refuses t h) expects.none
 
@@ -62,7 +67,8 @@ pub record Passes (now : Now) (word : Word) (other : Now) : Type 0 where
   pub whole : whole now ≡ whole other
   pub same : (t : Token) → t.word ≢ word → step now t ≡ step other t
 
-pub run-passed : {now : Now} {word : Word} {other : Now} (end : ℕ) (job : Job) (tokens : List Token) → Passes now word other → NotFirst word tokens → run end job now tokens ≡ run end job other tokens
+pub run-passed : {now : Now} {word : Word} {other : Now} (end : ℕ) (job : Declarations) (tokens : List Token) → Passes now word other → NotFirst word tokens
+    → run end job now tokens ≡ run end job other tokens
 run-passed {now = now} {other = other} end job [] passes h = run-same_empty end job now other passes.whole
 run-passed {now = now} {other = other} end job (t ∷ tokens) passes h = run-same end job now other t tokens passes.whole (passes.same t h)
 
@@ -71,7 +77,8 @@ pub record EndsUnless (now : Now) (word : Word) (d : Declaration) : Type 0 where
   pub whole : whole now ≡ Some (d ∷ [])
   pub refuses : (t : Token) → t.word ≢ word → step now t ≡ Refused
 
-pub run-closed : {now : Now} {word : Word} {d : Declaration} (end : ℕ) (job : Job) (tokens : List Token) → EndsUnless now word d → NotFirst word tokens → run end job now tokens ≡ run end (job ++ d ∷ []) Start tokens
+pub run-closed : {now : Now} {word : Word} {d : Declaration} (end : ℕ) (job : Declarations) (tokens : List Token) → EndsUnless now word d
+    → NotFirst word tokens → run end job now tokens ≡ run end (job ++ d ∷ []) Start tokens
 run-closed {now = now} {d = d} end job [] ends h = closes_empty end job now d ends.whole
 run-closed {now = now} {d = d} end job (t ∷ tokens) ends h = closes_token end job now d t tokens ends.whole (ends.refuses t h)
 
@@ -83,7 +90,8 @@ declared_step : (d : Declaration) (t : Token) → step (Declared d) t ≡ Refuse
 unfolding step
 declared_step d t = refl
 
-pub run-declared : (end : ℕ) (job : Job) (d : Declaration) (tokens : List Token) → run end job (Declared d) tokens ≡ run end (job ++ d ∷ []) Start tokens
+pub run-declared : (end : ℕ) (job : Declarations) (d : Declaration) (tokens : List Token)
+    → run end job (Declared d) tokens ≡ run end (job ++ d ∷ []) Start tokens
 run-declared end job d [] = closes_empty end job (Declared d) d (declared_whole d)
 run-declared end job d (t ∷ tokens) = closes_token end job (Declared d) d t tokens (declared_whole d) (declared_step d t)
 
@@ -137,7 +145,8 @@ named-whole (ToClear so_far at) family = refl
 named-whole (ToRead context level frames) family = refl
 named-whole (ToTest context level frames at) family = refl
 
-no_bracket : (aim : Aim) (family : WrittenSpan) (t : Token) (word : Word) → word ≢ w.Mark m.OpenBracket → keys_step aim family t word ≡ named_step aim (cell_of family key.Alone) t
+no_bracket : (aim : Aim) (family : WrittenSpan) (t : Token) (word : Word) → word ≢ w.Mark m.OpenBracket
+    → keys_step aim family t word ≡ named_step aim (cell_of family key.Alone) t
 no_bracket aim family t (w.Mark m.OpenBracket) ne = absurd (ne refl)
 no_bracket aim family t _ ne = refl
 
@@ -151,15 +160,18 @@ cell_alone aim family = record {
   same = λ t ne. keys-step aim family t ∙ no_bracket aim family t t.word ne ∙ named-step aim (cell_of family key.Alone) t;
 }
 
-pub cell_own : (aim : Aim) (family : WrittenSpan) (t : Token) → t.word ≡ w.Reserved r.Key → step (CellKey aim family) t ≡ Goes (CellClose aim (cell_of family (key.OwnKey t.from)))
+pub cell_own : (aim : Aim) (family : WrittenSpan) (t : Token) → t.word ≡ w.Reserved r.Key
+    → step (CellKey aim family) t ≡ Goes (CellClose aim (cell_of family (key.OwnKey t.from)))
 unfolding step
 cell_own aim family t e = rw e refl
 
-pub cell_fixed : (aim : Aim) (family : WrittenSpan) (t : Token) (n : ℤ) → t.word ≡ w.Number n → step (CellKey aim family) t ≡ Goes (CellClose aim (cell_of family (key.Fixed (number_of n t))))
+pub cell_fixed : (aim : Aim) (family : WrittenSpan) (t : Token) (n : ℤ) → t.word ≡ w.Number n
+    → step (CellKey aim family) t ≡ Goes (CellClose aim (cell_of family (key.Fixed (number_of n t))))
 unfolding step
 cell_fixed aim family t n e = rw e refl
 
-key_only : (aim : Aim) (family : WrittenSpan) (t : Token) (word : Word) → word ≢ w.Reserved r.Key → ((n : ℤ) → word ≢ w.Number n) → key_step aim family t word ≡ Refused
+key_only : (aim : Aim) (family : WrittenSpan) (t : Token) (word : Word) → word ≢ w.Reserved r.Key → ((n : ℤ) → word ≢ w.Number n)
+    → key_step aim family t word ≡ Refused
 key_only aim family t (w.Reserved r.Key) ne nor = absurd (ne refl)
 key_only aim family t (w.Number n) ne nor = absurd (nor n refl)
 key_only aim family t _ ne nor = refl
@@ -172,21 +184,26 @@ key_whole : (aim : Aim) (family : WrittenSpan) → whole (CellKey aim family) �
 unfolding whole
 key_whole aim family = refl
 
-pub run-own : (end : ℕ) (job : Job) (aim : Aim) (family : WrittenSpan) (tokens rest : List Token) (t : Token) → IsFirst (w.Reserved r.Key) tokens t rest
+pub run-own : (end : ℕ) (job : Declarations) (aim : Aim) (family : WrittenSpan) (tokens rest : List Token) (t : Token)
+    → IsFirst (w.Reserved r.Key) tokens t rest
     → run end job (CellKey aim family) tokens ≡ run end job (CellClose aim (cell_of family (key.OwnKey t.from))) rest
-run-own end job aim family tokens rest t h = rw h.0 (run-takes end job (CellKey aim family) (CellClose aim (cell_of family (key.OwnKey t.from))) t rest (cell_own aim family t h.1))
+run-own end job aim family tokens rest t h =
+    rw h.0 (run-takes end job (CellKey aim family) (CellClose aim (cell_of family (key.OwnKey t.from))) t rest (cell_own aim family t h.1))
 
-pub run-fixed : (end : ℕ) (job : Job) (aim : Aim) (family : WrittenSpan) (tokens rest : List Token) (n : WrittenNumber) → IsNumber tokens n rest
+pub run-fixed : (end : ℕ) (job : Declarations) (aim : Aim) (family : WrittenSpan) (tokens rest : List Token) (n : WrittenNumber) → IsNumber tokens n rest
     → run end job (CellKey aim family) tokens ≡ run end job (CellClose aim (cell_of family (key.Fixed n))) rest
 run-fixed end job aim family tokens rest n h =
     rw h.1.0 (run-takes end job (CellKey aim family) (CellClose aim (cell_of family (key.Fixed n))) h.0 rest
     (cell_fixed aim family h.0 n.value h.1.1 ∙ ap (λ (x : WrittenNumber). Goes (CellClose aim (cell_of family (key.Fixed x)))) (sym h.2)))
 
-pub run-no_key : (end : ℕ) (job : Job) (aim : Aim) (family : WrittenSpan) (tokens : List Token) → NotFirst (w.Reserved r.Key) tokens → NotNumber tokens → run end job (CellKey aim family) tokens ≡ Unexpected (place_of end tokens)
+pub run-no_key : (end : ℕ) (job : Declarations) (aim : Aim) (family : WrittenSpan) (tokens : List Token) → NotFirst (w.Reserved r.Key) tokens
+    → NotNumber tokens → run end job (CellKey aim family) tokens ≡ Unexpected (place_of end tokens)
 run-no_key end job aim family [] ne nor = run-ends end job (CellKey aim family) (key_whole aim family)
-run-no_key end job aim family (t ∷ tokens) ne nor = run-misses end job (CellKey aim family) t tokens (key-step aim family t ∙ key_only aim family t t.word ne nor) (key_whole aim family)
+run-no_key end job aim family (t ∷ tokens) ne nor =
+    run-misses end job (CellKey aim family) t tokens (key-step aim family t ∙ key_only aim family t t.word ne nor) (key_whole aim family)
 
-pub run-bracket : (end : ℕ) (job : Job) (aim : Aim) (family : WrittenSpan) (tokens rest : List Token) (t : Token) → IsFirst (w.Mark m.OpenBracket) tokens t rest → run end job (CellKeys aim family) tokens ≡ run end job (CellKey aim family) rest
+pub run-bracket : (end : ℕ) (job : Declarations) (aim : Aim) (family : WrittenSpan) (tokens rest : List Token) (t : Token)
+    → IsFirst (w.Mark m.OpenBracket) tokens t rest → run end job (CellKeys aim family) tokens ≡ run end job (CellKey aim family) rest
 run-bracket end job aim family tokens rest t h = rw h.0 (run-takes end job (CellKeys aim family) (CellKey aim family) t rest (cell_bracket aim family t h.1))
 
 -- ---- lines of cells, tags and dependencies
@@ -219,7 +236,8 @@ pub cell_plain : (name : WrittenSpan) → Passes (CellForm name) (w.Reserved r.K
 unfolding step whole
 cell_plain name = record { whole = refl; same = λ t ne. cell_unkeyed name t.word ne }
 
-pub cell_sort : (name : WrittenSpan) (keyed : Bool) (t : Token) (s : Sort) → sort_of t.word ≡ Some s → step (CellSort name keyed) t ≡ Goes (Declared (Cell name keyed s))
+pub cell_sort : (name : WrittenSpan) (keyed : Bool) (t : Token) (s : Sort) → sort_of t.word ≡ Some s
+    → step (CellSort name keyed) t ≡ Goes (Declared (Cell name keyed s))
 unfolding step
 cell_sort name keyed t s e = rw e refl
 
@@ -243,7 +261,8 @@ pub tag_plain : (name : WrittenSpan) → Passes (TagForm name) (w.Reserved r.Key
 unfolding step whole
 tag_plain name = record { whole = refl; same = λ t ne. tag_unkeyed name t.word ne }
 
-pub tag_value : (name : WrittenSpan) (keyed : Bool) (t : Token) (has_value : Bool) → value_of t.word ≡ Some has_value → step (TagValue name keyed) t ≡ Goes (Declared (Tag name keyed has_value))
+pub tag_value : (name : WrittenSpan) (keyed : Bool) (t : Token) (has_value : Bool) → value_of t.word ≡ Some has_value
+    → step (TagValue name keyed) t ≡ Goes (Declared (Tag name keyed has_value))
 unfolding step
 tag_value name keyed t has_value e = rw e refl
 
@@ -286,25 +305,52 @@ pub source_file : (name : WrittenSpan) → Expects (SourceFile name) w.Text (λ 
 unfolding step whole
 source_file name = record { takes = λ t e. rw e refl; refuses = λ t ne. text_only t.word (SourceRate name (span_of t)) ne; none = refl }
 
-pub source_rate : (name file : WrittenSpan) (t : Token) → t.word ≡ w.Reserved r.Rate → step (SourceRate name file) t ≡ Goes (SourceNumber name file)
+pub source_rate : (name file : WrittenSpan) (t : Token) → t.word ≡ w.Reserved r.Rate → step (SourceRate name file) t ≡ Goes (RateNumber name file)
 unfolding step
 source_rate name file t e = rw e refl
 
-no_rate : (name file : WrittenSpan) (word : Word) → word ≢ w.Reserved r.Rate → rate_step name file word ≡ on_colon word (TagKind (source_of name file None))
+no_rate : (name file : WrittenSpan) (word : Word) → word ≢ w.Reserved r.Rate → rate_step name file word ≡ slack_step name file None word
 no_rate name file (w.Reserved r.Rate) ne = absurd (ne refl)
 no_rate name file _ ne = refl
 
-pub source_plain : (name file : WrittenSpan) → Passes (SourceRate name file) (w.Reserved r.Rate) (SourceColon name file None)
+pub source_plain : (name file : WrittenSpan) → Passes (SourceRate name file) (w.Reserved r.Rate) (SourceSlack name file None)
 unfolding step whole
 source_plain name file = record { whole = refl; same = λ t ne. no_rate name file t.word ne }
 
-pub source_number : (name file : WrittenSpan) → ExpectsNumber (SourceNumber name file) (λ n. SourceColon name file (Some n))
+pub rate_number : (name file : WrittenSpan) → ExpectsNumber (RateNumber name file) (λ n. SourceSlack name file (Some n))
 unfolding step whole
-source_number name file = record { takes = λ t n e. rw e refl; refuses = λ t nor. number_only t.word (λ n. SourceColon name file (Some (number_of n t))) nor; none = refl }
+rate_number name file = record
+    { takes = λ t n e. rw e refl; refuses = λ t nor. number_only t.word (λ n. SourceSlack name file (Some (number_of n t))) nor; none = refl }
 
-pub source_colon : (name file : WrittenSpan) (rate : Option WrittenNumber) → Expects (SourceColon name file rate) (w.Mark m.Colon) (λ t. TagKind (source_of name file rate))
+pub source_slack : (name file : WrittenSpan) (rate : Option WrittenNumber) (t : Token) → t.word ≡ w.Reserved r.Slack
+    → step (SourceSlack name file rate) t ≡ Goes (SlackNumber name file rate)
+unfolding step
+source_slack name file rate t e = rw e refl
+
+no_slack : (name file : WrittenSpan) (rate : Option WrittenNumber) (word : Word) → word ≢ w.Reserved r.Slack
+    → slack_step name file rate word ≡ on_colon word (TagKind (source_of name file rate None))
+no_slack name file rate (w.Reserved r.Slack) ne = absurd (ne refl)
+no_slack name file rate _ ne = refl
+
+pub source_prompt : (name file : WrittenSpan) (rate : Option WrittenNumber)
+    → Passes (SourceSlack name file rate) (w.Reserved r.Slack) (SourceColon name file rate None)
 unfolding step whole
-source_colon name file rate = record { takes = λ t e. rw e refl; refuses = λ t ne. colon_only t.word (TagKind (source_of name file rate)) ne; none = refl }
+source_prompt name file rate = record { whole = refl; same = λ t ne. no_slack name file rate t.word ne }
+
+pub slack_number : (name file : WrittenSpan) (rate : Option WrittenNumber)
+    → ExpectsNumber (SlackNumber name file rate) (λ n. SourceColon name file rate (Some n))
+unfolding step whole
+slack_number name file rate = record {
+  takes = λ t n e. rw e refl;
+  refuses = λ t nor. number_only t.word (λ n. SourceColon name file rate (Some (number_of n t))) nor;
+  none = refl;
+}
+
+pub source_colon : (name file : WrittenSpan) (rate slack : Option WrittenNumber)
+    → Expects (SourceColon name file rate slack) (w.Mark m.Colon) (λ t. TagKind (source_of name file rate slack))
+unfolding step whole
+source_colon name file rate slack = record
+    { takes = λ t e. rw e refl; refuses = λ t ne. colon_only t.word (TagKind (source_of name file rate slack)) ne; none = refl }
 
 pub tag_kind : (so_far : Tags) → Expects (TagKind so_far) w.Name (λ t. TagKeys so_far (span_of t))
 unfolding step whole
@@ -314,7 +360,8 @@ pub tag_bracket : (so_far : Tags) (kind : WrittenSpan) (t : Token) → t.word �
 unfolding step
 tag_bracket so_far kind t e = rw e refl
 
-no_keys : (so_far : Tags) (kind : WrittenSpan) (word : Word) → word ≢ w.Mark m.OpenBracket → tag_keys_step so_far kind word ≡ tags_step (listed so_far (tag_of kind keys.Alone)) word
+no_keys : (so_far : Tags) (kind : WrittenSpan) (word : Word) → word ≢ w.Mark m.OpenBracket
+    → tag_keys_step so_far kind word ≡ tags_step (listed so_far (tag_of kind keys.Alone)) word
 no_keys so_far kind (w.Mark m.OpenBracket) ne = absurd (ne refl)
 no_keys so_far kind _ ne = refl
 
@@ -326,23 +373,29 @@ pub tag_low : (so_far : Tags) (kind : WrittenSpan) → ExpectsNumber (TagLow so_
 unfolding step whole
 tag_low so_far kind = record { takes = λ t n e. rw e refl; refuses = λ t nor. number_only t.word (λ n. TagMore so_far kind (number_of n t)) nor; none = refl }
 
-pub tag_high : (so_far : Tags) (kind : WrittenSpan) (low : WrittenNumber) → ExpectsNumber (TagHigh so_far kind low) (λ n. TagClose so_far kind (keys.Range low n))
+pub tag_high : (so_far : Tags) (kind : WrittenSpan) (low : WrittenNumber)
+    → ExpectsNumber (TagHigh so_far kind low) (λ n. TagClose so_far kind (keys.Range low n))
 unfolding step whole
-tag_high so_far kind low = record { takes = λ t n e. rw e refl; refuses = λ t nor. number_only t.word (λ n. TagClose so_far kind (keys.Range low (number_of n t))) nor; none = refl }
+tag_high so_far kind low = record
+    { takes = λ t n e. rw e refl; refuses = λ t nor. number_only t.word (λ n. TagClose so_far kind (keys.Range low (number_of n t))) nor; none = refl }
 
-pub tag_dots : (so_far : Tags) (kind : WrittenSpan) (low : WrittenNumber) (t : Token) → t.word ≡ w.Mark m.Dots → step (TagMore so_far kind low) t ≡ Goes (TagHigh so_far kind low)
+pub tag_dots : (so_far : Tags) (kind : WrittenSpan) (low : WrittenNumber) (t : Token) → t.word ≡ w.Mark m.Dots
+    → step (TagMore so_far kind low) t ≡ Goes (TagHigh so_far kind low)
 unfolding step
 tag_dots so_far kind low t e = rw e refl
 
-no_dots : (so_far : Tags) (kind : WrittenSpan) (low : WrittenNumber) (word : Word) → word ≢ w.Mark m.Dots → range_step so_far kind low word ≡ on_bracket word (TagEnd (listed so_far (tag_of kind (keys.One low))))
+no_dots : (so_far : Tags) (kind : WrittenSpan) (low : WrittenNumber) (word : Word) → word ≢ w.Mark m.Dots
+    → range_step so_far kind low word ≡ on_bracket word (TagEnd (listed so_far (tag_of kind (keys.One low))))
 no_dots so_far kind low (w.Mark m.Dots) ne = absurd (ne refl)
 no_dots so_far kind low _ ne = refl
 
-pub tag_one : (so_far : Tags) (kind : WrittenSpan) (low : WrittenNumber) → Passes (TagMore so_far kind low) (w.Mark m.Dots) (TagClose so_far kind (keys.One low))
+pub tag_one : (so_far : Tags) (kind : WrittenSpan) (low : WrittenNumber)
+    → Passes (TagMore so_far kind low) (w.Mark m.Dots) (TagClose so_far kind (keys.One low))
 unfolding step whole
 tag_one so_far kind low = record { whole = refl; same = λ t ne. no_dots so_far kind low t.word ne }
 
-pub tag_close : (so_far : Tags) (kind : WrittenSpan) (ks : WrittenKeys) → Expects (TagClose so_far kind ks) (w.Mark m.CloseBracket) (λ t. TagEnd (listed so_far (tag_of kind ks)))
+pub tag_close : (so_far : Tags) (kind : WrittenSpan) (ks : WrittenKeys)
+    → Expects (TagClose so_far kind ks) (w.Mark m.CloseBracket) (λ t. TagEnd (listed so_far (tag_of kind ks)))
 unfolding step whole
 tag_close so_far kind ks = record { takes = λ t e. rw e refl; refuses = λ t ne. bracket_only t.word (TagEnd (listed so_far (tag_of kind ks))) ne; none = refl }
 
@@ -354,7 +407,7 @@ no_comma : (so_far : Tags) (word : Word) → word ≢ w.Mark m.Comma → tags_st
 no_comma so_far (w.Mark m.Comma) ne = absurd (ne refl)
 no_comma so_far _ ne = refl
 
-pub tags_end : (so_far : Tags) → EndsUnless (TagEnd so_far) (w.Mark m.Comma) (Source so_far.name so_far.file so_far.rate so_far.all)
+pub tags_end : (so_far : Tags) → EndsUnless (TagEnd so_far) (w.Mark m.Comma) (Source so_far.name so_far.file so_far.rate so_far.slack so_far.all)
 unfolding step whole
 tags_end so_far = record { whole = refl; refuses = λ t ne. no_comma so_far t.word ne }
 
@@ -384,15 +437,19 @@ pub flush_family : (so_far : Actions) (at : ℕ) → Expects (FlushFamily so_far
 unfolding step whole
 flush_family so_far at = record { takes = λ t e. rw e refl; refuses = λ t ne. name_only t.word (FlushText so_far at (span_of t)) ne; none = refl }
 
-pub flush_text : (so_far : Actions) (at : ℕ) (family : WrittenSpan) → Expects (FlushText so_far at family) w.Text (λ t. DeedEnd so_far at (Flushes family (span_of t)))
+pub flush_text : (so_far : Actions) (at : ℕ) (family : WrittenSpan)
+    → Expects (FlushText so_far at family) w.Text (λ t. DeedEnd so_far at (Flushes family (span_of t)))
 unfolding step whole
-flush_text so_far at family = record { takes = λ t e. rw e refl; refuses = λ t ne. text_only t.word (DeedEnd so_far at (Flushes family (span_of t))) ne; none = refl }
+flush_text so_far at family = record
+    { takes = λ t e. rw e refl; refuses = λ t ne. text_only t.word (DeedEnd so_far at (Flushes family (span_of t))) ne; none = refl }
 
-pub deed_when : (so_far : Actions) (at : ℕ) (deed : Deed) (t : Token) → t.word ≡ w.Reserved r.When → step (DeedEnd so_far at deed) t ≡ Goes (InExpression (Guard so_far at deed) (Want 0) [])
+pub deed_when : (so_far : Actions) (at : ℕ) (deed : Deed) (t : Token) → t.word ≡ w.Reserved r.When
+    → step (DeedEnd so_far at deed) t ≡ Goes (InExpression (Guard so_far at deed) (Want 0) [])
 unfolding step deed_step
 deed_when so_far at deed t e = rw e refl
 
-no_when : (so_far : Actions) (at : ℕ) (deed : Deed) (word : Word) → word ≢ w.Reserved r.When → deed_step so_far at deed word ≡ action_step (acted so_far at deed None) word
+no_when : (so_far : Actions) (at : ℕ) (deed : Deed) (word : Word) → word ≢ w.Reserved r.When
+    → deed_step so_far at deed word ≡ action_step (acted so_far at deed None) word
 unfolding deed_step
 no_when so_far at deed (w.Reserved r.When) ne = absurd (ne refl)
 no_when so_far at deed _ ne = refl
@@ -415,73 +472,105 @@ unfolding step whole
 actions_end so_far = record { whole = refl; refuses = λ t ne. no_semicolon so_far t.word ne }
 
 -- a word that leads on
-pub run-word : (end : ℕ) (job : Job) (now next : Now) (word : Word) (tokens rest : List Token) (t : Token) → ((x : Token) → x.word ≡ word → step now x ≡ Goes next) → IsFirst word tokens t rest → run end job now tokens ≡ run end job next rest
+pub run-word : (end : ℕ) (job : Declarations) (now next : Now) (word : Word) (tokens rest : List Token) (t : Token)
+    → ((x : Token) → x.word ≡ word → step now x ≡ Goes next) → IsFirst word tokens t rest → run end job now tokens ≡ run end job next rest
 run-word end job now next word tokens rest t takes h = rw h.0 (run-takes end job now next t rest (takes t h.1))
 
 -- ---- what a reader does
 
-pub run-keyed_cell : (end : ℕ) (job : Job) (name : WrittenSpan) (keyed : Bool) (tokens rest : List Token) → TakesKeyed tokens keyed rest → run end job (CellForm name) tokens ≡ run end job (CellSort name keyed) rest
-run-keyed_cell end job name true tokens rest h = run-word end job (CellForm name) (CellSort name true) (w.Reserved r.Keyed) tokens rest h.0 (cell_keyed name) h.1
+pub run-keyed_cell : (end : ℕ) (job : Declarations) (name : WrittenSpan) (keyed : Bool) (tokens rest : List Token) → TakesKeyed tokens keyed rest
+    → run end job (CellForm name) tokens ≡ run end job (CellSort name keyed) rest
+run-keyed_cell end job name true tokens rest h =
+    run-word end job (CellForm name) (CellSort name true) (w.Reserved r.Keyed) tokens rest h.0 (cell_keyed name) h.1
 run-keyed_cell end job name false tokens rest h = rw h.0 (run-passed end job tokens (cell_plain name) h.1)
 
-pub run-keyed_tag : (end : ℕ) (job : Job) (name : WrittenSpan) (keyed : Bool) (tokens rest : List Token) → TakesKeyed tokens keyed rest → run end job (TagForm name) tokens ≡ run end job (TagValue name keyed) rest
+pub run-keyed_tag : (end : ℕ) (job : Declarations) (name : WrittenSpan) (keyed : Bool) (tokens rest : List Token) → TakesKeyed tokens keyed rest
+    → run end job (TagForm name) tokens ≡ run end job (TagValue name keyed) rest
 run-keyed_tag end job name true tokens rest h = run-word end job (TagForm name) (TagValue name true) (w.Reserved r.Keyed) tokens rest h.0 (tag_keyed name) h.1
 run-keyed_tag end job name false tokens rest h = rw h.0 (run-passed end job tokens (tag_plain name) h.1)
 
-pub run-sort : (end : ℕ) (job : Job) (name : WrittenSpan) (keyed : Bool) (tokens rest : List Token) (t : Token) (s : Sort) → tokens ≡ t ∷ rest → Some s ≡ sort_of t.word
+pub run-sort : (end : ℕ) (job : Declarations) (name : WrittenSpan) (keyed : Bool) (tokens rest : List Token) (t : Token) (s : Sort) → tokens ≡ t ∷ rest
+    → Some s ≡ sort_of t.word
     → run end job (CellSort name keyed) tokens ≡ run end (job ++ Cell name keyed s ∷ []) Start rest
-run-sort end job name keyed tokens rest t s here e = rw here (run-takes end job (CellSort name keyed) (Declared (Cell name keyed s)) t rest (cell_sort name keyed t s (sym e)) ∙ run-declared end job (Cell name keyed s) rest)
+run-sort end job name keyed tokens rest t s here e =
+    rw here (run-takes end job (CellSort name keyed) (Declared (Cell name keyed s)) t rest (cell_sort name keyed t s (sym e))
+    ∙ run-declared end job (Cell name keyed s) rest)
 
-pub run-no_sort : (end : ℕ) (job : Job) (name : WrittenSpan) (keyed : Bool) (tokens rest : List Token) (t : Token) → tokens ≡ t ∷ rest → None ≡ sort_of t.word → run end job (CellSort name keyed) tokens ≡ Unexpected (place_of end tokens)
-run-no_sort end job name keyed tokens rest t here e = rw here (run-misses end job (CellSort name keyed) t rest (cell_no_sort name keyed t (sym e)) (cell_sort_whole name keyed))
+pub run-no_sort : (end : ℕ) (job : Declarations) (name : WrittenSpan) (keyed : Bool) (tokens rest : List Token) (t : Token) → tokens ≡ t ∷ rest
+    → None ≡ sort_of t.word → run end job (CellSort name keyed) tokens ≡ Unexpected (place_of end tokens)
+run-no_sort end job name keyed tokens rest t here e =
+    rw here (run-misses end job (CellSort name keyed) t rest (cell_no_sort name keyed t (sym e)) (cell_sort_whole name keyed))
 
-pub run-sort_end : (end : ℕ) (job : Job) (name : WrittenSpan) (keyed : Bool) (tokens : List Token) → tokens ≡ [] → run end job (CellSort name keyed) tokens ≡ Unexpected (place_of end tokens)
+pub run-sort_end : (end : ℕ) (job : Declarations) (name : WrittenSpan) (keyed : Bool) (tokens : List Token) → tokens ≡ []
+    → run end job (CellSort name keyed) tokens ≡ Unexpected (place_of end tokens)
 run-sort_end end job name keyed tokens e = rw e (run-ends end job (CellSort name keyed) (cell_sort_whole name keyed))
 
-pub run-value : (end : ℕ) (job : Job) (name : WrittenSpan) (keyed : Bool) (tokens rest : List Token) (t : Token) (has_value : Bool) → tokens ≡ t ∷ rest → Some has_value ≡ value_of t.word
+pub run-value : (end : ℕ) (job : Declarations) (name : WrittenSpan) (keyed : Bool) (tokens rest : List Token) (t : Token) (has_value : Bool)
+    → tokens ≡ t ∷ rest → Some has_value ≡ value_of t.word
     → run end job (TagValue name keyed) tokens ≡ run end (job ++ Tag name keyed has_value ∷ []) Start rest
 run-value end job name keyed tokens rest t has_value here e =
-    rw here (run-takes end job (TagValue name keyed) (Declared (Tag name keyed has_value)) t rest (tag_value name keyed t has_value (sym e)) ∙ run-declared end job (Tag name keyed has_value) rest)
+    rw here (run-takes end job (TagValue name keyed) (Declared (Tag name keyed has_value)) t rest (tag_value name keyed t has_value (sym e))
+    ∙ run-declared end job (Tag name keyed has_value) rest)
 
-pub run-no_value : (end : ℕ) (job : Job) (name : WrittenSpan) (keyed : Bool) (tokens rest : List Token) (t : Token) → tokens ≡ t ∷ rest → None ≡ value_of t.word → run end job (TagValue name keyed) tokens ≡ Unexpected (place_of end tokens)
-run-no_value end job name keyed tokens rest t here e = rw here (run-misses end job (TagValue name keyed) t rest (tag_no_value name keyed t (sym e)) (tag_value_whole name keyed))
+pub run-no_value : (end : ℕ) (job : Declarations) (name : WrittenSpan) (keyed : Bool) (tokens rest : List Token) (t : Token) → tokens ≡ t ∷ rest
+    → None ≡ value_of t.word → run end job (TagValue name keyed) tokens ≡ Unexpected (place_of end tokens)
+run-no_value end job name keyed tokens rest t here e =
+    rw here (run-misses end job (TagValue name keyed) t rest (tag_no_value name keyed t (sym e)) (tag_value_whole name keyed))
 
-pub run-value_end : (end : ℕ) (job : Job) (name : WrittenSpan) (keyed : Bool) (tokens : List Token) → tokens ≡ [] → run end job (TagValue name keyed) tokens ≡ Unexpected (place_of end tokens)
+pub run-value_end : (end : ℕ) (job : Declarations) (name : WrittenSpan) (keyed : Bool) (tokens : List Token) → tokens ≡ []
+    → run end job (TagValue name keyed) tokens ≡ Unexpected (place_of end tokens)
 run-value_end end job name keyed tokens e = rw e (run-ends end job (TagValue name keyed) (tag_value_whole name keyed))
 
-pub run-same_relation : (end : ℕ) (job : Job) (a b : WrittenSpan) (tokens rest : List Token) (t : Token) → IsFirst (w.Reserved r.Same) tokens t rest
+pub run-same_relation : (end : ℕ) (job : Declarations) (a b : WrittenSpan) (tokens rest : List Token) (t : Token) → IsFirst (w.Reserved r.Same) tokens t rest
     → run end job (DependsHow a b) tokens ≡ run end (job ++ Depends a b (relation.Same t.from) ∷ []) Start rest
 run-same_relation end job a b tokens rest t h =
-    rw h.0 (run-takes end job (DependsHow a b) (Declared (Depends a b (relation.Same t.from))) t rest (depends_same a b t h.1) ∙ run-declared end job (Depends a b (relation.Same t.from)) rest)
+    rw h.0 (run-takes end job (DependsHow a b) (Declared (Depends a b (relation.Same t.from))) t rest (depends_same a b t h.1)
+    ∙ run-declared end job (Depends a b (relation.Same t.from)) rest)
 
-pub run-all_relation : (end : ℕ) (job : Job) (a b : WrittenSpan) (tokens rest : List Token) (t : Token) → IsFirst (w.Reserved r.All) tokens t rest
+pub run-all_relation : (end : ℕ) (job : Declarations) (a b : WrittenSpan) (tokens rest : List Token) (t : Token) → IsFirst (w.Reserved r.All) tokens t rest
     → run end job (DependsHow a b) tokens ≡ run end (job ++ Depends a b relation.All ∷ []) Start rest
 run-all_relation end job a b tokens rest t h =
-    rw h.0 (run-takes end job (DependsHow a b) (Declared (Depends a b relation.All)) t rest (depends_all a b t h.1) ∙ run-declared end job (Depends a b relation.All) rest)
+    rw h.0 (run-takes end job (DependsHow a b) (Declared (Depends a b relation.All)) t rest (depends_all a b t h.1)
+    ∙ run-declared end job (Depends a b relation.All) rest)
 
-pub run-no_relation : (end : ℕ) (job : Job) (a b : WrittenSpan) (tokens : List Token) → NotFirst (w.Reserved r.Same) tokens → NotFirst (w.Reserved r.All) tokens
+pub run-no_relation : (end : ℕ) (job : Declarations) (a b : WrittenSpan) (tokens : List Token) → NotFirst (w.Reserved r.Same) tokens
+    → NotFirst (w.Reserved r.All) tokens
     → run end job (DependsHow a b) tokens ≡ run end (job ++ Depends a b relation.None ∷ []) Start tokens
 run-no_relation end job a b [] h k = closes_empty end job (DependsHow a b) (Depends a b relation.None) (depends_whole a b)
-run-no_relation end job a b (t ∷ tokens) h k = closes_token end job (DependsHow a b) (Depends a b relation.None) t tokens (depends_whole a b) (depends_none a b t h k)
+run-no_relation end job a b (t ∷ tokens) h k =
+    closes_token end job (DependsHow a b) (Depends a b relation.None) t tokens (depends_whole a b) (depends_none a b t h k)
 
-pub run-doing : (end : ℕ) (job : Job) (so_far : Actions) (next : Now) (t : Token) (rest : List Token) (d : Doing) → d ≡ doing_of t.word → act_step so_far t.from d ≡ Goes next → run end job (ActionStart so_far) (t ∷ rest) ≡ run end job next rest
+pub run-doing : (end : ℕ) (job : Declarations) (so_far : Actions) (next : Now) (t : Token) (rest : List Token) (d : Doing) → d ≡ doing_of t.word
+    → act_step so_far t.from d ≡ Goes next → run end job (ActionStart so_far) (t ∷ rest) ≡ run end job next rest
 run-doing end job so_far next t rest d is e = run-takes end job (ActionStart so_far) next t rest (act-step so_far t d (sym is) ∙ e)
 
-pub run-no_doing : (end : ℕ) (job : Job) (so_far : Actions) (tokens rest : List Token) (t : Token) → tokens ≡ t ∷ rest → doing.Other ≡ doing_of t.word → run end job (ActionStart so_far) tokens ≡ Unexpected (place_of end tokens)
-run-no_doing end job so_far tokens rest t here is = rw here (run-misses end job (ActionStart so_far) t rest (act-step so_far t doing.Other (sym is)) (act_whole so_far))
+pub run-no_doing : (end : ℕ) (job : Declarations) (so_far : Actions) (tokens rest : List Token) (t : Token) → tokens ≡ t ∷ rest
+    → doing.Other ≡ doing_of t.word → run end job (ActionStart so_far) tokens ≡ Unexpected (place_of end tokens)
+run-no_doing end job so_far tokens rest t here is =
+    rw here (run-misses end job (ActionStart so_far) t rest (act-step so_far t doing.Other (sym is)) (act_whole so_far))
 
-pub run-doing_end : (end : ℕ) (job : Job) (so_far : Actions) (tokens : List Token) → tokens ≡ [] → run end job (ActionStart so_far) tokens ≡ Unexpected (place_of end tokens)
+pub run-doing_end : (end : ℕ) (job : Declarations) (so_far : Actions) (tokens : List Token) → tokens ≡ []
+    → run end job (ActionStart so_far) tokens ≡ Unexpected (place_of end tokens)
 run-doing_end end job so_far tokens e = rw e (run-ends end job (ActionStart so_far) (act_whole so_far))
 
-pub through_write : {X : Type 0} (end : ℕ) (tokens others : List Token) (t : Token) (verb : Verb) (deed : X → Deed) (rest : X → List Token) (result : Result X SyntaxFault) → tokens ≡ t ∷ others → doing.Write verb ≡ doing_of t.word
+pub through_write : {X : Type 0} (end : ℕ) (tokens others : List Token) (t : Token) (verb : Verb) (deed : X → Deed) (rest : X
+    → List Token) (result : Result X SyntaxFault) → tokens ≡ t ∷ others → doing.Write verb ≡ doing_of t.word
     → ReadsWriting end verb others deed rest result → ReadsDeed end tokens deed rest result
-through_write end tokens others t verb deed rest (Ok x) here is h = λ at. rw here (run-doing end at.0 at.1 (CellFamily (ToWrite at.1 t.from verb)) t others (doing.Write verb) is refl ∙ h (at.0, at.1, t.from))
-through_write end tokens others t verb deed rest (Err fault) here is h = λ at. rw here (Tells-through fault _ _ (run-doing end at.0 at.1 (CellFamily (ToWrite at.1 t.from verb)) t others (doing.Write verb) is refl) (h (at.0, at.1, t.from)))
+through_write end tokens others t verb deed rest (Ok x) here is h = λ at. rw here
+    (run-doing end at.0 at.1 (CellFamily (ToWrite at.1 t.from verb)) t others (doing.Write verb) is refl ∙ h (at.0, at.1, t.from))
+through_write end tokens others t verb deed rest (Err fault) here is h = λ at. rw here
+    (Tells-through fault _ _ (run-doing end at.0 at.1 (CellFamily (ToWrite at.1 t.from verb)) t others (doing.Write verb) is refl) (h (at.0, at.1, t.from)))
 
-pub through_heading : {X : Type 0} (end : ℕ) (tokens others : List Token) (t : Token) (now : Now) (heading : Heading) (declaration : X → Declaration) (rest : X → List Token) (result : Result X SyntaxFault) → tokens ≡ t ∷ others
-    → heading ≡ heading_of t.word → opening heading ≡ Some now → ReadsDeclaration end now others declaration rest result → ReadsDeclaration end Start tokens declaration rest result
-through_heading end tokens others t now heading declaration rest (Ok x) here is e h = λ job. rw here (begins end job now t others (ap opening (sym is) ∙ e) ∙ h job)
-through_heading end tokens others t now heading declaration rest (Err fault) here is e h = λ job. rw here (Tells-through fault _ _ (begins end job now t others (ap opening (sym is) ∙ e)) (h job))
+pub through_heading : {X : Type 0} (end : ℕ) (tokens others : List Token) (t : Token) (now : Now) (heading : Heading) (declaration : X
+    → Declaration) (rest : X → List Token) (result : Result X SyntaxFault) → tokens ≡ t ∷ others
+    → heading ≡ heading_of t.word → opening heading ≡ Some now → ReadsDeclaration end now others declaration rest result
+    → ReadsDeclaration end Start tokens declaration rest result
+through_heading end tokens others t now heading declaration rest (Ok x) here is e h =
+    λ job. rw here (begins end job now t others (ap opening (sym is) ∙ e)
+    ∙ h job)
+through_heading end tokens others t now heading declaration rest (Err fault) here is e h = λ job. rw here
+    (Tells-through fault _ _ (begins end job now t others (ap opening (sym is) ∙ e)) (h job))
 
-pub no_heading : (end : ℕ) (job : Job) (tokens rest : List Token) (t : Token) (heading : Heading) → tokens ≡ t ∷ rest → heading ≡ heading_of t.word → opening heading ≡ None → run end job Start tokens ≡ Unexpected (place_of end tokens)
+pub no_heading : (end : ℕ) (job : Declarations) (tokens rest : List Token) (t : Token) (heading : Heading) → tokens ≡ t ∷ rest → heading ≡ heading_of t.word
+    → opening heading ≡ None → run end job Start tokens ≡ Unexpected (place_of end tokens)
 no_heading end job tokens rest t heading here is e = rw here (begins_none end job t rest (ap opening (sym is) ∙ e))

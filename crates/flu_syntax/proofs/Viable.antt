@@ -11,8 +11,9 @@ use Rattle.flu_syntax.specs.declared.tree.WrittenKey.TheVariants as key
 use Rattle.flu_syntax.specs.declared.tree.WrittenRef.{WrittenRef}
 use Rattle.flu_syntax.specs.declared.tree.WrittenKeys.{WrittenKeys}
 use Rattle.flu_syntax.specs.declared.tree.WrittenKeys.TheVariants as keys
-use Rattle.flu_syntax.specs.Tree.{Tree, NumberTree, ParenTree, NegTree, NotTree, TwoTree, Deed, Emits, Flushes, Job}
-use Rattle.flu_syntax.specs.Machine.{span_of, number_of, cell_of, tag_of, Actions, Tags, Context, Amount, Guard, Frame, NegFrame, NotFrame, ParenFrame, RightFrame, Mode, Want, Have, Done, Aim, ToWrite, ToClear, ToRead, ToTest, Now, Start, Declared, CellName, CellForm, CellSort, TagName, TagForm, TagValue, DependsFirst, DependsSecond, DependsHow, SourceName, SourceFile, SourceRate, SourceNumber, SourceColon, TagKind, TagKeys, TagLow, TagMore, TagHigh, TagClose, TagEnd, OnKind, OnColon, ActionStart, DeedEnd, ActionEnd, EmitText, FlushFamily, FlushText, CellFamily, CellKeys, CellKey, CellClose, InExpression, Next, Goes, Deep, Refused, operator_of, start_of, doing_of, sort_of, value_of, op_level, level_behind, behind, named, source_of, listed, heading_of, opening, expression_step, step, whole, Verdict, Found, Unexpected, TooDeep, goes_on, next_declaration, ended, place_of, run}
+use Rattle.flu_syntax.specs.Tree.{Tree, NumberTree, ParenTree, NegTree, NotTree, TwoTree, Deed, Emits, Flushes, Declarations}
+use Rattle.flu_syntax.specs.Machine.{span_of, number_of, cell_of, tag_of, Actions, Tags, Context, Amount, Guard, Frame, NegFrame, NotFrame, ParenFrame, RightFrame, Mode, Want, Have, Done, Aim, ToWrite, ToClear, ToRead, ToTest, Now, Start, Declared, CellName, CellForm, CellSort, TagName, TagForm, TagValue, DependsFirst, DependsSecond, DependsHow, SourceName, SourceFile, SourceRate, RateNumber, SourceSlack, SlackNumber, SourceColon, TagKind, TagKeys, TagLow, TagMore, TagHigh, TagClose, TagEnd, OnKind, OnColon, ActionStart, DeedEnd, ActionEnd, EmitText, FlushFamily, FlushText, CellFamily, CellKeys, CellKey, CellClose, InExpression, Next, Goes, Deep, Refused, operator_of, start_of, doing_of, sort_of, value_of, level_behind, behind, named, source_of, listed, heading_of, opening, expression_step, step, whole, Verdict, Found, Unexpected, TooDeep, goes_on, next_declaration, ended, run}
+use Rattle.flu_syntax.specs.Grammar.{op_level, place_of}
 use Rattle.flu_syntax.specs.Reading.{no_actions}
 use Rattle.flu_syntax.proofs.Runs.{run-takes, run-neg, run-not, run-right, run-paren, run-behind, pass_end, pass_word}
 
@@ -20,14 +21,14 @@ abbrev token : Word → Token
 token word = record { word = word; from = 0; to = 0 }
 
 -- what stands at this turn can be ended
-abbrev Can : ℕ → Job → Now → Type 0
-Can end job now = (more : List Token) × (found : Job) × (run end job now more ≡ Found found)
+abbrev Can : ℕ → Declarations → Now → Type 0
+Can end job now = (more : List Token) × (found : Declarations) × (run end job now more ≡ Found found)
 
-whole_can : (end : ℕ) (job one : Job) (now : Now) → whole now ≡ Some one → Can end job now
+whole_can : (end : ℕ) (job one : Declarations) (now : Now) → whole now ≡ Some one → Can end job now
 unfolding run
 whole_can end job one now e = ([], job ++ one, rw e refl)
 
-via : (end : ℕ) (job : Job) (now next : Now) (t : Token) → step now t ≡ Goes next → Can end job next → Can end job now
+via : (end : ℕ) (job : Declarations) (now next : Now) (t : Token) → step now t ≡ Goes next → Can end job next → Can end job now
 via end job now next t e can = (t ∷ can.0, can.1, run-takes end job now next t can.0 e ∙ can.2)
 
 -- ---- expressions
@@ -40,139 +41,155 @@ closing (NotFrame level at ∷ frames) = closing frames
 closing (ParenFrame level at ∷ frames) = token (w.Mark m.CloseParen) ∷ closing frames
 closing (RightFrame level o left ∷ frames) = closing frames
 
-abbrev Ended : ℕ → Job → Now → List Token → Type 0
-Ended end job now tokens = (found : Job) × (run end job now tokens ≡ Found found)
+abbrev Ended : ℕ → Declarations → Now → List Token → Type 0
+Ended end job now tokens = (found : Declarations) × (run end job now tokens ≡ Found found)
 
-quiet : (low high end : ℕ) (job : Job) (context : Context) (t : Tree) (frames fs : List Frame)
+quiet : (low high end : ℕ) (job : Declarations) (context : Context) (t : Tree) (frames fs : List Frame)
     → run end job (InExpression context (Have low high t) frames) (closing fs) ≡ run end job (InExpression context (Done t) frames) (closing fs)
 unfolding operator_of
 quiet low high end job context t frames [] = pass_end low high end job context t frames [] refl
 quiet low high end job context t frames (NegFrame level at ∷ fs) = quiet low high end job context t frames fs
 quiet low high end job context t frames (NotFrame level at ∷ fs) = quiet low high end job context t frames fs
-quiet low high end job context t frames (ParenFrame level at ∷ fs) = pass_word low high end job context t frames (token (w.Mark m.CloseParen)) (closing (ParenFrame level at ∷ fs)) (closing fs) refl refl
+quiet low high end job context t frames (ParenFrame level at ∷ fs) =
+    pass_word low high end job context t frames (token (w.Mark m.CloseParen)) (closing (ParenFrame level at ∷ fs)) (closing fs) refl refl
 quiet low high end job context t frames (RightFrame level o left ∷ fs) = quiet low high end job context t frames fs
 
-so : (end : ℕ) (job : Job) (a b : Now) (xs ys : List Token) → run end job a xs ≡ run end job b ys → Ended end job b ys → Ended end job a xs
+so : (end : ℕ) (job : Declarations) (a b : Now) (xs ys : List Token) → run end job a xs ≡ run end job b ys → Ended end job b ys → Ended end job a xs
 so end job a b xs ys e h = (h.0, e ∙ h.1)
 
-behind_ended : (end : ℕ) (job : Job) (context : Context) (t : Tree) → Ended end job (behind context t) []
+behind_ended : (end : ℕ) (job : Declarations) (context : Context) (t : Tree) → Ended end job (behind context t) []
 unfolding run whole
 behind_ended end job (Amount so_far at verb cell) t = (_, refl)
 behind_ended end job (Guard so_far at deed) t = (_, refl)
 
-closed : (end : ℕ) (job : Job) (context : Context) (t : Tree) (frames : List Frame) → Ended end job (InExpression context (Done t) frames) (closing frames)
+closed : (end : ℕ) (job : Declarations) (context : Context) (t : Tree) (frames : List Frame)
+    → Ended end job (InExpression context (Done t) frames) (closing frames)
 closed end job context t [] = so end job _ _ _ _ (run-behind end job context t []) (behind_ended end job context t)
 closed end job context t (NegFrame level at ∷ frames) =
-    so end job _ _ _ _ (run-neg end level at job context t frames (closing frames) ∙ quiet level 6 end job context (NegTree at t) frames frames) (closed end job context (NegTree at t) frames)
+    so end job _ _ _ _ (run-neg end level at job context t frames (closing frames)
+    ∙ quiet level 6 end job context (NegTree at t) frames frames) (closed end job context (NegTree at t) frames)
 closed end job context t (NotFrame level at ∷ frames) =
-    so end job _ _ _ _ (run-not end level at job context t frames (closing frames) ∙ quiet level 2 end job context (NotTree at t) frames frames) (closed end job context (NotTree at t) frames)
+    so end job _ _ _ _ (run-not end level at job context t frames (closing frames)
+    ∙ quiet level 2 end job context (NotTree at t) frames frames) (closed end job context (NotTree at t) frames)
 closed end job context t (ParenFrame level at ∷ frames) =
     so end job _ _ _ _
-    (run-paren end level at job context t frames (token (w.Mark m.CloseParen)) (token (w.Mark m.CloseParen) ∷ closing frames) (closing frames) refl refl ∙ quiet level 6 end job context (ParenTree at t) frames frames)
+    (run-paren end level at job context t frames (token (w.Mark m.CloseParen)) (token (w.Mark m.CloseParen) ∷ closing frames) (closing frames) refl refl
+    ∙ quiet level 6 end job context (ParenTree at t) frames frames)
     (closed end job context (ParenTree at t) frames)
 closed end job context t (RightFrame level o left ∷ frames) =
     so end job _ _ _ _
-    (run-right end level job context o left t frames (closing frames) ∙ quiet level (level_behind (op_level o)) end job context (TwoTree o left t) frames frames)
+    (run-right end level job context o left t frames (closing frames)
+    ∙ quiet level (level_behind (op_level o)) end job context (TwoTree o left t) frames frames)
     (closed end job context (TwoTree o left t) frames)
 
-expression_can : (end : ℕ) (job : Job) (context : Context) (mode : Mode) (frames : List Frame) → Can end job (InExpression context mode frames)
+expression_can : (end : ℕ) (job : Declarations) (context : Context) (mode : Mode) (frames : List Frame) → Can end job (InExpression context mode frames)
 unfolding step expression_step start_of
 expression_can end job context (Want level) frames =
     let zero_ = NumberTree (number_of (pos 0) (token (w.Number (pos 0)))) in
     let h = closed end job context zero_ frames in
-    via end job _ (InExpression context (Have level 6 zero_) frames) (token (w.Number (pos 0))) refl (closing frames, h.0, quiet level 6 end job context zero_ frames frames ∙ h.1)
-expression_can end job context (Have low high t) frames = let h = closed end job context t frames in (closing frames, h.0, quiet low high end job context t frames frames ∙ h.1)
+    via end job _ (InExpression context (Have level 6 zero_) frames) (token (w.Number (pos 0))) refl
+    (closing frames, h.0, quiet level 6 end job context zero_ frames frames ∙ h.1)
+expression_can end job context (Have low high t) frames =
+    let h = closed end job context t frames in (closing frames, h.0, quiet low high end job context t frames frames ∙ h.1)
 expression_can end job context (Done t) frames = let h = closed end job context t frames in (closing frames, h.0, h.1)
 
 -- ---- cells
 
-deed_can : (end : ℕ) (job : Job) (so_far : Actions) (at : ℕ) (deed : Deed) → Can end job (DeedEnd so_far at deed)
+deed_can : (end : ℕ) (job : Declarations) (so_far : Actions) (at : ℕ) (deed : Deed) → Can end job (DeedEnd so_far at deed)
 unfolding whole
 deed_can end job so_far at deed = whole_can end job _ (DeedEnd so_far at deed) refl
 
-named_can : (end : ℕ) (job : Job) (aim : Aim) (cell : WrittenRef) → Can end job (named aim cell)
+named_can : (end : ℕ) (job : Declarations) (aim : Aim) (cell : WrittenRef) → Can end job (named aim cell)
 named_can end job (ToWrite so_far at verb) cell = expression_can end job (Amount so_far at verb cell) (Want 0) []
 named_can end job (ToClear so_far at) cell = deed_can end job so_far at _
 named_can end job (ToRead context level frames) cell = expression_can end job context _ frames
 named_can end job (ToTest context level frames at) cell = expression_can end job context _ frames
 
-close_can : (end : ℕ) (job : Job) (aim : Aim) (cell : WrittenRef) → Can end job (CellClose aim cell)
+close_can : (end : ℕ) (job : Declarations) (aim : Aim) (cell : WrittenRef) → Can end job (CellClose aim cell)
 unfolding step
 close_can end job aim cell = via end job _ (named aim cell) (token (w.Mark m.CloseBracket)) refl (named_can end job aim cell)
 
-key_can : (end : ℕ) (job : Job) (aim : Aim) (family : WrittenSpan) → Can end job (CellKey aim family)
+key_can : (end : ℕ) (job : Declarations) (aim : Aim) (family : WrittenSpan) → Can end job (CellKey aim family)
 unfolding step
-key_can end job aim family = via end job _ (CellClose aim (cell_of family (key.OwnKey 0))) (token (w.Reserved r.Key)) refl (close_can end job aim (cell_of family (key.OwnKey 0)))
+key_can end job aim family =
+    via end job _ (CellClose aim (cell_of family (key.OwnKey 0))) (token (w.Reserved r.Key)) refl (close_can end job aim (cell_of family (key.OwnKey 0)))
 
-keys_can : (end : ℕ) (job : Job) (aim : Aim) (family : WrittenSpan) → Can end job (CellKeys aim family)
+keys_can : (end : ℕ) (job : Declarations) (aim : Aim) (family : WrittenSpan) → Can end job (CellKeys aim family)
 unfolding step
 keys_can end job aim family = via end job _ (CellKey aim family) (token (w.Mark m.OpenBracket)) refl (key_can end job aim family)
 
 -- ---- tags and actions
 
-kind_can : (end : ℕ) (job : Job) (so_far : Tags) → Can end job (TagKind so_far)
+kind_can : (end : ℕ) (job : Declarations) (so_far : Tags) → Can end job (TagKind so_far)
 unfolding step whole
-kind_can end job so_far = via end job _ (TagKeys so_far (span_of (token w.Name))) (token w.Name) refl (whole_can end job _ (TagKeys so_far (span_of (token w.Name))) refl)
+kind_can end job so_far =
+    via end job _ (TagKeys so_far (span_of (token w.Name))) (token w.Name) refl (whole_can end job _ (TagKeys so_far (span_of (token w.Name))) refl)
 
-tag_end_can : (end : ℕ) (job : Job) (so_far : Tags) → Can end job (TagEnd so_far)
+tag_end_can : (end : ℕ) (job : Declarations) (so_far : Tags) → Can end job (TagEnd so_far)
 unfolding whole
 tag_end_can end job so_far = whole_can end job _ (TagEnd so_far) refl
 
-more_can : (end : ℕ) (job : Job) (so_far : Tags) (kind : WrittenSpan) (low : WrittenNumber) → Can end job (TagMore so_far kind low)
+more_can : (end : ℕ) (job : Declarations) (so_far : Tags) (kind : WrittenSpan) (low : WrittenNumber) → Can end job (TagMore so_far kind low)
 unfolding step
-more_can end job so_far kind low = via end job _ (TagEnd (listed so_far (tag_of kind (keys.One low)))) (token (w.Mark m.CloseBracket)) refl (tag_end_can end job _)
+more_can end job so_far kind low =
+    via end job _ (TagEnd (listed so_far (tag_of kind (keys.One low)))) (token (w.Mark m.CloseBracket)) refl (tag_end_can end job _)
 
-tag_close_can : (end : ℕ) (job : Job) (so_far : Tags) (kind : WrittenSpan) (ks : WrittenKeys) → Can end job (TagClose so_far kind ks)
+tag_close_can : (end : ℕ) (job : Declarations) (so_far : Tags) (kind : WrittenSpan) (ks : WrittenKeys) → Can end job (TagClose so_far kind ks)
 unfolding step
 tag_close_can end job so_far kind ks = via end job _ (TagEnd (listed so_far (tag_of kind ks))) (token (w.Mark m.CloseBracket)) refl (tag_end_can end job _)
 
-colon_can : (end : ℕ) (job : Job) (name file : WrittenSpan) (rate : Option WrittenNumber) → Can end job (SourceColon name file rate)
+colon_can : (end : ℕ) (job : Declarations) (name file : WrittenSpan) (rate slack : Option WrittenNumber) → Can end job (SourceColon name file rate slack)
 unfolding step
-colon_can end job name file rate = via end job _ (TagKind (source_of name file rate)) (token (w.Mark m.Colon)) refl (kind_can end job _)
+colon_can end job name file rate slack = via end job _ (TagKind (source_of name file rate slack)) (token (w.Mark m.Colon)) refl (kind_can end job _)
 
-rate_can : (end : ℕ) (job : Job) (name file : WrittenSpan) → Can end job (SourceRate name file)
+slack_can : (end : ℕ) (job : Declarations) (name file : WrittenSpan) (rate : Option WrittenNumber) → Can end job (SourceSlack name file rate)
 unfolding step
-rate_can end job name file = via end job _ (TagKind (source_of name file None)) (token (w.Mark m.Colon)) refl (kind_can end job _)
+slack_can end job name file rate = via end job _ (TagKind (source_of name file rate None)) (token (w.Mark m.Colon)) refl (kind_can end job _)
 
-file_can : (end : ℕ) (job : Job) (name : WrittenSpan) → Can end job (SourceFile name)
+rate_can : (end : ℕ) (job : Declarations) (name file : WrittenSpan) → Can end job (SourceRate name file)
+unfolding step
+rate_can end job name file = via end job _ (TagKind (source_of name file None None)) (token (w.Mark m.Colon)) refl (kind_can end job _)
+
+file_can : (end : ℕ) (job : Declarations) (name : WrittenSpan) → Can end job (SourceFile name)
 unfolding step
 file_can end job name = via end job _ (SourceRate name (span_of (token w.Text))) (token w.Text) refl (rate_can end job _ _)
 
-emit_can : (end : ℕ) (job : Job) (so_far : Actions) (at : ℕ) → Can end job (EmitText so_far at)
+emit_can : (end : ℕ) (job : Declarations) (so_far : Actions) (at : ℕ) → Can end job (EmitText so_far at)
 unfolding step
 emit_can end job so_far at = via end job _ (DeedEnd so_far at (Emits (span_of (token w.Text)))) (token w.Text) refl (deed_can end job so_far at _)
 
-flush_can : (end : ℕ) (job : Job) (so_far : Actions) (at : ℕ) (family : WrittenSpan) → Can end job (FlushText so_far at family)
+flush_can : (end : ℕ) (job : Declarations) (so_far : Actions) (at : ℕ) (family : WrittenSpan) → Can end job (FlushText so_far at family)
 unfolding step
-flush_can end job so_far at family = via end job _ (DeedEnd so_far at (Flushes family (span_of (token w.Text)))) (token w.Text) refl (deed_can end job so_far at _)
+flush_can end job so_far at family =
+    via end job _ (DeedEnd so_far at (Flushes family (span_of (token w.Text)))) (token w.Text) refl (deed_can end job so_far at _)
 
-action_can : (end : ℕ) (job : Job) (so_far : Actions) → Can end job (ActionStart so_far)
+action_can : (end : ℕ) (job : Declarations) (so_far : Actions) → Can end job (ActionStart so_far)
 unfolding step doing_of
 action_can end job so_far = via end job _ (EmitText so_far 0) (token (w.Reserved r.Emit)) refl (emit_can end job so_far 0)
 
-on_can : (end : ℕ) (job : Job) (kind : WrittenSpan) → Can end job (OnColon kind)
+on_can : (end : ℕ) (job : Declarations) (kind : WrittenSpan) → Can end job (OnColon kind)
 unfolding step
 on_can end job kind = via end job _ (ActionStart (no_actions kind)) (token (w.Mark m.Colon)) refl (action_can end job _)
 
-form_can : (end : ℕ) (job : Job) (name : WrittenSpan) → Can end job (CellForm name)
+form_can : (end : ℕ) (job : Declarations) (name : WrittenSpan) → Can end job (CellForm name)
 unfolding step sort_of whole
 form_can end job name = via end job _ (Declared _) (token (w.Reserved r.Sum)) refl (whole_can end job _ (Declared _) refl)
 
-tag_form_can : (end : ℕ) (job : Job) (name : WrittenSpan) → Can end job (TagForm name)
+tag_form_can : (end : ℕ) (job : Declarations) (name : WrittenSpan) → Can end job (TagForm name)
 unfolding step value_of whole
 tag_form_can end job name = via end job _ (Declared _) (token (w.Reserved r.Int)) refl (whole_can end job _ (Declared _) refl)
 
-how_can : (end : ℕ) (job : Job) (a b : WrittenSpan) → Can end job (DependsHow a b)
+how_can : (end : ℕ) (job : Declarations) (a b : WrittenSpan) → Can end job (DependsHow a b)
 unfolding whole
 how_can end job a b = whole_can end job _ (DependsHow a b) refl
 
-second_can : (end : ℕ) (job : Job) (a : WrittenSpan) → Can end job (DependsSecond a)
+second_can : (end : ℕ) (job : Declarations) (a : WrittenSpan) → Can end job (DependsSecond a)
 unfolding step
 second_can end job a = via end job _ (DependsHow a (span_of (token w.Name))) (token w.Name) refl (how_can end job a _)
 
 -- ---- each turn
 
-can : (end : ℕ) (job : Job) (now : Now) → Can end job now
+can : (end : ℕ) (job : Declarations) (now : Now) → Can end job now
 unfolding step whole sort_of value_of
 can end job Start = whole_can end job _ Start refl
 can end job (Declared d) = whole_can end job _ (Declared d) refl
@@ -188,13 +205,20 @@ can end job (DependsHow a b) = how_can end job a b
 can end job SourceName = via end job _ (SourceFile (span_of (token w.Name))) (token w.Name) refl (file_can end job _)
 can end job (SourceFile name) = file_can end job name
 can end job (SourceRate name file) = rate_can end job name file
-can end job (SourceNumber name file) = via end job _ (SourceColon name file (Some (number_of (pos 0) (token (w.Number (pos 0)))))) (token (w.Number (pos 0))) refl (colon_can end job _ _ _)
-can end job (SourceColon name file rate) = colon_can end job name file rate
+can end job (RateNumber name file) =
+    via end job _ (SourceSlack name file (Some (number_of (pos 0) (token (w.Number (pos 0)))))) (token (w.Number (pos 0))) refl (slack_can end job _ _ _)
+can end job (SourceSlack name file rate) = slack_can end job name file rate
+can end job (SlackNumber name file rate) =
+    via end job _ (SourceColon name file rate (Some (number_of (pos 0) (token (w.Number (pos 0)))))) (token (w.Number (pos 0))) refl (colon_can end job _ _ _ _)
+can end job (SourceColon name file rate slack) = colon_can end job name file rate slack
 can end job (TagKind so_far) = kind_can end job so_far
 can end job (TagKeys so_far kind) = whole_can end job _ (TagKeys so_far kind) refl
-can end job (TagLow so_far kind) = via end job _ (TagMore so_far kind (number_of (pos 0) (token (w.Number (pos 0))))) (token (w.Number (pos 0))) refl (more_can end job _ _ _)
+can end job (TagLow so_far kind) =
+    via end job _ (TagMore so_far kind (number_of (pos 0) (token (w.Number (pos 0))))) (token (w.Number (pos 0))) refl (more_can end job _ _ _)
 can end job (TagMore so_far kind low) = more_can end job so_far kind low
-can end job (TagHigh so_far kind low) = via end job _ (TagClose so_far kind (keys.Range low (number_of (pos 0) (token (w.Number (pos 0)))))) (token (w.Number (pos 0))) refl (tag_close_can end job _ _ _)
+can end job (TagHigh so_far kind low) =
+    via end job _ (TagClose so_far kind (keys.Range low (number_of (pos 0) (token (w.Number (pos 0)))))) (token (w.Number (pos 0))) refl
+    (tag_close_can end job _ _ _)
 can end job (TagClose so_far kind ks) = tag_close_can end job so_far kind ks
 can end job (TagEnd so_far) = tag_end_can end job so_far
 can end job OnKind = via end job _ (OnColon (span_of (token w.Name))) (token w.Name) refl (on_can end job _)
@@ -214,29 +238,29 @@ can end job (InExpression context mode frames) = expression_can end job context 
 -- ---- the first token that cannot follow
 
 -- with the next token the tokens may not go on, or they end and are no job
-abbrev pub Cannot : ℕ → Job → Now → List Token → List Token → Type 0
-Cannot end job now front [] = (found : Job) → run end job now front ≡ Found found → ⊥
-Cannot end job now front (t ∷ rest) = (more : List Token) (found : Job) → run end job now ((front ++ t ∷ []) ++ more) ≡ Found found → ⊥
+abbrev pub Cannot : ℕ → Declarations → Now → List Token → List Token → Type 0
+Cannot end job now front [] = (found : Declarations) → run end job now front ≡ Found found → ⊥
+Cannot end job now front (t ∷ rest) = (more : List Token) (found : Declarations) → run end job now ((front ++ t ∷ []) ++ more) ≡ Found found → ⊥
 
-pub record IsFirst (end : ℕ) (job : Job) (now : Now) (tokens : List Token) (place : ℕ) : Type 0 where
+pub record IsFirst (end : ℕ) (job : Declarations) (now : Now) (tokens : List Token) (place : ℕ) : Type 0 where
   pub front : List Token
   pub rest : List Token
   pub parts : tokens ≡ front ++ rest
   pub here : place ≡ place_of end rest
-  pub may : (more : List Token) × (found : Job) × (run end job now (front ++ more) ≡ Found found)
+  pub may : (more : List Token) × (found : Declarations) × (run end job now (front ++ more) ≡ Found found)
   pub cannot : Cannot end job now front rest
 
-same_place : (a b : ℕ) (v : Verdict) → v ≡ Unexpected a → v ≡ Unexpected b → b ≡ a
+same_place : (a b : ℕ) (v : Verdict Declarations) → v ≡ Unexpected a → v ≡ Unexpected b → b ≡ a
 same_place a b v p q = let both : Unexpected a ≡ Unexpected b = sym p ∙ q in let same : a ≡ b = cc in sym same
 
-not_both : (v : Verdict) (place : ℕ) (found : Job) → v ≡ Unexpected place → v ≡ Found found → ⊥
+not_both : (v : Verdict Declarations) (place : ℕ) (found : Declarations) → v ≡ Unexpected place → v ≡ Found found → ⊥
 not_both v place found e f = let both : Unexpected place ≡ Found found = sym e ∙ f in cc
 
-end_place : (end place : ℕ) (job : Job) (o : Option Job) → ended end job o ≡ Unexpected place → place ≡ end
+end_place : (end place : ℕ) (job : Declarations) (o : Option Declarations) → ended end job o ≡ Unexpected place → place ≡ end
 end_place end place job None e = let same : end ≡ place = cc in sym same
 end_place end place job (Some one) e = cc
 
-at_end : (end place : ℕ) (job : Job) (now : Now) → run end job now [] ≡ Unexpected place → IsFirst end job now [] place
+at_end : (end place : ℕ) (job : Declarations) (now : Now) → run end job now [] ≡ Unexpected place → IsFirst end job now [] place
 unfolding run
 at_end end place job now e = record {
   front = [];
@@ -247,7 +271,8 @@ at_end end place job now e = record {
   cannot = λ found f. not_both (run end job now []) place found e f;
 }
 
-here_it_is : (end place : ℕ) (job : Job) (now : Now) (t : Token) (tokens : List Token) → place ≡ t.from → ((more : List Token) → run end job now (t ∷ more) ≡ Unexpected t.from) → IsFirst end job now (t ∷ tokens) place
+here_it_is : (end place : ℕ) (job : Declarations) (now : Now) (t : Token) (tokens : List Token) → place ≡ t.from
+    → ((more : List Token) → run end job now (t ∷ more) ≡ Unexpected t.from) → IsFirst end job now (t ∷ tokens) place
 here_it_is end place job now t tokens e all = record {
   front = [];
   rest = t ∷ tokens;
@@ -257,12 +282,14 @@ here_it_is end place job now t tokens e all = record {
   cannot = λ more found f. not_both (run end job now (t ∷ more)) t.from found (all more) f;
 }
 
-later_cannot : (end : ℕ) (job next : Job) (now other : Now) (t : Token) (front rest : List Token) → ((more : List Token) → run end job now (t ∷ more) ≡ run end next other more) → Cannot end next other front rest
+later_cannot : (end : ℕ) (job next : Declarations) (now other : Now) (t : Token) (front rest : List Token)
+    → ((more : List Token) → run end job now (t ∷ more) ≡ run end next other more) → Cannot end next other front rest
     → Cannot end job now (t ∷ front) rest
 later_cannot end job next now other t front [] leads h = λ found f. h found (sym (leads front) ∙ f)
 later_cannot end job next now other t front (u ∷ rest) leads h = λ more found f. h more found (sym (leads ((front ++ u ∷ []) ++ more)) ∙ f)
 
-later : (end place : ℕ) (job next : Job) (now other : Now) (t : Token) (tokens : List Token) → ((more : List Token) → run end job now (t ∷ more) ≡ run end next other more) → IsFirst end next other tokens place
+later : (end place : ℕ) (job next : Declarations) (now other : Now) (t : Token) (tokens : List Token)
+    → ((more : List Token) → run end job now (t ∷ more) ≡ run end next other more) → IsFirst end next other tokens place
     → IsFirst end job now (t ∷ tokens) place
 later end place job next now other t tokens leads h = record {
   front = t ∷ h.front;
@@ -274,36 +301,44 @@ later end place job next now other t tokens leads h = record {
 }
 
 -- all that a token may do
-unrolled : (end : ℕ) (job : Job) (now : Now) (t : Token) (tokens : List Token) → run end job now (t ∷ tokens) ≡ goes_on t job now (step now t) (λ next other. run end next other tokens)
+unrolled : (end : ℕ) (job : Declarations) (now : Now) (t : Token) (tokens : List Token)
+    → run end job now (t ∷ tokens) ≡ goes_on t job now (step now t) (λ next other. run end next other tokens)
 unfolding run
 unrolled end job now t tokens = refl
 
-goes_at : (end : ℕ) (job : Job) (now : Now) (t : Token) (n : Next) (tokens : List Token) → step now t ≡ n → run end job now (t ∷ tokens) ≡ goes_on t job now n (λ next other. run end next other tokens)
+goes_at : (end : ℕ) (job : Declarations) (now : Now) (t : Token) (n : Next) (tokens : List Token) → step now t ≡ n
+    → run end job now (t ∷ tokens) ≡ goes_on t job now n (λ next other. run end next other tokens)
 goes_at end job now t n tokens e = unrolled end job now t tokens ∙ ap (λ (x : Next). goes_on t job now x (λ next other. run end next other tokens)) e
 
-declares_at : (end : ℕ) (job : Job) (now : Now) (t : Token) (o : Option Job) (p : Option Now) (tokens : List Token) → step now t ≡ Refused → whole now ≡ o → opening (heading_of t.word) ≡ p
+declares_at : (end : ℕ) (job : Declarations) (now : Now) (t : Token) (o : Option Declarations) (p : Option Now) (tokens : List Token) → step now t ≡ Refused
+    → whole now ≡ o → opening (heading_of t.word) ≡ p
     → run end job now (t ∷ tokens) ≡ next_declaration t.from job o p (λ next other. run end next other tokens)
 declares_at end job now t o p tokens s e h = goes_at end job now t Refused tokens s ∙ (rw (e, h) refl)
 
-by_declaration : (end place : ℕ) (job : Job) (now : Now) (t : Token) (tokens : List Token) → run end job now (t ∷ tokens) ≡ Unexpected place
-    → ((next : Job) (other : Now) → run end next other tokens ≡ Unexpected place → IsFirst end next other tokens place)
-    → step now t ≡ Refused → (o : Option Job) → whole now ≡ o → (p : Option Now) → opening (heading_of t.word) ≡ p → IsFirst end job now (t ∷ tokens) place
+by_declaration : (end place : ℕ) (job : Declarations) (now : Now) (t : Token) (tokens : List Token) → run end job now (t ∷ tokens) ≡ Unexpected place
+    → ((next : Declarations) (other : Now) → run end next other tokens ≡ Unexpected place → IsFirst end next other tokens place)
+    → step now t ≡ Refused → (o : Option Declarations) → whole now ≡ o → (p : Option Now) → opening (heading_of t.word) ≡ p
+    → IsFirst end job now (t ∷ tokens) place
 by_declaration end place job now t tokens e ih s None a p b =
-    here_it_is end place job now t tokens (same_place t.from place (run end job now (t ∷ tokens)) (declares_at end job now t None p tokens s a b) e) (λ more. declares_at end job now t None p more s a b)
+    here_it_is end place job now t tokens (same_place t.from place (run end job now (t ∷ tokens)) (declares_at end job now t None p tokens s a b) e)
+    (λ more. declares_at end job now t None p more s a b)
 by_declaration end place job now t tokens e ih s (Some one) a None b =
-    here_it_is end place job now t tokens (same_place t.from place (run end job now (t ∷ tokens)) (declares_at end job now t (Some one) None tokens s a b) e) (λ more. declares_at end job now t (Some one) None more s a b)
+    here_it_is end place job now t tokens (same_place t.from place (run end job now (t ∷ tokens)) (declares_at end job now t (Some one) None tokens s a b) e)
+    (λ more. declares_at end job now t (Some one) None more s a b)
 by_declaration end place job now t tokens e ih s (Some one) a (Some other) b =
     later end place job (job ++ one) now other t tokens (λ more. declares_at end job now t (Some one) (Some other) more s a b)
     (ih (job ++ one) other (sym (declares_at end job now t (Some one) (Some other) tokens s a b) ∙ e))
 
-by_step : (end place : ℕ) (job : Job) (now : Now) (t : Token) (tokens : List Token) → run end job now (t ∷ tokens) ≡ Unexpected place
-    → ((next : Job) (other : Now) → run end next other tokens ≡ Unexpected place → IsFirst end next other tokens place)
+by_step : (end place : ℕ) (job : Declarations) (now : Now) (t : Token) (tokens : List Token) → run end job now (t ∷ tokens) ≡ Unexpected place
+    → ((next : Declarations) (other : Now) → run end next other tokens ≡ Unexpected place → IsFirst end next other tokens place)
     → (n : Next) → step now t ≡ n → IsFirst end job now (t ∷ tokens) place
 by_step end place job now t tokens e ih (Goes other) s =
-    later end place job job now other t tokens (λ more. goes_at end job now t (Goes other) more s) (ih job other (sym (goes_at end job now t (Goes other) tokens s) ∙ e))
+    later end place job job now other t tokens (λ more. goes_at end job now t (Goes other) more s)
+    (ih job other (sym (goes_at end job now t (Goes other) tokens s) ∙ e))
 by_step end place job now t tokens e ih Deep s = absurd (let both : TooDeep ≡ Unexpected place = sym (goes_at end job now t Deep tokens s) ∙ e in cc)
 by_step end place job now t tokens e ih Refused s = by_declaration end place job now t tokens e ih s (whole now) refl (opening (heading_of t.word)) refl
 
-pub first_of_all : (end place : ℕ) (tokens : List Token) (job : Job) (now : Now) → run end job now tokens ≡ Unexpected place → IsFirst end job now tokens place
+pub first_of_all : (end place : ℕ) (tokens : List Token) (job : Declarations) (now : Now) → run end job now tokens ≡ Unexpected place
+    → IsFirst end job now tokens place
 first_of_all end place [] job now e = at_end end place job now e
 first_of_all end place (t ∷ tokens) job now e = by_step end place job now t tokens e (first_of_all end place tokens) (step now t) refl

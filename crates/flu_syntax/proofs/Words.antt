@@ -1,9 +1,8 @@
 -- The names, texts and numbers of a job are tokens.
-use Rattle.std.proofs.Common.{ℕ, suc, List, [], ◌∷◌, Option, Some, None, refl, arith}
-use Rattle.std.specs.Prelude.{Contains}
+use Rattle.std.proofs.Common.{ℕ, List, [], ◌∷◌, ◌++◌, Option, Some, None}
 use Rattle.std.specs.List.{flat_map, AllByRecursion}
-use Rattle.flu_lemmas.proofs.Elements.{all_map}
-use Rattle.flu_text.specs.declared.words.Token.{Token}
+use Rattle.flu_lemmas.proofs.Containing.{contains_here, contains_later}
+use Rattle.flu_lemmas.proofs.Elements.{all_map, all_front, all_back, all_append}
 use Rattle.flu_text.specs.declared.words.Word.{Word}
 use Rattle.flu_text.specs.declared.words.Word.TheVariants as w
 use Rattle.flu_text.specs.declared.words.Mark.TheVariants as m
@@ -14,22 +13,18 @@ use Rattle.flu_syntax.specs.declared.tree.WrittenRef.{WrittenRef}
 use Rattle.flu_syntax.specs.declared.tree.WrittenKeys.{WrittenKeys}
 use Rattle.flu_syntax.specs.declared.tree.WrittenKeys.TheVariants as keys
 use Rattle.flu_syntax.specs.declared.tree.WrittenTag.{WrittenTag}
-use Rattle.flu_syntax.specs.Tree.{Tree, NumberTree, ValueTree, KeyTree, TimeTree, ReadTree, HasTree, ParenTree, NegTree, NotTree, TwoTree, Deed, Writes, Clears, Emits, Flushes, Action, Declaration, Cell, Tag, Depends, On, Source, Job}
-use Rattle.flu_syntax.specs.Grammar.{Sign, Any, AreSigns, separated, key_signs, cell_signs, spelled, deed_signs, guard_signs, action_signs, keys_signs, tag_signs, rate_signs, declaration_signs, job_signs}
-use Rattle.flu_syntax.specs.Words.{key_words, cell_words, tree_words, deed_words, guard_words, action_words, keys_words, tag_words, rate_words, declaration_words, job_words, Stands, WordsStand}
-use Rattle.flu_syntax.proofs.General.{all_front, all_back, all_append}
-
--- an element of the rest is one of all
-one_further : {X : Type 0} (x y : X) (xs : List X) → Contains xs y → Contains (x ∷ xs) y
-one_further x y xs here = (suc here.0, omega arith, here.2)
+use Rattle.flu_syntax.specs.Tree.{Tree, NumberTree, ValueTree, KeyTree, TimeTree, ReadTree, HasTree, ParenTree, NegTree, NotTree, TwoTree, Deed, Writes, Clears, Emits, Flushes, Action, Declaration, Cell, Tag, Depends, On, Source, Declarations, Job}
+use Rattle.flu_syntax.specs.Grammar.{Sign, Any, separated, key_signs, cell_signs, spelled, deed_signs, guard_signs, action_signs, keys_signs, tag_signs, rate_signs, slack_signs, version_signs, declaration_signs, declarations_signs, job_signs}
+use Rattle.flu_syntax.specs.Words.{key_words, cell_words, tree_words, deed_words, guard_words, action_words, keys_words, tag_words, number_words, declaration_words, job_words, Stands}
+use Rattle.flu_syntax.specs.Laws.{SignsStand, WordsStand}
 
 -- each sign stands for a token
-pub signs_stand : (signs : List Sign) (tokens : List Token) → AreSigns signs tokens → AllByRecursion (Stands tokens) signs
-signs_stand [] tokens are = tt
-signs_stand (s ∷ signs) [] are = absurd are
-signs_stand (s ∷ signs) (t ∷ tokens) are = (
-  (t, (0, omega arith, refl), are.0),
-  all_map (Stands tokens) (Stands (t ∷ tokens)) signs (λ s h. (h.0, one_further t h.0 tokens h.1, h.2)) (signs_stand signs tokens are.1),
+pub signs_stand : SignsStand
+signs_stand tokens [] are = tt
+signs_stand [] (s ∷ signs) are = absurd are
+signs_stand (t ∷ tokens) (s ∷ signs) are = (
+  (t, contains_here t tokens, are.0),
+  all_map (Stands tokens) (Stands (t ∷ tokens)) signs (λ s h. (h.0, contains_later t h.0 tokens h.1, h.2)) (signs_stand tokens signs are.1),
 )
 
 module _ (P : Sign → Type 0) where
@@ -71,7 +66,8 @@ module _ (P : Sign → Type 0) where
 
   deed_has : (at : ℕ) (d : Deed) → AllByRecursion P (deed_signs at d) → AllByRecursion P (deed_words d)
   deed_has at (Writes verb cell amount) all =
-      all_append P (cell_words cell) (tree_words amount) (cell_has cell (all_front P (cell_signs cell) (spelled amount) all.1)) (tree_has amount (all_back P (cell_signs cell) (spelled amount) all.1))
+      all_append P (cell_words cell) (tree_words amount) (cell_has cell (all_front P (cell_signs cell) (spelled amount) all.1))
+      (tree_has amount (all_back P (cell_signs cell) (spelled amount) all.1))
   deed_has at (Clears cell) all = cell_has cell all.1
   deed_has at (Emits template) all = all.1
   deed_has at (Flushes family template) all = all.1
@@ -94,23 +90,49 @@ module _ (P : Sign → Type 0) where
       of_keys (keys.One n) all = (all.1.0, tt)
       of_keys (keys.Range low high) all = (all.1.0, (all.1.1.1.0, tt))
 
-  rate_has : (rate : Option WrittenNumber) → AllByRecursion P (rate_signs rate) → AllByRecursion P (rate_words rate)
+  rate_has : (rate : Option WrittenNumber) → AllByRecursion P (rate_signs rate) → AllByRecursion P (number_words rate)
   rate_has None all = tt
   rate_has (Some n) all = all.1
+
+  slack_has : (slack : Option WrittenNumber) → AllByRecursion P (slack_signs slack) → AllByRecursion P (number_words slack)
+  slack_has None all = tt
+  slack_has (Some n) all = all.1
+
+  version_has : (version : Option WrittenNumber) → AllByRecursion P (version_signs version) → AllByRecursion P (number_words version)
+  version_has None all = tt
+  version_has (Some n) all = all.1
 
   declaration_has : (d : Declaration) → AllByRecursion P (declaration_signs d) → AllByRecursion P (declaration_words d)
   declaration_has (Cell n keyed sort) all = (all.1.0, tt)
   declaration_has (Tag n keyed has_value) all = (all.1.0, tt)
   declaration_has (Depends a b relation) all = (all.1.0, (all.1.1.0, tt))
   declaration_has (On kind actions) all = (all.1.0, separated_items (w.Mark m.Semicolon) action_signs action_words action_has actions all.1.1.1)
-  declaration_has (Source n file rate tags) all =
-      let behind : List Sign = Any (w.Mark m.Colon) ∷ separated (w.Mark m.Comma) tag_signs tags in
-      (all.1.0, (all.1.1.0, all_append P (rate_words rate) (flat_map tag_words tags) (rate_has rate (all_front P (rate_signs rate) behind all.1.1.1)) (separated_items (w.Mark m.Comma) tag_signs tag_words tag_has tags (all_back P (rate_signs rate) behind all.1.1.1).1)))
+  declaration_has (Source n file rate slack tags) all =
+      let extras = rate_signs rate ++ slack_signs slack in
+      let listed : List Sign = Any (w.Mark m.Colon) ∷ separated (w.Mark m.Comma) tag_signs tags in
+      let extra = all_front P extras listed all.1.1.1 in
+      let rate_stands = rate_has rate (all_front P (rate_signs rate) (slack_signs slack) extra) in
+      let slack_stands = slack_has slack (all_back P (rate_signs rate) (slack_signs slack) extra) in
+      let tags_stand = separated_items (w.Mark m.Comma) tag_signs tag_words tag_has tags (all_back P extras listed all.1.1.1).1 in (
+        all.1.0,
+        (
+          all.1.1.0,
+          all_append P (number_words rate ++ number_words slack) (flat_map tag_words tags)
+              (all_append P (number_words rate) (number_words slack) rate_stands slack_stands) tags_stand,
+        ),
+      )
+
+  declarations_have : (ds : Declarations) → AllByRecursion P (declarations_signs ds) → AllByRecursion P (flat_map declaration_words ds)
+  declarations_have [] all = tt
+  declarations_have (d ∷ ds) all =
+      all_append P (declaration_words d) (flat_map declaration_words ds) (declaration_has d (all_front P (declaration_signs d) (declarations_signs ds) all))
+      (declarations_have ds (all_back P (declaration_signs d) (declarations_signs ds) all))
 
   job_has : (job : Job) → AllByRecursion P (job_signs job) → AllByRecursion P (job_words job)
-  job_has [] all = tt
-  job_has (d ∷ job) all =
-      all_append P (declaration_words d) (job_words job) (declaration_has d (all_front P (declaration_signs d) (job_signs job) all)) (job_has job (all_back P (declaration_signs d) (job_signs job) all))
+  job_has job all =
+      all_append P (number_words job.version) (flat_map declaration_words job.declarations)
+      (version_has job.version (all_front P (version_signs job.version) (declarations_signs job.declarations) all))
+      (declarations_have job.declarations (all_back P (version_signs job.version) (declarations_signs job.declarations) all))
 
 pub words_stand : WordsStand
-words_stand tokens job is = job_has (Stands tokens) job (signs_stand (job_signs job) tokens is.spelled)
+words_stand tokens job is = job_has (Stands tokens) job (signs_stand tokens (job_signs job) is.spelled)

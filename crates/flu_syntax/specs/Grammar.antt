@@ -227,7 +227,8 @@ declaration_signs (Tag n keyed has_value) = Any (w.Reserved r.Tag) ∷ (name n +
 declaration_signs (Depends a b how) = Any (w.Reserved r.Depends) ∷ (name a ++ name b ++ relation_signs how)
 declaration_signs (On kind actions) = Any (w.Reserved r.On) ∷ (name kind ++ Any (w.Mark m.Colon) ∷ separated (w.Mark m.Semicolon) action_signs actions)
 declaration_signs (Source n file rate slack tags) =
-    Any (w.Reserved r.Source) ∷ (name n ++ text file ++ rate_signs rate ++ slack_signs slack ++ Any (w.Mark m.Colon) ∷ separated (w.Mark m.Comma) tag_signs tags)
+    Any (w.Reserved r.Source) ∷
+    (name n ++ text file ++ rate_signs rate ++ slack_signs slack ++ Any (w.Mark m.Colon) ∷ separated (w.Mark m.Comma) tag_signs tags)
 
 abbrev pub IsDeclaration : Declaration → Type 0
 IsDeclaration (Cell n keyed s) = Unit {0}

@@ -260,8 +260,10 @@ take_or context low high t frames (Some o) others =
 -- an expression that no operator takes is a part of what is open
 unfoldable pub done_step : Context → Tree → List Frame → Word → Next
 done_step context t [] word = behind_step context t word
-done_step context t (NegFrame level at ∷ frames) word = take_or context level 6 (NegTree at t) frames (operator_of word) (done_step context (NegTree at t) frames word)
-done_step context t (NotFrame level at ∷ frames) word = take_or context level 2 (NotTree at t) frames (operator_of word) (done_step context (NotTree at t) frames word)
+done_step context t (NegFrame level at ∷ frames) word =
+    take_or context level 6 (NegTree at t) frames (operator_of word) (done_step context (NegTree at t) frames word)
+done_step context t (NotFrame level at ∷ frames) word =
+    take_or context level 2 (NotTree at t) frames (operator_of word) (done_step context (NotTree at t) frames word)
 done_step context t (ParenFrame level at ∷ frames) word = if is_close word then atom context level frames (ParenTree at t) else Refused
 done_step context t (RightFrame level o left ∷ frames) word =
     take_or context level (level_behind (op_level o)) (TwoTree o left t) frames (operator_of word) (done_step context (TwoTree o left t) frames word)

@@ -61,12 +61,14 @@ Reads Where end tokens before after rest (Err fault) = (here : Where) → Tells 
 -- what stands in brackets behind a family, if anything
 abbrev pub ReadsKey : {X : Type 0} → ℕ → List Token → (X → WrittenKey) → (X → List Token) → Result X SyntaxFault → Type 0
 ReadsKey end tokens key rest result =
-    Reads (Declarations × Aim × WrittenSpan) end tokens (λ here. (here.0, CellKeys here.1 here.2)) (λ x here. (here.0, named here.1 (cell_of here.2 (key x)))) rest result
+    Reads (Declarations × Aim × WrittenSpan) end tokens (λ here. (here.0, CellKeys here.1 here.2))
+    (λ x here. (here.0, named here.1 (cell_of here.2 (key x)))) rest result
 
 -- the same, behind the opening bracket and before the closing one
 abbrev pub ReadsInside : {X : Type 0} → ℕ → List Token → (X → WrittenKey) → (X → List Token) → Result X SyntaxFault → Type 0
 ReadsInside end tokens key rest result =
-    Reads (Declarations × Aim × WrittenSpan) end tokens (λ here. (here.0, CellKey here.1 here.2)) (λ x here. (here.0, CellClose here.1 (cell_of here.2 (key x)))) rest result
+    Reads (Declarations × Aim × WrittenSpan) end tokens (λ here. (here.0, CellKey here.1 here.2))
+    (λ x here. (here.0, CellClose here.1 (cell_of here.2 (key x)))) rest result
 
 abbrev pub ReadsCell : {X : Type 0} → ℕ → List Token → (X → WrittenRef) → (X → List Token) → Result X SyntaxFault → Type 0
 ReadsCell end tokens cell rest result =
@@ -83,7 +85,8 @@ abbrev pub in_mode : {opened : ℕ} → Mode → Inside opened → Turn
 in_mode mode here = (here.before, InExpression here.context mode here.frames)
 
 abbrev pub ReadsExpression : {X : Type 0} → ℕ → ℕ → Mode → List Token → (X → Mode) → (X → List Token) → Result X SyntaxFault → Type 0
-ReadsExpression end opened mode tokens now rest result = Reads (Inside opened) end tokens (λ here. in_mode mode here) (λ x here. in_mode (now x) here) rest result
+ReadsExpression end opened mode tokens now rest result =
+    Reads (Inside opened) end tokens (λ here. in_mode mode here) (λ x here. in_mode (now x) here) rest result
 
 -- the end of a parenthesis
 abbrev pub Closes : {X : Type 0} → ℕ → List Token → (X → List Token) → Result X SyntaxFault → Type 0
@@ -91,12 +94,14 @@ Closes end tokens rest (Ok x) =
     (before : Declarations) (context : Context) (t : Tree) (level at : ℕ) (frames : List Frame)
     → run end before (InExpression context (Done t) (ParenFrame level at ∷ frames)) tokens ≡ run end before (InExpression context (Have level 6 (ParenTree at t)) frames) (rest x)
 Closes end tokens rest (Err fault) =
-    (before : Declarations) (context : Context) (t : Tree) (level at : ℕ) (frames : List Frame) → Tells fault (run end before (InExpression context (Done t) (ParenFrame level at ∷ frames)) tokens)
+    (before : Declarations) (context : Context) (t : Tree) (level at : ℕ) (frames : List Frame) → Tells fault
+    (run end before (InExpression context (Done t) (ParenFrame level at ∷ frames)) tokens)
 
 -- no operator of these levels stands here
 abbrev pub IsPassed : ℕ → ℕ → List Token → Type 0
 IsPassed low high tokens =
-    (end : ℕ) (before : Declarations) (context : Context) (t : Tree) (frames : List Frame) → run end before (InExpression context (Have low high t) frames) tokens ≡ run end before (InExpression context (Done t) frames) tokens
+    (end : ℕ) (before : Declarations) (context : Context) (t : Tree) (frames : List Frame) → run end before (InExpression context (Have low high t) frames)
+    tokens ≡ run end before (InExpression context (Done t) frames) tokens
 
 -- this one stands here
 abbrev pub IsTaken : ℕ → ℕ → List Token → Op → List Token → Type 0
@@ -107,11 +112,13 @@ IsTaken low high tokens o rest =
 -- what an action does; its first token stands at a place
 abbrev pub ReadsWriting : {X : Type 0} → ℕ → Verb → List Token → (X → Deed) → (X → List Token) → Result X SyntaxFault → Type 0
 ReadsWriting end verb tokens deed rest result =
-    Reads (Declarations × Actions × ℕ) end tokens (λ here. (here.0, CellFamily (ToWrite here.1 here.2 verb))) (λ x here. (here.0, DeedEnd here.1 here.2 (deed x))) rest result
+    Reads (Declarations × Actions × ℕ) end tokens (λ here. (here.0, CellFamily (ToWrite here.1 here.2 verb)))
+    (λ x here. (here.0, DeedEnd here.1 here.2 (deed x))) rest result
 
 abbrev pub ReadsDeed : {X : Type 0} → ℕ → List Token → (X → Deed) → (X → List Token) → Result X SyntaxFault → Type 0
 ReadsDeed end tokens deed rest result =
-    Reads (Declarations × Actions) end tokens (λ here. (here.0, ActionStart here.1)) (λ x here. (here.0, DeedEnd here.1 (place_of end tokens) (deed x))) rest result
+    Reads (Declarations × Actions) end tokens (λ here. (here.0, ActionStart here.1)) (λ x here. (here.0, DeedEnd here.1 (place_of end tokens) (deed x))) rest
+    result
 
 abbrev pub with_action : Actions → Action → Actions
 with_action so_far a = acted so_far a.at a.deed a.guard
@@ -123,7 +130,8 @@ ReadsAction end tokens action rest result =
 -- an expression behind `when`, if that stands here
 abbrev pub ReadsGuard : {X : Type 0} → ℕ → List Token → (X → Option Tree) → (X → List Token) → Result X SyntaxFault → Type 0
 ReadsGuard end tokens guard rest result =
-    Reads (Declarations × Actions × ℕ × Deed) end tokens (λ here. (here.0, DeedEnd here.1 here.2 here.3)) (λ x here. (here.0, ActionEnd (acted here.1 here.2 here.3 (guard x)))) rest result
+    Reads (Declarations × Actions × ℕ × Deed) end tokens (λ here. (here.0, DeedEnd here.1 here.2 here.3))
+    (λ x here. (here.0, ActionEnd (acted here.1 here.2 here.3 (guard x)))) rest result
 
 abbrev pub no_actions : WrittenSpan → Actions
 no_actions kind = record { kind = kind; all = [] }
@@ -131,17 +139,20 @@ no_actions kind = record { kind = kind; all = [] }
 -- actions to the end of their declaration
 abbrev pub ReadsActions : {X : Type 0} → ℕ → List Token → (X → List Action) → (X → List Token) → Result X SyntaxFault → Type 0
 ReadsActions end tokens actions rest result =
-    Reads (Declarations × WrittenSpan) end tokens (λ here. (here.0, ActionStart (no_actions here.1))) (λ x here. (here.0 ++ On here.1 (actions x) ∷ [], Start)) rest result
+    Reads (Declarations × WrittenSpan) end tokens (λ here. (here.0, ActionStart (no_actions here.1)))
+    (λ x here. (here.0 ++ On here.1 (actions x) ∷ [], Start)) rest result
 
 -- what stands in brackets behind a kind, if anything
 abbrev pub ReadsKeys : {X : Type 0} → ℕ → List Token → (X → WrittenKeys) → (X → List Token) → Result X SyntaxFault → Type 0
 ReadsKeys end tokens keys rest result =
-    Reads (Declarations × Tags × WrittenSpan) end tokens (λ here. (here.0, TagKeys here.1 here.2)) (λ x here. (here.0, TagEnd (listed here.1 (tag_of here.2 (keys x))))) rest result
+    Reads (Declarations × Tags × WrittenSpan) end tokens (λ here. (here.0, TagKeys here.1 here.2))
+    (λ x here. (here.0, TagEnd (listed here.1 (tag_of here.2 (keys x))))) rest result
 
 -- the same, behind the first number and before the closing bracket
 abbrev pub ReadsRange : {X : Type 0} → ℕ → WrittenNumber → List Token → (X → WrittenKeys) → (X → List Token) → Result X SyntaxFault → Type 0
 ReadsRange end low tokens keys rest result =
-    Reads (Declarations × Tags × WrittenSpan) end tokens (λ here. (here.0, TagMore here.1 here.2 low)) (λ x here. (here.0, TagClose here.1 here.2 (keys x))) rest result
+    Reads (Declarations × Tags × WrittenSpan) end tokens (λ here. (here.0, TagMore here.1 here.2 low)) (λ x here. (here.0, TagClose here.1 here.2 (keys x)))
+    rest result
 
 abbrev pub ReadsTag : {X : Type 0} → ℕ → List Token → (X → WrittenTag) → (X → List Token) → Result X SyntaxFault → Type 0
 ReadsTag end tokens tag rest result =
@@ -159,16 +170,17 @@ pub record Head : Type 0 where
 abbrev pub ReadsTags : {X : Type 0} → ℕ → List Token → (X → List WrittenTag) → (X → List Token) → Result X SyntaxFault → Type 0
 ReadsTags end tokens tags rest result =
     Reads Head end tokens (λ here. (here.before, TagKind (source_of here.name here.file here.rate here.slack)))
-        (λ x here. (here.before ++ Source here.name here.file here.rate here.slack (tags x) ∷ [], Start)) rest result
+    (λ x here. (here.before ++ Source here.name here.file here.rate here.slack (tags x) ∷ [], Start)) rest result
 
 abbrev pub ReadsRate : {X : Type 0} → ℕ → List Token → (X → Option WrittenNumber) → (X → List Token) → Result X SyntaxFault → Type 0
 ReadsRate end tokens rate rest result =
-    Reads (Declarations × WrittenSpan × WrittenSpan) end tokens (λ here. (here.0, SourceRate here.1 here.2)) (λ x here. (here.0, SourceSlack here.1 here.2 (rate x))) rest result
+    Reads (Declarations × WrittenSpan × WrittenSpan) end tokens (λ here. (here.0, SourceRate here.1 here.2))
+    (λ x here. (here.0, SourceSlack here.1 here.2 (rate x))) rest result
 
 abbrev pub ReadsSlack : {X : Type 0} → ℕ → List Token → (X → Option WrittenNumber) → (X → List Token) → Result X SyntaxFault → Type 0
 ReadsSlack end tokens slack rest result =
     Reads (Declarations × WrittenSpan × WrittenSpan × Option WrittenNumber) end tokens (λ here. (here.0, SourceSlack here.1 here.2 here.3))
-        (λ x here. (here.0, SourceColon here.1 here.2 here.3 (slack x))) rest result
+    (λ x here. (here.0, SourceColon here.1 here.2 here.3 (slack x))) rest result
 
 -- a declaration, from this turn to its end
 abbrev pub ReadsDeclaration : {X : Type 0} → ℕ → Now → List Token → (X → Declaration) → (X → List Token) → Result X SyntaxFault → Type 0
@@ -182,7 +194,8 @@ TakesKeyed tokens false rest = (rest ≡ tokens) × NotFirst (w.Reserved r.Keyed
 
 -- the relation of two kinds, to the end of their declaration
 abbrev pub ReadsRelation : List Token → WrittenRelation → List Token → Type 0
-ReadsRelation tokens how rest = (end : ℕ) (before : Declarations) (a b : WrittenSpan) → run end before (DependsHow a b) tokens ≡ run end (before ++ Depends a b how ∷ []) Start rest
+ReadsRelation tokens how rest =
+    (end : ℕ) (before : Declarations) (a b : WrittenSpan) → run end before (DependsHow a b) tokens ≡ run end (before ++ Depends a b how ∷ []) Start rest
 
 -- all declarations, to the end of the tokens
 abbrev pub ReadsDeclarations : {X : Type 0} → ℕ → List Token → (X → Declarations) → Result X SyntaxFault → Type 0

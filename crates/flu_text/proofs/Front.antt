@@ -83,7 +83,8 @@ quoted_bytes s (Punctuation mark spelled) e =
     let first : get_or (mark_spelling mark) 0 0 ≡ 34 = sym (first_of s (mark_spelling mark) spelled) ∙ e in
     absurd (let h : eqb 34 34 ≡ false = rw first at m.no_quote in cc)
 
-mark_bytes : (s : List ℕ) → IsLexeme s → is_name_start (get_or s 0 0) ≡ false → is_ascii_digit (get_or s 0 0) ≡ false → eqb (get_or s 0 0) 34 ≡ false → (mark : Mark) × (s ≡ mark_spelling mark)
+mark_bytes : (s : List ℕ) → IsLexeme s → is_name_start (get_or s 0 0) ≡ false → is_ascii_digit (get_or s 0 0) ≡ false → eqb (get_or s 0 0) 34 ≡ false
+    → (mark : Mark) × (s ≡ mark_spelling mark)
 mark_bytes s (Identifier starts bytes) a b c = absurd (apart (is_name_start (get_or s 0 0)) (start_passes s starts) a)
 mark_bytes s (Digits some digits) a b c = absurd (apart (is_ascii_digit (get_or s 0 0)) (first_passes is_ascii_digit s some digits) b)
 mark_bytes s (Quoted inside quoted bytes) a b c =
@@ -96,7 +97,8 @@ starts-take : (p : ℕ → Bool) (b : ℕ) (bytes : List ℕ) (n : ℕ) → p b 
 starts-take p b bytes zero e some = absurd (omega arith)
 starts-take p b bytes (suc n) e some = e
 
-spells_identifier : (s : List ℕ) (o : Option Reserved) → Starts is_name_start s → list_all is_name_byte s ≡ true → length s ≤ 32 → reserved_of s ≡ o → Spells (unwrap_or (option_map w.Reserved o) w.Name) s
+spells_identifier : (s : List ℕ) (o : Option Reserved) → Starts is_name_start s → list_all is_name_byte s ≡ true → length s ≤ 32 → reserved_of s ≡ o
+    → Spells (unwrap_or (option_map w.Reserved o) w.Name) s
 spells_identifier s None starts bytes short e = record {
   starts = starts;
   bytes = bytes;
@@ -105,7 +107,8 @@ spells_identifier s None starts bytes short e = record {
 }
 spells_identifier s (Some r) starts bytes short e = reserved_is s r e
 
-name_longest : (b : ℕ) (bytes : List ℕ) → is_name_start b ≡ true → (n : ℕ) → n ≤ length (b ∷ bytes) → IsLexeme (take n (b ∷ bytes)) → n ≤ prefix_len is_name_byte (b ∷ bytes)
+name_longest : (b : ℕ) (bytes : List ℕ) → is_name_start b ≡ true → (n : ℕ) → n ≤ length (b ∷ bytes) → IsLexeme (take n (b ∷ bytes))
+    → n ≤ prefix_len is_name_byte (b ∷ bytes)
 name_longest b bytes e zero le lexeme = omega arith
 name_longest b bytes e (suc n) le lexeme = prefix_len-take is_name_byte (b ∷ bytes) (suc n) (identifier_bytes (take (suc n) (b ∷ bytes)) lexeme e) le
 
@@ -128,13 +131,16 @@ name_front b bytes p first e =
           subst (IsFront xs) same record {
             some = some;
             within = within;
-            spelled = spells_identifier (take n xs) (reserved_of (take n xs)) (starts-take is_name_start b bytes n first some) (list_all-prefix_len is_name_byte xs) (omega (arith, length-take n xs)) refl;
+            spelled =
+                spells_identifier (take n xs) (reserved_of (take n xs)) (starts-take is_name_start b bytes n first some)
+                (list_all-prefix_len is_name_byte xs) (omega (arith, length-take n xs)) refl;
             longest = name_longest b bytes first;
           }
     ]
 
 -- numbers
-digits_longest : (b : ℕ) (bytes : List ℕ) → is_ascii_digit b ≡ true → (n : ℕ) → n ≤ length (b ∷ bytes) → IsLexeme (take n (b ∷ bytes)) → n ≤ prefix_len is_ascii_digit (b ∷ bytes)
+digits_longest : (b : ℕ) (bytes : List ℕ) → is_ascii_digit b ≡ true → (n : ℕ) → n ≤ length (b ∷ bytes) → IsLexeme (take n (b ∷ bytes))
+    → n ≤ prefix_len is_ascii_digit (b ∷ bytes)
 digits_longest b bytes e zero le lexeme = omega arith
 digits_longest b bytes e (suc n) le lexeme = prefix_len-take is_ascii_digit (b ∷ bytes) (suc n) (digit_bytes (take (suc n) (b ∷ bytes)) lexeme e) le
 
@@ -211,7 +217,8 @@ text_front bytes p e =
     ]
 
 -- marks
-mark_longest_of : (bytes : List ℕ) (mark other : Mark) (n : ℕ) → mark_of bytes ≡ Some mark → n ≤ length bytes → take n bytes ≡ mark_spelling other → n ≤ length (mark_spelling mark)
+mark_longest_of : (bytes : List ℕ) (mark other : Mark) (n : ℕ) → mark_of bytes ≡ Some mark → n ≤ length bytes → take n bytes ≡ mark_spelling other
+    → n ≤ length (mark_spelling mark)
 mark_longest_of bytes mark other n found le spelled =
     let lengths = ap length spelled in
     let len : n ≡ length (mark_spelling other) = omega (arith, length-take n bytes, lengths) in
@@ -233,7 +240,8 @@ mark_longest b bytes mark found a d q (suc n) le lexeme =
     let other = mark_bytes (take (suc n) (b ∷ bytes)) lexeme a d q in
     mark_longest_of (b ∷ bytes) mark other.0 (suc n) found le other.1
 
-mark_front : (b : ℕ) (bytes : List ℕ) (p : Word × ℕ) → is_name_start b ≡ false → is_ascii_digit b ≡ false → eqb b 34 ≡ false → mark_at (b ∷ bytes) ≡ Some p → IsFront (b ∷ bytes) p
+mark_front : (b : ℕ) (bytes : List ℕ) (p : Word × ℕ) → is_name_start b ≡ false → is_ascii_digit b ≡ false → eqb b 34 ≡ false → mark_at (b ∷ bytes) ≡ Some p
+    → IsFront (b ∷ bytes) p
 unfolding mark_at
 mark_front b bytes p a d q e =
     let xs = b ∷ bytes in
@@ -252,7 +260,8 @@ pub word_front : (bytes : List ℕ) (p : Word × ℕ) → word_at bytes ≡ Some
 unfolding word_at
 word_front [] p e = absurd cc
 word_front (b ∷ bytes) p e =
-    elim (chosen (is_name_start b) (name_at (b ∷ bytes)) (cond (is_ascii_digit b) (number_at (b ∷ bytes)) (cond (eqb b 34) (text_at bytes) (mark_at (b ∷ bytes)))) (Some p) e) [
+    elim (chosen (is_name_start b) (name_at (b ∷ bytes))
+    (cond (is_ascii_digit b) (number_at (b ∷ bytes)) (cond (eqb b 34) (text_at bytes) (mark_at (b ∷ bytes)))) (Some p) e) [
       | inl h ↦ name_front b bytes p h.0 h.1
       | inr h ↦ elim (chosen (is_ascii_digit b) (number_at (b ∷ bytes)) (cond (eqb b 34) (text_at bytes) (mark_at (b ∷ bytes))) (Some p) h.1) [
         | inl g ↦ number_front b bytes p g.0 g.1
@@ -284,7 +293,8 @@ number_longer s b digits e = Digits (not_nil (s ++ b ∷ []) (omega (arith, leng
 mark_longer : (mark : Mark) (b : ℕ) → makes_longer mark b ≡ true → IsLexeme (mark_spelling mark ++ b ∷ [])
 mark_longer mark b e = let longer = longer_mark mark b e in Punctuation longer.0 longer.1
 
-no_longer : (p : ℕ → Bool) (bytes : List ℕ) (n : ℕ) → ((k : ℕ) → k ≤ length bytes → IsLexeme (take k bytes) → k ≤ n) → ((b : ℕ) → p b ≡ true → IsLexeme (take n bytes ++ b ∷ [])) → NotFirst p (drop n bytes)
+no_longer : (p : ℕ → Bool) (bytes : List ℕ) (n : ℕ) → ((k : ℕ) → k ≤ length bytes → IsLexeme (take k bytes) → k ≤ n)
+    → ((b : ℕ) → p b ≡ true → IsLexeme (take n bytes ++ b ∷ [])) → NotFirst p (drop n bytes)
 no_longer p bytes n longest longer =
     not_first p (drop n bytes) (λ (b : ℕ) (rest : List ℕ) (e : drop n bytes ≡ b ∷ rest) (hit : p b ≡ true).
     let more = take_one_more bytes n b rest e in
@@ -292,16 +302,23 @@ no_longer p bytes n longest longer =
     let le = longest (n + 1) (omega (arith, more.0)) lexeme in
     absurd (omega (arith, le)))
 
-ends_here : (word : Word) (bytes : List ℕ) (n : ℕ) → Spells word (take n bytes) → ((k : ℕ) → k ≤ length bytes → IsLexeme (take k bytes) → k ≤ n) → Ends word (drop n bytes)
-ends_here w.Name bytes n is longest = no_longer is_name_byte bytes n longest (λ (b : ℕ) (e : is_name_byte b ≡ true). identifier_longer (take n bytes) b is.starts is.bytes e)
+ends_here : (word : Word) (bytes : List ℕ) (n : ℕ) → Spells word (take n bytes) → ((k : ℕ) → k ≤ length bytes → IsLexeme (take k bytes) → k ≤ n)
+    → Ends word (drop n bytes)
+ends_here w.Name bytes n is longest =
+    no_longer is_name_byte bytes n longest (λ (b : ℕ) (e : is_name_byte b ≡ true). identifier_longer (take n bytes) b is.starts is.bytes e)
 ends_here (w.Reserved r) bytes n is longest =
     no_longer is_name_byte bytes n longest (λ (b : ℕ) (e : is_name_byte b ≡ true).
-    subst (λ (s : List ℕ). IsLexeme (s ++ b ∷ [])) (sym is) (identifier_longer (reserved_spelling r) b (starts_from_first (reserved_spelling r) (reserved_starts r)) (reserved_bytes r) e))
-ends_here (w.Number v) bytes n is longest = no_longer is_ascii_digit bytes n longest (λ (b : ℕ) (e : is_ascii_digit b ≡ true). number_longer (take n bytes) b is.digits e)
+    subst (λ (s : List ℕ). IsLexeme (s ++ b ∷ [])) (sym is)
+    (identifier_longer (reserved_spelling r) b (starts_from_first (reserved_spelling r) (reserved_starts r)) (reserved_bytes r) e))
+ends_here (w.Number v) bytes n is longest =
+    no_longer is_ascii_digit bytes n longest (λ (b : ℕ) (e : is_ascii_digit b ≡ true). number_longer (take n bytes) b is.digits e)
 ends_here w.Text bytes n is longest = tt
 ends_here (w.Mark mark) bytes n is longest =
-    no_longer (makes_longer mark) bytes n longest (λ (b : ℕ) (e : makes_longer mark b ≡ true). subst (λ (s : List ℕ). IsLexeme (s ++ b ∷ [])) (sym is) (mark_longer mark b e))
+    no_longer (makes_longer mark) bytes n longest
+    (λ (b : ℕ) (e : makes_longer mark b ≡ true). subst (λ (s : List ℕ). IsLexeme (s ++ b ∷ [])) (sym is) (mark_longer mark b e))
 
-pub front_word : (bytes : List ℕ) (word : Word) (n : ℕ) → n ≤ length bytes → Spells word (take n bytes) → ((k : ℕ) → k ≤ length bytes → IsLexeme (take k bytes) → k ≤ n) → word_at bytes ≡ Some (word, n)
+pub front_word : (bytes : List ℕ) (word : Word) (n : ℕ) → n ≤ length bytes → Spells word (take n bytes)
+    → ((k : ℕ) → k ≤ length bytes → IsLexeme (take k bytes) → k ≤ n) → word_at bytes ≡ Some (word, n)
 front_word bytes word n within is longest =
-    ap word_at (sym (take-append-drop n bytes)) ∙ spelled_is_read word (take n bytes) (drop n bytes) is (ends_here word bytes n is longest) ∙ ap (λ (k : ℕ). Some (word, k)) (length-take-le n bytes within)
+    ap word_at (sym (take-append-drop n bytes)) ∙ spelled_is_read word (take n bytes) (drop n bytes) is (ends_here word bytes n is longest)
+    ∙ ap (λ (k : ℕ). Some (word, k)) (length-take-le n bytes within)

@@ -9,10 +9,12 @@ use Rattle.flu_text.specs.Grammar.{is_blank, IsInComment, IsBlankOrComment, IsGa
 use Rattle.flu_text.specs.Reading.{gap_len, next_place}
 use Rattle.flu_lemmas.proofs.Prefixes.{drop_none, drop_one_more}
 
-gap_len-drop : (in_comment : Bool) (bytes : List ℕ) (i : ℕ) → i < length bytes → gap_len in_comment (drop i bytes) ≡ gap_len in_comment (get_or bytes i 0 ∷ drop (i + 1) bytes)
+gap_len-drop : (in_comment : Bool) (bytes : List ℕ) (i : ℕ) → i < length bytes
+    → gap_len in_comment (drop i bytes) ≡ gap_len in_comment (get_or bytes i 0 ∷ drop (i + 1) bytes)
 gap_len-drop in_comment bytes i lt = rw (add-one, drop-cons bytes i 0)
 
-pub comment_goes_on : (bytes : List ℕ) (i : ℕ) → i < length bytes → gap_len true (drop i bytes) ≡ gap_len (not (eqb (get_or bytes i 0) 10)) (drop (i + 1) bytes) + 1
+pub comment_goes_on : (bytes : List ℕ) (i : ℕ) → i < length bytes
+    → gap_len true (drop i bytes) ≡ gap_len (not (eqb (get_or bytes i 0) 10)) (drop (i + 1) bytes) + 1
 unfolding gap_len
 comment_goes_on bytes i lt = gap_len-drop true bytes i lt
 
@@ -20,11 +22,13 @@ pub comment_opens : (bytes : List ℕ) (i : ℕ) → i < length bytes → get_or
 unfolding gap_len
 comment_opens bytes i lt e = gap_len-drop false bytes i lt ∙ rw e refl
 
-pub blank_goes_on : (bytes : List ℕ) (i : ℕ) → i < length bytes → eqb (get_or bytes i 0) 35 ≡ false → is_blank (get_or bytes i 0) ≡ true → gap_len false (drop i bytes) ≡ gap_len false (drop (i + 1) bytes) + 1
+pub blank_goes_on : (bytes : List ℕ) (i : ℕ) → i < length bytes → eqb (get_or bytes i 0) 35 ≡ false → is_blank (get_or bytes i 0) ≡ true
+    → gap_len false (drop i bytes) ≡ gap_len false (drop (i + 1) bytes) + 1
 unfolding gap_len
 blank_goes_on bytes i lt e blank = gap_len-drop false bytes i lt ∙ rw (e, blank) refl
 
-pub gap_ends : (bytes : List ℕ) (i : ℕ) → i < length bytes → eqb (get_or bytes i 0) 35 ≡ false → is_blank (get_or bytes i 0) ≡ false → gap_len false (drop i bytes) ≡ 0
+pub gap_ends : (bytes : List ℕ) (i : ℕ) → i < length bytes → eqb (get_or bytes i 0) 35 ≡ false → is_blank (get_or bytes i 0) ≡ false
+    → gap_len false (drop i bytes) ≡ 0
 unfolding gap_len
 gap_ends bytes i lt e blank = gap_len-drop false bytes i lt ∙ rw (e, blank) refl
 
@@ -104,7 +108,8 @@ record IsSoFar (text : List ℕ) (from place : ℕ) (in_comment : Bool) : Type 0
   is_open : in_comment ≡ true → IsOpen text from place
   is_shut : in_comment ≡ false → IsOpen text from place → ⊥
 
-so_far_more : (text : List ℕ) (from place : ℕ) (in_comment next : Bool) → IsSoFar text from place in_comment → place < length text → IsBlankOrComment text from place
+so_far_more : (text : List ℕ) (from place : ℕ) (in_comment next : Bool) → IsSoFar text from place in_comment → place < length text
+    → IsBlankOrComment text from place
     → (next ≡ true → IsOpen text from (place + 1)) → (next ≡ false → IsOpen text from (place + 1) → ⊥) → IsSoFar text from (place + 1) next
 so_far_more text from place in_comment next so_far lt here opens shuts = record {
   rises = omega (arith, so_far.rises);
@@ -124,13 +129,15 @@ shut : (b : ℕ) → not (eqb b 10) ≡ false → b ≡ 10
 shut b e = grind (arith, nat_tests)
 
 -- a byte of a comment
-in_comment_more : (text : List ℕ) (from place b : ℕ) → IsSoFar text from place true → place < length text → get_or text place 0 ≡ b → IsSoFar text from (place + 1) (not (eqb b 10))
+in_comment_more : (text : List ℕ) (from place b : ℕ) → IsSoFar text from place true → place < length text → get_or text place 0 ≡ b
+    → IsSoFar text from (place + 1) (not (eqb b 10))
 in_comment_more text from place b so_far lt read =
     elim (cases_Bool (not (eqb b 10))) [
       | inl going ↦
           let other : get_or text place 0 ≢ 10 = rw read (not_shut b going) in
           let here = comment_more text from place (so_far.is_open refl) other in
-          so_far_more text from place true (not (eqb b 10)) so_far lt (inr here) (λ e. open_more text from place here) (λ e. absurd (let h : true ≡ false = sym going ∙ e in cc))
+          so_far_more text from place true (not (eqb b 10)) so_far lt (inr here) (λ e. open_more text from place here)
+          (λ e. absurd (let h : true ≡ false = sym going ∙ e in cc))
       | inr ended ↦
           let lf : get_or text place 0 ≡ 10 = read ∙ shut b ended in
           let blank : is_blank (get_or text place 0) ≡ true = rw lf refl in
@@ -139,18 +146,22 @@ in_comment_more text from place b so_far lt read =
     ]
 
 -- a `#` outside a comment
-opening_more : (text : List ℕ) (from place : ℕ) → IsSoFar text from place false → place < length text → get_or text place 0 ≡ 35 → IsSoFar text from (place + 1) true
+opening_more : (text : List ℕ) (from place : ℕ) → IsSoFar text from place false → place < length text → get_or text place 0 ≡ 35
+    → IsSoFar text from (place + 1) true
 opening_more text from place so_far lt e =
     let here = comment_here text from place so_far.rises e in
     so_far_more text from place false true so_far lt (inr here) (λ _. open_more text from place here) (λ e. absurd cc)
 
 -- a blank outside a comment
-blank_more : (text : List ℕ) (from place : ℕ) → IsSoFar text from place false → place < length text → is_blank (get_or text place 0) ≡ true → get_or text place 0 ≢ 35 → IsSoFar text from (place + 1) false
+blank_more : (text : List ℕ) (from place : ℕ) → IsSoFar text from place false → place < length text → is_blank (get_or text place 0) ≡ true
+    → get_or text place 0 ≢ 35 → IsSoFar text from (place + 1) false
 blank_more text from place so_far lt blank other =
-    so_far_more text from place false false so_far lt (inl blank) (λ e. absurd cc) (λ e open'. so_far.is_shut refl (open_before text from place (open_less text from place open') other))
+    so_far_more text from place false false so_far lt (inl blank) (λ e. absurd cc)
+    (λ e open'. so_far.is_shut refl (open_before text from place (open_less text from place open') other))
 
 -- another byte outside a comment
-gap_here : (text : List ℕ) (from place : ℕ) → IsSoFar text from place false → is_blank (get_or text place 0) ≡ false → get_or text place 0 ≢ 35 → IsGap text from place
+gap_here : (text : List ℕ) (from place : ℕ) → IsSoFar text from place false → is_blank (get_or text place 0) ≡ false → get_or text place 0 ≢ 35
+    → IsGap text from place
 gap_here text from place so_far other_than_blank other = record {
   rises = so_far.rises;
   within = so_far.within;
@@ -176,7 +187,8 @@ is_number_sign b e = grind (arith, nat_tests)
 not_number_sign : (b : ℕ) → eqb b 35 ≡ false → b ≢ 35
 not_number_sign b e = λ same. absurd (let h : eqb 35 35 ≡ false = rw same at e in cc)
 
-gap_from : (text : List ℕ) (from : ℕ) (rest : List ℕ) (place : ℕ) (in_comment : Bool) → drop place text ≡ rest → IsSoFar text from place in_comment → IsGap text from (place + gap_len in_comment rest)
+gap_from : (text : List ℕ) (from : ℕ) (rest : List ℕ) (place : ℕ) (in_comment : Bool) → drop place text ≡ rest → IsSoFar text from place in_comment
+    → IsGap text from (place + gap_len in_comment rest)
 unfolding gap_len
 gap_from text from [] place true e so_far = rw add-zero (gap_to_end text from place true so_far (drop_none text place e))
 gap_from text from [] place false e so_far = rw add-zero (gap_to_end text from place false so_far (drop_none text place e))

@@ -48,7 +48,9 @@ plain_identifier (b ∷ s) rest starts = plain_name b starts
 
 plain_word : (word : Word) (s rest : List ℕ) → Spells word s → IsPlain (s ++ rest)
 plain_word w.Name s rest is = plain_identifier s rest is.starts
-plain_word (w.Reserved word) s rest is = subst (λ (x : List ℕ). IsPlain (x ++ rest)) (sym is) (plain_identifier (reserved_spelling word) rest (starts_from_first (reserved_spelling word) (reserved_starts word)))
+plain_word (w.Reserved word) s rest is =
+    subst (λ (x : List ℕ). IsPlain (x ++ rest)) (sym is)
+    (plain_identifier (reserved_spelling word) rest (starts_from_first (reserved_spelling word) (reserved_starts word)))
 plain_word (w.Number n) s rest is = plain_number s rest is.some is.digits
 plain_word w.Text s rest is = subst (λ (x : List ℕ). IsPlain (x ++ rest)) (sym is.quoted) (refl, refl)
 plain_word (w.Mark mark) s rest is =
@@ -75,12 +77,14 @@ gap_of (b ∷ gap) rest all h = elim (cases_Bool (is_blank b)) [
   | inr miss ↦ absurd (let e : false ≡ true = rw miss at all in cc)
 ]
 
-token_here : (text : List ℕ) (place : ℕ) (word : Word) (n : ℕ) → word_at (drop place text) ≡ Some (word, n) → token_at text place ≡ Some (record { word = word; from = place; to = place + n })
+token_here : (text : List ℕ) (place : ℕ) (word : Word) (n : ℕ) → word_at (drop place text) ≡ Some (word, n)
+    → token_at text place ≡ Some (record { word = word; from = place; to = place + n })
 unfolding token_at
 token_here text place word n e = rw e refl
 
 -- the pieces from one on, with the blanks that stand before it
-reads : (ps : List Piece) (front text : List ℕ) (from place : ℕ) → IsLaid ps → text ≡ front ++ layout ps → place ≡ length front → IsGap text from place → LeadsTo text from (tokens_of place ps) (length text)
+reads : (ps : List Piece) (front text : List ℕ) (from place : ℕ) → IsLaid ps → text ≡ front ++ layout ps → place ≡ length front → IsGap text from place
+    → LeadsTo text from (tokens_of place ps) (length text)
 reads [] front text from place laid e is_at gap =
     let is_end : place ≡ length text = is_at ∙ ap length (sym (e ∙ append-nil front)) in
     subst (IsGap text from) is_end gap
@@ -94,10 +98,12 @@ reads (p ∷ ps) front text from place laid e is_at gap =
     let e2 : text ≡ (front ++ p.spelling) ++ behind = e ∙ sym (append_assoc front p.spelling behind) in
     let ends : length (front ++ p.spelling) ≡ to = rw (length-append, is_at) refl in
     let after : drop to text ≡ behind = ap (drop to) e2 ∙ drop_at (front ++ p.spelling) behind to ends in
-    let next : next_place text to ≡ to + length p.gap = ap (λ (n : ℕ). to + n) (ap (gap_len false) after ∙ gap_of p.gap (layout ps) laid.1 (plain_layout ps laid.3)) in
+    let next : next_place text to ≡ to + length p.gap = ap (λ (n : ℕ). to + n) (ap (gap_len false) after
+    ∙ gap_of p.gap (layout ps) laid.1 (plain_layout ps laid.3)) in
     let gap_behind : IsGap text to (to + length p.gap) = subst (IsGap text to) next (gap_is text to token.0.within) in
     let e3 : text ≡ ((front ++ p.spelling) ++ p.gap) ++ layout ps = e2 ∙ sym (append_assoc (front ++ p.spelling) p.gap (layout ps)) in
-    let at3 : to + length p.gap ≡ length ((front ++ p.spelling) ++ p.gap) = ap (λ (n : ℕ). n + length p.gap) (sym ends) ∙ sym (length-append (front ++ p.spelling) p.gap) in
+    let at3 : to + length p.gap ≡ length ((front ++ p.spelling) ++ p.gap) = ap (λ (n : ℕ). n + length p.gap) (sym ends)
+    ∙ sym (length-append (front ++ p.spelling) p.gap) in
     (gap, token.0, reads ps ((front ++ p.spelling) ++ p.gap) text to (to + length p.gap) laid.3 e3 at3 gap_behind)
 
 no_gap_first : (ps : List Piece) → IsLaid ps → IsGap (layout ps) 0 0
@@ -109,7 +115,8 @@ pub layout_is_read : LayoutIsRead
 layout_is_read ps laid = tokens_read (layout ps) (tokens_of 0 ps) (reads ps [] (layout ps) 0 0 laid refl refl (no_gap_first ps laid))
 
 -- the bytes of the tokens of pieces that stand behind a front
-spelled_behind : (ps : List Piece) (front text : List ℕ) (place : ℕ) → text ≡ front ++ layout ps → place ≡ length front → map (bytes_of text) (tokens_of place ps) ≡ map (λ (p : Piece). p.spelling) ps
+spelled_behind : (ps : List Piece) (front text : List ℕ) (place : ℕ) → text ≡ front ++ layout ps → place ≡ length front
+    → map (bytes_of text) (tokens_of place ps) ≡ map (λ (p : Piece). p.spelling) ps
 spelled_behind [] front text place e is_at = refl
 spelled_behind (p ∷ ps) front text place e is_at =
     let behind = p.gap ++ layout ps in

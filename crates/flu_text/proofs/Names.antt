@@ -1,5 +1,5 @@
 -- The names of the lexical grammar are those that pass the test of a name.
-use Rattle.std.proofs.Common.{◌≡◌, ◌≢◌, ◌↔◌, ℕ, ◌≤◌, Bool, true, false, ◌&&◌, ◌||◌, leb, List, [], ◌∷◌, length, Some, refl, sym, ap, ◌∙◌, subst}
+use Rattle.std.proofs.Common.{◌≡◌, ◌≢◌, ℕ, true, false, ◌&&◌, ◌||◌, List, [], ◌∷◌, length, refl, sym, ap, ◌∙◌}
 use Rattle.std.specs.Prelude.{not, nat_le}
 use Rattle.std.specs.List.{list_all, list_any}
 use Rattle.std.specs.Str.{bytes_eq}
@@ -19,7 +19,8 @@ none_of : (s : List ℕ) (words : List Reserved) → ((word : Reserved) → s �
     → list_any (λ word. bytes_eq (reserved_spelling word) s) words ≡ true → ⊥
 none_of s [] free e = absurd cc
 none_of s (word ∷ words) free e =
-    elim (bytes_eq (reserved_spelling word) s) as (λ b. bytes_eq (reserved_spelling word) s ≡ b → (b || list_any (λ word. bytes_eq (reserved_spelling word) s) words) ≡ true → ⊥) [
+    elim (bytes_eq (reserved_spelling word) s) as
+    (λ b. bytes_eq (reserved_spelling word) s ≡ b → (b || list_any (λ word. bytes_eq (reserved_spelling word) s) words) ≡ true → ⊥) [
       | true ↦ λ here e. free word (sym ((bytes_eq-Decides (reserved_spelling word) s).0 here))
       | false ↦ λ here e. none_of s words free e
     ] refl e
@@ -59,8 +60,8 @@ is_name_of s n =
     let short = nat_le (length s) 32 in
     let free = not (is_reserved s) in
     both (first && all && short) free
-        (both (first && all) short (both first all (begins s n.starts) n.bytes) (le_true (length s) 32 n.short))
-        (ap not (not_reserved s n.free))
+    (both (first && all) short (both first all (begins s n.starts) n.bytes) (le_true (length s) 32 n.short))
+    (ap not (not_reserved s n.free))
 
 pub names_are_tested : NamesAreTested
 names_are_tested s = (name_is s, is_name_of s)

@@ -34,7 +34,8 @@ token_rises text t is =
     let some = spelled_some t.word (take (t.to - t.from) (drop t.from text)) is.spelled in
     omega (arith, some, length-take (t.to - t.from) (drop t.from text))
 
-token_of_front : (text : List ℕ) (place : ℕ) (word : Word) (n : ℕ) → place ≤ length text → IsFront (drop place text) (word, n) → IsToken text (record { word = word; from = place; to = place + n })
+token_of_front : (text : List ℕ) (place : ℕ) (word : Word) (n : ℕ) → place ≤ length text → IsFront (drop place text) (word, n)
+    → IsToken text (record { word = word; from = place; to = place + n })
 token_of_front text place word n le front =
     let len : place + n - place ≡ n = omega arith in
     record {
@@ -60,7 +61,8 @@ token_found text t is =
     let rises = token_rises text t is in
     let bytes = drop t.from text in
     let read : word_at bytes ≡ Some (t.word, t.to - t.from) =
-    front_word bytes t.word (t.to - t.from) (omega (arith, is.within, length-drop t.from text)) is.spelled (λ (k : ℕ) (le : k ≤ length bytes) (lexeme : IsLexeme (take k bytes)).
+    front_word bytes t.word (t.to - t.from) (omega (arith, is.within, length-drop t.from text)) is.spelled
+    (λ (k : ℕ) (le : k ≤ length bytes) (lexeme : IsLexeme (take k bytes)).
     let same : t.from + k - t.from ≡ k = omega arith in
     let longest = is.longest (t.from + k) (omega (arith, is.within, length-drop t.from text)) (subst (λ (n : ℕ). IsLexeme (take n bytes)) (sym same) lexeme) in
     omega (arith, longest)) in

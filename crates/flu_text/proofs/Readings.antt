@@ -14,7 +14,8 @@ use Rattle.flu_text.proofs.Gaps.{gap_is, gap_one, gap_at_text_end}
 use Rattle.flu_text.proofs.Places.{token_is, token_found, token_rises}
 
 -- one token more
-pub LeadsTo-more : (text : List ℕ) (from : ℕ) (front : List Token) (t : Token) (to : ℕ) → LeadsTo text from front t.from → IsToken text t → IsGap text t.to to → LeadsTo text from (front ++ t ∷ []) to
+pub LeadsTo-more : (text : List ℕ) (from : ℕ) (front : List Token) (t : Token) (to : ℕ) → LeadsTo text from front t.from → IsToken text t
+    → IsGap text t.to to → LeadsTo text from (front ++ t ∷ []) to
 LeadsTo-more text from [] t to gap is next = (gap, is, next)
 LeadsTo-more text from (s ∷ front) t to leads is next = (leads.0, leads.1, LeadsTo-more text s.to front t to leads.2 is next)
 
@@ -33,7 +34,8 @@ abbrev Holds : List ℕ → ℕ → Reading → Type 0
 Holds text from (Ok ts) = LeadsTo text from ts (length text)
 Holds text from (Err place) = IsBadFrom text from place
 
-prepend_holds : (text : List ℕ) (from : ℕ) (t : Token) (r : Reading) → IsGap text from t.from → IsToken text t → Holds text t.to r → Holds text from (prepend t r)
+prepend_holds : (text : List ℕ) (from : ℕ) (t : Token) (r : Reading) → IsGap text from t.from → IsToken text t → Holds text t.to r
+    → Holds text from (prepend t r)
 prepend_holds text from t (Ok ts) gap is holds = (gap, is, holds)
 prepend_holds text from t (Err place) gap is holds = record {
   front = t ∷ holds.front;
@@ -48,7 +50,8 @@ none_here text place e = λ t from is.
     let n : None ≡ Some t = sym e ∙ found in
     cc
 
-continued_holds : (text : List ℕ) (from place : ℕ) (o : Option Token) (more : Token → Reading) → token_at text place ≡ o → IsGap text from place → place < length text
+continued_holds : (text : List ℕ) (from place : ℕ) (o : Option Token) (more : Token → Reading) → token_at text place ≡ o → IsGap text from place
+    → place < length text
     → ((t : Token) → IsToken text t → t.from ≡ place → Holds text t.to (more t)) → Holds text from (continued place o more)
 continued_holds text from place None more e gap lt rest = record {
   front = [];
@@ -73,7 +76,8 @@ holds_from (suc most) text from le enough =
       | inl ended ↦ let is : next ≡ length text = grind (arith, nat_tests) in rw ended (subst (IsGap text from) is gap)
       | inr goes_on ↦
           let lt : next < length text = not_equal next (length text) goes_on gap.within in
-          rw goes_on (continued_holds text from next (token_at text next) (λ (t : Token). reading_from most text t.to) refl gap lt (λ (t : Token) (is : IsToken text t) (at : t.from ≡ next).
+          rw goes_on (continued_holds text from next (token_at text next) (λ (t : Token). reading_from most text t.to) refl gap lt
+          (λ (t : Token) (is : IsToken text t) (at : t.from ≡ next).
           let rises = token_rises text t is in
           holds_from most text t.to is.within (omega (arith, gap.rises))))
     ]
@@ -92,7 +96,8 @@ reads_end (suc most) text from gap =
     let next : next_place text from ≡ length text = gap_one text from (next_place text from) (length text) (gap_is text from gap.rises) gap in
     rw (equal_test (next_place text from) (length text) next) refl
 
-reads_token : (most : ℕ) (text : List ℕ) (from : ℕ) (t : Token) → IsGap text from t.from → IsToken text t → reading_from (suc most) text from ≡ prepend t (reading_from most text t.to)
+reads_token : (most : ℕ) (text : List ℕ) (from : ℕ) (t : Token) → IsGap text from t.from → IsToken text t
+    → reading_from (suc most) text from ≡ prepend t (reading_from most text t.to)
 unfolding reading_from
 reads_token most text from t gap is =
     let rises = token_rises text t is in
@@ -103,20 +108,23 @@ none_at : (text : List ℕ) (place : ℕ) (o : Option Token) → place ≤ lengt
 none_at text place None le none e = refl
 none_at text place (Some t) le none e = let is = token_is text place t le e in absurd (none t is.1 is.0)
 
-reads_bad : (most : ℕ) (text : List ℕ) (from place : ℕ) → IsGap text from place → place < length text → NoneBegins text place → reading_from (suc most) text from ≡ Err place
+reads_bad : (most : ℕ) (text : List ℕ) (from place : ℕ) → IsGap text from place → place < length text → NoneBegins text place
+    → reading_from (suc most) text from ≡ Err place
 unfolding reading_from
 reads_bad most text from place gap lt none =
     let next : next_place text from ≡ place = gap_one text from (next_place text from) place (gap_is text from (omega (arith, gap.rises))) gap in
     rw (next, unequal_test place (length text) lt, none_at text place (token_at text place) (omega arith) none refl) refl
 
-leads_ok : (ts : List Token) (most : ℕ) (text : List ℕ) (from : ℕ) → length text ≤ from + most → LeadsTo text from ts (length text) → reading_from most text from ≡ Ok ts
+leads_ok : (ts : List Token) (most : ℕ) (text : List ℕ) (from : ℕ) → length text ≤ from + most → LeadsTo text from ts (length text)
+    → reading_from most text from ≡ Ok ts
 leads_ok [] most text from enough leads = reads_end most text from leads
 leads_ok (t ∷ ts) zero text from enough leads = absurd (omega (arith, leads.0.rises, token_rises text t leads.1, leads.1.within))
 leads_ok (t ∷ ts) (suc most) text from enough leads =
     let rises = token_rises text t leads.1 in
     reads_token most text from t leads.0 leads.1 ∙ ap (prepend t) (leads_ok ts most text t.to (omega (arith, leads.0.rises)) leads.2)
 
-leads_err : (ts : List Token) (most : ℕ) (text : List ℕ) (from place : ℕ) → length text ≤ from + most → LeadsTo text from ts place → place < length text → NoneBegins text place → reading_from most text from ≡ Err place
+leads_err : (ts : List Token) (most : ℕ) (text : List ℕ) (from place : ℕ) → length text ≤ from + most → LeadsTo text from ts place → place < length text
+    → NoneBegins text place → reading_from most text from ≡ Err place
 leads_err [] zero text from place enough leads lt none = absurd (omega (arith, leads.rises))
 leads_err [] (suc most) text from place enough leads lt none = reads_bad most text from place leads lt none
 leads_err (t ∷ ts) zero text from place enough leads lt none = absurd (omega (arith, leads.0.rises, token_rises text t leads.1, leads.1.within))
@@ -170,13 +178,17 @@ pub tokens_or_bad_place : TokensOrBadPlace
 tokens_or_bad_place text ts place p q = ok_or_err (reading text) ts place (tokens_read text ts p) (bad_place_read text place q)
 
 -- what an answer says that gives the reading
-pub whole_exactly : (text : List ℕ) (r : Result (Vec Token Global) TextFault) → Gives (reading text) r → r ≢ Err f.NoMemory → (IsOk r ↔ ((found : List Token) × AreTokens text found))
+pub whole_exactly : (text : List ℕ) (r : Result (Vec Token Global) TextFault) → Gives (reading text) r → r ≢ Err f.NoMemory
+    → (IsOk r ↔ ((found : List Token) × AreTokens text found))
 whole_exactly text (Ok found) gives memory = (λ _. (found.items, read_tokens text found.items gives), λ _. refl)
-whole_exactly text (Err (f.BadToken place)) gives memory = (λ ok. absurd cc, λ are. absurd (ok_or_err (reading text) are.0 place (tokens_read text are.0 are.1) gives))
+whole_exactly text (Err (f.BadToken place)) gives memory =
+    (λ ok. absurd cc, λ are. absurd (ok_or_err (reading text) are.0 place (tokens_read text are.0 are.1) gives))
 whole_exactly text (Err f.NoMemory) gives memory = absurd (memory refl)
 
-pub bad_token_exactly : (text : List ℕ) (r : Result (Vec Token Global) TextFault) → Gives (reading text) r → r ≢ Err f.NoMemory → (place : ℕ) → (r ≡ Err (f.BadToken place)) ↔ IsFirstBadPlace text place
-bad_token_exactly text (Ok found) gives memory place = (λ e. absurd cc, λ is. absurd (ok_or_err (reading text) found.items place gives (bad_place_read text place is)))
+pub bad_token_exactly : (text : List ℕ) (r : Result (Vec Token Global) TextFault) → Gives (reading text) r → r ≢ Err f.NoMemory → (place : ℕ)
+    → (r ≡ Err (f.BadToken place)) ↔ IsFirstBadPlace text place
+bad_token_exactly text (Ok found) gives memory place =
+    (λ e. absurd cc, λ is. absurd (ok_or_err (reading text) found.items place gives (bad_place_read text place is)))
 bad_token_exactly text (Err (f.BadToken other)) gives memory place = (
   λ e. let same : other ≡ place = cc in read_bad_place text place (rw (← same) gives),
   λ is. ap (λ (k : ℕ). Err (f.BadToken k)) (err_same (reading text) other place gives (bad_place_read text place is)),
@@ -195,7 +207,8 @@ leads_more text found place t leads le e =
     let is = token_is text place t le e in
     LeadsTo-more text 0 found t (next_place text t.to) (rw is.1 leads) is.0 (gap_is text t.to is.0.within)
 
-pub leads_to_bad : (text : List ℕ) (found : List Token) (place : ℕ) → LeadsTo text 0 found place → place < length text → token_at text place ≡ None → IsFirstBadPlace text place
+pub leads_to_bad : (text : List ℕ) (found : List Token) (place : ℕ) → LeadsTo text 0 found place → place < length text → token_at text place ≡ None
+    → IsFirstBadPlace text place
 leads_to_bad text found place leads lt e = record { front = found; reached = leads; within = lt; none_begins = none_here text place e }
 
 pub leads_to_end : (text : List ℕ) (found : List Token) (place : ℕ) → LeadsTo text 0 found place → place ≡ length text → AreTokens text found

@@ -50,15 +50,18 @@ quoted_ends s inside e =
     let first : get_or s 0 0 ≡ 34 = ap (λ (x : List ℕ). get_or x 0 0) e in
     record { first = omega (arith, first); last = omega (arith, last) }
 
-mark_ends_test : (mark : Mark) → (nat_lt (get_or (mark_spelling mark) 0 0) 128 && nat_lt (get_or (mark_spelling mark) (length (mark_spelling mark) - 1) 0) 128) ≡ true
-mark_ends_test mark = each_mark (λ (m : Mark). nat_lt (get_or (mark_spelling m) 0 0) 128 && nat_lt (get_or (mark_spelling m) (length (mark_spelling m) - 1) 0) 128) mark refl
+mark_ends_test : (mark : Mark)
+    → (nat_lt (get_or (mark_spelling mark) 0 0) 128 && nat_lt (get_or (mark_spelling mark) (length (mark_spelling mark) - 1) 0) 128) ≡ true
+mark_ends_test mark =
+    each_mark (λ (m : Mark). nat_lt (get_or (mark_spelling m) 0 0) 128 && nat_lt (get_or (mark_spelling m) (length (mark_spelling m) - 1) 0) 128) mark refl
 
 mark_ends : (mark : Mark) → EndsInAscii (mark_spelling mark)
 mark_ends mark = let test = mark_ends_test mark in record { first = grind (arith, nat_tests); last = grind (arith, nat_tests) }
 
 spelled_ends : (word : Word) (s : List ℕ) → Spells word s → EndsInAscii s
 spelled_ends w.Name s is = run_ends is_name_byte s name_byte_ascii is.bytes (spelled_some w.Name s is)
-spelled_ends (w.Reserved r) s is = rw is (run_ends is_name_byte (reserved_spelling r) name_byte_ascii (reserved_bytes r) (spelled_some (w.Reserved r) (reserved_spelling r) refl))
+spelled_ends (w.Reserved r) s is =
+    rw is (run_ends is_name_byte (reserved_spelling r) name_byte_ascii (reserved_bytes r) (spelled_some (w.Reserved r) (reserved_spelling r) refl))
 spelled_ends (w.Number n) s is = run_ends is_ascii_digit s digit_ascii is.digits (spelled_some (w.Number n) s is)
 spelled_ends w.Text s is = quoted_ends s is.inside is.quoted
 spelled_ends (w.Mark mark) s is = rw is (mark_ends mark)
@@ -137,7 +140,8 @@ all_inside : (ts : List Token) (text : List ℕ) (from to : ℕ) → IsUtf8 text
 all_inside [] text from to utf8 leads = All-nil (IsInsideOfText text)
 all_inside (t ∷ ts) text from to utf8 leads = All-cons (IsInsideOfText text) t ts (token_inside text t utf8 leads.1) (all_inside ts text t.to to utf8 leads.2)
 
-all_rise : (ts : List Token) (text : List ℕ) (from to : ℕ) → LeadsTo text from ts to → (k : ℕ) (d : Token) → k + 1 < length ts → (get_or ts k d).to ≤ (get_or ts (k + 1) d).from
+all_rise : (ts : List Token) (text : List ℕ) (from to : ℕ) → LeadsTo text from ts to → (k : ℕ) (d : Token) → k + 1 < length ts
+    → (get_or ts k d).to ≤ (get_or ts (k + 1) d).from
 all_rise [] text from to leads k d lt = absurd (omega arith)
 all_rise (t ∷ []) text from to leads k d lt = absurd (omega arith)
 all_rise (t ∷ s ∷ ts) text from to leads zero d lt = leads.2.0.rises

@@ -46,13 +46,16 @@ mark_byte b e =
     let a4 = and_left (not (is_name_start b) && not (is_ascii_digit b) && not (eqb b quote) && not (is_blank b)) (not (eqb b number_sign)) a5 in
     let a3 = and_left (not (is_name_start b) && not (is_ascii_digit b) && not (eqb b quote)) (not (is_blank b)) a4 in
     let a2 = and_left (not (is_name_start b) && not (is_ascii_digit b)) (not (eqb b quote)) a3 in
-    let ascii : nat_lt b 128 ≡ true = and_right (not (is_name_start b) && not (is_ascii_digit b) && not (eqb b quote) && not (is_blank b) && not (eqb b number_sign)) (nat_lt b 128) e in
+    let ascii : nat_lt b 128 ≡ true = and_right
+    (not (is_name_start b) && not (is_ascii_digit b) && not (eqb b quote) && not (is_blank b) && not (eqb b number_sign)) (nat_lt b 128) e in
     record {
       no_name = not_true (is_name_start b) (and_left (not (is_name_start b)) (not (is_ascii_digit b)) a2);
       no_digit = not_true (is_ascii_digit b) (and_right (not (is_name_start b)) (not (is_ascii_digit b)) a2);
       no_quote = not_true (eqb b quote) (and_right (not (is_name_start b) && not (is_ascii_digit b)) (not (eqb b quote)) a3);
       no_blank = not_true (is_blank b) (and_right (not (is_name_start b) && not (is_ascii_digit b) && not (eqb b quote)) (not (is_blank b)) a4);
-      no_comment = not_true (eqb b number_sign) (and_right (not (is_name_start b) && not (is_ascii_digit b) && not (eqb b quote) && not (is_blank b)) (not (eqb b number_sign)) a5);
+      no_comment =
+          not_true (eqb b number_sign)
+          (and_right (not (is_name_start b) && not (is_ascii_digit b) && not (eqb b quote) && not (is_blank b)) (not (eqb b number_sign)) a5);
       ascii = grind (arith, nat_tests);
     }
 
@@ -72,11 +75,13 @@ mark_begins : (b : ℕ) (bytes : List ℕ) → IsMarkByte b → word_at (b ∷ b
 unfolding word_at
 mark_begins b bytes is = rw (is.no_name, is.no_digit, is.no_quote) refl
 
-at_name : (s rest : List ℕ) (word : Word) → list_all is_name_byte s ≡ true → length s ≤ 32 → NotFirst is_name_byte rest → unwrap_or (option_map w.Reserved (reserved_of s)) w.Name ≡ word → name_at (s ++ rest) ≡ Some (word, length s)
+at_name : (s rest : List ℕ) (word : Word) → list_all is_name_byte s ≡ true → length s ≤ 32 → NotFirst is_name_byte rest
+    → unwrap_or (option_map w.Reserved (reserved_of s)) w.Name ≡ word → name_at (s ++ rest) ≡ Some (word, length s)
 unfolding name_at
 at_name s rest word all short none e = rw (run_len is_name_byte s rest all none, le-ltb 32 (length s) short, take_at s rest (length s) refl, e) refl
 
-reads_identifier : (s rest : List ℕ) (word : Word) → Starts is_name_start s → list_all is_name_byte s ≡ true → length s ≤ 32 → NotFirst is_name_byte rest → unwrap_or (option_map w.Reserved (reserved_of s)) w.Name ≡ word → word_at (s ++ rest) ≡ Some (word, length s)
+reads_identifier : (s rest : List ℕ) (word : Word) → Starts is_name_start s → list_all is_name_byte s ≡ true → length s ≤ 32 → NotFirst is_name_byte rest
+    → unwrap_or (option_map w.Reserved (reserved_of s)) w.Name ≡ word → word_at (s ++ rest) ≡ Some (word, length s)
 reads_identifier [] rest word starts all short none e = absurd starts
 reads_identifier (b ∷ s) rest word starts all short none e = name_begins b (s ++ rest) starts ∙ at_name (b ∷ s) rest word all short none e
 
@@ -84,11 +89,13 @@ none_reserved : (s : List ℕ) (o : Option Reserved) → reserved_of s ≡ o →
 none_reserved s None e free = refl
 none_reserved s (Some r) e free = absurd (free r (reserved_is s r e))
 
-at_number : (s rest : List ℕ) → list_all is_ascii_digit s ≡ true → digits_value 10 s < 2 ^ 63 → NotFirst is_ascii_digit rest → number_at (s ++ rest) ≡ Some (w.Number (pos (digits_value 10 s)), length s)
+at_number : (s rest : List ℕ) → list_all is_ascii_digit s ≡ true → digits_value 10 s < 2 ^ 63 → NotFirst is_ascii_digit rest
+    → number_at (s ++ rest) ≡ Some (w.Number (pos (digits_value 10 s)), length s)
 unfolding number_at number_of
 at_number s rest all small none = rw (run_len is_ascii_digit s rest all none, take_at s rest (length s) refl, lt-ltb (digits_value 10 s) (2 ^ 63) small) refl
 
-reads_number : (s rest : List ℕ) → s ≢ [] → list_all is_ascii_digit s ≡ true → digits_value 10 s < 2 ^ 63 → NotFirst is_ascii_digit rest → word_at (s ++ rest) ≡ Some (w.Number (pos (digits_value 10 s)), length s)
+reads_number : (s rest : List ℕ) → s ≢ [] → list_all is_ascii_digit s ≡ true → digits_value 10 s < 2 ^ 63 → NotFirst is_ascii_digit rest
+    → word_at (s ++ rest) ≡ Some (w.Number (pos (digits_value 10 s)), length s)
 reads_number [] rest ne all small none = absurd (ne refl)
 reads_number (b ∷ s) rest ne all small none =
     let first : is_ascii_digit b ≡ true = and_left (is_ascii_digit b) (list_all is_ascii_digit s) all in
@@ -110,14 +117,17 @@ at_text body rest all short =
 reads_text : (s rest : List ℕ) → IsText s → word_at (s ++ rest) ≡ Some (w.Text, length s)
 unfolding word_at
 reads_text s rest is =
-    let moved : s ++ rest ≡ 34 ∷ (is.inside ++ 34 ∷ rest) = ap (λ (x : List ℕ). x ++ rest) is.quoted ∙ ap (λ (x : List ℕ). 34 ∷ x) (append_assoc is.inside (34 ∷ []) rest) in
+    let moved : s ++ rest ≡ 34 ∷ (is.inside ++ 34 ∷ rest) = ap (λ (x : List ℕ). x ++ rest) is.quoted
+    ∙ ap (λ (x : List ℕ). 34 ∷ x) (append_assoc is.inside (34 ∷ []) rest) in
     ap word_at moved ∙ at_text is.inside rest is.bytes is.short ∙ ap (λ (n : ℕ). Some (w.Text, n)) (sym (length-quoted is.inside) ∙ ap length (sym is.quoted))
 
-mark_found : (mark : Mark) (rest : List ℕ) → NotFirst (makes_longer mark) rest → mark_at (mark_spelling mark ++ rest) ≡ Some (w.Mark mark, length (mark_spelling mark))
+mark_found : (mark : Mark) (rest : List ℕ) → NotFirst (makes_longer mark) rest
+    → mark_at (mark_spelling mark ++ rest) ≡ Some (w.Mark mark, length (mark_spelling mark))
 unfolding mark_at
 mark_found mark rest none = rw (mark_of-spelling mark rest none) refl
 
-reads_mark : (mark : Mark) (rest : List ℕ) → NotFirst (makes_longer mark) rest → word_at (mark_spelling mark ++ rest) ≡ Some (w.Mark mark, length (mark_spelling mark))
+reads_mark : (mark : Mark) (rest : List ℕ) → NotFirst (makes_longer mark) rest
+    → word_at (mark_spelling mark ++ rest) ≡ Some (w.Mark mark, length (mark_spelling mark))
 reads_mark mark rest none =
     let s = mark_spelling mark in
     let whole : s ++ rest ≡ get_or s 0 0 ∷ (drop 1 s ++ rest) = ap (λ (x : List ℕ). x ++ rest) (first_and_rest s (mark_len mark).0) in
@@ -126,7 +136,8 @@ reads_mark mark rest none =
 pub spelled_is_read : (word : Word) (s rest : List ℕ) → Spells word s → Ends word rest → word_at (s ++ rest) ≡ Some (word, length s)
 spelled_is_read w.Name s rest is ends = reads_identifier s rest w.Name is.starts is.bytes is.short ends (rw (none_reserved s (reserved_of s) refl is.free) refl)
 spelled_is_read (w.Reserved r) s rest is ends =
-    rw is (reads_identifier (reserved_spelling r) rest (w.Reserved r) (starts_from_first (reserved_spelling r) (reserved_starts r)) (reserved_bytes r) (reserved_len r).1 ends (rw reserved_of-spelling refl))
+    rw is (reads_identifier (reserved_spelling r) rest (w.Reserved r) (starts_from_first (reserved_spelling r) (reserved_starts r)) (reserved_bytes r)
+    (reserved_len r).1 ends (rw reserved_of-spelling refl))
 spelled_is_read (w.Number n) s rest is ends = rw is.value (reads_number s rest is.some is.digits is.small ends)
 spelled_is_read w.Text s rest is ends = reads_text s rest is
 spelled_is_read (w.Mark mark) s rest is ends = rw is (reads_mark mark rest ends)

@@ -58,7 +58,8 @@ reserved_of-spelling r.Slack = refl
 -- a test that all reserved words pass
 pub each_reserved : (q : Reserved → Bool) (word : Reserved) → list_all q reserved_words ≡ true → q word ≡ true
 unfolding reserved_of
-each_reserved q word all = find_all (λ (r : Reserved). bytes_eq (reserved_spelling r) (reserved_spelling word)) q reserved_words word (reserved_of-spelling word) all
+each_reserved q word all =
+    find_all (λ (r : Reserved). bytes_eq (reserved_spelling r) (reserved_spelling word)) q reserved_words word (reserved_of-spelling word) all
 
 pub reserved_bytes : (word : Reserved) → list_all is_name_byte (reserved_spelling word) ≡ true
 reserved_bytes word = each_reserved (λ (r : Reserved). list_all is_name_byte (reserved_spelling r)) word refl
@@ -114,7 +115,8 @@ nothing_behind mark = mark_of-spelling mark [] tt
 -- a test that all marks pass
 pub each_mark : (q : Mark → Bool) (mark : Mark) → list_all q marks ≡ true → q mark ≡ true
 unfolding mark_of
-each_mark q mark all = find_all (λ (m : Mark). bytes_eq (mark_spelling m) (take (length (mark_spelling m)) (mark_spelling mark ++ []))) q marks mark (nothing_behind mark) all
+each_mark q mark all =
+    find_all (λ (m : Mark). bytes_eq (mark_spelling m) (take (length (mark_spelling m)) (mark_spelling mark ++ []))) q marks mark (nothing_behind mark) all
 
 -- no mark begins as another token, a blank or a comment
 abbrev begins_a_mark : ℕ → Bool

@@ -7,6 +7,6 @@ mod lexeme;
 mod reading;
 mod words;
 
-pub use reading::{TextFault, tokens};
 pub use flu_names::Reserved;
+pub use reading::{TextFault, tokens};
 pub use words::{Mark, Token, Word};

@@ -6,6 +6,7 @@ use Rattle.std.specs.declared.cmp.Ordering.{Ordering}
 use Rattle.std.specs.declared.cmp.Ordering.TheVariants.{Equal, Greater}
 use Rattle.std.specs.Cmp.{nat_cmp_is}
 use Rattle.std.proofs.lemmas.Bool.{cases_lt, cases_eq}
+use Rattle.flu_lemmas.proofs.Booleans.{or_turns}
 use Rattle.flu_lemmas.proofs.Searches.{eq_true}
 use Rattle.flu_lemmas.proofs.Tests.{false_if_not, not_both}
 use Rattle.flu_model.specs.declared.events.Itag.{Itag}
@@ -14,12 +15,11 @@ use Rattle.flu_model.specs.declared.plans.Node.{Node}
 use Rattle.flu_model.specs.Itags.{count_of_itags, tag_of_itag, is_dependent}
 use Rattle.flu_model.specs.Owners.{owns, is_within, are_related}
 use Rattle.flu_model.specs.Validity.{IsValid}
-use Rattle.flu_laws.proofs.General.{or_turns}
-use Rattle.flu_laws.proofs.Uses.{dependent_turns}
+use Rattle.flu_laws.specs.Lawful.{DependencyTurns}
 use Rattle.flu_valid.specs.declared.faults.Invalid.{Invalid}
 use Rattle.flu_valid.specs.declared.faults.Invalid.TheVariants.{Unowned, OwnedTwice, Clash}
-use Rattle.flu_valid.specs.Faults.{HasOneOwner, IsClash, IsFirstClash, IsFirstFault}
-use Rattle.flu_valid.specs.Search.{NoneOfNodes, NoneOfNode, AreFirstItags, IsFirstOfNode}
+use Rattle.flu_valid.specs.Faults.{HasOneOwner, IsClash, IsFirstClash, IsFirstPlanFault}
+use Rattle.flu_valid.specs.LoopSearch.{NoneOfNodes, NoneOfNode, AreFirstItags, IsFirstOfNode}
 use Rattle.flu_valid.proofs.OwnerLemmas.{none_is_not_one, two_are_not_one}
 
 -- ---- the first clash
@@ -76,8 +76,8 @@ related_to_itself nodes a some = ap (λ b. b || is_within nodes a a) (within_its
 related_turns : (nodes : List Node) (a b : ℕ) → are_related nodes a b ≡ are_related nodes b a
 related_turns nodes a b = or_turns (is_within nodes a b) (is_within nodes b a)
 
-valid_if_none : (p : Program) (nodes : List Node) → ((k : Itag) → k.0 < count_of_itags p → HasOneOwner p nodes k) → ((a : ℕ) → NoneOfNode p nodes a) → IsValid p nodes
-valid_if_none p nodes counted none = record {
+valid_if_none : (p : Program) (nodes : List Node) → DependencyTurns → ((k : Itag) → k.0 < count_of_itags p → HasOneOwner p nodes k) → ((a : ℕ) → NoneOfNode p nodes a) → IsValid p nodes
+valid_if_none p nodes turns counted none = record {
   one_owner = counted;
   independent = λ a b i j hi hj first second unrelated.
       false_if_not (is_dependent p (tag_of_itag p i) (tag_of_itag p j)) (λ dependent.
@@ -95,14 +95,14 @@ valid_if_none p nodes counted none = record {
             unrelated = related_turns nodes b a ∙ unrelated;
             first = second;
             second = first;
-            dependent = dependent_turns p (tag_of_itag p j) (tag_of_itag p i) ∙ dependent;
+            dependent = turns p (tag_of_itag p j) (tag_of_itag p i) ∙ dependent;
           })
         ]
       ]);
 }
 
 -- ---- a fault keeps a plan from being valid
-pub fault_is_not_valid : (p : Program) (nodes : List Node) (why : Invalid) → IsFirstFault p nodes why → IsValid p nodes → ⊥
+pub fault_is_not_valid : (p : Program) (nodes : List Node) (why : Invalid) → IsFirstPlanFault p nodes why → IsValid p nodes → ⊥
 fault_is_not_valid p nodes (Unowned i) fault valid = none_is_not_one p nodes i fault.1 (valid.one_owner i fault.0.in_range)
 fault_is_not_valid p nodes (OwnedTwice i a b) fault valid = two_are_not_one p nodes i a b fault.1 (valid.one_owner i fault.0.in_range)
 fault_is_not_valid p nodes (Clash a i b j) fault valid =
@@ -110,12 +110,12 @@ fault_is_not_valid p nodes (Clash a i b j) fault valid =
     not_both (is_dependent p (tag_of_itag p i) (tag_of_itag p j)) clash.dependent
     (valid.independent a b i j clash.i_in_range clash.j_in_range clash.first clash.second clash.unrelated)
 
-pub clash_is_first : (p : Program) (nodes : List Node) (a : ℕ) (why : Invalid) → ((k : Itag) → k.0 < count_of_itags p → HasOneOwner p nodes k) → ((d : ℕ) → d < a → NoneOfNode p nodes d) → IsFirstOfNode p nodes a why → IsFirstFault p nodes why
+pub clash_is_first : (p : Program) (nodes : List Node) (a : ℕ) (why : Invalid) → ((k : Itag) → k.0 < count_of_itags p → HasOneOwner p nodes k) → ((d : ℕ) → d < a → NoneOfNode p nodes d) → IsFirstOfNode p nodes a why → IsFirstPlanFault p nodes why
 clash_is_first p nodes a (Unowned k) counted before first = absurd first
 clash_is_first p nodes a (OwnedTwice k d e) counted before first = absurd first
 clash_is_first p nodes a (Clash d i b j) counted before first =
     (counted, subst (λ n. IsFirstClash p nodes n i b j) (sym first.0) (first_is p nodes a b i j before first.2 first.1))
 
-pub valid_where_none : (p : Program) (nodes : List Node) (found : Option Invalid) → ((k : Itag) → k.0 < count_of_itags p → HasOneOwner p nodes k) → IfNone found ((a : ℕ) → NoneOfNode p nodes a) → IfNone found (IsValid p nodes)
-valid_where_none p nodes None counted none = valid_if_none p nodes counted none
-valid_where_none p nodes (Some why) counted none = tt
+pub valid_where_none : (p : Program) (nodes : List Node) (found : Option Invalid) → DependencyTurns → ((k : Itag) → k.0 < count_of_itags p → HasOneOwner p nodes k) → IfNone found ((a : ℕ) → NoneOfNode p nodes a) → IfNone found (IsValid p nodes)
+valid_where_none p nodes None turns counted none = valid_if_none p nodes turns counted none
+valid_where_none p nodes (Some why) turns counted none = tt

@@ -15,8 +15,8 @@ use Rattle.flu_model.specs.Owners.{node_owns, owns, owner_of}
 use Rattle.flu_model.specs.Itags.{count_of_itags}
 use Rattle.flu_valid.specs.declared.faults.Invalid.{Invalid}
 use Rattle.flu_valid.specs.declared.faults.Invalid.TheVariants.{Unowned, OwnedTwice, Clash}
-use Rattle.flu_valid.specs.Faults.{HasOneOwner, IsReached, HasNoOwner, HasFirstOwners, IsFirstFault}
-use Rattle.flu_valid.specs.Search.{IsSoleOwner, IsFaultOf}
+use Rattle.flu_valid.specs.Faults.{HasOneOwner, IsReached, HasNoOwner, HasFirstOwners, IsFirstPlanFault}
+use Rattle.flu_valid.specs.LoopSearch.{IsSoleOwner, IsFaultOf}
 
 -- ---- places
 -- how many nodes stand before the first owner
@@ -151,7 +151,7 @@ pub two_are_not_one : (p : Program) (nodes : List Node) (i : Itag) (a b : ℕ) �
 two_are_not_one p nodes i a b two one = let both = two_counted p nodes i a b two.in_order two.first two.second in omega arith
 
 -- what is wrong with the owners of an itag is the first fault where all before it have one owner
-pub fault_is_first : (p : Program) (nodes : List Node) (i : Itag) (why : Invalid) → i.0 < count_of_itags p → ((k : Itag) → k.0 < i.0 → HasOneOwner p nodes k) → IsFaultOf p nodes i why → IsFirstFault p nodes why
+pub fault_is_first : (p : Program) (nodes : List Node) (i : Itag) (why : Invalid) → i.0 < count_of_itags p → ((k : Itag) → k.0 < i.0 → HasOneOwner p nodes k) → IsFaultOf p nodes i why → IsFirstPlanFault p nodes why
 fault_is_first p nodes i (Unowned k) lt before fault =
     subst (λ n. IsReached p nodes n × HasNoOwner p nodes n) (sym fault.0) (record { in_range = lt; before = before }, fault.1)
 fault_is_first p nodes i (OwnedTwice k a b) lt before fault =

@@ -54,7 +54,7 @@ pub record IsFirstClash (p : Program) (nodes : List Node) (a : ℕ) (i : Itag) (
   pub first : (d : ℕ) (k : Itag) (e : ℕ) (l : Itag) → IsClash p nodes d k e l → is_lt (clash_cmp d k e l a i b j) ≡ false
 
 -- ---- FIRST FAULT: the first itag that has not exactly one owner, or else the first clash
-abbrev pub IsFirstFault : Program → List Node → Invalid → Type 0
-IsFirstFault p nodes (Unowned i) = IsReached p nodes i × HasNoOwner p nodes i
-IsFirstFault p nodes (OwnedTwice i a b) = IsReached p nodes i × HasFirstOwners p nodes i a b
-IsFirstFault p nodes (Clash a i b j) = ((k : Itag) → k.0 < count_of_itags p → HasOneOwner p nodes k) × IsFirstClash p nodes a i b j
+abbrev pub IsFirstPlanFault : Program → List Node → Invalid → Type 0
+IsFirstPlanFault p nodes (Unowned i) = IsReached p nodes i × HasNoOwner p nodes i
+IsFirstPlanFault p nodes (OwnedTwice i a b) = IsReached p nodes i × HasFirstOwners p nodes i a b
+IsFirstPlanFault p nodes (Clash a i b j) = ((k : Itag) → k.0 < count_of_itags p → HasOneOwner p nodes k) × IsFirstClash p nodes a i b j

@@ -3,8 +3,8 @@
 ghost use Rattle.std.specs.Prelude.{◌≡◌, ◌<◌, IfSome, IfNone, ◌==◌, ◌&&◌, length, slice_index, ℕ, true, false};
 ghost use Rattle.flu_model.specs.Itags.{count_of_itags, tag_of_itag, is_dependent};
 ghost use Rattle.flu_model.specs.Owners.{owns, are_related};
-ghost use Rattle.flu_valid.specs.Faults.{HasOneOwner, IsFirstFault, IsClash};
-ghost use Rattle.flu_valid.specs.Search.{AreSoleOwners, NoneOfItag, NoneOfNodes, NoneOfNode, AreFirstItags, IsFirstOfNode};
+ghost use Rattle.flu_valid.specs.Faults.{HasOneOwner, IsFirstPlanFault, IsClash};
+ghost use Rattle.flu_valid.specs.LoopSearch.{AreSoleOwners, NoneOfItag, NoneOfNodes, NoneOfNode, AreFirstItags, IsFirstOfNode};
 
 use crate::faults::Invalid;
 use flu_deps::dep;
@@ -15,7 +15,7 @@ use flu_model::{Itag, Plan, Program, Tag, itag_count, tag_of};
 pub fn first_clash(p: &Program, plan: &Plan, owners: &[u8; MAX_ITAGS]) -> Option<Invalid>
     requires owners { AreSoleOwners p.now plan.now.nodes owners.now (count_of_itags p.now) }
     requires counted { (k : Itag) → k.0 < count_of_itags p.now → HasOneOwner p.now plan.now.nodes k }
-    ensures first { IfSome result (IsFirstFault p.now plan.now.nodes) }
+    ensures first { IfSome result (IsFirstPlanFault p.now plan.now.nodes) }
     ensures none { IfNone result ((a : ℕ) → NoneOfNode p.now plan.now.nodes a) }
 {
     for a in 0..plan.nodes.items().len() as u32 {

@@ -14,7 +14,7 @@ pub enum Invalid {
 }
 
 /// A plan that is not valid for a job, and why.
-#[derive(Debug, Drop)]
+#[derive(Drop)]
 pub struct ValidFault {
     pub plan: Plan,
     pub why: Invalid,

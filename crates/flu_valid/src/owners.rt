@@ -3,8 +3,8 @@
 ghost use Rattle.std.specs.Prelude.{◌≡◌, ◌<◌, IfOk, IfErr, IfSome, IfNone, length, ℕ, true, false};
 ghost use Rattle.flu_model.specs.Itags.{count_of_itags};
 ghost use Rattle.flu_model.specs.Owners.{owns};
-ghost use Rattle.flu_valid.specs.Faults.{HasOneOwner, IsFirstFault};
-ghost use Rattle.flu_valid.specs.Search.{IsSoleOwner, IsFaultOf, AreSoleOwners};
+ghost use Rattle.flu_valid.specs.Faults.{HasOneOwner, IsFirstPlanFault};
+ghost use Rattle.flu_valid.specs.LoopSearch.{IsSoleOwner, IsFaultOf, AreSoleOwners};
 
 use crate::faults::Invalid;
 use flu_deps::nodes::{MAX_ITAGS, first_owner, owns};
@@ -14,7 +14,7 @@ use flu_model::{Itag, Plan, Program, itag_count};
 pub fn sole_owners(p: &Program, plan: &Plan) -> Result<[u8; MAX_ITAGS], Invalid>
     ensures owners { IfOk result (λ table. AreSoleOwners p.now plan.now.nodes table (count_of_itags p.now)) }
     ensures counted { IfOk result (λ table. (k : Itag) → k.0 < count_of_itags p.now → HasOneOwner p.now plan.now.nodes k) }
-    ensures fault { IfErr result (IsFirstFault p.now plan.now.nodes) }
+    ensures fault { IfErr result (IsFirstPlanFault p.now plan.now.nodes) }
 {
     let mut owners = [0; MAX_ITAGS];
     for i in 0..itag_count(p) {

@@ -1,5 +1,5 @@
 -- What is read keeps the rules of the language, all of them.
-use Rattle.std.proofs.Common.{◌≡◌, ℕ, zero, suc, ◌+◌, ◌≤◌, Bool, true, false, List, [], ◌∷◌, ◌++◌, map, length, Option, Some, Ok, Err, refl, sym, ap, subst, ◌∙◌, add-zero, arith}
+use Rattle.std.proofs.Common.{◌≡◌, ℕ, zero, suc, ◌+◌, ◌≤◌, Bool, true, false, List, [], ◌∷◌, ◌++◌, map, length, Option, Some, None, Ok, Err, refl, sym, ap, subst, ◌∙◌, add-zero, arith}
 use Rattle.std.specs.Prelude.{◌&&◌, ◌||◌, ◌==◌, not, nat_lt, nat_le, slice_get, option_map}
 use Rattle.std.specs.List.{list_all, list_any, flat_map, AllByRecursion}
 use Rattle.std.specs.Str.{IsUtf8, is_utf8}
@@ -14,6 +14,7 @@ use Rattle.flu_lemmas.specs.Totals.{total}
 use Rattle.flu_lemmas.proofs.Elements.{all_back, all_of_each, list_all_push}
 use Rattle.flu_lemmas.proofs.Tests.{and_left, and_right, both, le_true, lt_true}
 use Rattle.flu_lemmas.proofs.Searches.{list_any-map}
+use Rattle.flu_lemmas.proofs.Loops.{bind_ok, each-keeps, each-counts, each-lists}
 use Rattle.flu_model.specs.declared.limits.What.TheVariants.{Bytes}
 use Rattle.flu_model.specs.declared.jobs.Family.{Family}
 use Rattle.flu_model.specs.declared.jobs.Kind.{Kind}
@@ -26,7 +27,6 @@ use Rattle.flu_rules.specs.Kept.{KeepsRules}
 use Rattle.flu_rules.specs.Keys.{TagsMeet, TagsDiffer}
 use Rattle.flu_text.specs.declared.words.Token.{Token}
 use Rattle.flu_text.specs.Reading.{reading, Reading}
-use Rattle.flu_text.specs.Laws.{ReadingIsTokens, EachIsToken, EachIsSpan, EachIsInside, NamesAreTested}
 use Rattle.flu_syntax.specs.declared.tree.WrittenSpan.{WrittenSpan}
 use Rattle.flu_syntax.specs.declared.tree.WrittenNumber.{WrittenNumber}
 use Rattle.flu_syntax.specs.declared.tree.WrittenTag.{WrittenTag}
@@ -39,9 +39,11 @@ use Rattle.flu_syntax.specs.Machine.{Found as IsFound}
 use Rattle.flu_syntax.specs.Grammar.{IsDeclaration, AreDeclarations}
 use Rattle.flu_syntax.specs.Laws.{FoundIsJob, WordsStand}
 use Rattle.flu_syntax.specs.Words.{Stands, action_words, number_words, declaration_words}
+use Rattle.flu_layout.specs.Spelling.{name_of, written_value}
+use Rattle.flu_layout.specs.Stands.{AreRead}
+use Rattle.flu_layout.specs.Laws.{ReadMayBePrinted}
 use Rattle.flu_parse.specs.declared.faults.JobFault.TheVariants as f
 use Rattle.flu_parse.specs.declared.names.KindHead.{KindHead}
-use Rattle.flu_parse.specs.Spelling.{name_of, written_value}
 use Rattle.flu_parse.specs.Naming.{Naming, naming_of, look_up, known}
 use Rattle.flu_parse.specs.Actions.{resolved_actions}
 use Rattle.flu_parse.specs.Listings.{Listed, tags_of, rate_of, slack_of, file_of}
@@ -49,8 +51,7 @@ use Rattle.flu_parse.specs.Resolving.{Drafted, same_of, with_depend, with_action
 use Rattle.flu_parse.specs.Reading.{text_in, found_tokens, tokens_in, found_job, written_in, job_in}
 use Rattle.flu_parse.specs.Laws.{JobsKeepRules}
 use Rattle.flu_parse.proofs.Distinct.{distinct_with}
-use Rattle.flu_parse.proofs.Looks.{bound, passed, each-keeps, each-counts, each-lists}
-use Rattle.flu_parse.proofs.Kept.Words.{AreRead, name_stands, text_stands}
+use Rattle.flu_parse.proofs.Looks.{passed}
 use Rattle.flu_parse.proofs.Kept.Plain.{plain_action_fits, plain_kind_fits, kinds-plain, keyed_at, ties_kinds, is_source, keyed_kinds, depends-plain, sources-plain}
 use Rattle.flu_parse.proofs.Kept.Names.{NamesKeep, kind_number, at_number, names_in, depends_in, sources_in, naming_counts, naming_lists, names_kept}
 use Rattle.flu_parse.proofs.Kept.Terms.{was_known, families_of}
@@ -73,23 +74,29 @@ acted_heads [] i done = refl
 acted_heads (q ∷ ks) zero done = refl
 acted_heads (q ∷ ks) (suc i) done = ap (λ hs. head q ∷ hs) (acted_heads ks i done)
 
-acted_fit : (families : List Family) (ks : List PlainKind) (i : ℕ) (h : Head) (done : List PlainAction) → list_all (plain_kind_fits families) ks ≡ true → slice_get (map head ks) i ≡ Some h
+acted_fit : (families : List Family) (ks : List PlainKind) (i : ℕ) (h : Head) (done : List PlainAction) → list_all (plain_kind_fits families) ks ≡ true
+    → slice_get (map head ks) i ≡ Some h
     → length done ≤ 32 → list_all (plain_action_fits families h.1 h.2) done ≡ true → list_all (plain_kind_fits families) (with_actions ks i done) ≡ true
 acted_fit families [] i h done all e few fit = absurd cc
 acted_fit families (q ∷ ks) zero h done all e few fit =
     let same : head q ≡ h = cc in
     let old = and_left (plain_kind_fits families q) (list_all (plain_kind_fits families) ks) all in
-    let named = and_left (is_name q.name) (nat_le (length q.actions) 32) (and_left (is_name q.name && nat_le (length q.actions) 32) (list_all (plain_action_fits families q.keyed q.has_value) q.actions) old) in
-    let fits : list_all (plain_action_fits families q.keyed q.has_value) done ≡ true = ap (λ (g : Head). list_all (plain_action_fits families g.1 g.2) done) same ∙ fit in
+    let named = and_left (is_name q.name) (nat_le (length q.actions) 32)
+    (and_left (is_name q.name && nat_le (length q.actions) 32) (list_all (plain_action_fits families q.keyed q.has_value) q.actions) old) in
+    let fits : list_all (plain_action_fits families q.keyed q.has_value) done ≡ true =
+    ap (λ (g : Head). list_all (plain_action_fits families g.1 g.2) done) same ∙ fit in
     both (is_name q.name && nat_le (length done) 32 && list_all (plain_action_fits families q.keyed q.has_value) done) (list_all (plain_kind_fits families) ks)
-    (both (is_name q.name && nat_le (length done) 32) (list_all (plain_action_fits families q.keyed q.has_value) done) (both (is_name q.name) (nat_le (length done) 32) named (le_true (length done) 32 few)) fits)
+    (both (is_name q.name && nat_le (length done) 32) (list_all (plain_action_fits families q.keyed q.has_value) done)
+    (both (is_name q.name) (nat_le (length done) 32) named (le_true (length done) 32 few)) fits)
     (and_right (plain_kind_fits families q) (list_all (plain_kind_fits families) ks) all)
 acted_fit families (q ∷ ks) (suc i) h done all e few fit =
-    both (plain_kind_fits families q) (list_all (plain_kind_fits families) (with_actions ks i done)) (and_left (plain_kind_fits families q) (list_all (plain_kind_fits families) ks) all)
+    both (plain_kind_fits families q) (list_all (plain_kind_fits families) (with_actions ks i done))
+    (and_left (plain_kind_fits families q) (list_all (plain_kind_fits families) ks) all)
     (acted_fit families ks i h done (and_right (plain_kind_fits families q) (list_all (plain_kind_fits families) ks) all) e few fit)
 
 -- ---- one source more
-more_itags : (place : ℕ) (sources : List Source) (s : Source) → length (itags_of_sources place (sources ++ s ∷ [])) ≡ length (itags_of_sources place sources) + length (tags_of_source s)
+more_itags : (place : ℕ) (sources : List Source) (s : Source)
+    → length (itags_of_sources place (sources ++ s ∷ [])) ≡ length (itags_of_sources place sources) + length (tags_of_source s)
 more_itags place [] s = ap length (append-nil (map (λ t. (t, place)) (tags_of_source s))) ∙ length-map (tags_of_source s) (λ t. (t, place)) ∙ omega arith
 more_itags place (q ∷ sources) s =
     let rest = more_itags (place + 1) sources s in
@@ -101,7 +108,8 @@ more_itags place (q ∷ sources) s =
 abbrev files_in : List Source → List (List ℕ)
 files_in sources = map (λ (s : Source). s.file) sources
 
-one_more_file : (sources : List Source) (s : Source) → are_distinct is_same_text (files_in sources) ≡ true → list_any (λ (x : Source). is_same_text s.file x.file) sources ≡ false → are_distinct is_same_text (files_in (sources ++ s ∷ [])) ≡ true
+one_more_file : (sources : List Source) (s : Source) → are_distinct is_same_text (files_in sources) ≡ true
+    → list_any (λ (x : Source). is_same_text s.file x.file) sources ≡ false → are_distinct is_same_text (files_in (sources ++ s ∷ [])) ≡ true
 one_more_file sources s apart fresh =
     let none : files_in sources ++ [] ≡ files_in sources = append-nil (files_in sources) in
     ap (are_distinct is_same_text) (map-append (λ (x : Source). x.file) sources (s ∷ []))
@@ -120,23 +128,33 @@ same_kept (r.Same at) a b same e =
 module _ (text : List ℕ) (n : Naming) where
   -- what a step leaves as it was and what it adds
   added_depend : (d : Drafted) (a b : WrittenSpan) (relation : WrittenRelation) (next : Drafted) → with_depend text n d a b relation ≡ Ok next
-      → (first second : KindHead) × (same : Bool) × (look_up (name_of text a) n.kinds ≡ Some first) × (look_up (name_of text b) n.kinds ≡ Some second) × (same_of relation first second ≡ Ok same)
+      → (first second : KindHead) × (same : Bool) × (look_up (name_of text a) n.kinds ≡ Some first) × (look_up (name_of text b) n.kinds ≡ Some second)
+      × (same_of relation first second ≡ Ok same)
       × (record d { depends = d.depends ++ record { a = first.number; b = second.number; same = same } ∷ [] } ≡ next)
   unfolding with_depend
   added_depend d a b relation next e =
-      let one = bound (known a.from (look_up (name_of text a) n.kinds)) _ next e in
-      let two = bound (known b.from (look_up (name_of text b) n.kinds)) _ next one.2 in
-      let three = bound (same_of relation one.0 two.0) (λ same. Ok (record d { depends = d.depends ++ record { a = one.0.number; b = two.0.number; same = same } ∷ [] })) next two.2 in
-      (one.0, two.0, three.0, was_known a.from (look_up (name_of text a) n.kinds) one.0 one.1, was_known b.from (look_up (name_of text b) n.kinds) two.0 two.1, three.1, cc)
+      let one = bind_ok (known a.from (look_up (name_of text a) n.kinds)) _ next e in
+      let two = bind_ok (known b.from (look_up (name_of text b) n.kinds)) _ next one.2 in
+      let three = bind_ok (same_of relation one.0 two.0)
+      (λ same. Ok (record d { depends = d.depends ++ record { a = one.0.number; b = two.0.number; same = same } ∷ [] })) next two.2 in (
+        one.0,
+        two.0,
+        three.0,
+        was_known a.from (look_up (name_of text a) n.kinds) one.0 one.1,
+        was_known b.from (look_up (name_of text b) n.kinds) two.0 two.1,
+        three.1,
+        cc,
+      )
 
   added_actions : (d : Drafted) (s : WrittenSpan) (actions : List Action) (next : Drafted) → with_on text n d s actions ≡ Ok next
       → (kind : KindHead) × (done : List PlainAction) × (look_up (name_of text s) n.kinds ≡ Some kind) × (resolved_actions text n kind actions ≡ Ok done)
       × (record d { kinds = with_actions d.kinds kind.number done; given = d.given ++ kind.number ∷ [] } ≡ next)
   unfolding with_on
   added_actions d s actions next e =
-      let one = bound (known s.from (look_up (name_of text s) n.kinds)) _ next e in
+      let one = bind_ok (known s.from (look_up (name_of text s) n.kinds)) _ next e in
       let two = passed (not (list_any (λ g. g == one.0.number) d.given)) (f.TwiceNamed s.from) _ next one.2 in
-      let three = bound (resolved_actions text n one.0 actions) (λ done. Ok (record d { kinds = with_actions d.kinds one.0.number done; given = d.given ++ one.0.number ∷ [] })) next two.1 in
+      let three = bind_ok (resolved_actions text n one.0 actions)
+      (λ done. Ok (record d { kinds = with_actions d.kinds one.0.number done; given = d.given ++ one.0.number ∷ [] })) next two.1 in
       (one.0, three.0, was_known s.from (look_up (name_of text s) n.kinds) one.0 one.1, three.1, cc)
 
   -- a source of what is written
@@ -158,10 +176,10 @@ module _ (text : List ℕ) (n : Naming) where
       → with_source text n d s file written late tags ≡ Ok next → AddsSource d s file written late tags next
   unfolding with_source
   added_source d s file written late tags next e =
-      let one = bound (file_of text d.sources file) _ next e in
-      let two = bound (rate_of written) _ next one.2 in
-      let three = bound (slack_of late) _ next two.2 in
-      let four = bound (tags_of text n d.itags tags)
+      let one = bind_ok (file_of text d.sources file) _ next e in
+      let two = bind_ok (rate_of written) _ next one.2 in
+      let three = bind_ok (slack_of late) _ next two.2 in
+      let four = bind_ok (tags_of text n d.itags tags)
       (λ l. Ok (record d { sources = d.sources ++ source_with s one.0 two.0 three.0 l ∷ []; itags = l.itags })) next three.2 in
       record {
         bytes = one.0;
@@ -176,23 +194,34 @@ module _ (text : List ℕ) (n : Naming) where
       }
 
   -- the dependencies are counted and the sources listed as the names are
-  counted : (d : Drafted) (w : Declaration) (next : Drafted) → with_declaration text n d w ≡ Ok next → length next.depends ≡ length d.depends + depends_in text w
+  counted : (d : Drafted) (w : Declaration) (next : Drafted) → with_declaration text n d w ≡ Ok next
+      → length next.depends ≡ length d.depends + depends_in text w
   unfolding with_declaration
   counted d (tree.Cell s keyed sort) next e = let same : d ≡ next = cc in ap (λ (x : Drafted). length x.depends) (sym same) ∙ sym (add-zero (length d.depends))
-  counted d (tree.Tag s keyed has_value) next e = let same : d ≡ next = cc in ap (λ (x : Drafted). length x.depends) (sym same) ∙ sym (add-zero (length d.depends))
-  counted d (tree.Depends a b relation) next e = let h = added_depend d a b relation next e in ap (λ (x : Drafted). length x.depends) (sym h.6) ∙ length-append d.depends (record { a = h.0.number; b = h.1.number; same = h.2 } ∷ [])
-  counted d (tree.On s actions) next e = let h = added_actions d s actions next e in ap (λ (x : Drafted). length x.depends) (sym h.4) ∙ sym (add-zero (length d.depends))
-  counted d (tree.Source s file rate slack tags) next e = let h = added_source d s file rate slack tags next e in ap (λ (x : Drafted). length x.depends) (sym h.is) ∙ sym (add-zero (length d.depends))
+  counted d (tree.Tag s keyed has_value) next e =
+      let same : d ≡ next = cc in ap (λ (x : Drafted). length x.depends) (sym same) ∙ sym (add-zero (length d.depends))
+  counted d (tree.Depends a b relation) next e =
+      let h = added_depend d a b relation next e in
+      ap (λ (x : Drafted). length x.depends) (sym h.6) ∙ length-append d.depends (record { a = h.0.number; b = h.1.number; same = h.2 } ∷ [])
+  counted d (tree.On s actions) next e =
+      let h = added_actions d s actions next e in ap (λ (x : Drafted). length x.depends) (sym h.4) ∙ sym (add-zero (length d.depends))
+  counted d (tree.Source s file rate slack tags) next e =
+      let h = added_source d s file rate slack tags next e in ap (λ (x : Drafted). length x.depends) (sym h.is) ∙ sym (add-zero (length d.depends))
 
   abbrev source_names : List Source → List (List ℕ)
   source_names sources = map (λ (s : Source). s.name) sources
 
-  listed : (d : Drafted) (w : Declaration) (next : Drafted) → with_declaration text n d w ≡ Ok next → source_names next.sources ≡ source_names d.sources ++ sources_in text w
+  listed : (d : Drafted) (w : Declaration) (next : Drafted) → with_declaration text n d w ≡ Ok next
+      → source_names next.sources ≡ source_names d.sources ++ sources_in text w
   unfolding with_declaration
-  listed d (tree.Cell s keyed sort) next e = let same : d ≡ next = cc in ap (λ (x : Drafted). source_names x.sources) (sym same) ∙ sym (append-nil (source_names d.sources))
-  listed d (tree.Tag s keyed has_value) next e = let same : d ≡ next = cc in ap (λ (x : Drafted). source_names x.sources) (sym same) ∙ sym (append-nil (source_names d.sources))
-  listed d (tree.Depends a b relation) next e = let h = added_depend d a b relation next e in ap (λ (x : Drafted). source_names x.sources) (sym h.6) ∙ sym (append-nil (source_names d.sources))
-  listed d (tree.On s actions) next e = let h = added_actions d s actions next e in ap (λ (x : Drafted). source_names x.sources) (sym h.4) ∙ sym (append-nil (source_names d.sources))
+  listed d (tree.Cell s keyed sort) next e =
+      let same : d ≡ next = cc in ap (λ (x : Drafted). source_names x.sources) (sym same) ∙ sym (append-nil (source_names d.sources))
+  listed d (tree.Tag s keyed has_value) next e =
+      let same : d ≡ next = cc in ap (λ (x : Drafted). source_names x.sources) (sym same) ∙ sym (append-nil (source_names d.sources))
+  listed d (tree.Depends a b relation) next e =
+      let h = added_depend d a b relation next e in ap (λ (x : Drafted). source_names x.sources) (sym h.6) ∙ sym (append-nil (source_names d.sources))
+  listed d (tree.On s actions) next e =
+      let h = added_actions d s actions next e in ap (λ (x : Drafted). source_names x.sources) (sym h.4) ∙ sym (append-nil (source_names d.sources))
   listed d (tree.Source s file rate slack tags) next e =
       let h = added_source d s file rate slack tags next e in
       ap (λ (x : Drafted). source_names x.sources) (sym h.is) ∙ map-append (λ (x : Source). x.name) d.sources (source_with s h.bytes h.rate h.slack h.list ∷ [])
@@ -218,15 +247,18 @@ module _ (text : List ℕ) (n : Naming) where
     abbrev IsWell : Declaration → Type 0
     IsWell w = AllByRecursion (Stands ts) (declaration_words w) × IsDeclaration w
 
-    tied : (a b : WrittenSpan) (first second : KindHead) (same : Bool) → look_up (name_of text a) n.kinds ≡ Some first → look_up (name_of text b) n.kinds ≡ Some second → (not same || (first.keyed && second.keyed)) ≡ true
+    tied : (a b : WrittenSpan) (first second : KindHead) (same : Bool) → look_up (name_of text a) n.kinds ≡ Some first
+        → look_up (name_of text b) n.kinds ≡ Some second → (not same || (first.keyed && second.keyed)) ≡ true
         → ties_kinds declared_kinds (record { a = first.number; b = second.number; same = same }) ≡ true
     tied a b first second same is_first is_second fits =
         let one = kind_at text n keep.kinds (name_of text a) first is_first in
         let two = kind_at text n keep.kinds (name_of text b) second is_second in
         let low = slice_get_within declared_kinds first.number first.keyed one in
         let high = slice_get_within declared_kinds second.number second.keyed two in
-        both (nat_lt first.number (length declared_kinds) && nat_lt second.number (length declared_kinds)) (not same || (keyed_at (slice_get declared_kinds first.number) && keyed_at (slice_get declared_kinds second.number)))
-        (both (nat_lt first.number (length declared_kinds)) (nat_lt second.number (length declared_kinds)) (lt_true first.number (length declared_kinds) low) (lt_true second.number (length declared_kinds) high))
+        both (nat_lt first.number (length declared_kinds) && nat_lt second.number (length declared_kinds))
+        (not same || (keyed_at (slice_get declared_kinds first.number) && keyed_at (slice_get declared_kinds second.number)))
+        (both (nat_lt first.number (length declared_kinds)) (nat_lt second.number (length declared_kinds)) (lt_true first.number (length declared_kinds) low)
+        (lt_true second.number (length declared_kinds) high))
         ((λ i. not same || (keyed_at (one i) && keyed_at (two i))) ∙ fits)
 
     stays : (d : Drafted) (w : Declaration) (next : Drafted) → Keeps d → IsWell w → with_declaration text n d w ≡ Ok next → Keeps next
@@ -239,7 +271,9 @@ module _ (text : List ℕ) (n : Naming) where
         record {
           heads = kept.heads;
           kinds = kept.kinds;
-          depends = list_all_push (ties_kinds declared_kinds) d.depends (record { a = h.0.number; b = h.1.number; same = h.2 }) kept.depends (tied a b h.0 h.1 h.2 h.3 h.4 (same_kept relation h.0 h.1 h.2 h.5));
+          depends =
+              list_all_push (ties_kinds declared_kinds) d.depends (record { a = h.0.number; b = h.1.number; same = h.2 }) kept.depends
+              (tied a b h.0 h.1 h.2 h.3 h.4 (same_kept relation h.0 h.1 h.2 h.5));
           sources = kept.sources;
           files = kept.files;
           count = kept.count;
@@ -251,8 +285,10 @@ module _ (text : List ℕ) (n : Naming) where
         let there = at_number kind_number n.kinds (name_of text s) h.0 keep.kinds h.2 in
         let words = all_of_each (Stands ts) action_words actions well.0.1 in
         let done = actions_kept text ts read n keep.families h.0 actions h.1 words h.3 in
-        let place : slice_get (map head d.kinds) h.0.number ≡ Some (declared_head there.0) = ap (λ hs. slice_get hs h.0.number) kept.heads ∙ slice_get-map declared_head n.kinds h.0.number ∙ ap (option_map declared_head) there.1 in
-        let fits : list_all (plain_action_fits declared_families there.0.1.keyed there.0.1.has_value) h.1 ≡ true = ap (λ (k : KindHead). list_all (plain_action_fits declared_families k.keyed k.has_value) h.1) there.2 ∙ done.1 in
+        let place : slice_get (map head d.kinds) h.0.number ≡ Some (declared_head there.0) = ap (λ hs. slice_get hs h.0.number) kept.heads
+        ∙ slice_get-map declared_head n.kinds h.0.number ∙ ap (option_map declared_head) there.1 in
+        let fits : list_all (plain_action_fits declared_families there.0.1.keyed there.0.1.has_value) h.1 ≡ true =
+        ap (λ (k : KindHead). list_all (plain_action_fits declared_families k.keyed k.has_value) h.1) there.2 ∙ done.1 in
         subst Keeps h.4 (
         record {
           heads = acted_heads d.kinds h.0.number h.1 ∙ kept.heads;
@@ -266,8 +302,8 @@ module _ (text : List ℕ) (n : Naming) where
         )
     stays d (tree.Source s file rate slack tags) next kept well e =
         let h = added_source d s file rate slack tags next e in
-        let named = name_stands text ts read s well.0.0 in
-        let within = text_stands text ts read file well.0.1.0 in
+        let named = read.names s well.0.0 in
+        let within = read.texts file well.0.1.0 in
         let source : Source = source_with s h.bytes h.rate h.slack h.list in
         let is = source_kept text n keep.kinds meet differ d.itags d.sources s file rate slack tags h.bytes h.rate h.slack h.list named within well.1 kept.few
         h.by_file h.by_rate h.by_slack h.by_tags in
@@ -293,18 +329,21 @@ module _ (text : List ℕ) (n : Naming) where
     idle_fit [] all = refl
     idle_fit (h ∷ hs) all =
         let named = and_left (is_name h.0) (list_all is_name (names_in hs)) all in
-        both (plain_kind_fits declared_families (idle_kind h)) (list_all (plain_kind_fits declared_families) (map idle_kind hs)) (both (is_name h.0 && true) true (both (is_name h.0) true named refl) refl) (idle_fit hs (and_right (is_name h.0) (list_all is_name (names_in hs)) all))
+        both (plain_kind_fits declared_families (idle_kind h)) (list_all (plain_kind_fits declared_families) (map idle_kind hs))
+        (both (is_name h.0 && true) true (both (is_name h.0) true named refl) refl) (idle_fit hs (and_right (is_name h.0) (list_all is_name (names_in hs)) all))
 
     kind_names : list_all is_name (names_in n.kinds) ≡ true
     kind_names =
         let parts = sym (list_all-append is_name (names_in n.families ++ names_in n.kinds) n.sources) ∙ keep.are_names in
-        let front = sym (list_all-append is_name (names_in n.families) (names_in n.kinds)) ∙ and_left (list_all is_name (names_in n.families ++ names_in n.kinds)) (list_all is_name n.sources) parts in
+        let front = sym (list_all-append is_name (names_in n.families) (names_in n.kinds))
+        ∙ and_left (list_all is_name (names_in n.families ++ names_in n.kinds)) (list_all is_name n.sources) parts in
         and_right (list_all is_name (names_in n.families)) (list_all is_name (names_in n.kinds)) front
 
     family_names : list_all is_name (names_in n.families) ≡ true
     family_names =
         let parts = sym (list_all-append is_name (names_in n.families ++ names_in n.kinds) n.sources) ∙ keep.are_names in
-        let front = sym (list_all-append is_name (names_in n.families) (names_in n.kinds)) ∙ and_left (list_all is_name (names_in n.families ++ names_in n.kinds)) (list_all is_name n.sources) parts in
+        let front = sym (list_all-append is_name (names_in n.families) (names_in n.kinds))
+        ∙ and_left (list_all is_name (names_in n.families ++ names_in n.kinds)) (list_all is_name n.sources) parts in
         and_left (list_all is_name (names_in n.families)) (list_all is_name (names_in n.kinds)) front
 
     draft_kept : (ds : List Declaration) (d : Drafted) → AllByRecursion IsWell ds → draft_of text n ds ≡ Ok d → Keeps d
@@ -322,18 +361,25 @@ module _ (text : List ℕ) (n : Naming) where
         ) well e
 
     -- the whole job
-    rules_kept : (version : ℕ) (ds : List Declaration) (d : Drafted) (kinds : List Kind) → is_version version ≡ true → naming_of text ds ≡ Ok n → AllByRecursion IsWell ds
+    rules_kept : (version : ℕ) (ds : List Declaration) (d : Drafted) (kinds : List Kind) → is_version version ≡ true → naming_of text ds ≡ Ok n
+        → AllByRecursion IsWell ds
         → draft_of text n ds ≡ Ok d → map plain_kind kinds ≡ d.kinds → KeepsRules version (map family n.families) kinds d.depends d.sources
     rules_kept version ds d kinds known named well e same =
         let kept = draft_kept ds d well e in
-        let heads : map (λ (k : Kind). head (plain_kind k)) kinds ≡ map declared_head n.kinds = sym (map-map head plain_kind kinds) ∙ ap (map head) same ∙ kept.heads in
+        let heads : map (λ (k : Kind). head (plain_kind k)) kinds ≡ map declared_head n.kinds = sym (map-map head plain_kind kinds) ∙ ap (map head) same
+        ∙ kept.heads in
         let many = ap length heads in
-        let keyed : keyed_kinds kinds ≡ declared_kinds = sym (map-map (λ (h : Head). h.1) (λ (k : Kind). head (plain_kind k)) kinds) ∙ ap (map (λ (h : Head). h.1)) heads ∙ map-map (λ (h : Head). h.1) declared_head n.kinds in
-        let kind_names_are : map (λ (k : Kind). k.name) kinds ≡ names_in n.kinds = sym (map-map (λ (h : Head). h.0) (λ (k : Kind). head (plain_kind k)) kinds) ∙ ap (map (λ (h : Head). h.0)) heads ∙ map-map (λ (h : Head). h.0) declared_head n.kinds in
-        let family_names_are : map (λ (f : Family). f.name) (map family n.families) ≡ names_in n.families = map-map (λ (f : Family). f.name) family n.families in
-        let depends_count : length d.depends ≡ 0 + total (depends_in text) ds = each-counts (with_declaration text n) (λ (x : Drafted). length x.depends) (depends_in text) counted (first_draft n) ds d e in
+        let keyed : keyed_kinds kinds ≡ declared_kinds = sym (map-map (λ (h : Head). h.1) (λ (k : Kind). head (plain_kind k)) kinds)
+        ∙ ap (map (λ (h : Head). h.1)) heads ∙ map-map (λ (h : Head). h.1) declared_head n.kinds in
+        let kind_names_are : map (λ (k : Kind). k.name) kinds ≡ names_in n.kinds = sym (map-map (λ (h : Head). h.0) (λ (k : Kind). head (plain_kind k)) kinds)
+        ∙ ap (map (λ (h : Head). h.0)) heads ∙ map-map (λ (h : Head). h.0) declared_head n.kinds in
+        let family_names_are : map (λ (f : Family). f.name) (map family n.families) ≡ names_in n.families =
+        map-map (λ (f : Family). f.name) family n.families in
+        let depends_count : length d.depends ≡ 0 + total (depends_in text) ds =
+        each-counts (with_declaration text n) (λ (x : Drafted). length x.depends) (depends_in text) counted (first_draft n) ds d e in
         let names_count = naming_counts text ds n named in
-        let source_names_are : source_names d.sources ≡ n.sources = each-lists (with_declaration text n) (λ (x : Drafted). source_names x.sources) (sources_in text) listed (first_draft n) ds d e ∙ sym (naming_lists text ds n named) in
+        let source_names_are : source_names d.sources ≡ n.sources = each-lists (with_declaration text n) (λ (x : Drafted). source_names x.sources)
+        (sources_in text) listed (first_draft n) ds d e ∙ sym (naming_lists text ds n named) in
         let sources_count = ap length source_names_are in
         record {
           known_version = known;
@@ -361,7 +407,7 @@ pub tokens_found : (r : Reading) (ts : List Token) → found_tokens r ≡ Ok ts 
 tokens_found (Ok us) ts e = cc
 tokens_found (Err at) ts e = absurd cc
 
-pub job_found : (v : Verdict) (written : tree.Job) → found_job v ≡ Ok written → v ≡ IsFound written
+pub job_found : (v : Verdict tree.Job) (written : tree.Job) → found_job v ≡ Ok written → v ≡ IsFound written
 job_found (IsFound ds) written e = cc
 job_found (Unexpected at) written e = absurd cc
 job_found TooDeep written e = absurd cc
@@ -374,7 +420,8 @@ version_kept (Some v) version e =
     ap is_version (sym same) ∙ h.0
 
 module _ (text : List ℕ) (ts : List Token) (read : AreRead text ts) (meet : TagsMeet) (differ : TagsDiffer) where
-  each_well : (n : Naming) (keep : NamesKeep n) (ds : List Declaration) → AllByRecursion (λ w. AllByRecursion (Stands ts) (declaration_words w)) ds → AreDeclarations ds
+  each_well : (n : Naming) (keep : NamesKeep n) (ds : List Declaration) → AllByRecursion (λ w. AllByRecursion (Stands ts) (declaration_words w)) ds
+      → AreDeclarations ds
       → AllByRecursion (IsWell text n ts read keep meet differ) ds
   each_well n keep [] words are = tt
   each_well n keep (w ∷ ds) words are = ((words.0, are.0), each_well n keep ds words.1 are.1)
@@ -385,10 +432,10 @@ module _ (text : List ℕ) (ts : List Token) (read : AreRead text ts) (meet : Ta
   unfolding resolved
   resolved_kept written job words are e kinds same =
       let ds = written.declarations in
-      let one = bound (naming_of text ds) _ job e in
+      let one = bind_ok (naming_of text ds) _ job e in
       let n = one.0 in
-      let two = bound (version_of written.version) _ job one.2 in
-      let three = bound (draft_of text n ds) (λ d. Ok (job_with two.0 n d)) job two.2 in
+      let two = bind_ok (version_of written.version) _ job one.2 in
+      let three = bind_ok (draft_of text n ds) (λ d. Ok (job_with two.0 n d)) job two.2 in
       let is : job_with two.0 n three.0 ≡ job = cc in
       let keep = names_kept text ts read ds n words one.1 in
       let there : map plain_kind kinds ≡ three.0.kinds = same ∙ ap (λ (j : Job). j.kinds) (sym is) in
@@ -396,19 +443,18 @@ module _ (text : List ℕ) (ts : List Token) (read : AreRead text ts) (meet : Ta
       subst (λ (j : Job). KeepsRules j.version j.families kinds j.depends j.sources) is
       (rules_kept text n ts read keep meet differ two.0 ds three.0 kinds known one.1 (each_well n keep ds words are) three.1 there)
 
-pub jobs_kept : NamesAreTested → ReadingIsTokens → EachIsToken → EachIsSpan → EachIsInside → FoundIsJob → WordsStand → TagsMeet → TagsDiffer → JobsKeepRules
+pub jobs_kept : ReadMayBePrinted → FoundIsJob → WordsStand → TagsMeet → TagsDiffer → JobsKeepRules
 unfolding job_in
-jobs_kept tested exact each_token each_span each_inside found_is words_stand meet differ bytes job e kinds same =
+jobs_kept readable found_is words_stand meet differ bytes job e kinds same =
     let within = passed (nat_le (length bytes) 1048576) (f.OverLimit Bytes 1048577) _ job e in
-    let one = bound (text_in bytes) _ job within.1 in
+    let one = bind_ok (text_in bytes) _ job within.1 in
     let text = one.0 in
-    let two = bound (tokens_in text) _ job one.2 in
+    let two = bind_ok (tokens_in text) _ job one.2 in
     let ts = two.0 in
-    let three = bound (written_in (length text) ts) _ job two.2 in
+    let three = bind_ok (written_in (length text) ts) _ job two.2 in
     let utf8 = utf8_text bytes text one.1 in
-    let are = (exact text ts).0 (tokens_found (reading text) ts two.1) in
     let is = (found_is (length text) ts three.0).0 (job_found (verdict (length text) ts) three.0 three.1) in
     let ds = three.0.declarations in
     let words = all_back (Stands ts) (number_words three.0.version) (flat_map declaration_words ds) (words_stand ts three.0 is) in
-    let read : AreRead text ts = record { utf8 = utf8; each = each_token text ts are; spans = each_span text ts utf8 are; insides = each_inside text ts utf8 are; names = tested } in
+    let read : AreRead text ts = readable text ts utf8 (tokens_found (reading text) ts two.1) in
     resolved_kept text ts read meet differ three.0 job (all_of_each (Stands ts) declaration_words ds words) is.grammar three.2 kinds same

@@ -9,6 +9,7 @@ use Rattle.flu_lemmas.specs.Totals.{total}
 use Rattle.flu_lemmas.proofs.Elements.{list_all_push}
 use Rattle.flu_lemmas.proofs.Numbers.{met_either_way}
 use Rattle.flu_lemmas.proofs.Tests.{both, lt_true, le_true, true_le, not_true}
+use Rattle.flu_lemmas.proofs.Loops.{bind_ok, each-keeps-any, each-counts}
 use Rattle.flu_model.specs.declared.limits.What.TheVariants.{Itags, Rate, Slack}
 use Rattle.flu_model.specs.declared.jobs.Keys.{Keys}
 use Rattle.flu_model.specs.declared.jobs.Keys.TheVariants as keys
@@ -19,42 +20,45 @@ use Rattle.flu_model.specs.Rules.{is_file_text, is_same_tag, is_same_text, are_d
 use Rattle.flu_names.specs.Names.{is_name, is_text_byte}
 use Rattle.flu_rules.specs.Keys.{first_key, last_key, share_tag, TagsMeet, TagsDiffer}
 use Rattle.flu_text.specs.declared.words.Word.TheVariants as word
-use Rattle.flu_text.specs.Grammar.{IsInside}
 use Rattle.flu_syntax.specs.declared.tree.WrittenSpan.{WrittenSpan}
 use Rattle.flu_syntax.specs.declared.tree.WrittenNumber.{WrittenNumber}
 use Rattle.flu_syntax.specs.declared.tree.WrittenKeys.{WrittenKeys}
 use Rattle.flu_syntax.specs.declared.tree.WrittenKeys.TheVariants as w
 use Rattle.flu_syntax.specs.declared.tree.WrittenTag.{WrittenTag}
+use Rattle.flu_layout.specs.Spelling.{name_of, inside, written_value}
+use Rattle.flu_layout.specs.Stands.{IsQuoted}
 use Rattle.flu_parse.specs.declared.faults.JobFault.TheVariants as f
 use Rattle.flu_parse.specs.declared.names.KindHead.{KindHead}
-use Rattle.flu_parse.specs.Spelling.{name_of, inside, written_value}
 use Rattle.flu_parse.specs.Naming.{Naming, look_up, known}
 use Rattle.flu_parse.specs.Cells.{resolved_key}
 use Rattle.flu_parse.specs.Listings.{are_bracketed, written_keys, keys_of, tag_count, Listed, with_tag, tags_of, rate_of, slack_of, file_of}
 use Rattle.flu_parse.proofs.Distinct.{distinct_with}
-use Rattle.flu_parse.proofs.Looks.{bound, passed, each-keeps-any, each-counts}
-use Rattle.flu_parse.proofs.Kept.Words.{inside_is_text, inside_is_short}
+use Rattle.flu_parse.proofs.Looks.{passed}
 use Rattle.flu_parse.proofs.Kept.Plain.{keys_fit_at, lists_kind, is_source}
 use Rattle.flu_parse.proofs.Kept.Names.{Numbered, kind_number, at_number}
 use Rattle.flu_parse.proofs.Kept.Terms.{was_known, key_kept}
 
 -- ---- keys
-keys_kept : (keyed : Bool) (ks : WrittenKeys) (found : Keys) → are_bracketed keyed ks ≡ true → keys_of ks ≡ Ok found → (written_keys ks ≡ found) × (keys_fit keyed found ≡ true)
+keys_kept : (keyed : Bool) (ks : WrittenKeys) (found : Keys) → are_bracketed keyed ks ≡ true → keys_of ks ≡ Ok found
+    → (written_keys ks ≡ found) × (keys_fit keyed found ≡ true)
 keys_kept keyed w.Alone found fits e = let same : keys.Alone ≡ found = cc in (same, ap (keys_fit keyed) (sym same) ∙ fits)
 keys_kept keyed (w.One k) found fits e =
-    let one = bound (resolved_key k) (λ key. Ok (keys.One key)) found e in
+    let one = bind_ok (resolved_key k) (λ key. Ok (keys.One key)) found e in
     let same : keys.One one.0 ≡ found = cc in
     let kept = key_kept k one.0 one.1 in
     (ap keys.One kept.1 ∙ same, ap (keys_fit keyed) (sym same) ∙ both keyed (nat_lt one.0 65536) fits kept.0)
 keys_kept keyed (w.Range lo hi) found fits e =
     let rising = passed (nat_le (written_value lo.value) (written_value hi.value)) (f.WrongShape lo.at) _ found e in
-    let one = bound (resolved_key lo) _ found rising.1 in
-    let two = bound (resolved_key hi) (λ last. Ok (keys.Range one.0 last)) found one.2 in
+    let one = bind_ok (resolved_key lo) _ found rising.1 in
+    let two = bind_ok (resolved_key hi) (λ last. Ok (keys.Range one.0 last)) found one.2 in
     let same : keys.Range one.0 two.0 ≡ found = cc in
     let low = key_kept lo one.0 one.1 in
     let high = key_kept hi two.0 two.1 in
-    let rises : nat_le one.0 two.0 ≡ true = sym (λ i. nat_le (low.1 i) (high.1 i)) ∙ rising.0 in
-    ((λ i. keys.Range (low.1 i) (high.1 i)) ∙ same, ap (keys_fit keyed) (sym same) ∙ both (keyed && nat_le one.0 two.0) (nat_lt two.0 65536) (both keyed (nat_le one.0 two.0) fits rises) high.0)
+    let rises : nat_le one.0 two.0 ≡ true = sym (λ i. nat_le (low.1 i) (high.1 i)) ∙ rising.0 in (
+      (λ i. keys.Range (low.1 i) (high.1 i)) ∙ same,
+      ap (keys_fit keyed) (sym same)
+          ∙ both (keyed && nat_le one.0 two.0) (nat_lt two.0 65536) (both keyed (nat_le one.0 two.0) fits rises) high.0,
+    )
 
 -- ---- tags
 pub share_symm : TagsMeet → (a b : TagRef) → share_tag a b ≡ share_tag b a
@@ -97,16 +101,19 @@ module _ (text : List ℕ) (n : Naming) (numbered : Numbered kind_number 0 n.kin
 
   -- what is listed with one reference more
   added_tag : (l : Listed) (t : WrittenTag) (next : Listed) → with_tag text n l t ≡ Ok next
-      → (head : KindHead) × (found : Keys) × (look_up (name_of text t.kind) n.kinds ≡ Some head) × (written_keys t.keys ≡ found) × (keys_fit head.keyed found ≡ true)
+      → (head : KindHead) × (found : Keys) × (look_up (name_of text t.kind) n.kinds ≡ Some head) × (written_keys t.keys ≡ found)
+      × (keys_fit head.keyed found ≡ true)
       × (l.itags + tag_count t.keys ≤ 256) × (list_any (share_tag (record { kind = head.number; keys = found })) l.tags ≡ false)
       × (record { tags = l.tags ++ record { kind = head.number; keys = found } ∷ []; itags = l.itags + tag_count t.keys } ≡ next)
   unfolding with_tag
   added_tag l t next e =
-      let one = bound (known t.kind.from (look_up (name_of text t.kind) n.kinds)) _ next e in
+      let one = bind_ok (known t.kind.from (look_up (name_of text t.kind) n.kinds)) _ next e in
       let bracketed = passed (are_bracketed one.0.keyed t.keys) (f.WrongShape t.kind.from) _ next one.2 in
       let few = passed (nat_le (l.itags + tag_count t.keys) 256) (f.OverLimit Itags 257) _ next bracketed.1 in
-      let fresh = passed (not (list_any (share_tag (record { kind = one.0.number; keys = written_keys t.keys })) l.tags)) (f.TwiceNamed t.kind.from) _ next few.1 in
-      let two = bound (keys_of t.keys) (λ ks. Ok (record { tags = l.tags ++ record { kind = one.0.number; keys = ks } ∷ []; itags = l.itags + tag_count t.keys })) next fresh.1 in
+      let fresh = passed (not (list_any (share_tag (record { kind = one.0.number; keys = written_keys t.keys })) l.tags))
+      (f.TwiceNamed t.kind.from) _ next few.1 in
+      let two = bind_ok (keys_of t.keys)
+      (λ ks. Ok (record { tags = l.tags ++ record { kind = one.0.number; keys = ks } ∷ []; itags = l.itags + tag_count t.keys })) next fresh.1 in
       let kept = keys_kept one.0.keyed t.keys two.0 bracketed.0 two.1 in (
         one.0,
         two.0,
@@ -114,11 +121,13 @@ module _ (text : List ℕ) (n : Naming) (numbered : Numbered kind_number 0 n.kin
         kept.0,
         kept.1,
         true_le (l.itags + tag_count t.keys) 256 few.0,
-        ap (λ (ks : Keys). list_any (share_tag (record { kind = one.0.number; keys = ks })) l.tags) (sym kept.0) ∙ not_true (list_any (share_tag (record { kind = one.0.number; keys = written_keys t.keys })) l.tags) fresh.0,
+        ap (λ (ks : Keys). list_any (share_tag (record { kind = one.0.number; keys = ks })) l.tags) (sym kept.0)
+            ∙ not_true (list_any (share_tag (record { kind = one.0.number; keys = written_keys t.keys })) l.tags) fresh.0,
         cc,
       )
 
-  one_more : TagsMeet → TagsDiffer → (before : ℕ) (l : Listed) (t : WrittenTag) (next : Listed) → ListKeeps before l → with_tag text n l t ≡ Ok next → ListKeeps before next
+  one_more : TagsMeet → TagsDiffer → (before : ℕ) (l : Listed) (t : WrittenTag) (next : Listed) → ListKeeps before l → with_tag text n l t ≡ Ok next
+      → ListKeeps before next
   one_more meet differ before l t next keep e =
       let a = added_tag l t next e in
       let r : TagRef = record { kind = a.0.number; keys = a.1 } in
@@ -142,12 +151,14 @@ module _ (text : List ℕ) (n : Naming) (numbered : Numbered kind_number 0 n.kin
   -- the tags of a source
   tags_kept : TagsMeet → TagsDiffer → (before : ℕ) (ts : List WrittenTag) (l : Listed) → before ≤ 256 → tags_of text n before ts ≡ Ok l → ListKeeps before l
   tags_kept meet differ before ts l few e =
-      each-keeps-any (with_tag text n) (ListKeeps before) (one_more meet differ before) (record { tags = []; itags = before }) ts l (record { fit = refl; distinct = refl; count = omega arith; few = few }) e
+      each-keeps-any (with_tag text n) (ListKeeps before) (one_more meet differ before) (record { tags = []; itags = before }) ts l
+      (record { fit = refl; distinct = refl; count = omega arith; few = few }) e
 
   some_tags : (before : ℕ) (ts : List WrittenTag) (l : Listed) → ts ≢ [] → tags_of text n before ts ≡ Ok l → 0 < length l.tags
   some_tags before [] l some e = absurd (some refl)
   some_tags before (t ∷ ts) l some e =
-      let count : length l.tags ≡ 0 + (1 + total (λ (x : WrittenTag). 1) ts) = each-counts (with_tag text n) (λ (m : Listed). length m.tags) (λ (x : WrittenTag). 1) longer (record { tags = []; itags = before }) (t ∷ ts) l e in
+      let count : length l.tags ≡ 0 + (1 + total (λ (x : WrittenTag). 1) ts) =
+      each-counts (with_tag text n) (λ (m : Listed). length m.tags) (λ (x : WrittenTag). 1) longer (record { tags = []; itags = before }) (t ∷ ts) l e in
       omega (arith, count)
 
   rate_kept : (written : Option WrittenNumber) (rate : ℕ) → rate_of written ≡ Ok rate → rate ≤ 1000000000
@@ -167,7 +178,7 @@ module _ (text : List ℕ) (n : Naming) (numbered : Numbered kind_number 0 n.kin
       omega arith
 
   -- a file that no source before reads
-  file_kept : (sources : List Source) (s : WrittenSpan) (file : List ℕ) → IsInside text (record { word = word.Text; from = s.from; to = s.to }) → file_of text sources s ≡ Ok file
+  file_kept : (sources : List Source) (s : WrittenSpan) (file : List ℕ) → IsQuoted text s → file_of text sources s ≡ Ok file
       → (is_file_text file ≡ true) × (list_any (λ (x : Source). is_same_text file x.file) sources ≡ false)
   file_kept sources s file within e =
       let bytes = inside text s in
@@ -175,7 +186,8 @@ module _ (text : List ℕ) (n : Naming) (numbered : Numbered kind_number 0 n.kin
       let fresh = passed (not (list_any (λ (x : Source). is_same_text bytes x.file) sources)) (f.TwiceNamed s.from) (Ok bytes) file some.1 in
       let same : bytes ≡ file = cc in
       subst (λ (t : List ℕ). (is_file_text t ≡ true) × (list_any (λ (x : Source). is_same_text t x.file) sources ≡ false)) same (
-        both (nat_lt 0 (length bytes) && nat_le (length bytes) 256) (list_all is_text_byte bytes) (both (nat_lt 0 (length bytes)) (nat_le (length bytes) 256) some.0 (le_true (length bytes) 256 (inside_is_short text s within))) (inside_is_text text s within),
+        both (nat_lt 0 (length bytes) && nat_le (length bytes) 256) (list_all is_text_byte bytes)
+            (both (nat_lt 0 (length bytes)) (nat_le (length bytes) 256) some.0 (le_true (length bytes) 256 within.short)) within.bytes,
         not_true (list_any (λ (x : Source). is_same_text bytes x.file) sources) fresh.0,
       )
 
@@ -186,9 +198,10 @@ module _ (text : List ℕ) (n : Naming) (numbered : Numbered kind_number 0 n.kin
     pub count : itags ≡ before + length (tags_of_source s)
     pub few : itags ≤ 256
 
-  pub source_kept : TagsMeet → TagsDiffer → (before : ℕ) (sources : List Source) (name file : WrittenSpan) (written late : Option WrittenNumber) (ts : List WrittenTag)
+  pub source_kept : TagsMeet → TagsDiffer
+      → (before : ℕ) (sources : List Source) (name file : WrittenSpan) (written late : Option WrittenNumber) (ts : List WrittenTag)
       (bytes : List ℕ) (rate slack : ℕ) (l : Listed)
-      → is_name (name_of text name) ≡ true → IsInside text (record { word = word.Text; from = file.from; to = file.to }) → ts ≢ [] → before ≤ 256
+      → is_name (name_of text name) ≡ true → IsQuoted text file → ts ≢ [] → before ≤ 256
       → file_of text sources file ≡ Ok bytes → rate_of written ≡ Ok rate → slack_of late ≡ Ok slack → tags_of text n before ts ≡ Ok l
       → IsRead before sources (record { name = name_of text name; file = bytes; rate = rate; slack = slack; tags = l.tags }) l.itags
   source_kept meet differ before sources name file written late ts bytes rate slack l named within some few by_file by_rate by_slack by_tags =

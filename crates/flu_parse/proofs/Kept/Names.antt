@@ -8,6 +8,7 @@ use Rattle.std.proofs.lemmas.List.{length-append, append-nil, map-append}
 use Rattle.std.proofs.lemmas.List.Folds.{list_any-append}
 use Rattle.flu_lemmas.specs.Totals.{total}
 use Rattle.flu_lemmas.proofs.Tests.{and_left, and_right, both, not_true}
+use Rattle.flu_lemmas.proofs.Loops.{bind_ok, each-keeps, each-counts, each-lists}
 use Rattle.flu_model.specs.declared.jobs.Sort.{Sort}
 use Rattle.flu_model.specs.declared.limits.What.TheVariants.{Families, Kinds, Sources, Depends}
 use Rattle.flu_model.specs.Rules.{are_distinct}
@@ -17,16 +18,16 @@ use Rattle.flu_syntax.specs.declared.tree.WrittenSpan.{WrittenSpan}
 use Rattle.flu_syntax.specs.Tree.{Declaration}
 use Rattle.flu_syntax.specs.Tree as d
 use Rattle.flu_syntax.specs.Words.{Stands, declaration_words}
+use Rattle.flu_layout.specs.Spelling.{name_of}
+use Rattle.flu_layout.specs.Stands.{AreRead}
 use Rattle.flu_parse.specs.declared.faults.JobFault.TheVariants as f
 use Rattle.flu_parse.specs.declared.names.FamilyHead.{FamilyHead}
 use Rattle.flu_parse.specs.declared.names.KindHead.{KindHead}
 use Rattle.flu_parse.specs.Faults.{◌>>◌, room}
-use Rattle.flu_parse.specs.Spelling.{name_of}
 use Rattle.flu_parse.specs.Naming.{Naming, look_up, is_declared, fresh_name, with_family, with_kind, with_source, declare, no_names, naming_of}
 use Rattle.flu_parse.proofs.Distinct.{distinct_with}
 use Rattle.flu_parse.proofs.NamingLemmas.{undeclared}
-use Rattle.flu_parse.proofs.Looks.{bound, passed, had_room, each-keeps, each-counts, each-lists}
-use Rattle.flu_parse.proofs.Kept.Words.{AreRead, name_stands}
+use Rattle.flu_parse.proofs.Looks.{passed, had_room}
 
 -- the head of what is declared at a place, and its number
 abbrev pub Numbered : {X : Type 0} → (X → ℕ) → ℕ → List (List ℕ × X) → Type 0
@@ -58,12 +59,14 @@ pub record NamesKeep (n : Naming) : Type 0 where
 
 -- ---- numbers
 module _ {X : Type 0} (number : X → ℕ) where
-  pub numbered_more : (i : ℕ) (hs : List (List ℕ × X)) (name : List ℕ) (x : X) → Numbered number i hs → number x ≡ i + length hs → Numbered number i (hs ++ (name, x) ∷ [])
+  pub numbered_more : (i : ℕ) (hs : List (List ℕ × X)) (name : List ℕ) (x : X) → Numbered number i hs → number x ≡ i + length hs
+      → Numbered number i (hs ++ (name, x) ∷ [])
   numbered_more i [] name x all here = (omega (arith, here), tt)
   numbered_more i (h ∷ hs) name x all here = (all.0, numbered_more (i + 1) hs name x all.1 (omega (arith, here)))
 
   -- what is looked up stands at its number
-  pub looked_up : (i : ℕ) (hs : List (List ℕ × X)) (name : List ℕ) (x : X) → Numbered number i hs → look_up name hs ≡ Some x → (k : ℕ) × (number x ≡ i + k) × (h : List ℕ × X) × (slice_get hs k ≡ Some h) × (h.1 ≡ x)
+  pub looked_up : (i : ℕ) (hs : List (List ℕ × X)) (name : List ℕ) (x : X) → Numbered number i hs → look_up name hs ≡ Some x
+      → (k : ℕ) × (number x ≡ i + k) × (h : List ℕ × X) × (slice_get hs k ≡ Some h) × (h.1 ≡ x)
   looked_up i [] name x all e = absurd cc
   looked_up i (h ∷ hs) name x all e = by (bytes_eq name h.0) e (looked_up (i + 1) hs name x all.1)
     where
@@ -73,7 +76,8 @@ module _ {X : Type 0} (number : X → ℕ) where
       by true e rest = let same : h.1 ≡ x = cc in (0, ap number (sym same) ∙ all.0 ∙ sym (add-zero i), h, refl, same)
       by false e rest = let r = rest e in (suc r.0, omega (arith, r.1), r.2, r.3, r.4)
 
-  pub at_number : (hs : List (List ℕ × X)) (name : List ℕ) (x : X) → Numbered number 0 hs → look_up name hs ≡ Some x → (h : List ℕ × X) × (slice_get hs (number x) ≡ Some h) × (h.1 ≡ x)
+  pub at_number : (hs : List (List ℕ × X)) (name : List ℕ) (x : X) → Numbered number 0 hs → look_up name hs ≡ Some x
+      → (h : List ℕ × X) × (slice_get hs (number x) ≡ Some h) × (h.1 ≡ x)
   at_number hs name x all e =
       let r = looked_up 0 hs name x all e in
       let here : number x ≡ r.0 = omega (arith, r.1) in
@@ -84,7 +88,8 @@ any_named : {X : Type 0} (name : List ℕ) (hs : List (List ℕ × X)) → look_
 any_named name [] e = refl
 any_named name (h ∷ hs) e = by (bytes_eq name h.0) e (any_named name hs)
   where
-    by : (b : Bool) → (if b then Some h.1 else look_up name hs) ≡ None → (look_up name hs ≡ None → list_any (bytes_eq name) (names_in hs) ≡ false) → (b || list_any (bytes_eq name) (names_in hs)) ≡ false
+    by : (b : Bool) → (if b then Some h.1 else look_up name hs) ≡ None → (look_up name hs ≡ None → list_any (bytes_eq name) (names_in hs) ≡ false)
+        → (b || list_any (bytes_eq name) (names_in hs)) ≡ false
     by true e rest = absurd cc
     by false e rest = rest e
 
@@ -103,12 +108,15 @@ module _ (n : Naming) (name : List ℕ) (keep : NamesKeep n) (free : is_declared
   put : (front back : List (List ℕ)) → all_names n ≡ front ++ back → AreOwnNames (front ++ name ∷ back)
   put front back parts = (
     put_passes front back (ap (list_all is_name) (sym parts) ∙ keep.are_names),
-    distinct_with bytes_eq nat_list_eq_equiv.symm front back name (ap (are_distinct bytes_eq) (sym parts) ∙ keep.distinct) (ap (list_any (bytes_eq name)) (sym parts) ∙ none_has n name free),
+    distinct_with bytes_eq nat_list_eq_equiv.symm front back name (ap (are_distinct bytes_eq) (sym parts) ∙ keep.distinct)
+        (ap (list_any (bytes_eq name)) (sym parts) ∙ none_has n name free),
   )
     where
       put_passes : (front back : List (List ℕ)) → list_all is_name (front ++ back) ≡ true → list_all is_name (front ++ name ∷ back) ≡ true
       put_passes [] back all = both (is_name name) (list_all is_name back) is all
-      put_passes (x ∷ front) back all = both (is_name x) (list_all is_name (front ++ name ∷ back)) (and_left (is_name x) (list_all is_name (front ++ back)) all) (put_passes front back (and_right (is_name x) (list_all is_name (front ++ back)) all))
+      put_passes (x ∷ front) back all =
+          both (is_name x) (list_all is_name (front ++ name ∷ back)) (and_left (is_name x) (list_all is_name (front ++ back)) all)
+          (put_passes front back (and_right (is_name x) (list_all is_name (front ++ back)) all))
 
   family_put : (head : FamilyHead) → AreOwnNames (names_in (n.families ++ (name, head) ∷ []) ++ names_in n.kinds ++ n.sources)
   family_put head =
@@ -134,7 +142,8 @@ module _ (n : Naming) (name : List ℕ) (keep : NamesKeep n) (free : is_declared
       subst AreOwnNames (append_assoc front n.sources (name ∷ [])) (put (front ++ n.sources) [] none)
 
 -- a name that was free
-was_free : (text : List ℕ) (n : Naming) (s : WrittenSpan) (name : List ℕ) → fresh_name text n s ≡ Ok name → (is_declared n (name_of text s) ≡ false) × (name_of text s ≡ name)
+was_free : (text : List ℕ) (n : Naming) (s : WrittenSpan) (name : List ℕ) → fresh_name text n s ≡ Ok name
+    → (is_declared n (name_of text s) ≡ false) × (name_of text s ≡ name)
 was_free text n s name e =
     let h = passed (not (is_declared n (name_of text s))) (f.TwiceNamed s.from) (Ok (name_of text s)) name e in
     (not_true (is_declared n (name_of text s)) h.0, cc)
@@ -143,33 +152,44 @@ was_free text n s name e =
 module _ (text : List ℕ) where
   -- what the names are with one declaration more
   added_family : (n : Naming) (s : WrittenSpan) (keyed : Bool) (sort : Sort) (m : Naming) → with_family text n s keyed sort ≡ Ok m
-      → (is_declared n (name_of text s) ≡ false) × (length n.families < 64) × (record n { families = n.families ++ (name_of text s, record { number = length n.families; keyed = keyed; sort = sort }) ∷ [] } ≡ m)
+      → (is_declared n (name_of text s) ≡ false) × (length n.families < 64)
+      × (record n { families = n.families ++ (name_of text s, record { number = length n.families; keyed = keyed; sort = sort }) ∷ [] } ≡ m)
   unfolding with_family
   added_family n s keyed sort m e =
-      let b = bound (fresh_name text n s) _ m e in
+      let b = bind_ok (fresh_name text n s) _ m e in
       let free = was_free text n s b.0 b.1 in
-      let r = had_room Families 64 (length n.families) _ m b.2 in
-      (free.0, r.0, ap (λ (name : List ℕ). record n { families = n.families ++ (name, record { number = length n.families; keyed = keyed; sort = sort }) ∷ [] }) free.1 ∙ cc)
+      let r = had_room Families 64 (length n.families) _ m b.2 in (
+        free.0,
+        r.0,
+        ap
+            (λ (name : List ℕ). record n { families = n.families ++ (name, record { number = length n.families; keyed = keyed; sort = sort }) ∷ [] }) free.1 ∙ cc,
+      )
 
   added_kind : (n : Naming) (s : WrittenSpan) (keyed has_value : Bool) (m : Naming) → with_kind text n s keyed has_value ≡ Ok m
-      → (is_declared n (name_of text s) ≡ false) × (length n.kinds < 64) × (record n { kinds = n.kinds ++ (name_of text s, record { number = length n.kinds; keyed = keyed; has_value = has_value }) ∷ [] } ≡ m)
+      → (is_declared n (name_of text s) ≡ false) × (length n.kinds < 64)
+      × (record n { kinds = n.kinds ++ (name_of text s, record { number = length n.kinds; keyed = keyed; has_value = has_value }) ∷ [] } ≡ m)
   unfolding with_kind
   added_kind n s keyed has_value m e =
-      let b = bound (fresh_name text n s) _ m e in
+      let b = bind_ok (fresh_name text n s) _ m e in
       let free = was_free text n s b.0 b.1 in
-      let r = had_room Kinds 64 (length n.kinds) _ m b.2 in
-      (free.0, r.0, ap (λ (name : List ℕ). record n { kinds = n.kinds ++ (name, record { number = length n.kinds; keyed = keyed; has_value = has_value }) ∷ [] }) free.1 ∙ cc)
+      let r = had_room Kinds 64 (length n.kinds) _ m b.2 in (
+        free.0,
+        r.0,
+        ap
+            (λ (name : List ℕ). record n { kinds = n.kinds ++ (name, record { number = length n.kinds; keyed = keyed; has_value = has_value }) ∷ [] }) free.1 ∙ cc,
+      )
 
   added_source : (n : Naming) (s : WrittenSpan) (m : Naming) → with_source text n s ≡ Ok m
       → (is_declared n (name_of text s) ≡ false) × (length n.sources < 64) × (record n { sources = n.sources ++ name_of text s ∷ [] } ≡ m)
   unfolding with_source
   added_source n s m e =
-      let b = bound (fresh_name text n s) _ m e in
+      let b = bind_ok (fresh_name text n s) _ m e in
       let free = was_free text n s b.0 b.1 in
       let r = had_room Sources 64 (length n.sources) _ m b.2 in
       (free.0, r.0, ap (λ (name : List ℕ). record n { sources = n.sources ++ name ∷ [] }) free.1 ∙ cc)
 
-  added_depend : (n : Naming) (m : Naming) → (room Depends 4096 n.depends >> Ok (record n { depends = n.depends + 1 })) ≡ Ok m → (n.depends < 4096) × (record n { depends = n.depends + 1 } ≡ m)
+  added_depend : (n : Naming) (m : Naming) → (room Depends 4096 n.depends >> Ok (record n { depends = n.depends + 1 })) ≡ Ok m
+      → (n.depends < 4096) × (record n { depends = n.depends + 1 } ≡ m)
   added_depend n m e = let r = had_room Depends 4096 n.depends _ m e in (r.0, cc)
 
   -- how many dependencies a declaration is, and the sources' names that it declares
@@ -217,7 +237,7 @@ module _ (text : List ℕ) where
     stays n (d.Cell s keyed sort) m keep words e =
         let head : FamilyHead = record { number = length n.families; keyed = keyed; sort = sort } in
         let a = added_family n s keyed sort m e in
-        let p = family_put n (name_of text s) keep a.0 (name_stands text ts read s words.0) head in
+        let p = family_put n (name_of text s) keep a.0 (read.names s words.0) head in
         subst NamesKeep a.2 (
         record {
           few_families = omega (arith, a.1, length-append n.families ((name_of text s, head) ∷ []));
@@ -233,7 +253,7 @@ module _ (text : List ℕ) where
     stays n (d.Tag s keyed has_value) m keep words e =
         let head : KindHead = record { number = length n.kinds; keyed = keyed; has_value = has_value } in
         let a = added_kind n s keyed has_value m e in
-        let p = kind_put n (name_of text s) keep a.0 (name_stands text ts read s words.0) head in
+        let p = kind_put n (name_of text s) keep a.0 (read.names s words.0) head in
         subst NamesKeep a.2 (
         record {
           few_families = keep.few_families;
@@ -263,7 +283,7 @@ module _ (text : List ℕ) where
     stays n (d.On kind actions) m keep words e = let same : n ≡ m = cc in subst NamesKeep same keep
     stays n (d.Source s file rate slack tags) m keep words e =
         let a = added_source n s m e in
-        let p = source_put n (name_of text s) keep a.0 (name_stands text ts read s words.0) in
+        let p = source_put n (name_of text s) keep a.0 (read.names s words.0) in
         subst NamesKeep a.2 (
         record {
           few_families = keep.few_families;
@@ -278,7 +298,8 @@ module _ (text : List ℕ) where
         )
 
     -- the names of a job
-    pub names_kept : (ds : List Declaration) (n : Naming) → AllByRecursion (λ w. AllByRecursion (Stands ts) (declaration_words w)) ds → naming_of text ds ≡ Ok n → NamesKeep n
+    pub names_kept : (ds : List Declaration) (n : Naming) → AllByRecursion (λ w. AllByRecursion (Stands ts) (declaration_words w)) ds
+        → naming_of text ds ≡ Ok n → NamesKeep n
     names_kept ds n words e =
         each-keeps (declare text) NamesKeep (λ w. AllByRecursion (Stands ts) (declaration_words w)) stays no_names ds n (
         record {

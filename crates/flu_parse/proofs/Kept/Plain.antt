@@ -119,7 +119,8 @@ kind-plain families k =
     (action-plain families k.keyed k.has_value)
     ∙ sym (list_all-map (plain_action_fits families k.keyed k.has_value) plain_action k.actions))
 
-pub kinds-plain : (families : List Family) (kinds : List Kind) → list_all (kind_fits families) kinds ≡ list_all (plain_kind_fits families) (map plain_kind kinds)
+pub kinds-plain : (families : List Family) (kinds : List Kind)
+    → list_all (kind_fits families) kinds ≡ list_all (plain_kind_fits families) (map plain_kind kinds)
 kinds-plain families kinds =
     list_all_same (kind_fits families) (λ k. plain_kind_fits families (plain_kind k)) kinds (kind-plain families)
     ∙ sym (list_all-map (plain_kind_fits families) plain_kind kinds)
@@ -130,7 +131,8 @@ keyed_at None = false
 keyed_at (Some keyed) = keyed
 
 abbrev pub ties_kinds : List Bool → Depend → Bool
-ties_kinds keyed d = nat_lt d.a (length keyed) && nat_lt d.b (length keyed) && (not d.same || (keyed_at (slice_get keyed d.a) && keyed_at (slice_get keyed d.b)))
+ties_kinds keyed d =
+    nat_lt d.a (length keyed) && nat_lt d.b (length keyed) && (not d.same || (keyed_at (slice_get keyed d.a) && keyed_at (slice_get keyed d.b)))
 
 abbrev pub keys_fit_at : Option Bool → Keys → Bool
 keys_fit_at None keys = false
@@ -160,8 +162,10 @@ keyed-place kinds i = at_kind (slice_get kinds i) ∙ ap keyed_at (sym (slice_ge
 
 depend-plain : (kinds : List Kind) (d : Depend) → depend_fits kinds d ≡ ties_kinds (keyed_kinds kinds) d
 depend-plain kinds d =
-    ap (λ n. nat_lt d.a n && nat_lt d.b n && (not d.same || (kind_is_keyed (slice_get kinds d.a) && kind_is_keyed (slice_get kinds d.b)))) (sym (length-map kinds (λ (k : Kind). k.keyed)))
-    ∙ (λ i. nat_lt d.a (length (keyed_kinds kinds)) && nat_lt d.b (length (keyed_kinds kinds)) && (not d.same || (keyed-place kinds d.a i && keyed-place kinds d.b i)))
+    ap (λ n. nat_lt d.a n && nat_lt d.b n && (not d.same || (kind_is_keyed (slice_get kinds d.a) && kind_is_keyed (slice_get kinds d.b))))
+    (sym (length-map kinds (λ (k : Kind). k.keyed)))
+    ∙ (λ i. nat_lt d.a (length (keyed_kinds kinds)) && nat_lt d.b (length (keyed_kinds kinds)) &&
+    (not d.same || (keyed-place kinds d.a i && keyed-place kinds d.b i)))
 
 pub depends-plain : (kinds : List Kind) (depends : List Depend) → list_all (depend_fits kinds) depends ≡ list_all (ties_kinds (keyed_kinds kinds)) depends
 depends-plain kinds depends = list_all_same (depend_fits kinds) (ties_kinds (keyed_kinds kinds)) depends (depend-plain kinds)
@@ -171,7 +175,8 @@ tag-plain kinds r = listed_at (slice_get kinds r.kind) r.keys ∙ ap (λ o. keys
 
 source-plain : (kinds : List Kind) (s : Source) → source_fits kinds s ≡ is_source (keyed_kinds kinds) s
 source-plain kinds s =
-    ap (λ b. is_name s.name && is_file_text s.file && nat_le s.rate 1000000000 && nat_le s.slack 60000 && nat_lt 0 (length s.tags) && b && are_distinct is_same_tag (tags_of_source s))
+    ap (λ b. is_name s.name && is_file_text s.file && nat_le s.rate 1000000000 && nat_le s.slack 60000 && nat_lt 0
+    (length s.tags) && b && are_distinct is_same_tag (tags_of_source s))
     (list_all_same (tag_ref_fits kinds) (lists_kind (keyed_kinds kinds)) s.tags (tag-plain kinds))
 
 pub sources-plain : (kinds : List Kind) (sources : List Source) → list_all (source_fits kinds) sources ≡ list_all (is_source (keyed_kinds kinds)) sources

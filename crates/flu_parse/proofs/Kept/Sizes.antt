@@ -16,14 +16,15 @@ use Rattle.flu_lemmas.proofs.Totals.{total-append}
 use Rattle.flu_lemmas.proofs.Prefixes.{chosen, mapped}
 use Rattle.flu_lemmas.proofs.Tests.{and_left, and_right, true_lt}
 use Rattle.flu_lemmas.proofs.Digits.{digit_in_range}
+use Rattle.flu_lemmas.specs.Spans.{is_boundary, spelled}
 use Rattle.flu_text.specs.Lexeme.{number_of}
 use Rattle.flu_names.specs.Names.{is_name}
 use Rattle.flu_syntax.specs.declared.tree.WrittenSpan.{WrittenSpan}
 use Rattle.flu_syntax.specs.declared.tree.WrittenKey.{WrittenKey}
 use Rattle.flu_syntax.specs.declared.tree.WrittenKey.TheVariants as k
+use Rattle.flu_layout.specs.Spelling.{inside, written_value}
 use Rattle.flu_parse.specs.declared.pieces.WrittenPiece.{WrittenPiece}
 use Rattle.flu_parse.specs.declared.pieces.WrittenPiece.TheVariants as p
-use Rattle.flu_parse.specs.Spelling.{is_boundary, spelled, inside, written_value}
 use Rattle.flu_parse.specs.Templates.{close_brace, open_brace, is_open_bracket, span, digits_at, key_at, ref_with, ref_at, field_at, braced, Scan, with_plain, with_piece, scan_byte, continued, end_of_scan, scan, scan_start, template_at}
 
 -- ---- how much of a text a piece takes at least, and is written in at most
@@ -75,7 +76,8 @@ fewer_digits b ds n digits e =
           let same : digits_value 10 (b ∷ ds) ≡ n = cc in
           let small = true_lt (digits_value 10 (b ∷ ds)) (2 ^ 63) h.0 in
           let few = digits_value-lt 10 (b ∷ ds) (all_digits (b ∷ ds) digits) in
-          subst (λ m. length (decimal m) ≤ length (b ∷ ds)) same (length-decimal-le (length (b ∷ ds)) (digits_value 10 (b ∷ ds)) (omega arith) few (omega arith))
+          subst (λ m. length (decimal m) ≤ length (b ∷ ds)) same
+          (length-decimal-le (length (b ∷ ds)) (digits_value 10 (b ∷ ds)) (omega arith) few (omega arith))
       | inr h ↦ absurd cc
     ]
 
@@ -116,7 +118,8 @@ ref_size text from to None q e =
 ref_size text from to (Some i) q e =
     let make : WrittenKey → WrittenPiece = λ key. p.Read (record { family = span from (from + i); key = key }) in
     let word : List ℕ = spelled text (from + i + 1) (to - 1) in
-    elim (chosen (is_name (spelled text from (from + i)) && bytes_eq (spelled text (to - 1) to) (codes "]")) (option_map make (key_at word (from + i + 1))) None (Some q) e) [
+    elim (chosen (is_name (spelled text from (from + i)) && bytes_eq (spelled text (to - 1) to) (codes "]"))
+    (option_map make (key_at word (from + i + 1))) None (Some q) e) [
       | inl h ↦
           let m = mapped make (key_at word (from + i + 1)) q h.1 in
           let key = key_fits_word word (from + i + 1) m.0 m.1 in
@@ -141,12 +144,15 @@ field_size text in_flush from to q e =
             | inl h ↦ let same : p.Key ≡ q = cc in subst (λ q. piece_size q ≤ to - from + 2) same (omega (arith, same_word text from to (codes "key") h.0))
             | inr h ↦
                 elim (chosen (bytes_eq word (codes "time")) (Some p.Time) fourth (Some q) h.1) [
-                  | inl h ↦ let same : p.Time ≡ q = cc in subst (λ q. piece_size q ≤ to - from + 2) same (omega (arith, same_word text from to (codes "time") h.0))
+                  | inl h ↦
+                      let same : p.Time ≡ q = cc in subst (λ q. piece_size q ≤ to - from + 2) same (omega (arith, same_word text from to (codes "time") h.0))
                   | inr h ↦
                       elim (chosen in_flush cell ref (Some q) h.1) [
                         | inl h ↦
                             elim (chosen (bytes_eq word (codes "cell")) (Some p.CellValue) None (Some q) h.1) [
-                              | inl h ↦ let same : p.CellValue ≡ q = cc in subst (λ q. piece_size q ≤ to - from + 2) same (omega (arith, same_word text from to (codes "cell") h.0))
+                              | inl h ↦
+                                  let same : p.CellValue ≡ q = cc in
+                                  subst (λ q. piece_size q ≤ to - from + 2) same (omega (arith, same_word text from to (codes "cell") h.0))
                               | inr h ↦ absurd cc
                             ]
                         | inr h ↦ ref_size text from to (position is_open_bracket word) q h.1
@@ -173,16 +179,19 @@ module _ (text : List ℕ) (in_flush : Bool) (start : ℕ) where
     size : pieces_size s.pieces + open_size s.in_field s.start place ≤ place - start
 
   one_more_size : (qs : List WrittenPiece) (q : WrittenPiece) → pieces_size (qs ++ q ∷ []) ≡ pieces_size qs + piece_size q
-  one_more_size qs q = total-append piece_size qs (q ∷ []) ∙ (let same : pieces_size qs + (piece_size q + 0) ≡ pieces_size qs + piece_size q = omega arith in same)
+  one_more_size qs q =
+      total-append piece_size qs (q ∷ []) ∙ (let same : pieces_size qs + (piece_size q + 0) ≡ pieces_size qs + piece_size q = omega arith in same)
 
-  plain_size : (qs : List WrittenPiece) (from place : ℕ) (in_field : Bool) → pieces_size (with_plain (record { pieces = qs; start = from; in_field = in_field }) place) ≤ pieces_size qs + (place - from)
+  plain_size : (qs : List WrittenPiece) (from place : ℕ) (in_field : Bool)
+      → pieces_size (with_plain (record { pieces = qs; start = from; in_field = in_field }) place) ≤ pieces_size qs + (place - from)
   plain_size qs from place in_field = by (nat_lt from place)
     where
       by : (b : Bool) → pieces_size (if b then qs ++ p.Plain (span from place) ∷ [] else qs) ≤ pieces_size qs + (place - from)
       by true = omega (arith, one_more_size qs (p.Plain (span from place)))
       by false = omega arith
 
-  step_size : (qs : List WrittenPiece) (from : ℕ) (in_field : Bool) (place b : ℕ) (next : Scan) → Within (record { pieces = qs; start = from; in_field = in_field }) place
+  step_size : (qs : List WrittenPiece) (from : ℕ) (in_field : Bool) (place b : ℕ) (next : Scan)
+      → Within (record { pieces = qs; start = from; in_field = in_field }) place
       → scan_byte (field_at text in_flush) (record { pieces = qs; start = from; in_field = in_field }) place b ≡ Some next → Within next (place + 1)
   unfolding scan_byte
   step_size qs from true place b next now e =
@@ -211,15 +220,20 @@ module _ (text : List ℕ) (in_flush : Bool) (start : ℕ) where
         | inl h ↦
             let same : opened ≡ next = cc in
             let plain = plain_size qs from place false in
-            subst (λ (s : Scan). Within s (place + 1)) same (record { rises = omega arith; begins = omega (arith, now.begins); size = omega (arith, now.size, now.rises, now.begins, plain) })
+            subst (λ (s : Scan). Within s (place + 1)) same
+            (record { rises = omega arith; begins = omega (arith, now.begins); size = omega (arith, now.size, now.rises, now.begins, plain) })
         | inr h ↦
             elim (chosen (b == close_brace) None (Some s) (Some next) h.1) [
               | inl h ↦ absurd cc
-              | inr h ↦ let same : s ≡ next = cc in subst (λ (s : Scan). Within s (place + 1)) same (record { rises = omega (arith, now.rises); begins = omega (arith, now.begins); size = omega (arith, now.size, now.rises, now.begins) })
+              | inr h ↦
+                  let same : s ≡ next = cc in
+                  subst (λ (s : Scan). Within s (place + 1)) same
+                  (record { rises = omega (arith, now.rises); begins = omega (arith, now.begins); size = omega (arith, now.size, now.rises, now.begins) })
             ]
       ]
 
-  end_size : (qs : List WrittenPiece) (from : ℕ) (in_field : Bool) (place : ℕ) → Within (record { pieces = qs; start = from; in_field = in_field }) place → pieces_size (end_of_scan (record { pieces = qs; start = from; in_field = in_field }) place).pieces ≤ place - start
+  end_size : (qs : List WrittenPiece) (from : ℕ) (in_field : Bool) (place : ℕ) → Within (record { pieces = qs; start = from; in_field = in_field }) place
+      → pieces_size (end_of_scan (record { pieces = qs; start = from; in_field = in_field }) place).pieces ≤ place - start
   end_size qs from true place now = omega (arith, now.size)
   end_size qs from false place now = omega (arith, now.size, plain_size qs from place false)
 
@@ -227,10 +241,14 @@ module _ (text : List ℕ) (in_flush : Bool) (start : ℕ) where
   unfolding scan
   scan_size [] s place now = omega (arith, end_size s.pieces s.start s.in_field place now)
   scan_size (b ∷ bs) s place now =
-      by (scan_byte (field_at text in_flush) s place b) (λ next e. scan_size bs next (place + 1) (step_size s.pieces s.start s.in_field place b next now e)) refl
+      by (scan_byte (field_at text in_flush) s place b)
+      (λ next e. scan_size bs next (place + 1) (step_size s.pieces s.start s.in_field place b next now e)) refl
     where
-      by : (o : Option Scan) → ((next : Scan) → scan_byte (field_at text in_flush) s place b ≡ Some next → pieces_size (scan (field_at text in_flush) next (place + 1) bs).pieces ≤ place + 1 + length bs - start)
-          → scan_byte (field_at text in_flush) s place b ≡ o → pieces_size (continued s o (λ next. scan (field_at text in_flush) next (place + 1) bs)).pieces ≤ place + length (b ∷ bs) - start
+      by : (o : Option Scan)
+          → ((next : Scan) → scan_byte (field_at text in_flush) s place b ≡ Some next
+          → pieces_size (scan (field_at text in_flush) next (place + 1) bs).pieces ≤ place + 1 + length bs - start)
+          → scan_byte (field_at text in_flush) s place b ≡ o → pieces_size
+          (continued s o (λ next. scan (field_at text in_flush) next (place + 1) bs)).pieces ≤ place + length (b ∷ bs) - start
       by None more e = omega (arith, now.size)
       by (Some next) more e = omega (arith, more next e)
 
@@ -238,5 +256,6 @@ pub template_size : (text : List ℕ) (in_flush : Bool) (s : WrittenSpan) → pi
 unfolding template_at
 template_size text in_flush s =
     let start : ℕ = s.from + 1 in
-    let size = scan_size text in_flush start (inside text s) (scan_start start) start (record { rises = omega arith; begins = omega arith; size = omega arith }) in
+    let size = scan_size text in_flush start (inside text s) (scan_start start) start
+    (record { rises = omega arith; begins = omega arith; size = omega arith }) in
     omega (arith, size)

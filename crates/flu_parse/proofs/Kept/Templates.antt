@@ -9,6 +9,9 @@ use Rattle.std.proofs.lemmas.Str.{IsCharBoundary-before_ascii, IsCharBoundary-af
 use Rattle.flu_lemmas.proofs.Tests.{and_left, and_right, both, lt_true, true_lt, true_eq}
 use Rattle.flu_lemmas.proofs.Elements.{all_push, list_all_push}
 use Rattle.flu_lemmas.proofs.Prefixes.{chosen, mapped, drop_one_more, take_one_more}
+use Rattle.flu_lemmas.specs.Spans.{spelled}
+use Rattle.flu_lemmas.proofs.Loops.{collect, bind_ok, then_ok}
+use Rattle.flu_lemmas.proofs.Spans.{spelled_slice}
 use Rattle.flu_model.specs.declared.jobs.Family.{Family}
 use Rattle.flu_model.specs.declared.jobs.Piece.{Piece}
 use Rattle.flu_model.specs.declared.jobs.Piece.TheVariants as piece
@@ -16,22 +19,20 @@ use Rattle.flu_model.specs.Rules.{is_plain_byte, is_plain, emit_piece_fits, flus
 use Rattle.flu_model.specs.Templates.{written_template}
 use Rattle.flu_names.specs.Names.{is_name, is_text_byte}
 use Rattle.flu_text.specs.declared.words.Word.TheVariants as w
-use Rattle.flu_text.specs.Grammar.{IsInside}
 use Rattle.flu_syntax.specs.declared.tree.WrittenSpan.{WrittenSpan}
 use Rattle.flu_syntax.specs.declared.tree.WrittenKey.TheVariants as k
 use Rattle.flu_syntax.specs.declared.tree.WrittenRef.{WrittenRef}
+use Rattle.flu_layout.specs.Spelling.{name_of, inside}
+use Rattle.flu_layout.specs.Stands.{IsQuoted}
 use Rattle.flu_parse.specs.declared.faults.JobFault.TheVariants as f
 use Rattle.flu_parse.specs.declared.names.KindHead.{KindHead}
 use Rattle.flu_parse.specs.declared.pieces.WrittenPiece.{WrittenPiece}
 use Rattle.flu_parse.specs.declared.pieces.WrittenPiece.TheVariants as p
 use Rattle.flu_parse.specs.Faults.{Found, each}
-use Rattle.flu_parse.specs.Spelling.{spelled, name_of, inside}
 use Rattle.flu_parse.specs.Naming.{Naming, look_up, known}
 use Rattle.flu_parse.specs.Cells.{brackets_fit, at_of}
 use Rattle.flu_parse.specs.Templates.{open_brace, close_brace, is_open_bracket, span, key_at, ref_with, ref_at, field_at, braced, Scan, with_plain, with_piece, scan_byte, continued, end_of_scan, scan, scan_start, template_at, known_names, own_key_fits, read_fits, piece_fits, piece_of, pieces_of, template_of}
-use Rattle.flu_parse.proofs.FaultLemmas.{collect}
-use Rattle.flu_parse.proofs.Looks.{bound, behind, passed}
-use Rattle.flu_parse.proofs.Kept.Words.{spelled_between, inside_bytes, inside_is_text, inside_is_short}
+use Rattle.flu_parse.proofs.Looks.{passed}
 use Rattle.flu_parse.proofs.Kept.Names.{Numbered, family_number}
 use Rattle.flu_parse.proofs.Kept.Terms.{was_known, at_kept, families_of, ref_kept}
 use Rattle.flu_parse.proofs.Kept.Written.{template_short}
@@ -95,7 +96,8 @@ front_apart [] cs e = refl
 front_apart (b ∷ bs) cs e =
     let parts = and_left (not (b && first_is_plain (bs ++ cs))) (apart (bs ++ cs)) e in
     let rest = and_right (not (b && first_is_plain (bs ++ cs))) (apart (bs ++ cs)) e in
-    both (not (b && first_is_plain bs)) (apart bs) (not_first b (first_is_plain bs) (first_is_plain (bs ++ cs)) (first_of_more bs cs) parts) (front_apart bs cs rest)
+    both (not (b && first_is_plain bs)) (apart bs) (not_first b (first_is_plain bs) (first_is_plain (bs ++ cs)) (first_of_more bs cs) parts)
+    (front_apart bs cs rest)
 
 -- behind a field a plain piece may follow
 first_before_field : (bs : List Bool) → first_is_plain bs ≡ false → first_is_plain (bs ++ false ∷ true ∷ []) ≡ false
@@ -129,16 +131,19 @@ ref_is_field text from to None q e =
       | inr h ↦ absurd cc
     ]
 ref_is_field text from to (Some i) q e =
-    let found : Option WrittenPiece = option_map (λ key. p.Read (record { family = span from (from + i); key = key })) (key_at (spelled text (from + i + 1) (to - 1)) (from + i + 1)) in
+    let found : Option WrittenPiece =
+    option_map (λ key. p.Read (record { family = span from (from + i); key = key })) (key_at (spelled text (from + i + 1) (to - 1)) (from + i + 1)) in
     elim (chosen (is_name (spelled text from (from + i)) && bytes_eq (spelled text (to - 1) to) (codes "]")) found None (Some q) e) [
       | inl h ↦
-          let m = mapped (λ key. p.Read (record { family = span from (from + i); key = key })) (key_at (spelled text (from + i + 1) (to - 1)) (from + i + 1)) q h.1 in
+          let m = mapped (λ key. p.Read (record { family = span from (from + i); key = key }))
+          (key_at (spelled text (from + i + 1) (to - 1)) (from + i + 1)) q h.1 in
           subst (IsField false) m.2 refl
       | inr h ↦ absurd cc
     ]
 
 is_field : (a b c in_flush e : Bool) (ref : Option WrittenPiece) (q : WrittenPiece) → (ref ≡ Some q → IsField false q)
-    → (if a then Some p.Value else if b then Some p.Key else if c then Some p.Time else if in_flush then (if e then Some p.CellValue else None) else ref) ≡ Some q → IsField in_flush q
+    → (if a then Some p.Value else if b then Some p.Key else if c then Some p.Time else if in_flush then
+    (if e then Some p.CellValue else None) else ref) ≡ Some q → IsField in_flush q
 is_field true b c in_flush e ref q by_ref h = let same : p.Value ≡ q = cc in subst (IsField in_flush) same tt
 is_field false true c in_flush e ref q by_ref h = let same : p.Key ≡ q = cc in subst (IsField in_flush) same tt
 is_field false false true in_flush e ref q by_ref h = let same : p.Time ≡ q = cc in subst (IsField in_flush) same tt
@@ -150,7 +155,8 @@ field_found : (text : List ℕ) (in_flush : Bool) (from to : ℕ) (q : WrittenPi
 unfolding field_at
 field_found text in_flush from to q e =
     let word = spelled text from to in
-    is_field (bytes_eq word (codes "value")) (bytes_eq word (codes "key")) (bytes_eq word (codes "time")) in_flush (bytes_eq word (codes "cell")) (ref_at text from to) q
+    is_field (bytes_eq word (codes "value")) (bytes_eq word (codes "key")) (bytes_eq word (codes "time")) in_flush (bytes_eq word (codes "cell"))
+    (ref_at text from to) q
     (ref_is_field text from to (position is_open_bracket word) q) e
 
 no_plain_field : (in_flush : Bool) (q : WrittenPiece) → IsField in_flush q → is_written_plain q ≡ false
@@ -209,14 +215,18 @@ module _ (text : List ℕ) (in_flush : Bool) (utf8 : IsUtf8 text) where
     good : AllByRecursion IsGood s.pieces
     is_open : Open s.in_field s.pieces s.start place
 
-  plain_span : (start place : ℕ) → IsCharBoundary text start → IsCharBoundary text place → start < place → place ≤ length text → list_all is_plain_byte (slice_range text start place) ≡ true → is_plain (name_of text (span start place)) ≡ true
+  plain_span : (start place : ℕ) → IsCharBoundary text start → IsCharBoundary text place → start < place → place ≤ length text
+      → list_all is_plain_byte (slice_range text start place) ≡ true → is_plain (name_of text (span start place)) ≡ true
   plain_span start place begins ends some within all =
-      let bytes = spelled_between text start place (omega arith) begins ends in
+      let bytes = spelled_slice text start place (omega arith) begins ends in
       let len : 0 < length (slice_range text start place) = omega (arith, length-take (place - start) (drop start text), length-drop start text) in
-      ap is_plain bytes ∙ both (nat_lt 0 (length (slice_range text start place))) (list_all is_plain_byte (slice_range text start place)) (lt_true 0 (length (slice_range text start place)) len) all
+      ap is_plain bytes
+      ∙ both (nat_lt 0 (length (slice_range text start place))) (list_all is_plain_byte (slice_range text start place))
+      (lt_true 0 (length (slice_range text start place)) len) all
 
   -- where a plain piece ends
-  ended : (qs : List WrittenPiece) (start place : ℕ) (b : Bool) → nat_lt start place ≡ b → IsCharBoundary text start → IsCharBoundary text place → place ≤ length text → AllByRecursion IsGood qs → Open false qs start place
+  ended : (qs : List WrittenPiece) (start place : ℕ) (b : Bool) → nat_lt start place ≡ b → IsCharBoundary text start → IsCharBoundary text place
+      → place ≤ length text → AllByRecursion IsGood qs → Open false qs start place
       → AreGood (if b then qs ++ p.Plain (span start place) ∷ [] else qs)
   ended qs start place true e begins ends within good is_open =
       record {
@@ -229,7 +239,8 @@ module _ (text : List ℕ) (in_flush : Bool) (utf8 : IsUtf8 text) where
   nothing_yet place = let none : place - place ≡ 0 = omega arith in ap (λ (j : ℕ). take j (drop place text)) none
 
   -- one byte more of what is plain
-  one_more_plain : (start place b : ℕ) (rest : List ℕ) → start ≤ place → drop place text ≡ b ∷ rest → list_all is_plain_byte (slice_range text start place) ≡ true → is_plain_byte b ≡ true
+  one_more_plain : (start place b : ℕ) (rest : List ℕ) → start ≤ place → drop place text ≡ b ∷ rest
+      → list_all is_plain_byte (slice_range text start place) ≡ true → is_plain_byte b ≡ true
       → list_all is_plain_byte (slice_range text start (place + 1)) ≡ true
   one_more_plain start place b rest le here all plain =
       let back : start + (place - start) ≡ place = omega arith in
@@ -312,12 +323,14 @@ module _ (text : List ℕ) (in_flush : Bool) (utf8 : IsUtf8 text) where
       ]
 
   -- the end of a scan that is in no field
-  scan_end_kept : (qs : List WrittenPiece) (start : ℕ) (in_field : Bool) (place : ℕ) → Scanned (record { pieces = qs; start = start; in_field = in_field }) place → IsCharBoundary text place → place ≤ length text → not in_field ≡ true
+  scan_end_kept : (qs : List WrittenPiece) (start : ℕ) (in_field : Bool) (place : ℕ)
+      → Scanned (record { pieces = qs; start = start; in_field = in_field }) place → IsCharBoundary text place → place ≤ length text → not in_field ≡ true
       → AreGood (end_of_scan (record { pieces = qs; start = start; in_field = in_field }) place).pieces
   scan_end_kept qs start true place now ends within whole = absurd cc
   scan_end_kept qs start false place now ends within whole = ended qs start place (nat_lt start place) refl now.begins ends within now.good now.is_open
 
-  scanned : (bs rest : List ℕ) (s : Scan) (place : ℕ) → Scanned s place → drop place text ≡ bs ++ rest → list_all is_text_byte bs ≡ true → IsCharBoundary text (place + length bs) → place + length bs ≤ length text
+  scanned : (bs rest : List ℕ) (s : Scan) (place : ℕ) → Scanned s place → drop place text ≡ bs ++ rest → list_all is_text_byte bs ≡ true
+      → IsCharBoundary text (place + length bs) → place + length bs ≤ length text
       → (scan (field_at text in_flush) s place bs).whole ≡ true → AreGood (scan (field_at text in_flush) s place bs).pieces
   unfolding scan
   scanned [] rest s place now here all ends within whole =
@@ -333,19 +346,23 @@ module _ (text : List ℕ) (in_flush : Bool) (utf8 : IsUtf8 text) where
       on = omega arith
 
       by : (found : Option Scan) → scan_byte (field_at text in_flush) s place b ≡ found
-          → ((next : Scan) → scan_byte (field_at text in_flush) s place b ≡ Some next → (scan (field_at text in_flush) next (place + 1) bs).whole ≡ true → AreGood (scan (field_at text in_flush) next (place + 1) bs).pieces)
-          → (continued s found (λ next. scan (field_at text in_flush) next (place + 1) bs)).whole ≡ true → AreGood (continued s found (λ next. scan (field_at text in_flush) next (place + 1) bs)).pieces
+          → ((next : Scan) → scan_byte (field_at text in_flush) s place b ≡ Some next → (scan (field_at text in_flush) next (place + 1) bs).whole ≡ true
+          → AreGood (scan (field_at text in_flush) next (place + 1) bs).pieces)
+          → (continued s found (λ next. scan (field_at text in_flush) next (place + 1) bs)).whole ≡ true → AreGood
+          (continued s found (λ next. scan (field_at text in_flush) next (place + 1) bs)).pieces
       by None e more whole = absurd cc
       by (Some next) e more whole = more next e whole
 
   -- the pieces of a written text that is a whole template
-  pub template_kept : (s : WrittenSpan) → IsInside text (record { word = w.Text; from = s.from; to = s.to }) → (template_at text in_flush s).whole ≡ true → AreGood (template_at text in_flush s).pieces
+  pub template_kept : (s : WrittenSpan) → IsQuoted text s → (template_at text in_flush s).whole ≡ true → AreGood (template_at text in_flush s).pieces
   unfolding template_at
   template_kept s within whole =
-      let bytes = inside_bytes text s within in
-      let len : length (inside text s) ≡ s.to - 1 - (s.from + 1) = ap length bytes ∙ omega (arith, within.room, length-take (s.to - 1 - (s.from + 1)) (drop (s.from + 1) text), length-drop (s.from + 1) text) in
+      let bytes = within.is in
+      let len : length (inside text s) ≡ s.to - 1 - (s.from + 1) = ap length bytes
+      ∙ omega (arith, within.room, length-take (s.to - 1 - (s.from + 1)) (drop (s.from + 1) text), length-drop (s.from + 1) text) in
       let at_end : s.from + 1 + length (inside text s) ≡ s.to - 1 = omega (arith, within.room, len) in
-      let rest : drop (s.from + 1) text ≡ inside text s ++ drop (s.to - 1) text = drop_split text (s.from + 1) (s.to - 1) (omega (arith, within.room)) ∙ ap (λ bs. bs ++ drop (s.to - 1) text) (sym bytes) in
+      let rest : drop (s.from + 1) text ≡ inside text s ++ drop (s.to - 1) text = drop_split text (s.from + 1) (s.to - 1) (omega (arith, within.room))
+      ∙ ap (λ bs. bs ++ drop (s.to - 1) text) (sym bytes) in
       scanned (inside text s) (drop (s.to - 1) text) (scan_start (s.from + 1)) (s.from + 1) (
       record {
         begins = within.begins;
@@ -353,7 +370,7 @@ module _ (text : List ℕ) (in_flush : Bool) (utf8 : IsUtf8 text) where
         good = tt;
         is_open = (refl, ap (list_all is_plain_byte) (nothing_yet (s.from + 1)));
       }
-      ) rest (inside_is_text text s within) (subst (IsCharBoundary text) (sym at_end) within.ends) (omega (arith, at_end, within.ends.0)) whole
+      ) rest within.bytes (subst (IsCharBoundary text) (sym at_end) within.ends) (omega (arith, at_end, within.ends.0)) whole
 
 -- ---- what the pieces mean
 abbrev AreFound : {X Y : Type 0} → (X → Found Y) → List X → List Y → Type 0
@@ -363,12 +380,13 @@ AreFound find (x ∷ xs) [] = ⊥
 AreFound find (x ∷ xs) (y ∷ ys) = (find x ≡ Ok y) × AreFound find xs ys
 
 -- what is found of each element, one by one
-each_found : {X Y : Type 0} (find : X → Found Y) (done : List Y) (xs : List X) (ys : List Y) → each (collect find) done xs ≡ Ok ys → (zs : List Y) × (ys ≡ done ++ zs) × AreFound find xs zs
+each_found : {X Y : Type 0} (find : X → Found Y) (done : List Y) (xs : List X) (ys : List Y) → each (collect find) done xs ≡ Ok ys
+    → (zs : List Y) × (ys ≡ done ++ zs) × AreFound find xs zs
 unfolding each
 each_found find done [] ys e = let same : done ≡ ys = cc in ([], sym same ∙ sym (append-nil done), tt)
 each_found find done (x ∷ xs) ys e =
-    let h = bound (collect find done x) _ ys e in
-    let g = bound (find x) (λ y. Ok (done ++ y ∷ [])) h.0 h.1 in
+    let h = bind_ok (collect find done x) _ ys e in
+    let g = bind_ok (find x) (λ y. Ok (done ++ y ∷ [])) h.0 h.1 in
     let now : done ++ g.0 ∷ [] ≡ h.0 = cc in
     let rest = each_found find h.0 xs ys h.2 in
     (g.0 ∷ rest.0, rest.1 ∙ ap (λ l. l ++ rest.0) (sym now) ∙ append_assoc done (g.0 ∷ []) rest.0, (g.1, rest.2))
@@ -377,31 +395,38 @@ module _ (text : List ℕ) (utf8 : IsUtf8 text) (n : Naming) (numbered : Numbere
   abbrev families : List Family
   families = families_of text n numbered
 
-  read_kept : (place : ℕ) (r : WrittenRef) (q : Piece) → read_fits under r.key (look_up (name_of text r.family) n.families) ≡ true → piece_of text n under place (p.Read r) ≡ Ok q → emit_piece_fits families under.keyed under.has_value q ≡ true
+  read_kept : (place : ℕ) (r : WrittenRef) (q : Piece) → read_fits under r.key (look_up (name_of text r.family) n.families) ≡ true
+      → piece_of text n under place (p.Read r) ≡ Ok q → emit_piece_fits families under.keyed under.has_value q ≡ true
   unfolding piece_of
   read_kept place r q fits e =
-      let h = bound (known place (look_up (name_of text r.family) n.families)) _ q e in
+      let h = bind_ok (known place (look_up (name_of text r.family) n.families)) _ q e in
       let is = was_known place (look_up (name_of text r.family) n.families) h.0 h.1 in
-      let g = bound (at_of under r.key) (λ at. Ok (piece.Read (record { family = h.0.number; at = at }))) q h.2 in
+      let g = bind_ok (at_of under r.key) (λ at. Ok (piece.Read (record { family = h.0.number; at = at }))) q h.2 in
       let same : piece.Read (record { family = h.0.number; at = g.0 }) ≡ q = cc in
       let fit = ap (read_fits under r.key) (sym is) ∙ fits in
       let brackets = and_left (brackets_fit h.0.keyed r.key) (own_key_fits under r.key) fit in
       ap (emit_piece_fits families under.keyed under.has_value) (sym same)
       ∙ ref_kept text n numbered (name_of text r.family) h.0 under.keyed g.0 is (at_kept h.0.keyed under r.key g.0 brackets g.1)
 
-  emit_piece_kept : (place : ℕ) (q : WrittenPiece) (found : Piece) → IsGood text false utf8 q → piece_fits text n under false q ≡ true → piece_of text n under place q ≡ Ok found → emit_piece_fits families under.keyed under.has_value found ≡ true
+  emit_piece_kept : (place : ℕ) (q : WrittenPiece) (found : Piece) → IsGood text false utf8 q → piece_fits text n under false q ≡ true
+      → piece_of text n under place q ≡ Ok found → emit_piece_fits families under.keyed under.has_value found ≡ true
   unfolding piece_of
-  emit_piece_kept place (p.Plain s) found good fits e = let same : piece.Plain (name_of text s) ≡ found = cc in ap (emit_piece_fits families under.keyed under.has_value) (sym same) ∙ good
-  emit_piece_kept place p.Value found good fits e = let same : piece.Value ≡ found = cc in ap (emit_piece_fits families under.keyed under.has_value) (sym same) ∙ fits
-  emit_piece_kept place p.Key found good fits e = let same : piece.Key ≡ found = cc in ap (emit_piece_fits families under.keyed under.has_value) (sym same) ∙ fits
+  emit_piece_kept place (p.Plain s) found good fits e =
+      let same : piece.Plain (name_of text s) ≡ found = cc in ap (emit_piece_fits families under.keyed under.has_value) (sym same) ∙ good
+  emit_piece_kept place p.Value found good fits e =
+      let same : piece.Value ≡ found = cc in ap (emit_piece_fits families under.keyed under.has_value) (sym same) ∙ fits
+  emit_piece_kept place p.Key found good fits e =
+      let same : piece.Key ≡ found = cc in ap (emit_piece_fits families under.keyed under.has_value) (sym same) ∙ fits
   emit_piece_kept place p.Time found good fits e = let same : piece.Time ≡ found = cc in ap (emit_piece_fits families under.keyed under.has_value) (sym same)
   emit_piece_kept place p.CellValue found good fits e = absurd cc
   emit_piece_kept place (p.Read r) found good fits e = read_kept place r found fits e
   emit_piece_kept place p.Formless found good fits e = absurd cc
 
-  flush_piece_kept : (place : ℕ) (q : WrittenPiece) (found : Piece) → IsGood text true utf8 q → piece_fits text n under true q ≡ true → piece_of text n under place q ≡ Ok found → flush_piece_fits under.has_value found ≡ true
+  flush_piece_kept : (place : ℕ) (q : WrittenPiece) (found : Piece) → IsGood text true utf8 q → piece_fits text n under true q ≡ true
+      → piece_of text n under place q ≡ Ok found → flush_piece_fits under.has_value found ≡ true
   unfolding piece_of
-  flush_piece_kept place (p.Plain s) found good fits e = let same : piece.Plain (name_of text s) ≡ found = cc in ap (flush_piece_fits under.has_value) (sym same) ∙ good
+  flush_piece_kept place (p.Plain s) found good fits e =
+      let same : piece.Plain (name_of text s) ≡ found = cc in ap (flush_piece_fits under.has_value) (sym same) ∙ good
   flush_piece_kept place p.Value found good fits e = let same : piece.Value ≡ found = cc in ap (flush_piece_fits under.has_value) (sym same) ∙ fits
   flush_piece_kept place p.Key found good fits e = let same : piece.Key ≡ found = cc in ap (flush_piece_fits under.has_value) (sym same)
   flush_piece_kept place p.Time found good fits e = let same : piece.Time ≡ found = cc in ap (flush_piece_fits under.has_value) (sym same)
@@ -418,20 +443,24 @@ module _ (text : List ℕ) (utf8 : IsUtf8 text) (n : Naming) (numbered : Numbere
   plain_kept place p.Time found e = let same : piece.Time ≡ found = cc in ap is_plain_piece (sym same)
   plain_kept place p.CellValue found e = let same : piece.CellValue ≡ found = cc in ap is_plain_piece (sym same)
   plain_kept place (p.Read r) found e =
-      let h = bound (known place (look_up (name_of text r.family) n.families)) _ found e in
-      let g = bound (at_of under r.key) (λ at. Ok (piece.Read (record { family = h.0.number; at = at }))) found h.2 in
+      let h = bind_ok (known place (look_up (name_of text r.family) n.families)) _ found e in
+      let g = bind_ok (at_of under r.key) (λ at. Ok (piece.Read (record { family = h.0.number; at = at }))) found h.2 in
       let same : piece.Read (record { family = h.0.number; at = g.0 }) ≡ found = cc in
       ap is_plain_piece (sym same)
   plain_kept place p.Formless found e = absurd cc
 
-  plains_kept : (place : ℕ) (qs : List WrittenPiece) (ps : List Piece) → AreFound (piece_of text n under place) qs ps → map is_plain_piece ps ≡ map is_written_plain qs
+  plains_kept : (place : ℕ) (qs : List WrittenPiece) (ps : List Piece) → AreFound (piece_of text n under place) qs ps
+      → map is_plain_piece ps ≡ map is_written_plain qs
   plains_kept place [] [] are = refl
   plains_kept place [] (x ∷ ps) are = absurd are
   plains_kept place (q ∷ qs) [] are = absurd are
   plains_kept place (q ∷ qs) (x ∷ ps) are = λ i. plain_kept place q x are.0 i ∷ plains_kept place qs ps are.1 i
 
-  all_kept : (in_flush : Bool) (place : ℕ) (fits : Piece → Bool) → ((q : WrittenPiece) (found : Piece) → IsGood text in_flush utf8 q → piece_fits text n under in_flush q ≡ true → piece_of text n under place q ≡ Ok found → fits found ≡ true)
-      → (qs : List WrittenPiece) (ps : List Piece) → AllByRecursion (IsGood text in_flush utf8) qs → list_all (piece_fits text n under in_flush) qs ≡ true → AreFound (piece_of text n under place) qs ps → list_all fits ps ≡ true
+  all_kept : (in_flush : Bool) (place : ℕ) (fits : Piece → Bool)
+      → ((q : WrittenPiece) (found : Piece) → IsGood text in_flush utf8 q → piece_fits text n under in_flush q ≡ true
+      → piece_of text n under place q ≡ Ok found → fits found ≡ true)
+      → (qs : List WrittenPiece) (ps : List Piece) → AllByRecursion (IsGood text in_flush utf8) qs → list_all (piece_fits text n under in_flush) qs ≡ true
+      → AreFound (piece_of text n under place) qs ps → list_all fits ps ≡ true
   all_kept in_flush place fits kept [] [] good all are = refl
   all_kept in_flush place fits kept [] (x ∷ ps) good all are = absurd are
   all_kept in_flush place fits kept (q ∷ qs) [] good all are = absurd are
@@ -441,23 +470,30 @@ module _ (text : List ℕ) (utf8 : IsUtf8 text) (n : Naming) (numbered : Numbere
       both (fits x) (list_all fits ps) (kept q x good.0 here are.0) (all_kept in_flush place fits kept qs ps good.1 rest are.1)
 
   -- what a text is found to mean
-  found_pieces : (in_flush : Bool) (s : WrittenSpan) (ps : List Piece) → IsInside text (record { word = w.Text; from = s.from; to = s.to }) → template_of text n under in_flush s ≡ Ok ps
-      → AreGood text in_flush utf8 (template_at text in_flush s).pieces × (list_all (piece_fits text n under in_flush) (template_at text in_flush s).pieces ≡ true) × AreFound (piece_of text n under s.from) (template_at text in_flush s).pieces ps
+  found_pieces : (in_flush : Bool) (s : WrittenSpan) (ps : List Piece) → IsQuoted text s → template_of text n under in_flush s ≡ Ok ps
+      → AreGood text in_flush utf8 (template_at text in_flush s).pieces
+      × (list_all (piece_fits text n under in_flush) (template_at text in_flush s).pieces ≡ true)
+      × AreFound (piece_of text n under s.from) (template_at text in_flush s).pieces ps
   unfolding template_of
   found_pieces in_flush s ps within e =
       let t = template_at text in_flush s in
-      let one = behind (known_names text n s.from t.pieces) _ ps e in
-      let two = passed (t.whole && list_all (piece_fits text n under in_flush) t.pieces) (f.WrongShape s.from) (pieces_of text n under s.from t.pieces) ps one.2 in
+      let one = then_ok (known_names text n s.from t.pieces) _ ps e in
+      let two = passed (t.whole && list_all (piece_fits text n under in_flush) t.pieces) (f.WrongShape s.from)
+      (pieces_of text n under s.from t.pieces) ps one.2 in
       let three = each_found (piece_of text n under s.from) [] t.pieces ps two.1 in
-      let whole = and_left t.whole (list_all (piece_fits text n under in_flush) t.pieces) two.0 in
-      (template_kept text in_flush utf8 s within whole, and_right t.whole (list_all (piece_fits text n under in_flush) t.pieces) two.0, subst (AreFound (piece_of text n under s.from) t.pieces) (sym three.1) three.2)
+      let whole = and_left t.whole (list_all (piece_fits text n under in_flush) t.pieces) two.0 in (
+        template_kept text in_flush utf8 s within whole,
+        and_right t.whole (list_all (piece_fits text n under in_flush) t.pieces) two.0,
+        subst
+            (AreFound (piece_of text n under s.from) t.pieces) (sym three.1) three.2,
+      )
 
   -- the text that they are written as is no longer than the one that was read
-  short_kept : (in_flush : Bool) (s : WrittenSpan) (ps : List Piece) → IsInside text (record { word = w.Text; from = s.from; to = s.to })
+  short_kept : (in_flush : Bool) (s : WrittenSpan) (ps : List Piece) → IsQuoted text s
       → template_of text n under in_flush s ≡ Ok ps → is_short (written_template families ps) ≡ true
-  short_kept in_flush s ps within e = template_short text n numbered under in_flush s ps (inside_is_short text s within) e
+  short_kept in_flush s ps within e = template_short text n numbered under in_flush s ps within.short e
 
-  pub emit_kept : (s : WrittenSpan) (ps : List Piece) → IsInside text (record { word = w.Text; from = s.from; to = s.to })
+  pub emit_kept : (s : WrittenSpan) (ps : List Piece) → IsQuoted text s
       → template_of text n under false s ≡ Ok ps → emit_template_fits families under.keyed under.has_value ps ≡ true
   emit_kept s ps within e =
       let h = found_pieces false s ps within e in
@@ -469,7 +505,7 @@ module _ (text : List ℕ) (utf8 : IsUtf8 text) (n : Naming) (numbered : Numbere
       (pieces_apart ps ∙ ap apart (plains_kept s.from qs ps h.2) ∙ h.0.are_apart))
       (short_kept false s ps within e)
 
-  pub flush_kept : (s : WrittenSpan) (ps : List Piece) → IsInside text (record { word = w.Text; from = s.from; to = s.to })
+  pub flush_kept : (s : WrittenSpan) (ps : List Piece) → IsQuoted text s
       → template_of text n under true s ≡ Ok ps → flush_template_fits families under.has_value ps ≡ true
   flush_kept s ps within e =
       let h = found_pieces true s ps within e in

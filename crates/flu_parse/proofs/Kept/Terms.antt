@@ -5,6 +5,7 @@ use Rattle.std.proofs.lemmas.Option.{slice_get-map}
 use Rattle.std.specs.List.{AllByRecursion}
 use Rattle.flu_lemmas.proofs.Elements.{all_front, all_back}
 use Rattle.flu_lemmas.proofs.Tests.{and_left, and_right, both, lt_true}
+use Rattle.flu_lemmas.proofs.Loops.{bind_ok, then_ok}
 use Rattle.flu_model.specs.declared.limits.What.TheVariants.{Key, Height}
 use Rattle.flu_model.specs.declared.jobs.Sort.{Sort}
 use Rattle.flu_model.specs.declared.jobs.Sort.TheVariants.{Sum, Max, Last}
@@ -25,16 +26,16 @@ use Rattle.flu_syntax.specs.declared.tree.WrittenKey.{WrittenKey}
 use Rattle.flu_syntax.specs.declared.tree.WrittenKey.TheVariants as k
 use Rattle.flu_syntax.specs.declared.tree.WrittenRef.{WrittenRef}
 use Rattle.flu_syntax.specs.Tree.{Tree, NumberTree, ValueTree, KeyTree, TimeTree, ReadTree, HasTree, ParenTree, NegTree, NotTree, TwoTree}
+use Rattle.flu_layout.specs.Spelling.{name_of, written_value}
+use Rattle.flu_layout.specs.Stands.{AreRead}
 use Rattle.flu_parse.specs.declared.faults.JobFault.TheVariants as f
 use Rattle.flu_parse.specs.declared.names.FamilyHead.{FamilyHead}
 use Rattle.flu_parse.specs.declared.names.KindHead.{KindHead}
-use Rattle.flu_parse.specs.Spelling.{name_of, written_value}
 use Rattle.flu_parse.specs.Naming.{Naming, look_up, known}
 use Rattle.flu_parse.specs.Cells.{resolved_key, brackets_fit, is_wanted, family_for, at_of, resolved_cell}
 use Rattle.flu_parse.specs.Terms.{height, first_part, first_token, term_of, expression_of}
 use Rattle.flu_parse.specs.Resolving.{family}
-use Rattle.flu_parse.proofs.Looks.{bound, behind, passed}
-use Rattle.flu_parse.proofs.Kept.Words.{AreRead}
+use Rattle.flu_parse.proofs.Looks.{passed}
 use Rattle.flu_parse.proofs.Kept.Plain.{term_fits, term_height, is_good_term}
 use Rattle.flu_parse.proofs.Kept.Names.{Numbered, family_number, at_number}
 
@@ -51,14 +52,15 @@ key_kept number key e =
     (ap (λ n. nat_lt n 65536) (sym same) ∙ h.0, same)
 
 -- where brackets fit, so does the key
-pub at_kept : (keyed : Bool) (under : KindHead) (key : WrittenKey) (at : At) → brackets_fit keyed key ≡ true → at_of under key ≡ Ok at → key_fits keyed under.keyed at ≡ true
+pub at_kept : (keyed : Bool) (under : KindHead) (key : WrittenKey) (at : At) → brackets_fit keyed key ≡ true → at_of under key ≡ Ok at
+    → key_fits keyed under.keyed at ≡ true
 at_kept keyed under k.Alone at fits e = let same : cell.Alone ≡ at = cc in ap (key_fits keyed under.keyed) (sym same) ∙ fits
 at_kept keyed under (k.OwnKey place) at fits e =
     let h = passed under.keyed (f.WrongShape place) (Ok cell.OwnKey) at e in
     let same : cell.OwnKey ≡ at = cc in
     ap (key_fits keyed under.keyed) (sym same) ∙ both keyed under.keyed fits h.0
 at_kept keyed under (k.Fixed number) at fits e =
-    let h = bound (resolved_key number) (λ key. Ok (cell.Fixed key)) at e in
+    let h = bind_ok (resolved_key number) (λ key. Ok (cell.Fixed key)) at e in
     let same : cell.Fixed h.0 ≡ at = cc in
     ap (key_fits keyed under.keyed) (sym same) ∙ both keyed (nat_lt h.0 65536) fits (key_kept number h.0 h.1).0
 
@@ -78,32 +80,42 @@ module _ (text : List ℕ) (n : Naming) (numbered : Numbered family_number 0 n.f
   families_of = map family n.families
 
   -- the family of a head is declared at its number
-  pub family_at : (name : List ℕ) (head : FamilyHead) → look_up name n.families ≡ Some head → (fam : Family) × (slice_get families_of head.number ≡ Some fam) × (fam.keyed ≡ head.keyed) × (fam.sort ≡ head.sort)
+  pub family_at : (name : List ℕ) (head : FamilyHead) → look_up name n.families ≡ Some head
+      → (fam : Family) × (slice_get families_of head.number ≡ Some fam) × (fam.keyed ≡ head.keyed) × (fam.sort ≡ head.sort)
   family_at name head e =
-      let h = at_number family_number n.families name head numbered e in
-      (family h.0, slice_get-map family n.families head.number ∙ ap (option_map family) h.1, ap (λ (x : FamilyHead). x.keyed) h.2, ap (λ (x : FamilyHead). x.sort) h.2)
+      let h = at_number family_number n.families name head numbered e in (
+        family h.0,
+        slice_get-map family n.families head.number
+            ∙ ap (option_map family) h.1,
+        ap (λ (x : FamilyHead). x.keyed) h.2,
+        ap (λ (x : FamilyHead). x.sort) h.2,
+      )
 
-  pub ref_kept : (name : List ℕ) (head : FamilyHead) (kind_keyed : Bool) (at : At) → look_up name n.families ≡ Some head → key_fits head.keyed kind_keyed at ≡ true → ref_fits families_of kind_keyed (record { family = head.number; at = at }) ≡ true
+  pub ref_kept : (name : List ℕ) (head : FamilyHead) (kind_keyed : Bool) (at : At) → look_up name n.families ≡ Some head
+      → key_fits head.keyed kind_keyed at ≡ true → ref_fits families_of kind_keyed (record { family = head.number; at = at }) ≡ true
   ref_kept name head kind_keyed at e fits =
       let h = family_at name head e in
       ap (λ o. family_fits o kind_keyed at) h.1 ∙ ap (λ b. key_fits b kind_keyed at) h.2 ∙ fits
 
-  pub sort_kept : (name : List ℕ) (head : FamilyHead) (sort : Sort) (at : At) → look_up name n.families ≡ Some head → is_sort sort head.sort ≡ true → ref_has_sort families_of sort (record { family = head.number; at = at }) ≡ true
+  pub sort_kept : (name : List ℕ) (head : FamilyHead) (sort : Sort) (at : At) → look_up name n.families ≡ Some head → is_sort sort head.sort ≡ true
+      → ref_has_sort families_of sort (record { family = head.number; at = at }) ≡ true
   sort_kept name head sort at e is =
       let h = family_at name head e in
       ap (λ o. has_sort o sort) h.1 ∙ ap (λ s. is_sort s sort) h.3 ∙ sort_swapped sort head.sort is
 
-  pub keyed_kept : (name : List ℕ) (head : FamilyHead) → look_up name n.families ≡ Some head → head.keyed ≡ true → is_keyed (slice_get families_of head.number) ≡ true
+  pub keyed_kept : (name : List ℕ) (head : FamilyHead) → look_up name n.families ≡ Some head → head.keyed ≡ true
+      → is_keyed (slice_get families_of head.number) ≡ true
   keyed_kept name head e keyed = let h = family_at name head e in ap is_keyed h.1 ∙ h.2 ∙ keyed
 
   module _ (under : KindHead) where
     -- a cell that is found: its family is looked up, of the wanted sort and with brackets that fit
     found_cell : (wanted : Option Sort) (r : WrittenRef) (c : CellRef) → resolved_cell text n under wanted r ≡ Ok c
-        → (head : FamilyHead) × (at : At) × (look_up (name_of text r.family) n.families ≡ Some head) × (is_wanted wanted head.sort ≡ true) × (key_fits head.keyed under.keyed at ≡ true) × (record { family = head.number; at = at } ≡ c)
+        → (head : FamilyHead) × (at : At) × (look_up (name_of text r.family) n.families ≡ Some head) × (is_wanted wanted head.sort ≡ true)
+        × (key_fits head.keyed under.keyed at ≡ true) × (record { family = head.number; at = at } ≡ c)
     found_cell wanted r c e =
-        let one = bound (family_for text n wanted r) _ c e in
-        let two = bound (at_of under r.key) (λ at. Ok (record { family = one.0.number; at = at })) c one.2 in
-        let three = bound (known r.family.from (look_up (name_of text r.family) n.families)) _ one.0 one.1 in
+        let one = bind_ok (family_for text n wanted r) _ c e in
+        let two = bind_ok (at_of under r.key) (λ at. Ok (record { family = one.0.number; at = at })) c one.2 in
+        let three = bind_ok (known r.family.from (look_up (name_of text r.family) n.families)) _ one.0 one.1 in
         let four = passed (is_wanted wanted three.0.sort && brackets_fit three.0.keyed r.key) (f.WrongShape r.family.from) (Ok three.0) one.0 three.2 in
         let same : three.0 ≡ one.0 = cc in
         let fit = ap (λ (h : FamilyHead). is_wanted wanted h.sort && brackets_fit h.keyed r.key) (sym same) ∙ four.0 in
@@ -116,11 +128,14 @@ module _ (text : List ℕ) (n : Naming) (numbered : Numbered family_number 0 n.f
           cc,
         )
 
-    pub cell_kept : (wanted : Option Sort) (r : WrittenRef) (c : CellRef) → resolved_cell text n under wanted r ≡ Ok c → ref_fits families_of under.keyed c ≡ true
-    cell_kept wanted r c e = let h = found_cell wanted r c e in ap (ref_fits families_of under.keyed) (sym h.5) ∙ ref_kept (name_of text r.family) h.0 under.keyed h.1 h.2 h.4
+    pub cell_kept : (wanted : Option Sort) (r : WrittenRef) (c : CellRef) → resolved_cell text n under wanted r ≡ Ok c
+        → ref_fits families_of under.keyed c ≡ true
+    cell_kept wanted r c e =
+        let h = found_cell wanted r c e in ap (ref_fits families_of under.keyed) (sym h.5) ∙ ref_kept (name_of text r.family) h.0 under.keyed h.1 h.2 h.4
 
     pub cell_has_sort : (sort : Sort) (r : WrittenRef) (c : CellRef) → resolved_cell text n under (Some sort) r ≡ Ok c → ref_has_sort families_of sort c ≡ true
-    cell_has_sort sort r c e = let h = found_cell (Some sort) r c e in ap (ref_has_sort families_of sort) (sym h.5) ∙ sort_kept (name_of text r.family) h.0 sort h.1 h.2 h.3
+    cell_has_sort sort r c e =
+        let h = found_cell (Some sort) r c e in ap (ref_has_sort families_of sort) (sym h.5) ∙ sort_kept (name_of text r.family) h.0 sort h.1 h.2 h.3
 
     -- ---- expressions of words that stand in the text
 
@@ -128,7 +143,7 @@ module _ (text : List ℕ) (n : Naming) (numbered : Numbered family_number 0 n.f
       number_kept : (m : WrittenNumber) → Stands ts (AtPlace (w.Number m.value) m.at) → is_literal m.value ≡ true
       number_kept m stands =
           let t : Token = stands.0 in
-          let there : IsToken text t = let h = stands.1 in subst (IsToken text) h.2 (read.each h.0 t h.1) in
+          let there : IsToken text t = let h = stands.1 in subst (IsToken text) h.2 (read.tokens h.0 t h.1) in
           let number : Spells (w.Number m.value) (bytes_of text t) = subst (λ (word : Word). Spells word (bytes_of text t)) stands.2.0 there.spelled in
           ap is_literal number.value ∙ lt_true _ (2 ^ 63) number.small
 
@@ -148,37 +163,38 @@ module _ (text : List ℕ) (n : Naming) (numbered : Numbered family_number 0 n.f
           subst (Kept (KeyTree at)) same (h.0, refl)
       term_kept (TimeTree at) t words e = let same : EventTime ≡ t = cc in subst (Kept (TimeTree at)) same (refl, refl)
       term_kept (ReadTree r) t words e =
-          let h = bound (resolved_cell text n under None r) (λ c. Ok (CellRead c)) t e in
+          let h = bind_ok (resolved_cell text n under None r) (λ c. Ok (CellRead c)) t e in
           let same : CellRead h.0 ≡ t = cc in
           subst (Kept (ReadTree r)) same (cell_kept None r h.0 h.1, refl)
       term_kept (HasTree at r) t words e =
-          let h = bound (resolved_cell text n under None r) (λ c. Ok (CellHeld c)) t e in
+          let h = bind_ok (resolved_cell text n under None r) (λ c. Ok (CellHeld c)) t e in
           let same : CellHeld h.0 ≡ t = cc in
           subst (Kept (HasTree at r)) same (cell_kept None r h.0 h.1, refl)
       term_kept (ParenTree at inner) t words e = term_kept inner t words e
       term_kept (NegTree at inner) t words e =
-          let h = bound (term_of text n under inner) (λ s. Ok (Negative s)) t e in
+          let h = bind_ok (term_of text n under inner) (λ s. Ok (Negative s)) t e in
           let same : Negative h.0 ≡ t = cc in
           let rest = term_kept inner h.0 words h.1 in
           subst (Kept (NegTree at inner)) same (rest.0, ap (λ m. m + 1) rest.1)
       term_kept (NotTree at inner) t words e =
-          let h = bound (term_of text n under inner) (λ s. Ok (Negation s)) t e in
+          let h = bind_ok (term_of text n under inner) (λ s. Ok (Negation s)) t e in
           let same : Negation h.0 ≡ t = cc in
           let rest = term_kept inner h.0 words h.1 in
           subst (Kept (NotTree at inner)) same (rest.0, ap (λ m. m + 1) rest.1)
       term_kept (TwoTree op a b) t words e =
-          let h = bound (term_of text n under a) _ t e in
-          let g = bound (term_of text n under b) (λ s. Ok (Operation op h.0 s)) t h.2 in
+          let h = bind_ok (term_of text n under a) _ t e in
+          let g = bind_ok (term_of text n under b) (λ s. Ok (Operation op h.0 s)) t h.2 in
           let same : Operation op h.0 g.0 ≡ t = cc in
           let left = term_kept a h.0 (all_front (Stands ts) (tree_words a) (tree_words b) words) h.1 in
           let right = term_kept b g.0 (all_back (Stands ts) (tree_words a) (tree_words b) words) g.1 in
           let fits = term_fits families_of under.keyed under.has_value in
           subst (Kept (TwoTree op a b)) same (both (fits h.0) (fits g.0) left.0 right.0, λ i. max (left.1 i) (right.1 i) + 1)
 
-      pub expression_kept : (e : Tree) (t : Term) → AllByRecursion (Stands ts) (tree_words e) → expression_of text n under e ≡ Ok t → is_good_term families_of under.keyed under.has_value t ≡ true
+      pub expression_kept : (e : Tree) (t : Term) → AllByRecursion (Stands ts) (tree_words e) → expression_of text n under e ≡ Ok t
+          → is_good_term families_of under.keyed under.has_value t ≡ true
       unfolding expression_of
       expression_kept e t words found =
-          let one = behind (first_token text n under (first_part e)) _ t found in
+          let one = then_ok (first_token text n under (first_part e)) _ t found in
           let two = passed (nat_le (height e) 32) (f.OverLimit Height 33) (term_of text n under e) t one.2 in
           let kept = term_kept e t words two.1 in
           both (term_fits families_of under.keyed under.has_value t) (nat_le (term_height t) 32) kept.0 (ap (λ m. nat_le m 32) kept.1 ∙ two.0)

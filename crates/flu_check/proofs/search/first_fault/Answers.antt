@@ -1,6 +1,7 @@
 use Rattle.std.proofs.Common.{subst, arith}
-use Rattle.flu_check.specs.Found.{tag_at, PassesTag}
-use Rattle.flu_check.proofs.FaultLemmas.{one_more, passed_is_first, passed_none}
+use Rattle.flu_check.specs.LoopFound.{tag_at, PassesTag}
+use Rattle.flu_lemmas.proofs.Numbers.{one_more}
+use Rattle.flu_check.proofs.FaultLemmas.{passed_is_first, passed_none}
 use Rattle.flu_check.proofs.search.first_fault.Goals as goal
 
 pub loop-i-preserved : goal.loop-i-preserved
@@ -17,4 +18,4 @@ pub returns-clause-first : goal.returns-clause-first
 returns-clause-first c = passed_is_first c.args.p.now c.loop-i.found c.loop-i.invariant.0 (λ i lt. c.loop-i.invariant.1 i (omega arith))
 
 pub returns-clause-none : goal.returns-clause-none
-returns-clause-none c = passed_none c.args.p.now c.loop-i.found (λ i lt. c.loop-i.invariant.1 i (omega arith))
+returns-clause-none c = passed_none c.args.p.now c.loop-i.found c.dependency_turns.ensures c.conflict_is_mutual.ensures (λ i lt. c.loop-i.invariant.1 i (omega arith))

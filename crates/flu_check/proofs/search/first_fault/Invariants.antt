@@ -1,6 +1,6 @@
 use Rattle.std.proofs.Common.{ℕ, ◌<◌}
 use Rattle.std.specs.Prelude.{IfSome}
-use Rattle.flu_check.specs.Found.{tag_at, IsFound, PassesTag}
+use Rattle.flu_check.specs.LoopFound.{tag_at, IsFound, PassesTag}
 use Rattle.flu_check.proofs.search.first_fault.Given as goal
 
 abbrev pub invariant-loop-i : goal.invariant-loop-i

@@ -1,6 +1,6 @@
 use Rattle.std.proofs.Common.{subst}
-use Rattle.flu_check.specs.Found.{tag_at, PassesPair}
-use Rattle.flu_check.proofs.FaultLemmas.{one_more}
+use Rattle.flu_check.specs.LoopFound.{tag_at, PassesPair}
+use Rattle.flu_lemmas.proofs.Numbers.{one_more}
 use Rattle.flu_check.proofs.search.first_of_tag.Goals as goal
 
 pub loop-j-preserved : goal.loop-j-preserved

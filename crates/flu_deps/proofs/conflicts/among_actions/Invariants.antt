@@ -1,6 +1,6 @@
 use Rattle.std.proofs.Common.{◌≡◌, drop}
 use Rattle.flu_deps.specs.Conflicts.{conflicts_on}
-use Rattle.flu_deps.specs.Named.{actions_cells, best_among}
+use Rattle.flu_deps.specs.LoopNamed.{actions_cells, best_among}
 use Rattle.flu_deps.proofs.conflicts.among_actions.Given as goal
 
 abbrev pub invariant-loop-action : goal.invariant-loop-action

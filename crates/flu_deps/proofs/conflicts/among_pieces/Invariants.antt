@@ -1,6 +1,6 @@
 use Rattle.std.proofs.Common.{◌≡◌, drop}
 use Rattle.flu_deps.specs.Conflicts.{conflicts_on}
-use Rattle.flu_deps.specs.Named.{pieces_cells, best_among}
+use Rattle.flu_deps.specs.LoopNamed.{pieces_cells, best_among}
 use Rattle.flu_deps.proofs.conflicts.among_pieces.Given as goal
 
 abbrev pub invariant-loop-piece : goal.invariant-loop-piece

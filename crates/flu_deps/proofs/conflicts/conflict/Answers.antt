@@ -3,7 +3,7 @@ use Rattle.std.specs.Prelude.{IfSome, IsTrue}
 use Rattle.flu_model.specs.declared.events.Cell.{Cell}
 use Rattle.flu_model.specs.Sorts.{is_cell_of}
 use Rattle.flu_deps.specs.Conflicts.{conflicts_on}
-use Rattle.flu_deps.specs.Named.{best_among}
+use Rattle.flu_deps.specs.LoopNamed.{best_among}
 use Rattle.flu_deps.proofs.BestLemmas.{best_is_one}
 use Rattle.flu_deps.proofs.ConflictLemmas.{named, found_is, first_found, none_found}
 use Rattle.flu_deps.proofs.DeclaredLemmas.{named_in}

@@ -1,4 +1,5 @@
 use Rattle.std.proofs.Common.{◌≡◌, ℕ, Some, ◌∙◌}
+use Rattle.flu_model.specs.Contents.{join}
 use Rattle.flu_cells.specs.Holding.{held}
 use Rattle.flu_cells.specs.Sets.{within, outside}
 use Rattle.flu_fork.specs.Lots.{job, nodes, kids, setting_of, HasParts, HasCounts, PartsFitKids}
@@ -12,10 +13,11 @@ returns-clause-parts c =
     let s = held c.args.lot.state in
     let table = c.right.result.now in
     IfOk-both c.part.result
-    (λ parts. held parts.0.state ≡ outside table.cells s) (λ parts. held parts.1.state ≡ within table.cells s)
+    (λ parts. held parts.0.state ≡ join (outside table.needed s) (within table.copied (held parts.1.state)))
+    (λ parts. held parts.1.state ≡ within table.needed s)
     (λ parts. (l r : ℕ) → kids k c.args.node ≡ Some (l, r) → HasParts k r c.args.lot parts)
     (λ parts left right l r e. record {
-      left = left ∙ left_is c.nothing_is_copied.ensures (job k) (nodes k) r table s (c.right.ensures l r e);
+      left = left ∙ left_is c.join_undoes_split.ensures (job k) (nodes k) r table s (held parts.1.state) (c.right.ensures l r e) right;
       right = right ∙ right_is (job k) (nodes k) r table s (c.right.ensures l r e);
     })
     c.part.ensures.left c.part.ensures.right

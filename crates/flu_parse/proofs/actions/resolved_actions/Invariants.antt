@@ -8,4 +8,6 @@ use Rattle.flu_parse.proofs.Steps.{do_written}
 use Rattle.flu_parse.proofs.actions.resolved_actions.Given as goal
 
 abbrev pub invariant-loop-action : goal.invariant-loop-action
-invariant-loop-action l = each (do_written l.text (naming l.names) l.under) (map plain_action l.done.items) (drop l.action-index l.written) ≡ resolved_actions l.text (naming l.names) l.under (map action_seen l.written)
+invariant-loop-action l =
+    each (do_written l.text (naming l.names) l.under) (map plain_action l.done.items) (drop l.action-index l.written) ≡ resolved_actions l.text
+    (naming l.names) l.under (map action_seen l.written)

@@ -12,6 +12,8 @@ returns c =
     c.any_meets.ensures
     ∙ list_any_within _ (share_tag wide) c.args.tags.now
     (λ other.
-    (ap (λ f. (c.args.kind == other.kind) && nat_le (max f (first_key other.keys)) (min c.written_last-last.result (last_key other.keys))) c.written_first-first.ensures
-    ∙ ap (λ l. (c.args.kind == other.kind) && nat_le (max (first_key wide.keys) (first_key other.keys)) (min l (last_key other.keys))) c.written_last-last.ensures)
+    (ap (λ f. (c.args.kind == other.kind) && nat_le (max f (first_key other.keys))
+    (min c.written_last-last.result (last_key other.keys))) c.written_first-first.ensures
+    ∙ ap (λ l. (c.args.kind == other.kind) && nat_le (max (first_key wide.keys) (first_key other.keys))
+    (min l (last_key other.keys))) c.written_last-last.ensures)
     ∙ sym (c.tags_meet_by_their_ends.ensures.meet wide other))

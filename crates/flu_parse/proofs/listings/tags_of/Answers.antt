@@ -1,8 +1,9 @@
 use Rattle.std.proofs.Common.{◌∙◌, sym, arith}
+use Rattle.flu_lemmas.proofs.Loops.{each-next-at, each-fault-at, each-end}
 use Rattle.flu_parse.specs.Naming.{naming}
 use Rattle.flu_parse.specs.Listings.{with_tag, tags_of}
 use Rattle.flu_parse.specs.Resolving.{tags_listed}
-use Rattle.flu_parse.proofs.FaultLemmas.{fails_through, each-next-at, each-fault-at, each-end}
+use Rattle.flu_parse.proofs.FaultLemmas.{fails_through}
 use Rattle.flu_parse.proofs.listings.tags_of.Goals as goal
 
 pub returns-in-Err : goal.returns-in-Err
@@ -18,7 +19,8 @@ pub loop-tag-preserved : goal.loop-tag-preserved
 loop-tag-preserved c =
     let text = c.args.text.now in
     let n = naming c.args.names.now in
-    sym (each-next-at (with_tag text n) _ (tags_listed c.loop-tag.listed) (tags_listed c.add_tag.new.listed) c.args.written.now c.loop-tag.tag-index c.loop-tag-test.true c.in-Ok.ensures)
+    sym (each-next-at (with_tag text n) _ (tags_listed c.loop-tag.listed)
+    (tags_listed c.add_tag.new.listed) c.args.written.now c.loop-tag.tag-index c.loop-tag-test.true c.in-Ok.ensures)
     ∙ c.loop-tag.invariant
 
 pub returns : goal.returns

@@ -6,4 +6,6 @@ use Rattle.flu_parse.specs.Resolving.{tags_listed}
 use Rattle.flu_parse.proofs.listings.tags_of.Given as goal
 
 abbrev pub invariant-loop-tag : goal.invariant-loop-tag
-invariant-loop-tag l = each (with_tag l.text (naming l.names)) (tags_listed l.listed) (drop l.tag-index l.written) ≡ tags_of l.text (naming l.names) l.initial.listed.itags l.written
+invariant-loop-tag l =
+    each (with_tag l.text (naming l.names)) (tags_listed l.listed) (drop l.tag-index l.written) ≡ tags_of l.text
+    (naming l.names) l.initial.listed.itags l.written

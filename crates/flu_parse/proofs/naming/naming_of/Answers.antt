@@ -1,9 +1,10 @@
 use Rattle.std.proofs.Common.{◌∙◌, sym, ap, arith, map}
 use Rattle.flu_syntax.specs.Tree.{declaration_of}
+use Rattle.flu_lemmas.proofs.Loops.{each-next, each-fault, each-end, each-map}
 use Rattle.flu_parse.specs.Naming.{naming, no_names, declare, naming_of}
 use Rattle.flu_parse.specs.Faults.{each}
 use Rattle.flu_parse.proofs.Steps.{declare_written}
-use Rattle.flu_parse.proofs.FaultLemmas.{fails_through, each-next, each-fault, each-end, each-map}
+use Rattle.flu_parse.proofs.FaultLemmas.{fails_through}
 use Rattle.flu_parse.proofs.naming.naming_of.Goals as goal
 
 pub loop-declaration-init : goal.loop-declaration-init
@@ -17,7 +18,9 @@ returns-in-Err c =
     let ds = c.args.declarations.now in
     let n = naming c.loop-declaration.names in
     fails_through _ (declare_written text n c.declaration-item.result) (naming_of text (map declaration_of ds))
-    (λ e h. sym c.loop-declaration.invariant ∙ each-fault (declare_written text) n e ds c.loop-declaration.declaration-index c.declaration-item.result c.loop-declaration-test.true c.declaration-item.is h)
+    (λ e h. sym c.loop-declaration.invariant
+    ∙ each-fault
+    (declare_written text) n e ds c.loop-declaration.declaration-index c.declaration-item.result c.loop-declaration-test.true c.declaration-item.is h)
     c.in-Err.ensures
 
 pub loop-declaration-preserved : goal.loop-declaration-preserved
@@ -25,7 +28,8 @@ loop-declaration-preserved c =
     let text = c.args.text.now in
     let ds = c.args.declarations.now in
     let n = naming c.loop-declaration.names in
-    sym (each-next (declare_written text) n (naming c.declare.new.names) ds c.loop-declaration.declaration-index c.declaration-item.result c.loop-declaration-test.true c.declaration-item.is c.in-Ok.ensures)
+    sym (each-next (declare_written text) n
+    (naming c.declare.new.names) ds c.loop-declaration.declaration-index c.declaration-item.result c.loop-declaration-test.true c.declaration-item.is c.in-Ok.ensures)
     ∙ c.loop-declaration.invariant
 
 pub returns : goal.returns

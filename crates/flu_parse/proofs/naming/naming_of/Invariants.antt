@@ -6,4 +6,5 @@ use Rattle.flu_parse.specs.Faults.{each}
 use Rattle.flu_parse.proofs.naming.naming_of.Given as goal
 
 abbrev pub invariant-loop-declaration : goal.invariant-loop-declaration
-invariant-loop-declaration l = each (declare_written l.text) (naming l.names) (drop l.declaration-index l.declarations) ≡ naming_of l.text (map declaration_of l.declarations)
+invariant-loop-declaration l =
+    each (declare_written l.text) (naming l.names) (drop l.declaration-index l.declarations) ≡ naming_of l.text (map declaration_of l.declarations)

@@ -1,17 +1,17 @@
 use Rattle.std.proofs.Common.{◌≡◌, ◌≤◌, ℕ, List, length, Ok, sym, subst, ◌∙◌}
-use Rattle.std.specs.Prelude.{IsTrue}
 use Rattle.std.specs.Str.{IsUtf8}
 use Rattle.std.proofs.lemmas.Str.{IsUtf8-string_bytes}
 use Rattle.flu_model.specs.declared.jobs.Program.{Program}
 use Rattle.flu_model.specs.Erasure.{job_of}
 use Rattle.flu_rules.specs.Kept.{KeepsRules}
 use Rattle.flu_parse.specs.Reading.{job_in}
-use Rattle.flu_parse.specs.Printing.{normal_form, has_text}
+use Rattle.flu_parse.specs.Printing.{normal_form}
 use Rattle.flu_parse.specs.Laws.{PrintedIsRead}
 use Rattle.flu_parse.proofs.printing.print_job.Goals as goal
 
-rules_of : (p : Program) → KeepsRules p.families p.kinds p.depends p.sources
+rules_of : (p : Program) → KeepsRules p.version p.families p.kinds p.depends p.sources
 rules_of p = record {
+  known_version = p.known_version;
   few_families = p.few_families;
   few_kinds = p.few_kinds;
   few_depends = p.few_depends;
@@ -25,14 +25,12 @@ rules_of p = record {
   own_files = p.own_files;
 }
 
-read_again : PrintedIsRead → (p : Program) (text : List ℕ) → IsUtf8 text → text ≡ normal_form (job_of p) → IsTrue (has_text (job_of p)) → length text ≤ 1048576 → job_in text ≡ Ok (job_of p)
-read_again printed p text utf8 is texts =
-    subst (λ t. IsUtf8 t → length t ≤ 1048576 → job_in t ≡ Ok (job_of p)) (sym is) (printed p.families p.kinds p.depends p.sources (rules_of p) texts) utf8
+read_again : PrintedIsRead → (p : Program) (text : List ℕ) → IsUtf8 text → text ≡ normal_form (job_of p) → length text ≤ 1048576 → job_in text ≡ Ok (job_of p)
+read_again printed p text utf8 is =
+    subst (λ t. IsUtf8 t → length t ≤ 1048576 → job_in t ≡ Ok (job_of p)) (sym is)
+    (printed p.version p.families p.kinds p.depends p.sources (rules_of p)) utf8
 
 pub returns-clause-read_again : goal.returns-clause-read_again
 returns-clause-read_again c =
-    read_again c.printed_is_read.ensures c.args.p.now c.of.result (subst IsUtf8 (sym c.of.ensures) (IsUtf8-string_bytes c.in_ok-text.text)) (c.of.ensures ∙ c.in_ok-text.ensures)
-
-pub returns-clause-round_trip : goal.returns-clause-round_trip
-returns-clause-round_trip c = λ bytes was_read.
-    read_again c.printed_is_read.ensures c.args.p.now c.of.result (subst IsUtf8 (sym c.of.ensures) (IsUtf8-string_bytes c.in_ok-text.text)) (c.of.ensures ∙ c.in_ok-text.ensures) (c.jobs_have_text.ensures bytes (job_of c.args.p.now) was_read)
+    read_again c.printed_is_read.ensures c.args.p.now c.of.result (subst IsUtf8 (sym c.of.ensures) (IsUtf8-string_bytes c.in_ok-text.text))
+    (c.of.ensures ∙ c.in_ok-text.ensures)

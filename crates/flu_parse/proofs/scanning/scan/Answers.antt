@@ -10,7 +10,8 @@ returns-then-not-goes_on c =
     let old = scan_of c.loop-i.scanner in
     let place = c.args.from + c.loop-i.i in
     let bs = c.args.bytes.now in
-    let stop = stops c.in_ok-goes_on.goes_on old (scan_of c.scan_byte.new.scanner) (scan_byte field old place (get_or bs c.loop-i.i 0)) c.if-not-goes_on.true c.in_ok-goes_on.ensures in
+    let stop = stops c.in_ok-goes_on.goes_on old (scan_of c.scan_byte.new.scanner)
+    (scan_byte field old place (get_or bs c.loop-i.i 0)) c.if-not-goes_on.true c.in_ok-goes_on.ensures in
     ap (λ ps. let t : Template = record { pieces = ps; whole = false } in t) stop.1
     ∙ sym (scan-fault field old place bs c.loop-i.i c.loop-i-test.true stop.0)
     ∙ c.loop-i.invariant

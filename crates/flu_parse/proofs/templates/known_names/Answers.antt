@@ -1,7 +1,8 @@
 use Rattle.std.proofs.Common.{◌∙◌, sym, arith}
+use Rattle.flu_lemmas.proofs.Loops.{each-next-at, each-fault-at, each-end}
 use Rattle.flu_parse.specs.Naming.{naming}
 use Rattle.flu_parse.specs.Templates.{known_name, known_names}
-use Rattle.flu_parse.proofs.FaultLemmas.{fails_through, each-next-at, each-fault-at, each-end}
+use Rattle.flu_parse.proofs.FaultLemmas.{fails_through}
 use Rattle.flu_parse.proofs.templates.known_names.Goals as goal
 
 pub returns-in-Err : goal.returns-in-Err

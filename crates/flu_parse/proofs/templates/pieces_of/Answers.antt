@@ -1,9 +1,10 @@
 use Rattle.std.proofs.Common.{◌+◌, ◌∷◌, ◌++◌, [], List, drop, ◌∙◌, sym, ap, arith}
 use Rattle.flu_model.specs.declared.jobs.Piece.{Piece}
+use Rattle.flu_lemmas.proofs.Loops.{each-next-at, each-fault-at, each-end, collect, collects, collect-fault}
 use Rattle.flu_parse.specs.Faults.{each}
 use Rattle.flu_parse.specs.Naming.{naming}
 use Rattle.flu_parse.specs.Templates.{piece_of, pieces_of}
-use Rattle.flu_parse.proofs.FaultLemmas.{fails_through, each-next-at, each-fault-at, each-end, collect, collects, collect-fault}
+use Rattle.flu_parse.proofs.FaultLemmas.{fails_through}
 use Rattle.flu_parse.proofs.templates.pieces_of.Goals as goal
 
 pub returns-in-Err : goal.returns-in-Err
@@ -13,7 +14,9 @@ returns-in-Err c =
     let ps = c.args.pieces.now in
     let find = piece_of text n c.args.under c.args.place in
     fails_through _ _ (pieces_of text n c.args.under c.args.place ps)
-    (λ e h. sym c.loop-piece.invariant ∙ each-fault-at (collect find) _ c.loop-piece.found.items e ps c.loop-piece.piece-index c.loop-piece-test.true (collect-fault find c.loop-piece.found.items _ e h))
+    (λ e h. sym c.loop-piece.invariant
+    ∙ each-fault-at (collect find) _ c.loop-piece.found.items e ps c.loop-piece.piece-index c.loop-piece-test.true
+    (collect-fault find c.loop-piece.found.items _ e h))
     c.in-Err.ensures
 
 pub loop-piece-preserved : goal.loop-piece-preserved

@@ -1,7 +1,8 @@
 use Rattle.std.proofs.Common.{◌∙◌, sym, arith}
 use Rattle.flu_plan.specs.Faults.{each}
 use Rattle.flu_plan.specs.Limits.{keys_of_pred}
-use Rattle.flu_plan.proofs.FaultLemmas.{fails_through, each-next-at, each-fault-at, each-end}
+use Rattle.flu_plan.proofs.FaultLemmas.{fails_through}
+use Rattle.flu_lemmas.proofs.Loops.{each-next-at, each-fault-at, each-end}
 use Rattle.flu_plan.proofs.limits.keys_of_preds.Goals as goal
 
 pub returns-in-Err : goal.returns-in-Err

@@ -1,9 +1,10 @@
-use Rattle.std.proofs.Common.{◌∙◌, ◌∷◌, []}
+use Rattle.std.proofs.Common.{sym, ◌∙◌, ◌∷◌, []}
 use Rattle.std.proofs.lemmas.List.{map-append}
-use Rattle.flu_plan.proofs.NameLemmas.{any_by_bytes}
+use Rattle.std.specs.Str.{bytes_eq}
+use Rattle.flu_lemmas.proofs.Searches.{list_any-map}
 use Rattle.flu_plan.proofs.resolving.add_name.Goals as goal
 
 pub returns-in-Ok-clause-ok : goal.returns-in-Ok-clause-ok
 returns-in-Ok-clause-ok c =
-    let miss = any_by_bytes (λ k. k.now) c.args.name.now c.args.names.now.keys ∙ c.requires in
+    let miss = sym (list_any-map (bytes_eq c.args.name.now) (λ k. k.now) c.args.names.now.keys) ∙ c.requires in
     rw (c.in-Ok.ensures.keys, miss) (map-append (λ k. k.now) c.args.names.now.keys (c.args.name ∷ []))

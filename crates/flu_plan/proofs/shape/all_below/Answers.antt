@@ -2,7 +2,8 @@ use Rattle.std.proofs.Common.{◌≡◌, ◌∙◌, ◌+◌, true, length, Ok, s
 use Rattle.flu_plan.specs.declared.fault.PlanFault.TheVariants as f
 use Rattle.flu_plan.specs.Faults.{unless}
 use Rattle.flu_plan.specs.Shape.{is_met, below, all_below}
-use Rattle.flu_plan.proofs.FaultLemmas.{fails_through, each-next, each-fault, each-end}
+use Rattle.flu_plan.proofs.FaultLemmas.{fails_through}
+use Rattle.flu_lemmas.proofs.Loops.{each-next, each-fault, each-end}
 use Rattle.flu_plan.proofs.ShapeLemmas.{below-met, below-fault}
 use Rattle.flu_plan.proofs.shape.all_below.Goals as goal
 
@@ -15,7 +16,9 @@ returns-in-Err c =
     let node = c.index-nodes-v.result in
     let met : c.is_child.result ≡ is_met order v = c.is_child.ensures ∙ c.in_ok-found.ensures.ok v in
     fails_through _ (unless c.is_child.result (f.NotATree c.name_of.result.now)) (all_below text order nodes)
-    (λ e h. sym c.loop-v.invariant ∙ each-fault (below text order) v e nodes v node c.loop-v-test.true c.index-nodes-v.is (below-fault text c.name_of.result.now order v node e c.is_child.result met c.name_of.ensures h))
+    (λ e h. sym c.loop-v.invariant
+        ∙ each-fault (below text order) v e nodes v node c.loop-v-test.true c.index-nodes-v.is
+            (below-fault text c.name_of.result.now order v node e c.is_child.result met c.name_of.ensures h))
     c.in-Err.ensures.found
 
 pub loop-v-preserved : goal.loop-v-preserved

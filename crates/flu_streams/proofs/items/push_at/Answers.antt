@@ -1,6 +1,6 @@
-use Rattle.std.proofs.Common.{[], ◌∷◌, ◌++◌, ◌≡◌, ◌<◌, ◌≢◌, ℕ, length, get_or, refl, sym, ap, ◌∙◌, arith, rules}
+use Rattle.std.proofs.Common.{[], ◌≡◌, ◌<◌, length, ◌∙◌, arith}
 use Rattle.std.proofs.lemmas.Grind.{common_steps}
-use Rattle.std.proofs.lemmas.List.{map-set, get_or-set_other, get_or-set_same, get_or-map, length-map}
+use Rattle.std.proofs.lemmas.List.{map-set, get_or-set_other, get_or-set_same, get_or-map}
 use Rattle.flu_streams.specs.Lists.{lists_in, items_of_list}
 use Rattle.flu_streams.proofs.items.push_at.Goals as goal
 

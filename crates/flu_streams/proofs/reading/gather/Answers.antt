@@ -1,15 +1,13 @@
-use Rattle.std.proofs.Common.{◌≡◌, ◌+◌, ◌<◌, ◌≤◌, ◌++◌, ◌∷◌, [], ℕ, List, length, take, drop, vec_len, Result, Err, refl, sym, ap, ◌∙◌, rules, arith}
+use Rattle.std.proofs.Common.{◌≡◌, ◌+◌, ◌++◌, ◌∷◌, [], length, take, drop, Result, Err, refl, sym, ap, ◌∙◌, rules, arith}
 use Rattle.std.specs.Prelude.{sum_by, IsErrOf}
 use Rattle.std.proofs.lemmas.List.{take_all, length-map}
 use Rattle.std.proofs.lemmas.List.Sums.{sum_by-append}
-use Rattle.flu_model.specs.declared.jobs.Source.{Source}
 use Rattle.flu_model.specs.Listed.{listed}
-use Rattle.flu_outside.specs.Outside.{WhereTold}
 use Rattle.flu_lemmas.proofs.Named.{rose_behind, fronts_at, fronts_then}
 use Rattle.flu_lemmas.proofs.Told.{told_weaker}
 use Rattle.flu_streams.specs.declared.faults.GatherFault.TheVariants.{ReadFault}
-use Rattle.flu_streams.specs.Files.{files_of, LeavesOthers, CountsOfNames, AreReadOut}
-use Rattle.flu_streams.specs.Gathering.{IsGathered, IsFirstFault, lists_of_sources}
+use Rattle.flu_streams.specs.Files.{files_of, LeavesOthers}
+use Rattle.flu_streams.specs.Gathering.{IsGathered}
 use Rattle.flu_streams.specs.Good.{AreGood, lists_of}
 use Rattle.flu_streams.specs.Lists.{lists_in}
 use Rattle.flu_streams.specs.Tags.{width}
@@ -98,6 +96,7 @@ loop-source-preserved g c =
       fronts = fronts_then (left old) (left mid) (left new) c.loop-source.invariant.fronts (fronts_at s.file (left mid) (left new) taken);
       out = rw names (out_more (files_of earlier) s.file (left mid) (left new) taken t.apart c.loop-source.invariant.out c.in_default.ensures.read_out);
       counts = rw names (counts_more (left old) (left mid) (files_of earlier) s.file (faults old) (faults mid) (faults new) c.loop-source.invariant.there c.loop-source.invariant.counts c.in_default.ensures.counts);
+      quiet = search rules;
       there = there_more s.file (left old) (left mid) (left new) taken c.loop-source.invariant.there;
     }
 

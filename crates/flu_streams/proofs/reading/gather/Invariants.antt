@@ -1,7 +1,7 @@
 use Rattle.std.proofs.Common.{◌≡◌, ℕ, List, true, take, vec_len}
 use Rattle.std.specs.Prelude.{sum_by}
 use Rattle.flu_model.specs.Streaming.{are_streams}
-use Rattle.flu_outside.specs.Outside.{WhereTold, IsThere}
+use Rattle.flu_outside.specs.Outside.{WhereTold, SameCounts, IsThere}
 use Rattle.flu_outside.specs.Taking.{TookFronts}
 use Rattle.flu_streams.specs.Files.{files_of, CountsOfNames, AreReadOut}
 use Rattle.flu_streams.specs.Gathering.{IsGathered}
@@ -22,5 +22,6 @@ invariant-loop-source g l =
       fronts : WhereTold (left l.fn.files) (left l.files) TookFronts;
       out : AreReadOut (files_of earlier) (left l.files);
       counts : CountsOfNames (left l.fn.files) (files_of earlier) (faults l.fn.files) (faults l.files);
+      quiet : SameCounts (faults l.fn.files) (faults l.files);
       there : (n : List ℕ) → IsThere (left l.fn.files) n → IsThere (left l.files) n;
     }

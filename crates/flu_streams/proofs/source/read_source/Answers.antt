@@ -1,7 +1,6 @@
-use Rattle.std.proofs.Common.{◌≡◌, ◌≤◌, ◌∙◌, List, ℕ, refl, sym, ap, rules, arith}
-use Rattle.flu_outside.specs.Outside.{WhereTold, Rose}
-use Rattle.flu_outside.specs.Taking.{TakesFrom, CountsOf, IsReadOut}
-use Rattle.flu_lemmas.proofs.Named.{taken_then, counts_then, none_taken, no_counts, rose_behind}
+use Rattle.std.proofs.Common.{◌∙◌, refl, sym, ap, rules}
+use Rattle.flu_outside.specs.Taking.{IsReadOut}
+use Rattle.flu_lemmas.proofs.Named.{taken_then, counts_then, none_taken, no_counts}
 use Rattle.flu_streams.proofs.Taken.{reading_none, reading_more, refused, good_end, bad_end, at_done}
 use Rattle.flu_streams.proofs.source.read_source.Goals as goal
 
@@ -14,6 +13,7 @@ loop-next-init g c =
       reading = reading_none c.args.kinds.now c.args.source.now c.args.first c.args.held c.in-Ok.intake c.in-Ok-new.rows left (rw c.requires.width at c.in-Ok.ensures) c.in-Ok-new.ensures;
       taken = none_taken file left;
       counts = no_counts file left (g.F.Files.faults c.args.files.now);
+      quiet = λ n. refl;
     }
 
 pub returns-in-Err-clause-taken : goal.returns-in-Err-clause-taken
@@ -41,6 +41,7 @@ loop-next-preserved g c =
       reading = reading_more c.args.kinds.now c.args.source.now c.args.first c.args.held c.loop-next.intake c.take.new.self c.loop-next.rows c.next_row.new.self (left old) (left mid) (left new) c.in-Row.line c.in-Row.row c.loop-next.invariant.reading told c.in_default-take.ensures.taken;
       taken = taken_then file (left old) (left mid) (left new) c.loop-next.invariant.taken (rw c.loop-next.invariant.file at c.in-Ok-next_row.ensures.taken);
       counts = counts_then file (left old) (left mid) (faults old) (faults mid) (faults new) c.loop-next.invariant.taken c.loop-next.invariant.counts (rw c.loop-next.invariant.file at c.in-Ok-next_row.ensures.counts);
+      quiet = search rules;
     }
 
 pub returns-in-None : goal.returns-in-None
@@ -58,6 +59,7 @@ returns-in-None g c =
       defect = tt;
       taken = taken_then file (left old) (left mid) (left new) c.loop-next.invariant.taken (rw c.loop-next.invariant.file at c.in-Ok-next_row.ensures.taken);
       counts = counts_then file (left old) (left mid) (faults old) (faults mid) (faults new) c.loop-next.invariant.taken c.loop-next.invariant.counts (rw c.loop-next.invariant.file at c.in-Ok-next_row.ensures.counts);
+      quiet = search rules;
       cause = search rules;
     }
 
@@ -75,5 +77,6 @@ returns-in-Some g c =
       defect = bad_end c.args.kinds.now c.args.source.now c.args.first c.args.held c.loop-next.intake c.loop-next.rows c.next_row.new.self (left old) (left mid) (left new) c.in-Ok-next_row.next c.in-Some.row c.in-Some.why c.loop-next.invariant.reading c.in-Ok-next_row.ensures.told c.in_default-next.not-Row (sym c.in-Some.ensures);
       taken = taken_then file (left old) (left mid) (left new) c.loop-next.invariant.taken (rw c.loop-next.invariant.file at c.in-Ok-next_row.ensures.taken);
       counts = counts_then file (left old) (left mid) (faults old) (faults mid) (faults new) c.loop-next.invariant.taken c.loop-next.invariant.counts (rw c.loop-next.invariant.file at c.in-Ok-next_row.ensures.counts);
+      quiet = search rules;
       cause = search rules;
     }

@@ -1,5 +1,5 @@
-use Rattle.std.proofs.Common.{◌≡◌, ◌-◌, ◌^◌, List}
-use Rattle.flu_outside.specs.Outside.{WhereTold}
+use Rattle.std.proofs.Common.{◌≡◌, ◌-◌, ◌^◌}
+use Rattle.flu_outside.specs.Outside.{WhereTold, SameCounts}
 use Rattle.flu_outside.specs.Taking.{TakesFrom, CountsOf}
 use Rattle.flu_streams.specs.Source.{IsReading}
 use Rattle.flu_streams.proofs.source.read_source.Given as goal
@@ -13,6 +13,7 @@ invariant-loop-next g l =
       reading : IsReading l.kinds l.source l.first l.held l.intake l.rows (left l.fn.files) (left l.files);
       taken : WhereTold (left l.fn.files) (left l.files) (TakesFrom l.source.file);
       counts : CountsOf (left l.fn.files) l.source.file (faults l.fn.files) (faults l.files);
+      quiet : SameCounts (faults l.fn.files) (faults l.files);
     }
 
 abbrev pub decreases-loop-next : goal.decreases-loop-next

@@ -1,4 +1,4 @@
-use Rattle.std.proofs.Common.{arith, rules, ◌-◌, ◌+◌, ◌≡◌, ap, ◌∙◌, sym}
+use Rattle.std.proofs.Common.{arith, ◌-◌, ◌+◌}
 use Rattle.std.proofs.lemmas.List.FromFn.{length-range_with_len}
 use Rattle.flu_streams.proofs.tags.key_count.Goals as goal
 

@@ -1,4 +1,4 @@
-use Rattle.std.proofs.Common.{arith, rules, refl, sym, ◌-◌, ◌+◌}
+use Rattle.std.proofs.Common.{arith, refl, sym, ◌-◌, ◌+◌}
 use Rattle.flu_streams.proofs.Places.{in_range, out_of_range}
 use Rattle.flu_streams.proofs.tags.place_in.Goals as goal
 use Rattle.flu_streams.proofs.tags.place_in.Goals.{else-lo-key-via-then-lo-key+else-key-hi, else-lo-key-via-else-lo-key}

@@ -1,10 +1,10 @@
-use Rattle.std.proofs.Common.{◌≡◌, ◌+◌, ◌<◌, ◌≤◌, length, take, get_or, Option, Some, None, true, eqb, refl, sym, ap, ◌∙◌, arith, rules, ℕ}
+use Rattle.std.proofs.Common.{◌≡◌, ◌+◌, get_or, Some, None, true, eqb, sym, ap, ◌∙◌, arith, ℕ}
 use Rattle.std.proofs.lemmas.Bool.Decides.{nat_tests}
 use Rattle.std.proofs.lemmas.List.Folds.{length-flat_map-take}
 use Rattle.std.specs.List.{flat_map, position}
 use Rattle.flu_model.specs.declared.jobs.TagRef.{TagRef}
 use Rattle.flu_model.specs.declared.jobs.Keys.TheVariants.{Alone}
-use Rattle.flu_model.specs.Listing.{listed_tags, listed_keys}
+use Rattle.flu_model.specs.Listing.{listed_tags}
 use Rattle.flu_model.specs.Rules.{is_same_tag}
 use Rattle.flu_streams.proofs.Places.{found_at, none_more, count_more, tag_count, position_below, same_kind, other_kind}
 use Rattle.flu_streams.proofs.tags.place_of.Goals as goal

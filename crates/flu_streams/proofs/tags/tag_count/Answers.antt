@@ -1,9 +1,8 @@
-use Rattle.std.proofs.Common.{◌≡◌, ◌+◌, ◌<◌, ◌≤◌, length, take, get_or, refl, sym, ap, ◌∙◌, arith, rules, ℕ}
+use Rattle.std.proofs.Common.{get_or, arith}
 use Rattle.std.proofs.lemmas.List.Folds.{length-flat_map-take}
-use Rattle.std.specs.List.{flat_map}
 use Rattle.flu_model.specs.declared.jobs.TagRef.{TagRef}
 use Rattle.flu_model.specs.declared.jobs.Keys.TheVariants.{Alone}
-use Rattle.flu_model.specs.Listing.{listed_tags, listed_keys}
+use Rattle.flu_model.specs.Listing.{listed_tags}
 use Rattle.flu_streams.proofs.Places.{count_more, tag_count}
 use Rattle.flu_streams.proofs.tags.tag_count.Goals as goal
 

@@ -8,12 +8,17 @@ use Rattle.flu_syntax.proofs.cells.cell.Goals as goal
 pub returns-in_err-name-clause-run : goal.returns-in_err-name-clause-run
 returns-in_err-name-clause-run c =
     let p = err_from_is_err_and c.from_residual.result c.from_residual.ensures.1 in
-    rw (p.1, p.2) (λ here. tells _ _ _ c.in_err-name.ensures.front.0 (run-unexpected c.args.end here.0 c.args.tokens.now (cell_family here.1) c.in_err-name.ensures.front.1))
+    rw (p.1, p.2) (λ here. tells _ _ _ c.in_err-name.ensures.front.0
+    (run-unexpected c.args.end here.0 c.args.tokens.now (cell_family here.1) c.in_err-name.ensures.front.1))
 
 pub returns-in_err-key-clause-run : goal.returns-in_err-key-clause-run
 returns-in_err-key-clause-run c =
     let p = err_from_is_err_and c.from_residual-in_err-key.result c.from_residual-in_err-key.ensures.1 in
-    rw (p.1, p.2) (λ here. Tells-through _ _ _ (run-expected c.args.end here.0 c.args.tokens.now c.in_ok-name.rest.now c.in_ok-name.name (cell_family here.1) c.in_ok-name.ensures.front) (c.in_err-key.ensures.run (here.0, here.1, span_of c.in_ok-name.name)))
+    rw (p.1, p.2) (λ here. Tells-through _ _ _
+    (run-expected c.args.end here.0 c.args.tokens.now c.in_ok-name.rest.now c.in_ok-name.name (cell_family here.1) c.in_ok-name.ensures.front)
+    (c.in_err-key.ensures.run (here.0, here.1, span_of c.in_ok-name.name)))
 
 pub returns-clause-run : goal.returns-clause-run
-returns-clause-run c = λ here. rw c.span_of-family.ensures (run-expected c.args.end here.0 c.args.tokens.now c.in_ok-name.rest.now c.in_ok-name.name (cell_family here.1) c.in_ok-name.ensures.front ∙ c.in_ok-key.ensures.run (here.0, here.1, span_of c.in_ok-name.name))
+returns-clause-run c = λ here. rw c.span_of-family.ensures
+    (run-expected c.args.end here.0 c.args.tokens.now c.in_ok-name.rest.now c.in_ok-name.name (cell_family here.1) c.in_ok-name.ensures.front
+    ∙ c.in_ok-key.ensures.run (here.0, here.1, span_of c.in_ok-name.name))

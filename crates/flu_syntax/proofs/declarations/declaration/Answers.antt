@@ -10,19 +10,31 @@ pub returns-in_default-clause-run : goal.returns-in_default-clause-run
 returns-in_default-clause-run c = let none = ap (length {A = Token}) c.in_default.ensures in absurd (omega arith)
 
 pub returns-in-Cell-clause-run : goal.returns-in-Cell-clause-run
-returns-in-Cell-clause-run c = through_heading c.args.end c.args.tokens.now c.in-Some.rest.now c.in-Some.token CellName heading.Cell (λ x. declaration_of x.0) (λ x. x.1.now) c.cell_line.result c.in-Some.ensures (sym c.in-Cell.is ∙ c.heading_of.ensures) refl c.cell_line.ensures.run
+returns-in-Cell-clause-run c =
+    through_heading c.args.end c.args.tokens.now c.in-Some.rest.now c.in-Some.token CellName heading.Cell (λ x. declaration_of x.0) (λ x. x.1.now)
+    c.cell_line.result c.in-Some.ensures (sym c.in-Cell.is ∙ c.heading_of.ensures) refl c.cell_line.ensures.run
 
 pub returns-in-Tag-clause-run : goal.returns-in-Tag-clause-run
-returns-in-Tag-clause-run c = through_heading c.args.end c.args.tokens.now c.in-Some.rest.now c.in-Some.token TagName heading.Tag (λ x. declaration_of x.0) (λ x. x.1.now) c.tag_line.result c.in-Some.ensures (sym c.in-Tag.is ∙ c.heading_of.ensures) refl c.tag_line.ensures.run
+returns-in-Tag-clause-run c =
+    through_heading c.args.end c.args.tokens.now c.in-Some.rest.now c.in-Some.token TagName heading.Tag (λ x. declaration_of x.0) (λ x. x.1.now)
+    c.tag_line.result c.in-Some.ensures (sym c.in-Tag.is ∙ c.heading_of.ensures) refl c.tag_line.ensures.run
 
 pub returns-in-Depends-clause-run : goal.returns-in-Depends-clause-run
-returns-in-Depends-clause-run c = through_heading c.args.end c.args.tokens.now c.in-Some.rest.now c.in-Some.token DependsFirst heading.Depends (λ x. declaration_of x.0) (λ x. x.1.now) c.depends_line.result c.in-Some.ensures (sym c.in-Depends.is ∙ c.heading_of.ensures) refl c.depends_line.ensures.run
+returns-in-Depends-clause-run c =
+    through_heading c.args.end c.args.tokens.now c.in-Some.rest.now c.in-Some.token DependsFirst heading.Depends (λ x. declaration_of x.0) (λ x. x.1.now)
+    c.depends_line.result c.in-Some.ensures (sym c.in-Depends.is ∙ c.heading_of.ensures) refl c.depends_line.ensures.run
 
 pub returns-in-On-clause-run : goal.returns-in-On-clause-run
-returns-in-On-clause-run c = through_heading c.args.end c.args.tokens.now c.in-Some.rest.now c.in-Some.token OnKind heading.On (λ x. declaration_of x.0) (λ x. x.1.now) c.on_line.result c.in-Some.ensures (sym c.in-On.is ∙ c.heading_of.ensures) refl c.on_line.ensures.run
+returns-in-On-clause-run c =
+    through_heading c.args.end c.args.tokens.now c.in-Some.rest.now c.in-Some.token OnKind heading.On (λ x. declaration_of x.0) (λ x. x.1.now)
+    c.on_line.result c.in-Some.ensures (sym c.in-On.is ∙ c.heading_of.ensures) refl c.on_line.ensures.run
 
 pub returns-in-Source-clause-run : goal.returns-in-Source-clause-run
-returns-in-Source-clause-run c = through_heading c.args.end c.args.tokens.now c.in-Some.rest.now c.in-Some.token SourceName heading.Source (λ x. declaration_of x.0) (λ x. x.1.now) c.source_line.result c.in-Some.ensures (sym c.in-Source.is ∙ c.heading_of.ensures) refl c.source_line.ensures.run
+returns-in-Source-clause-run c =
+    through_heading c.args.end c.args.tokens.now c.in-Some.rest.now c.in-Some.token SourceName heading.Source (λ x. declaration_of x.0) (λ x. x.1.now)
+    c.source_line.result c.in-Some.ensures (sym c.in-Source.is ∙ c.heading_of.ensures) refl c.source_line.ensures.run
 
 pub returns-in-Other-clause-run : goal.returns-in-Other-clause-run
-returns-in-Other-clause-run c = λ job. rw c.unexpected-in-Other.ensures (no_heading c.args.end job c.args.tokens.now c.in-Some.rest.now c.in-Some.token heading.Other c.in-Some.ensures (sym c.in-Other.is ∙ c.heading_of.ensures) refl)
+returns-in-Other-clause-run c = λ job. rw c.unexpected-in-Other.ensures
+    (no_heading c.args.end job c.args.tokens.now c.in-Some.rest.now c.in-Some.token heading.Other c.in-Some.ensures (sym c.in-Other.is
+    ∙ c.heading_of.ensures) refl)

@@ -14,7 +14,13 @@ returns-in_default-clause-run c = λ here. run-passed c.args.end here.0 c.args.t
 pub returns-in_err-guard-clause-run : goal.returns-in_err-guard-clause-run
 returns-in_err-guard-clause-run c =
     let p = err_from_is_err_and c.from_residual.result c.from_residual.ensures.1 in
-    rw (p.1, p.2) (λ here. Tells-through _ _ _ (run-word c.args.end here.0 (DeedEnd here.1 here.2 here.3) (InExpression (Guard here.1 here.2 here.3) (Want 0) []) (w.Reserved r.When) c.args.tokens.now c.in-Some.rest.now c.in-Some.field-0-0 (deed_when here.1 here.2 here.3) c.in-Some.ensures.front) (c.in_err-guard.ensures.run (record { job = here.0; context = Guard here.1 here.2 here.3; frames = []; many = opens-nil })))
+    rw (p.1, p.2) (λ here. Tells-through _ _ _
+    (run-word c.args.end here.0 (DeedEnd here.1 here.2 here.3) (InExpression (Guard here.1 here.2 here.3) (Want 0) []) (w.Reserved r.When)
+    c.args.tokens.now c.in-Some.rest.now c.in-Some.field-0-0 (deed_when here.1 here.2 here.3) c.in-Some.ensures.front)
+    (c.in_err-guard.ensures.run (record { before = here.0; context = Guard here.1 here.2 here.3; frames = []; many = opens-nil })))
 
 pub returns-clause-run : goal.returns-clause-run
-returns-clause-run c = λ here. run-word c.args.end here.0 (DeedEnd here.1 here.2 here.3) (InExpression (Guard here.1 here.2 here.3) (Want 0) []) (w.Reserved r.When) c.args.tokens.now c.in-Some.rest.now c.in-Some.field-0-0 (deed_when here.1 here.2 here.3) c.in-Some.ensures.front ∙ c.in_ok-guard.ensures.run (record { job = here.0; context = Guard here.1 here.2 here.3; frames = []; many = opens-nil }) ∙ run-behind c.args.end here.0 (Guard here.1 here.2 here.3) (view c.in_ok-guard.guard) c.in_ok-guard.rest.now
+returns-clause-run c = λ here. run-word c.args.end here.0 (DeedEnd here.1 here.2 here.3) (InExpression (Guard here.1 here.2 here.3) (Want 0) [])
+    (w.Reserved r.When) c.args.tokens.now c.in-Some.rest.now c.in-Some.field-0-0 (deed_when here.1 here.2 here.3) c.in-Some.ensures.front
+    ∙ c.in_ok-guard.ensures.run (record { before = here.0; context = Guard here.1 here.2 here.3; frames = []; many = opens-nil })
+    ∙ run-behind c.args.end here.0 (Guard here.1 here.2 here.3) (view c.in_ok-guard.guard) c.in_ok-guard.rest.now

@@ -2,8 +2,8 @@ use Rattle.std.proofs.Common.{◌∙◌}
 use Rattle.std.proofs.lemmas.Result.{err_from_is_err_and}
 use Rattle.flu_text.specs.declared.words.Word.TheVariants as w
 use Rattle.flu_names.specs.declared.reserved.Reserved.TheVariants as r
-use Rattle.flu_syntax.specs.Machine.{SourceRate, SourceNumber}
-use Rattle.flu_syntax.proofs.Parts.{tells, run-word, run-passed, run-number, run-no_number, source_rate, source_plain, source_number}
+use Rattle.flu_syntax.specs.Machine.{SourceRate, RateNumber}
+use Rattle.flu_syntax.proofs.Parts.{tells, run-word, run-passed, run-number, run-no_number, source_rate, source_plain, rate_number}
 use Rattle.flu_syntax.proofs.declarations.rate.Goals as goal
 
 pub returns-in_default-clause-run : goal.returns-in_default-clause-run
@@ -12,7 +12,12 @@ returns-in_default-clause-run c = λ here. run-passed c.args.end here.0 c.args.t
 pub returns-in_err-rate-clause-run : goal.returns-in_err-rate-clause-run
 returns-in_err-rate-clause-run c =
     let p = err_from_is_err_and c.from_residual.result c.from_residual.ensures.1 in
-    rw (p.1, p.2) (λ here. tells _ _ _ c.in_err-rate.ensures.front.0 (run-word c.args.end here.0 (SourceRate here.1 here.2) (SourceNumber here.1 here.2) (w.Reserved r.Rate) c.args.tokens.now c.in-Some.rest.now c.in-Some.field-0-0 (source_rate here.1 here.2) c.in-Some.ensures.front ∙ run-no_number c.args.end here.0 c.in-Some.rest.now (source_number here.1 here.2) c.in_err-rate.ensures.front.1))
+    rw (p.1, p.2) (λ here. tells _ _ _ c.in_err-rate.ensures.front.0
+    (run-word c.args.end here.0 (SourceRate here.1 here.2) (RateNumber here.1 here.2) (w.Reserved r.Rate) c.args.tokens.now c.in-Some.rest.now
+    c.in-Some.field-0-0 (source_rate here.1 here.2) c.in-Some.ensures.front
+    ∙ run-no_number c.args.end here.0 c.in-Some.rest.now (rate_number here.1 here.2) c.in_err-rate.ensures.front.1))
 
 pub returns-clause-run : goal.returns-clause-run
-returns-clause-run c = λ here. run-word c.args.end here.0 (SourceRate here.1 here.2) (SourceNumber here.1 here.2) (w.Reserved r.Rate) c.args.tokens.now c.in-Some.rest.now c.in-Some.field-0-0 (source_rate here.1 here.2) c.in-Some.ensures.front ∙ run-number c.args.end here.0 c.in-Some.rest.now c.in_ok-rate.rest.now c.in_ok-rate.rate (source_number here.1 here.2) c.in_ok-rate.ensures.front
+returns-clause-run c = λ here. run-word c.args.end here.0 (SourceRate here.1 here.2) (RateNumber here.1 here.2) (w.Reserved r.Rate) c.args.tokens.now
+    c.in-Some.rest.now c.in-Some.field-0-0 (source_rate here.1 here.2) c.in-Some.ensures.front
+    ∙ run-number c.args.end here.0 c.in-Some.rest.now c.in_ok-rate.rest.now c.in_ok-rate.rate (rate_number here.1 here.2) c.in_ok-rate.ensures.front

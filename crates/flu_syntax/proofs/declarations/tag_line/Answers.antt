@@ -10,10 +10,22 @@ returns-in_err-word-clause-run c =
     rw (p.1, p.2) (λ job. tells _ _ _ c.in_err-word.ensures.front.0 (run-unexpected c.args.end job c.args.tokens.now tag_name c.in_err-word.ensures.front.1))
 
 pub returns-in_default-clause-run : goal.returns-in_default-clause-run
-returns-in_default-clause-run c = λ job. rw c.unexpected.ensures (run-expected c.args.end job c.args.tokens.now c.in_ok-word.rest.now c.in_ok-word.word tag_name c.in_ok-word.ensures.front ∙ run-keyed_tag c.args.end job (span_of c.in_ok-word.word) c.keyed-keyed.result.0 c.in_ok-word.rest.now c.keyed-keyed.result.1.now c.keyed-keyed.ensures ∙ run-value_end c.args.end job (span_of c.in_ok-word.word) c.keyed-keyed.result.0 c.keyed-keyed.result.1.now c.in_default.ensures)
+returns-in_default-clause-run c = λ job. rw c.unexpected.ensures
+    (run-expected c.args.end job c.args.tokens.now c.in_ok-word.rest.now c.in_ok-word.word tag_name c.in_ok-word.ensures.front
+    ∙ run-keyed_tag c.args.end job (span_of c.in_ok-word.word) c.keyed-keyed.result.0 c.in_ok-word.rest.now c.keyed-keyed.result.1.now
+    c.keyed-keyed.ensures ∙ run-value_end c.args.end job (span_of c.in_ok-word.word) c.keyed-keyed.result.0 c.keyed-keyed.result.1.now
+    c.in_default.ensures)
 
 pub returns-in_default-value_of-clause-run : goal.returns-in_default-value_of-clause-run
-returns-in_default-value_of-clause-run c = λ job. rw c.unexpected-in_default-value_of.ensures (run-expected c.args.end job c.args.tokens.now c.in_ok-word.rest.now c.in_ok-word.word tag_name c.in_ok-word.ensures.front ∙ run-keyed_tag c.args.end job (span_of c.in_ok-word.word) c.keyed-keyed.result.0 c.in_ok-word.rest.now c.keyed-keyed.result.1.now c.keyed-keyed.ensures ∙ run-no_value c.args.end job (span_of c.in_ok-word.word) c.keyed-keyed.result.0 c.keyed-keyed.result.1.now c.in-Some.behind.now c.in-Some.word c.in-Some.ensures c.in_default-value_of.ensures)
+returns-in_default-value_of-clause-run c = λ job. rw c.unexpected-in_default-value_of.ensures
+    (run-expected c.args.end job c.args.tokens.now c.in_ok-word.rest.now c.in_ok-word.word tag_name c.in_ok-word.ensures.front
+    ∙ run-keyed_tag c.args.end job (span_of c.in_ok-word.word) c.keyed-keyed.result.0 c.in_ok-word.rest.now c.keyed-keyed.result.1.now
+    c.keyed-keyed.ensures ∙ run-no_value c.args.end job (span_of c.in_ok-word.word) c.keyed-keyed.result.0 c.keyed-keyed.result.1.now
+    c.in-Some.behind.now c.in-Some.word c.in-Some.ensures c.in_default-value_of.ensures)
 
 pub returns-clause-run : goal.returns-clause-run
-returns-clause-run c = λ job. rw c.span_of-name.ensures (run-expected c.args.end job c.args.tokens.now c.in_ok-word.rest.now c.in_ok-word.word tag_name c.in_ok-word.ensures.front ∙ run-keyed_tag c.args.end job (span_of c.in_ok-word.word) c.keyed-keyed.result.0 c.in_ok-word.rest.now c.keyed-keyed.result.1.now c.keyed-keyed.ensures ∙ run-value c.args.end job (span_of c.in_ok-word.word) c.keyed-keyed.result.0 c.keyed-keyed.result.1.now c.in-Some.behind.now c.in-Some.word c.in-Some-value_of.has_value c.in-Some.ensures c.in-Some-value_of.ensures)
+returns-clause-run c = λ job. rw c.span_of-name.ensures
+    (run-expected c.args.end job c.args.tokens.now c.in_ok-word.rest.now c.in_ok-word.word tag_name c.in_ok-word.ensures.front
+    ∙ run-keyed_tag c.args.end job (span_of c.in_ok-word.word) c.keyed-keyed.result.0 c.in_ok-word.rest.now c.keyed-keyed.result.1.now
+    c.keyed-keyed.ensures ∙ run-value c.args.end job (span_of c.in_ok-word.word) c.keyed-keyed.result.0 c.keyed-keyed.result.1.now
+    c.in-Some.behind.now c.in-Some.word c.in-Some-value_of.has_value c.in-Some.ensures c.in-Some-value_of.ensures)

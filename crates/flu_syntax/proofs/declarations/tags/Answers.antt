@@ -14,12 +14,17 @@ each-init c = record { run = λ here. rw c.new-all.ensures.items refl; shorter =
 pub returns-in_err-tag-clause-run : goal.returns-in_err-tag-clause-run
 returns-in_err-tag-clause-run c =
     let p = err_from_is_err_and c.from_residual.result c.from_residual.ensures.1 in
-    rw (p.1, p.2) (λ here. Tells-through _ _ _ (c.each.invariant.run here) (c.in_err-tag.ensures.run (here.job, record { name = here.name; file = here.file; rate = here.rate; all = c.each.all.items })))
+    rw (p.1, p.2) (λ here. Tells-through _ _ _ (c.each.invariant.run here)
+    (c.in_err-tag.ensures.run (here.before, record { name = here.name; file = here.file; rate = here.rate; slack = here.slack; all = c.each.all.items })))
 
 pub returns-in_default-clause-run : goal.returns-in_default-clause-run
 returns-in_default-clause-run c =
     let items : c.push.new.self.items ≡ c.each.all.items ++ c.in_ok-tag.tag ∷ [] = grind (arith, common_steps) in
-    λ here. rw (c.of.ensures, items) (c.each.invariant.run here ∙ c.in_ok-tag.ensures.run (here.job, record { name = here.name; file = here.file; rate = here.rate; all = c.each.all.items }) ∙ run-closed c.args.end here.job c.in_ok-tag.behind.now (tags_end (listed (record { name = here.name; file = here.file; rate = here.rate; all = c.each.all.items }) c.in_ok-tag.tag)) c.in_default.ensures.front)
+    λ here. rw (c.of.ensures, items) (c.each.invariant.run here
+    ∙ c.in_ok-tag.ensures.run (here.before, record { name = here.name; file = here.file; rate = here.rate; slack = here.slack; all = c.each.all.items })
+    ∙ run-closed c.args.end here.before c.in_ok-tag.behind.now
+    (tags_end (listed (record { name = here.name; file = here.file; rate = here.rate; slack = here.slack; all = c.each.all.items })
+    c.in_ok-tag.tag)) c.in_default.ensures.front)
 
 pub each-preserved : goal.each-preserved
 each-preserved c =
@@ -27,6 +32,16 @@ each-preserved c =
     record {
       run = λ here.
           rw items
-          (c.each.invariant.run here ∙ c.in_ok-tag.ensures.run (here.job, record { name = here.name; file = here.file; rate = here.rate; all = c.each.all.items }) ∙ run-word c.args.end here.job (TagEnd (listed (record { name = here.name; file = here.file; rate = here.rate; all = c.each.all.items }) c.in_ok-tag.tag)) (TagKind (listed (record { name = here.name; file = here.file; rate = here.rate; all = c.each.all.items }) c.in_ok-tag.tag)) (w.Mark m.Comma) c.in_ok-tag.behind.now c.in-Some.more.now c.in-Some.field-0-0 (tag_comma (listed (record { name = here.name; file = here.file; rate = here.rate; all = c.each.all.items }) c.in_ok-tag.tag)) c.in-Some.ensures.front);
+          (c.each.invariant.run here
+          ∙ c.in_ok-tag.ensures.run
+          (here.before, record { name = here.name; file = here.file; rate = here.rate; slack = here.slack; all = c.each.all.items })
+          ∙ run-word c.args.end here.before
+          (TagEnd (listed (record { name = here.name; file = here.file; rate = here.rate; slack = here.slack; all = c.each.all.items })
+          c.in_ok-tag.tag)) (TagKind
+          (listed (record { name = here.name; file = here.file; rate = here.rate; slack = here.slack; all = c.each.all.items })
+          c.in_ok-tag.tag)) (w.Mark m.Comma) c.in_ok-tag.behind.now c.in-Some.more.now c.in-Some.field-0-0
+          (tag_comma (listed (record
+          { name = here.name; file = here.file; rate = here.rate; slack = here.slack; all = c.each.all.items })
+          c.in_ok-tag.tag)) c.in-Some.ensures.front);
       shorter = grind (arith, common_steps);
     }

@@ -12,7 +12,8 @@ decreases-expression l = 2 * length l.tokens.now + 1
 
 abbrev pub invariant-expression-loop-op : goal.invariant-expression-loop-op
 invariant-expression-loop-op l = record {
-  run : (here : Inside l.opened) → from_turn l.end (in_mode (Want l.level) here) l.fn.tokens ≡ from_turn l.end (in_mode (Have l.level l.high (view l.left)) here) l.rest;
+  run : (here : Inside l.opened)
+      → from_turn l.end (in_mode (Want l.level) here) l.fn.tokens ≡ from_turn l.end (in_mode (Have l.level l.high (view l.left)) here) l.rest;
   shorter : length l.rest < length l.fn.tokens;
 }
 

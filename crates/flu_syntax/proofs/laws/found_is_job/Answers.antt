@@ -1,5 +1,4 @@
-use Rattle.flu_syntax.proofs.Exact.{found_is_job}
-use Rattle.flu_syntax.proofs.Found.{jobs_are_unique}
+use Rattle.flu_syntax.proofs.Exact.{found_is_job, jobs_are_unique}
 use Rattle.flu_syntax.proofs.laws.found_is_job.Goals as goal
 
 pub returns-clause-exactly : goal.returns-clause-exactly

@@ -29,10 +29,12 @@ first_bad c =
     leads_to_bad c.args.text.now c.loop-place.found.items c.loop-place.place c.loop-place.invariant.reads (grind (arith, common_steps)) none
 
 pub returns-in_default-clause-whole : goal.returns-in_default-clause-whole
-returns-in_default-clause-whole c = whole_exactly c.args.text.now (Err (f.BadToken c.loop-place.place)) (bad_place_read c.args.text.now c.loop-place.place (first_bad c))
+returns-in_default-clause-whole c =
+    whole_exactly c.args.text.now (Err (f.BadToken c.loop-place.place)) (bad_place_read c.args.text.now c.loop-place.place (first_bad c))
 
 pub returns-in_default-clause-bad_token : goal.returns-in_default-clause-bad_token
-returns-in_default-clause-bad_token c = bad_token_exactly c.args.text.now (Err (f.BadToken c.loop-place.place)) (bad_place_read c.args.text.now c.loop-place.place (first_bad c))
+returns-in_default-clause-bad_token c =
+    bad_token_exactly c.args.text.now (Err (f.BadToken c.loop-place.place)) (bad_place_read c.args.text.now c.loop-place.place (first_bad c))
 
 pub returns-in_default-clause-reading : goal.returns-in_default-clause-reading
 returns-in_default-clause-reading c = bad_place_read c.args.text.now c.loop-place.place (first_bad c)

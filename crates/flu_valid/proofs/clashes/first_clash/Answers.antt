@@ -1,6 +1,6 @@
 use Rattle.std.proofs.Common.{◌<◌, length, ap, arith}
-use Rattle.flu_deps.proofs.NodeLemmas.{one_more}
-use Rattle.flu_valid.specs.Search.{NoneOfNode}
+use Rattle.flu_lemmas.proofs.Numbers.{one_more}
+use Rattle.flu_valid.specs.LoopSearch.{NoneOfNode}
 use Rattle.flu_valid.proofs.ClashLemmas.{clash_is_first, owner_is_there}
 use Rattle.flu_valid.proofs.clashes.first_clash.Goals as goal
 

@@ -1,5 +1,5 @@
 use Rattle.std.proofs.Common.{ℕ, ◌<◌}
-use Rattle.flu_valid.specs.Search.{NoneOfNode}
+use Rattle.flu_valid.specs.LoopSearch.{NoneOfNode}
 use Rattle.flu_valid.proofs.clashes.first_clash.Given as goal
 
 abbrev pub invariant-loop-a : goal.invariant-loop-a

@@ -3,11 +3,11 @@ use Rattle.std.specs.Prelude.{slice_index}
 use Rattle.std.proofs.Math.ListN.{set}
 use Rattle.std.proofs.lemmas.Grind.{get_or-set_at}
 use Rattle.std.proofs.lemmas.List.{length-set, get_or-set_other}
-use Rattle.flu_deps.proofs.NodeLemmas.{one_more}
+use Rattle.flu_lemmas.proofs.Numbers.{one_more}
 use Rattle.flu_model.specs.declared.events.Itag.{Itag}
 use Rattle.flu_model.specs.Itags.{count_of_itags}
 use Rattle.flu_valid.specs.Faults.{HasOneOwner}
-use Rattle.flu_valid.specs.Search.{IsSoleOwner}
+use Rattle.flu_valid.specs.LoopSearch.{IsSoleOwner}
 use Rattle.flu_valid.proofs.OwnerLemmas.{sole_counted, fault_is_first}
 use Rattle.flu_valid.proofs.owners.sole_owners.Goals as goal
 

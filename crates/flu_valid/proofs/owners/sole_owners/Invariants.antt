@@ -1,7 +1,7 @@
 use Rattle.std.proofs.Common.{◌≡◌, ◌<◌, length}
 use Rattle.flu_model.specs.declared.events.Itag.{Itag}
 use Rattle.flu_valid.specs.Faults.{HasOneOwner}
-use Rattle.flu_valid.specs.Search.{AreSoleOwners}
+use Rattle.flu_valid.specs.LoopSearch.{AreSoleOwners}
 use Rattle.flu_valid.proofs.owners.sole_owners.Given as goal
 
 abbrev pub invariant-loop-i : goal.invariant-loop-i

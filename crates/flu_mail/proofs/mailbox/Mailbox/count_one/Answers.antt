@@ -1,10 +1,10 @@
 use Rattle.std.proofs.Common.{◌≡◌, ◌+◌, [], length, ap, ◌∙◌, arith}
 use Rattle.std.specs.Prelude.{slice_index, slice_index_or}
 use Rattle.std.proofs.Math.ListN.{set}
+use Rattle.flu_lemmas.proofs.Places.{slice_index-map}
 use Rattle.flu_model.specs.Listed.{listed}
 use Rattle.flu_mail.specs.declared.entries.Entry.{Entry}
 use Rattle.flu_mail.specs.Mailboxes.{counts_of}
-use Rattle.flu_mail.proofs.General.{slice_index-map}
 use Rattle.flu_mail.proofs.PlaceLemmas.{events_fit}
 use Rattle.flu_mail.proofs.MailboxLemmas.{entry_read, few_items}
 use Rattle.flu_mail.proofs.mailbox.Mailbox.count_one.Goals as goal

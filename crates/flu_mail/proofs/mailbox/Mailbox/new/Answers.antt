@@ -1,6 +1,9 @@
 use Rattle.std.proofs.Common.{◌≡◌, [], ◌∷◌, length, sym, ap, subst, ◌∙◌, arith}
 use Rattle.std.specs.Prelude.{is_none, is_some, map, replicate, slice_get, slice_index_or}
 use Rattle.std.proofs.lemmas.List.{length-append}
+use Rattle.flu_lemmas.proofs.Booleans.{turned}
+use Rattle.flu_lemmas.proofs.Elements.{each_push}
+use Rattle.flu_lemmas.proofs.Places.{map_push_zero}
 use Rattle.flu_model.specs.Itags.{count_of_itags}
 use Rattle.flu_model.specs.Listed.{listed}
 use Rattle.flu_deps.specs.Checking.{program_of}
@@ -8,7 +11,6 @@ use Rattle.flu_deps.specs.Validated.{plan_of}
 use Rattle.flu_mail.specs.declared.entries.Entry.{Entry}
 use Rattle.flu_mail.specs.Waiting.{itag}
 use Rattle.flu_mail.specs.Entries.{IsEntryAt, IsEntryOver}
-use Rattle.flu_mail.proofs.General.{turned, each_push, map_push_zero}
 use Rattle.flu_mail.proofs.MailboxLemmas.{length-seen}
 use Rattle.flu_mail.proofs.mailbox.Mailbox.new.Goals as goal
 

@@ -1,11 +1,11 @@
 use Rattle.std.proofs.Common.{◌≡◌, [], length, sym, ap, ◌∙◌}
 use Rattle.std.specs.Prelude.{slice_get, slice_index, slice_index_or}
+use Rattle.flu_lemmas.proofs.Places.{slice_index-map}
 use Rattle.flu_model.specs.Listed.{listed}
 use Rattle.flu_mail.specs.Passing.{seen_items, next_event}
 use Rattle.flu_mail.specs.Places.{event_in}
 use Rattle.flu_mail.specs.declared.entries.Entry.{Entry}
 use Rattle.flu_mail.specs.Mailboxes.{seen_of, counts_of}
-use Rattle.flu_mail.proofs.General.{slice_index-map}
 use Rattle.flu_mail.proofs.PlaceLemmas.{next_at_place}
 use Rattle.flu_mail.proofs.MailboxLemmas.{entry_read}
 use Rattle.flu_mail.proofs.mailbox.Mailbox.next.Goals as goal

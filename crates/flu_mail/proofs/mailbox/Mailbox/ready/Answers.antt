@@ -3,7 +3,7 @@ use Rattle.std.specs.Prelude.{not}
 use Rattle.flu_model.specs.Listed.{listed}
 use Rattle.flu_deps.specs.Checking.{program_of}
 use Rattle.flu_mail.specs.declared.waiting.Purpose.TheVariants.{Take}
-use Rattle.flu_mail.specs.Parts.{is_held_up}
+use Rattle.flu_mail.specs.LoopParts.{is_held_up}
 use Rattle.flu_mail.proofs.MailboxLemmas.{waiting_told}
 use Rattle.flu_mail.proofs.mailbox.Mailbox.ready.Goals as goal
 

@@ -1,8 +1,8 @@
 use Rattle.std.proofs.Common.{length, refl}
 use Rattle.std.proofs.lemmas.List.{map-set}
+use Rattle.flu_lemmas.proofs.Places.{map-set_alike}
 use Rattle.flu_mail.specs.declared.entries.Entry.{Entry}
 use Rattle.flu_mail.specs.Mailboxes.{seen_of}
-use Rattle.flu_mail.proofs.General.{map-set_alike}
 use Rattle.flu_mail.proofs.MailboxLemmas.{entry_read, at_kept, over_kept}
 use Rattle.flu_mail.proofs.mailbox.Mailbox.see.Goals as goal
 

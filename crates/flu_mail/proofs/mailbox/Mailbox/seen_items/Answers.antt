@@ -1,7 +1,7 @@
 use Rattle.std.proofs.Common.{length, ap, arith}
+use Rattle.flu_lemmas.proofs.Places.{slice_index-map}
 use Rattle.flu_model.specs.Listed.{listed}
 use Rattle.flu_mail.specs.declared.entries.Entry.{Entry}
-use Rattle.flu_mail.proofs.General.{slice_index-map}
 use Rattle.flu_mail.proofs.MailboxLemmas.{entry_read}
 use Rattle.flu_mail.proofs.mailbox.Mailbox.seen_items.Goals as goal
 

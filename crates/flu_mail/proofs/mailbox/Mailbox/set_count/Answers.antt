@@ -1,9 +1,9 @@
 use Rattle.std.proofs.Common.{length, refl, ap, ◌∙◌}
 use Rattle.std.proofs.lemmas.List.{map-set}
+use Rattle.flu_lemmas.proofs.Places.{map-set_alike}
 use Rattle.flu_model.specs.Listed.{listed}
 use Rattle.flu_mail.specs.declared.entries.Entry.{Entry}
 use Rattle.flu_mail.specs.Places.{place_of}
-use Rattle.flu_mail.proofs.General.{map-set_alike}
 use Rattle.flu_mail.proofs.MailboxLemmas.{entry_read, at_kept, over_kept}
 use Rattle.flu_mail.proofs.mailbox.Mailbox.set_count.Goals as goal
 

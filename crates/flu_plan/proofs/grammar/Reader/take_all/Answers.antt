@@ -1,7 +1,8 @@
 use Rattle.std.proofs.Common.{◌∙◌, sym, arith}
 use Rattle.flu_plan.specs.Faults.{each}
 use Rattle.flu_plan.specs.Machine.{turn_of, step}
-use Rattle.flu_plan.proofs.FaultLemmas.{fails_through, each-next-at, each-fault-at, each-end}
+use Rattle.flu_plan.proofs.FaultLemmas.{fails_through}
+use Rattle.flu_lemmas.proofs.Loops.{each-next-at, each-fault-at, each-end}
 use Rattle.flu_plan.proofs.grammar.Reader.take_all.Goals as goal
 
 pub returns-in-Err : goal.returns-in-Err
@@ -12,7 +13,8 @@ returns-in-Err c =
 
 pub loop-token-preserved : goal.loop-token-preserved
 loop-token-preserved c =
-    sym (each-next-at step _ (turn_of c.loop-token.self) (turn_of c.take.new.self) c.args.tokens.now c.loop-token.token-index c.loop-token-test.true c.in-Ok.ensures)
+    sym (each-next-at step _ (turn_of c.loop-token.self) (turn_of c.take.new.self) c.args.tokens.now c.loop-token.token-index c.loop-token-test.true
+        c.in-Ok.ensures)
     ∙ c.loop-token.invariant
 
 pub returns : goal.returns

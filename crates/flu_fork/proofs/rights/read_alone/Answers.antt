@@ -1,0 +1,16 @@
+use Rattle.std.proofs.Common.{◌∙◌}
+use Rattle.flu_cells.specs.Sets.{is_in}
+use Rattle.flu_deps.specs.Validated.{plan_of}
+use Rattle.flu_fork.specs.Classes.{below}
+use Rattle.flu_fork.proofs.GatheringLemmas.{copied_are_read}
+use Rattle.flu_fork.proofs.Turns.{IfOk-map}
+use Rattle.flu_fork.proofs.rights.read_alone.Goals as goal
+
+pub returns : goal.returns
+returns c =
+    let p = c.args.p.now in
+    let law = c.modes_are_of_actions.ensures in
+    let written = c.in_ok-written.field-0 in
+    IfOk-map c.read_below.result _ _
+    (λ set is d. is d ∙ copied_are_read law.needs law.writes p c.requires.version (below p (plan_of c.args.v.now).nodes c.args.w) d (is_in written d) (c.in_ok-written.ensures d))
+    c.read_below.ensures

@@ -1,0 +1,13 @@
+use Rattle.std.specs.Prelude.{◌&&◌, not}
+use Rattle.flu_cells.specs.Sets.{is_in}
+use Rattle.flu_deps.specs.Validated.{plan_of}
+use Rattle.flu_fork.specs.Classes.{below}
+use Rattle.flu_fork.specs.Gathering.{reads_by}
+use Rattle.flu_fork.proofs.Turns.{test_turn}
+use Rattle.flu_fork.proofs.rights.read_below.Goals as goal
+
+pub loop-i-preserved : goal.loop-i-preserved
+loop-i-preserved c =
+    let p = c.args.p.now in
+    let inside = below p (plan_of c.args.v.now).nodes c.args.w in
+    λ d. test_turn (λ j. inside j && (not (is_in c.args.written.now d) && reads_by p j d)) c.loop-i.i _ _ (c.in_ok-add_read_below.ensures d) (c.loop-i.invariant d)

@@ -1,0 +1,249 @@
+-- The normal form of a job is read as that job.
+use Rattle.std.proofs.Common.{◌≡◌, ◌≤◌, ◌+◌, ℕ, pos, Bool, true, false, ◌&&◌, ◌||◌, Option, None, List, [], ◌∷◌, ◌++◌, map, length, Some, Ok, refl, sym, ap, subst, ◌∙◌, append_assoc, arith}
+use Rattle.std.specs.Prelude.{not, ◌==◌, if◌then◌else◌}
+use Rattle.std.specs.List.{list_all, list_any}
+use Rattle.std.specs.Str.{IsUtf8}
+use Rattle.std.proofs.lemmas.List.Concat.{flat_map-append}
+use Rattle.flu_lemmas.proofs.Tests.{le_true, true_eq}
+use Rattle.flu_lemmas.proofs.Booleans.{or_front, three_left, three_right}
+use Rattle.flu_lemmas.specs.Items.{Begins}
+use Rattle.flu_lemmas.proofs.Items.{begins_append, Took, took_none}
+use Rattle.flu_text.specs.declared.words.Token.{Token}
+use Rattle.flu_text.specs.Layout.{Piece as Laid, layout, tokens_of}
+use Rattle.flu_text.specs.Reading.{Reading as TokenReading}
+use Rattle.flu_rules.proofs.DistinctLemmas.{distinct-append}
+use Rattle.flu_model.specs.declared.limits.What.TheVariants.{Bytes}
+use Rattle.flu_model.specs.declared.jobs.Family.{Family}
+use Rattle.flu_model.specs.declared.jobs.Source.{Source}
+use Rattle.flu_model.specs.Erasure.{PlainKind, Job}
+use Rattle.flu_model.specs.Rules.{is_same_text, are_distinct}
+use Rattle.flu_names.specs.declared.reserved.Reserved.TheVariants as r
+use Rattle.flu_rules.specs.Keys.{TagsMeet, TagsDiffer}
+use Rattle.flu_syntax.specs.declared.tree.WrittenNumber.{WrittenNumber}
+use Rattle.flu_syntax.specs.Tree.{Declaration, Job as WrittenJob}
+use Rattle.flu_syntax.specs.Machine.{Verdict}
+use Rattle.flu_syntax.specs.Grammar.{IsSign, declaration_signs, declarations_signs, version_signs, job_signs, IsJob}
+use Rattle.flu_syntax.specs.Laws.{FoundIsJob}
+use Rattle.flu_names.specs.Names.{is_name}
+use Rattle.flu_layout.specs.Laid.{blank, line_end, reserved, number}
+use Rattle.flu_layout.specs.Stands.{Stand}
+use Rattle.flu_layout.specs.Laws.{LaidIsRead, BegunAreSigns, KeysAreSpelled, KeysAreLaid}
+use Rattle.flu_parse.specs.declared.faults.JobFault.TheVariants as f
+use Rattle.flu_parse.specs.Faults.{Found, ◌>>=◌, ◌>>◌, unless, each}
+use Rattle.flu_parse.specs.Naming.{Naming, no_names, naming_of}
+use Rattle.flu_parse.specs.Resolving.{Drafted, with_declaration, family, idle_kind, draft_of, version_of, job_with as draft_with, resolved}
+use Rattle.flu_parse.specs.Reading.{text_in, found_tokens, tokens_in, found_job, written_in, job_in}
+use Rattle.flu_parse.specs.Printing.{normal_form}
+use Rattle.flu_parse.proofs.ReadingLemmas.{text_in-utf8}
+use Rattle.flu_parse.proofs.Printed.Rules.{plain_depend_fits, plain_source_fits, names_of_job, JobFits}
+use Rattle.flu_parse.proofs.Printed.Words.{version_words, cell_line_words, tag_line_words, depends_line_words, source_line_words, job_words, job_layout}
+use Rattle.flu_parse.proofs.Printed.LaidLines.{names_of_kinds, job_laid}
+use Rattle.flu_parse.proofs.Printed.ReadTerms.{family_head, FamiliesKnown}
+use Rattle.flu_parse.proofs.Printed.ReadTags.{kind_head, KindsKnown}
+use Rattle.flu_parse.proofs.Printed.ReadLines.{Lines, CellIs, TagIs, DependsIs, SourceIs, Ons, declarations-append, read_lines, read_cell_line, read_tag_line, read_depends_line, read_ons, read_source_line}
+use Rattle.flu_parse.proofs.Printed.Names.{family_heads, kind_heads, naming_of_job, own_head, Left, all_fresh, declare_cells, declare_tags, declare_depends, declare_ons, declare_sources, counted}
+use Rattle.flu_parse.proofs.Printed.Drafts.{without_actions, itags_counted, total_itags, skip_cells, skip_tags, add_depends, add_ons, add_sources}
+
+families_back : (i : ℕ) (fs : List Family) → map family (family_heads i fs) ≡ fs
+families_back i [] = refl
+families_back i (g ∷ fs) = ap (λ l. g ∷ l) (families_back (i + 1) fs)
+
+kinds_idle : (i : ℕ) (ks : List PlainKind) → map idle_kind (kind_heads i ks) ≡ map without_actions ks
+kinds_idle i [] = refl
+kinds_idle i (k ∷ ks) = ap (λ l. without_actions k ∷ l) (kinds_idle (i + 1) ks)
+
+-- the names of families, and those of kinds, differ
+record Apart (job : Job) : Type 0 where
+  all : are_distinct is_same_text (map (λ (g : Family). g.name) job.families ++ (map (λ (k : PlainKind). k.name) job.kinds ++ map (λ (s : Source). s.name) job.sources)) ≡ true
+  families : are_distinct is_same_text (map (λ (g : Family). g.name) job.families) ≡ true
+  kinds : are_distinct is_same_text (map (λ (k : PlainKind). k.name) job.kinds) ≡ true
+
+apart : (job : Job) → are_distinct is_same_text (names_of_job job) ≡ true → Apart job
+apart job h =
+    let a : List (List ℕ) = map (λ (g : Family). g.name) job.families in
+    let b : List (List ℕ) = map (λ (k : PlainKind). k.name) job.kinds in
+    let c : List (List ℕ) = map (λ (s : Source). s.name) job.sources in
+    let front = three_left (are_distinct is_same_text (a ++ b)) (not (list_any (λ x. list_any (is_same_text x) c) (a ++ b))) (are_distinct is_same_text c) (sym (distinct-append is_same_text (a ++ b) c) ∙ h) in
+    let both : (are_distinct is_same_text a && not (list_any (λ x. list_any (is_same_text x) b) a) && are_distinct is_same_text b) ≡ true = sym (distinct-append is_same_text a b) ∙ front in
+    record {
+      all = ap (are_distinct is_same_text) (sym (append_assoc a b c)) ∙ h;
+      families = three_left (are_distinct is_same_text a) (not (list_any (λ x. list_any (is_same_text x) b) a)) (are_distinct is_same_text b) both;
+      kinds = three_right (are_distinct is_same_text a) (not (list_any (λ x. list_any (is_same_text x) b) a)) (are_distinct is_same_text b) both;
+    }
+
+module _ (begun : BegunAreSigns) (meet : TagsMeet) (differ : TagsDiffer) (job : Job) (fits : JobFits job) (whole : List ℕ) (utf8 : IsUtf8 whole) where
+  n : Naming
+  n = naming_of_job job
+
+  known_families : FamiliesKnown job.families n
+  unfolding n
+  known_families i g found =
+      own_head (λ (g : Family). g.name) family_head 0 job.families i g (apart job fits.own_names).families found
+      ∙ ap (λ k. Some (family_head k g)) (let same : 0 + i ≡ i = omega arith in same)
+
+  known_kinds : KindsKnown job.kinds n
+  unfolding n
+  known_kinds i k found =
+      own_head (λ (k : PlainKind). k.name) kind_head 0 job.kinds i k (apart job fits.own_names).kinds found
+      ∙ ap (λ j. Some (kind_head j k)) (let same : 0 + i ≡ i = omega arith in same)
+
+  named_kinds : list_all (λ (k : PlainKind). is_name k.name) job.kinds ≡ true
+  named_kinds = names_of_kinds job.families job.kinds fits.kinds
+
+  -- the declarations, part by part
+  record Parts : Type 0 where
+    cells : List Declaration
+    tags : List Declaration
+    deps : List Declaration
+    ons : List Declaration
+    sources : List Declaration
+    are_cells : Lines (CellIs whole utf8) job.families cells
+    are_tags : Lines (TagIs whole utf8) job.kinds tags
+    are_deps : Lines (DependsIs whole utf8 job.kinds named_kinds n known_kinds) job.depends deps
+    are_ons : Ons whole utf8 job.families fits.families n known_families 0 job.kinds ons
+    are_sources : Lines (SourceIs whole utf8 job.kinds named_kinds n known_kinds) job.sources sources
+
+  abbrev all_parts : Parts → List Declaration
+  all_parts p = p.cells ++ (p.tags ++ (p.deps ++ (p.ons ++ (p.sources ++ []))))
+
+  -- the tokens are these declarations
+  record IsRead (ts : List Token) : Type 0 where
+    version : Option WrittenNumber
+    parts : Parts
+    version_is : version_of version ≡ Ok job.version
+    is : IsJob ts (record { version = version; declarations = all_parts parts })
+
+  -- the version, as it is read
+  record VersionIs (rest : List Laid) (ts : List Token) : Type 0 where
+    written : Option WrittenNumber
+    took : Took IsSign (Stand whole) (version_signs written) rest ts
+    is : version_of written ≡ Ok job.version
+
+  read_version : (rest : List Laid) (ts : List Token) → Stand whole (version_words job.version rest) ts → VersionIs rest ts
+  read_version rest ts h = by (job.version == 2) refl h
+    where
+      by : (two : Bool) → (job.version == 2) ≡ two → Stand whole (if two then reserved r.Version blank ∷ number (pos 2) line_end ∷ rest else rest) ts → VersionIs rest ts
+      by true e h = record {
+        written = Some (record { value = pos 2; at = h.4.0.from });
+        took = record { rest = h.4.1; begins = (h.0, h.1, h.2, h.3.word, (h.4.0, h.4.1, h.4.2, (h.4.3.word, refl), refl)); stand = h.4.4 };
+        is = ap Ok (sym (true_eq job.version 2 e));
+      }
+      by false e h = record {
+        written = None;
+        took = took_none IsSign (Stand whole) rest ts h;
+        is = ap Ok (sym (true_eq job.version 1 (or_front (job.version == 1) (job.version == 2) fits.known_version e)));
+      }
+
+  begin_more : (a b : List Declaration) (ts more rest : List Token) → Begins IsSign (declarations_signs a) ts more → Begins IsSign (declarations_signs b) more rest → Begins IsSign (declarations_signs (a ++ b)) ts rest
+  begin_more a b ts more rest h k = subst (λ l. Begins IsSign l ts rest) (sym (flat_map-append declaration_signs a b)) (begins_append IsSign (declarations_signs a) (declarations_signs b) ts more rest h k)
+
+  read_parts : (ts : List Token) → Stand whole (job_words job) ts → IsRead ts
+  read_parts tokens h =
+      let version = read_version _ tokens h in
+      let ts = version.took.rest in
+      let cells = read_lines whole cell_line_words (CellIs whole utf8) (λ (g : Family). is_name g.name) (read_cell_line whole utf8) job.families _ ts fits.families version.took.stand in
+      let tags = read_lines whole tag_line_words (TagIs whole utf8) (λ (k : PlainKind). is_name k.name) (read_tag_line whole utf8) job.kinds _ cells.took.rest named_kinds cells.took.stand in
+      let deps = read_lines whole (depends_line_words job.kinds) (DependsIs whole utf8 job.kinds named_kinds n known_kinds) (plain_depend_fits job.kinds) (read_depends_line whole utf8 job.kinds named_kinds n known_kinds) job.depends _ tags.took.rest fits.depends tags.took.stand in
+      let ons = read_ons whole utf8 job.families fits.families n known_families 0 job.kinds _ deps.took.rest fits.kinds deps.took.stand in
+      let sources = read_lines whole (source_line_words job.kinds) (SourceIs whole utf8 job.kinds named_kinds n known_kinds) (plain_source_fits job.kinds) (read_source_line whole utf8 job.kinds named_kinds n known_kinds) job.sources [] ons.took.rest fits.sources ons.took.stand in
+      let p : Parts = record {
+        cells = cells.written;
+        tags = tags.written;
+        deps = deps.written;
+        ons = ons.written;
+        sources = sources.written;
+        are_cells = cells.means;
+        are_tags = tags.means;
+        are_deps = deps.means;
+        are_ons = ons.means;
+        are_sources = sources.means;
+      } in
+      let last = begin_more sources.written [] ons.took.rest sources.took.rest sources.took.rest sources.took.begins refl in
+      let fourth = begin_more ons.written (sources.written ++ []) deps.took.rest ons.took.rest sources.took.rest ons.took.begins last in
+      let third = begin_more deps.written (ons.written ++ (sources.written ++ [])) tags.took.rest deps.took.rest sources.took.rest deps.took.begins fourth in
+      let second = begin_more tags.written (deps.written ++ (ons.written ++ (sources.written ++ []))) cells.took.rest tags.took.rest sources.took.rest tags.took.begins third in
+      let first = begin_more cells.written (tags.written ++ (deps.written ++ (ons.written ++ (sources.written ++ [])))) ts cells.took.rest sources.took.rest cells.took.begins second in
+      let written : WrittenJob = record { version = version.written; declarations = all_parts p } in
+      let whole_job = begins_append IsSign (version_signs version.written) (declarations_signs (all_parts p)) tokens ts sources.took.rest version.took.begins first in
+      record {
+        version = version.written;
+        parts = p;
+        version_is = version.is;
+        is = record {
+          grammar =
+              declarations-append cells.written _ cells.are (declarations-append tags.written _ tags.are (declarations-append deps.written _ deps.are
+              (declarations-append ons.written _ ons.are (declarations-append sources.written [] sources.are tt))));
+          spelled = begun (job_signs written) tokens (subst (λ l. Begins IsSign (job_signs written) tokens l) sources.took.stand whole_job);
+        };
+      }
+
+  -- ---- what the declarations mean
+
+  named : (p : Parts) → naming_of whole (all_parts p) ≡ Ok n
+  unfolding n each
+  named p =
+      let source_names : List (List ℕ) = map (λ (s : Source). s.name) job.sources in
+      let rest : List (List ℕ) = map (λ (k : PlainKind). k.name) job.kinds ++ source_names in
+      let left : Left no_names (map (λ (g : Family). g.name) job.families ++ rest) = record { fresh = all_fresh (map (λ (g : Family). g.name) job.families ++ rest); apart = (apart job fits.own_names).all } in
+      let with_cells : Naming = record { families = family_heads 0 job.families; kinds = []; sources = []; depends = 0 } in
+      let with_tags : Naming = record { families = family_heads 0 job.families; kinds = kind_heads 0 job.kinds; sources = []; depends = 0 } in
+      let with_deps : Naming = record { families = family_heads 0 job.families; kinds = kind_heads 0 job.kinds; sources = []; depends = 0 + length job.depends } in
+      let cells = declare_cells whole utf8 job.families no_names p.cells (p.tags ++ (p.deps ++ (p.ons ++ (p.sources ++ [])))) rest p.are_cells left (omega (arith, fits.few_families)) in
+      let tags = declare_tags whole utf8 job.kinds with_cells p.tags (p.deps ++ (p.ons ++ (p.sources ++ []))) source_names p.are_tags cells.left (omega (arith, fits.few_kinds)) in
+      cells.leads
+      ∙ tags.leads
+      ∙ declare_depends whole utf8 job.kinds named_kinds n known_kinds job.depends with_tags p.deps (p.ons ++ (p.sources ++ [])) p.are_deps (omega (arith, fits.few_depends))
+      ∙ declare_ons whole utf8 job.families fits.families n known_families 0 job.kinds with_deps p.ons (p.sources ++ []) p.are_ons
+      ∙ declare_sources whole utf8 job.kinds named_kinds n known_kinds job.sources with_deps p.sources [] p.are_sources (counted whole utf8 with_tags (0 + length job.depends) source_names tags.left) (omega (arith, fits.few_sources))
+      ∙ ap (λ k. Ok (let m : Naming = record { families = family_heads 0 job.families; kinds = kind_heads 0 job.kinds; sources = source_names; depends = k } in m)) (let same : 0 + length job.depends ≡ length job.depends = omega arith in same)
+
+  drafted : (p : Parts) → (given : List ℕ) × (itags : ℕ) × (draft_of whole n (all_parts p) ≡ Ok (record { kinds = job.kinds; given = given; depends = job.depends; sources = job.sources; itags = itags }))
+  unfolding n each
+  drafted p =
+      let idle : List PlainKind = map without_actions job.kinds in
+      let behind_tags : List Declaration = p.deps ++ (p.ons ++ (p.sources ++ [])) in
+      let start : Drafted = record { kinds = idle; given = []; depends = []; sources = []; itags = 0 } in
+      let with_deps : Drafted = record { kinds = idle; given = []; depends = job.depends; sources = []; itags = 0 } in
+      let ons = add_ons whole utf8 n job.families fits.families known_families job.kinds known_kinds [] job.kinds with_deps [] p.ons (p.sources ++ []) refl fits.kinds (λ j le. refl) p.are_ons in
+      let with_ons : Drafted = record { kinds = job.kinds; given = ons.now; depends = job.depends; sources = []; itags = 0 } in
+      let few : 0 + total_itags job.sources ≤ 256 = omega (arith, fits.few_itags, itags_counted 0 job.sources) in (
+        ons.now,
+        0 + total_itags job.sources,
+        ap (λ ks. each (with_declaration whole n) (let d : Drafted = record { kinds = ks; given = []; depends = []; sources = []; itags = 0 } in d) (all_parts p)) (kinds_idle 0 job.kinds)
+            ∙ skip_cells whole utf8 n job.families start p.cells (p.tags ++ behind_tags) p.are_cells
+            ∙ skip_tags whole utf8 n job.kinds start p.tags behind_tags p.are_tags
+            ∙ add_depends whole utf8 n job.kinds named_kinds known_kinds job.depends start p.deps (p.ons ++ (p.sources ++ [])) p.are_deps
+            ∙ ons.leads
+            ∙ add_sources whole utf8 n job.kinds named_kinds known_kinds meet differ [] job.sources with_ons p.sources [] p.are_sources refl fits.sources fits.own_files few,
+      )
+
+  resolved_is : (p : Parts) (version : Option WrittenNumber) → version_of version ≡ Ok job.version → resolved whole (record { version = version; declarations = all_parts p }) ≡ Ok job
+  unfolding n resolved
+  resolved_is p version known =
+      let d = drafted p in
+      ap (λ (r : Found Naming). r >>= λ n. version_of version >>= λ v. draft_of whole n (all_parts p) >>= λ d. Ok (draft_with v n d)) (named p)
+      ∙ ap (λ (r : Found ℕ). r >>= λ v. draft_of whole n (all_parts p) >>= λ d. Ok (draft_with v n d)) known
+      ∙ ap (λ (r : Found Drafted). r >>= λ d. Ok (draft_with job.version n d)) d.2
+      ∙ ap (λ fs. Ok (let j : Job = record { version = job.version; families = fs; kinds = job.kinds; depends = job.depends; sources = job.sources } in j)) (families_back 0 job.families)
+
+-- the words of the normal form are read as the job
+laid_is_read : LaidIsRead → BegunAreSigns → KeysAreLaid → FoundIsJob → TagsMeet → TagsDiffer → (job : Job) → JobFits job → IsUtf8 (layout (job_words job))
+    → length (layout (job_words job)) ≤ 1048576 → job_in (layout (job_words job)) ≡ Ok job
+unfolding job_in
+laid_is_read read begun keys found meet differ job fits utf8 few =
+    let whole : List ℕ = layout (job_words job) in
+    let ts : List Token = tokens_of 0 (job_words job) in
+    let reads = read (job_words job) (job_laid keys job fits) utf8 in
+    let parts = read_parts begun meet differ job fits whole utf8 ts reads.1 in
+    let written : WrittenJob = record { version = parts.version; declarations = all_parts begun meet differ job fits whole utf8 parts.parts } in
+    let rest : List ℕ → Found Job = λ text. tokens_in text >>= λ ts. written_in (length text) ts >>= λ written. resolved text written in
+    ap (λ b. unless b (f.OverLimit Bytes 1048577) >> (text_in whole >>= rest)) (le_true (length whole) 1048576 few)
+    ∙ ap (λ (r : Found (List ℕ)). r >>= rest) (text_in-utf8 whole whole refl utf8)
+    ∙ ap (λ (r : TokenReading). found_tokens r >>= λ ts. written_in (length whole) ts >>= λ written. resolved whole written) reads.0
+    ∙ ap (λ (v : Verdict WrittenJob). found_job v >>= λ written. resolved whole written) ((found (length whole) ts written).1 parts.is)
+    ∙ resolved_is begun meet differ job fits whole utf8 parts.parts parts.version parts.version_is
+
+pub job_is_read : LaidIsRead → BegunAreSigns → KeysAreSpelled → KeysAreLaid → FoundIsJob → TagsMeet → TagsDiffer → (job : Job) → JobFits job → IsUtf8 (normal_form job)
+    → length (normal_form job) ≤ 1048576 → job_in (normal_form job) ≡ Ok job
+job_is_read read begun spelled keys found meet differ job fits =
+    subst (λ text. IsUtf8 text → length text ≤ 1048576 → job_in text ≡ Ok job) (job_layout spelled job) (laid_is_read read begun keys found meet differ job fits)

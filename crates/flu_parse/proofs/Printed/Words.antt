@@ -1,0 +1,301 @@
+-- The words of the normal form, each with the blanks behind it; and that they are laid out as that text.
+use Rattle.std.proofs.Common.{◌≡◌, ℕ, ℤ, pos, Bool, true, false, Option, Some, None, List, [], ◌∷◌, ◌++◌, refl, ap, ◌∙◌, append_assoc, arith}
+use Rattle.std.specs.Prelude.{nat_lt, ◌==◌, if◌then◌else◌, slice_get, codes}
+use Rattle.std.specs.Fmt.{decimal, signed_decimal}
+use Rattle.std.specs.List.{flat_map}
+use Rattle.std.proofs.lemmas.Fmt.{decimal_digit}
+use Rattle.std.proofs.lemmas.List.{append-nil}
+use Rattle.flu_lemmas.specs.Items.{lines_before}
+use Rattle.flu_lemmas.proofs.Items.{items_out, lines_out}
+use Rattle.flu_names.specs.declared.reserved.Reserved.TheVariants as r
+use Rattle.flu_names.specs.declared.reserved.Reserved.{Reserved}
+use Rattle.flu_text.specs.declared.words.Mark.TheVariants as m
+use Rattle.flu_text.specs.Layout.{Piece as Laid, layout}
+use Rattle.flu_model.specs.declared.jobs.Sort.{Sort}
+use Rattle.flu_model.specs.declared.jobs.Sort.TheVariants as sort
+use Rattle.flu_model.specs.declared.jobs.Family.{Family}
+use Rattle.flu_model.specs.declared.jobs.At.{At}
+use Rattle.flu_model.specs.declared.jobs.At.TheVariants as at
+use Rattle.flu_model.specs.declared.jobs.CellRef.{CellRef}
+use Rattle.flu_model.specs.declared.jobs.Op.{Op}
+use Rattle.flu_model.specs.declared.jobs.Depend.{Depend}
+use Rattle.flu_model.specs.declared.jobs.TagRef.{TagRef}
+use Rattle.flu_model.specs.declared.jobs.Source.{Source}
+use Rattle.flu_model.specs.Erasure.{Term, Literal, EventValue, EventKey, EventTime, CellRead, CellHeld, Negative, Negation, Operation, Adding, Raising, Setting, Clearing, Emitting, Flushing, PlainAction, PlainKind, Job, PlainAct}
+use Rattle.flu_model.specs.Templates.{family_name, written_key, written_cell, written_template}
+use Rattle.flu_syntax.specs.Grammar.{op_word}
+use Rattle.flu_layout.specs.Laid.{blank, line_end, quoted, reserved, mark, name, text, number}
+use Rattle.flu_layout.specs.Lists.{separated, between, items_words, keys_text, behind_kind, keys_words}
+use Rattle.flu_layout.specs.Laws.{KeysAreSpelled}
+use Rattle.flu_parse.specs.Printing.{op_text, term_text, act_text, guard_text, action_text, version_line, keyed_text, sort_text, cell_line, value_text, tag_line, kind_name, same_text, depends_line, actions_line, on_line, tag_text, slack_text, source_line, normal_form}
+
+-- ---- lists in a row, grouped otherwise
+
+regroup_four : (a b c d e : List ℕ) → a ++ (b ++ (c ++ (d ++ e))) ≡ (((a ++ b) ++ c) ++ d) ++ e
+regroup_four a b c d e = simp append_assoc
+
+regroup_five : (a b c d e f : List ℕ) → a ++ (b ++ (c ++ (d ++ (e ++ f)))) ≡ ((((a ++ b) ++ c) ++ d) ++ e) ++ f
+regroup_five a b c d e f = simp append_assoc
+
+regroup_ten : (a b c d e f g h i j k : List ℕ) → a ++ (b ++ (c ++ (d ++ (e ++ (f ++ (g ++ (h ++ (i ++ (j ++ k)))))))))
+    ≡ (((((((((a ++ b) ++ c) ++ d) ++ e) ++ f) ++ g) ++ h) ++ i) ++ j) ++ k
+regroup_ten a b c d e f g h i j k = simp append_assoc
+
+regroup_job : (a b c d e f : List ℕ) → a ++ (b ++ (c ++ (d ++ (e ++ (f ++ []))))) ≡ ((((a ++ b) ++ c) ++ d) ++ e) ++ f
+regroup_job a b c d e f = simp (append-nil, append_assoc)
+
+-- ---- words
+
+abbrev pub operator : Op → List ℕ → Laid
+operator o behind = record { word = op_word o; spelling = op_text o; gap = behind }
+
+-- ---- cells
+
+-- what stands behind the name of a cell
+abbrev pub behind_name : At → List ℕ → List ℕ
+behind_name at.Alone behind = behind
+behind_name at.OwnKey behind = []
+behind_name (at.Fixed k) behind = []
+
+abbrev pub key_words : At → List ℕ → List Laid → List Laid
+key_words at.Alone behind rest = rest
+key_words at.OwnKey behind rest = mark m.OpenBracket [] ∷ reserved r.Key [] ∷ mark m.CloseBracket behind ∷ rest
+key_words (at.Fixed k) behind rest = mark m.OpenBracket [] ∷ number (pos k) [] ∷ mark m.CloseBracket behind ∷ rest
+
+abbrev pub cell_words : List Family → CellRef → List ℕ → List Laid → List Laid
+cell_words families c behind rest = name (family_name (slice_get families c.family)) (behind_name c.at behind) ∷ key_words c.at behind rest
+
+key_layout : (a : At) (behind : List ℕ) (rest : List Laid) → behind_name a behind ++ layout (key_words a behind rest) ≡ written_key a ++ (behind ++ layout rest)
+key_layout at.Alone behind rest = refl
+key_layout at.OwnKey behind rest = refl
+key_layout (at.Fixed k) behind rest = simp append_assoc
+
+pub cell_layout : (families : List Family) (c : CellRef) (behind : List ℕ) (rest : List Laid) → layout (cell_words families c behind rest) ≡ written_cell families c ++ (behind ++ layout rest)
+cell_layout families c behind rest =
+    let n : List ℕ = family_name (slice_get families c.family) in
+    rw (append_assoc n (written_key c.at) (behind ++ layout rest)) (ap (λ l. n ++ l) (key_layout c.at behind rest))
+
+-- ---- expressions
+
+abbrev pub term_words : List Family → Term → List ℕ → List Laid → List Laid
+term_words families (Literal n) behind rest = number n behind ∷ rest
+term_words families EventValue behind rest = reserved r.Value behind ∷ rest
+term_words families EventKey behind rest = reserved r.Key behind ∷ rest
+term_words families EventTime behind rest = reserved r.Time behind ∷ rest
+term_words families (CellRead c) behind rest = cell_words families c behind rest
+term_words families (CellHeld c) behind rest = reserved r.Has blank ∷ cell_words families c behind rest
+term_words families (Negative e) behind rest = mark m.OpenParen [] ∷ mark m.Minus blank ∷ term_words families e [] (mark m.CloseParen behind ∷ rest)
+term_words families (Negation e) behind rest = mark m.OpenParen [] ∷ reserved r.Not blank ∷ term_words families e [] (mark m.CloseParen behind ∷ rest)
+term_words families (Operation o a b) behind rest =
+    mark m.OpenParen [] ∷ term_words families a blank (operator o blank ∷ term_words families b [] (mark m.CloseParen behind ∷ rest))
+
+pub term_layout : (families : List Family) (e : Term) (behind : List ℕ) (rest : List Laid) → layout (term_words families e behind rest) ≡ term_text families e ++ (behind ++ layout rest)
+term_layout families (Literal n) behind rest = refl
+term_layout families EventValue behind rest = refl
+term_layout families EventKey behind rest = refl
+term_layout families EventTime behind rest = refl
+term_layout families (CellRead c) behind rest = cell_layout families c behind rest
+term_layout families (CellHeld c) behind rest = ap (λ l. codes "has " ++ l) (cell_layout families c behind rest)
+term_layout families (Negative e) behind rest = rw (term_layout families e [] (mark m.CloseParen behind ∷ rest)) (simp append_assoc)
+term_layout families (Negation e) behind rest = rw (term_layout families e [] (mark m.CloseParen behind ∷ rest)) (simp append_assoc)
+term_layout families (Operation o a b) behind rest =
+    rw (term_layout families a blank (operator o blank ∷ term_words families b [] (mark m.CloseParen behind ∷ rest)), term_layout families b [] (mark m.CloseParen behind ∷ rest)) (simp append_assoc)
+
+-- ---- actions
+
+abbrev pub act_words : List Family → PlainAct → List ℕ → List Laid → List Laid
+act_words families (Adding c e) behind rest = reserved r.Add blank ∷ cell_words families c blank (term_words families e behind rest)
+act_words families (Raising c e) behind rest = reserved r.Raise blank ∷ cell_words families c blank (term_words families e behind rest)
+act_words families (Setting c e) behind rest = reserved r.Set blank ∷ cell_words families c blank (term_words families e behind rest)
+act_words families (Clearing c) behind rest = reserved r.Clear blank ∷ cell_words families c behind rest
+act_words families (Emitting ps) behind rest = reserved r.Emit blank ∷ text (written_template families ps) behind ∷ rest
+act_words families (Flushing f ps) behind rest = reserved r.Flush blank ∷ name (family_name (slice_get families f)) blank ∷ text (written_template families ps) behind ∷ rest
+
+pub act_layout : (families : List Family) (d : PlainAct) (behind : List ℕ) (rest : List Laid) → layout (act_words families d behind rest) ≡ act_text families d ++ (behind ++ layout rest)
+act_layout families (Adding c e) behind rest = rw (cell_layout families c blank (term_words families e behind rest), term_layout families e behind rest) (simp append_assoc)
+act_layout families (Raising c e) behind rest = rw (cell_layout families c blank (term_words families e behind rest), term_layout families e behind rest) (simp append_assoc)
+act_layout families (Setting c e) behind rest = rw (cell_layout families c blank (term_words families e behind rest), term_layout families e behind rest) (simp append_assoc)
+act_layout families (Clearing c) behind rest = ap (λ l. codes "clear " ++ l) (cell_layout families c behind rest)
+act_layout families (Emitting ps) behind rest = simp append_assoc
+act_layout families (Flushing f ps) behind rest =
+    regroup_four (codes "flush ") (family_name (slice_get families f)) blank (quoted (written_template families ps)) (behind ++ layout rest)
+
+-- what stands behind what an action does
+abbrev pub behind_act : Option Term → List ℕ → List ℕ
+behind_act None behind = behind
+behind_act (Some e) behind = blank
+
+abbrev pub guard_words : List Family → Option Term → List ℕ → List Laid → List Laid
+guard_words families None behind rest = rest
+guard_words families (Some e) behind rest = reserved r.When blank ∷ term_words families e behind rest
+
+guard_layout : (families : List Family) (g : Option Term) (behind : List ℕ) (rest : List Laid) → behind_act g behind ++ layout (guard_words families g behind rest) ≡ guard_text families g ++ (behind ++ layout rest)
+guard_layout families None behind rest = refl
+guard_layout families (Some e) behind rest = ap (λ l. codes " when " ++ l) (term_layout families e behind rest)
+
+abbrev pub action_words : List Family → PlainAction → List ℕ → List Laid → List Laid
+action_words families a behind rest = act_words families a.act (behind_act a.guard behind) (guard_words families a.guard behind rest)
+
+pub action_layout : (families : List Family) (a : PlainAction) (behind : List ℕ) (rest : List Laid) → layout (action_words families a behind rest) ≡ action_text families a ++ (behind ++ layout rest)
+action_layout families a behind rest =
+    act_layout families a.act (behind_act a.guard behind) (guard_words families a.guard behind rest)
+    ∙ rw (append_assoc (act_text families a.act) (guard_text families a.guard) (behind ++ layout rest)) (ap (λ l. act_text families a.act ++ l) (guard_layout families a.guard behind rest))
+
+-- ---- declarations
+
+-- nothing, or the version
+abbrev pub version_words : ℕ → List Laid → List Laid
+version_words version rest = if version == 2 then reserved r.Version blank ∷ number (pos 2) line_end ∷ rest else rest
+
+version_layout : (version : ℕ) (rest : List Laid) → layout (version_words version rest) ≡ version_line version ++ layout rest
+version_layout version rest = by (version == 2)
+  where
+    by : (two : Bool) → layout (if two then reserved r.Version blank ∷ number (pos 2) line_end ∷ rest else rest) ≡ (if two then codes "version 2" ++ line_end else []) ++ layout rest
+    by true = ap (λ d. codes "version " ++ (d ++ (line_end ++ layout rest))) (decimal_digit 2 (omega arith))
+    by false = refl
+
+abbrev pub keyed_words : Bool → List Laid → List Laid
+keyed_words true rest = reserved r.Keyed blank ∷ rest
+keyed_words false rest = rest
+
+keyed_layout : (keyed : Bool) (rest : List Laid) → blank ++ layout (keyed_words keyed rest) ≡ keyed_text keyed ++ (blank ++ layout rest)
+keyed_layout true rest = refl
+keyed_layout false rest = refl
+
+abbrev pub sort_reserved : Sort → Reserved
+sort_reserved sort.Sum = r.Sum
+sort_reserved sort.Max = r.Max
+sort_reserved sort.Last = r.Last
+
+sort_layout : (s : Sort) (rest : List Laid) → blank ++ layout (reserved (sort_reserved s) line_end ∷ rest) ≡ sort_text s ++ (line_end ++ layout rest)
+sort_layout sort.Sum rest = refl
+sort_layout sort.Max rest = refl
+sort_layout sort.Last rest = refl
+
+abbrev pub cell_line_words : Family → List Laid → List Laid
+cell_line_words f rest = reserved r.Cell blank ∷ name f.name blank ∷ keyed_words f.keyed (reserved (sort_reserved f.sort) line_end ∷ rest)
+
+cell_line_layout : (f : Family) (rest : List Laid) → layout (cell_line_words f rest) ≡ cell_line f ++ layout rest
+cell_line_layout f rest =
+    rw (keyed_layout f.keyed (reserved (sort_reserved f.sort) line_end ∷ rest), sort_layout f.sort rest) (simp append_assoc)
+
+abbrev pub value_reserved : Bool → Reserved
+value_reserved true = r.Int
+value_reserved false = r.None
+
+value_layout : (has_value : Bool) (rest : List Laid) → blank ++ layout (reserved (value_reserved has_value) line_end ∷ rest) ≡ value_text has_value ++ (line_end ++ layout rest)
+value_layout true rest = refl
+value_layout false rest = refl
+
+abbrev pub tag_line_words : PlainKind → List Laid → List Laid
+tag_line_words k rest = reserved r.Tag blank ∷ name k.name blank ∷ keyed_words k.keyed (reserved (value_reserved k.has_value) line_end ∷ rest)
+
+tag_line_layout : (k : PlainKind) (rest : List Laid) → layout (tag_line_words k rest) ≡ tag_line k ++ layout rest
+tag_line_layout k rest =
+    rw (keyed_layout k.keyed (reserved (value_reserved k.has_value) line_end ∷ rest), value_layout k.has_value rest) (simp append_assoc)
+
+-- what stands behind the second name of a `depends`
+abbrev pub behind_depends : Bool → List ℕ
+behind_depends true = blank
+behind_depends false = line_end
+
+abbrev pub same_words : Bool → List Laid → List Laid
+same_words true rest = reserved r.Same line_end ∷ rest
+same_words false rest = rest
+
+same_layout : (same : Bool) (rest : List Laid) → behind_depends same ++ layout (same_words same rest) ≡ same_text same ++ (line_end ++ layout rest)
+same_layout true rest = refl
+same_layout false rest = refl
+
+abbrev pub depends_line_words : List PlainKind → Depend → List Laid → List Laid
+depends_line_words kinds d rest =
+    reserved r.Depends blank ∷ name (kind_name (slice_get kinds d.a)) blank ∷ name (kind_name (slice_get kinds d.b)) (behind_depends d.same) ∷ same_words d.same rest
+
+depends_line_layout : (kinds : List PlainKind) (d : Depend) (rest : List Laid) → layout (depends_line_words kinds d rest) ≡ depends_line kinds d ++ layout rest
+depends_line_layout kinds d rest = rw (same_layout d.same rest) (simp append_assoc)
+
+abbrev pub actions_words : List Family → List ℕ → List PlainAction → List Laid → List Laid
+actions_words families kind [] rest = rest
+actions_words families kind (a ∷ actions) rest =
+    reserved r.On blank ∷ name kind [] ∷ mark m.Colon blank ∷ items_words m.Semicolon (action_words families) a actions line_end rest
+
+actions_layout : (families : List Family) (kind : List ℕ) (actions : List PlainAction) (rest : List Laid) → layout (actions_words families kind actions rest) ≡ actions_line families kind actions ++ layout rest
+actions_layout families kind [] rest = refl
+actions_layout families kind (a ∷ actions) rest =
+    ap (λ l. codes "on " ++ (kind ++ (codes ": " ++ l))) (items_out (action_words families) (between m.Semicolon) layout (action_text families) (codes "; ") (action_layout families) (λ rest. refl) a actions line_end rest)
+    ∙ regroup_five (codes "on ") kind (codes ": ") (separated (codes "; ") (action_text families) (a ∷ actions)) line_end (layout rest)
+
+abbrev pub on_line_words : List Family → PlainKind → List Laid → List Laid
+on_line_words families k rest = actions_words families k.name k.actions rest
+
+abbrev pub tag_words : List PlainKind → TagRef → List ℕ → List Laid → List Laid
+tag_words kinds t behind rest = name (kind_name (slice_get kinds t.kind)) (behind_kind t.keys behind) ∷ keys_words t.keys behind rest
+
+tag_layout : KeysAreSpelled → (kinds : List PlainKind) (t : TagRef) (behind : List ℕ) (rest : List Laid)
+    → layout (tag_words kinds t behind rest) ≡ tag_text kinds t ++ (behind ++ layout rest)
+tag_layout spelled kinds t behind rest =
+    let n : List ℕ = kind_name (slice_get kinds t.kind) in
+    rw (append_assoc n (keys_text t.keys) (behind ++ layout rest)) (ap (λ l. n ++ l) (spelled t.keys behind rest))
+
+abbrev pub listed_words : List PlainKind → List TagRef → List Laid → List Laid
+listed_words kinds [] rest = mark m.Colon (32 ∷ 10 ∷ []) ∷ rest
+listed_words kinds (t ∷ ts) rest = mark m.Colon blank ∷ items_words m.Comma (tag_words kinds) t ts line_end rest
+
+listed_layout : KeysAreSpelled → (kinds : List PlainKind) (ts : List TagRef) (rest : List Laid)
+    → layout (listed_words kinds ts rest) ≡ codes ": " ++ (separated (codes ", ") (tag_text kinds) ts ++ (line_end ++ layout rest))
+listed_layout spelled kinds [] rest = refl
+listed_layout spelled kinds (t ∷ ts) rest =
+    ap (λ l. codes ": " ++ l)
+    (items_out (tag_words kinds) (between m.Comma) layout (tag_text kinds) (codes ", ") (tag_layout spelled kinds) (λ rest. refl) t ts line_end rest)
+
+-- what stands behind the rate of a source, and then its slack, if it has one
+abbrev pub behind_rate : ℕ → List ℕ
+behind_rate slack = if nat_lt 0 slack then blank else []
+
+abbrev pub slack_words : ℕ → List Laid → List Laid
+slack_words slack rest = if nat_lt 0 slack then reserved r.Slack blank ∷ number (pos slack) [] ∷ rest else rest
+
+slack_layout : (slack : ℕ) (rest : List Laid) → behind_rate slack ++ layout (slack_words slack rest) ≡ slack_text slack ++ layout rest
+slack_layout slack rest = by (nat_lt 0 slack)
+  where
+    by : (some : Bool) → (if some then blank else []) ++ layout (if some then reserved r.Slack blank ∷ number (pos slack) [] ∷ rest else rest)
+        ≡ (if some then codes " slack " ++ decimal slack else []) ++ layout rest
+    by true = refl
+    by false = refl
+
+abbrev pub source_line_words : List PlainKind → Source → List Laid → List Laid
+source_line_words kinds s rest =
+    reserved r.Source blank ∷ name s.name blank ∷ text s.file blank ∷ reserved r.Rate blank ∷ number (pos s.rate) (behind_rate s.slack)
+    ∷ slack_words s.slack (listed_words kinds s.tags rest)
+
+source_line_layout : KeysAreSpelled → (kinds : List PlainKind) (s : Source) (rest : List Laid)
+    → layout (source_line_words kinds s rest) ≡ source_line kinds s ++ layout rest
+source_line_layout spelled kinds s rest =
+    ap (λ l. codes "source " ++ (s.name ++ (blank ++ (quoted s.file ++ (codes " rate " ++ (decimal s.rate ++ l))))))
+    (slack_layout s.slack (listed_words kinds s.tags rest) ∙ ap (λ l. slack_text s.slack ++ l) (listed_layout spelled kinds s.tags rest))
+    ∙ regroup_ten (codes "source ") s.name blank (quoted s.file) (codes " rate ") (decimal s.rate) (slack_text s.slack) (codes ": ")
+    (separated (codes ", ") (tag_text kinds) s.tags) line_end (layout rest)
+
+abbrev pub job_words : Job → List Laid
+job_words job =
+    version_words job.version (lines_before cell_line_words job.families (lines_before tag_line_words job.kinds (lines_before (depends_line_words job.kinds) job.depends
+    (lines_before (on_line_words job.families) job.kinds (lines_before (source_line_words job.kinds) job.sources [])))))
+
+-- the normal form is these words, laid out
+pub job_layout : KeysAreSpelled → (job : Job) → layout (job_words job) ≡ normal_form job
+job_layout spelled job =
+    let sources = lines_before (source_line_words job.kinds) job.sources [] in
+    let ons = lines_before (on_line_words job.families) job.kinds sources in
+    let depends = lines_before (depends_line_words job.kinds) job.depends ons in
+    let tags = lines_before tag_line_words job.kinds depends in
+    let cells = lines_before cell_line_words job.families tags in
+    version_layout job.version cells
+    ∙ ap (λ l. version_line job.version ++ l) (lines_out cell_line_words layout cell_line cell_line_layout job.families tags
+    ∙ rw (
+      lines_out tag_line_words layout tag_line tag_line_layout job.kinds depends,
+      lines_out (depends_line_words job.kinds) layout (depends_line job.kinds) (depends_line_layout job.kinds) job.depends ons,
+      lines_out (on_line_words job.families) layout (on_line job.families) (λ k rest. actions_layout job.families k.name k.actions rest) job.kinds sources,
+      lines_out (source_line_words job.kinds) layout (source_line job.kinds) (source_line_layout spelled job.kinds) job.sources [],
+    ) refl)
+    ∙ regroup_job (version_line job.version) (flat_map cell_line job.families) (flat_map tag_line job.kinds) (flat_map (depends_line job.kinds) job.depends)
+    (flat_map (on_line job.families) job.kinds) (flat_map (source_line job.kinds) job.sources)

@@ -1,0 +1,291 @@
+//! Plan texts.
+
+use flu_model::{Itag, Pred, Program, itag_count, matches};
+use flu_parse::read_job;
+use flu_plan::{PlanFault, print_plan, read_plan};
+use std::alloc::{AllocError, Global};
+use std::process::Abort;
+use std::test::Fail;
+
+const JOB_J: &str = "cell count sum
+tag inc int
+tag read none
+depends inc read
+depends read read
+on inc: add count value
+on read: emit \"count {count}\"; clear count
+source a \"a.csv\" rate 1000: inc
+source b \"b.csv\" rate 1000: inc
+source c \"c.csv\" rate 1: read
+";
+
+const JOB_K: &str = "tag view keyed int
+tag tick none
+source web \"web.csv\": view[0..9]
+source app \"app.csv\": view[0..9]
+source clock \"clock.csv\": tick
+";
+
+const PLAN_P: &str = "node root: read -> l r
+node l: inc@a
+node r: inc@b
+";
+
+/// The plan that a text is, printed, or the fault.
+fn said(alloc: Global, p: &Program, text: &str) -> Result<String, AllocError> {
+    match read_plan(alloc, p, text.as_bytes()) {
+        Ok(plan) => {
+            let printed = print_plan(alloc, p, &plan)?;
+            String::from_str(alloc, printed.as_str())
+        }
+        Err(PlanFault::NotATree { name }) => {
+            let name = name.as_str();
+            format!(in alloc; "not a tree at {name}")
+        }
+        Err(PlanFault::BadToken { at }) => format!(in alloc; "bad token at {at}"),
+        Err(PlanFault::Unexpected { at }) => format!(in alloc; "unexpected at {at}"),
+        Err(PlanFault::UnknownName { at }) => format!(in alloc; "unknown name at {at}"),
+        Err(PlanFault::OverLimit { what, count }) => {
+            format!(in alloc; "over limit {what:?} {count}")
+        }
+        Err(PlanFault::NoMemory) => Err(AllocError),
+    }
+}
+
+fn expect_all(
+    rt: &impl Abort,
+    alloc: Global,
+    p: &Program,
+    cases: &[(&str, &str)],
+) -> Result<(), AllocError> {
+    for (text, expected) in cases {
+        let said = said(alloc, p, text)?;
+        assert_eq!(rt; said.as_str(), *expected, "{text}");
+    }
+    Ok(())
+}
+
+#[test]
+fn first_faults(rt: HostRuntime) -> Result<(), Fail> {
+    let p = read_job(rt.alloc(), JOB_J.as_bytes()).expect(&rt, "a job");
+    let cases = [
+        ("", "unexpected at 0"),
+        ("  # nothing\n", "unexpected at 12"),
+        ("node a: foo", "unknown name at 8"),
+        ("node a: $", "bad token at 8"),
+        ("node a: inc[", "unexpected at 12"),
+        ("node a: inc[1..", "unexpected at 15"),
+        ("node a: , inc", "unexpected at 8"),
+        ("node a: inc, -> b c", "unexpected at 13"),
+        ("node a: -> b", "unexpected at 12"),
+        ("node a: inc read", "unexpected at 12"),
+        ("node a: inc@read", "unknown name at 12"),
+        ("node a: inc@b@c", "unexpected at 13"),
+        ("node a: -> b c node b:", "unknown name at 13"),
+    ];
+    expect_all(&rt, rt.alloc(), &p, &cases)?;
+    Ok(())
+}
+
+#[test]
+fn nodes_that_are_no_tree(rt: HostRuntime) -> Result<(), Fail> {
+    let p = read_job(rt.alloc(), JOB_J.as_bytes()).expect(&rt, "a job");
+    let cases = [
+        ("node a: -> b b node b: inc, read", "not a tree at b"),
+        ("node a: inc node a: read", "not a tree at a"),
+        ("node a: -> a b node b:", "not a tree at a"),
+        ("node a: -> b a node b:", "not a tree at a"),
+        ("node a: inc node b: read", "not a tree at b"),
+        ("node a: node b: -> c d node c: node d:", "not a tree at b"),
+        (
+            "node a: node b: -> c d node c: -> b e node d: node e:",
+            "not a tree at b",
+        ),
+        ("node a: foo node a:", "not a tree at a"),
+        ("node a: -> b b node b: foo", "unknown name at 23"),
+    ];
+    expect_all(&rt, rt.alloc(), &p, &cases)?;
+    Ok(())
+}
+
+#[test]
+fn plans_are_printed(rt: HostRuntime) -> Result<(), Fail> {
+    let p = read_job(rt.alloc(), JOB_J.as_bytes()).expect(&rt, "a job");
+    let cases = [
+        (PLAN_P, PLAN_P),
+        (
+            "node root:read->l r#\nnode r :inc @ b node l:\tinc@a",
+            PLAN_P,
+        ),
+        ("node one: inc, read", "node one: inc, read\n"),
+        (
+            "node root: -> l r node l: read node r: inc",
+            "node root: -> l r\nnode l: read\nnode r: inc\n",
+        ),
+        (
+            "node root: read -> l r node l: inc@a node r:",
+            "node root: read -> l r\nnode l: inc@a\nnode r:\n",
+        ),
+        ("node a: @c, inc@b", "node a: @c, inc@b\n"),
+        (
+            "node a: inc[7], read[08..2]@a",
+            "node a: inc[7], read[8..2]@a\n",
+        ),
+    ];
+    expect_all(&rt, rt.alloc(), &p, &cases)?;
+    Ok(())
+}
+
+#[test]
+fn keys_over_the_limit(rt: HostRuntime) -> Result<(), Fail> {
+    let p = read_job(rt.alloc(), JOB_K.as_bytes()).expect(&rt, "a job");
+    let cases = [
+        ("node a: view[65535..0]", "node a: view[65535..0]\n"),
+        (
+            "node a: tick[65536]",
+            "over limit Key 65536",
+        ),
+        (
+            "node a: view[1], view[2..70000], view[80000]",
+            "over limit Key 70000",
+        ),
+        (
+            "node a: view[70000..80000]",
+            "over limit Key 70000",
+        ),
+        ("node a: view[9223372036854775808]", "bad token at 13"),
+    ];
+    expect_all(&rt, rt.alloc(), &p, &cases)?;
+    Ok(())
+}
+
+/// A full tree of this many nodes, level by level, with a name for each number from 1; nodes with numbers below `inner` have two
+/// children.
+fn levels(alloc: Global, inner: u32, nodes: u32) -> Result<String, AllocError> {
+    let mut text = String::new(alloc);
+    for number in 1..nodes.saturating_add(1) {
+        if number < inner {
+            let left = number.saturating_mul(2);
+            let right = left.saturating_add(1);
+            write!(text, "node n{number}: -> n{left} n{right}\n")?;
+        } else {
+            write!(text, "node n{number}:\n")?;
+        }
+    }
+    Ok(text)
+}
+
+/// A chain of nodes down to a depth, each with a leaf beside the next.
+fn chain(alloc: Global, depth: u32) -> Result<String, AllocError> {
+    let mut text = String::new(alloc);
+    for number in 0..depth {
+        let next = number.saturating_add(1);
+        write!(
+            text,
+            "node n{number}: -> n{next} leaf{next}\nnode leaf{next}:\n"
+        )?;
+    }
+    write!(text, "node n{depth}:\n")?;
+    Ok(text)
+}
+
+fn lines_of(alloc: Global, p: &Program, text: &str) -> Result<String, AllocError> {
+    let said = said(alloc, p, text)?;
+    if text.len() == said.len() {
+        String::from_str(alloc, "a plan")
+    } else {
+        Ok(said)
+    }
+}
+
+#[test]
+fn nodes_and_depth(rt: HostRuntime) -> Result<(), Fail> {
+    let alloc = rt.alloc();
+    let p = read_job(alloc, JOB_J.as_bytes()).expect(&rt, "a job");
+    let full = levels(alloc, 64, 127)?;
+    assert_eq!(&rt; lines_of(alloc, &p, &full)?.as_str(), "a plan");
+    let more = levels(alloc, 65, 129)?;
+    assert_eq!(&rt;
+        lines_of(alloc, &p, &more)?.as_str(),
+        "over limit Nodes 128"
+    );
+    let six = chain(alloc, 6)?;
+    assert_eq!(&rt; lines_of(alloc, &p, &six)?.as_str(), "a plan");
+    let seven = chain(alloc, 7)?;
+    assert_eq!(&rt;
+        lines_of(alloc, &p, &seven)?.as_str(),
+        "over limit Depth 7"
+    );
+    Ok(())
+}
+
+fn with_predicates(alloc: Global, count: u32) -> Result<String, AllocError> {
+    let mut text = String::from_str(alloc, "node a: inc")?;
+    for _ in 1..count {
+        text.push_str(", inc")?;
+    }
+    text.push_str("\n")?;
+    Ok(text)
+}
+
+#[test]
+fn predicates(rt: HostRuntime) -> Result<(), Fail> {
+    let alloc = rt.alloc();
+    let p = read_job(alloc, JOB_J.as_bytes()).expect(&rt, "a job");
+    let most = with_predicates(alloc, 4096)?;
+    assert_eq!(&rt; lines_of(alloc, &p, &most)?.as_str(), "a plan");
+    let more = with_predicates(alloc, 4097)?;
+    assert_eq!(&rt;
+        lines_of(alloc, &p, &more)?.as_str(),
+        "over limit Predicates 4097"
+    );
+    Ok(())
+}
+
+/// The numbers of the itags that a predicate matches.
+fn matched_by(alloc: Global, p: &Program, pred: &Pred) -> Result<String, AllocError> {
+    let mut text = String::new(alloc);
+    for number in 0..itag_count(p) {
+        if matches(p, pred, Itag(number)) {
+            write!(text, "{number} ")?;
+        }
+    }
+    Ok(text)
+}
+
+/// The numbers of the itags that each predicate of a plan's nodes matches, with a slash behind each.
+fn matched(alloc: Global, p: &Program, text: &str) -> Result<String, AllocError> {
+    let mut all = String::new(alloc);
+    if let Ok(plan) = read_plan(alloc, p, text.as_bytes()) {
+        for node in plan.nodes.items() {
+            for pred in node.preds.items() {
+                let numbers = matched_by(alloc, p, pred)?;
+                all.push_str(&numbers)?;
+                all.push_str("/")?;
+            }
+        }
+    }
+    Ok(all)
+}
+
+#[test]
+fn predicates_match_itags(rt: HostRuntime) -> Result<(), Fail> {
+    let p = read_job(rt.alloc(), JOB_K.as_bytes()).expect(&rt, "a job");
+    let cases = [
+        ("node a: view[3]", "3 13 /"),
+        ("node a: view[3]@app", "13 /"),
+        ("node a: view[8..20]", "8 9 18 19 /"),
+        ("node a: view[9..8], view[9..9]@web", "/9 /"),
+        (
+            "node a: @clock, @app",
+            "20 /10 11 12 13 14 15 16 17 18 19 /",
+        ),
+        ("node a: tick, tick[0], tick[0..9], view@clock", "20 ////"),
+        ("node a: view@web", "0 1 2 3 4 5 6 7 8 9 /"),
+    ];
+    for (text, expected) in cases {
+        let found = matched(rt.alloc(), &p, text)?;
+        assert_eq!(&rt; found.as_str(), expected, "{text}");
+    }
+    Ok(())
+}
