@@ -10,13 +10,13 @@ use Rattle.std.proofs.lemmas.Grind.{common_steps}
 use Rattle.flu_lemmas.proofs.Numbers.{same_number}
 use Rattle.flu_lemmas.proofs.Ranges.{any_in_range}
 use Rattle.flu_lemmas.proofs.Tests.{true_eq, not_both}
+use Rattle.flu_lemmas.proofs.TwoNumbers.{made_alike}
 use Rattle.flu_model.specs.declared.events.Cell.{Cell}
 use Rattle.flu_model.specs.declared.events.Worth.{Worth}
 use Rattle.flu_model.specs.Contents.{Contents, cell, is_same_cell, with_worth, key_count, all_keys, held_keys, without_family}
 use Rattle.flu_model.specs.Order.{cell_cmp}
 use Rattle.flu_cells.specs.Entries.{contents_of, overlay, HasKeysInRange}
 use Rattle.flu_cells.specs.Sets.{only, Moves}
-use Rattle.flu_cells.proofs.Moves.{same_cell-is}
 
 -- ---- the tests of a set
 abbrev pub in_families : List ℕ → Cell → Bool
@@ -90,7 +90,7 @@ moved_some s t k w e = λ i c. at c i
     at : (c : Cell) → with_worth t k (Some w) c ≡ overlay t (only (λ d. is_same_cell d k) s) c
     at c =
         elim (is_same_cell c k) as (λ b. is_same_cell c k ≡ b → cond b (Some w) (t c) ≡ over (t c) (cond b (s c) None)) [
-          | true ↦ λ same. ap (over (t c)) (sym (ap s (same_cell-is c k same) ∙ e))
+          | true ↦ λ same. ap (over (t c)) (sym (ap s (made_alike cell c.family c.key k.family k.key same) ∙ e))
           | false ↦ λ other. refl
         ] refl
 
@@ -100,7 +100,7 @@ moved_none s t k e = λ i c. at c i
     at : (c : Cell) → t c ≡ overlay t (only (λ d. is_same_cell d k) s) c
     at c =
         elim (is_same_cell c k) as (λ b. is_same_cell c k ≡ b → t c ≡ over (t c) (cond b (s c) None)) [
-          | true ↦ λ same. ap (over (t c)) (sym (ap s (same_cell-is c k same) ∙ e))
+          | true ↦ λ same. ap (over (t c)) (sym (ap s (made_alike cell c.family c.key k.family k.key same) ∙ e))
           | false ↦ λ other. refl
         ] refl
 
@@ -116,7 +116,7 @@ moves_more p s e t u k w in_p is whole = (
     out : (c : Cell) → only (λ d. not (p d)) s c ≡ only (λ d. not (p d)) (with_worth s k None) c
     out c =
         elim (is_same_cell c k) as (λ b. is_same_cell c k ≡ b → cond (not (p c)) (s c) None ≡ cond (not (p c)) (cond b None (s c)) None) [
-          | true ↦ λ same. let here : p c ≡ true = ap p (same_cell-is c k same) ∙ in_p in
+          | true ↦ λ same. let here : p c ≡ true = ap p (made_alike cell c.family c.key k.family k.key same) ∙ in_p in
               ap (λ b. cond (not b) (s c) None) here ∙ ap (λ b. cond {A = Option Worth} (not b) None None) (sym here)
           | false ↦ λ other. refl
         ] refl
@@ -128,7 +128,7 @@ moves_more p s e t u k w in_p is whole = (
     moved : (c : Cell) → overlay t (only p s) c ≡ overlay (with_worth t k (Some w)) (only p (with_worth s k None)) c
     moved c =
         elim (is_same_cell c k) as (λ b. is_same_cell c k ≡ b → over (t c) (cond (p c) (s c) None) ≡ over (cond b (Some w) (t c)) (cond (p c) (cond b None (s c)) None)) [
-          | true ↦ λ same. let at : c ≡ k = same_cell-is c k same in
+          | true ↦ λ same. let at : c ≡ k = made_alike cell c.family c.key k.family k.key same in
               ap (λ b. over (t c) (cond b (s c) None)) (ap p at ∙ in_p) ∙ ap (over (t c)) (ap s at ∙ is) ∙ nothing (p c) (Some w)
           | false ↦ λ other. refl
         ] refl
@@ -222,7 +222,7 @@ cleared_more p s s' k in_p cleared = ap (only (λ c. not (p c))) cleared ∙ (λ
     at : (c : Cell) → only (λ d. not (p d)) (with_worth s k None) c ≡ only (λ d. not (p d)) s c
     at c =
         elim (is_same_cell c k) as (λ b. is_same_cell c k ≡ b → cond (not (p c)) (cond b None (s c)) None ≡ cond (not (p c)) (s c) None) [
-          | true ↦ λ same. let here : p c ≡ true = ap p (same_cell-is c k same) ∙ in_p in
+          | true ↦ λ same. let here : p c ≡ true = ap p (made_alike cell c.family c.key k.family k.key same) ∙ in_p in
               ap (λ b. cond {A = Option Worth} (not b) None None) here ∙ ap (λ b. cond (not b) (s c) None) (sym here)
           | false ↦ λ other. refl
         ] refl

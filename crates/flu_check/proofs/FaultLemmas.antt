@@ -9,7 +9,7 @@ use Rattle.std.proofs.lemmas.Bool.{cases_lt}
 use Rattle.std.proofs.lemmas.Cmp.{on_total, then_total, tied_itself}
 use Rattle.std.proofs.lemmas.List.{get_or_default}
 use Rattle.std.proofs.lemmas.List.MinMax.{ranks_by}
-use Rattle.flu_lemmas.proofs.Tests.{and_left, and_right}
+use Rattle.flu_lemmas.proofs.Tests.{and_left, and_right, not_both}
 use Rattle.flu_lemmas.proofs.Sorting.{both_equal}
 use Rattle.flu_model.specs.declared.events.Cell.{Cell}
 use Rattle.flu_model.specs.declared.events.Tag.{Tag}
@@ -21,7 +21,7 @@ use Rattle.flu_model.specs.Listing.{tag}
 use Rattle.flu_model.specs.Modes.{mode_of, modes_conflict, IsInUniverse, IsAccepted}
 use Rattle.flu_laws.specs.Lawful.{DependencyTurns}
 use Rattle.flu_model.specs.Order.{cell_cmp, is_cell_before, tag_cmp, is_tag_before}
-use Rattle.flu_deps.specs.Conflicts.{conflicts_on, IsFirstConflict}
+use Rattle.flu_deps.specs.Conflicts.{conflicts_on, IsFirstConflict, NeverConflict}
 use Rattle.flu_deps.specs.Dependencies.{ConflictIsMutual}
 use Rattle.flu_lemmas.proofs.TwoNumbers.{by_two-total, by_two-ties}
 use Rattle.flu_check.specs.declared.search.Fault.{Fault}
@@ -105,7 +105,8 @@ not_sought p a b found good e c f =
               Passed ((λ i. is_lt (fault_cmp (one i) (two i) c h.a h.b h.cell)) ∙ same_tags h.a h.b c h.cell ∙ g.cell.first c here)
         ]
 
-pub sought_keeps : (p : Program) (a b : Tag) (c : Cell) (found : Option Fault) → is_sought p a b found ≡ true → KeepsPassed found (Some (record { a = a; b = b; cell = c }))
+pub sought_keeps : (p : Program) (a b : Tag) (c : Cell) (found : Option Fault) → is_sought p a b found ≡ true
+    → KeepsPassed found (Some (record { a = a; b = b; cell = c }))
 sought_keeps p a b c found e x passed =
     at_found found (and_right (not (is_tag_before b a)) (is_pair_before a b found) (and_left (not (is_tag_before b a) && is_pair_before a b found) (not (is_dependent p a b)) e)) passed
   where
@@ -117,12 +118,21 @@ sought_keeps p a b c found e x passed =
 pub first_passes : (p : Program) (a b : Tag) (c : Cell) → IsFirstConflict p a b c → PassesPair p a b (Some (record { a = a; b = b; cell = c }))
 first_passes p a b c first d f = Passed (same_tags a b d c ∙ first.first d f.conflict)
 
+-- what never conflicts is passed
+pub never_passes : (p : Program) (a b : Tag) (found : Option Fault) → NeverConflict p a b → PassesPair p a b found
+never_passes p a b found never c f = absurd (not_both (conflicts_on p a b c) f.conflict (never c))
+
+pub same_pair : (p : Program) (a b d e : Tag) (found : Option Fault) → a ≡ d → b ≡ e → PassesPair p a b found → PassesPair p d e found
+same_pair p a b d e found first second passes =
+    subst (λ t. PassesPair p t e found) first (subst (λ t. PassesPair p a t found) second passes)
+
 -- ---- all tags
 -- all faults are passed
 abbrev pub AllPassed : Program → Option Fault → Type 0
 AllPassed p found = (i : ℕ) → i < count_of_itags p → PassesTag p (tag_at p i) found
 
-passes : (p : Program) (found : Option Fault) → AllPassed p found → (a b : Tag) (c : Cell) → IsCheckFault p a b c → IsPassed found (record { a = a; b = b; cell = c })
+passes : (p : Program) (found : Option Fault) → AllPassed p found → (a b : Tag) (c : Cell) → IsCheckFault p a b c
+    → IsPassed found (record { a = a; b = b; cell = c })
 passes p found all a b c f =
     let one : HasItag p a = listed_has_itag p a f.a_listed in
     let two : HasItag p b = listed_has_itag p b f.b_listed in
@@ -130,7 +140,8 @@ passes p found all a b c f =
     (subst (λ (t : Tag). IsCheckFault p (tag_at p one.number) t c → IsPassed found (record { a = tag_at p one.number; b = t; cell = c })) two.is (all one.number one.in_range two.number two.in_range c))
     f
 
-pub passed_is_first : (p : Program) (found : Option Fault) → IfSome found (IsFound p) → AllPassed p found → IfSome found (λ f. IsFirstCheckFault p f.a f.b f.cell)
+pub passed_is_first : (p : Program) (found : Option Fault) → IfSome found (IsFound p) → AllPassed p found
+    → IfSome found (λ f. IsFirstCheckFault p f.a f.b f.cell)
 passed_is_first p None good all = tt
 passed_is_first p (Some f) good all = record {
   fault = good.fault;

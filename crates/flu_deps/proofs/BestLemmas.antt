@@ -4,13 +4,13 @@ use Rattle.std.specs.Prelude.{◌||◌, IfSome}
 use Rattle.std.specs.List.{list_any, list_all}
 use Rattle.flu_lemmas.proofs.Places.{drop_read}
 use Rattle.flu_lemmas.proofs.Tests.{and_left, and_right}
+use Rattle.flu_lemmas.proofs.TwoNumbers.{made_alike}
 use Rattle.flu_model.specs.declared.events.Cell.{Cell}
 use Rattle.flu_model.specs.declared.jobs.Action.{Action}
 use Rattle.flu_model.specs.declared.jobs.Piece.{Piece}
-use Rattle.flu_model.specs.Contents.{is_same_cell}
+use Rattle.flu_model.specs.Contents.{cell, is_same_cell}
 use Rattle.flu_model.specs.Order.{is_cell_before}
 use Rattle.flu_deps.specs.LoopNamed.{piece_cells, pieces_cells, action_cells, actions_cells, is_before_best, better, best_among}
-use Rattle.flu_deps.proofs.CellLemmas.{same_cell-is}
 use Rattle.flu_deps.proofs.CellOrder.{cells_rank, not_before_itself}
 
 pub best_among-append : (passes : Cell → Bool) (best : Option Cell) (cs ds : List Cell)
@@ -91,7 +91,7 @@ best_reaches passes best [] x named pass = cc
 best_reaches passes best (c ∷ cs) x named pass =
     elim (is_same_cell c x) as (λ b. is_same_cell c x ≡ b → (b || list_any (λ d. is_same_cell d x) cs) ≡ true → IsReached (best_among passes (better passes best c) cs) x) [
       | true ↦ λ e h.
-          let is : c ≡ x = same_cell-is c x e in
+          let is : c ≡ x = made_alike cell c.family c.key x.family x.key e in
           best_keeps passes (better passes best c) cs x (subst (λ y. IsReached (better passes best c) y) is (better_itself passes best c (ap passes is ∙ pass)))
       | false ↦ λ e h. best_reaches passes (better passes best c) cs x h pass
     ] refl named

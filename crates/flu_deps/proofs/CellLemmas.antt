@@ -15,14 +15,10 @@ use Rattle.flu_model.specs.declared.jobs.Act.{Act}
 use Rattle.flu_model.specs.declared.jobs.Act.TheVariants.{Add, Raise, Set, Clear, Emit, Flush}
 use Rattle.flu_model.specs.declared.jobs.Action.{Action}
 use Rattle.flu_lemmas.proofs.Booleans.{or_true}
-use Rattle.flu_lemmas.proofs.TwoNumbers.{made_alike}
 use Rattle.flu_model.specs.declared.modes.Mode.TheVariants.{None as NoMode, Add as AddMode, Raise as RaiseMode, Own}
 use Rattle.flu_model.specs.Contents.{cell, is_same_cell}
 use Rattle.flu_model.specs.Modes.{means, expr_reads, guard_reads, piece_reads, act_reads, action_reads, act_overwrites, act_adds, act_raises, mode_from, mode_among}
 use Rattle.flu_deps.specs.LoopNamed.{expr_cells, guard_cells, piece_cells, pieces_cells, act_cells, action_cells, actions_cells}
-
-pub same_cell-is : (c d : Cell) → is_same_cell c d ≡ true → c ≡ d
-same_cell-is c d e = made_alike cell c.family c.key d.family d.key e
 
 -- whether c is among some cells
 abbrev pub names : Cell → List Cell → Bool

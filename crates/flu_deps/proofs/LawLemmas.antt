@@ -3,20 +3,15 @@ use Rattle.std.proofs.Common.{◌≡◌, ◌<◌, ℕ, zero, suc, Bool, true, fa
 use Rattle.std.specs.Prelude.{not, ◌==◌, ◌&&◌, ◌||◌, slice_get}
 use Rattle.std.proofs.lemmas.Bool.{cases_eq, or_left, or_right, or_cases, or_from}
 use Rattle.std.proofs.lemmas.Option.{slice_get_within}
-use Rattle.flu_lemmas.proofs.Booleans.{or_turns}
 use Rattle.flu_lemmas.proofs.OnlyOne.{counted_at, position_of_one}
 use Rattle.flu_lemmas.proofs.Places.{position_passes}
-use Rattle.flu_lemmas.proofs.Searches.{eq_true, list_any_within}
-use Rattle.flu_lemmas.proofs.Numbers.{same_turns}
+use Rattle.flu_lemmas.proofs.Searches.{eq_true}
 use Rattle.flu_lemmas.proofs.Tests.{true_eq, false_if_not}
 use Rattle.flu_model.specs.declared.events.Itag.{Itag}
-use Rattle.flu_model.specs.declared.events.Tag.{Tag}
-use Rattle.flu_model.specs.declared.jobs.Depend.{Depend}
 use Rattle.flu_model.specs.declared.jobs.Program.{Program}
 use Rattle.flu_model.specs.declared.modes.Mode.{Mode}
 use Rattle.flu_model.specs.declared.modes.Mode.TheVariants.{None as NoMode, Add as AddMode, Raise as RaiseMode, Read as ReadMode, Own}
 use Rattle.flu_model.specs.declared.plans.Node.{Node}
-use Rattle.flu_model.specs.Itags.{ties_tags}
 use Rattle.flu_model.specs.Modes.{mode_of, uses, share, modes_conflict}
 use Rattle.flu_model.specs.Owners.{node_owns, found_owns, is_within}
 use Rattle.flu_deps.specs.Dependencies.{ConflictIsMutual}

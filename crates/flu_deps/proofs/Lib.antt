@@ -9,3 +9,6 @@ pub mod Trees
 pub mod Within
 pub mod LawLemmas
 pub mod VisitLemmas
+pub mod ClashTables
+pub mod TouchLemmas
+pub mod ClashLemmas

@@ -1,21 +1,20 @@
 -- Words of numbers, and what stays in a walk over actions.
-use Rattle.std.proofs.Common.{◌≡◌, ◌<◌, ◌≤◌, ◌+◌, ◌*◌, ◌^◌, ◌%◌, ◌/◌, ℕ, Bool, true, false, cond, List, [], ◌∷◌, ◌++◌, length, take, get_or, bit_and, bit_or, w64, inl, inr, refl, sym, ap, ◌∙◌, arith}
-use Rattle.std.specs.Prelude.{◌==◌, ◌||◌, not}
+use Rattle.std.proofs.Common.{◌≡◌, ◌<◌, ◌+◌, ◌*◌, ◌^◌, ◌%◌, ◌/◌, ℕ, Bool, true, false, cond, List, [], ◌∷◌, ◌++◌, length, take, get_or, bit_and, bit_or, w64, inl, inr, refl, sym, ap, ◌∙◌, arith}
+use Rattle.std.specs.Prelude.{◌==◌, ◌||◌, not, min}
 use Rattle.std.specs.Int.{bit_at}
 use Rattle.std.specs.List.{list_all}
-use Rattle.std.proofs.lemmas.Bool.{cases_eq}
+use Rattle.std.proofs.lemmas.Bool.{cases_eq, ne_eqb}
 use Rattle.std.proofs.lemmas.List.{take_more}
-use Rattle.std.proofs.lemmas.Nat.Bits.{shr_and_one, bit_at_set_same, bit_at_set_other}
+use Rattle.std.proofs.lemmas.Nat.Bits.{shr_and_one, bit_at-zero, bit_at_and, bit_at_set_same, bit_at_set_other}
 use Rattle.flu_lemmas.proofs.Elements.{list_all_push}
 use Rattle.flu_lemmas.proofs.Searches.{eq_true}
 use Rattle.flu_lemmas.proofs.Tests.{true_eq}
-use Rattle.flu_deps.specs.declared.visits.Way.{Way}
-use Rattle.flu_deps.specs.declared.visits.Place.{Place}
+use Rattle.flu_deps.specs.declared.visits.Class.{Class}
 use Rattle.flu_deps.specs.declared.visits.Marks.{Marks}
-use Rattle.flu_deps.specs.declared.visits.Meeting.{Meeting}
 use Rattle.flu_deps.specs.declared.visits.Visit.{Visit}
 use Rattle.flu_deps.specs.LoopVisits.{Test, has, in_class, is_marked, is_met}
-use Rattle.flu_deps.specs.LoopFollows.{KeepsMarks, is_told, Follows, Tells}
+use Rattle.flu_deps.specs.LoopClashes.{marked_test, met_test}
+use Rattle.flu_deps.specs.LoopFollows.{KeepsMarks, is_told, Follows}
 
 -- ---- words
 pub has_is : (word n : ℕ) → (bit_and (word / 2 ^ (n % 64)) 1 == 1) ≡ has word n
@@ -77,3 +76,32 @@ follows_through u v w f g = record {
 pub told_more : {X : Type 0} (test : X → Bool) (xs : List X) (i : ℕ) (x : X) → i < length xs → x ≡ get_or xs i x → list_all test (take i xs) ≡ true
     → test x ≡ true → list_all test (take (i + 1) xs) ≡ true
 told_more test xs i x lt is all here = ap (list_all test) (take_more xs i x lt ∙ ap (λ y. take i xs ++ y ∷ []) (sym is)) ∙ list_all_push test (take i xs) x all here
+
+-- ---- what a walk leaves
+pub marked_told : (v : Visit) (class : Class) → v.class ≡ class → v.marking ≡ true → (holds : Test → Bool) → holds (is_told v) ≡ true
+    → holds (marked_test v.version class v.marks) ≡ true
+marked_told v class same marking holds told =
+    sym (ap (λ b. holds (λ way family place. not (in_class v.version class way) || cond b (is_marked v.marks family place) (is_met v.marks v.meeting family place))) marking)
+    ∙ sym (ap (λ k. holds (λ way family place. not (in_class v.version k way) || cond v.marking (is_marked v.marks family place) (is_met v.marks v.meeting family place))) same)
+    ∙ told
+
+pub met_told : (v : Visit) (class : Class) → v.class ≡ class → v.marking ≡ false → (holds : Test → Bool) → holds (is_told v) ≡ true
+    → holds (met_test v.version class v.marks v.meeting) ≡ true
+met_told v class same marking holds told =
+    sym (ap (λ b. holds (λ way family place. not (in_class v.version class way) || cond b (is_marked v.marks family place) (is_met v.marks v.meeting family place))) marking)
+    ∙ sym (ap (λ k. holds (λ way family place. not (in_class v.version k way) || cond v.marking (is_marked v.marks family place) (is_met v.marks v.meeting family place))) same)
+    ∙ told
+
+one_is_not_none : (x y i : ℕ) → bit_at x i ≡ 1 → bit_at y i ≡ 1 → bit_and x y ≡ 0 → ⊥
+one_is_not_none x y i one other none =
+    let zero_there : bit_at (bit_and x y) i ≡ 0 = ap (λ n. bit_at n i) none ∙ bit_at-zero i in
+    let one_there : bit_at (bit_and x y) i ≡ 1 = bit_at_and x y i ∙ (λ k. min (one k) (other k)) in
+    not_one (sym one_there ∙ zero_there)
+  where
+    not_one : ◌≡◌ {A = ℕ} 1 0 → ⊥
+    not_one e = cc
+
+pub in_common : (x y n : ℕ) → has x n ≡ true → has y n ≡ true → not (bit_and x y == 0) ≡ true
+unfolding has
+in_common x y n one other =
+    ap not (ne_eqb (bit_and x y) 0 (one_is_not_none x y (n % 64) (true_eq (bit_at x (n % 64)) 1 one) (true_eq (bit_at y (n % 64)) 1 other)))

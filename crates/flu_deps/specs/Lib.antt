@@ -8,3 +8,4 @@ pub mod Trees
 pub mod Owners
 pub mod LoopVisits
 pub mod LoopFollows
+pub mod LoopClashes

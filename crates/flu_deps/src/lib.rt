@@ -3,6 +3,7 @@
 #![tactic(auto)]
 
 mod checked;
+mod clashes;
 mod conflicts;
 mod dependency;
 pub mod laws;
@@ -12,6 +13,7 @@ mod valid;
 mod visits;
 
 pub use checked::Checked;
+pub use clashes::Clashes;
 pub use conflicts::conflict;
 pub use dependency::dep;
 pub use flu_model::Mode;

@@ -3,6 +3,7 @@
 ghost use Rattle.std.specs.Prelude.{◌≡◌, ◌==◌, ◌||◌, true, ◌&&◌, ℕ};
 ghost use Rattle.std.specs.List.{list_all};
 ghost use Rattle.flu_deps.specs.LoopVisits.{has, in_class, place_of, is_marked, is_met, expr_all, guard_all, piece_all, act_all, action_all};
+ghost use Rattle.flu_deps.specs.LoopClashes.{marked_test, met_test};
 ghost use Rattle.flu_deps.specs.LoopFollows.{KeepsMarks, KeepsMet, Follows, Tells};
 
 use flu_model::{Act, Action, At, CellRef, Expr, KEY_COUNT, Piece};
@@ -73,6 +74,7 @@ fn place_of(at: At) -> Place
 }
 
 /// The families that a kind touches: at all, at the key of the tag, as a whole, and at each key.
+#[derive(Drop)]
 pub struct Marks {
     pub any: u64,
     pub own: u64,
@@ -127,6 +129,7 @@ impl Meeting {
 }
 
 /// A walk over actions, which marks what they touch or meets it with what is marked.
+#[derive(Drop)]
 pub struct Visit {
     pub version: u32,
     pub class: Class,
@@ -136,6 +139,58 @@ pub struct Visit {
 }
 
 impl Visit {
+    /// A walk over a job of this version, with nothing marked.
+    pub fn new(version: u32) -> Visit
+        ensures { result.version ≡ version }
+    {
+        Visit {
+            version,
+            class: Class::Needs,
+            marking: true,
+            marks: Marks {
+                any: 0,
+                own: 0,
+                whole: 0,
+                fixed: [0; 65_536],
+            },
+            meeting: Meeting {
+                always: false,
+                same_key: false,
+                own: 0,
+            },
+        }
+    }
+
+    /// Marks what the actions touch by a class, and nothing else.
+    pub fn mark(&mut self, class: Class, actions: &[Action])
+        ensures marked { list_all (action_all (marked_test self.new.version class self.new.marks)) actions.now ≡ true }
+        ensures version { self.new.version ≡ self.old.version }
+    {
+        self.class = class;
+        self.marking = true;
+        self.marks.any = 0;
+        self.marks.own = 0;
+        self.marks.whole = 0;
+        self.marks.fixed = [0; 65_536];
+        self.actions(actions);
+    }
+
+    /// Meets what the actions touch by a class with what is marked.
+    pub fn meet(&mut self, class: Class, actions: &[Action])
+        ensures met { list_all (action_all (met_test self.new.version class self.new.marks self.new.meeting)) actions.now ≡ true }
+        ensures version { self.new.version ≡ self.old.version }
+        ensures marks { self.new.marks ≡ self.old.marks }
+    {
+        self.class = class;
+        self.marking = false;
+        self.meeting = Meeting {
+            always: false,
+            same_key: false,
+            own: 0,
+        };
+        self.actions(actions);
+    }
+
     fn touch(&mut self, way: Way, family: u32, place: Place)
         ensures told { Tells self.new (λ test. test way family place) }
         ensures follows { Follows self.old self.new }
@@ -233,8 +288,7 @@ impl Visit {
         self.act(&action.act);
     }
 
-    /// Walks over the actions.
-    pub fn actions(&mut self, actions: &[Action])
+    fn actions(&mut self, actions: &[Action])
         ensures told { Tells self.new (λ test. list_all (action_all test) actions.now) }
         ensures follows { Follows self.old self.new }
     {

@@ -1,6 +1,6 @@
 //! Dependency, modes, conflicts and acceptance.
 
-use crate::jobs::{INC, READ, count_with, gated_count, page_views, pages_with};
+use crate::jobs::{INC, READ, count_with, gated_count, page_views, pages_with, trades};
 use flu_check::check;
 use flu_deps::{Mode, conflict, dep, mode};
 use flu_model::{Cell, Itag, Program, Tag, TagRef, cell_text, itag_count, tag_of};
@@ -102,6 +102,28 @@ fn guards_texts_and_fixed_keys_count(rt: HostRuntime) -> Result<(), Fail> {
     Ok(())
 }
 
+/// The tag of a trade, and the price that it reads.
+const TRADE: Tag = Tag { kind: 1, key: 0 };
+
+const PRICE: Cell = Cell { family: 0, key: 0 };
+
+#[test]
+fn reads_are_shared_in_version_2_alone(rt: HostRuntime) -> Result<(), Fail> {
+    let cases = [
+        (1, Mode::Own, Some((TRADE, TRADE, PRICE))),
+        (2, Mode::Read, None),
+    ];
+    for (version, want, fault) in cases {
+        let made = trades(rt.alloc(), version)?;
+        assert!(rt; made.is_some());
+        let p = made.unwrap();
+        assert_eq!(rt; mode(&p, TRADE, PRICE), want);
+        assert_eq!(rt; found(p), fault);
+    }
+    assert!(rt; trades(rt.alloc(), 3)?.is_none());
+    Ok(())
+}
+
 #[test]
 fn tags_conflict_and_depend(rt: HostRuntime) -> Result<(), Fail> {
     let made = page_views(rt.alloc())?;
@@ -131,7 +153,7 @@ const KEYS: u32 = 10;
 fn is_fault(p: &Program, a: Tag, b: Tag, cell: Cell) -> bool {
     let conflicts = match (mode(p, a, cell), mode(p, b, cell)) {
         (Mode::None, _) | (_, Mode::None) => false,
-        (Mode::Add, Mode::Add) | (Mode::Raise, Mode::Raise) => false,
+        (Mode::Add, Mode::Add) | (Mode::Raise, Mode::Raise) | (Mode::Read, Mode::Read) => false,
         _ => true,
     };
     a <= b && conflicts && !dep(p, a, b)

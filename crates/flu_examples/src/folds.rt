@@ -3,6 +3,8 @@
 ghost use Rattle.std.specs.Prelude.{◌≡◌, length, IfOk, IfSome};
 ghost use Rattle.flu_model.specs.Itags.{count_of_itags};
 ghost use Rattle.flu_model.specs.Listed.{listed};
+ghost use Rattle.flu_model.specs.Sorts.{IsStateOf};
+ghost use Rattle.flu_cells.specs.Holding.{held};
 
 use crate::jobs::{INC, READ, shared_count};
 use crate::streams::{event, streams};
@@ -60,6 +62,14 @@ fn counted(alloc: Global, sum: i128) -> Result<State, AllocError> {
     Ok(state)
 }
 
+/// The state of a job in which every cell is neutral.
+fn empty(alloc: Global, p: &Program) -> State
+    ensures { IsStateOf p.now.families (held result) }
+{
+    let _program = p;
+    State::new(alloc)
+}
+
 #[test]
 fn events_of_one_time_go_by_their_itags(rt: HostRuntime) -> Result<(), Fail> {
     let made = example(rt.alloc())?;
@@ -96,14 +106,15 @@ fn the_plain_engine_folds(rt: HostRuntime) -> Result<(), Fail> {
     assert!(rt; made.is_some());
     let (program, s) = made.unwrap();
     let mut engine = FoldEngine { program };
-    let (state, outs) = engine.batch(rt.alloc(), counted(rt.alloc(), 1)?, &s)?;
+    let opening = empty(rt.alloc(), &engine.program);
+    let (state, outs) = engine.batch(&rt, rt.alloc(), opening, &s)?;
     assert_eq!(rt; state.get(COUNT), None);
     assert_eq!(rt; outs.items().len(), 1);
     for out in outs.items() {
-        assert_eq!(rt; out.text.as_str(), "count 15");
+        assert_eq!(rt; out.text.as_str(), "count 14");
         assert_eq!(rt; out.time, 4);
     }
-    assert_eq!(rt; engine.program().sources.items().len(), 4);
+    assert_eq!(rt; engine.program.sources.items().len(), 4);
     Ok(())
 }
 

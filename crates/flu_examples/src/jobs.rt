@@ -82,6 +82,7 @@ fn source(alloc: Global, name: &str, tags: &[TagRef]) -> Result<Source, AllocErr
         name,
         file,
         rate: 1,
+        slack: 0,
         tags,
     })
 }
@@ -154,7 +155,7 @@ pub fn count_with(
     let kinds = count_kinds(alloc)?;
     let depends = depends(alloc, pairs)?;
     let sources = sources(alloc, listed)?;
-    Ok(program(List::of(families), List::of(kinds), depends, sources))
+    Ok(program(1, List::of(families), List::of(kinds), depends, sources))
 }
 
 fn count_kinds(alloc: Global) -> Result<Vec<Kind>, AllocError> {
@@ -195,7 +196,7 @@ pub fn pages_with(
         ("clock", &[only(2)]),
     ];
     let sources = sources(alloc, &listed)?;
-    Ok(program(List::of(families), List::of(kinds), depends, sources))
+    Ok(program(1, List::of(families), List::of(kinds), depends, sources))
 }
 
 fn page_kinds(alloc: Global) -> Result<Vec<Kind>, AllocError> {
@@ -228,7 +229,7 @@ pub fn highest_and_last(alloc: Global, factor: i64) -> Result<Option<Program>, A
     let kinds = one(alloc, kind(alloc, "t", false, true, actions)?)?;
     let depends = depends(alloc, &[(0, 0, false)])?;
     let sources = sources(alloc, &[("s", &[only(0)])])?;
-    Ok(program(List::of(families), List::of(kinds), depends, sources))
+    Ok(program(1, List::of(families), List::of(kinds), depends, sources))
 }
 
 fn highest_actions(alloc: Global, factor: i64) -> Result<Vec<Action>, AllocError> {
@@ -262,7 +263,7 @@ pub fn gated_count(alloc: Global) -> Result<Option<Program>, AllocError> {
     let depends = depends(alloc, &[])?;
     let tags = [only(0), only(1), up_to(2, 1)];
     let sources = sources(alloc, &[("s", &tags)])?;
-    Ok(program(List::of(families), List::of(kinds), depends, sources))
+    Ok(program(1, List::of(families), List::of(kinds), depends, sources))
 }
 
 fn gated_kinds(alloc: Global) -> Result<Vec<Kind>, AllocError> {
@@ -286,4 +287,46 @@ fn note_actions(alloc: Global) -> Result<Vec<Action>, AllocError> {
     let mut tells = one(alloc, always(Act::Raise(own(2), Expr::Value)))?;
     tells.push(told(alloc, "note ", seventh)?)?;
     Ok(tells)
+}
+
+/// The job of trades at the last quoted price: `q` quotes it, each trade of `t1` and `t2` puts it out and adds its value at that
+/// price to a volume, and `s` puts the volume out and begins anew. Trades read the price and are independent, so that it is
+/// accepted in version 2 alone.
+///
+/// Its itags are the quote, 0, the trades of `t1` and `t2`, 1 and 2, and the end of a day, 3.
+pub fn trades(alloc: Global, version: u32) -> Result<Option<Program>, AllocError> {
+    let mut families = one(alloc, family(alloc, "price", false, Sort::Last)?)?;
+    families.push(family(alloc, "vol", false, Sort::Sum)?)?;
+    let kinds = trade_kinds(alloc)?;
+    let pairs = [(0, 0, false), (0, 1, false), (1, 2, false), (2, 2, false)];
+    let depends = depends(alloc, &pairs)?;
+    let listed: [(&str, &[TagRef]); 4] = [
+        ("q", &[only(0)]),
+        ("t1", &[only(1)]),
+        ("t2", &[only(1)]),
+        ("s", &[only(2)]),
+    ];
+    let sources = sources(alloc, &listed)?;
+    Ok(program(
+        version,
+        List::of(families),
+        List::of(kinds),
+        depends,
+        sources,
+    ))
+}
+
+fn trade_kinds(alloc: Global) -> Result<Vec<Kind>, AllocError> {
+    let quotes = one(alloc, always(Act::Set(alone(0), Expr::Value)))?;
+    let mut kinds = one(alloc, kind(alloc, "quote", false, true, quotes)?)?;
+    let left = Box::new(alloc, Expr::Value)?;
+    let price = Box::new(alloc, Expr::Read(alone(0)))?;
+    let adds = Act::Add(alone(1), Expr::Two(Op::Times, left, price));
+    let mut trades = one(alloc, always(adds))?;
+    trades.push(told(alloc, "at ", alone(0))?)?;
+    kinds.push(kind(alloc, "trade", false, true, trades)?)?;
+    let mut shuts = one(alloc, told(alloc, "vol ", alone(1))?)?;
+    shuts.push(always(Act::Clear(alone(1))))?;
+    kinds.push(kind(alloc, "shut", false, false, shuts)?)?;
+    Ok(kinds)
 }

@@ -1,6 +1,6 @@
 //! Reports of folds.
 
-use crate::jobs::{INC, READ, highest_and_last, page_views, shared_count};
+use crate::jobs::{INC, READ, highest_and_last, page_views, shared_count, trades};
 use crate::streams::{event, streams};
 use flu_cells::State;
 use flu_model::{Item, Program, TagRef, Text};
@@ -148,6 +148,27 @@ fn each_tick_puts_out_the_views_of_all_pages(rt: HostRuntime) -> Result<(), Fail
             assert_eq!(rt; text.as_str(), page_report(rt.alloc())?.as_str());
             assert_eq!(rt; text.as_str().lines().count(), 31);
         }
+        None => assert!(rt; false, "no job or no streams"),
+    }
+    Ok(())
+}
+
+#[test]
+fn trades_are_told_at_the_last_quoted_price(rt: HostRuntime) -> Result<(), Fail> {
+    let p = trades(rt.alloc(), 2)?;
+    let quotes = [event(1, 0, 10), event(5, 0, 20), Item::End];
+    let first = [event(2, 1, 3), event(6, 1, 1), Item::End];
+    let second = [event(3, 2, 4), Item::End];
+    let shuts = [event(4, 3, 0), event(7, 3, 0), Item::End];
+    let lists = vec![in rt.alloc();
+        quotes.to_vec(rt.alloc())?,
+        first.to_vec(rt.alloc())?,
+        second.to_vec(rt.alloc())?,
+        shuts.to_vec(rt.alloc())?,
+    ]?;
+    let want = "2,trade,at 10\n3,trade,at 10\n4,shut,vol 70\n6,trade,at 20\n7,shut,vol 20\n";
+    match report(rt.alloc(), p, lists)? {
+        Some(text) => assert_eq!(rt; text.as_str(), want),
         None => assert!(rt; false, "no job or no streams"),
     }
     Ok(())

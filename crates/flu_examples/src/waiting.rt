@@ -97,14 +97,14 @@ const READ_AT_3: [Item; 2] = [
 fn job(rt: &impl Abort, alloc: Global) -> Result<Checked, AllocError> {
     let sources: [(&str, &[TagRef]); 3] = [("a", &[INC]), ("b", &[INC]), ("c", &[READ])];
     let p = shared_count(alloc, &sources)?.expect(rt, "a job");
-    Ok(check(p).expect(rt, "an accepted job"))
+    Ok(check(p).ok().expect(rt, "an accepted job"))
 }
 
 fn plan(rt: &impl Abort, alloc: Global, c: &Checked) -> Valid
     ensures { IsValidFor (program_of c.now) result }
 {
     let plan = read_plan(alloc, c.program(), PLAN.as_bytes()).expect(rt, "a plan");
-    validate(c, plan).expect(rt, "a valid plan")
+    validate(c, plan).ok().expect(rt, "a valid plan")
 }
 
 fn streams(alloc: Global, a: &[Item], b: &[Item], c: &[Item]) -> Result<Streams, AllocError>

@@ -9,30 +9,18 @@ ghost use Rattle.flu_cells.specs.Sets.{is_in};
 ghost use Rattle.flu_fork.specs.Gathering.{GrowsBy, is_target};
 
 use flu_cells::CellSet;
-use flu_model::{
-    Act, Action, Cell, CellRef, Expr, Piece, Program, Tag, actions_of, cell_of,
-};
+use flu_model::{Act, Action, Cell, CellRef, Expr, Piece, Program, Tag, actions_of, cell_of};
 use std::alloc::AllocError;
 
 /// Adds the cells that a tag's actions read, but those of another set.
-pub fn add_reads(
-    set: &mut CellSet,
-    unless: &CellSet,
-    p: &Program,
-    t: Tag,
-) -> Result<(), AllocError>
+pub fn add_reads(set: &mut CellSet, unless: &CellSet, p: &Program, t: Tag) -> Result<(), AllocError>
     ensures { OnOk result (GrowsBy set.old set.new (λ c. not (is_in unless.now c) && list_any (modes.action_reads t.key c) (updates.actions_of (slice_get p.now.kinds t.kind)))) }
 {
     read_by_actions(set, unless, actions_of(p, t), t.key)
 }
 
 /// Adds the cells that a tag's actions overwrite, and where `mixed` is true those that they add to and raise.
-pub fn add_targets(
-    set: &mut CellSet,
-    mixed: bool,
-    p: &Program,
-    t: Tag,
-) -> Result<(), AllocError>
+pub fn add_targets(set: &mut CellSet, mixed: bool, p: &Program, t: Tag) -> Result<(), AllocError>
     ensures { OnOk result (GrowsBy set.old set.new (λ c. list_any (λ a. is_target mixed t.key c a.act) (updates.actions_of (slice_get p.now.kinds t.kind)))) }
 {
     targets_of_actions(set, mixed, actions_of(p, t), t.key)
@@ -80,12 +68,7 @@ fn read_by_guard(
     }
 }
 
-fn read_by_act(
-    set: &mut CellSet,
-    unless: &CellSet,
-    act: &Act,
-    key: u32,
-) -> Result<(), AllocError>
+fn read_by_act(set: &mut CellSet, unless: &CellSet, act: &Act, key: u32) -> Result<(), AllocError>
     ensures { OnOk result (GrowsBy set.old set.new (λ c. not (is_in unless.now c) && modes.act_reads key c act.now)) }
 {
     match act {
@@ -125,12 +108,7 @@ fn read_by_piece(
     }
 }
 
-fn read_by_expr(
-    set: &mut CellSet,
-    unless: &CellSet,
-    e: &Expr,
-    key: u32,
-) -> Result<(), AllocError>
+fn read_by_expr(set: &mut CellSet, unless: &CellSet, e: &Expr, key: u32) -> Result<(), AllocError>
     ensures { OnOk result (GrowsBy set.old set.new (λ c. not (is_in unless.now c) && modes.expr_reads key c e.now)) }
 {
     match e {
@@ -144,12 +122,7 @@ fn read_by_expr(
     }
 }
 
-fn read_by_ref(
-    set: &mut CellSet,
-    unless: &CellSet,
-    r: CellRef,
-    key: u32,
-) -> Result<(), AllocError>
+fn read_by_ref(set: &mut CellSet, unless: &CellSet, r: CellRef, key: u32) -> Result<(), AllocError>
     ensures { OnOk result (GrowsBy set.old set.new (λ c. not (is_in unless.now c) && modes.means key c r)) }
 {
     add_unless(set, unless, cell_of(r, key))
@@ -180,12 +153,7 @@ fn targets_of_actions(
     Ok(())
 }
 
-fn targets_of_act(
-    set: &mut CellSet,
-    mixed: bool,
-    act: &Act,
-    key: u32,
-) -> Result<(), AllocError>
+fn targets_of_act(set: &mut CellSet, mixed: bool, act: &Act, key: u32) -> Result<(), AllocError>
     ensures { OnOk result (GrowsBy set.old set.new (λ c. is_target mixed key c act.now)) }
 {
     match act {

@@ -9,6 +9,8 @@ pub mod laws;
 mod lots;
 mod parting;
 mod rights;
+#[cfg(test)]
+mod tests;
 
 pub use case::Case;
 pub use content::Content;

@@ -98,12 +98,7 @@ fn add_needed_below(
 }
 
 // Adds the cells that a tag needs.
-fn add_needed(
-    set: &mut CellSet,
-    nothing: &CellSet,
-    p: &Program,
-    t: Tag,
-) -> Result<(), AllocError>
+fn add_needed(set: &mut CellSet, nothing: &CellSet, p: &Program, t: Tag) -> Result<(), AllocError>
     requires { (c : Cell) → is_in nothing.now c ≡ false }
     ensures { OnOk result (GrowsBy set.old set.new (λ c. needs (mode_of p.now t c))) }
 {

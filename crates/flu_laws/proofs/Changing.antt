@@ -2,6 +2,7 @@
 use Rattle.std.proofs.Common.{◌≡◌, ℕ, ℤ, pos, true, false, cond, Option, Some, None, List, [], ◌∷◌, refl, sym, ap, subst, ◌∙◌, arith}
 use Rattle.std.specs.List.{list_any}
 use Rattle.std.proofs.lemmas.Grind.{common_steps}
+use Rattle.flu_lemmas.proofs.TwoNumbers.{made_alike}
 use Rattle.flu_model.specs.declared.events.Cell.{Cell}
 use Rattle.flu_model.specs.declared.events.Event.{Event}
 use Rattle.flu_model.specs.declared.events.Worth.{Worth}
@@ -10,13 +11,12 @@ use Rattle.flu_model.specs.declared.jobs.Sort.TheVariants.{Sum as SumSort, Max a
 use Rattle.flu_model.specs.declared.jobs.Act.{Act}
 use Rattle.flu_model.specs.declared.jobs.Act.TheVariants.{Add, Raise, Set, Clear, Emit, Flush}
 use Rattle.flu_model.specs.declared.jobs.Action.{Action}
-use Rattle.flu_model.specs.Contents.{Contents, is_same_cell, with_worth, added, raised, joined_worth}
+use Rattle.flu_model.specs.Contents.{Contents, cell, is_same_cell, with_worth, added, raised, joined_worth}
 use Rattle.flu_model.specs.Expressions.{cell_of, value_of_expr}
 use Rattle.flu_model.specs.Updates.{changes_to, effect_of_act, effect_of_action, effect_of_actions, passes_guard}
 use Rattle.flu_model.specs.Modes.{means, act_overwrites, act_adds, act_raises}
 use Rattle.flu_laws.specs.Changes.{amount_of_act, amount_of_action, amount_added, level_of_act, level_of_action, level_reached, higher}
 use Rattle.flu_lemmas.proofs.Booleans.{or_false_left, or_false_right}
-use Rattle.flu_laws.proofs.Reading.{same_cell-is}
 use Rattle.flu_laws.proofs.Values.{HoldsSort}
 use Rattle.flu_laws.proofs.Algebra.{added-zero, added-added, added-holds, raised-raised, raised-joined, raised-holds}
 
@@ -44,7 +44,7 @@ raised_to-higher w (Some u) (Some v) = raised-raised w u v
 -- a change of the cell d, seen at c
 there : (s : Contents) (d c : Cell) (f : Option Worth → Option Worth) → is_same_cell d c ≡ true → with_worth s d (f (s d)) c ≡ f (s c)
 there s d c f e =
-    let is : d ≡ c = same_cell-is d c e in
+    let is : d ≡ c = made_alike cell d.family d.key c.family c.key e in
     ap (λ b. cond b (f (s d)) (s c)) (same_cell-sym c d ∙ e) ∙ ap (λ u. f (s u)) is
 
 elsewhere : (s : Contents) (d c : Cell) (w : Option Worth) → is_same_cell d c ≡ false → with_worth s d w c ≡ s c

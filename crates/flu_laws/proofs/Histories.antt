@@ -1,23 +1,22 @@
 -- The moments of a fold: their places, and the states before them.
 use Rattle.std.proofs.Common.{◌≡◌, ◌≤◌, ◌<◌, ◌+◌, ℕ, Bool, true, false, cond, Option, List, [], ◌∷◌, ◌++◌, refl, sym, ap, subst, ◌∙◌, arith}
-use Rattle.std.specs.Prelude.{◌==◌, slice_get, ⊤}
+use Rattle.std.specs.Prelude.{◌==◌, ⊤}
 use Rattle.std.specs.List.{filter, AllByRecursion}
 use Rattle.flu_lemmas.proofs.Elements.{all_map}
 use Rattle.flu_lemmas.proofs.Searches.{eq_true}
 use Rattle.flu_lemmas.proofs.Tests.{true_eq}
 use Rattle.flu_model.specs.declared.events.Cell.{Cell}
 use Rattle.flu_model.specs.declared.events.Event.{Event}
-use Rattle.flu_model.specs.declared.events.Tag.{Tag}
 use Rattle.flu_model.specs.declared.events.Worth.{Worth}
 use Rattle.flu_model.specs.declared.jobs.Program.{Program}
 use Rattle.flu_model.specs.Contents.{Contents}
 use Rattle.flu_model.specs.Itags.{tag_of_itag, is_dependent, count_of_itags}
-use Rattle.flu_model.specs.Updates.{effect_of, actions_of}
+use Rattle.flu_model.specs.Updates.{effect_of}
 use Rattle.flu_model.specs.Sorts.{IsStateOf}
 use Rattle.flu_model.specs.Modes.{IsAccepted}
-use Rattle.flu_laws.specs.Changes.{Keep, applied, change_by}
+use Rattle.flu_laws.specs.Changes.{Keep, applied}
 use Rattle.flu_laws.specs.Spans.{Moment, history, change_at, changed_by, MomentsAreOfEvents, PlacesRise}
-use Rattle.flu_laws.specs.Uses.{needs, writes, mode_at}
+use Rattle.flu_laws.specs.Uses.{needs, mode_at}
 use Rattle.flu_laws.proofs.Laws.{no_conflict}
 use Rattle.flu_laws.proofs.Updating.{updates_are_changes, keeps_sorts, unwritten_keeps}
 use Rattle.flu_laws.proofs.Uses.{needed_unwritten}

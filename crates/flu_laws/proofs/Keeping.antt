@@ -2,6 +2,7 @@
 use Rattle.std.proofs.Common.{◌≡◌, ℕ, Bool, true, false, cond, Option, Some, None, List, [], ◌∷◌, refl, sym, subst}
 use Rattle.std.specs.Prelude.{◌==◌, nat_lt, slice_get}
 use Rattle.std.specs.List.{list_all}
+use Rattle.flu_lemmas.proofs.TwoNumbers.{made_alike}
 use Rattle.flu_model.specs.declared.events.Cell.{Cell}
 use Rattle.flu_model.specs.declared.events.Event.{Event}
 use Rattle.flu_model.specs.declared.events.Worth.{Worth}
@@ -11,7 +12,7 @@ use Rattle.flu_model.specs.declared.jobs.Family.{Family}
 use Rattle.flu_model.specs.declared.jobs.Act.{Act}
 use Rattle.flu_model.specs.declared.jobs.Act.TheVariants.{Add, Raise, Set, Clear, Emit, Flush}
 use Rattle.flu_model.specs.declared.jobs.Action.{Action}
-use Rattle.flu_model.specs.Contents.{Contents, is_same_cell, with_worth, key_count}
+use Rattle.flu_model.specs.Contents.{Contents, cell, is_same_cell, with_worth, key_count}
 use Rattle.flu_model.specs.Expressions.{cell_of, value_of_expr}
 use Rattle.flu_model.specs.Updates.{changes_to, effect_of_act, effect_of_action, effect_of_actions, passes_guard}
 use Rattle.flu_model.specs.Sorts.{MayHold, IsStateOf}
@@ -19,14 +20,13 @@ use Rattle.flu_model.specs.Rules.{has_sort, act_fits, action_fits}
 use Rattle.flu_lemmas.proofs.Tests.{and_left, and_right}
 use Rattle.flu_laws.proofs.Algebra.{added-holds, raised-holds}
 use Rattle.flu_laws.proofs.Keys.{cell_is_there}
-use Rattle.flu_laws.proofs.Reading.{same_cell-is}
 use Rattle.flu_laws.proofs.Values.{HoldsSort, holds_sort, may_hold}
 
 -- one cell of a state is changed to a value that it may hold
 with_kept : (families : List Family) (s : Contents) (d : Cell) (w : Option Worth) → IsStateOf families s → MayHold families d w → IsStateOf families (with_worth s d w)
 with_kept families s d w sorted holds c =
     elim (is_same_cell c d) as (λ b. is_same_cell c d ≡ b → MayHold families c (cond b w (s c))) [
-      | true ↦ λ e. subst (λ (u : Cell). MayHold families u w) (sym (same_cell-is c d e)) holds
+      | true ↦ λ e. subst (λ (u : Cell). MayHold families u w) (sym (made_alike cell c.family c.key d.family d.key e)) holds
       | false ↦ λ e. sorted c
     ] refl
 

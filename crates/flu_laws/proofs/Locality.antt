@@ -3,6 +3,7 @@ use Rattle.std.proofs.Common.{◌≡◌, ℕ, pos, ◌+ℤ◌, Bool, true, false
 use Rattle.std.specs.Prelude.{◌==◌, ◌&&◌, is_some, slice_get}
 use Rattle.std.specs.List.{list_any, list_all, filter}
 use Rattle.std.proofs.lemmas.Bool.{or_left, or_right}
+use Rattle.flu_lemmas.proofs.TwoNumbers.{made_alike}
 use Rattle.flu_model.specs.declared.events.Cell.{Cell}
 use Rattle.flu_model.specs.declared.events.Event.{Event}
 use Rattle.flu_model.specs.declared.events.Worth.{Worth}
@@ -22,7 +23,7 @@ use Rattle.flu_model.specs.Modes.{means, guard_reads}
 use Rattle.flu_laws.specs.Changes.{amount_of_act, amount_added, level_of_act, level_reached, higher}
 use Rattle.flu_lemmas.proofs.Tests.{and_left, and_right}
 use Rattle.flu_lemmas.proofs.Numbers.{same_number}
-use Rattle.flu_laws.proofs.Reading.{Agree, act_needs, action_needs, value-agree, guard-agree, pieces-agree, same_cell-is}
+use Rattle.flu_laws.proofs.Reading.{Agree, act_needs, action_needs, value-agree, guard-agree, pieces-agree}
 
 -- the templates of a flush read no cell by name
 flush_piece-agree : (families : List Family) (q : Piece) (v : Bool) (s t : Contents) (x : Event) (k : ℕ) (h : Option Worth) → flush_piece_fits v q ≡ true → piece_text families q s x k h ≡ piece_text families q t x k h
@@ -49,7 +50,7 @@ row-agree s t f same = λ i k. same k i
 changed-agree : (s t : Contents) (c d : Cell) (f g : Option Worth → Option Worth) → s c ≡ t c → ((w : Option Worth) → f w ≡ g w) → with_worth s d (f (s d)) c ≡ with_worth t d (g (t d)) c
 changed-agree s t c d f g here same =
     elim (is_same_cell c d) as (λ b. is_same_cell c d ≡ b → cond b (f (s d)) (s c) ≡ cond b (g (t d)) (t c)) [
-      | true ↦ λ e. let is : c ≡ d = same_cell-is c d e in sym (ap (λ u. f (s u)) is) ∙ ap f here ∙ same (t c) ∙ ap (λ u. g (t u)) is
+      | true ↦ λ e. let is : c ≡ d = made_alike cell c.family c.key d.family d.key e in sym (ap (λ u. f (s u)) is) ∙ ap f here ∙ same (t c) ∙ ap (λ u. g (t u)) is
       | false ↦ λ e. here
     ] refl
 

@@ -23,12 +23,6 @@ use Rattle.flu_model.specs.Modes.{expr_reads, guard_reads, piece_reads, act_read
 pub same_cell-refl : (c : Cell) → is_same_cell c c ≡ true
 same_cell-refl c = grind (arith, common_steps)
 
-pub same_cell-is : (d c : Cell) → is_same_cell d c ≡ true → d ≡ c
-same_cell-is d c e =
-    let f : d.family ≡ c.family = grind (arith, common_steps) in
-    let k : d.key ≡ c.key = grind (arith, common_steps) in
-    λ i. record { family = f i; key = k i }
-
 -- the cells that an act needs: those that it overwrites, and those that it reads
 abbrev pub act_needs : ℕ → Cell → Act → Bool
 act_needs key c a = act_overwrites key c a || act_reads key c a

@@ -1,7 +1,8 @@
 -- A cell that a job's actions add to or raise is of a family of that sort.
-use Rattle.std.proofs.Common.{◌≡◌, ℕ, Bool, true, false, Option, Some, None, List, [], ◌∷◌, refl, sym, ap, ◌∙◌}
-use Rattle.std.specs.Prelude.{◌||◌, nat_lt, slice_get}
+use Rattle.std.proofs.Common.{◌≡◌, ℕ, Bool, true, false, Option, Some, None, List, sym, ap, ◌∙◌}
+use Rattle.std.specs.Prelude.{nat_lt, slice_get}
 use Rattle.std.specs.List.{list_any, list_all}
+use Rattle.flu_lemmas.proofs.TwoNumbers.{made_alike}
 use Rattle.flu_model.specs.declared.events.Cell.{Cell}
 use Rattle.flu_model.specs.declared.jobs.Sort.{Sort}
 use Rattle.flu_model.specs.declared.jobs.Sort.TheVariants.{Sum as SumSort, Max as MaxSort, Last as LastSort}
@@ -10,7 +11,7 @@ use Rattle.flu_model.specs.declared.jobs.CellRef.{CellRef}
 use Rattle.flu_model.specs.declared.jobs.Act.{Act}
 use Rattle.flu_model.specs.declared.jobs.Act.TheVariants.{Add, Raise, Set, Clear, Emit, Flush}
 use Rattle.flu_model.specs.declared.jobs.Action.{Action}
-use Rattle.flu_model.specs.Contents.{key_count}
+use Rattle.flu_model.specs.Contents.{cell, key_count}
 use Rattle.flu_model.specs.Expressions.{cell_of}
 use Rattle.flu_model.specs.Sorts.{is_cell_of}
 use Rattle.flu_model.specs.Rules.{has_sort, is_sort, ref_fits, act_fits, action_fits}
@@ -18,10 +19,9 @@ use Rattle.flu_model.specs.Modes.{means, act_adds, act_raises}
 use Rattle.flu_lemmas.proofs.Elements.{from_any}
 use Rattle.flu_lemmas.proofs.Tests.{and_left, and_right, false_if_not}
 use Rattle.flu_laws.proofs.Keys.{cell_is_there}
-use Rattle.flu_laws.proofs.Reading.{same_cell-is}
 
 meant_sort : (families : List Family) (key : ℕ) (c : Cell) (r : CellRef) (sort : Sort) → means key c r ≡ true → has_sort (slice_get families r.family) sort ≡ true → has_sort (slice_get families c.family) sort ≡ true
-meant_sort families key c r sort m e = ap (λ (d : Cell). has_sort (slice_get families d.family) sort) (sym (same_cell-is (cell_of r key) c m)) ∙ e
+meant_sort families key c r sort m e = ap (λ (d : Cell). has_sort (slice_get families d.family) sort) (sym (made_alike cell (cell_of r key).family (cell_of r key).key c.family c.key m)) ∙ e
 
 act_adds-sort : (families : List Family) (keyed has_value : Bool) (key : ℕ) (c : Cell) (a : Act) → act_fits families keyed has_value a ≡ true → act_adds key c a ≡ true → has_sort (slice_get families c.family) SumSort ≡ true
 act_adds-sort families keyed has_value key c (Add r e) fits m = meant_sort families key c r SumSort m (and_right _ _ (and_left _ _ fits))
@@ -48,7 +48,7 @@ raises-sort families keyed has_value key c all fits any = from_any (action_fits 
 -- such a cell is one of its family, for a key in range
 meant_is_there : (families : List Family) (keyed : Bool) (key : ℕ) (c : Cell) (r : CellRef) → nat_lt key key_count ≡ true
     → means key c r ≡ true → ref_fits families keyed r ≡ true → is_cell_of families c ≡ true
-meant_is_there families keyed key c r lt m e = ap (is_cell_of families) (sym (same_cell-is (cell_of r key) c m)) ∙ cell_is_there families keyed r key lt e
+meant_is_there families keyed key c r lt m e = ap (is_cell_of families) (sym (made_alike cell (cell_of r key).family (cell_of r key).key c.family c.key m)) ∙ cell_is_there families keyed r key lt e
 
 act_adds-there : (families : List Family) (keyed has_value : Bool) (key : ℕ) (c : Cell) (a : Act) → nat_lt key key_count ≡ true
     → act_fits families keyed has_value a ≡ true → act_adds key c a ≡ true → is_cell_of families c ≡ true

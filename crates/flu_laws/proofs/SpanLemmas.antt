@@ -4,6 +4,7 @@ use Rattle.std.specs.Prelude.{nat_le, nat_lt, ◌&&◌, ◌⊎◌, slice_index, 
 use Rattle.std.specs.List.{filter, AllByRecursion}
 use Rattle.std.proofs.lemmas.Grind.{common_steps}
 use Rattle.flu_lemmas.proofs.Tests.{both}
+use Rattle.flu_lemmas.proofs.Numbers.{lt_wider}
 use Rattle.flu_model.specs.declared.events.Cell.{Cell}
 use Rattle.flu_model.specs.declared.events.Tag.{Tag}
 use Rattle.flu_model.specs.declared.events.Worth.{Worth}
@@ -41,15 +42,12 @@ not_le_from_lt b i e = grind (arith, common_steps)
 le_from_not_lt : (b i : ℕ) → nat_lt i b ≡ false → nat_le b i ≡ true
 le_from_not_lt b i e = grind (arith, common_steps)
 
-lt_later : (i b d : ℕ) → b ≤ d → nat_lt i b ≡ true → nat_lt i d ≡ true
-lt_later i b d bd e = grind (arith, common_steps)
-
 parts : (i a b d : ℕ) → a ≤ b → b ≤ d → Parts i a b d
 parts i a b d ab bd =
     elim (nat_le a i) as (λ t. nat_le a i ≡ t → Parts i a b d) [
       | false ↦ λ e. inr (inr (and_false_left _ _ e, and_false_left _ _ (not_le a b i ab e), and_false_left _ _ e))
       | true ↦ λ e. elim (nat_lt i b) as (λ t. nat_lt i b ≡ t → Parts i a b d) [
-        | true ↦ λ f. inl (both _ _ e f, and_false_left _ _ (not_le_from_lt b i f), both _ _ e (lt_later i b d bd f))
+        | true ↦ λ f. inl (both _ _ e f, and_false_left _ _ (not_le_from_lt b i f), both _ _ e (lt_wider i b d bd f))
         | false ↦ λ f. elim (nat_lt i d) as (λ t. nat_lt i d ≡ t → Parts i a b d) [
           | true ↦ λ g. inr (inl (and_false_right _ _ f, both _ _ (le_from_not_lt b i f) g, both _ _ e g))
           | false ↦ λ g. inr (inr (and_false_right _ _ f, and_false_right _ _ g, and_false_right _ _ g))

@@ -1,23 +1,21 @@
 -- The names and texts of a text that was read.
-use Rattle.std.proofs.Common.{◌≡◌, ℕ, ◌+◌, ◌-◌, ◌<◌, ◌≤◌, true, List, length, drop, sym, ap, subst, ◌∙◌, arith}
-use Rattle.std.specs.Prelude.{IsTrue, All, Contains, Ok, slice_range}
+use Rattle.std.proofs.Common.{◌≡◌, ℕ, ◌+◌, ◌-◌, ◌≤◌, true, List, length, drop, ap, subst, ◌∙◌, arith}
+use Rattle.std.specs.Prelude.{IsTrue, All, Contains, slice_range}
 use Rattle.std.specs.List.{list_all}
-use Rattle.std.specs.Str.{IsUtf8, IsCharBoundary}
+use Rattle.std.specs.Str.{IsCharBoundary}
 use Rattle.std.proofs.lemmas.List.{length-take}
-use Rattle.flu_lemmas.specs.Spans.{spelled}
 use Rattle.flu_lemmas.proofs.Spans.{spelled_slice}
 use Rattle.flu_names.specs.Names.{is_name, is_text_byte}
 use Rattle.flu_text.specs.declared.words.Word.{Word}
 use Rattle.flu_text.specs.declared.words.Word.TheVariants as w
 use Rattle.flu_text.specs.declared.words.Token.{Token}
 use Rattle.flu_text.specs.Grammar.{IsName, Spells, IsToken, IsSpan, IsInsideOfText}
-use Rattle.flu_text.specs.Reading.{reading}
 use Rattle.flu_text.specs.Laws.{NamesAreTested, ReadingIsTokens, EachIsToken, EachIsSpan, EachIsInside}
 use Rattle.flu_syntax.specs.declared.tree.WrittenSpan.{WrittenSpan}
 use Rattle.flu_syntax.specs.Grammar.{Spanned}
 use Rattle.flu_syntax.specs.Words.{Stands}
 use Rattle.flu_layout.specs.Spelling.{name_of, inside}
-use Rattle.flu_layout.specs.Stands.{IsQuoted, AreRead}
+use Rattle.flu_layout.specs.Stands.{IsQuoted}
 use Rattle.flu_layout.specs.Laws.{ReadMayBePrinted}
 
 module _ (text : List ℕ) (ts : List Token) where
@@ -47,7 +45,7 @@ module _ (text : List ℕ) (ts : List Token) where
       let is : inside text s ≡ slice_range text (s.from + 1) (s.to - 1) = spelled_slice text (s.from + 1) (s.to - 1) (omega arith) begins ends in
       let bytes : list_all is_text_byte (slice_range text (s.from + 1) (s.to - 1)) ≡ true =
       subst (λ (k : ℕ). IsTrue (list_all is_text_byte (slice_range text (s.from + 1) (k - 1)))) stands.2.2
-        (subst (λ (k : ℕ). IsTrue (list_all is_text_byte (slice_range text (k + 1) (t.to - 1)))) stands.2.1 within.bytes) in
+      (subst (λ (k : ℕ). IsTrue (list_all is_text_byte (slice_range text (k + 1) (t.to - 1)))) stands.2.1 within.bytes) in
       let len = ap length is in
       record {
         room = room;

@@ -1,22 +1,18 @@
 -- The tokens of laid out words: each stands in the text as its word is spelled there.
-use Rattle.std.proofs.Common.{◌≡◌, ◌≢◌, ◌<◌, ℕ, ◌+◌, ◌-◌, Bool, true, ◌&&◌, List, [], ◌∷◌, ◌++◌, length, get_or, refl, sym, ap, ◌∙◌, append_assoc, length-append, arith}
+use Rattle.std.proofs.Common.{◌≡◌, ◌<◌, ℕ, ◌+◌, true, List, [], ◌∷◌, ◌++◌, length, refl, ap, ◌∙◌, append_assoc, length-append, arith}
 use Rattle.std.specs.Prelude.{nat_le, not}
 use Rattle.std.specs.List.{list_all}
 use Rattle.std.specs.Str.{IsUtf8}
-use Rattle.flu_lemmas.specs.Items.{Begins}
 use Rattle.flu_lemmas.specs.Spans.{spelled}
 use Rattle.flu_lemmas.proofs.Booleans.{four_second}
 use Rattle.flu_lemmas.proofs.Digits.{alphanumeric_ascii}
 use Rattle.flu_lemmas.proofs.Spans.{spelled_passing}
 use Rattle.flu_names.specs.Names.{is_name, is_name_byte, begins_as_name, is_reserved}
-use Rattle.flu_text.specs.declared.words.Word.{Word}
 use Rattle.flu_text.specs.declared.words.Word.TheVariants as w
-use Rattle.flu_text.specs.declared.words.Token.{Token}
 use Rattle.flu_text.specs.Layout.{Piece, layout, tokens_of}
 use Rattle.flu_text.specs.Laws.{LayoutIsRead, NamesAreTested}
-use Rattle.flu_syntax.specs.Grammar.{Sign, IsSign, AreSigns}
 use Rattle.flu_layout.specs.Laid.{AreLaid, laid_none, laid_name, laid_reserved, laid_number, laid_text, laid_mark, laid_spaced}
-use Rattle.flu_layout.specs.Stands.{StandsFor, Stand}
+use Rattle.flu_layout.specs.Stands.{Stand}
 use Rattle.flu_layout.specs.Laws.{LaidIsRead, BegunAreSigns}
 use Rattle.flu_layout.proofs.Laid.{is_laid}
 
@@ -37,7 +33,7 @@ name_at whole before n after from utf8 named is here =
 put : (before : List ℕ) (p : Piece) (ps : List Piece) (whole : List ℕ) (place : ℕ) → whole ≡ before ++ layout (p ∷ ps) → place ≡ length before
     → (p.word ≡ w.Name → spelled whole place (place + length p.spelling) ≡ p.spelling)
     → ((whole ≡ (before ++ (p.spelling ++ p.gap)) ++ layout ps) → (place + length p.spelling + length p.gap ≡ length (before ++ (p.spelling ++ p.gap)))
-      → Stand whole ps (tokens_of (place + length p.spelling + length p.gap) ps))
+    → Stand whole ps (tokens_of (place + length p.spelling + length p.gap) ps))
     → Stand whole (p ∷ ps) (tokens_of place (p ∷ ps))
 put before p ps whole place is at named more =
     let next : whole ≡ (before ++ (p.spelling ++ p.gap)) ++ layout ps = is ∙ simp append_assoc in

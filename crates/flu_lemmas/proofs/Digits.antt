@@ -41,4 +41,4 @@ pub decimal_digits : (n : ℕ) → n < 2 ^ 64 → list_all is_ascii_digit (decim
 decimal_digits n lt =
     decimal_by_steps (λ n ds. list_all is_ascii_digit ds ≡ true) one_digit
     (λ n ds low so_far. list_all-append is_ascii_digit ds ((48 + n % 10) ∷ [])
-      ∙ both (list_all is_ascii_digit ds) (list_all is_ascii_digit ((48 + n % 10) ∷ [])) so_far (last_digit n)) n lt
+    ∙ both (list_all is_ascii_digit ds) (list_all is_ascii_digit ((48 + n % 10) ∷ [])) so_far (last_digit n)) n lt

@@ -33,14 +33,14 @@ items_hold item none between test P Q each marked x [] behind rest all q = each 
 items_hold item none between test P Q each marked x (y ∷ ys) behind rest all q =
     each x none (between (items_before item none between y ys behind rest)) (and_left (test x) (list_all test (y ∷ ys)) all)
     (marked (items_before item none between y ys behind rest)
-      (items_hold item none between test P Q each marked y ys behind rest (and_right (test x) (list_all test (y ∷ ys)) all) q))
+    (items_hold item none between test P Q each marked y ys behind rest (and_right (test x) (list_all test (y ∷ ys)) all) q))
 
 pub lines_hold : {X R : Type 0} (line : X → R → R) (test : X → Bool) (P : R → Type 0) → ((x : X) (rest : R) → test x ≡ true → P rest → P (line x rest))
     → (xs : List X) (rest : R) → list_all test xs ≡ true → P rest → P (lines_before line xs rest)
 lines_hold line test P each [] rest all p = p
 lines_hold line test P each (x ∷ xs) rest all p =
     each x (lines_before line xs rest) (and_left (test x) (list_all test xs) all)
-      (lines_hold line test P each xs rest (and_right (test x) (list_all test xs) all) p)
+    (lines_hold line test P each xs rest (and_right (test x) (list_all test xs) all) p)
 
 -- ---- how they are read again
 pub begins_append : {S T : Type 0} (is : S → T → Type 0) (a b : List S) (ts more rest : List T) → Begins is a ts more → Begins is b more rest → Begins is (a ++ b) ts rest

@@ -20,7 +20,7 @@ pub spelled_slice : (text : List ℕ) (from to : ℕ) → from ≤ to → IsChar
 spelled_slice text from to rises begins ends =
     ap (λ b. if b then slice_range text from to else [])
     (both (nat_le from to && is_boundary text from) (is_boundary text to)
-      (both (nat_le from to) (is_boundary text from) (le_true from to rises) (is_boundary_there text from begins)) (is_boundary_there text to ends))
+    (both (nat_le from to) (is_boundary text from) (le_true from to rises) (is_boundary_there text from begins)) (is_boundary_there text to ends))
 
 -- ---- a place, by what stands before it and behind it
 pub record Place (whole before after : List ℕ) (at : ℕ) : Type 0 where
@@ -80,7 +80,7 @@ ends_ascii whole before bytes after from to utf8 p size some ascii =
     let inside : from + last < length whole = omega (arith, sizes, length-append before (bytes ++ after), length-append bytes after, p.here) in
     let behind : from + last + 1 ≡ to = omega arith in
     subst (λ n. is_boundary whole n ≡ true) behind
-      (is_boundary_there whole (from + last + 1) (IsCharBoundary-after_ascii whole (from + last) utf8 inside (omega (arith, byte))))
+    (is_boundary_there whole (from + last + 1) (IsCharBoundary-after_ascii whole (from + last) utf8 inside (omega (arith, byte))))
 
 begins_ascii : (whole before bytes after : List ℕ) (from : ℕ) → Place whole before (bytes ++ after) from → 0 < length bytes → get_or bytes 0 0 < 128
     → is_boundary whole from ≡ true
@@ -92,7 +92,7 @@ pub spelled_ascii : (whole before bytes after : List ℕ) (from to : ℕ) → Is
     → 0 < length bytes → get_or bytes 0 0 < 128 → get_or bytes (length bytes - 1) 0 < 128 → spelled whole from to ≡ bytes
 spelled_ascii whole before bytes after from to utf8 p size some first last =
     spelled_between whole before bytes after from to p size (begins_ascii whole before bytes after from p some first)
-      (ends_ascii whole before bytes after from to utf8 p size some last)
+    (ends_ascii whole before bytes after from to utf8 p size some last)
 
 -- the same where all of them pass a test that only ASCII bytes pass
 pub spelled_passing : (test : ℕ → Bool) → ((b : ℕ) → test b ≡ true → b < 128) → (whole before bytes after : List ℕ) (from to : ℕ) → IsUtf8 whole

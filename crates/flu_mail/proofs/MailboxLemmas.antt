@@ -59,7 +59,8 @@ pub record Changes (m n : Mailbox) (i : ℕ) (e v : Entry) : Type 0 where
 pub one_each_kept : (m n : Mailbox) (i : ℕ) (e v : Entry) → Changes m n i e v → length (seen_of n) ≡ length (seen_of m)
 one_each_kept m n i e v change = length-seen n ∙ ap length change.items ∙ length-set m.entries.items i v ∙ sym (length-seen m)
 
-pub at_kept : (p : Program) (nodes : List Node) (m n : Mailbox) (i : ℕ) (e v : Entry) → Changes m n i e v → v.role ≡ e.role → v.tag ≡ e.tag → IsAt p nodes m → IsAt p nodes n
+pub at_kept : (p : Program) (nodes : List Node) (m n : Mailbox) (i : ℕ) (e v : Entry) → Changes m n i e v → v.role ≡ e.role → v.tag ≡ e.tag → IsAt p nodes m
+    → IsAt p nodes n
 at_kept p nodes m n i e v change role same_tag at = record {
   one_each = one_each_kept m n i e v change ∙ at.one_each;
   leaf = change.leaf ∙ at.leaf ∙ sym (ap (is_leaf nodes) change.node);
@@ -70,7 +71,8 @@ at_kept p nodes m n i e v change role same_tag at = record {
       (each_set (λ k y. IsEntryAt p nodes m.node (itag k) y) m.entries.items i v at.at_node here j x (ap (λ ys. slice_get ys j) (sym change.items) ∙ found));
 }
 
-pub over_kept : (lists : List (List Item)) (m n : Mailbox) (i : ℕ) (e v : Entry) → Changes m n i e v → IsEntryOver (slice_index_or lists i []) v → IsOver lists m → IsOver lists n
+pub over_kept : (lists : List (List Item)) (m n : Mailbox) (i : ℕ) (e v : Entry) → Changes m n i e v → IsEntryOver (slice_index_or lists i []) v
+    → IsOver lists m → IsOver lists n
 over_kept lists m n i e v change here over = record {
   one_each = one_each_kept m n i e v change ∙ over.one_each;
   over_items = λ j x found. each_set (λ k y. IsEntryOver (slice_index_or lists k []) y) m.entries.items i v over.over_items here j x (ap (λ ys. slice_get ys j) (sym change.items) ∙ found);
@@ -105,7 +107,8 @@ waits_by Take p nodes w i j = waits_for p nodes w i j
 waits_by Serve p nodes w i j = serving_waits_for p nodes w i j
 
 -- whose itags are waited for, and d of them
-waits_by_role : (purpose : Purpose) (p : Program) (nodes : List Node) (w : ℕ) (i : Itag) (j : ℕ) → (awaits purpose i j (role_at p nodes w (itag j)) && (not (is_leaf nodes w) || is_dependent p (tag_of_itag p i) (tag_of_itag p (itag j)))) ≡ waits_by purpose p nodes w i j
+waits_by_role : (purpose : Purpose) (p : Program) (nodes : List Node) (w : ℕ) (i : Itag) (j : ℕ)
+    → (awaits purpose i j (role_at p nodes w (itag j)) && (not (is_leaf nodes w) || is_dependent p (tag_of_itag p i) (tag_of_itag p (itag j)))) ≡ waits_by purpose p nodes w i j
 waits_by_role Take p nodes w i j =
     ap (λ b. (not (j == i.0) && b) && (not (is_leaf nodes w) || is_dependent p (tag_of_itag p i) (tag_of_itag p (itag j))))
     (own_or_above_by_role (owns p nodes w (itag j)) (ancestors_own p nodes w (itag j)))
@@ -113,7 +116,8 @@ waits_by_role Serve p nodes w i j =
     ap (λ b. b && (not (is_leaf nodes w) || is_dependent p (tag_of_itag p i) (tag_of_itag p (itag j))))
     (own_by_role (owns p nodes w (itag j)) (ancestors_own p nodes w (itag j)))
 
-waits_told : (purpose : Purpose) (p : Program) (nodes : List Node) (m : Mailbox) (i : Itag) (j : ℕ) → IsAt p nodes m → j < count_of_itags p → entry_waits p m.leaf purpose i (tag_in (slice_get m.entries.items i.0)) j (slice_get m.entries.items j) ≡ waits_by purpose p nodes m.node i j
+waits_told : (purpose : Purpose) (p : Program) (nodes : List Node) (m : Mailbox) (i : Itag) (j : ℕ) → IsAt p nodes m → j < count_of_itags p
+    → entry_waits p m.leaf purpose i (tag_in (slice_get m.entries.items i.0)) j (slice_get m.entries.items j) ≡ waits_by purpose p nodes m.node i j
 waits_told purpose p nodes m i j at lt =
     let found = slice_get-there m.entries.items j (entry_there m (count_of_itags p) j at.one_each lt) in
     let e = found.0 in
@@ -126,7 +130,8 @@ waits_told purpose p nodes m i j at lt =
     ∙ waits_by_role purpose p nodes m.node i j
 
 -- what is not held up by the entries is let pass by all
-pub waiting_told : (p : Program) (nodes : List Node) (lists : List (List Item)) (m : Mailbox) (purpose : Purpose) (x : Event) → IsAt p nodes m → not (is_held_up p m lists purpose x) ≡ all_pass p (waits_by purpose p nodes m.node x.itag) lists (seen_of m) (counts_of m) x
+pub waiting_told : (p : Program) (nodes : List Node) (lists : List (List Item)) (m : Mailbox) (purpose : Purpose) (x : Event) → IsAt p nodes m
+    → not (is_held_up p m lists purpose x) ≡ all_pass p (waits_by purpose p nodes m.node x.itag) lists (seen_of m) (counts_of m) x
 waiting_told p nodes lists m purpose x at =
     let q : ℕ → Bool = λ j. not (waits_by purpose p nodes m.node x.itag j) || passes (seen_items lists (seen_of m) j) (slice_index (counts_of m) j) x in
     let all = at.one_each in

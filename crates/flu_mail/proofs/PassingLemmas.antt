@@ -27,7 +27,8 @@ before_or_after x y other e = grind (arith, common_steps)
 -- ---- streams
 
 -- an event of a stream from a time on
-pub event_of_stream : (i low : ℕ) (items : List Item) (k : ℕ) (y : Event) → is_stream_from i low items ≡ true → slice_get (events_of items) k ≡ Some y → (low ≤ y.time) × (y.itag.0 ≡ i)
+pub event_of_stream : (i low : ℕ) (items : List Item) (k : ℕ) (y : Event) → is_stream_from i low items ≡ true → slice_get (events_of items) k ≡ Some y
+    → (low ≤ y.time) × (y.itag.0 ≡ i)
 event_of_stream i low [] k y s e = cc
 event_of_stream i low (EventItem x ∷ rest) zero y s e =
     let same : x ≡ y = cc in
@@ -57,7 +58,8 @@ still_there (End ∷ rest) (suc seen) k y e = still_there rest seen k y e
 
 -- ---- the first of the items
 
-without_first : (item : Item) (rest : List Item) (next : Option Event) (x : Event) → passes_with (item ∷ rest) next x ≡ true → (passes_with rest next x ≡ true) ⊎ (time_passes x.time item ≡ true)
+without_first : (item : Item) (rest : List Item) (next : Option Event) (x : Event) → passes_with (item ∷ rest) next x ≡ true
+    → (passes_with rest next x ≡ true) ⊎ (time_passes x.time item ≡ true)
 without_first item rest (Some y) x h = inl h
 without_first item [] None x h = inr h
 without_first item (next ∷ rest) None x h = inl h
@@ -69,7 +71,8 @@ with_first item (next ∷ rest) None x h = h
 
 -- ---- passing clears
 
-pub passing_clears : (i low : ℕ) (items : List Item) (seen count : ℕ) (x : Event) (k : ℕ) (y : Event) → is_stream_from i low items ≡ true → passes (take seen items) count x ≡ true → count ≤ k → slice_get (events_of items) k ≡ Some y → is_before x y ≡ true
+pub passing_clears : (i low : ℕ) (items : List Item) (seen count : ℕ) (x : Event) (k : ℕ) (y : Event) → is_stream_from i low items ≡ true
+    → passes (take seen items) count x ≡ true → count ≤ k → slice_get (events_of items) k ≡ Some y → is_before x y ≡ true
 passing_clears i low [] seen count x k y s h le e = cc
 passing_clears i low (item ∷ rest) zero count x k y s h le e = cc
 passing_clears i low (EventItem z ∷ rest) (suc seen) zero x zero y s h le e = let same : z ≡ y = cc in subst (λ (v : Event). is_before x v ≡ true) same h
@@ -96,7 +99,8 @@ passing_clears i low (End ∷ item ∷ rest) (suc seen) count x k y s h le e = c
 -- ---- passing stays
 
 -- the last of an item that passes and of later ones passes
-last_of_later : (t i low : ℕ) (item : Item) (items : List Item) (more : ℕ) → is_stream_from i low items ≡ true → t ≤ low → time_passes t item ≡ true → last_passes t (item ∷ take more items) ≡ true
+last_of_later : (t i low : ℕ) (item : Item) (items : List Item) (more : ℕ) → is_stream_from i low items ≡ true → t ≤ low → time_passes t item ≡ true
+    → last_passes t (item ∷ take more items) ≡ true
 last_of_later t i low item [] more s le h = cc
 last_of_later t i low item (next ∷ rest) zero s le h = h
 last_of_later t i low item (EventItem z ∷ rest) (suc more) s le h =
@@ -109,14 +113,16 @@ last_of_later t i low item (End ∷ []) (suc zero) s le h = refl
 last_of_later t i low item (End ∷ []) (suc (suc more)) s le h = refl
 last_of_later t i low item (End ∷ next ∷ rest) (suc more) s le h = cc
 
-later_passes : (i low : ℕ) (item : Item) (items : List Item) (more count : ℕ) (x : Event) → is_stream_from i low items ≡ true → x.time < low → time_passes x.time item ≡ true → passes_with (item ∷ take more items) (next_event (take more items) count) x ≡ true
+later_passes : (i low : ℕ) (item : Item) (items : List Item) (more count : ℕ) (x : Event) → is_stream_from i low items ≡ true → x.time < low
+    → time_passes x.time item ≡ true → passes_with (item ∷ take more items) (next_event (take more items) count) x ≡ true
 later_passes i low item items more count x s lt h = by_next (next_event (take more items) count) refl
   where
     by_next : (next : Option Event) → next_event (take more items) count ≡ next → passes_with (item ∷ take more items) next x ≡ true
     by_next None e = last_of_later x.time i low item items more s (omega arith) h
     by_next (Some y) e = let later = event_of_stream i low items count y s (still_there items more count y e) in sooner x y (omega arith)
 
-pub passing_stays : (i low : ℕ) (items : List Item) (seen more count : ℕ) (x : Event) → is_stream_from i low items ≡ true → seen ≤ more → passes (take seen items) count x ≡ true → passes (take more items) count x ≡ true
+pub passing_stays : (i low : ℕ) (items : List Item) (seen more count : ℕ) (x : Event) → is_stream_from i low items ≡ true → seen ≤ more
+    → passes (take seen items) count x ≡ true → passes (take more items) count x ≡ true
 passing_stays i low [] seen more count x s le h = cc
 passing_stays i low (item ∷ rest) zero more count x s le h = cc
 passing_stays i low (item ∷ rest) (suc seen) zero count x s le h = absurd (omega arith)
@@ -149,7 +155,8 @@ ends_pass t i low (Beat u ∷ next ∷ rest) s = ends_pass t i (u + 1) (next ∷
 ends_pass t i low (End ∷ []) s = refl
 ends_pass t i low (End ∷ next ∷ rest) s = cc
 
-pub passes_when_clear : (i low : ℕ) (items : List Item) (count : ℕ) (x : Event) → is_stream_from i low items ≡ true → ((y : Event) → slice_get (events_of items) count ≡ Some y → is_before x y ≡ true) → passes items count x ≡ true
+pub passes_when_clear : (i low : ℕ) (items : List Item) (count : ℕ) (x : Event) → is_stream_from i low items ≡ true
+    → ((y : Event) → slice_get (events_of items) count ≡ Some y → is_before x y ≡ true) → passes items count x ≡ true
 passes_when_clear i low items count x s clear = by_next (next_event items count) refl
   where
     by_next : (next : Option Event) → next_event items count ≡ next → passes_with items next x ≡ true

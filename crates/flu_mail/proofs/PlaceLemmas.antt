@@ -41,7 +41,8 @@ next_at_place (Beat t ∷ rest) (suc seen) count = next_at_place rest seen count
 next_at_place (End ∷ rest) (suc seen) count = next_at_place rest seen count
 
 -- the event with the next index stands at the first event behind
-pub place_step : (items : List Item) (count : ℕ) → count < length (events_of items) → place_of items (suc count) ≡ suc (place_of items count) + place_of (drop (suc (place_of items count)) items) 0
+pub place_step : (items : List Item) (count : ℕ) → count < length (events_of items)
+    → place_of items (suc count) ≡ suc (place_of items count) + place_of (drop (suc (place_of items count)) items) 0
 place_step [] count lt = absurd (omega arith)
 place_step (EventItem x ∷ rest) zero lt = omega arith
 place_step (EventItem x ∷ rest) (suc count) lt = let h = place_step rest count (omega arith) in omega arith
@@ -56,7 +57,8 @@ place_here (Beat t ∷ rest) zero item e is = let same : Beat t ≡ item = cc in
 place_here (End ∷ rest) zero item e is = let same : End ≡ item = cc in cc
 place_here (x ∷ rest) (suc k) item e is = place_here rest k item e is
 
-pub place_behind : (items : List Item) (k : ℕ) (item : Item) → slice_get items k ≡ Some item → is_event item ≡ false → place_of (drop k items) 0 ≡ suc (place_of (drop (suc k) items) 0)
+pub place_behind : (items : List Item) (k : ℕ) (item : Item) → slice_get items k ≡ Some item → is_event item ≡ false
+    → place_of (drop k items) 0 ≡ suc (place_of (drop (suc k) items) 0)
 place_behind [] k item e is = cc
 place_behind (EventItem x ∷ rest) zero item e is = let same : EventItem x ≡ item = cc in cc
 place_behind (Beat t ∷ rest) zero item e is = refl
@@ -66,7 +68,8 @@ place_behind (x ∷ rest) (suc k) item e is = place_behind rest k item e is
 pub event_here : (items : List Item) (k : ℕ) (d : Item) → k < length items → is_event (get_or items k d) ≡ true → place_of (drop k items) 0 ≡ 0
 event_here items k d lt is = place_here items k (get_or items k d) (slice_get-get_or items k d lt) is
 
-pub event_behind : (items : List Item) (k : ℕ) (d : Item) → k < length items → is_event (get_or items k d) ≡ false → place_of (drop k items) 0 ≡ suc (place_of (drop (k + 1) items) 0)
+pub event_behind : (items : List Item) (k : ℕ) (d : Item) → k < length items → is_event (get_or items k d) ≡ false
+    → place_of (drop k items) 0 ≡ suc (place_of (drop (k + 1) items) 0)
 event_behind items k d lt is =
     let next : k + 1 ≡ suc k = omega arith in
     place_behind items k (get_or items k d) (slice_get-get_or items k d lt) is ∙ ap (λ n. suc (place_of (drop n items) 0)) (sym next)
@@ -75,7 +78,8 @@ pub none_behind : (items : List Item) (k : ℕ) → length items ≤ k → place
 none_behind items k le = ap (λ is. place_of is 0) (drop_all k items le)
 
 -- one step on
-pub place_after_one : (items : List Item) (count place next : ℕ) → count < length (events_of items) → place ≡ place_of items count → next ≡ place + 1 + place_of (drop (place + 1) items) 0 → next ≡ place_of items (count + 1)
+pub place_after_one : (items : List Item) (count place next : ℕ) → count < length (events_of items) → place ≡ place_of items count
+    → next ≡ place + 1 + place_of (drop (place + 1) items) 0 → next ≡ place_of items (count + 1)
 place_after_one items count place next lt at is =
     let one : count + 1 ≡ suc count = omega arith in
     let more : place + 1 ≡ suc (place_of items count) = omega arith in

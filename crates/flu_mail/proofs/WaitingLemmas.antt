@@ -19,7 +19,8 @@ use Rattle.flu_mail.specs.Laws.{SeesMore, IsUncounted, IsAllSeen}
 use Rattle.flu_mail.proofs.PassingLemmas.{passing_stays, passing_clears, passes_when_clear, event_of_stream, not_after, before_or_after}
 
 -- the items at a place are a stream, or there are none
-stream_at : (i : ℕ) (lists : List (List Item)) (j : ℕ) → are_streams i lists ≡ true → (slice_index_or lists j [] ≡ []) ⊎ ((n : ℕ) × (is_stream_from n 0 (slice_index_or lists j []) ≡ true))
+stream_at : (i : ℕ) (lists : List (List Item)) (j : ℕ) → are_streams i lists ≡ true
+    → (slice_index_or lists j [] ≡ []) ⊎ ((n : ℕ) × (is_stream_from n 0 (slice_index_or lists j []) ≡ true))
 stream_at i [] j s = inl refl
 stream_at i (items ∷ rest) zero s = inr (i, and_left (is_stream_from i 0 items) _ s)
 stream_at i (items ∷ rest) (suc j) s = stream_at (i + 1) rest j (and_right (is_stream_from i 0 items) _ s)
@@ -33,13 +34,15 @@ no_items zero (suc more) = refl
 no_items (suc seen) zero = refl
 no_items (suc seen) (suc more) = refl
 
-list_passes_still : (items : List Item) (seen more count : ℕ) (x : Event) → (items ≡ nothing) ⊎ ((n : ℕ) × (is_stream_from n 0 items ≡ true)) → seen ≤ more → passes (take seen items) count x ≡ true → passes (take more items) count x ≡ true
+list_passes_still : (items : List Item) (seen more count : ℕ) (x : Event) → (items ≡ nothing) ⊎ ((n : ℕ) × (is_stream_from n 0 items ≡ true)) → seen ≤ more
+    → passes (take seen items) count x ≡ true → passes (take more items) count x ≡ true
 list_passes_still items seen more count x (inl none) le h =
     let same : take seen items ≡ take more items = ap (take seen) none ∙ no_items seen more ∙ sym (ap (take more) none) in
     ap (λ is. passes is count x) (sym same) ∙ h
 list_passes_still items seen more count x (inr s) le h = passing_stays s.0 0 items seen more count x s.1 le h
 
-pub all_pass_still : (p : Program) (waits : ℕ → Bool) (lists : List (List Item)) (seen more counts : List ℕ) (x : Event) → are_streams 0 lists ≡ true → SeesMore seen more → all_pass p waits lists seen counts x ≡ true → all_pass p waits lists more counts x ≡ true
+pub all_pass_still : (p : Program) (waits : ℕ → Bool) (lists : List (List Item)) (seen more counts : List ℕ) (x : Event) → are_streams 0 lists ≡ true
+    → SeesMore seen more → all_pass p waits lists seen counts x ≡ true → all_pass p waits lists more counts x ≡ true
 all_pass_still p waits lists seen more counts x s le h =
     list_all_weaker (λ j. not (waits j) || passes (seen_items lists seen j) (slice_index counts j) x) (λ j. not (waits j) || passes (seen_items lists more j) (slice_index counts j) x) (range_with_len 0 (count_of_itags p))
     (λ j. or_still (not (waits j)) _ _ (list_passes_still (slice_index_or lists j []) (slice_index seen j) (slice_index more j) (slice_index counts j) x (stream_at 0 lists j s) (le j)))
@@ -47,14 +50,17 @@ all_pass_still p waits lists seen more counts x s le h =
 
 -- ---- what is let pass
 
-list_clears : (items : List Item) (seen count : ℕ) (x y : Event) → (items ≡ nothing) ⊎ ((n : ℕ) × (is_stream_from n 0 items ≡ true)) → passes (take seen items) count x ≡ true → IsUncounted items count y → is_before x y ≡ true
+list_clears : (items : List Item) (seen count : ℕ) (x y : Event) → (items ≡ nothing) ⊎ ((n : ℕ) × (is_stream_from n 0 items ≡ true))
+    → passes (take seen items) count x ≡ true → IsUncounted items count y → is_before x y ≡ true
 list_clears items seen count x y (inl none) h uncounted = absurd (not_some y (sym (ap (λ is. slice_get (events_of is) uncounted.0) none) ∙ uncounted.2))
   where
     not_some : (y : Event) → None ≡ Some y → ⊥
     not_some y e = cc
 list_clears items seen count x y (inr s) h uncounted = passing_clears s.0 0 items seen count x uncounted.0 y s.1 h uncounted.1 uncounted.2
 
-pub all_pass_clears : (p : Program) (waits : ℕ → Bool) (lists : List (List Item)) (seen counts : List ℕ) (x : Event) (j : ℕ) (y : Event) → are_streams 0 lists ≡ true → all_pass p waits lists seen counts x ≡ true → j < count_of_itags p → waits j ≡ true → IsUncounted (slice_index_or lists j []) (slice_index counts j) y → (is_before x y ≡ true) × (is_before y x ≡ false)
+pub all_pass_clears : (p : Program) (waits : ℕ → Bool) (lists : List (List Item)) (seen counts : List ℕ) (x : Event) (j : ℕ) (y : Event)
+    → are_streams 0 lists ≡ true → all_pass p waits lists seen counts x ≡ true → j < count_of_itags p → waits j ≡ true
+    → IsUncounted (slice_index_or lists j []) (slice_index counts j) y → (is_before x y ≡ true) × (is_before y x ≡ false)
 all_pass_clears p waits lists seen counts x j y s h lt waited uncounted =
     let here = all_in_range (λ k. not (waits k) || passes (seen_items lists seen k) (slice_index counts k) x) 0 (count_of_itags p) j h (omega arith) (omega arith) in
     let after = list_clears (slice_index_or lists j []) (slice_index seen j) (slice_index counts j) x y (stream_at 0 lists j s) (second_of (waits j) _ waited here) uncounted in
@@ -62,14 +68,17 @@ all_pass_clears p waits lists seen counts x j y s h lt waited uncounted =
 
 -- ---- when all is seen
 
-stream_of : (i : ℕ) (lists : List (List Item)) (j : ℕ) → are_streams i lists ≡ true → j < length lists → is_stream_from (i + j) 0 (slice_index_or lists j []) ≡ true
+stream_of : (i : ℕ) (lists : List (List Item)) (j : ℕ) → are_streams i lists ≡ true → j < length lists
+    → is_stream_from (i + j) 0 (slice_index_or lists j []) ≡ true
 stream_of i [] j s lt = absurd (omega arith)
 stream_of i (items ∷ rest) zero s lt = let here : i ≡ i + 0 = omega arith in ap (λ n. is_stream_from n 0 items) (sym here) ∙ and_left (is_stream_from i 0 items) _ s
 stream_of i (items ∷ rest) (suc j) s lt =
     let there : i + suc j ≡ i + 1 + j = omega arith in
     ap (λ n. is_stream_from n 0 (slice_index_or rest j [])) there ∙ stream_of (i + 1) rest j (and_right (is_stream_from i 0 items) _ s) (omega arith)
 
-pub all_pass_when_clear : (p : Program) (waits : ℕ → Bool) (lists : List (List Item)) (seen counts : List ℕ) (x : Event) → are_streams 0 lists ≡ true → length lists ≡ count_of_itags p → IsAllSeen lists seen → ((j : ℕ) → waits j ≡ true → x.itag.0 ≢ j) → ((j : ℕ) (y : Event) → j < count_of_itags p → waits j ≡ true → IsUncounted (slice_index_or lists j []) (slice_index counts j) y → is_before y x ≡ false) → all_pass p waits lists seen counts x ≡ true
+pub all_pass_when_clear : (p : Program) (waits : ℕ → Bool) (lists : List (List Item)) (seen counts : List ℕ) (x : Event) → are_streams 0 lists ≡ true
+    → length lists ≡ count_of_itags p → IsAllSeen lists seen → ((j : ℕ) → waits j ≡ true → x.itag.0 ≢ j)
+    → ((j : ℕ) (y : Event) → j < count_of_itags p → waits j ≡ true → IsUncounted (slice_index_or lists j []) (slice_index counts j) y → is_before y x ≡ false) → all_pass p waits lists seen counts x ≡ true
 all_pass_when_clear p waits lists seen counts x s each all other clear =
     all_of_range (λ j. not (waits j) || passes (seen_items lists seen j) (slice_index counts j) x) 0 (count_of_itags p)
     (λ j lt. first_or (waits j) _ (λ waited.

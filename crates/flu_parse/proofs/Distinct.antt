@@ -1,5 +1,5 @@
 -- Lists whose elements all differ.
-use Rattle.std.proofs.Common.{◌≡◌, Bool, true, false, List, [], ◌∷◌, ◌++◌, sym, ap, ◌∙◌}
+use Rattle.std.proofs.Common.{◌≡◌, Bool, true, false, List, [], ◌∷◌, ◌++◌, refl, sym, ap, ◌∙◌}
 use Rattle.std.specs.Prelude.{◌&&◌, ◌||◌, not}
 use Rattle.std.specs.List.{list_any}
 use Rattle.std.proofs.lemmas.Bool.{or_from}
@@ -7,6 +7,20 @@ use Rattle.std.proofs.lemmas.List.Folds.{list_any-append}
 use Rattle.flu_lemmas.proofs.Booleans.{or_false_left, or_false_right}
 use Rattle.flu_lemmas.proofs.Tests.{and_left, and_right, both, not_true}
 use Rattle.flu_model.specs.Rules.{are_distinct}
+
+-- the parts of a list whose elements all differ
+pub distinct_front : {X : Type 0} (same : X → X → Bool) (xs ys : List X) → are_distinct same (xs ++ ys) ≡ true → are_distinct same xs ≡ true
+distinct_front same [] ys h = refl
+distinct_front same (x ∷ xs) ys h =
+    let later = list_any (same x) (xs ++ ys) in
+    let none = not_true later (and_left (not later) (are_distinct same (xs ++ ys)) h) in
+    let front = or_false_left (list_any (same x) xs) (list_any (same x) ys) (sym (list_any-append (same x) xs ys) ∙ none) in
+    both (not (list_any (same x) xs)) (are_distinct same xs) (ap not front)
+    (distinct_front same xs ys (and_right (not later) (are_distinct same (xs ++ ys)) h))
+
+pub distinct_back : {X : Type 0} (same : X → X → Bool) (xs ys : List X) → are_distinct same (xs ++ ys) ≡ true → are_distinct same ys ≡ true
+distinct_back same [] ys h = h
+distinct_back same (x ∷ xs) ys h = distinct_back same xs ys (and_right (not (list_any (same x) (xs ++ ys))) (are_distinct same (xs ++ ys)) h)
 
 module _ {X : Type 0} (same : X → X → Bool) (symm : (x y : X) → same x y ≡ same y x) where
   -- an element that is like none of a list may be put at any place of it

@@ -93,7 +93,7 @@ with_plain s place = if nat_lt s.start place then s.pieces ++ p.Plain (span s.st
 abbrev pub with_piece : Scan → ℕ → WrittenPiece → Scan
 with_piece s place piece = record { pieces = s.pieces ++ piece ∷ []; start = place + 1; in_field = false }
 
--- one byte more, at a place; none where it is a faulty brace, or a `{` behind one
+-- one byte more, at a place; none where it is a faulty brace, or shows that the `{` before it is one
 unfoldable pub scan_byte : (ℕ → ℕ → Option WrittenPiece) → Scan → ℕ → ℕ → Option Scan
 scan_byte field s place b =
     if s.in_field then (if b == close_brace then Some (with_piece s place (braced (field s.start place))) else if b == open_brace then None else Some s)

@@ -28,7 +28,7 @@ pub enum JobFault {
     /// A rule of shape is broken here.
     #[error("a wrong shape")]
     WrongShape { at: usize },
-    /// There is more of this than the language allows: one more, or the key or the rate itself.
+    /// There is more of this than the language allows: one more, or the key, the rate or the slack itself.
     #[error("over a limit")]
     OverLimit { what: What, count: u64 },
     /// Memory is wanting.

@@ -143,9 +143,11 @@ module _ {X : Type 0} where
     where
       by : (b : Bool) → list_any (same x) xs ≡ b → (are_distinct same xs ≡ true → Distinct xs) → (In x xs → ⊥) × Distinct xs
       by true t more = let no : false ≡ true = sym (ap (λ b. not b && are_distinct same xs) t) ∙ e in absurd cc
-      by false t more =
-          (λ h. (let yes = in_found same itself x xs h in let no : true ≡ false = sym yes
-              ∙ t in absurd cc), more (sym (ap (λ b. not b && are_distinct same xs) t) ∙ e))
+      by false t more = (
+        λ h. (let yes = in_found same itself x xs h in let no : true ≡ false = sym yes
+            ∙ t in absurd cc),
+        more (sym (ap (λ b. not b && are_distinct same xs) t) ∙ e),
+      )
 
 -- ---- what elements are seen as
 module _ {X Y : Type 0} (f : X → Y) where

@@ -193,7 +193,7 @@ first_of_all end place u front [] behind read e =
 first_of_all end place u front (t ∷ tokens) behind read e =
     by (step u t) refl
     (λ next one. first_of_all end place next (front ++ t ∷ []) tokens (each-push start u next front t behind one) (read_more u next front t read one)
-        (sym (run-takes end u next t tokens one) ∙ e))
+    (sym (run-takes end u next t tokens one) ∙ e))
   where
     by : (r : Found Turn) → step u t ≡ r → ((next : Turn) → step u t ≡ Ok next → IsFirstThatCannotFollow end ((front ++ t ∷ []) ++ tokens) place)
         → IsFirstThatCannotFollow end (front ++ t ∷ tokens) place

@@ -1,7 +1,7 @@
 -- What looks that all pass have found.
-use Rattle.std.proofs.Common.{◌≡◌, List, [], ◌∷◌, ◌++◌, length, Ok, Err, refl, sym, ap, ◌∙◌, append_assoc, arith}
+use Rattle.std.proofs.Common.{◌≡◌, List, [], ◌∷◌, ◌++◌, length, Ok, refl, sym, ap, ◌∙◌, append_assoc, arith}
 use Rattle.std.proofs.lemmas.List.{append-nil}
-use Rattle.flu_plan.specs.Faults.{Found, ◌>>=◌, ◌>>◌, each}
+use Rattle.flu_plan.specs.Faults.{Found, ◌>>=◌, each}
 use Rattle.flu_lemmas.proofs.Loops.{bind_ok, collect}
 
 pub ok_same : {A : Type 0} (a b : A) → (let r : Found A = Ok a in let s : Found A = Ok b in r ≡ s) → a ≡ b

@@ -1,12 +1,11 @@
 -- What is read as a plan may be printed.
-use Rattle.std.proofs.Common.{◌≡◌, ◌<◌, ℕ, zero, suc, Bool, true, false, ◌&&◌, List, [], ◌∷◌, map, length, Option, Some, None, Ok, Err, refl, sym, ap, subst, ◌∙◌}
+use Rattle.std.proofs.Common.{◌≡◌, ℕ, zero, suc, Bool, true, false, ◌&&◌, List, [], ◌∷◌, map, length, Option, Some, None, Ok, Err, refl, sym, ap, subst, ◌∙◌}
 use Rattle.std.specs.Prelude.{is_some, slice_get, nat_le, IsSome}
 use Rattle.std.specs.List.{list_all, flat_map, AllByRecursion}
 use Rattle.std.specs.Str.{IsUtf8, is_utf8}
 use Rattle.std.specs.Str.Lossy.{utf8_valid_len}
 use Rattle.std.proofs.lemmas.List.Folds.{list_all-append}
 use Rattle.std.proofs.lemmas.List.Quantifiers.{position-Some}
-use Rattle.std.proofs.lemmas.Option.{slice_get-get_or}
 use Rattle.std.proofs.lemmas.Str.{IsUtf8-from_is_utf8}
 use Rattle.flu_lemmas.proofs.Tests.{both}
 use Rattle.flu_text.specs.declared.words.Token.{Token}
@@ -93,7 +92,7 @@ parts_fit p text None ws ks kind source part a b =
     ap (λ (k : Option ℕ). pred_fits p (planned_pred (record { kind = k; keys = ks; source = source }))) none
     ∙ ap (λ (x : WrittenKeys). pred_fits p (planned_pred (record { kind = None; keys = x; source = source }))) part.0
     ∙ both (is_some source && true) (names_source p source) (both (is_some source) true (source_some p text ws source b part.1) refl)
-        (source_fits p text ws source b)
+    (source_fits p text ws source b)
 parts_fit p text (Some s) ws ks kind source part a b =
     let found = kind_there p text s kind a in
     ap (λ (k : Option ℕ). pred_fits p (planned_pred (record { kind = k; keys = ks; source = source }))) found.is
@@ -129,7 +128,7 @@ node_fits : (p : Program) (text : List ℕ) (names : List (List ℕ)) (v : Writt
 unfolding node_of
 node_fits p text names v d named are e =
     let preds = bind_ok (found_of_each (pred_of p text) v.preds) (λ q. kids_of text names v.kids >>= λ k. Ok (record { name = v.name; preds = q; kids = k }))
-        d e in
+    d e in
     let kids = bind_ok (kids_of text names v.kids) (λ k. Ok (record { name = v.name; preds = preds.0; kids = k })) d preds.2 in
     let same = ok_same (record { name = v.name; preds = preds.0; kids = kids.0 }) d kids.2 in
     let ones = collected (pred_of p text) [] v.preds preds.0 preds.1 in
@@ -202,7 +201,7 @@ resolved_fits p text vs plan named are e =
     let pairs = subst (λ (l : List DraftNode). Pairs (node_of p text names.0) vs l) (sym ones.1) ones.2 in
     let fits = plan_fits p text (preorder ds.0) ds.0 (preorder ds.0) (drafts_fit p text names.0 vs ds.0 named are pairs) in
     ap (has_text p) (sym (tree_is_planned text ds.0 plan ds.2))
-        ∙ both (nodes_fit p (planned text (preorder ds.0) ds.0)) (list_all node_named (planned text (preorder ds.0) ds.0)) fits.0 fits.1
+    ∙ both (nodes_fit p (planned text (preorder ds.0) ds.0)) (list_all node_named (planned text (preorder ds.0) ds.0)) fits.0 fits.1
 
 tokens_are : (r : TokenReading) (ts : List Token) → found_tokens r ≡ Ok ts → r ≡ Ok ts
 tokens_are (Ok x) ts e = ap (λ (l : List Token). let r : TokenReading = Ok l in r) (ok_same x ts e)
@@ -213,7 +212,7 @@ pub plans_have_text : ReadMayBePrinted → SignsStand → PlansHaveText
 unfolding plan_in
 plans_have_text may stand p bytes plan e =
     let one = then_ok (unless (nat_le (length bytes) 1048576) (f.OverLimit Bytes 1048577))
-        (text_in bytes >>= λ text. tokens_in text >>= λ ts. written_in (length text) ts >>= λ written. resolved p text written) plan e in
+    (text_in bytes >>= λ text. tokens_in text >>= λ ts. written_in (length text) ts >>= λ written. resolved p text written) plan e in
     let text = bind_ok (text_in bytes) (λ text. tokens_in text >>= λ ts. written_in (length text) ts >>= λ written. resolved p text written) plan one.2 in
     let ts = bind_ok (tokens_in text.0) (λ ts. written_in (length text.0) ts >>= λ written. resolved p text.0 written) plan text.2 in
     let vs = bind_ok (written_in (length text.0) ts.0) (λ written. resolved p text.0 written) plan ts.2 in

@@ -213,9 +213,9 @@ end_took signs nodes nm preds s t k.Arrow u are preds_are word is some e =
     (grow (plan_signs nodes) (behind_preds nm preds) signs (behind_preds nm preds ++ Any (w.Mark m.Arrow) ∷ []) (Any (w.Mark m.Arrow)) refl is) e
 end_took signs nodes nm preds s t k.Node u are preds_are word is some e =
     took signs t u (with_node (turn nodes nm preds s) None) (Any (w.Reserved r.Node)) word
-        (record { nodes_are = nodes_more nodes (node_with nm preds None) are preds_are; preds_are = tt; holds = refl })
+    (record { nodes_are = nodes_more nodes (node_with nm preds None) are preds_are; preds_are = tt; holds = refl })
     (ap (λ l. l ++ Any (w.Reserved r.Node) ∷ [])
-        (node_ends nodes nm preds None (behind_preds nm preds) (ap (λ l. head nm ++ l) (sym (append-nil (all_preds preds)))) ∙ sym is)) e
+    (node_ends nodes nm preds None (behind_preds nm preds) (ap (λ l. head nm ++ l) (sym (append-nil (all_preds preds)))) ∙ sym is)) e
 end_took signs nodes nm preds s t _ u are preds_are word is some e = absurd cc
 
 not_none : (preds : List WrittenPred) (q : WrittenPred) → preds ++ q ∷ [] ≢ []
@@ -250,9 +250,9 @@ module _ (nodes : List WrittenNode) (nm : WrittenSpan) (preds : List WrittenPred
       → Took (history nodes nm preds stage.Node) t u
   node_took k.Name word good e =
       took (history nodes nm preds stage.Node) t u (turn nodes (span_of t) preds stage.Name) (Spanned w.Name (span_of t)) (word, refl, refl)
-          (record { nodes_are = good.nodes_are; preds_are = good.preds_are; holds = good.holds })
+      (record { nodes_are = good.nodes_are; preds_are = good.preds_are; holds = good.holds })
       (grow (plan_signs nodes) (Any (w.Reserved r.Node) ∷ []) (history nodes nm preds stage.Node) (open_signs (span_of t) preds stage.Name)
-          (Spanned w.Name (span_of t)) refl refl) e
+      (Spanned w.Name (span_of t)) refl refl) e
   node_took _ word good e = absurd cc
 
   name_took : (k : Terminal) → Said k t.word → Good nodes preds stage.Name → stage_step (turn nodes nm preds stage.Name) t k stage.Name ≡ Ok u
@@ -277,7 +277,7 @@ module _ (nodes : List WrittenNode) (nm : WrittenSpan) (preds : List WrittenPred
       (ap (λ l. l ++ Any (w.Reserved r.Node) ∷ []) (node_ends nodes nm preds None (head nm) (sym (ap (λ p. head nm ++ (all_preds p ++ [])) good.holds)))) e
   colon_took k.Name word good e =
       opened stage.Colon (stage.Kind (span_of t)) (Spanned w.Name (span_of t)) (word, refl, refl) good tt
-          (ap (λ p. before_pred nm p ++ name (span_of t)) good.holds) e
+      (ap (λ p. before_pred nm p ++ name (span_of t)) good.holds) e
   colon_took k.At word good e =
       opened stage.Colon (stage.At None keys.Alone) (Any (w.Mark m.At)) word good refl (ap (λ p. before_pred nm p ++ Any (w.Mark m.At) ∷ []) good.holds) e
   colon_took _ word good e = absurd cc
@@ -286,10 +286,10 @@ module _ (nodes : List WrittenNode) (nm : WrittenSpan) (preds : List WrittenPred
       → stage_step (turn nodes nm preds (stage.Kind kind)) t k (stage.Kind kind) ≡ Ok u → Took (history nodes nm preds (stage.Kind kind)) t u
   kind_took kind k.OpenBracket word good e =
       opened (stage.Kind kind) (stage.Open kind) (Any (w.Mark m.OpenBracket)) word good tt
-          (sym (append_assoc (before_pred nm preds) (name kind) (Any (w.Mark m.OpenBracket) ∷ []))) e
+      (sym (append_assoc (before_pred nm preds) (name kind) (Any (w.Mark m.OpenBracket) ∷ []))) e
   kind_took kind k.At word good e =
       opened (stage.Kind kind) (stage.At (Some kind) keys.Alone) (Any (w.Mark m.At)) word good tt
-          (sym (append_assoc (before_pred nm preds) (name kind) (Any (w.Mark m.At) ∷ []))) e
+      (sym (append_assoc (before_pred nm preds) (name kind) (Any (w.Mark m.At) ∷ []))) e
   kind_took kind k.Comma word good e = closed_took nodes nm kind preds keys.Alone (stage.Kind kind) t k.Comma u good word refl e
   kind_took kind k.Arrow word good e = closed_took nodes nm kind preds keys.Alone (stage.Kind kind) t k.Arrow u good word refl e
   kind_took kind k.Node word good e = closed_took nodes nm kind preds keys.Alone (stage.Kind kind) t k.Node u good word refl e
@@ -299,17 +299,17 @@ module _ (nodes : List WrittenNode) (nm : WrittenSpan) (preds : List WrittenPred
       → stage_step (turn nodes nm preds (stage.Open kind)) t k (stage.Open kind) ≡ Ok u → Took (history nodes nm preds (stage.Open kind)) t u
   open_took kind (k.Number n) word good e =
       opened (stage.Open kind) (stage.Low kind (number_of n t)) (At (w.Number n) t.from) (word, refl) good tt
-          (sym (append_assoc (before_pred nm preds) (name kind ++ Any (w.Mark m.OpenBracket) ∷ []) (At (w.Number n) t.from ∷ []))) e
+      (sym (append_assoc (before_pred nm preds) (name kind ++ Any (w.Mark m.OpenBracket) ∷ []) (At (w.Number n) t.from ∷ []))) e
   open_took kind _ word good e = absurd cc
 
   low_took : (kind : WrittenSpan) (low : WrittenNumber) (k : Terminal) → Said k t.word → Good nodes preds (stage.Low kind low)
       → stage_step (turn nodes nm preds (stage.Low kind low)) t k (stage.Low kind low) ≡ Ok u → Took (history nodes nm preds (stage.Low kind low)) t u
   low_took kind low k.Dots word good e =
       opened (stage.Low kind low) (stage.Dots kind low) (Any (w.Mark m.Dots)) word good tt
-          (sym (append_assoc (before_pred nm preds) (name kind ++ part_keys (keys.One low)) (Any (w.Mark m.Dots) ∷ []))) e
+      (sym (append_assoc (before_pred nm preds) (name kind ++ part_keys (keys.One low)) (Any (w.Mark m.Dots) ∷ []))) e
   low_took kind low k.CloseBracket word good e =
       opened (stage.Low kind low) (stage.Close kind (keys.One low)) (Any (w.Mark m.CloseBracket)) word good tt
-          (sym (append_assoc (before_pred nm preds) (name kind ++ part_keys (keys.One low)) (Any (w.Mark m.CloseBracket) ∷ []))) e
+      (sym (append_assoc (before_pred nm preds) (name kind ++ part_keys (keys.One low)) (Any (w.Mark m.CloseBracket) ∷ []))) e
   low_took kind low _ word good e = absurd cc
 
   dots_took : (kind : WrittenSpan) (low : WrittenNumber) (k : Terminal) → Said k t.word → Good nodes preds (stage.Dots kind low)
@@ -325,17 +325,17 @@ module _ (nodes : List WrittenNode) (nm : WrittenSpan) (preds : List WrittenPred
       let low = good.holds.0 in
       let high = good.holds.1 in
       let whole : keys_signs ks ≡ part_keys ks ++ Any (w.Mark m.CloseBracket) ∷ [] = ap keys_signs good.holds.2
-          ∙ ap (λ (x : WrittenKeys). part_keys x ++ Any (w.Mark m.CloseBracket) ∷ []) (sym good.holds.2) in
+      ∙ ap (λ (x : WrittenKeys). part_keys x ++ Any (w.Mark m.CloseBracket) ∷ []) (sym good.holds.2) in
       opened (stage.High kind ks) (stage.Close kind ks) (Any (w.Mark m.CloseBracket)) word good tt
       (ap (λ l. before_pred nm preds ++ (name kind ++ l)) whole
-          ∙ sym (append_assoc (before_pred nm preds) (name kind ++ part_keys ks) (Any (w.Mark m.CloseBracket) ∷ []))) e
+      ∙ sym (append_assoc (before_pred nm preds) (name kind ++ part_keys ks) (Any (w.Mark m.CloseBracket) ∷ []))) e
   high_took kind ks _ word good e = absurd cc
 
   close_took : (kind : WrittenSpan) (ks : WrittenKeys) (k : Terminal) → Said k t.word → Good nodes preds (stage.Close kind ks)
       → stage_step (turn nodes nm preds (stage.Close kind ks)) t k (stage.Close kind ks) ≡ Ok u → Took (history nodes nm preds (stage.Close kind ks)) t u
   close_took kind ks k.At word good e =
       opened (stage.Close kind ks) (stage.At (Some kind) ks) (Any (w.Mark m.At)) word good tt
-          (sym (append_assoc (before_pred nm preds) (name kind ++ keys_signs ks) (Any (w.Mark m.At) ∷ []))) e
+      (sym (append_assoc (before_pred nm preds) (name kind ++ keys_signs ks) (Any (w.Mark m.At) ∷ []))) e
   close_took kind ks k.Comma word good e = closed_took nodes nm kind preds ks (stage.Close kind ks) t k.Comma u good word refl e
   close_took kind ks k.Arrow word good e = closed_took nodes nm kind preds ks (stage.Close kind ks) t k.Arrow u good word refl e
   close_took kind ks k.Node word good e = closed_took nodes nm kind preds ks (stage.Close kind ks) t k.Node u good word refl e
@@ -348,28 +348,32 @@ module _ (nodes : List WrittenNode) (nm : WrittenSpan) (preds : List WrittenPred
       let before = before_pred nm preds in
       let sign = Spanned w.Name (span_of t) in
       let whole : (kind_signs kind ks ++ Any (w.Mark m.At) ∷ []) ++ sign ∷ [] ≡ pred_signs q = append_assoc (kind_signs kind ks) (Any (w.Mark m.At) ∷ [])
-          (sign ∷ []) in
+      (sign ∷ []) in
       took (history nodes nm preds (stage.At kind ks)) t u (with_pred (turn nodes nm preds (stage.At kind ks)) q) sign (word, refl, refl)
-      (record { nodes_are = good.nodes_are; preds_are = preds_more preds q good.preds_are (has_source kind ks (span_of t) good.holds); holds = not_none preds
-          q })
+      (record {
+        nodes_are = good.nodes_are;
+        preds_are = preds_more preds q good.preds_are (has_source kind ks (span_of t) good.holds);
+        holds = not_none preds
+            q;
+      })
       (grow (plan_signs nodes) (before ++ (kind_signs kind ks ++ Any (w.Mark m.At) ∷ [])) (history nodes nm preds (stage.At kind ks))
-          (behind_preds nm (preds ++ q ∷ [])) sign
+      (behind_preds nm (preds ++ q ∷ [])) sign
       (sym (append_assoc before (kind_signs kind ks ++ Any (w.Mark m.At) ∷ []) (sign ∷ [])
-          ∙ pred_ends nm preds q ((kind_signs kind ks ++ Any (w.Mark m.At) ∷ []) ++ sign ∷ []) whole)) refl) e
+      ∙ pred_ends nm preds q ((kind_signs kind ks ++ Any (w.Mark m.At) ∷ []) ++ sign ∷ []) whole)) refl) e
   at_took kind ks _ word good e = absurd cc
 
   arrow_took : (k : Terminal) → Said k t.word → Good nodes preds stage.Arrow → stage_step (turn nodes nm preds stage.Arrow) t k stage.Arrow ≡ Ok u
       → Took (history nodes nm preds stage.Arrow) t u
   arrow_took k.Name word good e =
       opened stage.Arrow (stage.Left (span_of t)) (Spanned w.Name (span_of t)) (word, refl, refl) good tt
-          (sym (append_assoc (behind_preds nm preds) (Any (w.Mark m.Arrow) ∷ []) (Spanned w.Name (span_of t) ∷ []))) e
+      (sym (append_assoc (behind_preds nm preds) (Any (w.Mark m.Arrow) ∷ []) (Spanned w.Name (span_of t) ∷ []))) e
   arrow_took _ word good e = absurd cc
 
   left_took : (left : WrittenSpan) (k : Terminal) → Said k t.word → Good nodes preds (stage.Left left)
       → stage_step (turn nodes nm preds (stage.Left left)) t k (stage.Left left) ≡ Ok u → Took (history nodes nm preds (stage.Left left)) t u
   left_took left k.Name word good e =
       opened (stage.Left left) (stage.Right left (span_of t)) (Spanned w.Name (span_of t)) (word, refl, refl) good tt
-          (sym (append_assoc (behind_preds nm preds) (Any (w.Mark m.Arrow) ∷ name left) (Spanned w.Name (span_of t) ∷ []))) e
+      (sym (append_assoc (behind_preds nm preds) (Any (w.Mark m.Arrow) ∷ name left) (Spanned w.Name (span_of t) ∷ []))) e
   left_took left _ word good e = absurd cc
 
   right_took : (left right : WrittenSpan) (k : Terminal) → Said k t.word → Good nodes preds (stage.Right left right)
@@ -378,11 +382,11 @@ module _ (nodes : List WrittenNode) (nm : WrittenSpan) (preds : List WrittenPred
   unfolding node_with
   right_took left right k.Node word good e =
       took (history nodes nm preds (stage.Right left right)) t u (with_node (turn nodes nm preds (stage.Right left right)) (Some (left, right)))
-          (Any (w.Reserved r.Node)) word
+      (Any (w.Reserved r.Node)) word
       (record { nodes_are = nodes_more nodes (node_with nm preds (Some (left, right))) good.nodes_are good.preds_are; preds_are = tt; holds = refl })
       (ap (λ l. l ++ Any (w.Reserved r.Node) ∷ [])
-          (node_ends nodes nm preds (Some (left, right)) (open_signs nm preds (stage.Right left right))
-              (append_assoc (head nm) (all_preds preds) (kids_signs (Some (left, right)))))) e
+      (node_ends nodes nm preds (Some (left, right)) (open_signs nm preds (stage.Right left right))
+      (append_assoc (head nm) (all_preds preds) (kids_signs (Some (left, right)))))) e
   right_took left right _ word good e = absurd cc
 
   source_took : (k : Terminal) → Said k t.word → Good nodes preds stage.Source → stage_step (turn nodes nm preds stage.Source) t k stage.Source ≡ Ok u
@@ -432,8 +436,11 @@ pub read_more : (u next : Turn) (front : List Token) (t : Token) → Read u fron
 unfolding history_of
 read_more u next front t read e =
     let one = stage_took u.nodes u.name u.preds t next u.stage (terminal_of t.word) (said t.word) read.good (sym (steps u t (terminal_of t.word) refl) ∙ e) in
-    record { good = one.good; signs = subst (λ (l : List Sign). AreSigns l (front ++ t ∷ [])) (sym one.grows)
-        (signs_push (history_of u) front one.sign t read.signs one.is) }
+    record {
+      good = one.good;
+      signs = subst (λ (l : List Sign). AreSigns l (front ++ t ∷ [])) (sym one.grows)
+          (signs_push (history_of u) front one.sign t read.signs one.is);
+    }
 
 -- ---- the end
 
@@ -454,8 +461,12 @@ unfolding node_with
 ends_with nodes nm preds kids signs all are preds_are is e =
     let same = ok_same (nodes ++ node_with nm preds kids ∷ []) all e in
     subst (λ (l : List WrittenNode). Ends (plan_signs nodes ++ signs) l) same
-    (record { some = node_some nodes (node_with nm preds kids); are = nodes_more nodes (node_with nm preds kids) are preds_are; is = node_ends nodes nm preds
-        kids signs is })
+    (record {
+      some = node_some nodes (node_with nm preds kids);
+      are = nodes_more nodes (node_with nm preds kids) are preds_are;
+      is = node_ends nodes nm preds
+          kids signs is;
+    })
 
 -- behind a whole predicate
 preds_end : (nm : WrittenSpan) (preds : List WrittenPred) → behind_preds nm preds ≡ head nm ++ (all_preds preds ++ kids_signs None)
@@ -474,15 +485,15 @@ stage_ends end nodes nm preds stage.Colon all good e =
     ends_with nodes nm preds None (head nm) all good.nodes_are good.preds_are (sym (ap (λ p. head nm ++ (all_preds p ++ [])) good.holds)) e
 stage_ends end nodes nm preds (stage.Kind kind) all good e =
     ends_with nodes nm (preds ++ pred (Some kind) keys.Alone None ∷ []) None (before_pred nm preds ++ name kind) all good.nodes_are
-        (preds_more preds (pred (Some kind) keys.Alone None) good.preds_are tt) (closed_end nm kind preds keys.Alone) e
+    (preds_more preds (pred (Some kind) keys.Alone None) good.preds_are tt) (closed_end nm kind preds keys.Alone) e
 stage_ends end nodes nm preds (stage.Close kind ks) all good e =
     ends_with nodes nm (preds ++ pred (Some kind) ks None ∷ []) None (before_pred nm preds ++ (name kind ++ keys_signs ks)) all good.nodes_are
-        (preds_more preds (pred (Some kind) ks None) good.preds_are tt) (closed_end nm kind preds ks) e
+    (preds_more preds (pred (Some kind) ks None) good.preds_are tt) (closed_end nm kind preds ks) e
 stage_ends end nodes nm preds stage.Source all good e =
     ends_with nodes nm preds None (behind_preds nm preds) all good.nodes_are good.preds_are (preds_end nm preds) e
 stage_ends end nodes nm preds (stage.Right left right) all good e =
     ends_with nodes nm preds (Some (left, right)) (open_signs nm preds (stage.Right left right)) all good.nodes_are good.preds_are
-        (append_assoc (head nm) (all_preds preds) (kids_signs (Some (left, right)))) e
+    (append_assoc (head nm) (all_preds preds) (kids_signs (Some (left, right)))) e
 stage_ends end nodes nm preds _ all good e = absurd cc
 
 pub read_end : (end : ℕ) (u : Turn) (front : List Token) (all : List WrittenNode) → Read u front → ended end u ≡ Ok all → ArePlan front all
@@ -501,4 +512,4 @@ found_spelled end u front (t ∷ tokens) all read e =
     let first = bind_ok (step u t) (λ v. each step v tokens) last.0 last.1 in
     let rest : run end first.0 tokens ≡ Ok all = ap (λ r. r >>= ended end) first.2 ∙ last.2 in
     subst (λ (l : List Token). ArePlan l all) (append_assoc front (t ∷ []) tokens)
-        (found_spelled end first.0 (front ++ t ∷ []) tokens all (read_more u first.0 front t read first.1) rest)
+    (found_spelled end first.0 (front ++ t ∷ []) tokens all (read_more u first.0 front t read first.1) rest)

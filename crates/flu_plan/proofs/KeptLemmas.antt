@@ -1,5 +1,5 @@
 -- What is read as a plan keeps the rules of plans.
-use Rattle.std.proofs.Common.{◌≡◌, ℕ, zero, suc, ◌+◌, ◌<◌, ◌≤◌, Bool, true, List, [], ◌∷◌, ◌++◌, map, length, take, get_or, Option, Some, None, Ok, Err, refl, sym, ap, subst, ◌∙◌, arith}
+use Rattle.std.proofs.Common.{◌≡◌, ℕ, zero, suc, ◌+◌, ◌<◌, ◌≤◌, Bool, true, List, [], ◌∷◌, ◌++◌, map, length, take, get_or, Option, Some, None, Ok, refl, sym, ap, subst, ◌∙◌, arith}
 use Rattle.std.specs.Prelude.{nat_le, nat_lt, slice_get, sum_by}
 use Rattle.std.specs.List.{list_all, flat_map}
 use Rattle.std.proofs.lemmas.List.{append-nil, length-map, length-append, length_push, take_all}
@@ -25,7 +25,7 @@ use Rattle.flu_plan.specs.declared.written.WrittenNode.{WrittenNode}
 use Rattle.flu_plan.specs.declared.drafts.DraftPred.{DraftPred}
 use Rattle.flu_plan.specs.declared.drafts.DraftNode.{DraftNode}
 use Rattle.flu_plan.specs.declared.drafts.Visit.{Visit}
-use Rattle.flu_plan.specs.Faults.{Found, ◌>>=◌, ◌>>◌, unless, each}
+use Rattle.flu_plan.specs.Faults.{◌>>=◌, ◌>>◌, unless, each}
 use Rattle.flu_layout.specs.Spelling.{name_of, written_value}
 use Rattle.flu_plan.specs.Shape.{name_at, name_of_node, visit, preorder, children_of, all_below}
 use Rattle.flu_plan.specs.Limits.{small_key, small_keys, keys_of_pred, keys_of_node, keys_of_nodes, predicates, within_limits}
@@ -54,7 +54,7 @@ small_planned (keys.One n) e = key_small (nat_lt (written_value n.value) key_cou
 small_planned (keys.Range low high) e =
     let two = passed (nat_lt (written_value low.value) key_count) (f.OverLimit Key (written_value low.value)) (small_key high) e in
     both (nat_lt (written_value low.value) key_count) (nat_lt (written_value high.value) key_count) two.0
-        (key_small (nat_lt (written_value high.value) key_count) (written_value high.value) two.1)
+    (key_small (nat_lt (written_value high.value) key_count) (written_value high.value) two.1)
 
 preds_small : (preds : List DraftPred) → each keys_of_pred tt preds ≡ Ok tt → list_all (λ (q : Pred). are_small_keys q.keys) (map planned_pred preds) ≡ true
 unfolding each
@@ -62,7 +62,7 @@ preds_small [] e = refl
 preds_small (q ∷ preds) e =
     let first = both_pass (small_keys q.keys) (λ t. each keys_of_pred t preds) e in
     both (are_small_keys (planned_keys q.keys)) (list_all (λ (q : Pred). are_small_keys q.keys) (map planned_pred preds)) (small_planned q.keys first.0)
-        (preds_small preds first.1)
+    (preds_small preds first.1)
 
 abbrev node_small : Node → Bool
 node_small node = list_all (λ (q : Pred). are_small_keys q.keys) node.preds
@@ -72,7 +72,7 @@ found_small : (text : List ℕ) (o : List Visit) (nodes : List DraftNode) (v : �
 found_small text o nodes v None here e = refl
 found_small text o nodes v (Some node) here e =
     both (list_all (λ (q : Pred). are_small_keys q.keys) (map planned_pred node.preds)) true
-        (preds_small node.preds (each-got keys_of_node nodes v node e here)) refl
+    (preds_small node.preds (each-got keys_of_node nodes v node e here)) refl
 
 plan_small : (text : List ℕ) (o : List Visit) (nodes : List DraftNode) (order : List Visit) → keys_of_nodes nodes ≡ Ok tt
     → list_all node_small (flat_map (planned_at text o nodes) order) ≡ true
@@ -80,7 +80,7 @@ plan_small text o nodes [] e = refl
 plan_small text o nodes (x ∷ order) e =
     list_all-append node_small (planned_at text o nodes x) (flat_map (planned_at text o nodes) order)
     ∙ both (list_all node_small (planned_at text o nodes x)) (list_all node_small (flat_map (planned_at text o nodes) order))
-        (found_small text o nodes x.node (slice_get nodes x.node) refl e) (plan_small text o nodes order e)
+    (found_small text o nodes x.node (slice_get nodes x.node) refl e) (plan_small text o nodes order e)
 
 -- ---- predicates
 
@@ -151,10 +151,10 @@ names_apart text [] u v d a b e = absurd (omega arith)
 names_apart text (n ∷ nodes) zero zero d a b e = refl
 names_apart text (n ∷ nodes) zero (suc v) d a b e =
     absurd (distinct_head (name_drafted text n) (map (name_drafted text) nodes) d
-        (subst (λ (l : List ℕ). In l (map (name_drafted text) nodes)) (sym e) (named text nodes v (omega arith))))
+    (subst (λ (l : List ℕ). In l (map (name_drafted text) nodes)) (sym e) (named text nodes v (omega arith))))
 names_apart text (n ∷ nodes) (suc u) zero d a b e =
     absurd (distinct_head (name_drafted text n) (map (name_drafted text) nodes) d
-        (subst (λ (l : List ℕ). In l (map (name_drafted text) nodes)) e (named text nodes u (omega arith))))
+    (subst (λ (l : List ℕ). In l (map (name_drafted text) nodes)) e (named text nodes u (omega arith))))
 names_apart text (n ∷ nodes) (suc u) (suc v) d a b e =
     ap (λ (m : ℕ). suc m) (names_apart text nodes u v (distinct_tail (name_drafted text n) (map (name_drafted text) nodes) d) (omega arith) (omega arith) e)
 
@@ -193,11 +193,11 @@ kept text nodes plan known some e =
     let rules : KeepsRules (planned text o nodes) = record {
       one_tree =
           ap (λ r. are_subtrees 0 (r ∷ []) (planned text o nodes)) (sym (root_first nodes some))
-              ∙ subtrees text nodes known differ o (length nodes) [] (visit 0 0 ∷ []) d (omega arith) first refl;
+          ∙ subtrees text nodes known differ o (length nodes) [] (visit 0 0 ∷ []) d (omega arith) first refl;
       own_names =
           ap (are_distinct is_same_text) (found_names text o nodes o low)
           ∙ are_distinct-from is_same_text bytes_is (map (name_at text nodes) (ids o))
-              (distinct_map (name_at text nodes) (ids o) (λ u v a b same. names_apart text nodes u v known.own_names (low u a) (low v b) same) d);
+          (distinct_map (name_at text nodes) (ids o) (λ u v a b same. names_apart text nodes u v known.own_names (low u a) (low v b) same) d);
       few_nodes = omega (arith, limits.few_nodes);
       few_predicates = (let sum = few_planned text o nodes o d low in let most = limits.few_predicates in omega arith);
       shallow = ap (list_all (λ d. nat_le d 6)) depth ∙ list_all-map (λ d. nat_le d 6) (λ (y : Visit). y.depth) o ∙ limits.shallow;
@@ -248,7 +248,7 @@ pub plan_kept : (p : Program) (bytes : List ℕ) (plan : List Node) → plan_in 
 unfolding plan_in
 plan_kept p bytes plan e =
     let one = then_ok (unless (nat_le (length bytes) 1048576) (f.OverLimit Bytes 1048577))
-        (text_in bytes >>= λ text. tokens_in text >>= λ ts. written_in (length text) ts >>= λ written. resolved p text written) plan e in
+    (text_in bytes >>= λ text. tokens_in text >>= λ ts. written_in (length text) ts >>= λ written. resolved p text written) plan e in
     let text = bind_ok (text_in bytes) (λ text. tokens_in text >>= λ ts. written_in (length text) ts >>= λ written. resolved p text written) plan one.2 in
     let ts = bind_ok (tokens_in text.0) (λ ts. written_in (length text.0) ts >>= λ written. resolved p text.0 written) plan text.2 in
     let written = bind_ok (written_in (length text.0) ts.0) (λ written. resolved p text.0 written) plan ts.2 in

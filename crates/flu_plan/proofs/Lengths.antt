@@ -1,5 +1,5 @@
 -- The text of a plan that keeps the rules is ASCII, and short enough to be read.
-use Rattle.std.proofs.Common.{◌≡◌, ◌<◌, ◌≤◌, ◌+◌, ◌*◌, ℕ, zero, suc, Bool, true, Option, Some, None, List, [], ◌∷◌, ◌++◌, length, refl, arith, length-append, Ok}
+use Rattle.std.proofs.Common.{◌≡◌, ◌<◌, ◌≤◌, ◌+◌, ◌*◌, ℕ, zero, suc, Bool, true, Option, Some, None, List, [], ◌∷◌, ◌++◌, length, refl, arith, length-append}
 use Rattle.std.specs.Prelude.{nat_lt, nat_le, slice_get, codes}
 use Rattle.std.specs.Fmt.{decimal}
 use Rattle.std.specs.List.{list_all, flat_map}
@@ -7,9 +7,9 @@ use Rattle.std.specs.Str.{IsAscii}
 use Rattle.std.proofs.lemmas.Fmt.{IsAscii-decimal, length-decimal-le}
 use Rattle.std.proofs.lemmas.Grind.{common_steps}
 use Rattle.std.proofs.lemmas.List.Sums.{sum_by-cons}
-use Rattle.std.proofs.lemmas.Str.{IsAscii-append, IsUtf8-from_ascii}
+use Rattle.std.proofs.lemmas.Str.{IsAscii-append}
 use Rattle.std.proofs.lemmas.Str.Ascii.{IsAscii-nil, IsAscii-cons}
-use Rattle.flu_lemmas.proofs.Tests.{and_left, and_right, both, true_lt, true_le}
+use Rattle.flu_lemmas.proofs.Tests.{and_left, and_right, true_lt, true_le}
 use Rattle.flu_model.specs.declared.jobs.Keys.{Keys}
 use Rattle.flu_model.specs.declared.jobs.Keys.TheVariants.{Alone, One, Range}
 use Rattle.flu_model.specs.declared.jobs.Program.{Program}
@@ -73,7 +73,7 @@ at_place test P nothing some (x ∷ xs) e (suc k) = at_place test P nothing some
 kind_name : (p : Program) (k : ℕ) → IsShort 32 (name_of_kind (slice_get p.kinds k))
 kind_name p k =
     at_place (kind_fits p.families) (λ o. IsShort 32 (name_of_kind o)) (none 32) (λ kind e. name kind.name (and_left _ _ (and_left _ _ e))) p.kinds
-        p.kinds_fit k
+    p.kinds_fit k
 
 source_name : (p : Program) (k : ℕ) → IsShort 32 (name_of_source (slice_get p.sources k))
 source_name p k =
@@ -125,9 +125,9 @@ preds : (p : Program) (qs : List Pred) → list_all has_small_keys qs ≡ true �
 preds p [] e = none _
 preds p (q ∷ qs) e =
     joined 1 (79 + 81 * length qs) (81 * length (q ∷ qs)) (codes " ") (pred_text p q ++ flat_map (λ q. codes ", " ++ pred_text p q) qs) (omega arith)
-        (word 1 (codes " ") refl (omega arith))
+    (word 1 (codes " ") refl (omega arith))
     (joined 79 (81 * length qs) (79 + 81 * length qs) (pred_text p q) (flat_map (λ q. codes ", " ++ pred_text p q) qs) (omega arith)
-        (pred p q (and_left (has_small_keys q) _ e)) (others p qs (and_right (has_small_keys q) _ e)))
+    (pred p q (and_left (has_small_keys q) _ e)) (others p qs (and_right (has_small_keys q) _ e)))
 
 -- ---- nodes
 abbrev is_named : Node → Bool
@@ -169,14 +169,14 @@ module _ (p : Program) (nodes : List Node) (named : list_all is_named nodes ≡ 
   lines (node ∷ some) e f =
       let count = sum_by-cons (λ (node : Node). length node.preds) node some in
       joined (108 + 81 * length node.preds) (108 * length some + 81 * count_of_predicates some)
-          (108 * length (node ∷ some) + 81 * count_of_predicates (node ∷ some)) (node_line p nodes node) (flat_map (node_line p nodes) some)
-              (omega (arith, count))
+      (108 * length (node ∷ some) + 81 * count_of_predicates (node ∷ some)) (node_line p nodes node) (flat_map (node_line p nodes) some)
+      (omega (arith, count))
       (line node (and_left (is_named node) _ e) (and_left (is_keyed_small node) _ f))
-          (lines some (and_right (is_named node) _ e) (and_right (is_keyed_small node) _ f))
+      (lines some (and_right (is_named node) _ e) (and_right (is_keyed_small node) _ f))
 
 pub kept_is_short : (p : Program) (nodes : List Node) → KeepsRules nodes → list_all is_named nodes ≡ true → IsShort 1048576 (printed p nodes)
 kept_is_short p nodes kept named =
     let few = kept.few_nodes in
     let count = kept.few_predicates in
     more (108 * length nodes + 81 * count_of_predicates nodes) 1048576 (printed p nodes) (omega (arith, few, count))
-        (lines p nodes named nodes named kept.small_keys)
+    (lines p nodes named nodes named kept.small_keys)

@@ -1,13 +1,13 @@
 -- What is within the limits.
-use Rattle.std.proofs.Common.{◌≡◌, ℕ, zero, suc, ◌<◌, ◌≤◌, Bool, true, false, List, [], ◌∷◌, length, get_or, Some, Ok, Err, refl, sym, ap, ◌∙◌, arith}
-use Rattle.std.specs.Prelude.{nat_le, slice_get}
+use Rattle.std.proofs.Common.{◌≡◌, ◌≤◌, Bool, true, false, List, length, Ok, refl}
+use Rattle.std.specs.Prelude.{nat_le}
 use Rattle.flu_lemmas.proofs.Tests.{true_le}
 use Rattle.flu_model.specs.declared.limits.What.TheVariants.{Nodes, Predicates, Depth}
 use Rattle.flu_plan.specs.declared.fault.PlanFault.{PlanFault}
 use Rattle.flu_plan.specs.declared.fault.PlanFault.TheVariants as f
 use Rattle.flu_plan.specs.declared.drafts.DraftNode.{DraftNode}
 use Rattle.flu_plan.specs.declared.drafts.Visit.{Visit}
-use Rattle.flu_plan.specs.Faults.{Found, ◌>>=◌, ◌>>◌, unless, each}
+use Rattle.flu_plan.specs.Faults.{Found, ◌>>◌, unless}
 use Rattle.flu_plan.specs.Limits.{keys_of_nodes, predicates, are_shallow, within_limits}
 
 -- a look that passes, and what follows it

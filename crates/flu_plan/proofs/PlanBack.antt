@@ -45,7 +45,7 @@ grows_more : (w : ℕ) (wanted : List ℕ) (kids : Option (ℕ × ℕ)) (n : Nod
 grows_more w wanted None n rest e g =
     let same : wanted ++ all_kids (n ∷ rest) ≡ wanted ++ all_kids rest = ap (λ k. wanted ++ (kid_list k ++ all_kids rest)) e in
     subst (λ (l : List ℕ). Distinct (w ∷ l) × ((v : ℕ) → In v (w ∷ l) → w ≤ v) × ((v : ℕ) → In v (w ∷ l) → v < w + length (n ∷ rest)) → Grows w (w ∷ wanted)
-        (n ∷ rest)) same
+    (n ∷ rest)) same
     (λ h. record { distinct = h.0; low = h.1; high = h.2 }) (
       distinct_cons w (wanted ++ all_kids rest) (λ i. (let le = g.low w i in absurd (omega arith))) g.distinct,
       λ v i. elim (in_cases v w (wanted ++ all_kids rest) i) [ inl same ↦ (omega arith) | inr b ↦ (let le = g.low v b in omega arith) ],
@@ -60,19 +60,23 @@ grows_more w wanted (Some kids) n rest e g =
     let new_right = distinct_head r (wanted ++ others) tail in
     let one = distinct_middle r wanted others (distinct_tail r (wanted ++ others) tail) new_right in
     let two : Distinct (wanted ++ l ∷ r ∷ others) = distinct_middle l wanted (r ∷ others) one
-        (λ h. elim (in_middle l r wanted others h)
-            [ inl same ↦ new_left (subst (λ (z : ℕ). In z (r ∷ (wanted ++ others))) (sym same) (in_head r (wanted ++ others))) | inr b ↦ new_left
-                (in_tail l r (wanted ++ others) b) ]) in
+    (λ h. elim (in_middle l r wanted others h) [
+      | inl same ↦ new_left (subst (λ (z : ℕ). In z (r ∷ (wanted ++ others))) (sym same) (in_head r (wanted ++ others)))
+      | inr b ↦ new_left
+          (in_tail l r (wanted ++ others) b)
+    ]) in
     let back : (v : ℕ) → In v (wanted ++ l ∷ r ∷ others) → In v (l ∷ r ∷ (wanted ++ others)) = λ v i. elim (in_middle v l wanted (r ∷ others) i) [
       | inl same ↦ subst (λ (z : ℕ). In z (l ∷ r ∷ (wanted ++ others))) (sym same) (in_head l (r ∷ (wanted ++ others)))
       | inr b ↦ in_tail v l (r ∷ (wanted ++ others))
-          (elim (in_middle v r wanted others b)
-              [ inl same ↦ subst (λ (z : ℕ). In z (r ∷ (wanted ++ others))) (sym same) (in_head r (wanted ++ others)) | inr d ↦ in_tail v r
-                  (wanted ++ others) d ])
+          (elim (in_middle v r wanted others b) [
+            | inl same ↦ subst (λ (z : ℕ). In z (r ∷ (wanted ++ others))) (sym same) (in_head r (wanted ++ others))
+            | inr d ↦ in_tail v r
+                (wanted ++ others) d
+          ])
     ] in
     let same : wanted ++ all_kids (n ∷ rest) ≡ wanted ++ (l ∷ r ∷ others) = ap (λ k. wanted ++ (kid_list k ++ others)) e in
     subst (λ (x : List ℕ). Distinct (w ∷ x) × ((v : ℕ) → In v (w ∷ x) → w ≤ v) × ((v : ℕ) → In v (w ∷ x) → v < w + length (n ∷ rest)) → Grows w (w ∷ wanted)
-        (n ∷ rest)) same
+    (n ∷ rest)) same
     (λ h. record { distinct = h.0; low = h.1; high = h.2 }) (
       distinct_cons w (wanted ++ l ∷ r ∷ others) (λ i. (let le = g.low w (back w i) in absurd (omega arith))) two,
       λ v i. elim (in_cases v w (wanted ++ l ∷ r ∷ others) i) [ inl same ↦ (omega arith) | inr b ↦ (let le = g.low v (back v b) in omega arith) ],
@@ -123,11 +127,11 @@ walk_numbers drafts (n ∷ rest) w (x ∷ wanted) same e =
     let kids : kids_at drafts x.node ≡ n.kids = ap (kids_at drafts) (here ∙ at) ∙ same 0 in
     let next = with_visits x.depth n.kids wanted in
     let later : (j : ℕ) → kids_at drafts (w + 1 + j) ≡ kids_of_found (slice_get rest j) = λ j.
-        (let moved : w + 1 + j ≡ w + suc j = omega arith in ap (kids_at drafts) moved ∙ same (suc j)) in
+    (let moved : w + 1 + j ≡ w + suc j = omega arith in ap (kids_at drafts) moved ∙ same (suc j)) in
     walk-one drafts (suc (length rest)) (length rest) wanted x refl
     ∙ ap (λ k. x ∷ walk drafts (length rest) (with_visits x.depth k wanted)) kids
     ∙ ap (λ l. x ∷ l) (walk_numbers drafts rest (w + 1) next later (ap (λ l. are_subtrees (w + 1) l rest) (visits_kids x.depth n.kids wanted)
-        ∙ and_right (x.node == w) more e))
+    ∙ and_right (x.node == w) more e))
     ∙ ap (λ l. x ∷ numbered (w + 1) (depths_below l rest)) (visits_depths x.depth n.kids wanted)
     ∙ ap (λ (v : ℕ). visit v x.depth ∷ numbered (w + 1) (depths_below (with_depths x.depth n.kids (depths_of wanted)) rest)) here
 
@@ -140,7 +144,7 @@ depths_count w (v ∷ wanted) [] rest e same = absurd (omega arith)
 depths_count w (v ∷ wanted) (d ∷ ds) [] e same = absurd cc
 depths_count w (v ∷ wanted) (d ∷ ds) (n ∷ rest) e same =
     let more = depths_count (w + 1) (with_kids n.kids wanted) (with_depths d n.kids ds) rest
-        (and_right (v == w) (are_subtrees (w + 1) (with_kids n.kids wanted) rest) e) (alike n.kids) in
+    (and_right (v == w) (are_subtrees (w + 1) (with_kids n.kids wanted) rest) e) (alike n.kids) in
     omega arith
   where
     alike : (kids : Option (ℕ × ℕ)) → length (with_depths d kids ds) ≡ length (with_kids kids wanted)
@@ -279,7 +283,7 @@ module _ (text : List ℕ) where
   kids_planned ds None low = refl
   kids_planned ds (Some kids) low =
       let own : (v : ℕ) → v < length ds → number_of (numbered 0 ds) v ≡ v = λ v lt. (let at : v ≡ 0 + v = omega arith in ap (number_of (numbered 0 ds)) at
-          ∙ number_numbered ds 0 v lt) in
+      ∙ number_numbered ds 0 v lt) in
       let left = own kids.0 (low kids.0 (in_head kids.0 (kids.1 ∷ []))) in
       let right = own kids.1 (low kids.1 (in_tail kids.1 kids.0 (kids.1 ∷ []) (in_head kids.1 []))) in
       ap (λ (v : ℕ). Some (v, number_of (numbered 0 ds) kids.1)) left ∙ ap (λ (v : ℕ). Some (kids.0, v)) right
@@ -303,8 +307,8 @@ module _ (text : List ℕ) where
       let here : slice_get drafts w ≡ Some first.draft = ap (slice_get drafts) start ∙ first.here in
       let tail = flat_map (planned_at text (numbered 0 all) drafts) (numbered (w + 1) ds) in
       let more = rest_planned drafts ds all (w + 1) rest (omega arith)
-          (λ j m e. subst (λ (i : ℕ). DraftAt drafts m i) (let moved : w + suc j ≡ w + 1 + j = omega arith in moved) (at (suc j) m e))
-              (λ v h. low v (in_right v (kid_list n.kids) (all_kids rest) h)) in
+      (λ j m e. subst (λ (i : ℕ). DraftAt drafts m i) (let moved : w + suc j ≡ w + 1 + j = omega arith in moved) (at (suc j) m e))
+      (λ v h. low v (in_right v (kid_list n.kids) (all_kids rest) h)) in
       ap (λ o. planned_found text (numbered 0 all) o ++ tail) here
       ∙ ap (λ x. x ∷ tail) (node_planned all n first.draft first.is (λ v h. low v (in_left v (kid_list n.kids) (all_kids rest) h)))
       ∙ ap (λ l. n ∷ l) more
@@ -319,26 +323,26 @@ module _ (text : List ℕ) where
       let deep : length ds ≡ length nodes = depths_count 0 (0 ∷ []) (0 ∷ []) nodes kept.one_tree refl in
       let g = grows 0 (0 ∷ []) nodes kept.one_tree in
       let kids : (j : ℕ) → kids_at drafts (0 + j) ≡ kids_of_found (slice_get nodes j) = λ j. (let at : 0 + j ≡ j = omega arith in ap (kids_at drafts) at
-          ∙ drafts_kids nodes drafts are j) in
+      ∙ drafts_kids nodes drafts are j) in
       let walked : preorder drafts ≡ order = ap (λ n. walk drafts n (visit 0 0 ∷ [])) count ∙ walk_numbers drafts nodes 0 (visit 0 0 ∷ []) kids kept.one_tree in
       let apart : Distinct (0 ∷ children drafts) = subst (λ (l : List ℕ). Distinct (0 ∷ l)) (sym (drafts_children nodes drafts are)) g.distinct in
       let noted = children_noted text drafts (0 ∷ []) drafts apart in
       let met = below_all text order 0 drafts (λ j lt. met_numbered ds 0 j (omega arith)) in
       let few_nodes : nat_le (length drafts) 127 ≡ true = le_true (length drafts) 127 (omega (arith, kept.few_nodes)) in
       let few_predicates : nat_le (predicates drafts) 4096 ≡ true = le_true (predicates drafts) 4096
-          (omega (arith, kept.few_predicates, drafts_predicates nodes drafts are)) in
+      (omega (arith, kept.few_predicates, drafts_predicates nodes drafts are)) in
       let shallow : are_shallow order ≡ true = shallow_numbered 0 ds ∙ kept.shallow in
       let low : (v : ℕ) → In v (all_kids nodes) → v < length ds = λ v h. (let high = g.high v (in_tail v 0 (all_kids nodes) h) in omega arith) in
       let nodes_back = rest_planned drafts ds ds 0 nodes deep
-          (λ j n e. subst (λ (i : ℕ). DraftAt drafts n i) (let at : j ≡ 0 + j = omega arith in at) (draft_at nodes drafts j n are e)) low in
+      (λ j n e. subst (λ (i : ℕ). DraftAt drafts n i) (let at : j ≡ 0 + j = omega arith in at) (draft_at nodes drafts j n are e)) low in
       ap (λ x. x >> (all_below text (preorder drafts) drafts >> (within_limits (preorder drafts) drafts >> Ok (planned text (preorder drafts) drafts)))) noted
       ∙ ap (λ o. all_below text o drafts >> (within_limits o drafts >> Ok (planned text o drafts))) walked
       ∙ ap (λ x. x >> (within_limits order drafts >> Ok (planned text order drafts))) met
       ∙ ap (λ b. (unless b (f.OverLimit Nodes 128) >>
-          (unless (nat_le (predicates drafts) 4096) (f.OverLimit Predicates 4097) >>
-              (unless (are_shallow order) (f.OverLimit Depth 7) >> keys_of_nodes drafts))) >> Ok (planned text order drafts)) few_nodes
+      (unless (nat_le (predicates drafts) 4096) (f.OverLimit Predicates 4097) >>
+      (unless (are_shallow order) (f.OverLimit Depth 7) >> keys_of_nodes drafts))) >> Ok (planned text order drafts)) few_nodes
       ∙ ap (λ b. (unless b (f.OverLimit Predicates 4097) >> (unless (are_shallow order) (f.OverLimit Depth 7) >> keys_of_nodes drafts)) >> Ok
-          (planned text order drafts)) few_predicates
+      (planned text order drafts)) few_predicates
       ∙ ap (λ b. (unless b (f.OverLimit Depth 7) >> keys_of_nodes drafts) >> Ok (planned text order drafts)) shallow
       ∙ ap (λ x. x >> Ok (planned text order drafts)) (drafts_keys nodes drafts are)
       ∙ ap Ok nodes_back

@@ -106,8 +106,12 @@ module _ (whole : List ℕ) (p : Program) (differ : NamesDiffer p) where
   read_keys plain.Alone behind rest ts small h = record { written = keys.Alone; took = took_none IsSign (Stand whole) rest ts h; is = refl; small = refl }
   read_keys (plain.One k) behind rest ts small h = record {
     written = keys.One (record { value = pos k; at = h.4.0.from });
-    took = record { rest = h.4.4.1; begins =
-        (h.0, h.1, h.2, h.3.word, (h.4.0, h.4.1, h.4.2, (h.4.3.word, refl), (h.4.4.0, h.4.4.1, h.4.4.2, h.4.4.3.word, refl))); stand = h.4.4.4 };
+    took = record {
+      rest = h.4.4.1;
+      begins =
+          (h.0, h.1, h.2, h.3.word, (h.4.0, h.4.1, h.4.2, (h.4.3.word, refl), (h.4.4.0, h.4.4.1, h.4.4.2, h.4.4.3.word, refl)));
+      stand = h.4.4.4;
+    };
     is = refl;
     small = key_small k h.4.0.from small;
   }
@@ -120,16 +124,25 @@ module _ (whole : List ℕ) (p : Program) (differ : NamesDiffer p) where
         written = keys.Range (record { value = pos low; at = a.0.from }) (record { value = pos high; at = b.0.from });
         took = record {
           rest = close.1;
-          begins =
-              (h.0, h.1, h.2, h.3.word,
-                  (a.0, a.1, a.2, (a.3.word, refl),
-                      (dots.0, dots.1, dots.2, dots.3.word, (b.0, b.1, b.2, (b.3.word, refl), (close.0, close.1, close.2, close.3.word, refl)))));
+          begins = (
+            h.0,
+            h.1,
+            h.2,
+            h.3.word,
+            (
+              a.0,
+              a.1,
+              a.2,
+              (a.3.word, refl),
+              (dots.0, dots.1, dots.2, dots.3.word, (b.0, b.1, b.2, (b.3.word, refl), (close.0, close.1, close.2, close.3.word, refl))),
+            ),
+          );
           stand = close.4;
         };
         is = refl;
         small =
             ap (λ x. unless x (f.OverLimit Key low) >> unless (nat_lt high key_count) (f.OverLimit Key high))
-                (and_left (nat_lt low key_count) (nat_lt high key_count) small)
+            (and_left (nat_lt low key_count) (nat_lt high key_count) small)
             ∙ ap (λ x. unless x (f.OverLimit Key high)) (and_right (nat_lt low key_count) (nat_lt high key_count) small);
       }
 
@@ -238,7 +251,7 @@ module _ (whole : List ℕ) (p : Program) (differ : NamesDiffer p) where
       → ItemIs IsSign (Stand whole) pred_signs PredIs q rest ts
   read_pred q behind rest ts ok h =
       read_words q.kind q.keys q.source behind rest ts (and_left (pred_fits p q) (are_small_keys q.keys) ok)
-          (and_right (pred_fits p q) (are_small_keys q.keys) ok) h
+      (and_right (pred_fits p q) (are_small_keys q.keys) ok) h
 
   -- ---- nodes
 
@@ -253,7 +266,7 @@ module _ (whole : List ℕ) (p : Program) (differ : NamesDiffer p) where
   read_preds [] behind rest ts ok h = record { written = []; took = record { rest = h.1; begins = (h.0, h.1, h.2, h.3.word, refl); stand = h.4 }; are = tt }
   read_preds (q ∷ preds) behind rest ts ok h =
       let items = read_items IsSign (Stand whole) (pred_words p) [] (between m.Comma) pred_signs PredIs (pred_ok p) (Any (w.Mark m.Comma)) read_pred
-          (λ r ts h. (h.0, h.1, h.2, h.3.word, h.4)) q preds behind rest h.1 ok h.4 in
+      (λ r ts h. (h.0, h.1, h.2, h.3.word, h.4)) q preds behind rest h.1 ok h.4 in
       record {
         written = items.first ∷ items.others;
         took = record { rest = items.took.rest; begins = (h.0, h.1, h.2, h.3.word, items.took.begins); stand = items.took.stand };
@@ -285,8 +298,12 @@ module _ (whole : List ℕ) (p : Program) (differ : NamesDiffer p) where
         let b = a.4 in
         record {
           written = Some (span_of a.0, span_of b.0);
-          took = record { rest = b.1; begins =
-              (h.0, h.1, h.2, h.3.word, (a.0, a.1, a.2, (a.3.word, refl, refl), (b.0, b.1, b.2, (b.3.word, refl, refl), refl))); stand = b.4 };
+          took = record {
+            rest = b.1;
+            begins =
+                (h.0, h.1, h.2, h.3.word, (a.0, a.1, a.2, (a.3.word, refl, refl), (b.0, b.1, b.2, (b.3.word, refl, refl), refl)));
+            stand = b.4;
+          };
           are = (a.3.named refl, b.3.named refl);
         }
 
@@ -304,9 +321,9 @@ module _ (whole : List ℕ) (p : Program) (differ : NamesDiffer p) where
         let named = a.3.named refl in
         let preds = read_preds n.preds _ (kids_words all n.kids rest) a.1 (and_right (is_name n.name) (list_all (pred_ok p) n.preds) first) a.4 in
         let kids = read_kids n.kids rest preds.took.rest (and_right (is_name n.name && list_all (pred_ok p) n.preds) (kids_ok all n.kids) ok)
-            preds.took.stand in
+        preds.took.stand in
         let both = took_more IsSign (Stand whole) (Any (w.Mark m.Colon) ∷ separated (w.Mark m.Comma) pred_signs preds.written) (kids_signs kids.written)
-            (kids_words all n.kids rest) rest a.1 preds.took kids.took in
+        (kids_words all n.kids rest) rest a.1 preds.took kids.took in
         record {
           written = record { name = span_of a.0; preds = preds.written; kids = kids.written };
           took = record { rest = both.rest; begins = (h.0, h.1, h.2, h.3.word, (a.0, a.1, a.2, (a.3.word, refl, refl), both.begins)); stand = both.stand };
@@ -329,7 +346,7 @@ module _ (whole : List ℕ) (p : Program) (differ : NamesDiffer p) where
           written = one.written ∷ more.written;
           took =
               took_more IsSign (Stand whole) (node_signs one.written) (plan_signs more.written) (lines_before (node_words p all) nodes []) [] ts one.took
-                  more.took;
+              more.took;
           are = (one.is, more.are);
         }
 
@@ -417,7 +434,7 @@ module _ (whole : List ℕ) (p : Program) (differ : NamesDiffer p) where
           let left = name_of_child (slice_get all kids.0) in
           let right = name_of_child (slice_get all kids.1) in
           ap (λ r. r >>= λ a. kid_of whole all_names spans.1 >>= λ b. Ok (Some (a, b)))
-              (kid_found kids.0 spans.0 (and_left (is_name left) (is_name right) ok) h.0)
+          (kid_found kids.0 spans.0 (and_left (is_name left) (is_name right) ok) h.0)
           ∙ ap (λ r. r >>= λ b. Ok (Some (kids.0, b))) (kid_found kids.1 spans.1 (and_right (is_name left) (is_name right) ok) h.1)
 
       pub record NodesFound (nodes : List Node) (vs : List WrittenNode) : Type 0 where
@@ -430,7 +447,7 @@ module _ (whole : List ℕ) (p : Program) (differ : NamesDiffer p) where
       unfolding node_of
       node_found v preds kids found kid =
           ap (λ r. r >>= λ q. kids_of whole all_names v.kids >>= λ k. Ok (let d : DraftNode = record { name = v.name; preds = q; kids = k } in d))
-              (collects_all (pred_of p whole) [] v.preds preds found)
+          (collects_all (pred_of p whole) [] v.preds preds found)
           ∙ ap (λ r. r >>= λ k. Ok (let d : DraftNode = record { name = v.name; preds = preds; kids = k } in d)) kid
 
       pub nodes_found : (nodes : List Node) (vs : List WrittenNode) → list_all (node_ok p all) nodes ≡ true → Zip NodeIs nodes vs → NodesFound nodes vs

@@ -1,6 +1,6 @@
 -- The words of the text of a plan, each with the blanks behind it: they are laid out as that text, and each is spelled as a word.
-use Rattle.std.proofs.Common.{◌≡◌, ℕ, pos, Bool, true, false, ◌&&◌, List, [], ◌∷◌, ◌++◌, Option, Some, None, refl, ap, ◌∙◌, append_assoc}
-use Rattle.std.specs.Prelude.{nat_lt, is_some, slice_get, codes}
+use Rattle.std.proofs.Common.{◌≡◌, ℕ, Bool, true, false, ◌&&◌, List, [], ◌∷◌, ◌++◌, Option, Some, None, refl, ap, ◌∙◌, append_assoc}
+use Rattle.std.specs.Prelude.{is_some, slice_get, codes}
 use Rattle.std.specs.List.{list_all}
 use Rattle.std.proofs.lemmas.List.{append-nil}
 use Rattle.flu_lemmas.proofs.Tests.{and_left, and_right}
@@ -11,11 +11,9 @@ use Rattle.flu_text.specs.Layout.{Piece as Laid, layout, NotFirst}
 use Rattle.flu_model.specs.declared.jobs.Kind.{Kind}
 use Rattle.flu_model.specs.declared.jobs.Source.{Source}
 use Rattle.flu_model.specs.declared.jobs.Keys.{Keys}
-use Rattle.flu_model.specs.declared.jobs.Keys.TheVariants as keys
 use Rattle.flu_model.specs.declared.jobs.Program.{Program}
 use Rattle.flu_model.specs.declared.plans.Pred.{Pred}
 use Rattle.flu_model.specs.declared.plans.Node.{Node}
-use Rattle.flu_model.specs.Contents.{key_count}
 use Rattle.flu_model.specs.PlanRules.{are_small_keys}
 use Rattle.flu_model.specs.Owners.{are_alone, names_source, pred_fits}
 use Rattle.flu_layout.specs.Lists.{keys_text, between, items_words, behind_kind, keys_words}
@@ -46,7 +44,7 @@ abbrev pub words_of : Program → Option ℕ → Keys → Option ℕ → List �
 words_of p None ks source behind rest = bare_words p source behind rest
 words_of p (Some kind) ks source behind rest =
     name (name_of_kind (slice_get p.kinds kind)) (behind_kind ks (behind_keys source behind)) ∷ keys_words ks (behind_keys source behind)
-        (source_words p source behind rest)
+    (source_words p source behind rest)
 
 abbrev pub pred_words : Program → Pred → List ℕ → List Laid → List Laid
 pred_words p q behind rest = words_of p q.kind q.keys q.source behind rest
@@ -64,7 +62,7 @@ module _ (keys_spelled : KeysAreSpelled) where
   layout_of p (Some kind) ks source behind rest =
       let n : List ℕ = name_of_kind (slice_get p.kinds kind) in
       ap (λ l. n ++ l) (keys_spelled ks (behind_keys source behind) (source_words p source behind rest)
-          ∙ ap (λ l. keys_text ks ++ l) (source_layout p source behind rest))
+      ∙ ap (λ l. keys_text ks ++ l) (source_layout p source behind rest))
       ∙ regroup n (keys_text ks) (source_text p source) (behind ++ layout rest)
     where
       regroup : (a b c d : List ℕ) → a ++ (b ++ (c ++ d)) ≡ ((a ++ b) ++ c) ++ d
@@ -106,12 +104,12 @@ module _ (keys_spelled : KeysAreSpelled) where
   preds_layout p [] behind rest = refl
   preds_layout p (q ∷ preds) behind rest =
       ap (λ l. codes ": " ++ l)
-          (items_out (pred_words p) (between m.Comma) layout (pred_text p) (codes ", ") (pred_layout keys_spelled p) (λ rest. refl) q preds behind rest)
+      (items_out (pred_words p) (between m.Comma) layout (pred_text p) (codes ", ") (pred_layout keys_spelled p) (λ rest. refl) q preds behind rest)
 
   node_layout : (p : Program) (nodes : List Node) (n : Node) (rest : List Laid) → layout (node_words p nodes n rest) ≡ node_line p nodes n ++ layout rest
   node_layout p nodes n rest =
       ap (λ l. codes "node " ++ (n.name ++ l)) (preds_layout p n.preds (behind_preds n.kids) (kids_words nodes n.kids rest)
-          ∙ ap (λ l. codes ":" ++ (preds_text p n.preds ++ l)) (kids_layout nodes n.kids rest))
+      ∙ ap (λ l. codes ":" ++ (preds_text p n.preds ++ l)) (kids_layout nodes n.kids rest))
       ∙ regroup (codes "node ") n.name (codes ":") (preds_text p n.preds) (kids_text nodes n.kids) line_end (layout rest)
     where
       regroup : (a b c d e f g : List ℕ) → a ++ (b ++ (c ++ (d ++ (e ++ (f ++ g))))) ≡ (((((a ++ b) ++ c) ++ d) ++ e) ++ f) ++ g
@@ -177,7 +175,7 @@ module _ (keys_laid : KeysAreLaid) (p : Program) (names : NamesFit p) where
   laid_pred : (q : Pred) (behind : List ℕ) (rest : List Laid) → pred_ok p q ≡ true → Follows behind rest → AreLaid (pred_words p q behind rest)
   laid_pred q behind rest ok f =
       laid_words q.kind q.keys q.source behind rest (and_left (pred_fits p q) (are_small_keys q.keys) ok)
-          (and_right (pred_fits p q) (are_small_keys q.keys) ok) f
+      (and_right (pred_fits p q) (are_small_keys q.keys) ok) f
 
   laid_kids : (nodes : List Node) (kids : Option (ℕ × ℕ)) (rest : List Laid) → kids_ok nodes kids ≡ true → AreLaid rest
       → Follows (behind_preds kids) (kids_words nodes kids rest)
@@ -195,13 +193,13 @@ module _ (keys_laid : KeysAreLaid) (p : Program) (names : NamesFit p) where
   laid_preds (q ∷ preds) behind rest ok f =
       laid_spaced m.Colon _
       (items_hold (pred_words p) [] (between m.Comma) (pred_ok p) AreLaid Follows laid_pred
-          (λ rest laid. record { blank = refl; ends = refl; laid = laid_spaced m.Comma rest laid }) q preds behind rest ok f)
+      (λ rest laid. record { blank = refl; ends = refl; laid = laid_spaced m.Comma rest laid }) q preds behind rest ok f)
 
   laid_node : (nodes : List Node) (n : Node) (rest : List Laid) → node_ok p nodes n ≡ true → AreLaid rest → AreLaid (node_words p nodes n rest)
   laid_node nodes n rest ok laid =
       let first = and_left (is_name n.name && list_all (pred_ok p) n.preds) (kids_ok nodes n.kids) ok in
       let preds = laid_preds n.preds (behind_preds n.kids) (kids_words nodes n.kids rest) (and_right (is_name n.name) (list_all (pred_ok p) n.preds) first)
-          (laid_kids nodes n.kids rest (and_right (is_name n.name && list_all (pred_ok p) n.preds) (kids_ok nodes n.kids) ok) laid) in
+      (laid_kids nodes n.kids rest (and_right (is_name n.name && list_all (pred_ok p) n.preds) (kids_ok nodes n.kids) ok) laid) in
       let named = laid_name n.name [] _ (and_left (is_name n.name) (list_all (pred_ok p) n.preds) first) refl (colon_ends n.preds) preds in
       laid_reserved r.Node blank _ refl refl named
     where

@@ -96,19 +96,19 @@ nodes_ok p all (n ∷ rest) named low fits small names =
     let small_rest = list_all (λ (n : Node). list_all (λ (q : Pred). are_small_keys q.keys) n.preds) rest in
     let names_rest = list_all (λ (n : Node). is_name n.name) rest in
     let preds = list_all_both (pred_fits p) (λ (q : Pred). are_small_keys q.keys) n.preds (and_left fit_here (nodes_fit p rest) fits)
-        (and_left small_here small_rest small) in
+    (and_left small_here small_rest small) in
     let kids = kids_named n.kids (λ v h. low v (in_left v (kid_list n.kids) (all_kids rest) h)) in
     both (node_ok p all n) (list_all (node_ok p all) rest)
     (both (is_name n.name && list_all (pred_ok p) n.preds) (kids_ok all n.kids)
-        (both (is_name n.name) (list_all (pred_ok p) n.preds) (and_left (is_name n.name) names_rest names) preds) kids)
+    (both (is_name n.name) (list_all (pred_ok p) n.preds) (and_left (is_name n.name) names_rest names) preds) kids)
     (nodes_ok p all rest named (λ v h. low v (in_right v (kid_list n.kids) (all_kids rest) h)) (and_right fit_here (nodes_fit p rest) fits)
-        (and_right small_here small_rest small) (and_right (is_name n.name) names_rest names))
+    (and_right small_here small_rest small) (and_right (is_name n.name) names_rest names))
   where
     kids_named : (kids : Option (ℕ × ℕ)) → ((v : ℕ) → In v (kid_list kids) → v < length all) → kids_ok all kids ≡ true
     kids_named None low = refl
     kids_named (Some kids) low =
         both (is_name (name_of_child (slice_get all kids.0))) (is_name (name_of_child (slice_get all kids.1)))
-            (child_named all kids.0 named (low kids.0 (in_head kids.0 (kids.1 ∷ []))))
+        (child_named all kids.0 named (low kids.0 (in_head kids.0 (kids.1 ∷ []))))
         (child_named all kids.1 named (low kids.1 (in_tail kids.1 kids.0 (kids.1 ∷ []) (in_head kids.1 []))))
 
 -- ---- names of nodes that are written
@@ -118,7 +118,7 @@ name_noted : (text : List ℕ) (names : List (List ℕ)) (v : WrittenNode) → (
 unfolding with_name
 name_noted text names v new =
     ap (λ b. unless (not b) (f.NotATree (name_written text v)) >> Ok (names ++ name_written text v ∷ []))
-        (false_if_not (list_any (bytes_eq (name_written text v)) names) (λ e. new (found_in bytes_eq bytes_is (name_written text v) names e)))
+    (false_if_not (list_any (bytes_eq (name_written text v)) names) (λ e. new (found_in bytes_eq bytes_is (name_written text v) names e)))
 
 names_noted : (text : List ℕ) (names : List (List ℕ)) (vs : List WrittenNode) → Distinct (names ++ map (name_written text) vs)
     → each (with_name text) names vs ≡ Ok (names ++ map (name_written text) vs)
@@ -187,4 +187,4 @@ pub printed_is_read : LaidIsRead → BegunAreSigns → KeysAreSpelled → KeysAr
 printed_is_read read begun keys_spelled keys_laid p nodes kept has =
     let short = kept_is_short p nodes kept (and_right (nodes_fit p nodes) (list_all (λ (n : Node). is_name n.name) nodes) has) in
     subst (λ text. IsUtf8 text → length text ≤ 1048576 → plan_in p text ≡ Ok nodes) (plan_layout keys_spelled p nodes)
-        (laid_back read begun keys_laid p nodes kept has) (IsUtf8-from_ascii (printed p nodes) short.ascii) short.few
+    (laid_back read begun keys_laid p nodes kept has) (IsUtf8-from_ascii (printed p nodes) short.ascii) short.few

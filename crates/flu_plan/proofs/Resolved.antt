@@ -99,7 +99,7 @@ pub node_known : (p : Program) (text : List ℕ) (names : List (List ℕ)) (w : 
 unfolding node_of
 node_known p text names w node e =
     let preds = bind_ok (found_of_each (pred_of p text) w.preds) (λ q. kids_of text names w.kids >>= λ k. Ok (record { name = w.name; preds = q; kids = k }))
-        node e in
+    node e in
     let kids = bind_ok (kids_of text names w.kids) (λ k. Ok (record { name = w.name; preds = preds.0; kids = k })) node preds.2 in
     let same = ok_same (record { name = w.name; preds = preds.0; kids = kids.0 }) node kids.2 in
     (sym (ap (λ (n : DraftNode). n.name) same), subst (λ (n : DraftNode). KidsBelow (length names) n.kids) same (kids_below text names w.kids kids.0 kids.1))
@@ -136,7 +136,7 @@ nodes_known p text written names nodes named found =
     let pairs = subst (λ (l : List DraftNode). Pairs (node_of p text names) written l) (sym ones.1) ones.2 in
     let same : map (name_drafted text) nodes ≡ names = nodes_named p text names written nodes pairs ∙ sym all.0 in
     let many : length names ≡ length nodes = ap length all.0 ∙ length-map written (name_written text)
-        ∙ sym (pairs_length (node_of p text names) written nodes pairs) in
+    ∙ sym (pairs_length (node_of p text names) written nodes pairs) in
     record {
       own_names = subst (λ (l : List (List ℕ)). Distinct l) (sym same) all.1;
       below = λ v. subst (λ (n : ℕ). KidsBelow n (kids_at nodes v)) many (nodes_below p text names written nodes v pairs);
@@ -161,7 +161,7 @@ child_added text nodes cs more v e d =
     let look = then_ok (unless (not (list_any (λ u. v == u) cs)) (f.NotATree (name_at text nodes v))) (Ok (cs ++ v ∷ [])) more e in
     let is : more ≡ cs ++ v ∷ [] = sym (ok_same (cs ++ v ∷ []) more look.2) in
     let new = absent (λ a b. a == b) (λ n. eq_true n n refl) v cs
-        (unless_ok (not (list_any (λ u. v == u) cs)) (f.NotATree (name_at text nodes v)) look.0 look.1) in
+    (unless_ok (not (list_any (λ u. v == u) cs)) (f.NotATree (name_at text nodes v)) look.0 look.1) in
     (is, subst (λ (l : List ℕ). Distinct l) (sym is) (distinct_last v cs d new))
 
 kids_added : (text : List ℕ) (nodes : List DraftNode) (cs more : List ℕ) (kids : Option (ℕ × ℕ)) → with_kids_of text nodes cs kids ≡ Ok more → Distinct cs

@@ -75,7 +75,7 @@ within_more n [] e = refl
 within_more n (v ∷ wanted) e =
     let here : v.depth ≤ n = true_le v.depth n (and_left (nat_le v.depth n) (are_within n wanted) e) in
     both (nat_le v.depth (n + 1)) (are_within (n + 1) wanted) (le_true v.depth (n + 1) (omega arith))
-        (within_more n wanted (and_right (nat_le v.depth n) (are_within n wanted) e))
+    (within_more n wanted (and_right (nat_le v.depth n) (are_within n wanted) e))
 
 within_kids : (n d : ℕ) (kids : Option (ℕ × ℕ)) (wanted : List Visit) → d ≤ n → are_within (n + 1) wanted ≡ true
     → are_within (n + 1) (with_visits d kids wanted) ≡ true
@@ -92,7 +92,7 @@ pub record Walked (nodes : List DraftNode) (order wanted : List Visit) : Type 0 
 pub walked-start : (nodes : List DraftNode) (order wanted : List Visit) → order ≡ [] → wanted ≡ visit 0 0 ∷ [] → Walked nodes order wanted
 walked-start nodes order wanted none first =
     subst (λ o. Walked nodes o wanted) (sym none)
-        (subst (λ w. Walked nodes [] w) (sym first) (record { walked = ap (λ n. walk nodes n (visit 0 0 ∷ [])) (omega arith); shallow = refl }))
+    (subst (λ w. Walked nodes [] w) (sym first) (record { walked = ap (λ n. walk nodes n (visit 0 0 ∷ [])) (omega arith); shallow = refl }))
 
 pub walked-depth : (nodes : List DraftNode) (order wanted : List Visit) (x : Visit) → Walked nodes order (x ∷ wanted) → x.depth ≤ length order
 walked-depth nodes order wanted x so_far =
@@ -116,7 +116,7 @@ walked-next nodes order wanted x lt so_far =
       shallow =
           ap (λ n. are_within n (with_visits x.depth (kids_at nodes x.node) wanted)) longer
           ∙ within_kids (length order) x.depth (kids_at nodes x.node) wanted (walked-depth nodes order wanted x so_far)
-              (within_more (length order) wanted (and_right (nat_le x.depth (length order)) (are_within (length order) wanted) so_far.shallow));
+          (within_more (length order) wanted (and_right (nat_le x.depth (length order)) (are_within (length order) wanted) so_far.shallow));
     }
 
 pub walk-zero : (nodes : List DraftNode) (n : ℕ) (wanted : List Visit) → n ≡ 0 → walk nodes n wanted ≡ []
@@ -135,7 +135,7 @@ walked-full nodes order wanted le so_far =
 pub walked-end : (nodes : List DraftNode) (order wanted : List Visit) → wanted ≡ [] → Walked nodes order wanted → order ≡ preorder nodes
 walked-end nodes order wanted none so_far =
     sym (append-nil order) ∙ ap (λ o. order ++ o) (sym (ap (walk nodes (length nodes - length order)) none ∙ walk-none nodes (length nodes - length order)))
-        ∙ so_far.walked
+    ∙ so_far.walked
 
 -- the top of the stack
 pub reverse_last : (all front : List Visit) (x : Visit) → all ≡ front ++ x ∷ [] → reverse all ≡ x ∷ reverse front

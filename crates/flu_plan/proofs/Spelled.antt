@@ -115,14 +115,14 @@ takes_name : (end : ℕ) (u : Turn) (next : WrittenSpan → Turn) (tokens : List
     → ((t : Token) → stage_step u t k.Name u.stage ≡ Ok (next (span_of t))) → LeadsTo end u tokens (next s) more
 takes_name end u next tokens s more h takes =
     takes_sign end u (next s) tokens (Spanned w.Name s) more h (λ t sign. steps u t k.Name (terminal-name t sign.0) ∙ takes t
-        ∙ ap (λ x. Ok (next x)) (same_span t s sign.1 sign.2))
+    ∙ ap (λ x. Ok (next x)) (same_span t s sign.1 sign.2))
 
 takes_number : (end : ℕ) (u : Turn) (next : WrittenNumber → Turn) (tokens : List Token) (n : WrittenNumber) (more : List Sign)
     → AreSigns (number n ++ more) tokens → ((t : Token) → stage_step u t (k.Number n.value) u.stage ≡ Ok (next (number_of n.value t)))
     → LeadsTo end u tokens (next n) more
 takes_number end u next tokens n more h takes =
     takes_sign end u (next n) tokens (At (w.Number n.value) n.at) more h (λ t sign. steps u t (k.Number n.value) (terminal-number t n.value sign.0) ∙ takes t
-        ∙ ap (λ x. Ok (next x)) (same_number t n sign.1))
+    ∙ ap (λ x. Ok (next x)) (same_number t n sign.1))
 
 -- ---- behind a node
 
@@ -192,8 +192,12 @@ source_read end u tokens nodes nm source kind ks preds more h takes =
     let next = λ (s : WrittenSpan). turn nodes nm (preds ++ pred kind ks (Some s) ∷ []) stage.Source in
     let first = takes_mark end u at tokens m.At k.At (name source ++ more) h mark-at takes in
     let second = takes_name end at next first.0 source more first.1 (λ t. refl) in
-    record { last = next source; leads = on_to end u at (next source) tokens (name source ++ more) more first second; ends = end-source nodes nm
-        (preds ++ pred kind ks (Some source) ∷ []) }
+    record {
+      last = next source;
+      leads = on_to end u at (next source) tokens (name source ++ more) more first second;
+      ends = end-source nodes nm
+          (preds ++ pred kind ks (Some source) ∷ []);
+    }
 
 -- what stands behind a kind and its keys
 kind_read : (end : ℕ) (u v : Turn) (tokens : List Token) (nodes : List WrittenNode) (nm kind : WrittenSpan) (ks : WrittenKeys) (source : Option WrittenSpan) (preds : List WrittenPred) (more : List Sign)
@@ -220,7 +224,7 @@ kinds_read end u tokens nodes nm kind (keys.One low) source preds more wants h =
     let close = turn nodes nm preds (stage.Close kind (keys.One low)) in
     let a = takes_name end u next tokens kind (keys_signs (keys.One low) ++ behind) h wants.kind in
     let b = takes_mark end (next kind) opened a.0 m.OpenBracket k.OpenBracket ((number low ++ Any (w.Mark m.CloseBracket) ∷ []) ++ behind) a.1 mark-open
-        (λ t. refl) in
+    (λ t. refl) in
     let c = takes_number end opened low_next b.0 low (Any (w.Mark m.CloseBracket) ∷ behind) b.1 (λ t. refl) in
     let d = takes_mark end (low_next low) close c.0 m.CloseBracket k.CloseBracket behind c.1 mark-close (λ t. refl) in
     let three = on_to end opened (low_next low) close b.0 (Any (w.Mark m.CloseBracket) ∷ behind) behind c d in
@@ -237,7 +241,7 @@ kinds_read end u tokens nodes nm kind (keys.Range low high) source preds more wa
     let close = turn nodes nm preds (stage.Close kind (keys.Range low high)) in
     let a = takes_name end u next tokens kind (keys_signs (keys.Range low high) ++ behind) h wants.kind in
     let b = takes_mark end (next kind) opened a.0 m.OpenBracket k.OpenBracket
-        ((number low ++ Any (w.Mark m.Dots) ∷ (number high ++ Any (w.Mark m.CloseBracket) ∷ [])) ++ behind) a.1 mark-open (λ t. refl) in
+    ((number low ++ Any (w.Mark m.Dots) ∷ (number high ++ Any (w.Mark m.CloseBracket) ∷ [])) ++ behind) a.1 mark-open (λ t. refl) in
     let c = takes_number end opened low_next b.0 low (Any (w.Mark m.Dots) ∷ ((number high ++ Any (w.Mark m.CloseBracket) ∷ []) ++ behind)) b.1 (λ t. refl) in
     let d = takes_mark end (low_next low) dots c.0 m.Dots k.Dots ((number high ++ Any (w.Mark m.CloseBracket) ∷ []) ++ behind) c.1 mark-dots (λ t. refl) in
     let e = takes_number end dots high_next d.0 high (Any (w.Mark m.CloseBracket) ∷ behind) d.1 (λ t. refl) in
@@ -246,7 +250,7 @@ kinds_read end u tokens nodes nm kind (keys.Range low high) source preds more wa
     let four = on_to end (low_next low) dots close c.0 ((number high ++ Any (w.Mark m.CloseBracket) ∷ []) ++ behind) behind d five in
     let three = on_to end opened (low_next low) close b.0 (Any (w.Mark m.Dots) ∷ ((number high ++ Any (w.Mark m.CloseBracket) ∷ []) ++ behind)) behind c four in
     let two = on_to end (next kind) opened close a.0 ((number low ++ Any (w.Mark m.Dots) ∷ (number high ++ Any (w.Mark m.CloseBracket) ∷ [])) ++ behind)
-        behind b three in
+    behind b three in
     let one = on_to end u (next kind) close tokens (keys_signs (keys.Range low high) ++ behind) behind a two in
     kind_read end u close tokens nodes nm kind (keys.Range low high) source preds more one (end-close nodes nm kind preds (keys.Range low high)) (λ t. refl)
 
@@ -256,10 +260,10 @@ pred_read : (end : ℕ) (u : Turn) (tokens : List Token) (nodes : List WrittenNo
 pred_read end u tokens nodes nm None ks None preds more wants part h = let none : false ≡ true = part.1 in absurd cc
 pred_read end u tokens nodes nm None ks (Some source) preds more wants part h =
     subst (λ (x : WrittenKeys). PredRead end u tokens nodes nm (preds ++ pred None x (Some source) ∷ []) more) (sym part.0)
-        (source_read end u tokens nodes nm source None keys.Alone preds more h wants.source)
+    (source_read end u tokens nodes nm source None keys.Alone preds more h wants.source)
 pred_read end u tokens nodes nm (Some kind) ks source preds more wants part h =
     kinds_read end u tokens nodes nm kind ks source preds more wants
-        (subst (λ (l : List Sign). AreSigns l tokens) (append_assoc (kind_signs (Some kind) ks) (source_signs source) more) h)
+    (subst (λ (l : List Sign). AreSigns l tokens) (append_assoc (kind_signs (Some kind) ks) (source_signs source) more) h)
 
 abbrev comma_signs : WrittenPred → List Sign
 comma_signs q = Any (w.Mark m.Comma) ∷ pred_signs q
@@ -269,7 +273,7 @@ rest_read : (end : ℕ) (u : Turn) (tokens : List Token) (nodes : List WrittenNo
     → PredEnd u nodes nm before → ArePreds preds → AreSigns (flat_map comma_signs preds ++ more) tokens → PredRead end u tokens nodes nm (before ++ preds) more
 rest_read end u tokens nodes nm before [] more ends are h =
     subst (λ (l : List WrittenPred). PredRead end u tokens nodes nm l more) (sym (append-nil before))
-        (record { last = u; leads = (tokens, h, refl); ends = ends })
+    (record { last = u; leads = (tokens, h, refl); ends = ends })
 rest_read end u tokens nodes nm before (q ∷ preds) more ends are h =
     let behind = flat_map comma_signs preds ++ more in
     let comma = turn nodes nm before stage.Comma in
@@ -338,9 +342,9 @@ node_read end u tokens nodes n more before are h =
     let named = λ (s : WrittenSpan). turn nodes s [] stage.Name in
     let colon = turn nodes n.name [] stage.Colon in
     let split = subst (λ (l : List Sign). AreSigns (Any (w.Reserved r.Node) ∷ (name n.name ++ Any (w.Mark m.Colon) ∷ l)) tokens)
-        (append_assoc comma (kids_signs n.kids) more) h in
+    (append_assoc comma (kids_signs n.kids) more) h in
     let a = takes_sign end u node tokens (Any (w.Reserved r.Node)) (name n.name ++ Any (w.Mark m.Colon) ∷ (comma ++ tail)) split
-        (λ t sign. steps u t k.Node (terminal-node t sign) ∙ before.next t) in
+    (λ t sign. steps u t k.Node (terminal-node t sign) ∙ before.next t) in
     let b = takes_name end node named a.0 n.name (Any (w.Mark m.Colon) ∷ (comma ++ tail)) a.1 (λ t. refl) in
     let d = takes_mark end (named n.name) colon b.0 m.Colon k.Colon (comma ++ tail) b.1 mark-colon (λ t. refl) in
     let e = preds_read end d.0 nodes n.name n.preds tail are d.1 in

@@ -78,14 +78,14 @@ module _ (text : List ℕ) (nodes : List DraftNode) (known : Known text nodes) (
       let kids_here : kids_list_at nodes v ≡ kids.0 ∷ kids.1 ∷ [] = ap kid_list e in
       let left : In kids.0 (kids_list_at nodes v) = subst (λ (l : List ℕ). In kids.0 l) (sym kids_here) (in_head kids.0 (kids.1 ∷ [])) in
       let right : In kids.1 (kids_list_at nodes v) = subst (λ (l : List ℕ). In kids.1 l) (sym kids_here)
-          (in_tail kids.1 kids.0 (kids.1 ∷ []) (in_head kids.1 [])) in
+      (in_tail kids.1 kids.0 (kids.1 ∷ []) (in_head kids.1 [])) in
       let apart = distinct_head kids.0 (kids.1 ∷ [])
-          (subst (λ (l : List ℕ). Distinct l) kids_here (kids_differ nodes v (distinct_tail 0 (children nodes) differ))) in
+      (subst (λ (l : List ℕ). Distinct l) kids_here (kids_differ nodes v (distinct_tail 0 (children nodes) differ))) in
       let low : KidsBelow (length nodes) (Some kids) = subst (λ (k : Option (ℕ × ℕ)). KidsBelow (length nodes) k) e (known.below v) in
       let second = with_one v kids.1 (met ++ v ∷ []) wanted (moved v met wanted s) met_now right low.1 (fresh v kids.1 met wanted s right) in
       with_one v kids.0 (met ++ v ∷ []) (kids.1 ∷ wanted) second met_now left low.0
       (λ h. elim (in_middle kids.0 kids.1 (met ++ v ∷ []) wanted h)
-          [ inl same ↦ apart (subst (λ (z : ℕ). In z (kids.1 ∷ [])) (sym same) (in_head kids.1 [])) | inr b ↦ fresh v kids.0 met wanted s left b ])
+      [ inl same ↦ apart (subst (λ (z : ℕ). In z (kids.1 ∷ [])) (sym same) (in_head kids.1 [])) | inr b ↦ fresh v kids.0 met wanted s left b ])
 
   pub spread-next : (v : ℕ) (met wanted : List ℕ) → Spread nodes met (v ∷ wanted) → Spread nodes (met ++ v ∷ []) (kids_list_at nodes v ++ wanted)
   spread-next v met wanted s = spread-kids v met wanted (kids_at nodes v) refl s

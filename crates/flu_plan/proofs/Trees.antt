@@ -48,7 +48,7 @@ first_place (y ∷ front) back x d =
         absurd
         (distinct_head y.node (ids (front ++ x ∷ back)) d
         (subst (λ (v : ℕ). In v (ids (front ++ x ∷ back))) (true_eq x.node y.node t)
-            (in_map (λ (z : Visit). z.node) x (front ++ x ∷ back) (in_right x front (x ∷ back) (in_head x back)))))
+        (in_map (λ (z : Visit). z.node) x (front ++ x ∷ back) (in_right x front (x ∷ back) (in_head x back)))))
     apart false t = t
 
 module _ (text : List ℕ) (nodes : List DraftNode) (known : Known text nodes) (differ : Distinct (0 ∷ children nodes)) where
@@ -57,7 +57,7 @@ module _ (text : List ℕ) (nodes : List DraftNode) (known : Known text nodes) (
   spread-walked x done wanted s =
       subst (λ (l : List ℕ). Spread nodes l (ids (with_visits x.depth (kids_at nodes x.node) wanted))) (sym (map-append (λ (y : Visit). y.node) done (x ∷ [])))
       (subst (λ (l : List ℕ). Spread nodes (ids done ++ x.node ∷ []) l) (sym (visits_ids x.depth (kids_at nodes x.node) wanted))
-          (spread-next text nodes known differ x.node (ids done) (ids wanted) s))
+      (spread-next text nodes known differ x.node (ids done) (ids wanted) s))
 
   -- all visits but the last come to an end
   pub walked-all : (m : ℕ) (done wanted : List Visit) → length nodes ≤ length done + m → Spread nodes (ids done) (ids wanted)
@@ -66,7 +66,7 @@ module _ (text : List ℕ) (nodes : List DraftNode) (known : Known text nodes) (
       let count = length-map done (λ (x : Visit). x.node) in
       let none = none_wanted text nodes known differ (ids done) (ids wanted) s (omega arith) in
       subst (λ (l : List Visit). Spread nodes (ids l) []) (sym (ap (λ l. done ++ l) (walk-zero nodes 0 wanted refl)
-          ∙ append-nil done)) (subst (λ (l : List ℕ). Spread nodes (ids done) l) none s)
+      ∙ append-nil done)) (subst (λ (l : List ℕ). Spread nodes (ids done) l) none s)
   walked-all (suc m) done [] le s =
       subst (λ (l : List Visit). Spread nodes (ids l) []) (sym (ap (λ l. done ++ l) (walk-none nodes (suc m)) ∙ append-nil done)) s
   walked-all (suc m) done (x ∷ wanted) le s =
@@ -74,7 +74,7 @@ module _ (text : List ℕ) (nodes : List DraftNode) (known : Known text nodes) (
       let longer = length_push done x in
       let more = walked-all m (done ++ x ∷ []) next (omega arith) (spread-walked x done wanted s) in
       subst (λ (l : List Visit). Spread nodes (ids l) []) (append_assoc done (x ∷ []) (walk nodes m next)
-          ∙ ap (λ l. done ++ l) (sym (walk-one nodes (suc m) m wanted x refl))) more
+      ∙ ap (λ l. done ++ l) (sym (walk-one nodes (suc m) m wanted x refl))) more
 
   -- a node that is met is one
   got : (met wanted : List ℕ) (v : ℕ) → Spread nodes met (v ∷ wanted) → (node : DraftNode) × (slice_get nodes v ≡ Some node)
@@ -127,13 +127,13 @@ module _ (text : List ℕ) (nodes : List DraftNode) (known : Known text nodes) (
       let split : (done ++ x ∷ []) ++ tail ≡ o = append_assoc done (x ∷ []) tail ∙ ap (λ l. done ++ l) (sym (walk-one nodes (suc m) m wanted x refl)) ∙ e in
       let whole : done ++ x ∷ tail ≡ o = ap (λ l. done ++ l) (sym (walk-one nodes (suc m) m wanted x refl)) ∙ e in
       let place : number x ≡ length done = ap (λ l. number_of l x.node) (sym whole)
-          ∙ first_place done tail x (subst (λ (l : List Visit). Distinct (ids l)) (sym whole) d) in
+      ∙ first_place done tail x (subst (λ (l : List Visit). Distinct (ids l)) (sym whole) d) in
       let kids : node.kids ≡ kids_at nodes x.node = sym (ap kids_of_node here.1) in
       let more = subtrees o m (done ++ x ∷ []) next d (omega arith) (spread-walked x done wanted s) split in
       ap (λ l. are_subtrees (length done) (number x ∷ map number wanted) (rest_of o l)) (walk-one nodes (suc m) m wanted x refl)
       ∙ ap (are_subtrees (length done) (number x ∷ map number wanted)) (one_planned o tail x node here.1)
       ∙ both (number x == length done) (are_subtrees (length done + 1) (with_kids (planned_kids o node.kids) (map number wanted)) (rest_of o tail))
-          (eq_true (number x) (length done) place)
+      (eq_true (number x) (length done) place)
       (ap (λ k. are_subtrees (length done + 1) (with_kids (planned_kids o k) (map number wanted)) (rest_of o tail)) kids
       ∙ ap (λ l. are_subtrees (length done + 1) l (rest_of o tail)) (kids_planned o wanted x.depth (kids_at nodes x.node))
       ∙ ap (λ n. are_subtrees n (map number next) (rest_of o tail)) (sym longer)
@@ -145,7 +145,7 @@ module _ (text : List ℕ) (nodes : List DraftNode) (known : Known text nodes) (
   deep o m done [] s = ap (λ l. depths_below [] (rest_of o l)) (walk-none nodes m) ∙ ap (map (λ (y : Visit). y.depth)) (sym (walk-none nodes m))
   deep o zero done (x ∷ wanted) s =
       ap (λ l. depths_below (x.depth ∷ map (λ (y : Visit). y.depth) wanted) (rest_of o l)) (walk-zero nodes 0 (x ∷ wanted) refl)
-          ∙ ap (map (λ (y : Visit). y.depth)) (sym (walk-zero nodes 0 (x ∷ wanted) refl))
+      ∙ ap (map (λ (y : Visit). y.depth)) (sym (walk-zero nodes 0 (x ∷ wanted) refl))
   deep o (suc m) done (x ∷ wanted) s =
       let depth = λ (y : Visit). y.depth in
       let here = got (ids done) (ids wanted) x.node s in

@@ -7,8 +7,8 @@ ghost use Rattle.flu_plan.specs.Limits.{small_key, small_keys, keys_of_pred, key
 
 use crate::drafts::{DraftNode, DraftPred, Visit};
 use crate::fault::PlanFault;
-use flu_model::{KEY_COUNT, What};
 use flu_layout::written_value;
+use flu_model::{KEY_COUNT, What};
 use flu_syntax::{WrittenKeys, WrittenNumber};
 
 /// The most nodes of a plan.

@@ -8,8 +8,8 @@ ghost use Rattle.flu_plan.specs.Numbering.{planned_keys, planned_pred, number_of
 
 use crate::drafts::{DraftNode, DraftPred, Visit};
 use crate::shape::node_at;
-use flu_model::{Keys, List, Name, Node, Pred};
 use flu_layout::{name_of, written_value};
+use flu_model::{Keys, List, Name, Node, Pred};
 use flu_syntax::{WrittenKeys, WrittenNumber};
 use std::alloc::{AllocError, Global};
 

@@ -8,8 +8,8 @@ ghost use Rattle.flu_plan.specs.Printing.{name_of_kind, name_of_source, name_of_
 ghost use Rattle.flu_plan.specs.Reading.{plan_in};
 
 use crate::laws::{plans_have_text, printed_is_read};
-use flu_model::{Keys, Kind, Node, Plan, Pred, Program, Source, Text};
 use flu_layout::add_keys;
+use flu_model::{Keys, Kind, Node, Plan, Pred, Program, Source, Text};
 use std::alloc::{AllocError, Global};
 
 fn name_of_kind(kinds: &[Kind], kind: u32) -> &str

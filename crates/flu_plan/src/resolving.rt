@@ -10,8 +10,8 @@ ghost use Rattle.flu_plan.specs.Resolving.{with_name, names_of, kind_named, sour
 use crate::drafts::{DraftNode, DraftPred};
 use crate::fault::PlanFault;
 use crate::written::{WrittenNode, WrittenPred};
-use flu_model::{Kind, List, Name, Program, Source};
 use flu_layout::name_of;
+use flu_model::{Kind, List, Name, Program, Source};
 use flu_syntax::WrittenSpan;
 use indexmap::IndexSet;
 use std::alloc::Global;

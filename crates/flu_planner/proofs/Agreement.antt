@@ -68,11 +68,13 @@ agree_remaining g h rates itags n a = within g h itags (remaining rates itags n)
 cut_agrees : (g h : Graph) (rates itags : List ℕ) (n : ℕ) → Agree g h itags → IsLeastCut g rates itags n → IsLeastCut h rates itags n
 cut_agrees g h rates itags n a x = record {
   apart = apart_agrees g h (remaining rates itags n) (agree_remaining g h rates itags n a) x.apart;
-  least = λ m less y. x.least m less (apart_agrees h g (remaining rates itags m) (turned g h (remaining rates itags m) (agree_remaining g h rates itags m a)) y);
+  least = λ m less y. x.least m less (apart_agrees h g (remaining rates itags m)
+      (turned g h (remaining rates itags m) (agree_remaining g h rates itags m a)) y);
 }
 
 whole_agrees : (g h : Graph) (rates itags : List ℕ) → Agree g h itags → IsWhole g rates itags → IsWhole h rates itags
-whole_agrees g h rates itags a x = λ n y. x n (apart_agrees h g (remaining rates itags n) (turned g h (remaining rates itags n) (agree_remaining g h rates itags n a)) y)
+whole_agrees g h rates itags a x = λ n y. x n (apart_agrees h g (remaining rates itags n)
+    (turned g h (remaining rates itags n) (agree_remaining g h rates itags n a)) y)
 
 -- ---- partings
 parting_agrees : (g h : Graph) (rates itags own left right : List ℕ) → Agree g h itags → IsParting g rates itags own left right

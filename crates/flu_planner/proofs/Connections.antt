@@ -64,5 +64,9 @@ pub connected_back : (g : Graph) (itags : List ℕ) → ((i j : ℕ) → g i j �
 unfolding IsBack
 connected_back g itags both i j there a =
     (kept_where_connected g itags (IsBack g itags i)
-    (λ k n here inside joined. (connected_on g itags n k i (connected_step g itags n n k (connected_itself g itags n) (both n k ∙ joined) here.1) here.0, inside))
+    (λ k n here inside joined. (
+      connected_on g itags n k i (connected_step g itags n n k (connected_itself g itags n)
+          (both n k ∙ joined) here.1) here.0,
+      inside,
+    ))
     i j a (connected_itself g itags i, there)).0

@@ -21,14 +21,17 @@ never_past g order n le a = none_apart g (subst (λ xs. IsApart g (rising xs)) (
 
 -- ---- groups
 pub grouped_more : (rates left right : List ℕ) (components : List (List ℕ)) (i : ℕ) (d : List ℕ) → i < length components
-    → grouped rates left right (drop i components) ≡ cond (goes_left rates left right) (grouped rates (left ++ get_or components i d) right (drop (i + 1) components)) (grouped rates left (right ++ get_or components i d) (drop (i + 1) components))
+    → grouped rates left right (drop i components) ≡ cond (goes_left rates left right)
+    (grouped rates (left ++ get_or components i d) right (drop (i + 1) components))
+    (grouped rates left (right ++ get_or components i d) (drop (i + 1) components))
 grouped_more rates left right components i d lt = ap (grouped rates left right) (drop_more components i d lt)
 
 pub grouped_once : (k : ℕ) (rates left right : List ℕ) (cs : List (List ℕ))
     → times k (grouped rates left right cs).0 + times k (grouped rates left right cs).1 ≡ times k left + times k right + total (times k) cs
 grouped_once k rates left right [] = omega arith
 grouped_once k rates left right (c ∷ cs) =
-    elim (goes_left rates left right) as (λ b. let groups = cond b (grouped rates (left ++ c) right cs) (grouped rates left (right ++ c) cs) in times k groups.0 + times k groups.1 ≡ times k left + times k right + total (times k) (c ∷ cs)) [
+    elim (goes_left rates left right) as (λ b. let groups = cond b (grouped rates (left ++ c) right cs) (grouped rates left (right ++ c) cs) in
+    times k groups.0 + times k groups.1 ≡ times k left + times k right + total (times k) (c ∷ cs)) [
       | true ↦ (let rest = grouped_once k rates (left ++ c) right cs in let more = times_append k left c in omega arith)
       | false ↦ (let rest = grouped_once k rates left (right ++ c) cs in let more = times_append k right c in omega arith)
     ]

@@ -46,7 +46,8 @@ first_by_least rates a b le lt =
       | inr ge ↦
           (let same : total_rate rates a ≡ total_rate rates b = omega arith in
           or_right (nat_lt (total_rate rates b) (total_rate rates a)) (total_rate rates a == total_rate rates b && nat_lt (least a) (least b))
-          (and_from (total_rate rates a == total_rate rates b) (nat_lt (least a) (least b)) (eq-eqb (total_rate rates a) (total_rate rates b) same) (lt-ltb (least a) (least b) lt)))
+          (and_from (total_rate rates a == total_rate rates b) (nat_lt (least a) (least b)) (eq-eqb (total_rate rates a) (total_rate rates b) same)
+          (lt-ltb (least a) (least b) lt)))
     ]
 
 first_not_less : (rates a b : List ℕ) → comes_first rates a b ≡ true → total_rate rates b ≤ total_rate rates a
@@ -64,13 +65,15 @@ put_in_turn : (rates c : List ℕ) (cs : List (List ℕ)) → IsInTurn (comes_fi
     → IsInTurn (comes_first rates) (put_in_order (has_greater_total rates) c cs)
 put_in_turn rates c [] turn lower = (λ d none. absurd (contains_none d none), tt)
 put_in_turn rates c (d ∷ ds) turn lower =
-    elim (has_greater_total rates c d) as (λ b. has_greater_total rates c d ≡ b → IsInTurn (comes_first rates) (cond b (c ∷ d ∷ ds) (d ∷ put_in_order (has_greater_total rates) c ds))) [
+    elim (has_greater_total rates c d) as (λ b. has_greater_total rates c d ≡ b → IsInTurn (comes_first rates)
+    (cond b (c ∷ d ∷ ds) (d ∷ put_in_order (has_greater_total rates) c ds))) [
       | true ↦ λ less.
           (let lt : total_rate rates d < total_rate rates c = ltb-true (total_rate rates d) (total_rate rates c) less in (
             λ e there.
                 elim (contains_cases d e ds there) [
                   | inl same ↦ subst (λ x. comes_first rates c x ≡ true) same (first_by_total rates c d lt)
-                  | inr later ↦ (let le : total_rate rates e ≤ total_rate rates d = first_not_less rates d e (turn.0 e later) in first_by_total rates c e (omega arith))
+                  | inr later ↦ (let le : total_rate rates e ≤ total_rate rates d =
+                      first_not_less rates d e (turn.0 e later) in first_by_total rates c e (omega arith))
                 ],
             turn,
           ))
@@ -106,23 +109,30 @@ none_found g rates itags up = record {
 
 least_of_rising : (c : List ℕ) → IsTrue (is_rising c) → (k : ℕ) → Contains c k → least c ≤ k
 least_of_rising [] up k there = absurd (contains_none k there)
-least_of_rising (x ∷ xs) up k there = elim (contains_cases x k xs there) [ inl e ↦ omega arith | inr later ↦ (let lt : x < k = rising_above x xs up k later in omega arith) ]
+least_of_rising (x ∷ xs) up k there = elim (contains_cases x k xs there) [
+  | inl e ↦ omega arith
+  | inr later ↦
+      (let lt : x < k = rising_above x xs up k later in omega arith)
+]
 
 least_in : (c : List ℕ) (k : ℕ) → Contains c k → Contains c (least c)
 least_in [] k there = absurd (contains_none k there)
 least_in (x ∷ xs) k there = contains_here x xs
 
-module _ (g : Graph) (both : (i j : ℕ) → g i j ≡ g j i) (rates itags : List ℕ) (components : List (List ℕ)) (rest : List ℕ) (now : IsFinding g rates itags components rest) (connected others : List ℕ) (reached : IsReached g rest connected others) where
+module _ (g : Graph) (both : (i j : ℕ) → g i j ≡ g j i) (rates itags : List ℕ) (components : List (List ℕ)) (rest : List ℕ)
+    (now : IsFinding g rates itags components rest) (connected others : List ℕ) (reached : IsReached g rest connected others) where
   component : List ℕ
   component = rising connected
 
   to_connected : (k : ℕ) → Contains component k → Contains connected k
   unfolding component
-  to_connected k there = let once = times_if_contained k (rising connected) there in let same = times_in_order k nat_lt connected in contained_if_times k connected (omega arith)
+  to_connected k there = let once = times_if_contained k (rising connected) there in let same =
+      times_in_order k nat_lt connected in contained_if_times k connected (omega arith)
 
   to_component : (k : ℕ) → Contains connected k → Contains component k
   unfolding component
-  to_component k there = let once = times_if_contained k connected there in let same = times_in_order k nat_lt connected in contained_if_times k (rising connected) (omega arith)
+  to_component k there = let once = times_if_contained k connected there in let same =
+      times_in_order k nat_lt connected in contained_if_times k (rising connected) (omega arith)
 
   in_rest : (k : ℕ) → Contains connected k → Contains rest k
   in_rest = connected_in g both rest now.up connected others reached
@@ -142,7 +152,8 @@ module _ (g : Graph) (both : (i j : ℕ) → g i j ≡ g j i) (rates itags : Lis
     some = λ e. contains_none (least rest) (subst (λ xs. Contains xs (least rest)) e (to_component (least rest) reached.start));
     in_order = component_rising;
     inside = λ k there. in_itags k (in_rest k (to_connected k there));
-    connected = λ i j one other. connected_within g rest itags i j in_itags (all_connected g both rest now.up connected others reached i j (to_connected i one) (to_connected j other));
+    connected = λ i j one other. connected_within g rest itags i j in_itags
+        (all_connected g both rest now.up connected others reached i j (to_connected i one) (to_connected j other));
     closed = λ i j one there c.
         to_component j
         (kept_where_connected g itags (Contains connected)
@@ -163,7 +174,8 @@ module _ (g : Graph) (both : (i j : ℕ) → g i j ≡ g j i) (rates itags : Lis
       ]
 
   higher_than_found : (d : List ℕ) → Contains components d → least d < least component
-  higher_than_found d there = now.lower d there (least component) (in_rest (least component) (to_connected (least component) (least_in component (least rest) (to_component (least rest) reached.start))))
+  higher_than_found d there = now.lower d there (least component) (in_rest (least component)
+      (to_connected (least component) (least_in component (least rest) (to_component (least rest) reached.start))))
 
   pub one_more_found : IsFinding g rates itags (put_in_order (has_greater_total rates) (rising connected) components) others
   unfolding component
@@ -214,6 +226,7 @@ pub all_found : (g : Graph) (rates itags : List ℕ) (components : List (List �
     → AreComponents g rates itags components
 all_found g rates itags components rest none now = record {
   each = now.each;
-  every = λ i there. some_list i components (let once = times_if_contained i itags there in let all = all_once g rates itags components rest none now i in omega arith);
+  every = λ i there. some_list i components (let once = times_if_contained i itags there in let all =
+      all_once g rates itags components rest none now i in omega arith);
   in_turn = now.in_turn;
 }

@@ -35,7 +35,8 @@ count_of_nodes p w (Leaf own) = omega arith
 count_of_nodes p w (Inner own left right) =
     let one = count_of_nodes p (w + 1) left in
     let two = count_of_nodes p (w + 1 + size left) right in
-    let parts : length (nodes_from p (w + 1) left ++ nodes_from p (w + 1 + size left) right) ≡ length (nodes_from p (w + 1) left) + length (nodes_from p (w + 1 + size left) right) = length-append (nodes_from p (w + 1) left) (nodes_from p (w + 1 + size left) right) in
+    let parts : length (nodes_from p (w + 1) left ++ nodes_from p (w + 1 + size left) right) ≡ length (nodes_from p (w + 1) left) + length
+    (nodes_from p (w + 1 + size left) right) = length-append (nodes_from p (w + 1) left) (nodes_from p (w + 1 + size left) right) in
     omega (arith, one, two, parts)
 
 pub some_nodes : (t : Tree) → 1 ≤ size t
@@ -55,7 +56,8 @@ no_kid_outside p w (Inner own left right) v outside =
     let some_left = some_nodes left in
     let some_right = some_nodes right in
     let here : is_kid v (Some (w + 1, w + 1 + size left)) ≡ false =
-    not_kids v (w + 1) (w + 1 + size left) (λ e. outside (omega (arith, e)) (omega (arith, e, some_left))) (λ e. outside (omega (arith, e, some_left)) (omega (arith, e, some_right))) in
+    not_kids v (w + 1) (w + 1 + size left) (λ e. outside (omega (arith, e)) (omega (arith, e, some_left)))
+    (λ e. outside (omega (arith, e, some_left)) (omega (arith, e, some_right))) in
     ap (λ b. b || list_any (has_kid v) (nodes_from p (w + 1) left ++ nodes_from p (w + 1 + size left) right)) here
     ∙ list_any-append (has_kid v) (nodes_from p (w + 1) left) (nodes_from p (w + 1 + size left) right)
     ∙ ap (λ b. b || list_any (has_kid v) (nodes_from p (w + 1 + size left) right))
@@ -107,11 +109,13 @@ right_is_placed p nodes w own left right at =
       before = at.before ++ root ∷ nodes_from p (w + 1) left;
       after = at.after;
       is = at.is ∙ regroup_right at.before (nodes_from p (w + 1) left) (nodes_from p (w + 1 + size left) right) at.after root;
-      place = (let long = length-append at.before (root ∷ nodes_from p (w + 1) left) in let here = count_of_nodes p (w + 1) left in let place = at.place in omega (arith, long, here, place));
+      place = (let long = length-append at.before (root ∷ nodes_from p (w + 1) left) in let here = count_of_nodes p (w + 1) left in let place =
+          at.place in omega (arith, long, here, place));
       clear = λ v lt less.
           list_any-append (has_kid v) at.before (root ∷ nodes_from p (w + 1) left)
           ∙ ap (λ b. b || list_any (has_kid v) (root ∷ nodes_from p (w + 1) left)) (at.clear v (omega (arith, lt)) (omega (arith, less)))
-          ∙ ap (λ b. b || list_any (has_kid v) (nodes_from p (w + 1) left)) (not_kids v (w + 1) (w + 1 + size left) (λ e. omega (arith, e, lt, some_left)) (λ e. omega (arith, e, lt)))
+          ∙ ap (λ b. b || list_any (has_kid v) (nodes_from p (w + 1) left))
+          (not_kids v (w + 1) (w + 1 + size left) (λ e. omega (arith, e, lt, some_left)) (λ e. omega (arith, e, lt)))
           ∙ no_kid_outside p (w + 1) left v (λ one two. omega (arith, lt, two));
     }
 
@@ -153,7 +157,8 @@ met_more w (suc n) (suc m) nodes None le e = cc
 met_more w (suc n) (suc m) nodes (Some v) le e =
     elim (cases_Bool (v == w)) [
       | inl here ↦ or_left (v == w) (is_met w m nodes (parent_of nodes v)) here
-      | inr there ↦ or_right (v == w) (is_met w m nodes (parent_of nodes v)) (met_more w n m nodes (parent_of nodes v) (omega arith) (sym (ap (λ b. b || is_met w n nodes (parent_of nodes v)) there) ∙ e))
+      | inr there ↦ or_right (v == w) (is_met w m nodes (parent_of nodes v))
+          (met_more w n m nodes (parent_of nodes v) (omega arith) (sym (ap (λ b. b || is_met w n nodes (parent_of nodes v)) there) ∙ e))
     ]
 
 met_here : (w n : ℕ) (nodes : List Node) → is_met w (suc n) nodes (Some w) ≡ true
@@ -164,16 +169,20 @@ met_up x w zero nodes at up e = cc
 met_up x w (suc n) nodes None up e = cc
 met_up x w (suc n) nodes (Some v) up e =
     elim (cases_Bool (v == x)) [
-      | inl here ↦ or_right (v == w) (is_met w (suc n) nodes (parent_of nodes v)) (ap (is_met w (suc n) nodes) (ap (parent_of nodes) (true_eq v x here) ∙ up) ∙ met_here w n nodes)
-      | inr there ↦ or_right (v == w) (is_met w (suc n) nodes (parent_of nodes v)) (met_up x w n nodes (parent_of nodes v) up (sym (ap (λ b. b || is_met x n nodes (parent_of nodes v)) there) ∙ e))
+      | inl here ↦ or_right (v == w) (is_met w (suc n) nodes (parent_of nodes v))
+          (ap (is_met w (suc n) nodes) (ap (parent_of nodes) (true_eq v x here) ∙ up) ∙ met_here w n nodes)
+      | inr there ↦ or_right (v == w) (is_met w (suc n) nodes (parent_of nodes v))
+          (met_up x w n nodes (parent_of nodes v) up (sym (ap (λ b. b || is_met x n nodes (parent_of nodes v)) there) ∙ e))
     ]
 
 root_is_met : (p : Program) (nodes : List Node) (w : ℕ) (t : Tree) → IsPlaced p nodes w t → (v : ℕ) → w ≤ v → v < w + size t
     → is_met w (size t) nodes (Some v) ≡ true
-root_is_met p nodes w (Leaf own) at v le lt = let same : v ≡ w = omega (arith, le, lt) in or_left (v == w) (is_met w 0 nodes (parent_of nodes v)) (eq_true v w same)
+root_is_met p nodes w (Leaf own) at v le lt = let same : v ≡ w = omega (arith, le, lt) in
+    or_left (v == w) (is_met w 0 nodes (parent_of nodes v)) (eq_true v w same)
 root_is_met p nodes w (Inner own left right) at v le lt =
     elim (cases_eq w v) [
-      | inl same ↦ subst (λ (u : ℕ). is_met w (size (Inner own left right)) nodes (Some u) ≡ true) same (met_more w 1 (size (Inner own left right)) nodes (Some w) (omega arith) (met_here w 0 nodes))
+      | inl same ↦ subst (λ (u : ℕ). is_met w (size (Inner own left right)) nodes (Some u) ≡ true) same
+          (met_more w 1 (size (Inner own left right)) nodes (Some w) (omega arith) (met_here w 0 nodes))
       | inr other ↦ elim (cases_lt v (w + 1 + size left)) [
         | inl in_left ↦
             met_more w (suc (size left)) (size (Inner own left right)) nodes (Some v) (omega arith)
@@ -249,12 +258,14 @@ owned_by_node p nodes w (Inner own left right) at v i le lt in_job all e =
             Contains-append_right own (owned_in left ++ owned_in right) i
             (Contains-append_left (owned_in left) (owned_in right) i
             (owned_by_node p nodes (w + 1) left (left_is_placed p nodes w own left right at) v i (omega (arith, le, other)) in_left in_job
-            (λ j there. all j (Contains-append_right own (owned_in left ++ owned_in right) j (Contains-append_left (owned_in left) (owned_in right) j there))) e))
+            (λ j there. all j (Contains-append_right own (owned_in left ++ owned_in right) j
+            (Contains-append_left (owned_in left) (owned_in right) j there))) e))
         | inr in_right ↦
             Contains-append_right own (owned_in left ++ owned_in right) i
             (Contains-append_right (owned_in left) (owned_in right) i
             (owned_by_node p nodes (w + 1 + size left) right (right_is_placed p nodes w own left right at) v i in_right (omega (arith, lt)) in_job
-            (λ j there. all j (Contains-append_right own (owned_in left ++ owned_in right) j (Contains-append_right (owned_in left) (owned_in right) j there))) e))
+            (λ j there. all j (Contains-append_right own (owned_in left ++ owned_in right) j
+            (Contains-append_right (owned_in left) (owned_in right) j there))) e))
       ]
     ]
 
@@ -270,8 +281,11 @@ pub each_pred : (p : Program) (test : Pred → Bool) → ((i : ℕ) → i < coun
     → AreOfJob p (owned_in t) → list_all (λ (node : Node). list_all test node.preds) (nodes_from p w t) ≡ true
 each_pred p test pass w (Leaf own) all = both (list_all test (map (pred_of p) own)) true (preds_pass p test pass own all) refl
 each_pred p test pass w (Inner own left right) all =
-    both (list_all test (map (pred_of p) own)) _ (preds_pass p test pass own (λ j there. all j (Contains-append_left own (owned_in left ++ owned_in right) j there)))
+    both (list_all test (map (pred_of p) own)) _ (preds_pass p test pass own
+    (λ j there. all j (Contains-append_left own (owned_in left ++ owned_in right) j there)))
     (list_all-append (λ (node : Node). list_all test node.preds) (nodes_from p (w + 1) left) (nodes_from p (w + 1 + size left) right)
     ∙ both (list_all (λ (node : Node). list_all test node.preds) (nodes_from p (w + 1) left)) _
-    (each_pred p test pass (w + 1) left (λ j there. all j (Contains-append_right own (owned_in left ++ owned_in right) j (Contains-append_left (owned_in left) (owned_in right) j there))))
-    (each_pred p test pass (w + 1 + size left) right (λ j there. all j (Contains-append_right own (owned_in left ++ owned_in right) j (Contains-append_right (owned_in left) (owned_in right) j there)))))
+    (each_pred p test pass (w + 1) left (λ j there. all j (Contains-append_right own (owned_in left ++ owned_in right) j
+    (Contains-append_left (owned_in left) (owned_in right) j there))))
+    (each_pred p test pass (w + 1 + size left) right (λ j there. all j (Contains-append_right own (owned_in left ++ owned_in right) j
+    (Contains-append_right (owned_in left) (owned_in right) j there)))))

@@ -29,7 +29,8 @@ use Rattle.flu_planner.proofs.PlanNodes.{count_of_nodes, AreOfJob, each_pred}
 -- ---- the tree
 -- the nodes of a tree before others
 grouped_nodes : (p : Program) (w : ℕ) (left right : Tree) (rest : List Node)
-    → (nodes_from p (w + 1) left ++ nodes_from p (w + 1 + size left) right) ++ rest ≡ nodes_from p (w + 1) left ++ (nodes_from p (w + 1 + size left) right ++ rest)
+    → (nodes_from p (w + 1) left ++ nodes_from p (w + 1 + size left) right) ++ rest ≡ nodes_from p
+    (w + 1) left ++ (nodes_from p (w + 1 + size left) right ++ rest)
 grouped_nodes p w left right rest = append_assoc (nodes_from p (w + 1) left) (nodes_from p (w + 1 + size left) right) rest
 
 subtrees_of : (p : Program) (w : ℕ) (t : Tree) (wanted : List ℕ) (rest : List Node) → are_subtrees (w + size t) wanted rest ≡ true
@@ -126,7 +127,8 @@ names_are p w (Inner own left right) =
 not_among : (w lo n : ℕ) → w < lo → lo + n ≤ 2 ^ 64 → list_any (is_same_text (name_of w)) (map name_of (range_with_len lo n)) ≡ false
 not_among w lo zero lt le = refl
 not_among w lo (suc n) lt le =
-    ap (λ b. b || list_any (is_same_text (name_of w)) (map name_of (range_with_len (lo + 1) n))) (false_if_not (is_same_text (name_of w) (name_of lo)) (λ e. (let same = same_names w lo (omega arith) (omega arith) e in omega (arith, same, lt))))
+    ap (λ b. b || list_any (is_same_text (name_of w)) (map name_of (range_with_len (lo + 1) n)))
+    (false_if_not (is_same_text (name_of w) (name_of lo)) (λ e. (let same = same_names w lo (omega arith) (omega arith) e in omega (arith, same, lt))))
     ∙ not_among w (lo + 1) n (omega arith) (omega arith)
 
 names_differ : (lo n : ℕ) → lo + n ≤ 2 ^ 64 → are_distinct is_same_text (map name_of (range_with_len lo n)) ≡ true
@@ -155,7 +157,8 @@ preds_are p w (Inner own left right) =
     let long : length (map (pred_of p) own) ≡ length own = length-map own (pred_of p) in
     let one = preds_are p (w + 1) left in
     let two = preds_are p (w + 1 + size left) right in
-    let first : length (own ++ (owned_in left ++ owned_in right)) ≡ length own + length (owned_in left ++ owned_in right) = length-append own (owned_in left ++ owned_in right) in
+    let first : length (own ++ (owned_in left ++ owned_in right)) ≡ length own + length (owned_in left ++ owned_in right) =
+    length-append own (owned_in left ++ owned_in right) in
     let second : length (owned_in left ++ owned_in right) ≡ length (owned_in left) + length (owned_in right) = length-append (owned_in left) (owned_in right) in
     omega (arith, step, split, long, one, two, first, second)
 
@@ -187,17 +190,21 @@ tree_keeps_rules fits p rates depth t le greedy =
     let few = few_nodes g rates depth itags t le greedy in
     let long = count_of_nodes p 0 t in
     let same = append-nil nodes in
-    let once : AreOnce (owned_in t) = λ i. (let all = owned_times g rates depth itags t greedy (all_once p) i in let one = all_once p i in omega (arith, all, one)) in
+    let once : AreOnce (owned_in t) = λ i. (let all = owned_times g rates depth itags t greedy (all_once p) i in let one =
+    all_once p i in omega (arith, all, one)) in
     let owned : AreOfJob p (owned_in t) = λ i there. all_within p i (owned_is_given g rates depth itags t greedy (all_once p) i there) in
     record {
       one_tree = nodes_are_tree p t;
       own_names = ap (are_distinct is_same_text) (names_are p 0 t) ∙ names_differ 0 (size t) (omega (arith, few));
       few_nodes = omega (arith, few, long);
-      few_predicates = (let count = count_is p t in let number = few_numbers (count_of_itags p) (owned_in t) once owned in let all = p.few_itags in omega (arith, count, number, all));
-      shallow = ap (λ ns. list_all is_few (depths_below (0 ∷ []) ns)) (sym same) ∙ shallow_from p g rates depth itags 0 t 0 [] [] greedy (omega (arith, le)) refl;
+      few_predicates = (let count = count_is p t in let number = few_numbers (count_of_itags p) (owned_in t) once owned in let all =
+          p.few_itags in omega (arith, count, number, all));
+      shallow = ap (λ ns. list_all is_few (depths_below (0 ∷ []) ns)) (sym same)
+          ∙ shallow_from p g rates depth itags 0 t 0 [] [] greedy (omega (arith, le)) refl;
       small_keys = each_pred p (λ (pred : Pred). are_small_keys pred.keys) (small_keys fits p) 0 t owned;
     }
 
-pub greedy_keeps_rules : TagsFit → (p : Program) (rates : List ℕ) (depth : ℕ) (nodes : List Node) → depth ≤ 6 → IsGreedyPlan p rates depth nodes → KeepsRules nodes
+pub greedy_keeps_rules : TagsFit → (p : Program) (rates : List ℕ) (depth : ℕ) (nodes : List Node) → depth ≤ 6 → IsGreedyPlan p rates depth nodes
+    → KeepsRules nodes
 greedy_keeps_rules fits p rates depth nodes le plan =
     subst (λ (ns : List Node). KeepsRules ns) (sym plan.nodes_of_tree) (tree_keeps_rules fits p rates depth plan.tree le plan.greedy)

@@ -29,7 +29,8 @@ has_own_key kinds t = is_keyed kinds t.kind || (t.key == 0)
 bare_keys : (keyed : Bool) (keys : Keys) → keys_fit keyed keys ≡ true → list_all (λ k. keyed || (k == 0)) (listed_keys keys) ≡ true
 bare_keys keyed Alone e = both (keyed || (0 == 0)) true (or_right keyed (0 == 0) refl) refl
 bare_keys keyed (One k) e = both (keyed || (k == 0)) true (or_left keyed (k == 0) (and_left keyed (nat_lt k key_count) e)) refl
-bare_keys keyed (Range lo hi) e = all_if keyed (and_left keyed (nat_le lo hi) (and_left (keyed && nat_le lo hi) (nat_lt hi key_count) e)) (listed_keys (Range lo hi))
+bare_keys keyed (Range lo hi) e = all_if keyed (and_left keyed (nat_le lo hi) (and_left (keyed && nat_le lo hi) (nat_lt hi key_count) e))
+    (listed_keys (Range lo hi))
   where
     all_if : (b : Bool) → b ≡ true → (ks : List ℕ) → list_all (λ k. b || (k == 0)) ks ≡ true
     all_if b t [] = refl
@@ -42,20 +43,23 @@ keys_of_found (Some k) keys e = bare_keys k.keyed keys e
 bare_tags : (kinds : List Kind) (n : ℕ) (ks : List ℕ) → list_all (λ k. is_keyed kinds n || (k == 0)) ks ≡ true
     → list_all (has_own_key kinds) (map (λ k. tag n k) ks) ≡ true
 bare_tags kinds n [] e = refl
-bare_tags kinds n (k ∷ ks) e = both (is_keyed kinds n || (k == 0)) _ (and_left (is_keyed kinds n || (k == 0)) _ e) (bare_tags kinds n ks (and_right (is_keyed kinds n || (k == 0)) _ e))
+bare_tags kinds n (k ∷ ks) e = both (is_keyed kinds n || (k == 0)) _ (and_left (is_keyed kinds n || (k == 0)) _ e)
+    (bare_tags kinds n ks (and_right (is_keyed kinds n || (k == 0)) _ e))
 
 bare_refs : (kinds : List Kind) (rs : List TagRef) → list_all (tag_ref_fits kinds) rs ≡ true → list_all (has_own_key kinds) (flat_map listed_tags rs) ≡ true
 bare_refs kinds [] e = refl
 bare_refs kinds (r ∷ rs) e =
     list_all-append (has_own_key kinds) (listed_tags r) (flat_map listed_tags rs)
-    ∙ both (list_all (has_own_key kinds) (listed_tags r)) _ (bare_tags kinds r.kind (listed_keys r.keys) (keys_of_found (slice_get kinds r.kind) r.keys (and_left (tag_ref_fits kinds r) _ e)))
+    ∙ both (list_all (has_own_key kinds) (listed_tags r)) _ (bare_tags kinds r.kind (listed_keys r.keys)
+    (keys_of_found (slice_get kinds r.kind) r.keys (and_left (tag_ref_fits kinds r) _ e)))
     (bare_refs kinds rs (and_right (tag_ref_fits kinds r) _ e))
 
 bare_itags : (kinds : List Kind) (n : ℕ) (ss : List Source) → are_sources kinds ss ≡ true → list_all (λ e. has_own_key kinds e.0) (itags_of_sources n ss) ≡ true
 bare_itags kinds n [] e = refl
 bare_itags kinds n (s ∷ ss) e =
     list_all-append (λ (e : Tag × ℕ). has_own_key kinds e.0) (map (λ t. (t, n)) (tags_of_source s)) (itags_of_sources (n + 1) ss)
-    ∙ both _ _ (list_all-map (λ (e : Tag × ℕ). has_own_key kinds e.0) (λ t. (t, n)) (tags_of_source s) ∙ bare_refs kinds s.tags (and_right _ _ (and_left _ _ (and_left (source_fits kinds s) _ e))))
+    ∙ both _ _ (list_all-map (λ (e : Tag × ℕ). has_own_key kinds e.0) (λ t. (t, n)) (tags_of_source s)
+    ∙ bare_refs kinds s.tags (and_right _ _ (and_left _ _ (and_left (source_fits kinds s) _ e))))
     (bare_itags kinds (n + 1) ss (and_right (source_fits kinds s) _ e))
 
 -- ---- lists whose elements all differ by a test
@@ -73,7 +77,8 @@ pub distinct_at : {X : Type 0} (same : X → X → Bool) (xs : List X) (i j : �
 distinct_at same [] i j d e lt in_list same_ij = omega arith
 distinct_at same (x ∷ xs) i zero d e lt in_list same_ij = omega arith
 distinct_at same (x ∷ xs) zero (suc j) d e lt in_list same_ij =
-    not_both (list_any (same x) xs) (list_any_at (same x) xs j d (omega arith) same_ij) (not_true (list_any (same x) xs) (and_left (not (list_any (same x) xs)) _ e))
+    not_both (list_any (same x) xs) (list_any_at (same x) xs j d (omega arith) same_ij)
+    (not_true (list_any (same x) xs) (and_left (not (list_any (same x) xs)) _ e))
 distinct_at same (x ∷ xs) (suc i) (suc j) d e lt in_list same_ij =
     distinct_at same xs i j d (and_right (not (list_any (same x) xs)) _ e) (omega arith) (omega arith) same_ij
 
@@ -115,7 +120,8 @@ apart_from_later : (n : ℕ) (ts : List Tag) (ss : List Source)
     → list_all (λ x. not (list_any (is_same_itag x) (itags_of_sources (n + 1) ss))) (map (λ u. (u, n)) ts) ≡ true
 apart_from_later n [] ss = refl
 apart_from_later n (t ∷ ts) ss =
-    both (not (list_any (is_same_itag (t, n)) (itags_of_sources (n + 1) ss))) _ (ap not (not_of_later (t, n) (n + 1) ss (omega arith))) (apart_from_later n ts ss)
+    both (not (list_any (is_same_itag (t, n)) (itags_of_sources (n + 1) ss))) _ (ap not (not_of_later (t, n) (n + 1) ss (omega arith)))
+    (apart_from_later n ts ss)
 
 distinct_itags : (kinds : List Kind) (n : ℕ) (ss : List Source) → are_sources kinds ss ≡ true → are_distinct is_same_itag (itags_of_sources n ss) ≡ true
 distinct_itags kinds n [] e = refl
@@ -130,7 +136,8 @@ number n = record { 0 = n }
 
 same_itag : (a b : Tag × ℕ) → a.0.kind ≡ b.0.kind → a.0.key ≡ b.0.key → a.1 ≡ b.1 → is_same_itag a b ≡ true
 same_itag a b kinds keys sources =
-    both (is_same_tag a.0 b.0) (a.1 == b.1) (both (a.0.kind == b.0.kind) (a.0.key == b.0.key) (eq_true a.0.kind b.0.kind kinds) (eq_true a.0.key b.0.key keys)) (eq_true a.1 b.1 sources)
+    both (is_same_tag a.0 b.0) (a.1 == b.1) (both (a.0.kind == b.0.kind) (a.0.key == b.0.key) (eq_true a.0.kind b.0.kind kinds)
+    (eq_true a.0.key b.0.key keys)) (eq_true a.1 b.1 sources)
 
 -- itags of one tag and one source are one
 pub itag_is_tag_and_source : (p : Program) (i j : ℕ) → i < count_of_itags p → j < count_of_itags p
@@ -165,7 +172,8 @@ matches_itself p i =
     let t = tag_of_itag p (number i) in
     let s = source_of_itag p (number i) in
     both (kind_matches p.kinds (pred_of p i).kind (pred_of p i).keys t) (s == s)
-    (both (t.kind == t.kind) (key_matches (is_keyed p.kinds t.kind) (own_keys (is_keyed p.kinds t.kind) t.key) t.key) (eq_true t.kind t.kind refl) (key_matches_itself (is_keyed p.kinds t.kind) t.key))
+    (both (t.kind == t.kind) (key_matches (is_keyed p.kinds t.kind) (own_keys (is_keyed p.kinds t.kind) t.key) t.key) (eq_true t.kind t.kind refl)
+    (key_matches_itself (is_keyed p.kinds t.kind) t.key))
     (eq_true s s refl)
 
 same_key : (keyed : Bool) (a b : ℕ) → (keyed ≡ false → (a ≡ 0) × (b ≡ 0)) → key_matches keyed (own_keys keyed b) a ≡ true → a ≡ b

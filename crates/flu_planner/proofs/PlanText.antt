@@ -33,11 +33,13 @@ sources_within : (n b : ℕ) (ss : List Source) → n + length ss ≤ b → list
 sources_within n b [] le = refl
 sources_within n b (s ∷ ss) le =
     list_all-append (λ (e : Tag × ℕ). nat_lt e.1 b) (map (λ t. (t, n)) (tags_of_source s)) (itags_of_sources (n + 1) ss)
-    ∙ both (list_all (λ (e : Tag × ℕ). nat_lt e.1 b) (map (λ t. (t, n)) (tags_of_source s))) _ (of_source n b (tags_of_source s) (omega arith)) (sources_within (n + 1) b ss (omega arith))
+    ∙ both (list_all (λ (e : Tag × ℕ). nat_lt e.1 b) (map (λ t. (t, n)) (tags_of_source s))) _ (of_source n b (tags_of_source s) (omega arith))
+    (sources_within (n + 1) b ss (omega arith))
 
 pub source_of_job : (p : Program) (i : ℕ) → i < count_of_itags p → source_of_itag p (number i) < length p.sources
 source_of_job p i lt =
-    true_lt (source_of_itag p (number i)) (length p.sources) (all_at (λ (e : Tag × ℕ). nat_lt e.1 (length p.sources)) (itags p) i (tag 0 0, 0) (sources_within 0 (length p.sources) p.sources (omega arith)) lt)
+    true_lt (source_of_itag p (number i)) (length p.sources) (all_at (λ (e : Tag × ℕ). nat_lt e.1 (length p.sources)) (itags p) i (tag 0 0, 0)
+    (sources_within 0 (length p.sources) p.sources (omega arith)) lt)
 
 kind_of_job : TagsFit → (p : Program) (i : ℕ) → i < count_of_itags p → (tag_of_itag p (number i)).kind < length p.kinds
 kind_of_job fits p i lt =
@@ -48,7 +50,8 @@ pred_names : TagsFit → (p : Program) (i : ℕ) → i < count_of_itags p → pr
 pred_names fits p i lt =
     let t = tag_of_itag p (number i) in
     let s = source_of_itag p (number i) in
-    both (is_some (slice_get p.kinds t.kind)) (is_some (slice_get p.sources s)) (slice_get-is_some p.kinds t.kind (kind_of_job fits p i lt)) (slice_get-is_some p.sources s (source_of_job p i lt))
+    both (is_some (slice_get p.kinds t.kind)) (is_some (slice_get p.sources s)) (slice_get-is_some p.kinds t.kind (kind_of_job fits p i lt))
+    (slice_get-is_some p.sources s (source_of_job p i lt))
 
 -- ---- names
 abbrev is_named : ℕ → Bool
@@ -63,7 +66,8 @@ names_are p w (Leaf own) le = both (is_name (name_of w)) true (name_is w (omega 
 names_are p w (Inner own left right) le =
     both (is_name (name_of w)) _ (name_is w (omega (arith, le)))
     (list_all-append (λ (node : Node). is_name node.name) (nodes_from p (w + 1) left) (nodes_from p (w + 1 + size left) right)
-    ∙ both (list_all (λ (node : Node). is_name node.name) (nodes_from p (w + 1) left)) _ (names_are p (w + 1) left (omega (arith, le))) (names_are p (w + 1 + size left) right (omega (arith, le))))
+    ∙ both (list_all (λ (node : Node). is_name node.name) (nodes_from p (w + 1) left)) _ (names_are p (w + 1) left (omega (arith, le)))
+    (names_are p (w + 1 + size left) right (omega (arith, le))))
 
 -- ---- the whole
 pub tree_is_owned : (p : Program) (rates : List ℕ) (depth : ℕ) (t : Tree) → IsGreedy (dependencies p) rates depth (all_itags p) t → AreOfJob p (owned_in t)
@@ -76,5 +80,8 @@ pub greedy_has_text : TagsFit → (p : Program) (rates : List ℕ) (depth : ℕ)
     → IsTrue (nodes_fit p nodes) × IsTrue (list_all (λ (node : Node). is_name node.name) nodes)
 greedy_has_text fits p rates depth nodes le plan =
     let few = few_nodes (dependencies p) rates depth (all_itags p) plan.tree le plan.greedy in
-    subst (λ (ns : List Node). HasText p ns) (sym plan.nodes_of_tree)
-    (each_pred p (pred_fits p) (pred_names fits p) 0 plan.tree (tree_is_owned p rates depth plan.tree plan.greedy), names_are p 0 plan.tree (omega (arith, few)))
+    subst (λ (ns : List Node). HasText p ns) (sym plan.nodes_of_tree) (
+      each_pred p (pred_fits p) (pred_names fits p) 0 plan.tree (tree_is_owned p rates depth plan.tree plan.greedy),
+      names_are p 0 plan.tree
+          (omega (arith, few)),
+    )

@@ -1,5 +1,5 @@
 -- A greedy plan is valid for its job.
-use Rattle.std.proofs.Common.{◌≡◌, ◌<◌, ◌≤◌, ◌+◌, ℕ, zero, suc, true, false, cond, inl, inr, Option, Some, None, List, [], ◌∷◌, ◌++◌, length, refl, sym, ap, subst, ◌∙◌, arith}
+use Rattle.std.proofs.Common.{◌≡◌, ◌<◌, ◌≤◌, ◌+◌, ℕ, zero, suc, true, false, cond, inl, inr, Option, Some, None, List, [], ◌++◌, refl, sym, ap, subst, ◌∙◌, arith}
 use Rattle.std.specs.Prelude.{count_by, Contains}
 use Rattle.std.specs.List.{list_any}
 use Rattle.std.proofs.lemmas.Bool.{cases_lt, cases_eq, or_left, or_right, true≢false}
@@ -7,7 +7,6 @@ use Rattle.std.proofs.lemmas.List.{append-nil}
 use Rattle.std.proofs.lemmas.List.Elements.{Contains-append_left, Contains-append_right}
 use Rattle.std.proofs.lemmas.List.Sums.{sum_by-cons, sum_by-append}
 use Rattle.flu_lemmas.proofs.Tests.{false_if_not}
-use Rattle.flu_model.specs.declared.events.Itag.{Itag}
 use Rattle.flu_model.specs.declared.jobs.Program.{Program}
 use Rattle.flu_model.specs.declared.plans.Node.{Node}
 use Rattle.flu_model.specs.Itags.{count_of_itags}
@@ -55,9 +54,13 @@ counted p w (Inner own left right) i in_job all few =
     let split = sum_by-append (λ n. cond (node_owns p (number i) n) 1 0) ls rs in
     let first = times_append i own (owned_in left ++ owned_in right) in
     let second = times_append i (owned_in left) (owned_in right) in
-    let here = counted_root p w own kids i in_job (λ j there. all j (Contains-append_left own (owned_in left ++ owned_in right) j there)) (omega (arith, few, first)) in
-    let one = counted p (w + 1) left i in_job (λ j there. all j (Contains-append_right own (owned_in left ++ owned_in right) j (Contains-append_left (owned_in left) (owned_in right) j there))) (omega (arith, few, first, second)) in
-    let two = counted p (w + 1 + size left) right i in_job (λ j there. all j (Contains-append_right own (owned_in left ++ owned_in right) j (Contains-append_right (owned_in left) (owned_in right) j there))) (omega (arith, few, first, second)) in
+    let here = counted_root p w own kids i in_job (λ j there. all j (Contains-append_left own (owned_in left ++ owned_in right) j there))
+    (omega (arith, few, first)) in
+    let one = counted p (w + 1) left i in_job (λ j there. all j (Contains-append_right own (owned_in left ++ owned_in right) j
+    (Contains-append_left (owned_in left) (owned_in right) j there))) (omega (arith, few, first, second)) in
+    let two = counted p (w + 1 + size left) right i in_job (λ j there. all j
+    (Contains-append_right own (owned_in left ++ owned_in right) j (Contains-append_right (owned_in left) (owned_in right) j there)))
+    (omega (arith, few, first, second)) in
     omega (arith, step, split, first, second, here, one, two)
 
 -- ---- the itags of unrelated nodes are independent
@@ -91,22 +94,27 @@ module _ (p : Program) (rates : List ℕ) (nodes : List Node) where
       all k (contained_if_times k itags (omega (arith, parts, some)))) in
       let at_left = left_is_placed p nodes w own left right at in
       let at_right = right_is_placed p nodes w own left right at in
-      let of_left : (v k : ℕ) → w + 1 ≤ v → v < w + 1 + size left → k < count_of_itags p → owns p nodes v (number k) ≡ true → Contains lefts k = λ v k lo hi in_k owned.
+      let of_left : (v k : ℕ) → w + 1 ≤ v → v < w + 1 + size left → k < count_of_itags p → owns p nodes v (number k) ≡ true → Contains lefts k =
+      λ v k lo hi in_k owned.
       owned_is_given (dependencies p) rates depth lefts left greedy.3 few.0 k
       (owned_by_node p nodes (w + 1) left at_left v k lo hi in_k
       (λ x there. in_lefts x (owned_is_given (dependencies p) rates depth lefts left greedy.3 few.0 x there)) owned) in
-      let of_right : (v k : ℕ) → w + 1 + size left ≤ v → v < w + 1 + size left + size right → k < count_of_itags p → owns p nodes v (number k) ≡ true → Contains rights k = λ v k lo hi in_k owned.
+      let of_right : (v k : ℕ) → w + 1 + size left ≤ v → v < w + 1 + size left + size right → k < count_of_itags p → owns p nodes v
+      (number k) ≡ true → Contains rights k = λ v k lo hi in_k owned.
       owned_is_given (dependencies p) rates depth rights right greedy.4 few.1 k
       (owned_by_node p nodes (w + 1 + size left) right at_right v k lo hi in_k
       (λ x there. in_rights x (owned_is_given (dependencies p) rates depth rights right greedy.4 few.1 x there)) owned) in
       elim (cases_eq w a) [
-        | inl same ↦ absurd (unrelated nodes a b apart (subst (λ (u : ℕ). is_within nodes u b ≡ true) same (within_root p nodes w (Inner own left right) at b lb hb)))
+        | inl same ↦ absurd (unrelated nodes a b apart (subst (λ (u : ℕ). is_within nodes u b ≡ true) same
+            (within_root p nodes w (Inner own left right) at b lb hb)))
         | inr a_below ↦ elim (cases_eq w b) [
-          | inl same ↦ absurd (unrelated_back nodes a b apart (subst (λ (u : ℕ). is_within nodes u a ≡ true) same (within_root p nodes w (Inner own left right) at a la ha)))
+          | inl same ↦ absurd (unrelated_back nodes a b apart (subst (λ (u : ℕ). is_within nodes u a ≡ true) same
+              (within_root p nodes w (Inner own left right) at a la ha)))
           | inr b_below ↦ elim (cases_lt a (w + 1 + size left)) [
             | inl a_left ↦ elim (cases_lt b (w + 1 + size left)) [
               | inl b_left ↦
-                  independent depth lefts (w + 1) left greedy.3 few.0 in_lefts at_left a b i j (omega (arith, la, a_below)) a_left (omega (arith, lb, b_below)) b_left in_i in_j one two apart
+                  independent depth lefts (w + 1) left greedy.3 few.0 in_lefts at_left a b i j (omega (arith, la, a_below)) a_left
+                  (omega (arith, lb, b_below)) b_left in_i in_j one two apart
               | inr b_right ↦
                   (parted_apart (dependencies p) rates itags own lefts rights once parting i j
                   (of_left a i (omega (arith, la, a_below)) a_left in_i one)
@@ -118,7 +126,8 @@ module _ (p : Program) (rates : List ℕ) (nodes : List Node) where
                   (of_left b j (omega (arith, lb, b_below)) b_left in_j two)
                   (of_right a i a_right (omega (arith, ha)) in_i one)).1
               | inr b_right ↦
-                  independent depth rights (w + 1 + size left) right greedy.4 few.1 in_rights at_right a b i j a_right (omega (arith, ha)) b_right (omega (arith, hb)) in_i in_j one two apart
+                  independent depth rights (w + 1 + size left) right greedy.4 few.1 in_rights at_right a b i j a_right (omega (arith, ha)) b_right
+                  (omega (arith, hb)) in_i in_j one two apart
             ]
           ]
         ]

@@ -10,7 +10,8 @@ use Rattle.flu_lemmas.specs.Sorting.{in_order, put_in_order}
 pub put_at_place : {X : Type 0} (before : X → X → Bool) (x : X) (ys : List X) → put_in_order before x ys ≡ insert ys (position_or_len (before x) ys) x
 put_at_place before x [] = refl
 put_at_place before x (y ∷ ys) =
-    elim (before x y) as (λ b. before x y ≡ b → cond b (x ∷ y ∷ ys) (y ∷ put_in_order before x ys) ≡ insert (y ∷ ys) (cond (not b) (1 + position_or_len (before x) ys) 0) x) [
+    elim (before x y) as (λ b. before x y ≡ b → cond b (x ∷ y ∷ ys) (y ∷ put_in_order before x ys) ≡ insert (y ∷ ys)
+    (cond (not b) (1 + position_or_len (before x) ys) 0) x) [
       | true ↦ λ less. refl
       | false ↦ λ not_less.
           (let step : 1 + position_or_len (before x) ys ≡ suc (position_or_len (before x) ys) = omega arith in
@@ -43,6 +44,7 @@ place_within p (x ∷ xs) =
 
 pub place_at_none : {X : Type 0} (p : X → Bool) (xs : List X) → position p xs ≡ None → length xs ≡ position_or_len p xs
 place_at_none p xs e =
-    let past : length xs ≤ position_or_len p xs = ltb-false (position_or_len p xs) (length xs) (no_place_is (nat_lt (position_or_len p xs) (length xs)) (position_or_len p xs) e) in
+    let past : length xs ≤ position_or_len p xs = ltb-false (position_or_len p xs) (length xs)
+    (no_place_is (nat_lt (position_or_len p xs) (length xs)) (position_or_len p xs) e) in
     let within : position_or_len p xs ≤ length xs = place_within p xs in
     omega arith

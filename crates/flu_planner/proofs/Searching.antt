@@ -60,7 +60,8 @@ goes_on g itags place connected rest lt now =
                 (let kept_here = kept (g i) rest k new in
                 let once = times_if_contained k rest kept_here.0 in
                 let old = now.parts k in
-                connected_step g itags (least itags) i k (now.walks i (Contains-get_or connected place 0 lt)) kept_here.1 (contained_if_times k itags (omega arith)))
+                connected_step g itags (least itags) i k (now.walks i (Contains-get_or connected place 0 lt)) kept_here.1
+                (contained_if_times k itags (omega arith)))
           ];
       seen = λ d less k there.
           (let kept_here = kept (λ j. not (g i j)) rest k there in
@@ -93,7 +94,8 @@ ends g itags place connected rest le some now = record {
 }
 
 -- ---- what is found
-module _ (g : Graph) (both : (i j : ℕ) → g i j ≡ g j i) (itags : List ℕ) (up : IsTrue (is_rising itags)) (connected rest : List ℕ) (now : IsReached g itags connected rest) where
+module _ (g : Graph) (both : (i j : ℕ) → g i j ≡ g j i) (itags : List ℕ) (up : IsTrue (is_rising itags)) (connected rest : List ℕ)
+    (now : IsReached g itags connected rest) where
   pub connected_in : (k : ℕ) → Contains connected k → Contains itags k
   connected_in k there = let once = times_if_contained k connected there in let parts = now.parts k in contained_if_times k itags (omega arith)
 
@@ -114,7 +116,11 @@ module _ (g : Graph) (both : (i j : ℕ) → g i j ≡ g j i) (itags : List ℕ)
   some_side k there =
       let once = times_if_contained k itags there in
       let parts = now.parts k in
-      elim (cases_lt 0 (times k connected)) [ inl some ↦ inl (contained_if_times k connected (omega arith)) | inr none ↦ inr (contained_if_times k rest (omega arith)) ]
+      elim (cases_lt 0 (times k connected)) [
+        | inl some ↦ inl (contained_if_times k connected (omega arith))
+        | inr none ↦ inr
+            (contained_if_times k rest (omega arith))
+      ]
 
   -- no walk leads out of what is connected
   pub stays_step : (i j : ℕ) → Contains connected i → Contains itags j → g i j ≡ true → Contains connected j

@@ -50,7 +50,8 @@ read_is p i j le other =
     let places : List ℕ = range_with_len 0 (count_of_itags p * 256) in
     let size = length-range_with_len 0 (count_of_itags p * 256) in
     let inside : k < length places = omega arith in
-    set_is (map (entry p) places) k ∙ get_or-map (entry p) places k 0 false inside ∙ ap (entry p) (get_or-range_with_len 0 (count_of_itags p * 256) k 0 (omega arith) ∙ omega arith)
+    set_is (map (entry p) places) k ∙ get_or-map (entry p) places k 0 false inside
+    ∙ ap (entry p) (get_or-range_with_len 0 (count_of_itags p * 256) k 0 (omega arith) ∙ omega arith)
     ∙ ap (λ n. are_dependent p n (k % 256)) (row_of i j (omega arith)) ∙ ap (λ n. are_dependent p i n) (place_of i j (omega arith))
     ∙ ap (λ b. b && (nat_lt j (count_of_itags p) && dependencies p i j)) (le-leb i j le)
     ∙ ap (λ b. b && dependencies p i j) (lt-ltb j (count_of_itags p) other)

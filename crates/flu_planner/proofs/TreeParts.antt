@@ -119,7 +119,8 @@ pub times_of_groups : (rates left right : List ℕ) (cs : List (List ℕ)) (i : 
     → times i (grouped rates left right cs).0 + times i (grouped rates left right cs).1 ≡ times i left + times i right + times i (joined cs)
 times_of_groups rates left right [] i = omega arith
 times_of_groups rates left right (c ∷ cs) i =
-    elim (goes_left rates left right) as (λ b. times i (cond b (grouped rates (left ++ c) right cs) (grouped rates left (right ++ c) cs)).0 + times i (cond b (grouped rates (left ++ c) right cs) (grouped rates left (right ++ c) cs)).1 ≡ times i left + times i right + times i (c ++ joined cs)) [
+    elim (goes_left rates left right) as (λ b. times i (cond b (grouped rates (left ++ c) right cs) (grouped rates left (right ++ c) cs)).0 + times i
+    (cond b (grouped rates (left ++ c) right cs) (grouped rates left (right ++ c) cs)).1 ≡ times i left + times i right + times i (c ++ joined cs)) [
       | true ↦
           (let rest = times_of_groups rates (left ++ c) right cs i in
           let more = times_append i left c in
@@ -162,11 +163,13 @@ goes_whole rates left right [] c there = absurd (contains_none c there)
 goes_whole rates left right (d ∷ cs) c there =
     elim (goes_left rates left right) as (λ b. IsWholeIn c (cond b (grouped rates (left ++ d) right cs) (grouped rates left (right ++ d) cs))) [
       | true ↦ elim (contains_cases d c cs there) [
-        | inl same ↦ inl (λ i inside. (groups_stay rates (left ++ d) right cs).in_left i (Contains-append_right left d i (subst (λ (e : List ℕ). Contains e i) (sym same) inside)))
+        | inl same ↦ inl (λ i inside. (groups_stay rates (left ++ d) right cs).in_left i
+            (Contains-append_right left d i (subst (λ (e : List ℕ). Contains e i) (sym same) inside)))
         | inr later ↦ goes_whole rates (left ++ d) right cs c later
       ]
       | false ↦ elim (contains_cases d c cs there) [
-        | inl same ↦ inr (λ i inside. (groups_stay rates left (right ++ d) cs).in_right i (Contains-append_right right d i (subst (λ (e : List ℕ). Contains e i) (sym same) inside)))
+        | inl same ↦ inr (λ i inside. (groups_stay rates left (right ++ d) cs).in_right i
+            (Contains-append_right right d i (subst (λ (e : List ℕ). Contains e i) (sym same) inside)))
         | inr later ↦ goes_whole rates left (right ++ d) cs c later
       ]
     ]

@@ -65,7 +65,8 @@ component_is_listed g rates itags cs ds one two (x ∷ xs) there =
 
 components_same : (g : Graph) (rates itags : List ℕ) (cs ds : List (List ℕ)) → AreComponents g rates itags cs → AreComponents g rates itags ds → cs ≡ ds
 components_same g rates itags cs ds one two =
-    turn_same (comes_first rates) (one_way rates) cs ds (component_is_listed g rates itags cs ds one two) (component_is_listed g rates itags ds cs two one) (from_turn (comes_first rates) cs one.in_turn) (from_turn (comes_first rates) ds two.in_turn)
+    turn_same (comes_first rates) (one_way rates) cs ds (component_is_listed g rates itags cs ds one two) (component_is_listed g rates itags ds cs two one)
+    (from_turn (comes_first rates) cs one.in_turn) (from_turn (comes_first rates) ds two.in_turn)
 
 -- ---- a leaf has no parting
 not_leaf : (g : Graph) (rates : List ℕ) (depth : ℕ) (itags own left right : List ℕ) → IsLeaf g rates (suc depth) itags
@@ -74,7 +75,8 @@ not_leaf g rates depth itags own left right (inl none) p = omega (arith, none)
 not_leaf g rates depth itags own left right (inr (inl few)) p =
     let cut = p.least_cut.apart in
     let rest = remaining rates itags p.count in
-    let same : cut.one ≡ cut.other = only_one itags cut.one cut.other few (remaining_in rates itags p.count cut.one cut.one_in) (remaining_in rates itags p.count cut.other cut.other_in) in
+    let same : cut.one ≡ cut.other = only_one itags cut.one cut.other few (remaining_in rates itags p.count cut.one cut.one_in)
+    (remaining_in rates itags p.count cut.other cut.other_in) in
     cut.apart (subst (λ (k : ℕ). AreConnected g rest cut.one k) same (connected_itself g rest cut.one))
 not_leaf g rates depth itags own left right (inr (inr whole)) p = whole p.count p.least_cut.apart
 
@@ -94,7 +96,8 @@ parting_same g rates itags own left right own' left' right' p q =
         | inr lt ↦ absurd (p.least_cut.least q.count lt q.least_cut.apart)
       ]
     ] in
-    let are : AreComponents g rates (remaining rates itags q.count) p.components = subst (λ (n : ℕ). AreComponents g rates (remaining rates itags n) p.components) count p.are in
+    let are : AreComponents g rates (remaining rates itags q.count) p.components =
+    subst (λ (n : ℕ). AreComponents g rates (remaining rates itags n) p.components) count p.are in
     let components : p.components ≡ q.components = components_same g rates (remaining rates itags q.count) p.components q.components are q.are in
     record {
       same_own = p.own_removed ∙ ap (removed rates itags) count ∙ sym q.own_removed;
@@ -117,4 +120,5 @@ tree_same g rates (suc depth) itags (Inner own l r) (Inner own' l' r') one two =
 
 pub greedy_is_unique : (p : Program) (rates : List ℕ) (depth : ℕ) (a b : List Node) → IsGreedyPlan p rates depth a → IsGreedyPlan p rates depth b → a ≡ b
 greedy_is_unique p rates depth a b one two =
-    one.nodes_of_tree ∙ ap (nodes_from p 0) (tree_same (dependencies p) rates depth (all_itags p) one.tree two.tree one.greedy two.greedy) ∙ sym two.nodes_of_tree
+    one.nodes_of_tree ∙ ap (nodes_from p 0) (tree_same (dependencies p) rates depth (all_itags p) one.tree two.tree one.greedy two.greedy)
+    ∙ sym two.nodes_of_tree

@@ -21,11 +21,13 @@ GreedyIsValid = (p : Program) (rates : List ℕ) (depth : ℕ) (nodes : List Nod
 
 -- its predicates name kinds and sources of the job, and its names are names of the language
 abbrev pub GreedyHasText : Type 0
-GreedyHasText = (p : Program) (rates : List ℕ) (depth : ℕ) (nodes : List Node) → depth ≤ 6 → IsGreedyPlan p rates depth nodes → IsTrue (nodes_fit p nodes) × IsTrue (list_all (λ (node : Node). is_name node.name) nodes)
+GreedyHasText = (p : Program) (rates : List ℕ) (depth : ℕ) (nodes : List Node) → depth ≤ 6 → IsGreedyPlan p rates depth nodes → IsTrue
+    (nodes_fit p nodes) × IsTrue (list_all (λ (node : Node). is_name node.name) nodes)
 
 -- its text is read as this plan again
 abbrev pub GreedyIsReadAgain : Type 0
-GreedyIsReadAgain = (p : Program) (rates : List ℕ) (depth : ℕ) (nodes : List Node) → depth ≤ 6 → IsGreedyPlan p rates depth nodes → plan_in p (printed p nodes) ≡ Ok nodes
+GreedyIsReadAgain = (p : Program) (rates : List ℕ) (depth : ℕ) (nodes : List Node) → depth ≤ 6 → IsGreedyPlan p rates depth nodes → plan_in p
+    (printed p nodes) ≡ Ok nodes
 
 -- a job has one greedy plan for some rates and a depth
 abbrev pub GreedyIsUnique : Type 0

@@ -1,17 +1,14 @@
 -- The events of a stream are a run.
 use Rattle.std.proofs.Common.{◌≡◌, ◌≤◌, ◌<◌, ◌+◌, ℕ, zero, suc, true, List, [], ◌∷◌, length, drop, refl, subst, arith}
-use Rattle.std.specs.Prelude.{nat_le, ◌==◌}
-use Rattle.std.proofs.lemmas.Grind.{common_steps}
+use Rattle.std.specs.Prelude.{◌==◌}
 use Rattle.flu_model.specs.declared.events.Event.{Event}
 use Rattle.flu_model.specs.declared.events.Item.{Item}
 use Rattle.flu_model.specs.declared.events.Item.TheVariants.{Event as EventItem, Beat, End}
 use Rattle.flu_model.specs.Merging.{events_of}
 use Rattle.flu_model.specs.Streaming.{is_stream_from, are_streams}
+use Rattle.flu_lemmas.proofs.Numbers.{le_lower}
 use Rattle.flu_lemmas.proofs.Tests.{and_left, and_right, both, true_le}
 use Rattle.flu_seq.specs.Heads.{is_run, items_at}
-
-le_lower : (a b t : ℕ) → a ≤ b → nat_le b t ≡ true → nat_le a t ≡ true
-le_lower a b t le e = grind (arith, common_steps)
 
 pub run-lower : (i a b : ℕ) (xs : List Event) → a ≤ b → is_run i b xs ≡ true → is_run i a xs ≡ true
 run-lower i a b [] le e = refl

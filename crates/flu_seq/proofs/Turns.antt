@@ -13,6 +13,7 @@ use Rattle.flu_model.specs.declared.events.Item.{Item}
 use Rattle.flu_model.specs.Merging.{events_of, is_before, all_events, merged, IsMerged}
 use Rattle.flu_model.specs.Streaming.{is_stream_from, are_streams}
 use Rattle.flu_lemmas.proofs.Elements.{all_map, all_push}
+use Rattle.flu_lemmas.proofs.Numbers.{same_number, apart_below}
 use Rattle.flu_lemmas.proofs.Tests.{and_left, and_right, both, lt_true, le_true, true_le, true_lt, true_eq}
 use Rattle.flu_seq.specs.declared.merging.Head.{Head}
 use Rattle.flu_lemmas.specs.Totals.{total}
@@ -107,9 +108,6 @@ none_of j (r ∷ hs) e = (by_test (r.0.itag == j) (omega arith), none_of j hs (o
 all_least : (x : Reverse Head) (hs : List (Reverse Head)) → AllByRecursion (λ (r : Reverse Head). is_lt (head_cmp x r) ≡ false) hs → AllByRecursion (λ (r : Reverse Head). (r.0.itag == x.0.itag) ≡ false) hs → AllByRecursion (λ (r : Reverse Head). is_before (event_at x.0) (event_at r.0) ≡ true) hs
 all_least x [] a b = tt
 all_least x (r ∷ hs) a b = (least x r a.0 b.0, all_least x hs a.1 b.1)
-
-same_number : (n : ℕ) → (n == n) ≡ true
-same_number n = grind (arith, common_steps)
 
 module _ (lists : List (List Item)) (hs ks : List (Reverse Head)) (x : Reverse Head) (perm : IsPermutation hs (x ∷ ks)) (ready : Ready lists hs) where
   counts : (j : ℕ) → heads_of j hs ≡ cond (x.0.itag == j) 1 0 + heads_of j ks
@@ -216,9 +214,6 @@ begin lists hs e heap = record {
   none_yet = λ j le. ap (heads_of j) e;
 }
 
-apart_from : (i j : ℕ) → i + 1 ≤ j → (i == j) ≡ false
-apart_from i j le = grind (arith, common_steps)
-
 pub begin_turn : (lists : List (List Item)) (good : are_streams 0 lists ≡ true) (i : ℕ) (hs new : List (Reverse Head)) → i < length lists → Begun lists i hs → Adds lists i 0 hs new → Begun lists (i + 1) new
 begin_turn lists good i hs new lt begun adds = record {
   ready = added_ready lists good i 0 lt hs new adds begun.ready (begun.none_yet i (omega arith));
@@ -231,7 +226,7 @@ begin_turn lists good i hs new lt begun adds = record {
       );
   none_yet = λ j le. (
       let a : heads_of j new ≤ cond (i == j) 1 0 + heads_of j hs = added_heads lists good i 0 lt hs new adds j in
-      let b : cond {A = ℕ} (i == j) 1 0 ≡ 0 = ap (λ t. cond {A = ℕ} t 1 0) (apart_from i j le) in
+      let b : cond {A = ℕ} (i == j) 1 0 ≡ 0 = ap (λ t. cond {A = ℕ} t 1 0) (apart_below i j (omega (arith, le))) in
       let c : heads_of j hs ≡ 0 = begun.none_yet j (omega arith) in
       omega (arith, a, b, c)
       );

@@ -44,7 +44,8 @@ not_less a b le =
 abbrev number : ℕ → Itag
 number n = record { 0 = n }
 
-pub first_is : (p : Program) (nodes : List Node) (a b : ℕ) (i j : Itag) → ((d : ℕ) → d < a → NoneOfNode p nodes d) → ((e : ℕ) → e < b → NoneOfNodes p nodes a e) → AreFirstItags p nodes a b i j → IsFirstClash p nodes a i b j
+pub first_is : (p : Program) (nodes : List Node) (a b : ℕ) (i j : Itag) → ((d : ℕ) → d < a → NoneOfNode p nodes d)
+    → ((e : ℕ) → e < b → NoneOfNodes p nodes a e) → AreFirstItags p nodes a b i j → IsFirstClash p nodes a i b j
 first_is p nodes a b i j before_a before_b first = record {
   clash = first.clash;
   first = λ d k e l clash.
@@ -76,7 +77,8 @@ related_to_itself nodes a some = ap (λ b. b || is_within nodes a a) (within_its
 related_turns : (nodes : List Node) (a b : ℕ) → are_related nodes a b ≡ are_related nodes b a
 related_turns nodes a b = or_turns (is_within nodes a b) (is_within nodes b a)
 
-valid_if_none : (p : Program) (nodes : List Node) → DependencyTurns → ((k : Itag) → k.0 < count_of_itags p → HasOneOwner p nodes k) → ((a : ℕ) → NoneOfNode p nodes a) → IsValid p nodes
+valid_if_none : (p : Program) (nodes : List Node) → DependencyTurns → ((k : Itag) → k.0 < count_of_itags p → HasOneOwner p nodes k)
+    → ((a : ℕ) → NoneOfNode p nodes a) → IsValid p nodes
 valid_if_none p nodes turns counted none = record {
   one_owner = counted;
   independent = λ a b i j hi hj first second unrelated.
@@ -110,12 +112,14 @@ fault_is_not_valid p nodes (Clash a i b j) fault valid =
     not_both (is_dependent p (tag_of_itag p i) (tag_of_itag p j)) clash.dependent
     (valid.independent a b i j clash.i_in_range clash.j_in_range clash.first clash.second clash.unrelated)
 
-pub clash_is_first : (p : Program) (nodes : List Node) (a : ℕ) (why : Invalid) → ((k : Itag) → k.0 < count_of_itags p → HasOneOwner p nodes k) → ((d : ℕ) → d < a → NoneOfNode p nodes d) → IsFirstOfNode p nodes a why → IsFirstPlanFault p nodes why
+pub clash_is_first : (p : Program) (nodes : List Node) (a : ℕ) (why : Invalid) → ((k : Itag) → k.0 < count_of_itags p → HasOneOwner p nodes k)
+    → ((d : ℕ) → d < a → NoneOfNode p nodes d) → IsFirstOfNode p nodes a why → IsFirstPlanFault p nodes why
 clash_is_first p nodes a (Unowned k) counted before first = absurd first
 clash_is_first p nodes a (OwnedTwice k d e) counted before first = absurd first
 clash_is_first p nodes a (Clash d i b j) counted before first =
     (counted, subst (λ n. IsFirstClash p nodes n i b j) (sym first.0) (first_is p nodes a b i j before first.2 first.1))
 
-pub valid_where_none : (p : Program) (nodes : List Node) (found : Option Invalid) → DependencyTurns → ((k : Itag) → k.0 < count_of_itags p → HasOneOwner p nodes k) → IfNone found ((a : ℕ) → NoneOfNode p nodes a) → IfNone found (IsValid p nodes)
+pub valid_where_none : (p : Program) (nodes : List Node) (found : Option Invalid) → DependencyTurns
+    → ((k : Itag) → k.0 < count_of_itags p → HasOneOwner p nodes k) → IfNone found ((a : ℕ) → NoneOfNode p nodes a) → IfNone found (IsValid p nodes)
 valid_where_none p nodes None turns counted none = valid_if_none p nodes turns counted none
 valid_where_none p nodes (Some why) turns counted none = tt

@@ -5,6 +5,7 @@ use Rattle.std.specs.List.{position_or_len}
 use Rattle.std.proofs.lemmas.Bool.{cases_lt, cases_eq, ne_eqb}
 use Rattle.std.proofs.lemmas.Grind.{common_steps}
 use Rattle.std.proofs.lemmas.List.Sums.{sum_by-cons}
+use Rattle.flu_lemmas.proofs.OnlyOne.{count_by-cons}
 use Rattle.flu_lemmas.proofs.Prefixes.{chosen}
 use Rattle.flu_lemmas.proofs.Searches.{eq_true}
 use Rattle.flu_lemmas.proofs.Tests.{lt_true, true_lt, not_both}
@@ -77,7 +78,8 @@ no_owner_is p nodes i e =
     not_none n s = cc
 
 -- an owner after which there is none, and before which there is none, is the only one
-pub sole_owner_is : (p : Program) (nodes : List Node) (i : Itag) (a : ℕ) → IsFirstOwner p i nodes a → ((w : ℕ) → a < w → owns p nodes w i ≡ false) → IsSoleOwner p nodes i a
+pub sole_owner_is : (p : Program) (nodes : List Node) (i : Itag) (a : ℕ) → IsFirstOwner p i nodes a → ((w : ℕ) → a < w → owns p nodes w i ≡ false)
+    → IsSoleOwner p nodes i a
 sole_owner_is p nodes i a first later v =
     elim (cases_eq v a) [
       | inl same ↦ ap (λ w. owns p nodes w i) same ∙ first.0 ∙ sym (eq_true v a same)
@@ -87,7 +89,8 @@ sole_owner_is p nodes i a first later v =
       ]
     ]
 
-pub owners_are_first : (p : Program) (nodes : List Node) (i : Itag) (a b : ℕ) → IsFirstOwner p i nodes a → a < b → owns p nodes b i ≡ true → ((w : ℕ) → a < w → w < b → owns p nodes w i ≡ false) → HasFirstOwners p nodes i a b
+pub owners_are_first : (p : Program) (nodes : List Node) (i : Itag) (a b : ℕ) → IsFirstOwner p i nodes a → a < b → owns p nodes b i ≡ true
+    → ((w : ℕ) → a < w → w < b → owns p nodes w i ≡ false) → HasFirstOwners p nodes i a b
 owners_are_first p nodes i a b first lt second between = record {
   in_order = lt;
   first = first.0;
@@ -103,14 +106,11 @@ owners_are_first p nodes i a b first lt second between = record {
 }
 
 -- ---- counts
-counted : (p : Program) (i : Itag) (x : Node) (xs : List Node) (b : Bool) → node_owns p i x ≡ b → count_by (node_owns p i) (x ∷ xs) ≡ cond b 1 0 + count_by (node_owns p i) xs
-counted p i x xs b e = sum_by-cons (λ y. cond (node_owns p i y) 1 0) x xs ∙ ap (λ c. cond c 1 0 + count_by (node_owns p i) xs) e
-
 pub none_counted : (p : Program) (nodes : List Node) (i : Itag) → HasNoOwner p nodes i → count_by (node_owns p i) nodes ≡ 0
 none_counted p [] i none = refl
 none_counted p (x ∷ xs) i none =
     let rest : count_by (node_owns p i) xs ≡ 0 = none_counted p xs i (λ w. none (suc w)) in
-    counted p i x xs false (none zero) ∙ omega arith
+    count_by-cons (node_owns p i) x xs false (none zero) ∙ omega arith
 
 same_later : (v w : ℕ) → (suc v == suc w) ≡ (v == w)
 same_later v w = grind (arith, common_steps)
@@ -119,29 +119,30 @@ pub sole_counted : (p : Program) (nodes : List Node) (i : Itag) (w : ℕ) → Is
 sole_counted p [] i w sole = absurd (not_both (w == w) (eq_true w w refl) (sym (sole w)))
 sole_counted p (x ∷ xs) i zero sole =
     let rest : count_by (node_owns p i) xs ≡ 0 = none_counted p xs i (λ v. sole (suc v) ∙ ne_eqb (suc v) 0 (λ e. omega arith)) in
-    counted p i x xs true (sole zero) ∙ omega arith
+    count_by-cons (node_owns p i) x xs true (sole zero) ∙ omega arith
 sole_counted p (x ∷ xs) i (suc w) sole =
     let rest : count_by (node_owns p i) xs ≡ 1 = sole_counted p xs i w (λ v. sole (suc v) ∙ same_later v w) in
-    counted p i x xs false (sole zero ∙ ne_eqb 0 (suc w) (λ e. omega arith)) ∙ omega arith
+    count_by-cons (node_owns p i) x xs false (sole zero ∙ ne_eqb 0 (suc w) (λ e. omega arith)) ∙ omega arith
 
 some_counted : (p : Program) (nodes : List Node) (i : Itag) (w : ℕ) → owns p nodes w i ≡ true → 1 ≤ count_by (node_owns p i) nodes
 some_counted p [] i w owned = cc
-some_counted p (x ∷ xs) i zero owned = let here = counted p i x xs true owned in omega arith
+some_counted p (x ∷ xs) i zero owned = let here = count_by-cons (node_owns p i) x xs true owned in omega arith
 some_counted p (x ∷ xs) i (suc w) owned =
     let rest : 1 ≤ count_by (node_owns p i) xs = some_counted p xs i w owned in
-    let here = counted p i x xs (node_owns p i x) refl in
+    let here = count_by-cons (node_owns p i) x xs (node_owns p i x) refl in
     omega arith
 
-two_counted : (p : Program) (nodes : List Node) (i : Itag) (a b : ℕ) → a < b → owns p nodes a i ≡ true → owns p nodes b i ≡ true → 2 ≤ count_by (node_owns p i) nodes
+two_counted : (p : Program) (nodes : List Node) (i : Itag) (a b : ℕ) → a < b → owns p nodes a i ≡ true → owns p nodes b i ≡ true
+    → 2 ≤ count_by (node_owns p i) nodes
 two_counted p [] i a b lt first second = cc
 two_counted p (x ∷ xs) i a zero lt first second = absurd (omega arith)
 two_counted p (x ∷ xs) i zero (suc b) lt first second =
-    let here = counted p i x xs true first in
+    let here = count_by-cons (node_owns p i) x xs true first in
     let rest : 1 ≤ count_by (node_owns p i) xs = some_counted p xs i b second in
     omega arith
 two_counted p (x ∷ xs) i (suc a) (suc b) lt first second =
     let rest : 2 ≤ count_by (node_owns p i) xs = two_counted p xs i a b (omega arith) first second in
-    let here = counted p i x xs (node_owns p i x) refl in
+    let here = count_by-cons (node_owns p i) x xs (node_owns p i x) refl in
     omega arith
 
 pub none_is_not_one : (p : Program) (nodes : List Node) (i : Itag) → HasNoOwner p nodes i → HasOneOwner p nodes i → ⊥
@@ -151,7 +152,8 @@ pub two_are_not_one : (p : Program) (nodes : List Node) (i : Itag) (a b : ℕ) �
 two_are_not_one p nodes i a b two one = let both = two_counted p nodes i a b two.in_order two.first two.second in omega arith
 
 -- what is wrong with the owners of an itag is the first fault where all before it have one owner
-pub fault_is_first : (p : Program) (nodes : List Node) (i : Itag) (why : Invalid) → i.0 < count_of_itags p → ((k : Itag) → k.0 < i.0 → HasOneOwner p nodes k) → IsFaultOf p nodes i why → IsFirstPlanFault p nodes why
+pub fault_is_first : (p : Program) (nodes : List Node) (i : Itag) (why : Invalid) → i.0 < count_of_itags p
+    → ((k : Itag) → k.0 < i.0 → HasOneOwner p nodes k) → IsFaultOf p nodes i why → IsFirstPlanFault p nodes why
 fault_is_first p nodes i (Unowned k) lt before fault =
     subst (λ n. IsReached p nodes n × HasNoOwner p nodes n) (sym fault.0) (record { in_range = lt; before = before }, fault.1)
 fault_is_first p nodes i (OwnedTwice k a b) lt before fault =

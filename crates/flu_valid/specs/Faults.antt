@@ -5,8 +5,9 @@ use Rattle.std.specs.declared.cmp.Ordering.{Ordering}
 use Rattle.flu_model.specs.declared.events.Itag.{Itag}
 use Rattle.flu_model.specs.declared.jobs.Program.{Program}
 use Rattle.flu_model.specs.declared.plans.Node.{Node}
-use Rattle.flu_model.specs.Itags.{count_of_itags, tag_of_itag, is_dependent}
+use Rattle.flu_model.specs.Itags.{count_of_itags}
 use Rattle.flu_model.specs.Owners.{node_owns, owns, are_related}
+use Rattle.flu_deps.specs.Dependencies.{itags_depend}
 use Rattle.flu_valid.specs.declared.faults.Invalid.{Invalid}
 use Rattle.flu_valid.specs.declared.faults.Invalid.TheVariants.{Unowned, OwnedTwice, Clash}
 
@@ -42,7 +43,7 @@ pub record IsClash (p : Program) (nodes : List Node) (a : ℕ) (i : Itag) (b : �
   pub unrelated : are_related nodes a b ≡ false
   pub first : owns p nodes a i ≡ true
   pub second : owns p nodes b j ≡ true
-  pub dependent : is_dependent p (tag_of_itag p i) (tag_of_itag p j) ≡ true
+  pub dependent : itags_depend p i j ≡ true
 
 -- the order of clashes: by the first node, the second node, the first itag, the second itag
 abbrev pub clash_cmp : ℕ → Itag → ℕ → Itag → ℕ → Itag → ℕ → Itag → Ordering

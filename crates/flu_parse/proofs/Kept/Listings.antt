@@ -1,8 +1,7 @@
 -- Sources that are read keep the rules: their names, files and rates, and the tags that they list.
 use Rattle.std.proofs.Common.{◌≡◌, ℕ, ◌+◌, ◌<◌, ◌≤◌, Bool, true, false, List, [], ◌∷◌, ◌++◌, map, length, Option, Some, None, Ok, refl, sym, ap, subst, ◌∙◌, arith}
-use Rattle.std.specs.Prelude.{◌&&◌, ◌==◌, ◌≢◌, not, nat_lt, nat_le, max, min, slice_get, option_map}
+use Rattle.std.specs.Prelude.{◌&&◌, ◌≢◌, not, nat_lt, nat_le, slice_get, option_map}
 use Rattle.std.specs.List.{list_all, list_any, flat_map}
-use Rattle.std.proofs.lemmas.Grind.{common_steps}
 use Rattle.std.proofs.lemmas.List.{length-append, length-map, append-nil}
 use Rattle.std.proofs.lemmas.Option.{slice_get-map}
 use Rattle.flu_lemmas.specs.Totals.{total}
@@ -19,7 +18,6 @@ use Rattle.flu_model.specs.Listing.{tag, listed_keys, listed_tags, tags_of_sourc
 use Rattle.flu_model.specs.Rules.{is_file_text, is_same_tag, is_same_text, are_distinct, keys_fit}
 use Rattle.flu_names.specs.Names.{is_name, is_text_byte}
 use Rattle.flu_rules.specs.Keys.{first_key, last_key, share_tag, TagsMeet, TagsDiffer}
-use Rattle.flu_text.specs.declared.words.Word.TheVariants as word
 use Rattle.flu_syntax.specs.declared.tree.WrittenSpan.{WrittenSpan}
 use Rattle.flu_syntax.specs.declared.tree.WrittenNumber.{WrittenNumber}
 use Rattle.flu_syntax.specs.declared.tree.WrittenKeys.{WrittenKeys}

@@ -53,7 +53,8 @@ abbrev pub with_all_sources : Drafted → List Source → ℕ → Drafted
 with_all_sources d sources itags = record d { sources = sources; itags = itags }
 
 -- the kind at a place is given its actions
-given_actions : (done : List PlainKind) (k : PlainKind) (rest : List PlainKind) (actions : List PlainAction) → with_actions (done ++ k ∷ rest) (length done) actions ≡ done ++ record k { actions = actions } ∷ rest
+given_actions : (done : List PlainKind) (k : PlainKind) (rest : List PlainKind) (actions : List PlainAction)
+    → with_actions (done ++ k ∷ rest) (length done) actions ≡ done ++ record k { actions = actions } ∷ rest
 given_actions [] k rest actions = refl
 given_actions (d ∷ done) k rest actions = ap (λ ks. d ∷ ks) (given_actions done k rest actions)
 
@@ -71,19 +72,23 @@ itags_counted i (s ∷ ss) =
     omega (arith, more, size, here)
 
 -- a file that no source before has
-not_before : (done : List (List ℕ)) (x : List ℕ) (rest : List (List ℕ)) → are_distinct is_same_text (done ++ x ∷ rest) ≡ true → list_any (is_same_text x) done ≡ false
+not_before : (done : List (List ℕ)) (x : List ℕ) (rest : List (List ℕ)) → are_distinct is_same_text (done ++ x ∷ rest) ≡ true
+    → list_any (is_same_text x) done ≡ false
 not_before [] x rest h = refl
 not_before (d ∷ done) x rest h =
     let later : Bool = list_any (is_same_text d) (done ++ x ∷ rest) in
     let apart : Bool = are_distinct is_same_text (done ++ x ∷ rest) in
     let none : later ≡ false = not_true later (and_left (not later) apart h) in
-    let split : (list_any (is_same_text d) done || (is_same_text d x || list_any (is_same_text d) rest)) ≡ false = sym (list_any-append (is_same_text d) done (x ∷ rest)) ∙ none in
-    let here : is_same_text d x ≡ false = or_false_left (is_same_text d x) (list_any (is_same_text d) rest) (or_false_right (list_any (is_same_text d) done) (is_same_text d x || list_any (is_same_text d) rest) split) in
+    let split : (list_any (is_same_text d) done || (is_same_text d x || list_any (is_same_text d) rest)) ≡ false =
+    sym (list_any-append (is_same_text d) done (x ∷ rest)) ∙ none in
+    let here : is_same_text d x ≡ false = or_false_left (is_same_text d x) (list_any (is_same_text d) rest)
+    (or_false_right (list_any (is_same_text d) done) (is_same_text d x || list_any (is_same_text d) rest) split) in
     ap (λ b. b || list_any (is_same_text x) done) (differs_too d x here) ∙ not_before done x rest (and_right (not later) apart h)
 
 module _ (whole : List ℕ) (utf8 : IsUtf8 whole) (n : Naming) where
   -- one declaration, and then the others
-  one : (d next : Drafted) (ds here others more : List Declaration) (e : Declaration) → ds ≡ here ++ others → here ≡ e ∷ [] → with_declaration whole n d e ≡ Ok next → each (with_declaration whole n) d (ds ++ more) ≡ each (with_declaration whole n) next (others ++ more)
+  one : (d next : Drafted) (ds here others more : List Declaration) (e : Declaration) → ds ≡ here ++ others → here ≡ e ∷ []
+      → with_declaration whole n d e ≡ Ok next → each (with_declaration whole n) d (ds ++ more) ≡ each (with_declaration whole n) next (others ++ more)
   unfolding each
   one d next ds here others more e split is found =
       ap (λ l. each (with_declaration whole n) d (l ++ more)) (split ∙ ap (λ l. l ++ others) is)
@@ -92,35 +97,45 @@ module _ (whole : List ℕ) (utf8 : IsUtf8 whole) (n : Naming) where
   nothing : (d : Drafted) (ds more : List Declaration) → ds ≡ [] → each (with_declaration whole n) d (ds ++ more) ≡ each (with_declaration whole n) d more
   nothing d ds more none = ap (λ l. each (with_declaration whole n) d (l ++ more)) none
 
-  pub skip_cells : (fs : List Family) (d : Drafted) (ds more : List Declaration) → Lines (CellIs whole utf8) fs ds → each (with_declaration whole n) d (ds ++ more) ≡ each (with_declaration whole n) d more
+  pub skip_cells : (fs : List Family) (d : Drafted) (ds more : List Declaration) → Lines (CellIs whole utf8) fs ds
+      → each (with_declaration whole n) d (ds ++ more) ≡ each (with_declaration whole n) d more
   unfolding with_declaration
   skip_cells [] d ds more lines = nothing d ds more lines
-  skip_cells (g ∷ fs) d ds more lines = one d d ds lines.0 lines.1 more (Cell lines.3.0 g.keyed g.sort) lines.2 lines.3.1 refl ∙ skip_cells fs d lines.1 more lines.4
+  skip_cells (g ∷ fs) d ds more lines = one d d ds lines.0 lines.1 more (Cell lines.3.0 g.keyed g.sort) lines.2 lines.3.1 refl
+      ∙ skip_cells fs d lines.1 more lines.4
 
-  pub skip_tags : (ks : List PlainKind) (d : Drafted) (ds more : List Declaration) → Lines (TagIs whole utf8) ks ds → each (with_declaration whole n) d (ds ++ more) ≡ each (with_declaration whole n) d more
+  pub skip_tags : (ks : List PlainKind) (d : Drafted) (ds more : List Declaration) → Lines (TagIs whole utf8) ks ds
+      → each (with_declaration whole n) d (ds ++ more) ≡ each (with_declaration whole n) d more
   unfolding with_declaration
   skip_tags [] d ds more lines = nothing d ds more lines
-  skip_tags (k ∷ ks) d ds more lines = one d d ds lines.0 lines.1 more (Tag lines.3.0 k.keyed k.has_value) lines.2 lines.3.1 refl ∙ skip_tags ks d lines.1 more lines.4
+  skip_tags (k ∷ ks) d ds more lines = one d d ds lines.0 lines.1 more (Tag lines.3.0 k.keyed k.has_value) lines.2 lines.3.1 refl
+      ∙ skip_tags ks d lines.1 more lines.4
 
   module _ (kinds : List PlainKind) (named_kinds : list_all (λ (k : PlainKind). is_name k.name) kinds ≡ true) (known_kinds : KindsKnown kinds n) where
     pub add_depends : (deps : List Depend) (d : Drafted) (ds more : List Declaration) → Lines (DependsIs whole utf8 kinds named_kinds n known_kinds) deps ds
         → each (with_declaration whole n) d (ds ++ more) ≡ each (with_declaration whole n) (with_all_depends d (d.depends ++ deps)) more
     unfolding with_declaration with_depend
-    add_depends [] d ds more lines = nothing d ds more lines ∙ ap (λ l. each (with_declaration whole n) (with_all_depends d l) more) (sym (append-nil d.depends))
+    add_depends [] d ds more lines = nothing d ds more lines ∙ ap (λ l. each (with_declaration whole n) (with_all_depends d l) more)
+        (sym (append-nil d.depends))
     add_depends (e ∷ deps) d ds more lines =
         let line = lines.3 in
         let next : Drafted = with_all_depends d (d.depends ++ e ∷ []) in
-        let end : KindHead → KindHead → Bool → Found Drafted = λ first second same. Ok (with_all_depends d (d.depends ++ record { a = first.number; b = second.number; same = same } ∷ [])) in
+        let end : KindHead → KindHead → Bool → Found Drafted = λ first second same. Ok
+        (with_all_depends d (d.depends ++ record { a = first.number; b = second.number; same = same } ∷ [])) in
         let found : with_depend whole n d line.a line.b line.how ≡ Ok next =
-        ap (λ (r : Found KindHead). r >>= λ first. kind_of whole n line.b >>= λ second. same_of line.how first second >>= λ same. end first second same) line.looked_a
-        ∙ ap (λ (r : Found KindHead). r >>= λ second. same_of line.how (kind_head e.a line.first) second >>= λ same. end (kind_head e.a line.first) second same) line.looked_b
+        ap (λ (r : Found KindHead). r >>= λ first. kind_of whole n line.b >>= λ second. same_of line.how first second >>=
+        λ same. end first second same) line.looked_a
+        ∙ ap (λ (r : Found KindHead). r >>= λ second. same_of line.how (kind_head e.a line.first) second >>=
+        λ same. end (kind_head e.a line.first) second same) line.looked_b
         ∙ ap (λ (r : Found Bool). r >>= λ same. end (kind_head e.a line.first) (kind_head e.b line.second) same) line.same in
         one d next ds lines.0 lines.1 more (Depends line.a line.b line.how) lines.2 line.is found
         ∙ add_depends deps next lines.1 more lines.4
         ∙ ap (λ l. each (with_declaration whole n) (with_all_depends d l) more) (append_assoc d.depends (e ∷ []) deps)
 
-    pub add_sources : TagsMeet → TagsDiffer → (done ss : List Source) (d : Drafted) (ds more : List Declaration) → Lines (SourceIs whole utf8 kinds named_kinds n known_kinds) ss ds → d.sources ≡ done
-        → list_all (plain_source_fits kinds) ss ≡ true → are_distinct is_same_text (map (λ (s : Source). s.file) (done ++ ss)) ≡ true → d.itags + total_itags ss ≤ 256
+    pub add_sources : TagsMeet → TagsDiffer → (done ss : List Source) (d : Drafted) (ds more : List Declaration)
+        → Lines (SourceIs whole utf8 kinds named_kinds n known_kinds) ss ds → d.sources ≡ done
+        → list_all (plain_source_fits kinds) ss ≡ true → are_distinct is_same_text
+        (map (λ (s : Source). s.file) (done ++ ss)) ≡ true → d.itags + total_itags ss ≤ 256
         → each (with_declaration whole n) d (ds ++ more) ≡ each (with_declaration whole n) (with_all_sources d (done ++ ss) (d.itags + total_itags ss)) more
     unfolding with_declaration with_source
     add_sources meet differ done [] d ds more lines so_far fits apart few =
@@ -134,32 +149,53 @@ module _ (whole : List ℕ) (utf8 : IsUtf8 whole) (n : Naming) where
         let names : List (List ℕ) = map (λ (s : Source). s.file) done in
         let unread : not (list_any (λ (t : Source). is_same_text s.file t.file) done) ≡ true =
         ap not (sym (list_any-map (is_same_text s.file) (λ (t : Source). t.file) done)
-        ∙ not_before names s.file (map (λ (s : Source). s.file) ss) (ap (are_distinct is_same_text) (sym (map-append (λ (s : Source). s.file) done (s ∷ ss))) ∙ apart)) in
+        ∙ not_before names s.file (map (λ (s : Source). s.file) ss) (ap (are_distinct is_same_text) (sym (map-append (λ (s : Source). s.file) done (s ∷ ss)))
+        ∙ apart)) in
         let file_found : file_of whole d.sources file ≡ Ok s.file =
-        ap (λ b. unless (nat_lt 0 (length b)) (f.WrongShape file.from) >> (unless (not (list_any (λ (t : Source). is_same_text b t.file) d.sources)) (f.TwiceNamed file.from) >> Ok b)) line.file_is
-        ∙ ap (λ t. unless t (f.WrongShape file.from) >> (unless (not (list_any (λ (t : Source). is_same_text s.file t.file) d.sources)) (f.TwiceNamed file.from) >> Ok s.file)) facts.file_some
+        ap (λ b. unless (nat_lt 0 (length b)) (f.WrongShape file.from) >>
+        (unless (not (list_any (λ (t : Source). is_same_text b t.file) d.sources)) (f.TwiceNamed file.from) >> Ok b)) line.file_is
+        ∙ ap (λ t. unless t (f.WrongShape file.from) >> (unless (not (list_any (λ (t : Source). is_same_text s.file t.file) d.sources))
+        (f.TwiceNamed file.from) >> Ok s.file)) facts.file_some
         ∙ ap (λ l. unless (not (list_any (λ (t : Source). is_same_text s.file t.file) l)) (f.TwiceNamed file.from) >> Ok s.file) so_far
         ∙ ap (λ t. unless t (f.TwiceNamed file.from) >> Ok s.file) unread in
-        let rate_found : rate_of (Some (record { value = pos s.rate; at = line.rate_at })) ≡ Ok s.rate = ap (λ t. unless t (f.OverLimit Rate s.rate) >> Ok s.rate) facts.rate in
-        let tags_found : tags_of whole n d.itags line.tags ≡ Ok (record { tags = s.tags; itags = d.itags + all_tags s.tags }) = list_all_tags whole utf8 kinds named_kinds n known_kinds meet [] s.tags line.tags d.itags (omega (arith, few)) (sym (differ s.tags) ∙ facts.apart) line.are in
+        let rate_found : rate_of (Some (record { value = pos s.rate; at = line.rate_at })) ≡ Ok s.rate =
+        ap (λ t. unless t (f.OverLimit Rate s.rate) >> Ok s.rate) facts.rate in
+        let tags_found : tags_of whole n d.itags line.tags ≡ Ok (record { tags = s.tags; itags = d.itags + all_tags s.tags }) =
+        list_all_tags whole utf8 kinds named_kinds n known_kinds meet [] s.tags line.tags d.itags (omega (arith, few))
+        (sym (differ s.tags) ∙ facts.apart) line.are in
         let next : Drafted = with_all_sources d (done ++ s ∷ []) (d.itags + all_tags s.tags) in
         let end : List ℕ → List ℕ → ℕ → ℕ → Listed → Found Drafted =
-        λ name bytes rate slack listed. Ok (with_all_sources d (d.sources ++ record { name = name; file = bytes; rate = rate; slack = slack; tags = listed.tags } ∷ []) listed.itags) in
+        λ name bytes rate slack listed. Ok (with_all_sources d (d.sources ++ record {
+          name = name;
+          file = bytes;
+          rate = rate;
+          slack = slack;
+          tags =
+              listed.tags;
+        } ∷ []) listed.itags) in
         let found : with_source whole n d line.named file (Some (record { value = pos s.rate; at = line.rate_at })) line.slack line.tags ≡ Ok next =
-        ap (λ (r : Found (List ℕ)). r >>= λ bytes. rate_of (Some (record { value = pos s.rate; at = line.rate_at })) >>= λ rate. slack_of line.slack >>= λ slack. tags_of whole n d.itags line.tags >>= λ listed. end (name_of whole line.named) bytes rate slack listed) file_found
-        ∙ ap (λ (r : Found ℕ). r >>= λ rate. slack_of line.slack >>= λ slack. tags_of whole n d.itags line.tags >>= λ listed. end (name_of whole line.named) s.file rate slack listed) rate_found
-        ∙ ap (λ (r : Found ℕ). r >>= λ slack. tags_of whole n d.itags line.tags >>= λ listed. end (name_of whole line.named) s.file s.rate slack listed) line.slack_is
+        ap (λ (r : Found (List ℕ)). r >>= λ bytes. rate_of (Some (record { value = pos s.rate; at = line.rate_at })) >>= λ rate. slack_of line.slack >>=
+        λ slack. tags_of whole n d.itags line.tags >>= λ listed. end (name_of whole line.named) bytes rate slack listed) file_found
+        ∙ ap (λ (r : Found ℕ). r >>= λ rate. slack_of line.slack >>= λ slack. tags_of whole n d.itags line.tags >>=
+        λ listed. end (name_of whole line.named) s.file rate slack listed) rate_found
+        ∙ ap (λ (r : Found ℕ). r >>= λ slack. tags_of whole n d.itags line.tags >>=
+        λ listed. end (name_of whole line.named) s.file s.rate slack listed) line.slack_is
         ∙ ap (λ (r : Found Listed). r >>= λ listed. end (name_of whole line.named) s.file s.rate s.slack listed) tags_found
-        ∙ ap (λ name. Ok (with_all_sources d (d.sources ++ record { name = name; file = s.file; rate = s.rate; slack = s.slack; tags = s.tags } ∷ []) (d.itags + all_tags s.tags))) line.name_is
+        ∙ ap (λ name. Ok (with_all_sources d (d.sources ++ record { name = name; file = s.file; rate = s.rate; slack = s.slack; tags = s.tags } ∷ [])
+        (d.itags + all_tags s.tags))) line.name_is
         ∙ ap (λ l. Ok (with_all_sources d (l ++ s ∷ []) (d.itags + all_tags s.tags))) so_far in
         let regrouped : (done ++ s ∷ []) ++ ss ≡ done ++ s ∷ ss = append_assoc done (s ∷ []) ss in
-        one d next ds lines.0 lines.1 more (SourceLine line.named file (Some (record { value = pos s.rate; at = line.rate_at })) line.slack line.tags) lines.2 line.is found
-        ∙ add_sources meet differ (done ++ s ∷ []) ss next lines.1 more lines.4 refl (and_right (plain_source_fits kinds s) (list_all (plain_source_fits kinds) ss) fits)
+        one d next ds lines.0 lines.1 more (SourceLine line.named file (Some
+        (record { value = pos s.rate; at = line.rate_at })) line.slack line.tags) lines.2 line.is found
+        ∙ add_sources meet differ (done ++ s ∷ []) ss next lines.1 more lines.4 refl
+        (and_right (plain_source_fits kinds s) (list_all (plain_source_fits kinds) ss) fits)
         (ap (λ l. are_distinct is_same_text (map (λ (s : Source). s.file) l)) regrouped ∙ apart) (omega (arith, few))
         ∙ ap (λ l. each (with_declaration whole n) (with_all_sources d l (d.itags + all_tags s.tags + total_itags ss)) more) regrouped
-        ∙ ap (λ k. each (with_declaration whole n) (with_all_sources d (done ++ s ∷ ss) k) more) (let same : d.itags + all_tags s.tags + total_itags ss ≡ d.itags + (all_tags s.tags + total_itags ss) = omega arith in same)
+        ∙ ap (λ k. each (with_declaration whole n) (with_all_sources d (done ++ s ∷ ss) k) more)
+        (let same : d.itags + all_tags s.tags + total_itags ss ≡ d.itags + (all_tags s.tags + total_itags ss) = omega arith in same)
 
-  module _ (families : List Family) (names : list_all (λ (f : Family). is_name f.name) families ≡ true) (known_families : FamiliesKnown families n) (kinds : List PlainKind) (known_kinds : KindsKnown kinds n) where
+  module _ (families : List Family) (names : list_all (λ (f : Family). is_name f.name) families ≡ true) (known_families : FamiliesKnown families n)
+      (kinds : List PlainKind) (known_kinds : KindsKnown kinds n) where
     -- no number from this one on is given its actions yet
     abbrev Free : ℕ → List ℕ → Type 0
     Free i given = (j : ℕ) → i ≤ j → list_any (λ g. g == j) given ≡ false
@@ -176,7 +212,8 @@ module _ (whole : List ℕ) (utf8 : IsUtf8 whole) (n : Naming) where
         list_any-append (λ g. g == j) given (i ∷ []) ∙ ap (λ b. b || ((i == j) || false)) (free j (omega arith)) ∙ ap (λ b. b || false) other
 
     one_on : (done : List PlainKind) (k : PlainKind) (rest : List PlainKind) (d : Drafted) (given : List ℕ) (actions : List PlainAction) (here more : List Declaration) → k.actions ≡ actions → length actions ≤ 32
-        → slice_get kinds (length done) ≡ Some k → Free (length done) given → ActionsAre whole utf8 families names n known_families (kind_head (length done) k) k.name actions here
+        → slice_get kinds (length done) ≡ Some k → Free (length done) given → ActionsAre whole utf8 families names n known_families
+        (kind_head (length done) k) k.name actions here
         → Given (length done + 1) d (done ++ k ∷ rest) given (done ++ without_actions k ∷ rest) here more
     unfolding each with_declaration with_on
     one_on done k rest d given [] here more are few found free line = record {
@@ -191,12 +228,16 @@ module _ (whole : List ℕ) (utf8 : IsUtf8 whole) (n : Naming) where
         let old : List PlainKind = done ++ without_actions k ∷ rest in
         let head : KindHead = kind_head i k in
         let dos : List WrittenDo = line.first ∷ line.others in
-        let looked : kind_of whole n line.named ≡ Ok head = ap (λ name. known line.named.from (look_up name n.kinds)) line.name_is ∙ ap (known line.named.from) (known_kinds i k found) in
-        let means : resolved_actions whole n head dos ≡ Ok (a ∷ actions) = do_all whole utf8 families names n known_families head [] (a ∷ actions) dos (omega (arith, few)) line.are in
-        let new : with_actions old i (a ∷ actions) ≡ done ++ k ∷ rest = given_actions done (without_actions k) rest (a ∷ actions) ∙ ap (λ l. done ++ record k { actions = l } ∷ rest) (sym are) in
+        let looked : kind_of whole n line.named ≡ Ok head = ap (λ name. known line.named.from (look_up name n.kinds)) line.name_is
+        ∙ ap (known line.named.from) (known_kinds i k found) in
+        let means : resolved_actions whole n head dos ≡ Ok (a ∷ actions) =
+        do_all whole utf8 families names n known_families head [] (a ∷ actions) dos (omega (arith, few)) line.are in
+        let new : with_actions old i (a ∷ actions) ≡ done ++ k ∷ rest = given_actions done (without_actions k) rest (a ∷ actions)
+        ∙ ap (λ l. done ++ record k { actions = l } ∷ rest) (sym are) in
         let end : ℕ → List PlainAction → Found Drafted = λ number actions. Ok (with_kinds d (with_actions old number actions) (given ++ number ∷ [])) in
         let done_so : with_on whole n (with_kinds d old given) line.named dos ≡ Ok (with_kinds d (done ++ k ∷ rest) (given ++ i ∷ [])) =
-        ap (λ (r : Found KindHead). r >>= λ kind. unless (not (list_any (λ g. g == kind.number) given)) (f.TwiceNamed line.named.from) >> (resolved_actions whole n kind dos >>= λ actions. end kind.number actions)) looked
+        ap (λ (r : Found KindHead). r >>= λ kind. unless (not (list_any (λ g. g == kind.number) given)) (f.TwiceNamed line.named.from) >>
+        (resolved_actions whole n kind dos >>= λ actions. end kind.number actions)) looked
         ∙ ap (λ b. unless (not b) (f.TwiceNamed line.named.from) >> (resolved_actions whole n head dos >>= λ actions. end i actions)) (free i (omega arith))
         ∙ ap (λ (r : Found (List PlainAction)). r >>= λ actions. end i actions) means
         ∙ ap (λ ks. Ok (with_kinds d ks (given ++ i ∷ []))) new in
@@ -212,23 +253,33 @@ module _ (whole : List ℕ) (utf8 : IsUtf8 whole) (n : Naming) where
       pub now : List ℕ
       pub leads : each (with_declaration whole n) (with_kinds d old given) (ds ++ more) ≡ each (with_declaration whole n) (with_kinds d new now) more
 
-    pub add_ons : (done ks : List PlainKind) (d : Drafted) (given : List ℕ) (ds more : List Declaration) → kinds ≡ done ++ ks → list_all (plain_kind_fits families) ks ≡ true → Free (length done) given → Ons whole utf8 families names n known_families (length done) ks ds
+    pub add_ons : (done ks : List PlainKind) (d : Drafted) (given : List ℕ) (ds more : List Declaration) → kinds ≡ done ++ ks
+        → list_all (plain_kind_fits families) ks ≡ true → Free (length done) given → Ons whole utf8 families names n known_families (length done) ks ds
         → AllGiven d (done ++ ks) given (done ++ map without_actions ks) ds more
-    add_ons done [] d given ds more all fits free lines = record { now = given; leads = ap (λ l. each (with_declaration whole n) (with_kinds d (done ++ []) given) (l ++ more)) lines }
+    add_ons done [] d given ds more all fits free lines = record {
+      now = given;
+      leads =
+          ap (λ l. each (with_declaration whole n) (with_kinds d (done ++ []) given) (l ++ more)) lines;
+    }
     add_ons done (k ∷ ks) d given ds more all fits free lines =
-        let few = true_le (length k.actions) 32 (three_middle (is_name k.name) (nat_le (length k.actions) 32) (list_all (plain_action_fits families k.keyed k.has_value) k.actions) (and_left (plain_kind_fits families k) (list_all (plain_kind_fits families) ks) fits)) in
+        let few = true_le (length k.actions) 32 (three_middle (is_name k.name) (nat_le (length k.actions) 32)
+        (list_all (plain_action_fits families k.keyed k.has_value) k.actions)
+        (and_left (plain_kind_fits families k) (list_all (plain_kind_fits families) ks) fits)) in
         let found : slice_get kinds (length done) ≡ Some k = ap (λ l. slice_get l (length done)) all ∙ slice_get-behind done k ks in
         let first = one_on done k (map without_actions ks) d given k.actions lines.0 (lines.1 ++ more) refl few found free lines.3 in
         let next : List PlainKind = done ++ k ∷ [] in
         let size : length done + 1 ≡ length next = sym (length-append done (k ∷ [])) in
-        let rest = add_ons next ks d first.now lines.1 more (all ∙ sym (append_assoc done (k ∷ []) ks)) (and_right (plain_kind_fits families k) (list_all (plain_kind_fits families) ks) fits)
+        let rest = add_ons next ks d first.now lines.1 more (all ∙ sym (append_assoc done (k ∷ []) ks))
+        (and_right (plain_kind_fits families k) (list_all (plain_kind_fits families) ks) fits)
         (subst (λ i. Free i first.now) size first.free) (subst (λ i. Ons whole utf8 families names n known_families i ks lines.1) size lines.4) in
         record {
           now = rest.now;
           leads =
-              ap (λ l. each (with_declaration whole n) (with_kinds d (done ++ map without_actions (k ∷ ks)) given) l) (ap (λ l. l ++ more) lines.2 ∙ append_assoc lines.0 lines.1 more)
+              ap (λ l. each (with_declaration whole n) (with_kinds d (done ++ map without_actions (k ∷ ks)) given) l)
+              (ap (λ l. l ++ more) lines.2 ∙ append_assoc lines.0 lines.1 more)
               ∙ first.leads
-              ∙ ap (λ l. each (with_declaration whole n) (with_kinds d l first.now) (lines.1 ++ more)) (sym (append_assoc done (k ∷ []) (map without_actions ks)))
+              ∙ ap (λ l. each (with_declaration whole n) (with_kinds d l first.now) (lines.1 ++ more))
+              (sym (append_assoc done (k ∷ []) (map without_actions ks)))
               ∙ rest.leads
               ∙ ap (λ l. each (with_declaration whole n) (with_kinds d l rest.now) more) (append_assoc done (k ∷ []) ks);
         }

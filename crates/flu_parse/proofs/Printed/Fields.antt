@@ -48,17 +48,20 @@ not_reserved n word i named found =
     let free = and_right (begins_as_name n && list_all is_name_byte n && nat_le (length n) 32) (not (is_reserved n)) named in
     let other = fails_at (λ (r : Reserved). bytes_eq (reserved_spelling r) n) reserved_words i word (not_true (is_reserved n) free) found in
     false_if_not (bytes_eq n (reserved_spelling word)) (λ e.
-    not_both (bytes_eq (reserved_spelling word) n) ((bytes_eq-Decides (reserved_spelling word) n).1 (sym ((bytes_eq-Decides n (reserved_spelling word)).0 e))) other)
+    not_both (bytes_eq (reserved_spelling word) n) ((bytes_eq-Decides (reserved_spelling word) n).1
+    (sym ((bytes_eq-Decides n (reserved_spelling word)).0 e))) other)
 
 -- what has a bracket is no word without one
 not_bracketed : (n more word : List ℕ) → list_any is_open_bracket word ≡ false → bytes_eq (n ++ 91 ∷ more) word ≡ false
 not_bracketed n more word none = false_if_not (bytes_eq (n ++ 91 ∷ more) word) (λ e.
     not_both (list_any is_open_bracket word)
-    (ap (list_any is_open_bracket) (sym ((bytes_eq-Decides (n ++ 91 ∷ more) word).0 e)) ∙ list_any-append is_open_bracket n (91 ∷ more) ∙ or_true (list_any is_open_bracket n)) none)
+    (ap (list_any is_open_bracket) (sym ((bytes_eq-Decides (n ++ 91 ∷ more) word).0 e)) ∙ list_any-append is_open_bracket n (91 ∷ more)
+    ∙ or_true (list_any is_open_bracket n)) none)
 
 -- ---- the key of a field
 
-digits_are : (ds : List ℕ) (at m : ℕ) → 0 < length ds → list_all is_ascii_digit ds ≡ true → number_of ds ≡ Some m → digits_at ds at ≡ Some (k.Fixed (record { value = pos m; at = at }))
+digits_are : (ds : List ℕ) (at m : ℕ) → 0 < length ds → list_all is_ascii_digit ds ≡ true → number_of ds ≡ Some m
+    → digits_at ds at ≡ Some (k.Fixed (record { value = pos m; at = at }))
 unfolding digits_at
 digits_are [] at m some digits number = absurd (omega arith)
 digits_are (b ∷ bs) at m some digits number =
@@ -71,7 +74,8 @@ number_is ds m value small =
     ap (λ n. if nat_lt n (2 ^ 63) then Some n else None) value ∙ ap (λ t. if t then Some m else None) (lt_true m (2 ^ 63) small)
 
 not_key : (ds : List ℕ) → list_all is_ascii_digit ds ≡ true → bytes_eq ds (codes "key") ≡ false
-not_key ds digits = false_if_not (bytes_eq ds (codes "key")) (λ e. not_both (list_all is_ascii_digit ds) digits (ap (list_all is_ascii_digit) ((bytes_eq-Decides ds (codes "key")).0 e)))
+not_key ds digits = false_if_not (bytes_eq ds (codes "key")) (λ e. not_both (list_all is_ascii_digit ds) digits
+    (ap (list_all is_ascii_digit) ((bytes_eq-Decides ds (codes "key")).0 e)))
 
 key_of_number : (m at : ℕ) → m < 65536 → key_at (decimal m) at ≡ Some (k.Fixed (record { value = pos m; at = at }))
 unfolding key_at
@@ -108,26 +112,32 @@ position_with xs n = cond (nat_lt n (length xs)) (Some n) None
 no_position : (n : List ℕ) → list_all is_name_byte n ≡ true → position is_open_bracket n ≡ None
 no_position n h =
     let none : nat_lt (length n) (length n) ≡ false = grind (arith, nat_tests) in
-    ap (position_with n) (prefix_all (λ b. not (is_open_bracket b)) n (list_all_weaker is_name_byte (λ b. not (is_open_bracket b)) n no_bracket h)) ∙ ap (λ t. cond t (Some (length n)) None) none
+    ap (position_with n) (prefix_all (λ b. not (is_open_bracket b)) n (list_all_weaker is_name_byte (λ b. not (is_open_bracket b)) n no_bracket h))
+    ∙ ap (λ t. cond t (Some (length n)) None) none
 
 position_is : (n more : List ℕ) → list_all is_name_byte n ≡ true → position is_open_bracket (n ++ 91 ∷ more) ≡ Some (length n)
 position_is n more h =
     let inside : length n < length (n ++ 91 ∷ more) = omega (arith, length-append n (91 ∷ more)) in
-    ap (position_with (n ++ 91 ∷ more)) (prefix_to (λ b. not (is_open_bracket b)) n 91 more (list_all_weaker is_name_byte (λ b. not (is_open_bracket b)) n no_bracket h) refl)
+    ap (position_with (n ++ 91 ∷ more)) (prefix_to (λ b. not (is_open_bracket b)) n 91 more
+    (list_all_weaker is_name_byte (λ b. not (is_open_bracket b)) n no_bracket h) refl)
     ∙ ap (λ t. cond t (Some (length n)) None) (lt_true (length n) (length (n ++ 91 ∷ more)) inside)
 
 -- ---- what stands between braces
 
 -- the word of a field, before its closing brace
-pub word_between : (whole before word after : List ℕ) (from to : ℕ) → Place whole before (word ++ 125 ∷ after) from → to ≡ from + length word → is_boundary whole from ≡ true → spelled whole from to ≡ word
+pub word_between : (whole before word after : List ℕ) (from to : ℕ) → Place whole before (word ++ 125 ∷ after) from → to ≡ from + length word
+    → is_boundary whole from ≡ true → spelled whole from to ≡ word
 word_between whole before word after from to at size begins =
     let is : whole ≡ (before ++ word) ++ 125 ∷ after = at.is ∙ simp append_assoc in
     let here : to ≡ length (before ++ word) = omega (arith, size, at.here, length-append before word) in
-    spelled_between whole before word (125 ∷ after) from to at size begins (before_ascii whole (before ++ word) 125 after to (record { is = is; here = here }) (omega arith))
+    spelled_between whole before word (125 ∷ after) from to at size begins
+    (before_ascii whole (before ++ word) 125 after to (record { is = is; here = here }) (omega arith))
 
-module _ (whole : List ℕ) (utf8 : IsUtf8 whole) (before n after : List ℕ) (from to : ℕ) (named : is_name n ≡ true) (begins : is_boundary whole from ≡ true) where
+module _ (whole : List ℕ) (utf8 : IsUtf8 whole) (before n after : List ℕ) (from to : ℕ) (named : is_name n ≡ true)
+    (begins : is_boundary whole from ≡ true) where
   -- a family's name alone
-  alone : Place whole before (n ++ 125 ∷ after) from → to ≡ from + length n → ref_at whole from to ≡ Some (p.Read (record { family = span from to; key = k.Alone }))
+  alone : Place whole before (n ++ 125 ∷ after) from → to ≡ from + length n
+      → ref_at whole from to ≡ Some (p.Read (record { family = span from to; key = k.Alone }))
   unfolding ref_with
   alone at size =
       let word = word_between whole before n after from to at size begins in
@@ -137,34 +147,46 @@ module _ (whole : List ℕ) (utf8 : IsUtf8 whole) (before n after : List ℕ) (f
       ∙ ap (λ t. if t then Some (p.Read (record { family = span from to; key = k.Alone })) else None) named
 
   -- a family's name and a key in brackets
-  bracketed : (inner : List ℕ) (key : WrittenKey) → Place whole before ((n ++ 91 ∷ (inner ++ 93 ∷ [])) ++ 125 ∷ after) from → to ≡ from + length (n ++ 91 ∷ (inner ++ 93 ∷ [])) → key_at inner (from + length n + 1) ≡ Some key
+  bracketed : (inner : List ℕ) (key : WrittenKey) → Place whole before ((n ++ 91 ∷ (inner ++ 93 ∷ [])) ++ 125 ∷ after) from
+      → to ≡ from + length (n ++ 91 ∷ (inner ++ 93 ∷ [])) → key_at inner (from + length n + 1) ≡ Some key
       → ref_at whole from to ≡ Some (p.Read (record { family = span from (from + length n); key = key }))
   unfolding ref_with
   bracketed inner key at size found =
       let i : ℕ = length n in
-      let sizes : length (n ++ 91 ∷ (inner ++ 93 ∷ [])) ≡ length n + length inner + 2 = omega (arith, length-append n (91 ∷ (inner ++ 93 ∷ [])), length-append inner (93 ∷ [])) in
+      let sizes : length (n ++ 91 ∷ (inner ++ 93 ∷ [])) ≡ length n + length inner + 2 =
+      omega (arith, length-append n (91 ∷ (inner ++ 93 ∷ [])), length-append inner (93 ∷ [])) in
       let name_is : whole ≡ before ++ (n ++ (91 ∷ (inner ++ (93 ∷ 125 ∷ after)))) = at.is ∙ simp append_assoc in
       let open_is : whole ≡ (before ++ n) ++ (91 ∷ (inner ++ (93 ∷ 125 ∷ after))) = name_is ∙ simp append_assoc in
       let open_here : from + i ≡ length (before ++ n) = omega (arith, at.here, length-append before n) in
       let inner_is : whole ≡ ((before ++ n) ++ 91 ∷ []) ++ (inner ++ (93 ∷ 125 ∷ after)) = open_is ∙ simp append_assoc in
       let inner_here : from + i + 1 ≡ length ((before ++ n) ++ 91 ∷ []) = omega (arith, open_here, length-append (before ++ n) (91 ∷ [])) in
       let close_is : whole ≡ (((before ++ n) ++ 91 ∷ []) ++ inner) ++ (93 ∷ 125 ∷ after) = inner_is ∙ simp append_assoc in
-      let close_here : to - 1 ≡ length (((before ++ n) ++ 91 ∷ []) ++ inner) = omega (arith, inner_here, size, sizes, length-append ((before ++ n) ++ 91 ∷ []) inner) in
+      let close_here : to - 1 ≡ length (((before ++ n) ++ 91 ∷ []) ++ inner) =
+      omega (arith, inner_here, size, sizes, length-append ((before ++ n) ++ 91 ∷ []) inner) in
       let brace_is : whole ≡ ((((before ++ n) ++ 91 ∷ []) ++ inner) ++ 93 ∷ []) ++ (125 ∷ after) = close_is ∙ simp append_assoc in
-      let brace_here : to ≡ length ((((before ++ n) ++ 91 ∷ []) ++ inner) ++ 93 ∷ []) = omega (arith, close_here, size, sizes, length-append (((before ++ n) ++ 91 ∷ []) ++ inner) (93 ∷ [])) in
-      let behind_open = after_ascii whole (before ++ n) 91 (inner ++ (93 ∷ 125 ∷ after)) (from + i) utf8 (record { is = open_is; here = open_here }) (omega arith) in
-      let before_close = before_ascii whole (((before ++ n) ++ 91 ∷ []) ++ inner) 93 (125 ∷ after) (to - 1) (record { is = close_is; here = close_here }) (omega arith) in
-      let before_brace = before_ascii whole ((((before ++ n) ++ 91 ∷ []) ++ inner) ++ 93 ∷ []) 125 after to (record { is = brace_is; here = brace_here }) (omega arith) in
-      let name_spelled = name_between whole before n (91 ∷ (inner ++ (93 ∷ 125 ∷ after))) from (from + i) utf8 named (record { is = name_is; here = at.here }) refl in
+      let brace_here : to ≡ length ((((before ++ n) ++ 91 ∷ []) ++ inner) ++ 93 ∷ []) =
+      omega (arith, close_here, size, sizes, length-append (((before ++ n) ++ 91 ∷ []) ++ inner) (93 ∷ [])) in
+      let behind_open = after_ascii whole (before ++ n) 91 (inner ++ (93 ∷ 125 ∷ after)) (from + i) utf8 (record { is = open_is; here = open_here })
+      (omega arith) in
+      let before_close = before_ascii whole (((before ++ n) ++ 91 ∷ []) ++ inner) 93 (125 ∷ after) (to - 1) (record { is = close_is; here = close_here })
+      (omega arith) in
+      let before_brace = before_ascii whole ((((before ++ n) ++ 91 ∷ []) ++ inner) ++ 93 ∷ []) 125 after to (record { is = brace_is; here = brace_here })
+      (omega arith) in
+      let name_spelled = name_between whole before n (91 ∷ (inner ++ (93 ∷ 125 ∷ after))) from (from + i) utf8 named
+      (record { is = name_is; here = at.here }) refl in
       let inner_spelled : spelled whole (from + i + 1) (to - 1) ≡ inner =
-      spelled_between whole ((before ++ n) ++ 91 ∷ []) inner (93 ∷ 125 ∷ after) (from + i + 1) (to - 1) (record { is = inner_is; here = inner_here }) (omega (arith, size, sizes)) behind_open before_close in
+      spelled_between whole ((before ++ n) ++ 91 ∷ []) inner (93 ∷ 125 ∷ after) (from + i + 1) (to - 1) (record { is = inner_is; here = inner_here })
+      (omega (arith, size, sizes)) behind_open before_close in
       let close_spelled : spelled whole (to - 1) to ≡ 93 ∷ [] =
-      spelled_between whole (((before ++ n) ++ 91 ∷ []) ++ inner) (93 ∷ []) (125 ∷ after) (to - 1) to (record { is = close_is; here = close_here }) (omega (arith, size, sizes)) before_close before_brace in
+      spelled_between whole (((before ++ n) ++ 91 ∷ []) ++ inner) (93 ∷ []) (125 ∷ after) (to - 1) to (record { is = close_is; here = close_here })
+      (omega (arith, size, sizes)) before_close before_brace in
       let make : WrittenKey → WrittenPiece = λ key. p.Read (record { family = span from (from + i); key = key }) in
       ap (λ w. ref_with whole from to (position is_open_bracket w)) (word_between whole before (n ++ 91 ∷ (inner ++ 93 ∷ [])) after from to at size begins)
       ∙ ap (ref_with whole from to) (position_is n (inner ++ 93 ∷ []) (name_bytes n named))
-      ∙ ap (λ w. if is_name w && bytes_eq (spelled whole (to - 1) to) (codes "]") then option_map make (key_at (spelled whole (from + i + 1) (to - 1)) (from + i + 1)) else None) name_spelled
-      ∙ ap (λ t. if t && bytes_eq (spelled whole (to - 1) to) (codes "]") then option_map make (key_at (spelled whole (from + i + 1) (to - 1)) (from + i + 1)) else None) named
+      ∙ ap (λ w. if is_name w && bytes_eq (spelled whole (to - 1) to) (codes "]") then option_map make
+      (key_at (spelled whole (from + i + 1) (to - 1)) (from + i + 1)) else None) name_spelled
+      ∙ ap (λ t. if t && bytes_eq (spelled whole (to - 1) to) (codes "]") then option_map make
+      (key_at (spelled whole (from + i + 1) (to - 1)) (from + i + 1)) else None) named
       ∙ ap (λ w. if bytes_eq w (codes "]") then option_map make (key_at (spelled whole (from + i + 1) (to - 1)) (from + i + 1)) else None) close_spelled
       ∙ ap (λ w. option_map make (key_at w (from + i + 1))) inner_spelled
       ∙ ap (option_map make) found
@@ -178,10 +200,16 @@ pub record FieldIs (whole : List ℕ) (under : KindHead) (n : List ℕ) (family_
   pub own : own_key_fits under written.key ≡ true
   pub means : at_of under written.key ≡ Ok a
 
-module _ (whole : List ℕ) (utf8 : IsUtf8 whole) (under : KindHead) (before n after : List ℕ) (from to : ℕ) (named : is_name n ≡ true) (begins : is_boundary whole from ≡ true) where
-  pub read_field : (family_keyed : Bool) (a : At) → key_fits family_keyed under.keyed a ≡ true → Place whole before ((n ++ written_key a) ++ 125 ∷ after) from → to ≡ from + length (n ++ written_key a) → FieldIs whole under n family_keyed a from to
+module _ (whole : List ℕ) (utf8 : IsUtf8 whole) (under : KindHead) (before n after : List ℕ) (from to : ℕ) (named : is_name n ≡ true)
+    (begins : is_boundary whole from ≡ true) where
+  pub read_field : (family_keyed : Bool) (a : At) → key_fits family_keyed under.keyed a ≡ true → Place whole before ((n ++ written_key a) ++ 125 ∷ after) from
+      → to ≡ from + length (n ++ written_key a) → FieldIs whole under n family_keyed a from to
   read_field family_keyed at.Alone fits place size =
-      let at_name : Place whole before (n ++ 125 ∷ after) from = record { is = place.is ∙ ap (λ w. before ++ (w ++ 125 ∷ after)) (append-nil n); here = place.here } in
+      let at_name : Place whole before (n ++ 125 ∷ after) from = record {
+        is = place.is
+            ∙ ap (λ w. before ++ (w ++ 125 ∷ after)) (append-nil n);
+        here = place.here;
+      } in
       let name_size : to ≡ from + length n = size ∙ ap (λ w. from + length w) (append-nil n) in
       record {
         written = record { family = span from to; key = k.Alone };
@@ -192,10 +220,12 @@ module _ (whole : List ℕ) (utf8 : IsUtf8 whole) (under : KindHead) (before n a
         means = refl;
       }
   read_field family_keyed at.OwnKey fits place size =
-      let name_at : Place whole before (n ++ (codes "[key]" ++ 125 ∷ after)) from = record { is = place.is ∙ ap (λ w. before ++ w) (append_assoc n (codes "[key]") (125 ∷ after)); here = place.here } in
+      let name_at : Place whole before (n ++ (codes "[key]" ++ 125 ∷ after)) from =
+      record { is = place.is ∙ ap (λ w. before ++ w) (append_assoc n (codes "[key]") (125 ∷ after)); here = place.here } in
       record {
         written = record { family = span from (from + length n); key = k.OwnKey (from + length n + 1) };
-        read = bracketed whole utf8 before n after from to named begins (codes "key") (k.OwnKey (from + length n + 1)) place size (own_key (from + length n + 1));
+        read = bracketed whole utf8 before n after from to named begins (codes "key") (k.OwnKey (from + length n + 1)) place size
+            (own_key (from + length n + 1));
         named = name_between whole before n (codes "[key]" ++ 125 ∷ after) from (from + length n) utf8 named name_at refl;
         brackets = and_left family_keyed under.keyed fits;
         own = and_right family_keyed under.keyed fits;
@@ -203,10 +233,12 @@ module _ (whole : List ℕ) (utf8 : IsUtf8 whole) (under : KindHead) (before n a
       }
   read_field family_keyed (at.Fixed m) fits place size =
       let small = and_right family_keyed (nat_lt m key_count) fits in
-      let name_at : Place whole before (n ++ (written_key (at.Fixed m) ++ 125 ∷ after)) from = record { is = place.is ∙ ap (λ w. before ++ w) (append_assoc n (written_key (at.Fixed m)) (125 ∷ after)); here = place.here } in
+      let name_at : Place whole before (n ++ (written_key (at.Fixed m) ++ 125 ∷ after)) from =
+      record { is = place.is ∙ ap (λ w. before ++ w) (append_assoc n (written_key (at.Fixed m)) (125 ∷ after)); here = place.here } in
       record {
         written = record { family = span from (from + length n); key = k.Fixed (record { value = pos m; at = from + length n + 1 }) };
-        read = bracketed whole utf8 before n after from to named begins (decimal m) (k.Fixed (record { value = pos m; at = from + length n + 1 })) place size (key_of_number m (from + length n + 1) (true_lt m 65536 small));
+        read = bracketed whole utf8 before n after from to named begins (decimal m) (k.Fixed (record { value = pos m; at = from + length n + 1 })) place size
+            (key_of_number m (from + length n + 1) (true_lt m 65536 small));
         named = name_between whole before n (written_key (at.Fixed m) ++ 125 ∷ after) from (from + length n) utf8 named name_at refl;
         brackets = and_left family_keyed (nat_lt m key_count) fits;
         own = refl;
@@ -223,7 +255,8 @@ field_with whole in_flush from to word =
     else if in_flush then (if bytes_eq word (codes "cell") then Some p.CellValue else None)
     else ref_at whole from to
 
-pub field_of_word : (whole : List ℕ) (in_flush : Bool) (from to : ℕ) (word : List ℕ) → spelled whole from to ≡ word → field_at whole in_flush from to ≡ field_with whole in_flush from to word
+pub field_of_word : (whole : List ℕ) (in_flush : Bool) (from to : ℕ) (word : List ℕ) → spelled whole from to ≡ word
+    → field_at whole in_flush from to ≡ field_with whole in_flush from to word
 unfolding field_at
 field_of_word whole in_flush from to word e = ap (field_with whole in_flush from to) e
 
@@ -234,11 +267,13 @@ other_word n at.Alone i word named found none = ap (λ w. bytes_eq w (reserved_s
 other_word n at.OwnKey i word named found none = not_bracketed n (codes "key]") (reserved_spelling word) none
 other_word n (at.Fixed m) i word named found none = not_bracketed n (decimal m ++ codes "]") (reserved_spelling word) none
 
-pub field_of_ref : (whole : List ℕ) (from to : ℕ) (n : List ℕ) (a : At) → is_name n ≡ true → spelled whole from to ≡ n ++ written_key a → field_at whole false from to ≡ ref_at whole from to
+pub field_of_ref : (whole : List ℕ) (from to : ℕ) (n : List ℕ) (a : At) → is_name n ≡ true → spelled whole from to ≡ n ++ written_key a
+    → field_at whole false from to ≡ ref_at whole from to
 field_of_ref whole from to n a named e =
     let word : List ℕ = n ++ written_key a in
     field_of_word whole false from to word e
-    ∙ ap (λ t. if t then Some p.Value else if bytes_eq word (codes "key") then Some p.Key else if bytes_eq word (codes "time") then Some p.Time else ref_at whole from to) (other_word n a 21 r.Value named refl refl)
+    ∙ ap (λ t. if t then Some p.Value else if bytes_eq word (codes "key") then Some p.Key else if bytes_eq word
+    (codes "time") then Some p.Time else ref_at whole from to) (other_word n a 21 r.Value named refl refl)
     ∙ ap (λ t. if t then Some p.Key else if bytes_eq word (codes "time") then Some p.Time else ref_at whole from to) (other_word n a 22 r.Key named refl refl)
     ∙ ap (λ t. if t then Some p.Time else ref_at whole from to) (other_word n a 23 r.Time named refl refl)
 
@@ -257,7 +292,9 @@ key_closed (at.Fixed m) family_keyed keyed fits =
 name_no_brace : (b : ℕ) → is_name_byte b ≡ true → no_brace b ≡ true
 name_no_brace b h = grind (arith, nat_tests)
 
-pub ref_closed : (n : List ℕ) (a : At) (family_keyed keyed : Bool) → is_name n ≡ true → key_fits family_keyed keyed a ≡ true → list_all no_brace (n ++ written_key a) ≡ true
+pub ref_closed : (n : List ℕ) (a : At) (family_keyed keyed : Bool) → is_name n ≡ true → key_fits family_keyed keyed a ≡ true
+    → list_all no_brace (n ++ written_key a) ≡ true
 ref_closed n a family_keyed keyed named fits =
     list_all-append no_brace n (written_key a)
-    ∙ both (list_all no_brace n) (list_all no_brace (written_key a)) (list_all_weaker is_name_byte no_brace n name_no_brace (name_bytes n named)) (key_closed a family_keyed keyed fits)
+    ∙ both (list_all no_brace n) (list_all no_brace (written_key a)) (list_all_weaker is_name_byte no_brace n name_no_brace (name_bytes n named))
+    (key_closed a family_keyed keyed fits)

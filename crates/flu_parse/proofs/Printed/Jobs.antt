@@ -1,17 +1,16 @@
 -- The normal form of a job is read as that job.
-use Rattle.std.proofs.Common.{◌≡◌, ◌≤◌, ◌+◌, ℕ, pos, Bool, true, false, ◌&&◌, ◌||◌, Option, None, List, [], ◌∷◌, ◌++◌, map, length, Some, Ok, refl, sym, ap, subst, ◌∙◌, append_assoc, arith}
-use Rattle.std.specs.Prelude.{not, ◌==◌, if◌then◌else◌}
-use Rattle.std.specs.List.{list_all, list_any}
+use Rattle.std.proofs.Common.{◌≡◌, ◌≤◌, ◌+◌, ℕ, pos, Bool, true, false, Option, None, List, [], ◌∷◌, ◌++◌, map, length, Some, Ok, refl, sym, ap, subst, ◌∙◌, append_assoc, arith}
+use Rattle.std.specs.Prelude.{◌==◌, if◌then◌else◌}
+use Rattle.std.specs.List.{list_all}
 use Rattle.std.specs.Str.{IsUtf8}
 use Rattle.std.proofs.lemmas.List.Concat.{flat_map-append}
 use Rattle.flu_lemmas.proofs.Tests.{le_true, true_eq}
-use Rattle.flu_lemmas.proofs.Booleans.{or_front, three_left, three_right}
+use Rattle.flu_lemmas.proofs.Booleans.{or_front}
 use Rattle.flu_lemmas.specs.Items.{Begins}
 use Rattle.flu_lemmas.proofs.Items.{begins_append, Took, took_none}
 use Rattle.flu_text.specs.declared.words.Token.{Token}
 use Rattle.flu_text.specs.Layout.{Piece as Laid, layout, tokens_of}
 use Rattle.flu_text.specs.Reading.{Reading as TokenReading}
-use Rattle.flu_rules.proofs.DistinctLemmas.{distinct-append}
 use Rattle.flu_model.specs.declared.limits.What.TheVariants.{Bytes}
 use Rattle.flu_model.specs.declared.jobs.Family.{Family}
 use Rattle.flu_model.specs.declared.jobs.Source.{Source}
@@ -34,6 +33,7 @@ use Rattle.flu_parse.specs.Naming.{Naming, no_names, naming_of}
 use Rattle.flu_parse.specs.Resolving.{Drafted, with_declaration, family, idle_kind, draft_of, version_of, job_with as draft_with, resolved}
 use Rattle.flu_parse.specs.Reading.{text_in, found_tokens, tokens_in, found_job, written_in, job_in}
 use Rattle.flu_parse.specs.Printing.{normal_form}
+use Rattle.flu_parse.proofs.Distinct.{distinct_front, distinct_back}
 use Rattle.flu_parse.proofs.ReadingLemmas.{text_in-utf8}
 use Rattle.flu_parse.proofs.Printed.Rules.{plain_depend_fits, plain_source_fits, names_of_job, JobFits}
 use Rattle.flu_parse.proofs.Printed.Words.{version_words, cell_line_words, tag_line_words, depends_line_words, source_line_words, job_words, job_layout}
@@ -54,7 +54,8 @@ kinds_idle i (k ∷ ks) = ap (λ l. without_actions k ∷ l) (kinds_idle (i + 1)
 
 -- the names of families, and those of kinds, differ
 record Apart (job : Job) : Type 0 where
-  all : are_distinct is_same_text (map (λ (g : Family). g.name) job.families ++ (map (λ (k : PlainKind). k.name) job.kinds ++ map (λ (s : Source). s.name) job.sources)) ≡ true
+  all : are_distinct is_same_text (map (λ (g : Family). g.name) job.families ++ (map (λ (k : PlainKind). k.name) job.kinds ++ map
+      (λ (s : Source). s.name) job.sources)) ≡ true
   families : are_distinct is_same_text (map (λ (g : Family). g.name) job.families) ≡ true
   kinds : are_distinct is_same_text (map (λ (k : PlainKind). k.name) job.kinds) ≡ true
 
@@ -63,12 +64,11 @@ apart job h =
     let a : List (List ℕ) = map (λ (g : Family). g.name) job.families in
     let b : List (List ℕ) = map (λ (k : PlainKind). k.name) job.kinds in
     let c : List (List ℕ) = map (λ (s : Source). s.name) job.sources in
-    let front = three_left (are_distinct is_same_text (a ++ b)) (not (list_any (λ x. list_any (is_same_text x) c) (a ++ b))) (are_distinct is_same_text c) (sym (distinct-append is_same_text (a ++ b) c) ∙ h) in
-    let both : (are_distinct is_same_text a && not (list_any (λ x. list_any (is_same_text x) b) a) && are_distinct is_same_text b) ≡ true = sym (distinct-append is_same_text a b) ∙ front in
+    let front = distinct_front is_same_text (a ++ b) c h in
     record {
       all = ap (are_distinct is_same_text) (sym (append_assoc a b c)) ∙ h;
-      families = three_left (are_distinct is_same_text a) (not (list_any (λ x. list_any (is_same_text x) b) a)) (are_distinct is_same_text b) both;
-      kinds = three_right (are_distinct is_same_text a) (not (list_any (λ x. list_any (is_same_text x) b) a)) (are_distinct is_same_text b) both;
+      families = distinct_front is_same_text a b front;
+      kinds = distinct_back is_same_text a b front;
     }
 
 module _ (begun : BegunAreSigns) (meet : TagsMeet) (differ : TagsDiffer) (job : Job) (fits : JobFits job) (whole : List ℕ) (utf8 : IsUtf8 whole) where
@@ -122,7 +122,8 @@ module _ (begun : BegunAreSigns) (meet : TagsMeet) (differ : TagsDiffer) (job : 
   read_version : (rest : List Laid) (ts : List Token) → Stand whole (version_words job.version rest) ts → VersionIs rest ts
   read_version rest ts h = by (job.version == 2) refl h
     where
-      by : (two : Bool) → (job.version == 2) ≡ two → Stand whole (if two then reserved r.Version blank ∷ number (pos 2) line_end ∷ rest else rest) ts → VersionIs rest ts
+      by : (two : Bool) → (job.version == 2) ≡ two → Stand whole (if two then reserved r.Version blank ∷ number (pos 2) line_end ∷ rest else rest) ts
+          → VersionIs rest ts
       by true e h = record {
         written = Some (record { value = pos 2; at = h.4.0.from });
         took = record { rest = h.4.1; begins = (h.0, h.1, h.2, h.3.word, (h.4.0, h.4.1, h.4.2, (h.4.3.word, refl), refl)); stand = h.4.4 };
@@ -134,18 +135,24 @@ module _ (begun : BegunAreSigns) (meet : TagsMeet) (differ : TagsDiffer) (job : 
         is = ap Ok (sym (true_eq job.version 1 (or_front (job.version == 1) (job.version == 2) fits.known_version e)));
       }
 
-  begin_more : (a b : List Declaration) (ts more rest : List Token) → Begins IsSign (declarations_signs a) ts more → Begins IsSign (declarations_signs b) more rest → Begins IsSign (declarations_signs (a ++ b)) ts rest
-  begin_more a b ts more rest h k = subst (λ l. Begins IsSign l ts rest) (sym (flat_map-append declaration_signs a b)) (begins_append IsSign (declarations_signs a) (declarations_signs b) ts more rest h k)
+  begin_more : (a b : List Declaration) (ts more rest : List Token) → Begins IsSign (declarations_signs a) ts more
+      → Begins IsSign (declarations_signs b) more rest → Begins IsSign (declarations_signs (a ++ b)) ts rest
+  begin_more a b ts more rest h k = subst (λ l. Begins IsSign l ts rest) (sym (flat_map-append declaration_signs a b))
+      (begins_append IsSign (declarations_signs a) (declarations_signs b) ts more rest h k)
 
   read_parts : (ts : List Token) → Stand whole (job_words job) ts → IsRead ts
   read_parts tokens h =
       let version = read_version _ tokens h in
       let ts = version.took.rest in
-      let cells = read_lines whole cell_line_words (CellIs whole utf8) (λ (g : Family). is_name g.name) (read_cell_line whole utf8) job.families _ ts fits.families version.took.stand in
-      let tags = read_lines whole tag_line_words (TagIs whole utf8) (λ (k : PlainKind). is_name k.name) (read_tag_line whole utf8) job.kinds _ cells.took.rest named_kinds cells.took.stand in
-      let deps = read_lines whole (depends_line_words job.kinds) (DependsIs whole utf8 job.kinds named_kinds n known_kinds) (plain_depend_fits job.kinds) (read_depends_line whole utf8 job.kinds named_kinds n known_kinds) job.depends _ tags.took.rest fits.depends tags.took.stand in
+      let cells = read_lines whole cell_line_words (CellIs whole utf8) (λ (g : Family). is_name g.name)
+      (read_cell_line whole utf8) job.families _ ts fits.families version.took.stand in
+      let tags = read_lines whole tag_line_words (TagIs whole utf8) (λ (k : PlainKind). is_name k.name)
+      (read_tag_line whole utf8) job.kinds _ cells.took.rest named_kinds cells.took.stand in
+      let deps = read_lines whole (depends_line_words job.kinds) (DependsIs whole utf8 job.kinds named_kinds n known_kinds) (plain_depend_fits job.kinds)
+      (read_depends_line whole utf8 job.kinds named_kinds n known_kinds) job.depends _ tags.took.rest fits.depends tags.took.stand in
       let ons = read_ons whole utf8 job.families fits.families n known_families 0 job.kinds _ deps.took.rest fits.kinds deps.took.stand in
-      let sources = read_lines whole (source_line_words job.kinds) (SourceIs whole utf8 job.kinds named_kinds n known_kinds) (plain_source_fits job.kinds) (read_source_line whole utf8 job.kinds named_kinds n known_kinds) job.sources [] ons.took.rest fits.sources ons.took.stand in
+      let sources = read_lines whole (source_line_words job.kinds) (SourceIs whole utf8 job.kinds named_kinds n known_kinds) (plain_source_fits job.kinds)
+      (read_source_line whole utf8 job.kinds named_kinds n known_kinds) job.sources [] ons.took.rest fits.sources ons.took.stand in
       let p : Parts = record {
         cells = cells.written;
         tags = tags.written;
@@ -161,10 +168,13 @@ module _ (begun : BegunAreSigns) (meet : TagsMeet) (differ : TagsDiffer) (job : 
       let last = begin_more sources.written [] ons.took.rest sources.took.rest sources.took.rest sources.took.begins refl in
       let fourth = begin_more ons.written (sources.written ++ []) deps.took.rest ons.took.rest sources.took.rest ons.took.begins last in
       let third = begin_more deps.written (ons.written ++ (sources.written ++ [])) tags.took.rest deps.took.rest sources.took.rest deps.took.begins fourth in
-      let second = begin_more tags.written (deps.written ++ (ons.written ++ (sources.written ++ []))) cells.took.rest tags.took.rest sources.took.rest tags.took.begins third in
-      let first = begin_more cells.written (tags.written ++ (deps.written ++ (ons.written ++ (sources.written ++ [])))) ts cells.took.rest sources.took.rest cells.took.begins second in
+      let second = begin_more tags.written
+      (deps.written ++ (ons.written ++ (sources.written ++ []))) cells.took.rest tags.took.rest sources.took.rest tags.took.begins third in
+      let first = begin_more cells.written
+      (tags.written ++ (deps.written ++ (ons.written ++ (sources.written ++ [])))) ts cells.took.rest sources.took.rest cells.took.begins second in
       let written : WrittenJob = record { version = version.written; declarations = all_parts p } in
-      let whole_job = begins_append IsSign (version_signs version.written) (declarations_signs (all_parts p)) tokens ts sources.took.rest version.took.begins first in
+      let whole_job = begins_append IsSign (version_signs version.written)
+      (declarations_signs (all_parts p)) tokens ts sources.took.rest version.took.begins first in
       record {
         version = version.written;
         parts = p;
@@ -184,18 +194,35 @@ module _ (begun : BegunAreSigns) (meet : TagsMeet) (differ : TagsDiffer) (job : 
   named p =
       let source_names : List (List ℕ) = map (λ (s : Source). s.name) job.sources in
       let rest : List (List ℕ) = map (λ (k : PlainKind). k.name) job.kinds ++ source_names in
-      let left : Left no_names (map (λ (g : Family). g.name) job.families ++ rest) = record { fresh = all_fresh (map (λ (g : Family). g.name) job.families ++ rest); apart = (apart job fits.own_names).all } in
+      let left : Left no_names (map (λ (g : Family). g.name) job.families ++ rest) =
+      record { fresh = all_fresh (map (λ (g : Family). g.name) job.families ++ rest); apart = (apart job fits.own_names).all } in
       let with_cells : Naming = record { families = family_heads 0 job.families; kinds = []; sources = []; depends = 0 } in
       let with_tags : Naming = record { families = family_heads 0 job.families; kinds = kind_heads 0 job.kinds; sources = []; depends = 0 } in
-      let with_deps : Naming = record { families = family_heads 0 job.families; kinds = kind_heads 0 job.kinds; sources = []; depends = 0 + length job.depends } in
-      let cells = declare_cells whole utf8 job.families no_names p.cells (p.tags ++ (p.deps ++ (p.ons ++ (p.sources ++ [])))) rest p.are_cells left (omega (arith, fits.few_families)) in
-      let tags = declare_tags whole utf8 job.kinds with_cells p.tags (p.deps ++ (p.ons ++ (p.sources ++ []))) source_names p.are_tags cells.left (omega (arith, fits.few_kinds)) in
+      let with_deps : Naming = record {
+        families = family_heads 0 job.families;
+        kinds = kind_heads 0 job.kinds;
+        sources = [];
+        depends =
+            0 + length job.depends;
+      } in
+      let cells = declare_cells whole utf8 job.families no_names p.cells (p.tags ++ (p.deps ++ (p.ons ++ (p.sources ++ [])))) rest p.are_cells left
+      (omega (arith, fits.few_families)) in
+      let tags = declare_tags whole utf8 job.kinds with_cells p.tags (p.deps ++ (p.ons ++ (p.sources ++ []))) source_names p.are_tags cells.left
+      (omega (arith, fits.few_kinds)) in
       cells.leads
       ∙ tags.leads
-      ∙ declare_depends whole utf8 job.kinds named_kinds n known_kinds job.depends with_tags p.deps (p.ons ++ (p.sources ++ [])) p.are_deps (omega (arith, fits.few_depends))
+      ∙ declare_depends whole utf8 job.kinds named_kinds n known_kinds job.depends with_tags p.deps (p.ons ++ (p.sources ++ [])) p.are_deps
+      (omega (arith, fits.few_depends))
       ∙ declare_ons whole utf8 job.families fits.families n known_families 0 job.kinds with_deps p.ons (p.sources ++ []) p.are_ons
-      ∙ declare_sources whole utf8 job.kinds named_kinds n known_kinds job.sources with_deps p.sources [] p.are_sources (counted whole utf8 with_tags (0 + length job.depends) source_names tags.left) (omega (arith, fits.few_sources))
-      ∙ ap (λ k. Ok (let m : Naming = record { families = family_heads 0 job.families; kinds = kind_heads 0 job.kinds; sources = source_names; depends = k } in m)) (let same : 0 + length job.depends ≡ length job.depends = omega arith in same)
+      ∙ declare_sources whole utf8 job.kinds named_kinds n known_kinds job.sources with_deps p.sources [] p.are_sources
+      (counted whole utf8 with_tags (0 + length job.depends) source_names tags.left) (omega (arith, fits.few_sources))
+      ∙ ap (λ k. Ok (let m : Naming = record {
+        families = family_heads 0 job.families;
+        kinds = kind_heads 0 job.kinds;
+        sources = source_names;
+        depends =
+            k;
+      } in m)) (let same : 0 + length job.depends ≡ length job.depends = omega arith in same)
 
   drafted : (p : Parts) → (given : List ℕ) × (itags : ℕ) × (draft_of whole n (all_parts p) ≡ Ok (record { kinds = job.kinds; given = given; depends = job.depends; sources = job.sources; itags = itags }))
   unfolding n each
@@ -204,12 +231,14 @@ module _ (begun : BegunAreSigns) (meet : TagsMeet) (differ : TagsDiffer) (job : 
       let behind_tags : List Declaration = p.deps ++ (p.ons ++ (p.sources ++ [])) in
       let start : Drafted = record { kinds = idle; given = []; depends = []; sources = []; itags = 0 } in
       let with_deps : Drafted = record { kinds = idle; given = []; depends = job.depends; sources = []; itags = 0 } in
-      let ons = add_ons whole utf8 n job.families fits.families known_families job.kinds known_kinds [] job.kinds with_deps [] p.ons (p.sources ++ []) refl fits.kinds (λ j le. refl) p.are_ons in
+      let ons = add_ons whole utf8 n job.families fits.families known_families job.kinds known_kinds [] job.kinds with_deps [] p.ons
+      (p.sources ++ []) refl fits.kinds (λ j le. refl) p.are_ons in
       let with_ons : Drafted = record { kinds = job.kinds; given = ons.now; depends = job.depends; sources = []; itags = 0 } in
       let few : 0 + total_itags job.sources ≤ 256 = omega (arith, fits.few_itags, itags_counted 0 job.sources) in (
         ons.now,
         0 + total_itags job.sources,
-        ap (λ ks. each (with_declaration whole n) (let d : Drafted = record { kinds = ks; given = []; depends = []; sources = []; itags = 0 } in d) (all_parts p)) (kinds_idle 0 job.kinds)
+        ap (λ ks. each (with_declaration whole n) (let d : Drafted = record { kinds = ks; given = []; depends = []; sources = []; itags = 0 } in d)
+            (all_parts p)) (kinds_idle 0 job.kinds)
             ∙ skip_cells whole utf8 n job.families start p.cells (p.tags ++ behind_tags) p.are_cells
             ∙ skip_tags whole utf8 n job.kinds start p.tags behind_tags p.are_tags
             ∙ add_depends whole utf8 n job.kinds named_kinds known_kinds job.depends start p.deps (p.ons ++ (p.sources ++ [])) p.are_deps
@@ -217,14 +246,16 @@ module _ (begun : BegunAreSigns) (meet : TagsMeet) (differ : TagsDiffer) (job : 
             ∙ add_sources whole utf8 n job.kinds named_kinds known_kinds meet differ [] job.sources with_ons p.sources [] p.are_sources refl fits.sources fits.own_files few,
       )
 
-  resolved_is : (p : Parts) (version : Option WrittenNumber) → version_of version ≡ Ok job.version → resolved whole (record { version = version; declarations = all_parts p }) ≡ Ok job
+  resolved_is : (p : Parts) (version : Option WrittenNumber) → version_of version ≡ Ok job.version
+      → resolved whole (record { version = version; declarations = all_parts p }) ≡ Ok job
   unfolding n resolved
   resolved_is p version known =
       let d = drafted p in
       ap (λ (r : Found Naming). r >>= λ n. version_of version >>= λ v. draft_of whole n (all_parts p) >>= λ d. Ok (draft_with v n d)) (named p)
       ∙ ap (λ (r : Found ℕ). r >>= λ v. draft_of whole n (all_parts p) >>= λ d. Ok (draft_with v n d)) known
       ∙ ap (λ (r : Found Drafted). r >>= λ d. Ok (draft_with job.version n d)) d.2
-      ∙ ap (λ fs. Ok (let j : Job = record { version = job.version; families = fs; kinds = job.kinds; depends = job.depends; sources = job.sources } in j)) (families_back 0 job.families)
+      ∙ ap (λ fs. Ok (let j : Job = record { version = job.version; families = fs; kinds = job.kinds; depends = job.depends; sources = job.sources } in j))
+      (families_back 0 job.families)
 
 -- the words of the normal form are read as the job
 laid_is_read : LaidIsRead → BegunAreSigns → KeysAreLaid → FoundIsJob → TagsMeet → TagsDiffer → (job : Job) → JobFits job → IsUtf8 (layout (job_words job))
@@ -243,7 +274,9 @@ laid_is_read read begun keys found meet differ job fits utf8 few =
     ∙ ap (λ (v : Verdict WrittenJob). found_job v >>= λ written. resolved whole written) ((found (length whole) ts written).1 parts.is)
     ∙ resolved_is begun meet differ job fits whole utf8 parts.parts parts.version parts.version_is
 
-pub job_is_read : LaidIsRead → BegunAreSigns → KeysAreSpelled → KeysAreLaid → FoundIsJob → TagsMeet → TagsDiffer → (job : Job) → JobFits job → IsUtf8 (normal_form job)
+pub job_is_read : LaidIsRead → BegunAreSigns → KeysAreSpelled → KeysAreLaid → FoundIsJob → TagsMeet → TagsDiffer → (job : Job) → JobFits job
+    → IsUtf8 (normal_form job)
     → length (normal_form job) ≤ 1048576 → job_in (normal_form job) ≡ Ok job
 job_is_read read begun spelled keys found meet differ job fits =
-    subst (λ text. IsUtf8 text → length text ≤ 1048576 → job_in text ≡ Ok job) (job_layout spelled job) (laid_is_read read begun keys found meet differ job fits)
+    subst (λ text. IsUtf8 text → length text ≤ 1048576 → job_in text ≡ Ok job) (job_layout spelled job)
+    (laid_is_read read begun keys found meet differ job fits)

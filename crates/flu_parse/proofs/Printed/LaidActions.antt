@@ -1,5 +1,5 @@
 -- The laying out of actions.
-use Rattle.std.proofs.Common.{◌≡◌, ℕ, Bool, true, false, ◌&&◌, List, [], ◌∷◌, ◌++◌, length, Option, Some, None, refl}
+use Rattle.std.proofs.Common.{◌≡◌, ℕ, Bool, true, ◌&&◌, List, ◌∷◌, length, Option, Some, None, refl}
 use Rattle.std.specs.Prelude.{nat_le, slice_get}
 use Rattle.std.specs.List.{list_all}
 use Rattle.flu_lemmas.proofs.Booleans.{three_left, three_right}
@@ -59,8 +59,10 @@ module _ (families : List Family) (names : list_all (λ (f : Family). is_name f.
       let ref_ok = ref_fits families keyed c in
       let sort_ok = ref_has_sort families sort c in
       let good = three_right ref_ok sort_ok (is_good_term families keyed has_value e) fits in
-      let amount = laid_term families names keyed has_value e behind rest (and_left (term_fits families keyed has_value e) (nat_le (term_height e) 32) good) f in
-      let cell = laid_cell families names keyed c blank (term_words families e behind rest) (three_left ref_ok sort_ok (is_good_term families keyed has_value e) fits)
+      let amount = laid_term families names keyed has_value e behind rest
+      (and_left (term_fits families keyed has_value e) (nat_le (term_height e) 32) good) f in
+      let cell = laid_cell families names keyed c blank (term_words families e behind rest)
+      (three_left ref_ok sort_ok (is_good_term families keyed has_value e) fits)
       (record { blank = refl; ends = refl; laid = amount }) in
       laid_reserved word blank _ refl refl cell
 

@@ -1,5 +1,5 @@
 -- The family that a reference names, and the laying out of cells and expressions.
-use Rattle.std.proofs.Common.{◌≡◌, ◌<◌, ◌^◌, ℕ, pos, Bool, true, List, [], ◌∷◌, Option, Some, None, refl, ap, ◌∙◌, arith}
+use Rattle.std.proofs.Common.{◌≡◌, ◌^◌, ℕ, pos, Bool, true, List, [], ◌∷◌, Option, Some, None, refl, ap, ◌∙◌, arith}
 use Rattle.std.specs.Prelude.{nat_lt, slice_get}
 use Rattle.std.specs.List.{list_all}
 use Rattle.flu_lemmas.proofs.Tests.{and_left, and_right}
@@ -86,7 +86,8 @@ module _ (families : List Family) (names : list_all (λ (f : Family). is_name f.
   laid_term keyed has_value EventKey behind rest fits f = laid_reserved r.Key behind rest f.blank f.ends f.laid
   laid_term keyed has_value EventTime behind rest fits f = laid_reserved r.Time behind rest f.blank f.ends f.laid
   laid_term keyed has_value (CellRead c) behind rest fits f = laid_cell keyed c behind rest fits f
-  laid_term keyed has_value (CellHeld c) behind rest fits f = laid_reserved r.Has blank (cell_words families c behind rest) refl refl (laid_cell keyed c behind rest fits f)
+  laid_term keyed has_value (CellHeld c) behind rest fits f = laid_reserved r.Has blank (cell_words families c behind rest) refl refl
+      (laid_cell keyed c behind rest fits f)
   laid_term keyed has_value (Negative e) behind rest fits f =
       let inner = laid_term keyed has_value e [] (mark m.CloseParen behind ∷ rest) fits (laid_close behind rest f) in
       laid_mark m.OpenParen [] _ (λ b. refl) refl (laid_spaced m.Minus _ inner)
@@ -98,6 +99,7 @@ module _ (families : List Family) (names : list_all (λ (f : Family). is_name f.
       let right_fits = term_fits families keyed has_value b in
       let right = laid_term keyed has_value b [] (mark m.CloseParen behind ∷ rest) (and_right left_fits right_fits fits) (laid_close behind rest f) in
       let sign = laid_operator o (term_words families b [] (mark m.CloseParen behind ∷ rest)) right in
-      let left = laid_term keyed has_value a blank (operator o blank ∷ term_words families b [] (mark m.CloseParen behind ∷ rest)) (and_left left_fits right_fits fits)
+      let left = laid_term keyed has_value a blank (operator o blank ∷ term_words families b [] (mark m.CloseParen behind ∷ rest))
+      (and_left left_fits right_fits fits)
       (record { blank = refl; ends = refl; laid = sign }) in
       laid_mark m.OpenParen [] _ (λ b. refl) refl left

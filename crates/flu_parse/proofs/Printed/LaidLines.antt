@@ -35,7 +35,8 @@ laid_keyed : (keyed : Bool) (rest : List Laid) → AreLaid rest → AreLaid (key
 laid_keyed true rest laid = laid_reserved r.Keyed blank rest refl refl laid
 laid_keyed false rest laid = laid
 
-laid_head : (word last : Reserved) (n : List ℕ) (keyed : Bool) (rest : List Laid) → is_name n ≡ true → AreLaid rest → AreLaid (reserved word blank ∷ name n blank ∷ keyed_words keyed (reserved last line_end ∷ rest))
+laid_head : (word last : Reserved) (n : List ℕ) (keyed : Bool) (rest : List Laid) → is_name n ≡ true → AreLaid rest
+    → AreLaid (reserved word blank ∷ name n blank ∷ keyed_words keyed (reserved last line_end ∷ rest))
 laid_head word last n keyed rest named laid =
     let end = laid_reserved last line_end rest refl refl laid in
     let middle = laid_keyed keyed (reserved last line_end ∷ rest) end in
@@ -163,7 +164,8 @@ module _ (kinds : List PlainKind) (named_kinds : list_all (λ (k : PlainKind). i
       let a = kind_at kinds d.a (three_left (nat_lt d.a (length kinds)) (nat_lt d.b (length kinds)) same_ok fits) in
       let b = kind_at kinds d.b (three_middle (nat_lt d.a (length kinds)) (nat_lt d.b (length kinds)) same_ok fits) in
       let same = laid_same d.same rest laid in
-      let second = laid_name (kind_name (slice_get kinds d.b)) (behind_depends d.same) (same_words d.same rest) (kind_named d.b b.kind b.found) same.blank same.ends same.laid in
+      let second = laid_name (kind_name (slice_get kinds d.b)) (behind_depends d.same) (same_words d.same rest)
+      (kind_named d.b b.kind b.found) same.blank same.ends same.laid in
       let first = laid_name (kind_name (slice_get kinds d.a)) blank _ (kind_named d.a a.kind a.found) refl refl second in
       laid_reserved r.Depends blank _ refl refl first
 
@@ -188,7 +190,8 @@ module _ (laid_keys : KeysAreLaid) (kinds : List PlainKind) (named_kinds : list_
   laid_listed (t ∷ ts) rest fits laid =
       laid_mark m.Colon blank _ (λ b. refl) refl
       (items_hold (tag_words kinds) [] (between m.Comma) (plain_tag_fits kinds) AreLaid Follows laid_tag
-      (λ rest laid. record { blank = refl; ends = refl; laid = laid_spaced m.Comma rest laid }) t ts line_end rest fits (record { blank = refl; ends = refl; laid = laid }))
+      (λ rest laid. record { blank = refl; ends = refl; laid = laid_spaced m.Comma rest laid }) t ts line_end rest fits
+      (record { blank = refl; ends = refl; laid = laid }))
 
   listed_ends : (ts : List TagRef) (rest : List Laid) → EndsName [] (listed_words kinds ts rest)
   listed_ends [] rest = refl
@@ -202,7 +205,8 @@ module _ (laid_keys : KeysAreLaid) (kinds : List PlainKind) (named_kinds : list_
       by (nat_lt 0 slack) (laid_reserved r.Slack blank _ refl refl amount)
     where
       by : (some : Bool) → AreLaid (reserved r.Slack blank ∷ number (pos slack) [] ∷ listed_words kinds ts rest)
-          → Follows (if some then blank else []) (if some then reserved r.Slack blank ∷ number (pos slack) [] ∷ listed_words kinds ts rest else listed_words kinds ts rest)
+          → Follows (if some then blank else []) (if some then reserved r.Slack blank ∷ number (pos slack) []
+          ∷ listed_words kinds ts rest else listed_words kinds ts rest)
       by true laid = record { blank = refl; ends = refl; laid = laid }
       by false laid = record { blank = refl; ends = listed_ends ts rest; laid = listed }
 
@@ -221,7 +225,8 @@ pub names_of_kinds : (families : List Family) (kinds : List PlainKind) → list_
     → list_all (λ (k : PlainKind). is_name k.name) kinds ≡ true
 names_of_kinds families kinds h =
     list_all_weaker (plain_kind_fits families) (λ (k : PlainKind). is_name k.name) kinds
-    (λ (k : PlainKind) fits. three_left (is_name k.name) (nat_le (length k.actions) 32) (list_all (plain_action_fits families k.keyed k.has_value) k.actions) fits) h
+    (λ (k : PlainKind) fits. three_left (is_name k.name) (nat_le (length k.actions) 32)
+    (list_all (plain_action_fits families k.keyed k.has_value) k.actions) fits) h
 
 laid_version : (version : ℕ) (rest : List Laid) → AreLaid rest → AreLaid (version_words version rest)
 laid_version version rest laid = by (version == 2)
@@ -234,8 +239,11 @@ laid_version version rest laid = by (version == 2)
 pub job_laid : KeysAreLaid → (job : Job) → JobFits job → AreLaid (job_words job)
 job_laid laid_keys job fits =
     let named = names_of_kinds job.families job.kinds fits.kinds in
-    let sources = lines_hold (source_line_words job.kinds) (plain_source_fits job.kinds) AreLaid (laid_source_line laid_keys job.kinds named) job.sources [] fits.sources laid_none in
-    let ons = lines_hold (on_line_words job.families) (plain_kind_fits job.families) AreLaid (laid_on_line job.families fits.families) job.kinds _ fits.kinds sources in
-    let depends = lines_hold (depends_line_words job.kinds) (plain_depend_fits job.kinds) AreLaid (laid_depends_line job.kinds named) job.depends _ fits.depends ons in
+    let sources = lines_hold (source_line_words job.kinds) (plain_source_fits job.kinds) AreLaid
+    (laid_source_line laid_keys job.kinds named) job.sources [] fits.sources laid_none in
+    let ons = lines_hold (on_line_words job.families) (plain_kind_fits job.families) AreLaid
+    (laid_on_line job.families fits.families) job.kinds _ fits.kinds sources in
+    let depends = lines_hold (depends_line_words job.kinds) (plain_depend_fits job.kinds) AreLaid
+    (laid_depends_line job.kinds named) job.depends _ fits.depends ons in
     let tags = lines_hold tag_line_words (plain_kind_fits job.families) AreLaid (laid_tag_line job.families fits.families) job.kinds _ fits.kinds depends in
     laid_version job.version _ (lines_hold cell_line_words (λ (f : Family). is_name f.name) AreLaid laid_cell_line job.families _ fits.families tags)

@@ -1,5 +1,5 @@
 -- The bytes of templates may stand between quotes.
-use Rattle.std.proofs.Common.{◌≡◌, ◌<◌, ℕ, Bool, true, ◌&&◌, List, [], ◌∷◌, ◌++◌, refl, ◌∙◌, arith}
+use Rattle.std.proofs.Common.{◌≡◌, ◌<◌, ℕ, Bool, true, List, [], ◌∷◌, ◌++◌, refl, ◌∙◌, arith}
 use Rattle.std.specs.Prelude.{nat_lt, not, ◌==◌, length, slice_get, codes}
 use Rattle.std.specs.Char.{is_ascii_digit}
 use Rattle.std.specs.Fmt.{decimal}
@@ -31,7 +31,8 @@ piece_keeps families keyed piece.Time = true
 piece_keeps families keyed (piece.Read r) = ref_fits families keyed r
 piece_keeps families keyed piece.CellValue = true
 
-pub emit_keeps : (families : List Family) (keyed has_value : Bool) (p : Piece) → emit_piece_fits families keyed has_value p ≡ true → piece_keeps families keyed p ≡ true
+pub emit_keeps : (families : List Family) (keyed has_value : Bool) (p : Piece) → emit_piece_fits families keyed has_value p ≡ true
+    → piece_keeps families keyed p ≡ true
 emit_keeps families keyed has_value (piece.Plain t) h = h
 emit_keeps families keyed has_value piece.Value h = refl
 emit_keeps families keyed has_value piece.Key h = refl
@@ -76,7 +77,8 @@ module _ (families : List Family) (names : list_all (λ (f : Family). is_name f.
   piece_bytes (piece.Read r) h =
       let found = family_at families keyed r h in
       let n : List ℕ = family_name (slice_get families r.family) in
-      let name_bytes = list_all_weaker is_name_byte is_text_byte n name_byte_quoted (name_bytes n (family_named families names r.family found.family found.found)) in
+      let name_bytes = list_all_weaker is_name_byte is_text_byte n name_byte_quoted
+      (name_bytes n (family_named families names r.family found.family found.found)) in
       let cell = append_all n (written_key r.at) name_bytes (key_bytes r.at found.family.keyed keyed found.fits) in
       append_all (codes "{" ++ written_cell families r) (codes "}") cell refl
   piece_bytes piece.CellValue h = refl
@@ -84,5 +86,6 @@ module _ (families : List Family) (names : list_all (λ (f : Family). is_name f.
   pub template_bytes : (ps : List Piece) → list_all (piece_keeps families keyed) ps ≡ true → list_all is_text_byte (written_template families ps) ≡ true
   template_bytes [] h = refl
   template_bytes (p ∷ ps) h =
-      append_all (written_piece families p) (written_template families ps) (piece_bytes p (and_left (piece_keeps families keyed p) (list_all (piece_keeps families keyed) ps) h))
+      append_all (written_piece families p) (written_template families ps)
+      (piece_bytes p (and_left (piece_keeps families keyed p) (list_all (piece_keeps families keyed) ps) h))
       (template_bytes ps (and_right (piece_keeps families keyed p) (list_all (piece_keeps families keyed) ps) h))

@@ -42,7 +42,13 @@ kind_heads = heads (λ (k : PlainKind). k.name) kind_head
 
 -- the names of a job
 abbrev pub naming_of_job : Job → Naming
-naming_of_job job = record { families = family_heads 0 job.families; kinds = kind_heads 0 job.kinds; sources = map (λ (s : Source). s.name) job.sources; depends = length job.depends }
+naming_of_job job = record {
+  families = family_heads 0 job.families;
+  kinds = kind_heads 0 job.kinds;
+  sources =
+      map (λ (s : Source). s.name) job.sources;
+  depends = length job.depends;
+}
 
 -- ---- names that differ
 
@@ -59,7 +65,8 @@ module _ {X H : Type 0} (name : X → List ℕ) (head : ℕ → X → H) where
   name_found (y ∷ ys) zero x found = let same : y ≡ x = cc in ap (λ z. Some (name z)) same
   name_found (y ∷ ys) (suc i) x found = name_found ys i x found
 
-  pub own_head : (j : ℕ) (xs : List X) (i : ℕ) (x : X) → are_distinct is_same_text (map name xs) ≡ true → slice_get xs i ≡ Some x → look_up (name x) (heads name head j xs) ≡ Some (head (j + i) x)
+  pub own_head : (j : ℕ) (xs : List X) (i : ℕ) (x : X) → are_distinct is_same_text (map name xs) ≡ true → slice_get xs i ≡ Some x
+      → look_up (name x) (heads name head j xs) ≡ Some (head (j + i) x)
   own_head j [] i x apart found = absurd cc
   own_head j (y ∷ ys) zero x apart found =
       let same : y ≡ x = cc in
@@ -68,8 +75,11 @@ module _ {X H : Type 0} (name : X → List ℕ) (head : ℕ → X → H) where
       ∙ ap (λ b. if b then Some (head j y) else look_up (name y) (heads name head (j + 1) ys)) (same_itself (name y))
       ∙ ap (λ z. Some (head j z)) same ∙ ap (λ k. Some (head k x)) number
   own_head j (y ∷ ys) (suc i) x apart found =
-      let none : list_any (is_same_text (name y)) (map name ys) ≡ false = not_true (list_any (is_same_text (name y)) (map name ys)) (and_left (not (list_any (is_same_text (name y)) (map name ys))) (are_distinct is_same_text (map name ys)) apart) in
-      let other : bytes_eq (name x) (name y) ≡ false = differs_too (name y) (name x) (fails_at (is_same_text (name y)) (map name ys) i (name x) none (name_found ys i x found)) in
+      let none : list_any (is_same_text (name y)) (map name ys) ≡ false =
+      not_true (list_any (is_same_text (name y)) (map name ys)) (and_left (not (list_any (is_same_text (name y)) (map name ys)))
+      (are_distinct is_same_text (map name ys)) apart) in
+      let other : bytes_eq (name x) (name y) ≡ false = differs_too (name y) (name x)
+      (fails_at (is_same_text (name y)) (map name ys) i (name x) none (name_found ys i x found)) in
       let number : j + 1 + i ≡ j + suc i = omega arith in
       ap (λ b. if b then Some (head j y) else look_up (name x) (heads name head (j + 1) ys)) other
       ∙ own_head (j + 1) ys i x (and_right (not (list_any (is_same_text (name y)) (map name ys))) (are_distinct is_same_text (map name ys)) apart) found
@@ -96,15 +106,20 @@ look_up_more : {H : Type 0} (y x : List ℕ) (h : H) (hs : List (List ℕ × H))
 look_up_more {H} y x h [] none other = ap (λ b. let o : Option H = if b then Some h else None in o) other
 look_up_more {H} y x h (g ∷ hs) none other = by (bytes_eq y g.0) none (λ rest. look_up_more y x h hs rest other)
   where
-    by : (b : Bool) → (let o : Option H = if b then Some g.1 else look_up y hs in o) ≡ None → (look_up y hs ≡ None → look_up y (hs ++ (x, h) ∷ []) ≡ None) → (let o : Option H = if b then Some g.1 else look_up y (hs ++ (x, h) ∷ []) in o) ≡ None
+    by : (b : Bool) → (let o : Option H = if b then Some g.1 else look_up y hs in o) ≡ None → (look_up y hs ≡ None → look_up y (hs ++ (x, h) ∷ []) ≡ None)
+        → (let o : Option H = if b then Some g.1 else look_up y (hs ++ (x, h) ∷ []) in o) ≡ None
     by true none more = absurd cc
     by false none more = more none
 
 -- names that are still fresh when one that differs from them is declared
-still_fresh : (m next : Naming) (x : List ℕ) (ys : List (List ℕ)) → ((y : List ℕ) → Fresh m y → bytes_eq y x ≡ false → Fresh next y) → AllFresh m ys → list_any (is_same_text x) ys ≡ false → AllFresh next ys
+still_fresh : (m next : Naming) (x : List ℕ) (ys : List (List ℕ)) → ((y : List ℕ) → Fresh m y → bytes_eq y x ≡ false → Fresh next y) → AllFresh m ys
+    → list_any (is_same_text x) ys ≡ false → AllFresh next ys
 still_fresh m next x [] step fresh none = tt
-still_fresh m next x (y ∷ ys) step fresh none =
-    (step y fresh.0 (differs_too x y (or_false_left (is_same_text x y) (list_any (is_same_text x) ys) none)), still_fresh m next x ys step fresh.1 (or_false_right (is_same_text x y) (list_any (is_same_text x) ys) none))
+still_fresh m next x (y ∷ ys) step fresh none = (
+  step y fresh.0 (differs_too x y (or_false_left (is_same_text x y) (list_any (is_same_text x) ys) none)),
+  still_fresh m next x ys step fresh.1
+      (or_false_right (is_same_text x y) (list_any (is_same_text x) ys) none),
+)
 
 pub all_fresh : (ys : List (List ℕ)) → AllFresh no_names ys
 all_fresh [] = tt
@@ -116,7 +131,8 @@ pub record Left (m : Naming) (ys : List (List ℕ)) : Type 0 where
   pub apart : are_distinct is_same_text ys ≡ true
 
 -- after the first one, where it is declared
-left_after : (m next : Naming) (x : List ℕ) (ys : List (List ℕ)) → ((y : List ℕ) → Fresh m y → bytes_eq y x ≡ false → Fresh next y) → Left m (x ∷ ys) → Left next ys
+left_after : (m next : Naming) (x : List ℕ) (ys : List (List ℕ)) → ((y : List ℕ) → Fresh m y → bytes_eq y x ≡ false → Fresh next y) → Left m (x ∷ ys)
+    → Left next ys
 left_after m next x ys step left =
     let none : Bool = list_any (is_same_text x) ys in
     record {
@@ -128,7 +144,8 @@ module _ (whole : List ℕ) (utf8 : IsUtf8 whole) where
   -- a fresh name
   fresh_is : (m : Naming) (s : WrittenSpan) (name : List ℕ) → name_of whole s ≡ name → Fresh m name → fresh_name whole m s ≡ Ok name
   fresh_is m s name is fresh =
-      ap (λ n. unless (not (is_declared m n)) (f.TwiceNamed s.from) >> Ok n) is ∙ ap (λ b. unless (not b) (f.TwiceNamed s.from) >> Ok name) (not_declared m name fresh)
+      ap (λ n. unless (not (is_declared m n)) (f.TwiceNamed s.from) >> Ok n) is
+      ∙ ap (λ b. unless (not b) (f.TwiceNamed s.from) >> Ok name) (not_declared m name fresh)
 
   abbrev pub with_families : Naming → List (List ℕ × FamilyHead) → Naming
   with_families m hs = record m { families = hs }
@@ -160,25 +177,37 @@ module _ (whole : List ℕ) (utf8 : IsUtf8 whole) where
   nothing m ds more none = ap (λ l. each (declare whole) m (l ++ more)) none
 
   -- one declaration, and then the others
-  one : (m next : Naming) (ds here others more : List Declaration) (d : Declaration) → ds ≡ here ++ others → here ≡ d ∷ [] → declare whole m d ≡ Ok next → each (declare whole) m (ds ++ more) ≡ each (declare whole) next (others ++ more)
+  one : (m next : Naming) (ds here others more : List Declaration) (d : Declaration) → ds ≡ here ++ others → here ≡ d ∷ [] → declare whole m d ≡ Ok next
+      → each (declare whole) m (ds ++ more) ≡ each (declare whole) next (others ++ more)
   unfolding each
   one m next ds here others more d split is found =
       ap (λ l. each (declare whole) m (l ++ more)) (split ∙ ap (λ l. l ++ others) is)
       ∙ ap (λ (r : Found Naming). r >>= λ n. each (declare whole) n (others ++ more)) found
 
-  one_more : {H : Type 0} (hs : List (List ℕ × H)) (h : List ℕ × H) (behind : ℕ → List (List ℕ × H)) → (hs ++ h ∷ []) ++ behind (length (hs ++ h ∷ [])) ≡ hs ++ (h ∷ behind (length hs + 1))
+  one_more : {H : Type 0} (hs : List (List ℕ × H)) (h : List ℕ × H) (behind : ℕ → List (List ℕ × H))
+      → (hs ++ h ∷ []) ++ behind (length (hs ++ h ∷ [])) ≡ hs ++ (h ∷ behind (length hs + 1))
   one_more hs h behind = append_assoc hs (h ∷ []) (behind (length (hs ++ h ∷ []))) ∙ ap (λ k. hs ++ (h ∷ behind k)) (length-append hs (h ∷ []))
 
-  one_family : (m : Naming) (s : WrittenSpan) (g : Family) → name_of whole s ≡ g.name → Fresh m g.name → length m.families < 64 → with_family whole m s g.keyed g.sort ≡ Ok (with_families m (m.families ++ (g.name, family_head (length m.families) g) ∷ []))
+  one_family : (m : Naming) (s : WrittenSpan) (g : Family) → name_of whole s ≡ g.name → Fresh m g.name → length m.families < 64
+      → with_family whole m s g.keyed g.sort ≡ Ok (with_families m (m.families ++ (g.name, family_head (length m.families) g) ∷ []))
   unfolding with_family
   one_family m s g is fresh few =
-      ap (λ (r : Found (List ℕ)). r >>= λ name. room Families 64 (length m.families) >> Ok (with_families m (m.families ++ (name, family_head (length m.families) g) ∷ []))) (fresh_is m s g.name is fresh)
-      ∙ ap (λ b. unless b (f.OverLimit Families 65) >> Ok (with_families m (m.families ++ (g.name, family_head (length m.families) g) ∷ []))) (lt_true (length m.families) 64 few)
+      ap (λ (r : Found (List ℕ)). r >>= λ name. room Families 64 (length m.families) >> Ok
+      (with_families m (m.families ++ (name, family_head (length m.families) g) ∷ []))) (fresh_is m s g.name is fresh)
+      ∙ ap (λ b. unless b (f.OverLimit Families 65) >> Ok (with_families m (m.families ++ (g.name, family_head (length m.families) g) ∷ [])))
+      (lt_true (length m.families) 64 few)
 
-  family_fresh : (m : Naming) (g : Family) (y : List ℕ) → Fresh m y → bytes_eq y g.name ≡ false → Fresh (with_families m (m.families ++ (g.name, family_head (length m.families) g) ∷ [])) y
-  family_fresh m g y h other = record { family = look_up_more y g.name (family_head (length m.families) g) m.families h.family other; kind = h.kind; source = h.source }
+  family_fresh : (m : Naming) (g : Family) (y : List ℕ) → Fresh m y → bytes_eq y g.name ≡ false
+      → Fresh (with_families m (m.families ++ (g.name, family_head (length m.families) g) ∷ [])) y
+  family_fresh m g y h other = record {
+    family = look_up_more y g.name (family_head (length m.families) g) m.families h.family other;
+    kind = h.kind;
+    source =
+        h.source;
+  }
 
-  pub declare_cells : (fs : List Family) (m : Naming) (ds more : List Declaration) (ys : List (List ℕ)) → Lines (CellIs whole utf8) fs ds → Left m (map (λ (g : Family). g.name) fs ++ ys) → length m.families + length fs ≤ 64
+  pub declare_cells : (fs : List Family) (m : Naming) (ds more : List Declaration) (ys : List (List ℕ)) → Lines (CellIs whole utf8) fs ds
+      → Left m (map (λ (g : Family). g.name) fs ++ ys) → length m.families + length fs ≤ 64
       → Declares m (with_families m (m.families ++ family_heads (length m.families) fs)) ds more ys
   unfolding declare
   declare_cells [] m ds more ys lines left few =
@@ -188,24 +217,32 @@ module _ (whole : List ℕ) (utf8 : IsUtf8 whole) where
       let line = lines.3 in
       let next : Naming = with_families m (m.families ++ (g.name, family_head (length m.families) g) ∷ []) in
       let size = length-append m.families ((g.name, family_head (length m.families) g) ∷ []) in
-      let rest = declare_cells fs next lines.1 more ys lines.4 (left_after m next g.name (map (λ (g : Family). g.name) fs ++ ys) (family_fresh m g) left) (omega (arith, few, size)) in
-      let same : with_families m (next.families ++ family_heads (length next.families) fs) ≡ with_families m (m.families ++ family_heads (length m.families) (g ∷ fs)) =
+      let rest = declare_cells fs next lines.1 more ys lines.4 (left_after m next g.name (map (λ (g : Family). g.name) fs ++ ys) (family_fresh m g) left)
+      (omega (arith, few, size)) in
+      let same : with_families m (next.families ++ family_heads (length next.families) fs) ≡ with_families m
+      (m.families ++ family_heads (length m.families) (g ∷ fs)) =
       ap (with_families m) (one_more m.families (g.name, family_head (length m.families) g) (λ k. family_heads k fs)) in
       record {
-        leads = one m next ds lines.0 lines.1 more (Cell line.0 g.keyed g.sort) lines.2 line.1 (one_family m line.0 g line.2 left.fresh.0 (omega (arith, few))) ∙ rest.leads ∙ ap (λ n. each (declare whole) n more) same;
+        leads = one m next ds lines.0 lines.1 more (Cell line.0 g.keyed g.sort) lines.2 line.1
+            (one_family m line.0 g line.2 left.fresh.0 (omega (arith, few))) ∙ rest.leads ∙ ap (λ n. each (declare whole) n more) same;
         left = subst (λ n. Left n ys) same rest.left;
       }
 
-  one_kind : (m : Naming) (s : WrittenSpan) (k : PlainKind) → name_of whole s ≡ k.name → Fresh m k.name → length m.kinds < 64 → with_kind whole m s k.keyed k.has_value ≡ Ok (with_kinds m (m.kinds ++ (k.name, kind_head (length m.kinds) k) ∷ []))
+  one_kind : (m : Naming) (s : WrittenSpan) (k : PlainKind) → name_of whole s ≡ k.name → Fresh m k.name → length m.kinds < 64
+      → with_kind whole m s k.keyed k.has_value ≡ Ok (with_kinds m (m.kinds ++ (k.name, kind_head (length m.kinds) k) ∷ []))
   unfolding with_kind
   one_kind m s k is fresh few =
-      ap (λ (r : Found (List ℕ)). r >>= λ name. room Kinds 64 (length m.kinds) >> Ok (with_kinds m (m.kinds ++ (name, kind_head (length m.kinds) k) ∷ []))) (fresh_is m s k.name is fresh)
-      ∙ ap (λ b. unless b (f.OverLimit Kinds 65) >> Ok (with_kinds m (m.kinds ++ (k.name, kind_head (length m.kinds) k) ∷ []))) (lt_true (length m.kinds) 64 few)
+      ap (λ (r : Found (List ℕ)). r >>= λ name. room Kinds 64 (length m.kinds) >> Ok (with_kinds m (m.kinds ++ (name, kind_head (length m.kinds) k) ∷ [])))
+      (fresh_is m s k.name is fresh)
+      ∙ ap (λ b. unless b (f.OverLimit Kinds 65) >> Ok (with_kinds m (m.kinds ++ (k.name, kind_head (length m.kinds) k) ∷ [])))
+      (lt_true (length m.kinds) 64 few)
 
-  kind_fresh : (m : Naming) (k : PlainKind) (y : List ℕ) → Fresh m y → bytes_eq y k.name ≡ false → Fresh (with_kinds m (m.kinds ++ (k.name, kind_head (length m.kinds) k) ∷ [])) y
+  kind_fresh : (m : Naming) (k : PlainKind) (y : List ℕ) → Fresh m y → bytes_eq y k.name ≡ false
+      → Fresh (with_kinds m (m.kinds ++ (k.name, kind_head (length m.kinds) k) ∷ [])) y
   kind_fresh m k y h other = record { family = h.family; kind = look_up_more y k.name (kind_head (length m.kinds) k) m.kinds h.kind other; source = h.source }
 
-  pub declare_tags : (ks : List PlainKind) (m : Naming) (ds more : List Declaration) (ys : List (List ℕ)) → Lines (TagIs whole utf8) ks ds → Left m (map (λ (k : PlainKind). k.name) ks ++ ys) → length m.kinds + length ks ≤ 64
+  pub declare_tags : (ks : List PlainKind) (m : Naming) (ds more : List Declaration) (ys : List (List ℕ)) → Lines (TagIs whole utf8) ks ds
+      → Left m (map (λ (k : PlainKind). k.name) ks ++ ys) → length m.kinds + length ks ≤ 64
       → Declares m (with_kinds m (m.kinds ++ kind_heads (length m.kinds) ks)) ds more ys
   unfolding declare
   declare_tags [] m ds more ys lines left few =
@@ -215,15 +252,18 @@ module _ (whole : List ℕ) (utf8 : IsUtf8 whole) where
       let line = lines.3 in
       let next : Naming = with_kinds m (m.kinds ++ (k.name, kind_head (length m.kinds) k) ∷ []) in
       let size = length-append m.kinds ((k.name, kind_head (length m.kinds) k) ∷ []) in
-      let rest = declare_tags ks next lines.1 more ys lines.4 (left_after m next k.name (map (λ (k : PlainKind). k.name) ks ++ ys) (kind_fresh m k) left) (omega (arith, few, size)) in
+      let rest = declare_tags ks next lines.1 more ys lines.4 (left_after m next k.name (map (λ (k : PlainKind). k.name) ks ++ ys) (kind_fresh m k) left)
+      (omega (arith, few, size)) in
       let same : with_kinds m (next.kinds ++ kind_heads (length next.kinds) ks) ≡ with_kinds m (m.kinds ++ kind_heads (length m.kinds) (k ∷ ks)) =
       ap (with_kinds m) (one_more m.kinds (k.name, kind_head (length m.kinds) k) (λ i. kind_heads i ks)) in
       record {
-        leads = one m next ds lines.0 lines.1 more (Tag line.0 k.keyed k.has_value) lines.2 line.1 (one_kind m line.0 k line.2 left.fresh.0 (omega (arith, few))) ∙ rest.leads ∙ ap (λ n. each (declare whole) n more) same;
+        leads = one m next ds lines.0 lines.1 more (Tag line.0 k.keyed k.has_value) lines.2 line.1
+            (one_kind m line.0 k line.2 left.fresh.0 (omega (arith, few))) ∙ rest.leads ∙ ap (λ n. each (declare whole) n more) same;
         left = subst (λ n. Left n ys) same rest.left;
       }
 
-  one_source : (m : Naming) (s : WrittenSpan) (name : List ℕ) → name_of whole s ≡ name → Fresh m name → length m.sources < 64 → with_source whole m s ≡ Ok (with_sources m (m.sources ++ name ∷ []))
+  one_source : (m : Naming) (s : WrittenSpan) (name : List ℕ) → name_of whole s ≡ name → Fresh m name → length m.sources < 64
+      → with_source whole m s ≡ Ok (with_sources m (m.sources ++ name ∷ []))
   unfolding with_source
   one_source m s name is fresh few =
       ap (λ (r : Found (List ℕ)). r >>= λ name. room Sources 64 (length m.sources) >> Ok (with_sources m (m.sources ++ name ∷ []))) (fresh_is m s name is fresh)
@@ -236,20 +276,25 @@ module _ (whole : List ℕ) (utf8 : IsUtf8 whole) where
     source = list_any-append (bytes_eq y) m.sources (name ∷ []) ∙ ap (λ b. b || (bytes_eq y name || false)) h.source ∙ ap (λ b. b || false) other;
   }
 
-  module _ (kinds : List PlainKind) (named_kinds : list_all (λ (k : PlainKind). is_name k.name) kinds ≡ true) (n : Naming) (known_kinds : KindsKnown kinds n) where
-    pub declare_depends : (deps : List Depend) (m : Naming) (ds more : List Declaration) → Lines (DependsIs whole utf8 kinds named_kinds n known_kinds) deps ds → m.depends + length deps ≤ 4096
+  module _ (kinds : List PlainKind) (named_kinds : list_all (λ (k : PlainKind). is_name k.name) kinds ≡ true) (n : Naming)
+      (known_kinds : KindsKnown kinds n) where
+    pub declare_depends : (deps : List Depend) (m : Naming) (ds more : List Declaration)
+        → Lines (DependsIs whole utf8 kinds named_kinds n known_kinds) deps ds → m.depends + length deps ≤ 4096
         → each (declare whole) m (ds ++ more) ≡ each (declare whole) (with_count m (m.depends + length deps)) more
     unfolding declare
-    declare_depends [] m ds more lines few = nothing m ds more lines ∙ ap (λ k. each (declare whole) (with_count m k) more) (let same : m.depends ≡ m.depends + 0 = omega arith in same)
+    declare_depends [] m ds more lines few = nothing m ds more lines ∙ ap (λ k. each (declare whole) (with_count m k) more)
+        (let same : m.depends ≡ m.depends + 0 = omega arith in same)
     declare_depends (d ∷ deps) m ds more lines few =
         let line = lines.3 in
         let next : Naming = with_count m (m.depends + 1) in
-        let found : declare whole m (Depends line.a line.b line.how) ≡ Ok next = ap (λ b. unless b (f.OverLimit DependsLimit 4097) >> Ok next) (lt_true m.depends 4096 (omega (arith, few))) in
+        let found : declare whole m (Depends line.a line.b line.how) ≡ Ok next =
+        ap (λ b. unless b (f.OverLimit DependsLimit 4097) >> Ok next) (lt_true m.depends 4096 (omega (arith, few))) in
         one m next ds lines.0 lines.1 more (Depends line.a line.b line.how) lines.2 line.is found
         ∙ declare_depends deps next lines.1 more lines.4 (omega (arith, few))
         ∙ ap (λ k. each (declare whole) (with_count m k) more) (let same : m.depends + 1 + length deps ≡ m.depends + suc (length deps) = omega arith in same)
 
-    pub declare_sources : (ss : List Source) (m : Naming) (ds more : List Declaration) → Lines (SourceIs whole utf8 kinds named_kinds n known_kinds) ss ds → Left m (map (λ (s : Source). s.name) ss) → length m.sources + length ss ≤ 64
+    pub declare_sources : (ss : List Source) (m : Naming) (ds more : List Declaration) → Lines (SourceIs whole utf8 kinds named_kinds n known_kinds) ss ds
+        → Left m (map (λ (s : Source). s.name) ss) → length m.sources + length ss ≤ 64
         → each (declare whole) m (ds ++ more) ≡ each (declare whole) (with_sources m (m.sources ++ map (λ (s : Source). s.name) ss)) more
     unfolding declare
     declare_sources [] m ds more lines left few = nothing m ds more lines ∙ ap (λ l. each (declare whole) (with_sources m l) more) (sym (append-nil m.sources))
@@ -257,18 +302,25 @@ module _ (whole : List ℕ) (utf8 : IsUtf8 whole) where
         let line = lines.3 in
         let next : Naming = with_sources m (m.sources ++ s.name ∷ []) in
         let size = length-append m.sources (s.name ∷ []) in
-        one m next ds lines.0 lines.1 more (SourceLine line.named line.file (Some (record { value = pos s.rate; at = line.rate_at })) line.slack line.tags) lines.2 line.is (one_source m line.named s.name line.name_is left.fresh.0 (omega (arith, few)))
-        ∙ declare_sources ss next lines.1 more lines.4 (left_after m next s.name (map (λ (s : Source). s.name) ss) (source_fresh m s.name) left) (omega (arith, few, size))
+        one m next ds lines.0 lines.1 more (SourceLine line.named line.file
+        (Some (record { value = pos s.rate; at = line.rate_at })) line.slack line.tags) lines.2 line.is
+        (one_source m line.named s.name line.name_is left.fresh.0 (omega (arith, few)))
+        ∙ declare_sources ss next lines.1 more lines.4 (left_after m next s.name (map (λ (s : Source). s.name) ss) (source_fresh m s.name) left)
+        (omega (arith, few, size))
         ∙ ap (λ l. each (declare whole) (with_sources m l) more) (append_assoc m.sources (s.name ∷ []) (map (λ (s : Source). s.name) ss))
 
-  module _ (families : List Family) (names : list_all (λ (f : Family). is_name f.name) families ≡ true) (n : Naming) (known_families : FamiliesKnown families n) where
+  module _ (families : List Family) (names : list_all (λ (f : Family). is_name f.name) families ≡ true) (n : Naming)
+      (known_families : FamiliesKnown families n) where
     -- one line of actions, or none
-    skip_on : (i : ℕ) (k : PlainKind) (actions : List PlainAction) (m : Naming) (here more : List Declaration) → ActionsAre whole utf8 families names n known_families (kind_head i k) k.name actions here → each (declare whole) m (here ++ more) ≡ each (declare whole) m more
+    skip_on : (i : ℕ) (k : PlainKind) (actions : List PlainAction) (m : Naming) (here more : List Declaration)
+        → ActionsAre whole utf8 families names n known_families (kind_head i k) k.name actions here
+        → each (declare whole) m (here ++ more) ≡ each (declare whole) m more
     unfolding each declare
     skip_on i k [] m here more line = ap (λ l. each (declare whole) m (l ++ more)) line
     skip_on i k (a ∷ actions) m here more line = ap (λ l. each (declare whole) m (l ++ more)) line.is
 
-    pub declare_ons : (i : ℕ) (ks : List PlainKind) (m : Naming) (ds more : List Declaration) → Ons whole utf8 families names n known_families i ks ds → each (declare whole) m (ds ++ more) ≡ each (declare whole) m more
+    pub declare_ons : (i : ℕ) (ks : List PlainKind) (m : Naming) (ds more : List Declaration) → Ons whole utf8 families names n known_families i ks ds
+        → each (declare whole) m (ds ++ more) ≡ each (declare whole) m more
     declare_ons i [] m ds more lines = nothing m ds more lines
     declare_ons i (k ∷ ks) m ds more lines =
         ap (λ l. each (declare whole) m (l ++ more)) lines.2

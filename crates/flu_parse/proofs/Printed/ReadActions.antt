@@ -40,7 +40,6 @@ use Rattle.flu_parse.specs.Terms.{expression_of}
 use Rattle.flu_parse.specs.Templates.{template_of}
 use Rattle.flu_parse.proofs.Printed.Words.{cell_words, term_words, act_words, behind_act, guard_words, action_words}
 use Rattle.flu_parse.proofs.Printed.Quotes.{text_stands}
-use Rattle.flu_parse.proofs.Printed.LaidCells.{family_named}
 use Rattle.flu_parse.proofs.Printed.LaidActions.{keyed_at}
 use Rattle.flu_parse.proofs.Printed.ReadTerms.{family_head, FamiliesKnown, read_cell, read_expression}
 use Rattle.flu_parse.proofs.Kept.Terms.{sort_swapped}
@@ -48,8 +47,10 @@ use Rattle.flu_parse.proofs.Printed.Templates.{piece_ok, read_template}
 use Rattle.flu_parse.specs.Actions.{sort_for, act_with, resolved_act, guard_of, action_of, with_action}
 use Rattle.flu_parse.proofs.Kept.Plain.{is_good_term, plain_act_fits, plain_guard_fits, plain_action_fits}
 
-module _ (whole : List ℕ) (utf8 : IsUtf8 whole) (families : List Family) (names : list_all (λ (f : Family). is_name f.name) families ≡ true) (n : Naming) (known_families : FamiliesKnown families n) (under : KindHead) where
-  emit_ok : (q : Piece) → emit_piece_fits families under.keyed under.has_value q ≡ true → piece_ok whole utf8 families names n known_families under false 0 q ≡ true
+module _ (whole : List ℕ) (utf8 : IsUtf8 whole) (families : List Family) (names : list_all (λ (f : Family). is_name f.name) families ≡ true) (n : Naming)
+    (known_families : FamiliesKnown families n) (under : KindHead) where
+  emit_ok : (q : Piece) → emit_piece_fits families under.keyed under.has_value q ≡ true
+      → piece_ok whole utf8 families names n known_families under false 0 q ≡ true
   emit_ok (piece.Plain t) h = h
   emit_ok piece.Value h = h
   emit_ok piece.Key h = h
@@ -81,24 +82,35 @@ module _ (whole : List ℕ) (utf8 : IsUtf8 whole) (families : List Family) (name
       let ref_ok = ref_fits families under.keyed c in
       let sort_ok = ref_has_sort families (sort_for v) c in
       let good = is_good_term families under.keyed under.has_value e in
-      let cell = read_cell whole utf8 families names n known_families under c blank (term_words families e behind rest) h.1 (three_left ref_ok sort_ok good fits) h.4 in
-      let amount = read_expression whole utf8 families names n known_families under under.has_value e behind rest cell.took.rest refl (three_right ref_ok sort_ok good fits) cell.took.stand in
+      let cell = read_cell whole utf8 families names n known_families under c blank (term_words families e behind rest) h.1
+      (three_left ref_ok sort_ok good fits) h.4 in
+      let amount = read_expression whole utf8 families names n known_families under under.has_value e behind rest cell.took.rest refl
+      (three_right ref_ok sort_ok good fits) cell.took.stand in
       let sort : is_sort cell.family.sort (sort_for v) ≡ true = ap (λ o. has_sort o (sort_for v)) (sym cell.found) ∙ three_middle ref_ok sort_ok good fits in
       record {
         at = h.0.from;
         written = Writes v cell.written amount.tree;
         took = record {
           rest = amount.took.rest;
-          begins = (h.0, h.1, h.2, (h.3.word ∙ same, refl), begins_append IsSign (cell_signs cell.written) (spelled amount.tree) h.1 cell.took.rest amount.took.rest cell.took.begins amount.took.begins);
+          begins = (
+            h.0,
+            h.1,
+            h.2,
+            (h.3.word ∙ same, refl),
+            begins_append IsSign (cell_signs cell.written)
+                (spelled amount.tree) h.1 cell.took.rest amount.took.rest cell.took.begins amount.took.begins,
+          );
           stand = amount.took.stand;
         };
         is = amount.is;
         means =
-            ap (λ (found : Found CellRef). found >>= λ cell. expression_of whole n under amount.tree >>= λ term. Ok (act_with v cell term)) (cell.means (Some (sort_for v)) (sort_swapped cell.family.sort (sort_for v) sort))
+            ap (λ (found : Found CellRef). found >>= λ cell. expression_of whole n under amount.tree >>= λ term. Ok (act_with v cell term))
+            (cell.means (Some (sort_for v)) (sort_swapped cell.family.sort (sort_for v) sort))
             ∙ ap (λ (found : Found Term). found >>= λ term. Ok (act_with v c term)) amount.means;
       }
 
-  read_act : (d : PlainAct) (behind : List ℕ) (rest : List Laid) (ts : List Token) → plain_act_fits families under.keyed under.has_value d ≡ true → Stand whole (act_words families d behind rest) ts → ActIs d rest ts
+  read_act : (d : PlainAct) (behind : List ℕ) (rest : List Laid) (ts : List Token) → plain_act_fits families under.keyed under.has_value d ≡ true
+      → Stand whole (act_words families d behind rest) ts → ActIs d rest ts
   unfolding resolved_act
   read_act (Adding c e) behind rest ts fits h = read_writing verb.Add r.Add c e behind rest ts refl fits h
   read_act (Raising c e) behind rest ts fits h = read_writing verb.Raise r.Raise c e behind rest ts refl fits h
@@ -117,14 +129,16 @@ module _ (whole : List ℕ) (utf8 : IsUtf8 whole) (families : List Family) (name
       let span = span_of t.0 in
       let pieces = list_all (emit_piece_fits families under.keyed under.has_value) ps in
       let short = is_short (written_template families ps) in
-      let ok = list_all_weaker (emit_piece_fits families under.keyed under.has_value) (piece_ok whole utf8 families names n known_families under false 0) ps emit_ok (three_left pieces (are_apart ps) short fits) in
+      let ok = list_all_weaker (emit_piece_fits families under.keyed under.has_value)
+      (piece_ok whole utf8 families names n known_families under false 0) ps emit_ok (three_left pieces (are_apart ps) short fits) in
       record {
         at = h.0.from;
         written = Emits span;
         took = record { rest = t.1; begins = (h.0, h.1, h.2, (h.3.word, refl), (t.0, t.1, t.2, (t.3.word, refl, refl), refl)); stand = t.4 };
         is = tt;
         means = ap (λ (found : Found (List Piece)). found >>= λ pieces. Ok (Emitting pieces))
-            (read_template whole utf8 families names n known_families under false span.from ps span refl (text_stands whole (written_template families ps) behind t.0 utf8 t.3) ok (three_middle pieces (are_apart ps) short fits));
+            (read_template whole utf8 families names n known_families under false span.from ps span refl
+            (text_stands whole (written_template families ps) behind t.0 utf8 t.3) ok (three_middle pieces (are_apart ps) short fits));
       }
   read_act (Flushing i ps) behind rest ts fits h =
       let named = h.4 in
@@ -136,7 +150,8 @@ module _ (whole : List ℕ) (utf8 : IsUtf8 whole) (families : List Family) (name
       let template = and_right (is_keyed (slice_get families i)) template_ok fits in
       let pieces = list_all (flush_piece_fits under.has_value) ps in
       let short = is_short (written_template families ps) in
-      let ok = list_all_weaker (flush_piece_fits under.has_value) (piece_ok whole utf8 families names n known_families under true 0) ps flush_ok (three_left pieces (are_apart ps) short template) in
+      let ok = list_all_weaker (flush_piece_fits under.has_value) (piece_ok whole utf8 families names n known_families under true 0) ps flush_ok
+      (three_left pieces (are_apart ps) short template) in
       let head : FamilyHead = family_head i family.family in
       let looked : family_of whole n name_span ≡ Ok head =
       ap (λ name. known name_span.from (look_up name n.families)) (named.3.named refl ∙ ap family_name family.found)
@@ -144,13 +159,25 @@ module _ (whole : List ℕ) (utf8 : IsUtf8 whole) (families : List Family) (name
       record {
         at = h.0.from;
         written = Flushes name_span span;
-        took = record { rest = t.1; begins = (h.0, h.1, h.2, (h.3.word, refl), (named.0, named.1, named.2, (named.3.word, refl, refl), (t.0, t.1, t.2, (t.3.word, refl, refl), refl))); stand = t.4 };
+        took = record {
+          rest = t.1;
+          begins = (
+            h.0,
+            h.1,
+            h.2,
+            (h.3.word, refl),
+            (named.0, named.1, named.2, (named.3.word, refl, refl), (t.0, t.1, t.2, (t.3.word, refl, refl), refl)),
+          );
+          stand = t.4;
+        };
         is = tt;
         means =
-            ap (λ (found : Found FamilyHead). found >>= λ family. unless family.keyed (f.WrongShape name_span.from) >> (template_of whole n under true span >>= λ pieces. Ok (Flushing family.number pieces))) looked
+            ap (λ (found : Found FamilyHead). found >>= λ family. unless family.keyed (f.WrongShape name_span.from) >>
+            (template_of whole n under true span >>= λ pieces. Ok (Flushing family.number pieces))) looked
             ∙ ap (λ b. unless b (f.WrongShape name_span.from) >> (template_of whole n under true span >>= λ pieces. Ok (Flushing i pieces))) family.keyed
             ∙ ap (λ (found : Found (List Piece)). found >>= λ pieces. Ok (Flushing i pieces))
-            (read_template whole utf8 families names n known_families under true span.from ps span refl (text_stands whole (written_template families ps) behind t.0 utf8 t.3) ok (three_middle pieces (are_apart ps) short template));
+            (read_template whole utf8 families names n known_families under true span.from ps span refl
+            (text_stands whole (written_template families ps) behind t.0 utf8 t.3) ok (three_middle pieces (are_apart ps) short template));
       }
 
   -- a guard, as it is read
@@ -160,7 +187,8 @@ module _ (whole : List ℕ) (utf8 : IsUtf8 whole) (families : List Family) (name
     is : IsGuard written
     means : guard_of whole n under written ≡ Ok g
 
-  read_guard : (g : Option Term) (behind : List ℕ) (rest : List Laid) (ts : List Token) → plain_guard_fits families under.keyed under.has_value g ≡ true → Stand whole (guard_words families g behind rest) ts → GuardIs g rest ts
+  read_guard : (g : Option Term) (behind : List ℕ) (rest : List Laid) (ts : List Token) → plain_guard_fits families under.keyed under.has_value g ≡ true
+      → Stand whole (guard_words families g behind rest) ts → GuardIs g rest ts
   unfolding guard_of
   read_guard None behind rest ts fits h = record { written = None; took = record { rest = ts; begins = refl; stand = h }; is = tt; means = refl }
   read_guard (Some e) behind rest ts fits h =
@@ -178,7 +206,8 @@ module _ (whole : List ℕ) (utf8 : IsUtf8 whole) (families : List Family) (name
     pub guard : IsGuard d.guard
     pub means : action_of whole n under d ≡ Ok a
 
-  pub read_action : (a : PlainAction) (behind : List ℕ) (rest : List Laid) (ts : List Token) → plain_action_fits families under.keyed under.has_value a ≡ true → Stand whole (action_words families a behind rest) ts → ItemIs IsSign (Stand whole) action_signs Does a rest ts
+  pub read_action : (a : PlainAction) (behind : List ℕ) (rest : List Laid) (ts : List Token) → plain_action_fits families under.keyed under.has_value a ≡ true
+      → Stand whole (action_words families a behind rest) ts → ItemIs IsSign (Stand whole) action_signs Does a rest ts
   unfolding action_of
   read_action a behind rest ts fits h =
       let act_ok = plain_act_fits families under.keyed under.has_value a.act in
@@ -187,13 +216,20 @@ module _ (whole : List ℕ) (utf8 : IsUtf8 whole) (families : List Family) (name
       let guard = read_guard a.guard behind rest act.took.rest (and_right act_ok guard_ok fits) act.took.stand in
       record {
         written = record { at = act.at; deed = act.written; guard = guard.written };
-        took = record { rest = guard.took.rest; begins = begins_append IsSign (deed_signs act.at act.written) (guard_signs guard.written) ts act.took.rest guard.took.rest act.took.begins guard.took.begins; stand = guard.took.stand };
+        took = record {
+          rest = guard.took.rest;
+          begins = begins_append IsSign (deed_signs act.at act.written)
+              (guard_signs guard.written) ts act.took.rest guard.took.rest act.took.begins guard.took.begins;
+          stand = guard.took.stand;
+        };
         is = record {
           deed = act.is;
           guard = guard.is;
           means =
-              ap (λ (found : Found PlainAct). found >>= λ act. guard_of whole n under guard.written >>= λ guard. Ok (let action : PlainAction = record { act = act; guard = guard } in action)) act.means
-              ∙ ap (λ (found : Found (Option Term)). found >>= λ guard. Ok (let action : PlainAction = record { act = a.act; guard = guard } in action)) guard.means;
+              ap (λ (found : Found PlainAct). found >>= λ act. guard_of whole n under guard.written >>=
+              λ guard. Ok (let action : PlainAction = record { act = act; guard = guard } in action)) act.means
+              ∙ ap (λ (found : Found (Option Term)). found >>= λ guard. Ok
+              (let action : PlainAction = record { act = a.act; guard = guard } in action)) guard.means;
         };
       }
 
@@ -204,7 +240,8 @@ module _ (whole : List ℕ) (utf8 : IsUtf8 whole) (families : List Family) (name
   are_actions (a ∷ actions) (d ∷ dos) h = (h.0.deed, h.0.guard, are_actions actions dos h.1)
 
   -- actions in order, at most 32
-  pub do_all : (done actions : List PlainAction) (dos : List WrittenDo) → length done + length actions ≤ 32 → Pairs Does actions dos → each (with_action whole n under) done dos ≡ Ok (done ++ actions)
+  pub do_all : (done actions : List PlainAction) (dos : List WrittenDo) → length done + length actions ≤ 32 → Pairs Does actions dos
+      → each (with_action whole n under) done dos ≡ Ok (done ++ actions)
   unfolding each with_action
   do_all done [] [] few h = ap Ok (sym (append-nil done))
   do_all done [] (d ∷ dos) few h = absurd h
@@ -212,7 +249,8 @@ module _ (whole : List ℕ) (utf8 : IsUtf8 whole) (families : List Family) (name
   do_all done (a ∷ actions) (d ∷ dos) few h =
       let space : nat_lt (length done) 32 ≡ true = lt_true (length done) 32 (omega arith) in
       let fewer : length (done ++ a ∷ []) + length actions ≤ 32 = omega (arith, few, length-append done (a ∷ [])) in
-      ap (λ b. (unless b (f.OverLimit Actions 33) >> (action_of whole n under d >>= λ action. Ok (done ++ action ∷ []))) >>= λ t. each (with_action whole n under) t dos) space
+      ap (λ b. (unless b (f.OverLimit Actions 33) >> (action_of whole n under d >>= λ action. Ok (done ++ action ∷ []))) >>=
+      λ t. each (with_action whole n under) t dos) space
       ∙ ap (λ (found : Found PlainAction). (found >>= λ action. Ok (done ++ action ∷ [])) >>= λ t. each (with_action whole n under) t dos) h.0.means
       ∙ do_all (done ++ a ∷ []) actions dos fewer h.1
       ∙ ap Ok (append_assoc done (a ∷ []) actions)

@@ -48,7 +48,7 @@ use Rattle.flu_parse.specs.Printing.{kind_name}
 use Rattle.flu_parse.proofs.Printed.Rules.{plain_kind_is_keyed, plain_depend_fits, plain_tag_fits, plain_source_fits}
 use Rattle.flu_parse.proofs.Printed.Words.{action_words, keyed_words, sort_reserved, cell_line_words, value_reserved, tag_line_words, behind_depends, same_words, depends_line_words, actions_words, on_line_words, tag_words, listed_words, slack_words, source_line_words}
 use Rattle.flu_parse.proofs.Printed.Quotes.{text_stands, inside_stands}
-use Rattle.flu_parse.proofs.Printed.LaidLines.{kind_at, kind_named, source_facts}
+use Rattle.flu_parse.proofs.Printed.LaidLines.{kind_at, source_facts}
 use Rattle.flu_parse.proofs.Printed.ReadTerms.{FamiliesKnown}
 use Rattle.flu_parse.proofs.Printed.ReadActions.{Does, read_action, are_actions}
 use Rattle.flu_parse.proofs.Printed.ReadTags.{kind_head, KindsKnown, Lists, read_tag}
@@ -72,7 +72,8 @@ pub record LinesAre (whole : List ℕ) (Means : List Declaration → Type 0) (re
 
 pub read_lines : {X : Type 0} (whole : List ℕ) (line : X → List Laid → List Laid) (R : X → List Declaration → Type 0) (test : X → Bool)
     → ((x : X) (rest : List Laid) (ts : List Token) → test x ≡ true → Stand whole (line x rest) ts → LinesAre whole (R x) rest ts)
-    → (xs : List X) (rest : List Laid) (ts : List Token) → list_all test xs ≡ true → Stand whole (lines_before line xs rest) ts → LinesAre whole (Lines R xs) rest ts
+    → (xs : List X) (rest : List Laid) (ts : List Token) → list_all test xs ≡ true → Stand whole (lines_before line xs rest) ts → LinesAre whole
+    (Lines R xs) rest ts
 read_lines whole line R test each [] rest ts all h = record { written = []; took = record { rest = ts; begins = refl; stand = h }; are = tt; means = refl }
 read_lines whole line R test each (x ∷ xs) rest ts all h =
     let here = each x (lines_before line xs rest) ts (and_left (test x) (list_all test xs) all) h in
@@ -81,7 +82,9 @@ read_lines whole line R test each (x ∷ xs) rest ts all h =
       written = here.written ++ more.written;
       took = record {
         rest = more.took.rest;
-        begins = subst (λ l. Begins IsSign l ts more.took.rest) (sym (flat_map-append declaration_signs here.written more.written)) (begins_append IsSign (declarations_signs here.written) (declarations_signs more.written) ts here.took.rest more.took.rest here.took.begins more.took.begins);
+        begins = subst (λ l. Begins IsSign l ts more.took.rest) (sym (flat_map-append declaration_signs here.written more.written))
+            (begins_append IsSign (declarations_signs here.written)
+            (declarations_signs more.written) ts here.took.rest more.took.rest here.took.begins more.took.begins);
         stand = more.took.stand;
       };
       are = declarations-append here.written more.written here.are more.are;
@@ -89,7 +92,8 @@ read_lines whole line R test each (x ∷ xs) rest ts all h =
     }
 
 -- one declaration
-one_line : (whole : List ℕ) (Means : List Declaration → Type 0) (rest : List Laid) (ts : List Token) (d : Declaration) → Took IsSign (Stand whole) (declaration_signs d) rest ts → IsDeclaration d → Means (d ∷ []) → LinesAre whole Means rest ts
+one_line : (whole : List ℕ) (Means : List Declaration → Type 0) (rest : List Laid) (ts : List Token) (d : Declaration)
+    → Took IsSign (Stand whole) (declaration_signs d) rest ts → IsDeclaration d → Means (d ∷ []) → LinesAre whole Means rest ts
 one_line whole Means rest ts d took is means = record {
   written = d ∷ [];
   took = record { rest = took.rest; begins = begins_append IsSign (declaration_signs d) [] ts took.rest took.rest took.begins refl; stand = took.stand };
@@ -99,7 +103,8 @@ one_line whole Means rest ts d took is means = record {
 
 module _ (whole : List ℕ) (utf8 : IsUtf8 whole) where
   -- `keyed`, and the word that ends the line
-  read_end : (keyed : Bool) (end : Reserved) (rest : List Laid) (ts : List Token) → Stand whole (keyed_words keyed (reserved end line_end ∷ rest)) ts → Took IsSign (Stand whole) (keyed_signs keyed ++ Any (w.Reserved end) ∷ []) rest ts
+  read_end : (keyed : Bool) (end : Reserved) (rest : List Laid) (ts : List Token) → Stand whole (keyed_words keyed (reserved end line_end ∷ rest)) ts
+      → Took IsSign (Stand whole) (keyed_signs keyed ++ Any (w.Reserved end) ∷ []) rest ts
   read_end true end rest ts h = record { rest = h.4.1; begins = (h.0, h.1, h.2, h.3.word, (h.4.0, h.4.1, h.4.2, h.4.3.word, refl)); stand = h.4.4 }
   read_end false end rest ts h = record { rest = h.1; begins = (h.0, h.1, h.2, h.3.word, refl); stand = h.4 }
 
@@ -116,29 +121,68 @@ module _ (whole : List ℕ) (utf8 : IsUtf8 whole) where
   abbrev pub CellIs : Family → List Declaration → Type 0
   CellIs f ds = (s : WrittenSpan) × (ds ≡ Cell s f.keyed f.sort ∷ []) × (name_of whole s ≡ f.name)
 
-  pub read_cell_line : (f : Family) (rest : List Laid) (ts : List Token) → is_name f.name ≡ true → Stand whole (cell_line_words f rest) ts → LinesAre whole (CellIs f) rest ts
+  pub read_cell_line : (f : Family) (rest : List Laid) (ts : List Token) → is_name f.name ≡ true → Stand whole (cell_line_words f rest) ts
+      → LinesAre whole (CellIs f) rest ts
   read_cell_line f rest ts named h =
       let n = h.4 in
       let end = read_end f.keyed (sort_reserved f.sort) rest n.1 n.4 in
-      let signs : keyed_signs f.keyed ++ Any (w.Reserved (sort_reserved f.sort)) ∷ [] ≡ keyed_signs f.keyed ++ Any (sort_word f.sort) ∷ [] = ap (λ (word : Word). keyed_signs f.keyed ++ Any word ∷ []) (same_word f.sort) in
+      let signs : keyed_signs f.keyed ++ Any (w.Reserved (sort_reserved f.sort)) ∷ [] ≡ keyed_signs f.keyed ++ Any (sort_word f.sort)
+      ∷ [] = ap (λ (word : Word). keyed_signs f.keyed ++ Any word ∷ []) (same_word f.sort) in
       one_line whole (CellIs f) rest ts (Cell (span_of n.0) f.keyed f.sort)
-      (record { rest = end.rest; begins = (h.0, h.1, h.2, h.3.word, (n.0, n.1, n.2, (n.3.word, refl, refl), subst (λ l. Begins IsSign l n.1 end.rest) signs end.begins)); stand = end.stand })
+      (record {
+        rest = end.rest;
+        begins = (
+          h.0,
+          h.1,
+          h.2,
+          h.3.word,
+          (
+            n.0,
+            n.1,
+            n.2,
+            (n.3.word, refl, refl),
+            subst
+                (λ l. Begins IsSign l n.1 end.rest) signs end.begins,
+          ),
+        );
+        stand = end.stand;
+      })
       tt (span_of n.0, refl, n.3.named refl)
 
   -- the declaration of a kind
   abbrev pub TagIs : PlainKind → List Declaration → Type 0
   TagIs k ds = (s : WrittenSpan) × (ds ≡ Tag s k.keyed k.has_value ∷ []) × (name_of whole s ≡ k.name)
 
-  pub read_tag_line : (k : PlainKind) (rest : List Laid) (ts : List Token) → is_name k.name ≡ true → Stand whole (tag_line_words k rest) ts → LinesAre whole (TagIs k) rest ts
+  pub read_tag_line : (k : PlainKind) (rest : List Laid) (ts : List Token) → is_name k.name ≡ true → Stand whole (tag_line_words k rest) ts
+      → LinesAre whole (TagIs k) rest ts
   read_tag_line k rest ts named h =
       let n = h.4 in
       let end = read_end k.keyed (value_reserved k.has_value) rest n.1 n.4 in
-      let signs : keyed_signs k.keyed ++ Any (w.Reserved (value_reserved k.has_value)) ∷ [] ≡ keyed_signs k.keyed ++ Any (value_word k.has_value) ∷ [] = ap (λ (word : Word). keyed_signs k.keyed ++ Any word ∷ []) (same_value k.has_value) in
+      let signs : keyed_signs k.keyed ++ Any (w.Reserved (value_reserved k.has_value)) ∷ [] ≡ keyed_signs k.keyed ++ Any (value_word k.has_value)
+      ∷ [] = ap (λ (word : Word). keyed_signs k.keyed ++ Any word ∷ []) (same_value k.has_value) in
       one_line whole (TagIs k) rest ts (Tag (span_of n.0) k.keyed k.has_value)
-      (record { rest = end.rest; begins = (h.0, h.1, h.2, h.3.word, (n.0, n.1, n.2, (n.3.word, refl, refl), subst (λ l. Begins IsSign l n.1 end.rest) signs end.begins)); stand = end.stand })
+      (record {
+        rest = end.rest;
+        begins = (
+          h.0,
+          h.1,
+          h.2,
+          h.3.word,
+          (
+            n.0,
+            n.1,
+            n.2,
+            (n.3.word, refl, refl),
+            subst
+                (λ l. Begins IsSign l n.1 end.rest) signs end.begins,
+          ),
+        );
+        stand = end.stand;
+      })
       tt (span_of n.0, refl, n.3.named refl)
 
-  module _ (kinds : List PlainKind) (named_kinds : list_all (λ (k : PlainKind). is_name k.name) kinds ≡ true) (n : Naming) (known_kinds : KindsKnown kinds n) where
+  module _ (kinds : List PlainKind) (named_kinds : list_all (λ (k : PlainKind). is_name k.name) kinds ≡ true) (n : Naming)
+      (known_kinds : KindsKnown kinds n) where
     -- a `depends`
     pub record DependsIs (d : Depend) (ds : List Declaration) : Type 0 where
       pub a : WrittenSpan
@@ -156,7 +200,8 @@ module _ (whole : List ℕ) (utf8 : IsUtf8 whole) where
       took : Took IsSign (Stand whole) (relation_signs how) rest ts
       is : same_of how a b ≡ Ok same
 
-    read_same : (same : Bool) (a b : KindHead) (rest : List Laid) (ts : List Token) → (not same || (a.keyed && b.keyed)) ≡ true → Stand whole (same_words same rest) ts → SameIs same a b rest ts
+    read_same : (same : Bool) (a b : KindHead) (rest : List Laid) (ts : List Token) → (not same || (a.keyed && b.keyed)) ≡ true
+        → Stand whole (same_words same rest) ts → SameIs same a b rest ts
     read_same true a b rest ts fits h = record {
       how = relation.Same h.0.from;
       took = record { rest = h.1; begins = (h.0, h.1, h.2, (h.3.word, refl), refl); stand = h.4 };
@@ -164,12 +209,14 @@ module _ (whole : List ℕ) (utf8 : IsUtf8 whole) where
     }
     read_same false a b rest ts fits h = record { how = relation.None; took = record { rest = ts; begins = refl; stand = h }; is = refl }
 
-    kind_is : (i : ℕ) (k : PlainKind) (t : Token) (behind : List ℕ) → slice_get kinds i ≡ Some k → StandsFor whole (name (kind_name (slice_get kinds i)) behind) t → kind_of whole n (span_of t) ≡ Ok (kind_head i k)
+    kind_is : (i : ℕ) (k : PlainKind) (t : Token) (behind : List ℕ) → slice_get kinds i ≡ Some k
+        → StandsFor whole (name (kind_name (slice_get kinds i)) behind) t → kind_of whole n (span_of t) ≡ Ok (kind_head i k)
     kind_is i k t behind found h =
         ap (λ name. known t.from (look_up name n.kinds)) (h.named refl ∙ ap kind_name found)
         ∙ ap (known t.from) (known_kinds i k found)
 
-    pub read_depends_line : (d : Depend) (rest : List Laid) (ts : List Token) → plain_depend_fits kinds d ≡ true → Stand whole (depends_line_words kinds d rest) ts → LinesAre whole (DependsIs d) rest ts
+    pub read_depends_line : (d : Depend) (rest : List Laid) (ts : List Token) → plain_depend_fits kinds d ≡ true
+        → Stand whole (depends_line_words kinds d rest) ts → LinesAre whole (DependsIs d) rest ts
     read_depends_line d rest ts fits h =
         let in_a = nat_lt d.a (length kinds) in
         let in_b = nat_lt d.b (length kinds) in
@@ -181,10 +228,21 @@ module _ (whole : List ℕ) (utf8 : IsUtf8 whole) where
         let a = h.4 in
         let b = a.4 in
         let ok : (not d.same || (first.kind.keyed && second.kind.keyed)) ≡ true =
-        ap (λ o. not d.same || (plain_kind_is_keyed o && second.kind.keyed)) (sym first.found) ∙ ap (λ o. not d.same || (keyed_a && plain_kind_is_keyed o)) (sym second.found) ∙ three_right in_a in_b same_ok fits in
+        ap (λ o. not d.same || (plain_kind_is_keyed o && second.kind.keyed)) (sym first.found)
+        ∙ ap (λ o. not d.same || (keyed_a && plain_kind_is_keyed o)) (sym second.found) ∙ three_right in_a in_b same_ok fits in
         let same = read_same d.same (kind_head d.a first.kind) (kind_head d.b second.kind) rest b.1 ok b.4 in
         one_line whole (DependsIs d) rest ts (Depends (span_of a.0) (span_of b.0) same.how)
-        (record { rest = same.took.rest; begins = (h.0, h.1, h.2, h.3.word, (a.0, a.1, a.2, (a.3.word, refl, refl), (b.0, b.1, b.2, (b.3.word, refl, refl), same.took.begins))); stand = same.took.stand })
+        (record {
+          rest = same.took.rest;
+          begins = (
+            h.0,
+            h.1,
+            h.2,
+            h.3.word,
+            (a.0, a.1, a.2, (a.3.word, refl, refl), (b.0, b.1, b.2, (b.3.word, refl, refl), same.took.begins)),
+          );
+          stand = same.took.stand;
+        })
         tt (record {
           a = span_of a.0;
           b = span_of b.0;
@@ -217,12 +275,25 @@ module _ (whole : List ℕ) (utf8 : IsUtf8 whole) where
       took : Took IsSign (Stand whole) (Any (w.Mark m.Colon) ∷ separated (w.Mark m.Comma) tag_signs (first ∷ others)) rest ts
       are : Pairs (Lists whole utf8 kinds named_kinds n known_kinds) tags (first ∷ others)
 
-    read_listed : (tags : List TagRef) (rest : List Laid) (ts : List Token) → nat_lt 0 (length tags) ≡ true → list_all (plain_tag_fits kinds) tags ≡ true → Stand whole (listed_words kinds tags rest) ts → ListedAre tags rest ts
+    read_listed : (tags : List TagRef) (rest : List Laid) (ts : List Token) → nat_lt 0 (length tags) ≡ true → list_all (plain_tag_fits kinds) tags ≡ true
+        → Stand whole (listed_words kinds tags rest) ts → ListedAre tags rest ts
     read_listed [] rest ts some fits h = absurd cc
     read_listed (t ∷ tags) rest ts some fits h =
-        let all = read_items IsSign (Stand whole) (tag_words kinds) [] (between m.Comma) tag_signs (Lists whole utf8 kinds named_kinds n known_kinds) (plain_tag_fits kinds)
-        (Any (w.Mark m.Comma)) (read_tag whole utf8 kinds named_kinds n known_kinds) (λ r ts h. (h.0, h.1, h.2, h.3.word, h.4)) t tags line_end rest h.1 fits h.4 in
-        record { first = all.first; others = all.others; took = record { rest = all.took.rest; begins = (h.0, h.1, h.2, h.3.word, all.took.begins); stand = all.took.stand }; are = all.are }
+        let all = read_items IsSign (Stand whole) (tag_words kinds) [] (between m.Comma) tag_signs (Lists whole utf8 kinds named_kinds n known_kinds)
+        (plain_tag_fits kinds)
+        (Any (w.Mark m.Comma)) (read_tag whole utf8 kinds named_kinds n known_kinds)
+        (λ r ts h. (h.0, h.1, h.2, h.3.word, h.4)) t tags line_end rest h.1 fits h.4 in
+        record {
+          first = all.first;
+          others = all.others;
+          took = record {
+            rest = all.took.rest;
+            begins = (h.0, h.1, h.2, h.3.word, all.took.begins);
+            stand =
+                all.took.stand;
+          };
+          are = all.are;
+        }
 
     -- a slack, as it is read
     record SlackIs (slack : ℕ) (rest : List Laid) (ts : List Token) : Type 0 where
@@ -233,7 +304,8 @@ module _ (whole : List ℕ) (utf8 : IsUtf8 whole) where
     read_slack : (slack : ℕ) (rest : List Laid) (ts : List Token) → nat_le slack 60000 ≡ true → Stand whole (slack_words slack rest) ts → SlackIs slack rest ts
     read_slack slack rest ts small h = by (nat_lt 0 slack) refl h
       where
-        by : (some : Bool) → nat_lt 0 slack ≡ some → Stand whole (if some then reserved r.Slack blank ∷ number (pos slack) [] ∷ rest else rest) ts → SlackIs slack rest ts
+        by : (some : Bool) → nat_lt 0 slack ≡ some → Stand whole (if some then reserved r.Slack blank ∷ number (pos slack) [] ∷ rest else rest) ts
+            → SlackIs slack rest ts
         by true e h = record {
           written = Some (record { value = pos slack; at = h.4.0.from });
           took = record { rest = h.4.1; begins = (h.0, h.1, h.2, h.3.word, (h.4.0, h.4.1, h.4.2, (h.4.3.word, refl), refl)); stand = h.4.4 };
@@ -241,7 +313,8 @@ module _ (whole : List ℕ) (utf8 : IsUtf8 whole) where
         }
         by false e h = record { written = None; took = took_none IsSign (Stand whole) rest ts h; is = ap Ok (none_left slack e) }
 
-    pub read_source_line : (s : Source) (rest : List Laid) (ts : List Token) → plain_source_fits kinds s ≡ true → Stand whole (source_line_words kinds s rest) ts
+    pub read_source_line : (s : Source) (rest : List Laid) (ts : List Token) → plain_source_fits kinds s ≡ true
+        → Stand whole (source_line_words kinds s rest) ts
         → LinesAre whole (SourceIs s) rest ts
     read_source_line s rest ts fits h =
         let facts = source_facts kinds s fits in
@@ -292,7 +365,8 @@ module _ (whole : List ℕ) (utf8 : IsUtf8 whole) where
           are = listed.are;
         })
 
-  module _ (families : List Family) (names : list_all (λ (f : Family). is_name f.name) families ≡ true) (n : Naming) (known_families : FamiliesKnown families n) where
+  module _ (families : List Family) (names : list_all (λ (f : Family). is_name f.name) families ≡ true) (n : Naming)
+      (known_families : FamiliesKnown families n) where
     -- the actions of a kind, under that kind
     pub record OnIs (under : KindHead) (kind : List ℕ) (a : PlainAction) (actions : List PlainAction) (ds : List Declaration) : Type 0 where
       pub named : WrittenSpan
@@ -307,38 +381,58 @@ module _ (whole : List ℕ) (utf8 : IsUtf8 whole) where
     ActionsAre under kind [] ds = ds ≡ []
     ActionsAre under kind (a ∷ actions) ds = OnIs under kind a actions ds
 
-    pub read_on_line : (under : KindHead) (kind : List ℕ) (actions : List PlainAction) (rest : List Laid) (ts : List Token) → is_name kind ≡ true → list_all (plain_action_fits families under.keyed under.has_value) actions ≡ true → Stand whole (actions_words families kind actions rest) ts → LinesAre whole (ActionsAre under kind actions) rest ts
+    pub read_on_line : (under : KindHead) (kind : List ℕ) (actions : List PlainAction) (rest : List Laid) (ts : List Token) → is_name kind ≡ true
+        → list_all (plain_action_fits families under.keyed under.has_value) actions ≡ true → Stand whole (actions_words families kind actions rest) ts
+        → LinesAre whole (ActionsAre under kind actions) rest ts
     read_on_line under kind [] rest ts named fits h = record { written = []; took = record { rest = ts; begins = refl; stand = h }; are = tt; means = refl }
     read_on_line under kind (a ∷ actions) rest ts named fits h =
         let b = h.4 in
         let c = b.4 in
-        let all = read_items IsSign (Stand whole) (action_words families) [] (between m.Semicolon) action_signs (Does whole utf8 families names n known_families under)
-        (plain_action_fits families under.keyed under.has_value) (Any (w.Mark m.Semicolon)) (read_action whole utf8 families names n known_families under) (λ r ts h. (h.0, h.1, h.2, h.3.word, h.4))
+        let all = read_items IsSign (Stand whole) (action_words families) [] (between m.Semicolon) action_signs
+        (Does whole utf8 families names n known_families under)
+        (plain_action_fits families under.keyed under.has_value) (Any (w.Mark m.Semicolon)) (read_action whole utf8 families names n known_families under)
+        (λ r ts h. (h.0, h.1, h.2, h.3.word, h.4))
         a actions line_end rest c.1 fits c.4 in
         one_line whole (OnIs under kind a actions) rest ts (On (span_of b.0) (all.first ∷ all.others))
-        (record { rest = all.took.rest; begins = (h.0, h.1, h.2, h.3.word, (b.0, b.1, b.2, (b.3.word, refl, refl), (c.0, c.1, c.2, c.3.word, all.took.begins))); stand = all.took.stand })
+        (record {
+          rest = all.took.rest;
+          begins = (
+            h.0,
+            h.1,
+            h.2,
+            h.3.word,
+            (b.0, b.1, b.2, (b.3.word, refl, refl), (c.0, c.1, c.2, c.3.word, all.took.begins)),
+          );
+          stand = all.took.stand;
+        })
         ((λ none. absurd cc), are_actions whole utf8 families names n known_families under (a ∷ actions) (all.first ∷ all.others) all.are)
         (record { named = span_of b.0; first = all.first; others = all.others; is = refl; name_is = b.3.named refl; are = all.are })
 
     -- the actions of kinds, numbered from a number on
     abbrev pub Ons : ℕ → List PlainKind → List Declaration → Type 0
     Ons i [] ds = ds ≡ []
-    Ons i (k ∷ ks) ds = (here : List Declaration) × (rest : List Declaration) × (ds ≡ here ++ rest) × ActionsAre (kind_head i k) k.name k.actions here × Ons (i + 1) ks rest
+    Ons i (k ∷ ks) ds = (here : List Declaration) × (rest : List Declaration) × (ds ≡ here ++ rest) × ActionsAre (kind_head i k) k.name k.actions here × Ons
+        (i + 1) ks rest
 
-    pub read_ons : (i : ℕ) (ks : List PlainKind) (rest : List Laid) (ts : List Token) → list_all (plain_kind_fits families) ks ≡ true → Stand whole (lines_before (on_line_words families) ks rest) ts → LinesAre whole (Ons i ks) rest ts
+    pub read_ons : (i : ℕ) (ks : List PlainKind) (rest : List Laid) (ts : List Token) → list_all (plain_kind_fits families) ks ≡ true
+        → Stand whole (lines_before (on_line_words families) ks rest) ts → LinesAre whole (Ons i ks) rest ts
     read_ons i [] rest ts all h = record { written = []; took = record { rest = ts; begins = refl; stand = h }; are = tt; means = refl }
     read_ons i (k ∷ ks) rest ts all h =
         let fits = and_left (plain_kind_fits families k) (list_all (plain_kind_fits families) ks) all in
         let named : Bool = is_name k.name in
         let few : Bool = nat_le (length k.actions) 32 in
         let actions : Bool = list_all (plain_action_fits families k.keyed k.has_value) k.actions in
-        let here = read_on_line (kind_head i k) k.name k.actions (lines_before (on_line_words families) ks rest) ts (three_left named few actions fits) (three_right named few actions fits) h in
-        let more = read_ons (i + 1) ks rest here.took.rest (and_right (plain_kind_fits families k) (list_all (plain_kind_fits families) ks) all) here.took.stand in
+        let here = read_on_line (kind_head i k) k.name k.actions (lines_before (on_line_words families) ks rest) ts (three_left named few actions fits)
+        (three_right named few actions fits) h in
+        let more = read_ons (i + 1) ks rest here.took.rest (and_right (plain_kind_fits families k)
+        (list_all (plain_kind_fits families) ks) all) here.took.stand in
         record {
           written = here.written ++ more.written;
           took = record {
             rest = more.took.rest;
-            begins = subst (λ l. Begins IsSign l ts more.took.rest) (sym (flat_map-append declaration_signs here.written more.written)) (begins_append IsSign (declarations_signs here.written) (declarations_signs more.written) ts here.took.rest more.took.rest here.took.begins more.took.begins);
+            begins = subst (λ l. Begins IsSign l ts more.took.rest) (sym (flat_map-append declaration_signs here.written more.written))
+                (begins_append IsSign (declarations_signs here.written)
+                (declarations_signs more.written) ts here.took.rest more.took.rest here.took.begins more.took.begins);
             stand = more.took.stand;
           };
           are = declarations-append here.written more.written here.are more.are;

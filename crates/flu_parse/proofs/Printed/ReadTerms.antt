@@ -36,7 +36,7 @@ use Rattle.flu_parse.specs.Naming.{Naming, look_up, known, family_of}
 use Rattle.flu_parse.specs.Cells.{brackets_fit, is_wanted, family_for, at_of, resolved_cell}
 use Rattle.flu_parse.specs.Terms.{height, first_part, first_token, term_of, expression_of}
 use Rattle.flu_parse.proofs.Printed.Words.{key_words, cell_words, term_words}
-use Rattle.flu_parse.proofs.Printed.LaidCells.{family_at, family_named}
+use Rattle.flu_parse.proofs.Printed.LaidCells.{family_at}
 use Rattle.flu_parse.proofs.Kept.Plain.{term_fits, term_height, is_good_term}
 
 abbrev pub family_head : ℕ → Family → FamilyHead
@@ -46,7 +46,8 @@ family_head i f = record { number = i; keyed = f.keyed; sort = f.sort }
 abbrev pub FamiliesKnown : List Family → Naming → Type 0
 FamiliesKnown families n = (i : ℕ) (f : Family) → slice_get families i ≡ Some f → look_up f.name n.families ≡ Some (family_head i f)
 
-module _ (whole : List ℕ) (utf8 : IsUtf8 whole) (families : List Family) (names : list_all (λ (f : Family). is_name f.name) families ≡ true) (n : Naming) (known_families : FamiliesKnown families n) (under : KindHead) where
+module _ (whole : List ℕ) (utf8 : IsUtf8 whole) (families : List Family) (names : list_all (λ (f : Family). is_name f.name) families ≡ true) (n : Naming)
+    (known_families : FamiliesKnown families n) (under : KindHead) where
   -- a key that was printed, as it is read
   record KeyRead (a : At) (family_keyed : Bool) (rest : List Laid) (ts : List Token) : Type 0 where
     key : WrittenKey
@@ -54,17 +55,56 @@ module _ (whole : List ℕ) (utf8 : IsUtf8 whole) (families : List Family) (name
     brackets : brackets_fit family_keyed key ≡ true
     means : at_of under key ≡ Ok a
 
-  read_key : (a : At) (family_keyed : Bool) (behind : List ℕ) (rest : List Laid) (ts : List Token) → key_fits family_keyed under.keyed a ≡ true → Stand whole (key_words a behind rest) ts → KeyRead a family_keyed rest ts
-  read_key at.Alone family_keyed behind rest ts fits h = record { key = k.Alone; took = record { rest = ts; begins = refl; stand = h }; brackets = fits; means = refl }
+  read_key : (a : At) (family_keyed : Bool) (behind : List ℕ) (rest : List Laid) (ts : List Token) → key_fits family_keyed under.keyed a ≡ true
+      → Stand whole (key_words a behind rest) ts → KeyRead a family_keyed rest ts
+  read_key at.Alone family_keyed behind rest ts fits h = record {
+    key = k.Alone;
+    took = record { rest = ts; begins = refl; stand = h };
+    brackets =
+        fits;
+    means = refl;
+  }
   read_key at.OwnKey family_keyed behind rest ts fits h = record {
     key = k.OwnKey h.4.0.from;
-    took = record { rest = h.4.4.1; begins = (h.0, h.1, h.2, h.3.word, (h.4.0, h.4.1, h.4.2, (h.4.3.word, refl), (h.4.4.0, h.4.4.1, h.4.4.2, h.4.4.3.word, refl))); stand = h.4.4.4 };
+    took = record {
+      rest = h.4.4.1;
+      begins = (
+        h.0,
+        h.1,
+        h.2,
+        h.3.word,
+        (
+          h.4.0,
+          h.4.1,
+          h.4.2,
+          (h.4.3.word, refl),
+          (h.4.4.0, h.4.4.1, h.4.4.2, h.4.4.3.word, refl),
+        ),
+      );
+      stand = h.4.4.4;
+    };
     brackets = and_left family_keyed under.keyed fits;
     means = ap (λ b. unless b (f.WrongShape h.4.0.from) >> Ok at.OwnKey) (and_right family_keyed under.keyed fits);
   }
   read_key (at.Fixed m) family_keyed behind rest ts fits h = record {
     key = k.Fixed (record { value = pos m; at = h.4.0.from });
-    took = record { rest = h.4.4.1; begins = (h.0, h.1, h.2, h.3.word, (h.4.0, h.4.1, h.4.2, (h.4.3.word, refl), (h.4.4.0, h.4.4.1, h.4.4.2, h.4.4.3.word, refl))); stand = h.4.4.4 };
+    took = record {
+      rest = h.4.4.1;
+      begins = (
+        h.0,
+        h.1,
+        h.2,
+        h.3.word,
+        (
+          h.4.0,
+          h.4.1,
+          h.4.2,
+          (h.4.3.word, refl),
+          (h.4.4.0, h.4.4.1, h.4.4.2, h.4.4.3.word, refl),
+        ),
+      );
+      stand = h.4.4.4;
+    };
     brackets = and_left family_keyed (nat_lt m key_count) fits;
     means = ap (λ b. unless b (f.OverLimit Key m) >> Ok m >>= λ key. Ok (at.Fixed key)) (and_right family_keyed (nat_lt m key_count) fits);
   }
@@ -78,7 +118,8 @@ module _ (whole : List ℕ) (utf8 : IsUtf8 whole) (families : List Family) (name
     pub named : (wanted : Option Sort) → is_wanted wanted family.sort ≡ true → family_for whole n wanted written ≡ Ok (family_head c.family family)
     pub means : (wanted : Option Sort) → is_wanted wanted family.sort ≡ true → resolved_cell whole n under wanted written ≡ Ok c
 
-  pub read_cell : (c : CellRef) (behind : List ℕ) (rest : List Laid) (ts : List Token) → ref_fits families under.keyed c ≡ true → Stand whole (cell_words families c behind rest) ts → CellIs c rest ts
+  pub read_cell : (c : CellRef) (behind : List ℕ) (rest : List Laid) (ts : List Token) → ref_fits families under.keyed c ≡ true
+      → Stand whole (cell_words families c behind rest) ts → CellIs c rest ts
   read_cell c behind rest ts fits h =
       let at_family = family_at families under.keyed c fits in
       let key = read_key c.at at_family.family.keyed behind rest h.1 at_family.fits h.4 in
@@ -87,10 +128,12 @@ module _ (whole : List ℕ) (utf8 : IsUtf8 whole) (families : List Family) (name
       h.3.named refl ∙ ap family_name at_family.found in
       let head = family_head c.family at_family.family in
       let looked : family_of whole n r.family ≡ Ok head =
-      ap (λ name. known r.family.from (look_up name n.families)) spelled_so ∙ ap (known r.family.from) (known_families c.family at_family.family at_family.found) in
+      ap (λ name. known r.family.from (look_up name n.families)) spelled_so
+      ∙ ap (known r.family.from) (known_families c.family at_family.family at_family.found) in
       let named : (wanted : Option Sort) → is_wanted wanted at_family.family.sort ≡ true → family_for whole n wanted r ≡ Ok head =
       λ wanted right.
-      ap (λ (found : Found FamilyHead). found >>= λ family. unless (is_wanted wanted family.sort && brackets_fit family.keyed r.key) (f.WrongShape r.family.from) >> Ok family) looked
+      ap (λ (found : Found FamilyHead). found >>= λ family. unless (is_wanted wanted family.sort && brackets_fit family.keyed r.key)
+      (f.WrongShape r.family.from) >> Ok family) looked
       ∙ ap (λ b. unless b (f.WrongShape r.family.from) >> Ok head) (both (is_wanted wanted head.sort) (brackets_fit head.keyed r.key) right key.brackets) in
       record {
         written = r;
@@ -99,7 +142,8 @@ module _ (whole : List ℕ) (utf8 : IsUtf8 whole) (families : List Family) (name
         found = at_family.found;
         named = named;
         means = λ wanted right.
-            ap (λ (found : Found FamilyHead). found >>= λ family. at_of under r.key >>= λ at. Ok (let cell : CellRef = record { family = family.number; at = at } in cell)) (named wanted right)
+            ap (λ (found : Found FamilyHead). found >>= λ family. at_of under r.key >>=
+            λ at. Ok (let cell : CellRef = record { family = family.number; at = at } in cell)) (named wanted right)
             ∙ ap (λ (found : Found At). found >>= λ at. Ok (let cell : CellRef = record { family = c.family; at = at } in cell)) key.means;
       }
 
@@ -113,7 +157,8 @@ module _ (whole : List ℕ) (utf8 : IsUtf8 whole) (families : List Family) (name
     pub first : first_token whole n under (first_part tree) ≡ Ok tt
     pub means : term_of whole n under tree ≡ Ok e
 
-  pub read_term : (has_value : Bool) (e : Term) (behind : List ℕ) (rest : List Laid) (ts : List Token) → under.has_value ≡ has_value → term_fits families under.keyed has_value e ≡ true → Stand whole (term_words families e behind rest) ts → TermIs e rest ts
+  pub read_term : (has_value : Bool) (e : Term) (behind : List ℕ) (rest : List Laid) (ts : List Token) → under.has_value ≡ has_value
+      → term_fits families under.keyed has_value e ≡ true → Stand whole (term_words families e behind rest) ts → TermIs e rest ts
   unfolding term_of first_token
   read_term has_value (Literal m) behind rest ts same fits h = record {
     tree = NumberTree (record { value = m; at = h.0.from });
@@ -180,7 +225,20 @@ module _ (whole : List ℕ) (utf8 : IsUtf8 whole) (families : List Family) (name
         tree = ParenTree h.0.from (NegTree h.4.0.from inner.tree);
         took = record {
           rest = close.1;
-          begins = (h.0, h.1, h.2, (h.3.word, refl), (h.4.0, h.4.1, h.4.2, (h.4.3.word, refl), begins_append IsSign (spelled inner.tree) _ h.4.1 inner.took.rest close.1 inner.took.begins (close.0, close.1, close.2, close.3.word, refl)));
+          begins = (
+            h.0,
+            h.1,
+            h.2,
+            (h.3.word, refl),
+            (
+              h.4.0,
+              h.4.1,
+              h.4.2,
+              (h.4.3.word, refl),
+              begins_append IsSign
+                  (spelled inner.tree) _ h.4.1 inner.took.rest close.1 inner.took.begins (close.0, close.1, close.2, close.3.word, refl),
+            ),
+          );
           stand = close.4;
         };
         fits = λ level. inner.fits 6;
@@ -196,7 +254,20 @@ module _ (whole : List ℕ) (utf8 : IsUtf8 whole) (families : List Family) (name
         tree = ParenTree h.0.from (NotTree h.4.0.from inner.tree);
         took = record {
           rest = close.1;
-          begins = (h.0, h.1, h.2, (h.3.word, refl), (h.4.0, h.4.1, h.4.2, (h.4.3.word, refl), begins_append IsSign (spelled inner.tree) _ h.4.1 inner.took.rest close.1 inner.took.begins (close.0, close.1, close.2, close.3.word, refl)));
+          begins = (
+            h.0,
+            h.1,
+            h.2,
+            (h.3.word, refl),
+            (
+              h.4.0,
+              h.4.1,
+              h.4.2,
+              (h.4.3.word, refl),
+              begins_append IsSign
+                  (spelled inner.tree) _ h.4.1 inner.took.rest close.1 inner.took.begins (close.0, close.1, close.2, close.3.word, refl),
+            ),
+          );
           stand = close.4;
         };
         fits = λ level. (omega arith, inner.fits 2);
@@ -206,9 +277,11 @@ module _ (whole : List ℕ) (utf8 : IsUtf8 whole) (families : List Family) (name
         means = ap (λ (found : Found Term). found >>= λ t. Ok (Negation t)) inner.means;
       }
   read_term has_value (Operation o a b) behind rest ts same fits h =
-      let left = read_term has_value a _ _ h.1 same (and_left (term_fits families under.keyed has_value a) (term_fits families under.keyed has_value b) fits) h.4 in
+      let left = read_term has_value a _ _ h.1 same (and_left (term_fits families under.keyed has_value a)
+      (term_fits families under.keyed has_value b) fits) h.4 in
       let sign = left.took.stand in
-      let right = read_term has_value b [] (mark m.CloseParen behind ∷ rest) sign.1 same (and_right (term_fits families under.keyed has_value a) (term_fits families under.keyed has_value b) fits) sign.4 in
+      let right = read_term has_value b [] (mark m.CloseParen behind ∷ rest) sign.1 same
+      (and_right (term_fits families under.keyed has_value a) (term_fits families under.keyed has_value b) fits) sign.4 in
       let close = right.took.stand in
       let two = TwoTree o left.tree right.tree in
       record {
@@ -221,7 +294,8 @@ module _ (whole : List ℕ) (utf8 : IsUtf8 whole) (families : List Family) (name
             h.2,
             (h.3.word, refl),
             begins_append IsSign (spelled two) _ h.1 right.took.rest close.1
-                (begins_append IsSign (spelled left.tree) _ h.1 left.took.rest right.took.rest left.took.begins (sign.0, sign.1, sign.2, sign.3.word, right.took.begins)) (close.0, close.1, close.2, close.3.word, refl),
+                (begins_append IsSign (spelled left.tree) _ h.1 left.took.rest right.took.rest left.took.begins
+                (sign.0, sign.1, sign.2, sign.3.word, right.took.begins)) (close.0, close.1, close.2, close.3.word, refl),
           );
           stand = close.4;
         };
@@ -229,7 +303,8 @@ module _ (whole : List ℕ) (utf8 : IsUtf8 whole) (families : List Family) (name
         opens = omega (arith, left.opens, right.opens);
         high = ap (λ k. max k (height right.tree) + 1) left.high ∙ ap (λ k. max (term_height a) k + 1) right.high;
         first = refl;
-        means = ap (λ (found : Found Term). found >>= λ s. term_of whole n under right.tree >>= λ t. Ok (Operation o s t)) left.means ∙ ap (λ (found : Found Term). found >>= λ t. Ok (Operation o a t)) right.means;
+        means = ap (λ (found : Found Term). found >>= λ s. term_of whole n under right.tree >>= λ t. Ok (Operation o s t)) left.means
+            ∙ ap (λ (found : Found Term). found >>= λ t. Ok (Operation o a t)) right.means;
       }
 
   -- a whole expression
@@ -239,7 +314,8 @@ module _ (whole : List ℕ) (utf8 : IsUtf8 whole) (families : List Family) (name
     pub is : IsExpression tree
     pub means : expression_of whole n under tree ≡ Ok e
 
-  pub read_expression : (has_value : Bool) (e : Term) (behind : List ℕ) (rest : List Laid) (ts : List Token) → under.has_value ≡ has_value → is_good_term families under.keyed has_value e ≡ true → Stand whole (term_words families e behind rest) ts → ExpressionIs e rest ts
+  pub read_expression : (has_value : Bool) (e : Term) (behind : List ℕ) (rest : List Laid) (ts : List Token) → under.has_value ≡ has_value
+      → is_good_term families under.keyed has_value e ≡ true → Stand whole (term_words families e behind rest) ts → ExpressionIs e rest ts
   unfolding expression_of
   read_expression has_value e behind rest ts same good h =
       let t = read_term has_value e behind rest ts same (and_left (term_fits families under.keyed has_value e) (nat_le (term_height e) 32) good) h in

@@ -64,18 +64,22 @@ same_keyed (k ∷ kinds) (suc i) = same_keyed kinds i
 
 same_depend : (kinds : List Kind) (d : Depend) → plain_depend_fits (map plain_kind kinds) d ≡ depend_fits kinds d
 same_depend kinds d =
-    ap (λ n. nat_lt d.a n && nat_lt d.b n && (not d.same || (plain_kind_is_keyed (slice_get (map plain_kind kinds) d.a) && plain_kind_is_keyed (slice_get (map plain_kind kinds) d.b)))) (length-map kinds plain_kind)
-    ∙ ap (λ x. nat_lt d.a (length kinds) && nat_lt d.b (length kinds) && (not d.same || (x && plain_kind_is_keyed (slice_get (map plain_kind kinds) d.b)))) (same_keyed kinds d.a)
+    ap (λ n. nat_lt d.a n && nat_lt d.b n && (not d.same || (plain_kind_is_keyed (slice_get (map plain_kind kinds) d.a) && plain_kind_is_keyed
+    (slice_get (map plain_kind kinds) d.b)))) (length-map kinds plain_kind)
+    ∙ ap (λ x. nat_lt d.a (length kinds) && nat_lt d.b (length kinds) && (not d.same || (x && plain_kind_is_keyed (slice_get (map plain_kind kinds) d.b))))
+    (same_keyed kinds d.a)
     ∙ ap (λ x. nat_lt d.a (length kinds) && nat_lt d.b (length kinds) && (not d.same || (kind_is_keyed (slice_get kinds d.a) && x))) (same_keyed kinds d.b)
 
-same_listed : (kinds : List Kind) (i : ℕ) (keys : Keys) → plain_listed_fits (slice_get (map plain_kind kinds) i) keys ≡ listed_kind_fits (slice_get kinds i) keys
+same_listed : (kinds : List Kind) (i : ℕ) (keys : Keys)
+    → plain_listed_fits (slice_get (map plain_kind kinds) i) keys ≡ listed_kind_fits (slice_get kinds i) keys
 same_listed [] i keys = refl
 same_listed (k ∷ kinds) zero keys = refl
 same_listed (k ∷ kinds) (suc i) keys = same_listed kinds i keys
 
 same_source : (kinds : List Kind) (s : Source) → plain_source_fits (map plain_kind kinds) s ≡ source_fits kinds s
 same_source kinds s =
-    ap (λ x. is_name s.name && is_file_text s.file && nat_le s.rate 1000000000 && nat_le s.slack 60000 && nat_lt 0 (length s.tags) && x && are_distinct is_same_tag (tags_of_source s))
+    ap (λ x. is_name s.name && is_file_text s.file && nat_le s.rate 1000000000 && nat_le s.slack 60000 && nat_lt 0
+    (length s.tags) && x && are_distinct is_same_tag (tags_of_source s))
     (list_all_same (plain_tag_fits (map plain_kind kinds)) (tag_ref_fits kinds) s.tags (λ (r : TagRef). same_listed kinds r.kind r.keys))
 
 same_names : (kinds : List Kind) → map (λ (k : PlainKind). k.name) (map plain_kind kinds) ≡ map (λ (k : Kind). k.name) kinds
@@ -96,6 +100,7 @@ job_fits version families kinds depends sources kept = record {
   kinds = sym (kinds-plain families kinds) ∙ kept.kinds_fit;
   depends = list_all_same (plain_depend_fits (map plain_kind kinds)) (depend_fits kinds) depends (same_depend kinds) ∙ kept.depends_fit;
   sources = list_all_same (plain_source_fits (map plain_kind kinds)) (source_fits kinds) sources (same_source kinds) ∙ kept.sources_fit;
-  own_names = ap (λ ns. are_distinct is_same_text (map (λ (f : Family). f.name) families ++ ns ++ map (λ (s : Source). s.name) sources)) (same_names kinds) ∙ kept.own_names;
+  own_names = ap (λ ns. are_distinct is_same_text (map (λ (f : Family). f.name) families ++ ns ++ map (λ (s : Source). s.name) sources)) (same_names kinds)
+      ∙ kept.own_names;
   own_files = kept.own_files;
 }

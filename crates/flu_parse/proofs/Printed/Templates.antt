@@ -38,7 +38,8 @@ abbrev pub with_open : List ℕ → List Piece → List Piece
 with_open [] ps = ps
 with_open (b ∷ pend) ps = piece.Plain (b ∷ pend) ∷ ps
 
-module _ (whole : List ℕ) (utf8 : IsUtf8 whole) (families : List Family) (names : list_all (λ (f : Family). is_name f.name) families ≡ true) (n : Naming) (known_families : FamiliesKnown families n) (under : KindHead) (in_flush : Bool) (at : ℕ) where
+module _ (whole : List ℕ) (utf8 : IsUtf8 whole) (families : List Family) (names : list_all (λ (f : Family). is_name f.name) families ≡ true) (n : Naming)
+    (known_families : FamiliesKnown families n) (under : KindHead) (in_flush : Bool) (at : ℕ) where
   -- a written piece is the piece that was printed
   record PieceIs (q : WrittenPiece) (r : Piece) : Type 0 where
     known : known_name whole n at q ≡ Ok tt
@@ -62,7 +63,8 @@ module _ (whole : List ℕ) (utf8 : IsUtf8 whole) (families : List Family) (name
   plain_is t start place e = record { known = refl; fits = refl; means = ap (λ t. Ok (piece.Plain t)) e }
 
   -- what is still open, in front of what follows
-  pend_are : (pend : List ℕ) (start place : ℕ) (qs : List WrittenPiece) (rs : List Piece) → name_of whole (span start place) ≡ pend → ArePieces qs rs → ArePieces (plain_part pend start place ++ qs) (with_open pend rs)
+  pend_are : (pend : List ℕ) (start place : ℕ) (qs : List WrittenPiece) (rs : List Piece) → name_of whole (span start place) ≡ pend → ArePieces qs rs
+      → ArePieces (plain_part pend start place ++ qs) (with_open pend rs)
   pend_are [] start place qs rs e h = h
   pend_are (b ∷ pend) start place qs rs e h = (plain_is (b ∷ pend) start place e, h)
 
@@ -72,11 +74,13 @@ module _ (whole : List ℕ) (utf8 : IsUtf8 whole) (families : List Family) (name
     size : place ≡ start + length pend
     begins : is_boundary whole start ≡ true
 
-  pend_spelled : (before pend : List ℕ) (b : ℕ) (after : List ℕ) (start place : ℕ) → Opened before pend (b ∷ after) start place → b < 128 → name_of whole (span start place) ≡ pend
+  pend_spelled : (before pend : List ℕ) (b : ℕ) (after : List ℕ) (start place : ℕ) → Opened before pend (b ∷ after) start place → b < 128
+      → name_of whole (span start place) ≡ pend
   pend_spelled before pend b after start place o ascii =
       let is : whole ≡ (before ++ pend) ++ (b ∷ after) = o.is.is ∙ simp append_assoc in
       let here : place ≡ length (before ++ pend) = omega (arith, o.size, o.is.here, length-append before pend) in
-      spelled_between whole before pend (b ∷ after) start place o.is o.size o.begins (before_ascii whole (before ++ pend) b after place (record { is = is; here = here }) ascii)
+      spelled_between whole before pend (b ∷ after) start place o.is o.size o.begins
+      (before_ascii whole (before ++ pend) b after place (record { is = is; here = here }) ascii)
 
   -- a field: its word stands in braces, and then come the pieces that are left
   scan_one : (before pend word more after : List ℕ) (start place : ℕ) (r : Piece) (rs : List Piece) (q : WrittenPiece)
@@ -90,10 +94,12 @@ module _ (whole : List ℕ) (utf8 : IsUtf8 whole) (families : List Family) (name
         pieces = part ++ (q ∷ rest.pieces);
         scanned = λ done.
             scan_field (field_at whole in_flush) done start place word more q closed found
-            ∙ ap (λ l. scan (field_at whole in_flush) (outside (l ++ q ∷ []) (place + 1 + length word + 1)) (place + 1 + length word + 1) more) (part_is (field_at whole in_flush) done pend start place o.size)
+            ∙ ap (λ l. scan (field_at whole in_flush) (outside (l ++ q ∷ []) (place + 1 + length word + 1)) (place + 1 + length word + 1) more)
+            (part_is (field_at whole in_flush) done pend start place o.size)
             ∙ rest.scanned ((done ++ part) ++ q ∷ [])
             ∙ ap whole_template (let same : ((done ++ part) ++ q ∷ []) ++ rest.pieces ≡ done ++ (part ++ (q ∷ rest.pieces)) = simp append_assoc in same);
-        are = pend_are pend start place (q ∷ rest.pieces) (r ∷ rs) (pend_spelled before pend 123 (word ++ (125 ∷ (more ++ after))) start place o (omega arith)) (is, rest.are);
+        are = pend_are pend start place (q ∷ rest.pieces) (r ∷ rs) (pend_spelled before pend 123 (word ++ (125 ∷ (more ++ after))) start place o
+            (omega arith)) (is, rest.are);
       }
 
   -- where a field's word stands
@@ -103,7 +109,8 @@ module _ (whole : List ℕ) (utf8 : IsUtf8 whole) (families : List Family) (name
     begins : is_boundary whole (place + 1) ≡ true
     next : Opened ((before ++ word) ++ 125 ∷ []) [] (more ++ after) (place + 1 + length word + 1) (place + 1 + length word + 1)
 
-  field_place : (before pend word more after : List ℕ) (start place : ℕ) → Opened before pend (123 ∷ (word ++ (125 ∷ (more ++ after)))) start place → FieldAt word more after place
+  field_place : (before pend word more after : List ℕ) (start place : ℕ) → Opened before pend (123 ∷ (word ++ (125 ∷ (more ++ after)))) start place
+      → FieldAt word more after place
   field_place before pend word more after start place o =
       let brace_is : whole ≡ (before ++ pend) ++ (123 ∷ (word ++ (125 ∷ (more ++ after)))) = o.is.is ∙ simp append_assoc in
       let brace_here : place ≡ length (before ++ pend) = omega (arith, o.size, o.is.here, length-append before pend) in
@@ -113,15 +120,18 @@ module _ (whole : List ℕ) (utf8 : IsUtf8 whole) (families : List Family) (name
       let close_is : whole ≡ (front ++ word) ++ (125 ∷ (more ++ after)) = word_is ∙ simp append_assoc in
       let close_here : place + 1 + length word ≡ length (front ++ word) = omega (arith, word_here, length-append front word) in
       let next_is : whole ≡ ((front ++ word) ++ 125 ∷ []) ++ (more ++ after) = close_is ∙ simp append_assoc in
-      let next_here : place + 1 + length word + 1 ≡ length ((front ++ word) ++ 125 ∷ []) = omega (arith, close_here, length-append (front ++ word) (125 ∷ [])) in
+      let next_here : place + 1 + length word + 1 ≡ length ((front ++ word) ++ 125 ∷ []) =
+      omega (arith, close_here, length-append (front ++ word) (125 ∷ [])) in
       record {
         before = front;
         word_at = record { is = word_is; here = word_here };
-        begins = after_ascii whole (before ++ pend) 123 (word ++ (125 ∷ (more ++ after))) place utf8 (record { is = brace_is; here = brace_here }) (omega arith);
+        begins = after_ascii whole (before ++ pend) 123 (word ++ (125 ∷ (more ++ after))) place utf8 (record { is = brace_is; here = brace_here })
+            (omega arith);
         next = record {
           is = record { is = next_is; here = next_here };
           size = (let same : place + 1 + length word + 1 ≡ place + 1 + length word + 1 + 0 = omega arith in same);
-          begins = after_ascii whole (front ++ word) 125 (more ++ after) (place + 1 + length word) utf8 (record { is = close_is; here = close_here }) (omega arith);
+          begins = after_ascii whole (front ++ word) 125 (more ++ after) (place + 1 + length word) utf8 (record { is = close_is; here = close_here })
+              (omega arith);
         };
       }
 
@@ -163,7 +173,8 @@ module _ (whole : List ℕ) (utf8 : IsUtf8 whole) (families : List Family) (name
   unfolding known_name piece_of
   cell_is = record { known = refl; fits = refl; means = refl }
 
-  read_is : (r : CellRef) (family : Family) (from to : ℕ) → slice_get families r.family ≡ Some family → (w : FieldIs whole under (family_name (slice_get families r.family)) family.keyed r.at from to) → PieceIs (p.Read w.written) (piece.Read r)
+  read_is : (r : CellRef) (family : Family) (from to : ℕ) → slice_get families r.family ≡ Some family
+      → (w : FieldIs whole under (family_name (slice_get families r.family)) family.keyed r.at from to) → PieceIs (p.Read w.written) (piece.Read r)
   unfolding known_name piece_of
   read_is r family from to found w =
       let head : FamilyHead = family_head r.family family in
@@ -177,10 +188,12 @@ module _ (whole : List ℕ) (utf8 : IsUtf8 whole) (families : List Family) (name
             ∙ ap (λ (found : Found At). found >>= λ a. Ok (piece.Read (record { family = r.family; at = a }))) w.means;
       }
 
-  scan_pieces : (rs : List Piece) (before pend after : List ℕ) (start place : ℕ) → Opened before pend (written_template families rs ++ 34 ∷ after) start place → IsApart pend rs → list_all piece_ok rs ≡ true → are_apart rs ≡ true → Scanned start place (written_template families rs) (with_open pend rs)
+  scan_pieces : (rs : List Piece) (before pend after : List ℕ) (start place : ℕ) → Opened before pend (written_template families rs ++ 34 ∷ after) start place
+      → IsApart pend rs → list_all piece_ok rs ≡ true → are_apart rs ≡ true → Scanned start place (written_template families rs) (with_open pend rs)
   scan_pieces [] before pend after start place o apart ok own = record {
     pieces = plain_part pend start place ++ [];
-    scanned = λ done. scan_end (field_at whole in_flush) done pend start place o.size ∙ ap (λ l. whole_template (done ++ l)) (sym (append-nil (plain_part pend start place)));
+    scanned = λ done. scan_end (field_at whole in_flush) done pend start place o.size
+        ∙ ap (λ l. whole_template (done ++ l)) (sym (append-nil (plain_part pend start place)));
     are = pend_are pend start place [] [] (pend_spelled before pend 34 after start place o (omega arith)) tt;
   }
   scan_pieces (piece.Plain t ∷ rs) before (b ∷ pend) after start place o apart ok own = absurd cc
@@ -192,42 +205,51 @@ module _ (whole : List ℕ) (utf8 : IsUtf8 whole) (families : List Family) (name
         size = (let same : place + length t ≡ start + length t = omega (arith, o.size) in same);
         begins = o.begins;
       } in
-      let rest = scan_pieces rs before t after start (place + length t) next (apart_of t rs (not_true (follows_plain rs) (and_left (not (follows_plain rs)) (are_apart rs) own)))
+      let rest = scan_pieces rs before t after start (place + length t) next
+      (apart_of t rs (not_true (follows_plain rs) (and_left (not (follows_plain rs)) (are_apart rs) own)))
       (and_right (is_plain t) (list_all piece_ok rs) ok) (and_right (not (follows_plain rs)) (are_apart rs) own) in
       record {
         pieces = rest.pieces;
-        scanned = λ done. scan_plain (field_at whole in_flush) done start place t more (and_right (nat_lt 0 (length t)) (list_all is_plain_byte t) plain) ∙ rest.scanned done;
+        scanned = λ done. scan_plain (field_at whole in_flush) done start place t more (and_right (nat_lt 0 (length t)) (list_all is_plain_byte t) plain)
+            ∙ rest.scanned done;
         are = subst (ArePieces rest.pieces) (open_some t rs (and_left (nat_lt 0 (length t)) (list_all is_plain_byte t) plain)) rest.are;
       }
   scan_pieces (piece.Value ∷ rs) before pend after start place o apart ok own =
       let more : List ℕ = written_template families rs in
       let f = field_place before pend (codes "value") more (34 ∷ after) start place o in
       scan_one before pend (codes "value") more (34 ∷ after) start place piece.Value rs p.Value o refl
-      (field_of_word whole in_flush (place + 1) (place + 1 + 5) (codes "value") (word_between whole f.before (codes "value") (more ++ 34 ∷ after) (place + 1) (place + 1 + 5) f.word_at refl f.begins))
+      (field_of_word whole in_flush (place + 1) (place + 1 + 5) (codes "value")
+      (word_between whole f.before (codes "value") (more ++ 34 ∷ after) (place + 1) (place + 1 + 5) f.word_at refl f.begins))
       (value_is (and_left under.has_value (list_all piece_ok rs) ok))
-      (scan_pieces rs ((f.before ++ codes "value") ++ 125 ∷ []) [] after (place + 1 + 5 + 1) (place + 1 + 5 + 1) f.next tt (and_right under.has_value (list_all piece_ok rs) ok) own)
+      (scan_pieces rs ((f.before ++ codes "value") ++ 125 ∷ []) [] after (place + 1 + 5 + 1) (place + 1 + 5 + 1) f.next tt
+      (and_right under.has_value (list_all piece_ok rs) ok) own)
   scan_pieces (piece.Key ∷ rs) before pend after start place o apart ok own =
       let more : List ℕ = written_template families rs in
       let f = field_place before pend (codes "key") more (34 ∷ after) start place o in
       scan_one before pend (codes "key") more (34 ∷ after) start place piece.Key rs p.Key o refl
-      (field_of_word whole in_flush (place + 1) (place + 1 + 3) (codes "key") (word_between whole f.before (codes "key") (more ++ 34 ∷ after) (place + 1) (place + 1 + 3) f.word_at refl f.begins))
+      (field_of_word whole in_flush (place + 1) (place + 1 + 3) (codes "key")
+      (word_between whole f.before (codes "key") (more ++ 34 ∷ after) (place + 1) (place + 1 + 3) f.word_at refl f.begins))
       (key_is (and_left (in_flush || under.keyed) (list_all piece_ok rs) ok))
-      (scan_pieces rs ((f.before ++ codes "key") ++ 125 ∷ []) [] after (place + 1 + 3 + 1) (place + 1 + 3 + 1) f.next tt (and_right (in_flush || under.keyed) (list_all piece_ok rs) ok) own)
+      (scan_pieces rs ((f.before ++ codes "key") ++ 125 ∷ []) [] after (place + 1 + 3 + 1) (place + 1 + 3 + 1) f.next tt
+      (and_right (in_flush || under.keyed) (list_all piece_ok rs) ok) own)
   scan_pieces (piece.Time ∷ rs) before pend after start place o apart ok own =
       let more : List ℕ = written_template families rs in
       let f = field_place before pend (codes "time") more (34 ∷ after) start place o in
       scan_one before pend (codes "time") more (34 ∷ after) start place piece.Time rs p.Time o refl
-      (field_of_word whole in_flush (place + 1) (place + 1 + 4) (codes "time") (word_between whole f.before (codes "time") (more ++ 34 ∷ after) (place + 1) (place + 1 + 4) f.word_at refl f.begins))
+      (field_of_word whole in_flush (place + 1) (place + 1 + 4) (codes "time")
+      (word_between whole f.before (codes "time") (more ++ 34 ∷ after) (place + 1) (place + 1 + 4) f.word_at refl f.begins))
       time_is
       (scan_pieces rs ((f.before ++ codes "time") ++ 125 ∷ []) [] after (place + 1 + 4 + 1) (place + 1 + 4 + 1) f.next tt ok own)
   scan_pieces (piece.CellValue ∷ rs) before pend after start place o apart ok own =
       let more : List ℕ = written_template families rs in
       let f = field_place before pend (codes "cell") more (34 ∷ after) start place o in
       scan_one before pend (codes "cell") more (34 ∷ after) start place piece.CellValue rs p.CellValue o refl
-      (field_of_word whole in_flush (place + 1) (place + 1 + 4) (codes "cell") (word_between whole f.before (codes "cell") (more ++ 34 ∷ after) (place + 1) (place + 1 + 4) f.word_at refl f.begins)
+      (field_of_word whole in_flush (place + 1) (place + 1 + 4) (codes "cell")
+      (word_between whole f.before (codes "cell") (more ++ 34 ∷ after) (place + 1) (place + 1 + 4) f.word_at refl f.begins)
       ∙ ap (λ b. if b then Some p.CellValue else ref_at whole (place + 1) (place + 1 + 4)) (and_left in_flush (list_all piece_ok rs) ok))
       cell_is
-      (scan_pieces rs ((f.before ++ codes "cell") ++ 125 ∷ []) [] after (place + 1 + 4 + 1) (place + 1 + 4 + 1) f.next tt (and_right in_flush (list_all piece_ok rs) ok) own)
+      (scan_pieces rs ((f.before ++ codes "cell") ++ 125 ∷ []) [] after (place + 1 + 4 + 1) (place + 1 + 4 + 1) f.next tt
+      (and_right in_flush (list_all piece_ok rs) ok) own)
   scan_pieces (piece.Read r ∷ rs) before pend after start place o apart ok own =
       let more : List ℕ = written_template families rs in
       let name : List ℕ = family_name (slice_get families r.family) in
@@ -238,19 +260,26 @@ module _ (whole : List ℕ) (utf8 : IsUtf8 whole) (families : List Family) (name
       let named = family_named families names r.family family.family family.found in
       let bytes : written_piece families (piece.Read r) ++ more ≡ 123 ∷ (word ++ (125 ∷ more)) = ap (λ l. 123 ∷ l) (append_assoc word (125 ∷ []) more) in
       let opened : Opened before pend (123 ∷ (word ++ (125 ∷ (more ++ 34 ∷ after)))) start place = record {
-        is = record { is = o.is.is ∙ ap (λ l. before ++ (pend ++ l)) (ap (λ l. l ++ 34 ∷ after) bytes ∙ ap (λ l. 123 ∷ l) (append_assoc word (125 ∷ more) (34 ∷ after))); here = o.is.here };
+        is = record {
+          is = o.is.is ∙ ap (λ l. before ++ (pend ++ l)) (ap (λ l. l ++ 34 ∷ after) bytes
+              ∙ ap (λ l. 123 ∷ l) (append_assoc word (125 ∷ more) (34 ∷ after)));
+          here = o.is.here;
+        };
         size = o.size;
         begins = o.begins;
       } in
       let f = field_place before pend word more (34 ∷ after) start place opened in
-      let field = read_field whole utf8 under f.before name (more ++ 34 ∷ after) (place + 1) to named f.begins family.family.keyed r.at family.fits f.word_at refl in
+      let field = read_field whole utf8 under f.before name (more ++ 34 ∷ after)
+      (place + 1) to named f.begins family.family.keyed r.at family.fits f.word_at refl in
       let found : field_at whole in_flush (place + 1) to ≡ Some (p.Read field.written) =
       ap (λ b. field_at whole b (place + 1) to) (not_true in_flush (and_left (not in_flush) (ref_fits families under.keyed r) here))
       ∙ field_of_ref whole (place + 1) to name r.at named (word_between whole f.before word (more ++ 34 ∷ after) (place + 1) to f.word_at refl f.begins)
       ∙ field.read in
-      let rest = scan_pieces rs ((f.before ++ word) ++ 125 ∷ []) [] after (to + 1) (to + 1) f.next tt (and_right (not in_flush && ref_fits families under.keyed r) (list_all piece_ok rs) ok) own in
+      let rest = scan_pieces rs ((f.before ++ word) ++ 125 ∷ []) [] after (to + 1) (to + 1) f.next tt
+      (and_right (not in_flush && ref_fits families under.keyed r) (list_all piece_ok rs) ok) own in
       subst (λ l. Scanned start place l (with_open pend (piece.Read r ∷ rs))) (sym bytes)
-      (scan_one before pend word more (34 ∷ after) start place (piece.Read r) rs (p.Read field.written) opened (ref_closed name r.at family.family.keyed under.keyed named family.fits) found (read_is r family.family (place + 1) to family.found field) rest)
+      (scan_one before pend word more (34 ∷ after) start place (piece.Read r) rs (p.Read field.written) opened
+      (ref_closed name r.at family.family.keyed under.keyed named family.fits) found (read_is r family.family (place + 1) to family.found field) rest)
 
   -- ---- the whole template
 
@@ -259,7 +288,8 @@ module _ (whole : List ℕ) (utf8 : IsUtf8 whole) (families : List Family) (name
   all_known [] [] h = refl
   all_known [] (r ∷ rs) h = absurd h
   all_known (q ∷ qs) [] h = absurd h
-  all_known (q ∷ qs) (r ∷ rs) h = ap (λ (found : Found (Unit {0})). found >>= λ done. each (λ done q. known_name whole n at q) done qs) h.0.known ∙ all_known qs rs h.1
+  all_known (q ∷ qs) (r ∷ rs) h = ap (λ (found : Found (Unit {0})). found >>= λ done. each (λ done q. known_name whole n at q) done qs) h.0.known
+      ∙ all_known qs rs h.1
 
   all_fit : (qs : List WrittenPiece) (rs : List Piece) → ArePieces qs rs → list_all (piece_fits whole n under in_flush) qs ≡ true
   all_fit [] [] h = refl
@@ -267,7 +297,8 @@ module _ (whole : List ℕ) (utf8 : IsUtf8 whole) (families : List Family) (name
   all_fit (q ∷ qs) [] h = absurd h
   all_fit (q ∷ qs) (r ∷ rs) h = both (piece_fits whole n under in_flush q) (list_all (piece_fits whole n under in_flush) qs) h.0.fits (all_fit qs rs h.1)
 
-  all_mean : (done : List Piece) (qs : List WrittenPiece) (rs : List Piece) → ArePieces qs rs → each (collect (piece_of whole n under at)) done qs ≡ Ok (done ++ rs)
+  all_mean : (done : List Piece) (qs : List WrittenPiece) (rs : List Piece) → ArePieces qs rs
+      → each (collect (piece_of whole n under at)) done qs ≡ Ok (done ++ rs)
   unfolding each
   all_mean done [] [] h = ap Ok (sym (append-nil done))
   all_mean done [] (r ∷ rs) h = absurd h
@@ -277,15 +308,21 @@ module _ (whole : List ℕ) (utf8 : IsUtf8 whole) (families : List Family) (name
       ∙ all_mean (done ++ r ∷ []) qs rs h.1
       ∙ ap Ok (append_assoc done (r ∷ []) rs)
 
-  pub read_template : (rs : List Piece) (s : WrittenSpan) → s.from ≡ at → Quoted whole (written_template families rs) s → list_all piece_ok rs ≡ true → are_apart rs ≡ true → template_of whole n under in_flush s ≡ Ok rs
+  pub read_template : (rs : List Piece) (s : WrittenSpan) → s.from ≡ at → Quoted whole (written_template families rs) s → list_all piece_ok rs ≡ true
+      → are_apart rs ≡ true → template_of whole n under in_flush s ≡ Ok rs
   unfolding template_of template_at
   read_template rs s here q ok own =
       let start : ℕ = s.from + 1 in
-      let opened : Opened q.before [] (written_template families rs ++ 34 ∷ q.after) start start = record { is = q.place; size = (let same : start ≡ start + 0 = omega arith in same); begins = q.begins } in
+      let opened : Opened q.before [] (written_template families rs ++ 34 ∷ q.after) start start =
+      record { is = q.place; size = (let same : start ≡ start + 0 = omega arith in same); begins = q.begins } in
       let r = scan_pieces rs q.before [] q.after start start opened tt ok own in
-      let template : template_at whole in_flush s ≡ whole_template r.pieces = ap (scan (field_at whole in_flush) (outside [] start) start) (inside_stands whole (written_template families rs) s q) ∙ r.scanned [] in
-      ap (λ (t : Template). known_names whole n s.from t.pieces >> (unless (t.whole && list_all (piece_fits whole n under in_flush) t.pieces) (f.WrongShape s.from) >> pieces_of whole n under s.from t.pieces)) template
-      ∙ ap (λ k. known_names whole n k r.pieces >> (unless (list_all (piece_fits whole n under in_flush) r.pieces) (f.WrongShape s.from) >> pieces_of whole n under k r.pieces)) here
-      ∙ ap (λ (found : Found (Unit {0})). found >> (unless (list_all (piece_fits whole n under in_flush) r.pieces) (f.WrongShape s.from) >> pieces_of whole n under at r.pieces)) (all_known r.pieces rs r.are)
+      let template : template_at whole in_flush s ≡ whole_template r.pieces =
+      ap (scan (field_at whole in_flush) (outside [] start) start) (inside_stands whole (written_template families rs) s q) ∙ r.scanned [] in
+      ap (λ (t : Template). known_names whole n s.from t.pieces >> (unless (t.whole && list_all (piece_fits whole n under in_flush) t.pieces)
+      (f.WrongShape s.from) >> pieces_of whole n under s.from t.pieces)) template
+      ∙ ap (λ k. known_names whole n k r.pieces >> (unless (list_all (piece_fits whole n under in_flush) r.pieces)
+      (f.WrongShape s.from) >> pieces_of whole n under k r.pieces)) here
+      ∙ ap (λ (found : Found (Unit {0})). found >> (unless (list_all (piece_fits whole n under in_flush) r.pieces)
+      (f.WrongShape s.from) >> pieces_of whole n under at r.pieces)) (all_known r.pieces rs r.are)
       ∙ ap (λ b. unless b (f.WrongShape s.from) >> pieces_of whole n under at r.pieces) (all_fit r.pieces rs r.are)
       ∙ all_mean [] r.pieces rs r.are

@@ -1,7 +1,7 @@
 -- The words of the normal form, each with the blanks behind it; and that they are laid out as that text.
-use Rattle.std.proofs.Common.{◌≡◌, ℕ, ℤ, pos, Bool, true, false, Option, Some, None, List, [], ◌∷◌, ◌++◌, refl, ap, ◌∙◌, append_assoc, arith}
+use Rattle.std.proofs.Common.{◌≡◌, ℕ, pos, Bool, true, false, Option, Some, None, List, [], ◌∷◌, ◌++◌, refl, ap, ◌∙◌, append_assoc, arith}
 use Rattle.std.specs.Prelude.{nat_lt, ◌==◌, if◌then◌else◌, slice_get, codes}
-use Rattle.std.specs.Fmt.{decimal, signed_decimal}
+use Rattle.std.specs.Fmt.{decimal}
 use Rattle.std.specs.List.{flat_map}
 use Rattle.std.proofs.lemmas.Fmt.{decimal_digit}
 use Rattle.std.proofs.lemmas.List.{append-nil}
@@ -70,7 +70,8 @@ key_layout at.Alone behind rest = refl
 key_layout at.OwnKey behind rest = refl
 key_layout (at.Fixed k) behind rest = simp append_assoc
 
-pub cell_layout : (families : List Family) (c : CellRef) (behind : List ℕ) (rest : List Laid) → layout (cell_words families c behind rest) ≡ written_cell families c ++ (behind ++ layout rest)
+pub cell_layout : (families : List Family) (c : CellRef) (behind : List ℕ) (rest : List Laid)
+    → layout (cell_words families c behind rest) ≡ written_cell families c ++ (behind ++ layout rest)
 cell_layout families c behind rest =
     let n : List ℕ = family_name (slice_get families c.family) in
     rw (append_assoc n (written_key c.at) (behind ++ layout rest)) (ap (λ l. n ++ l) (key_layout c.at behind rest))
@@ -89,7 +90,8 @@ term_words families (Negation e) behind rest = mark m.OpenParen [] ∷ reserved 
 term_words families (Operation o a b) behind rest =
     mark m.OpenParen [] ∷ term_words families a blank (operator o blank ∷ term_words families b [] (mark m.CloseParen behind ∷ rest))
 
-pub term_layout : (families : List Family) (e : Term) (behind : List ℕ) (rest : List Laid) → layout (term_words families e behind rest) ≡ term_text families e ++ (behind ++ layout rest)
+pub term_layout : (families : List Family) (e : Term) (behind : List ℕ) (rest : List Laid)
+    → layout (term_words families e behind rest) ≡ term_text families e ++ (behind ++ layout rest)
 term_layout families (Literal n) behind rest = refl
 term_layout families EventValue behind rest = refl
 term_layout families EventKey behind rest = refl
@@ -99,7 +101,11 @@ term_layout families (CellHeld c) behind rest = ap (λ l. codes "has " ++ l) (ce
 term_layout families (Negative e) behind rest = rw (term_layout families e [] (mark m.CloseParen behind ∷ rest)) (simp append_assoc)
 term_layout families (Negation e) behind rest = rw (term_layout families e [] (mark m.CloseParen behind ∷ rest)) (simp append_assoc)
 term_layout families (Operation o a b) behind rest =
-    rw (term_layout families a blank (operator o blank ∷ term_words families b [] (mark m.CloseParen behind ∷ rest)), term_layout families b [] (mark m.CloseParen behind ∷ rest)) (simp append_assoc)
+    rw (
+      term_layout families a blank (operator o blank ∷ term_words families b [] (mark m.CloseParen behind ∷ rest)),
+      term_layout families b []
+          (mark m.CloseParen behind ∷ rest),
+    ) (simp append_assoc)
 
 -- ---- actions
 
@@ -109,12 +115,17 @@ act_words families (Raising c e) behind rest = reserved r.Raise blank ∷ cell_w
 act_words families (Setting c e) behind rest = reserved r.Set blank ∷ cell_words families c blank (term_words families e behind rest)
 act_words families (Clearing c) behind rest = reserved r.Clear blank ∷ cell_words families c behind rest
 act_words families (Emitting ps) behind rest = reserved r.Emit blank ∷ text (written_template families ps) behind ∷ rest
-act_words families (Flushing f ps) behind rest = reserved r.Flush blank ∷ name (family_name (slice_get families f)) blank ∷ text (written_template families ps) behind ∷ rest
+act_words families (Flushing f ps) behind rest = reserved r.Flush blank ∷ name (family_name (slice_get families f)) blank
+    ∷ text (written_template families ps) behind ∷ rest
 
-pub act_layout : (families : List Family) (d : PlainAct) (behind : List ℕ) (rest : List Laid) → layout (act_words families d behind rest) ≡ act_text families d ++ (behind ++ layout rest)
-act_layout families (Adding c e) behind rest = rw (cell_layout families c blank (term_words families e behind rest), term_layout families e behind rest) (simp append_assoc)
-act_layout families (Raising c e) behind rest = rw (cell_layout families c blank (term_words families e behind rest), term_layout families e behind rest) (simp append_assoc)
-act_layout families (Setting c e) behind rest = rw (cell_layout families c blank (term_words families e behind rest), term_layout families e behind rest) (simp append_assoc)
+pub act_layout : (families : List Family) (d : PlainAct) (behind : List ℕ) (rest : List Laid)
+    → layout (act_words families d behind rest) ≡ act_text families d ++ (behind ++ layout rest)
+act_layout families (Adding c e) behind rest = rw (cell_layout families c blank (term_words families e behind rest), term_layout families e behind rest)
+    (simp append_assoc)
+act_layout families (Raising c e) behind rest = rw (cell_layout families c blank (term_words families e behind rest), term_layout families e behind rest)
+    (simp append_assoc)
+act_layout families (Setting c e) behind rest = rw (cell_layout families c blank (term_words families e behind rest), term_layout families e behind rest)
+    (simp append_assoc)
 act_layout families (Clearing c) behind rest = ap (λ l. codes "clear " ++ l) (cell_layout families c behind rest)
 act_layout families (Emitting ps) behind rest = simp append_assoc
 act_layout families (Flushing f ps) behind rest =
@@ -129,17 +140,20 @@ abbrev pub guard_words : List Family → Option Term → List ℕ → List Laid 
 guard_words families None behind rest = rest
 guard_words families (Some e) behind rest = reserved r.When blank ∷ term_words families e behind rest
 
-guard_layout : (families : List Family) (g : Option Term) (behind : List ℕ) (rest : List Laid) → behind_act g behind ++ layout (guard_words families g behind rest) ≡ guard_text families g ++ (behind ++ layout rest)
+guard_layout : (families : List Family) (g : Option Term) (behind : List ℕ) (rest : List Laid)
+    → behind_act g behind ++ layout (guard_words families g behind rest) ≡ guard_text families g ++ (behind ++ layout rest)
 guard_layout families None behind rest = refl
 guard_layout families (Some e) behind rest = ap (λ l. codes " when " ++ l) (term_layout families e behind rest)
 
 abbrev pub action_words : List Family → PlainAction → List ℕ → List Laid → List Laid
 action_words families a behind rest = act_words families a.act (behind_act a.guard behind) (guard_words families a.guard behind rest)
 
-pub action_layout : (families : List Family) (a : PlainAction) (behind : List ℕ) (rest : List Laid) → layout (action_words families a behind rest) ≡ action_text families a ++ (behind ++ layout rest)
+pub action_layout : (families : List Family) (a : PlainAction) (behind : List ℕ) (rest : List Laid)
+    → layout (action_words families a behind rest) ≡ action_text families a ++ (behind ++ layout rest)
 action_layout families a behind rest =
     act_layout families a.act (behind_act a.guard behind) (guard_words families a.guard behind rest)
-    ∙ rw (append_assoc (act_text families a.act) (guard_text families a.guard) (behind ++ layout rest)) (ap (λ l. act_text families a.act ++ l) (guard_layout families a.guard behind rest))
+    ∙ rw (append_assoc (act_text families a.act) (guard_text families a.guard) (behind ++ layout rest))
+    (ap (λ l. act_text families a.act ++ l) (guard_layout families a.guard behind rest))
 
 -- ---- declarations
 
@@ -183,7 +197,8 @@ abbrev pub value_reserved : Bool → Reserved
 value_reserved true = r.Int
 value_reserved false = r.None
 
-value_layout : (has_value : Bool) (rest : List Laid) → blank ++ layout (reserved (value_reserved has_value) line_end ∷ rest) ≡ value_text has_value ++ (line_end ++ layout rest)
+value_layout : (has_value : Bool) (rest : List Laid)
+    → blank ++ layout (reserved (value_reserved has_value) line_end ∷ rest) ≡ value_text has_value ++ (line_end ++ layout rest)
 value_layout true rest = refl
 value_layout false rest = refl
 
@@ -209,7 +224,8 @@ same_layout false rest = refl
 
 abbrev pub depends_line_words : List PlainKind → Depend → List Laid → List Laid
 depends_line_words kinds d rest =
-    reserved r.Depends blank ∷ name (kind_name (slice_get kinds d.a)) blank ∷ name (kind_name (slice_get kinds d.b)) (behind_depends d.same) ∷ same_words d.same rest
+    reserved r.Depends blank ∷ name (kind_name (slice_get kinds d.a)) blank ∷ name (kind_name (slice_get kinds d.b)) (behind_depends d.same)
+    ∷ same_words d.same rest
 
 depends_line_layout : (kinds : List PlainKind) (d : Depend) (rest : List Laid) → layout (depends_line_words kinds d rest) ≡ depends_line kinds d ++ layout rest
 depends_line_layout kinds d rest = rw (same_layout d.same rest) (simp append_assoc)
@@ -219,10 +235,12 @@ actions_words families kind [] rest = rest
 actions_words families kind (a ∷ actions) rest =
     reserved r.On blank ∷ name kind [] ∷ mark m.Colon blank ∷ items_words m.Semicolon (action_words families) a actions line_end rest
 
-actions_layout : (families : List Family) (kind : List ℕ) (actions : List PlainAction) (rest : List Laid) → layout (actions_words families kind actions rest) ≡ actions_line families kind actions ++ layout rest
+actions_layout : (families : List Family) (kind : List ℕ) (actions : List PlainAction) (rest : List Laid)
+    → layout (actions_words families kind actions rest) ≡ actions_line families kind actions ++ layout rest
 actions_layout families kind [] rest = refl
 actions_layout families kind (a ∷ actions) rest =
-    ap (λ l. codes "on " ++ (kind ++ (codes ": " ++ l))) (items_out (action_words families) (between m.Semicolon) layout (action_text families) (codes "; ") (action_layout families) (λ rest. refl) a actions line_end rest)
+    ap (λ l. codes "on " ++ (kind ++ (codes ": " ++ l))) (items_out (action_words families) (between m.Semicolon) layout (action_text families) (codes "; ")
+    (action_layout families) (λ rest. refl) a actions line_end rest)
     ∙ regroup_five (codes "on ") kind (codes ": ") (separated (codes "; ") (action_text families) (a ∷ actions)) line_end (layout rest)
 
 abbrev pub on_line_words : List Family → PlainKind → List Laid → List Laid
@@ -278,7 +296,8 @@ source_line_layout spelled kinds s rest =
 
 abbrev pub job_words : Job → List Laid
 job_words job =
-    version_words job.version (lines_before cell_line_words job.families (lines_before tag_line_words job.kinds (lines_before (depends_line_words job.kinds) job.depends
+    version_words job.version (lines_before cell_line_words job.families
+    (lines_before tag_line_words job.kinds (lines_before (depends_line_words job.kinds) job.depends
     (lines_before (on_line_words job.families) job.kinds (lines_before (source_line_words job.kinds) job.sources [])))))
 
 -- the normal form is these words, laid out

@@ -1,6 +1,4 @@
-use Rattle.std.proofs.Common.{◌≡◌, ◌≤◌, ◌+◌, ◌^◌, ℕ, Bool, List, refl, sym, ap, subst, ◌∙◌, arith}
 use Rattle.flu_deps.specs.Checking.{program_of}
-use Rattle.flu_model.specs.declared.plans.Node.{Node}
 use Rattle.flu_plan.specs.Kept.{KeepsRules}
 use Rattle.flu_planner.specs.Plans.{IsGreedyPlan}
 use Rattle.flu_planner.proofs.plan.Goals as goal

@@ -1,4 +1,4 @@
-use Rattle.std.proofs.Common.{subst, arith}
+use Rattle.std.proofs.Common.{arith}
 use Rattle.flu_check.specs.LoopFound.{tag_at, PassesTag}
 use Rattle.flu_lemmas.proofs.Numbers.{one_more}
 use Rattle.flu_check.proofs.FaultLemmas.{passed_is_first, passed_none}
@@ -11,7 +11,7 @@ loop-i-preserved c =
       c.first_of_tag-found.ensures.found,
       one_more (λ k. PassesTag p (tag_at p k) found) c.loop-i.i
           (λ k lt j below d fault. c.first_of_tag-found.ensures.kept _ (c.loop-i.invariant.1 k lt j below d fault))
-          (subst (λ t. PassesTag p t found) c.tag_of.ensures.tag c.first_of_tag-found.ensures.passed),
+          c.first_of_tag-found.ensures.passed,
     )
 
 pub returns-clause-first : goal.returns-clause-first

@@ -9,7 +9,8 @@ use Rattle.flu_deps.proofs.ConflictLemmas.{named, found_is, first_found, none_fo
 use Rattle.flu_deps.proofs.DeclaredLemmas.{named_in}
 use Rattle.flu_deps.proofs.conflicts.conflict.Goals as goal
 
-is : (c : goal.After-among_actions) → c.among_actions.result ≡ best_among (conflicts_on c.args.p.now c.args.a c.args.b) None (named c.args.p.now c.args.a c.args.b)
+is : (c : goal.After-among_actions)
+    → c.among_actions.result ≡ best_among (conflicts_on c.args.p.now c.args.a c.args.b) None (named c.args.p.now c.args.a c.args.b)
 is c =
     found_is c.args.p.now c.args.a c.args.b c.among_actions.result c.among_actions-best.result c.actions_of.result.now c.actions_of-2.result.now
     c.actions_of.ensures c.actions_of-2.ensures c.among_actions-best.ensures c.among_actions.ensures

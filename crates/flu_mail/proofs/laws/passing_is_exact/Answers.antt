@@ -9,7 +9,8 @@ use Rattle.flu_mail.specs.Laws.{IsUncounted}
 use Rattle.flu_mail.proofs.PassingLemmas.{passing_clears, passes_when_clear, event_of_stream, not_after, before_or_after}
 use Rattle.flu_mail.proofs.laws.passing_is_exact.Goals as goal
 
-whole_clears : (i low count : ℕ) (items : List Item) (x y : Event) → is_stream_from i low items ≡ true → passes items count x ≡ true → IsUncounted items count y → is_before x y ≡ true
+whole_clears : (i low count : ℕ) (items : List Item) (x y : Event) → is_stream_from i low items ≡ true → passes items count x ≡ true
+    → IsUncounted items count y → is_before x y ≡ true
 whole_clears i low count items x y s h uncounted =
     passing_clears i low items (length items) count x uncounted.0 y s (ap (λ is. passes is count x) (take_all (length items) items (omega arith)) ∙ h) uncounted.1 uncounted.2
 

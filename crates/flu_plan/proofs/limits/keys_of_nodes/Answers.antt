@@ -9,13 +9,13 @@ pub returns-in-Err : goal.returns-in-Err
 returns-in-Err c =
     fails_through _ _ (each keys_of_node tt c.args.nodes.now)
     (λ e h. sym c.loop-node.invariant
-        ∙ each-fault keys_of_node tt e c.args.nodes.now c.loop-node.node-index c.node-item.result c.loop-node-test.true c.node-item.is h)
+    ∙ each-fault keys_of_node tt e c.args.nodes.now c.loop-node.node-index c.node-item.result c.loop-node-test.true c.node-item.is h)
     c.in-Err.ensures
 
 pub loop-node-preserved : goal.loop-node-preserved
 loop-node-preserved c =
     sym (each-next keys_of_node tt tt c.args.nodes.now c.loop-node.node-index c.node-item.result c.loop-node-test.true c.node-item.is c.in-Ok.ensures)
-        ∙ c.loop-node.invariant
+    ∙ c.loop-node.invariant
 
 pub returns : goal.returns
 returns c = sym c.loop-node.invariant ∙ each-end keys_of_node tt c.args.nodes.now c.loop-node.node-index (omega arith)

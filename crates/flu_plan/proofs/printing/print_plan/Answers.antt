@@ -29,4 +29,4 @@ returns-clause-read_again c =
 pub returns-clause-round_trip : goal.returns-clause-round_trip
 returns-clause-round_trip c = λ bytes was_read.
     again c.printed_is_read.ensures c.args.p.now c.args.plan.now c.of.result (c.of.ensures ∙ c.in_ok-text.ensures ∙ ap (printed c.args.p.now) c.items.ensures)
-        (c.plans_have_text.ensures c.args.p.now bytes c.args.plan.now.nodes was_read)
+    (c.plans_have_text.ensures c.args.p.now bytes c.args.plan.now.nodes was_read)

@@ -8,4 +8,4 @@ use Rattle.flu_plan.proofs.resolving.kind_named.Goals as goal
 pub returns-clause-value : goal.returns-clause-value
 returns-clause-value c =
     position_from_yields_List (λ (x : Kind). is_same_text c.args.name.now x.name) _ _ _ c.position.ensures.ran (YieldsList-from_slice c.args.kinds.now cc)
-        (λ x b q k. search (rules, tests))
+    (λ x b q k. search (rules, tests))

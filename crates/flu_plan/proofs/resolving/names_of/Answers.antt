@@ -10,7 +10,7 @@ returns-in-Err c =
     let names = map (λ k. k.now) c.loop-node.names.keys in
     fails_through _ _ (names_of text c.args.written.now)
     (λ e h. sym c.loop-node.invariant
-        ∙ each-fault (with_name text) names e c.args.written.now c.loop-node.node-index c.node-item.result c.loop-node-test.true c.node-item.is h)
+    ∙ each-fault (with_name text) names e c.args.written.now c.loop-node.node-index c.node-item.result c.loop-node-test.true c.node-item.is h)
     c.in-Err.ensures
 
 pub loop-node-preserved : goal.loop-node-preserved
@@ -18,7 +18,7 @@ loop-node-preserved c =
     let text = c.args.text.now in
     let names = map (λ k. k.now) c.loop-node.names.keys in
     sym (each-next (with_name text) names (map (λ k. k.now) c.declare.new.names.keys) c.args.written.now c.loop-node.node-index c.node-item.result
-        c.loop-node-test.true c.node-item.is c.in-Ok.ensures)
+    c.loop-node-test.true c.node-item.is c.in-Ok.ensures)
     ∙ c.loop-node.invariant
 
 pub returns : goal.returns

@@ -11,8 +11,8 @@ returns-in-Err c =
     let find = node_of c.args.p.now c.args.text.now names in
     fails_through _ _ (nodes_of c.args.p.now c.args.text.now names c.args.written.now)
     (λ e h. sym c.loop-node.invariant
-        ∙ each-fault (collect find) c.loop-node.found.items e c.args.written.now c.loop-node.node-index c.node-item.result c.loop-node-test.true
-            c.node-item.is (collect-fault find c.loop-node.found.items c.node-item.result e h))
+    ∙ each-fault (collect find) c.loop-node.found.items e c.args.written.now c.loop-node.node-index c.node-item.result c.loop-node-test.true
+    c.node-item.is (collect-fault find c.loop-node.found.items c.node-item.result e h))
     c.in-Err.ensures
 
 pub loop-node-preserved : goal.loop-node-preserved
@@ -22,11 +22,11 @@ loop-node-preserved c =
     let items : c.push.new.self.items ≡ done ++ c.in-Ok.node ∷ [] = grind (arith, common_steps) in
     rw items
     (sym (each-next (collect find) done (done ++ c.in-Ok.node ∷ []) c.args.written.now c.loop-node.node-index c.node-item.result c.loop-node-test.true
-        c.node-item.is (collects find done c.node-item.result c.in-Ok.node c.in-Ok.ensures))
+    c.node-item.is (collects find done c.node-item.result c.in-Ok.node c.in-Ok.ensures))
     ∙ c.loop-node.invariant)
 
 pub returns : goal.returns
 returns c =
     sym c.loop-node.invariant
     ∙ each-end (collect (node_of c.args.p.now c.args.text.now (map (λ k. k.now) c.args.names.now.keys))) c.loop-node.found.items c.args.written.now
-        c.loop-node.node-index (omega arith)
+    c.loop-node.node-index (omega arith)

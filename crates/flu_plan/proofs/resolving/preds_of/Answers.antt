@@ -11,8 +11,8 @@ returns-in-Err c =
     let find = pred_of c.args.p.now c.args.text.now in
     fails_through _ _ (found_of_each find c.args.written.now)
     (λ e h. sym c.loop-pred.invariant
-        ∙ each-fault-at (collect find) _ c.loop-pred.found.items e c.args.written.now c.loop-pred.pred-index c.loop-pred-test.true
-            (collect-fault find c.loop-pred.found.items _ e h))
+    ∙ each-fault-at (collect find) _ c.loop-pred.found.items e c.args.written.now c.loop-pred.pred-index c.loop-pred-test.true
+    (collect-fault find c.loop-pred.found.items _ e h))
     c.in-Err.ensures
 
 pub loop-pred-preserved : goal.loop-pred-preserved
@@ -22,7 +22,7 @@ loop-pred-preserved c =
     let items : c.push.new.self.items ≡ done ++ c.in-Ok.pred ∷ [] = grind (arith, common_steps) in
     rw items
     (sym (each-next-at (collect find) _ done (done ++ c.in-Ok.pred ∷ []) c.args.written.now c.loop-pred.pred-index c.loop-pred-test.true
-        (collects find done _ c.in-Ok.pred c.in-Ok.ensures))
+    (collects find done _ c.in-Ok.pred c.in-Ok.ensures))
     ∙ c.loop-pred.invariant)
 
 pub returns : goal.returns

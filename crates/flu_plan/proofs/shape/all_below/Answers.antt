@@ -17,8 +17,8 @@ returns-in-Err c =
     let met : c.is_child.result ≡ is_met order v = c.is_child.ensures ∙ c.in_ok-found.ensures.ok v in
     fails_through _ (unless c.is_child.result (f.NotATree c.name_of.result.now)) (all_below text order nodes)
     (λ e h. sym c.loop-v.invariant
-        ∙ each-fault (below text order) v e nodes v node c.loop-v-test.true c.index-nodes-v.is
-            (below-fault text c.name_of.result.now order v node e c.is_child.result met c.name_of.ensures h))
+    ∙ each-fault (below text order) v e nodes v node c.loop-v-test.true c.index-nodes-v.is
+    (below-fault text c.name_of.result.now order v node e c.is_child.result met c.name_of.ensures h))
     c.in-Err.ensures.found
 
 pub loop-v-preserved : goal.loop-v-preserved

@@ -10,7 +10,7 @@ returns-in-Err c =
     let nodes = c.args.nodes.now in
     fails_through _ _ (children_of text nodes)
     (λ e h. sym c.loop-node.invariant
-        ∙ each-fault (with_kids text nodes) c.loop-node.children.keys e nodes c.loop-node.node-index c.node-item.result c.loop-node-test.true c.node-item.is h)
+    ∙ each-fault (with_kids text nodes) c.loop-node.children.keys e nodes c.loop-node.node-index c.node-item.result c.loop-node-test.true c.node-item.is h)
     c.in-Err.ensures
 
 pub loop-node-preserved : goal.loop-node-preserved
@@ -18,7 +18,7 @@ loop-node-preserved c =
     let text = c.args.text.now in
     let nodes = c.args.nodes.now in
     sym (each-next (with_kids text nodes) c.loop-node.children.keys c.note_kids.new.children.keys nodes c.loop-node.node-index c.node-item.result
-        c.loop-node-test.true c.node-item.is c.in-Ok.ensures)
+    c.loop-node-test.true c.node-item.is c.in-Ok.ensures)
     ∙ c.loop-node.invariant
 
 pub returns : goal.returns

@@ -15,20 +15,20 @@ walk-preserved c =
     let nodes = c.args.nodes.now in
     let x = c.in-Some.visit in
     let top : Walked nodes c.walk.order.items (x ∷ reverse c.pop.new.self.items) = subst (λ w. Walked nodes c.walk.order.items w)
-        (reverse_last c.walk.stack.items c.pop.new.self.items x c.in-Some.ensures.items) c.walk.invariant in
+    (reverse_last c.walk.stack.items c.pop.new.self.items x c.in-Some.ensures.items) c.walk.invariant in
     let items : c.push-in-walk.new.self.items ≡ c.walk.order.items ++ x ∷ [] = grind (arith, common_steps) in
     let wanted : with_visits x.depth (kids_at nodes x.node) (reverse c.pop.new.self.items) ≡ reverse c.want.new.stack.items = sym (c.in_ok-want.ensures
-        ∙ ap (λ k. with_visits x.depth k (reverse c.pop.new.self.items)) c.kids_at.ensures) in
+    ∙ ap (λ k. with_visits x.depth k (reverse c.pop.new.self.items)) c.kids_at.ensures) in
     let room : length c.walk.order.items < length nodes = grind (arith, common_steps) in
     subst (λ o. Walked nodes o (reverse c.want.new.stack.items)) (sym items)
-        (subst (λ w. Walked nodes (c.walk.order.items ++ x ∷ []) w) wanted (walked-next nodes c.walk.order.items (reverse c.pop.new.self.items) x room top))
+    (subst (λ w. Walked nodes (c.walk.order.items ++ x ∷ []) w) wanted (walked-next nodes c.walk.order.items (reverse c.pop.new.self.items) x room top))
 
 pub want-requires : goal.want-requires
 want-requires c =
     let nodes = c.args.nodes.now in
     let x = c.in-Some.visit in
     let top : Walked nodes c.walk.order.items (x ∷ reverse c.pop.new.self.items) = subst (λ w. Walked nodes c.walk.order.items w)
-        (reverse_last c.walk.stack.items c.pop.new.self.items x c.in-Some.ensures.items) c.walk.invariant in
+    (reverse_last c.walk.stack.items c.pop.new.self.items x c.in-Some.ensures.items) c.walk.invariant in
     let deep : x.depth ≤ length c.walk.order.items = walked-depth nodes c.walk.order.items (reverse c.pop.new.self.items) x top in
     grind (arith, common_steps)
 

@@ -26,7 +26,8 @@ loop-head-preserved c =
     let i = get_or connected head 0 in
     let lt : head < length connected = grind (arith, common_steps) in
     let at_head : c.index-i.result.now ≡ i = get_or_read connected head c.index-i.result.now lt c.index-i.ensures 0 in
-    let more : c.append.new.self.items ≡ connected ++ filter (g i) rest = c.in_ok-append.ensures.items ∙ ap (λ xs. connected ++ xs) (rw (c.deref.ensures.value, at_head) at c.in_ok-next.ensures) in
+    let more : c.append.new.self.items ≡ connected ++ filter (g i) rest = c.in_ok-append.ensures.items
+    ∙ ap (λ xs. connected ++ xs) (rw (c.deref.ensures.value, at_head) at c.in_ok-next.ensures) in
     let less : c.in_ok-rest-2.rest.items ≡ filter (λ j. not (g i j)) rest = rw (c.deref-in-loop-head.ensures.value, at_head) at c.in_ok-rest-2.ensures in
     rw (more, less) (goes_on g itags head connected rest lt c.loop-head.invariant)
 

@@ -18,18 +18,25 @@ loop-component-preserved c =
     elim c.if-goes_left.branch [
       | then-goes_left+in_ok-extend_from_slice w ↦
           (let test : goes_left rates left right ≡ true = sym (rw (c.deref.ensures.value, c.deref-in-loop-component.ensures.value) at w.if-goes_left.ensures) in
-          let component : w.items.result.now ≡ get_or components i [] = w.items.ensures ∙ get_or_read components i c.component-item.result within c.component-item.is [] in
+          let component : w.items.result.now ≡ get_or components i [] = w.items.ensures
+          ∙ get_or_read components i c.component-item.result within c.component-item.is [] in
           rw (w.left-is, w.right-is, w.in_ok-extend_from_slice.ensures.items, component) (sym (step ∙ cond-true _ _ _ test) ∙ c.loop-component.invariant))
       | else-goes_left+in_ok-extend_from_slice-2 w ↦
-          (let test : goes_left rates left right ≡ false = sym (rw (c.deref.ensures.value, c.deref-in-loop-component.ensures.value) at w.if-goes_left.ensures) in
-          let component : w.items-else-goes_left.result.now ≡ get_or components i [] = w.items-else-goes_left.ensures ∙ get_or_read components i c.component-item.result within c.component-item.is [] in
+          (let test : goes_left rates left right ≡ false =
+          sym (rw (c.deref.ensures.value, c.deref-in-loop-component.ensures.value) at w.if-goes_left.ensures) in
+          let component : w.items-else-goes_left.result.now ≡ get_or components i [] = w.items-else-goes_left.ensures
+          ∙ get_or_read components i c.component-item.result within c.component-item.is [] in
           rw (w.left-is, w.right-is, w.in_ok-extend_from_slice-2.ensures.items, component) (sym (step ∙ cond-false _ _ _ test) ∙ c.loop-component.invariant))
     ]
 
 pub returns-clause-left : goal.returns-clause-left
 returns-clause-left c =
-    ap (λ groups. groups.0) (sym (at_drop_all (grouped c.args.rates.now c.loop-component.left.items c.loop-component.right.items) c.args.components.now c.loop-component.component-index (omega arith)) ∙ c.loop-component.invariant)
+    ap (λ groups. groups.0) (sym (at_drop_all
+    (grouped c.args.rates.now c.loop-component.left.items c.loop-component.right.items) c.args.components.now c.loop-component.component-index
+    (omega arith)) ∙ c.loop-component.invariant)
 
 pub returns-clause-right : goal.returns-clause-right
 returns-clause-right c =
-    ap (λ groups. groups.1) (sym (at_drop_all (grouped c.args.rates.now c.loop-component.left.items c.loop-component.right.items) c.args.components.now c.loop-component.component-index (omega arith)) ∙ c.loop-component.invariant)
+    ap (λ groups. groups.1) (sym (at_drop_all
+    (grouped c.args.rates.now c.loop-component.left.items c.loop-component.right.items) c.args.components.now c.loop-component.component-index
+    (omega arith)) ∙ c.loop-component.invariant)

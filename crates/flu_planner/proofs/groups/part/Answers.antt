@@ -25,7 +25,8 @@ components-requires c =
     let itags = c.args.itags.now in
     let count = c.in-Some.count in
     let order : c.deref-3.result.now ≡ removal_order rates itags = c.deref-3.ensures.value ∙ c.in_ok-order.ensures in
-    let others : c.in_ok-others.others.items ≡ rising (drop count c.deref-3.result.now) = c.in_ok-others.ensures ∙ ap rising (take_rest c.deref-3.result.now count) in
+    let others : c.in_ok-others.others.items ≡ rising (drop count c.deref-3.result.now) = c.in_ok-others.ensures
+    ∙ ap rising (take_rest c.deref-3.result.now count) in
     rw (c.deref-4.ensures.value, others, order) (rest_rising (removal_order rates itags) count (order_once rates itags c.requires))
 
 pub returns : goal.returns
@@ -38,9 +39,13 @@ returns c =
     let order : c.deref-3.result.now ≡ removal_order rates itags = c.deref-3.ensures.value ∙ c.in_ok-order.ensures in
     let cut : IsFirstApart g (removal_order rates itags) count = rw (c.in-Some.is, c.deref.ensures.value, c.in_ok-order.ensures) at c.in_ok-count.ensures in
     let own : c.in_ok-own.own.items ≡ removed rates itags count = rw (c.deref-2.ensures.value, c.in_ok-order.ensures) at c.in_ok-own.ensures in
-    let others : c.in_ok-others.others.items ≡ remaining rates itags count = c.in_ok-others.ensures ∙ ap rising (take_rest c.deref-3.result.now count) ∙ ap (λ xs. rising (drop count xs)) order in
+    let others : c.in_ok-others.others.items ≡ remaining rates itags count = c.in_ok-others.ensures ∙ ap rising (take_rest c.deref-3.result.now count)
+    ∙ ap (λ xs. rising (drop count xs)) order in
     let are : AreComponents g rates (remaining rates itags count) components = rw (c.deref-4.ensures.value, others) at c.in_ok-components.ensures.are in
-    let once : (k : ℕ) → total (times k) components ≡ times k (remaining rates itags count) = rw (c.deref-4.ensures.value, others) at c.in_ok-components.ensures.once in
-    let left : c.in_ok-left.left.items ≡ rising (grouped rates [] [] components).0 = rw (c.deref-6.ensures.value, c.in_ok-groups.ensures.left, c.deref-5.ensures.value) at c.in_ok-left.ensures in
-    let right : c.in_ok-right.right.items ≡ rising (grouped rates [] [] components).1 = rw (c.deref-7.ensures.value, c.in_ok-groups.ensures.right, c.deref-5.ensures.value) at c.in_ok-right.ensures in
+    let once : (k : ℕ) → total (times k) components ≡ times k (remaining rates itags count) =
+    rw (c.deref-4.ensures.value, others) at c.in_ok-components.ensures.once in
+    let left : c.in_ok-left.left.items ≡ rising (grouped rates [] [] components).0 =
+    rw (c.deref-6.ensures.value, c.in_ok-groups.ensures.left, c.deref-5.ensures.value) at c.in_ok-left.ensures in
+    let right : c.in_ok-right.right.items ≡ rising (grouped rates [] [] components).1 =
+    rw (c.deref-7.ensures.value, c.in_ok-groups.ensures.right, c.deref-5.ensures.value) at c.in_ok-right.ensures in
     rw (own, left, right) (parted g rates itags count components (rising_once itags c.requires) cut are once)

@@ -103,9 +103,12 @@ returns t c =
     let below : suc (c.args.depth - 1) ≡ c.args.depth = omega arith in
     let one : IsSubtree p g rates (c.args.depth - 1) (number + 1) left lefts = rw c.deref.ensures.value at c.in_ok-lefts.ensures in
     let size : c.len.result ≡ length lefts = grind (arith, common_steps) in
-    let other : IsSubtree p g rates (c.args.depth - 1) (number + 1 + length lefts) right rights = rw (c.deref-2.ensures.value, size) at c.in_ok-rights.ensures in
-    let node : c.in_ok-node_of.field-0 ≡ node_of p number own (Some (number + 1, number + 1 + length lefts)) = rw (c.deref-3.ensures.value, size) at c.in_ok-node_of.ensures in
-    let first : c.push.new.self.items ≡ c.in_ok-node_of.field-0 ∷ [] = c.in_ok-push.ensures.items ∙ ap (λ xs. xs ++ c.in_ok-node_of.field-0 ∷ []) c.new-nodes.ensures.items in
+    let other : IsSubtree p g rates (c.args.depth - 1) (number + 1 + length lefts) right rights =
+    rw (c.deref-2.ensures.value, size) at c.in_ok-rights.ensures in
+    let node : c.in_ok-node_of.field-0 ≡ node_of p number own (Some (number + 1, number + 1 + length lefts)) =
+    rw (c.deref-3.ensures.value, size) at c.in_ok-node_of.ensures in
+    let first : c.push.new.self.items ≡ c.in_ok-node_of.field-0 ∷ [] = c.in_ok-push.ensures.items
+    ∙ ap (λ xs. xs ++ c.in_ok-node_of.field-0 ∷ []) c.new-nodes.ensures.items in
     let nodes : c.append-2.new.self.items ≡ node_of p number own (Some (number + 1, number + 1 + length lefts)) ∷ (lefts ++ rights) =
     c.in_ok-append-2.ensures.items ∙ ap (λ xs. xs ++ rights) (c.in_ok-append.ensures.items ∙ ap (λ xs. xs ++ lefts) first)
     ∙ ap (λ node. node ∷ (lefts ++ rights)) node in

@@ -24,7 +24,8 @@ returns c =
     IfOk-weaker c.subtree.result _ _
     (λ nodes tree. record {
       tree = tree.tree;
-      greedy = greedy_agrees (graph_of (table_of p)) (dependencies p) rates depth (all_itags p) tree.tree (agrees_with_table c.dependency_turns.ensures p) tree.greedy;
+      greedy = greedy_agrees (graph_of (table_of p)) (dependencies p) rates depth (all_itags p) tree.tree
+          (agrees_with_table c.dependency_turns.ensures p) tree.greedy;
       nodes_of_tree = tree.nodes_of_tree;
     })
     found

@@ -7,7 +7,12 @@ pub returns-in-Some-clause-place : goal.returns-in-Some-clause-place
 returns-in-Some-clause-place c = place_at_some (nat_lt c.args.i) c.args.others.now c.in-Some.place (sym c.first_greater.ensures ∙ c.in-Some.is)
 
 pub returns-in-Some-clause-within : goal.returns-in-Some-clause-within
-returns-in-Some-clause-within c = omega (arith, place_within (nat_lt c.args.i) c.args.others.now, place_at_some (nat_lt c.args.i) c.args.others.now c.in-Some.place (sym c.first_greater.ensures ∙ c.in-Some.is))
+returns-in-Some-clause-within c = omega (
+  arith,
+  place_within (nat_lt c.args.i) c.args.others.now,
+  place_at_some
+      (nat_lt c.args.i) c.args.others.now c.in-Some.place (sym c.first_greater.ensures ∙ c.in-Some.is),
+)
 
 pub returns-in-None-clause-place : goal.returns-in-None-clause-place
 returns-in-None-clause-place c = place_at_none (nat_lt c.args.i) c.args.others.now (sym c.first_greater.ensures ∙ c.in-None.is)

@@ -12,9 +12,11 @@ loop-at-preserved c =
     let order = c.loop-at.order.items in
     let next : at + 1 ≡ c.loop-at.at = omega arith in
     let within : at < length c.args.itags.now = omega arith in
-    let so_far : order ≡ in_order (is_removed_first c.args.rates.now) (drop (at + 1) c.args.itags.now) = c.loop-at.invariant.order ∙ ap (λ k. in_order (is_removed_first c.args.rates.now) (drop k c.args.itags.now)) (sym next) in
+    let so_far : order ≡ in_order (is_removed_first c.args.rates.now) (drop (at + 1) c.args.itags.now) = c.loop-at.invariant.order
+    ∙ ap (λ k. in_order (is_removed_first c.args.rates.now) (drop k c.args.itags.now)) (sym next) in
     let place = rw c.deref.ensures.value at c.place_of-place.ensures.place in
     record {
       within = omega arith;
-      order = c.in_ok-insert.ensures.items ∙ ap (λ k. insert order k i) place ∙ in_order_more (is_removed_first c.args.rates.now) c.args.itags.now at 0 order within so_far;
+      order = c.in_ok-insert.ensures.items ∙ ap (λ k. insert order k i) place
+          ∙ in_order_more (is_removed_first c.args.rates.now) c.args.itags.now at 0 order within so_far;
     }

@@ -12,7 +12,8 @@ loop-at-preserved c =
     let order = c.loop-at.order.items in
     let next : at + 1 ≡ c.loop-at.at = omega arith in
     let within : at < length c.args.itags.now = omega arith in
-    let so_far : order ≡ in_order nat_lt (drop (at + 1) c.args.itags.now) = c.loop-at.invariant.order ∙ ap (λ k. in_order nat_lt (drop k c.args.itags.now)) (sym next) in
+    let so_far : order ≡ in_order nat_lt (drop (at + 1) c.args.itags.now) = c.loop-at.invariant.order
+    ∙ ap (λ k. in_order nat_lt (drop k c.args.itags.now)) (sym next) in
     let place = rw c.deref.ensures.value at c.place_by_number-place.ensures.place in
     record {
       within = omega arith;

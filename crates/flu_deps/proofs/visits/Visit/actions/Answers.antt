@@ -1,4 +1,4 @@
-use Rattle.std.proofs.Common.{◌≤◌, take, length, refl, ap, sym, ◌∙◌, arith}
+use Rattle.std.proofs.Common.{◌≤◌, length, refl, ap, sym, ◌∙◌, arith}
 use Rattle.std.specs.List.{list_all}
 use Rattle.std.proofs.lemmas.List.{take_all}
 use Rattle.flu_deps.specs.LoopVisits.{action_all}

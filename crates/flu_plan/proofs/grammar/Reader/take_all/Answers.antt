@@ -14,7 +14,7 @@ returns-in-Err c =
 pub loop-token-preserved : goal.loop-token-preserved
 loop-token-preserved c =
     sym (each-next-at step _ (turn_of c.loop-token.self) (turn_of c.take.new.self) c.args.tokens.now c.loop-token.token-index c.loop-token-test.true
-        c.in-Ok.ensures)
+    c.in-Ok.ensures)
     ∙ c.loop-token.invariant
 
 pub returns : goal.returns
