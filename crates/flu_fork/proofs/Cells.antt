@@ -21,7 +21,7 @@ use Rattle.flu_fork.specs.Settings.{Setting, IsSetting}
 use Rattle.flu_fork.specs.Classes.{Itags, itag, below, beside, mode_by, some_has, is_needed, is_moved, is_copied, is_base_at_child, is_base_on, is_base, is_away}
 use Rattle.flu_laws.specs.Versions.{NothingIsShared}
 use Rattle.flu_fork.specs.LawsBelow.{LawsBelow}
-use Rattle.flu_fork.specs.Laws.{NothingIsCopied, NeededIsBase, BaseIsNotAway, CopiedIsUnwritten}
+use Rattle.flu_fork.specs.Laws.{NothingIsCopied, NeededIsBase, BaseIsNotAway, CopiesAreOnlyRead}
 use Rattle.flu_fork.proofs.Sides.{left_and_right, right_and_left, kid_below, turned, beside_cases, beside_kid, beside_sibling, independent, across}
 use Rattle.flu_lemmas.proofs.Ranges.{any_in_range, found_in_range}
 
@@ -46,7 +46,8 @@ some_found p test set c e =
     let high = found.high in
     record { number = found.number; in_range = omega arith; in_set = and_left _ _ found.passes; has = and_right (set found.number) _ found.passes }
 
-pub some_there : (p : Program) (test : Mode → Bool) (set : Itags) (c : Cell) (i : ℕ) → i < count_of_itags p → set i ≡ true → test (mode_by p i c) ≡ true → some_has p test set c ≡ true
+pub some_there : (p : Program) (test : Mode → Bool) (set : Itags) (c : Cell) (i : ℕ) → i < count_of_itags p → set i ≡ true → test (mode_by p i c) ≡ true
+    → some_has p test set c ≡ true
 some_there p test set c i lt here has = any_in_range (λ j. set j && test (mode_by p j c)) 0 (count_of_itags p) i (omega arith) (omega arith) (both _ _ here has)
 
 -- in version 1 what is needed is written
@@ -91,20 +92,27 @@ module _ (laws : LawsBelow) (k : Setting) (ok : IsSetting k) where
   in_universe i lt = (source_of_itag k.program (itag i), Contains-get_or (itags k.program) i (tag 0 0, 0) lt)
 
   -- what needs a cell depends on what writes it
-  pub uses_depend : (i j : ℕ) (c : Cell) → i < count_of_itags k.program → j < count_of_itags k.program → needs (mode_by k.program i c) ≡ true → writes (mode_by k.program j c) ≡ true
+  pub uses_depend : (i j : ℕ) (c : Cell) → i < count_of_itags k.program → j < count_of_itags k.program → needs (mode_by k.program i c) ≡ true
+      → writes (mode_by k.program j c) ≡ true
       → is_dependent k.program (tag_of_itag k.program (itag i)) (tag_of_itag k.program (itag j)) ≡ true
-  uses_depend i j c hi hj need write = lawful.accepted (tag_of_itag k.program (itag i)) (tag_of_itag k.program (itag j)) c (in_universe i hi) (in_universe j hj) need write
+  uses_depend i j c hi hj need write =
+      lawful.accepted (tag_of_itag k.program (itag i)) (tag_of_itag k.program (itag j)) c (in_universe i hi) (in_universe j hj) need write
 
   -- what needs a cell below a node keeps what is beside the node from writing it, and the other way round
-  pub unwritten_beside : (w i j : ℕ) (c : Cell) → i < count_of_itags k.program → j < count_of_itags k.program → below k.program k.nodes w i ≡ true → beside k.program k.nodes w j ≡ true → needs (mode_by k.program i c) ≡ true → writes (mode_by k.program j c) ≡ false
-  unwritten_beside w i j c hi hj inside out need = false_if_not _ (λ write. not_both _ (uses_depend i j c hi hj need write) (independent laws k ok w i j hi hj inside out))
+  pub unwritten_beside : (w i j : ℕ) (c : Cell) → i < count_of_itags k.program → j < count_of_itags k.program → below k.program k.nodes w i ≡ true
+      → beside k.program k.nodes w j ≡ true → needs (mode_by k.program i c) ≡ true → writes (mode_by k.program j c) ≡ false
+  unwritten_beside w i j c hi hj inside out need =
+      false_if_not _ (λ write. not_both _ (uses_depend i j c hi hj need write) (independent laws k ok w i j hi hj inside out))
 
-  pub unwritten_below : (w i j : ℕ) (c : Cell) → i < count_of_itags k.program → j < count_of_itags k.program → below k.program k.nodes w i ≡ true → beside k.program k.nodes w j ≡ true → needs (mode_by k.program j c) ≡ true → writes (mode_by k.program i c) ≡ false
+  pub unwritten_below : (w i j : ℕ) (c : Cell) → i < count_of_itags k.program → j < count_of_itags k.program → below k.program k.nodes w i ≡ true
+      → beside k.program k.nodes w j ≡ true → needs (mode_by k.program j c) ≡ true → writes (mode_by k.program i c) ≡ false
   unwritten_below w i j c hi hj inside out need =
-      false_if_not _ (λ write. not_both _ (lawful.dependent_turns (tag_of_itag k.program (itag i)) (tag_of_itag k.program (itag j)) ∙ uses_depend j i c hj hi need write) (independent laws k ok w i j hi hj inside out))
+      false_if_not _ (λ write. not_both _ (lawful.dependent_turns (tag_of_itag k.program (itag i)) (tag_of_itag k.program (itag j))
+      ∙ uses_depend j i c hj hi need write) (independent laws k ok w i j hi hj inside out))
 
   -- an itag below a node does not write what is away there
-  pub away_unwritten : (w i : ℕ) (c : Cell) → i < count_of_itags k.program → below k.program k.nodes w i ≡ true → is_away k.program k.nodes w c ≡ true → writes (mode_by k.program i c) ≡ false
+  pub away_unwritten : (w i : ℕ) (c : Cell) → i < count_of_itags k.program → below k.program k.nodes w i ≡ true → is_away k.program k.nodes w c ≡ true
+      → writes (mode_by k.program i c) ≡ false
   away_unwritten w i c hi inside away =
       let one = some_found k.program needs (beside k.program k.nodes w) c (and_right _ _ away) in
       unwritten_below w i one.number c hi one.in_range inside one.in_set one.has
@@ -127,7 +135,8 @@ module _ (laws : LawsBelow) (k : Setting) (ok : IsSetting k) where
   pub root_base : (c : Cell) → is_base k.program k.nodes 0 c ≡ true
   root_base c = ap (λ us. is_base_on k.program k.nodes us c) paths.root
 
-  base_under : (w x : ℕ) (c : Cell) → IsUnder k.nodes w x → is_base k.program k.nodes x c ≡ (is_base k.program k.nodes w c && is_base_at_child k.program k.nodes x (kids_at k.nodes w) c)
+  base_under : (w x : ℕ) (c : Cell) → IsUnder k.nodes w x
+      → is_base k.program k.nodes x c ≡ (is_base k.program k.nodes w c && is_base_at_child k.program k.nodes x (kids_at k.nodes w) c)
   base_under w x c under =
       let there : w < length k.nodes = (let a = under.there in let b = under.earlier in omega arith) in
       let first = path_first w there in
@@ -140,17 +149,21 @@ module _ (laws : LawsBelow) (k : Setting) (ok : IsSetting k) where
       let s = left_and_right laws k ok w left right e in
       base_under w left c s.first
       ∙ ap (λ o. is_base k.program k.nodes w c && is_base_at_child k.program k.nodes left o c) e
-      ∙ ap (λ b. is_base k.program k.nodes w c && cond b (not (is_moved k.program (below k.program k.nodes right) c)) (is_needed k.program (below k.program k.nodes right) c)) (eq_true left left refl)
+      ∙ ap (λ b. is_base k.program k.nodes w c && cond b (not (is_moved k.program (below k.program k.nodes right) c))
+      (is_needed k.program (below k.program k.nodes right) c)) (eq_true left left refl)
 
-  pub right_base : (w left right : ℕ) (c : Cell) → kids_at k.nodes w ≡ Some (left, right) → is_base k.program k.nodes right c ≡ (is_base k.program k.nodes w c && is_needed k.program (below k.program k.nodes right) c)
+  pub right_base : (w left right : ℕ) (c : Cell) → kids_at k.nodes w ≡ Some (left, right)
+      → is_base k.program k.nodes right c ≡ (is_base k.program k.nodes w c && is_needed k.program (below k.program k.nodes right) c)
   right_base w left right c e =
       let s = left_and_right laws k ok w left right e in
       base_under w right c s.second
       ∙ ap (λ o. is_base k.program k.nodes w c && is_base_at_child k.program k.nodes right o c) e
-      ∙ ap (λ b. is_base k.program k.nodes w c && cond b (not (is_moved k.program (below k.program k.nodes right) c)) (is_needed k.program (below k.program k.nodes right) c)) (ne_eqb left right s.differ)
+      ∙ ap (λ b. is_base k.program k.nodes w c && cond b (not (is_moved k.program (below k.program k.nodes right) c))
+      (is_needed k.program (below k.program k.nodes right) c)) (ne_eqb left right s.differ)
 
   -- ---- what is needed below a node is base there
-  needed_at : (fuel w i : ℕ) (c : Cell) → w < fuel → w < length k.nodes → i < count_of_itags k.program → below k.program k.nodes w i ≡ true → needs (mode_by k.program i c) ≡ true → is_base k.program k.nodes w c ≡ true
+  needed_at : (fuel w i : ℕ) (c : Cell) → w < fuel → w < length k.nodes → i < count_of_itags k.program → below k.program k.nodes w i ≡ true
+      → needs (mode_by k.program i c) ≡ true → is_base k.program k.nodes w c ≡ true
   needed_at zero w i c f lt hi inside need = absurd (omega arith)
   needed_at (suc fuel) w i c f lt hi inside need =
       elim (cases_eq w 0) [
@@ -166,32 +179,41 @@ module _ (laws : LawsBelow) (k : Setting) (ok : IsSetting k) where
               | inl is ↦
                   let inside_left : below k.program k.nodes left i ≡ true = sym (ap (λ n. below k.program k.nodes n i) is) ∙ inside in
                   let s = left_and_right laws k ok u left right kids in
-                  let there : is_base k.program k.nodes u c ≡ true = needed_at fuel u i c (omega arith) (omega arith) hi (kid_below laws k ok u left right i s inside_left) need in
+                  let there : is_base k.program k.nodes u c ≡ true =
+                  needed_at fuel u i c (omega arith) (omega arith) hi (kid_below laws k ok u left right i s inside_left) need in
                   let stays : is_moved k.program (below k.program k.nodes right) c ≡ false = false_if_not _ (λ h. (
-                  let one = some_found k.program writes (below k.program k.nodes right) c (and_right (is_needed k.program (below k.program k.nodes right) c) _ h) in
-                  not_both _ (uses_depend i one.number c hi one.in_range need one.has) (across laws k ok u left right i one.number s hi one.in_range inside_left one.in_set))) in
+                  let one =
+                  some_found k.program writes (below k.program k.nodes right) c (and_right (is_needed k.program (below k.program k.nodes right) c) _ h) in
+                  not_both _ (uses_depend i one.number c hi one.in_range need one.has)
+                  (across laws k ok u left right i one.number s hi one.in_range inside_left one.in_set))) in
                   ap (λ n. is_base k.program k.nodes n c) is ∙ left_base u left right c kids ∙ both _ _ there (not_from_false _ stays)
               | inr is ↦
                   let inside_right : below k.program k.nodes right i ≡ true = sym (ap (λ n. below k.program k.nodes n i) is) ∙ inside in
                   let s = right_and_left laws k ok u left right kids in
-                  let there : is_base k.program k.nodes u c ≡ true = needed_at fuel u i c (omega arith) (omega arith) hi (kid_below laws k ok u right left i s inside_right) need in
-                  ap (λ n. is_base k.program k.nodes n c) is ∙ right_base u left right c kids ∙ both _ _ there (some_there k.program needs (below k.program k.nodes right) c i hi inside_right need)
+                  let there : is_base k.program k.nodes u c ≡ true =
+                  needed_at fuel u i c (omega arith) (omega arith) hi (kid_below laws k ok u right left i s inside_right) need in
+                  ap (λ n. is_base k.program k.nodes n c) is ∙ right_base u left right c kids ∙ both _ _ there
+                  (some_there k.program needs (below k.program k.nodes right) c i hi inside_right need)
             ]
       ]
 
-  pub needed_is_base : (w i : ℕ) (c : Cell) → w < length k.nodes → i < count_of_itags k.program → below k.program k.nodes w i ≡ true → needs (mode_by k.program i c) ≡ true → is_base k.program k.nodes w c ≡ true
+  pub needed_is_base : (w i : ℕ) (c : Cell) → w < length k.nodes → i < count_of_itags k.program → below k.program k.nodes w i ≡ true
+      → needs (mode_by k.program i c) ≡ true → is_base k.program k.nodes w c ≡ true
   needed_is_base w i c lt hi inside need = needed_at (suc w) w i c (omega arith) lt hi inside need
 
-  pub all_needed_is_base : (w : ℕ) (c : Cell) → w < length k.nodes → is_needed k.program (below k.program k.nodes w) c ≡ true → is_base k.program k.nodes w c ≡ true
+  pub all_needed_is_base : (w : ℕ) (c : Cell) → w < length k.nodes → is_needed k.program (below k.program k.nodes w) c ≡ true
+      → is_base k.program k.nodes w c ≡ true
   all_needed_is_base w c lt need =
       let one = some_found k.program needs (below k.program k.nodes w) c need in
       needed_is_base w one.number c lt one.in_range one.in_set one.has
 
   -- and at its parent
-  pub needed_is_base_up : (w x y : ℕ) (c : Cell) → Siblings k.nodes w x y → is_needed k.program (below k.program k.nodes x) c ≡ true → is_base k.program k.nodes w c ≡ true
+  pub needed_is_base_up : (w x y : ℕ) (c : Cell) → Siblings k.nodes w x y → is_needed k.program (below k.program k.nodes x) c ≡ true
+      → is_base k.program k.nodes w c ≡ true
   needed_is_base_up w x y c s need =
       let one = some_found k.program needs (below k.program k.nodes x) c need in
-      needed_is_base w one.number c (let a = s.first.there in let b = s.first.earlier in omega arith) one.in_range (kid_below laws k ok w x y one.number s one.in_set) one.has
+      needed_is_base w one.number c (let a = s.first.there in let b = s.first.earlier in omega arith) one.in_range
+      (kid_below laws k ok w x y one.number s one.in_set) one.has
 
   -- ---- away cells
   -- a cell that is base at a child is base at its parent
@@ -206,7 +228,8 @@ module _ (laws : LawsBelow) (k : Setting) (ok : IsSetting k) where
       → is_needed k.program (beside k.program k.nodes x) c ≡ true
   beside_down w x y c s need =
       let one = some_found k.program needs (beside k.program k.nodes w) c need in
-      some_there k.program needs (beside k.program k.nodes x) c one.number one.in_range (beside_kid laws k ok w x y one.number one.in_range s one.in_set) one.has
+      some_there k.program needs (beside k.program k.nodes x) c one.number one.in_range
+      (beside_kid laws k ok w x y one.number one.in_range s one.in_set) one.has
 
   pub beside_across : (w x y : ℕ) (c : Cell) → Siblings k.nodes w x y → is_needed k.program (below k.program k.nodes y) c ≡ true
       → is_needed k.program (beside k.program k.nodes x) c ≡ true
@@ -239,7 +262,8 @@ module _ (laws : LawsBelow) (k : Setting) (ok : IsSetting k) where
       ]
 
   -- what is not base at a child, and needed below its sibling, is away at the child
-  pub needed_away : (w x y : ℕ) (c : Cell) → Siblings k.nodes w x y → is_base k.program k.nodes x c ≡ false → is_needed k.program (below k.program k.nodes y) c ≡ true
+  pub needed_away : (w x y : ℕ) (c : Cell) → Siblings k.nodes w x y → is_base k.program k.nodes x c ≡ false
+      → is_needed k.program (below k.program k.nodes y) c ≡ true
       → is_away k.program k.nodes x c ≡ true
   needed_away w x y c s not_base need = both _ _ (not_from_false _ not_base) (beside_across w x y c s need)
 
@@ -247,14 +271,16 @@ module _ (laws : LawsBelow) (k : Setting) (ok : IsSetting k) where
   pub copied_unwritten_right : (right i : ℕ) (c : Cell) → i < count_of_itags k.program → is_copied k.program (below k.program k.nodes right) c ≡ true
       → below k.program k.nodes right i ≡ true → writes (mode_by k.program i c) ≡ false
   copied_unwritten_right right i c hi copied inside =
-      none_has k.program writes (below k.program k.nodes right) c i hi inside (not_true _ (and_right (is_needed k.program (below k.program k.nodes right) c) _ copied))
+      none_has k.program writes (below k.program k.nodes right) c i hi inside
+      (not_true _ (and_right (is_needed k.program (below k.program k.nodes right) c) _ copied))
 
   pub copied_unwritten_left : (w left right i : ℕ) (c : Cell) → Siblings k.nodes w left right → i < count_of_itags k.program
       → is_copied k.program (below k.program k.nodes right) c ≡ true → below k.program k.nodes left i ≡ true → writes (mode_by k.program i c) ≡ false
   copied_unwritten_left w left right i c s hi copied inside =
       false_if_not _ (λ write. (
       let one = some_found k.program needs (below k.program k.nodes right) c (and_left _ _ copied) in
-      not_both _ (lawful.dependent_turns (tag_of_itag k.program (itag i)) (tag_of_itag k.program (itag one.number)) ∙ uses_depend one.number i c one.in_range hi one.has write)
+      not_both _ (lawful.dependent_turns (tag_of_itag k.program (itag i)) (tag_of_itag k.program (itag one.number))
+      ∙ uses_depend one.number i c one.in_range hi one.has write)
       (across laws k ok w left right i one.number s hi one.in_range inside one.in_set)))
 
 pub needed_law : LawsBelow → NeededIsBase
@@ -263,8 +289,8 @@ needed_law laws k w i c ok lt hi inside need = needed_is_base laws k ok w i c lt
 pub not_away_law : BaseIsNotAway
 not_away_law k w c ok lt base = and_false_left _ _ (ap not base)
 
-pub unwritten_law : LawsBelow → CopiedIsUnwritten
-unwritten_law laws k w left right i c ok kids hi copied inside =
+pub only_read_law : LawsBelow → CopiesAreOnlyRead
+only_read_law laws k w left right i c ok kids hi copied inside =
     elim (or_cases (below k.program k.nodes left i) (below k.program k.nodes right i) inside) [
       | inl there ↦ copied_unwritten_left laws k ok w left right i c (left_and_right laws k ok w left right kids) hi copied there
       | inr there ↦ copied_unwritten_right laws k ok right i c hi copied there

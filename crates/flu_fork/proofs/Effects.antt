@@ -18,14 +18,17 @@ use Rattle.flu_laws.specs.Updating.{UnwrittenKeeps}
 use Rattle.flu_fork.specs.LawsBelow.{LawsBelow}
 
 -- ---- tests that choose alike
-idle_step : UnwrittenKeeps → (p : Program) (c : Cell) (f : Moment → Bool) (m : Moment) (ms : List Moment) (w : Option Worth) → writes (mode_at p m.event c) ≡ false → changed_by p c w (filter f (m ∷ ms)) ≡ changed_by p c w (filter f ms)
+idle_step : UnwrittenKeeps → (p : Program) (c : Cell) (f : Moment → Bool) (m : Moment) (ms : List Moment) (w : Option Worth)
+    → writes (mode_at p m.event c) ≡ false → changed_by p c w (filter f (m ∷ ms)) ≡ changed_by p c w (filter f ms)
 idle_step idle p c f m ms w quiet =
     elim (f m) as (λ b. changed_by p c w (cond b (m ∷ filter f ms) (filter f ms)) ≡ changed_by p c w (filter f ms)) [
       | true ↦ ap (λ h. changed_by p c (applied h w) (filter f ms)) (idle p m.before m.event c quiet)
       | false ↦ refl
     ]
 
-same_step : (p : Program) (c : Cell) (f g : Moment → Bool) (m : Moment) (ms : List Moment) (w : Option Worth) → f m ≡ g m → ((u : Option Worth) → changed_by p c u (filter f ms) ≡ changed_by p c u (filter g ms)) → changed_by p c w (filter f (m ∷ ms)) ≡ changed_by p c w (filter g (m ∷ ms))
+same_step : (p : Program) (c : Cell) (f g : Moment → Bool) (m : Moment) (ms : List Moment) (w : Option Worth) → f m ≡ g m
+    → ((u : Option Worth) → changed_by p c u (filter f ms) ≡ changed_by p c u (filter g ms))
+    → changed_by p c w (filter f (m ∷ ms)) ≡ changed_by p c w (filter g (m ∷ ms))
 same_step p c f g m ms w e again =
     ap (λ b. changed_by p c w (cond b (m ∷ filter f ms) (filter f ms))) e
     ∙ (elim (g m) as (λ b. changed_by p c w (cond b (m ∷ filter f ms) (filter f ms)) ≡ changed_by p c w (cond b (m ∷ filter g ms) (filter g ms))) [
@@ -34,7 +37,8 @@ same_step p c f g m ms w e again =
     ])
 
 -- two tests that differ only where nothing happens to the cell
-pub same_effects : UnwrittenKeeps → (p : Program) (c : Cell) (f g : Moment → Bool) (ms : List Moment) (w : Option Worth) → AllByRecursion (λ (m : Moment). writes (mode_at p m.event c) ≡ true → f m ≡ g m) ms → changed_by p c w (filter f ms) ≡ changed_by p c w (filter g ms)
+pub same_effects : UnwrittenKeeps → (p : Program) (c : Cell) (f g : Moment → Bool) (ms : List Moment) (w : Option Worth)
+    → AllByRecursion (λ (m : Moment). writes (mode_at p m.event c) ≡ true → f m ≡ g m) ms → changed_by p c w (filter f ms) ≡ changed_by p c w (filter g ms)
 same_effects idle p c f g [] w all = refl
 same_effects idle p c f g (m ∷ ms) w all =
     elim (cases_Bool (writes (mode_at p m.event c))) [
@@ -43,7 +47,8 @@ same_effects idle p c f g (m ∷ ms) w all =
     ]
 
 -- a test that chooses nothing
-pub none_chosen : (p : Program) (c : Cell) (f : Moment → Bool) (ms : List Moment) (w : Option Worth) → ((m : Moment) → f m ≡ false) → changed_by p c w (filter f ms) ≡ w
+pub none_chosen : (p : Program) (c : Cell) (f : Moment → Bool) (ms : List Moment) (w : Option Worth) → ((m : Moment) → f m ≡ false)
+    → changed_by p c w (filter f ms) ≡ w
 none_chosen p c f [] w none = refl
 none_chosen p c f (m ∷ ms) w none = ap (λ b. changed_by p c w (cond b (m ∷ filter f ms) (filter f ms))) (none m) ∙ none_chosen p c f ms w none
 
@@ -78,14 +83,17 @@ module _ (laws : LawsBelow) (p : Program) (law : IsLawful p) (c : Cell) where
   amount_holds : (m : Moment) → IsStateOf p.families m.before → Holds (amount m)
   amount_holds m sorted = change_holds m None sorted tt
 
-  grouped : (m : Moment) (u v w : Option Worth) → needs (mode_at p m.event c) ≡ false → writes (mode_at p m.event c) ≡ true → Holds u → Holds v → Holds w → joined_worth (joined_worth u v) w ≡ joined_worth u (joined_worth v w)
+  grouped : (m : Moment) (u v w : Option Worth) → needs (mode_at p m.event c) ≡ false → writes (mode_at p m.event c) ≡ true → Holds u → Holds v → Holds w
+      → joined_worth (joined_worth u v) w ≡ joined_worth u (joined_worth v w)
   grouped m u v w quiet write hu hv hw = law.mix_groups (tag_of_itag p m.event.itag) c u v w (is_mixing m write quiet) hu hv hw
 
-  turned : (m : Moment) (u v : Option Worth) → needs (mode_at p m.event c) ≡ false → writes (mode_at p m.event c) ≡ true → Holds u → Holds v → joined_worth u v ≡ joined_worth v u
+  turned : (m : Moment) (u v : Option Worth) → needs (mode_at p m.event c) ≡ false → writes (mode_at p m.event c) ≡ true → Holds u → Holds v
+      → joined_worth u v ≡ joined_worth v u
   turned m u v quiet write hu hv = law.mix_turns (tag_of_itag p m.event.itag) c u v (is_mixing m write quiet) hu hv
 
   -- such a change in the right part of a join, and in the left one
-  in_right : (m : Moment) (u v : Option Worth) → IsStateOf p.families m.before → needs (mode_at p m.event c) ≡ false → Holds u → Holds v → applied (change_at p c m) (joined_worth u v) ≡ joined_worth u (applied (change_at p c m) v)
+  in_right : (m : Moment) (u v : Option Worth) → IsStateOf p.families m.before → needs (mode_at p m.event c) ≡ false → Holds u → Holds v
+      → applied (change_at p c m) (joined_worth u v) ≡ joined_worth u (applied (change_at p c m) v)
   in_right m u v sorted quiet hu hv =
       elim (cases_Bool (writes (mode_at p m.event c))) [
         | inr idle ↦ ap (λ h. applied h (joined_worth u v)) (no_change m idle) ∙ sym (ap (λ h. joined_worth u (applied h v)) (no_change m idle))
@@ -95,7 +103,8 @@ module _ (laws : LawsBelow) (p : Program) (law : IsLawful p) (c : Cell) where
             ∙ sym (ap (joined_worth u) (mixed_in m v quiet hv))
       ]
 
-  in_left : (m : Moment) (u v : Option Worth) → IsStateOf p.families m.before → needs (mode_at p m.event c) ≡ false → Holds u → Holds v → applied (change_at p c m) (joined_worth u v) ≡ joined_worth (applied (change_at p c m) u) v
+  in_left : (m : Moment) (u v : Option Worth) → IsStateOf p.families m.before → needs (mode_at p m.event c) ≡ false → Holds u → Holds v
+      → applied (change_at p c m) (joined_worth u v) ≡ joined_worth (applied (change_at p c m) u) v
   in_left m u v sorted quiet hu hv =
       elim (cases_Bool (writes (mode_at p m.event c))) [
         | inr idle ↦ ap (λ h. applied h (joined_worth u v)) (no_change m idle) ∙ sym (ap (λ h. joined_worth (applied h u) v) (no_change m idle))
@@ -125,15 +134,18 @@ module _ (laws : LawsBelow) (p : Program) (law : IsLawful p) (c : Cell) where
 
     -- the three choices with a moment more
     with_choices : (m : Moment) (ms : List Moment) (u v w : Option Worth) (a b d : Bool) → old m ≡ a → extra m ≡ b → all m ≡ d
-        → joined_worth (changed_by p c u (cond a (m ∷ filter old ms) (filter old ms))) (changed_by p c v (cond b (m ∷ filter extra ms) (filter extra ms))) ≡ changed_by p c w (cond d (m ∷ filter all ms) (filter all ms))
+        → joined_worth (changed_by p c u (cond a (m ∷ filter old ms) (filter old ms)))
+        (changed_by p c v (cond b (m ∷ filter extra ms) (filter extra ms))) ≡ changed_by p c w (cond d (m ∷ filter all ms) (filter all ms))
         → joined_worth (changed_by p c u (filter old (m ∷ ms))) (changed_by p c v (filter extra (m ∷ ms))) ≡ changed_by p c w (filter all (m ∷ ms))
     with_choices m ms u v w a b d ea eb ed e =
-        (λ i. joined_worth (changed_by p c u (cond (ea i) (m ∷ filter old ms) (filter old ms))) (changed_by p c v (cond (eb i) (m ∷ filter extra ms) (filter extra ms))))
+        (λ i. joined_worth (changed_by p c u (cond (ea i) (m ∷ filter old ms) (filter old ms)))
+        (changed_by p c v (cond (eb i) (m ∷ filter extra ms) (filter extra ms))))
         ∙ e
         ∙ sym (λ i. changed_by p c w (cond (ed i) (m ∷ filter all ms) (filter all ms)))
 
     -- where neither needs the cell
-    blended : (ms : List Moment) (u v : Option Worth) → AllByRecursion (IsApart old extra all) ms → AllByRecursion OldIsQuiet ms → AllByRecursion (λ (m : Moment). IsStateOf p.families m.before) ms → Holds u → Holds v
+    blended : (ms : List Moment) (u v : Option Worth) → AllByRecursion (IsApart old extra all) ms → AllByRecursion OldIsQuiet ms
+        → AllByRecursion (λ (m : Moment). IsStateOf p.families m.before) ms → Holds u → Holds v
         → joined_worth (changed_by p c u (filter old ms)) (changed_by p c v (filter extra ms)) ≡ changed_by p c (joined_worth u v) (filter all ms)
     blended [] u v apart quiet sorted hu hv = refl
     blended (m ∷ ms) u v apart quiet sorted hu hv =
@@ -155,7 +167,8 @@ module _ (laws : LawsBelow) (p : Program) (law : IsLawful p) (c : Cell) where
         ]
 
     -- later mixes may be counted apart
-    pub appended : (ms : List Moment) (u : Option Worth) → AllByRecursion (IsApart old extra all) ms → AreOldFirst ms → AllByRecursion (λ (m : Moment). IsStateOf p.families m.before) ms → Holds u
+    pub appended : (ms : List Moment) (u : Option Worth) → AllByRecursion (IsApart old extra all) ms → AreOldFirst ms
+        → AllByRecursion (λ (m : Moment). IsStateOf p.families m.before) ms → Holds u
         → joined_worth (changed_by p c u (filter old ms)) (changed_by p c None (filter extra ms)) ≡ changed_by p c u (filter all ms)
     appended [] u apart first sorted hu = law.mix_right u
     appended (m ∷ ms) u apart first sorted hu =

@@ -32,7 +32,9 @@ no_count : (p : Program) (i : ℕ) → slice_index (no_counts p) i ≡ 0
 no_count p i =
     elim (cases_lt i (count_of_itags p)) [
       | inl lt ↦ counts_at (count_of_itags p) (λ j. 0) i lt
-      | inr le ↦ (let size : length (no_counts p) ≡ count_of_itags p = length-map-range_with_len (λ j. 0) 0 (count_of_itags p) in get_or_past (no_counts p) i 0 (omega arith))
+      | inr le ↦
+          (let size : length (no_counts p) ≡ count_of_itags p = length-map-range_with_len (λ j. 0) 0 (count_of_itags p) in get_or_past (no_counts p) i 0
+          (omega arith))
     ]
 
 not_below_none : (p : Program) (m : Moment) → is_below (no_counts p) m ≡ false
@@ -108,7 +110,9 @@ module _ (laws : LawsBelow) (k : Setting) (w left right : ℕ) (s : Contents) (s
       ];
       rest = λ c not_base here.
           (let alone = not_beside c not_base here in
-          let stays : moves c ≡ false = not_needed_not_moved k.program (below k.program k.nodes right) c (false_if_not _ (λ h. not_both _ (beside_across laws k ok w left right c siblings h) alone)) in
+          let stays : moves c ≡ false =
+          not_needed_not_moved k.program (below k.program k.nodes right) c
+          (false_if_not _ (λ h. not_both _ (beside_across laws k ok w left right c siblings h) alone)) in
           left_kept c stays
           ∙ fits.cells.rest c (not_base_up c stays not_base)
           (false_if_not _ (λ h. not_both _ (beside_down laws k ok w left right c siblings (and_right _ _ h)) alone)));

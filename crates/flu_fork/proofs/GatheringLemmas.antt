@@ -24,7 +24,9 @@ module _ (key : ℕ) (c : Cell) (all : List Action) where
 
   -- the targets alone that are overwritten, and all targets
   overwritten : list_any (λ (a : Action). is_target false key c a.act) all ≡ overwrites
-  overwritten = list_any_within (λ (a : Action). is_target false key c a.act) (λ (a : Action). act_overwrites key c a.act) all (λ a. or_false (act_overwrites key c a.act))
+  overwritten =
+      list_any_within (λ (a : Action). is_target false key c a.act) (λ (a : Action). act_overwrites key c a.act) all
+      (λ a. or_false (act_overwrites key c a.act))
 
   written : list_any (λ (a : Action). is_target true key c a.act) all
       ≡ (overwrites || (list_any (λ (a : Action). act_adds key c a.act) all || list_any (λ (a : Action). act_raises key c a.act) all))

@@ -2,7 +2,7 @@
 use Rattle.std.proofs.Common.{◌≡◌, ◌≤◌, ◌<◌, ℕ, Bool, true, false, cond, Some, None, List, [], ◌∷◌, length, inl, inr, refl, sym, ap, subst, ◌∙◌, arith}
 use Rattle.std.specs.Prelude.{nat_lt, nat_le, ◌&&◌, ◌||◌, not, slice_index}
 use Rattle.std.specs.List.{AllByRecursion}
-use Rattle.std.proofs.lemmas.Bool.{cases_Bool, cases_lt, and_left as and_false_left, and_right as and_false_right, le-ltb, not_from_false}
+use Rattle.std.proofs.lemmas.Bool.{cases_Bool, cases_lt, and_right as and_false_right, le-ltb, not_from_false}
 use Rattle.std.proofs.lemmas.Grind.{common_steps}
 use Rattle.std.proofs.lemmas.List.{get_or_past}
 use Rattle.std.proofs.lemmas.List.FromFn.{length-map-range_with_len}
@@ -54,7 +54,8 @@ prefix_rest p m ms upto prefix = λ before after q split counted. (prefix (m ∷
 
 module _ (laws : LawsBelow) (k : Setting) (w left right : ℕ) (s t : Contents) (left_since left_upto right_since right_upto : List ℕ)
     (ok : IsSetting k) (there : w < length k.nodes) (kids : kids_at k.nodes w ≡ Some (left, right))
-    (left_fits : Fits k left s left_since left_upto) (right_fits : Fits k right t right_since right_upto) (paired : ArePaired k.program k.nodes left right left_since left_upto right_since right_upto) where
+    (left_fits : Fits k left s left_since left_upto) (right_fits : Fits k right t right_since right_upto)
+    (paired : ArePaired k.program k.nodes left right left_since left_upto right_since right_upto) where
   abbrev upto : List ℕ
   upto = joined_counts k.program k.nodes right left_upto right_upto
 
@@ -156,7 +157,8 @@ module _ (laws : LawsBelow) (k : Setting) (w left right : ℕ) (s t : Contents) 
             (λ q h hq d. same_below upto right_upto q (upto_not_left q.event.itag.0 (not_across_back m q m_in hq d mr)) ∙ h d)
             (right_fits.prefix front back m split (sym (same_below upto right_upto m (upto_right m.event.itag.0 mr)) ∙ counted)) front_in
         | inr not_right ↦
-            let from_left : AllByRecursion (counted_before left_upto m) front = left_fits.prefix front back m split (sym (same_below upto left_upto m (upto_left m.event.itag.0 not_right)) ∙ counted) in
+            let from_left : AllByRecursion (counted_before left_upto m) front =
+            left_fits.prefix front back m split (sym (same_below upto left_upto m (upto_left m.event.itag.0 not_right)) ∙ counted) in
             elim (cases_Bool (in_left m.event.itag.0)) [
               | inl ml ↦
                   all_of_both (counted_before left_upto m) InRange (counted_before upto m) front
@@ -180,7 +182,9 @@ module _ (laws : LawsBelow) (k : Setting) (w left right : ℕ) (s t : Contents) 
   new_is_right m new =
       elim (cases_Bool (in_right m.event.itag.0)) [
         | inl h ↦ h
-        | inr h ↦ absurd (not_both _ new (ap (λ n. nat_le (slice_index right_since m.event.itag.0) m.index && nat_lt m.index n) (paired.right_outside m.event.itag.0 h) ∙ never_between (slice_index right_since m.event.itag.0) m.index))
+        | inr h ↦
+            absurd (not_both _ new (ap (λ n. nat_le (slice_index right_since m.event.itag.0) m.index && nat_lt m.index n)
+            (paired.right_outside m.event.itag.0 h) ∙ never_between (slice_index right_since m.event.itag.0) m.index))
       ]
 
   new_is_not_old : (m : Moment) → is_new m ≡ true → is_below left_upto m ≡ false
@@ -201,67 +205,80 @@ module _ (laws : LawsBelow) (k : Setting) (w left right : ℕ) (s t : Contents) 
             ∙ sym (ap (λ n. nat_lt m.index n || is_new m) same)
         | inr h ↦
             same_below upto left_upto m (upto_left i h)
-            ∙ or_nothing (is_below left_upto m) (is_new m) (ap (λ n. nat_le (slice_index right_since i) m.index && nat_lt m.index n) (paired.right_outside i h) ∙ never_between (slice_index right_since i) m.index)
+            ∙ or_nothing (is_below left_upto m) (is_new m) (ap (λ n. nat_le (slice_index right_since i) m.index && nat_lt m.index n)
+            (paired.right_outside i h) ∙ never_between (slice_index right_since i) m.index)
       ]
 
   between_or_new : (m : Moment) → is_between left_since upto m ≡ (is_between left_since left_upto m || is_new m)
   between_or_new m =
       let i = m.event.itag.0 in
       ap (λ b. nat_le (slice_index left_since i) m.index && b) (all_or_new m)
-      ∙ met_by_second (nat_le (slice_index left_since i) m.index) (is_below left_upto m) (is_new m) (λ new. le_lower (slice_index left_since i) (slice_index right_since i) m.index (paired.left_first i) (and_left _ _ new))
+      ∙ met_by_second (nat_le (slice_index left_since i) m.index) (is_below left_upto m) (is_new m)
+      (λ new. le_lower (slice_index left_since i) (slice_index right_since i) m.index (paired.left_first i) (and_left _ _ new))
 
   -- ---- cells that the right subtree does not need
   module _ (c : Cell) (stays : goes c ≡ false) where
     new_is_quiet : (m : Moment) → InRange m → is_new m ≡ true → needs (mode_at k.program m.event c) ≡ false
     unfolding InRange
-    new_is_quiet m lt new = false_if_not _ (λ h. not_both _ (some_there k.program needs (below k.program k.nodes right) c m.event.itag.0 lt (new_is_right m new) h) stays)
+    new_is_quiet m lt new =
+        false_if_not _ (λ h. not_both _ (some_there k.program needs (below k.program k.nodes right) c m.event.itag.0 lt (new_is_right m new) h) stays)
 
     abbrev Apart : (Moment → Bool) → (Moment → Bool) → Moment → Type 0
     Apart old all m = IsApart laws k.program (lawful laws k ok) c old is_new all m
 
     values_apart : AllByRecursion (Apart (is_below left_upto) (is_below upto)) (moments k)
-    values_apart = all_map InRange (Apart (is_below left_upto) (is_below upto)) (moments k) (λ m lt. record { disjoint = new_is_not_old m; whole = all_or_new m; quiet = new_is_quiet m lt }) all_in_range
+    values_apart =
+        all_map InRange (Apart (is_below left_upto) (is_below upto)) (moments k)
+        (λ m lt. record { disjoint = new_is_not_old m; whole = all_or_new m; quiet = new_is_quiet m lt }) all_in_range
 
     spans_apart : AllByRecursion (Apart (is_between left_since left_upto) (is_between left_since upto)) (moments k)
     spans_apart =
         all_map InRange (Apart (is_between left_since left_upto) (is_between left_since upto)) (moments k)
         (λ m lt. record { disjoint = λ new. and_false_right _ _ (new_is_not_old m new); whole = between_or_new m; quiet = new_is_quiet m lt }) all_in_range
 
-    needs_depend : (q n : Moment) → InRange q → InRange n → needs (mode_at k.program q.event c) ≡ true → writes (mode_at k.program n.event c) ≡ true → depends_on k.program q n ≡ true
+    needs_depend : (q n : Moment) → InRange q → InRange n → needs (mode_at k.program q.event c) ≡ true → writes (mode_at k.program n.event c) ≡ true
+        → depends_on k.program q n ≡ true
     unfolding InRange
     needs_depend q n hq hn need write = uses_depend laws k ok q.event.itag.0 n.event.itag.0 c hq hn need write
 
     -- an old event that needs the cell comes before each new one that writes it
-    old_first : (old all : Moment → Bool) → ((m : Moment) → old m ≡ true → is_below left_upto m ≡ true) → (ms : List Moment) → AllByRecursion InRange ms → IsPrefix k.program ms left_upto → AreOldFirst laws k.program (lawful laws k ok) c old is_new all ms
+    old_first : (old all : Moment → Bool) → ((m : Moment) → old m ≡ true → is_below left_upto m ≡ true) → (ms : List Moment) → AllByRecursion InRange ms
+        → IsPrefix k.program ms left_upto → AreOldFirst laws k.program (lawful laws k ok) c old is_new all ms
     unfolding InRange
     old_first old all counted [] in_range prefix = tt
     old_first old all counted (m ∷ ms) in_range prefix = (
       (λ new write. all_from_places (λ (q : Moment). old q ≡ true → needs (mode_at k.program q.event c) ≡ false) ms
           (λ before after q split was. false_if_not _ (λ need. not_both _
-          ((prefix (m ∷ before) after q (ap (λ us. m ∷ us) split) (counted q was)).0 (needs_depend q m (all_at_place InRange ms before after q split in_range.1) in_range.0 need write))
+          ((prefix (m ∷ before) after q (ap (λ us. m ∷ us) split) (counted q was)).0
+          (needs_depend q m (all_at_place InRange ms before after q split in_range.1) in_range.0 need write))
           (new_is_not_old m new)))),
       old_first old all counted ms in_range.1 (prefix_rest k.program m ms left_upto prefix),
     )
 
-    values_add : joined_worth (value_below k.program (moments k) (k.opening c) c left_upto) (span k.program (moments k) c right_since right_upto) ≡ value_below k.program (moments k) (k.opening c) c upto
+    values_add : joined_worth (value_below k.program (moments k) (k.opening c) c left_upto)
+        (span k.program (moments k) c right_since right_upto) ≡ value_below k.program (moments k) (k.opening c) c upto
     values_add =
         appended laws k.program (lawful laws k ok) c (is_below left_upto) is_new (is_below upto) (moments k) (k.opening c) values_apart
         (old_first (is_below left_upto) (is_below upto) (λ m e. e) (moments k) all_in_range left_fits.prefix) (moments_sorted laws k ok) (ok.opening_sorts c)
 
-    spans_add : joined_worth (span k.program (moments k) c left_since left_upto) (span k.program (moments k) c right_since right_upto) ≡ span k.program (moments k) c left_since upto
+    spans_add : joined_worth (span k.program (moments k) c left_since left_upto) (span k.program (moments k) c right_since right_upto) ≡ span k.program
+        (moments k) c left_since upto
     spans_add =
         appended laws k.program (lawful laws k ok) c (is_between left_since left_upto) is_new (is_between left_since upto) (moments k) None spans_apart
-        (old_first (is_between left_since left_upto) (is_between left_since upto) (λ m e. and_right _ _ e) (moments k) all_in_range left_fits.prefix) (moments_sorted laws k ok) tt
+        (old_first (is_between left_since left_upto) (is_between left_since upto) (λ m e. and_right _ _ e) (moments k) all_in_range left_fits.prefix)
+        (moments_sorted laws k ok) tt
 
   -- ---- cells
   -- where no itag below the right child writes the cell, the counts of the left part say all of it; and the other way round
-  value_by_left : (c : Cell) → ((m : Moment) → InRange m → in_right m.event.itag.0 ≡ true → writes (mode_at k.program m.event c) ≡ false) → value_below k.program (moments k) (k.opening c) c left_upto ≡ value_below k.program (moments k) (k.opening c) c upto
+  value_by_left : (c : Cell) → ((m : Moment) → InRange m → in_right m.event.itag.0 ≡ true → writes (mode_at k.program m.event c) ≡ false)
+      → value_below k.program (moments k) (k.opening c) c left_upto ≡ value_below k.program (moments k) (k.opening c) c upto
   value_by_left c quiet =
       same_effects laws.unwritten_keeps k.program c (is_below left_upto) (is_below upto) (moments k) (k.opening c)
       (all_map InRange (λ (m : Moment). writes (mode_at k.program m.event c) ≡ true → is_below left_upto m ≡ is_below upto m) (moments k)
       (λ m lt write. same_below left_upto upto m (sym (upto_left m.event.itag.0 (false_if_not _ (λ h. not_both _ write (quiet m lt h)))))) all_in_range)
 
-  value_by_right : (c : Cell) → ((m : Moment) → InRange m → in_left m.event.itag.0 ≡ true → writes (mode_at k.program m.event c) ≡ false) → value_below k.program (moments k) (k.opening c) c right_upto ≡ value_below k.program (moments k) (k.opening c) c upto
+  value_by_right : (c : Cell) → ((m : Moment) → InRange m → in_left m.event.itag.0 ≡ true → writes (mode_at k.program m.event c) ≡ false)
+      → value_below k.program (moments k) (k.opening c) c right_upto ≡ value_below k.program (moments k) (k.opening c) c upto
   value_by_right c quiet =
       same_effects laws.unwritten_keeps k.program c (is_below right_upto) (is_below upto) (moments k) (k.opening c)
       (all_map InRange (λ (m : Moment). writes (mode_at k.program m.event c) ≡ true → is_below right_upto m ≡ is_below upto m) (moments k)
@@ -342,12 +359,14 @@ module _ (laws : LawsBelow) (k : Setting) (w left right : ℕ) (s t : Contents) 
         | inr alone ↦ without_copy c alone ∙ (λ i. joined_worth (none i) (right_fits.cells.away c (away_kid laws k ok w right left c by_right away) i))
       ]
 
-  joined_rest : (c : Cell) → is_base k.program k.nodes w c ≡ false → is_away k.program k.nodes w c ≡ false → joined c ≡ span k.program (moments k) c left_since upto
+  joined_rest : (c : Cell) → is_base k.program k.nodes w c ≡ false → is_away k.program k.nodes w c ≡ false
+      → joined c ≡ span k.program (moments k) c left_since upto
   joined_rest c not_base here =
       let stays : goes c ≡ false = false_if_not _ (λ h. not_both _ (needed_is_base_up laws k ok w right left c by_right h) not_base) in
       let left_not_base : is_base k.program k.nodes left c ≡ false = not_base_down laws k ok w left right c by_left not_base in
       let left_here : is_away k.program k.nodes left c ≡ false = false_if_not _ (λ h. not_both _ (away_up laws k ok w left right c by_left not_base h) here) in
-      let right_here : is_away k.program k.nodes right c ≡ false = false_if_not _ (λ h. not_both _ (away_up laws k ok w right left c by_right not_base h) here) in
+      let right_here : is_away k.program k.nodes right c ≡ false =
+      false_if_not _ (λ h. not_both _ (away_up laws k ok w right left c by_right not_base h) here) in
       without_copy c (not_needed_not_copied k.program in_right c stays)
       ∙ (λ i. joined_worth (left_fits.cells.rest c left_not_base left_here i) (right_fits.cells.rest c (right_not_base c stays) right_here i))
       ∙ spans_add c stays

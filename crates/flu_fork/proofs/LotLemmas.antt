@@ -81,7 +81,8 @@ left_at law true true w = refl
 left_at law true false w = refl
 left_at law false write w = with_nothing law w
 
-pub left_is : JoinsSplits → (p : Program) (nodes : List Node) (r : ℕ) (table : Right) (s t : Contents) → IsRight p nodes r table → t ≡ cells.within table.needed s
+pub left_is : JoinsSplits → (p : Program) (nodes : List Node) (r : ℕ) (table : Right) (s t : Contents) → IsRight p nodes r table
+    → t ≡ cells.within table.needed s
     → join (cells.outside table.needed s) (cells.within table.copied t) ≡ left_part p nodes r s
 left_is law p nodes r table s t is taken = λ i c.
     ((λ j. joined_worth (cond (not (is.needed c j)) (s c) None) (cond (is.copied c j) (taken j c) None))
@@ -110,7 +111,8 @@ pub fits_as : (k : Setting) (w : ℕ) (s t : Contents) (a b x y : List ℕ) → 
 fits_as k w s t a b x y es ea ex fits =
     subst (λ (u : Contents). Fits k w u b y) (sym es) (subst (λ (u : List ℕ). Fits k w s u y) (sym ea) (subst (λ (u : List ℕ). Fits k w s a u) (sym ex) fits))
 
-pub paired_as : (p : Program) (nodes : List Node) (l r : ℕ) (a a' b b' c c' d d' : List ℕ) → a' ≡ a → b' ≡ b → c' ≡ c → d' ≡ d → ArePaired p nodes l r a b c d → ArePaired p nodes l r a' b' c' d'
+pub paired_as : (p : Program) (nodes : List Node) (l r : ℕ) (a a' b b' c c' d d' : List ℕ) → a' ≡ a → b' ≡ b → c' ≡ c → d' ≡ d
+    → ArePaired p nodes l r a b c d → ArePaired p nodes l r a' b' c' d'
 paired_as p nodes l r a a' b b' c c' d d' ea eb ec ed paired =
     subst (λ (u : List ℕ). ArePaired p nodes l r u b' c' d') (sym ea)
     (subst (λ (u : List ℕ). ArePaired p nodes l r a u c' d') (sym eb)
@@ -119,7 +121,8 @@ paired_as p nodes l r a a' b b' c c' d d' ea eb ec ed paired =
 
 -- ---- the counts
 
-pub counts_are : (p : Program) (nodes : List Node) (r : ℕ) (table : Right) (lefts rights : List ℕ) → IsRight p nodes r table → counts_by table.itags.items lefts rights ≡ joined_counts p nodes r lefts rights
+pub counts_are : (p : Program) (nodes : List Node) (r : ℕ) (table : Right) (lefts rights : List ℕ) → IsRight p nodes r table
+    → counts_by table.itags.items lefts rights ≡ joined_counts p nodes r lefts rights
 counts_are p nodes r table lefts rights is =
     let n = count_of_itags p in
     let inside = below p nodes r in
@@ -136,7 +139,9 @@ some_kids (Some kids) e = (kids.0, kids.1, refl)
 
 -- ---- one more table
 
-pub tables_turn : (p : Program) (nodes : List Node) (n : ℕ) (old new : List Right) (one : Right) → new ≡ old ++ one ∷ [] → length old ≡ n → IsRightAt p nodes n one → ((w : ℕ) (table : Right) → slice_get old w ≡ Some table → IsRightAt p nodes w table) → (w : ℕ) (table : Right) → slice_get new w ≡ Some table → IsRightAt p nodes w table
+pub tables_turn : (p : Program) (nodes : List Node) (n : ℕ) (old new : List Right) (one : Right) → new ≡ old ++ one ∷ [] → length old ≡ n
+    → IsRightAt p nodes n one → ((w : ℕ) (table : Right) → slice_get old w ≡ Some table → IsRightAt p nodes w table) → (w : ℕ) (table : Right)
+    → slice_get new w ≡ Some table → IsRightAt p nodes w table
 tables_turn p nodes n old new one grown so_many last kept w table e =
     elim (slice_get_push old one w table (ap (λ ts. slice_get ts w) (sym grown) ∙ e)) as (λ q. IsRightAt p nodes w table) [
       | inl f ↦ kept w table f

@@ -34,11 +34,13 @@ stream_itags i low (Beat t ∷ items) e = stream_itags i (t + 1) items (and_righ
 stream_itags i low (End ∷ []) e = tt
 stream_itags i low (End ∷ x ∷ items) e = cc
 
-streams_in_range : (i n : ℕ) (lists : List (List Item)) → i + length lists ≤ n → are_streams i lists ≡ true → AllByRecursion (λ (x : Event). nat_lt x.itag.0 n ≡ true) (all_events lists)
+streams_in_range : (i n : ℕ) (lists : List (List Item)) → i + length lists ≤ n → are_streams i lists ≡ true
+    → AllByRecursion (λ (x : Event). nat_lt x.itag.0 n ≡ true) (all_events lists)
 streams_in_range i n [] le e = tt
 streams_in_range i n (items ∷ lists) le e =
     all_append (λ (x : Event). nat_lt x.itag.0 n ≡ true) (events_of items) (all_events lists)
-    (all_map (λ (x : Event). x.itag.0 ≡ i) (λ (x : Event). nat_lt x.itag.0 n ≡ true) (events_of items) (λ x same. lt_true x.itag.0 n (omega arith)) (stream_itags i 0 items (and_left _ _ e)))
+    (all_map (λ (x : Event). x.itag.0 ≡ i) (λ (x : Event). nat_lt x.itag.0 n ≡ true) (events_of items) (λ x same. lt_true x.itag.0 n (omega arith))
+    (stream_itags i 0 items (and_left _ _ e)))
     (streams_in_range (i + 1) n lists (omega arith) (and_right _ _ e))
 
 -- ---- how many events an itag has
@@ -69,21 +71,26 @@ none_behind i j (items ∷ lists) lt e =
     let rest = none_behind (i + 1) j lists (omega arith) (and_right (is_stream_from i 0 items) (are_streams (i + 1) lists) e) in
     omega (arith, total-append (one_of j) (events_of items) (all_events lists))
 
-events_counted : (i n j : ℕ) (lists : List (List Item)) → j ≡ i + n → are_streams i lists ≡ true → total (one_of j) (all_events lists) ≡ length (events_of (slice_index_or lists n []))
+events_counted : (i n j : ℕ) (lists : List (List Item)) → j ≡ i + n → are_streams i lists ≡ true
+    → total (one_of j) (all_events lists) ≡ length (events_of (slice_index_or lists n []))
 events_counted i n j [] at e = refl
 events_counted i zero j (items ∷ lists) at e =
     let same : i ≡ j = omega arith in
-    let here = own_events j (events_of items) (subst (λ u. AllByRecursion (λ (x : Event). x.itag.0 ≡ u) (events_of items)) same (stream_itags i 0 items (and_left _ _ e))) in
+    let here =
+    own_events j (events_of items) (subst (λ u. AllByRecursion (λ (x : Event). x.itag.0 ≡ u) (events_of items)) same
+    (stream_itags i 0 items (and_left _ _ e))) in
     let rest = none_behind (i + 1) j lists (omega arith) (and_right (is_stream_from i 0 items) (are_streams (i + 1) lists) e) in
     total-append (one_of j) (events_of items) (all_events lists) ∙ omega arith
 events_counted i (suc n) j (items ∷ lists) at e =
     let here = other_events i j (events_of items) (λ same. omega arith) (stream_itags i 0 items (and_left _ _ e)) in
-    let rest : total (one_of j) (all_events lists) ≡ length (events_of (slice_index_or lists n [])) = events_counted (i + 1) n j lists (omega arith) (and_right (is_stream_from i 0 items) (are_streams (i + 1) lists) e) in
+    let rest : total (one_of j) (all_events lists) ≡ length (events_of (slice_index_or lists n [])) =
+    events_counted (i + 1) n j lists (omega arith) (and_right (is_stream_from i 0 items) (are_streams (i + 1) lists) e) in
     total-append (one_of j) (events_of items) (all_events lists) ∙ omega arith
 
 -- ---- moments
 -- an event's index is less than how many of its itag there are
-indices_less : (p : Program) (s : Contents) (seen : ℕ → ℕ) (xs : List Event) → AllByRecursion (λ (m : Moment). m.index < seen m.event.itag.0 + total (one_of m.event.itag.0) xs) (history p s seen xs)
+indices_less : (p : Program) (s : Contents) (seen : ℕ → ℕ) (xs : List Event)
+    → AllByRecursion (λ (m : Moment). m.index < seen m.event.itag.0 + total (one_of m.event.itag.0) xs) (history p s seen xs)
 unfolding one_of
 indices_less p s seen [] = tt
 indices_less p s seen (x ∷ xs) = (
@@ -120,13 +127,15 @@ module _ (laws : LawsBelow) (k : Setting) (ok : IsSetting k) where
   events_in_range =
       all_map (λ (x : Event). nat_lt x.itag.0 (count_of_itags k.program) ≡ true) (λ (x : Event). x.itag.0 < count_of_itags k.program) (merged k.lists)
       (λ x e. true_lt x.itag.0 (count_of_itags k.program) e)
-      (all-IsPermutation (λ (x : Event). nat_lt x.itag.0 (count_of_itags k.program)) (all_events k.lists) (merged k.lists) (in_order-permutation is_before (all_events k.lists))
+      (all-IsPermutation (λ (x : Event). nat_lt x.itag.0 (count_of_itags k.program)) (all_events k.lists) (merged k.lists)
+      (in_order-permutation is_before (all_events k.lists))
       (streams_in_range 0 (count_of_itags k.program) k.lists (let one = ok.one_each in omega arith) ok.streams))
 
   pub moments_in_range : AllByRecursion (λ (m : Moment). m.event.itag.0 < count_of_itags k.program) (moments k)
   moments_in_range =
       all_of_mapped (λ (x : Event). x.itag.0 < count_of_itags k.program) (λ (m : Moment). m.event) (moments k)
-      (subst (AllByRecursion (λ (x : Event). x.itag.0 < count_of_itags k.program)) (sym (laws.of_events k.program k.opening (λ i. 0) (merged k.lists))) events_in_range)
+      (subst (AllByRecursion (λ (x : Event). x.itag.0 < count_of_itags k.program))
+      (sym (laws.of_events k.program k.opening (λ i. 0) (merged k.lists))) events_in_range)
 
   pub moments_sorted : AllByRecursion (λ (m : Moment). IsStateOf k.program.families m.before) (moments k)
   moments_sorted = sorted_before laws.keeps_sorts k.program k.opening (λ i. 0) (merged k.lists) ok.opening_sorts
@@ -138,6 +147,7 @@ module _ (laws : LawsBelow) (k : Setting) (ok : IsSetting k) where
 
   pub moments_there : AllByRecursion (λ (m : Moment). m.index < length (events_at k m.event.itag.0)) (moments k)
   moments_there =
-      all_map (λ (m : Moment). m.index < 0 + total (one_of m.event.itag.0) (merged k.lists)) (λ (m : Moment). m.index < length (events_at k m.event.itag.0)) (moments k)
+      all_map (λ (m : Moment). m.index < 0 + total (one_of m.event.itag.0) (merged k.lists)) (λ (m : Moment). m.index < length (events_at k m.event.itag.0))
+      (moments k)
       (λ m less. (let all = all_counted m.event.itag.0 in omega arith))
       (indices_less k.program k.opening (λ i. 0) (merged k.lists))

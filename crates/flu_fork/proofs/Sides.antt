@@ -74,7 +74,8 @@ module _ (laws : LawsBelow) (k : Setting) (ok : IsSetting k) where
   beside_apart : (w i v : ℕ) → v < length k.nodes → owner_of k.program k.nodes (itag i) ≡ Some v → beside k.program k.nodes w i ≡ true → AreApart k.nodes w v
   beside_apart w i v lt e out =
       let outside : is_within k.nodes w v ≡ false = sym (below_by k.program k.nodes w i v e) ∙ not_true _ (and_left _ _ out) in
-      let not_above : (is_within k.nodes v w && not (v == w)) ≡ false = sym (above_by k.program k.nodes w i v e) ∙ not_true _ (and_right (not (below k.program k.nodes w i)) _ out) in
+      let not_above : (is_within k.nodes v w && not (v == w)) ≡ false =
+      sym (above_by k.program k.nodes w i v e) ∙ not_true _ (and_right (not (below k.program k.nodes w i)) _ out) in
       let differ : (v == w) ≡ false = ne_eqb v w (λ same. not_both _ (ap (λ n. is_within k.nodes n v) (sym same) ∙ ordered.itself v lt) outside) in
       (outside, false_if_not _ (λ h. not_both _ (both _ _ h (not_from_false _ differ)) not_above))
 
@@ -87,7 +88,8 @@ module _ (laws : LawsBelow) (k : Setting) (ok : IsSetting k) where
   beside_is_not_below w i out = not_true _ (and_left _ _ out)
 
   -- itags below a node and beside it are independent
-  pub independent : (w i j : ℕ) → i < count_of_itags k.program → j < count_of_itags k.program → below k.program k.nodes w i ≡ true → beside k.program k.nodes w j ≡ true
+  pub independent : (w i j : ℕ) → i < count_of_itags k.program → j < count_of_itags k.program → below k.program k.nodes w i ≡ true
+      → beside k.program k.nodes w j ≡ true
       → is_dependent k.program (tag_of_itag k.program (itag i)) (tag_of_itag k.program (itag j)) ≡ false
   independent w i j hi hj inside out =
       let a = owner_at i hi in
@@ -128,7 +130,8 @@ module _ (laws : LawsBelow) (k : Setting) (ok : IsSetting k) where
       (sym (below_by k.program k.nodes x i o.node o.is) ∙ inside) (sym (below_by k.program k.nodes y i o.node o.is) ∙ h))
 
   -- what is beside a child is beside its parent or below its sibling
-  pub beside_cases : (w x y i : ℕ) → i < count_of_itags k.program → Siblings k.nodes w x y → beside k.program k.nodes x i ≡ true → (beside k.program k.nodes w i ≡ true) ⊎ (below k.program k.nodes y i ≡ true)
+  pub beside_cases : (w x y i : ℕ) → i < count_of_itags k.program → Siblings k.nodes w x y → beside k.program k.nodes x i ≡ true
+      → (beside k.program k.nodes w i ≡ true) ⊎ (below k.program k.nodes y i ≡ true)
   beside_cases w x y i hi s out =
       let o = owner_at i hi in
       elim (apart.cases w x y o.node s o.there (beside_apart x i o.node o.there o.is out)) [
@@ -136,7 +139,8 @@ module _ (laws : LawsBelow) (k : Setting) (ok : IsSetting k) where
         | inr there ↦ inr (below_by k.program k.nodes y i o.node o.is ∙ there)
       ]
 
-  pub beside_kid : (w x y i : ℕ) → i < count_of_itags k.program → Siblings k.nodes w x y → beside k.program k.nodes w i ≡ true → beside k.program k.nodes x i ≡ true
+  pub beside_kid : (w x y i : ℕ) → i < count_of_itags k.program → Siblings k.nodes w x y → beside k.program k.nodes w i ≡ true
+      → beside k.program k.nodes x i ≡ true
   beside_kid w x y i hi s out =
       let o = owner_at i hi in
       apart_beside x i o.node o.is (apart.kid w x o.node s.first o.there (beside_apart w i o.node o.there o.is out))
@@ -147,6 +151,7 @@ module _ (laws : LawsBelow) (k : Setting) (ok : IsSetting k) where
       apart_beside x i o.node o.is (apart.sibling w x y o.node s o.there (sym (below_by k.program k.nodes y i o.node o.is) ∙ inside))
 
   -- itags below two siblings are independent
-  pub across : (w x y i j : ℕ) → Siblings k.nodes w x y → i < count_of_itags k.program → j < count_of_itags k.program → below k.program k.nodes x i ≡ true → below k.program k.nodes y j ≡ true
+  pub across : (w x y i j : ℕ) → Siblings k.nodes w x y → i < count_of_itags k.program → j < count_of_itags k.program → below k.program k.nodes x i ≡ true
+      → below k.program k.nodes y j ≡ true
       → is_dependent k.program (tag_of_itag k.program (itag i)) (tag_of_itag k.program (itag j)) ≡ false
   across w x y i j s hi hj one two = independent x i j hi hj one (beside_sibling w x y j s two)

@@ -11,7 +11,8 @@ pub list_turn : {X : Type 0} (f : ℕ → X) (n : ℕ) (old new : List X) (x : X
 list_turn f n old new x grown is kept = grown ∙ (λ i. kept i ++ is i ∷ []) ∙ sym (map-range_with_len_more f 0 n n (omega arith))
 
 -- a test that grows by what the next number gives
-pub test_turn : (f : ℕ → Bool) (n : ℕ) (old new : Bool) → new ≡ (old || f n) → old ≡ list_any f (range_with_len 0 n) → new ≡ list_any f (range_with_len 0 (n + 1))
+pub test_turn : (f : ℕ → Bool) (n : ℕ) (old new : Bool) → new ≡ (old || f n) → old ≡ list_any f (range_with_len 0 n)
+    → new ≡ list_any f (range_with_len 0 (n + 1))
 test_turn f n old new grown kept =
     let same : 0 + n ≡ n = omega arith in
     grown ∙ ap (λ b. b || f n) kept ∙ sym (any_range_more f 0 n ∙ ap (λ m. list_any f (range_with_len 0 n) || f m) same)

@@ -52,9 +52,11 @@ Rises ms =
     (before after : List Moment) (m : Moment) → ms ≡ before ++ m ∷ after
     → AllByRecursion (λ (q : Moment). q.event.itag.0 ≡ m.event.itag.0 → q.index < m.index) before
 
-module _ (p : Program) (ms before after : List Moment) (m : Moment) (upto more : List ℕ) (split : ms ≡ before ++ m ∷ after) (rise : Rises ms) (exact : IsExact p before after m upto) (one_more : CountsOneMore m.event.itag.0 upto more) (prefix : IsPrefix p ms upto) where
+module _ (p : Program) (ms before after : List Moment) (m : Moment) (upto more : List ℕ) (split : ms ≡ before ++ m ∷ after) (rise : Rises ms)
+    (exact : IsExact p before after m upto) (one_more : CountsOneMore m.event.itag.0 upto more) (prefix : IsPrefix p ms upto) where
   -- a moment of m's itag with m's index is at m's place
-  same_place : (front back : List Moment) (q : Moment) → ms ≡ front ++ q ∷ back → q.event.itag.0 ≡ m.event.itag.0 → q.index ≡ m.index → (before ≡ front) × (m ≡ q)
+  same_place : (front back : List Moment) (q : Moment) → ms ≡ front ++ q ∷ back → q.event.itag.0 ≡ m.event.itag.0 → q.index ≡ m.index
+      → (before ≡ front) × (m ≡ q)
   same_place front back q there itag index =
       elim (two_places before front after back m q (sym split ∙ there)) [
         | inl same ↦ same
@@ -104,7 +106,8 @@ module _ (p : Program) (ms before after : List Moment) (m : Moment) (upto more :
 
 module _ (laws : LawsBelow) (k : Setting) (w : ℕ) (before after : List Moment) (m : Moment) (s : Contents) (since upto more : List ℕ)
     (ok : IsSetting k) (owner : owner_of k.program k.nodes m.event.itag ≡ Some w)
-    (split : moments k ≡ before ++ m ∷ after) (exact : IsExact k.program before after m upto) (size : length more ≡ count_of_itags k.program) (one_more : CountsOneMore m.event.itag.0 upto more) (fits : Fits k w s since upto) where
+    (split : moments k ≡ before ++ m ∷ after) (exact : IsExact k.program before after m upto) (size : length more ≡ count_of_itags k.program)
+    (one_more : CountsOneMore m.event.itag.0 upto more) (fits : Fits k w s since upto) where
   in_range : m.event.itag.0 < count_of_itags k.program
   in_range = all_at_place (λ (q : Moment). q.event.itag.0 < count_of_itags k.program) (moments k) before after m split (moments_in_range laws k ok)
 
@@ -137,7 +140,8 @@ module _ (laws : LawsBelow) (k : Setting) (w : ℕ) (before after : List Moment)
       since_first = λ i. (let a = fits.since_first i in let b = more_least m.event.itag.0 upto more one_more i in omega arith);
       there = λ i. elim (more_cases m.event.itag.0 upto more one_more i) [
         | inl h ↦
-            let less : m.index < length (events_at k m.event.itag.0) = all_at_place (λ (q : Moment). q.index < length (events_at k q.event.itag.0)) (moments k) before after m split (moments_there laws k ok) in
+            let less : m.index < length (events_at k m.event.itag.0) =
+            all_at_place (λ (q : Moment). q.index < length (events_at k q.event.itag.0)) (moments k) before after m split (moments_there laws k ok) in
             let same = ap (λ j. length (events_at k j)) h.0 in
             let one = h.1 in
             let at = ap (slice_index upto) h.0 in
@@ -145,8 +149,10 @@ module _ (laws : LawsBelow) (k : Setting) (w : ℕ) (before after : List Moment)
             omega arith
         | inr h ↦ (let a = fits.there i in omega arith)
       ];
-      prefix = prefix_more k.program (moments k) before after m upto more split (laws.places_rise k.program k.opening (λ i. 0) (merged k.lists)) exact one_more fits.prefix;
-      cells = subst (λ ms. CellsFit k.program ms k.opening (is_base k.program k.nodes w) (is_away k.program k.nodes w) (effect_of k.program s m.event).cells since more) (sym split) updated.cells;
+      prefix = prefix_more k.program (moments k) before after m upto more split
+          (laws.places_rise k.program k.opening (λ i. 0) (merged k.lists)) exact one_more fits.prefix;
+      cells = subst (λ ms. CellsFit k.program ms k.opening (is_base k.program k.nodes w) (is_away k.program k.nodes w)
+          (effect_of k.program s m.event).cells since more) (sym split) updated.cells;
     };
     texts = updated.texts;
   }

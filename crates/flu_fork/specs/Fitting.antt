@@ -9,7 +9,8 @@ use Rattle.flu_laws.specs.Lots.{CellsFit, depends_on}
 use Rattle.flu_fork.specs.Settings.{Setting, events_at, moments}
 use Rattle.flu_fork.specs.Classes.{is_base, is_away}
 
--- for any two dependent itags, the events of both below the counts are a prefix, in event order, of the events of both: with an event, all earlier ones on which its tag depends are below the counts
+-- for any two dependent itags, the events of both below the counts are a prefix, in event order, of the events of both: with an event, all earlier ones
+-- on which its tag depends are below the counts
 abbrev pub IsPrefix : Program → List Moment → List ℕ → Type 0
 IsPrefix p ms upto =
     (before after : List Moment) (m : Moment) → ms ≡ before ++ m ∷ after → is_below upto m ≡ true

@@ -36,8 +36,8 @@ BaseIsNotAway =
     → is_base k.program k.nodes w c ≡ true → is_away k.program k.nodes w c ≡ false
 
 -- a cell that is copied at a node is not written by any itag of its children's subtrees
-abbrev pub CopiedIsUnwritten : Type 0
-CopiedIsUnwritten =
+abbrev pub CopiesAreOnlyRead : Type 0
+CopiesAreOnlyRead =
     (k : Setting) (w left right i : ℕ) (c : Cell) → IsSetting k → kids_at k.nodes w ≡ Some (left, right) → i < count_of_itags k.program
     → is_copied k.program (below k.program k.nodes right) c ≡ true
     → (below k.program k.nodes left i || below k.program k.nodes right i) ≡ true → writes (mode_by k.program i c) ≡ false
@@ -83,7 +83,8 @@ pub record UpdatesWell (k : Setting) (w : ℕ) (m : Moment) (s : Contents) (sinc
   pub fits : Fits k w (effect_of k.program s m.event).cells since more
   pub texts : (effect_of k.program s m.event).texts ≡ (effect_of k.program m.before m.event).texts
 
--- CENTRAL LAW: a lot that fits a node, updated with an event of this node that is exact for its counts, fits it again with this event counted, and the texts are the fold's
+-- CENTRAL LAW: a lot that fits a node, updated with an event of this node that is exact for its counts, fits it again with this event counted, and the
+-- texts are the fold's
 abbrev pub CentralLaw : Type 0
 CentralLaw =
     (k : Setting) (w : ℕ) (before after : List Moment) (m : Moment) (s : Contents) (since upto more : List ℕ)

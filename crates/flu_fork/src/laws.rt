@@ -2,7 +2,7 @@
 //! nothing, and speaks of states as contracts see them, as what each cell holds.
 
 ghost use Rattle.flu_fork.specs.LawsBelow.{LawsBelow};
-ghost use Rattle.flu_fork.specs.Laws.{NothingIsCopied, NeededIsBase, BaseIsNotAway, CopiedIsUnwritten, FittingHasSorts, OpeningFits, ForksFit, JoinsFit, CentralLaw};
+ghost use Rattle.flu_fork.specs.Laws.{NothingIsCopied, NeededIsBase, BaseIsNotAway, CopiesAreOnlyRead, FittingHasSorts, OpeningFits, ForksFit, JoinsFit, CentralLaw};
 
 use flu_deps::laws::{itags_are_owned, plans_are_trees};
 
@@ -26,8 +26,8 @@ pub fn base_cells_are_not_away()
 {}
 
 /// A cell that is copied at a node is not written below it, in neither child's subtree.
-pub fn copied_cells_are_unwritten()
-    ensures { CopiedIsUnwritten }
+pub fn copies_are_only_read()
+    ensures { CopiesAreOnlyRead }
 {
     laws_below();
 }

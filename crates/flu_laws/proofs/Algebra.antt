@@ -198,7 +198,8 @@ pub raised-mixes : (w : Option Worth) (v : ℤ) → HoldsSort MaxSort w → rais
 raised-mixes w v p = sym (joined-max w v p)
 
 -- ---- groups
-pub joined_sums-assoc : (a b c : Option Worth) → HoldsSort SumSort a → HoldsSort SumSort b → HoldsSort SumSort c → joined_worth (joined_worth a b) c ≡ joined_worth a (joined_worth b c)
+pub joined_sums-assoc : (a b c : Option Worth) → HoldsSort SumSort a → HoldsSort SumSort b → HoldsSort SumSort c
+    → joined_worth (joined_worth a b) c ≡ joined_worth a (joined_worth b c)
 joined_sums-assoc a b None p q r = joined-none (joined_worth a b) ∙ sym (ap (joined_worth a) (joined-none b))
 joined_sums-assoc a b (Some (Sum n)) p q r =
     joined-sum (joined_worth a b) n (joined-holds a b p q) r
@@ -218,7 +219,8 @@ joined_maxima-holds (Some (Max n)) (Some (Last m)) p q = absurd q
 joined_maxima-holds (Some (Sum n)) b p q = absurd p
 joined_maxima-holds (Some (Last n)) b p q = absurd p
 
-pub joined_maxima-assoc : (a b c : Option Worth) → HoldsSort MaxSort a → HoldsSort MaxSort b → HoldsSort MaxSort c → joined_worth (joined_worth a b) c ≡ joined_worth a (joined_worth b c)
+pub joined_maxima-assoc : (a b c : Option Worth) → HoldsSort MaxSort a → HoldsSort MaxSort b → HoldsSort MaxSort c
+    → joined_worth (joined_worth a b) c ≡ joined_worth a (joined_worth b c)
 joined_maxima-assoc a b None p q r = joined-none (joined_worth a b) ∙ sym (ap (joined_worth a) (joined-none b))
 joined_maxima-assoc a b (Some (Max n)) p q r =
     joined-max (joined_worth a b) n (joined_maxima-holds a b p q)

@@ -25,7 +25,8 @@ use Rattle.flu_laws.proofs.InPlace.{in_place_law}
 use Rattle.flu_laws.proofs.Updating.{texts_are_local, updates_are_changes, unwritten_keeps}
 use Rattle.flu_laws.proofs.Histories.{AreRising, are_rising, places_before, places_behind, before_is, changed-append, changed-skip, changed-idle, independent_keeps, in_range}
 
-module _ (p : Program) (opening : Contents) (xs : List Event) (before after : List Moment) (m : Moment) (is_base is_away : Cell → Bool) (s : Contents) (since upto more : List ℕ)
+module _ (p : Program) (opening : Contents) (xs : List Event) (before after : List Moment) (m : Moment) (is_base is_away : Cell → Bool) (s : Contents)
+    (since upto more : List ℕ)
     (accepted : IsAccepted p) (start : IsStateOf p.families opening) (sorted : IsStateOf p.families s)
     (ranges : AllByRecursion (λ x. x.itag.0 < count_of_itags p) xs)
     (split : history p opening (λ i. 0) xs ≡ before ++ m ∷ after)
@@ -51,45 +52,59 @@ module _ (p : Program) (opening : Contents) (xs : List Event) (before after : Li
   m_not_below = ap (nat_lt m.index) exact.next ∙ not_less_than_itself m.index
 
   more_here : slice_index more m.event.itag.0 ≡ m.index + 1
-  more_here = one_more m.event.itag.0 ∙ ap (λ b. cond b (slice_index upto m.event.itag.0 + 1) (slice_index upto m.event.itag.0)) (same_number m.event.itag.0) ∙ ap (λ n. n + 1) exact.next
+  more_here =
+      one_more m.event.itag.0 ∙ ap (λ b. cond b (slice_index upto m.event.itag.0 + 1) (slice_index upto m.event.itag.0)) (same_number m.event.itag.0) ∙ ap
+      (λ n. n + 1) exact.next
 
   m_below_more : is_below more m ≡ true
   m_below_more = ap (nat_lt m.index) more_here ∙ less_than_next m.index
 
   -- the other moments are counted as before
-  same_if : (q : Moment) (b : Bool) → (q.event.itag.0 == m.event.itag.0) ≡ b → ((q.event.itag.0 == m.event.itag.0) ≡ true → is_below upto q ≡ is_below more q) → is_below upto q ≡ is_below more q
+  same_if : (q : Moment) (b : Bool) → (q.event.itag.0 == m.event.itag.0) ≡ b
+      → ((q.event.itag.0 == m.event.itag.0) ≡ true → is_below upto q ≡ is_below more q) → is_below upto q ≡ is_below more q
   same_if q true e own = own e
-  same_if q false e own = sym (ap (nat_lt q.index) (one_more q.event.itag.0 ∙ ap (λ b. cond b (slice_index upto q.event.itag.0 + 1) (slice_index upto q.event.itag.0)) e))
+  same_if q false e own =
+      sym (ap (nat_lt q.index) (one_more q.event.itag.0 ∙ ap (λ b. cond b (slice_index upto q.event.itag.0 + 1) (slice_index upto q.event.itag.0)) e))
 
   same_before : AllByRecursion (λ (q : Moment). is_below upto q ≡ is_below more q) before
-  same_before = all_of_both (λ (q : Moment). (m.event.itag.0 == q.event.itag.0) ≡ true → q.index < m.index) (λ (q : Moment). q.event.itag.0 < count_of_itags p) (λ (q : Moment). is_below upto q ≡ is_below more q) before
+  same_before =
+      all_of_both (λ (q : Moment). (m.event.itag.0 == q.event.itag.0) ≡ true → q.index < m.index) (λ (q : Moment). q.event.itag.0 < count_of_itags p)
+      (λ (q : Moment). is_below upto q ≡ is_below more q) before
       (λ q lt r. same_if q (q.event.itag.0 == m.event.itag.0) refl (λ e. (
       let i : q.event.itag.0 ≡ m.event.itag.0 = true_eq q.event.itag.0 m.event.itag.0 e in
       let less : q.index < m.index = lt (same_turns m.event.itag.0 q.event.itag.0 ∙ e) in
       let u : slice_index upto q.event.itag.0 ≡ m.index = ap (slice_index upto) i ∙ exact.next in
       let v : slice_index more q.event.itag.0 ≡ m.index + 1 = ap (slice_index more) i ∙ more_here in
-      lt_true q.index (slice_index upto q.event.itag.0) (omega (arith, less, u)) ∙ sym (lt_true q.index (slice_index more q.event.itag.0) (omega (arith, less, v)))
+      lt_true q.index (slice_index upto q.event.itag.0) (omega (arith, less, u)) ∙ sym
+      (lt_true q.index (slice_index more q.event.itag.0) (omega (arith, less, v)))
       )))
       (places_before before after m rise) before_in_range
 
   same_after : AllByRecursion (λ (q : Moment). is_below upto q ≡ is_below more q) after
-  same_after = all_of_both (λ (q : Moment). (q.event.itag.0 == m.event.itag.0) ≡ true → m.index < q.index) (λ (q : Moment). q.event.itag.0 < count_of_itags p) (λ (q : Moment). is_below upto q ≡ is_below more q) after
+  same_after =
+      all_of_both (λ (q : Moment). (q.event.itag.0 == m.event.itag.0) ≡ true → m.index < q.index) (λ (q : Moment). q.event.itag.0 < count_of_itags p)
+      (λ (q : Moment). is_below upto q ≡ is_below more q) after
       (λ q lt r. same_if q (q.event.itag.0 == m.event.itag.0) refl (λ e. (
       let i : q.event.itag.0 ≡ m.event.itag.0 = true_eq q.event.itag.0 m.event.itag.0 e in
       let less : m.index < q.index = lt e in
       let u : slice_index upto q.event.itag.0 ≡ m.index = ap (slice_index upto) i ∙ exact.next in
       let v : slice_index more q.event.itag.0 ≡ m.index + 1 = ap (slice_index more) i ∙ more_here in
-      le-ltb q.index (slice_index upto q.event.itag.0) (omega (arith, less, u)) ∙ sym (le-ltb q.index (slice_index more q.event.itag.0) (omega (arith, less, v)))
+      le-ltb q.index (slice_index upto q.event.itag.0) (omega (arith, less, u)) ∙ sym
+      (le-ltb q.index (slice_index more q.event.itag.0) (omega (arith, less, v)))
       )))
       (places_behind before after m rise) after_in_range
 
   -- a counted moment behind m is independent of it
   apart_after : AllByRecursion (λ (q : Moment). is_below upto q ≡ true → depends_on p m q ≡ false) after
-  apart_after = all_of_both (λ (q : Moment). depends_on p m q ≡ true → is_below upto q ≡ false) (λ (q : Moment). q.event.itag.0 < count_of_itags p) (λ (q : Moment). is_below upto q ≡ true → depends_on p m q ≡ false) after
+  apart_after =
+      all_of_both (λ (q : Moment). depends_on p m q ≡ true → is_below upto q ≡ false) (λ (q : Moment). q.event.itag.0 < count_of_itags p)
+      (λ (q : Moment). is_below upto q ≡ true → depends_on p m q ≡ false) after
       (λ q not r counted. false_if_not (depends_on p m q) (λ d. not_both (is_below upto q) counted (not d))) exact.others after_in_range
 
   apart_before : AllByRecursion (λ (q : Moment). is_below upto q ≡ false → depends_on p m q ≡ false) before
-  apart_before = all_of_both (λ (q : Moment). depends_on p m q ≡ true → is_below upto q ≡ true) (λ (q : Moment). q.event.itag.0 < count_of_itags p) (λ (q : Moment). is_below upto q ≡ false → depends_on p m q ≡ false) before
+  apart_before =
+      all_of_both (λ (q : Moment). depends_on p m q ≡ true → is_below upto q ≡ true) (λ (q : Moment). q.event.itag.0 < count_of_itags p)
+      (λ (q : Moment). is_below upto q ≡ false → depends_on p m q ≡ false) before
       (λ q is r uncounted. false_if_not (depends_on p m q) (λ d. not_both (is_below upto q) (is d) uncounted)) exact.counted before_in_range
 
   -- what passes a test at m's place
@@ -105,19 +120,26 @@ module _ (p : Program) (opening : Contents) (xs : List Event) (before after : Li
       fits.base c (classes.needed c need)
       ∙ ap (changed_by p c (opening c)) (without_m (is_below upto) m_not_below)
       ∙ changed-append p c (opening c) (filter (is_below upto) before) (filter (is_below upto) after)
-      ∙ changed-idle p c (is_below upto) after _ (all_of_both (λ (q : Moment). is_below upto q ≡ true → depends_on p m q ≡ false) (λ (q : Moment). q.event.itag.0 < count_of_itags p) (λ (q : Moment). is_below upto q ≡ true → change_at p c q ≡ Keep) after (λ q apart r counted. independent_keeps p m q c accepted m_in_range r (apart counted) need) apart_after after_in_range)
-      ∙ changed-skip p c (is_below upto) before (opening c) (all_of_both (λ (q : Moment). is_below upto q ≡ false → depends_on p m q ≡ false) (λ (q : Moment). q.event.itag.0 < count_of_itags p) (λ (q : Moment). is_below upto q ≡ false → change_at p c q ≡ Keep) before (λ q apart r uncounted. independent_keeps p m q c accepted m_in_range r (apart uncounted) need) apart_before before_in_range)
+      ∙ changed-idle p c (is_below upto) after _ (all_of_both (λ (q : Moment). is_below upto q ≡ true → depends_on p m q ≡ false)
+      (λ (q : Moment). q.event.itag.0 < count_of_itags p) (λ (q : Moment). is_below upto q ≡ true → change_at p c q ≡ Keep) after
+      (λ q apart r counted. independent_keeps p m q c accepted m_in_range r (apart counted) need) apart_after after_in_range)
+      ∙ changed-skip p c (is_below upto) before (opening c) (all_of_both (λ (q : Moment). is_below upto q ≡ false → depends_on p m q ≡ false)
+      (λ (q : Moment). q.event.itag.0 < count_of_itags p) (λ (q : Moment). is_below upto q ≡ false → change_at p c q ≡ Keep) before
+      (λ q apart r uncounted. independent_keeps p m q c accepted m_in_range r (apart uncounted) need) apart_before before_in_range)
       ∙ sym (before_is p opening (λ i. 0) xs before after m start split c)
 
   -- a cell that holds the effects of counted moments, chosen by a test, holds them with m's
-  placed : (c : Cell) (w : Option Worth) (f g : Moment → Bool) → f m ≡ false → g m ≡ true → AllByRecursion (λ q. f q ≡ g q) before → AllByRecursion (λ q. f q ≡ g q) after
+  placed : (c : Cell) (w : Option Worth) (f g : Moment → Bool) → f m ≡ false → g m ≡ true → AllByRecursion (λ q. f q ≡ g q) before
+      → AllByRecursion (λ q. f q ≡ g q) after
       → ((q : Moment) → f q ≡ true → is_below upto q ≡ true)
       → s c ≡ changed_by p c w (filter f (before ++ m ∷ after))
       → (effect_of p s m.event).cells c ≡ changed_by p c w (filter g (before ++ m ∷ after))
   placed c w f g out inside same_b same_a counted holds =
       in_place_law p s (filter f before) (filter f after) m c w sorted agree
       (holds ∙ ap (changed_by p c w) (without_m f out))
-      (all_filter (GoesWith p c m.event) f after (all_of_both (λ (q : Moment). is_below upto q ≡ true → depends_on p m q ≡ false) (λ (q : Moment). q.event.itag.0 < count_of_itags p) (λ (q : Moment). f q ≡ true → GoesWith p c m.event q) after (λ q apart r chosen. no_conflict p m.event q.event accepted m_in_range r (apart (counted q chosen)) c) apart_after after_in_range))
+      (all_filter (GoesWith p c m.event) f after (all_of_both (λ (q : Moment). is_below upto q ≡ true → depends_on p m q ≡ false)
+      (λ (q : Moment). q.event.itag.0 < count_of_itags p) (λ (q : Moment). f q ≡ true → GoesWith p c m.event q) after
+      (λ q apart r chosen. no_conflict p m.event q.event accepted m_in_range r (apart (counted q chosen)) c) apart_after after_in_range))
       ∙ (λ i. changed_by p c w (filter_same f g before same_b i ++ m ∷ filter_same f g after same_a i))
       ∙ sym (ap (changed_by p c w) (with_m g inside))
 
@@ -125,7 +147,8 @@ module _ (p : Program) (opening : Contents) (xs : List Event) (before after : Li
   between_same : (q : Moment) → is_below upto q ≡ is_below more q → is_between since upto q ≡ is_between since more q
   between_same q e = ap (λ b. nat_le (slice_index since q.event.itag.0) q.index && b) e
 
-  all_between : (ms : List Moment) → AllByRecursion (λ (q : Moment). is_below upto q ≡ is_below more q) ms → AllByRecursion (λ (q : Moment). is_between since upto q ≡ is_between since more q) ms
+  all_between : (ms : List Moment) → AllByRecursion (λ (q : Moment). is_below upto q ≡ is_below more q) ms
+      → AllByRecursion (λ (q : Moment). is_between since upto q ≡ is_between since more q) ms
   all_between [] all = tt
   all_between (q ∷ ms) all = (between_same q all.0, all_between ms all.1)
 

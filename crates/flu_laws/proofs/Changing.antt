@@ -28,7 +28,8 @@ abbrev pub raised_to : Option Worth → Option ℤ → Option Worth
 raised_to w None = w
 raised_to w (Some v) = raised w v
 
-pub raised_to-joined : (a b : Option Worth) (v : Option ℤ) → HoldsSort MaxSort a → HoldsSort MaxSort b → raised_to (joined_worth a b) v ≡ joined_worth (raised_to a v) b
+pub raised_to-joined : (a b : Option Worth) (v : Option ℤ) → HoldsSort MaxSort a → HoldsSort MaxSort b
+    → raised_to (joined_worth a b) v ≡ joined_worth (raised_to a v) b
 raised_to-joined a b None p q = refl
 raised_to-joined a b (Some v) p q = raised-joined a b v p q
 
@@ -52,7 +53,8 @@ elsewhere s d c w e = ap (λ b. cond b w (s c)) (same_cell-sym c d ∙ e)
 
 module _ (families : List Family) (x : Event) (key : ℕ) (c : Cell) where
   -- ---- acts
-  act_keeps : (a : Act) (s : Contents) → act_overwrites key c a ≡ false → act_adds key c a ≡ false → act_raises key c a ≡ false → (effect_of_act families a s x key).cells c ≡ s c
+  act_keeps : (a : Act) (s : Contents) → act_overwrites key c a ≡ false → act_adds key c a ≡ false → act_raises key c a ≡ false
+      → (effect_of_act families a s x key).cells c ≡ s c
   act_keeps (Add r e) s own add raise = elsewhere s (cell_of r key) c _ add
   act_keeps (Raise r e) s own add raise = elsewhere s (cell_of r key) c _ raise
   act_keeps (Set r e) s own add raise = elsewhere s (cell_of r key) c _ own
@@ -60,9 +62,11 @@ module _ (families : List Family) (x : Event) (key : ℕ) (c : Cell) where
   act_keeps (Emit qs) s own add raise = refl
   act_keeps (Flush f qs) s own add raise = ap (λ b. cond b None (s c)) own
 
-  act_gains : (a : Act) (s : Contents) → act_overwrites key c a ≡ false → act_raises key c a ≡ false → HoldsSort SumSort (s c) → (effect_of_act families a s x key).cells c ≡ added (s c) (amount_of_act a s x key c)
+  act_gains : (a : Act) (s : Contents) → act_overwrites key c a ≡ false → act_raises key c a ≡ false → HoldsSort SumSort (s c)
+      → (effect_of_act families a s x key).cells c ≡ added (s c) (amount_of_act a s x key c)
   act_gains (Add r e) s own raise holds =
-      elim (means key c r) as (λ b. means key c r ≡ b → with_worth s (cell_of r key) (added (s (cell_of r key)) (value_of_expr e s x key)) c ≡ added (s c) (cond b (value_of_expr e s x key) (pos 0))) [
+      elim (means key c r) as (λ b. means key c r ≡ b → with_worth s (cell_of r key) (added (s (cell_of r key)) (value_of_expr e s x key)) c ≡ added (s c)
+      (cond b (value_of_expr e s x key) (pos 0))) [
         | true ↦ λ m. there s (cell_of r key) c (λ w. added w (value_of_expr e s x key)) m
         | false ↦ λ m. elsewhere s (cell_of r key) c _ m ∙ sym (added-zero (s c) holds)
       ] refl
@@ -72,10 +76,12 @@ module _ (families : List Family) (x : Event) (key : ℕ) (c : Cell) where
   act_gains (Emit qs) s own raise holds = sym (added-zero (s c) holds)
   act_gains (Flush f qs) s own raise holds = act_keeps (Flush f qs) s own refl refl ∙ sym (added-zero (s c) holds)
 
-  act_reaches : (a : Act) (s : Contents) → act_overwrites key c a ≡ false → act_adds key c a ≡ false → (effect_of_act families a s x key).cells c ≡ raised_to (s c) (level_of_act a s x key c)
+  act_reaches : (a : Act) (s : Contents) → act_overwrites key c a ≡ false → act_adds key c a ≡ false
+      → (effect_of_act families a s x key).cells c ≡ raised_to (s c) (level_of_act a s x key c)
   act_reaches (Add r e) s own add = act_keeps (Add r e) s own add refl
   act_reaches (Raise r e) s own add =
-      elim (means key c r) as (λ b. means key c r ≡ b → with_worth s (cell_of r key) (raised (s (cell_of r key)) (value_of_expr e s x key)) c ≡ raised_to (s c) (cond b (Some (value_of_expr e s x key)) None)) [
+      elim (means key c r) as (λ b. means key c r ≡ b → with_worth s (cell_of r key) (raised (s (cell_of r key)) (value_of_expr e s x key)) c ≡ raised_to
+      (s c) (cond b (Some (value_of_expr e s x key)) None)) [
         | true ↦ λ m. there s (cell_of r key) c (λ w. raised w (value_of_expr e s x key)) m
         | false ↦ λ m. elsewhere s (cell_of r key) c _ m
       ] refl
@@ -85,32 +91,42 @@ module _ (families : List Family) (x : Event) (key : ℕ) (c : Cell) where
   act_reaches (Flush f qs) s own add = act_keeps (Flush f qs) s own refl refl
 
   -- ---- lists of actions
-  pub keeps : (all : List Action) (s : Contents) → list_any (λ (a : Action). act_overwrites key c a.act) all ≡ false → list_any (λ (a : Action). act_adds key c a.act) all ≡ false → list_any (λ (a : Action). act_raises key c a.act) all ≡ false → (effect_of_actions families all s x key).cells c ≡ s c
+  pub keeps : (all : List Action) (s : Contents) → list_any (λ (a : Action). act_overwrites key c a.act) all ≡ false
+      → list_any (λ (a : Action). act_adds key c a.act) all ≡ false → list_any (λ (a : Action). act_raises key c a.act) all ≡ false
+      → (effect_of_actions families all s x key).cells c ≡ s c
   keeps [] s own add raise = refl
   keeps (a ∷ all) s own add raise =
-      keeps all (effect_of_action families a s x key).cells (or_false_right (act_overwrites key c a.act) _ own) (or_false_right (act_adds key c a.act) _ add) (or_false_right (act_raises key c a.act) _ raise)
+      keeps all (effect_of_action families a s x key).cells (or_false_right (act_overwrites key c a.act) _ own) (or_false_right (act_adds key c a.act) _ add)
+      (or_false_right (act_raises key c a.act) _ raise)
       ∙ (elim (passes_guard a.guard s x key) as (λ b. (cond b (effect_of_act families a.act s x key) (changes_to s)).cells c ≡ s c) [
         | true ↦ act_keeps a.act s (or_false_left _ _ own) (or_false_left _ _ add) (or_false_left _ _ raise)
         | false ↦ refl
       ])
 
-  pub gains : (all : List Action) (s : Contents) → list_any (λ (a : Action). act_overwrites key c a.act) all ≡ false → list_any (λ (a : Action). act_raises key c a.act) all ≡ false → HoldsSort SumSort (s c) → (effect_of_actions families all s x key).cells c ≡ added (s c) (amount_added families all s x key c)
+  pub gains : (all : List Action) (s : Contents) → list_any (λ (a : Action). act_overwrites key c a.act) all ≡ false
+      → list_any (λ (a : Action). act_raises key c a.act) all ≡ false → HoldsSort SumSort (s c)
+      → (effect_of_actions families all s x key).cells c ≡ added (s c) (amount_added families all s x key c)
   gains [] s own raise holds = sym (added-zero (s c) holds)
   gains (a ∷ all) s own raise holds =
       let first : (effect_of_action families a s x key).cells c ≡ added (s c) (amount_of_action a s x key c) =
-      elim (passes_guard a.guard s x key) as (λ b. (cond b (effect_of_act families a.act s x key) (changes_to s)).cells c ≡ added (s c) (cond b (amount_of_act a.act s x key c) (pos 0))) [
+      elim (passes_guard a.guard s x key) as (λ b. (cond b (effect_of_act families a.act s x key) (changes_to s)).cells c ≡ added (s c)
+      (cond b (amount_of_act a.act s x key c) (pos 0))) [
         | true ↦ act_gains a.act s (or_false_left _ _ own) (or_false_left _ _ raise) holds
         | false ↦ sym (added-zero (s c) holds)
       ] in
-      gains all (effect_of_action families a s x key).cells (or_false_right (act_overwrites key c a.act) _ own) (or_false_right (act_raises key c a.act) _ raise) (subst (HoldsSort SumSort) (sym first) (added-holds (s c) _))
+      gains all (effect_of_action families a s x key).cells (or_false_right (act_overwrites key c a.act) _ own)
+      (or_false_right (act_raises key c a.act) _ raise) (subst (HoldsSort SumSort) (sym first) (added-holds (s c) _))
       ∙ ap (λ w. added w (amount_added families all (effect_of_action families a s x key).cells x key c)) first
       ∙ added-added (s c) (amount_of_action a s x key c) (amount_added families all (effect_of_action families a s x key).cells x key c)
 
-  pub reaches : (all : List Action) (s : Contents) → list_any (λ (a : Action). act_overwrites key c a.act) all ≡ false → list_any (λ (a : Action). act_adds key c a.act) all ≡ false → (effect_of_actions families all s x key).cells c ≡ raised_to (s c) (level_reached families all s x key c)
+  pub reaches : (all : List Action) (s : Contents) → list_any (λ (a : Action). act_overwrites key c a.act) all ≡ false
+      → list_any (λ (a : Action). act_adds key c a.act) all ≡ false
+      → (effect_of_actions families all s x key).cells c ≡ raised_to (s c) (level_reached families all s x key c)
   reaches [] s own add = refl
   reaches (a ∷ all) s own add =
       let first : (effect_of_action families a s x key).cells c ≡ raised_to (s c) (level_of_action a s x key c) =
-      elim (passes_guard a.guard s x key) as (λ b. (cond b (effect_of_act families a.act s x key) (changes_to s)).cells c ≡ raised_to (s c) (cond b (level_of_act a.act s x key c) None)) [
+      elim (passes_guard a.guard s x key) as (λ b. (cond b (effect_of_act families a.act s x key) (changes_to s)).cells c ≡ raised_to (s c)
+      (cond b (level_of_act a.act s x key c) None)) [
         | true ↦ act_reaches a.act s (or_false_left _ _ own) (or_false_left _ _ add)
         | false ↦ refl
       ] in

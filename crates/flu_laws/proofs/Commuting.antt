@@ -44,7 +44,8 @@ module _ (version : ℕ) (families : List Family) (k1 v1 k2 v2 : Bool) (x y : Ev
   agree_first c o = second_stays s c (needed_unwritten (mode_among version all i c) (mode_among version others j c) (needs_among version all i c ∙ o) (apart c))
 
   agree_second : Agree (λ c. list_any (action_needs j c) others) (first s) s
-  agree_second c o = first_stays s c (unwritten_by_needed (mode_among version all i c) (mode_among version others j c) (needs_among version others j c ∙ o) (apart c))
+  agree_second c o =
+      first_stays s c (unwritten_by_needed (mode_among version all i c) (mode_among version others j c) (needs_among version others j c ∙ o) (apart c))
 
   pub texts_first : (effect_of_actions families all (second s) x i).texts ≡ (effect_of_actions families all s x i).texts
   texts_first = texts-agree families k1 v1 x i all (second s) s fits_all agree_first

@@ -29,8 +29,10 @@ applied-reach-swap a b w =
     ∙ raised_to-higher w b a ∙ ap (raised_to w) (higher-comm b a) ∙ sym (raised_to-higher w a b)
     ∙ ap (λ u. raised_to u b) (applied-reach a w) ∙ applied-reach b (applied (reach a) w)
 
-swap_by : (families : List Family) (m n : Mode) (all others : List Action) (s t : Contents) (x y : Event) (i j : ℕ) (c : Cell) (w : Option Worth) → modes_conflict m n ≡ false
-    → applied (change_by families m all s x i c) (applied (change_by families n others t y j c) w) ≡ applied (change_by families n others t y j c) (applied (change_by families m all s x i c) w)
+swap_by : (families : List Family) (m n : Mode) (all others : List Action) (s t : Contents) (x y : Event) (i j : ℕ) (c : Cell) (w : Option Worth)
+    → modes_conflict m n ≡ false
+    → applied (change_by families m all s x i c) (applied (change_by families n others t y j c) w) ≡ applied (change_by families n others t y j c)
+    (applied (change_by families m all s x i c) w)
 swap_by families NoMode n all others s t x y i j c w ok = refl
 swap_by families ReadMode n all others s t x y i j c w ok = refl
 swap_by families m NoMode all others s t x y i j c w ok = refl
@@ -39,24 +41,28 @@ swap_by families AddMode AddMode all others s t x y i j c w ok = added-swap w (a
 swap_by families AddMode RaiseMode all others s t x y i j c w ok = cc
 swap_by families AddMode Own all others s t x y i j c w ok = cc
 swap_by families RaiseMode AddMode all others s t x y i j c w ok = cc
-swap_by families RaiseMode RaiseMode all others s t x y i j c w ok = applied-reach-swap (level_reached families all s x i c) (level_reached families others t y j c) w
+swap_by families RaiseMode RaiseMode all others s t x y i j c w ok =
+    applied-reach-swap (level_reached families all s x i c) (level_reached families others t y j c) w
 swap_by families RaiseMode Own all others s t x y i j c w ok = cc
 swap_by families Own AddMode all others s t x y i j c w ok = cc
 swap_by families Own RaiseMode all others s t x y i j c w ok = cc
 swap_by families Own Own all others s t x y i j c w ok = cc
 
 -- a change that goes with all later ones may come last
-last_of : (p : Program) (c : Cell) (m : Moment) (w : Option Worth) (after : List Moment) → AllByRecursion (GoesWith p c m.event) after → applied (change_at p c m) (changed_by p c w after) ≡ changed_by p c (applied (change_at p c m) w) after
+last_of : (p : Program) (c : Cell) (m : Moment) (w : Option Worth) (after : List Moment) → AllByRecursion (GoesWith p c m.event) after
+    → applied (change_at p c m) (changed_by p c w after) ≡ changed_by p c (applied (change_at p c m) w) after
 last_of p c m w [] go = refl
 last_of p c m w (q ∷ after) go =
     last_of p c m (applied (change_at p c q) w) after go.1
     ∙ ap (λ u. changed_by p c u after) (
     let g : Tag = tag_of_itag p m.event.itag in
     let h : Tag = tag_of_itag p q.event.itag in
-    swap_by p.families (mode_of p g c) (mode_of p h c) (actions_of (slice_get p.kinds g.kind)) (actions_of (slice_get p.kinds h.kind)) m.before q.before m.event q.event g.key h.key c w go.0
+    swap_by p.families (mode_of p g c) (mode_of p h c) (actions_of (slice_get p.kinds g.kind))
+    (actions_of (slice_get p.kinds h.kind)) m.before q.before m.event q.event g.key h.key c w go.0
     )
 
-inserted : (p : Program) (c : Cell) (m : Moment) (w : Option Worth) (before after : List Moment) → AllByRecursion (GoesWith p c m.event) after → applied (change_at p c m) (changed_by p c w (before ++ after)) ≡ changed_by p c w (before ++ m ∷ after)
+inserted : (p : Program) (c : Cell) (m : Moment) (w : Option Worth) (before after : List Moment) → AllByRecursion (GoesWith p c m.event) after
+    → applied (change_at p c m) (changed_by p c w (before ++ after)) ≡ changed_by p c w (before ++ m ∷ after)
 inserted p c m w [] after go = last_of p c m w after go
 inserted p c m w (q ∷ before) after go = inserted p c m (applied (change_at p c q) w) before after go
 

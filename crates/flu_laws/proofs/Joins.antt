@@ -77,7 +77,8 @@ module _ (version : ℕ) (families : List Family) (keyed has_value : Bool) (x : 
       → effect_of_actions families all (join s t) x key ≡ record { cells = join (after s) t; texts = (effect_of_actions families all s x key).texts }
   unfolding Neutral
   updates_left neutral =
-      let texts : (effect_of_actions families all (join s t) x key).texts ≡ (effect_of_actions families all s x key).texts = texts-agree families keyed has_value x key all (join s t) s fits (agrees neutral) in
+      let texts : (effect_of_actions families all (join s t) x key).texts ≡ (effect_of_actions families all s x key).texts =
+      texts-agree families keyed has_value x key all (join s t) s fits (agrees neutral) in
       λ i. record { cells = λ c. at_cell neutral c (mode_among version all key c) refl i; texts = texts i }
 
   -- the cells that the actions need are neutral on the left
@@ -120,12 +121,14 @@ module _ (version : ℕ) (families : List Family) (keyed has_value : Bool) (x : 
       ∙ ap (λ n. raised_to (joined_worth (s c) (t c)) n) (level-agree families keyed has_value x key all (join s t) t c (agrees_right neutral))
       ∙ ap (λ w. raised_to w (level_reached families all t x key c)) (joined_maxima-comm (s c) (t c) one other)
       ∙ raised_to-joined (t c) (s c) (level_reached families all t x key c) other one
-      ∙ joined_maxima-comm (raised_to (t c) (level_reached families all t x key c)) (s c) (raised_to-holds (t c) (level_reached families all t x key c) other) one
+      ∙ joined_maxima-comm (raised_to (t c) (level_reached families all t x key c)) (s c)
+      (raised_to-holds (t c) (level_reached families all t x key c) other) one
       ∙ sym (ap (λ w. joined_worth (s c) w) (reaches families x key c all t maxima.0 maxima.1))
 
   pub updates_right : ((c : Cell) → list_any (action_needs key c) all ≡ true → s c ≡ None)
       → effect_of_actions families all (join s t) x key ≡ record { cells = join s (after t); texts = (effect_of_actions families all t x key).texts }
   unfolding NeutralLeft
   updates_right neutral =
-      let texts : (effect_of_actions families all (join s t) x key).texts ≡ (effect_of_actions families all t x key).texts = texts-agree families keyed has_value x key all (join s t) t fits (agrees_right neutral) in
+      let texts : (effect_of_actions families all (join s t) x key).texts ≡ (effect_of_actions families all t x key).texts =
+      texts-agree families keyed has_value x key all (join s t) t fits (agrees_right neutral) in
       λ i. record { cells = λ c. at_cell_right neutral c (mode_among version all key c) refl i; texts = texts i }

@@ -23,7 +23,8 @@ use Rattle.flu_laws.proofs.Keys.{cell_is_there}
 use Rattle.flu_laws.proofs.Values.{HoldsSort, holds_sort, may_hold}
 
 -- one cell of a state is changed to a value that it may hold
-with_kept : (families : List Family) (s : Contents) (d : Cell) (w : Option Worth) → IsStateOf families s → MayHold families d w → IsStateOf families (with_worth s d w)
+with_kept : (families : List Family) (s : Contents) (d : Cell) (w : Option Worth) → IsStateOf families s → MayHold families d w
+    → IsStateOf families (with_worth s d w)
 with_kept families s d w sorted holds c =
     elim (is_same_cell c d) as (λ b. is_same_cell c d ≡ b → MayHold families c (cond b w (s c))) [
       | true ↦ λ e. subst (λ (u : Cell). MayHold families u w) (sym (made_alike cell c.family c.key d.family d.key e)) holds
@@ -31,7 +32,8 @@ with_kept families s d w sorted holds c =
     ] refl
 
 module _ (families : List Family) (keyed has_value : Bool) (x : Event) (key : ℕ) (in_range : nat_lt key key_count ≡ true) where
-  act_keeps : (a : Act) (s : Contents) → act_fits families keyed has_value a ≡ true → IsStateOf families s → IsStateOf families (effect_of_act families a s x key).cells
+  act_keeps : (a : Act) (s : Contents) → act_fits families keyed has_value a ≡ true → IsStateOf families s
+      → IsStateOf families (effect_of_act families a s x key).cells
   act_keeps (Add r e) s fits sorted =
       let c : Cell = cell_of r key in
       let there = cell_is_there families keyed r key in_range (and_left _ _ (and_left _ _ fits)) in
@@ -56,7 +58,8 @@ module _ (families : List Family) (keyed has_value : Bool) (x : Event) (key : �
         | false ↦ sorted c
       ]
 
-  pub actions_keep : (all : List Action) (s : Contents) → list_all (action_fits families keyed has_value) all ≡ true → IsStateOf families s → IsStateOf families (effect_of_actions families all s x key).cells
+  pub actions_keep : (all : List Action) (s : Contents) → list_all (action_fits families keyed has_value) all ≡ true → IsStateOf families s
+      → IsStateOf families (effect_of_actions families all s x key).cells
   actions_keep [] s fits sorted = sorted
   actions_keep (a ∷ all) s fits sorted =
       actions_keep all (effect_of_action families a s x key).cells (and_right _ _ fits)

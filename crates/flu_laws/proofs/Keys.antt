@@ -58,7 +58,8 @@ sources_below kinds n [] e = refl
 sources_below kinds n (s ∷ ss) e =
     list_all-append (λ (e : Tag × ℕ). is_below e.0) (map (λ t. (t, n)) (tags_of_source s)) (itags_of_sources (n + 1) ss)
     ∙ both _ _
-    (list_all-map (λ (e : Tag × ℕ). is_below e.0) (λ t. (t, n)) (tags_of_source s) ∙ refs_below kinds s.tags (and_right _ _ (and_left _ _ (and_left (source_fits kinds s) _ e))))
+    (list_all-map (λ (e : Tag × ℕ). is_below e.0) (λ t. (t, n)) (tags_of_source s) ∙ refs_below kinds s.tags
+    (and_right _ _ (and_left _ _ (and_left (source_fits kinds s) _ e))))
     (sources_below kinds (n + 1) ss (and_right (source_fits kinds s) _ e))
 
 one_below : (ts : List (Tag × ℕ)) (i : ℕ) → list_all (λ (e : Tag × ℕ). is_below e.0) ts ≡ true → is_below (get_or ts i (tag 0 0, 0)).0 ≡ true
@@ -79,7 +80,8 @@ key_is_there false own OwnKey key lt e = cc
 key_is_there true own (Fixed k) key lt e = or_left _ _ e
 key_is_there false own (Fixed k) key lt e = cc
 
-in_family : (o : Option Family) (own : Bool) (at : At) (key : ℕ) → nat_lt key key_count ≡ true → family_fits o own at ≡ true → key_is_in o (key_of at key) ≡ true
+in_family : (o : Option Family) (own : Bool) (at : At) (key : ℕ) → nat_lt key key_count ≡ true → family_fits o own at ≡ true
+    → key_is_in o (key_of at key) ≡ true
 in_family None own at key lt e = cc
 in_family (Some f) own at key lt e = key_is_there f.keyed own at key lt e
 

@@ -136,7 +136,8 @@ next_leaves p s x c quiet =
     keeps p.families x g.key c (actions_of (slice_get p.kinds g.kind)) s idle.0 idle.1 idle.2
 
 -- ---- changes of one cell
-reach_keeps : (p : Program) (c : Cell) (l : Option ℤ) (w : Option Worth) → has_sort (slice_get p.families c.family) MaxSort ≡ true → is_cell_of p.families c ≡ true
+reach_keeps : (p : Program) (c : Cell) (l : Option ℤ) (w : Option Worth) → has_sort (slice_get p.families c.family) MaxSort ≡ true
+    → is_cell_of p.families c ≡ true
     → MayHold p.families c w → MayHold p.families c (applied (reach l) w)
 reach_keeps p c None w sort there h = h
 reach_keeps p c (Some v) w sort there h = may_hold p.families c MaxSort (raised w v) sort there (raised-holds w v (holds_sort p.families c MaxSort w sort h))
@@ -161,14 +162,17 @@ pub changes_mix : ChangesMix
 changes_mix p s x c w quiet holds = at_mode (mode_at p x c) refl quiet
   where
     at_mode : (m : Mode) → mode_at p x c ≡ m → needs m ≡ false
-        → (let g : Tag = tag_of_itag p x.itag in let h = change_by p.families m (actions_of (slice_get p.kinds g.kind)) s x g.key c in applied h w ≡ joined_worth w (applied h None))
+        → (let g : Tag = tag_of_itag p x.itag in let h = change_by p.families m
+        (actions_of (slice_get p.kinds g.kind)) s x g.key c in applied h w ≡ joined_worth w (applied h None))
     at_mode NoMode e q = sym (joined-none w)
     at_mode AddMode e q =
         let g : Tag = tag_of_itag p x.itag in
-        added-mixes w (amount_added p.families (actions_of (slice_get p.kinds g.kind)) s x g.key c) (holds_sort p.families c SumSort w (added_sort p g c e) holds)
+        added-mixes w (amount_added p.families (actions_of (slice_get p.kinds g.kind)) s x g.key c)
+        (holds_sort p.families c SumSort w (added_sort p g c e) holds)
     at_mode RaiseMode e q =
         let g : Tag = tag_of_itag p x.itag in
-        reach_mixes (level_reached p.families (actions_of (slice_get p.kinds g.kind)) s x g.key c) w (holds_sort p.families c MaxSort w (raised_sort p g c e) holds)
+        reach_mixes (level_reached p.families (actions_of (slice_get p.kinds g.kind)) s x g.key c) w
+        (holds_sort p.families c MaxSort w (raised_sort p g c e) holds)
     at_mode ReadMode e q = cc
     at_mode Own e q = cc
 
@@ -187,7 +191,8 @@ amount_holds : (p : Program) (s : Contents) (x : Event) (c : Cell) → mixes (mo
 amount_holds p s x c mix = at_mode (mode_at p x c) refl mix
   where
     at_mode : (m : Mode) → mode_at p x c ≡ m → mixes m ≡ true
-        → (let g : Tag = tag_of_itag p x.itag in MayHold p.families c (applied (change_by p.families m (actions_of (slice_get p.kinds g.kind)) s x g.key c) None))
+        → (let g : Tag = tag_of_itag p x.itag in MayHold p.families c
+        (applied (change_by p.families m (actions_of (slice_get p.kinds g.kind)) s x g.key c) None))
     at_mode NoMode e h = cc
     at_mode AddMode e h =
         let g : Tag = tag_of_itag p x.itag in

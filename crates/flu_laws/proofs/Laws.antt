@@ -22,7 +22,8 @@ use Rattle.flu_laws.proofs.Algebra.{joined-none}
 use Rattle.flu_laws.proofs.Reading.{action_needs}
 use Rattle.flu_laws.proofs.Uses.{needs_among}
 
-neutral : (p : Program) (x : Event) (t : Contents) → IsNeutralAtNeeds p x t → (c : Cell) → list_any (action_needs (tag_of_itag p x.itag).key c) (actions_of (slice_get p.kinds (tag_of_itag p x.itag).kind)) ≡ true → t c ≡ None
+neutral : (p : Program) (x : Event) (t : Contents) → IsNeutralAtNeeds p x t → (c : Cell)
+    → list_any (action_needs (tag_of_itag p x.itag).key c) (actions_of (slice_get p.kinds (tag_of_itag p x.itag).kind)) ≡ true → t c ≡ None
 neutral p x t n c o = let g : Tag = tag_of_itag p x.itag in n c (needs_among p.version (actions_of (slice_get p.kinds g.kind)) g.key c ∙ o)
 
 pub left_law : (p : Program) → UpdatesLeft p
@@ -41,9 +42,12 @@ in_universe : (p : Program) (x : Event) → x.itag.0 < count_of_itags p → IsIn
 in_universe p x lt = (source_of_itag p x.itag, Contains-get_or (itags p) x.itag.0 (tag 0 0, 0) lt)
 
 -- two tags of an accepted job that are independent do not conflict
-pub no_conflict : (p : Program) (x y : Event) → IsAccepted p → x.itag.0 < count_of_itags p → y.itag.0 < count_of_itags p → is_dependent p (tag_of_itag p x.itag) (tag_of_itag p y.itag) ≡ false → (c : Cell) → modes_conflict (mode_of p (tag_of_itag p x.itag) c) (mode_of p (tag_of_itag p y.itag) c) ≡ false
+pub no_conflict : (p : Program) (x y : Event) → IsAccepted p → x.itag.0 < count_of_itags p → y.itag.0 < count_of_itags p
+    → is_dependent p (tag_of_itag p x.itag) (tag_of_itag p y.itag) ≡ false → (c : Cell)
+    → modes_conflict (mode_of p (tag_of_itag p x.itag) c) (mode_of p (tag_of_itag p y.itag) c) ≡ false
 no_conflict p x y accepted in_x in_y independent c =
-    false_if_not (modes_conflict (mode_of p (tag_of_itag p x.itag) c) (mode_of p (tag_of_itag p y.itag) c)) (λ e. not_both _ (accepted (tag_of_itag p x.itag) (tag_of_itag p y.itag) c (in_universe p x in_x) (in_universe p y in_y) e) independent)
+    false_if_not (modes_conflict (mode_of p (tag_of_itag p x.itag) c) (mode_of p (tag_of_itag p y.itag) c))
+    (λ e. not_both _ (accepted (tag_of_itag p x.itag) (tag_of_itag p y.itag) c (in_universe p x in_x) (in_universe p y in_y) e) independent)
 
 pub commuting_law : (p : Program) → IsAccepted p → Commutes p
 commuting_law p accepted s x y sorted in_x in_y independent =
@@ -52,9 +56,12 @@ commuting_law p accepted s x y sorted in_x in_y independent =
     let one = found_fits p.families p.kinds g.kind p.kinds_fit in
     let two = found_fits p.families p.kinds h.kind p.kinds_fit in
     let apart : (c : Cell) → modes_conflict (mode_of p g c) (mode_of p h c) ≡ false = no_conflict p x y accepted in_x in_y independent in (
-      cells_commute p.version p.families one.0 one.1.0 two.0 two.1.0 x y g.key h.key (actions_of (slice_get p.kinds g.kind)) (actions_of (slice_get p.kinds h.kind)) one.1.1 two.1.1 apart s sorted,
-      texts_second p.version p.families one.0 one.1.0 two.0 two.1.0 x y g.key h.key (actions_of (slice_get p.kinds g.kind)) (actions_of (slice_get p.kinds h.kind)) one.1.1 two.1.1 apart s sorted,
-      texts_first p.version p.families one.0 one.1.0 two.0 two.1.0 x y g.key h.key (actions_of (slice_get p.kinds g.kind)) (actions_of (slice_get p.kinds h.kind)) one.1.1 two.1.1 apart s sorted,
+      cells_commute p.version p.families one.0 one.1.0 two.0 two.1.0 x y g.key h.key (actions_of (slice_get p.kinds g.kind))
+          (actions_of (slice_get p.kinds h.kind)) one.1.1 two.1.1 apart s sorted,
+      texts_second p.version p.families one.0 one.1.0 two.0 two.1.0 x y g.key h.key (actions_of (slice_get p.kinds g.kind))
+          (actions_of (slice_get p.kinds h.kind)) one.1.1 two.1.1 apart s sorted,
+      texts_first p.version p.families one.0 one.1.0 two.0 two.1.0 x y g.key h.key (actions_of (slice_get p.kinds g.kind))
+          (actions_of (slice_get p.kinds h.kind)) one.1.1 two.1.1 apart s sorted,
     )
 
 -- what a cell holds in the parts of a split, by whether it is moved and copied

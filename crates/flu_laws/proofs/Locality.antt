@@ -26,7 +26,8 @@ use Rattle.flu_lemmas.proofs.Numbers.{same_number}
 use Rattle.flu_laws.proofs.Reading.{Agree, act_needs, action_needs, value-agree, guard-agree, pieces-agree}
 
 -- the templates of a flush read no cell by name
-flush_piece-agree : (families : List Family) (q : Piece) (v : Bool) (s t : Contents) (x : Event) (k : ℕ) (h : Option Worth) → flush_piece_fits v q ≡ true → piece_text families q s x k h ≡ piece_text families q t x k h
+flush_piece-agree : (families : List Family) (q : Piece) (v : Bool) (s t : Contents) (x : Event) (k : ℕ) (h : Option Worth) → flush_piece_fits v q ≡ true
+    → piece_text families q s x k h ≡ piece_text families q t x k h
 flush_piece-agree families (Plain u) v s t x k h fits = refl
 flush_piece-agree families ValueField v s t x k h fits = refl
 flush_piece-agree families KeyField v s t x k h fits = refl
@@ -34,7 +35,8 @@ flush_piece-agree families TimeField v s t x k h fits = refl
 flush_piece-agree families (ReadField r) v s t x k h fits = cc
 flush_piece-agree families CellValue v s t x k h fits = refl
 
-flush_pieces-agree : (families : List Family) (qs : List Piece) (v : Bool) (s t : Contents) (x : Event) (k : ℕ) (h : Option Worth) → list_all (flush_piece_fits v) qs ≡ true → pieces_text families qs s x k h ≡ pieces_text families qs t x k h
+flush_pieces-agree : (families : List Family) (qs : List Piece) (v : Bool) (s t : Contents) (x : Event) (k : ℕ) (h : Option Worth)
+    → list_all (flush_piece_fits v) qs ≡ true → pieces_text families qs s x k h ≡ pieces_text families qs t x k h
 flush_pieces-agree families [] v s t x k h fits = refl
 flush_pieces-agree families (q ∷ qs) v s t x k h fits =
     λ i. flush_piece-agree families q v s t x k h (and_left _ _ fits) i ++ flush_pieces-agree families qs v s t x k h (and_right _ _ fits) i
@@ -47,7 +49,8 @@ row-agree : (s t : Contents) (f : ℕ) → ((k : ℕ) → s (cell f k) ≡ t (ce
 row-agree s t f same = λ i k. same k i
 
 -- one cell that is changed by what it holds
-changed-agree : (s t : Contents) (c d : Cell) (f g : Option Worth → Option Worth) → s c ≡ t c → ((w : Option Worth) → f w ≡ g w) → with_worth s d (f (s d)) c ≡ with_worth t d (g (t d)) c
+changed-agree : (s t : Contents) (c d : Cell) (f g : Option Worth → Option Worth) → s c ≡ t c → ((w : Option Worth) → f w ≡ g w)
+    → with_worth s d (f (s d)) c ≡ with_worth t d (g (t d)) c
 changed-agree s t c d f g here same =
     elim (is_same_cell c d) as (λ b. is_same_cell c d ≡ b → cond b (f (s d)) (s c) ≡ cond b (g (t d)) (t c)) [
       | true ↦ λ e. let is : c ≡ d = made_alike cell c.family c.key d.family d.key e in sym (ap (λ u. f (s u)) is) ∙ ap f here ∙ same (t c) ∙ ap (λ u. g (t u)) is
@@ -58,7 +61,8 @@ module _ (families : List Family) (keyed has_value : Bool) (x : Event) (key : �
   family-agree : (f : ℕ) (qs : List Piece) (s t : Contents) → Agree (λ c. act_needs key c (Flush f qs)) s t → (k : ℕ) → s (cell f k) ≡ t (cell f k)
   family-agree f qs s t same k = same (cell f k) (or_left (f == f) _ (same_number f))
 
-  pub act_texts-agree : (a : Act) (s t : Contents) → act_fits families keyed has_value a ≡ true → Agree (λ c. act_needs key c a) s t → (effect_of_act families a s x key).texts ≡ (effect_of_act families a t x key).texts
+  pub act_texts-agree : (a : Act) (s t : Contents) → act_fits families keyed has_value a ≡ true → Agree (λ c. act_needs key c a) s t
+      → (effect_of_act families a s x key).texts ≡ (effect_of_act families a t x key).texts
   act_texts-agree (Add r e) s t fits same = refl
   act_texts-agree (Raise r e) s t fits same = refl
   act_texts-agree (Set r e) s t fits same = refl
@@ -68,33 +72,44 @@ module _ (families : List Family) (keyed has_value : Bool) (x : Event) (key : �
       let rows : row s f ≡ row t f = row-agree s t f (family-agree f qs s t same) in
       let before : ℕ → List ℕ = λ k. pieces_text families qs s x k (s (cell f k)) in
       let after : ℕ → List ℕ = λ k. pieces_text families qs t x k (s (cell f k)) in
-      let texts : before ≡ after = (λ i k. flush_pieces-agree families qs has_value s t x k (s (cell f k)) (and_left _ _ (and_left (list_all (flush_piece_fits has_value) qs && are_apart qs) _ (and_right (is_keyed (slice_get families f)) (flush_template_fits families has_value qs) fits))) i) in
+      let texts : before ≡ after =
+      (λ i k. flush_pieces-agree families qs has_value s t x k (s (cell f k))
+      (and_left _ _ (and_left (list_all (flush_piece_fits has_value) qs && are_apart qs) _
+      (and_right (is_keyed (slice_get families f)) (flush_template_fits families has_value qs) fits))) i) in
       ap (λ g. map g (held_keys s f)) texts
       ∙ ap (λ (h : ℕ → Option Worth). map (λ k. pieces_text families qs t x k (h k)) (filter (λ k. is_some (h k)) all_keys)) rows
 
-  pub act_cells-agree : (a : Act) (s t : Contents) → Agree (λ c. act_needs key c a) s t → (c : Cell) → s c ≡ t c → (effect_of_act families a s x key).cells c ≡ (effect_of_act families a t x key).cells c
-  act_cells-agree (Add r e) s t same c here = changed-agree s t c (cell_of r key) (λ w. added w (value_of_expr e s x key)) (λ w. added w (value_of_expr e t x key)) here (λ w. ap (added w) (value-agree e s t x key same))
-  act_cells-agree (Raise r e) s t same c here = changed-agree s t c (cell_of r key) (λ w. raised w (value_of_expr e s x key)) (λ w. raised w (value_of_expr e t x key)) here (λ w. ap (raised w) (value-agree e s t x key same))
-  act_cells-agree (Set r e) s t same c here = λ i. cond (is_same_cell c (cell_of r key)) (Some (Last (value-agree e s t x key (λ d h. same d (or_right (means key d r) _ h)) i))) (here i)
+  pub act_cells-agree : (a : Act) (s t : Contents) → Agree (λ c. act_needs key c a) s t → (c : Cell) → s c ≡ t c
+      → (effect_of_act families a s x key).cells c ≡ (effect_of_act families a t x key).cells c
+  act_cells-agree (Add r e) s t same c here = changed-agree s t c (cell_of r key) (λ w. added w (value_of_expr e s x key))
+      (λ w. added w (value_of_expr e t x key)) here (λ w. ap (added w) (value-agree e s t x key same))
+  act_cells-agree (Raise r e) s t same c here = changed-agree s t c (cell_of r key) (λ w. raised w (value_of_expr e s x key))
+      (λ w. raised w (value_of_expr e t x key)) here (λ w. ap (raised w) (value-agree e s t x key same))
+  act_cells-agree (Set r e) s t same c here = λ i. cond (is_same_cell c (cell_of r key))
+      (Some (Last (value-agree e s t x key (λ d h. same d (or_right (means key d r) _ h)) i))) (here i)
   act_cells-agree (Clear r) s t same c here = λ i. cond (is_same_cell c (cell_of r key)) None (here i)
   act_cells-agree (Emit qs) s t same c here = here
   act_cells-agree (Flush f qs) s t same c here = λ i. cond (c.family == f) None (here i)
 
   -- ---- actions
-  pub action_texts-agree : (a : Action) (s t : Contents) → action_fits families keyed has_value a ≡ true → Agree (λ c. action_needs key c a) s t → (effect_of_action families a s x key).texts ≡ (effect_of_action families a t x key).texts
+  pub action_texts-agree : (a : Action) (s t : Contents) → action_fits families keyed has_value a ≡ true → Agree (λ c. action_needs key c a) s t
+      → (effect_of_action families a s x key).texts ≡ (effect_of_action families a t x key).texts
   action_texts-agree a s t fits same =
       let guards : passes_guard a.guard s x key ≡ passes_guard a.guard t x key = guard-agree a.guard s t x key (λ c h. same c (or_left _ _ h)) in
       ap (λ b. (cond b (effect_of_act families a.act s x key) (changes_to s)).texts) guards
-      ∙ (elim (passes_guard a.guard t x key) as (λ b. (cond b (effect_of_act families a.act s x key) (changes_to s)).texts ≡ (cond b (effect_of_act families a.act t x key) (changes_to t)).texts) [
+      ∙ (elim (passes_guard a.guard t x key) as (λ b. (cond b (effect_of_act families a.act s x key) (changes_to s)).texts ≡
+      (cond b (effect_of_act families a.act t x key) (changes_to t)).texts) [
         | true ↦ act_texts-agree a.act s t (and_left _ _ fits) (λ c h. same c (or_right (guard_reads key c a.guard) _ h))
         | false ↦ refl
       ])
 
-  pub action_cells-agree : (a : Action) (s t : Contents) → Agree (λ c. action_needs key c a) s t → (c : Cell) → s c ≡ t c → (effect_of_action families a s x key).cells c ≡ (effect_of_action families a t x key).cells c
+  pub action_cells-agree : (a : Action) (s t : Contents) → Agree (λ c. action_needs key c a) s t → (c : Cell) → s c ≡ t c
+      → (effect_of_action families a s x key).cells c ≡ (effect_of_action families a t x key).cells c
   action_cells-agree a s t same c here =
       let guards : passes_guard a.guard s x key ≡ passes_guard a.guard t x key = guard-agree a.guard s t x key (λ c h. same c (or_left _ _ h)) in
       ap (λ b. (cond b (effect_of_act families a.act s x key) (changes_to s)).cells c) guards
-      ∙ (elim (passes_guard a.guard t x key) as (λ b. (cond b (effect_of_act families a.act s x key) (changes_to s)).cells c ≡ (cond b (effect_of_act families a.act t x key) (changes_to t)).cells c) [
+      ∙ (elim (passes_guard a.guard t x key) as (λ b. (cond b (effect_of_act families a.act s x key) (changes_to s)).cells c ≡
+      (cond b (effect_of_act families a.act t x key) (changes_to t)).cells c) [
         | true ↦ act_cells-agree a.act s t (λ c h. same c (or_right (guard_reads key c a.guard) _ h)) c here
         | false ↦ here
       ])
@@ -103,19 +118,24 @@ module _ (families : List Family) (keyed has_value : Bool) (x : Event) (key : �
   abbrev pub needed_by : List Action → Cell → Bool
   needed_by all c = list_any (action_needs key c) all
 
-  pub rest-agree : (a : Action) (all : List Action) (s t : Contents) → Agree (needed_by (a ∷ all)) s t → Agree (needed_by all) (effect_of_action families a s x key).cells (effect_of_action families a t x key).cells
+  pub rest-agree : (a : Action) (all : List Action) (s t : Contents) → Agree (needed_by (a ∷ all)) s t
+      → Agree (needed_by all) (effect_of_action families a s x key).cells (effect_of_action families a t x key).cells
   rest-agree a all s t same c h = action_cells-agree a s t (λ d g. same d (or_left _ _ g)) c (same c (or_right (action_needs key c a) _ h))
 
-  pub texts-agree : (all : List Action) (s t : Contents) → list_all (action_fits families keyed has_value) all ≡ true → Agree (needed_by all) s t → (effect_of_actions families all s x key).texts ≡ (effect_of_actions families all t x key).texts
+  pub texts-agree : (all : List Action) (s t : Contents) → list_all (action_fits families keyed has_value) all ≡ true → Agree (needed_by all) s t
+      → (effect_of_actions families all s x key).texts ≡ (effect_of_actions families all t x key).texts
   texts-agree [] s t fits same = refl
   texts-agree (a ∷ all) s t fits same =
       λ i. action_texts-agree a s t (and_left _ _ fits) (λ c h. same c (or_left _ _ h)) i
-      ++ texts-agree all (effect_of_action families a s x key).cells (effect_of_action families a t x key).cells (and_right _ _ fits) (rest-agree a all s t same) i
+      ++ texts-agree all (effect_of_action families a s x key).cells (effect_of_action families a t x key).cells (and_right _ _ fits)
+      (rest-agree a all s t same) i
 
-  pub cells-agree : (all : List Action) (s t : Contents) → Agree (needed_by all) s t → (c : Cell) → s c ≡ t c → (effect_of_actions families all s x key).cells c ≡ (effect_of_actions families all t x key).cells c
+  pub cells-agree : (all : List Action) (s t : Contents) → Agree (needed_by all) s t → (c : Cell) → s c ≡ t c
+      → (effect_of_actions families all s x key).cells c ≡ (effect_of_actions families all t x key).cells c
   cells-agree [] s t same c here = here
   cells-agree (a ∷ all) s t same c here =
-      cells-agree all (effect_of_action families a s x key).cells (effect_of_action families a t x key).cells (rest-agree a all s t same) c (action_cells-agree a s t (λ d g. same d (or_left _ _ g)) c here)
+      cells-agree all (effect_of_action families a s x key).cells (effect_of_action families a t x key).cells (rest-agree a all s t same) c
+      (action_cells-agree a s t (λ d g. same d (or_left _ _ g)) c here)
 
   -- ---- amounts
   act_amount-agree : (a : Act) (s t : Contents) (c : Cell) → Agree (λ d. act_needs key d a) s t → amount_of_act a s x key c ≡ amount_of_act a t x key c
@@ -134,16 +154,22 @@ module _ (families : List Family) (keyed has_value : Bool) (x : Event) (key : �
   act_level-agree (Emit qs) s t c same = refl
   act_level-agree (Flush f qs) s t c same = refl
 
-  pub amount-agree : (all : List Action) (s t : Contents) (c : Cell) → Agree (needed_by all) s t → amount_added families all s x key c ≡ amount_added families all t x key c
+  pub amount-agree : (all : List Action) (s t : Contents) (c : Cell) → Agree (needed_by all) s t
+      → amount_added families all s x key c ≡ amount_added families all t x key c
   amount-agree [] s t c same = refl
   amount-agree (a ∷ all) s t c same =
       let guards : passes_guard a.guard s x key ≡ passes_guard a.guard t x key = guard-agree a.guard s t x key (λ d h. same d (or_left _ _ (or_left _ _ h))) in
-      let one : amount_of_act a.act s x key c ≡ amount_of_act a.act t x key c = act_amount-agree a.act s t c (λ d h. same d (or_left _ _ (or_right (guard_reads key d a.guard) _ h))) in
-      λ i. cond (guards i) (one i) (pos 0) +ℤ amount-agree all (effect_of_action families a s x key).cells (effect_of_action families a t x key).cells c (rest-agree a all s t same) i
+      let one : amount_of_act a.act s x key c ≡ amount_of_act a.act t x key c =
+      act_amount-agree a.act s t c (λ d h. same d (or_left _ _ (or_right (guard_reads key d a.guard) _ h))) in
+      λ i. cond (guards i) (one i) (pos 0) +ℤ amount-agree all (effect_of_action families a s x key).cells (effect_of_action families a t x key).cells c
+      (rest-agree a all s t same) i
 
-  pub level-agree : (all : List Action) (s t : Contents) (c : Cell) → Agree (needed_by all) s t → level_reached families all s x key c ≡ level_reached families all t x key c
+  pub level-agree : (all : List Action) (s t : Contents) (c : Cell) → Agree (needed_by all) s t
+      → level_reached families all s x key c ≡ level_reached families all t x key c
   level-agree [] s t c same = refl
   level-agree (a ∷ all) s t c same =
       let guards : passes_guard a.guard s x key ≡ passes_guard a.guard t x key = guard-agree a.guard s t x key (λ d h. same d (or_left _ _ (or_left _ _ h))) in
-      let one : level_of_act a.act s x key c ≡ level_of_act a.act t x key c = act_level-agree a.act s t c (λ d h. same d (or_left _ _ (or_right (guard_reads key d a.guard) _ h))) in
-      λ i. higher (cond (guards i) (one i) None) (level-agree all (effect_of_action families a s x key).cells (effect_of_action families a t x key).cells c (rest-agree a all s t same) i)
+      let one : level_of_act a.act s x key c ≡ level_of_act a.act t x key c =
+      act_level-agree a.act s t c (λ d h. same d (or_left _ _ (or_right (guard_reads key d a.guard) _ h))) in
+      λ i. higher (cond (guards i) (one i) None) (level-agree all (effect_of_action families a s x key).cells (effect_of_action families a t x key).cells c
+      (rest-agree a all s t same) i)

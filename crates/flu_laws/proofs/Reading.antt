@@ -44,22 +44,28 @@ value-agree (Has r) s t x key same = ap (λ w. as_number (is_some w)) (same (cel
 value-agree (Neg' p e) s t x key same = ap (λ v. clamped (neg_ℤ v)) (value-agree e s t x key same)
 value-agree (Not' p e) s t x key same = ap (λ v. as_number (not (is_true v))) (value-agree e s t x key same)
 value-agree (Two' op p a q b) s t x key same =
-    λ i. result_of op (value-agree a s t x key (λ c h. same c (or_left _ _ h)) i) (value-agree b s t x key (λ c h. same c (or_right (expr_reads key c a) _ h)) i)
+    λ i. result_of op (value-agree a s t x key (λ c h. same c (or_left _ _ h)) i)
+    (value-agree b s t x key (λ c h. same c (or_right (expr_reads key c a) _ h)) i)
 
-pub guard-agree : (g : Option Expr) (s t : Contents) (x : Event) (key : ℕ) → Agree (λ c. guard_reads key c g) s t → passes_guard g s x key ≡ passes_guard g t x key
+pub guard-agree : (g : Option Expr) (s t : Contents) (x : Event) (key : ℕ) → Agree (λ c. guard_reads key c g) s t
+    → passes_guard g s x key ≡ passes_guard g t x key
 guard-agree None s t x key same = refl
 guard-agree (Some e) s t x key same = ap is_true (value-agree e s t x key same)
 
 -- the cells that a template reads, for a tag with this key; within a flush the fields read the flushed cell alone
-pub piece-agree : (families : List Family) (q : Piece) (s t : Contents) (x : Event) (key : ℕ) (held : Option Worth) → Agree (λ c. piece_reads key c q) s t → piece_text families q s x key held ≡ piece_text families q t x key held
+pub piece-agree : (families : List Family) (q : Piece) (s t : Contents) (x : Event) (key : ℕ) (held : Option Worth) → Agree (λ c. piece_reads key c q) s t
+    → piece_text families q s x key held ≡ piece_text families q t x key held
 piece-agree families (Plain u) s t x key held same = refl
 piece-agree families ValueField s t x key held same = refl
 piece-agree families KeyField s t x key held same = refl
 piece-agree families TimeField s t x key held same = refl
-piece-agree families (ReadField r) s t x key held same = ap (worth_text (neutral_of (slice_get families r.family))) (same (cell_of r key) (same_cell-refl (cell_of r key)))
+piece-agree families (ReadField r) s t x key held same = ap (worth_text (neutral_of (slice_get families r.family)))
+    (same (cell_of r key) (same_cell-refl (cell_of r key)))
 piece-agree families CellValue s t x key held same = refl
 
-pub pieces-agree : (families : List Family) (qs : List Piece) (s t : Contents) (x : Event) (key : ℕ) (held : Option Worth) → Agree (λ c. list_any (piece_reads key c) qs) s t → pieces_text families qs s x key held ≡ pieces_text families qs t x key held
+pub pieces-agree : (families : List Family) (qs : List Piece) (s t : Contents) (x : Event) (key : ℕ) (held : Option Worth)
+    → Agree (λ c. list_any (piece_reads key c) qs) s t → pieces_text families qs s x key held ≡ pieces_text families qs t x key held
 pieces-agree families [] s t x key held same = refl
 pieces-agree families (q ∷ qs) s t x key held same =
-    λ i. piece-agree families q s t x key held (λ c h. same c (or_left _ _ h)) i ++ pieces-agree families qs s t x key held (λ c h. same c (or_right (piece_reads key c q) _ h)) i
+    λ i. piece-agree families q s t x key held (λ c h. same c (or_left _ _ h)) i ++ pieces-agree families qs s t x key held
+    (λ c h. same c (or_right (piece_reads key c q) _ h)) i

@@ -20,10 +20,13 @@ use Rattle.flu_lemmas.proofs.Elements.{from_any}
 use Rattle.flu_lemmas.proofs.Tests.{and_left, and_right, false_if_not}
 use Rattle.flu_laws.proofs.Keys.{cell_is_there}
 
-meant_sort : (families : List Family) (key : ℕ) (c : Cell) (r : CellRef) (sort : Sort) → means key c r ≡ true → has_sort (slice_get families r.family) sort ≡ true → has_sort (slice_get families c.family) sort ≡ true
-meant_sort families key c r sort m e = ap (λ (d : Cell). has_sort (slice_get families d.family) sort) (sym (made_alike cell (cell_of r key).family (cell_of r key).key c.family c.key m)) ∙ e
+meant_sort : (families : List Family) (key : ℕ) (c : Cell) (r : CellRef) (sort : Sort) → means key c r ≡ true
+    → has_sort (slice_get families r.family) sort ≡ true → has_sort (slice_get families c.family) sort ≡ true
+meant_sort families key c r sort m e =
+    ap (λ (d : Cell). has_sort (slice_get families d.family) sort) (sym (made_alike cell (cell_of r key).family (cell_of r key).key c.family c.key m)) ∙ e
 
-act_adds-sort : (families : List Family) (keyed has_value : Bool) (key : ℕ) (c : Cell) (a : Act) → act_fits families keyed has_value a ≡ true → act_adds key c a ≡ true → has_sort (slice_get families c.family) SumSort ≡ true
+act_adds-sort : (families : List Family) (keyed has_value : Bool) (key : ℕ) (c : Cell) (a : Act) → act_fits families keyed has_value a ≡ true
+    → act_adds key c a ≡ true → has_sort (slice_get families c.family) SumSort ≡ true
 act_adds-sort families keyed has_value key c (Add r e) fits m = meant_sort families key c r SumSort m (and_right _ _ (and_left _ _ fits))
 act_adds-sort families keyed has_value key c (Raise r e) fits m = cc
 act_adds-sort families keyed has_value key c (Set r e) fits m = cc
@@ -31,7 +34,8 @@ act_adds-sort families keyed has_value key c (Clear r) fits m = cc
 act_adds-sort families keyed has_value key c (Emit qs) fits m = cc
 act_adds-sort families keyed has_value key c (Flush f qs) fits m = cc
 
-act_raises-sort : (families : List Family) (keyed has_value : Bool) (key : ℕ) (c : Cell) (a : Act) → act_fits families keyed has_value a ≡ true → act_raises key c a ≡ true → has_sort (slice_get families c.family) MaxSort ≡ true
+act_raises-sort : (families : List Family) (keyed has_value : Bool) (key : ℕ) (c : Cell) (a : Act) → act_fits families keyed has_value a ≡ true
+    → act_raises key c a ≡ true → has_sort (slice_get families c.family) MaxSort ≡ true
 act_raises-sort families keyed has_value key c (Add r e) fits m = cc
 act_raises-sort families keyed has_value key c (Raise r e) fits m = meant_sort families key c r MaxSort m (and_right _ _ (and_left _ _ fits))
 act_raises-sort families keyed has_value key c (Set r e) fits m = cc
@@ -39,11 +43,19 @@ act_raises-sort families keyed has_value key c (Clear r) fits m = cc
 act_raises-sort families keyed has_value key c (Emit qs) fits m = cc
 act_raises-sort families keyed has_value key c (Flush f qs) fits m = cc
 
-pub adds-sort : (families : List Family) (keyed has_value : Bool) (key : ℕ) (c : Cell) (all : List Action) → list_all (action_fits families keyed has_value) all ≡ true → list_any (λ (a : Action). act_adds key c a.act) all ≡ true → has_sort (slice_get families c.family) SumSort ≡ true
-adds-sort families keyed has_value key c all fits any = from_any (action_fits families keyed has_value) (λ (a : Action). act_adds key c a.act) all fits any (λ a f m. act_adds-sort families keyed has_value key c a.act (and_left _ _ f) m)
+pub adds-sort : (families : List Family) (keyed has_value : Bool) (key : ℕ) (c : Cell) (all : List Action)
+    → list_all (action_fits families keyed has_value) all ≡ true → list_any (λ (a : Action). act_adds key c a.act) all ≡ true
+    → has_sort (slice_get families c.family) SumSort ≡ true
+adds-sort families keyed has_value key c all fits any =
+    from_any (action_fits families keyed has_value) (λ (a : Action). act_adds key c a.act) all fits any
+    (λ a f m. act_adds-sort families keyed has_value key c a.act (and_left _ _ f) m)
 
-pub raises-sort : (families : List Family) (keyed has_value : Bool) (key : ℕ) (c : Cell) (all : List Action) → list_all (action_fits families keyed has_value) all ≡ true → list_any (λ (a : Action). act_raises key c a.act) all ≡ true → has_sort (slice_get families c.family) MaxSort ≡ true
-raises-sort families keyed has_value key c all fits any = from_any (action_fits families keyed has_value) (λ (a : Action). act_raises key c a.act) all fits any (λ a f m. act_raises-sort families keyed has_value key c a.act (and_left _ _ f) m)
+pub raises-sort : (families : List Family) (keyed has_value : Bool) (key : ℕ) (c : Cell) (all : List Action)
+    → list_all (action_fits families keyed has_value) all ≡ true → list_any (λ (a : Action). act_raises key c a.act) all ≡ true
+    → has_sort (slice_get families c.family) MaxSort ≡ true
+raises-sort families keyed has_value key c all fits any =
+    from_any (action_fits families keyed has_value) (λ (a : Action). act_raises key c a.act) all fits any
+    (λ a f m. act_raises-sort families keyed has_value key c a.act (and_left _ _ f) m)
 
 -- such a cell is one of its family, for a key in range
 meant_is_there : (families : List Family) (keyed : Bool) (key : ℕ) (c : Cell) (r : CellRef) → nat_lt key key_count ≡ true
@@ -96,4 +108,5 @@ pub adds_only : (families : List Family) (keyed has_value : Bool) (key : ℕ) (c
     → list_any (λ (a : Action). act_raises key c a.act) all ≡ false
 adds_only families keyed has_value key c all fits adds =
     false_if_not (list_any (λ (a : Action). act_raises key c a.act) all)
-    (λ raises. not_sum_and_max (slice_get families c.family) (adds-sort families keyed has_value key c all fits adds) (raises-sort families keyed has_value key c all fits raises))
+    (λ raises. not_sum_and_max (slice_get families c.family) (adds-sort families keyed has_value key c all fits adds)
+    (raises-sort families keyed has_value key c all fits raises))

@@ -72,25 +72,29 @@ is_mix p c m quiet = at_mode (mode_at p m.event c) refl quiet
     reached (Some v) sort = sort
 
     at_mode : (n : Mode) → mode_at p m.event c ≡ n → needs n ≡ false
-        → (let g : Tag = tag_of_itag p m.event.itag in IsMix p.families c (change_by p.families n (actions_of (slice_get p.kinds g.kind)) m.before m.event g.key c))
+        → (let g : Tag = tag_of_itag p m.event.itag in IsMix p.families c
+        (change_by p.families n (actions_of (slice_get p.kinds g.kind)) m.before m.event g.key c))
     at_mode NoMode e q = tt
     at_mode AddMode e q = (added_sort p (tag_of_itag p m.event.itag) c e, added_there p m.event.itag c e)
     at_mode RaiseMode e q =
         let g : Tag = tag_of_itag p m.event.itag in
-        reached (level_reached p.families (actions_of (slice_get p.kinds g.kind)) m.before m.event g.key c) (raised_sort p g c e, raised_there p m.event.itag c e)
+        reached (level_reached p.families (actions_of (slice_get p.kinds g.kind)) m.before m.event g.key c)
+        (raised_sort p g c e, raised_there p m.event.itag c e)
     at_mode ReadMode e q = cc
     at_mode Own e q = cc
 
 module _ (families : List Family) (c : Cell) where
   -- such a change in the left part of a join, and in the right one
-  mix_left : (h : Change) (u v : Option Worth) → IsMix families c h → MayHold families c u → MayHold families c v → applied h (joined_worth u v) ≡ joined_worth (applied h u) v
+  mix_left : (h : Change) (u v : Option Worth) → IsMix families c h → MayHold families c u → MayHold families c v
+      → applied h (joined_worth u v) ≡ joined_worth (applied h u) v
   unfolding IsMix
   mix_left Keep u v g p q = refl
   mix_left (Put w) u v g p q = absurd g
   mix_left (Gain n) u v g p q = added-joined u v n (holds_sort families c SumSort u g.0 p) (holds_sort families c SumSort v g.0 q)
   mix_left (Reach n) u v g p q = raised-joined u v n (holds_sort families c MaxSort u g.0 p) (holds_sort families c MaxSort v g.0 q)
 
-  mix_right : (h : Change) (u v : Option Worth) → IsMix families c h → MayHold families c u → MayHold families c v → applied h (joined_worth u v) ≡ joined_worth u (applied h v)
+  mix_right : (h : Change) (u v : Option Worth) → IsMix families c h → MayHold families c u → MayHold families c v
+      → applied h (joined_worth u v) ≡ joined_worth u (applied h v)
   unfolding IsMix
   mix_right Keep u v g p q = refl
   mix_right (Put w) u v g p q = absurd g
@@ -111,8 +115,10 @@ module _ (families : List Family) (c : Cell) where
   mix_holds (Reach n) u g p = may_hold families c MaxSort (raised u n) g.0 g.1 (raised-holds u n (holds_sort families c MaxSort u g.0 p))
 
 module _ (p : Program) (c : Cell) (a b d : List ℕ) (ab : AreAtMost a b) (bd : AreAtMost b d) where
-  adds : (ms : List Moment) (u v : Option Worth) → AllByRecursion (λ m. is_between a d m ≡ true → needs (mode_at p m.event c) ≡ false) ms → MayHold p.families c u → MayHold p.families c v
-      → joined_worth (changed_by p c u (filter (is_between a b) ms)) (changed_by p c v (filter (is_between b d) ms)) ≡ changed_by p c (joined_worth u v) (filter (is_between a d) ms)
+  adds : (ms : List Moment) (u v : Option Worth) → AllByRecursion (λ m. is_between a d m ≡ true → needs (mode_at p m.event c) ≡ false) ms
+      → MayHold p.families c u → MayHold p.families c v
+      → joined_worth (changed_by p c u (filter (is_between a b) ms)) (changed_by p c v (filter (is_between b d) ms)) ≡ changed_by p c (joined_worth u v)
+      (filter (is_between a d) ms)
   adds [] u v quiet hu hv = refl
   adds (m ∷ ms) u v quiet hu hv =
       let i : ℕ = m.event.itag.0 in
@@ -120,18 +126,21 @@ module _ (p : Program) (c : Cell) (a b d : List ℕ) (ab : AreAtMost a b) (bd : 
       elim (parts m.index (slice_index a i) (slice_index b i) (slice_index d i) (ab i) (bd i)) [
         | inl e ↦
             let mix : IsMix p.families c h = is_mix p c m (quiet.0 e.2) in
-            (λ k. joined_worth (changed_by p c u (cond (e.0 k) (m ∷ filter (is_between a b) ms) (filter (is_between a b) ms))) (changed_by p c v (cond (e.1 k) (m ∷ filter (is_between b d) ms) (filter (is_between b d) ms))))
+            (λ k. joined_worth (changed_by p c u (cond (e.0 k) (m ∷ filter (is_between a b) ms) (filter (is_between a b) ms)))
+            (changed_by p c v (cond (e.1 k) (m ∷ filter (is_between b d) ms) (filter (is_between b d) ms))))
             ∙ adds ms (applied h u) v quiet.1 (mix_holds p.families c h u mix hu) hv
             ∙ sym (ap (λ w. changed_by p c w (filter (is_between a d) ms)) (mix_left p.families c h u v mix hu hv))
             ∙ sym (λ k. changed_by p c (joined_worth u v) (cond (e.2 k) (m ∷ filter (is_between a d) ms) (filter (is_between a d) ms)))
         | inr (inl e) ↦
             let mix : IsMix p.families c h = is_mix p c m (quiet.0 e.2) in
-            (λ k. joined_worth (changed_by p c u (cond (e.0 k) (m ∷ filter (is_between a b) ms) (filter (is_between a b) ms))) (changed_by p c v (cond (e.1 k) (m ∷ filter (is_between b d) ms) (filter (is_between b d) ms))))
+            (λ k. joined_worth (changed_by p c u (cond (e.0 k) (m ∷ filter (is_between a b) ms) (filter (is_between a b) ms)))
+            (changed_by p c v (cond (e.1 k) (m ∷ filter (is_between b d) ms) (filter (is_between b d) ms))))
             ∙ adds ms u (applied h v) quiet.1 hu (mix_holds p.families c h v mix hv)
             ∙ sym (ap (λ w. changed_by p c w (filter (is_between a d) ms)) (mix_right p.families c h u v mix hu hv))
             ∙ sym (λ k. changed_by p c (joined_worth u v) (cond (e.2 k) (m ∷ filter (is_between a d) ms) (filter (is_between a d) ms)))
         | inr (inr e) ↦
-            (λ k. joined_worth (changed_by p c u (cond (e.0 k) (m ∷ filter (is_between a b) ms) (filter (is_between a b) ms))) (changed_by p c v (cond (e.1 k) (m ∷ filter (is_between b d) ms) (filter (is_between b d) ms))))
+            (λ k. joined_worth (changed_by p c u (cond (e.0 k) (m ∷ filter (is_between a b) ms) (filter (is_between a b) ms)))
+            (changed_by p c v (cond (e.1 k) (m ∷ filter (is_between b d) ms) (filter (is_between b d) ms))))
             ∙ adds ms u v quiet.1 hu hv
             ∙ sym (λ k. changed_by p c (joined_worth u v) (cond (e.2 k) (m ∷ filter (is_between a d) ms) (filter (is_between a d) ms)))
       ]

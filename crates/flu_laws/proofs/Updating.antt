@@ -37,7 +37,9 @@ cells_are_local p s t x c same here =
 pub changes_are_local : ChangesAreLocal
 changes_are_local p s t x c same = at_mode (mode_at p x c) refl
   where
-    at_mode : (m : Mode) → mode_at p x c ≡ m → (let g : Tag = tag_of_itag p x.itag in let all : List Action = actions_of (slice_get p.kinds g.kind) in change_by p.families m all s x g.key c ≡ change_by p.families m all t x g.key c)
+    at_mode : (m : Mode) → mode_at p x c ≡ m
+        → (let g : Tag = tag_of_itag p x.itag in let all : List Action = actions_of
+        (slice_get p.kinds g.kind) in change_by p.families m all s x g.key c ≡ change_by p.families m all t x g.key c)
     at_mode NoMode e = refl
     at_mode ReadMode e = refl
     at_mode AddMode e =

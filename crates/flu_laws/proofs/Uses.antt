@@ -141,7 +141,8 @@ module _ (version : ℕ) (all : List Action) (key : ℕ) (c : Cell) where
   pub needs_among : needs (mode_among version all key c) ≡ list_any (action_needs key c) all
   needs_among =
       needs_where (version == 2) reads overwrites adds raises
-      ∙ sym (list_any_within (action_needs key c) (λ a. action_reads key c a || act_overwrites key c a.act) all (λ a. regroup (guard_reads key c a.guard) (act_overwrites key c a.act) (act_reads key c a.act))
+      ∙ sym (list_any_within (action_needs key c) (λ a. action_reads key c a || act_overwrites key c a.act) all
+      (λ a. regroup (guard_reads key c a.guard) (act_overwrites key c a.act) (act_reads key c a.act))
       ∙ list_any_or (action_reads key c) (λ a. act_overwrites key c a.act) all)
 
   pub quiet_among : writes (mode_among version all key c) ≡ false → (overwrites ≡ false) × (adds ≡ false) × (raises ≡ false)

@@ -51,7 +51,8 @@ in_either w v c = w c || v c
 abbrev pub AreApart : (Cell → Bool) → (Cell → Bool) → Type 0
 AreApart w v = (c : Cell) → w c ≡ true → v c ≡ false
 
--- of two sets without a common cell the first is moved from a state to another part, and the second is copied to it: without the copies the parts join to the state
+-- of two sets without a common cell the first is moved from a state to another part, and the second is copied to it: without the copies the parts
+-- join to the state
 abbrev pub JoinsSplits : Type 0
 JoinsSplits =
     (s : Contents) (w v : Cell → Bool) → AreApart w v

@@ -12,7 +12,8 @@ use Rattle.flu_model.specs.Updates.{effect_of}
 use Rattle.flu_laws.specs.Spans.{Moment, history, is_below, value_below, span}
 use Rattle.flu_laws.specs.Uses.{needs, writes, mode_at}
 
--- a part's cells fit its counts: base cells hold the fold's value at `upto`, away cells are neutral, and the others hold the effects of the events from `since` to below `upto`
+-- a part's cells fit its counts: base cells hold the fold's value at `upto`, away cells are neutral, and the others hold the effects of the events
+-- from `since` to below `upto`
 pub record CellsFit (p : Program) (ms : List Moment) (opening : Contents) (is_base is_away : Cell → Bool) (s : Contents) (since upto : List ℕ) : Type 0 where
   pub base : (c : Cell) → is_base c ≡ true → s c ≡ value_below p ms (opening c) c upto
   pub away : (c : Cell) → is_away c ≡ true → s c ≡ None
@@ -38,7 +39,8 @@ pub record GoesWithClasses (p : Program) (x : Event) (is_base is_away : Cell →
   pub away : (c : Cell) → is_away c ≡ true → writes (mode_at p x c) ≡ false
 
 -- what is said of a part whose cells fit, updated with an event that is exact for its counts
-pub record UpdatesToFit (p : Program) (ms : List Moment) (m : Moment) (opening : Contents) (is_base is_away : Cell → Bool) (s : Contents) (since more : List ℕ) : Type 0 where
+pub record UpdatesToFit (p : Program) (ms : List Moment) (m : Moment) (opening : Contents) (is_base is_away : Cell → Bool)
+    (s : Contents) (since more : List ℕ) : Type 0 where
   pub cells : CellsFit p ms opening is_base is_away (effect_of p s m.event).cells since more
   pub texts : (effect_of p s m.event).texts ≡ (effect_of p m.before m.event).texts
 

@@ -38,7 +38,9 @@ KeepsSorts = (p : Program) (s : Contents) (x : Event) → IsStateOf p.families s
 
 -- so does a fold
 abbrev pub FoldKeepsSorts : Type 0
-FoldKeepsSorts = (p : Program) (opening : Contents) (lists : List (List Item)) → IsStateOf p.families opening → IsStateOf p.families (final_state p opening lists)
+FoldKeepsSorts =
+    (p : Program) (opening : Contents) (lists : List (List Item))
+    → IsStateOf p.families opening → IsStateOf p.families (final_state p opening lists)
 
 -- ---- changes of one cell
 

@@ -11,9 +11,9 @@ use Rattle.flu_text.specs.declared.words.Word.TheVariants as w
 use Rattle.flu_text.specs.declared.words.Token.{Token}
 use Rattle.flu_text.specs.Grammar.{IsName, Spells, IsToken, IsSpan, IsInsideOfText}
 use Rattle.flu_text.specs.Laws.{NamesAreTested, ReadingIsTokens, EachIsToken, EachIsSpan, EachIsInside}
-use Rattle.flu_syntax.specs.declared.tree.WrittenSpan.{WrittenSpan}
-use Rattle.flu_syntax.specs.Grammar.{Spanned}
-use Rattle.flu_syntax.specs.Words.{Stands}
+use Rattle.flu_text.specs.declared.written.WrittenSpan.{WrittenSpan}
+use Rattle.flu_text.specs.Signs.{Spanned}
+use Rattle.flu_text.specs.Signs.{Stands}
 use Rattle.flu_layout.specs.Spelling.{name_of, inside}
 use Rattle.flu_layout.specs.Stands.{IsQuoted}
 use Rattle.flu_layout.specs.Laws.{ReadMayBePrinted}
@@ -23,13 +23,15 @@ module _ (text : List ℕ) (ts : List Token) where
   of_token : (P : Token → Type 0) → All P ts → (t : Token) → Contains ts t → P t
   of_token P all t here = subst P here.2 (all here.0 t here.1)
 
-  name_stands : NamesAreTested → All (IsToken text) ts → All (IsSpan text) ts → (s : WrittenSpan) → Stands ts (Spanned w.Name s) → is_name (name_of text s) ≡ true
+  name_stands : NamesAreTested → All (IsToken text) ts → All (IsSpan text) ts → (s : WrittenSpan) → Stands ts (Spanned w.Name s)
+      → is_name (name_of text s) ≡ true
   name_stands names each spans s stands =
       let t = stands.0 in
       let span = of_token (IsSpan text) spans t stands.1 in
       let token = of_token (IsToken text) each t stands.1 in
       let bytes : name_of text s ≡ slice_range text s.from s.to =
-      spelled_slice text s.from s.to (omega (arith, span.rises)) (subst (IsCharBoundary text) stands.2.1 span.begins) (subst (IsCharBoundary text) stands.2.2 span.ends) in
+      spelled_slice text s.from s.to (omega (arith, span.rises)) (subst (IsCharBoundary text) stands.2.1 span.begins)
+      (subst (IsCharBoundary text) stands.2.2 span.ends) in
       let name : IsName (slice_range text t.from t.to) = subst (λ (word : Word). Spells word (slice_range text t.from t.to)) stands.2.0 token.spelled in
       let from_there : IsName (slice_range text s.from t.to) = subst (λ (k : ℕ). IsName (slice_range text k t.to)) stands.2.1 name in
       let there : IsName (slice_range text s.from s.to) = subst (λ (k : ℕ). IsName (slice_range text s.from k)) stands.2.2 from_there in

@@ -27,5 +27,6 @@ keys_are_laid (keys.Range low high) behind rest small f =
     let last = laid_number (pos high) [] (mark m.CloseBracket behind ∷ rest)
     (lt_wider high key_count (2 ^ 63) (omega arith) (and_right (nat_lt low key_count) (nat_lt high key_count) small)) refl refl (close behind rest f) in
     let dots = laid_mark m.Dots [] _ (λ b. refl) refl last in
-    let first = laid_number (pos low) [] _ (lt_wider low key_count (2 ^ 63) (omega arith) (and_left (nat_lt low key_count) (nat_lt high key_count) small)) refl refl dots in
+    let first = laid_number (pos low) [] _ (lt_wider low key_count (2 ^ 63) (omega arith)
+    (and_left (nat_lt low key_count) (nat_lt high key_count) small)) refl refl dots in
     record { blank = refl; ends = refl; laid = laid_mark m.OpenBracket [] _ (λ b. refl) refl first }

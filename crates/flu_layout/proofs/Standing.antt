@@ -46,11 +46,13 @@ put before p ps whole place is at named more =
       more next behind,
     )
 
-stand_from : (whole : List ℕ) → IsUtf8 whole → (ps : List Piece) → AreLaid ps → (before : List ℕ) (place : ℕ) → whole ≡ before ++ layout ps → place ≡ length before
+stand_from : (whole : List ℕ) → IsUtf8 whole → (ps : List Piece) → AreLaid ps → (before : List ℕ) (place : ℕ) → whole ≡ before ++ layout ps
+    → place ≡ length before
     → Stand whole ps (tokens_of place ps)
 stand_from whole utf8 ps laid_none before place is at = refl
 stand_from whole utf8 ps (laid_name n behind rest named blank ends more) before place is at =
-    put before _ rest whole place is at (λ e. name_at whole before n (behind ++ layout rest) place utf8 named is at) (λ next here. stand_from whole utf8 rest more _ _ next here)
+    put before _ rest whole place is at (λ e. name_at whole before n (behind ++ layout rest) place utf8 named is at)
+    (λ next here. stand_from whole utf8 rest more _ _ next here)
 stand_from whole utf8 ps (laid_reserved word behind rest blank ends more) before place is at =
     put before _ rest whole place is at (λ e. absurd cc) (λ next here. stand_from whole utf8 rest more _ _ next here)
 stand_from whole utf8 ps (laid_number n behind rest literal blank ends more) before place is at =

@@ -5,7 +5,7 @@ use Rattle.flu_lemmas.specs.Items.{Begins}
 use Rattle.flu_text.specs.declared.words.Token.{Token}
 use Rattle.flu_text.specs.Reading.{reading}
 use Rattle.flu_text.specs.Layout.{Piece, layout, tokens_of}
-use Rattle.flu_syntax.specs.Grammar.{Sign, IsSign, AreSigns}
+use Rattle.flu_text.specs.Signs.{Sign, IsSign, AreSigns}
 use Rattle.flu_model.specs.declared.jobs.Keys.{Keys}
 use Rattle.flu_model.specs.PlanRules.{are_small_keys}
 use Rattle.flu_layout.specs.Laid.{AreLaid, Follows}
@@ -26,8 +26,12 @@ BegunAreSigns = (signs : List Sign) (ts : List Token) → Begins IsSign signs ts
 
 -- the words of keys are laid out as their text
 abbrev pub KeysAreSpelled : Type 0
-KeysAreSpelled = (ks : Keys) (behind : List ℕ) (rest : List Piece) → behind_kind ks behind ++ layout (keys_words ks behind rest) ≡ keys_text ks ++ (behind ++ layout rest)
+KeysAreSpelled =
+    (ks : Keys) (behind : List ℕ) (rest : List Piece)
+    → behind_kind ks behind ++ layout (keys_words ks behind rest) ≡ keys_text ks ++ (behind ++ layout rest)
 
 -- by the rules, where the keys are in range
 abbrev pub KeysAreLaid : Type 0
-KeysAreLaid = (ks : Keys) (behind : List ℕ) (rest : List Piece) → IsTrue (are_small_keys ks) → Follows behind rest → Follows (behind_kind ks behind) (keys_words ks behind rest)
+KeysAreLaid =
+    (ks : Keys) (behind : List ℕ) (rest : List Piece) → IsTrue (are_small_keys ks) → Follows behind rest
+    → Follows (behind_kind ks behind) (keys_words ks behind rest)

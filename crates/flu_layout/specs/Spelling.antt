@@ -1,7 +1,7 @@
 -- The bytes of a text that a written name or text takes.
 use Rattle.std.specs.Prelude.{ℕ, ◌+◌, ◌-◌, ℤ, pos, negsuc, List}
 use Rattle.flu_lemmas.specs.Spans.{spelled}
-use Rattle.flu_syntax.specs.declared.tree.WrittenSpan.{WrittenSpan}
+use Rattle.flu_text.specs.declared.written.WrittenSpan.{WrittenSpan}
 
 -- a written name
 abbrev pub name_of : List ℕ → WrittenSpan → List ℕ

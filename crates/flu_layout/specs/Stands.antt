@@ -7,9 +7,9 @@ use Rattle.flu_text.specs.declared.words.Word.TheVariants as w
 use Rattle.flu_text.specs.declared.words.Token.{Token}
 use Rattle.flu_text.specs.Grammar.{IsToken}
 use Rattle.flu_text.specs.Layout.{Piece}
-use Rattle.flu_syntax.specs.declared.tree.WrittenSpan.{WrittenSpan}
-use Rattle.flu_syntax.specs.Grammar.{Spanned}
-use Rattle.flu_syntax.specs.Words.{Stands}
+use Rattle.flu_text.specs.declared.written.WrittenSpan.{WrittenSpan}
+use Rattle.flu_text.specs.Signs.{Spanned}
+use Rattle.flu_text.specs.Signs.{Stands}
 use Rattle.flu_lemmas.specs.Spans.{spelled}
 use Rattle.flu_layout.specs.Spelling.{name_of, inside}
 

@@ -4,7 +4,7 @@ ghost use Rattle.std.specs.Prelude.{◌≡◌, ◌+◌, ◌<◌, ◌≤◌, ◌^
 ghost use Rattle.flu_lemmas.specs.Spans.{is_boundary, spelled};
 ghost use Rattle.flu_layout.specs.Spelling.{name_of, inside, written_value};
 
-use flu_syntax::WrittenSpan;
+use flu_text::WrittenSpan;
 
 fn is_boundary(text: &str, place: usize) -> bool
     ensures { result ≡ is_boundary text.now place }

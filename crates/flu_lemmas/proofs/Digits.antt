@@ -1,5 +1,5 @@
 -- Digits, and runs of digits.
-use Rattle.std.proofs.Common.{◌≡◌, ℕ, ◌+◌, ◌*◌, ◌%◌, ◌-◌, ◌<◌, ◌^◌, min, true, List, [], ◌∷◌, ◌++◌, length, get_or, take, ◌∙◌, arith}
+use Rattle.std.proofs.Common.{◌≡◌, ℕ, ◌+◌, ◌*◌, ◌%◌, ◌-◌, ◌<◌, ◌^◌, min, true, List, [], ◌∷◌, length, get_or, take, ◌∙◌, arith}
 use Rattle.std.specs.Prelude.{◌||◌, ◌==◌}
 use Rattle.std.specs.Char.{is_ascii_digit, is_ascii_alphanumeric}
 use Rattle.std.specs.Fmt.{decimal}

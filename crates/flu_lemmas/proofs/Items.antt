@@ -43,7 +43,8 @@ lines_hold line test P each (x ∷ xs) rest all p =
     (lines_hold line test P each xs rest (and_right (test x) (list_all test xs) all) p)
 
 -- ---- how they are read again
-pub begins_append : {S T : Type 0} (is : S → T → Type 0) (a b : List S) (ts more rest : List T) → Begins is a ts more → Begins is b more rest → Begins is (a ++ b) ts rest
+pub begins_append : {S T : Type 0} (is : S → T → Type 0) (a b : List S) (ts more rest : List T) → Begins is a ts more → Begins is b more rest
+    → Begins is (a ++ b) ts rest
 begins_append is [] b ts more rest first second = subst (λ l. Begins is b l rest) (sym first) second
 begins_append is (s ∷ a) b ts more rest first second =
     (first.0, first.1, first.2, first.3, begins_append is a b first.1 more rest first.4 second)
@@ -79,7 +80,8 @@ module _ {S T R : Type 0} (matches : S → T → Type 0) (Stand : R → List T �
       → Took (signs first ++ flat_map (λ w. mark ∷ signs w) []) r ts
   no_more signs mark first r ts h = record { rest = h.rest; begins = begins_append matches (signs first) [] ts h.rest h.rest h.begins refl; stand = h.stand }
 
-  pub read_items : {X W B : Type 0} (item : X → B → R → R) (none : B) (between : R → R) (signs : W → List S) (Means : X → W → Type 0) (test : X → Bool) (mark : S)
+  pub read_items : {X W B : Type 0} (item : X → B → R → R) (none : B) (between : R → R) (signs : W → List S) (Means : X → W → Type 0)
+      (test : X → Bool) (mark : S)
       → ((x : X) (behind : B) (r : R) (ts : List T) → test x ≡ true → Stand (item x behind r) ts → ItemIs signs Means x r ts)
       → ((r : R) (ts : List T) → Stand (between r) ts → (t : T) × (more : List T) × (ts ≡ t ∷ more) × matches mark t × Stand r more)
       → (x : X) (xs : List X) (behind : B) (r : R) (ts : List T) → list_all test (x ∷ xs) ≡ true → Stand (items_before item none between x xs behind r) ts
@@ -96,7 +98,8 @@ module _ {S T R : Type 0} (matches : S → T → Type 0) (Stand : R → List T �
         others = more.first ∷ more.others;
         took = record {
           rest = more.took.rest;
-          begins = begins_append matches (signs first.written) (mark ∷ (signs more.first ++ flat_map (λ w. mark ∷ signs w) more.others)) ts first.took.rest more.took.rest
+          begins = begins_append matches (signs first.written) (mark ∷ (signs more.first ++ flat_map (λ w. mark ∷ signs w) more.others)) ts
+              first.took.rest more.took.rest
               first.took.begins (sign.0, sign.1, sign.2, sign.3, more.took.begins);
           stand = more.took.stand;
         };

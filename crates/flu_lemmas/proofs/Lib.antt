@@ -2,9 +2,12 @@ pub mod Booleans
 pub mod Containing
 pub mod Counting
 pub mod Digits
+pub mod Distinct
 pub mod Elements
 pub mod Items
+pub mod Late
 pub mod Loops
+pub mod Mapped
 pub mod Named
 pub mod Numbers
 pub mod OnlyOne
@@ -19,4 +22,3 @@ pub mod Tests
 pub mod Told
 pub mod Totals
 pub mod TwoNumbers
-pub mod Mapped

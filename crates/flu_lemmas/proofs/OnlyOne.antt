@@ -1,11 +1,11 @@
 -- Lists in which one element alone passes a test.
-use Rattle.std.proofs.Common.{◌≡◌, ◌<◌, ◌≤◌, ◌+◌, ℕ, zero, suc, Bool, true, false, cond, Option, Some, None, List, [], ◌∷◌, length, inl, inr, refl, sym, ap, ◌∙◌, arith}
+use Rattle.std.proofs.Common.{◌≡◌, ◌≤◌, ◌+◌, ℕ, zero, suc, Bool, true, false, cond, Some, None, List, [], ◌∷◌, length, inl, inr, refl, sym, ap, ◌∙◌, arith}
 use Rattle.std.specs.Prelude.{count_by, position, slice_get, option_map}
 use Rattle.std.specs.List.{position_or_len}
 use Rattle.std.proofs.lemmas.Bool.{cases_lt}
 use Rattle.std.proofs.lemmas.List.Sums.{sum_by-cons}
-use Rattle.flu_lemmas.proofs.Places.{position-cons, position_passes}
-use Rattle.flu_lemmas.proofs.Tests.{lt_true, not_both}
+use Rattle.flu_lemmas.proofs.Places.{position-cons}
+use Rattle.flu_lemmas.proofs.Tests.{lt_true}
 
 -- the count of a list is that of its first element and of the rest
 pub count_by-cons : {X : Type 0} (p : X → Bool) (x : X) (xs : List X) (b : Bool) → p x ≡ b → count_by p (x ∷ xs) ≡ cond b 1 0 + count_by p xs

@@ -1,5 +1,5 @@
 -- Places of a text between its characters, and the bytes between two of them.
-use Rattle.std.proofs.Common.{◌≡◌, ℕ, ◌+◌, ◌-◌, ◌<◌, ◌≤◌, Bool, true, List, [], ◌∷◌, ◌++◌, length, take, drop, get_or, sym, ap, subst, ◌∙◌, append_assoc, length-append, arith}
+use Rattle.std.proofs.Common.{◌≡◌, ℕ, ◌+◌, ◌-◌, ◌<◌, ◌≤◌, Bool, true, List, [], ◌∷◌, ◌++◌, length, take, drop, get_or, sym, ap, subst, ◌∙◌, length-append, arith}
 use Rattle.std.specs.Prelude.{◌&&◌, ◌||◌, nat_le, nat_lt, if◌then◌else◌, slice_index, slice_range}
 use Rattle.std.specs.List.{list_all}
 use Rattle.std.specs.Str.{IsUtf8, IsCharBoundary}
@@ -16,7 +16,8 @@ pub is_boundary_there : (text : List ℕ) (i : ℕ) → IsCharBoundary text i �
 is_boundary_there text i here = boundary_test i (length text) (slice_index text i) here.0 here.1
 
 -- the bytes between two places of a text are those of its slice
-pub spelled_slice : (text : List ℕ) (from to : ℕ) → from ≤ to → IsCharBoundary text from → IsCharBoundary text to → spelled text from to ≡ slice_range text from to
+pub spelled_slice : (text : List ℕ) (from to : ℕ) → from ≤ to → IsCharBoundary text from → IsCharBoundary text to
+    → spelled text from to ≡ slice_range text from to
 spelled_slice text from to rises begins ends =
     ap (λ b. if b then slice_range text from to else [])
     (both (nat_le from to && is_boundary text from) (is_boundary text to)
@@ -63,7 +64,8 @@ spelled_between whole before bytes after from to p size begins ends =
     ∙ take_at bytes after (to - from) count
 
 -- a byte within the bytes at a place
-byte_within : (whole before bytes after : List ℕ) (at k : ℕ) → Place whole before (bytes ++ after) at → k < length bytes → get_or whole (at + k) 0 ≡ get_or bytes k 0
+byte_within : (whole before bytes after : List ℕ) (at k : ℕ) → Place whole before (bytes ++ after) at → k < length bytes
+    → get_or whole (at + k) 0 ≡ get_or bytes k 0
 byte_within whole before bytes after at k p lt =
     ap (λ (w : List ℕ). get_or w (at + k) 0) p.is
     ∙ ap (λ (n : ℕ). get_or (before ++ (bytes ++ after)) (n + k) 0) p.here

@@ -7,3 +7,4 @@ pub mod Spans
 pub mod Totals
 pub mod Told
 pub mod Named
+pub mod Late

@@ -1,10 +1,10 @@
 -- One take, where the files tell what they have left and where they do not.
-use Rattle.std.proofs.Common.{◌≡◌, ℕ, ◌<◌, List, [], ◌++◌, length, take, drop, Option, Some, None, refl, sym, ap, ◌∙◌, append_assoc, arith}
+use Rattle.std.proofs.Common.{◌≡◌, ℕ, ◌≤◌, ◌<◌, List, [], ◌++◌, length, take, drop, Option, Some, None, refl, sym, ap, ◌∙◌, append_assoc, arith}
 use Rattle.std.specs.Prelude.{is_some}
 use Rattle.std.proofs.lemmas.Grind.{common_steps}
-use Rattle.flu_lemmas.proofs.Told.{told_weaker}
+use Rattle.flu_lemmas.proofs.Told.{told_then, told_weaker}
 use Rattle.flu_outside.specs.Outside.{Contents, Takes, WhereTold, SameLeft}
-use Rattle.flu_outside.specs.Taking.{TakesFrom, KeepsBytes, IsReadOut, TookWhole}
+use Rattle.flu_outside.specs.Taking.{TakesFrom, KeepsBytes, IsReadOut, TookWhole, TookAtMost}
 
 take_drop : (n : ℕ) (xs : List ℕ) → take n xs ++ drop n xs ≡ xs
 take_drop n xs = grind (arith, common_steps)
@@ -50,3 +50,10 @@ whole_at_end name most bytes (Some x) (Some y) kept out = record { front = sym k
 pub whole_over : (name : List ℕ) (most : ℕ) (bytes : List ℕ) (a b : Option Contents) → most < length bytes → WhereTold a b (KeepsBytes name [] bytes) → WhereTold a b (TookWhole name most bytes)
 whole_over name most bytes a b over kept =
     told_weaker (KeepsBytes name [] bytes) (TookWhole name most bytes) a b (λ x y k. record { front = sym k; end = λ few. absurd (omega arith) }) kept
+
+-- a take that failed comes behind at most so many bytes
+still_few : (name : List ℕ) (most : ℕ) (bytes : List ℕ) (x y z : Contents) → length bytes ≤ most → KeepsBytes name [] bytes x y → SameLeft y z → TookAtMost name most x z
+still_few name most bytes x y z few kept same = record { bytes = bytes; front = rw (same name) (sym kept); few = few }
+
+pub few_before : (name : List ℕ) (most : ℕ) (bytes : List ℕ) (a b c : Option Contents) → length bytes ≤ most → WhereTold a b (KeepsBytes name [] bytes) → WhereTold b c SameLeft → WhereTold a c (TookAtMost name most)
+few_before name most bytes a b c few kept same = told_then (KeepsBytes name [] bytes) SameLeft (TookAtMost name most) a b c (λ x y z k s. still_few name most bytes x y z few k s) kept same

@@ -13,8 +13,6 @@ mod rest;
 mod schedule;
 mod sink;
 mod taking;
-#[cfg(test)]
-mod tests;
 mod writing;
 
 pub use files::{Files, TakeFault};

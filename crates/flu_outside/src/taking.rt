@@ -2,7 +2,7 @@
 
 ghost use Rattle.std.specs.Prelude.{◌≡◌, ◌≢◌, ◌<◌, ◌^◌, ◌++◌, List, ℕ, length, IfOk, OnOk, OnErr, IsErrOf, Err};
 ghost use Rattle.flu_outside.specs.Outside.{WhereTold, Rose, SameLeft, SameCounts};
-ghost use Rattle.flu_outside.specs.Taking.{TakesFrom, KeepsBytes, IsReadOut, CountsOf, TookWhole};
+ghost use Rattle.flu_outside.specs.Taking.{TakesFrom, KeepsBytes, IsReadOut, CountsOf, TookWhole, TookAtMost};
 
 use crate::files::{Files, TakeFault};
 use std::alloc::Global;
@@ -49,7 +49,10 @@ pub fn read_whole<F: Files>(
     ensures taken { WhereTold (F.left files.old) (F.left files.new) (TakesFrom name.now) }
     ensures counts { CountsOf (F.left files.old) name.now (F.faults files.old) (F.faults files.new) }
     ensures quiet { result ≢ Err TakeFault.Failed → SameCounts (F.faults files.old) (F.faults files.new) }
+
+    // A failed take is told only where it was needed: no more than `most` bytes came before it.
     ensures failed { IsErrOf result TakeFault.Failed → Rose (F.faults files.old name.now) (F.faults files.new name.now) }
+    ensures needed { IsErrOf result TakeFault.Failed → WhereTold (F.left files.old) (F.left files.new) (TookAtMost name.now most) }
 {
     let mut bytes: Vec<u8> = Vec::new(alloc);
     while bytes.len() <= most {

@@ -7,7 +7,7 @@ use Rattle.flu_model.specs.declared.jobs.At.TheVariants as at
 use Rattle.flu_model.specs.declared.jobs.CellRef.{CellRef}
 use Rattle.flu_model.specs.Contents.{key_count}
 use Rattle.flu_model.specs.Rules.{is_sort}
-use Rattle.flu_syntax.specs.declared.tree.WrittenNumber.{WrittenNumber}
+use Rattle.flu_text.specs.declared.written.WrittenNumber.{WrittenNumber}
 use Rattle.flu_syntax.specs.declared.tree.WrittenKey.{WrittenKey}
 use Rattle.flu_syntax.specs.declared.tree.WrittenKey.TheVariants as k
 use Rattle.flu_syntax.specs.declared.tree.WrittenRef.{WrittenRef}

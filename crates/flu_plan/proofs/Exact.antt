@@ -9,7 +9,7 @@ use Rattle.flu_plan.specs.declared.fault.PlanFault.{PlanFault}
 use Rattle.flu_plan.specs.declared.fault.PlanFault.TheVariants as f
 use Rattle.flu_plan.specs.declared.grammar.Stage.{Stage}
 use Rattle.flu_plan.specs.declared.grammar.Stage.TheVariants as stage
-use Rattle.flu_syntax.specs.declared.tree.WrittenSpan.{WrittenSpan}
+use Rattle.flu_text.specs.declared.written.WrittenSpan.{WrittenSpan}
 use Rattle.flu_plan.specs.declared.terminals.Terminal.{Terminal}
 use Rattle.flu_plan.specs.declared.terminals.Terminal.TheVariants as k
 use Rattle.flu_plan.specs.declared.written.WrittenPred.{WrittenPred}

@@ -18,10 +18,10 @@ use Rattle.flu_model.specs.declared.plans.Node.{Node}
 use Rattle.flu_model.specs.Rules.{is_same_text}
 use Rattle.flu_names.specs.Names.{is_name}
 use Rattle.flu_model.specs.Owners.{names_source, pred_fits, nodes_fit}
-use Rattle.flu_syntax.specs.declared.tree.WrittenSpan.{WrittenSpan}
-use Rattle.flu_syntax.specs.declared.tree.WrittenKeys.{WrittenKeys}
-use Rattle.flu_syntax.specs.Words.{Stands}
-use Rattle.flu_syntax.specs.Laws.{SignsStand}
+use Rattle.flu_text.specs.declared.written.WrittenSpan.{WrittenSpan}
+use Rattle.flu_text.specs.declared.written.WrittenKeys.{WrittenKeys}
+use Rattle.flu_text.specs.Signs.{Stands}
+use Rattle.flu_text.specs.Laws.{SignsStand}
 use Rattle.flu_layout.specs.Spelling.{name_of}
 use Rattle.flu_layout.specs.Laws.{ReadMayBePrinted}
 use Rattle.flu_layout.specs.Stands.{AreRead}

@@ -21,11 +21,12 @@ use Rattle.flu_model.specs.Contents.{key_count}
 use Rattle.flu_names.specs.Names.{is_name}
 use Rattle.flu_model.specs.PlanRules.{are_small_keys}
 use Rattle.flu_model.specs.Owners.{are_alone, names_source, pred_fits}
-use Rattle.flu_syntax.specs.declared.tree.WrittenSpan.{WrittenSpan}
-use Rattle.flu_syntax.specs.declared.tree.WrittenKeys.{WrittenKeys}
-use Rattle.flu_syntax.specs.declared.tree.WrittenKeys.TheVariants as keys
-use Rattle.flu_syntax.specs.Machine.{span_of}
-use Rattle.flu_syntax.specs.Grammar.{Any, IsSign, keys_signs, separated}
+use Rattle.flu_text.specs.declared.written.WrittenSpan.{WrittenSpan}
+use Rattle.flu_text.specs.declared.written.WrittenKeys.{WrittenKeys}
+use Rattle.flu_text.specs.declared.written.WrittenKeys.TheVariants as keys
+use Rattle.flu_text.specs.Signs.{span_of}
+use Rattle.flu_text.specs.Signs.{Any, IsSign}
+use Rattle.flu_text.specs.Signs.{keys_signs, separated}
 use Rattle.flu_layout.specs.Spelling.{name_of}
 use Rattle.flu_lemmas.specs.Items.{lines_before, Begins, Pairs as Zip}
 use Rattle.flu_lemmas.proofs.Items.{Took, took_none, took_more, ItemIs, read_items}

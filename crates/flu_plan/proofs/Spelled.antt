@@ -7,12 +7,13 @@ use Rattle.flu_names.specs.declared.reserved.Reserved.TheVariants as r
 use Rattle.flu_text.specs.declared.words.Mark.{Mark}
 use Rattle.flu_text.specs.declared.words.Mark.TheVariants as m
 use Rattle.flu_text.specs.declared.words.Token.{Token}
-use Rattle.flu_syntax.specs.declared.tree.WrittenSpan.{WrittenSpan}
-use Rattle.flu_syntax.specs.declared.tree.WrittenNumber.{WrittenNumber}
-use Rattle.flu_syntax.specs.declared.tree.WrittenKeys.{WrittenKeys}
-use Rattle.flu_syntax.specs.declared.tree.WrittenKeys.TheVariants as keys
-use Rattle.flu_syntax.specs.Machine.{span_of, number_of}
-use Rattle.flu_syntax.specs.Grammar.{Sign, Any, At, Spanned, IsSign, AreSigns, name, number, keys_signs, separated}
+use Rattle.flu_text.specs.declared.written.WrittenSpan.{WrittenSpan}
+use Rattle.flu_text.specs.declared.written.WrittenNumber.{WrittenNumber}
+use Rattle.flu_text.specs.declared.written.WrittenKeys.{WrittenKeys}
+use Rattle.flu_text.specs.declared.written.WrittenKeys.TheVariants as keys
+use Rattle.flu_text.specs.Signs.{span_of, number_of}
+use Rattle.flu_text.specs.Signs.{Sign, Any, At, Spanned, IsSign, AreSigns}
+use Rattle.flu_text.specs.Signs.{name, number, keys_signs, separated}
 use Rattle.flu_plan.specs.declared.terminals.Terminal.{Terminal}
 use Rattle.flu_plan.specs.declared.terminals.Terminal.TheVariants as k
 use Rattle.flu_plan.specs.declared.grammar.Stage.{Stage}

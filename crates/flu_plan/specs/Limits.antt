@@ -3,9 +3,9 @@ use Rattle.std.specs.Prelude.{ℕ, Bool, nat_lt, nat_le, List, length, sum_by, O
 use Rattle.std.specs.List.{list_all}
 use Rattle.flu_model.specs.declared.limits.What.TheVariants.{Nodes, Predicates, Depth, Key}
 use Rattle.flu_model.specs.Contents.{key_count}
-use Rattle.flu_syntax.specs.declared.tree.WrittenNumber.{WrittenNumber}
-use Rattle.flu_syntax.specs.declared.tree.WrittenKeys.{WrittenKeys}
-use Rattle.flu_syntax.specs.declared.tree.WrittenKeys.TheVariants as keys
+use Rattle.flu_text.specs.declared.written.WrittenNumber.{WrittenNumber}
+use Rattle.flu_text.specs.declared.written.WrittenKeys.{WrittenKeys}
+use Rattle.flu_text.specs.declared.written.WrittenKeys.TheVariants as keys
 use Rattle.flu_plan.specs.declared.fault.PlanFault.TheVariants as f
 use Rattle.flu_plan.specs.declared.drafts.DraftPred.{DraftPred}
 use Rattle.flu_plan.specs.declared.drafts.DraftNode.{DraftNode}

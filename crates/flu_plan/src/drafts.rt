@@ -1,7 +1,7 @@
 //! A plan whose names are looked up, as far as its shape and its limits are not yet looked at.
 
 use flu_model::List;
-use flu_syntax::{WrittenKeys, WrittenSpan};
+use flu_text::{WrittenKeys, WrittenSpan};
 
 /// A predicate, with its kind and its source by their numbers and its keys as they are written.
 #[derive(Clone, Copy)]

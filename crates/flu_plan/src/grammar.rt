@@ -1,7 +1,7 @@
 //! The grammar of plan texts (`docs/LANGUAGE.md`), token by token.
 
 ghost use Rattle.std.specs.Prelude.{◌≡◌, ◌++◌, ◌∷◌, [], OnOk, OnErr};
-ghost use Rattle.flu_syntax.specs.Machine.{span_of, number_of};
+ghost use Rattle.flu_text.specs.Signs.{span_of, number_of};
 ghost use Rattle.flu_plan.specs.Faults.{Gives, each};
 ghost use Rattle.flu_plan.specs.Machine.{turn_of, goes, pred, with_pred, with_node, start_step, node_step, name_step, end_step, comma_step, colon_step, kind_step, open_step, low_step, dots_step, high_step, close_step, at_step, arrow_step, left_step, right_step, step, ended, written_in};
 
@@ -9,8 +9,7 @@ use crate::fault::PlanFault;
 use crate::terminals::{Terminal, terminal_of};
 use crate::written::{WrittenNode, WrittenPred};
 use flu_model::List;
-use flu_syntax::{WrittenKeys, WrittenNumber, WrittenSpan};
-use flu_text::Token;
+use flu_text::{Token, WrittenKeys, WrittenNumber, WrittenSpan};
 use std::alloc::Global;
 use std::mem;
 

@@ -4,7 +4,7 @@ ghost use Rattle.flu_plan.specs.Grammar.{FoundIsPlan, PlansAreUnique, Unexpected
 ghost use Rattle.flu_plan.specs.Laws.{PlansKeepRules, PlansHaveText, PrintedIsRead};
 
 use flu_layout::laws::{keys_are_laid, laid_is_read, read_may_be_printed};
-use flu_syntax::laws::signs_stand;
+use flu_text::laws::signs_stand;
 
 /// What is found is exactly what the tokens are by the grammar, word by word and place by place; and that is one plan at most.
 pub fn found_is_plan()

@@ -9,7 +9,7 @@ use crate::drafts::{DraftNode, DraftPred, Visit};
 use crate::fault::PlanFault;
 use flu_layout::written_value;
 use flu_model::{KEY_COUNT, What};
-use flu_syntax::{WrittenKeys, WrittenNumber};
+use flu_text::{WrittenKeys, WrittenNumber};
 
 /// The most nodes of a plan.
 const MOST_NODES: usize = 127;

@@ -10,7 +10,7 @@ use crate::drafts::{DraftNode, DraftPred, Visit};
 use crate::shape::node_at;
 use flu_layout::{name_of, written_value};
 use flu_model::{Keys, List, Name, Node, Pred};
-use flu_syntax::{WrittenKeys, WrittenNumber};
+use flu_text::{WrittenKeys, WrittenNumber};
 use std::alloc::{AllocError, Global};
 
 fn planned_key(number: WrittenNumber) -> u32

@@ -12,7 +12,7 @@ use crate::fault::PlanFault;
 use crate::written::{WrittenNode, WrittenPred};
 use flu_layout::name_of;
 use flu_model::{Kind, List, Name, Program, Source};
-use flu_syntax::WrittenSpan;
+use flu_text::WrittenSpan;
 use indexmap::IndexSet;
 use std::alloc::Global;
 

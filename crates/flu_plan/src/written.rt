@@ -1,7 +1,7 @@
 //! A plan as it is written: nodes whose names are spans of bytes of the plan text.
 
 use flu_model::List;
-use flu_syntax::{WrittenKeys, WrittenSpan};
+use flu_text::{WrittenKeys, WrittenSpan};
 
 /// A predicate: a kind and perhaps keys of it, or `@`, or both.
 #[derive(Clone, Copy)]

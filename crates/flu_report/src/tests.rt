@@ -1,8 +1,7 @@
 ghost use Rattle.std.specs.Prelude.{◌≡◌, true, [], IfOk};
 
-use crate::{report_text, write_all};
+use crate::report_text;
 use flu_model::{Kind, List, Name, Out, Outs, Program, Tag, Text};
-use flu_outside::{Failed, MemSink};
 use std::alloc::{AllocError, Global};
 use std::test::Fail;
 
@@ -78,28 +77,6 @@ fn lines_are_sorted(rt: HostRuntime) -> Result<(), Fail> {
         }
         let report = report_text(rt.alloc(), &p, outs)?;
         assert_eq!(rt; report.as_str(), wanted);
-    }
-    Ok(())
-}
-
-#[test]
-fn writes_all_until_a_failure(rt: HostRuntime) -> Result<(), Fail> {
-    // the call that fails, or 0, and what is taken
-    let cases: [(u64, &[u8]); 4] = [
-        (0, b"3,read,count 0\n"),
-        (1, b""),
-        (2, b"3,re"),
-        (4, b"3,read,count"),
-    ];
-    for (call, wanted) in cases {
-        let mut out = MemSink::with_room(rt.alloc(), 64)?;
-        out.piece(4);
-        if call > 0 {
-            out.fail_at(call)?;
-        }
-        let wrote = write_all(&mut out, b"3,read,count 0\n");
-        assert_eq!(rt; wrote == Err(Failed), call > 0);
-        assert_eq!(rt; out.bytes(), wanted);
     }
     Ok(())
 }

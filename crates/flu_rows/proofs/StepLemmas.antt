@@ -1,9 +1,10 @@
 -- What one line does to what is still to be read.
-use Rattle.std.proofs.Common.{◌≡◌, ◌≢◌, inl, inr, ℕ, ◌+◌, ◌^◌, ◌<◌, List, [], ◌∷◌, ◌++◌, length, take, drop, Option, Some, None, refl, ap, ◌∙◌, append_assoc}
+use Rattle.std.proofs.Common.{◌≡◌, ◌≢◌, inl, inr, ℕ, ◌+◌, ◌^◌, ◌<◌, List, [], ◌∷◌, ◌++◌, length, take, drop, Option, Some, None, refl, sym, ap, ◌∙◌, append_assoc}
+use Rattle.std.specs.Prelude.{unwrap_or}
 use Rattle.std.proofs.lemmas.Bool.{ne_eqb, lt-ltb}
 use Rattle.std.proofs.lemmas.Bool.Decides.{eqb_tells}
 use Rattle.std.proofs.lemmas.List.{append-nil}
-use Rattle.flu_outside.specs.Outside.{Contents, WhereTold}
+use Rattle.flu_outside.specs.Outside.{Contents, WhereTold, SameLeft}
 use Rattle.flu_rows.specs.declared.held.Found.{Found}
 use Rattle.flu_rows.specs.declared.held.Found.TheVariants.{Line as LineFound, Last, TooLong, End}
 use Rattle.flu_rows.specs.declared.line.Line.{Line}
@@ -20,7 +21,7 @@ use Rattle.flu_rows.specs.Steps.{step_of, row_step, step_behind, BeginsWith, Rea
 use Rattle.flu_outside.specs.Taking.{KeepsBytes, bytes_left, IsReadOut}
 use Rattle.flu_rows.proofs.Alike.{line_of-alike}
 use Rattle.flu_rows.proofs.Cuts.{lines_of-cut, lines_of-line, lines_of-last, lines_of-long}
-use Rattle.flu_lemmas.proofs.Told.{told_same}
+use Rattle.flu_lemmas.proofs.Told.{told_same, told_then, told_weaker}
 
 -- where something was found but the end, a line stands there
 some_line : (now coming : List ℕ) (found : Found) → IsFound now found → found ≢ End → (found ≡ Last → coming ≡ []) → (bytes : List ℕ) × (lines : List (List ℕ)) × (lines_of (now ++ coming) ≡ bytes ∷ lines)
@@ -102,3 +103,13 @@ steps_then name (Some a) (Some b) (Some c) n n' n2 held held' held2 step p q = p
 
 pub no_step : (name : List ℕ) (a : Option Contents) (n : ℕ) (held : List ℕ) → WhereTold a a (ReadsStep name n held n held Skip)
 no_step name a n held = told_same (ReadsStep name n held n held Skip) a (λ x. refl)
+
+-- ---- a read that fails
+kept_at_fault : (name held now : List ℕ) (x y z : Contents) → KeepsBytes name held now x y → SameLeft y z → KeepsBytes name held now x z
+kept_at_fault name held now x y z k s = ap (λ (o : Option (List ℕ)). now ++ unwrap_or o []) (s name) ∙ k
+
+pub kept_still : (name held now : List ℕ) (a b c : Option Contents) → WhereTold a b (KeepsBytes name held now) → WhereTold b c SameLeft → WhereTold a c (KeepsBytes name held now)
+kept_still name held now a b c k s = told_then (KeepsBytes name held now) SameLeft (KeepsBytes name held now) a b c (kept_at_fault name held now) k s
+
+pub at_fault : (name : List ℕ) (a b : Option Contents) (n : ℕ) (held now : List ℕ) → WhereTold a b (KeepsBytes name held now) → WhereTold a b (ReadsStep name n held n now Skip)
+at_fault name a b n held now k = told_weaker (KeepsBytes name held now) (ReadsStep name n held n now Skip) a b (λ x y e. ap (read_bytes n) (sym e)) k

@@ -3,7 +3,7 @@ use Rattle.std.specs.Prelude.{ℕ, ◌-◌, ◌^◌, ◌&&◌, not, ◌==◌, na
 use Rattle.std.specs.Char.{is_ascii_digit}
 use Rattle.std.specs.List.{prefix_len, list_all}
 use Rattle.std.specs.Str.Parse.{digits_value}
-use Rattle.flu_model.specs.Rules.{is_letter_or_digit, is_name}
+use Rattle.flu_names.specs.Names.{is_name_byte, is_name}
 
 -- the number that one or more digits write, where it is at most a limit
 unfoldable pub number_of : ℕ → List ℕ → Option ℕ
@@ -35,7 +35,7 @@ key_part text =
 
 -- how many letters, digits and underscores stand at the front
 abbrev pub name_len : List ℕ → ℕ
-name_len tag = prefix_len is_letter_or_digit tag
+name_len tag = prefix_len is_name_byte tag
 
 -- TAG: a name, and perhaps a key
 unfoldable pub tag_of : List ℕ → Option (List ℕ × Option ℕ)

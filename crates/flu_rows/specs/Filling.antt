@@ -15,6 +15,11 @@ IsFound held Last = (line_len held ≡ length held) × (0 < length held) × (len
 IsFound held TooLong = 4096 < line_len held
 IsFound held End = held ≡ []
 
+-- some bytes decide nothing: they have no line feed, and are no more than a line may be
+pub record IsUndecided (bytes : List ℕ) : Type 0 where
+  pub one : line_len bytes ≡ length bytes
+  pub short : length bytes ≤ 4096
+
 -- the bytes that are held are the last of the file
 abbrev pub IsLast : Found → Type 0
 IsLast found = (found ≡ Last) ⊎ (found ≡ End)

@@ -5,7 +5,7 @@ ghost use Rattle.std.specs.Str.{IsAscii};
 ghost use Rattle.flu_rows.specs.Fields.{number_of, time_of, key_of, value_of, key_part, tag_of};
 
 use crate::names::name_len;
-use flu_rules::are_name;
+use flu_names::are_name;
 
 /// The greatest key that a tag has.
 const GREATEST_KEY: u64 = 65_535;

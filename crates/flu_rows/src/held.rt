@@ -2,9 +2,9 @@
 
 ghost use Rattle.std.specs.Prelude.{◌≡◌, ◌≢◌, ℕ, List, not, ◌==◌, ◌+◌, ◌≤◌, ◌<◌, [], ◌++◌, drop, length, IfOk, OnOk, IsErrOf, Err};
 ghost use Rattle.std.specs.List.{prefix_len};
-ghost use Rattle.flu_outside.specs.Outside.{WhereTold, Rose, SameCounts};
+ghost use Rattle.flu_outside.specs.Outside.{WhereTold, Rose, SameLeft, SameCounts};
 ghost use Rattle.flu_outside.specs.Taking.{TakesFrom, KeepsBytes, CountsOf, IsReadOut};
-ghost use Rattle.flu_rows.specs.Filling.{line_len, IsFound, IsLast};
+ghost use Rattle.flu_rows.specs.Filling.{line_len, IsFound, IsLast, IsUndecided};
 
 use crate::line::LONGEST_LINE;
 use flu_outside::{Files, TakeFault, take_behind};
@@ -104,6 +104,8 @@ impl Held {
         ensures counts { CountsOf (F.left files.old) file.now (F.faults files.old) (F.faults files.new) }
         ensures quiet { result ≢ Err RowsFault.ReadFault → SameCounts (F.faults files.old) (F.faults files.new) }
         ensures cause { IsErrOf result RowsFault.ReadFault → Rose (F.faults files.old file.now) (F.faults files.new file.now) }
+        ensures kept { IsErrOf result RowsFault.ReadFault → self.new ≡ self.old }
+        ensures none { IsErrOf result RowsFault.ReadFault → WhereTold (F.left files.old) (F.left files.new) SameLeft }
     {
         self.move_up();
         match take_behind(files, file, &mut self.bytes) {
@@ -122,6 +124,8 @@ impl Held {
         ensures counts { CountsOf (F.left files.old) file.now (F.faults files.old) (F.faults files.new) }
         ensures quiet { result ≢ Err RowsFault.ReadFault → SameCounts (F.faults files.old) (F.faults files.new) }
         ensures cause { IsErrOf result RowsFault.ReadFault → Rose (F.faults files.old file.now) (F.faults files.new file.now) }
+        ensures kept { IsErrOf result RowsFault.ReadFault → WhereTold (F.left files.old) (F.left files.new) (KeepsBytes file.now self.old self.new) }
+        ensures undecided { IsErrOf result RowsFault.ReadFault → IsUndecided self.new }
     {
         let mut len = line_len(self.bytes());
         while len == self.bytes().len() && len <= LONGEST_LINE {

@@ -10,8 +10,6 @@ mod row;
 mod rows;
 mod run;
 mod scan;
-#[cfg(test)]
-mod tests;
 
 pub use held::RowsFault;
 pub use row::Row;

@@ -13,7 +13,7 @@ use std::alloc::{AllocError, Global};
 /// A row of a source.
 ///
 /// A time is at most 2^63 - 1 and a key at most 65,535.
-#[derive(Debug, Drop)]
+#[derive(Drop)]
 pub enum Row {
     /// An event, by the name of its kind, the key between brackets and the value, where these are given.
     Event {

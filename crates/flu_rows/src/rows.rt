@@ -4,7 +4,7 @@ ghost use Rattle.std.specs.Prelude.{◌≡◌, ◌≢◌, ◌+◌, ◌^◌, ◌+
 ghost use Rattle.csv.specs.Records.{fields_of};
 ghost use Rattle.flu_outside.specs.Outside.{WhereTold, Rose, SameCounts};
 ghost use Rattle.flu_outside.specs.Taking.{TakesFrom, CountsOf, IsReadOut};
-ghost use Rattle.flu_rows.specs.Filling.{IsFound};
+ghost use Rattle.flu_rows.specs.Filling.{IsFound, IsUndecided};
 ghost use Rattle.flu_rows.specs.Lines.{LineInRange};
 ghost use Rattle.flu_rows.specs.Reading.{ahead, front_of, then_behind, read_bytes, NextInRange, CountsLines, OnDone};
 ghost use Rattle.flu_rows.specs.Steps.{step_of, row_step, step_behind, BeginsWith, StepInRange, StepCounts, StepOnDone, ReadsStep};
@@ -20,7 +20,7 @@ use std::alloc::{AllocError, Global};
 use std::marker::Model;
 
 /// What comes next in a file. Lines count from 1.
-#[derive(Debug, Drop)]
+#[derive(Drop)]
 pub enum Next {
     /// A row, and the number of its line.
     Row { line: u32, row: Row },
@@ -76,7 +76,8 @@ impl Rows {
         })
     }
 
-    /// Reads the next line that is not blank.
+    /// Reads the next line that is not blank. A byte order mark may stand at the front of the first line; a later line that
+    /// begins with one is bad.
     ///
     /// What a call gives after one that answered anything but a row is not promised to be of use.
     pub fn next_row<F: Files>(&mut self, files: &mut F) -> Result<Next, RowsFault>
@@ -93,6 +94,11 @@ impl Rows {
         ensures counts { CountsOf (F.left files.old) self.old.file (F.faults files.old) (F.faults files.new) }
         ensures quiet { result ≢ Err RowsFault.ReadFault → SameCounts (F.faults files.old) (F.faults files.new) }
         ensures cause { IsErrOf result RowsFault.ReadFault → Rose (F.faults files.old self.old.file) (F.faults files.new self.old.file) }
+
+        // A read fault is told only where it hides nothing that was taken: all that was still to be read still is, and what was
+        // taken and not read has no line feed, and no more bytes than a line may have.
+        ensures kept { IsErrOf result RowsFault.ReadFault → WhereTold (F.left files.old) (F.left files.new) (λ old new. ahead self.old old ≡ ahead self.new new) }
+        ensures undecided { IsErrOf result RowsFault.ReadFault → IsUndecided self.new.taken }
     {
         loop {
             match self.hold.read_line(self.file.as_str(), files)? {
@@ -124,6 +130,8 @@ impl Hold {
         ensures counts { CountsOf (F.left files.old) file.now (F.faults files.old) (F.faults files.new) }
         ensures quiet { result ≢ Err RowsFault.ReadFault → SameCounts (F.faults files.old) (F.faults files.new) }
         ensures cause { IsErrOf result RowsFault.ReadFault → Rose (F.faults files.old file.now) (F.faults files.new file.now) }
+        ensures kept { IsErrOf result RowsFault.ReadFault → WhereTold (F.left files.old) (F.left files.new) (ReadsStep file.now self.old.lines (self.old.run ++ self.old.held) self.new.lines (self.new.run ++ self.new.held) Step.Skip) }
+        ensures undecided { IsErrOf result RowsFault.ReadFault → IsUndecided (self.new.run ++ self.new.held) }
     {
         let Ok(found) = self.run.next(&mut self.row) else {
             return Err(RowsFault::NoMemory);

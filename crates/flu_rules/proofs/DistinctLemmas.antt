@@ -11,19 +11,6 @@ use Rattle.flu_model.specs.Rules.{are_distinct, is_same_text, have_own_names, ha
 use Rattle.flu_rules.specs.Names.{names_of}
 use Rattle.flu_lemmas.proofs.Searches.{list_any-map, rest_whole}
 
-regrouped : (a b c d e : Bool) → (not (a || b) && (d && not c && e)) ≡ ((not a && d) && not (b || c) && e)
-regrouped true b c d e = refl
-regrouped false true c true e = refl
-regrouped false true c false e = refl
-regrouped false false c d e = refl
-
-pub distinct-append : {X : Type 0} (same : X → X → Bool) (xs ys : List X) → are_distinct same (xs ++ ys) ≡ (are_distinct same xs && not (list_any (λ x. list_any (same x) ys) xs) && are_distinct same ys)
-distinct-append same [] ys = refl
-distinct-append same (x ∷ xs) ys =
-    ap (λ b. not b && are_distinct same (xs ++ ys)) (list_any-append (same x) xs ys)
-    ∙ ap (λ b. not (list_any (same x) xs || list_any (same x) ys) && b) (distinct-append same xs ys)
-    ∙ regrouped (list_any (same x) xs) (list_any (same x) ys) (list_any (λ x. list_any (same x) ys) xs) (are_distinct same xs) (are_distinct same ys)
-
 -- a name is one of all where a family, a kind or a source has it
 pub declared : (name : List ℕ) (families : List Family) (kinds : List Kind) (sources : List Source)
     → list_any (is_same_text name) (names_of families kinds sources)
@@ -42,7 +29,8 @@ declared name families kinds sources =
 pub from_place : {X : Type 0} (xs : List X) (i : ℕ) (x : X) → i < length xs → x ≡ get_or xs i x → drop i xs ≡ x ∷ take (length xs - (i + 1)) (drop (i + 1) xs)
 from_place xs i x lt is = drop_more xs i x lt ∙ ap (λ y. y ∷ drop (i + 1) xs) (sym is) ∙ ap (λ ys. x ∷ ys) (sym (rest_whole xs (i + 1)))
 
-pub families_step : (families : List Family) (kinds : List Kind) (sources : List Source) (i : ℕ) (family : Family) (name : List ℕ) → i < length families → family ≡ get_or families i family → name ≡ family.name
+pub families_step : (families : List Family) (kinds : List Kind) (sources : List Source) (i : ℕ) (family : Family) (name : List ℕ) → i < length families
+    → family ≡ get_or families i family → name ≡ family.name
     → have_own_names (drop i families) kinds sources
     ≡ (not (list_any (is_same_text name) (names_of (take (length families - (i + 1)) (drop (i + 1) families)) kinds sources)) && have_own_names (drop (i + 1) families) kinds sources)
 families_step families kinds sources i family name lt is named =
@@ -51,7 +39,8 @@ families_step families kinds sources i family name lt is named =
     ∙ ap (λ n. not (list_any (is_same_text n) (names_of rest kinds sources)) && have_own_names rest kinds sources) (sym named)
     ∙ ap (λ fs. not (list_any (is_same_text name) (names_of rest kinds sources)) && have_own_names fs kinds sources) (rest_whole families (i + 1))
 
-pub kinds_step : (kinds : List Kind) (sources : List Source) (i : ℕ) (kind : Kind) (name : List ℕ) → i < length kinds → kind ≡ get_or kinds i kind → name ≡ kind.name
+pub kinds_step : (kinds : List Kind) (sources : List Source) (i : ℕ) (kind : Kind) (name : List ℕ) → i < length kinds → kind ≡ get_or kinds i kind
+    → name ≡ kind.name
     → have_own_names [] (drop i kinds) sources
     ≡ (not (list_any (is_same_text name) (names_of [] (take (length kinds - (i + 1)) (drop (i + 1) kinds)) sources)) && have_own_names [] (drop (i + 1) kinds) sources)
 kinds_step kinds sources i kind name lt is named =
@@ -60,7 +49,8 @@ kinds_step kinds sources i kind name lt is named =
     ∙ ap (λ n. not (list_any (is_same_text n) (names_of [] rest sources)) && have_own_names [] rest sources) (sym named)
     ∙ ap (λ ks. not (list_any (is_same_text name) (names_of [] rest sources)) && have_own_names [] ks sources) (rest_whole kinds (i + 1))
 
-pub sources_step : (sources : List Source) (i : ℕ) (source : Source) (name : List ℕ) → i < length sources → source ≡ get_or sources i source → name ≡ source.name
+pub sources_step : (sources : List Source) (i : ℕ) (source : Source) (name : List ℕ) → i < length sources → source ≡ get_or sources i source
+    → name ≡ source.name
     → have_own_names [] [] (drop i sources)
     ≡ (not (list_any (is_same_text name) (names_of [] [] (take (length sources - (i + 1)) (drop (i + 1) sources)))) && have_own_names [] [] (drop (i + 1) sources))
 sources_step sources i source name lt is named =

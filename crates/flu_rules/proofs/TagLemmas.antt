@@ -3,6 +3,7 @@ use Rattle.std.proofs.Common.{◌≡◌, ◌+◌, ◌-◌, ℕ, zero, suc, Bool,
 use Rattle.std.specs.Prelude.{nat_lt, nat_le, ◌==◌, ◌&&◌, ◌||◌, not, max, min}
 use Rattle.std.specs.List.{list_any, range_with_len, flat_map}
 use Rattle.std.proofs.lemmas.Grind.{common_steps}
+use Rattle.std.proofs.lemmas.List.{get_or_default}
 use Rattle.std.proofs.lemmas.List.Folds.{list_any-append}
 use Rattle.flu_model.specs.declared.events.Tag.{Tag}
 use Rattle.flu_model.specs.declared.jobs.Keys.{Keys}
@@ -10,11 +11,13 @@ use Rattle.flu_model.specs.declared.jobs.Keys.TheVariants.{Alone, One, Range}
 use Rattle.flu_model.specs.declared.jobs.TagRef.{TagRef}
 use Rattle.flu_model.specs.Listing.{tag, listed_keys, listed_tags}
 use Rattle.flu_model.specs.Rules.{are_distinct, is_same_tag}
+use Rattle.flu_lemmas.proofs.Booleans.{and_false}
+use Rattle.flu_lemmas.proofs.Distinct.{distinct-append}
 use Rattle.flu_lemmas.proofs.Tests.{false_if_not, true_eq}
 use Rattle.flu_rules.specs.Keys.{first_key, last_key}
 use Rattle.flu_rules.specs.Keys.{share_tag as both_list}
 use Rattle.flu_lemmas.proofs.Searches.{eq_true, rest_whole, list_any-map, list_any_never, list_any_or, list_any_and, list_any_within, list_any-range, ranges_meet}
-use Rattle.flu_rules.proofs.DistinctLemmas.{distinct-append, from_place}
+use Rattle.flu_rules.proofs.DistinctLemmas.{from_place}
 
 in_one : (j k : ℕ) → ((j == k) || false) ≡ (nat_le k j && nat_le j k)
 in_one j k = grind (arith, common_steps)
@@ -40,20 +43,23 @@ keys_meet f l (One k) = meets_one f l k
 keys_meet f l (Range lo hi) = ranges_meet f l lo (hi + 1 - lo) ∙ meets_range f l lo hi
 
 -- a tag is listed where its kind is, and its key
-tag_is_listed : (kind j : ℕ) (r : TagRef) → list_any (is_same_tag (tag kind j)) (listed_tags r) ≡ ((kind == r.kind) && (nat_le (first_key r.keys) j && nat_le j (last_key r.keys)))
+tag_is_listed : (kind j : ℕ) (r : TagRef)
+    → list_any (is_same_tag (tag kind j)) (listed_tags r) ≡ ((kind == r.kind) && (nat_le (first_key r.keys) j && nat_le j (last_key r.keys)))
 tag_is_listed kind j r =
     list_any-map (is_same_tag (tag kind j)) (λ k. tag r.kind k) (listed_keys r.keys)
     ∙ list_any_and (kind == r.kind) (λ k. j == k) (listed_keys r.keys)
     ∙ ap (λ b. (kind == r.kind) && b) (is_listed j r.keys)
 
-pub share_tag : (a b : TagRef) → list_any (λ t. list_any (is_same_tag t) (listed_tags b)) (listed_tags a) ≡ ((a.kind == b.kind) && nat_le (max (first_key a.keys) (first_key b.keys)) (min (last_key a.keys) (last_key b.keys)))
+pub share_tag : (a b : TagRef)
+    → list_any (λ t. list_any (is_same_tag t) (listed_tags b)) (listed_tags a) ≡ ((a.kind == b.kind) && nat_le (max (first_key a.keys) (first_key b.keys)) (min (last_key a.keys) (last_key b.keys)))
 share_tag a b =
     list_any-map (λ t. list_any (is_same_tag t) (listed_tags b)) (λ k. tag a.kind k) (listed_keys a.keys)
     ∙ list_any_within (λ k. list_any (is_same_tag (tag a.kind k)) (listed_tags b)) (λ k. (a.kind == b.kind) && (nat_le (first_key b.keys) k && nat_le k (last_key b.keys))) (listed_keys a.keys) (λ k. tag_is_listed a.kind k b)
     ∙ list_any_and (a.kind == b.kind) (λ k. nat_le (first_key b.keys) k && nat_le k (last_key b.keys)) (listed_keys a.keys)
     ∙ ap (λ b'. (a.kind == b.kind) && b') (keys_meet (first_key b.keys) (last_key b.keys) a.keys)
 
-pub share_where_same_kind : (a b : TagRef) (first last : ℕ) → a.kind ≡ b.kind → first ≡ max (first_key a.keys) (first_key b.keys) → last ≡ min (last_key a.keys) (last_key b.keys)
+pub share_where_same_kind : (a b : TagRef) (first last : ℕ) → a.kind ≡ b.kind → first ≡ max (first_key a.keys) (first_key b.keys)
+    → last ≡ min (last_key a.keys) (last_key b.keys)
     → nat_le first last ≡ list_any (λ t. list_any (is_same_tag t) (listed_tags b)) (listed_tags a)
 share_where_same_kind a b first last same greater lesser =
     ap (λ n. nat_le n last) greater
@@ -71,10 +77,6 @@ none_of_other_kind a b other =
 not_before : (lo n : ℕ) → (nat_le (lo + 1) lo && nat_lt lo (lo + 1 + n)) ≡ false
 not_before lo n = grind (arith, common_steps)
 
-and_false : (b : Bool) → (b && false) ≡ false
-and_false true = refl
-and_false false = refl
-
 range_is_distinct : (kind lo n : ℕ) → are_distinct is_same_tag (map (λ k. tag kind k) (range_with_len lo n)) ≡ true
 range_is_distinct kind lo zero = refl
 range_is_distinct kind lo (suc n) =
@@ -91,7 +93,8 @@ listed_are_distinct kind (One k) = refl
 listed_are_distinct kind (Range lo hi) = range_is_distinct kind lo (hi + 1 - lo)
 
 -- what is listed among the rest is listed by one part of it
-among_rest : (xs : List Tag) (rs : List TagRef) → list_any (λ t. list_any (is_same_tag t) (flat_map listed_tags rs)) xs ≡ list_any (λ r. list_any (λ t. list_any (is_same_tag t) (listed_tags r)) xs) rs
+among_rest : (xs : List Tag) (rs : List TagRef)
+    → list_any (λ t. list_any (is_same_tag t) (flat_map listed_tags rs)) xs ≡ list_any (λ r. list_any (λ t. list_any (is_same_tag t) (listed_tags r)) xs) rs
 among_rest xs [] = list_any_never xs
 among_rest xs (r ∷ rs) =
     list_any_within (λ t. list_any (is_same_tag t) (listed_tags r ++ flat_map listed_tags rs)) (λ t. list_any (is_same_tag t) (listed_tags r) || list_any (is_same_tag t) (flat_map listed_tags rs)) xs
@@ -99,9 +102,10 @@ among_rest xs (r ∷ rs) =
     ∙ list_any_or (λ t. list_any (is_same_tag t) (listed_tags r)) (λ t. list_any (is_same_tag t) (flat_map listed_tags rs)) xs
     ∙ ap (λ b. list_any (λ t. list_any (is_same_tag t) (listed_tags r)) xs || b) (among_rest xs rs)
 
-pub distinct_tags : (r : TagRef) (rs : List TagRef) → are_distinct is_same_tag (flat_map listed_tags (r ∷ rs)) ≡ (not (list_any (λ other. list_any (λ t. list_any (is_same_tag t) (listed_tags other)) (listed_tags r)) rs) && are_distinct is_same_tag (flat_map listed_tags rs))
+pub distinct_tags : (r : TagRef) (rs : List TagRef)
+    → are_distinct is_same_tag (flat_map listed_tags (r ∷ rs)) ≡ (not (list_any (λ other. list_any (λ t. list_any (is_same_tag t) (listed_tags other)) (listed_tags r)) rs) && are_distinct is_same_tag (flat_map listed_tags rs))
 distinct_tags r rs =
-    distinct-append is_same_tag (listed_tags r) (flat_map listed_tags rs)
+    distinct-append is_same_tag (are_distinct is_same_tag) refl (λ t ts. refl) (listed_tags r) (flat_map listed_tags rs)
     ∙ ap (λ b. b && not (list_any (λ t. list_any (is_same_tag t) (flat_map listed_tags rs)) (listed_tags r)) && are_distinct is_same_tag (flat_map listed_tags rs)) (listed_are_distinct r.kind r.keys)
     ∙ ap (λ b. not b && are_distinct is_same_tag (flat_map listed_tags rs)) (among_rest (listed_tags r) rs)
 
@@ -119,12 +123,7 @@ tags_step refs i r lt is =
     ∙ distinct_tags r rest
     ∙ ap (λ rs. not (list_any (λ other. list_any (λ t. list_any (is_same_tag t) (listed_tags other)) (listed_tags r)) rest) && are_distinct is_same_tag (flat_map listed_tags rs)) (rest_whole refs (i + 1))
 
-same_place : {X : Type 0} (xs : List X) (i : ℕ) (d e : X) → i < length xs → get_or xs i d ≡ get_or xs i e
-same_place [] i d e lt = absurd (omega arith)
-same_place (x ∷ xs) zero d e lt = refl
-same_place (x ∷ xs) (suc i) d e lt = same_place xs i d e (omega arith)
-
 pub tags_step_at : (refs : List TagRef) (i : ℕ) (d : TagRef) → i < length refs
     → are_distinct is_same_tag (flat_map listed_tags (drop i refs))
     ≡ (not (list_any (λ other. list_any (λ t. list_any (is_same_tag t) (listed_tags other)) (listed_tags (get_or refs i d))) (take (length refs - (i + 1)) (drop (i + 1) refs))) && are_distinct is_same_tag (flat_map listed_tags (drop (i + 1) refs)))
-tags_step_at refs i d lt = tags_step refs i (get_or refs i d) lt (same_place refs i d (get_or refs i d) lt)
+tags_step_at refs i d lt = tags_step refs i (get_or refs i d) lt (get_or_default refs i d (get_or refs i d) lt)

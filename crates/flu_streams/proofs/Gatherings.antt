@@ -20,9 +20,9 @@ use Rattle.flu_model.specs.Streaming.{are_streams}
 use Rattle.flu_outside.specs.Outside.{Contents, WhereTold, IsThere, CountApart}
 use Rattle.flu_rows.specs.declared.row.Row.{Row}
 use Rattle.flu_rows.specs.declared.rows.Next.{Next}
-use Rattle.flu_rows.specs.Reading.{read_file}
+use Rattle.flu_rows.specs.Reading.{ahead, read_file}
 use Rattle.flu_outside.specs.Taking.{bytes_left, TakesFrom, CountsOf, IsReadOut}
-use Rattle.flu_lemmas.proofs.Told.{told_then, told_same}
+use Rattle.flu_lemmas.proofs.Told.{told_then, told_same, told_both}
 use Rattle.flu_streams.specs.declared.faults.GatherFault.{GatherFault}
 use Rattle.flu_streams.specs.declared.faults.GatherFault.TheVariants.{Source as SourceFaulty, ReadFault, NoMemory}
 use Rattle.flu_streams.specs.declared.faults.SourceFault.{SourceFault}
@@ -30,22 +30,27 @@ use Rattle.flu_streams.specs.declared.gathered.Gathered.{Gathered}
 use Rattle.flu_streams.specs.declared.intake.Intake.{Intake}
 use Rattle.flu_streams.specs.Before.{with_before, each_with_before, first_some}
 use Rattle.flu_streams.specs.Tags.{width}
-use Rattle.flu_streams.specs.Tests.{rows_of, items_of, first_of, first_defect}
+use Rattle.flu_streams.specs.Tests.{rows_of, has_ended, items_of, first_of, first_defect}
 use Rattle.flu_streams.specs.Good.{items_at, lists_of_rows, rows_in, items_held, fault_of_source, first_fault}
 use Rattle.flu_streams.specs.Files.{files_of, LeavesOthers, CountsOfNames, AreReadOut}
 use Rattle.flu_streams.specs.Lists.{lists_in}
 use Rattle.flu_streams.specs.Intake.{Holds}
-use Rattle.flu_streams.specs.Source.{WasRead}
-use Rattle.flu_streams.specs.Gathering.{AddsSource, IsFaultOf, IsGathered, IsFirstFault, lists_of_sources}
+use Rattle.flu_streams.specs.Source.{WasRead, HidesNoDefect}
+use Rattle.flu_streams.specs.Gathering.{AddsSource, IsFaultOf, IsGathered, IsFirstFault, HidesNothing, StopsWithout, lists_of_sources}
 use Rattle.flu_streams.proofs.Befores.{with_before-append, first_some-append}
-use Rattle.flu_streams.proofs.Streamings.{streams_of_source, are_streams-append}
+use Rattle.flu_streams.proofs.Streamings.{streams_of_range, are_streams-append}
 
-pub lists_held : (kinds : List Kind) (s : Source) (number before : ℕ) (rows : List Row) (intake : Intake) → Holds kinds s number before rows intake → lists_in intake.lists ≡ lists_of_rows kinds s number rows
-lists_held kinds s number before rows intake h =
+pub lists_held : (kinds : List Kind) (s : Source) (number before : ℕ) (rows : List Row) (intake : Intake) → Holds kinds s number before rows intake → has_ended rows ≡ true → lists_in intake.lists ≡ lists_of_rows kinds s number rows
+lists_held kinds s number before rows intake h ended =
     let size : length (lists_in intake.lists) ≡ width s = simp length-map (omega (arith, intake.lists.ok.0, h.len)) in
     let same : length (lists_in intake.lists) ≡ length (lists_of_rows kinds s number rows) = size ∙ sym (length-map-range_with_len (items_at kinds s number rows) 0 (width s)) in
     ext_get_or [] (lists_in intake.lists) (lists_of_rows kinds s number rows) same
-    (λ i lt. h.items i (rw size at lt) ∙ sym (get_or-map-range_with_len (items_at kinds s number rows) 0 (width s) i i [] (rw size at lt) (omega arith)))
+    (λ i lt. (h.closed ended).lists i (rw size at lt) ∙ sym (get_or-map-range_with_len (items_at kinds s number rows) 0 (width s) i i [] (rw size at lt) (omega arith)))
+
+pub streams_held : (kinds : List Kind) (s : Source) (number before : ℕ) (rows : List Row) (intake : Intake) → Holds kinds s number before rows intake → has_ended rows ≡ true → are_streams number (lists_of_rows kinds s number rows) ≡ true
+streams_held kinds s number before rows intake h ended =
+    let closed = h.closed ended in
+    streams_of_range number (width s) (items_at kinds s number rows) (λ i lt. rw (← closed.lists i lt) (closed.streams i lt))
 
 -- ---- how many itags there are
 pub total_width : (n : ℕ) (sources : List Source) → length (itags_of_sources n sources) ≡ sum_by width sources
@@ -86,12 +91,6 @@ pub apart_from_earlier : (earlier later : List Source) (s : Source) → are_dist
 apart_from_earlier earlier later s apart among = not_among (files_of earlier) s.file (files_of later) (rw map-append at apart) among
 
 -- ---- what is left of the files
-told_both : {A : Type 0} (P Q : A → A → Type 0) (a b : Option A) → WhereTold a b P → WhereTold a b Q → WhereTold a b (λ x y. P x y × Q x y)
-told_both P Q None None p q = tt
-told_both P Q None (Some y) p q = absurd p
-told_both P Q (Some x) None p q = absurd p
-told_both P Q (Some x) (Some y) p q = (p, q)
-
 leaves_more : (names : List (List ℕ)) (file : List ℕ) (x y z : Contents) → LeavesOthers names x y → TakesFrom file y z → LeavesOthers (names ++ (file ∷ [])) x z
 leaves_more names file x y z p q = λ other apart.
     q.others other (λ e. apart (Contains-append_right names (file ∷ []) other (one_contains file other e))) ∙ p other (λ among. apart (Contains-append_left names (file ∷ []) other among))
@@ -179,9 +178,8 @@ gathered_none kinds gathered a lists held = told_same (IsGathered kinds [] gathe
 
 pub streams_more : (kinds : List Kind) (s : Source) (b c : Option Contents) (old new : Gathered) → AddsSource kinds s b c old new → are_streams 0 (lists_in old.lists) ≡ true → are_streams 0 (lists_in new.lists) ≡ true
 streams_more kinds s b c old new adds streams =
-    let own = streams_of_source kinds s (vec_len old.lists) old.held adds.read adds.passes adds.ended in
     let size : vec_len old.lists ≡ 0 + length (lists_in old.lists) = simp length-map (omega (arith, old.lists.ok.0)) in
-    let first : are_streams (0 + length (lists_in old.lists)) (lists_of_rows kinds s (vec_len old.lists) (rows_of adds.read)) ≡ true = rw (← size) own in
+    let first : are_streams (0 + length (lists_in old.lists)) (lists_of_rows kinds s (vec_len old.lists) (rows_of adds.read)) ≡ true = rw (← size) adds.streams in
     rw adds.lists (are_streams-append 0 (lists_in old.lists) (lists_of_rows kinds s (vec_len old.lists) (rows_of adds.read)) streams first)
 
 -- ---- the fault of a source behind good ones
@@ -220,3 +218,27 @@ counts_at earlier later s a b f g h there p q =
 pub among_sources : (earlier later : List Source) (s : Source) → Contains (files_of (earlier ++ (s ∷ later))) s.file
 among_sources earlier later s =
     rw (map-append (λ (x : Source). x.file) earlier (s ∷ later)) (Contains-append_right (files_of earlier) (s.file ∷ files_of later) s.file (0, omega arith, refl))
+
+-- ---- a read fault behind good sources
+hides_join : (kinds : List Kind) (earlier : List Source) (s : Source) (gathered : Gathered) (read behind : List Next) (x y : Contents) → first_of kinds s gathered.held read ≡ None → (Contains (files_of earlier) s.file → ⊥)
+    → IsGathered kinds earlier gathered x y → WasRead s read behind y → StopsWithout kinds earlier s read behind x
+hides_join kinds earlier s gathered read behind x y passes apart g was = record {
+  good = g.good;
+  passes = rw (← g.held) passes;
+  was = read_at_first s read behind earlier x y g.others apart was;
+}
+
+pub hides_behind : (p : Program) (earlier later : List Source) (s : Source) (gathered : Gathered) (a b c : Option Contents) → p.sources ≡ earlier ++ (s ∷ later) → (Contains (files_of earlier) s.file → ⊥) → WhereTold a b (IsGathered p.kinds earlier gathered)
+    → HidesNoDefect p.kinds s gathered.held b c → HidesNothing p a c
+hides_behind p earlier later s gathered a b c split apart told h = record {
+  earlier = earlier;
+  source = s;
+  later = later;
+  split = split;
+  read = h.read;
+  place = h.place;
+  file = h.file;
+  undecided = h.undecided;
+  told = told_then (IsGathered p.kinds earlier gathered) (λ was now. WasRead s h.read (ahead h.place now) was) (λ was now. StopsWithout p.kinds earlier s h.read (ahead h.place now) was) a b c
+      (λ x y z g was. hides_join p.kinds earlier s gathered h.read (ahead h.place z) x y h.passes apart g was) told h.told;
+}

@@ -5,3 +5,4 @@ pub mod Taken
 pub mod Gatherings
 pub mod Streamings
 pub mod Turns
+pub mod Placing

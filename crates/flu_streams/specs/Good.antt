@@ -1,6 +1,8 @@
 -- Good sources, and the lists of items that they give.
-use Rattle.std.specs.Prelude.{◌≡◌, ℕ, ◌+◌, ◌==◌, pos, false, Option, Some, None, option_map, unwrap_or, List, length, map, if◌then◌else◌, sum_by}
+use Rattle.std.specs.Prelude.{◌≡◌, ℕ, ◌+◌, ◌==◌, pos, false, Option, Some, None, option_map, unwrap_or, List, [], ◌∷◌, ◌++◌, length, map, if◌then◌else◌, sum_by}
 use Rattle.std.specs.List.{flat_map, filter_map, range_with_len}
+use Rattle.flu_lemmas.specs.Late.{is_less}
+use Rattle.flu_lemmas.specs.Sorting.{in_order}
 use Rattle.flu_model.specs.declared.events.Item.{Item}
 use Rattle.flu_model.specs.declared.events.Item.TheVariants.{Event as EventItem, Beat as BeatItem, End as EndItem}
 use Rattle.flu_model.specs.declared.jobs.Kind.{Kind}
@@ -14,7 +16,7 @@ use Rattle.flu_outside.specs.Taking.{bytes_left}
 use Rattle.flu_streams.specs.declared.faults.SourceFault.{SourceFault}
 use Rattle.flu_streams.specs.Before.{each_with_before, first_some}
 use Rattle.flu_streams.specs.Tags.{place_named, width}
-use Rattle.flu_streams.specs.Tests.{rows_of, items_of, first_defect}
+use Rattle.flu_streams.specs.Tests.{rows_of, time_in, items_of, first_defect}
 
 -- ---- the first fault of all sources
 abbrev pub rows_in : Contents → Source → List Row
@@ -38,24 +40,34 @@ abbrev pub AreGood : Program → Contents → Type 0
 AreGood p left = first_fault p left ≡ None
 
 -- ---- the lists of items
--- the item that a row gives for the itag at a place of a source whose first itag has this number: an event is an item of its
--- own itag, and heartbeats and the end are items of each
+-- the item that an event or a heartbeat gives for the itag at a place of a source whose first itag has this number: an event
+-- is an item of its own itag, and a heartbeat is an item of each
 abbrev pub item_in : List Kind → Source → ℕ → ℕ → Row → Option Item
 item_in kinds s first place (Event time name key value) =
     if unwrap_or (option_map (λ n. n == place) (place_named kinds s name key)) false
     then Some (EventItem (record { time = time; itag = record { 0 = first + place }; value = unwrap_or value (pos 0) }))
     else None
 item_in kinds s first place (Beat time) = Some (BeatItem time)
-item_in kinds s first place End = Some EndItem
+item_in kinds s first place End = None
 
+-- the time of an event or a heartbeat
+abbrev pub time_at : Row → ℕ
+time_at row = unwrap_or (time_in row) 0
+
+-- the rows sorted by time
+abbrev pub in_time_order : List Row → List Row
+in_time_order rows = in_order (is_less time_at) rows
+
+-- the items of an itag: its events and all heartbeats, sorted by time, and the end
 abbrev pub items_at : List Kind → Source → ℕ → List Row → ℕ → List Item
-items_at kinds s first rows place = filter_map (item_in kinds s first place) rows
+items_at kinds s first rows place = filter_map (item_in kinds s first place) (in_time_order rows) ++ EndItem ∷ []
 
 -- a list for each itag of a source
 abbrev pub lists_of_rows : List Kind → Source → ℕ → List Row → List (List Item)
 lists_of_rows kinds s first rows = map (items_at kinds s first rows) (range_with_len 0 (width s))
 
--- THE LISTS OF GOOD SOURCES: for each itag, by its number, its events, all heartbeats of its source, and the end
+-- THE LISTS OF GOOD SOURCES: for each itag, by its number, its events and all heartbeats of its source, sorted by time, and the
+-- end
 abbrev pub lists_of : Program → Contents → List (List Item)
 lists_of p left =
     flat_map (λ e. lists_of_rows p.kinds e.1 (sum_by width e.0) (rows_in left e.1)) (each_with_before p.sources)

@@ -7,6 +7,7 @@ use Rattle.flu_rows.specs.declared.held.RowsFault.{RowsFault}
 use Rattle.flu_rows.specs.declared.held.RowsFault.TheVariants.{ReadFault as RowsReadFault, NoMemory as RowsNoMemory}
 use Rattle.flu_rows.specs.declared.rows.Next.{Next}
 use Rattle.flu_rows.specs.declared.rows.Next.TheVariants.{Row as RowNext, Bad, TooManyLines, Done}
+use Rattle.flu_rows.specs.Filling.{IsUndecided}
 use Rattle.flu_rows.specs.Reading.{Place, read_file, ahead}
 use Rattle.flu_outside.specs.Taking.{bytes_left}
 use Rattle.flu_streams.specs.declared.faults.Why.{Why}
@@ -64,6 +65,15 @@ pub record IsGoodSource (kinds : List Kind) (s : Source) (number before : ℕ) (
   pub taken : IsTakenIn kinds s number before read intake
   pub ended : intake.ended ≡ true
   pub told : WhereTold old new (λ was now. WasRead s read [] was)
+
+-- the reading of a source stops behind rows without a defect, and what was taken of it besides decides nothing
+pub record HidesNoDefect (kinds : List Kind) (s : Source) (before : ℕ) (old new : Option Contents) : Type 0 where
+  pub read : List Next
+  pub place : Place
+  pub file : place.file ≡ s.file
+  pub passes : first_of kinds s before read ≡ None
+  pub undecided : IsUndecided place.taken
+  pub told : WhereTold old new (λ was now. WasRead s read (ahead place now) was)
 
 -- a stop for a defect is one for the first defect
 abbrev pub IsFirstDefect : List Kind → Source → ℕ → Option Contents → Option Contents → Stop → Type 0

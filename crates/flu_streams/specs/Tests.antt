@@ -1,5 +1,5 @@
 -- The tests that the lines of a source are to pass, and its first defect (`docs/LANGUAGE.md`, "Rows").
-use Rattle.std.specs.Prelude.{ℕ, ℤ, ◌+◌, ◌-◌, ◌^◌, Bool, true, false, not, nat_lt, nat_le, Option, Some, None, is_none, option_map, List, [], ◌∷◌, length, slice_get, if◌then◌else◌, sum_by}
+use Rattle.std.specs.Prelude.{ℕ, ℤ, ◌+◌, ◌^◌, max, Bool, true, false, not, ◌||◌, ◌==◌, nat_lt, nat_le, Option, Some, None, is_none, option_map, unwrap_or, List, [], ◌∷◌, if◌then◌else◌, sum_by}
 use Rattle.std.specs.List.{list_any, filter_map}
 use Rattle.flu_model.specs.declared.jobs.Kind.{Kind}
 use Rattle.flu_model.specs.declared.jobs.Source.{Source}
@@ -37,12 +37,14 @@ time_in (Event time name key value) = Some time
 time_in (Beat time) = Some time
 time_in End = None
 
--- the last time of some rows, events and heartbeats together
-abbrev pub last_of : List ℕ → Option ℕ
-last_of times = slice_get times (length times - 1)
+-- the times of some rows, events and heartbeats together
+abbrev pub times_of : List Row → List ℕ
+times_of rows = filter_map time_in rows
 
-abbrev pub last_time : List Row → Option ℕ
-last_time rows = last_of (filter_map time_in rows)
+-- the greatest of some times
+abbrev pub greatest : List ℕ → Option ℕ
+greatest [] = None
+greatest (t ∷ ts) = Some (max t (unwrap_or (greatest ts) 0))
 
 -- how many items a row has in a source of so many itags: an event is one, and a heartbeat is one for each itag
 abbrev pub items_in : ℕ → Row → ℕ
@@ -75,33 +77,36 @@ test_value kinds (Event time name key value) = where_true (not (value_fits kinds
 test_value kinds (Beat time) = None
 test_value kinds End = None
 
--- the time is greater than the last one
-abbrev pub test_times : Option ℕ → Option ℕ → Option Why
-test_times (Some last) (Some time) = where_true (nat_le time last) (Disordered last time)
-test_times (Some last) None = None
-test_times None time = None
+-- a time may not equal an earlier one, and it is above the greatest earlier one less the slack
+abbrev pub test_behind : ℕ → List ℕ → Option ℕ → ℕ → Option Why
+test_behind slack earlier None time = None
+test_behind slack earlier (Some last) time = where_true (list_any (λ t. t == time) earlier || nat_le (time + slack) last) (Disordered last time)
 
-abbrev pub test_time : Option ℕ → Row → Option Why
-test_time last row = test_times last (time_in row)
+abbrev pub test_times : ℕ → List ℕ → Option ℕ → Option Why
+test_times slack earlier None = None
+test_times slack earlier (Some time) = test_behind slack earlier (greatest earlier) time
+
+abbrev pub test_time : ℕ → List ℕ → Row → Option Why
+test_time slack earlier row = test_times slack earlier (time_in row)
 
 -- no more than 16,777,216 items are held
 abbrev pub test_items : ℕ → ℕ → Row → Option Why
 test_items itags held row = where_true (nat_lt 16777216 (held + items_in itags row)) (TooMany 16777217)
 
--- the tests of a row in their order, where the source has ended or not, had this time last, and so many items are held
-abbrev pub tests : List Kind → Source → Bool → Option ℕ → ℕ → Row → List (Option Why)
-tests kinds s ended last held row =
-    where_true ended AfterEnd ∷ test_tag kinds s row ∷ test_value kinds row ∷ test_time last row ∷ test_items (width s) held row ∷ []
+-- the tests of a row in their order, where the source has ended or not, had these times, and so many items are held
+abbrev pub tests : List Kind → Source → Bool → List ℕ → ℕ → Row → List (Option Why)
+tests kinds s ended earlier held row =
+    where_true ended AfterEnd ∷ test_tag kinds s row ∷ test_value kinds row ∷ test_time s.slack earlier row ∷ test_items (width s) held row ∷ []
 
 -- the first test that fails
-abbrev pub fault_of : List Kind → Source → Bool → Option ℕ → ℕ → Row → Option Why
-fault_of kinds s ended last held row = first_some (λ test. test) (tests kinds s ended last held row)
+abbrev pub fault_of : List Kind → Source → Bool → List ℕ → ℕ → Row → Option Why
+fault_of kinds s ended earlier held row = first_some (λ test. test) (tests kinds s ended earlier held row)
 
 -- ---- the first defect
 -- the defect of a line or of the file's end behind these lines, where so many items are held of other sources
 abbrev pub defect_of : List Kind → Source → ℕ → List Next → Next → Option (ℕ × Why)
 defect_of kinds s held read (RowNext line row) =
-    option_map (λ why. (line, why)) (fault_of kinds s (has_ended (rows_of read)) (last_time (rows_of read)) (held + items_of (width s) (rows_of read)) row)
+    option_map (λ why. (line, why)) (fault_of kinds s (has_ended (rows_of read)) (times_of (rows_of read)) (held + items_of (width s) (rows_of read)) row)
 defect_of kinds s held read (Bad line) = Some (line, (if has_ended (rows_of read) then AfterEnd else BadRow))
 defect_of kinds s held read TooManyLines = Some (2 ^ 32, TooMany (2 ^ 32))
 defect_of kinds s held read (Done lines) = if has_ended (rows_of read) then None else Some (lines + 1, Unclosed)

@@ -9,7 +9,7 @@ pub enum Why {
     BadRow,
     /// The source does not list the tag.
     UnknownTag,
-    /// The time is not greater than the last one.
+    /// An earlier row has the time, or the time is not above the greatest one so far, `last`, less the source's slack.
     Disordered { last: u64, got: u64 },
     /// The file stops without `end`: the row is the one behind its last line.
     Unclosed,

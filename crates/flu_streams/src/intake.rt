@@ -1,9 +1,12 @@
 //! What was read of a source.
 
-ghost use Rattle.std.specs.Prelude.{◌≡◌, ◌≤◌, ◌<◌, ◌+◌, false, length, vec_len, None, OnOk, IfOk, IfErr};
+ghost use Rattle.std.specs.Prelude.{◌≡◌, ℕ, ◌≤◌, ◌<◌, ◌+◌, length, slice_index_or, vec_len, IsTrue, None, Some, OnOk, IfOk, IfErr};
+ghost use Rattle.flu_lemmas.specs.Late.{rises_from};
+ghost use Rattle.flu_streams.specs.Lists.{item_time, times_in};
+ghost use Rattle.flu_streams.specs.Tests.{greatest};
 
 use crate::faults::Why;
-use crate::items::{empty_lists, push_at, push_each};
+use crate::items::{count_until, empty_lists, push_items, time_of};
 use crate::tags::place_of_event;
 use flu_model::{Event, Itag, Item, Kind, Source};
 use flu_rows::Row;
@@ -19,23 +22,26 @@ pub(crate) enum Refusal {
     NoMemory,
 }
 
-/// What was read of a source: the items of each of its itags, the first of which has the number `first`, the last time,
-/// whether the end was read, and how many items are held, those of other sources too.
+/// What was read of a source: its events and heartbeats in order of time, until it ends; then the items of each of its itags,
+/// the first of which has the number `first`. How many items are held counts those of other sources too.
 #[derive(Drop)]
 pub(crate) struct Intake {
     pub(crate) first: u32,
-    pub(crate) lists: Vec<Vec<Item>>,
+    pub(crate) items: Vec<Item>,
     pub(crate) last: Option<u64>,
+    pub(crate) lists: Vec<Vec<Item>>,
     pub(crate) ended: bool,
     pub(crate) held: u64,
     pub(crate) ghost few: { held ≤ 16777216 },
     pub(crate) ghost numbered: { first + vec_len lists ≤ 256 },
+    pub(crate) ghost rising: { IsTrue (rises_from item_time 0 items.items) },
+    pub(crate) ghost latest: { last ≡ greatest (times_in items.items) },
 }
 
 impl Intake {
     ghost use Rattle.flu_streams.specs.Tags.{width};
-    ghost use Rattle.flu_streams.specs.Tests.{fault_of};
-    ghost use Rattle.flu_streams.specs.Intake.{IsEmpty, TakesIn, TakesEvent, TakesBeat, TakesEnd, IsRefusal, fault_at};
+    ghost use Rattle.flu_streams.specs.Tests.{fault_of, test_times};
+    ghost use Rattle.flu_streams.specs.Intake.{IsEmpty, TakesIn, Inserts, TakesEnd, IsRefusal, fault_at};
 
     /// Nothing of a source with so many itags, where so many items of other sources are held.
     pub(crate) fn new(
@@ -51,8 +57,9 @@ impl Intake {
         let lists = empty_lists(alloc, width)?;
         Ok(Intake {
             first,
-            lists,
+            items: Vec::new(alloc),
             last: None,
+            lists,
             ended: false,
             held,
         })
@@ -63,21 +70,24 @@ impl Intake {
         requires few { length kinds.now ≤ 64 }
         requires width { vec_len self.old.lists ≡ width source.now }
         ensures taken { OnOk result (TakesIn kinds.now source.now row self.old self.new) }
-        ensures refused { IfErr result (IsRefusal (fault_of kinds.now source.now self.old.ended self.old.last self.old.held row)) }
+        ensures refused { IfErr result (IsRefusal (fault_of kinds.now source.now self.old.ended (times_in self.old.items.items) self.old.held row)) }
     {
         if self.ended {
             return Err(Refusal::Fault(Why::AfterEnd));
         }
         match row {
             Row::End => self.end(),
-            Row::Beat(time) => self.beat(time),
+            Row::Beat(time) => {
+                let count = self.lists.len() as u64;
+                self.insert(source.slack, Item::Beat(time), count)
+            }
             Row::Event {
                 time,
                 name,
                 key,
                 value,
             } => match place_of_event(kinds, source, name.as_str(), key, value) {
-                Ok(place) => self.event(place, time, value.unwrap_or(0)),
+                Ok(place) => self.event(source.slack, place, time, value.unwrap_or(0)),
                 Err(why) => Err(Refusal::Fault(why)),
             },
         }
@@ -91,42 +101,64 @@ impl Intake {
     }
 
     // Takes an event in, of the itag at this place.
-    fn event(&mut self, place: u32, time: u64, value: i64) -> Result<(), Refusal>
+    fn event(&mut self, slack: u64, place: u32, time: u64, value: i64) -> Result<(), Refusal>
         requires { place < vec_len self.old.lists }
-        ensures taken { OnOk result (TakesEvent place time value self.old self.new) }
-        ensures refused { IfErr result (IsRefusal (fault_at self.old.last self.old.held time 1)) }
+        ensures passes { OnOk result (fault_at slack (times_in self.old.items.items) self.old.held time 1 ≡ None) }
+        ensures taken { OnOk result (Inserts (Item.Event (record { time = time; itag = record { 0 = self.old.first + place }; value = value })) 1 self.old self.new) }
+        ensures refused { IfErr result (IsRefusal (fault_at slack (times_in self.old.items.items) self.old.held time 1)) }
     {
-        if let Some(why) = self.fault_at(time, 1) {
-            return Err(Refusal::Fault(why));
-        }
         let event = Event {
             time,
             itag: Itag(self.first + place),
             value,
         };
-        if push_at(&mut self.lists, place as usize, Item::Event(event)).is_err() {
+        self.insert(slack, Item::Event(event), 1)
+    }
+
+    // Takes an event or a heartbeat in, which is so many items.
+    fn insert(&mut self, slack: u64, item: Item, count: u64) -> Result<(), Refusal>
+        ensures passes { OnOk result (fault_at slack (times_in self.old.items.items) self.old.held (item_time item) count ≡ None) }
+        ensures taken { OnOk result (Inserts item count self.old self.new) }
+        ensures refused { IfErr result (IsRefusal (fault_at slack (times_in self.old.items.items) self.old.held (item_time item) count)) }
+    {
+        let time = time_of(&item);
+        let at = match self.place_of(slack, time) {
+            Ok(at) => at,
+            Err(why) => return Err(Refusal::Fault(why)),
+        };
+        if count > MOST_ITEMS - self.held {
+            return Err(Refusal::Fault(Why::TooMany {
+                count: MOST_ITEMS + 1,
+            }));
+        }
+        if self.items.insert(at, item).is_err() {
             return Err(Refusal::NoMemory);
         }
-        self.last = Some(event.time);
-        self.held += 1;
+        self.last = Some(self.last.unwrap_or(0).max(time));
+        self.held += count;
         Ok(())
     }
 
-    // Takes a heartbeat in.
-    fn beat(&mut self, time: u64) -> Result<(), Refusal>
-        ensures taken { OnOk result (TakesBeat time self.old self.new) }
-        ensures refused { IfErr result (IsRefusal (fault_at self.old.last self.old.held time (vec_len self.old.lists))) }
+    // The place of a time among the items, where the time passes its test.
+    fn place_of(&self, slack: u64, time: u64) -> Result<usize, Why>
+        ensures passes { OnOk result (test_times slack (times_in self.now.items.items) (Some time) ≡ None) }
+        ensures fault { IfErr result (λ why. test_times slack (times_in self.now.items.items) (Some time) ≡ Some why) }
+        ensures within { IfOk result (λ at. at ≤ vec_len self.now.items) }
+        ensures earlier { IfOk result (λ at. (i : ℕ) → i < at → item_time (slice_index_or self.now.items.items i Item.End) < time) }
+        ensures later { IfOk result (λ at. (i : ℕ) → at ≤ i → i < vec_len self.now.items → time < item_time (slice_index_or self.now.items.items i Item.End)) }
     {
-        let count = self.lists.len() as u64;
-        if let Some(why) = self.fault_at(time, count) {
-            return Err(Refusal::Fault(why));
+        let Some(last) = self.last else {
+            return Ok(0);
+        };
+        let late = Why::Disordered { last, got: time };
+        if time <= last && last - time >= slack {
+            return Err(late);
         }
-        if push_each(&mut self.lists, Item::Beat(time)).is_err() {
-            return Err(Refusal::NoMemory);
+        let at = count_until(self.items.as_slice(), time);
+        if at > 0 && time_of(&self.items[at - 1]) == time {
+            return Err(late);
         }
-        self.last = Some(time);
-        self.held += count;
-        Ok(())
+        Ok(at)
     }
 
     // Takes the end in.
@@ -134,27 +166,10 @@ impl Intake {
         ensures taken { OnOk result (TakesEnd self.old self.new) }
         ensures refused { IfErr result (IsRefusal None) }
     {
-        if push_each(&mut self.lists, Item::End).is_err() {
+        if push_items(&mut self.lists, self.first, self.items.as_slice()).is_err() {
             return Err(Refusal::NoMemory);
         }
         self.ended = true;
         Ok(())
-    }
-
-    // The fault of so many items at a time.
-    fn fault_at(&self, time: u64, count: u64) -> Option<Why>
-        ensures { result ≡ fault_at self.now.last self.now.held time count }
-    {
-        if let Some(last) = self.last {
-            if time <= last {
-                return Some(Why::Disordered { last, got: time });
-            }
-        }
-        if count > MOST_ITEMS - self.held {
-            return Some(Why::TooMany {
-                count: MOST_ITEMS + 1,
-            });
-        }
-        None
     }
 }

@@ -1,10 +1,37 @@
-//! Lists of items that grow.
+//! Items in order of time, and lists of items that grow.
 
-ghost use Rattle.std.specs.Prelude.{◌≡◌, ◌≢◌, ℕ, ◌<◌, ◌++◌, [], ◌∷◌, vec_len, IfOk, OnOk};
-ghost use Rattle.flu_streams.specs.Lists.{items_of_list};
+ghost use Rattle.std.specs.Prelude.{◌≡◌, ◌≢◌, ℕ, ◌+◌, ◌<◌, ◌≤◌, ◌++◌, [], ◌∷◌, length, slice_index_or, vec_len, IsTrue, IfOk, OnOk};
+ghost use Rattle.std.specs.List.{filter_map};
+ghost use Rattle.flu_lemmas.specs.Late.{rises_from};
+ghost use Rattle.flu_streams.specs.Lists.{items_of_list, item_time, item_for};
 
 use flu_model::Item;
 use std::alloc::{AllocError, Global};
+
+/// The time of an event or a heartbeat; the end has none, and 0 stands for it.
+pub(crate) fn time_of(item: &Item) -> u64
+    ensures { result ≡ item_time item.now }
+{
+    match item {
+        Item::Event(event) => event.time,
+        Item::Beat(time) => *time,
+        Item::End => 0,
+    }
+}
+
+/// How many of some items in order of time come no later than a time.
+pub(crate) fn count_until(items: &[Item], time: u64) -> usize
+    requires { IsTrue (rises_from item_time 0 items.now) }
+    ensures within { result ≤ length items.now }
+    ensures earlier { (i : ℕ) → i < result → item_time (slice_index_or items.now i Item.End) ≤ time }
+    ensures later { (i : ℕ) → result ≤ i → i < length items.now → time < item_time (slice_index_or items.now i Item.End) }
+{
+    let mut count = items.len();
+    while count > 0 && time_of(&items[count - 1]) > time {
+        count -= 1;
+    }
+    count
+}
 
 /// So many empty lists.
 pub(crate) fn empty_lists(alloc: Global, count: u32) -> Result<Vec<Vec<Item>>, AllocError>
@@ -18,12 +45,45 @@ pub(crate) fn empty_lists(alloc: Global, count: u32) -> Result<Vec<Vec<Item>>, A
     Ok(lists)
 }
 
-/// Puts an item at the end of one list.
-pub(crate) fn push_at(
+/// Gives each itag, of which the first has the number `first`, those of some items that are its own, and the end.
+pub(crate) fn push_items(
     lists: &mut Vec<Vec<Item>>,
-    place: usize,
-    item: Item,
+    first: u32,
+    items: &[Item],
 ) -> Result<(), AllocError>
+    requires { first + vec_len lists.old ≤ 256 }
+    ensures len { vec_len lists.new ≡ vec_len lists.old }
+    ensures each { OnOk result ((i : ℕ) → i < vec_len lists.old
+        → items_of_list lists.new i ≡ (items_of_list lists.old i ++ filter_map (item_for (first + i)) items.now) ++ Item.End ∷ []) }
+{
+    for item in items {
+        push_item(lists, first, *item)?;
+    }
+    push_each(lists, Item::End)
+}
+
+// Puts an item at the end of each list that it belongs to.
+fn push_item(lists: &mut Vec<Vec<Item>>, first: u32, item: Item) -> Result<(), AllocError>
+    requires { first + vec_len lists.old ≤ 256 }
+    ensures len { vec_len lists.new ≡ vec_len lists.old }
+    ensures each { OnOk result ((i : ℕ) → i < vec_len lists.old
+        → items_of_list lists.new i ≡ items_of_list lists.old i ++ filter_map (item_for (first + i)) (item ∷ [])) }
+{
+    match item {
+        Item::Event(event) => {
+            let itag = event.itag.0;
+            if itag < first || (itag - first) as usize >= lists.len() {
+                return Ok(());
+            }
+            push_at(lists, (itag - first) as usize, item)
+        }
+        Item::Beat(_) => push_each(lists, item),
+        Item::End => Ok(()),
+    }
+}
+
+// Puts an item at the end of one list.
+fn push_at(lists: &mut Vec<Vec<Item>>, place: usize, item: Item) -> Result<(), AllocError>
     requires { place < vec_len lists.old }
     ensures len { vec_len lists.new ≡ vec_len lists.old }
     ensures here { OnOk result (items_of_list lists.new place ≡ items_of_list lists.old place ++ item ∷ []) }
@@ -33,8 +93,8 @@ pub(crate) fn push_at(
     Ok(())
 }
 
-/// Puts an item at the end of each list.
-pub(crate) fn push_each(lists: &mut Vec<Vec<Item>>, item: Item) -> Result<(), AllocError>
+// Puts an item at the end of each list.
+fn push_each(lists: &mut Vec<Vec<Item>>, item: Item) -> Result<(), AllocError>
     ensures len { vec_len lists.new ≡ vec_len lists.old }
     ensures each { OnOk result ((i : ℕ) → i < vec_len lists.old → items_of_list lists.new i ≡ items_of_list lists.old i ++ item ∷ []) }
 {

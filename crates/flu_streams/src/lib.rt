@@ -8,8 +8,6 @@ mod items;
 mod reading;
 mod source;
 mod tags;
-#[cfg(test)]
-mod tests;
 
 pub use faults::{GatherFault, SourceFault, Why};
 pub use reading::gather;

@@ -6,8 +6,9 @@ ghost use Rattle.flu_model.specs.Listed.{listed};
 ghost use Rattle.flu_outside.specs.Outside.{WhereTold, Rose, SameCounts};
 ghost use Rattle.flu_outside.specs.Taking.{TakesFrom, TookFronts, CountsOf, IsReadOut};
 ghost use Rattle.flu_streams.specs.Files.{files_of, LeavesOthers, CountsOfNames, OneRose, AreReadOut};
-ghost use Rattle.flu_streams.specs.Gathering.{AddsSource, IsFaultOf, IsFirstFault, fault_of_stop};
+ghost use Rattle.flu_streams.specs.Gathering.{AddsSource, IsFaultOf, IsFirstFault, HidesNothing, fault_of_stop};
 ghost use Rattle.flu_streams.specs.Good.{AreGood, lists_of};
+ghost use Rattle.flu_streams.specs.Source.{HidesNoDefect};
 ghost use Rattle.flu_streams.specs.Tags.{width};
 
 use crate::faults::{GatherFault, SourceFault};
@@ -18,7 +19,8 @@ use flu_model::{Kind, Program, Source, Streams};
 use flu_outside::Files;
 use std::alloc::Global;
 
-/// Reads each source of a job to its end, in declared order, and gives the items of each itag.
+/// Reads each source of a job to its end, in declared order, and gives the items of each itag, sorted by time: a row may be
+/// late within its source's slack (`docs/LANGUAGE.md`, "Late rows").
 ///
 /// A source fault is that of the first source, as declared, that has a defect, by its first defect. Which sources are good
 /// and what they give stands in `specs/Good.antt`, over the bytes that the files have left when the call begins.
@@ -36,6 +38,7 @@ pub fn gather<F: Files>(alloc: Global, p: &Program, files: &mut F) -> Result<Str
     ensures others { WhereTold (F.left files.old) (F.left files.new) (LeavesOthers (files_of p.now.sources)) }
     ensures counts { CountsOfNames (F.left files.old) (files_of p.now.sources) (F.faults files.old) (F.faults files.new) }
     ensures quiet { result ≢ Err GatherFault.ReadFault → SameCounts (F.faults files.old) (F.faults files.new) }
+    ensures hides { IsErrOf result GatherFault.ReadFault → HidesNothing p.now (F.left files.old) (F.left files.new) }
     ensures cause { IsErrOf result GatherFault.ReadFault → OneRose (files_of p.now.sources) (F.faults files.old) (F.faults files.new) }
 {
     let mut gathered = Gathered {
@@ -68,6 +71,7 @@ fn add_source<F: Files>(
     ensures taken { WhereTold (F.left files.old) (F.left files.new) (TakesFrom source.now.file) }
     ensures counts { CountsOf (F.left files.old) source.now.file (F.faults files.old) (F.faults files.new) }
     ensures quiet { result ≢ Err GatherFault.ReadFault → SameCounts (F.faults files.old) (F.faults files.new) }
+    ensures hides { IsErrOf result GatherFault.ReadFault → HidesNoDefect kinds.now source.now gathered.old.held (F.left files.old) (F.left files.new) }
     ensures cause { IsErrOf result GatherFault.ReadFault → Rose (F.faults files.old source.now.file) (F.faults files.new source.now.file) }
 {
     let width = tag_count(source.tags.items());

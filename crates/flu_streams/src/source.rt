@@ -4,7 +4,7 @@ ghost use Rattle.std.specs.Prelude.{◌≡◌, ◌≢◌, ◌≤◌, ◌+◌, le
 ghost use Rattle.flu_outside.specs.Outside.{WhereTold, Rose, SameCounts};
 ghost use Rattle.flu_outside.specs.Taking.{TakesFrom, CountsOf, IsReadOut};
 ghost use Rattle.flu_streams.specs.Tags as Tags;
-ghost use Rattle.flu_streams.specs.Source.{stop_of, stop_at, defect_behind, IsGoodSource, IsFirstDefect};
+ghost use Rattle.flu_streams.specs.Source.{stop_of, stop_at, defect_behind, IsGoodSource, IsFirstDefect, HidesNoDefect};
 
 use crate::faults::Why;
 use crate::intake::{Intake, Refusal};
@@ -42,6 +42,7 @@ pub(crate) fn read_source<F: Files>(
     ensures taken { WhereTold (F.left files.old) (F.left files.new) (TakesFrom source.now.file) }
     ensures counts { CountsOf (F.left files.old) source.now.file (F.faults files.old) (F.faults files.new) }
     ensures quiet { result ≢ Err Stop.ReadFault → SameCounts (F.faults files.old) (F.faults files.new) }
+    ensures hides { IsErrOf result Stop.ReadFault → HidesNoDefect kinds.now source.now held (F.left files.old) (F.left files.new) }
     ensures cause { IsErrOf result Stop.ReadFault → Rose (F.faults files.old source.now.file) (F.faults files.new source.now.file) }
 {
     let Ok(mut intake) = Intake::new(alloc, first, width, held) else {

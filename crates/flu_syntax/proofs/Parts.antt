@@ -8,12 +8,12 @@ use Rattle.flu_text.specs.declared.words.Mark.TheVariants as m
 use Rattle.flu_model.specs.declared.jobs.Sort.{Sort}
 use Rattle.flu_syntax.specs.declared.fault.SyntaxFault.{SyntaxFault}
 use Rattle.flu_syntax.specs.declared.fault.SyntaxFault.TheVariants as f
-use Rattle.flu_syntax.specs.declared.tree.WrittenSpan.{WrittenSpan}
-use Rattle.flu_syntax.specs.declared.tree.WrittenNumber.{WrittenNumber}
+use Rattle.flu_text.specs.declared.written.WrittenSpan.{WrittenSpan}
+use Rattle.flu_text.specs.declared.written.WrittenNumber.{WrittenNumber}
 use Rattle.flu_syntax.specs.declared.tree.WrittenKey.TheVariants as key
 use Rattle.flu_syntax.specs.declared.tree.WrittenRef.{WrittenRef}
-use Rattle.flu_syntax.specs.declared.tree.WrittenKeys.{WrittenKeys}
-use Rattle.flu_syntax.specs.declared.tree.WrittenKeys.TheVariants as keys
+use Rattle.flu_text.specs.declared.written.WrittenKeys.{WrittenKeys}
+use Rattle.flu_text.specs.declared.written.WrittenKeys.TheVariants as keys
 use Rattle.flu_syntax.specs.declared.tree.WrittenRelation.TheVariants as relation
 use Rattle.flu_syntax.specs.declared.tokens.Verb.{Verb}
 use Rattle.flu_syntax.specs.declared.tokens.Heading.{Heading}
@@ -21,8 +21,9 @@ use Rattle.flu_syntax.specs.declared.tokens.Doing.{Doing}
 use Rattle.flu_syntax.specs.declared.tokens.Doing.TheVariants as doing
 use Rattle.flu_syntax.specs.Tree.{Deed, Emits, Flushes, Declaration, Cell, Tag, Depends, On, Source, Declarations}
 use Rattle.flu_syntax.specs.Reading.{Tells, NotFirst, IsFirst, IsNumber, NotNumber, no_actions, TakesKeyed, ReadsWriting, ReadsDeed, ReadsDeclaration}
-use Rattle.flu_syntax.specs.Machine.{span_of, number_of, cell_of, tag_of, Actions, Tags, Aim, ToWrite, ToClear, ToRead, ToTest, Guard, InExpression, Want, Now, Start, Declared, CellName, CellForm, CellSort, TagName, TagForm, TagValue, DependsFirst, DependsSecond, DependsHow, SourceName, SourceFile, SourceRate, RateNumber, SourceSlack, SlackNumber, SourceColon, TagKind, TagKeys, TagLow, TagMore, TagHigh, TagClose, TagEnd, OnKind, OnColon, ActionStart, DeedEnd, ActionEnd, EmitText, FlushFamily, FlushText, CellFamily, CellKeys, CellKey, CellClose, Goes, Refused, Verdict, Unexpected, acted, action_step, deed_step, named, named_step, keys_step, key_step, on_name, on_text, on_colon, on_bracket, on_number, sort_of, sort_step, cell_step, value_of, value_step, tag_step, how_step, source_of, rate_step, slack_step, listed, tags_step, tag_keys_step, range_step, doing_of, act_step, heading_of, opening, step, whole, run}
-use Rattle.flu_syntax.specs.Grammar.{place_of}
+use Rattle.flu_text.specs.Signs.{span_of, number_of}
+use Rattle.flu_syntax.specs.Machine.{cell_of, tag_of, Actions, Tags, Aim, ToWrite, ToClear, ToRead, ToTest, Guard, InExpression, Want, Now, Start, Declared, CellName, CellForm, CellSort, TagName, TagForm, TagValue, DependsFirst, DependsSecond, DependsHow, SourceName, SourceFile, SourceRate, RateNumber, SourceSlack, SlackNumber, SourceColon, TagKind, TagKeys, TagLow, TagMore, TagHigh, TagClose, TagEnd, OnKind, OnColon, ActionStart, DeedEnd, ActionEnd, EmitText, FlushFamily, FlushText, CellFamily, CellKeys, CellKey, CellClose, Goes, Refused, Verdict, Unexpected, acted, action_step, deed_step, named, named_step, keys_step, key_step, on_name, on_text, on_colon, on_bracket, on_number, sort_of, sort_step, cell_step, value_of, value_step, tag_step, how_step, source_of, rate_step, slack_step, listed, tags_step, tag_keys_step, range_step, doing_of, act_step, heading_of, opening, step, whole, run}
+use Rattle.flu_text.specs.Signs.{place_of}
 use Rattle.flu_syntax.proofs.Runs.{run-takes, run-misses, run-ends, run-same, run-same_empty, closes_empty, closes_token, begins, begins_none, Tells-through}
 
 -- ---- a word, or none

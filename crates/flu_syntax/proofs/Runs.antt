@@ -10,7 +10,8 @@ use Rattle.flu_syntax.specs.declared.fault.SyntaxFault.{SyntaxFault}
 use Rattle.flu_syntax.specs.Reading.{Tells, Inside}
 use Rattle.flu_syntax.specs.Tree.{Tree, ParenTree, NegTree, NotTree, TwoTree, Declaration, Declarations}
 use Rattle.flu_syntax.specs.Machine.{Context, Amount, Guard, Frame, NegFrame, NotFrame, ParenFrame, RightFrame, Want, Have, Done, Now, Start, InExpression, Next, Goes, Deep, Refused, start_of, begin, deeper, done_step, behind, operator_of, is_within, is_close, level_behind, opens, opens_of, step, expression_step, behind_step, whole, done_whole, heading_of, opening, Verdict, Found, Unexpected, TooDeep, goes_on, next_declaration, run}
-use Rattle.flu_syntax.specs.Grammar.{op_level, place_of}
+use Rattle.flu_text.specs.Signs.{place_of}
+use Rattle.flu_syntax.specs.Grammar.{op_level}
 
 -- ---- any turn
 

@@ -10,18 +10,21 @@ use Rattle.flu_text.specs.declared.words.Word.TheVariants as w
 use Rattle.flu_names.specs.declared.reserved.Reserved.TheVariants as r
 use Rattle.flu_text.specs.declared.words.Mark.TheVariants as m
 use Rattle.flu_model.specs.declared.jobs.Op.{Op}
-use Rattle.flu_syntax.specs.declared.tree.WrittenSpan.{WrittenSpan}
-use Rattle.flu_syntax.specs.declared.tree.WrittenNumber.{WrittenNumber}
+use Rattle.flu_text.specs.declared.written.WrittenSpan.{WrittenSpan}
+use Rattle.flu_text.specs.declared.written.WrittenNumber.{WrittenNumber}
 use Rattle.flu_syntax.specs.declared.tree.WrittenKey.{WrittenKey}
 use Rattle.flu_syntax.specs.declared.tree.WrittenKey.TheVariants as key
 use Rattle.flu_syntax.specs.declared.tree.WrittenRef.{WrittenRef}
-use Rattle.flu_syntax.specs.declared.tree.WrittenKeys.{WrittenKeys}
-use Rattle.flu_syntax.specs.declared.tree.WrittenKeys.TheVariants as keys
+use Rattle.flu_text.specs.declared.written.WrittenKeys.{WrittenKeys}
+use Rattle.flu_text.specs.declared.written.WrittenKeys.TheVariants as keys
 use Rattle.flu_syntax.specs.declared.tree.WrittenTag.{WrittenTag}
 use Rattle.flu_lemmas.proofs.Elements.{push_some}
 use Rattle.flu_syntax.specs.Tree.{Tree, ReadTree, HasTree, ParenTree, NegTree, NotTree, TwoTree, Deed, Writes, Clears, Emits, Flushes, Action, On, Source, Declarations}
-use Rattle.flu_syntax.specs.Machine.{span_of, number_of, cell_of, tag_of, Actions, Tags, Context, Amount, Guard, Frame, NegFrame, NotFrame, ParenFrame, RightFrame, Mode, Want, Have, Done, Aim, ToWrite, ToClear, ToRead, ToTest, Now, Start, Declared, CellName, CellForm, CellSort, TagName, TagForm, TagValue, DependsFirst, DependsSecond, DependsHow, SourceName, SourceFile, SourceRate, RateNumber, SourceSlack, SlackNumber, SourceColon, TagKind, TagKeys, TagLow, TagMore, TagHigh, TagClose, TagEnd, OnKind, OnColon, ActionStart, DeedEnd, ActionEnd, EmitText, FlushFamily, FlushText, CellFamily, CellKeys, CellKey, CellClose, InExpression, Next, Goes, Deep, Refused, begin, atom, take_or, done_step, expression_step, behind_step, deed_step, action_step, acted, listed, source_of, named, named_step, keys_step, key_step, on_name, on_text, on_colon, on_bracket, on_number, sort_of, sort_step, cell_step, value_of, value_step, tag_step, how_step, rate_step, slack_step, source_line, tags_step, tag_keys_step, range_step, doing_of, act_step, start_of, operator_of, is_within, is_close, level_behind, opens, heading_of, opening, done_whole, behind_whole, named_whole, step, whole, Verdict, Found, goes_on, next_declaration, ended, run}
-use Rattle.flu_syntax.specs.Grammar.{op_level, Sign, Any, At, Spanned, IsSign, AreSigns, name, text, number, op_word, verb_word, separated, key_signs, cell_signs, spelled, deed_signs, guard_signs, action_signs, tag_signs, keyed_signs, rate_signs, slack_signs, declaration_signs, declarations_signs}
+use Rattle.flu_text.specs.Signs.{span_of, number_of}
+use Rattle.flu_syntax.specs.Machine.{cell_of, tag_of, Actions, Tags, Context, Amount, Guard, Frame, NegFrame, NotFrame, ParenFrame, RightFrame, Mode, Want, Have, Done, Aim, ToWrite, ToClear, ToRead, ToTest, Now, Start, Declared, CellName, CellForm, CellSort, TagName, TagForm, TagValue, DependsFirst, DependsSecond, DependsHow, SourceName, SourceFile, SourceRate, RateNumber, SourceSlack, SlackNumber, SourceColon, TagKind, TagKeys, TagLow, TagMore, TagHigh, TagClose, TagEnd, OnKind, OnColon, ActionStart, DeedEnd, ActionEnd, EmitText, FlushFamily, FlushText, CellFamily, CellKeys, CellKey, CellClose, InExpression, Next, Goes, Deep, Refused, begin, atom, take_or, done_step, expression_step, behind_step, deed_step, action_step, acted, listed, source_of, named, named_step, keys_step, key_step, on_name, on_text, on_colon, on_bracket, on_number, sort_of, sort_step, cell_step, value_of, value_step, tag_step, how_step, rate_step, slack_step, source_line, tags_step, tag_keys_step, range_step, doing_of, act_step, start_of, operator_of, is_within, is_close, level_behind, opens, heading_of, opening, done_whole, behind_whole, named_whole, step, whole, Verdict, Found, goes_on, next_declaration, ended, run}
+use Rattle.flu_text.specs.Signs.{Sign, Any, At, Spanned, IsSign, AreSigns}
+use Rattle.flu_text.specs.Signs.{name, text, number, separated}
+use Rattle.flu_syntax.specs.Grammar.{op_level, op_word, verb_word, key_signs, cell_signs, spelled, deed_signs, guard_signs, action_signs, tag_signs, keyed_signs, rate_signs, slack_signs, declaration_signs, declarations_signs}
 
 -- ---- what a turn has said
 

@@ -6,10 +6,13 @@ use Rattle.flu_text.specs.declared.words.Word.TheVariants as w
 use Rattle.flu_names.specs.declared.reserved.Reserved.TheVariants as r
 use Rattle.flu_syntax.specs.declared.fault.SyntaxFault.{SyntaxFault}
 use Rattle.flu_syntax.specs.declared.fault.SyntaxFault.TheVariants as f
-use Rattle.flu_syntax.specs.declared.tree.WrittenNumber.{WrittenNumber}
+use Rattle.flu_text.specs.declared.written.WrittenNumber.{WrittenNumber}
 use Rattle.flu_syntax.specs.Tree.{Declaration, Cell, Tag, Depends, On, Source, Declarations, Job}
-use Rattle.flu_syntax.specs.Grammar.{Sign, At, IsSign, AreSigns, declaration_signs, declarations_signs, version_signs, IsJob, place_of, MayGoOn, CannotTake, IsFirstThatCannotFollow}
-use Rattle.flu_syntax.specs.Machine.{Start, Verdict, Found, Unexpected, TooDeep, number_of, run, with_version, numbered, behind_version, headed, verdict}
+use Rattle.flu_text.specs.Signs.{Sign, At, IsSign, AreSigns}
+use Rattle.flu_text.specs.Signs.{place_of}
+use Rattle.flu_syntax.specs.Grammar.{declaration_signs, declarations_signs, version_signs, IsJob, MayGoOn, CannotTake, IsFirstThatCannotFollow}
+use Rattle.flu_text.specs.Signs.{number_of}
+use Rattle.flu_syntax.specs.Machine.{Start, Verdict, Found, Unexpected, TooDeep, run, with_version, numbered, behind_version, headed, verdict}
 use Rattle.flu_syntax.specs.Reading.{Tells, IsFirst as Begins, NotFirst, IsNumber, NotNumber}
 use Rattle.flu_syntax.proofs.Found.{declarations_are_found}
 use Rattle.flu_syntax.proofs.Levels.{declarations_are_kept}

@@ -5,15 +5,17 @@ use Rattle.flu_text.specs.declared.words.Word.{Word}
 use Rattle.flu_text.specs.declared.words.Word.TheVariants as w
 use Rattle.flu_names.specs.declared.reserved.Reserved.TheVariants as r
 use Rattle.flu_text.specs.declared.words.Mark.TheVariants as m
-use Rattle.flu_syntax.specs.declared.tree.WrittenSpan.{WrittenSpan}
-use Rattle.flu_syntax.specs.declared.tree.WrittenNumber.{WrittenNumber}
+use Rattle.flu_text.specs.declared.written.WrittenSpan.{WrittenSpan}
+use Rattle.flu_text.specs.declared.written.WrittenNumber.{WrittenNumber}
 use Rattle.flu_syntax.specs.declared.tree.WrittenKey.TheVariants as key
 use Rattle.flu_syntax.specs.declared.tree.WrittenRef.{WrittenRef}
-use Rattle.flu_syntax.specs.declared.tree.WrittenKeys.{WrittenKeys}
-use Rattle.flu_syntax.specs.declared.tree.WrittenKeys.TheVariants as keys
+use Rattle.flu_text.specs.declared.written.WrittenKeys.{WrittenKeys}
+use Rattle.flu_text.specs.declared.written.WrittenKeys.TheVariants as keys
 use Rattle.flu_syntax.specs.Tree.{Tree, NumberTree, ParenTree, NegTree, NotTree, TwoTree, Deed, Emits, Flushes, Declarations}
-use Rattle.flu_syntax.specs.Machine.{span_of, number_of, cell_of, tag_of, Actions, Tags, Context, Amount, Guard, Frame, NegFrame, NotFrame, ParenFrame, RightFrame, Mode, Want, Have, Done, Aim, ToWrite, ToClear, ToRead, ToTest, Now, Start, Declared, CellName, CellForm, CellSort, TagName, TagForm, TagValue, DependsFirst, DependsSecond, DependsHow, SourceName, SourceFile, SourceRate, RateNumber, SourceSlack, SlackNumber, SourceColon, TagKind, TagKeys, TagLow, TagMore, TagHigh, TagClose, TagEnd, OnKind, OnColon, ActionStart, DeedEnd, ActionEnd, EmitText, FlushFamily, FlushText, CellFamily, CellKeys, CellKey, CellClose, InExpression, Next, Goes, Deep, Refused, operator_of, start_of, doing_of, sort_of, value_of, level_behind, behind, named, source_of, listed, heading_of, opening, expression_step, step, whole, Verdict, Found, Unexpected, TooDeep, goes_on, next_declaration, ended, run}
-use Rattle.flu_syntax.specs.Grammar.{op_level, place_of}
+use Rattle.flu_text.specs.Signs.{span_of, number_of}
+use Rattle.flu_syntax.specs.Machine.{cell_of, tag_of, Actions, Tags, Context, Amount, Guard, Frame, NegFrame, NotFrame, ParenFrame, RightFrame, Mode, Want, Have, Done, Aim, ToWrite, ToClear, ToRead, ToTest, Now, Start, Declared, CellName, CellForm, CellSort, TagName, TagForm, TagValue, DependsFirst, DependsSecond, DependsHow, SourceName, SourceFile, SourceRate, RateNumber, SourceSlack, SlackNumber, SourceColon, TagKind, TagKeys, TagLow, TagMore, TagHigh, TagClose, TagEnd, OnKind, OnColon, ActionStart, DeedEnd, ActionEnd, EmitText, FlushFamily, FlushText, CellFamily, CellKeys, CellKey, CellClose, InExpression, Next, Goes, Deep, Refused, operator_of, start_of, doing_of, sort_of, value_of, level_behind, behind, named, source_of, listed, heading_of, opening, expression_step, step, whole, Verdict, Found, Unexpected, TooDeep, goes_on, next_declaration, ended, run}
+use Rattle.flu_text.specs.Signs.{place_of}
+use Rattle.flu_syntax.specs.Grammar.{op_level}
 use Rattle.flu_syntax.specs.Reading.{no_actions}
 use Rattle.flu_syntax.proofs.Runs.{run-takes, run-neg, run-not, run-right, run-paren, run-behind, pass_end, pass_word}
 

@@ -6,26 +6,21 @@ use Rattle.flu_lemmas.proofs.Elements.{all_map, all_front, all_back, all_append}
 use Rattle.flu_text.specs.declared.words.Word.{Word}
 use Rattle.flu_text.specs.declared.words.Word.TheVariants as w
 use Rattle.flu_text.specs.declared.words.Mark.TheVariants as m
-use Rattle.flu_syntax.specs.declared.tree.WrittenNumber.{WrittenNumber}
+use Rattle.flu_text.specs.declared.written.WrittenNumber.{WrittenNumber}
 use Rattle.flu_syntax.specs.declared.tree.WrittenKey.{WrittenKey}
 use Rattle.flu_syntax.specs.declared.tree.WrittenKey.TheVariants as key
 use Rattle.flu_syntax.specs.declared.tree.WrittenRef.{WrittenRef}
-use Rattle.flu_syntax.specs.declared.tree.WrittenKeys.{WrittenKeys}
-use Rattle.flu_syntax.specs.declared.tree.WrittenKeys.TheVariants as keys
+use Rattle.flu_text.specs.declared.written.WrittenKeys.{WrittenKeys}
+use Rattle.flu_text.specs.declared.written.WrittenKeys.TheVariants as keys
 use Rattle.flu_syntax.specs.declared.tree.WrittenTag.{WrittenTag}
 use Rattle.flu_syntax.specs.Tree.{Tree, NumberTree, ValueTree, KeyTree, TimeTree, ReadTree, HasTree, ParenTree, NegTree, NotTree, TwoTree, Deed, Writes, Clears, Emits, Flushes, Action, Declaration, Cell, Tag, Depends, On, Source, Declarations, Job}
-use Rattle.flu_syntax.specs.Grammar.{Sign, Any, separated, key_signs, cell_signs, spelled, deed_signs, guard_signs, action_signs, keys_signs, tag_signs, rate_signs, slack_signs, version_signs, declaration_signs, declarations_signs, job_signs}
-use Rattle.flu_syntax.specs.Words.{key_words, cell_words, tree_words, deed_words, guard_words, action_words, keys_words, tag_words, number_words, declaration_words, job_words, Stands}
-use Rattle.flu_syntax.specs.Laws.{SignsStand, WordsStand}
-
--- each sign stands for a token
-pub signs_stand : SignsStand
-signs_stand tokens [] are = tt
-signs_stand [] (s ∷ signs) are = absurd are
-signs_stand (t ∷ tokens) (s ∷ signs) are = (
-  (t, contains_here t tokens, are.0),
-  all_map (Stands tokens) (Stands (t ∷ tokens)) signs (λ s h. (h.0, contains_later t h.0 tokens h.1, h.2)) (signs_stand tokens signs are.1),
-)
+use Rattle.flu_text.specs.Signs.{Sign, Any}
+use Rattle.flu_text.specs.Signs.{separated, keys_signs}
+use Rattle.flu_syntax.specs.Grammar.{key_signs, cell_signs, spelled, deed_signs, guard_signs, action_signs, tag_signs, rate_signs, slack_signs, version_signs, declaration_signs, declarations_signs, job_signs}
+use Rattle.flu_text.specs.Signs.{Stands}
+use Rattle.flu_syntax.specs.Words.{key_words, cell_words, tree_words, deed_words, guard_words, action_words, keys_words, tag_words, number_words, declaration_words, job_words}
+use Rattle.flu_text.specs.Laws.{SignsStand}
+use Rattle.flu_syntax.specs.Laws.{WordsStand}
 
 module _ (P : Sign → Type 0) where
   -- the signs of items, with a mark between each two, have those of each item
@@ -134,5 +129,5 @@ module _ (P : Sign → Type 0) where
       (version_has job.version (all_front P (version_signs job.version) (declarations_signs job.declarations) all))
       (declarations_have job.declarations (all_back P (version_signs job.version) (declarations_signs job.declarations) all))
 
-pub words_stand : WordsStand
-words_stand tokens job is = job_has (Stands tokens) job (signs_stand tokens (job_signs job) is.spelled)
+pub words_stand : SignsStand → WordsStand
+words_stand stand tokens job is = job_has (Stands tokens) job (stand tokens (job_signs job) is.spelled)

@@ -6,52 +6,26 @@ use Rattle.flu_text.specs.declared.words.Word.TheVariants as w
 use Rattle.flu_names.specs.declared.reserved.Reserved.TheVariants as r
 use Rattle.flu_text.specs.declared.words.Mark.TheVariants as m
 use Rattle.flu_text.specs.declared.words.Token.{Token}
+use Rattle.flu_text.specs.Signs.{Sign, Any, At, Spanned, AreSigns, name, text, number, separated, keys_signs, place_of}
 use Rattle.flu_model.specs.declared.jobs.Op.{Op}
 use Rattle.flu_model.specs.declared.jobs.Op.TheVariants as op
 use Rattle.flu_model.specs.declared.jobs.Sort.{Sort}
 use Rattle.flu_model.specs.declared.jobs.Sort.TheVariants as sort
 use Rattle.flu_syntax.specs.declared.tokens.Verb.{Verb}
 use Rattle.flu_syntax.specs.declared.tokens.Verb.TheVariants as verb
-use Rattle.flu_syntax.specs.declared.tree.WrittenSpan.{WrittenSpan}
-use Rattle.flu_syntax.specs.declared.tree.WrittenNumber.{WrittenNumber}
+use Rattle.flu_text.specs.declared.written.WrittenSpan.{WrittenSpan}
+use Rattle.flu_text.specs.declared.written.WrittenNumber.{WrittenNumber}
 use Rattle.flu_syntax.specs.declared.tree.WrittenKey.{WrittenKey}
 use Rattle.flu_syntax.specs.declared.tree.WrittenKey.TheVariants as key
 use Rattle.flu_syntax.specs.declared.tree.WrittenRef.{WrittenRef}
-use Rattle.flu_syntax.specs.declared.tree.WrittenKeys.{WrittenKeys}
-use Rattle.flu_syntax.specs.declared.tree.WrittenKeys.TheVariants as keys
+use Rattle.flu_text.specs.declared.written.WrittenKeys.{WrittenKeys}
+use Rattle.flu_text.specs.declared.written.WrittenKeys.TheVariants as keys
 use Rattle.flu_syntax.specs.declared.tree.WrittenTag.{WrittenTag}
 use Rattle.flu_syntax.specs.declared.tree.WrittenRelation.{WrittenRelation}
 use Rattle.flu_syntax.specs.declared.tree.WrittenRelation.TheVariants as relation
 use Rattle.flu_syntax.specs.Tree.{Tree, NumberTree, ValueTree, KeyTree, TimeTree, ReadTree, HasTree, ParenTree, NegTree, NotTree, TwoTree, Deed, Writes, Clears, Emits, Flushes, Action, Declaration, Cell, Tag, Depends, On, Source, Declarations, Job}
 
--- A sign stands for a token: of a word, at any place; of a word that begins at a place; of a word that takes these bytes.
-pub data Sign : Type 0 where
-  Any : (word : Word) → Sign
-  At : (word : Word) (from : ℕ) → Sign
-  Spanned : (word : Word) (span : WrittenSpan) → Sign
-
-abbrev pub IsSign : Sign → Token → Type 0
-IsSign (Any word) t = t.word ≡ word
-IsSign (At word from) t = (t.word ≡ word) × (t.from ≡ from)
-IsSign (Spanned word span) t = (t.word ≡ word) × (t.from ≡ span.from) × (t.to ≡ span.to)
-
--- the tokens are these signs, one by one
-abbrev pub AreSigns : List Sign → List Token → Type 0
-AreSigns [] [] = Unit {0}
-AreSigns [] (t ∷ tokens) = ⊥
-AreSigns (s ∷ signs) [] = ⊥
-AreSigns (s ∷ signs) (t ∷ tokens) = IsSign s t × AreSigns signs tokens
-
 -- ---- the words
-
-abbrev pub name : WrittenSpan → List Sign
-name span = Spanned w.Name span ∷ []
-
-abbrev pub text : WrittenSpan → List Sign
-text span = Spanned w.Text span ∷ []
-
-abbrev pub number : WrittenNumber → List Sign
-number n = At (w.Number n.value) n.at ∷ []
 
 abbrev pub op_word : Op → Word
 op_word op.Either = w.Reserved r.Or
@@ -81,11 +55,6 @@ verb_word verb.Raise = w.Reserved r.Raise
 verb_word verb.Set = w.Reserved r.Set
 
 -- ---- the grammar
-
--- items, with a mark between each two
-abbrev pub separated : {X : Type 0} → Word → (X → List Sign) → List X → List Sign
-separated mark item [] = []
-separated mark item (x ∷ xs) = item x ++ flat_map (λ y. Any mark ∷ item y) xs
 
 -- NAME [ "[" ("key" | NUMBER) "]" ]
 abbrev pub key_signs : WrittenKey → List Sign
@@ -188,12 +157,6 @@ abbrev pub AreActions : List Action → Type 0
 AreActions [] = Unit {0}
 AreActions (a ∷ actions) = IsDeed a.deed × IsGuard a.guard × AreActions actions
 
--- NAME [ "[" NUMBER [ ".." NUMBER ] "]" ]
-abbrev pub keys_signs : WrittenKeys → List Sign
-keys_signs keys.Alone = []
-keys_signs (keys.One n) = Any (w.Mark m.OpenBracket) ∷ (number n ++ Any (w.Mark m.CloseBracket) ∷ [])
-keys_signs (keys.Range low high) = Any (w.Mark m.OpenBracket) ∷ (number low ++ Any (w.Mark m.Dots) ∷ (number high ++ Any (w.Mark m.CloseBracket) ∷ []))
-
 abbrev pub tag_signs : WrittenTag → List Sign
 tag_signs t = name t.kind ++ keys_signs t.keys
 
@@ -258,11 +221,6 @@ job_signs job = version_signs job.version ++ declarations_signs job.declarations
 pub record IsJob (tokens : List Token) (job : Job) : Type 0 where
   pub grammar : AreDeclarations job.declarations
   pub spelled : AreSigns (job_signs job) tokens
-
--- the place of the first token, or of the end
-abbrev pub place_of : ℕ → List Token → ℕ
-place_of end [] = end
-place_of end (t ∷ tokens) = t.from
 
 -- these tokens may be continued to a job
 abbrev pub MayGoOn : List Token → Type 0

@@ -3,8 +3,10 @@ use Rattle.std.specs.Prelude.{◌≡◌, ◌↔◌, ℕ, List}
 use Rattle.std.specs.List.{AllByRecursion}
 use Rattle.flu_text.specs.declared.words.Token.{Token}
 use Rattle.flu_syntax.specs.Tree.{Job}
-use Rattle.flu_syntax.specs.Grammar.{Sign, AreSigns, IsJob, IsFirstThatCannotFollow}
-use Rattle.flu_syntax.specs.Words.{Stands, job_words}
+use Rattle.flu_text.specs.Signs.{Sign, AreSigns}
+use Rattle.flu_syntax.specs.Grammar.{IsJob, IsFirstThatCannotFollow}
+use Rattle.flu_text.specs.Signs.{Stands}
+use Rattle.flu_syntax.specs.Words.{job_words}
 use Rattle.flu_syntax.specs.Machine.{verdict, Found, Unexpected}
 
 -- what is found is what the tokens are
@@ -18,10 +20,6 @@ JobsAreUnique = (tokens : List Token) (a b : Job) → IsJob tokens a → IsJob t
 -- an unexpected token is the first that cannot follow those before it
 abbrev pub UnexpectedIsFirst : Type 0
 UnexpectedIsFirst = (end : ℕ) (tokens : List Token) (place : ℕ) → verdict end tokens ≡ Unexpected place → IsFirstThatCannotFollow end tokens place
-
--- where tokens are signs, each sign stands for one of them
-abbrev pub SignsStand : Type 0
-SignsStand = (tokens : List Token) (signs : List Sign) → AreSigns signs tokens → AllByRecursion (Stands tokens) signs
 
 -- each name, text and number of a job is a token of the tokens that are the job
 abbrev pub WordsStand : Type 0

@@ -1,6 +1,7 @@
 -- What the tokens of a job are read as, token by token: a machine that keeps what it has read and what is still open, and so
 -- finds the job, or the first token that cannot follow. `Grammar` says what a job is, and `Laws` that the machine finds exactly that.
 use Rattle.std.specs.Prelude.{ℕ, ◌+◌, Bool, true, false, ◌&&◌, nat_lt, nat_le, ◌==◌, if◌then◌else◌, ℤ, List, [], ◌∷◌, ◌++◌, Option, Some, None}
+use Rattle.flu_text.specs.Signs.{span_of, number_of}
 use Rattle.flu_text.specs.declared.words.Word.{Word}
 use Rattle.flu_text.specs.declared.words.Word.TheVariants as w
 use Rattle.flu_names.specs.declared.reserved.Reserved.{Reserved}
@@ -12,13 +13,13 @@ use Rattle.flu_model.specs.declared.jobs.Op.{Op}
 use Rattle.flu_model.specs.declared.jobs.Op.TheVariants as op
 use Rattle.flu_model.specs.declared.jobs.Sort.{Sort}
 use Rattle.flu_model.specs.declared.jobs.Sort.TheVariants as sort
-use Rattle.flu_syntax.specs.declared.tree.WrittenSpan.{WrittenSpan}
-use Rattle.flu_syntax.specs.declared.tree.WrittenNumber.{WrittenNumber}
+use Rattle.flu_text.specs.declared.written.WrittenSpan.{WrittenSpan}
+use Rattle.flu_text.specs.declared.written.WrittenNumber.{WrittenNumber}
 use Rattle.flu_syntax.specs.declared.tree.WrittenKey.{WrittenKey}
 use Rattle.flu_syntax.specs.declared.tree.WrittenKey.TheVariants as key
 use Rattle.flu_syntax.specs.declared.tree.WrittenRef.{WrittenRef}
-use Rattle.flu_syntax.specs.declared.tree.WrittenKeys.{WrittenKeys}
-use Rattle.flu_syntax.specs.declared.tree.WrittenKeys.TheVariants as keys
+use Rattle.flu_text.specs.declared.written.WrittenKeys.{WrittenKeys}
+use Rattle.flu_text.specs.declared.written.WrittenKeys.TheVariants as keys
 use Rattle.flu_syntax.specs.declared.tree.WrittenTag.{WrittenTag}
 use Rattle.flu_syntax.specs.declared.tree.WrittenRelation.TheVariants as relation
 use Rattle.flu_syntax.specs.declared.tokens.Front.{Front}
@@ -31,13 +32,6 @@ use Rattle.flu_syntax.specs.declared.tokens.Heading.{Heading}
 use Rattle.flu_syntax.specs.declared.tokens.Heading.TheVariants as heading
 use Rattle.flu_syntax.specs.Tree.{Tree, NumberTree, ValueTree, KeyTree, TimeTree, ReadTree, HasTree, ParenTree, NegTree, NotTree, TwoTree, Deed, Writes, Clears, Emits, Flushes, Action, Declaration, Cell, Tag, Depends, On, Source, Declarations, Job}
 use Rattle.flu_syntax.specs.Grammar.{op_level}
-
--- the bytes that a token takes
-abbrev pub span_of : Token → WrittenSpan
-span_of t = record { from = t.from; to = t.to }
-
-abbrev pub number_of : ℤ → Token → WrittenNumber
-number_of n t = record { value = n; at = t.from }
 
 abbrev pub cell_of : WrittenSpan → WrittenKey → WrittenRef
 cell_of family k = record { family = family; key = k }

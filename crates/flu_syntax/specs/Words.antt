@@ -3,15 +3,16 @@
 use Rattle.std.specs.Prelude.{List, [], ◌++◌, Option, Some, None, Contains}
 use Rattle.std.specs.List.{flat_map}
 use Rattle.flu_text.specs.declared.words.Token.{Token}
-use Rattle.flu_syntax.specs.declared.tree.WrittenNumber.{WrittenNumber}
+use Rattle.flu_text.specs.declared.written.WrittenNumber.{WrittenNumber}
 use Rattle.flu_syntax.specs.declared.tree.WrittenKey.{WrittenKey}
 use Rattle.flu_syntax.specs.declared.tree.WrittenKey.TheVariants as key
 use Rattle.flu_syntax.specs.declared.tree.WrittenRef.{WrittenRef}
-use Rattle.flu_syntax.specs.declared.tree.WrittenKeys.{WrittenKeys}
-use Rattle.flu_syntax.specs.declared.tree.WrittenKeys.TheVariants as keys
+use Rattle.flu_text.specs.declared.written.WrittenKeys.{WrittenKeys}
+use Rattle.flu_text.specs.declared.written.WrittenKeys.TheVariants as keys
 use Rattle.flu_syntax.specs.declared.tree.WrittenTag.{WrittenTag}
 use Rattle.flu_syntax.specs.Tree.{Tree, NumberTree, ValueTree, KeyTree, TimeTree, ReadTree, HasTree, ParenTree, NegTree, NotTree, TwoTree, Deed, Writes, Clears, Emits, Flushes, Action, Declaration, Cell, Tag, Depends, On, Source, Job}
-use Rattle.flu_syntax.specs.Grammar.{Sign, IsSign, name, text, number}
+use Rattle.flu_text.specs.Signs.{Sign, IsSign}
+use Rattle.flu_text.specs.Signs.{name, text, number}
 
 -- those of a cell: its family's name, and perhaps the number in its brackets
 abbrev pub key_words : WrittenKey → List Sign
@@ -73,7 +74,3 @@ declaration_words (Source n file rate slack tags) = name n ++ text file ++ numbe
 
 abbrev pub job_words : Job → List Sign
 job_words job = number_words job.version ++ flat_map declaration_words job.declarations
-
--- one of the tokens is what the sign stands for
-abbrev pub Stands : List Token → Sign → Type 0
-Stands tokens s = (t : Token) × Contains tokens t × IsSign s t

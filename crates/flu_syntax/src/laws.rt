@@ -1,6 +1,9 @@
 //! Laws of the grammar, each the contract of a function that does nothing.
 
-ghost use Rattle.flu_syntax.specs.Laws.{FoundIsJob, JobsAreUnique, UnexpectedIsFirst, SignsStand, WordsStand};
+ghost use Rattle.flu_text.specs.Laws.{SignsStand};
+ghost use Rattle.flu_syntax.specs.Laws.{FoundIsJob, JobsAreUnique, UnexpectedIsFirst, WordsStand};
+
+use flu_text::laws::signs_stand;
 
 /// What is found is exactly what the tokens are by the grammar, word by word and place by place; and that is one job at most.
 pub fn found_is_job()
@@ -14,13 +17,10 @@ pub fn unexpected_is_first()
     ensures { UnexpectedIsFirst }
 {}
 
-/// Where tokens are signs, one by one, each sign stands for one of the tokens.
-pub fn signs_stand()
-    ensures { SignsStand }
-{}
-
 /// Each span of a job that is a name is the span of a name's token, each that is a text that of a text's, and each number is
 /// the value of a number's token, which begins at the number's place.
 pub fn words_stand()
     ensures { WordsStand }
-{}
+{
+    signs_stand();
+}

@@ -24,8 +24,9 @@ mod tokens;
 pub mod tree;
 
 pub use fault::SyntaxFault;
+pub use flu_text::{WrittenKeys, WrittenNumber, WrittenSpan};
 pub use reading::read_syntax;
 pub use tree::{
-    WrittenAct, WrittenAction, WrittenDeclaration, WrittenExpr, WrittenJob, WrittenKey,
-    WrittenKeys, WrittenNumber, WrittenRef, WrittenRelation, WrittenSpan, WrittenTag,
+    WrittenAct, WrittenAction, WrittenDeclaration, WrittenExpr, WrittenJob, WrittenKey, WrittenRef,
+    WrittenRelation, WrittenTag,
 };

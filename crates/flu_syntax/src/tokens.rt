@@ -1,8 +1,10 @@
 //! The first of some tokens: whether it is the one that is wanted, and what it begins.
 
 ghost use Rattle.std.specs.Prelude.{◌≡◌, ◌<◌, ◌∷◌, length, MatchOption, MatchResult, IfOk, IfSome, []};
-ghost use Rattle.flu_syntax.specs.Grammar.{op_level, place_of};
-ghost use Rattle.flu_syntax.specs.Machine.{span_of, operator_of, start_of, doing_of, heading_of, sort_of, value_of};
+ghost use Rattle.flu_text.specs.Signs.{place_of};
+ghost use Rattle.flu_syntax.specs.Grammar.{op_level};
+ghost use Rattle.flu_text.specs.Signs.{span_of};
+ghost use Rattle.flu_syntax.specs.Machine.{operator_of, start_of, doing_of, heading_of, sort_of, value_of};
 ghost use Rattle.flu_syntax.specs.Reading.{IsFirst, NotFirst, IsNumber, NotNumber};
 
 use crate::fault::SyntaxFault;

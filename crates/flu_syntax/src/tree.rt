@@ -1,20 +1,7 @@
 //! A job as it is written: a version, and declarations whose names and texts are spans of bytes of the job text.
 
 use flu_model::{List, Op, Sort};
-
-/// Bytes of the text, from one place to before another: a name, or a text with its quotes.
-#[derive(Clone, Copy, PartialEq, Eq)]
-pub struct WrittenSpan {
-    pub from: usize,
-    pub to: usize,
-}
-
-/// A number, and the place of its first digit.
-#[derive(Clone, Copy, PartialEq, Eq)]
-pub struct WrittenNumber {
-    pub value: i64,
-    pub at: usize,
-}
+pub use flu_text::{WrittenKeys, WrittenNumber, WrittenSpan};
 
 /// What stands in brackets behind a family's name, if anything: `key`, by the place of that word, or a number.
 #[derive(Clone, Copy, PartialEq, Eq)]
@@ -83,14 +70,6 @@ pub struct WrittenAction {
     pub at: usize,
     pub act: WrittenAct,
     pub guard: Option<WrittenExpr>,
-}
-
-/// The keys that a tag reference lists.
-#[derive(Clone, Copy, PartialEq, Eq)]
-pub enum WrittenKeys {
-    Alone,
-    One(WrittenNumber),
-    Range(WrittenNumber, WrittenNumber),
 }
 
 /// Tags of one kind that a source lists.

@@ -7,3 +7,4 @@ pub mod Readings
 pub mod Spans
 pub mod Laid
 pub mod Names
+pub mod Signs

@@ -1,10 +1,12 @@
 -- What holds of every text.
 use Rattle.std.specs.Prelude.{◌≡◌, ◌↔◌, ℕ, true, List, map, All, Some, Ok, Err}
+use Rattle.std.specs.List.{AllByRecursion}
 use Rattle.std.specs.Str.{IsUtf8}
 use Rattle.flu_names.specs.declared.reserved.Reserved.{Reserved}
 use Rattle.flu_names.specs.Names.{reserved_spelling, reserved_of, is_name}
 use Rattle.flu_text.specs.declared.words.Token.{Token}
 use Rattle.flu_text.specs.Grammar.{bytes_of, IsName, AreTokens, IsFirstBadPlace, IsToken, IsSpan, IsInsideOfText, Rise}
+use Rattle.flu_text.specs.Signs.{Sign, AreSigns, Stands}
 use Rattle.flu_text.specs.Reading.{reading}
 use Rattle.flu_text.specs.Layout.{Piece, layout, tokens_of, IsLaid}
 
@@ -59,3 +61,7 @@ NamesAreTested = (s : List ℕ) → (is_name s ≡ true) ↔ IsName s
 -- and the reserved word that is found is the one that is spelled so
 abbrev pub ReservedIsSpelled : Type 0
 ReservedIsSpelled = (s : List ℕ) (word : Reserved) → (reserved_of s ≡ Some word) ↔ (s ≡ reserved_spelling word)
+
+-- where tokens are signs, each sign stands for one of them
+abbrev pub SignsStand : Type 0
+SignsStand = (tokens : List Token) (signs : List Sign) → AreSigns signs tokens → AllByRecursion (Stands tokens) signs

@@ -4,3 +4,4 @@ pub mod Lexeme
 pub mod Reading
 pub mod Layout
 pub mod Laws
+pub mod Signs

@@ -1,6 +1,6 @@
 //! Laws of the lexical grammar, each the contract of a function that does nothing.
 
-ghost use Rattle.flu_text.specs.Laws.{TokensAreUnique, BadPlaceIsUnique, TokensOrBadPlace, ReadingIsTokens, ReadingIsBadPlace, EachIsToken, EachIsSpan, EachIsInside, TokensRise, LayoutIsRead, LayoutIsSpelled, NamesAreTested, ReservedIsSpelled};
+ghost use Rattle.flu_text.specs.Laws.{TokensAreUnique, BadPlaceIsUnique, TokensOrBadPlace, ReadingIsTokens, ReadingIsBadPlace, EachIsToken, EachIsSpan, EachIsInside, TokensRise, LayoutIsRead, LayoutIsSpelled, NamesAreTested, ReservedIsSpelled, SignsStand};
 
 /// A text has one reading: its tokens, or the first place where none begins.
 pub fn one_reading()
@@ -34,4 +34,9 @@ pub fn layout_is_read()
 pub fn names_are_tested()
     ensures names { NamesAreTested }
     ensures reserved { ReservedIsSpelled }
+{}
+
+/// Where tokens are signs, one by one, each sign stands for one of the tokens.
+pub fn signs_stand()
+    ensures { SignsStand }
 {}

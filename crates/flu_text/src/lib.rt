@@ -6,7 +6,9 @@ pub mod laws;
 mod lexeme;
 mod reading;
 mod words;
+mod written;
 
 pub use flu_names::Reserved;
 pub use reading::{TextFault, tokens};
 pub use words::{Mark, Token, Word};
+pub use written::{WrittenKeys, WrittenNumber, WrittenSpan};

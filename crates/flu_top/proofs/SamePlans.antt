@@ -19,7 +19,7 @@ use Rattle.flu_model.specs.Listing.{tag, itags_of_sources}
 use Rattle.flu_model.specs.Owners.{is_keyed, key_matches, kind_matches, source_matches, matches, node_owns, found_owns, owns}
 use Rattle.flu_model.specs.Rules.{is_same_text, kind_is_keyed}
 use Rattle.flu_model.specs.Validity.{IsValid}
-use Rattle.flu_syntax.specs.declared.tree.WrittenSpan.{WrittenSpan}
+use Rattle.flu_text.specs.declared.written.WrittenSpan.{WrittenSpan}
 use Rattle.flu_parse.specs.Spelling.{name_of}
 use Rattle.flu_streams.proofs.Places.{position-map}
 use Rattle.flu_plan.specs.declared.fault.PlanFault.TheVariants as f

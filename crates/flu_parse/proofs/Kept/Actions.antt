@@ -16,7 +16,8 @@ use Rattle.flu_syntax.specs.declared.tokens.Verb.{Verb}
 use Rattle.flu_syntax.specs.declared.tokens.Verb.TheVariants as verb
 use Rattle.flu_syntax.specs.Tree.{Tree, Writes, Clears, Emits, Flushes}
 use Rattle.flu_syntax.specs.Tree.{Deed as WrittenDeed, Action as WrittenDo}
-use Rattle.flu_syntax.specs.Words.{Stands, cell_words, tree_words, deed_words, guard_words, action_words}
+use Rattle.flu_text.specs.Signs.{Stands}
+use Rattle.flu_syntax.specs.Words.{cell_words, tree_words, deed_words, guard_words, action_words}
 use Rattle.flu_layout.specs.Spelling.{name_of}
 use Rattle.flu_layout.specs.Stands.{AreRead}
 use Rattle.flu_parse.specs.declared.faults.JobFault.TheVariants as f

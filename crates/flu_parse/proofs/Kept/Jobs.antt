@@ -27,8 +27,8 @@ use Rattle.flu_rules.specs.Kept.{KeepsRules}
 use Rattle.flu_rules.specs.Keys.{TagsMeet, TagsDiffer}
 use Rattle.flu_text.specs.declared.words.Token.{Token}
 use Rattle.flu_text.specs.Reading.{reading, Reading}
-use Rattle.flu_syntax.specs.declared.tree.WrittenSpan.{WrittenSpan}
-use Rattle.flu_syntax.specs.declared.tree.WrittenNumber.{WrittenNumber}
+use Rattle.flu_text.specs.declared.written.WrittenSpan.{WrittenSpan}
+use Rattle.flu_text.specs.declared.written.WrittenNumber.{WrittenNumber}
 use Rattle.flu_syntax.specs.declared.tree.WrittenTag.{WrittenTag}
 use Rattle.flu_syntax.specs.declared.tree.WrittenRelation.{WrittenRelation}
 use Rattle.flu_syntax.specs.declared.tree.WrittenRelation.TheVariants as r
@@ -38,7 +38,8 @@ use Rattle.flu_syntax.specs.Machine.{Verdict, verdict, Unexpected, TooDeep}
 use Rattle.flu_syntax.specs.Machine.{Found as IsFound}
 use Rattle.flu_syntax.specs.Grammar.{IsDeclaration, AreDeclarations}
 use Rattle.flu_syntax.specs.Laws.{FoundIsJob, WordsStand}
-use Rattle.flu_syntax.specs.Words.{Stands, action_words, number_words, declaration_words}
+use Rattle.flu_text.specs.Signs.{Stands}
+use Rattle.flu_syntax.specs.Words.{action_words, number_words, declaration_words}
 use Rattle.flu_layout.specs.Spelling.{name_of, written_value}
 use Rattle.flu_layout.specs.Stands.{AreRead}
 use Rattle.flu_layout.specs.Laws.{ReadMayBePrinted}

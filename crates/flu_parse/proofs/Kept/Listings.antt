@@ -18,10 +18,10 @@ use Rattle.flu_model.specs.Listing.{tag, listed_keys, listed_tags, tags_of_sourc
 use Rattle.flu_model.specs.Rules.{is_file_text, is_same_tag, is_same_text, are_distinct, keys_fit}
 use Rattle.flu_names.specs.Names.{is_name, is_text_byte}
 use Rattle.flu_rules.specs.Keys.{first_key, last_key, share_tag, TagsMeet, TagsDiffer}
-use Rattle.flu_syntax.specs.declared.tree.WrittenSpan.{WrittenSpan}
-use Rattle.flu_syntax.specs.declared.tree.WrittenNumber.{WrittenNumber}
-use Rattle.flu_syntax.specs.declared.tree.WrittenKeys.{WrittenKeys}
-use Rattle.flu_syntax.specs.declared.tree.WrittenKeys.TheVariants as w
+use Rattle.flu_text.specs.declared.written.WrittenSpan.{WrittenSpan}
+use Rattle.flu_text.specs.declared.written.WrittenNumber.{WrittenNumber}
+use Rattle.flu_text.specs.declared.written.WrittenKeys.{WrittenKeys}
+use Rattle.flu_text.specs.declared.written.WrittenKeys.TheVariants as w
 use Rattle.flu_syntax.specs.declared.tree.WrittenTag.{WrittenTag}
 use Rattle.flu_layout.specs.Spelling.{name_of, inside, written_value}
 use Rattle.flu_layout.specs.Stands.{IsQuoted}

@@ -14,10 +14,11 @@ use Rattle.flu_model.specs.declared.limits.What.TheVariants.{Families, Kinds, So
 use Rattle.flu_model.specs.Rules.{are_distinct}
 use Rattle.flu_names.specs.Names.{is_name}
 use Rattle.flu_text.specs.declared.words.Token.{Token}
-use Rattle.flu_syntax.specs.declared.tree.WrittenSpan.{WrittenSpan}
+use Rattle.flu_text.specs.declared.written.WrittenSpan.{WrittenSpan}
 use Rattle.flu_syntax.specs.Tree.{Declaration}
 use Rattle.flu_syntax.specs.Tree as d
-use Rattle.flu_syntax.specs.Words.{Stands, declaration_words}
+use Rattle.flu_text.specs.Signs.{Stands}
+use Rattle.flu_syntax.specs.Words.{declaration_words}
 use Rattle.flu_layout.specs.Spelling.{name_of}
 use Rattle.flu_layout.specs.Stands.{AreRead}
 use Rattle.flu_parse.specs.declared.faults.JobFault.TheVariants as f

@@ -19,7 +19,7 @@ use Rattle.flu_lemmas.proofs.Digits.{digit_in_range}
 use Rattle.flu_lemmas.specs.Spans.{is_boundary, spelled}
 use Rattle.flu_text.specs.Lexeme.{number_of}
 use Rattle.flu_names.specs.Names.{is_name}
-use Rattle.flu_syntax.specs.declared.tree.WrittenSpan.{WrittenSpan}
+use Rattle.flu_text.specs.declared.written.WrittenSpan.{WrittenSpan}
 use Rattle.flu_syntax.specs.declared.tree.WrittenKey.{WrittenKey}
 use Rattle.flu_syntax.specs.declared.tree.WrittenKey.TheVariants as k
 use Rattle.flu_layout.specs.Spelling.{inside, written_value}

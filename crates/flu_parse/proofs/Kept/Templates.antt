@@ -18,7 +18,7 @@ use Rattle.flu_model.specs.declared.jobs.Piece.TheVariants as piece
 use Rattle.flu_model.specs.Rules.{is_plain_byte, is_plain, emit_piece_fits, flush_piece_fits, follows_plain, are_apart, is_short, emit_template_fits, flush_template_fits}
 use Rattle.flu_model.specs.Templates.{written_template}
 use Rattle.flu_names.specs.Names.{is_name, is_text_byte}
-use Rattle.flu_syntax.specs.declared.tree.WrittenSpan.{WrittenSpan}
+use Rattle.flu_text.specs.declared.written.WrittenSpan.{WrittenSpan}
 use Rattle.flu_syntax.specs.declared.tree.WrittenKey.TheVariants as k
 use Rattle.flu_syntax.specs.declared.tree.WrittenRef.{WrittenRef}
 use Rattle.flu_layout.specs.Spelling.{name_of, inside}

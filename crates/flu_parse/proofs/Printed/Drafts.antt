@@ -211,7 +211,8 @@ module _ (whole : List ℕ) (utf8 : IsUtf8 whole) (n : Naming) where
         let other : (i == j) ≡ false = grind (arith, common_steps) in
         list_any-append (λ g. g == j) given (i ∷ []) ∙ ap (λ b. b || ((i == j) || false)) (free j (omega arith)) ∙ ap (λ b. b || false) other
 
-    one_on : (done : List PlainKind) (k : PlainKind) (rest : List PlainKind) (d : Drafted) (given : List ℕ) (actions : List PlainAction) (here more : List Declaration) → k.actions ≡ actions → length actions ≤ 32
+    one_on : (done : List PlainKind) (k : PlainKind) (rest : List PlainKind) (d : Drafted) (given : List ℕ) (actions : List PlainAction) (here more : List Declaration)
+        → k.actions ≡ actions → length actions ≤ 32
         → slice_get kinds (length done) ≡ Some k → Free (length done) given → ActionsAre whole utf8 families names n known_families
         (kind_head (length done) k) k.name actions here
         → Given (length done + 1) d (done ++ k ∷ rest) given (done ++ without_actions k ∷ rest) here more

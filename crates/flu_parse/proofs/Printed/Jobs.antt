@@ -18,10 +18,11 @@ use Rattle.flu_model.specs.Erasure.{PlainKind, Job}
 use Rattle.flu_model.specs.Rules.{is_same_text, are_distinct}
 use Rattle.flu_names.specs.declared.reserved.Reserved.TheVariants as r
 use Rattle.flu_rules.specs.Keys.{TagsMeet, TagsDiffer}
-use Rattle.flu_syntax.specs.declared.tree.WrittenNumber.{WrittenNumber}
+use Rattle.flu_text.specs.declared.written.WrittenNumber.{WrittenNumber}
 use Rattle.flu_syntax.specs.Tree.{Declaration, Job as WrittenJob}
 use Rattle.flu_syntax.specs.Machine.{Verdict}
-use Rattle.flu_syntax.specs.Grammar.{IsSign, declaration_signs, declarations_signs, version_signs, job_signs, IsJob}
+use Rattle.flu_text.specs.Signs.{IsSign}
+use Rattle.flu_syntax.specs.Grammar.{declaration_signs, declarations_signs, version_signs, job_signs, IsJob}
 use Rattle.flu_syntax.specs.Laws.{FoundIsJob}
 use Rattle.flu_names.specs.Names.{is_name}
 use Rattle.flu_layout.specs.Laid.{blank, line_end, reserved, number}
@@ -224,7 +225,8 @@ module _ (begun : BegunAreSigns) (meet : TagsMeet) (differ : TagsDiffer) (job : 
             k;
       } in m)) (let same : 0 + length job.depends ≡ length job.depends = omega arith in same)
 
-  drafted : (p : Parts) → (given : List ℕ) × (itags : ℕ) × (draft_of whole n (all_parts p) ≡ Ok (record { kinds = job.kinds; given = given; depends = job.depends; sources = job.sources; itags = itags }))
+  drafted : (p : Parts) → (given : List ℕ) × (itags : ℕ)
+      × (draft_of whole n (all_parts p) ≡ Ok (record { kinds = job.kinds; given = given; depends = job.depends; sources = job.sources; itags = itags }))
   unfolding n each
   drafted p =
       let idle : List PlainKind = map without_actions job.kinds in
@@ -243,7 +245,8 @@ module _ (begun : BegunAreSigns) (meet : TagsMeet) (differ : TagsDiffer) (job : 
             ∙ skip_tags whole utf8 n job.kinds start p.tags behind_tags p.are_tags
             ∙ add_depends whole utf8 n job.kinds named_kinds known_kinds job.depends start p.deps (p.ons ++ (p.sources ++ [])) p.are_deps
             ∙ ons.leads
-            ∙ add_sources whole utf8 n job.kinds named_kinds known_kinds meet differ [] job.sources with_ons p.sources [] p.are_sources refl fits.sources fits.own_files few,
+            ∙ add_sources whole utf8 n job.kinds named_kinds known_kinds meet differ [] job.sources with_ons p.sources []
+            p.are_sources refl fits.sources fits.own_files few,
       )
 
   resolved_is : (p : Parts) (version : Option WrittenNumber) → version_of version ≡ Ok job.version

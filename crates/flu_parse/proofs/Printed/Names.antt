@@ -16,7 +16,7 @@ use Rattle.flu_model.specs.declared.jobs.Source.{Source}
 use Rattle.flu_model.specs.Erasure.{PlainAction, PlainKind, Job}
 use Rattle.flu_model.specs.Rules.{is_same_text, are_distinct}
 use Rattle.flu_syntax.specs.Tree.{Declaration, Cell, Tag, Depends, Source as SourceLine}
-use Rattle.flu_syntax.specs.declared.tree.WrittenSpan.{WrittenSpan}
+use Rattle.flu_text.specs.declared.written.WrittenSpan.{WrittenSpan}
 use Rattle.flu_names.specs.Names.{is_name}
 use Rattle.flu_layout.specs.Spelling.{name_of}
 use Rattle.flu_parse.specs.declared.faults.JobFault.TheVariants as f

@@ -9,8 +9,8 @@ use Rattle.flu_lemmas.proofs.Digits.{alphanumeric_ascii}
 use Rattle.flu_lemmas.proofs.Spans.{Place, before_ascii, after_ascii, spelled_between, spelled_passing}
 use Rattle.flu_names.specs.Names.{is_name, is_name_byte, begins_as_name, is_reserved}
 use Rattle.flu_text.specs.declared.words.Token.{Token}
-use Rattle.flu_syntax.specs.declared.tree.WrittenSpan.{WrittenSpan}
-use Rattle.flu_syntax.specs.Machine.{span_of}
+use Rattle.flu_text.specs.declared.written.WrittenSpan.{WrittenSpan}
+use Rattle.flu_text.specs.Signs.{span_of}
 use Rattle.flu_layout.specs.Spelling.{inside}
 use Rattle.flu_layout.specs.Laid.{text}
 use Rattle.flu_layout.specs.Stands.{StandsFor}

@@ -25,10 +25,11 @@ use Rattle.flu_model.specs.Rules.{is_sort, has_sort, is_keyed, ref_fits, ref_has
 use Rattle.flu_model.specs.Templates.{family_name, written_template}
 use Rattle.flu_syntax.specs.declared.tokens.Verb.{Verb}
 use Rattle.flu_syntax.specs.declared.tokens.Verb.TheVariants as verb
-use Rattle.flu_syntax.specs.Machine.{span_of}
+use Rattle.flu_text.specs.Signs.{span_of}
 use Rattle.flu_syntax.specs.Tree.{Tree, Writes, Clears, Emits, Flushes}
 use Rattle.flu_syntax.specs.Tree.{Deed as WrittenDeed, Action as WrittenDo}
-use Rattle.flu_syntax.specs.Grammar.{IsSign, verb_word, cell_signs, spelled, deed_signs, IsDeed, guard_signs, IsGuard, action_signs, AreActions}
+use Rattle.flu_text.specs.Signs.{IsSign}
+use Rattle.flu_syntax.specs.Grammar.{verb_word, cell_signs, spelled, deed_signs, IsDeed, guard_signs, IsGuard, action_signs, AreActions}
 use Rattle.flu_layout.specs.Laid.{blank, reserved}
 use Rattle.flu_layout.specs.Stands.{Stand}
 use Rattle.flu_parse.specs.declared.faults.JobFault.TheVariants as f

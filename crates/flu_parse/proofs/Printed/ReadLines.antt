@@ -21,15 +21,17 @@ use Rattle.flu_model.specs.declared.jobs.Depend.{Depend}
 use Rattle.flu_model.specs.declared.jobs.TagRef.{TagRef}
 use Rattle.flu_model.specs.declared.jobs.Source.{Source}
 use Rattle.flu_model.specs.Erasure.{PlainAction, PlainKind}
-use Rattle.flu_syntax.specs.declared.tree.WrittenSpan.{WrittenSpan}
-use Rattle.flu_syntax.specs.declared.tree.WrittenNumber.{WrittenNumber}
+use Rattle.flu_text.specs.declared.written.WrittenSpan.{WrittenSpan}
+use Rattle.flu_text.specs.declared.written.WrittenNumber.{WrittenNumber}
 use Rattle.flu_syntax.specs.declared.tree.WrittenTag.{WrittenTag}
 use Rattle.flu_syntax.specs.declared.tree.WrittenRelation.{WrittenRelation}
 use Rattle.flu_syntax.specs.declared.tree.WrittenRelation.TheVariants as relation
-use Rattle.flu_syntax.specs.Machine.{span_of}
+use Rattle.flu_text.specs.Signs.{span_of}
 use Rattle.flu_syntax.specs.Tree.{Declaration, Cell, Tag, Depends, On, Source as SourceLine}
 use Rattle.flu_syntax.specs.Tree.{Action as WrittenDo}
-use Rattle.flu_syntax.specs.Grammar.{IsSign, Any, sort_word, value_word, keyed_signs, relation_signs, action_signs, tag_signs, slack_signs, separated, declaration_signs, declarations_signs, IsDeclaration, AreDeclarations}
+use Rattle.flu_text.specs.Signs.{IsSign, Any}
+use Rattle.flu_text.specs.Signs.{separated}
+use Rattle.flu_syntax.specs.Grammar.{sort_word, value_word, keyed_signs, relation_signs, action_signs, tag_signs, slack_signs, declaration_signs, declarations_signs, IsDeclaration, AreDeclarations}
 use Rattle.flu_names.specs.declared.reserved.Reserved.{Reserved}
 use Rattle.flu_names.specs.declared.reserved.Reserved.TheVariants as r
 use Rattle.flu_names.specs.Names.{is_name}

@@ -20,11 +20,13 @@ use Rattle.flu_model.specs.Erasure.{PlainKind}
 use Rattle.flu_model.specs.Listing.{tag, listed_keys, listed_tags}
 use Rattle.flu_model.specs.Rules.{keys_fit, are_distinct}
 use Rattle.flu_rules.specs.Keys.{share_tag, TagsMeet}
-use Rattle.flu_syntax.specs.declared.tree.WrittenKeys.{WrittenKeys}
-use Rattle.flu_syntax.specs.declared.tree.WrittenKeys.TheVariants as w
+use Rattle.flu_text.specs.declared.written.WrittenKeys.{WrittenKeys}
+use Rattle.flu_text.specs.declared.written.WrittenKeys.TheVariants as w
 use Rattle.flu_syntax.specs.declared.tree.WrittenTag.{WrittenTag}
-use Rattle.flu_syntax.specs.Machine.{span_of}
-use Rattle.flu_syntax.specs.Grammar.{IsSign, keys_signs, tag_signs}
+use Rattle.flu_text.specs.Signs.{span_of}
+use Rattle.flu_text.specs.Signs.{IsSign}
+use Rattle.flu_text.specs.Signs.{keys_signs}
+use Rattle.flu_syntax.specs.Grammar.{tag_signs}
 use Rattle.flu_names.specs.Names.{is_name}
 use Rattle.flu_layout.specs.Lists.{keys_words}
 use Rattle.flu_layout.specs.Stands.{Stand}

@@ -21,9 +21,10 @@ use Rattle.flu_model.specs.Templates.{family_name}
 use Rattle.flu_syntax.specs.declared.tree.WrittenKey.{WrittenKey}
 use Rattle.flu_syntax.specs.declared.tree.WrittenKey.TheVariants as k
 use Rattle.flu_syntax.specs.declared.tree.WrittenRef.{WrittenRef}
-use Rattle.flu_syntax.specs.Machine.{span_of}
+use Rattle.flu_text.specs.Signs.{span_of}
 use Rattle.flu_syntax.specs.Tree.{Tree, NumberTree, ValueTree, KeyTree, TimeTree, ReadTree, HasTree, ParenTree, NegTree, NotTree, TwoTree}
-use Rattle.flu_syntax.specs.Grammar.{IsSign, key_signs, cell_signs, spelled, op_level, Fits, nest, left_level, IsExpression}
+use Rattle.flu_text.specs.Signs.{IsSign}
+use Rattle.flu_syntax.specs.Grammar.{key_signs, cell_signs, spelled, op_level, Fits, nest, left_level, IsExpression}
 use Rattle.flu_names.specs.Names.{is_name}
 use Rattle.flu_layout.specs.Spelling.{name_of}
 use Rattle.flu_layout.specs.Laid.{mark}

@@ -15,7 +15,7 @@ use Rattle.flu_model.specs.declared.jobs.Piece.{Piece}
 use Rattle.flu_model.specs.declared.jobs.Piece.TheVariants as piece
 use Rattle.flu_model.specs.Rules.{is_plain_byte, is_plain, ref_fits, follows_plain, are_apart}
 use Rattle.flu_model.specs.Templates.{family_name, written_key, written_piece, written_template}
-use Rattle.flu_syntax.specs.declared.tree.WrittenSpan.{WrittenSpan}
+use Rattle.flu_text.specs.declared.written.WrittenSpan.{WrittenSpan}
 use Rattle.flu_names.specs.Names.{is_name}
 use Rattle.flu_layout.specs.Spelling.{name_of}
 use Rattle.flu_parse.specs.declared.faults.JobFault.TheVariants as f

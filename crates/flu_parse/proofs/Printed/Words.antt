@@ -164,7 +164,8 @@ version_words version rest = if version == 2 then reserved r.Version blank ∷ n
 version_layout : (version : ℕ) (rest : List Laid) → layout (version_words version rest) ≡ version_line version ++ layout rest
 version_layout version rest = by (version == 2)
   where
-    by : (two : Bool) → layout (if two then reserved r.Version blank ∷ number (pos 2) line_end ∷ rest else rest) ≡ (if two then codes "version 2" ++ line_end else []) ++ layout rest
+    by : (two : Bool) → layout (if two then reserved r.Version blank ∷ number (pos 2) line_end ∷ rest else rest)
+        ≡ (if two then codes "version 2" ++ line_end else []) ++ layout rest
     by true = ap (λ d. codes "version " ++ (d ++ (line_end ++ layout rest))) (decimal_digit 2 (omega arith))
     by false = refl
 

@@ -7,4 +7,5 @@ use Rattle.flu_cells.specs.Sets.{is_in}
 use Rattle.flu_fork.proofs.gathering.read_by_actions.Given as goal
 
 abbrev pub invariant-loop-action : goal.invariant-loop-action
-invariant-loop-action l = (c : Cell) → is_in l.set c ≡ (is_in l.fn.set c || (not (is_in l.unless c) && list_any (action_reads l.key c) (take l.action-index l.actions)))
+invariant-loop-action l =
+    (c : Cell) → is_in l.set c ≡ (is_in l.fn.set c || (not (is_in l.unless c) && list_any (action_reads l.key c) (take l.action-index l.actions)))

@@ -7,4 +7,5 @@ use Rattle.flu_cells.specs.Sets.{is_in}
 use Rattle.flu_fork.proofs.gathering.read_by_pieces.Given as goal
 
 abbrev pub invariant-loop-piece : goal.invariant-loop-piece
-invariant-loop-piece l = (c : Cell) → is_in l.set c ≡ (is_in l.fn.set c || (not (is_in l.unless c) && list_any (piece_reads l.key c) (take l.piece-index l.pieces)))
+invariant-loop-piece l =
+    (c : Cell) → is_in l.set c ≡ (is_in l.fn.set c || (not (is_in l.unless c) && list_any (piece_reads l.key c) (take l.piece-index l.pieces)))

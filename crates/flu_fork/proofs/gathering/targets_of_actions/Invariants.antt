@@ -8,4 +8,5 @@ use Rattle.flu_fork.specs.Gathering.{is_target}
 use Rattle.flu_fork.proofs.gathering.targets_of_actions.Given as goal
 
 abbrev pub invariant-loop-action : goal.invariant-loop-action
-invariant-loop-action l = (c : Cell) → is_in l.set c ≡ (is_in l.fn.set c || list_any (λ (a : Action). is_target l.mixed l.key c a.act) (take l.action-index l.actions))
+invariant-loop-action l =
+    (c : Cell) → is_in l.set c ≡ (is_in l.fn.set c || list_any (λ (a : Action). is_target l.mixed l.key c a.act) (take l.action-index l.actions))

@@ -3,4 +3,6 @@ use Rattle.flu_fork.proofs.Turns.{list_turn}
 use Rattle.flu_fork.proofs.parting.counts_by.Goals as goal
 
 pub loop-i-preserved : goal.loop-i-preserved
-loop-i-preserved c = list_turn (count_by c.args.is_right.now c.args.lefts.now c.args.rights.now) c.loop-i.i _ _ _ c.in_ok-push.ensures.items c.count_by.ensures c.loop-i.invariant
+loop-i-preserved c =
+    list_turn (count_by c.args.is_right.now c.args.lefts.now c.args.rights.now) c.loop-i.i _ _ _ c.in_ok-push.ensures.items c.count_by.ensures
+    c.loop-i.invariant

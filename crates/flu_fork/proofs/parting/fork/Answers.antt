@@ -29,7 +29,9 @@ returns-clause-fits c =
     (λ parts. (l r : ℕ) → kids k c.args.node ≡ Some (l, r) → HasParts k r c.args.lot parts) (HasCounts c.args.lot)
     (λ parts. (l r : ℕ) → kids k c.args.node ≡ Some (l, r) → PartsFitKids k l r parts)
     (λ parts is counts l r e.
-    let law = c.forks_fit.ensures (setting_of k) c.args.node l r (held c.args.lot.state) c.args.lot.since c.args.lot.upto (setting_holds k) c.requires.node e c.requires.fits in
+    let law =
+    c.forks_fit.ensures (setting_of k) c.args.node l r (held c.args.lot.state) c.args.lot.since c.args.lot.upto
+    (setting_holds k) c.requires.node e c.requires.fits in
     record {
       left = fits_as (setting_of k) l _ _ _ _ _ _ (is l r e).left counts.left_since counts.left_upto law.left_fits;
       right = fits_as (setting_of k) r _ _ _ _ _ _ (is l r e).right counts.right_since counts.right_upto law.right_fits;

@@ -41,7 +41,10 @@ returns-clause-fits c =
     let l = both.0 in
     let r = both.1 in
     let e = both.2 in
-    let law = c.joins_fit.ensures (setting_of k) c.args.node l r (held c.args.left.state) (held c.args.right.state) c.args.left.since c.args.left.upto c.args.right.since c.args.right.upto (setting_holds k) c.requires.node e (c.requires.left l r e) (c.requires.right l r e) (c.requires.paired l r e) in
+    let law =
+    c.joins_fit.ensures (setting_of k) c.args.node l r (held c.args.left.state)
+    (held c.args.right.state) c.args.left.since c.args.left.upto c.args.right.since c.args.right.upto (setting_holds k) c.requires.node e
+    (c.requires.left l r e) (c.requires.right l r e) (c.requires.paired l r e) in
     IfOk-both c.merge.result
     (λ (lot : Lot). (l r : ℕ) → kids k c.args.node ≡ Some (l, r) → IsJoined k r c.args.left c.args.right lot)
     (HasJoinedCounts k c.args.node c.args.left c.args.right)

@@ -11,6 +11,8 @@ use Rattle.flu_fork.proofs.parting.opening_lot.Goals as goal
 pub returns-clause-fits : goal.returns-clause-fits
 returns-clause-fits c =
     let k = c.args.case.now in
-    let itags : c.itag_count-itags.result ≡ count_of_itags (job k) = c.itag_count-itags.ensures ∙ ap count_of_itags (c.program.ensures ∙ ap program_of c.checked.ensures) in
+    let itags : c.itag_count-itags.result ≡ count_of_itags (job k) =
+    c.itag_count-itags.ensures ∙ ap count_of_itags (c.program.ensures ∙ ap program_of c.checked.ensures) in
     let none : map (λ (i : ℕ). 0) (range_with_len 0 c.itag_count-itags.result) ≡ no_counts (job k) = ap (λ n. map (λ (i : ℕ). 0) (range_with_len 0 n)) itags in
-    fits_as (setting_of k) 0 _ _ _ _ _ _ (c.in_ok-copy.ensures ∙ ap held c.opening.ensures) (c.in_ok-no_counts.ensures ∙ none) (c.in_ok-no_counts-2.ensures ∙ none) (c.openings_fit.ensures (setting_of k) (setting_holds k))
+    fits_as (setting_of k) 0 _ _ _ _ _ _ (c.in_ok-copy.ensures ∙ ap held c.opening.ensures) (c.in_ok-no_counts.ensures ∙ none)
+    (c.in_ok-no_counts-2.ensures ∙ none) (c.openings_fit.ensures (setting_of k) (setting_holds k))

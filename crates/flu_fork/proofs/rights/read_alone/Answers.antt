@@ -12,5 +12,6 @@ returns c =
     let law = c.modes_are_of_actions.ensures in
     let written = c.in_ok-written.written in
     IfOk-map c.read_below.result _ _
-    (λ set is d. is d ∙ copied_are_read law.needs law.writes p c.requires.version (below p (plan_of c.args.v.now).nodes c.args.w) d (is_in written d) (c.in_ok-written.ensures d))
+    (λ set is d. is d ∙ copied_are_read law.needs law.writes p c.requires.version (below p (plan_of c.args.v.now).nodes c.args.w) d (is_in written d)
+    (c.in_ok-written.ensures d))
     c.read_below.ensures

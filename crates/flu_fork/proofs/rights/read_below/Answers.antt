@@ -10,4 +10,5 @@ pub loop-i-preserved : goal.loop-i-preserved
 loop-i-preserved c =
     let p = c.args.p.now in
     let inside = below p (plan_of c.args.v.now).nodes c.args.w in
-    λ d. test_turn (λ j. inside j && (not (is_in c.args.written.now d) && reads_by p j d)) c.loop-i.i _ _ (c.in_ok-add_read_below.ensures d) (c.loop-i.invariant d)
+    λ d. test_turn (λ j. inside j && (not (is_in c.args.written.now d) && reads_by p j d)) c.loop-i.i _ _ (c.in_ok-add_read_below.ensures d)
+    (c.loop-i.invariant d)

@@ -9,5 +9,6 @@ loop-w-preserved c =
     let one = c.in_ok-right_at.field-0 in
     record {
       so_many = omega (arith, ap length c.in_ok-push.ensures.items, length-append old (one ∷ []), c.loop-w.invariant.so_many);
-      right = tables_turn c.args.p.now (plan_of c.args.v.now).nodes c.loop-w.w old _ one c.in_ok-push.ensures.items c.loop-w.invariant.so_many c.in_ok-right_at.ensures c.loop-w.invariant.right;
+      right = tables_turn c.args.p.now (plan_of c.args.v.now).nodes c.loop-w.w old _ one c.in_ok-push.ensures.items c.loop-w.invariant.so_many
+          c.in_ok-right_at.ensures c.loop-w.invariant.right;
     }

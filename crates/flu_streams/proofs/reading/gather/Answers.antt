@@ -11,7 +11,7 @@ use Rattle.flu_streams.specs.Gathering.{IsGathered}
 use Rattle.flu_streams.specs.Good.{AreGood, lists_of}
 use Rattle.flu_streams.specs.Lists.{lists_in}
 use Rattle.flu_streams.specs.Tags.{width}
-use Rattle.flu_streams.proofs.Gatherings.{total_width, gathered_more, gathered_fault, streams_more, others_at, counts_at, there_more, counts_more, out_more, files_more, among_sources}
+use Rattle.flu_streams.proofs.Gatherings.{total_width, gathered_more, gathered_fault, streams_more, others_at, counts_at, there_more, counts_more, out_more, files_more, among_sources, hides_behind}
 use Rattle.flu_streams.proofs.Turns.{turn}
 use Rattle.flu_streams.proofs.reading.gather.Goals as goal
 
@@ -71,6 +71,17 @@ returns-in-Err-clause-cause g c = λ is_fault.
     let t = turn p c.items-source-items.result.now i s c.items-source-items.ensures c.loop-source-test.true c.source-item.is in
     let among = rw (← t.split) at (among_sources (take i p.sources) (drop (i + 1) p.sources) s) in
     (s.file, among, rose_behind (faults c.args.files.now s.file) (faults c.loop-source.files s.file) (faults c.add_source.new.files s.file) (c.loop-source.invariant.counts.rise s.file) (c.add_source.ensures.cause (rw (c.in-Err.is, err_same (Err c.in-Err.fault) c.in-Err.fault ReadFault refl is_fault) refl)))
+
+pub returns-in-Err-clause-hides : goal.returns-in-Err-clause-hides
+returns-in-Err-clause-hides g c = λ is_fault.
+    let left = g.F.Files.left in
+    let p = c.args.p.now in
+    let i = c.loop-source.source-index in
+    let s = c.source-item.result in
+    let t = turn p c.items-source-items.result.now i s c.items-source-items.ensures c.loop-source-test.true c.source-item.is in
+    let hides = c.add_source.ensures.hides (rw (c.in-Err.is, err_same (Err c.in-Err.fault) c.in-Err.fault ReadFault refl is_fault) refl) in
+    hides_behind p (take i p.sources) (drop (i + 1) p.sources) s c.loop-source.gathered (left c.args.files.now) (left c.loop-source.files) (left c.add_source.new.files)
+    t.split t.apart c.loop-source.invariant.told (rw c.items.ensures at hides)
 
 pub loop-source-preserved : goal.loop-source-preserved
 loop-source-preserved g c =

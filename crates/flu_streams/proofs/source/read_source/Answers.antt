@@ -60,6 +60,7 @@ returns-in-None g c =
       taken = taken_then file (left old) (left mid) (left new) c.loop-next.invariant.taken (rw c.loop-next.invariant.file at c.in-Ok-next_row.ensures.taken);
       counts = counts_then file (left old) (left mid) (faults old) (faults mid) (faults new) c.loop-next.invariant.taken c.loop-next.invariant.counts (rw c.loop-next.invariant.file at c.in-Ok-next_row.ensures.counts);
       quiet = search rules;
+      hides = search rules;
       cause = search rules;
     }
 
@@ -78,5 +79,6 @@ returns-in-Some g c =
       taken = taken_then file (left old) (left mid) (left new) c.loop-next.invariant.taken (rw c.loop-next.invariant.file at c.in-Ok-next_row.ensures.taken);
       counts = counts_then file (left old) (left mid) (faults old) (faults mid) (faults new) c.loop-next.invariant.taken c.loop-next.invariant.counts (rw c.loop-next.invariant.file at c.in-Ok-next_row.ensures.counts);
       quiet = search rules;
+      hides = search rules;
       cause = search rules;
     }

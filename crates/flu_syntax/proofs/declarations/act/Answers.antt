@@ -2,7 +2,8 @@ use Rattle.std.proofs.Common.{◌∙◌, refl, sym}
 use Rattle.std.proofs.lemmas.Result.{err_from_is_err_and}
 use Rattle.flu_syntax.specs.declared.tokens.Doing.TheVariants as doing
 use Rattle.flu_syntax.specs.Tree.{deed_of}
-use Rattle.flu_syntax.specs.Machine.{span_of, CellFamily, ToClear, EmitText, FlushFamily}
+use Rattle.flu_text.specs.Signs.{span_of}
+use Rattle.flu_syntax.specs.Machine.{CellFamily, ToClear, EmitText, FlushFamily}
 use Rattle.flu_syntax.proofs.Runs.{Tells-through}
 use Rattle.flu_syntax.proofs.Parts.{tells, run-expected, run-unexpected, run-doing, run-no_doing, run-doing_end, through_write, emit_text, flush_family, flush_text}
 use Rattle.flu_syntax.proofs.declarations.act.Goals as goal

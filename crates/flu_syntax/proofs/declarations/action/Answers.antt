@@ -1,7 +1,7 @@
 use Rattle.std.proofs.Common.{◌∙◌}
 use Rattle.std.proofs.lemmas.Result.{err_from_is_err_and}
 use Rattle.flu_syntax.specs.Tree.{deed_of}
-use Rattle.flu_syntax.specs.Grammar.{place_of}
+use Rattle.flu_text.specs.Signs.{place_of}
 use Rattle.flu_syntax.proofs.Runs.{Tells-through}
 use Rattle.flu_syntax.proofs.declarations.action.Goals as goal
 

@@ -1,5 +1,5 @@
 use Rattle.std.proofs.Common.{◌≤◌, ◌≡◌, length, map}
-use Rattle.flu_syntax.specs.declared.tree.WrittenSpan.{WrittenSpan}
+use Rattle.flu_text.specs.declared.written.WrittenSpan.{WrittenSpan}
 use Rattle.flu_syntax.specs.Tree.{Declarations, action_of}
 use Rattle.flu_syntax.specs.Machine.{ActionStart, run}
 use Rattle.flu_syntax.specs.Reading.{no_actions}

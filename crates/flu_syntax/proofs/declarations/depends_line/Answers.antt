@@ -1,6 +1,6 @@
 use Rattle.std.proofs.Common.{◌∙◌}
 use Rattle.std.proofs.lemmas.Result.{err_from_is_err_and}
-use Rattle.flu_syntax.specs.Machine.{span_of}
+use Rattle.flu_text.specs.Signs.{span_of}
 use Rattle.flu_syntax.proofs.Parts.{tells, run-expected, run-unexpected, depends_first, depends_second}
 use Rattle.flu_syntax.proofs.declarations.depends_line.Goals as goal
 

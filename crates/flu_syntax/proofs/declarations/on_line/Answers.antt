@@ -1,6 +1,6 @@
 use Rattle.std.proofs.Common.{◌∙◌}
 use Rattle.std.proofs.lemmas.Result.{err_from_is_err_and}
-use Rattle.flu_syntax.specs.Machine.{span_of}
+use Rattle.flu_text.specs.Signs.{span_of}
 use Rattle.flu_syntax.proofs.Runs.{Tells-through}
 use Rattle.flu_syntax.proofs.Parts.{tells, run-expected, run-unexpected, on_kind, on_mark}
 use Rattle.flu_syntax.proofs.declarations.on_line.Goals as goal

@@ -1,6 +1,6 @@
 use Rattle.std.proofs.Common.{◌∙◌}
 use Rattle.std.proofs.lemmas.Result.{err_from_is_err_and}
-use Rattle.flu_syntax.specs.Machine.{span_of}
+use Rattle.flu_text.specs.Signs.{span_of}
 use Rattle.flu_syntax.proofs.Parts.{tells, run-expected, run-unexpected, tag_name, run-keyed_tag, run-value, run-no_value, run-value_end}
 use Rattle.flu_syntax.proofs.declarations.tag_line.Goals as goal
 

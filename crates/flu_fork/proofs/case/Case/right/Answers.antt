@@ -16,6 +16,8 @@ unreachable-requires c =
 pub returns : goal.returns
 returns c =
     let listed = c.deref.ensures.value in
-    let found = slice_get_read c.deref.result.now (length c.deref.result.now) c.args.node c.in-Some.right.now refl c.in-Some.ensures.lookup.3.0 c.in-Some.ensures.lookup.1 in
+    let found =
+    slice_get_read c.deref.result.now (length c.deref.result.now) c.args.node c.in-Some.right.now refl c.in-Some.ensures.lookup.3.0 c.in-Some.ensures.lookup.1
+    in
     subst (λ k. IsRightAt (job k) (nodes k) c.args.node c.in-Some.right.now) c.self.view_is
     (c.self.inside.tables.right c.args.node c.in-Some.right.now (ap (λ ts. slice_get ts c.args.node) (sym listed) ∙ found))

@@ -1,8 +1,10 @@
+//! The rows of a file.
+
 ghost use Rattle.std.specs.Prelude.{◌<◌};
 
-use crate::{Next, Row, Rows, RowsFault};
 use flu_model::Text;
 use flu_outside::MemFiles;
+use flu_rows::{Next, Row, Rows, RowsFault};
 use std::alloc::{AllocError, Global};
 use std::test::Fail;
 

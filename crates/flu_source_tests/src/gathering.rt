@@ -1,65 +1,19 @@
+//! The gathering of sources.
+
 ghost use Rattle.std.specs.Prelude.{◌≡◌, length};
 ghost use Rattle.flu_model.specs.Itags.{count_of_itags};
 ghost use Rattle.flu_model.specs.Listed.{listed};
 
-use crate::{GatherFault, Why, gather};
-use flu_model::{
-    Itag, Item, Keys, Kind, List, Name, Program, Source, Streams, TagRef, Text, itag_count,
-};
+use flu_model::{Itag, Item, Program, Streams, itag_count};
 use flu_outside::MemFiles;
-use flu_rules::program;
+use flu_parse::read_job;
+use flu_streams::{GatherFault, Why, gather};
 use std::alloc::{AllocError, Global};
 use std::test::Fail;
 
-fn kind(alloc: Global, name: &str, keyed: bool, has_value: bool) -> Result<Kind, AllocError> {
-    Ok(Kind {
-        name: Name::of(String::from_str(alloc, name)?),
-        keyed,
-        has_value,
-        actions: List::of(Vec::new(alloc)),
-    })
-}
-
-fn source(alloc: Global, name: &str, tags: Vec<TagRef>) -> Result<Source, AllocError> {
-    Ok(Source {
-        name: Name::of(String::from_str(alloc, name)?),
-        file: Text::of(String::from_str(alloc, name)?),
-        rate: 1,
-        tags: List::of(tags),
-    })
-}
-
 /// A job with two sources: `a` lists `inc`, which has a value, `item[1]` and `item[2]`, which have one, and `tick`, which
 /// has none; `b` lists `tick`.
-fn job(alloc: Global) -> Result<Option<Program>, AllocError> {
-    let kinds = vec![in alloc;
-        kind(alloc, "inc", false, true)?,
-        kind(alloc, "item", true, true)?,
-        kind(alloc, "tick", false, false)?,
-    ]?;
-    let tick = TagRef {
-        kind: 2,
-        keys: Keys::Alone,
-    };
-    let inc = TagRef {
-        kind: 0,
-        keys: Keys::Alone,
-    };
-    let items = TagRef {
-        kind: 1,
-        keys: Keys::Range(1, 2),
-    };
-    let sources = vec![in alloc;
-        source(alloc, "a", vec![in alloc; inc, items, tick]?)?,
-        source(alloc, "b", vec![in alloc; tick]?)?,
-    ]?;
-    Ok(program(
-        List::of(Vec::new(alloc)),
-        List::of(kinds),
-        List::of(Vec::new(alloc)),
-        List::of(sources),
-    ))
-}
+const JOB: &str = "tag inc int\ntag item keyed int\ntag tick none\nsource a \"a\": inc, item[1..2], tick\nsource b \"b\": tick\n";
 
 /// The items of each itag, in short.
 fn shown(alloc: Global, p: &Program, streams: &Streams) -> Result<String, AllocError>
@@ -139,7 +93,7 @@ fn gathers(rt: HostRuntime) -> Result<(), Fail> {
         ("end", "1,inc,2\nend", "1 1 UnknownTag"),
         ("", "1,inc,2\nend", "0 1 Unclosed"),
     ];
-    let p = job(alloc)?.ok_or("no job")?;
+    let p = read_job(alloc, JOB.as_bytes())?;
     for (a, b, wanted) in cases {
         let got = gathered(alloc, &p, a, b)?;
         assert_eq!(rt; got.as_str(), wanted);
@@ -150,7 +104,7 @@ fn gathers(rt: HostRuntime) -> Result<(), Fail> {
 #[test]
 fn tells_a_read_fault(rt: HostRuntime) -> Result<(), Fail> {
     let alloc = rt.alloc();
-    let p = job(alloc)?.ok_or("no job")?;
+    let p = read_job(alloc, JOB.as_bytes())?;
     let mut files = MemFiles::new(alloc);
     files.add("a", b"end".to_vec(alloc)?)?;
     assert_eq!(rt;

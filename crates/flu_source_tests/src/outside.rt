@@ -1,4 +1,8 @@
-use crate::{Files, HonestFiles, MemFiles, MemSink, Sink, TakeFault};
+//! Files and sinks in memory, and the taking and writing of many bytes.
+
+use flu_outside::{
+    Failed, Files, HonestFiles, MemFiles, MemSink, Sink, TakeFault, read_whole, write_all,
+};
 use std::process::Abort;
 use std::test::Fail;
 
@@ -88,5 +92,55 @@ fn writes_in_pieces(rt: HostRuntime) -> Result<(), Fail> {
     ];
     write_each(&rt, &mut sink, &cases);
     assert_eq!(rt; sink.bytes(), b"abcdefgh".as_slice());
+    Ok(())
+}
+
+#[test]
+fn writes_all_until_a_failure(rt: HostRuntime) -> Result<(), Fail> {
+    // the call that fails, or 0, and what is taken
+    let cases: [(u64, &[u8]); 4] = [
+        (0, b"3,read,count 0\n"),
+        (1, b""),
+        (2, b"3,re"),
+        (4, b"3,read,count"),
+    ];
+    for (call, wanted) in cases {
+        let mut out = MemSink::with_room(rt.alloc(), 64)?;
+        out.piece(4);
+        if call > 0 {
+            out.fail_at(call)?;
+        }
+        let wrote = write_all(&mut out, b"3,read,count 0\n");
+        assert_eq!(rt; wrote == Err(Failed), call > 0);
+        assert_eq!(rt; out.bytes(), wanted);
+    }
+    Ok(())
+}
+
+#[test]
+fn reads_whole_names(rt: HostRuntime) -> Result<(), Fail> {
+    let mut files = MemFiles::new(rt.alloc());
+    files.add("job", b"abcdefgh".to_vec(rt.alloc())?)?;
+    files.add("plan", b"abcdefgh".to_vec(rt.alloc())?)?;
+    files.piece(3);
+    files.fail_at(7)?;
+    // the name, the limit, and what is read, or none where a take fails
+    let cases: [(&str, usize, Option<&[u8]>); 5] = [
+        ("job", 8, Some(b"abcdefgh")),
+        ("job", 8, Some(b"")),
+        ("plan", 1, Some(b"abc")),
+        ("plan", 8, None),
+        ("none", 8, None),
+    ];
+    for (name, most, wanted) in cases {
+        let got = read_whole(rt.alloc(), &mut files, name, most);
+        match got {
+            Ok(bytes) => assert_eq!(rt; Some(bytes.as_slice()), wanted, "{name}"),
+            Err(fault) => {
+                assert_eq!(rt; fault, TakeFault::Failed);
+                assert!(rt; wanted.is_none(), "{name}");
+            }
+        }
+    }
     Ok(())
 }

@@ -1,0 +1,11 @@
+//! Tests of the outside, of rows, and of the gathering of sources.
+#![tactic(auto)]
+
+#[cfg(test)]
+mod gathering;
+#[cfg(test)]
+mod outside;
+#[cfg(test)]
+mod rows;
+#[cfg(test)]
+mod slack;
