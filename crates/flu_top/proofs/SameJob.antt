@@ -24,7 +24,7 @@ use Rattle.flu_streams.specs.Before.{each_with_before, first_some}
 use Rattle.flu_streams.specs.Tags.{kind_named, key_named, tag_named, place_named, has_its_value, value_fits, width}
 use Rattle.flu_streams.specs.Tests.{where_true, test_tag, test_value, test_time, test_items, tests, defect_of, first_defect, has_ended, last_time, items_of, rows_of}
 use Rattle.flu_streams.specs.Good.{fault_of_source, items_held, first_fault}
-use Rattle.flu_streams.proofs.Places.{position-map}
+use Rattle.flu_lemmas.proofs.Places.{position-map}
 use Rattle.flu_top.specs.Behind.{emptied, fault_behind}
 
 -- ---- what a row's tag and value are tested by depends on the kinds without their actions
