@@ -1,4 +1,3 @@
-pub mod Digits
 pub mod NameBytes
 pub mod RecordFields
 pub mod Cuts

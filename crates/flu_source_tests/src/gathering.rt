@@ -13,7 +13,8 @@ use std::test::Fail;
 
 /// A job with two sources: `a` lists `inc`, which has a value, `item[1]` and `item[2]`, which have one, and `tick`, which
 /// has none; `b` lists `tick`.
-const JOB: &str = "tag inc int\ntag item keyed int\ntag tick none\nsource a \"a\": inc, item[1..2], tick\nsource b \"b\": tick\n";
+const JOB: &str =
+    "tag inc int\ntag item keyed int\ntag tick none\nsource a \"a\": inc, item[1..2], tick\nsource b \"b\": tick\n";
 
 /// The items of each itag, in short.
 fn shown(alloc: Global, p: &Program, streams: &Streams) -> Result<String, AllocError>

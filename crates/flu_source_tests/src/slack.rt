@@ -12,7 +12,9 @@ use std::test::Fail;
 
 /// A count that two sources add to, the first of which has this slack, and a third reads.
 fn job(alloc: Global, slack: u64) -> Result<String, AllocError> {
-    format!(in alloc; "cell count sum\ntag inc int\ntag read none\ndepends inc read\ndepends read read\non inc: add count value\non read: emit \"count {{count}}\"; clear count\nsource a \"a.csv\" rate 1 slack {slack}: inc\nsource b \"b.csv\": inc\nsource c \"c.csv\": read\n")
+    format!(in alloc;
+        "cell count sum\ntag inc int\ntag read none\ndepends inc read\ndepends read read\non inc: add count value\non read: emit \"count {{count}}\"; clear count\nsource a \"a.csv\" rate 1 slack {slack}: inc\nsource b \"b.csv\": inc\nsource c \"c.csv\": read\n"
+    )
 }
 
 /// The report of the job where these rows are in the file of the first source, or the fault of its sources.
@@ -69,8 +71,16 @@ fn late_rows_are_sorted(rt: HostRuntime) -> Result<(), Fail> {
             "3,read,count 12\n5,read,count 4\n",
         ),
         // a late heartbeat, and what is settled by one
-        (2, "4,beat\n3,beat\n4,inc,1\nend\n", "0 3 Disordered { last: 4, got: 4 }"),
-        (2, "4,beat\n2,inc,1\nend\n", "0 2 Disordered { last: 4, got: 2 }"),
+        (
+            2,
+            "4,beat\n3,beat\n4,inc,1\nend\n",
+            "0 3 Disordered { last: 4, got: 4 }",
+        ),
+        (
+            2,
+            "4,beat\n2,inc,1\nend\n",
+            "0 2 Disordered { last: 4, got: 2 }",
+        ),
     ];
     for (slack, rows, wanted) in cases {
         let p = read_job(alloc, job(alloc, slack)?.as_bytes())?;

@@ -9,6 +9,7 @@ use Rattle.std.proofs.lemmas.List.Elements.{Contains-append_left, Contains-appen
 use Rattle.std.proofs.lemmas.List.FromFn.{length-map-range_with_len, get_or-map-range_with_len}
 use Rattle.std.proofs.lemmas.List.Sums.{sum_by-append}
 use Rattle.std.proofs.lemmas.Grind.{flat_map-append}
+use Rattle.flu_lemmas.proofs.Containing.{contains_one, one_contains}
 use Rattle.flu_lemmas.proofs.Tests.{and_left, and_right, not_both}
 use Rattle.flu_model.specs.declared.events.Item.{Item}
 use Rattle.flu_model.specs.declared.jobs.Kind.{Kind}
@@ -61,13 +62,6 @@ total_width n (s ∷ rest) =
     rw one (length-append (map (λ t. (t, n)) (tags_of_source s)) (itags_of_sources (n + 1) rest) ∙ simp length-map (ap (λ m. width s + m) more))
 
 -- ---- names that are among others
-contains_one : (x y : List ℕ) → Contains (x ∷ []) y → x ≡ y
-contains_one x y (zero, lt, e) = e
-contains_one x y (suc k, lt, e) = absurd (omega (arith, lt))
-
-one_contains : (x y : List ℕ) → y ≡ x → Contains (x ∷ []) y
-one_contains x y e = (0, omega arith, sym e)
-
 same_text_itself : (x y : List ℕ) → x ≡ y → is_same_text x y ≡ true
 same_text_itself x y e = (bytes_decides x y).1 e
 

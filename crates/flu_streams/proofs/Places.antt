@@ -1,30 +1,16 @@
 -- Places in lists: the first element that passes a test.
-use Rattle.std.proofs.Common.{◌≡◌, ℕ, zero, suc, ◌+◌, ◌-◌, ◌<◌, ◌≤◌, Bool, true, false, cond, eqb, ltb, List, [], ◌∷◌, ◌++◌, length, map, get_or, take, drop, length-append, Option, Some, None, refl, sym, ap, ◌∙◌, inl, inr, arith}
+use Rattle.std.proofs.Common.{◌≡◌, ℕ, suc, ◌+◌, ◌<◌, Bool, true, false, eqb, List, [], ◌∷◌, ◌++◌, length, get_or, take, drop, length-append, Option, Some, None, refl, sym, ap, ◌∙◌, inl, inr, arith}
 use Rattle.std.specs.Prelude.{option_map}
-use Rattle.std.specs.List.{position, position_or_len, flat_map, range_with_len}
-use Rattle.std.proofs.lemmas.Bool.{cases_Bool, cases_lt}
-use Rattle.std.proofs.lemmas.Bool.Decides.{nat_tests}
+use Rattle.std.specs.List.{position, flat_map}
+use Rattle.std.proofs.lemmas.Bool.{cases_Bool}
 use Rattle.std.proofs.lemmas.List.{take-append-drop, drop_more, length-map}
 use Rattle.std.proofs.lemmas.Grind.{common_steps, flat_map-append}
+use Rattle.flu_lemmas.proofs.Places.{position-cons, position-map, position-none}
 use Rattle.flu_model.specs.declared.events.Tag.{Tag}
 use Rattle.flu_model.specs.declared.jobs.TagRef.{TagRef}
 use Rattle.flu_model.specs.Listing.{tag, listed_keys, listed_tags}
 use Rattle.flu_model.specs.Rules.{is_same_tag}
 use Rattle.flu_streams.specs.Before.{or_else}
-
-shifted : (n m : ℕ) → cond (ltb (1 + n) (suc m)) (Some (1 + n)) None ≡ option_map (λ i. i + 1) (cond (ltb n m) (Some n) None)
-shifted n m = grind (arith, nat_tests)
-
-at_front : (m : ℕ) → cond {A = Option ℕ} (ltb 0 (suc m)) (Some 0) None ≡ Some 0
-at_front m = let some : ltb 0 (suc m) ≡ true = grind (arith, nat_tests) in rw some refl
-
--- the first place, where the first element passes, and where it does not
-pub position-cons : {X : Type 0} (p : X → Bool) (x : X) (xs : List X) → position p (x ∷ xs) ≡ cond (p x) (Some 0) (option_map (λ i. i + 1) (position p xs))
-position-cons p x xs =
-    elim (cases_Bool (p x)) [
-      | inl hit ↦ rw hit (at_front (length xs))
-      | inr miss ↦ rw miss (shifted (position_or_len p xs) (length xs))
-    ]
 
 shift_more : (n : ℕ) (o : Option ℕ) → option_map (λ i. i + 1) (option_map (λ i. n + i) o) ≡ option_map (λ i. suc n + i) o
 shift_more n None = refl
@@ -46,46 +32,6 @@ position-append p (x ∷ xs) ys =
       | inr miss ↦ rw (position-cons p x (xs ++ ys), position-cons p x xs, miss, position-append p xs ys) (shift_else (length xs) (position p xs) (position p ys))
     ]
 
-pub position-map : {X Y : Type 0} (p : Y → Bool) (f : X → Y) (xs : List X) → position p (map f xs) ≡ position (λ x. p (f x)) xs
-position-map p f [] = refl
-position-map p f (x ∷ xs) = rw (position-cons p (f x) (map f xs), position-cons (λ (z : _). p (f z)) x xs, position-map p f xs) refl
-
-pub position-none : {X : Type 0} (xs : List X) → position (λ x. false) xs ≡ None
-position-none [] = refl
-position-none (x ∷ xs) = rw (position-cons (λ (z : _). false) x xs, position-none xs) refl
-
--- ---- keys
-before_range : (key lo n : ℕ) → key < lo → position (λ k. eqb key k) (range_with_len lo n) ≡ None
-before_range key lo zero lt = refl
-before_range key lo (suc n) lt =
-    let miss : eqb key lo ≡ false = grind (arith, nat_tests) in
-    rw (position-cons (λ k. eqb key k) lo (range_with_len (lo + 1) n), miss, before_range key (lo + 1) n (omega arith)) refl
-
-pub in_range : (key lo n : ℕ) → lo ≤ key → key < lo + n → position (λ k. eqb key k) (range_with_len lo n) ≡ Some (key - lo)
-in_range key lo zero le lt = absurd (omega arith)
-in_range key lo (suc n) le lt =
-    elim (cases_lt lo key) [
-      | inl more ↦
-          let miss : eqb key lo ≡ false = grind (arith, nat_tests) in
-          let one : (key - (lo + 1)) + 1 ≡ key - lo = omega arith in
-          rw (position-cons (λ k. eqb key k) lo (range_with_len (lo + 1) n), miss, in_range key (lo + 1) n (omega arith) (omega arith)) (ap Some one)
-      | inr less ↦
-          let hit : eqb key lo ≡ true = grind (arith, nat_tests) in
-          let none : 0 ≡ key - lo = omega arith in
-          rw (position-cons (λ k. eqb key k) lo (range_with_len (lo + 1) n), hit) (ap Some none)
-    ]
-
-pub out_of_range : (key lo n : ℕ) → (lo ≤ key → lo + n ≤ key) → position (λ k. eqb key k) (range_with_len lo n) ≡ None
-out_of_range key lo zero out = refl
-out_of_range key lo (suc n) out =
-    elim (cases_lt key lo) [
-      | inl less ↦ before_range key lo (suc n) less
-      | inr le ↦
-          let past = out le in
-          let miss : eqb key lo ≡ false = grind (arith, nat_tests) in
-          rw (position-cons (λ k. eqb key k) lo (range_with_len (lo + 1) n), miss, out_of_range key (lo + 1) n (λ more. omega arith)) refl
-    ]
-
 -- ---- the tags that are listed together
 pub same_kind : (t : Tag) (r : TagRef) → eqb t.kind r.kind ≡ true → position (is_same_tag t) (listed_tags r) ≡ position (λ k. eqb t.key k) (listed_keys r.keys)
 same_kind t r hit = position-map (is_same_tag t) (λ k. tag r.kind k) (listed_keys r.keys) ∙ rw hit refl
@@ -101,19 +47,6 @@ pub flat_rest : {X Y : Type 0} (f : X → List Y) (xs : List X) (i : ℕ) (d : X
 flat_rest f xs i d lt =
     let whole : xs ≡ take i xs ++ (get_or xs i d ∷ drop (i + 1) xs) = sym (take-append-drop i xs) ∙ ap (λ rest. take i xs ++ rest) (drop_more xs i d lt) in
     ap (flat_map f) whole ∙ flat_map-append f (take i xs) (get_or xs i d ∷ drop (i + 1) xs)
-
-none_some : (i : ℕ) → None ≡ Some i → ⊥
-none_some i e = cc
-
-some_same : (n i : ℕ) → Some n ≡ Some i → n ≡ i
-some_same n i e = cc
-
-below : (n m i : ℕ) → cond (ltb n m) (Some n) None ≡ Some i → i < m
-below n m i e =
-    elim (cases_lt n m) [
-      | inl lt ↦ let hit : ltb n m ≡ true = grind (arith, nat_tests) in let same : n ≡ i = some_same n i (rw hit at e) in omega arith
-      | inr le ↦ let miss : ltb n m ≡ false = grind (arith, nat_tests) in absurd (none_some i (rw miss at e))
-    ]
 
 -- ---- a tag among those that are gone through
 found_else : (o : Option ℕ) (place n : ℕ) (other : Option ℕ) → o ≡ Some place → option_map (λ i. n + i) (or_else o other) ≡ Some (n + place)
@@ -141,6 +74,3 @@ pub count_more : (tags : List TagRef) (i : ℕ) (d : TagRef) → i < length tags
 count_more tags i d lt =
     rw (flat_more listed_tags tags i d lt, length-append (flat_map listed_tags (take i tags)) (listed_tags (get_or tags i d)))
     (ap (λ n. length (flat_map listed_tags (take i tags)) + n) (tag_count (get_or tags i d)))
-
-pub position_below : {X : Type 0} (p : X → Bool) (xs : List X) (i : ℕ) → position p xs ≡ Some i → i < length xs
-position_below p xs i e = below (position_or_len p xs) (length xs) i e

@@ -1,5 +1,5 @@
 -- What was read of a source, and how a row is taken in.
-use Rattle.std.specs.Prelude.{◌≡◌, ℕ, pos, ◌+◌, ◌<◌, ◌==◌, Bool, true, false, nat_lt, Option, Some, None, unwrap_or, List, [], ◌∷◌, ◌++◌, map, vec_len, ⊤, if◌then◌else◌}
+use Rattle.std.specs.Prelude.{◌≡◌, ℕ, pos, ◌+◌, ◌<◌, ◌==◌, true, false, nat_lt, Option, Some, None, unwrap_or, List, [], ◌∷◌, ◌++◌, map, vec_len, ⊤}
 use Rattle.std.specs.List.{filter_map, list_any}
 use Rattle.flu_lemmas.specs.Late.{put_late}
 use Rattle.flu_model.specs.declared.events.Item.{Item}
@@ -17,7 +17,7 @@ use Rattle.flu_streams.specs.declared.intake.Refusal.TheVariants.{Fault, NoMemor
 use Rattle.flu_streams.specs.Before.{first_some}
 use Rattle.flu_streams.specs.Lists.{items_of_list, item_time, times_in, item_for}
 use Rattle.flu_streams.specs.Tags.{place_named, width}
-use Rattle.flu_streams.specs.Tests.{where_true, test_times, fault_of, times_of, greatest, has_ended, items_in, items_of}
+use Rattle.flu_streams.specs.Tests.{where_true, test_times, fault_of, times_of, greatest, has_ended, items_of}
 use Rattle.flu_streams.specs.Good.{in_time_order, items_at}
 
 -- nothing was read of a source

@@ -6,7 +6,8 @@ use Rattle.flu_model.specs.declared.jobs.TagRef.{TagRef}
 use Rattle.flu_model.specs.declared.jobs.Keys.TheVariants.{Alone}
 use Rattle.flu_model.specs.Listing.{listed_tags}
 use Rattle.flu_model.specs.Rules.{is_same_tag}
-use Rattle.flu_streams.proofs.Places.{found_at, none_more, count_more, tag_count, position_below, same_kind, other_kind}
+use Rattle.flu_lemmas.proofs.Places.{position_below}
+use Rattle.flu_streams.proofs.Places.{found_at, none_more, count_more, tag_count, same_kind, other_kind}
 use Rattle.flu_streams.proofs.tags.place_of.Goals as goal
 use Rattle.flu_streams.proofs.tags.place_of.Goals.{then-tag-listed+in_default, else-tag-listed}
 
