@@ -1,0 +1,46 @@
+//! Which hint belongs to which status.
+
+use crate::places::place_hint;
+use crate::rows::row_hint;
+use std::alloc::AllocError;
+use std::{fs, rt};
+
+/// The commands, where the words are none.
+const USAGE: &str = "  flumina fold JOB
+  flumina check JOB
+  flumina valid JOB PLAN
+  flumina plan JOB [--depth D]
+  flumina --help
+";
+
+/// A file that is longer is not read again for a hint.
+const LONGEST_READ: u64 = 67_108_864;
+
+/// What helps a person who sees the line of an answer with this status; empty where nothing is known.
+///
+/// Files are read again by their names, so what a hint shows may have changed since. Only regular files are, and no long ones.
+pub fn hint<R: rt::Files + AllocGlobal>(
+    rt: &R,
+    words: &[String],
+    status: u8,
+    line: &str,
+) -> Result<String, AllocError> {
+    match status {
+        2 => String::from_str(rt.alloc(), USAGE),
+        3 => place_hint(rt, words.get(1), line),
+        5 => place_hint(rt, words.get(2), line),
+        6 => row_hint(rt, words.get(1), line),
+        _ => Ok(String::new(rt.alloc())),
+    }
+}
+
+/// What a regular file holds that is not too long.
+pub fn text_of<R: rt::Files + AllocGlobal>(rt: &R, name: &str) -> Option<Vec<u8>> {
+    let Ok(about) = fs::metadata(rt, name) else {
+        return None;
+    };
+    if !about.is_file() || about.len() > LONGEST_READ {
+        return None;
+    }
+    fs::read(rt, name).ok()
+}

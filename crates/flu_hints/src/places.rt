@@ -1,0 +1,105 @@
+//! The place of a fault in a text: its line and column, the line itself, and a mark below.
+
+use crate::hints::text_of;
+use std::alloc::{AllocError, Global};
+use std::{rt, str};
+
+/// A longer line is not shown.
+const LONGEST_LINE: usize = 200;
+
+/// The line, column and text of a place that the line of an answer names, in the file of that name.
+pub fn place_hint<R: rt::Files + AllocGlobal>(
+    rt: &R,
+    name: Option<&String>,
+    line: &str,
+) -> Result<String, AllocError> {
+    let (Some(name), Some(at)) = (name, place_of(line)) else {
+        return Ok(String::new(rt.alloc()));
+    };
+    match text_of(rt, name.as_str()) {
+        Some(bytes) if at <= bytes.len() => shown_place(
+            rt.alloc(),
+            name.as_str(),
+            bytes.as_slice(),
+            at,
+        ),
+        _ => Ok(String::new(rt.alloc())),
+    }
+}
+
+// The place at the end of an answer's line, as `job: unexpected at 17`.
+fn place_of(line: &str) -> Option<usize> {
+    let (_, digits) = line.trim_end().rsplit_once(" at ")?;
+    digits.parse::<usize>().ok()
+}
+
+// The file, the line and the column from 1, and the line with a mark below the column.
+fn shown_place(alloc: Global, name: &str, bytes: &[u8], at: usize) -> Result<String, AllocError> {
+    let (number, begin) = line_begin(bytes, at);
+    let before = at.saturating_sub(begin);
+    let column = before.saturating_add(1);
+    let mut told = format!(in alloc; "  {name}, line {number}, column {column}\n")?;
+    let Some(shown) = line_from(bytes, begin) else {
+        return Ok(told);
+    };
+    push_line(&mut told, shown)?;
+    told.push_str("  ")?;
+    for (i, _) in shown.char_indices() {
+        if i < before {
+            told.push(' ')?;
+        }
+    }
+    told.push_str("^\n")?;
+    Ok(told)
+}
+
+// The number from 1 of the line in which a place is, and the place where that line begins.
+fn line_begin(bytes: &[u8], at: usize) -> (u64, usize) {
+    let mut number = 1u64;
+    let mut begin = 0usize;
+    for (i, byte) in bytes.iter().enumerate().take(at) {
+        if *byte == b'\n' {
+            number = number.saturating_add(1);
+            begin = i.saturating_add(1);
+        }
+    }
+    (number, begin)
+}
+
+// The line that begins at a place, where it is a short text.
+fn line_from(bytes: &[u8], begin: usize) -> Option<&str> {
+    let rest = bytes.get(begin..)?;
+    let mut length = 0usize;
+    for byte in rest {
+        if *byte == b'\n' {
+            break;
+        }
+        length = length.saturating_add(1);
+    }
+    short_text(rest.get(..length)?)
+}
+
+/// Bytes as a text, where they are one and not long.
+pub fn short_text(bytes: &[u8]) -> Option<&str> {
+    if bytes.len() > LONGEST_LINE {
+        return None;
+    }
+    str::from_utf8(bytes).ok()
+}
+
+/// Puts a line behind a text, with `?` for each character that would steer a terminal.
+pub fn push_line(told: &mut String, line: &str) -> Result<(), AllocError> {
+    told.push_str("  ")?;
+    for c in line.chars() {
+        told.push(shown_char(c))?;
+    }
+    told.push('\n')
+}
+
+fn shown_char(c: char) -> char {
+    match c {
+        '\t' | '\r' => ' ',
+        c if c.is_control() => '?',
+        c => c,
+    }
+}

@@ -1,0 +1,81 @@
+//! The row of a source's defect, and the forms that rows have.
+
+use crate::hints::text_of;
+use crate::places::{push_line, short_text};
+use flu_parse::read_job;
+use std::alloc::AllocError;
+use std::rt;
+
+/// The four forms of a row.
+const FORMS: &str = "  a row is TIME,TAG,VALUE or TIME,TAG or TIME,beat or end
+";
+
+/// The text of the row that the line of an answer names, in the file of its source, and the forms that rows have.
+pub fn row_hint<R: rt::Files + AllocGlobal>(
+    rt: &R,
+    job: Option<&String>,
+    line: &str,
+) -> Result<String, AllocError> {
+    let mut told = String::new(rt.alloc());
+    if let (Some(job), Some((source, row))) = (job, row_of(line)) {
+        if let Some(file) = file_of(rt, job.as_str(), source)? {
+            push_row(rt, &mut told, file.as_str(), row)?;
+        }
+    }
+    told.push_str(FORMS)?;
+    Ok(told)
+}
+
+// The source and the row from 1 of an answer's line, as `flumina: source north row 4: unclosed`.
+fn row_of(line: &str) -> Option<(&str, u64)> {
+    let behind = line.strip_prefix("flumina: source ")?;
+    let (source, behind) = behind.split_once(" row ")?;
+    let (row, _) = behind.split_once(": ")?;
+    let row = row.parse::<u64>().ok()?;
+    Some((source, row))
+}
+
+// The name of the file of a job's source.
+fn file_of<R: rt::Files + AllocGlobal>(
+    rt: &R,
+    job: &str,
+    wanted: &str,
+) -> Result<Option<String>, AllocError> {
+    let Some(bytes) = text_of(rt, job) else {
+        return Ok(None);
+    };
+    let Ok(program) = read_job(rt.alloc(), bytes.as_slice()) else {
+        return Ok(None);
+    };
+    for source in program.sources.items() {
+        if source.name.as_str() == wanted {
+            return Ok(Some(String::from_str(rt.alloc(), source.file.as_str())?));
+        }
+    }
+    Ok(None)
+}
+
+// Puts a row of a file behind a text, with the file's name and its number.
+fn push_row<R: rt::Files + AllocGlobal>(
+    rt: &R,
+    told: &mut String,
+    file: &str,
+    row: u64,
+) -> Result<(), AllocError> {
+    let head = format!(in rt.alloc(); "{file}, line {row}")?;
+    push_line(told, head.as_str())?;
+    let Some(bytes) = text_of(rt, file) else {
+        return Ok(());
+    };
+    let mut number = 0u64;
+    for line in bytes.as_slice().split(|byte| *byte == b'\n') {
+        number = number.saturating_add(1);
+        if number == row {
+            if let Some(shown) = short_text(line) {
+                push_line(told, shown)?;
+            }
+            break;
+        }
+    }
+    Ok(())
+}
