@@ -1,5 +1,7 @@
 //! Which hint belongs to which status.
 
+use crate::conflicts::conflict_hint;
+use crate::names::names_hint;
 use crate::places::place_hint;
 use crate::rows::row_hint;
 use std::alloc::AllocError;
@@ -28,8 +30,10 @@ pub fn hint<R: rt::Files + AllocGlobal>(
     match status {
         2 => String::from_str(rt.alloc(), USAGE),
         3 => place_hint(rt, words.get(1), line),
+        4 => conflict_hint(rt.alloc(), line),
         5 => place_hint(rt, words.get(2), line),
         6 => row_hint(rt, words.get(1), line),
+        7 => names_hint(rt, words),
         _ => Ok(String::new(rt.alloc())),
     }
 }

@@ -2,6 +2,7 @@
 
 use crate::hints::text_of;
 use crate::places::{push_line, short_text};
+use flu_model::Program;
 use flu_parse::read_job;
 use std::alloc::AllocError;
 use std::rt;
@@ -35,16 +36,19 @@ fn row_of(line: &str) -> Option<(&str, u64)> {
     Some((source, row))
 }
 
+/// The job in a file, where it can be read again.
+pub fn program_of<R: rt::Files + AllocGlobal>(rt: &R, job: &str) -> Option<Program> {
+    let bytes = text_of(rt, job)?;
+    read_job(rt.alloc(), bytes.as_slice()).ok()
+}
+
 // The name of the file of a job's source.
 fn file_of<R: rt::Files + AllocGlobal>(
     rt: &R,
     job: &str,
     wanted: &str,
 ) -> Result<Option<String>, AllocError> {
-    let Some(bytes) = text_of(rt, job) else {
-        return Ok(None);
-    };
-    let Ok(program) = read_job(rt.alloc(), bytes.as_slice()) else {
+    let Some(program) = program_of(rt, job) else {
         return Ok(None);
     };
     for source in program.sources.items() {
@@ -71,7 +75,9 @@ fn push_row<R: rt::Files + AllocGlobal>(
     for line in bytes.as_slice().split(|byte| *byte == b'\n') {
         number = number.saturating_add(1);
         if number == row {
-            if let Some(shown) = short_text(line) {
+            if let Some(shown) = short_text(line)
+                && !shown.is_empty()
+            {
                 push_line(told, shown)?;
             }
             break;
