@@ -14,6 +14,7 @@ use Rattle.flu_check.specs.declared.CheckFault.{CheckFault}
 use Rattle.flu_plan.specs.declared.fault.PlanFault.{PlanFault}
 use Rattle.flu_outside.specs.Taking.{bytes_left}
 use Rattle.flu_streams.specs.declared.faults.SourceFault.{SourceFault}
+use Rattle.flu_lemmas.proofs.Told.{of_told}
 use Rattle.flu_top.specs.declared.refusals.PlanDefect.{PlanDefect}
 use Rattle.flu_top.specs.declared.refusals.PlanDefect.TheVariants as defects
 use Rattle.flu_top.specs.declared.refusals.Refusal.{Refusal}
@@ -30,12 +31,6 @@ use Rattle.flu_top.proofs.SameJob.{same_fault}
 use Rattle.flu_top.proofs.SameAcceptance.{same_accepted}
 use Rattle.flu_top.proofs.SamePlans.{same_plan, same_valid}
 use Rattle.flu_top.proofs.Endings.{ending_of}
-
--- ---- what was told before and after the call
-of_told : {A : Type 0} (P : A → A → Type 0) (x : A) (a b : Option A) → a ≡ Some x → WhereTold a b P → (y : A) × P x y
-of_told P x None b is told = absurd (cc)
-of_told P x (Some old) None is told = absurd told
-of_told P x (Some old) (Some new) is told = let same : old ≡ x = cc in (new, subst (λ z. P z new) same told)
 
 -- ---- two programs of one text
 same_job : (job : List ℕ) (left : Contents) (p q : Program) → HasJob job left p → HasJob job left q → IsSameJob p q

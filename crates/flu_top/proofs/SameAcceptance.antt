@@ -17,11 +17,10 @@ use Rattle.flu_model.specs.declared.jobs.Kind.{Kind}
 use Rattle.flu_model.specs.declared.jobs.Program.{Program}
 use Rattle.flu_model.specs.declared.jobs.Source.{Source}
 use Rattle.flu_model.specs.declared.modes.Mode.{Mode}
-use Rattle.flu_model.specs.declared.modes.Mode.TheVariants.{None as NoMode}
-use Rattle.flu_model.specs.Erasure.{Term, Literal, EventValue, EventKey, EventTime, CellRead, CellHeld, Negative, Negation, Operation, term_of, Deed, Adding, Raising, Setting, Clearing, Emitting, Flushing, deed_of, PlainAction, plain_action, PlainKind, plain_kind, IsSameJob}
+use Rattle.flu_model.specs.Erasure.{Term, Literal, EventValue, EventKey, EventTime, CellRead, CellHeld, Negative, Negation, Operation, term_of, PlainAct, Adding, Raising, Setting, Clearing, Emitting, Flushing, plain_act, PlainAction, plain_action, PlainKind, plain_kind, Job, IsSameJob}
 use Rattle.flu_model.specs.Itags.{ties_tags}
 use Rattle.flu_model.specs.Listing.{itags_of_sources}
-use Rattle.flu_model.specs.Modes.{means, expr_reads, guard_reads, piece_reads, act_owns, action_owns, act_adds, act_raises, mode_from, mode_among, mode_of, modes_conflict, IsInUniverse, IsAccepted}
+use Rattle.flu_model.specs.Modes.{means, expr_reads, guard_reads, piece_reads, act_reads, action_reads, act_overwrites, act_adds, act_raises, mode_from, mode_among, mode_of, modes_conflict, IsInUniverse, IsAccepted}
 use Rattle.flu_model.specs.Updates.{actions_of}
 
 -- ---- the mode of a tag depends on its kind as plain data
@@ -57,80 +56,100 @@ unfolding guard_term_reads
 reads-guard key c None = refl
 reads-guard key c (Some e) = reads-term key c e
 
-deed_owns : ℕ → Cell → Deed → Bool
-deed_owns key c (Adding r e) = term_reads key c e
-deed_owns key c (Raising r e) = term_reads key c e
-deed_owns key c (Setting r e) = means key c r || term_reads key c e
-deed_owns key c (Clearing r) = means key c r
-deed_owns key c (Emitting ps) = list_any (piece_reads key c) ps
-deed_owns key c (Flushing f ps) = (c.family == f) || list_any (piece_reads key c) ps
+plain_act_reads : ℕ → Cell → PlainAct → Bool
+plain_act_reads key c (Adding r e) = term_reads key c e
+plain_act_reads key c (Raising r e) = term_reads key c e
+plain_act_reads key c (Setting r e) = term_reads key c e
+plain_act_reads key c (Clearing r) = false
+plain_act_reads key c (Emitting ps) = list_any (piece_reads key c) ps
+plain_act_reads key c (Flushing f ps) = list_any (piece_reads key c) ps
 
-owns-deed : (key : ℕ) (c : Cell) (act : Act) → act_owns key c act ≡ deed_owns key c (deed_of act)
-unfolding deed_owns
-owns-deed key c (Add r e) = reads-term key c e
-owns-deed key c (Raise r e) = reads-term key c e
-owns-deed key c (Set r e) = ap (λ b. means key c r || b) (reads-term key c e)
-owns-deed key c (Clear r) = refl
-owns-deed key c (Emit ps) = refl
-owns-deed key c (Flush f ps) = refl
+reads-act : (key : ℕ) (c : Cell) (act : Act) → act_reads key c act ≡ plain_act_reads key c (plain_act act)
+unfolding plain_act_reads
+reads-act key c (Add r e) = reads-term key c e
+reads-act key c (Raise r e) = reads-term key c e
+reads-act key c (Set r e) = reads-term key c e
+reads-act key c (Clear r) = refl
+reads-act key c (Emit ps) = refl
+reads-act key c (Flush f ps) = refl
 
-deed_adds : ℕ → Cell → Deed → Bool
-deed_adds key c (Adding r e) = means key c r
-deed_adds key c deed = false
+plain_act_overwrites : ℕ → Cell → PlainAct → Bool
+plain_act_overwrites key c (Adding r e) = false
+plain_act_overwrites key c (Raising r e) = false
+plain_act_overwrites key c (Setting r e) = means key c r
+plain_act_overwrites key c (Clearing r) = means key c r
+plain_act_overwrites key c (Emitting ps) = false
+plain_act_overwrites key c (Flushing f ps) = c.family == f
 
-adds-deed : (key : ℕ) (c : Cell) (act : Act) → act_adds key c act ≡ deed_adds key c (deed_of act)
-unfolding deed_adds
-adds-deed key c (Add r e) = refl
-adds-deed key c (Raise r e) = refl
-adds-deed key c (Set r e) = refl
-adds-deed key c (Clear r) = refl
-adds-deed key c (Emit ps) = refl
-adds-deed key c (Flush f ps) = refl
+overwrites-act : (key : ℕ) (c : Cell) (act : Act) → act_overwrites key c act ≡ plain_act_overwrites key c (plain_act act)
+unfolding plain_act_overwrites
+overwrites-act key c (Add r e) = refl
+overwrites-act key c (Raise r e) = refl
+overwrites-act key c (Set r e) = refl
+overwrites-act key c (Clear r) = refl
+overwrites-act key c (Emit ps) = refl
+overwrites-act key c (Flush f ps) = refl
 
-deed_raises : ℕ → Cell → Deed → Bool
-deed_raises key c (Raising r e) = means key c r
-deed_raises key c deed = false
+plain_act_adds : ℕ → Cell → PlainAct → Bool
+plain_act_adds key c (Adding r e) = means key c r
+plain_act_adds key c act = false
 
-raises-deed : (key : ℕ) (c : Cell) (act : Act) → act_raises key c act ≡ deed_raises key c (deed_of act)
-unfolding deed_raises
-raises-deed key c (Add r e) = refl
-raises-deed key c (Raise r e) = refl
-raises-deed key c (Set r e) = refl
-raises-deed key c (Clear r) = refl
-raises-deed key c (Emit ps) = refl
-raises-deed key c (Flush f ps) = refl
+adds-act : (key : ℕ) (c : Cell) (act : Act) → act_adds key c act ≡ plain_act_adds key c (plain_act act)
+unfolding plain_act_adds
+adds-act key c (Add r e) = refl
+adds-act key c (Raise r e) = refl
+adds-act key c (Set r e) = refl
+adds-act key c (Clear r) = refl
+adds-act key c (Emit ps) = refl
+adds-act key c (Flush f ps) = refl
 
-plain_owns : ℕ → Cell → PlainAction → Bool
-plain_owns key c a = guard_term_reads key c a.guard || deed_owns key c a.deed
+plain_act_raises : ℕ → Cell → PlainAct → Bool
+plain_act_raises key c (Raising r e) = means key c r
+plain_act_raises key c act = false
 
-owns-plain : (key : ℕ) (c : Cell) (a : Action) → action_owns key c a ≡ plain_owns key c (plain_action a)
-unfolding plain_owns
-owns-plain key c a = λ i. reads-guard key c a.guard i || owns-deed key c a.act i
+raises-act : (key : ℕ) (c : Cell) (act : Act) → act_raises key c act ≡ plain_act_raises key c (plain_act act)
+unfolding plain_act_raises
+raises-act key c (Add r e) = refl
+raises-act key c (Raise r e) = refl
+raises-act key c (Set r e) = refl
+raises-act key c (Clear r) = refl
+raises-act key c (Emit ps) = refl
+raises-act key c (Flush f ps) = refl
+
+plain_action_reads : ℕ → Cell → PlainAction → Bool
+plain_action_reads key c a = guard_term_reads key c a.guard || plain_act_reads key c a.act
+
+reads-plain : (key : ℕ) (c : Cell) (a : Action) → action_reads key c a ≡ plain_action_reads key c (plain_action a)
+unfolding plain_action_reads
+reads-plain key c a = λ i. reads-guard key c a.guard i || reads-act key c a.act i
 
 -- a test of the actions is one of the plain actions
 any-plain : (test : Action → Bool) (plain : PlainAction → Bool) → ((a : Action) → test a ≡ plain (plain_action a)) → (all : List Action) → list_any test all ≡ list_any plain (map plain_action all)
 any-plain test plain same all = ap (λ f. list_any f all) (fun_ext same) ∙ sym (list_any-map plain plain_action all)
 
-plain_mode : ℕ → Cell → Option PlainKind → Mode
-plain_mode key c None = NoMode
-plain_mode key c (Some k) =
-    mode_from (list_any (plain_owns key c) k.actions) (list_any (λ (a : PlainAction). deed_adds key c a.deed) k.actions) (list_any (λ (a : PlainAction). deed_raises key c a.deed) k.actions)
+plain_mode : ℕ → ℕ → Cell → Option PlainKind → Mode
+plain_mode version key c None = mode_from version false false false false
+plain_mode version key c (Some k) =
+    mode_from version (list_any (plain_action_reads key c) k.actions) (list_any (λ (a : PlainAction). plain_act_overwrites key c a.act) k.actions)
+    (list_any (λ (a : PlainAction). plain_act_adds key c a.act) k.actions) (list_any (λ (a : PlainAction). plain_act_raises key c a.act) k.actions)
 
-mode-plain : (key : ℕ) (c : Cell) (kind : Option Kind) → mode_among (actions_of kind) key c ≡ plain_mode key c (option_map plain_kind kind)
+mode-plain : (version key : ℕ) (c : Cell) (kind : Option Kind) → mode_among version (actions_of kind) key c ≡ plain_mode version key c (option_map plain_kind kind)
 unfolding plain_mode
-mode-plain key c None = refl
-mode-plain key c (Some k) =
-    let owns = any-plain (action_owns key c) (plain_owns key c) (owns-plain key c) k.actions in
-    let adds = any-plain (λ a. act_adds key c a.act) (λ a. deed_adds key c a.deed) (λ a. adds-deed key c a.act) k.actions in
-    let raises = any-plain (λ a. act_raises key c a.act) (λ a. deed_raises key c a.deed) (λ a. raises-deed key c a.act) k.actions in
-    λ i. mode_from (owns i) (adds i) (raises i)
+mode-plain version key c None = refl
+mode-plain version key c (Some k) =
+    let reads = any-plain (action_reads key c) (plain_action_reads key c) (reads-plain key c) k.actions in
+    let overwrites = any-plain (λ a. act_overwrites key c a.act) (λ a. plain_act_overwrites key c a.act) (λ a. overwrites-act key c a.act) k.actions in
+    let adds = any-plain (λ a. act_adds key c a.act) (λ a. plain_act_adds key c a.act) (λ a. adds-act key c a.act) k.actions in
+    let raises = any-plain (λ a. act_raises key c a.act) (λ a. plain_act_raises key c a.act) (λ a. raises-act key c a.act) k.actions in
+    λ i. mode_from version (reads i) (overwrites i) (adds i) (raises i)
 
-mode_by_plain : (kinds : List Kind) (t : Tag) (c : Cell) → mode_among (actions_of (slice_get kinds t.kind)) t.key c ≡ plain_mode t.key c (slice_get (map plain_kind kinds) t.kind)
-mode_by_plain kinds t c = mode-plain t.key c (slice_get kinds t.kind) ∙ ap (plain_mode t.key c) (sym (slice_get-map plain_kind kinds t.kind))
+mode_by_plain : (version : ℕ) (kinds : List Kind) (t : Tag) (c : Cell) → mode_among version (actions_of (slice_get kinds t.kind)) t.key c ≡ plain_mode version t.key c (slice_get (map plain_kind kinds) t.kind)
+mode_by_plain version kinds t c = mode-plain version t.key c (slice_get kinds t.kind) ∙ ap (plain_mode version t.key c) (sym (slice_get-map plain_kind kinds t.kind))
 
 same_mode : (p q : Program) (t : Tag) (c : Cell) → IsSameJob p q → mode_of p t c ≡ mode_of q t c
 same_mode p q t c same =
-    mode_by_plain p.kinds t c ∙ (ap (λ j. plain_mode t.key c (slice_get j.kinds t.kind)) same ∙ sym (mode_by_plain q.kinds t c))
+    mode_by_plain p.version p.kinds t c
+    ∙ (ap (λ (j : Job). plain_mode j.version t.key c (slice_get j.kinds t.kind)) same ∙ sym (mode_by_plain q.version q.kinds t c))
 
 -- ---- so does acceptance
 same_universe : (p q : Program) (t : Tag) → IsSameJob p q → IsInUniverse q t → IsInUniverse p t

@@ -22,9 +22,9 @@ use Rattle.flu_streams.specs.declared.faults.Why.{Why}
 use Rattle.flu_streams.specs.declared.faults.Why.TheVariants.{BadRow, UnknownTag, AfterEnd}
 use Rattle.flu_streams.specs.Before.{each_with_before, first_some}
 use Rattle.flu_streams.specs.Tags.{kind_named, key_named, tag_named, place_named, has_its_value, value_fits, width}
-use Rattle.flu_streams.specs.Tests.{where_true, test_tag, test_value, test_time, test_items, tests, defect_of, first_defect, has_ended, last_time, items_of, rows_of}
+use Rattle.flu_streams.specs.Tests.{where_true, test_tag, test_value, test_time, test_items, tests, defect_of, first_defect, has_ended, times_of, items_of, rows_of}
 use Rattle.flu_streams.specs.Good.{fault_of_source, items_held, first_fault}
-use Rattle.flu_streams.proofs.Places.{position-map}
+use Rattle.flu_lemmas.proofs.Places.{position-map}
 use Rattle.flu_top.specs.Behind.{emptied, fault_behind}
 
 -- ---- what a row's tag and value are tested by depends on the kinds without their actions
@@ -85,17 +85,17 @@ same_fits kinds others name value alike =
     fits_plain kinds name value
     ∙ (ap (λ (ks : List PlainKind). fits_at value (option_and_then (λ number. slice_get ks number) (kind_of_plain ks name))) alike ∙ sym (fits_plain others name value))
 
-same_tests : (kinds others : List Kind) (s : Source) (ended : Bool) (last : Option ℕ) (held : ℕ) (row : Row) → map plain_kind kinds ≡ map plain_kind others → tests kinds s ended last held row ≡ tests others s ended last held row
-same_tests kinds others s ended last held (Event time name key value) alike =
-    ap (λ o. where_true ended AfterEnd ∷ where_true (is_none o) UnknownTag ∷ test_value kinds (Event time name key value) ∷ test_time last (Event time name key value) ∷ test_items (width s) held (Event time name key value) ∷ []) (same_place kinds others s name key alike)
-    ∙ ap (λ b. where_true ended AfterEnd ∷ test_tag others s (Event time name key value) ∷ where_true (not b) BadRow ∷ test_time last (Event time name key value) ∷ test_items (width s) held (Event time name key value) ∷ []) (same_fits kinds others name value alike)
-same_tests kinds others s ended last held (Beat time) alike = refl
-same_tests kinds others s ended last held End alike = refl
+same_tests : (kinds others : List Kind) (s : Source) (ended : Bool) (earlier : List ℕ) (held : ℕ) (row : Row) → map plain_kind kinds ≡ map plain_kind others → tests kinds s ended earlier held row ≡ tests others s ended earlier held row
+same_tests kinds others s ended earlier held (Event time name key value) alike =
+    ap (λ o. where_true ended AfterEnd ∷ where_true (is_none o) UnknownTag ∷ test_value kinds (Event time name key value) ∷ test_time s.slack earlier (Event time name key value) ∷ test_items (width s) held (Event time name key value) ∷ []) (same_place kinds others s name key alike)
+    ∙ ap (λ b. where_true ended AfterEnd ∷ test_tag others s (Event time name key value) ∷ where_true (not b) BadRow ∷ test_time s.slack earlier (Event time name key value) ∷ test_items (width s) held (Event time name key value) ∷ []) (same_fits kinds others name value alike)
+same_tests kinds others s ended earlier held (Beat time) alike = refl
+same_tests kinds others s ended earlier held End alike = refl
 
 same_defect : (kinds others : List Kind) (s : Source) (held : ℕ) (read : List Next) (next : Next) → map plain_kind kinds ≡ map plain_kind others → defect_of kinds s held read next ≡ defect_of others s held read next
 same_defect kinds others s held read (RowNext line row) alike =
     ap (λ ts. option_map (λ why. (line, why)) (first_some (λ (test : Option Why). test) ts))
-    (same_tests kinds others s (has_ended (rows_of read)) (last_time (rows_of read)) (held + items_of (width s) (rows_of read)) row alike)
+    (same_tests kinds others s (has_ended (rows_of read)) (times_of (rows_of read)) (held + items_of (width s) (rows_of read)) row alike)
 same_defect kinds others s held read (Bad line) alike = refl
 same_defect kinds others s held read TooManyLines alike = refl
 same_defect kinds others s held read (Done lines) alike = refl

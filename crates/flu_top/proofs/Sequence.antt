@@ -14,7 +14,7 @@ use Rattle.flu_model.specs.Folding.{final_outputs}
 use Rattle.flu_model.specs.Reports as reports
 use Rattle.flu_outside.specs.Taking.{TakesFrom}
 use Rattle.flu_lemmas.proofs.Named.{rose_behind}
-use Rattle.flu_lemmas.proofs.Told.{told_then, told_weaker}
+use Rattle.flu_lemmas.proofs.Told.{told_both, told_then, told_weaker}
 use Rattle.flu_streams.specs.Files.{files_of, LeavesOthers, AreReadOut}
 use Rattle.flu_streams.specs.Good.{first_fault, lists_of, AreGood}
 use Rattle.flu_top.specs.declared.refusals.Refusal.{Refusal}
@@ -46,13 +46,6 @@ among (other ∷ names) name = by_test (bytes_eq other name) refl (among names n
     by_test : (b : Bool) → bytes_eq other name ≡ b → Contains names name ⊎ (Contains names name → ⊥) → Contains (other ∷ names) name ⊎ (Contains (other ∷ names) name → ⊥)
     by_test true t rest = inl (0, omega arith, (bytes_eq-Decides other name).0 t)
     by_test false f rest = by_rest (λ same. false≢true (sym f ∙ (bytes_eq-Decides other name).1 same)) rest
-
--- ---- what is told
-pub told_both : {A : Type 0} (P Q : A → A → Type 0) (a b : Option A) → WhereTold a b P → WhereTold a b Q → WhereTold a b (λ x y. P x y × Q x y)
-told_both P Q None None p q = tt
-told_both P Q None (Some y) p q = p
-told_both P Q (Some x) None p q = p
-told_both P Q (Some x) (Some y) p q = (p, q)
 
 -- ---- the names that are read
 pub may_have : (job : List ℕ) (p : Program) (a b : Option Contents) → WhereTold a b (IsJobRead job p) → MayHaveJob a job p

@@ -12,7 +12,7 @@ use Rattle.flu_deps.specs.declared.checked.Checked.{Checked}
 use Rattle.flu_deps.specs.Checking.{program_of}
 use Rattle.flu_outside.specs.Taking.{bytes_left, TakesFrom}
 use Rattle.flu_lemmas.proofs.Named.{rose_behind}
-use Rattle.flu_lemmas.proofs.Told.{told_then}
+use Rattle.flu_lemmas.proofs.Told.{told_both, told_then}
 use Rattle.flu_plan.specs.Reading.{plan_in}
 use Rattle.flu_top.specs.declared.refusals.PlanDefect.TheVariants as defects
 use Rattle.flu_top.specs.declared.refusals.Refusal.{Refusal}
@@ -25,7 +25,7 @@ use Rattle.flu_top.specs.Done.{IsReadName, IsWritten}
 use Rattle.flu_top.specs.Jobs.{IsJobRead}
 use Rattle.flu_top.specs.Plans.{IsPlanRead, IsTextRefusal, IsValidated, IsValidRefusal}
 use Rattle.flu_top.specs.Refusing.{HasInvalidPlan, IsRefusal}
-use Rattle.flu_top.proofs.Sequence.{told_both, may_have, emptied_is}
+use Rattle.flu_top.proofs.Sequence.{may_have, emptied_is}
 
 -- ---- names
 same_or_apart : (a b : List ℕ) → (a ≡ b) ⊎ (a ≢ b)

@@ -39,6 +39,7 @@ what_word whats.Height = codes "height"
 what_word whats.Nodes = codes "nodes"
 what_word whats.Predicates = codes "predicates"
 what_word whats.Depth = codes "depth"
+what_word whats.Slack = codes "slack"
 
 -- that there is more than the language allows
 abbrev pub limit_text : What → ℕ → List ℕ

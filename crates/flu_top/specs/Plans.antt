@@ -12,7 +12,7 @@ use Rattle.flu_plan.specs.declared.fault.PlanFault.TheVariants as faults
 use Rattle.flu_plan.specs.Reading.{plan_in}
 use Rattle.flu_plan.specs.Printing.{printed}
 use Rattle.flu_valid.specs.declared.faults.Invalid.{Invalid}
-use Rattle.flu_valid.specs.Faults.{IsFirstFault}
+use Rattle.flu_valid.specs.Faults.{IsFirstPlanFault}
 use Rattle.flu_top.specs.declared.refusals.PlanDefect.TheVariants as defects
 use Rattle.flu_top.specs.declared.refusals.Refusal.{Refusal}
 use Rattle.flu_top.specs.declared.refusals.Refusal.TheVariants as refusals
@@ -42,7 +42,7 @@ IsTextRefusal p plan old new before now refusals.NoMemory = ⊤
 -- the plan is not valid for the job, and this is the first thing that keeps it from that
 pub record IsInvalid (p : Program) (nodes : List Node) (why : Invalid) : Type 0 where
   pub refused : ¬ IsValid p nodes
-  pub first : IsFirstFault p nodes why
+  pub first : IsFirstPlanFault p nodes why
 
 -- the plan is valid for the job, and this is its normal form
 pub record IsValidated (p : Program) (nodes : List Node) (text : List ℕ) : Type 0 where

@@ -14,8 +14,6 @@ mod plans;
 mod programs;
 mod rates;
 mod refusals;
-#[cfg(test)]
-mod tests;
 mod top;
 mod validating;
 mod words;

@@ -2,8 +2,7 @@
 
 ghost use Rattle.std.specs.Prelude.{◌≡◌, ◌++◌, OnOk, OnErr};
 ghost use Rattle.std.specs.Fmt.{decimal};
-ghost use Rattle.flu_outside.specs.Outside.{Rose, WhereTold};
-ghost use Rattle.flu_outside.specs.Writing.{AppendsAll, AppendsPart};
+ghost use Rattle.flu_outside.specs.Writing.{Writes};
 ghost use Rattle.flu_top.specs.Lines.{what_word, limit_text, bad_words_line, fault_line, job_fault_line, conflict_line, row_line, source_fault_line, IsSaid};
 ghost use Rattle.flu_streams.specs.declared.faults.Why.{Why};
 ghost use Rattle.flu_top.specs.Answer.{line_of};
@@ -36,9 +35,7 @@ pub fn say<E: Sink>(err: &mut E, refusal: &Refusal)
 
 // Writes the line of a refusal.
 fn write_line<E: Sink>(err: &mut E, refusal: &Refusal) -> Result<(), Failed>
-    ensures all { OnOk result (WhereTold (E.taken err.old) (E.taken err.new) (AppendsAll (line_of refusal.now))) }
-    ensures part { OnErr result (WhereTold (E.taken err.old) (E.taken err.new) (AppendsPart (line_of refusal.now))) }
-    ensures failed { OnErr result (Rose (E.faults err.old) (E.faults err.new)) }
+    ensures { Writes (line_of refusal.now) (E.taken err.old) (E.taken err.new) (E.faults err.old) (E.faults err.new) result }
 {
     match refusal {
         Refusal::BadWords(bad) => write_bad_words(err, *bad),
@@ -61,9 +58,7 @@ fn write_line<E: Sink>(err: &mut E, refusal: &Refusal) -> Result<(), Failed>
 
 // Writes the line of words that are no command.
 fn write_bad_words<E: Sink>(err: &mut E, bad: BadWords) -> Result<(), Failed>
-    ensures all { OnOk result (WhereTold (E.taken err.old) (E.taken err.new) (AppendsAll (bad_words_line bad.at))) }
-    ensures part { OnErr result (WhereTold (E.taken err.old) (E.taken err.new) (AppendsPart (bad_words_line bad.at))) }
-    ensures failed { OnErr result (Rose (E.faults err.old) (E.faults err.new)) }
+    ensures { Writes (bad_words_line bad.at) (E.taken err.old) (E.taken err.new) (E.faults err.old) (E.faults err.new) result }
 {
     let mut buffer = Buffer::new();
     let at = digits_of(&mut buffer, bad.at as u64);
@@ -72,9 +67,7 @@ fn write_bad_words<E: Sink>(err: &mut E, bad: BadWords) -> Result<(), Failed>
 
 // Writes the line of a fault in a job text.
 fn write_job_fault<E: Sink>(err: &mut E, fault: &JobFault) -> Result<(), Failed>
-    ensures all { OnOk result (WhereTold (E.taken err.old) (E.taken err.new) (AppendsAll (job_fault_line fault.now))) }
-    ensures part { OnErr result (WhereTold (E.taken err.old) (E.taken err.new) (AppendsPart (job_fault_line fault.now))) }
-    ensures failed { OnErr result (Rose (E.faults err.old) (E.faults err.new)) }
+    ensures { Writes (job_fault_line fault.now) (E.taken err.old) (E.taken err.new) (E.faults err.old) (E.faults err.new) result }
 {
     match fault {
         JobFault::BadUtf8 { at } => write_place(err, JOB, b"bad utf8 at ", *at),
@@ -95,9 +88,7 @@ pub fn write_place<E: Sink>(
     fault: &[u8],
     place: usize,
 ) -> Result<(), Failed>
-    ensures all { OnOk result (WhereTold (E.taken err.old) (E.taken err.new) (AppendsAll (fault_line head.now (fault.now ++ decimal place)))) }
-    ensures part { OnErr result (WhereTold (E.taken err.old) (E.taken err.new) (AppendsPart (fault_line head.now (fault.now ++ decimal place)))) }
-    ensures failed { OnErr result (Rose (E.faults err.old) (E.faults err.new)) }
+    ensures { Writes (fault_line head.now (fault.now ++ decimal place)) (E.taken err.old) (E.taken err.new) (E.faults err.old) (E.faults err.new) result }
 {
     let mut buffer = Buffer::new();
     let digits = digits_of(&mut buffer, place as u64);
@@ -111,9 +102,7 @@ pub fn write_over_limit<E: Sink>(
     what: What,
     count: u64,
 ) -> Result<(), Failed>
-    ensures all { OnOk result (WhereTold (E.taken err.old) (E.taken err.new) (AppendsAll (fault_line head.now (limit_text what count)))) }
-    ensures part { OnErr result (WhereTold (E.taken err.old) (E.taken err.new) (AppendsPart (fault_line head.now (limit_text what count)))) }
-    ensures failed { OnErr result (Rose (E.faults err.old) (E.faults err.new)) }
+    ensures { Writes (fault_line head.now (limit_text what count)) (E.taken err.old) (E.taken err.new) (E.faults err.old) (E.faults err.new) result }
 {
     let mut buffer = Buffer::new();
     let word = what_word(what);
@@ -140,14 +129,13 @@ fn what_word(what: What) -> &'static [u8]
         What::Nodes => b"nodes",
         What::Predicates => b"predicates",
         What::Depth => b"depth",
+        What::Slack => b"slack",
     }
 }
 
 // Writes the line of two independent tags that conflict.
 fn write_conflict<E: Sink>(err: &mut E, fault: &CheckFault) -> Result<(), Failed>
-    ensures all { OnOk result (WhereTold (E.taken err.old) (E.taken err.new) (AppendsAll (conflict_line fault.now))) }
-    ensures part { OnErr result (WhereTold (E.taken err.old) (E.taken err.new) (AppendsPart (conflict_line fault.now))) }
-    ensures failed { OnErr result (Rose (E.faults err.old) (E.faults err.new)) }
+    ensures { Writes (conflict_line fault.now) (E.taken err.old) (E.taken err.new) (E.faults err.old) (E.faults err.new) result }
 {
     let program = &fault.program;
     write_all(err, b"flumina: conflict: ")?;
@@ -158,9 +146,7 @@ fn write_conflict<E: Sink>(err: &mut E, fault: &CheckFault) -> Result<(), Failed
 
 // Writes the line of a row that is a defect of its source.
 fn write_source_fault<E: Sink>(err: &mut E, name: &str, row: u64, why: Why) -> Result<(), Failed>
-    ensures all { OnOk result (WhereTold (E.taken err.old) (E.taken err.new) (AppendsAll (source_fault_line name.now row why))) }
-    ensures part { OnErr result (WhereTold (E.taken err.old) (E.taken err.new) (AppendsPart (source_fault_line name.now row why))) }
-    ensures failed { OnErr result (Rose (E.faults err.old) (E.faults err.new)) }
+    ensures { Writes (source_fault_line name.now row why) (E.taken err.old) (E.taken err.new) (E.faults err.old) (E.faults err.new) result }
 {
     match why {
         Why::BadRow => write_row(err, name, row, b"bad row"),
@@ -174,9 +160,7 @@ fn write_source_fault<E: Sink>(err: &mut E, name: &str, row: u64, why: Why) -> R
 
 // Writes the line of a row with a defect that has no values.
 fn write_row<E: Sink>(err: &mut E, name: &str, row: u64, why: &[u8]) -> Result<(), Failed>
-    ensures all { OnOk result (WhereTold (E.taken err.old) (E.taken err.new) (AppendsAll (row_line name.now row why.now))) }
-    ensures part { OnErr result (WhereTold (E.taken err.old) (E.taken err.new) (AppendsPart (row_line name.now row why.now))) }
-    ensures failed { OnErr result (Rose (E.faults err.old) (E.faults err.new)) }
+    ensures { Writes (row_line name.now row why.now) (E.taken err.old) (E.taken err.new) (E.faults err.old) (E.faults err.new) result }
 {
     let mut row_buffer = Buffer::new();
     let source = name.as_bytes();
@@ -203,9 +187,7 @@ fn write_disordered<E: Sink>(
     last: u64,
     got: u64,
 ) -> Result<(), Failed>
-    ensures all { OnOk result (WhereTold (E.taken err.old) (E.taken err.new) (AppendsAll (source_fault_line name.now row (Why.Disordered last got)))) }
-    ensures part { OnErr result (WhereTold (E.taken err.old) (E.taken err.new) (AppendsPart (source_fault_line name.now row (Why.Disordered last got)))) }
-    ensures failed { OnErr result (Rose (E.faults err.old) (E.faults err.new)) }
+    ensures { Writes (source_fault_line name.now row (Why.Disordered last got)) (E.taken err.old) (E.taken err.new) (E.faults err.old) (E.faults err.new) result }
 {
     let mut row_buffer = Buffer::new();
     let mut last_buffer = Buffer::new();
@@ -232,9 +214,7 @@ fn write_disordered<E: Sink>(
 
 // Writes the line of a row that makes too many.
 fn write_too_many<E: Sink>(err: &mut E, name: &str, row: u64, count: u64) -> Result<(), Failed>
-    ensures all { OnOk result (WhereTold (E.taken err.old) (E.taken err.new) (AppendsAll (source_fault_line name.now row (Why.TooMany count)))) }
-    ensures part { OnErr result (WhereTold (E.taken err.old) (E.taken err.new) (AppendsPart (source_fault_line name.now row (Why.TooMany count)))) }
-    ensures failed { OnErr result (Rose (E.faults err.old) (E.faults err.new)) }
+    ensures { Writes (source_fault_line name.now row (Why.TooMany count)) (E.taken err.old) (E.taken err.new) (E.faults err.old) (E.faults err.new) result }
 {
     let mut row_buffer = Buffer::new();
     let mut count_buffer = Buffer::new();

@@ -1,8 +1,7 @@
 //! Names in a line, written without memory.
 
 ghost use Rattle.std.specs.Prelude.{◌≡◌, ◌≤◌, ◌++◌, OnOk, OnErr};
-ghost use Rattle.flu_outside.specs.Outside.{Rose, WhereTold};
-ghost use Rattle.flu_outside.specs.Writing.{AppendsAll, AppendsPart};
+ghost use Rattle.flu_outside.specs.Writing.{Writes};
 ghost use Rattle.flu_model.specs.Reports.{name_with_key, text_of_tag, text_of_cell};
 ghost use Rattle.flu_top.specs.Names.{source_name, node_name, itag_text};
 
@@ -19,10 +18,7 @@ pub fn write_tag<E: Sink>(
     tag: Tag,
     behind: &[u8],
 ) -> Result<(), Failed>
-    ensures all { OnOk result (WhereTold (E.taken err.old) (E.taken err.new) (AppendsAll (text_of_tag program.now tag ++ behind.now))) }
-    ensures part { OnErr result (WhereTold (E.taken err.old) (E.taken err.new) (AppendsPart (text_of_tag program.now tag ++ behind.now))) }
-    ensures failed { OnErr result (Rose (E.faults err.old) (E.faults err.new)) }
-    ensures counts { E.faults err.old ≤ E.faults err.new }
+    ensures { Writes (text_of_tag program.now tag ++ behind.now) (E.taken err.old) (E.taken err.new) (E.faults err.old) (E.faults err.new) result }
 {
     match program.kinds.items().get(tag.kind as usize) {
         Some(kind) => write_name(err, kind.name.as_str(), kind.keyed, tag.key, behind),
@@ -37,10 +33,7 @@ pub fn write_itag<E: Sink>(
     itag: Itag,
     behind: &[u8],
 ) -> Result<(), Failed>
-    ensures all { OnOk result (WhereTold (E.taken err.old) (E.taken err.new) (AppendsAll (itag_text program.now itag ++ behind.now))) }
-    ensures part { OnErr result (WhereTold (E.taken err.old) (E.taken err.new) (AppendsPart (itag_text program.now itag ++ behind.now))) }
-    ensures failed { OnErr result (Rose (E.faults err.old) (E.faults err.new)) }
-    ensures counts { E.faults err.old ≤ E.faults err.new }
+    ensures { Writes (itag_text program.now itag ++ behind.now) (E.taken err.old) (E.taken err.new) (E.faults err.old) (E.faults err.new) result }
 {
     if itag.0 >= itag_count(program) {
         return write_all(err, behind);
@@ -77,10 +70,7 @@ pub fn write_cell<E: Sink>(
     cell: Cell,
     behind: &[u8],
 ) -> Result<(), Failed>
-    ensures all { OnOk result (WhereTold (E.taken err.old) (E.taken err.new) (AppendsAll (text_of_cell program.now cell ++ behind.now))) }
-    ensures part { OnErr result (WhereTold (E.taken err.old) (E.taken err.new) (AppendsPart (text_of_cell program.now cell ++ behind.now))) }
-    ensures failed { OnErr result (Rose (E.faults err.old) (E.faults err.new)) }
-    ensures counts { E.faults err.old ≤ E.faults err.new }
+    ensures { Writes (text_of_cell program.now cell ++ behind.now) (E.taken err.old) (E.taken err.new) (E.faults err.old) (E.faults err.new) result }
 {
     match program.families.items().get(cell.family as usize) {
         Some(family) => write_name(err, family.name.as_str(), family.keyed, cell.key, behind),
@@ -96,10 +86,7 @@ fn write_name<E: Sink>(
     key: u32,
     behind: &[u8],
 ) -> Result<(), Failed>
-    ensures all { OnOk result (WhereTold (E.taken err.old) (E.taken err.new) (AppendsAll (name_with_key name.now keyed key ++ behind.now))) }
-    ensures part { OnErr result (WhereTold (E.taken err.old) (E.taken err.new) (AppendsPart (name_with_key name.now keyed key ++ behind.now))) }
-    ensures failed { OnErr result (Rose (E.faults err.old) (E.faults err.new)) }
-    ensures counts { E.faults err.old ≤ E.faults err.new }
+    ensures { Writes (name_with_key name.now keyed key ++ behind.now) (E.taken err.old) (E.taken err.new) (E.faults err.old) (E.faults err.new) result }
 {
     let bytes = name.as_bytes();
     if !keyed {

@@ -3,8 +3,7 @@
 ghost use Rattle.std.specs.Prelude.{◌≡◌, ◌≤◌, map, OnOk, OnErr};
 ghost use Rattle.std.specs.Fmt.{decimal};
 ghost use Rattle.std.specs.List.{concat};
-ghost use Rattle.flu_outside.specs.Outside.{Rose, WhereTold};
-ghost use Rattle.flu_outside.specs.Writing.{AppendsAll, AppendsPart};
+ghost use Rattle.flu_outside.specs.Writing.{Writes};
 
 use flu_outside::{Failed, Sink};
 use flu_report::write_all;
@@ -14,10 +13,7 @@ use itoa::Buffer;
 ///
 /// Where the sink fails, it has taken fewer than all of their bytes, from their front.
 pub fn write_pieces<K: Sink>(out: &mut K, pieces: &[&[u8]]) -> Result<(), Failed>
-    ensures all { OnOk result (WhereTold (K.taken out.old) (K.taken out.new) (AppendsAll (concat (map (λ p. p.now) pieces.now)))) }
-    ensures part { OnErr result (WhereTold (K.taken out.old) (K.taken out.new) (AppendsPart (concat (map (λ p. p.now) pieces.now)))) }
-    ensures failed { OnErr result (Rose (K.faults out.old) (K.faults out.new)) }
-    ensures counts { K.faults out.old ≤ K.faults out.new }
+    ensures { Writes (concat (map (λ p. p.now) pieces.now)) (K.taken out.old) (K.taken out.new) (K.faults out.old) (K.faults out.new) result }
 {
     let [first, others @ ..] = pieces else {
         return Ok(());

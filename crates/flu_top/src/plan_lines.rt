@@ -1,8 +1,7 @@
 //! The lines of plans on err, which take no memory.
 
 ghost use Rattle.std.specs.Prelude.{◌≤◌, ◌++◌, OnOk, OnErr};
-ghost use Rattle.flu_outside.specs.Outside.{Rose, WhereTold};
-ghost use Rattle.flu_outside.specs.Writing.{AppendsAll, AppendsPart};
+ghost use Rattle.flu_outside.specs.Writing.{Writes};
 ghost use Rattle.flu_valid.specs.declared.faults.Invalid.{Invalid};
 ghost use Rattle.flu_top.specs.Lines.{plan_line, plan_fault_text, owned_text, invalid_text, plan_defect_line};
 
@@ -21,9 +20,7 @@ const PLAN: &[u8] = b"flumina: plan: ";
 
 /// Writes the line of what is wrong with a plan.
 pub fn write_plan_defect<E: Sink>(err: &mut E, defect: &PlanDefect) -> Result<(), Failed>
-    ensures all { OnOk result (WhereTold (E.taken err.old) (E.taken err.new) (AppendsAll (plan_defect_line defect.now))) }
-    ensures part { OnErr result (WhereTold (E.taken err.old) (E.taken err.new) (AppendsPart (plan_defect_line defect.now))) }
-    ensures failed { OnErr result (Rose (E.faults err.old) (E.faults err.new)) }
+    ensures { Writes (plan_defect_line defect.now) (E.taken err.old) (E.taken err.new) (E.faults err.old) (E.faults err.new) result }
 {
     match defect {
         PlanDefect::Text(fault) => write_plan_fault(err, fault),
@@ -35,9 +32,7 @@ pub fn write_plan_defect<E: Sink>(err: &mut E, defect: &PlanDefect) -> Result<()
 
 // Writes the line of a fault in a plan text.
 fn write_plan_fault<E: Sink>(err: &mut E, fault: &PlanFault) -> Result<(), Failed>
-    ensures all { OnOk result (WhereTold (E.taken err.old) (E.taken err.new) (AppendsAll (plan_line (plan_fault_text fault.now)))) }
-    ensures part { OnErr result (WhereTold (E.taken err.old) (E.taken err.new) (AppendsPart (plan_line (plan_fault_text fault.now)))) }
-    ensures failed { OnErr result (Rose (E.faults err.old) (E.faults err.new)) }
+    ensures { Writes (plan_line (plan_fault_text fault.now)) (E.taken err.old) (E.taken err.new) (E.faults err.old) (E.faults err.new) result }
 {
     match fault {
         PlanFault::BadToken { at } => write_place(err, PLAN, b"bad token at ", *at),
@@ -51,9 +46,7 @@ fn write_plan_fault<E: Sink>(err: &mut E, fault: &PlanFault) -> Result<(), Faile
 
 // Writes the line of nodes that are no tree.
 fn write_not_a_tree<E: Sink>(err: &mut E, name: &[u8]) -> Result<(), Failed>
-    ensures all { OnOk result (WhereTold (E.taken err.old) (E.taken err.new) (AppendsAll (plan_line (plan_fault_text (PlanFault.NotATree name.now))))) }
-    ensures part { OnErr result (WhereTold (E.taken err.old) (E.taken err.new) (AppendsPart (plan_line (plan_fault_text (PlanFault.NotATree name.now))))) }
-    ensures failed { OnErr result (Rose (E.faults err.old) (E.faults err.new)) }
+    ensures { Writes (plan_line (plan_fault_text (PlanFault.NotATree name.now))) (E.taken err.old) (E.taken err.new) (E.faults err.old) (E.faults err.new) result }
 {
     write_pieces(err, &[b"flumina: plan: not a tree at ", name, b"\n"])
 }
@@ -65,9 +58,7 @@ fn write_invalid<E: Sink>(
     plan: &Plan,
     why: Invalid,
 ) -> Result<(), Failed>
-    ensures all { OnOk result (WhereTold (E.taken err.old) (E.taken err.new) (AppendsAll (plan_line (invalid_text program.now plan.now.nodes why)))) }
-    ensures part { OnErr result (WhereTold (E.taken err.old) (E.taken err.new) (AppendsPart (plan_line (invalid_text program.now plan.now.nodes why)))) }
-    ensures failed { OnErr result (Rose (E.faults err.old) (E.faults err.new)) }
+    ensures { Writes (plan_line (invalid_text program.now plan.now.nodes why)) (E.taken err.old) (E.taken err.new) (E.faults err.old) (E.faults err.new) result }
 {
     match why {
         Invalid::Unowned { itag } => write_unowned(err, program, plan, itag),
@@ -83,9 +74,7 @@ fn write_unowned<E: Sink>(
     plan: &Plan,
     itag: Itag,
 ) -> Result<(), Failed>
-    ensures all { OnOk result (WhereTold (E.taken err.old) (E.taken err.new) (AppendsAll (plan_line (invalid_text program.now plan.now.nodes (Invalid.Unowned itag))))) }
-    ensures part { OnErr result (WhereTold (E.taken err.old) (E.taken err.new) (AppendsPart (plan_line (invalid_text program.now plan.now.nodes (Invalid.Unowned itag))))) }
-    ensures failed { OnErr result (Rose (E.faults err.old) (E.faults err.new)) }
+    ensures { Writes (plan_line (invalid_text program.now plan.now.nodes (Invalid.Unowned itag))) (E.taken err.old) (E.taken err.new) (E.faults err.old) (E.faults err.new) result }
 {
     write_all(err, PLAN)?;
     write_itag(err, program, itag, b" has no owner\n")
@@ -100,9 +89,7 @@ fn write_owned_twice<E: Sink>(
     a: u32,
     b: u32,
 ) -> Result<(), Failed>
-    ensures all { OnOk result (WhereTold (E.taken err.old) (E.taken err.new) (AppendsAll (plan_line (invalid_text program.now plan.now.nodes (Invalid.OwnedTwice itag a b))))) }
-    ensures part { OnErr result (WhereTold (E.taken err.old) (E.taken err.new) (AppendsPart (plan_line (invalid_text program.now plan.now.nodes (Invalid.OwnedTwice itag a b))))) }
-    ensures failed { OnErr result (Rose (E.faults err.old) (E.faults err.new)) }
+    ensures { Writes (plan_line (invalid_text program.now plan.now.nodes (Invalid.OwnedTwice itag a b))) (E.taken err.old) (E.taken err.new) (E.faults err.old) (E.faults err.new) result }
 {
     let first = node_name(plan, a).as_bytes();
     let second = node_name(plan, b).as_bytes();
@@ -121,9 +108,7 @@ fn write_clash<E: Sink>(
     b: u32,
     j: Itag,
 ) -> Result<(), Failed>
-    ensures all { OnOk result (WhereTold (E.taken err.old) (E.taken err.new) (AppendsAll (plan_line (invalid_text program.now plan.now.nodes (Invalid.Clash a i b j))))) }
-    ensures part { OnErr result (WhereTold (E.taken err.old) (E.taken err.new) (AppendsPart (plan_line (invalid_text program.now plan.now.nodes (Invalid.Clash a i b j))))) }
-    ensures failed { OnErr result (Rose (E.faults err.old) (E.faults err.new)) }
+    ensures { Writes (plan_line (invalid_text program.now plan.now.nodes (Invalid.Clash a i b j))) (E.taken err.old) (E.taken err.new) (E.faults err.old) (E.faults err.new) result }
 {
     write_all(err, b"flumina: plan: clash of ")?;
     write_owned(err, program, plan, i, a, b" and ")?;
@@ -139,10 +124,7 @@ fn write_owned<E: Sink>(
     node: u32,
     behind: &[u8],
 ) -> Result<(), Failed>
-    ensures all { OnOk result (WhereTold (E.taken err.old) (E.taken err.new) (AppendsAll (owned_text program.now plan.now.nodes itag node ++ behind.now))) }
-    ensures part { OnErr result (WhereTold (E.taken err.old) (E.taken err.new) (AppendsPart (owned_text program.now plan.now.nodes itag node ++ behind.now))) }
-    ensures failed { OnErr result (Rose (E.faults err.old) (E.faults err.new)) }
-    ensures counts { E.faults err.old ≤ E.faults err.new }
+    ensures { Writes (owned_text program.now plan.now.nodes itag node ++ behind.now) (E.taken err.old) (E.taken err.new) (E.faults err.old) (E.faults err.new) result }
 {
     let name = node_name(plan, node).as_bytes();
     write_itag(err, program, itag, b" at ")?;

@@ -1,7 +1,7 @@
 use Rattle.std.proofs.Common.{◌-◌, ◌^◌, arith, rules, get_or, ◌≡◌, true, refl}
 use Rattle.std.specs.Char.{is_ascii_digit}
 use Rattle.std.proofs.lemmas.List.Folds.{list_all_more}
-use Rattle.flu_rows.proofs.Digits.{digits_value_capped}
+use Rattle.flu_lemmas.proofs.Digits.{digits_value_capped}
 use Rattle.flu_top.proofs.depths.depth_of.Goals as goal
 
 pub loop-digit-preserved : goal.loop-digit-preserved

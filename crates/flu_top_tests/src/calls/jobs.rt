@@ -155,3 +155,121 @@ pub const C: &str = "3,read\n5,read\nend\n";
 pub const END: &str = "end\n";
 
 pub const REPORT: &str = "3,read,count 12\n5,read,count 2\n";
+
+/// Trades read the price of the last quote, and go beside each other in version 2 of the language.
+pub const PRICES: &str = "version 2
+cell price last
+cell vol sum
+tag quote int
+tag trade int
+tag shut none
+depends quote quote
+depends quote trade
+depends trade shut
+depends shut shut
+on quote: set price value
+on trade: add vol value * price; emit \"at {price}\"
+on shut: emit \"vol {vol}\"; clear vol
+source q \"q.csv\" rate 1: quote
+source t1 \"t1.csv\" rate 100: trade
+source t2 \"t2.csv\" rate 100: trade
+source s \"s.csv\" rate 1: shut
+";
+
+/// [`PRICES`] in normal form.
+pub const PRICES_PRINTED: &str = "version 2
+cell price last
+cell vol sum
+tag quote int
+tag trade int
+tag shut none
+depends quote quote
+depends quote trade
+depends trade shut
+depends shut shut
+on quote: set price value
+on trade: add vol (value * price); emit \"at {price}\"
+on shut: emit \"vol {vol}\"; clear vol
+source q \"q.csv\" rate 1: quote
+source t1 \"t1.csv\" rate 100: trade
+source t2 \"t2.csv\" rate 100: trade
+source s \"s.csv\" rate 1: shut
+";
+
+/// [`PRICES`] in version 1, where two trades conflict.
+pub const PRICES_UNSHARED: &str = "cell price last
+cell vol sum
+tag quote int
+tag trade int
+tag shut none
+depends quote quote
+depends quote trade
+depends trade shut
+depends shut shut
+on quote: set price value
+on trade: add vol value * price; emit \"at {price}\"
+on shut: emit \"vol {vol}\"; clear vol
+source q \"q.csv\" rate 1: quote
+source t1 \"t1.csv\" rate 100: trade
+source t2 \"t2.csv\" rate 100: trade
+source s \"s.csv\" rate 1: shut
+";
+
+/// The same with a price that is a sum.
+pub const PRICES_AS_SUMS: &str = "version 2
+cell price sum
+cell vol sum
+tag quote int
+tag trade int
+tag shut none
+depends quote quote
+depends quote trade
+depends trade shut
+depends shut shut
+on quote: clear price; add price value
+on trade: add vol value * price; emit \"at {price}\"
+on shut: emit \"vol {vol}\"; clear vol
+source q \"q.csv\" rate 1: quote
+source t1 \"t1.csv\" rate 100: trade
+source t2 \"t2.csv\" rate 100: trade
+source s \"s.csv\" rate 1: shut
+";
+
+/// Rows of the first source may come late by less than 4.
+pub const LATE_BY_3: &str = "cell count sum
+tag inc int
+tag read none
+depends inc read
+depends read read
+on inc: add count value
+on read: emit \"count {count}\"; clear count
+source a \"a.csv\" rate 1000 slack 4: inc
+source b \"b.csv\" rate 1000: inc
+source c \"c.csv\" rate 1: read
+";
+
+/// Rows of the first source may come late by less than 3.
+pub const LATE_BY_2: &str = "cell count sum
+tag inc int
+tag read none
+depends inc read
+depends read read
+on inc: add count value
+on read: emit \"count {count}\"; clear count
+source a \"a.csv\" rate 1000 slack 3: inc
+source b \"b.csv\" rate 1000: inc
+source c \"c.csv\" rate 1: read
+";
+
+/// A slack above the greatest one.
+pub const TOO_LATE: &str = "cell count sum
+tag inc int
+tag read none
+depends inc read
+depends read read
+on inc: add count value
+on read: emit \"count {count}\"; clear count
+source a \"a.csv\" rate 1000 slack 60001: inc
+source b \"b.csv\" rate 1000: inc
+source c \"c.csv\" rate 1: read
+";
