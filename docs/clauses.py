@@ -96,7 +96,8 @@ def main():
         clauses = [
             (name, is_law)
             for path in sorted((TOP / crate).glob("src/**/*.rt"))
-            for name, is_law in clauses_of(path)
+            for name, has_no_body in clauses_of(path)
+            for is_law in [has_no_body or path.stem == "laws"]
             if is_public(path, modules, exported, name)
         ]
         laws = [name for name, is_law in clauses if is_law]
