@@ -1,4 +1,4 @@
-//! Runs a command over real files: `flumina WORDS`, as `flu_top` says, with its status as the exit status.
+//! Runs a command over real files: `flumina WORDS`, as `flu_top` says, with its status as the exit status; and says what it is.
 #![tactic(auto)]
 
 use flu_adapt::{HostFiles, HostSink};
@@ -8,6 +8,7 @@ use std::io::Write;
 use std::process::ExitCode;
 use std::{env, io, rt};
 
+mod help;
 #[cfg(test)]
 mod tests;
 
@@ -24,7 +25,8 @@ fn main(rt: HostRuntime) -> ExitCode {
     ExitCode::from(run(&rt, &words, io::writer(&rt), rt.stderr()))
 }
 
-/// Does what the words say over the files of the system, and answers the status.
+/// Does what the words say over the files of the system, and answers the status. `--help` and `--version` are answered here, each as
+/// the only word; all other words go to the proved call as they are.
 fn run<R: rt::Files + AllocGlobal + Drop, O: Write + Drop, E: Write + Drop>(
     rt: R,
     words: &[String],
@@ -35,5 +37,8 @@ fn run<R: rt::Files + AllocGlobal + Drop, O: Write + Drop, E: Write + Drop>(
     let mut files = HostFiles::new(rt);
     let mut out = HostSink::new(out);
     let mut err = HostSink::new(err);
+    if let Some(text) = help::told(words) {
+        return help::tell(text, &mut out, &mut err);
+    }
     flumina(alloc, words, &mut files, &mut out, &mut err, &OpenGate)
 }

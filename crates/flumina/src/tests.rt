@@ -1,4 +1,4 @@
-use crate::run;
+use crate::{help, run};
 use std::fs;
 use std::test::Fail;
 
@@ -35,5 +35,24 @@ fn two_sources_add_and_a_third_reads(rt: HostRuntime) -> Result<(), Fail> {
         b"3,read,count 12\n5,read,count 2\n".as_slice()
     );
     assert!(rt; err.is_empty());
+    Ok(())
+}
+
+#[test]
+fn help_and_version_are_single_words(rt: HostRuntime) -> Result<(), Fail> {
+    let cases = [
+        ("--help", help::HELP, "", 0),
+        ("--version", help::VERSION, "", 0),
+        ("-h", "", "flumina: bad words at 0\n", 2),
+    ];
+    for (word, text, line, wanted) in cases {
+        let word = String::from_str(rt.alloc(), word)?;
+        let mut out = Vec::new(rt.alloc());
+        let mut err = Vec::new(rt.alloc());
+        let status = run(&rt, &[word], &mut out, &mut err);
+        assert_eq!(rt; status, wanted);
+        assert_eq!(rt; out.as_slice(), text.as_bytes());
+        assert_eq!(rt; err.as_slice(), line.as_bytes());
+    }
     Ok(())
 }

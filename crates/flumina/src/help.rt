@@ -1,0 +1,54 @@
+//! What the program says of itself, outside the proved call.
+
+use flu_outside::{Failed, Sink, write_all};
+
+/// The status where standard output failed, as the proved call has it.
+const WRITE_FAULT: u8 = 8;
+
+/// The answer to `--help`.
+pub const HELP: &str =
+    "Flumina runs a job over streams of timestamped events, and gives exactly the report of a sequential run.
+
+  flumina fold JOB               read the job and its sources, write the report
+  flumina check JOB              say whether the job's work may be shared, write the job in normal form
+  flumina valid JOB PLAN         say whether a plan shares that work rightly, write the plan in normal form
+  flumina plan JOB [--depth D]   write a plan, with at most D levels below its root: 0 to 6, or 3
+  flumina --help                 write this
+  flumina --version              write the version and the toolchain that proves it
+
+JOB and PLAN are names of files. Names in a job, as that of a file, are looked up in the working folder.
+
+Status 0: written. Each other one has a line on standard error: 2 the words are no command, 3 the job's text has a
+fault, 4 tags conflict that are not declared dependent, 5 the plan has a fault or is not valid, 6 a source has a
+defect, 7 a file is missing or failed, 8 standard output failed, 9 memory was wanting.
+
+docs/LANGUAGE.md describes jobs, rows and lines, docs/TREE.md plans, docs/GUIDE.md the way from a log to a report.
+";
+
+/// The answer to `--version`: the version, and the line of `rt version`.
+pub const VERSION: &str = "flumina 0.1.0
+rattle-kit-13f logic dac8208d650f15bf
+";
+
+/// What is to be written where `--help` or `--version` is the only word.
+pub fn told(words: &[String]) -> Option<&'static str> {
+    let [word] = words else {
+        return None;
+    };
+    match word.as_str() {
+        "--help" => Some(HELP),
+        "--version" => Some(VERSION),
+        _ => None,
+    }
+}
+
+/// Writes the text to out, and answers the status. Where that fails, the line of a write fault goes to err.
+pub fn tell<O: Sink, E: Sink>(text: &str, out: &mut O, err: &mut E) -> u8 {
+    match write_all(out, text.as_bytes()) {
+        Ok(()) => 0,
+        Err(Failed) => {
+            let _ = write_all(err, b"flumina: write fault\n");
+            WRITE_FAULT
+        }
+    }
+}
