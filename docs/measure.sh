@@ -158,3 +158,42 @@ gawk 'BEGIN {
 }' > crowded.job
 measure 'a job of 256 itags and 4,096 dependencies: flumina check' "$program" check crowded.job
 measure 'a job of 256 itags and 4,096 dependencies: flumina plan --depth 6' "$program" plan crowded.job --depth 6
+
+# ---- jobs that make the check of acceptance look at many references: 64 kinds of 32 actions with 27 reads each. "own": each kind
+# reads a family of its own under its own key; "shared": all kinds read all families, each under its own fixed key; "cells": no two
+# references of the job name the same cell. Each under both versions of the language
+hostile() {
+    gawk -v form="$1" -v version="$2" 'BEGIN {
+        if (version == 2) print "version 2"
+        keyed = form == "own" ? " keyed" : ""
+        for (i = 0; i < 64; i++) print "cell f" i " keyed sum"
+        for (i = 0; i < 64; i++) print "tag k" i keyed " int"
+        for (i = 0; i < 64; i++) print "depends k" i " k" i (form == "own" ? " same" : "")
+        for (i = 0; i < 64; i++) {
+            printf "on k%d:", i
+            for (j = 0; j < 32; j++) {
+                for (m = 0; m < 28; m++) {
+                    n = (i * 32 + j) * 28 + m
+                    if (form == "own") cell = "f" i "[key]"
+                    if (form == "shared") cell = "f" (j * 28 + m) % 64 "[" i "]"
+                    if (form == "cells") cell = "f" n % 64 "[" int(n / 64) "]"
+                    if (m == 0) printf " add %s ", cell
+                    else printf "%s%s", cell, m < 27 ? " + " : ""
+                }
+                print j < 31 ? ";" : ""
+            }
+        }
+        if (form == "own") for (i = 0; i < 64; i++) print "source s" i " \"s" i ".csv\": k" i "[0..3]"
+        else for (s = 0; s < 4; s++) {
+            printf "source s%d \"s%d.csv\": k0", s, s
+            for (i = 1; i < 64; i++) printf ", k%d", i
+            print ""
+        }
+    }'
+}
+for form in own shared cells; do
+    for version in 1 2; do
+        hostile $form $version > hostile.job
+        measure "a job of $(stat -c %s hostile.job) bytes, $form, version $version: flumina check" "$program" check hostile.job
+    done
+done

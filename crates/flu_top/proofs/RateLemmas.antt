@@ -12,7 +12,7 @@ use Rattle.flu_model.specs.Rules.{source_fits, are_sources}
 use Rattle.flu_top.specs.Rates.{rate_of_source, source_rates}
 
 source_rate : (kinds : List Kind) (s : Source) → source_fits kinds s ≡ true → s.rate ≤ 1000000000
-source_rate kinds s fits = true_le s.rate 1000000000 (and_right _ _ (and_left _ _ (and_left _ _ (and_left _ _ fits))))
+source_rate kinds s fits = true_le s.rate 1000000000 (and_right _ _ (and_left _ _ (and_left _ _ (and_left _ _ (and_left _ _ fits)))))
 
 -- a declared source keeps the limit
 rate_is_small : (kinds : List Kind) (sources : List Source) (number : ℕ) → are_sources kinds sources ≡ true → rate_of_source sources number ≤ 1000000000

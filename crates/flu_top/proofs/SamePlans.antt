@@ -20,7 +20,7 @@ use Rattle.flu_model.specs.Owners.{is_keyed, key_matches, kind_matches, source_m
 use Rattle.flu_model.specs.Rules.{is_same_text, kind_is_keyed}
 use Rattle.flu_model.specs.Validity.{IsValid}
 use Rattle.flu_text.specs.declared.written.WrittenSpan.{WrittenSpan}
-use Rattle.flu_parse.specs.Spelling.{name_of}
+use Rattle.flu_layout.specs.Spelling.{name_of}
 use Rattle.flu_lemmas.proofs.Places.{position-map}
 use Rattle.flu_plan.specs.declared.fault.PlanFault.TheVariants as f
 use Rattle.flu_plan.specs.declared.written.WrittenPred.{WrittenPred}

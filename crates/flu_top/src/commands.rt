@@ -1,4 +1,4 @@
-//! What each command writes.
+//! The doing of commands.
 
 ghost use Rattle.std.specs.Prelude.{IfOk, IfErr};
 ghost use Rattle.flu_outside.specs.Outside.{WhereTold};
@@ -19,7 +19,7 @@ use flu_outside::Files;
 use std::alloc::Global;
 
 /// What a command writes, or why there is nothing to write.
-pub fn text_of<F: Files>(alloc: Global, files: &mut F, command: Command) -> Result<Text, Refusal>
+pub fn run<F: Files>(alloc: Global, files: &mut F, command: Command) -> Result<Text, Refusal>
     ensures written { IfOk result (λ text. WhereTold (F.left files.old) (F.left files.new) (IsWritten (plain_command command.entry) text)) }
     ensures refused { IfErr result (IsRefusal (plain_command command.entry) (F.left files.old) (F.left files.new) (F.faults files.old) (F.faults files.new)) }
     ensures fronts { WhereTold (F.left files.old) (F.left files.new) TookFronts }

@@ -15,7 +15,7 @@ use flu_valid::ValidFault;
 use std::alloc::AllocError;
 
 /// What is wrong with a plan.
-#[derive(Debug, Drop)]
+#[derive(Drop)]
 pub enum PlanDefect {
     /// The bytes under the plan's name are no text of a plan of the job.
     Text(PlanFault),
@@ -24,7 +24,7 @@ pub enum PlanDefect {
 }
 
 /// Why a command was not done.
-#[derive(Debug, Drop)]
+#[derive(Drop)]
 pub enum Refusal {
     /// The words are no command.
     BadWords(BadWords),

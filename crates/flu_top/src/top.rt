@@ -22,7 +22,7 @@ ghost use Rattle.flu_top.specs.Names.{source_name};
 ghost use Rattle.flu_top.specs.Answer.{status_after, line_of};
 ghost use Rattle.flu_top.specs.Ending.{Ends, NothingFailed};
 
-use crate::commands::text_of;
+use crate::commands::run;
 use crate::lines::say;
 use crate::refusals::{Refusal, status};
 use crate::words::read_words;
@@ -140,7 +140,7 @@ fn do_words<F: Files, K: Sink>(
         Ok(command) => command,
         Err(bad) => return Err(Refusal::BadWords(bad)),
     };
-    let text = match text_of(alloc, files, command) {
+    let text = match run(alloc, files, command) {
         Ok(text) => text,
         Err(refusal) => return Err(refusal),
     };
