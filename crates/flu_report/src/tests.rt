@@ -24,6 +24,7 @@ fn job(alloc: Global) -> Result<Program, AllocError> {
     kinds.push(kind(alloc, "tick", false)?)?;
     kinds.push(kind(alloc, "tic", false)?)?;
     Ok(Program {
+        version: 1,
         families: List::of(Vec::new(alloc)),
         kinds: List::of(kinds),
         depends: List::of(Vec::new(alloc)),
