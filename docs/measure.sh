@@ -43,7 +43,9 @@ for name in plain plain_crlf quoted quoted_crlf; do
 done
 
 # ---- a run over three sources of 1,000,000 rows in all
-cat > counts.job <<'JOB'
+# A job that counts the values of `inc` and puts the count out at each `read`, over the sources given.
+count_over() {
+    cat <<'JOB'
 cell count sum
 tag inc int
 tag read none
@@ -51,10 +53,12 @@ depends inc read
 depends read read
 on inc: add count value
 on read: emit "count {count}"; clear count
-source a "a.csv": inc
-source b "b.csv": inc
-source c "c.csv": read
 JOB
+    printf '%s\n' "$@"
+}
+count_over 'source a "a.csv": inc' \
+    'source b "b.csv": inc' \
+    'source c "c.csv": read' > counts.job
 gawk 'BEGIN { srand(1); for (t = 1; t <= 499500; t++) print 2 * t ",inc," int(rand() * 10000); print "end" }' > a.csv
 gawk 'BEGIN { srand(2); for (t = 1; t <= 499500; t++) print 2 * t + 1 ",inc," int(rand() * 10000); print "end" }' > b.csv
 gawk 'BEGIN { for (t = 1; t <= 1000; t++) print 999 * t ",read"; print "end" }' > c.csv
@@ -71,17 +75,8 @@ measure 'three sources, 1,000,000 rows: sort -m and gawk in C' sort_and_count C
 cmp out.txt folded.txt
 
 # ---- 1,000,000 rows that come late by less than 1,000, beside the same rows in order
-cat > late.job <<'JOB'
-cell count sum
-tag inc int
-tag read none
-depends inc read
-depends read read
-on inc: add count value
-on read: emit "count {count}"; clear count
-source a "late.csv" slack 1000: inc
-source c "c.csv": read
-JOB
+count_over 'source a "late.csv" slack 1000: inc' \
+    'source c "c.csv": read' > late.job
 gawk 'BEGIN { srand(1); for (t = 1; t <= 1000000; t++) print t + int(rand() * 999) "\t" t ",inc," t % 100 }' \
     | sort -n -s -k1,1 | cut -f2 > late.csv
 echo end >> late.csv
