@@ -7,7 +7,7 @@ use Rattle.flu_planner.specs.Graphs.{Graph, IsApart, AreComponents, is_rising, r
 use Rattle.flu_planner.specs.Cuts.{removal_order, removed, remaining, is_removed_first}
 use Rattle.flu_planner.specs.Groups.{grouped, goes_left}
 use Rattle.flu_lemmas.specs.Counting.{times}
-use Rattle.flu_planner.specs.Search.{IsFirstApart, IsPartingOnce}
+use Rattle.flu_planner.specs.LoopSearch.{IsFirstApart, IsPartingOnce}
 use Rattle.flu_lemmas.proofs.Counting.{times_append, times_in_order, times_parted}
 use Rattle.flu_planner.proofs.Rising.{rising_in_order}
 use Rattle.flu_planner.proofs.Searching.{none_apart}

@@ -6,7 +6,7 @@ use Rattle.flu_lemmas.specs.Sorting.{put_in_order}
 use Rattle.flu_lemmas.specs.Totals.{total}
 use Rattle.flu_planner.specs.Graphs.{Graph, IsComponent, AreComponents, IsInTurn, comes_first, is_rising, least, rising, total_rate}
 use Rattle.flu_lemmas.specs.Counting.{times}
-use Rattle.flu_planner.specs.Reaching.{has_greater_total, IsReached}
+use Rattle.flu_planner.specs.LoopReaching.{has_greater_total, IsReached}
 use Rattle.flu_planner.proofs.Connections.{kept_where_connected, connected_within}
 use Rattle.flu_lemmas.proofs.Containing.{contains_here, contains_later, contains_cases, contains_none}
 use Rattle.flu_lemmas.proofs.Counting.{times_in_order, times_if_contained, contained_if_times}

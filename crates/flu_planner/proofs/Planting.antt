@@ -8,7 +8,7 @@ use Rattle.flu_model.specs.declared.plans.Node.{Node}
 use Rattle.flu_planner.specs.Graphs.{Graph}
 use Rattle.flu_planner.specs.Greedy.{Leaf, Inner, IsLeaf, IsParting}
 use Rattle.flu_planner.specs.Plans.{node_of, nodes_from, size}
-use Rattle.flu_planner.specs.Search.{IsSubtree}
+use Rattle.flu_planner.specs.LoopSearch.{IsSubtree}
 use Rattle.flu_planner.proofs.PlanNodes.{count_of_nodes}
 
 pub doubled : (d : ℕ) → 2 ^ (d + 1) ≡ 2 ^ d + 2 ^ d

@@ -8,7 +8,7 @@ use Rattle.std.proofs.lemmas.List.Filters.{length-filter_both}
 use Rattle.std.proofs.lemmas.List.Elements.{Contains-append_left, Contains-append_cases, Contains-get_or}
 use Rattle.flu_planner.specs.Graphs.{Graph, AreConnected, IsApart, is_rising, least}
 use Rattle.flu_lemmas.specs.Counting.{times}
-use Rattle.flu_planner.specs.Reaching.{IsReached}
+use Rattle.flu_planner.specs.LoopReaching.{IsReached}
 use Rattle.flu_planner.proofs.Connections.{kept_where_connected, connected_itself, connected_on, connected_step, connected_back}
 use Rattle.flu_lemmas.proofs.Containing.{contains_here, contains_cases, contains_none}
 use Rattle.flu_lemmas.proofs.Counting.{times-cons, times_append, times_filter, times_if_contained, contained_if_times}

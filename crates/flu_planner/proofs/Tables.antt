@@ -11,7 +11,7 @@ use Rattle.flu_model.specs.Itags.{count_of_itags, tag_of_itag}
 use Rattle.flu_laws.specs.Lawful.{DependencyTurns}
 use Rattle.flu_planner.specs.Graphs.{dependencies}
 use Rattle.flu_planner.specs.Plans.{all_itags}
-use Rattle.flu_planner.specs.Tables.{read, is_set, entry, are_dependent, table_of, graph_of}
+use Rattle.flu_planner.specs.LoopTables.{read, is_set, entry, are_dependent, table_of, graph_of}
 use Rattle.flu_planner.proofs.Agreement.{Agree}
 
 -- each edge leads both ways

@@ -4,6 +4,6 @@ pub mod Groups
 pub mod Greedy
 pub mod Plans
 pub mod Laws
-pub mod Tables
-pub mod Reaching
-pub mod Search
+pub mod LoopTables
+pub mod LoopReaching
+pub mod LoopSearch

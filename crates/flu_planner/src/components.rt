@@ -6,8 +6,8 @@ ghost use Rattle.flu_lemmas.specs.Sorting.{put_in_order};
 ghost use Rattle.flu_lemmas.specs.Totals.{total};
 ghost use Rattle.flu_planner.specs.Graphs.{IsApart, AreComponents, is_rising, total_rate};
 ghost use Rattle.flu_lemmas.specs.Counting.{times};
-ghost use Rattle.flu_planner.specs.Reaching.{has_greater_total, IsReached};
-ghost use Rattle.flu_planner.specs.Tables.{graph_of};
+ghost use Rattle.flu_planner.specs.LoopReaching.{has_greater_total, IsReached};
+ghost use Rattle.flu_planner.specs.LoopTables.{graph_of};
 
 use crate::dependencies::joined;
 use crate::removal::{rising, total_rate};

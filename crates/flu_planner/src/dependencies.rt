@@ -2,7 +2,7 @@
 
 ghost use Rattle.std.specs.Prelude.{◌≡◌, IfOk};
 ghost use Rattle.flu_model.specs.Itags.{count_of_itags};
-ghost use Rattle.flu_planner.specs.Tables.{entry, table_of, read, graph_of};
+ghost use Rattle.flu_planner.specs.LoopTables.{entry, table_of, read, graph_of};
 
 use flu_deps::dep;
 use flu_model::{Itag, Program, itag_count, tag_of};

@@ -4,8 +4,8 @@ ghost use Rattle.std.specs.Prelude.{◌≡◌, [], IfOk, IsTrue, MatchOption};
 ghost use Rattle.flu_planner.specs.Graphs.{is_rising};
 ghost use Rattle.flu_planner.specs.Cuts.{IsWhole};
 ghost use Rattle.flu_planner.specs.Groups.{goes_left, grouped};
-ghost use Rattle.flu_planner.specs.Search.{IsPartingOnce};
-ghost use Rattle.flu_planner.specs.Tables.{graph_of};
+ghost use Rattle.flu_planner.specs.LoopSearch.{IsPartingOnce};
+ghost use Rattle.flu_planner.specs.LoopTables.{graph_of};
 
 use crate::components::components;
 use crate::removal::{least_cut, removal_order, rising, total_rate};

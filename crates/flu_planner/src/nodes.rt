@@ -5,8 +5,8 @@ ghost use Rattle.flu_model.specs.Itags.{count_of_itags};
 ghost use Rattle.flu_model.specs.Owners.{is_keyed};
 ghost use Rattle.flu_planner.specs.Graphs.{is_rising};
 ghost use Rattle.flu_planner.specs.Plans.{all_itags, pred_of, node_of, IsGreedyPlan};
-ghost use Rattle.flu_planner.specs.Search.{IsSubtree};
-ghost use Rattle.flu_planner.specs.Tables.{graph_of};
+ghost use Rattle.flu_planner.specs.LoopSearch.{IsSubtree};
+ghost use Rattle.flu_planner.specs.LoopTables.{graph_of};
 
 use crate::dependencies::table;
 use crate::groups::part;

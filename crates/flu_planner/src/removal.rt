@@ -5,8 +5,8 @@ ghost use Rattle.std.specs.List.{position_or_len};
 ghost use Rattle.flu_planner.specs.Graphs.{rate_of, total_rate, rising};
 ghost use Rattle.flu_planner.specs.Cuts.{is_removed_first, removal_order};
 ghost use Rattle.flu_lemmas.specs.Counting.{times};
-ghost use Rattle.flu_planner.specs.Tables.{graph_of};
-ghost use Rattle.flu_planner.specs.Search.{IsFirstApart, IsNeverApart};
+ghost use Rattle.flu_planner.specs.LoopTables.{graph_of};
+ghost use Rattle.flu_planner.specs.LoopSearch.{IsFirstApart, IsNeverApart};
 
 use crate::components::is_apart;
 use std::alloc::{AllocError, Global};

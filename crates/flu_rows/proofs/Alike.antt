@@ -7,12 +7,11 @@ use Rattle.csv.specs.Reading.{default_config, strip_bom}
 use Rattle.flu_rows.specs.declared.rows.Next.{Next}
 use Rattle.flu_rows.specs.declared.rows.Next.TheVariants.{TooManyLines}
 use Rattle.flu_rows.specs.declared.line.Line.TheVariants.{Blank}
-use Rattle.flu_rows.specs.Filling.{line_len}
+use Rattle.flu_rows.specs.Lines.{line_len, line_of, line_of_fields}
 use Rattle.flu_rows.specs.Records.{first_record}
 use Rattle.flu_rows.specs.Row.{filled_len}
-use Rattle.flu_rows.specs.Lines.{line_of, line_of_fields}
 use Rattle.flu_rows.specs.Reading.{read_line, read_lines, read_bytes}
-use Rattle.flu_rows.specs.Run.{IsAlike, AreAlike, joined, IsRun, ReadAlike, state_after, quotes_after}
+use Rattle.flu_rows.specs.LoopRuns.{IsAlike, AreAlike, joined, IsRun, ReadAlike, state_after, quotes_after}
 use Rattle.std.proofs.lemmas.Grind.{common_steps}
 use Rattle.flu_rows.proofs.Cuts.{lines_of-cut, take_line, split_line, one_line}
 use Rattle.flu_rows.proofs.Scanning.{alike}

@@ -4,8 +4,7 @@ use Rattle.std.specs.List.{onto_first}
 use Rattle.std.proofs.lemmas.Bool.{cases_Bool}
 use Rattle.std.proofs.lemmas.Bool.Decides.{nat_tests}
 use Rattle.std.proofs.lemmas.List.{drop_at, take_all}
-use Rattle.flu_rows.specs.Filling.{line_len}
-use Rattle.flu_rows.specs.Lines.{lines_of}
+use Rattle.flu_rows.specs.Lines.{line_len, lines_of}
 
 -- a line that has no line feed is cut off at the one behind it
 pub lines_of-cut : (line rest : List ℕ) → line_len line ≡ length line → lines_of (line ++ (10 ∷ rest)) ≡ line ∷ lines_of rest

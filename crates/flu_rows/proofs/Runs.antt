@@ -5,7 +5,7 @@ use Rattle.csv.specs.Reading.{default_config, strip_bom, ReadsNext, ReadRecord, 
 use Rattle.csv.specs.declared.reader.Reader.{Reader}
 use Rattle.csv.specs.declared.parser.State.{State}
 use Rattle.csv.specs.declared.parser.State.TheVariants as state
-use Rattle.flu_rows.specs.Run.{state_after, lead, IsAlike, AreAlike, joined, IsRun, Source, source_left, left_in, Stands, GivesLine, ReadsLine}
+use Rattle.flu_rows.specs.LoopRuns.{state_after, lead, IsAlike, AreAlike, joined, IsRun, Source, source_left, left_in, Stands, GivesLine, ReadsLine}
 
 -- a run begins with no byte order mark
 strip_lines : (lines : List (List ℕ)) → AreAlike lines → strip_bom (joined lines) ≡ joined lines

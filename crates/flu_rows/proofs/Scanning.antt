@@ -9,9 +9,8 @@ use Rattle.csv.specs.declared.parser.State.{State}
 use Rattle.csv.specs.declared.parser.State.TheVariants as state
 use Rattle.flu_rows.specs.declared.scan.Quotes.{Quotes}
 use Rattle.flu_rows.specs.declared.scan.Quotes.TheVariants.{FieldStart, Bare, Quoted, Closed}
-use Rattle.flu_rows.specs.Filling.{line_len}
-use Rattle.flu_rows.specs.Lines.{begins_with_mark}
-use Rattle.flu_rows.specs.Run.{next_quotes, quotes_after, Closes, IsTextOf, IsAlike}
+use Rattle.flu_rows.specs.Lines.{line_len, begins_with_mark}
+use Rattle.flu_rows.specs.LoopRuns.{next_quotes, quotes_after, Closes, IsTextOf, IsAlike}
 
 -- no byte ends a record
 unfoldable NoEnds : List ℕ → Type 0

@@ -13,11 +13,11 @@ use Rattle.flu_rows.specs.declared.rows.Next.{Next}
 use Rattle.flu_rows.specs.declared.rows.Next.TheVariants.{Row, TooManyLines, Done}
 use Rattle.flu_rows.specs.declared.rows.Step.{Step}
 use Rattle.flu_rows.specs.declared.rows.Step.TheVariants.{Skip, Give}
-use Rattle.flu_rows.specs.Filling.{line_len, IsFound, IsLast}
-use Rattle.flu_rows.specs.Lines.{lines_of, line_of, line_of_fields}
+use Rattle.flu_rows.specs.LoopFilling.{IsFound, IsLast}
+use Rattle.flu_rows.specs.Lines.{line_len, lines_of, line_of, line_of_fields}
 use Rattle.flu_rows.specs.Reading.{read_line, read_lines, read_bytes}
-use Rattle.flu_rows.specs.Run.{GivesLine}
-use Rattle.flu_rows.specs.Steps.{step_of, row_step, step_behind, BeginsWith, ReadsStep}
+use Rattle.flu_rows.specs.LoopRuns.{GivesLine}
+use Rattle.flu_rows.specs.LoopSteps.{step_of, row_step, step_behind, BeginsWith, ReadsStep}
 use Rattle.flu_outside.specs.Taking.{KeepsBytes, bytes_left, IsReadOut}
 use Rattle.flu_rows.proofs.Alike.{line_of-alike}
 use Rattle.flu_rows.proofs.Cuts.{lines_of-cut, lines_of-line, lines_of-last, lines_of-long}

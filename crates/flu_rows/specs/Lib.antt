@@ -3,6 +3,6 @@ pub mod Row
 pub mod Records
 pub mod Lines
 pub mod Reading
-pub mod Filling
-pub mod Run
-pub mod Steps
+pub mod LoopFilling
+pub mod LoopRuns
+pub mod LoopSteps

@@ -1,6 +1,6 @@
 -- The lines of a file, and what each of them is.
-use Rattle.std.specs.Prelude.{ℕ, Bool, ◌&&◌, not, ◌==◌, nat_lt, if◌then◌else◌, List, [], ◌∷◌, length, take, Option, Some, None, ⊤}
-use Rattle.std.specs.List.{onto_first}
+use Rattle.std.specs.Prelude.{◌≡◌, ℕ, ◌≤◌, Bool, ◌&&◌, not, ◌==◌, nat_lt, if◌then◌else◌, List, [], ◌∷◌, length, take, Option, Some, None, ⊤}
+use Rattle.std.specs.List.{onto_first, prefix_len}
 use Rattle.std.specs.Str.{bytes_eq}
 use Rattle.csv.specs.Machine.{Read}
 use Rattle.flu_rows.specs.declared.row.Row.{Row}
@@ -13,6 +13,15 @@ use Rattle.flu_rows.specs.Row.{row_of, filled_len, IsInRange}
 unfoldable pub lines_of : List ℕ → List (List ℕ)
 lines_of [] = []
 lines_of (b ∷ bytes) = if b == 10 then [] ∷ lines_of bytes else onto_first b (lines_of bytes)
+
+-- how many bytes stand before the first line feed
+abbrev pub line_len : List ℕ → ℕ
+line_len bytes = prefix_len (λ b. not (b == 10)) bytes
+
+-- some bytes decide nothing: they have no line feed, and are no more than a line may be
+pub record IsUndecided (bytes : List ℕ) : Type 0 where
+  pub one : line_len bytes ≡ length bytes
+  pub short : length bytes ≤ 4096
 
 -- the byte order mark, EF BB BF, stands at the front
 abbrev pub begins_with_mark : List ℕ → Bool

@@ -1,10 +1,10 @@
 //! The bytes that are held of a file.
 
 ghost use Rattle.std.specs.Prelude.{◌≡◌, ◌≢◌, ℕ, List, not, ◌==◌, ◌+◌, ◌≤◌, ◌<◌, [], ◌++◌, drop, length, IfOk, OnOk, IsErrOf, Err};
-ghost use Rattle.std.specs.List.{prefix_len};
 ghost use Rattle.flu_outside.specs.Outside.{WhereTold, Rose, SameLeft, SameCounts};
 ghost use Rattle.flu_outside.specs.Taking.{TakesFrom, KeepsBytes, CountsOf, IsReadOut};
-ghost use Rattle.flu_rows.specs.Filling.{line_len, IsFound, IsLast, IsUndecided};
+ghost use Rattle.flu_rows.specs.LoopFilling.{IsFound, IsLast};
+ghost use Rattle.flu_rows.specs.Lines.{line_len, IsUndecided};
 
 use crate::line::LONGEST_LINE;
 use flu_outside::{Files, TakeFault, take_behind};

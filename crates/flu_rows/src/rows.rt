@@ -4,10 +4,10 @@ ghost use Rattle.std.specs.Prelude.{◌≡◌, ◌≢◌, ◌+◌, ◌^◌, ◌+
 ghost use Rattle.csv.specs.Records.{fields_of};
 ghost use Rattle.flu_outside.specs.Outside.{WhereTold, Rose, SameCounts};
 ghost use Rattle.flu_outside.specs.Taking.{TakesFrom, CountsOf, IsReadOut};
-ghost use Rattle.flu_rows.specs.Filling.{IsFound, IsUndecided};
-ghost use Rattle.flu_rows.specs.Lines.{LineInRange};
+ghost use Rattle.flu_rows.specs.LoopFilling.{IsFound};
+ghost use Rattle.flu_rows.specs.Lines.{IsUndecided, LineInRange};
 ghost use Rattle.flu_rows.specs.Reading.{ahead, front_of, then_behind, read_bytes, NextInRange, CountsLines, OnDone};
-ghost use Rattle.flu_rows.specs.Steps.{step_of, row_step, step_behind, BeginsWith, StepInRange, StepCounts, StepOnDone, ReadsStep};
+ghost use Rattle.flu_rows.specs.LoopSteps.{step_of, row_step, step_behind, BeginsWith, StepInRange, StepCounts, StepOnDone, ReadsStep};
 
 use crate::held::{Found, Held, RowsFault};
 use crate::line::{Line, line_of, line_of_record};

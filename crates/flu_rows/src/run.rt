@@ -2,7 +2,7 @@
 
 ghost use Rattle.std.specs.Prelude.{◌≡◌, ◌≤◌, ◌<◌, ◌++◌, [], drop, length, IfOk, OnOk, None};
 ghost use Rattle.csv.specs.Records.{fields_of};
-ghost use Rattle.flu_rows.specs.Run.{IsRun, ReadAlike, GivesNext, Stands, ReadsLine};
+ghost use Rattle.flu_rows.specs.LoopRuns.{IsRun, ReadAlike, GivesNext, Stands, ReadsLine};
 
 use crate::held::{Held, line_len};
 use crate::scan::{Kind, kind_of};
@@ -24,7 +24,7 @@ pub(crate) struct Run {
 
 impl Model for Run {
     ghost use Rattle.std.specs.Prelude.{List, ℕ};
-    ghost use Rattle.flu_rows.specs.Run.{left_in_box, StandsInBox};
+    ghost use Rattle.flu_rows.specs.LoopRuns.{left_in_box, StandsInBox};
 
     ghost Value = { List ℕ };
 

@@ -4,8 +4,8 @@
 //! but the last byte: csv reads such a line among others as it reads it alone, so one reader serves many of them.
 
 ghost use Rattle.std.specs.Prelude.{◌≡◌, length, IsTrue};
-ghost use Rattle.flu_rows.specs.Filling.{line_len};
-ghost use Rattle.flu_rows.specs.Run.{next_quotes, quotes_after, Closes, IsTextOf, HasKind};
+ghost use Rattle.flu_rows.specs.Lines.{line_len};
+ghost use Rattle.flu_rows.specs.LoopRuns.{next_quotes, quotes_after, Closes, IsTextOf, HasKind};
 ghost use Rattle.flu_rows.specs.declared.scan.Quotes.TheVariants.{FieldStart};
 
 use crate::line::LONGEST_LINE;

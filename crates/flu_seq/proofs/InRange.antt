@@ -10,7 +10,7 @@ use Rattle.flu_model.specs.declared.events.Event.{Event}
 use Rattle.flu_model.specs.declared.events.Item.{Item}
 use Rattle.flu_model.specs.Merging.{events_of, all_events, IsMerged}
 use Rattle.flu_model.specs.Streaming.{are_streams}
-use Rattle.flu_seq.specs.Heads.{is_run}
+use Rattle.flu_seq.specs.LoopHeads.{is_run}
 use Rattle.flu_seq.proofs.Runs.{run_of_stream}
 
 in_range : (i n x : ℕ) → (x == i) ≡ true → i < n → nat_lt x n ≡ true

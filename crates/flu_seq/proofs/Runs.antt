@@ -8,7 +8,7 @@ use Rattle.flu_model.specs.Merging.{events_of}
 use Rattle.flu_model.specs.Streaming.{is_stream_from, are_streams}
 use Rattle.flu_lemmas.proofs.Numbers.{le_lower}
 use Rattle.flu_lemmas.proofs.Tests.{and_left, and_right, both, true_le}
-use Rattle.flu_seq.specs.Heads.{is_run, items_at}
+use Rattle.flu_seq.specs.LoopHeads.{is_run, items_at}
 
 pub run-lower : (i a b : ℕ) (xs : List Event) → a ≤ b → is_run i b xs ≡ true → is_run i a xs ≡ true
 run-lower i a b [] le e = refl

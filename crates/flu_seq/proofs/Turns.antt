@@ -17,7 +17,7 @@ use Rattle.flu_lemmas.proofs.Numbers.{same_number, apart_below}
 use Rattle.flu_lemmas.proofs.Tests.{and_left, and_right, both, lt_true, le_true, true_le, true_lt, true_eq}
 use Rattle.flu_seq.specs.declared.merging.Head.{Head}
 use Rattle.flu_lemmas.specs.Totals.{total}
-use Rattle.flu_seq.specs.Heads.{event_at, items_at, rest_of, pending, is_run, is_good, heads_of, head_cmp, Ready, Adds}
+use Rattle.flu_seq.specs.LoopHeads.{event_at, items_at, rest_of, pending, is_run, is_good, heads_of, head_cmp, Ready, Adds}
 use Rattle.flu_lemmas.proofs.Totals.{total-IsPermutation, total-append, total-flat_map, all-IsPermutation}
 use Rattle.flu_seq.proofs.Runs.{run_of_stream, stream_at}
 use Rattle.flu_seq.proofs.Unique.{before_trans, Strict, strict-push, merged-IsMerged, only_merged}

@@ -5,7 +5,7 @@ ghost use Rattle.std.specs.BinaryHeap.{heap_items};
 ghost use Rattle.flu_model.specs.Itags.{count_of_itags};
 ghost use Rattle.flu_model.specs.Listed.{listed};
 ghost use Rattle.flu_model.specs.Merging.{IsMerged, events_of, merged};
-ghost use Rattle.flu_seq.specs.Heads.{Adds, event_at, items_at};
+ghost use Rattle.flu_seq.specs.LoopHeads.{Adds, event_at, items_at};
 
 use flu_model::{Event, Itag, Item, Program, Streams, itag_count};
 use std::alloc::{AllocError, Global};

@@ -35,9 +35,10 @@ use Rattle.flu_streams.specs.Tests.{rows_of, has_ended, items_of, first_of, firs
 use Rattle.flu_streams.specs.Good.{items_at, lists_of_rows, rows_in, items_held, fault_of_source, first_fault}
 use Rattle.flu_streams.specs.Files.{files_of, LeavesOthers, CountsOfNames, AreReadOut}
 use Rattle.flu_streams.specs.Lists.{lists_in}
-use Rattle.flu_streams.specs.Intake.{Holds}
-use Rattle.flu_streams.specs.Source.{WasRead, HidesNoDefect}
-use Rattle.flu_streams.specs.Gathering.{AddsSource, IsFaultOf, IsGathered, IsFirstFault, HidesNothing, StopsWithout, lists_of_sources}
+use Rattle.flu_streams.specs.LoopIntake.{Holds}
+use Rattle.flu_streams.specs.LoopSource.{HidesNoDefect}
+use Rattle.flu_streams.specs.Faults.{WasRead, IsFirstFault, HidesNothing, StopsWithout}
+use Rattle.flu_streams.specs.LoopGathering.{AddsSource, IsFaultOf, IsGathered, lists_of_sources}
 use Rattle.flu_streams.proofs.Befores.{with_before-append, first_some-append}
 use Rattle.flu_streams.proofs.Streamings.{streams_of_range, are_streams-append}
 

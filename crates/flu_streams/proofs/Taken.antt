@@ -24,20 +24,21 @@ use Rattle.flu_rows.specs.declared.row.Row.{Row}
 use Rattle.flu_rows.specs.declared.row.Row.TheVariants.{Event, Beat, End}
 use Rattle.flu_rows.specs.declared.rows.Next.{Next}
 use Rattle.flu_rows.specs.declared.rows.Next.TheVariants.{Row as RowNext, Bad, TooManyLines, Done}
-use Rattle.flu_rows.specs.Filling.{IsUndecided}
+use Rattle.flu_rows.specs.Lines.{IsUndecided}
 use Rattle.flu_rows.specs.Reading.{Place, ahead, then_behind, front_of, OnDone}
 use Rattle.flu_streams.specs.declared.faults.Why.{Why}
 use Rattle.flu_streams.specs.declared.faults.Why.TheVariants.{AfterEnd}
 use Rattle.flu_streams.specs.declared.intake.Intake.{Intake}
-use Rattle.flu_streams.specs.declared.intake.Refusal.{Refusal}
-use Rattle.flu_streams.specs.declared.intake.Refusal.TheVariants.{Fault, NoMemory}
+use Rattle.flu_streams.specs.declared.intake.RowRefusal.{RowRefusal}
+use Rattle.flu_streams.specs.declared.intake.RowRefusal.TheVariants.{Fault, NoMemory}
 use Rattle.flu_streams.specs.Before.{with_before, first_some, or_else}
 use Rattle.flu_streams.specs.Lists.{items_of_list, item_time, times_in, item_for}
 use Rattle.flu_streams.specs.Tags.{place_named, width}
 use Rattle.flu_streams.specs.Tests.{row_in, rows_of, is_end, has_ended, time_in, times_of, greatest, items_in, items_of, where_true, test_behind, test_times, fault_of, defect_of, first_of, first_defect}
 use Rattle.flu_streams.specs.Good.{item_in, time_at, in_time_order, items_at}
-use Rattle.flu_streams.specs.Intake.{IsEmpty, Inserts, TakesEnd, Takes, TakesIn, IsRefusal, SameTimes, Holds, item_of}
-use Rattle.flu_streams.specs.Source.{stop_at, defect_behind, WasRead, IsTakenIn, IsReading, IsGoodSource, IsFirstDefect, HidesNoDefect}
+use Rattle.flu_streams.specs.LoopIntake.{IsEmpty, Inserts, TakesEnd, Takes, TakesIn, IsRefusal, SameTimes, Holds, item_of}
+use Rattle.flu_streams.specs.Faults.{WasRead}
+use Rattle.flu_streams.specs.LoopSource.{stop_at, defect_behind, IsTakenIn, IsReading, IsGoodSource, IsFirstDefect, HidesNoDefect}
 use Rattle.flu_streams.proofs.Befores.{with_before-append, first_some-append}
 
 -- ---- one row more
@@ -310,7 +311,7 @@ refused_at kinds s number before intake place place' a b c line row why reading 
     told_then (λ was now. WasRead s read (ahead place now) was) (λ was now. ahead place was ≡ then_behind (RowNext line row) (ahead place' now)) (λ was now. first_defect kinds s before (bytes_left was s.file) ≡ Some (line, why)) a b c
     (λ x y z p q. ap (first_of kinds s before) (p ∙ ap (λ (rest : List Next). read ++ rest) q) ∙ first_of-at kinds s before read (ahead place' z) (RowNext line row) (Some (line, why)) reading.taken.passes defect) reading.told told
 
-pub refused : (kinds : List Kind) (s : Source) (number before : ℕ) (intake : Intake) (place place' : Place) (a b c : Option Contents) (line : ℕ) (row : Row) (refusal : Refusal)
+pub refused : (kinds : List Kind) (s : Source) (number before : ℕ) (intake : Intake) (place place' : Place) (a b c : Option Contents) (line : ℕ) (row : Row) (refusal : RowRefusal)
     → IsReading kinds s number before intake place a b → WhereTold b c (λ was now. ahead place was ≡ then_behind (RowNext line row) (ahead place' now)) → IsRefusal (fault_of kinds s intake.ended (times_in intake.items.items) intake.held row) refusal
     → IsFirstDefect kinds s before a c (stop_at line refusal)
 refused kinds s number before intake place place' a b c line row NoMemory reading told fault = tt

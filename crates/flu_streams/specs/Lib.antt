@@ -2,8 +2,9 @@ pub mod Before
 pub mod Tags
 pub mod Tests
 pub mod Good
+pub mod Faults
 pub mod Files
 pub mod Lists
-pub mod Intake
-pub mod Source
-pub mod Gathering
+pub mod LoopIntake
+pub mod LoopSource
+pub mod LoopGathering

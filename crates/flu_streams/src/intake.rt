@@ -17,7 +17,7 @@ const MOST_ITEMS: u64 = 16_777_216;
 
 /// Why a row is not taken in.
 #[derive(Clone, Copy)]
-pub(crate) enum Refusal {
+pub(crate) enum RowRefusal {
     Fault(Why),
     NoMemory,
 }
@@ -41,7 +41,7 @@ pub(crate) struct Intake {
 impl Intake {
     ghost use Rattle.flu_streams.specs.Tags.{width};
     ghost use Rattle.flu_streams.specs.Tests.{fault_of, test_times};
-    ghost use Rattle.flu_streams.specs.Intake.{IsEmpty, TakesIn, Inserts, TakesEnd, IsRefusal, fault_at};
+    ghost use Rattle.flu_streams.specs.LoopIntake.{IsEmpty, TakesIn, Inserts, TakesEnd, IsRefusal, fault_at};
 
     /// Nothing of a source with so many itags, where so many items of other sources are held.
     pub(crate) fn new(
@@ -66,14 +66,19 @@ impl Intake {
     }
 
     /// Takes a row in.
-    pub(crate) fn take(&mut self, kinds: &[Kind], source: &Source, row: Row) -> Result<(), Refusal>
+    pub(crate) fn take(
+        &mut self,
+        kinds: &[Kind],
+        source: &Source,
+        row: Row,
+    ) -> Result<(), RowRefusal>
         requires few { length kinds.now ≤ 64 }
         requires width { vec_len self.old.lists ≡ width source.now }
         ensures taken { OnOk result (TakesIn kinds.now source.now row self.old self.new) }
         ensures refused { IfErr result (IsRefusal (fault_of kinds.now source.now self.old.ended (times_in self.old.items.items) self.old.held row)) }
     {
         if self.ended {
-            return Err(Refusal::Fault(Why::AfterEnd));
+            return Err(RowRefusal::Fault(Why::AfterEnd));
         }
         match row {
             Row::End => self.end(),
@@ -88,7 +93,7 @@ impl Intake {
                 value,
             } => match place_of_event(kinds, source, name.as_str(), key, value) {
                 Ok(place) => self.event(source.slack, place, time, value.unwrap_or(0)),
-                Err(why) => Err(Refusal::Fault(why)),
+                Err(why) => Err(RowRefusal::Fault(why)),
             },
         }
     }
@@ -101,7 +106,7 @@ impl Intake {
     }
 
     // Takes an event in, of the itag at this place.
-    fn event(&mut self, slack: u64, place: u32, time: u64, value: i64) -> Result<(), Refusal>
+    fn event(&mut self, slack: u64, place: u32, time: u64, value: i64) -> Result<(), RowRefusal>
         requires { place < vec_len self.old.lists }
         ensures passes { OnOk result (fault_at slack (times_in self.old.items.items) self.old.held time 1 ≡ None) }
         ensures taken { OnOk result (Inserts (Item.Event (record { time = time; itag = record { 0 = self.old.first + place }; value = value })) 1 self.old self.new) }
@@ -116,7 +121,7 @@ impl Intake {
     }
 
     // Takes an event or a heartbeat in, which is so many items.
-    fn insert(&mut self, slack: u64, item: Item, count: u64) -> Result<(), Refusal>
+    fn insert(&mut self, slack: u64, item: Item, count: u64) -> Result<(), RowRefusal>
         ensures passes { OnOk result (fault_at slack (times_in self.old.items.items) self.old.held (item_time item) count ≡ None) }
         ensures taken { OnOk result (Inserts item count self.old self.new) }
         ensures refused { IfErr result (IsRefusal (fault_at slack (times_in self.old.items.items) self.old.held (item_time item) count)) }
@@ -124,15 +129,15 @@ impl Intake {
         let time = time_of(&item);
         let at = match self.place_of(slack, time) {
             Ok(at) => at,
-            Err(why) => return Err(Refusal::Fault(why)),
+            Err(why) => return Err(RowRefusal::Fault(why)),
         };
         if count > MOST_ITEMS - self.held {
-            return Err(Refusal::Fault(Why::TooMany {
+            return Err(RowRefusal::Fault(Why::TooMany {
                 count: MOST_ITEMS + 1,
             }));
         }
         if self.items.insert(at, item).is_err() {
-            return Err(Refusal::NoMemory);
+            return Err(RowRefusal::NoMemory);
         }
         self.last = Some(self.last.unwrap_or(0).max(time));
         self.held += count;
@@ -162,12 +167,12 @@ impl Intake {
     }
 
     // Takes the end in.
-    fn end(&mut self) -> Result<(), Refusal>
+    fn end(&mut self) -> Result<(), RowRefusal>
         ensures taken { OnOk result (TakesEnd self.old self.new) }
         ensures refused { IfErr result (IsRefusal None) }
     {
         if push_items(&mut self.lists, self.first, self.items.as_slice()).is_err() {
-            return Err(Refusal::NoMemory);
+            return Err(RowRefusal::NoMemory);
         }
         self.ended = true;
         Ok(())

@@ -6,9 +6,10 @@ ghost use Rattle.flu_model.specs.Listed.{listed};
 ghost use Rattle.flu_outside.specs.Outside.{WhereTold, Rose, SameCounts};
 ghost use Rattle.flu_outside.specs.Taking.{TakesFrom, TookFronts, CountsOf, IsReadOut};
 ghost use Rattle.flu_streams.specs.Files.{files_of, LeavesOthers, CountsOfNames, OneRose, AreReadOut};
-ghost use Rattle.flu_streams.specs.Gathering.{AddsSource, IsFaultOf, IsFirstFault, HidesNothing, fault_of_stop};
+ghost use Rattle.flu_streams.specs.Faults.{IsFirstFault, HidesNothing};
+ghost use Rattle.flu_streams.specs.LoopGathering.{AddsSource, IsFaultOf, fault_of_stop};
 ghost use Rattle.flu_streams.specs.Good.{AreGood, lists_of};
-ghost use Rattle.flu_streams.specs.Source.{HidesNoDefect};
+ghost use Rattle.flu_streams.specs.LoopSource.{HidesNoDefect};
 ghost use Rattle.flu_streams.specs.Tags.{width};
 
 use crate::faults::{GatherFault, SourceFault};

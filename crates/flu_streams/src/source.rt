@@ -4,10 +4,10 @@ ghost use Rattle.std.specs.Prelude.{◌≡◌, ◌≢◌, ◌≤◌, ◌+◌, le
 ghost use Rattle.flu_outside.specs.Outside.{WhereTold, Rose, SameCounts};
 ghost use Rattle.flu_outside.specs.Taking.{TakesFrom, CountsOf, IsReadOut};
 ghost use Rattle.flu_streams.specs.Tags as Tags;
-ghost use Rattle.flu_streams.specs.Source.{stop_of, stop_at, defect_behind, IsGoodSource, IsFirstDefect, HidesNoDefect};
+ghost use Rattle.flu_streams.specs.LoopSource.{stop_of, stop_at, defect_behind, IsGoodSource, IsFirstDefect, HidesNoDefect};
 
 use crate::faults::Why;
-use crate::intake::{Intake, Refusal};
+use crate::intake::{Intake, RowRefusal};
 use flu_model::{Kind, Source};
 use flu_outside::Files;
 use flu_rows::{Next, Rows, RowsFault};
@@ -82,15 +82,15 @@ fn stop_of(fault: RowsFault) -> Stop
 }
 
 // The stop at a row that is refused.
-fn stop_at(line: u32, refusal: Refusal) -> Stop
+fn stop_at(line: u32, refusal: RowRefusal) -> Stop
     ensures { result ≡ stop_at line refusal }
 {
     match refusal {
-        Refusal::Fault(why) => Stop::Defect {
+        RowRefusal::Fault(why) => Stop::Defect {
             row: u64::from(line),
             why,
         },
-        Refusal::NoMemory => Stop::NoMemory,
+        RowRefusal::NoMemory => Stop::NoMemory,
     }
 }
 

@@ -1,6 +1,6 @@
 use Rattle.std.proofs.Common.{sym, ap, ◌∙◌}
 use Rattle.std.specs.List.{insert}
-use Rattle.flu_planner.specs.Reaching.{has_greater_total}
+use Rattle.flu_planner.specs.LoopReaching.{has_greater_total}
 use Rattle.flu_planner.proofs.Putting.{put_at_place}
 use Rattle.flu_planner.proofs.components.add_component.Goals as goal
 

@@ -2,8 +2,8 @@ use Rattle.std.proofs.Common.{◌≡◌, [], arith, sym}
 use Rattle.std.proofs.lemmas.Bool.{eqb-true}
 use Rattle.std.proofs.lemmas.List.{nil_from_length}
 use Rattle.flu_planner.specs.Graphs.{Graph}
-use Rattle.flu_planner.specs.Reaching.{IsReached}
-use Rattle.flu_planner.specs.Tables.{graph_of}
+use Rattle.flu_planner.specs.LoopReaching.{IsReached}
+use Rattle.flu_planner.specs.LoopTables.{graph_of}
 use Rattle.flu_planner.proofs.Tables.{graph_turns}
 use Rattle.flu_planner.proofs.Finding.{none_found, one_more_found, all_once, all_found}
 use Rattle.flu_planner.proofs.components.components.Goals as goal

@@ -1,5 +1,5 @@
 use Rattle.std.proofs.Common.{length}
-use Rattle.flu_planner.specs.Tables.{graph_of}
+use Rattle.flu_planner.specs.LoopTables.{graph_of}
 use Rattle.flu_planner.proofs.Finding.{IsFinding}
 use Rattle.flu_planner.proofs.components.components.Given as goal
 

@@ -2,7 +2,7 @@ use Rattle.std.proofs.Common.{◌≡◌, length, arith, sym}
 use Rattle.std.specs.Prelude.{◌==◌}
 use Rattle.std.proofs.lemmas.Bool.{eqb-true}
 use Rattle.std.proofs.lemmas.Grind.{common_steps}
-use Rattle.flu_planner.specs.Tables.{graph_of}
+use Rattle.flu_planner.specs.LoopTables.{graph_of}
 use Rattle.flu_planner.proofs.Tables.{graph_turns}
 use Rattle.flu_planner.proofs.Searching.{none_tells, rest_tells}
 use Rattle.flu_planner.proofs.components.is_apart.Goals as goal

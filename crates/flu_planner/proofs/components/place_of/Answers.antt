@@ -1,5 +1,5 @@
 use Rattle.std.proofs.Common.{sym, ◌∙◌, arith}
-use Rattle.flu_planner.specs.Reaching.{has_greater_total}
+use Rattle.flu_planner.specs.LoopReaching.{has_greater_total}
 use Rattle.flu_planner.proofs.Putting.{place_at_some, place_at_none, place_within}
 use Rattle.flu_planner.proofs.components.place_of.Goals as goal
 

@@ -4,7 +4,7 @@ use Rattle.std.specs.Prelude.{not}
 use Rattle.std.proofs.lemmas.Grind.{common_steps}
 use Rattle.std.proofs.lemmas.List.{take_rest, get_or_read}
 use Rattle.flu_planner.specs.Graphs.{Graph}
-use Rattle.flu_planner.specs.Tables.{graph_of}
+use Rattle.flu_planner.specs.LoopTables.{graph_of}
 use Rattle.flu_planner.proofs.Searching.{starts, goes_on}
 use Rattle.flu_planner.proofs.components.reach.Goals as goal
 

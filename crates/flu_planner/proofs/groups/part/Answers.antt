@@ -6,8 +6,8 @@ use Rattle.flu_planner.specs.Graphs.{Graph, AreComponents, is_rising, rising}
 use Rattle.flu_planner.specs.Cuts.{is_removed_first, removal_order, removed, remaining}
 use Rattle.flu_planner.specs.Groups.{grouped}
 use Rattle.flu_lemmas.specs.Counting.{times}
-use Rattle.flu_planner.specs.Search.{IsFirstApart}
-use Rattle.flu_planner.specs.Tables.{graph_of}
+use Rattle.flu_planner.specs.LoopSearch.{IsFirstApart}
+use Rattle.flu_planner.specs.LoopTables.{graph_of}
 use Rattle.flu_lemmas.proofs.Counting.{times_in_order}
 use Rattle.flu_planner.proofs.Rising.{rising_once}
 use Rattle.flu_planner.proofs.Cutting.{rest_rising, parted}

@@ -5,8 +5,8 @@ use Rattle.std.proofs.lemmas.Nat.{pow_pos}
 use Rattle.flu_planner.specs.Graphs.{Graph}
 use Rattle.flu_planner.specs.Cuts.{IsWhole}
 use Rattle.flu_planner.specs.Plans.{node_of}
-use Rattle.flu_planner.specs.Search.{IsPartingOnce, IsSubtree}
-use Rattle.flu_planner.specs.Tables.{graph_of}
+use Rattle.flu_planner.specs.LoopSearch.{IsPartingOnce, IsSubtree}
+use Rattle.flu_planner.specs.LoopTables.{graph_of}
 use Rattle.flu_planner.proofs.Planting.{doubled, leaf_is, inner_is}
 use Rattle.flu_planner.proofs.Agreement.{own_of, left_of, right_of}
 use Rattle.flu_planner.proofs.nodes.+subtree.Goals as goal

@@ -2,7 +2,7 @@ use Rattle.std.proofs.lemmas.Result.{IfOk-weaker}
 use Rattle.flu_model.specs.Itags.{count_of_itags}
 use Rattle.flu_planner.specs.Graphs.{dependencies}
 use Rattle.flu_planner.specs.Plans.{all_itags}
-use Rattle.flu_planner.specs.Tables.{table_of, graph_of}
+use Rattle.flu_planner.specs.LoopTables.{table_of, graph_of}
 use Rattle.flu_planner.proofs.Agreement.{greedy_agrees}
 use Rattle.flu_planner.proofs.Rising.{rising_range}
 use Rattle.flu_lemmas.proofs.Ranges.{range_below}

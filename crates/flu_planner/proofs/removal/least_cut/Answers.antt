@@ -2,7 +2,7 @@ use Rattle.std.proofs.Common.{◌≡◌, length, drop, arith, ap, ◌∙◌, bel
 use Rattle.std.proofs.lemmas.Bool.{cases_lt, iff_false}
 use Rattle.std.proofs.lemmas.List.{take_rest}
 use Rattle.flu_planner.specs.Graphs.{Graph, IsApart, rising}
-use Rattle.flu_planner.specs.Tables.{graph_of}
+use Rattle.flu_planner.specs.LoopTables.{graph_of}
 use Rattle.flu_planner.proofs.Cutting.{rest_rising, never_past}
 use Rattle.flu_planner.proofs.removal.least_cut.Goals as goal
 

@@ -1,6 +1,6 @@
 use Rattle.std.proofs.Common.{ℕ, ◌<◌, drop}
 use Rattle.flu_planner.specs.Graphs.{IsApart, rising}
-use Rattle.flu_planner.specs.Tables.{graph_of}
+use Rattle.flu_planner.specs.LoopTables.{graph_of}
 use Rattle.flu_planner.proofs.removal.least_cut.Given as goal
 
 abbrev pub invariant-loop-count : goal.invariant-loop-count

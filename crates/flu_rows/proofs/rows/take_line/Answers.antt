@@ -1,8 +1,7 @@
 use Rattle.std.proofs.Common.{◌≡◌, ◌<◌, ◌++◌, ◌+◌, [], take, drop, length, refl, ap, ◌∙◌, arith}
 use Rattle.std.proofs.lemmas.List.{append-nil, drop_all}
 use Rattle.std.proofs.lemmas.Grind.{common_steps}
-use Rattle.flu_rows.specs.Filling.{line_len}
-use Rattle.flu_rows.specs.Lines.{lines_of, line_of}
+use Rattle.flu_rows.specs.Lines.{line_len, lines_of, line_of}
 use Rattle.flu_rows.proofs.Cuts.{lines_of-line, lines_of-last, lines_of-long}
 use Rattle.flu_rows.proofs.StepLemmas.{line_of-long}
 use Rattle.flu_rows.proofs.rows.take_line.Goals as goal

@@ -1,7 +1,7 @@
 use Rattle.std.proofs.Common.{◌≡◌, ◌<◌, ◌+◌, ◌-◌, ◌++◌, [], ◌∷◌, take, drop, length, length-append, refl, ap, arith}
 use Rattle.std.proofs.lemmas.Grind.{common_steps}
-use Rattle.flu_rows.specs.Filling.{line_len}
-use Rattle.flu_rows.specs.Run.{HasKind}
+use Rattle.flu_rows.specs.Lines.{line_len}
+use Rattle.flu_rows.specs.LoopRuns.{HasKind}
 use Rattle.flu_rows.proofs.Alike.{no_run, copied_alike, copied_empty, alike_same, whole_rest}
 use Rattle.flu_rows.proofs.Cuts.{one_line}
 use Rattle.flu_rows.proofs.run.copy_lines.Goals as goal

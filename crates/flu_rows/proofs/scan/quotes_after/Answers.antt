@@ -1,7 +1,7 @@
 use Rattle.std.proofs.Common.{arith, ◌∙◌, sym}
 use Rattle.std.proofs.lemmas.Grind.{common_steps}
 use Rattle.std.proofs.lemmas.List.{at_drop_more, at_drop_all}
-use Rattle.flu_rows.specs.Run.{quotes_after}
+use Rattle.flu_rows.specs.LoopRuns.{quotes_after}
 use Rattle.flu_rows.proofs.scan.quotes_after.Goals as goal
 
 pub loop-byte-preserved : goal.loop-byte-preserved

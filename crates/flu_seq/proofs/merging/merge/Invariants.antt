@@ -2,7 +2,7 @@ use Rattle.std.specs.BinaryHeap.{heap_items}
 use Rattle.flu_model.specs.declared.events.Event.{Event}
 use Rattle.flu_model.specs.Listed.{listed}
 use Rattle.flu_lemmas.specs.Totals.{total}
-use Rattle.flu_seq.specs.Heads.{pending}
+use Rattle.flu_seq.specs.LoopHeads.{pending}
 use Rattle.flu_seq.proofs.Turns.{Begun, SoFar}
 use Rattle.flu_seq.proofs.merging.merge.Given as goal
 

@@ -7,7 +7,7 @@ use Rattle.flu_lemmas.proofs.Named.{rose_behind, fronts_at, fronts_then}
 use Rattle.flu_lemmas.proofs.Told.{told_weaker}
 use Rattle.flu_streams.specs.declared.faults.GatherFault.TheVariants.{ReadFault}
 use Rattle.flu_streams.specs.Files.{files_of, LeavesOthers}
-use Rattle.flu_streams.specs.Gathering.{IsGathered}
+use Rattle.flu_streams.specs.LoopGathering.{IsGathered}
 use Rattle.flu_streams.specs.Good.{AreGood, lists_of}
 use Rattle.flu_streams.specs.Lists.{lists_in}
 use Rattle.flu_streams.specs.Tags.{width}

@@ -4,7 +4,7 @@ use Rattle.flu_model.specs.Streaming.{are_streams}
 use Rattle.flu_outside.specs.Outside.{WhereTold, SameCounts, IsThere}
 use Rattle.flu_outside.specs.Taking.{TookFronts}
 use Rattle.flu_streams.specs.Files.{files_of, CountsOfNames, AreReadOut}
-use Rattle.flu_streams.specs.Gathering.{IsGathered}
+use Rattle.flu_streams.specs.LoopGathering.{IsGathered}
 use Rattle.flu_streams.specs.Lists.{lists_in}
 use Rattle.flu_streams.specs.Tags.{width}
 use Rattle.flu_streams.proofs.reading.gather.Given as goal

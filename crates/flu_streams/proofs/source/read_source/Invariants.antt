@@ -1,7 +1,7 @@
 use Rattle.std.proofs.Common.{◌≡◌, ◌-◌, ◌^◌}
 use Rattle.flu_outside.specs.Outside.{WhereTold, SameCounts}
 use Rattle.flu_outside.specs.Taking.{TakesFrom, CountsOf}
-use Rattle.flu_streams.specs.Source.{IsReading}
+use Rattle.flu_streams.specs.LoopSource.{IsReading}
 use Rattle.flu_streams.proofs.source.read_source.Given as goal
 
 abbrev pub invariant-loop-next : goal.invariant-loop-next

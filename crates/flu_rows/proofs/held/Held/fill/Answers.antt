@@ -1,6 +1,6 @@
 use Rattle.std.proofs.Common.{◌≡◌, ℕ, List, not, eqb, length, arith, rules, sym, ◌∙◌, ap}
 use Rattle.std.proofs.lemmas.List.Sums.{prefix_len-le-length}
-use Rattle.flu_rows.specs.Filling.{line_len}
+use Rattle.flu_rows.specs.Lines.{line_len}
 use Rattle.flu_rows.proofs.Cuts.{line_len-more, behind_held}
 use Rattle.flu_lemmas.proofs.Named.{taken_then, kept_then, counts_then}
 use Rattle.flu_rows.proofs.held.Held.fill.Goals as goal

@@ -1,6 +1,6 @@
 use Rattle.std.proofs.Common.{◌≡◌, ◌-◌, length}
 use Rattle.flu_outside.specs.Outside.{WhereTold, SameCounts}
-use Rattle.flu_rows.specs.Filling.{line_len}
+use Rattle.flu_rows.specs.Lines.{line_len}
 use Rattle.flu_outside.specs.Taking.{KeepsBytes, TakesFrom, CountsOf}
 use Rattle.flu_rows.proofs.held.Held.fill.Given as goal
 

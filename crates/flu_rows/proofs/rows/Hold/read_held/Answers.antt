@@ -1,7 +1,7 @@
 use Rattle.std.proofs.Common.{◌≡◌, ◌∙◌, arith}
 use Rattle.std.proofs.lemmas.Result.{IfOk-weaker}
 use Rattle.csv.specs.Records.{fields_of}
-use Rattle.flu_rows.specs.Steps.{row_step}
+use Rattle.flu_rows.specs.LoopSteps.{row_step}
 use Rattle.flu_rows.proofs.StepLemmas.{at_limit, at_line, at_held_row}
 use Rattle.flu_rows.proofs.rows.Hold.read_held.Goals as goal
 

@@ -1,7 +1,7 @@
 use Rattle.std.proofs.Common.{◌≡◌, inr}
 use Rattle.std.proofs.lemmas.Result.{IfOk-weaker}
 use Rattle.csv.specs.Records.{fields_of}
-use Rattle.flu_rows.specs.Steps.{row_step}
+use Rattle.flu_rows.specs.LoopSteps.{row_step}
 use Rattle.flu_rows.proofs.StepLemmas.{at_run, at_end}
 use Rattle.flu_rows.proofs.rows.Hold.read_line.Goals as goal
 

@@ -1,7 +1,7 @@
 use Rattle.std.proofs.Common.{◌≡◌, ◌++◌, ◌≤◌, ◌-◌, ◌^◌}
 use Rattle.flu_outside.specs.Outside.{WhereTold, SameCounts}
 use Rattle.flu_rows.specs.declared.rows.Step.TheVariants.{Skip}
-use Rattle.flu_rows.specs.Steps.{ReadsStep}
+use Rattle.flu_rows.specs.LoopSteps.{ReadsStep}
 use Rattle.flu_outside.specs.Taking.{TakesFrom, CountsOf}
 use Rattle.flu_rows.proofs.rows.Rows.next_row.Given as goal
 

@@ -1,6 +1,6 @@
 use Rattle.std.proofs.Common.{◌≡◌, Some, false, refl, ap, ◌∙◌, inr, rules}
 use Rattle.csv.specs.Reading.{source_of}
-use Rattle.flu_rows.specs.Run.{source_left, left_in}
+use Rattle.flu_rows.specs.LoopRuns.{source_left, left_in}
 use Rattle.flu_rows.proofs.Runs.{strip_run}
 use Rattle.flu_rows.proofs.run.Run.of.Goals as goal
 

@@ -1,15 +1,12 @@
 -- How sources are read, one after another.
-use Rattle.std.specs.Prelude.{◌≡◌, ℕ, ◌+◌, ◌<◌, true, Option, Some, None, List, [], ◌∷◌, ◌++◌, length, sum_by, vec_len, ⊤}
+use Rattle.std.specs.Prelude.{◌≡◌, ℕ, ◌+◌, true, Option, Some, None, List, [], ◌++◌, sum_by, vec_len, ⊤}
 use Rattle.std.specs.List.{flat_map}
 use Rattle.flu_model.specs.declared.jobs.Kind.{Kind}
 use Rattle.flu_model.specs.declared.jobs.Source.{Source}
-use Rattle.flu_model.specs.declared.jobs.Program.{Program}
 use Rattle.flu_model.specs.declared.events.Item.{Item}
 use Rattle.flu_model.specs.Streaming.{are_streams}
 use Rattle.flu_outside.specs.Outside.{Contents, WhereTold}
 use Rattle.flu_rows.specs.declared.rows.Next.{Next}
-use Rattle.flu_rows.specs.Filling.{IsUndecided}
-use Rattle.flu_rows.specs.Reading.{Place, ahead}
 use Rattle.flu_outside.specs.Taking.{bytes_left}
 use Rattle.flu_streams.specs.declared.faults.GatherFault.{GatherFault}
 use Rattle.flu_streams.specs.declared.faults.GatherFault.TheVariants.{Source as SourceFaulty, ReadFault, NoMemory}
@@ -19,9 +16,9 @@ use Rattle.flu_streams.specs.declared.source.Stop.TheVariants.{Defect, ReadFault
 use Rattle.flu_streams.specs.Before.{each_with_before, first_some}
 use Rattle.flu_streams.specs.Tags.{width}
 use Rattle.flu_streams.specs.Tests.{rows_of, has_ended, items_of, first_of, first_defect}
-use Rattle.flu_streams.specs.Good.{rows_in, items_held, fault_of_source, first_fault, lists_of_rows}
+use Rattle.flu_streams.specs.Good.{rows_in, items_held, fault_of_source, lists_of_rows}
 use Rattle.flu_streams.specs.Lists.{lists_in}
-use Rattle.flu_streams.specs.Source.{WasRead}
+use Rattle.flu_streams.specs.Faults.{WasRead}
 use Rattle.flu_streams.specs.Files.{files_of, LeavesOthers}
 
 -- one source more was read to its end, and has no defect
@@ -53,34 +50,9 @@ abbrev pub lists_of_sources : List Kind → Contents → List Source → List (L
 lists_of_sources kinds left sources =
     flat_map (λ e. lists_of_rows kinds e.1 (sum_by width e.0) (rows_in left e.1)) (each_with_before sources)
 
--- some sources have no defect, and nor have the rows that were read of the next one, before what is still to be read
-pub record StopsWithout (kinds : List Kind) (earlier : List Source) (s : Source) (read behind : List Next) (left : Contents) : Type 0 where
-  pub good : first_some (λ e. fault_of_source kinds left e.0 e.1) (each_with_before earlier) ≡ None
-  pub passes : first_of kinds s (items_held left earlier) read ≡ None
-  pub was : WasRead s read behind left
-
 -- what was read of these sources, and what it did to the files
 pub record IsGathered (kinds : List Kind) (sources : List Source) (gathered : Gathered) (old new : Contents) : Type 0 where
   pub good : first_some (λ e. fault_of_source kinds old e.0 e.1) (each_with_before sources) ≡ None
   pub lists : lists_in gathered.lists ≡ lists_of_sources kinds old sources
   pub held : gathered.held ≡ items_held old sources
   pub others : LeavesOthers (files_of sources) old new
-
--- A read fault hides nothing that was taken: the sources before one of them are good, and the reading of that one stops behind
--- rows without a defect; what was taken of it besides decides nothing.
-pub record HidesNothing (p : Program) (old new : Option Contents) : Type 0 where
-  pub earlier : List Source
-  pub source : Source
-  pub later : List Source
-  pub split : p.sources ≡ earlier ++ (source ∷ later)
-  pub read : List Next
-  pub place : Place
-  pub file : place.file ≡ source.file
-  pub undecided : IsUndecided place.taken
-  pub told : WhereTold old new (λ was now. StopsWithout p.kinds earlier source read (ahead place now) was)
-
--- a fault of a source is the first of all, and names a declared source
-abbrev pub IsFirstFault : Program → Option Contents → Option Contents → GatherFault → Type 0
-IsFirstFault p left left' (SourceFaulty f) = (f.source < length p.sources) × WhereTold left left' (λ was now. first_fault p was ≡ Some f)
-IsFirstFault p left left' ReadFault = ⊤
-IsFirstFault p left left' NoMemory = ⊤

@@ -12,8 +12,8 @@ use Rattle.flu_rows.specs.declared.row.Row.TheVariants.{Event, Beat, End}
 use Rattle.flu_streams.specs.declared.faults.Why.{Why}
 use Rattle.flu_streams.specs.declared.faults.Why.TheVariants.{TooMany}
 use Rattle.flu_streams.specs.declared.intake.Intake.{Intake}
-use Rattle.flu_streams.specs.declared.intake.Refusal.{Refusal}
-use Rattle.flu_streams.specs.declared.intake.Refusal.TheVariants.{Fault, NoMemory}
+use Rattle.flu_streams.specs.declared.intake.RowRefusal.{RowRefusal}
+use Rattle.flu_streams.specs.declared.intake.RowRefusal.TheVariants.{Fault, NoMemory}
 use Rattle.flu_streams.specs.Before.{first_some}
 use Rattle.flu_streams.specs.Lists.{items_of_list, item_time, times_in, item_for}
 use Rattle.flu_streams.specs.Tags.{place_named, width}
@@ -70,7 +70,7 @@ pub record TakesIn (kinds : List Kind) (s : Source) (row : Row) (old new : Intak
   pub takes : Takes kinds s row old new
 
 -- a refusal for want of memory, or for this fault
-abbrev pub IsRefusal : Option Why → Refusal → Type 0
+abbrev pub IsRefusal : Option Why → RowRefusal → Type 0
 IsRefusal fault (Fault why) = fault ≡ Some why
 IsRefusal fault NoMemory = ⊤
 

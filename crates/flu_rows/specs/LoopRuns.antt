@@ -14,8 +14,7 @@ use Rattle.flu_rows.specs.declared.scan.Quotes.{Quotes}
 use Rattle.flu_rows.specs.declared.scan.Quotes.TheVariants.{FieldStart, Bare, Quoted, Closed}
 use Rattle.flu_rows.specs.declared.scan.Kind.{Kind}
 use Rattle.flu_rows.specs.declared.scan.Kind.TheVariants.{Empty, Alike, Other}
-use Rattle.flu_rows.specs.Lines.{begins_with_mark}
-use Rattle.flu_rows.specs.Filling.{line_len}
+use Rattle.flu_rows.specs.Lines.{begins_with_mark, line_len}
 use Rattle.flu_rows.specs.Reading.{read_bytes}
 
 -- ---- where the quotes of a line stand

@@ -1,5 +1,5 @@
 -- How one source is read.
-use Rattle.std.specs.Prelude.{◌≡◌, ℕ, ◌+◌, ◌^◌, Bool, true, Option, Some, None, List, [], ◌++◌, if◌then◌else◌, ⊤}
+use Rattle.std.specs.Prelude.{◌≡◌, ℕ, ◌+◌, ◌^◌, Bool, true, Option, Some, None, List, [], if◌then◌else◌, ⊤}
 use Rattle.flu_model.specs.declared.jobs.Kind.{Kind}
 use Rattle.flu_model.specs.declared.jobs.Source.{Source}
 use Rattle.flu_outside.specs.Outside.{Contents, WhereTold}
@@ -7,17 +7,18 @@ use Rattle.flu_rows.specs.declared.held.RowsFault.{RowsFault}
 use Rattle.flu_rows.specs.declared.held.RowsFault.TheVariants.{ReadFault as RowsReadFault, NoMemory as RowsNoMemory}
 use Rattle.flu_rows.specs.declared.rows.Next.{Next}
 use Rattle.flu_rows.specs.declared.rows.Next.TheVariants.{Row as RowNext, Bad, TooManyLines, Done}
-use Rattle.flu_rows.specs.Filling.{IsUndecided}
-use Rattle.flu_rows.specs.Reading.{Place, read_file, ahead}
+use Rattle.flu_rows.specs.Lines.{IsUndecided}
+use Rattle.flu_rows.specs.Reading.{Place, ahead}
 use Rattle.flu_outside.specs.Taking.{bytes_left}
 use Rattle.flu_streams.specs.declared.faults.Why.{Why}
 use Rattle.flu_streams.specs.declared.faults.Why.TheVariants.{BadRow, Unclosed, AfterEnd, TooMany}
 use Rattle.flu_streams.specs.declared.intake.Intake.{Intake}
-use Rattle.flu_streams.specs.declared.intake.Refusal.{Refusal}
-use Rattle.flu_streams.specs.declared.intake.Refusal.TheVariants.{Fault, NoMemory}
+use Rattle.flu_streams.specs.declared.intake.RowRefusal.{RowRefusal}
+use Rattle.flu_streams.specs.declared.intake.RowRefusal.TheVariants.{Fault, NoMemory}
 use Rattle.flu_streams.specs.declared.source.Stop.{Stop}
 use Rattle.flu_streams.specs.declared.source.Stop.TheVariants.{Defect, ReadFault as ReadStop, NoMemory as NoMemoryStop}
-use Rattle.flu_streams.specs.Intake.{Holds}
+use Rattle.flu_streams.specs.Faults.{WasRead}
+use Rattle.flu_streams.specs.LoopIntake.{Holds}
 use Rattle.flu_streams.specs.Tests.{rows_of, first_of, first_defect}
 
 -- ---- why the reading stops
@@ -26,7 +27,7 @@ stop_of RowsReadFault = ReadStop
 stop_of RowsNoMemory = NoMemoryStop
 
 -- a row is refused
-abbrev pub stop_at : ℕ → Refusal → Stop
+abbrev pub stop_at : ℕ → RowRefusal → Stop
 stop_at line (Fault why) = Defect line why
 stop_at line NoMemory = NoMemoryStop
 
@@ -44,10 +45,6 @@ IsRow TooManyLines = ⊥
 IsRow (Done lines) = ⊥
 
 -- ---- what was read
--- the bytes that a source's file had are what was read of it, and what is still to be read
-abbrev pub WasRead : Source → List Next → List Next → Contents → Type 0
-WasRead s read behind old = read_file (bytes_left old s.file) ≡ read ++ behind
-
 -- what was read of a source has no defect so far, and was taken in
 pub record IsTakenIn (kinds : List Kind) (s : Source) (number before : ℕ) (read : List Next) (intake : Intake) : Type 0 where
   pub holds : Holds kinds s number before (rows_of read) intake

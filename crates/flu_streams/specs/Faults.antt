@@ -1,0 +1,44 @@
+-- What a fault of the sources tells: the first defect of all, and that a read fault hides none.
+use Rattle.std.specs.Prelude.{◌≡◌, ◌<◌, Option, Some, None, List, ◌∷◌, ◌++◌, length, ⊤}
+use Rattle.flu_model.specs.declared.jobs.Kind.{Kind}
+use Rattle.flu_model.specs.declared.jobs.Source.{Source}
+use Rattle.flu_model.specs.declared.jobs.Program.{Program}
+use Rattle.flu_outside.specs.Outside.{Contents, WhereTold}
+use Rattle.flu_outside.specs.Taking.{bytes_left}
+use Rattle.flu_rows.specs.declared.rows.Next.{Next}
+use Rattle.flu_rows.specs.Lines.{IsUndecided}
+use Rattle.flu_rows.specs.Reading.{Place, read_file, ahead}
+use Rattle.flu_streams.specs.declared.faults.GatherFault.{GatherFault}
+use Rattle.flu_streams.specs.declared.faults.GatherFault.TheVariants.{Source as SourceFaulty, ReadFault, NoMemory}
+use Rattle.flu_streams.specs.Before.{each_with_before, first_some}
+use Rattle.flu_streams.specs.Tests.{first_of}
+use Rattle.flu_streams.specs.Good.{items_held, fault_of_source, first_fault}
+
+-- the bytes that a source's file had are what was read of it, and what is still to be read
+abbrev pub WasRead : Source → List Next → List Next → Contents → Type 0
+WasRead s read behind old = read_file (bytes_left old s.file) ≡ read ++ behind
+
+-- some sources have no defect, and nor have the rows that were read of the next one, before what is still to be read
+pub record StopsWithout (kinds : List Kind) (earlier : List Source) (s : Source) (read behind : List Next) (left : Contents) : Type 0 where
+  pub good : first_some (λ e. fault_of_source kinds left e.0 e.1) (each_with_before earlier) ≡ None
+  pub passes : first_of kinds s (items_held left earlier) read ≡ None
+  pub was : WasRead s read behind left
+
+-- A read fault hides nothing that was taken: the sources before one of them are good, and the reading of that one stops behind
+-- rows without a defect; what was taken of it besides decides nothing.
+pub record HidesNothing (p : Program) (old new : Option Contents) : Type 0 where
+  pub earlier : List Source
+  pub source : Source
+  pub later : List Source
+  pub split : p.sources ≡ earlier ++ (source ∷ later)
+  pub read : List Next
+  pub place : Place
+  pub file : place.file ≡ source.file
+  pub undecided : IsUndecided place.taken
+  pub told : WhereTold old new (λ was now. StopsWithout p.kinds earlier source read (ahead place now) was)
+
+-- a fault of a source is the first of all, and names a declared source
+abbrev pub IsFirstFault : Program → Option Contents → Option Contents → GatherFault → Type 0
+IsFirstFault p left left' (SourceFaulty f) = (f.source < length p.sources) × WhereTold left left' (λ was now. first_fault p was ≡ Some f)
+IsFirstFault p left left' ReadFault = ⊤
+IsFirstFault p left left' NoMemory = ⊤
