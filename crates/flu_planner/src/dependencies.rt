@@ -13,7 +13,7 @@ const ROW: u32 = 256;
 
 /// The table: a row for each itag, with a place for each number below 256. A place is set where that number's itag depends on the
 /// row's and is not the lesser.
-#[tactic(auto, unfolding(crate::specs::Tables::table_of))]
+#[tactic(auto, unfolding(crate::specs::LoopTables::table_of))]
 pub fn table(alloc: Global, p: &Program) -> Result<Vec<bool>, AllocError>
     ensures { IfOk result (λ table. table.items ≡ table_of p.now) }
 {
@@ -34,7 +34,7 @@ fn entry(p: &Program, count: u32, place: u32) -> bool
 }
 
 /// Whether two itags are dependent. It is looked up in the row of the lesser.
-#[tactic(auto, unfolding(crate::specs::Tables::graph_of))]
+#[tactic(auto, unfolding(crate::specs::LoopTables::graph_of))]
 pub fn joined(table: &[bool], i: u32, j: u32) -> bool
     ensures { result ≡ graph_of table.now i j }
 {
