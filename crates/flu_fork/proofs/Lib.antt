@@ -9,3 +9,5 @@ pub mod Forking
 pub mod Joining
 pub mod LotLemmas
 pub mod GatheringLemmas
+pub mod Standing
+pub mod PlaceLemmas
