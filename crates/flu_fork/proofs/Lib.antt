@@ -11,3 +11,9 @@ pub mod LotLemmas
 pub mod GatheringLemmas
 pub mod Standing
 pub mod PlaceLemmas
+pub mod KinLemmas
+pub mod ServingLemmas
+pub mod LoanLemmas
+pub mod Permuted
+pub mod TextLemmas
+pub mod StreamLemmas
