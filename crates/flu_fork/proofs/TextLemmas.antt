@@ -9,7 +9,7 @@ use Rattle.std.proofs.lemmas.List.Elements.{filter-append}
 use Rattle.std.proofs.lemmas.List.Sorted.{IsPermutation-refl, IsPermutation-trans, IsPermutation-append, IsPermutation-append_left}
 use Rattle.flu_lemmas.proofs.Elements.{all_map, all_of_both, all_at_place, all_from_places, filter_same}
 use Rattle.flu_lemmas.proofs.Numbers.{less_than_next, not_less_than_itself}
-use Rattle.flu_lemmas.proofs.Tests.{and_left, and_right, both, false_if_not, lt_true, not_both, true_lt}
+use Rattle.flu_lemmas.proofs.Tests.{and_left, and_right, both, false_if_not, lt_true, true_lt}
 use Rattle.flu_model.specs.declared.events.Cell.{Cell}
 use Rattle.flu_model.specs.declared.events.Event.{Event}
 use Rattle.flu_model.specs.declared.events.Out.{Out}
