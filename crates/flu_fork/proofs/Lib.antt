@@ -17,3 +17,5 @@ pub mod LoanLemmas
 pub mod Permuted
 pub mod TextLemmas
 pub mod StreamLemmas
+pub mod WalkLemmas
+pub mod ServedWalk

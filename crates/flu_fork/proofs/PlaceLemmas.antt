@@ -216,7 +216,8 @@ module _ (laws : LawsBelow) (k : Setting) (ok : IsSetting k) where
             all_at_place (λ (r : Moment). r.event.itag.0 ≡ m.event.itag.0 → r.index < m.index) (before ++ q ∷ mid) before mid q refl
             (places_at (before ++ q ∷ mid) after m split) same in
             let first : IsEventAt k m.event.itag.0 q.index q.event =
-            subst (λ (i : ℕ). IsEventAt k i q.index q.event) same (moment_is_listed before (mid ++ m ∷ after) q (split ∙ append_assoc before (q ∷ mid) (m ∷ after))) in
+            subst (λ (i : ℕ). IsEventAt k i q.index q.event) same
+            (moment_is_listed before (mid ++ m ∷ after) q (split ∙ append_assoc before (q ∷ mid) (m ∷ after))) in
             before_by_time q.event m.event
             (times_rise m.event.itag.0 q.index m.index q.event m.event less first (moment_is_listed (before ++ q ∷ mid) after m split))
         | inr other ↦ before_by_itag q.event m.event weak other

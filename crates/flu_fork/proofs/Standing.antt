@@ -90,7 +90,8 @@ stream_later i low (EventItem x ∷ items) e =
     )
 stream_later i low (Beat t ∷ items) e =
     let here : low ≤ t = true_le low t (and_left (nat_le low t) (is_stream_from i (t + 1) items) e) in
-    all_map (λ (y : Event). t + 1 ≤ y.time) (λ (y : Event). low ≤ y.time) (events_of items) (λ y le. omega arith) (stream_later i (t + 1) items (and_right _ _ e))
+    all_map (λ (y : Event). t + 1 ≤ y.time) (λ (y : Event). low ≤ y.time) (events_of items) (λ y le. omega arith)
+    (stream_later i (t + 1) items (and_right _ _ e))
 stream_later i low (End ∷ []) e = tt
 stream_later i low (End ∷ y ∷ items) e = cc
 

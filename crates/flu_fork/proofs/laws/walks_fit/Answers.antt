@@ -1,0 +1,5 @@
+use Rattle.flu_fork.proofs.WalkLemmas.{walks_law}
+use Rattle.flu_fork.proofs.laws.walks_fit.Goals as goal
+
+pub returns : goal.returns
+returns c = walks_law c.laws_below.ensures
