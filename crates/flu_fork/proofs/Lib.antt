@@ -19,3 +19,4 @@ pub mod TextLemmas
 pub mod StreamLemmas
 pub mod WalkLemmas
 pub mod ServedWalk
+pub mod WalkValues

@@ -31,6 +31,10 @@ use Rattle.flu_fork.proofs.KinLemmas.{of_kids, own_below}
 use Rattle.flu_fork.proofs.Sides.{owner_at, owner_is_below, owner_is_there, across, right_and_left}
 use Rattle.flu_fork.proofs.Updates.{updates_law}
 
+or_first : (a b : Bool) → a ≡ true → (a || b) ≡ true
+or_first true b e = refl
+or_first false b e = cc
+
 -- ---- three counts
 pub each_of_three : (P : ℕ → Type 0) → P 0 → P 1 → P 2 → ((j : ℕ) → 3 ≤ j → P j) → (j : ℕ) → P j
 each_of_three P a b c d zero = a
@@ -82,21 +86,24 @@ module _ (laws : LawsBelow) (k : Setting) (ok : IsSetting k) (one two three four
   in_left : below_at k 1 0 ≡ true
   in_left = owner_is_below laws k ok 1 0 walk.left
 
-  in_right : below_at k 2 1 ≡ true
+  pub in_right : below_at k 2 1 ≡ true
   in_right = owner_is_below laws k ok 2 1 walk.right
 
   kin : (i : ℕ) → i < 3 → IsOfKids k 0 1 2 i
   kin i lt = of_kids laws k ok 0 1 2 i walk.kids (known i lt)
 
-  root_not_right : below_at k 2 2 ≡ false
-  root_not_right = (kin 2 (omega arith)).not_right (mine (own_at k 0 2) (above_at k 0 2) own_root)
-    where
-      mine : (a b : Bool) → a ≡ true → (a || b) ≡ true
-      mine true b e = refl
-      mine false b e = cc
+  root_over : (own_at k 0 2 || above_at k 0 2) ≡ true
+  root_over =
+      or_first (own_at k 0 2) (above_at k 0 2) (((laws.owned k.program k.nodes (itag 2) ok.valid (known 2 (omega arith))).alone 0).1 walk.root)
 
-      own_root : own_at k 0 2 ≡ true
-      own_root = ((laws.owned k.program k.nodes (itag 2) ok.valid (known 2 (omega arith))).alone 0).1 walk.root
+  pub root_not_right : below_at k 2 2 ≡ false
+  root_not_right = (kin 2 (omega arith)).not_right root_over
+
+  pub root_above_right : above_at k 2 2 ≡ true
+  root_above_right = (kin 2 (omega arith)).above_right ∙ root_over
+
+  pub left_not_right : below_at k 2 0 ≡ false
+  left_not_right = (kin 0 (omega arith)).apart in_left
 
   apart : depends_on k.program two one ≡ false
   apart =
@@ -159,7 +166,7 @@ module _ (laws : LawsBelow) (k : Setting) (ok : IsSetting k) (one two three four
   joined_are : joined_counts k.program k.nodes 2 (counts 1 0 0) (counts 0 1 0) ≡ counts 1 1 0
   joined_are =
       ap (λ n. map (λ i. cond (below_at k 2 i) (slice_index (counts 0 1 0) i) (slice_index (counts 1 0 0) i)) (range_with_len 0 n)) walk.itags
-      ∙ (λ t. cond {A = ℕ} ((kin 0 (omega arith)).apart in_left t) 0 1 ∷ cond {A = ℕ} (in_right t) 1 0 ∷ cond {A = ℕ} (root_not_right t) 0 0 ∷ [])
+      ∙ (λ t. cond {A = ℕ} (left_not_right t) 0 1 ∷ cond {A = ℕ} (in_right t) 1 0 ∷ cond {A = ℕ} (root_not_right t) 0 0 ∷ [])
 
   joined : Fits k 0 (at_root k one two) none (counts 1 1 0)
   joined =

@@ -1,6 +1,9 @@
 -- A WALK through the laws: four events at a plan of three nodes, from the opening through two forks and a join, with the counts of each row; and what the left
 -- part gives up on the way.
-use Rattle.std.specs.Prelude.{◌≡◌, ℕ, true, Some, List, [], ◌∷◌}
+use Rattle.std.specs.Prelude.{◌≡◌, ℕ, ℤ, pos, true, false, Some, None, List, [], ◌∷◌}
+use Rattle.flu_model.specs.declared.events.Cell.{Cell}
+use Rattle.flu_model.specs.declared.events.Worth.{Worth}
+use Rattle.flu_model.specs.declared.events.Worth.TheVariants.{Sum}
 use Rattle.flu_model.specs.declared.jobs.Program.{Program}
 use Rattle.flu_model.specs.Contents.{Contents}
 use Rattle.flu_model.specs.Itags.{count_of_itags}
@@ -8,12 +11,14 @@ use Rattle.flu_model.specs.Owners.{owner_of}
 use Rattle.flu_model.specs.Updates.{effect_of}
 use Rattle.flu_deps.specs.Dependencies.{itags_depend}
 use Rattle.flu_deps.specs.Owned.{kids_at}
-use Rattle.flu_laws.specs.Spans.{Moment}
+use Rattle.flu_laws.specs.Changes.{Change, Put, Gain}
+use Rattle.flu_laws.specs.Spans.{Moment, change_at}
+use Rattle.flu_laws.specs.Uses.{needs}
 use Rattle.flu_fork.specs.declared.content.Content.{Content}
 use Rattle.flu_fork.specs.declared.lots.Ask.{Ask}
 use Rattle.flu_fork.specs.declared.lots.Lot.{Lot}
 use Rattle.flu_fork.specs.Settings.{Setting, IsSetting, moments}
-use Rattle.flu_fork.specs.Classes.{itag}
+use Rattle.flu_fork.specs.Classes.{itag, mode_by}
 use Rattle.flu_fork.specs.Fitting.{Fits}
 use Rattle.flu_fork.specs.Lots.{setting_of, LotFits}
 use Rattle.flu_fork.specs.Parts.{left_part, right_part, joined_state}
@@ -85,6 +90,32 @@ pub record RowsFit (k : Setting) (one two three four : Moment) : Type 0 where
 
 abbrev pub WalksFit : Type 0
 WalksFit = (k : Setting) (one two three four : Moment) → IsSetting k → IsWalk k one two three four → RowsFit k one two three four
+
+-- ---- what a count holds in the rows
+
+-- a cell that is neutral at the start, to which the events of itags 0 and 1 add 5, 7 and then 2 without need of what it holds, and which the event of itag 2
+-- makes neutral
+pub record IsCount (k : Setting) (one two three four : Moment) (c : Cell) : Type 0 where
+  pub opening : k.opening c ≡ None
+  pub first : change_at k.program c one ≡ Gain (pos 5)
+  pub second : change_at k.program c two ≡ Gain (pos 7)
+  pub third : change_at k.program c three ≡ Put None
+  pub fourth : change_at k.program c four ≡ Gain (pos 2)
+  pub left_adds : needs (mode_by k.program 0 c) ≡ false
+  pub right_adds : needs (mode_by k.program 1 c) ≡ false
+
+-- the left part and the right one hold an amount each, the root the sum of both, and the left one the last amount after the root made the cell neutral
+pub record CountsHold (k : Setting) (one two three four : Moment) (c : Cell) : Type 0 where
+  pub left : at_left k one c ≡ Some (Sum (pos 5))
+  pub right : at_right k two c ≡ Some (Sum (pos 7))
+  pub join : at_root k one two c ≡ Some (Sum (pos 12))
+  pub root : after_root k one two three c ≡ None
+  pub left_again : updated k.program (to_left k (after_root k one two three)) four c ≡ Some (Sum (pos 2))
+
+abbrev pub WalksCount : Type 0
+WalksCount =
+    (k : Setting) (one two three four : Moment) (c : Cell) → IsSetting k → IsWalk k one two three four → IsCount k one two three four c
+    → CountsHold k one two three four c
 
 -- ---- what the left part gives up for the event of itag 2, its first
 

@@ -7,7 +7,7 @@ ghost use Rattle.flu_fork.specs.Kin.{ItagsAreOfNodes, ItagsAreOfKids, ItagsAreOf
 ghost use Rattle.flu_fork.specs.Places.{EventsHaveMoments, MomentsAreEvents};
 ghost use Rattle.flu_fork.specs.Serving.{LentIsOnLoan, LoansArePaired, JoinsServe, JoinsGrow, ClearIsJustBefore, JustBeforeAtLeaf, JustBeforeAtInner, JustBeforeIsExact, LeavesServe, ContentsAreSettings};
 ghost use Rattle.flu_fork.specs.Streams.{PrefixesAgree, ExactnessAgrees};
-ghost use Rattle.flu_fork.specs.Walks.{WalksFit, LeftIsServed, OthersAreNotServed};
+ghost use Rattle.flu_fork.specs.Walks.{WalksFit, WalksCount, LeftIsServed, OthersAreNotServed};
 ghost use Rattle.flu_fork.specs.Texts.{NoTexts, TextsAreOfTheSet, TextsGrow, TextsOfThree, TextsEnd, StatesEnd, OutputsAreOfMoments};
 
 use flu_deps::laws::{itags_are_owned, plans_are_trees};
@@ -165,9 +165,10 @@ pub fn texts_end()
 
 /// A walk through the laws, the first table of `docs/TREE.md`: the opening, a fork, an event at each child, the join, an event at the
 /// root, a second fork and an event at the left child. Each row fits by the row before it, with the counts of the table, and the
-/// texts at the root are those of the fold.
+/// texts at the root are those of the fold. A cell to which the events add 5, 7 and 2 holds what the table says.
 pub fn walks_fit()
-    ensures { WalksFit }
+    ensures rows { WalksFit }
+    ensures values { WalksCount }
 {
     laws_below();
 }
