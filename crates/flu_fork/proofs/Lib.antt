@@ -9,3 +9,14 @@ pub mod Forking
 pub mod Joining
 pub mod LotLemmas
 pub mod GatheringLemmas
+pub mod Standing
+pub mod PlaceLemmas
+pub mod KinLemmas
+pub mod ServingLemmas
+pub mod LoanLemmas
+pub mod Permuted
+pub mod TextLemmas
+pub mod StreamLemmas
+pub mod WalkLemmas
+pub mod ServedWalk
+pub mod WalkValues

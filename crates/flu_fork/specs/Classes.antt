@@ -8,7 +8,7 @@ use Rattle.flu_model.specs.declared.modes.Mode.{Mode}
 use Rattle.flu_model.specs.declared.plans.Node.{Node}
 use Rattle.flu_model.specs.Itags.{count_of_itags, tag_of_itag}
 use Rattle.flu_model.specs.Modes.{mode_of}
-use Rattle.flu_model.specs.Owners.{subtree_owns, ancestors_own, path_up}
+use Rattle.flu_model.specs.Owners.{owns, subtree_owns, ancestors_own, path_up}
 use Rattle.flu_deps.specs.Owned.{kids_at}
 use Rattle.flu_laws.specs.Uses.{needs, writes}
 
@@ -19,6 +19,10 @@ Itags = ℕ → Bool
 
 abbrev pub itag : ℕ → Itag
 itag i = record { 0 = i }
+
+-- those that a node owns
+abbrev pub own : Program → List Node → ℕ → Itags
+own p nodes w i = owns p nodes w (itag i)
 
 -- those of a node's subtree, those of its proper ancestors, and those of the nodes that are unrelated to it
 abbrev pub below : Program → List Node → ℕ → Itags

@@ -7,3 +7,9 @@ pub mod LawsBelow
 pub mod Gathering
 pub mod Tables
 pub mod Lots
+pub mod Streams
+pub mod Places
+pub mod Texts
+pub mod Serving
+pub mod Kin
+pub mod Walks
