@@ -10,3 +10,4 @@ pub mod Joining
 pub mod LotLemmas
 pub mod GatheringLemmas
 pub mod Noting
+pub mod TableLemmas
