@@ -20,3 +20,5 @@ pub mod StreamLemmas
 pub mod WalkLemmas
 pub mod ServedWalk
 pub mod WalkValues
+pub mod Noting
+pub mod TableLemmas
