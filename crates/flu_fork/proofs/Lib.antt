@@ -9,3 +9,4 @@ pub mod Forking
 pub mod Joining
 pub mod LotLemmas
 pub mod GatheringLemmas
+pub mod Noting

@@ -62,7 +62,7 @@ pub setting_holds : (k : Content) → IsSetting (setting_of k)
 setting_holds k = record {
   accepted = k.checked.accepted;
   one_tree = k.valid.plan.one_tree;
-  valid = k.of_job;
+  valid = k.of_job.valid;
   one_each = k.one_each;
   streams = k.streams.good;
   opening_sorts = ∥∥₁_elim k.opening_sorts (IsStateOf-prop (job k).families (held k.opening)) (λ sorts. sorts);

@@ -4,18 +4,19 @@ ghost use Rattle.std.specs.Prelude.{◌≡◌, length};
 ghost use Rattle.flu_model.specs.Itags.{count_of_itags};
 ghost use Rattle.flu_model.specs.Listed.{listed};
 ghost use Rattle.flu_model.specs.Sorts.{IsStateOf};
-ghost use Rattle.flu_model.specs.Validity.{IsValid};
 ghost use Rattle.flu_deps.specs.Checking.{program_of};
-ghost use Rattle.flu_deps.specs.Validated.{plan_of};
+ghost use Rattle.flu_deps.specs.Validated.{plan_of, IsValidFor};
 ghost use Rattle.flu_cells.specs.Holding.{held};
 ghost use Rattle.flu_fork.specs.Tables.{AreTables};
 
+use crate::note::CaseNote;
 use crate::rights::{Right, rights};
 use flu_cells::State;
 use flu_deps::{Checked, Valid};
 use flu_model::Streams;
 use std::alloc::{AllocError, Global};
 use std::marker::Model;
+use std::snapshot::Snapshot;
 
 /// An accepted job with a plan that is valid for it and with streams, all borrowed, the opening state, and for each node with
 /// children the cells that go to the right one, computed once.
@@ -26,7 +27,7 @@ pub struct Case<'a> {
     streams: &'a Streams,
     opening: State,
     rights: Vec<Right>,
-    ghost of_job: { IsValid (program_of checked.now) (plan_of valid.now).nodes },
+    ghost of_job: { IsValidFor (program_of checked.now) valid.now },
     ghost one_each: { length (listed streams.now) ≡ count_of_itags (program_of checked.now) },
     ghost opening_sorts: { ∥ IsStateOf (program_of checked.now).families (held opening) ∥₁ },
     ghost tables: { AreTables (program_of checked.now) (plan_of valid.now).nodes rights.items },
@@ -47,7 +48,6 @@ impl<'a> Model for Case<'a> {
 
 impl<'a> Case<'a> {
     ghost use Rattle.std.specs.Prelude.{ℕ, ◌<◌, Some, IfOk};
-    ghost use Rattle.flu_deps.specs.Validated.{IsValidFor};
     ghost use Rattle.flu_fork.specs.Tables.{IsRightAt};
     ghost use Rattle.flu_fork.specs.Lots.{IsCaseOf, job, nodes};
 
@@ -104,6 +104,18 @@ impl<'a> Case<'a> {
         ensures { result.now ≡ self.now.opening }
     {
         &self.opening
+    }
+
+    /// The content of the case, in a value that borrows nothing. It takes no memory.
+    pub fn note(&self) -> CaseNote
+        ensures { result ≡ self.now }
+    {
+        CaseNote {
+            checked: Snapshot::of(self.checked()),
+            valid: Snapshot::of(self.valid()),
+            streams: Snapshot::of(self.streams()),
+            opening: Snapshot::of(self.opening()),
+        }
     }
 
     /// What goes to the right child of a node.

@@ -4,9 +4,8 @@ ghost use Rattle.std.specs.Prelude.{◌≡◌, length};
 ghost use Rattle.flu_model.specs.Itags.{count_of_itags};
 ghost use Rattle.flu_model.specs.Listed.{listed};
 ghost use Rattle.flu_model.specs.Sorts.{IsStateOf};
-ghost use Rattle.flu_model.specs.Validity.{IsValid};
 ghost use Rattle.flu_deps.specs.Checking.{program_of};
-ghost use Rattle.flu_deps.specs.Validated.{plan_of};
+ghost use Rattle.flu_deps.specs.Validated.{IsValidFor};
 ghost use Rattle.flu_cells.specs.Holding.{held};
 
 use flu_cells::State;
@@ -27,7 +26,7 @@ pub struct Content {
     pub streams: Streams,
     /// The state at the start.
     pub opening: State,
-    pub ghost of_job: { IsValid (program_of checked) (plan_of valid).nodes },
+    pub ghost of_job: { IsValidFor (program_of checked) valid },
     pub ghost one_each: { length (listed streams) ≡ count_of_itags (program_of checked) },
     pub ghost opening_sorts: { ∥ IsStateOf (program_of checked).families (held opening) ∥₁ },
 }

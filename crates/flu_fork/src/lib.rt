@@ -7,6 +7,7 @@ mod counts;
 mod gathering;
 pub mod laws;
 mod lots;
+mod note;
 mod parting;
 mod rights;
 #[cfg(test)]
@@ -16,4 +17,5 @@ pub use case::Case;
 pub use content::Content;
 pub use counts::Counts;
 pub use lots::{Ask, Lot};
+pub use note::CaseNote;
 pub use parting::{fork, join, opening_lot};
