@@ -1,15 +1,13 @@
 -- What an end knows after its steps, in the words of its contracts.
-use Rattle.std.proofs.Common.{◌≡◌, ◌≢◌, ℕ, ◌+◌, ◌<◌, ◌≤◌, ◌⊎◌, Bool, true, false, List, [], ◌∷◌, get_or, sym, refl, ap, ◌∙◌, subst, ⊎_elim, inl, inr, arith, Option, Some, None, IfSome, IfNone, IsSome}
+use Rattle.std.proofs.Common.{◌≡◌, ◌≢◌, ℕ, ◌≤◌, ◌⊎◌, true, false, List, [], ◌∷◌, get_or, sym, refl, ap, ◌∙◌, subst, ⊎_elim, inr, Option, Some, None, IfSome, IfNone, IsSome}
 use Rattle.std.specs.Prelude.{OnSome}
 use Rattle.atomic_table.specs.Table.{rest}
 use Rattle.atomic_table.specs.Seated.{TableId}
 use Rattle.flu_fork.specs.declared.lots.Lot.{Lot}
-use Rattle.flu_fork.specs.declared.lots.Ask.{Ask}
 use Rattle.flu_fork.specs.Lots.{LotFits}
-use Rattle.flu_fork.specs.Serving.{LotCounts, GrownFrom, Served}
+use Rattle.flu_fork.specs.Serving.{GrownFrom, Served}
 use Rattle.flu_link.specs.declared.notes.UpperSeat.{UpperSeat}
 use Rattle.flu_link.specs.declared.notes.LowerSeat.{LowerSeat}
-use Rattle.flu_link.specs.declared.notes.Loan.{Loan}
 use Rattle.flu_link.specs.declared.notes.View.{View}
 use Rattle.flu_link.specs.declared.notes.View.TheVariants.{Top, Bottom, Joined}
 use Rattle.flu_link.specs.Seats.{Sat, ask, loan, lent_counts, both_sides, upper_or, lower_or}

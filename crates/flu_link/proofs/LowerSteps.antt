@@ -1,10 +1,10 @@
 -- The steps of the lower end keep the rule.
-use Rattle.std.proofs.Common.{◌≡◌, ◌≢◌, ℕ, zero, suc, ◌+◌, ◌<◌, ◌≤◌, ◌^◌, ◌⊎◌, Bool, true, false, ◌||◌, if◌then◌else◌, List, [], ◌∷◌, ◌++◌, length, get_or, set, sym, refl, ap, ◌∙◌, subst, ⊎_elim, inl, inr, arith, Option, Some, None, IfSome}
+use Rattle.std.proofs.Common.{◌≡◌, ◌≢◌, ℕ, ◌+◌, ◌<◌, ◌≤◌, ◌^◌, Bool, true, false, ◌||◌, if◌then◌else◌, List, [], ◌∷◌, get_or, set, sym, refl, ap, ◌∙◌, subst, ⊎_elim, arith, Option, Some, None, IfSome}
 use mathlib.Core.Logic.{dite}
 use mathlib.Core.Option as maybe
 use native.Mathlib.Decide.{ℕ_discrete}
 use lib.ListN.{get_elem?}
-use Rattle.atomic_table.specs.Table.{State, Me, Act, keeps, takes, gives, step, Valid, homes_after, carried_after, Allows}
+use Rattle.atomic_table.specs.Table.{Act, keeps, takes, gives, step, Valid, homes_after, carried_after, Allows}
 use Rattle.flu_fork.specs.declared.content.Content.{Content}
 use Rattle.flu_fork.specs.declared.lots.Lot.{Lot}
 use Rattle.flu_link.specs.declared.notes.Loan.{Loan}
@@ -12,10 +12,9 @@ use Rattle.flu_fork.specs.Lots.{LotFits}
 use Rattle.flu_fork.specs.Serving.{GrownFrom, Served, AsksAbove}
 use Rattle.flu_link.specs.declared.notes.UpperSeat.{UpperSeat}
 use Rattle.flu_link.specs.declared.notes.LowerSeat.{LowerSeat}
-use Rattle.flu_link.specs.declared.notes.View.{View}
-use Rattle.flu_link.specs.declared.notes.View.TheVariants.{Fresh, Top, Bottom, Joined, Closed}
+use Rattle.flu_link.specs.declared.notes.View.TheVariants.{Bottom}
 use Rattle.flu_link.specs.Seats.{Sat, ask, loan, lent_counts}
-use Rattle.flu_link.specs.Rule.{Follows, Shows, Lies, Agrees, Stops, Linked, Knows, Kept}
+use Rattle.flu_link.specs.Rule.{Follows, Agrees, Linked, Kept}
 use Rattle.flu_link.specs.Steps.{peeked_low, Holds, Replies, looks_low, holds, replies, stores_held, gives_lot, sees_itag, sees_index, stops_low, sees_stop_low}
 use Rattle.flu_link.proofs.Stepping.{Homes, LowerGoes, lower_steps, low_shows, low_agrees, loaded, found, Bottom-is, bool_cases, or_true, stop_small, looked_low, stored, same_lot}
 
@@ -61,12 +60,18 @@ low_still : (up low phase : ℕ) → Follows up low phase → 1 ≤ low → low 
 low_still up low phase f a b = dite (ℕ_discrete low 1) (λ e. f.lower_held e) (λ ne. let two : low ≡ 2 = omega arith in let same = f.lower_asked two in (omega arith, omega arith))
 
 pub looks : (n id : ℕ) (m : Sat) (l : LowerSeat) → m.0 ≡ Bottom l → Allows Kept n id m 0 (λ y. y) (looks_low (step n 0 0 0 maybe.none) m)
-looks n id m l is = lower_steps n id m l 0 (λ y. y) (looks_low (step n 0 0 0 maybe.none) m) is (λ u words homes k.
-    (peeked_low l (get_or words 0 0), keeps, tt, look u l words homes k, λ v e. (ap (λ z. (Bottom (peeked_low z (get_or words 0 0)), m.1)) (Bottom-is l v m is e),
-      λ a b. subst (λ (z : ℕ). (1 ≤ z) × (z ≤ 2)) (sym (found words _ k.phase k.words_are))
-          (low_still u.phase l.phase k.phase k.follows (subst (λ (z : LowerSeat). 1 ≤ z.phase) (sym (Bottom-is l v m is e)) a) (subst (λ (z : LowerSeat). z.phase ≤ 2) (sym (Bottom-is l v m is e)) b)),
-      λ two. found words _ k.phase k.words_are ∙ k.follows.lower_asked (ap (λ (z : LowerSeat). z.phase) (Bottom-is l v m is e) ∙ two),
-    )))
+looks n id m l is = lower_steps n id m l 0 (λ y. y) (looks_low (step n 0 0 0 maybe.none) m) is (λ u words homes k. (
+  peeked_low l (get_or words 0 0),
+  keeps,
+  tt,
+  look u l words homes k,
+  λ v e. (
+    ap (λ z. (Bottom (peeked_low z (get_or words 0 0)), m.1)) (Bottom-is l v m is e),
+    λ a b. subst (λ (z : ℕ). (1 ≤ z) × (z ≤ 2)) (sym (found words _ k.phase k.words_are))
+        (low_still u.phase l.phase k.phase k.follows (subst (λ (z : LowerSeat). 1 ≤ z.phase) (sym (Bottom-is l v m is e)) a) (subst (λ (z : LowerSeat). z.phase ≤ 2) (sym (Bottom-is l v m is e)) b)),
+    λ two. found words _ k.phase k.words_are ∙ k.follows.lower_asked (ap (λ (z : LowerSeat). z.phase) (Bottom-is l v m is e) ∙ two),
+  ),
+))
 
 -- the slot is with the upper end only where it stores next
 upper_home : (u : UpperSeat) (l : LowerSeat) (words : List ℕ) (homes : Homes) (k : Linked u l words homes) → k.phase < 3 → u.out ≡ false

@@ -1,17 +1,16 @@
 -- A step of one end keeps the rule where it keeps what ties the two ends together.
-use Rattle.std.proofs.Common.{◌≡◌, ◌≢◌, ℕ, zero, suc, ◌+◌, ◌<◌, ◌≤◌, ◌⊎◌, Bool, true, false, ◌||◌, if◌then◌else◌, List, [], ◌∷◌, ◌++◌, length, get_or, set, sym, refl, ap, ◌∙◌, subst, ⊎_elim, inl, inr, arith, Option, Some, None}
+use Rattle.std.proofs.Common.{◌≡◌, ◌≢◌, ℕ, ◌≤◌, ◌⊎◌, Bool, true, false, ◌||◌, if◌then◌else◌, List, [], ◌∷◌, get_or, set, sym, refl, ap, ◌∙◌, subst, ⊎_elim, inl, inr, arith, Option, Some}
 use mathlib.Core.Option as maybe
-use lib.ListN.{get_elem?}
 use lib.Seq.{set-get_or}
-use Rattle.atomic_table.specs.Table.{State, Me, Act, Valid, homes_after, carried_after, stepped, Allows, Splits, Joins}
-use Rattle.atomic_table.proofs.Lists.{at_set, at_snoc}
+use Rattle.atomic_table.specs.Table.{State, Act, Valid, homes_after, carried_after, Allows}
+use Rattle.atomic_table.proofs.Lists.{at_set}
 use Rattle.flu_fork.specs.declared.lots.Lot.{Lot}
 use Rattle.flu_link.specs.declared.notes.UpperSeat.{UpperSeat}
 use Rattle.flu_link.specs.declared.notes.LowerSeat.{LowerSeat}
 use Rattle.flu_link.specs.declared.notes.View.{View}
 use Rattle.flu_link.specs.declared.notes.View.TheVariants.{Fresh, Top, Bottom, Joined, Closed}
 use Rattle.flu_link.specs.Seats.{Sat}
-use Rattle.flu_link.specs.Rule.{Follows, Shows, Lies, Agrees, Stops, Linked, Knows, Kept}
+use Rattle.flu_link.specs.Rule.{Follows, Shows, Agrees, Linked, Knows, Kept}
 
 abbrev pub St : Type 0
 St = State (Option Lot) View

@@ -1,22 +1,20 @@
 -- The steps of the upper end keep the rule.
-use Rattle.std.proofs.Common.{◌≡◌, ◌≢◌, ℕ, zero, suc, ◌+◌, ◌<◌, ◌≤◌, ◌^◌, ◌⊎◌, Bool, true, false, ◌||◌, if◌then◌else◌, List, [], ◌∷◌, ◌++◌, length, get_or, set, sym, refl, ap, ◌∙◌, subst, ⊎_elim, inl, inr, arith, Option, Some, None}
+use Rattle.std.proofs.Common.{◌≡◌, ℕ, ◌+◌, ◌<◌, ◌≤◌, ◌^◌, ◌⊎◌, Bool, true, false, ◌||◌, if◌then◌else◌, List, [], ◌∷◌, get_or, set, sym, refl, ap, ◌∙◌, subst, ⊎_elim, arith, Option, Some, None}
 use mathlib.Core.Logic.{dite}
 use mathlib.Core.Option as maybe
 use native.Mathlib.Decide.{ℕ_discrete}
 use lib.ListN.{get_elem?}
-use lib.Seq.{set-get_or}
-use Rattle.atomic_table.specs.Table.{State, Me, Act, keeps, takes, gives, step, Valid, homes_after, carried_after, Allows}
+use Rattle.atomic_table.specs.Table.{Act, keeps, takes, gives, step, Valid, homes_after, carried_after, Allows}
 use Rattle.flu_fork.specs.declared.lots.Lot.{Lot}
 use Rattle.flu_fork.specs.Lots.{LotFits}
-use Rattle.flu_fork.specs.Serving.{GrownFrom, Served, AsksAbove}
+use Rattle.flu_fork.specs.Serving.{GrownFrom, AsksAbove}
 use Rattle.flu_link.specs.declared.notes.UpperSeat.{UpperSeat}
 use Rattle.flu_link.specs.declared.notes.LowerSeat.{LowerSeat}
-use Rattle.flu_link.specs.declared.notes.View.{View}
-use Rattle.flu_link.specs.declared.notes.View.TheVariants.{Fresh, Top, Bottom, Joined, Closed}
-use Rattle.flu_link.specs.Seats.{Sat, ask, loan, lent_counts}
-use Rattle.flu_link.specs.Rule.{Follows, Shows, Lies, Agrees, Stops, Linked, Knows, Kept}
+use Rattle.flu_link.specs.declared.notes.View.TheVariants.{Top}
+use Rattle.flu_link.specs.Seats.{Sat, ask, loan}
+use Rattle.flu_link.specs.Rule.{Follows, Agrees, Linked, Kept}
 use Rattle.flu_link.specs.Steps.{peeked_up, Fetches, looks_up, fetches, stores_itag, stores_index, asks, lends, stops_up, sees_stop_up}
-use Rattle.flu_link.proofs.Stepping.{Homes, UpperGoes, upper_steps, aside_agrees, aside_shows, loaded, found, Top-is, bool_cases, or_true, stop_small, looked_up, stored, same_lot}
+use Rattle.flu_link.proofs.Stepping.{Homes, UpperGoes, upper_steps, aside_agrees, aside_shows, loaded, found, Top-is, bool_cases, stop_small, looked_up, stored, same_lot}
 
 -- one more look of the upper end, which leaves the slot where it is
 look : (u : UpperSeat) (low : LowerSeat) (words : List ℕ) (homes : Homes) → Linked u low words homes → Linked (peeked_up u (get_or words 0 0)) low (set words 0 (get_or words 0 0)) homes
@@ -41,11 +39,17 @@ up_still : (up low phase : ℕ) → Follows up low phase → up ≤ 1 → phase 
 up_still up low phase f le = dite (ℕ_discrete up 0) (λ e. f.upper_lent e) (λ ne. let one : up ≡ 1 = omega arith in let same = f.upper_held one in omega arith)
 
 pub looks : (n id : ℕ) (m : Sat) (u : UpperSeat) → m.0 ≡ Top u → Allows Kept n id m 0 (λ y. y) (looks_up (step n 0 0 0 maybe.none) m)
-looks n id m u is = upper_steps n id m u 0 (λ y. y) (looks_up (step n 0 0 0 maybe.none) m) is (λ low words homes k.
-    (peeked_up u (get_or words 0 0), keeps, tt, look u low words homes k, λ v e. (ap (λ z. (Top (peeked_up z (get_or words 0 0)), m.1)) (Top-is u v m is e),
-      λ le. subst (λ (z : ℕ). z ≤ 1) (sym (found words _ k.phase k.words_are)) (up_still u.phase low.phase k.phase k.follows (subst (λ (z : UpperSeat). z.phase ≤ 1) (sym (Top-is u v m is e)) le)),
-      λ one. found words _ k.phase k.words_are ∙ k.follows.upper_held (ap (λ (z : UpperSeat). z.phase) (Top-is u v m is e) ∙ one),
-    )))
+looks n id m u is = upper_steps n id m u 0 (λ y. y) (looks_up (step n 0 0 0 maybe.none) m) is (λ low words homes k. (
+  peeked_up u (get_or words 0 0),
+  keeps,
+  tt,
+  look u low words homes k,
+  λ v e. (
+    ap (λ z. (Top (peeked_up z (get_or words 0 0)), m.1)) (Top-is u v m is e),
+    λ le. subst (λ (z : ℕ). z ≤ 1) (sym (found words _ k.phase k.words_are)) (up_still u.phase low.phase k.phase k.follows (subst (λ (z : UpperSeat). z.phase ≤ 1) (sym (Top-is u v m is e)) le)),
+    λ one. found words _ k.phase k.words_are ∙ k.follows.upper_held (ap (λ (z : UpperSeat). z.phase) (Top-is u v m is e) ∙ one),
+  ),
+))
 
 -- the slot is with the lower end only where it stores next
 lower_home : (u : UpperSeat) (low : LowerSeat) (words : List ℕ) (homes : Homes) (k : Linked u low words homes) → k.phase ≡ 3 → low.out ≡ false

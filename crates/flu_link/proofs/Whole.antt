@@ -1,20 +1,19 @@
 -- The making and the closing of a link keep the rule.
-use Rattle.std.proofs.Common.{◌≡◌, ◌≢◌, ℕ, zero, suc, ◌+◌, ◌<◌, ◌≤◌, ◌⊎◌, Bool, true, false, List, [], ◌∷◌, ◌++◌, map, length, get_or, set, sym, refl, ap, ◌∙◌, subst, ⊎_elim, inl, inr, arith, Option, Some, None}
+use Rattle.std.proofs.Common.{◌≡◌, ◌≢◌, ℕ, zero, suc, ◌⊎◌, true, false, List, [], ◌∷◌, ◌++◌, length, get_or, set, sym, refl, ap, ◌∙◌, subst, ⊎_elim, inl, inr, arith, Option, None}
 use mathlib.Core.Option as maybe
 use lib.ListN.{get_elem?}
-use Rattle.atomic_table.specs.Table.{State, Act, keeps, takes, gives, step, opening, Allows, Splits, Joins}
+use Rattle.atomic_table.specs.Table.{keeps, takes, step, opening, Allows, Splits, Joins}
 use Rattle.atomic_table.proofs.Lists.{at_set}
 use Rattle.flu_fork.specs.declared.content.Content.{Content}
 use Rattle.flu_fork.specs.declared.lots.Lot.{Lot}
-use Rattle.flu_fork.specs.Serving.{GrownFrom}
 use Rattle.flu_link.specs.declared.notes.UpperSeat.{UpperSeat}
 use Rattle.flu_link.specs.declared.notes.LowerSeat.{LowerSeat}
 use Rattle.flu_link.specs.declared.notes.View.{View}
 use Rattle.flu_link.specs.declared.notes.View.TheVariants.{Fresh, Top, Bottom, Joined, Closed}
 use Rattle.flu_link.specs.Seats.{Sat, upper_seat, lower_seat, fresh, upper_side, lower_side, both_sides}
-use Rattle.flu_link.specs.Rule.{Follows, Shows, Lies, Agrees, Stops, Linked, Knows, Kept}
+use Rattle.flu_link.specs.Rule.{Follows, Shows, Linked, Knows, Kept}
 use Rattle.flu_link.specs.Steps.{AtEnd, ends}
-use Rattle.flu_link.proofs.Stepping.{St, Homes, loaded, found, bool_cases}
+use Rattle.flu_link.proofs.Stepping.{Homes, found}
 use Rattle.flu_link.proofs.UpperSteps.{IsEmptyHanded}
 
 pub starts : (case : Content) (node : ℕ) → Kept (opening (3 ∷ 0 ∷ 0 ∷ 0 ∷ []) (None ∷ []) (fresh case node))

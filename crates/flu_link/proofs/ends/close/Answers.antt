@@ -1,7 +1,6 @@
-use Rattle.std.proofs.Common.{rules, arith, ap, sym, ◌∙◌, subst, ◌≡◌, ◌≤◌, ◌<◌, ℕ, inl, inr, List, refl, Option, None, ◌∷◌}
+use Rattle.std.proofs.Common.{arith, ap, sym, ◌∙◌, subst, ◌≡◌, ◌≤◌, ℕ, List, Option, None, ◌∷◌}
 use Rattle.atomic_table.specs.Table.{rest}
 use Rattle.flu_fork.specs.declared.lots.Lot.{Lot}
-use Rattle.flu_link.specs.Seats.{Sat, both_sides}
 use Rattle.flu_link.specs.Notes.{UpperNote, LowerNote}
 use Rattle.flu_link.specs.Ends.{Closes}
 use Rattle.flu_link.proofs.Whole.{joins, closes}

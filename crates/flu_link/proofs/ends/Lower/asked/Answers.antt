@@ -1,4 +1,4 @@
-use Rattle.std.proofs.Common.{rules, arith, ap, subst, sym, ◌∙◌, ◌≡◌, ◌≤◌, refl, ℕ, Some, get_or}
+use Rattle.std.proofs.Common.{rules, arith, ap, subst, sym, ◌∙◌, ◌≡◌, ◌≤◌, refl, ℕ, get_or}
 use Rattle.flu_fork.specs.Serving.{AsksAbove}
 use Rattle.flu_link.specs.Seats.{Sat, ask}
 use Rattle.flu_link.specs.Notes.{LowerNote}

@@ -1,4 +1,4 @@
-use Rattle.std.proofs.Common.{rules, arith, ap, subst, sym, ◌∙◌, ◌≡◌, refl, ℕ, Some, None}
+use Rattle.std.proofs.Common.{rules, arith, ap, subst, sym, ◌∙◌, refl}
 use Rattle.flu_fork.specs.Lots.{LotFits}
 use Rattle.flu_fork.specs.Serving.{Served}
 use Rattle.flu_link.specs.Seats.{Sat, ask}

@@ -57,4 +57,3 @@ pub returns-clause-still : goal.returns-clause-still
 returns-clause-still c = let h = held _ _ _ _ (c.load.ensures.2 _ c.self.invariant.bottom) c.self.invariant.bare c.if-load-ne-LENT.false in
     let after = swapped _ _ _ _ _ h.seat c.exchange-lot.ensures.3 in
     (hold_tells _ _ _ _ _ _ _ _ h _ c.self.invariant c.self.view_is (c.store.ensures.0 ∙ (c.exchange-lot.ensures.0 ∙ c.load.ensures.0)) c.exchange-lot.ensures.2 (c.store.ensures.2 _ (ap (λ (m : Sat). m.0) after))).still
-

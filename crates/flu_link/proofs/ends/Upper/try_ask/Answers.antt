@@ -1,4 +1,4 @@
-use Rattle.std.proofs.Common.{rules, ap, sym, ◌∙◌, ◌≡◌, ℕ, arith, subst, get_or, refl}
+use Rattle.std.proofs.Common.{rules, ap, sym, ◌≡◌, ℕ, arith, subst, get_or}
 use Rattle.flu_fork.specs.Serving.{AsksAbove}
 use Rattle.flu_link.specs.Seats.{Sat, ask}
 use Rattle.flu_link.specs.Notes.{UpperNote}

@@ -1,4 +1,4 @@
-use Rattle.std.proofs.Common.{rules, arith, ap, subst, sym, ◌∙◌, ◌≡◌, refl, inl, true, Some, None}
+use Rattle.std.proofs.Common.{rules, arith, ap, subst, sym, ◌∙◌, refl, inl}
 use Rattle.flu_fork.specs.Lots.{LotFits}
 use Rattle.flu_fork.specs.Serving.{GrownFrom}
 use Rattle.flu_link.specs.Seats.{Sat}

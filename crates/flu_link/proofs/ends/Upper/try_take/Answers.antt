@@ -1,4 +1,4 @@
-use Rattle.std.proofs.Common.{rules, arith, ap, subst, sym, ◌∙◌, inl, ◌≤◌, ℕ, Option, Some, None}
+use Rattle.std.proofs.Common.{rules, arith, subst, sym, ◌∙◌, inl, ◌≤◌, ℕ, Option, Some, None}
 use Rattle.std.specs.Prelude.{IfNone}
 use Rattle.flu_link.specs.Notes.{UpperNote}
 use Rattle.flu_link.proofs.UpperSteps.{fetch}
