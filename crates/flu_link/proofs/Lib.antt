@@ -1,0 +1,5 @@
+pub mod Stepping
+pub mod UpperSteps
+pub mod LowerSteps
+pub mod Whole
+pub mod Hands
