@@ -1,26 +1,18 @@
 -- What an ending says of the status, of out and of err.
-use Rattle.std.proofs.Common.{◌≡◌, ◌≢◌, refl, sym, ap, ◌∙◌, subst, ℕ, List, [], ◌∷◌, Option, Result, Ok, Err, inl, inr, arith}
-use Rattle.std.specs.Prelude.{Contains, IfErr, OnOk, ◌↔◌}
+use Rattle.std.proofs.Common.{◌≡◌, ◌≢◌, refl, sym, ap, ◌∙◌, subst, ℕ, List, Option, Result, Ok, Err, inl, inr, arith}
+use Rattle.std.specs.Prelude.{IfErr}
 use Rattle.flu_outside.specs.Outside.{WhereTold, Rose}
-use Rattle.flu_model.specs.declared.jobs.Program.{Program}
-use Rattle.flu_parse.specs.declared.faults.JobFault.{JobFault}
-use Rattle.flu_check.specs.declared.CheckFault.{CheckFault}
 use Rattle.flu_outside.specs.Writing.{AppendsAll, AppendsPart}
 use Rattle.flu_lemmas.proofs.Told.{told_weaker}
-use Rattle.flu_streams.specs.declared.faults.SourceFault.{SourceFault}
 use Rattle.flu_outside.specs.Outside.{Contents}
-use Rattle.flu_top.specs.declared.refusals.PlanDefect.{PlanDefect}
 use Rattle.flu_top.specs.declared.refusals.Refusal.{Refusal}
 use Rattle.flu_top.specs.declared.refusals.Refusal.TheVariants as refusals
 use Rattle.flu_top.specs.Words.{Command, command_in}
 use Rattle.flu_top.specs.Taking.{TookOnly}
-use Rattle.flu_top.specs.Wants.{job_named}
 use Rattle.flu_top.specs.Done.{IsWritten, IsDone, IsPartlyDone, IsReadName, IsReadBy}
-use Rattle.flu_top.specs.Causes.{HasJobFault, HasConflict, HasPlanDefect, HasSourceFault}
 use Rattle.flu_top.specs.Refusing.{IsRefusal}
-use Rattle.flu_top.specs.Lines.{bad_words_line, read_fault_line, write_fault_line, no_memory_line}
 use Rattle.flu_top.specs.Answer.{status_of, status_after, line_of}
-use Rattle.flu_top.specs.Ending.{Call, WroteNothing, HasWriteFault, IsEnding, IsRefused, Ends}
+use Rattle.flu_top.specs.Ending.{Call, WroteNothing, HasWriteFault, IsEnding, Ends}
 
 -- ---- the making of an ending
 pub ends_refused : (c : Call) (command : Command) (refusal : Refusal) → command_in c.words ≡ Ok command → IsRefusal command c.left c.left_after c.counts c.counts_after refusal → WroteNothing c → Ends c (Err refusal)

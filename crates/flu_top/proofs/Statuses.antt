@@ -1,5 +1,5 @@
 -- What an outcome says at each status.
-use Rattle.std.proofs.Common.{◌≡◌, ◌≢◌, refl, sym, ◌∙◌, subst, ℕ, List, [], ◌∷◌, Ok, Err, arith}
+use Rattle.std.proofs.Common.{◌≡◌, ◌≢◌, sym, ◌∙◌, subst, ℕ, List, [], ◌∷◌, Ok, Err, arith}
 use Rattle.std.specs.Prelude.{Contains, ◌↔◌}
 use Rattle.flu_outside.specs.Outside.{WhereTold}
 use Rattle.flu_model.specs.declared.jobs.Program.{Program}

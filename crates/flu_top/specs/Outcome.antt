@@ -44,41 +44,33 @@ pub data Outcome (words : List (List ℕ)) (old new : Outside) (status : ℕ) : 
   -- nothing refuses the command, all that it reads was read to its end, and out got all that it writes
   Done : status ≡ 0 → (command : Command) → command_in words ≡ Ok command
       → WhereTold old.left new.left (IsDone command old.out new.out) → new.err ≡ old.err → Outcome words old new status
-
   -- the words are no command: the one at this place does not fit; no file was read
   BadWords : status ≡ 2 → (at : ℕ) → command_in words ≡ Err at
       → new.left ≡ old.left → Refused old new (bad_words_line at) → Outcome words old new status
-
   -- the bytes of the command's job have this first fault
   BadJob : status ≡ 3 → (command : Command) → command_in words ≡ Ok command → (fault : JobFault)
       → HasJobFault (want command).job old.left new.left fault
       → Refused old new (job_fault_line fault) → Outcome words old new status
-
   -- the command wants an accepted job, and its job has this first conflict
   Conflicts : status ≡ 4 → (command : Command) → command_in words ≡ Ok command → (fault : CheckFault)
       → HasConflict command old.left new.left fault
       → Refused old new (conflict_line fault) → Outcome words old new status
-
   -- the command's plan has this first defect for its job, which is accepted
   BadPlan : status ≡ 5 → (command : Command) → command_in words ≡ Ok command → (defect : PlanDefect)
       → HasPlanDefect command old.left new.left defect
       → Refused old new (plan_defect_line defect) → Outcome words old new status
-
   -- the command reads the sources of its job, and this is the first defect of the first one that has any
   BadSource : status ≡ 6 → (command : Command) → command_in words ≡ Ok command → (p : Program) (fault : SourceFault)
       → HasSourceFault command old.left new.left p fault
       → Refused old new (source_fault_line (source_name p fault.source) fault.row fault.why)
       → Outcome words old new status
-
   -- a file that the command reads failed
   ReadFailed : status ≡ 7 → (command : Command) → command_in words ≡ Ok command
       → Refused old new read_fault_line → Outcome words old new status
-
   -- nothing refuses the command, and all that it reads was read; out failed, and got fewer bytes than it writes, from their front
   WriteFailed : status ≡ 8 → (command : Command) → command_in words ≡ Ok command
       → WhereTold old.left new.left (IsPartlyDone command old.out new.out)
       → Said old new write_fault_line → Outcome words old new status
-
   -- there was no memory
   NoMemory : status ≡ 9 → (command : Command) → command_in words ≡ Ok command
       → Refused old new no_memory_line → Outcome words old new status
