@@ -1,5 +1,5 @@
 -- Where nothing failed, a call's status is the one that the command, its job's text, its plan and its sources call for, or that of want of memory.
-use Rattle.std.proofs.Common.{◌≡◌, sym, ◌∙◌, refl, subst, ℕ, Option, Some, None, Ok, Err, inl, inr, ◌⊎◌}
+use Rattle.std.proofs.Common.{◌≡◌, ◌≢◌, arith, sym, ◌∙◌, refl, subst, ℕ, Option, Some, None, Ok, Err, inl, inr, ◌⊎◌}
 use Rattle.std.specs.Prelude.{List, IsTrue}
 use Rattle.flu_outside.specs.Outside.{WhereTold, Contents}
 use Rattle.flu_model.specs.declared.jobs.Program.{Program}
@@ -10,7 +10,6 @@ use Rattle.flu_model.specs.Validity.{IsValid}
 use Rattle.flu_deps.specs.Checking.{program_of}
 use Rattle.flu_parse.specs.declared.faults.JobFault.{JobFault}
 use Rattle.flu_parse.specs.Reading.{job_in}
-use Rattle.flu_check.specs.declared.CheckFault.{CheckFault}
 use Rattle.flu_plan.specs.declared.fault.PlanFault.{PlanFault}
 use Rattle.flu_outside.specs.Taking.{bytes_left}
 use Rattle.flu_streams.specs.declared.faults.SourceFault.{SourceFault}
@@ -76,7 +75,7 @@ IsStatus wanted status = (status ≡ wanted) ⊎ (status ≡ 9)
 record Leads (wanted : ℕ) (command : Command) (left : Contents) : Type 0 where
   done : (p : Program) → IsGood command left p → IsStatus wanted 0
   job : (fault : JobFault) → job_in (bytes_left left (job_named command)) ≡ Err fault → IsStatus wanted 3
-  conflict : (fault : CheckFault) → IsTrue (asks_accepted command) → ¬ IsAccepted fault.program → HasJob (job_named command) left fault.program → IsStatus wanted 4
+  conflict : (p : Program) → IsTrue (asks_accepted command) → ¬ IsAccepted p → HasJob (job_named command) left p → IsStatus wanted 4
   plan : (plan : List ℕ) (p : Program) → plan_named command ≡ Some plan → IsAccepted p → HasJob (job_named command) left p → ¬ HasValidPlan (job_named command) plan left p → IsStatus wanted 5
   source : (p : Program) (fault : SourceFault) → IsTrue (reads_sources command) → (IsTrue (asks_accepted command) → IsAccepted p) → HasJob (job_named command) left p → fault_behind (job_named command) left p ≡ Some fault → IsStatus wanted 6
 
@@ -85,7 +84,7 @@ leads_done : (command : Command) (left : Contents) (p : Program) → IsGood comm
 leads_done command left p good = record {
   done = λ q other. inl refl;
   job = λ fault bad. absurd (not_both (job_named command) left p fault good.has bad);
-  conflict = λ fault asked refused has. absurd (refused (accepted_of_text (job_named command) left p fault.program good.has has (good.accepted asked)));
+  conflict = λ q asked refused has. absurd (refused (accepted_of_text (job_named command) left p q good.has has (good.accepted asked)));
   plan = λ plan q named accepted has bad. absurd (bad (valid_of_text (job_named command) plan left p q good.has has (good.plan plan named)));
   source = λ q fault asked accepted has bad. absurd (no_fault q fault has (good.sources asked) bad);
 }
@@ -97,7 +96,7 @@ leads_job : (command : Command) (left : Contents) (fault : JobFault) → job_in 
 leads_job command left fault bad = record {
   done = λ q good. absurd (not_both (job_named command) left q fault good.has bad);
   job = λ other found. inl refl;
-  conflict = λ other asked refused has. absurd (not_both (job_named command) left other.program fault has bad);
+  conflict = λ q asked refused has. absurd (not_both (job_named command) left q fault has bad);
   plan = λ plan q named accepted has other. absurd (not_both (job_named command) left q fault has bad);
   source = λ q other asked accepted has found. absurd (not_both (job_named command) left q fault has bad);
 }
@@ -106,7 +105,7 @@ leads_conflict : (command : Command) (left : Contents) (p : Program) → IsTrue 
 leads_conflict command left p asked has refused = record {
   done = λ q good. absurd (refused (accepted_of_text (job_named command) left q p good.has has (good.accepted asked)));
   job = λ fault bad. absurd (not_both (job_named command) left p fault has bad);
-  conflict = λ fault asked none found. inl refl;
+  conflict = λ q asked none found. inl refl;
   plan = λ plan q named accepted found bad. absurd (refused (accepted_of_text (job_named command) left q p found has accepted));
   source = λ q fault reads accepted found bad. absurd (refused (accepted_of_text (job_named command) left q p found has (accepted asked)));
 }
@@ -115,7 +114,7 @@ leads_plan : (command : Command) (left : Contents) (p : Program) (plan : List �
 leads_plan command left p plan named has accepted bad = record {
   done = λ q good. absurd (bad (valid_of_text (job_named command) plan left q p good.has has (good.plan plan named)));
   job = λ fault found. absurd (not_both (job_named command) left p fault has found);
-  conflict = λ fault asked refused found. absurd (refused (accepted_of_text (job_named command) left p fault.program has found accepted));
+  conflict = λ q asked refused found. absurd (refused (accepted_of_text (job_named command) left p q has found accepted));
   plan = λ name q also found others worse. inl refl;
   source = λ q fault reads also found others. absurd (no_sources command plan named reads);
 }
@@ -124,7 +123,7 @@ leads_source : (command : Command) (left : Contents) (p : Program) (fault : Sour
 leads_source command left p fault reads has accepted bad = record {
   done = λ q good. absurd (no_fault q good.has (good.sources reads));
   job = λ other found. absurd (not_both (job_named command) left p other has found);
-  conflict = λ other asked refused found. absurd (refused (accepted_of_text (job_named command) left p other.program has found (accepted asked)));
+  conflict = λ q asked refused found. absurd (refused (accepted_of_text (job_named command) left p q has found (accepted asked)));
   plan = λ plan q named also found other. absurd (no_sources command plan named reads);
   source = λ q other asked also found others. inl refl;
 }
@@ -139,6 +138,21 @@ leads command left wanted (cases.NotAccepted is p asked has refused) = subst (λ
 leads command left wanted (cases.NoValidPlan is p plan named has accepted bad) = subst (λ n. Leads n command left) (sym is) (leads_plan command left p plan named has accepted bad)
 leads command left wanted (cases.FaultySource is p fault reads has accepted bad) =
     subst (λ n. Leads n command left) (sym is) (leads_source command left p fault reads has accepted bad)
+
+-- a command and the files call for one status
+settled : (wanted status : ℕ) → IsStatus wanted status → status ≢ 9 → wanted ≡ status
+settled wanted status (inl same) other = sym same
+settled wanted status (inr nine) other = absurd (other nine)
+
+pub one_status : (command : Command) (left : Contents) (a b : ℕ) → CallsFor command left a → CallsFor command left b → a ≡ b
+one_status command left a b first (cases.Good is p good) = settled a 0 ((leads command left a first).done p good) (λ e. omega (arith, e)) ∙ sym is
+one_status command left a b first (cases.FaultyJob is fault bad) = settled a 3 ((leads command left a first).job fault bad) (λ e. omega (arith, e)) ∙ sym is
+one_status command left a b first (cases.NotAccepted is p asked has refused) =
+    settled a 4 ((leads command left a first).conflict p asked refused has) (λ e. omega (arith, e)) ∙ sym is
+one_status command left a b first (cases.NoValidPlan is p plan named has accepted bad) =
+    settled a 5 ((leads command left a first).plan plan p named accepted has bad) (λ e. omega (arith, e)) ∙ sym is
+one_status command left a b first (cases.FaultySource is p fault reads has accepted bad) =
+    settled a 6 ((leads command left a first).source p fault reads accepted has bad) (λ e. omega (arith, e)) ∙ sym is
 
 -- ---- the outcome
 same_command : (words : List (List ℕ)) (a b : Command) → command_in words ≡ Ok a → command_in words ≡ Ok b → a ≡ b
@@ -169,7 +183,7 @@ by_case words old new before now out_before out_now status wanted command left (
 by_case words old new before now out_before out_now status wanted command left (cases.Conflicts is other also fault why refused) faults word told nothing leads =
     let same = same_command words other command also word in
     let has = subst (λ (d : Command). HasConflict d old.left new.left fault) same why in
-    subst (IsStatus wanted) (sym is) (leads.conflict fault has.asked has.conflict.refused (of_told (IsJobRead (job_named command) fault.program) left old.left new.left told has.job).1.has)
+    subst (IsStatus wanted) (sym is) (leads.conflict fault.program has.asked has.conflict.refused (of_told (IsJobRead (job_named command) fault.program) left old.left new.left told has.job).1.has)
 by_case words old new before now out_before out_now status wanted command left (cases.BadPlan is other also defect why refused) faults word told nothing leads =
     let same = same_command words other command also word in
     let has = subst (λ (d : Command). HasPlanDefect d old.left new.left defect) same why in

@@ -17,7 +17,7 @@ use Rattle.flu_top.specs.Done.{HasValidPlan, IsGood, IsDone, IsPartlyDone, IsRea
 use Rattle.flu_top.specs.Causes.{HasJobFault, HasConflict, HasPlanDefect, HasSourceFault}
 use Rattle.flu_top.specs.Names.{source_name}
 use Rattle.flu_top.specs.Lines.{bad_words_line, job_fault_line, conflict_line, plan_defect_line, source_fault_line, read_fault_line, write_fault_line, no_memory_line}
-use Rattle.flu_top.specs.Outcome.{Outside, Said, Outcome, ReadOnly, FaultsFirst, NothingFailed, Completes}
+use Rattle.flu_top.specs.Outcome.{Outside, Said, Outcome, ReadOnly, FaultsFirst, CallsFor, NothingFailed, Completes}
 
 -- ---- the statuses
 -- the status is one of these
@@ -188,3 +188,7 @@ CompletesByFaults =
     (words : List (List ℕ)) (old new : Outside) (status : ℕ) (before now : List ℕ → ℕ) (out_before out_now : ℕ)
     → Outcome words old new status → FaultsFirst words old.left before now out_before out_now status
     → Completes words old.left before now out_before out_now status
+
+-- a command and the files call for one status at most: what refuses a command comes in an order, and the first decides
+abbrev pub CallsForOneStatus : Type 0
+CallsForOneStatus = (command : Command) (left : Contents) (a b : ℕ) → CallsFor command left a → CallsFor command left b → a ≡ b
