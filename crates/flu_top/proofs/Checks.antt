@@ -8,9 +8,9 @@ use Rattle.flu_lemmas.proofs.Told.{told_weaker}
 use Rattle.flu_top.specs.declared.refusals.Refusal.{Refusal}
 use Rattle.flu_top.specs.declared.refusals.Refusal.TheVariants as refusals
 use Rattle.flu_top.specs.Words.{Command, Check}
-use Rattle.flu_top.specs.Commands.{job_named, asks_accepted}
+use Rattle.flu_top.specs.Wants.{job_named, asks_accepted}
 use Rattle.flu_top.specs.Done.{IsWritten}
-use Rattle.flu_top.specs.Jobs.{IsJobRead}
+use Rattle.flu_top.specs.Causes.{IsJobRead}
 use Rattle.flu_top.specs.Checking.{IsChecked, IsCheckRefusal}
 use Rattle.flu_top.specs.Refusing.{IsRefusal}
 

@@ -13,7 +13,8 @@ use Rattle.flu_parse.specs.declared.faults.JobFault.TheVariants as f
 use Rattle.flu_parse.specs.Faults.{Fails}
 use Rattle.flu_parse.specs.Reading.{job_in}
 use Rattle.flu_outside.specs.Taking.{TookWhole}
-use Rattle.flu_top.specs.Jobs.{IsJobRead, HasJobFault, IsJobRefusal}
+use Rattle.flu_top.specs.Jobs.{IsJobRefusal}
+use Rattle.flu_top.specs.Causes.{IsJobRead, HasJobFault}
 use Rattle.flu_top.specs.Answer.{refusal_of_job}
 
 -- a text that is too long has the fault of its bytes, whatever stands in it

@@ -13,3 +13,6 @@ pub mod SameAcceptance
 pub mod SamePlans
 pub mod Endings
 pub mod Completeness
+pub mod Outcomes
+pub mod Statuses
+pub mod LawsOfOutcome

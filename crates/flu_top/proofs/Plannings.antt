@@ -6,7 +6,7 @@ use Rattle.flu_model.specs.declared.jobs.Program.{Program}
 use Rattle.flu_lemmas.proofs.Told.{told_weaker}
 use Rattle.flu_top.specs.Words.{Plan}
 use Rattle.flu_top.specs.Done.{IsWritten}
-use Rattle.flu_top.specs.Jobs.{IsJobRead}
+use Rattle.flu_top.specs.Causes.{IsJobRead}
 use Rattle.flu_top.specs.Planning.{IsPlanned}
 
 pub is_planned : (job : List ℕ) (depth : ℕ) (p : Program) (text : List ℕ) (a b : Option Contents) → WhereTold a b (IsJobRead job p) → IsPlanned p depth text → WhereTold a b (IsWritten (Plan job depth) text)

@@ -22,9 +22,10 @@ use Rattle.flu_top.specs.declared.refusals.Refusal.TheVariants as refusals
 use Rattle.flu_top.specs.Words.{Command, Fold}
 use Rattle.flu_top.specs.Taking.{TookOnly}
 use Rattle.flu_top.specs.Behind.{HasJob, emptied, fault_behind, report_behind}
-use Rattle.flu_top.specs.Commands.{job_named}
+use Rattle.flu_top.specs.Wants.{job_named}
 use Rattle.flu_top.specs.Done.{MayHaveJob, IsReadName, IsWritten}
-use Rattle.flu_top.specs.Jobs.{IsJobRead, IsJobRefusal}
+use Rattle.flu_top.specs.Jobs.{IsJobRefusal}
+use Rattle.flu_top.specs.Causes.{IsJobRead}
 use Rattle.flu_top.specs.Folding.{IsReported, IsReportRefusal}
 use Rattle.flu_top.specs.Refusing.{IsRefusal}
 

@@ -20,11 +20,11 @@ use Rattle.flu_top.specs.declared.refusals.Refusal.TheVariants as refusals
 use Rattle.flu_top.specs.Words.{Valid}
 use Rattle.flu_top.specs.Taking.{TookOnly}
 use Rattle.flu_top.specs.Behind.{HasJob, plan_behind}
-use Rattle.flu_top.specs.Commands.{found_printed}
+use Rattle.flu_top.specs.Wants.{found_printed}
 use Rattle.flu_top.specs.Done.{IsReadName, IsWritten}
-use Rattle.flu_top.specs.Jobs.{IsJobRead}
+use Rattle.flu_top.specs.Causes.{IsJobRead, HasInvalidPlan}
 use Rattle.flu_top.specs.Plans.{IsPlanRead, IsTextRefusal, IsValidated, IsValidRefusal}
-use Rattle.flu_top.specs.Refusing.{HasInvalidPlan, IsRefusal}
+use Rattle.flu_top.specs.Refusing.{IsRefusal}
 use Rattle.flu_top.proofs.Sequence.{may_have, emptied_is}
 
 -- ---- names

@@ -1,5 +1,5 @@
 -- Bytes that are written one after another.
-use Rattle.std.proofs.Common.{◌≡◌, sym, ap, ◌∙◌, ℕ, ◌+◌, ◌-◌, ◌≤◌, List, [], ◌∷◌, ◌++◌, length, get_or, map, take, drop, Option, Some, None, Result, Ok, Err, subst, arith, append-nil, append_assoc, length-append, refl}
+use Rattle.std.proofs.Common.{◌≡◌, sym, ap, ◌∙◌, ℕ, ◌+◌, ◌-◌, ◌≤◌, List, [], ◌∷◌, ◌++◌, length, get_or, map, take, drop, Option, Result, Ok, Err, subst, arith, append-nil, append_assoc, length-append, refl}
 use Rattle.std.proofs.Math.Seq.{take-append-add}
 use denote.Bor.{Bor}
 use Rattle.std.specs.List.{concat}
@@ -12,7 +12,6 @@ use Rattle.flu_top.specs.Lines.{what_word, limit_text, fault_line, row_line, sou
 use Rattle.flu_lemmas.proofs.Named.{rose_behind}
 use Rattle.flu_lemmas.proofs.Told.{told_then, told_weaker, told_same}
 use Rattle.flu_outside.specs.declared.sink.Failed.{Failed}
-use Rattle.flu_outside.specs.Outside.{WhereTold}
 use Rattle.flu_outside.specs.Writing.{AppendsAll, AppendsPart, Writes}
 
 part_of_first : (a b x y : List ℕ) → AppendsPart a x y → AppendsPart (a ++ b) x y

@@ -4,15 +4,9 @@ use Rattle.flu_model.specs.declared.jobs.Program.{Program}
 use Rattle.flu_model.specs.Erasure.{job_of}
 use Rattle.flu_model.specs.Modes.{IsAccepted}
 use Rattle.flu_parse.specs.Printing.{normal_form}
-use Rattle.flu_check.specs.declared.CheckFault.{CheckFault}
-use Rattle.flu_check.specs.Faults.{IsFirstCheckFault}
 use Rattle.flu_top.specs.declared.refusals.Refusal.{Refusal}
 use Rattle.flu_top.specs.declared.refusals.Refusal.TheVariants as refusals
-
--- the fault's job is not accepted, and the fault is its first conflict of independent tags
-pub record IsConflict (fault : CheckFault) : Type 0 where
-  pub refused : ¬ IsAccepted fault.program
-  pub first : IsFirstCheckFault fault.program fault.a fault.b fault.cell
+use Rattle.flu_top.specs.Causes.{IsConflict}
 
 -- the program is accepted, and this is its job's normal form
 pub record IsChecked (p : Program) (text : List ℕ) : Type 0 where

@@ -8,7 +8,7 @@ use Rattle.flu_model.specs.Validity.{IsValid}
 use Rattle.flu_outside.specs.Writing.{AppendsAll, AppendsPart}
 use Rattle.flu_top.specs.Words.{Command, command_in}
 use Rattle.flu_top.specs.Behind.{HasJob, fault_behind, plan_behind}
-use Rattle.flu_top.specs.Commands.{job_named, plan_named, asks_accepted, reads_sources, files_read, Writes}
+use Rattle.flu_top.specs.Wants.{job_named, plan_named, asks_accepted, reads_sources, files_read, Writes}
 
 -- the text under a name, which is read behind the job's, is a plan that is valid for the job
 abbrev pub HasValidPlan : List ℕ → List ℕ → Contents → Program → Type 0

@@ -4,7 +4,7 @@ use Rattle.flu_outside.specs.Outside.{Contents, WhereTold, Rose}
 use Rattle.flu_top.specs.declared.refusals.Refusal.{Refusal}
 use Rattle.flu_top.specs.declared.refusals.Refusal.TheVariants as refusals
 use Rattle.flu_top.specs.Words.{Command, command_in}
-use Rattle.flu_top.specs.Done.{IsDone, IsPartlyDone, IsReadName}
+use Rattle.flu_top.specs.Done.{IsDone, IsPartlyDone}
 use Rattle.flu_top.specs.Refusing.{IsRefusal}
 
 -- what a call finds, and what it leaves: its words, the files with their counts, and out with its count
@@ -47,8 +47,3 @@ pub record IsRefused (c : Call) (at : ℕ) (ended : Result (Unit {0}) Refusal) :
 -- how a call ended: its words are a command, or are none
 pub record Ends (c : Call) (ended : Result (Unit {0}) Refusal) : Type 0 where
   pub how : ((command : Command) × (command_in c.words ≡ Ok command) × IsEnding c command ended) ⊎ ((at : ℕ) × (command_in c.words ≡ Err at) × IsRefused c at ended)
-
--- no name that the command reads failed, and out did not
-pub record NothingFailed (command : Command) (left : Option Contents) (before now : List ℕ → ℕ) (count count_after : ℕ) : Type 0 where
-  pub files : (name : List ℕ) → IsReadName left command name → ¬ Rose (before name) (now name)
-  pub out : ¬ Rose count count_after

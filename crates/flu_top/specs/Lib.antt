@@ -3,10 +3,13 @@ pub mod Words
 pub mod Taking
 pub mod Behind
 pub mod Rates
-pub mod Commands
+pub mod Wants
 pub mod Done
+pub mod Causes
 pub mod Names
 pub mod Lines
+pub mod Outcome
+pub mod Laws
 pub mod Answer
 pub mod Jobs
 pub mod Folding

@@ -11,11 +11,10 @@ use Rattle.flu_plan.specs.declared.fault.PlanFault.{PlanFault}
 use Rattle.flu_plan.specs.declared.fault.PlanFault.TheVariants as faults
 use Rattle.flu_plan.specs.Reading.{plan_in}
 use Rattle.flu_plan.specs.Printing.{printed}
-use Rattle.flu_valid.specs.declared.faults.Invalid.{Invalid}
-use Rattle.flu_valid.specs.Faults.{IsFirstPlanFault}
 use Rattle.flu_top.specs.declared.refusals.PlanDefect.TheVariants as defects
 use Rattle.flu_top.specs.declared.refusals.Refusal.{Refusal}
 use Rattle.flu_top.specs.declared.refusals.Refusal.TheVariants as refusals
+use Rattle.flu_top.specs.Causes.{IsInvalid}
 
 -- the bytes under a name are the text of this plan of the job, and were read to their end
 pub record IsPlanRead (p : Program) (plan : List ℕ) (nodes : List Node) (old new : Contents) : Type 0 where
@@ -38,11 +37,6 @@ IsTextRefusal p plan old new before now (refusals.SourceFault q fault) = ⊥
 IsTextRefusal p plan old new before now refusals.ReadFault = Rose (before plan) (now plan)
 IsTextRefusal p plan old new before now refusals.WriteFault = ⊥
 IsTextRefusal p plan old new before now refusals.NoMemory = ⊤
-
--- the plan is not valid for the job, and this is the first thing that keeps it from that
-pub record IsInvalid (p : Program) (nodes : List Node) (why : Invalid) : Type 0 where
-  pub refused : ¬ IsValid p nodes
-  pub first : IsFirstPlanFault p nodes why
 
 -- the plan is valid for the job, and this is its normal form
 pub record IsValidated (p : Program) (nodes : List Node) (text : List ℕ) : Type 0 where

@@ -1,65 +1,12 @@
--- What refuses a command.
-use Rattle.std.specs.Prelude.{◌≡◌, ◌≢◌, ◌<◌, ℕ, List, length, Option, Some, Ok, Err, ⊤, IsTrue}
-use Rattle.flu_outside.specs.Outside.{Contents, WhereTold, Rose}
-use Rattle.flu_model.specs.declared.jobs.Program.{Program}
-use Rattle.flu_model.specs.declared.plans.Node.{Node}
-use Rattle.flu_model.specs.Modes.{IsAccepted}
-use Rattle.flu_deps.specs.Checking.{program_of}
-use Rattle.flu_plan.specs.declared.fault.PlanFault.{PlanFault}
-use Rattle.flu_plan.specs.declared.fault.PlanFault.TheVariants as faults
-use Rattle.flu_valid.specs.declared.faults.Invalid.{Invalid}
-use Rattle.flu_check.specs.declared.CheckFault.{CheckFault}
-use Rattle.flu_streams.specs.declared.faults.SourceFault.{SourceFault}
-use Rattle.flu_top.specs.declared.refusals.PlanDefect.{PlanDefect}
-use Rattle.flu_top.specs.declared.refusals.PlanDefect.TheVariants as defects
+-- Why a command has nothing to write.
+use Rattle.std.specs.Prelude.{ℕ, List, Option, ⊤}
+use Rattle.flu_outside.specs.Outside.{Contents, Rose}
 use Rattle.flu_top.specs.declared.refusals.Refusal.{Refusal}
 use Rattle.flu_top.specs.declared.refusals.Refusal.TheVariants as refusals
 use Rattle.flu_top.specs.Words.{Command}
-use Rattle.flu_top.specs.Behind.{HasJob, fault_behind, plan_behind}
-use Rattle.flu_top.specs.Commands.{job_named, plan_named, asks_accepted, reads_sources}
+use Rattle.flu_top.specs.Wants.{job_named}
 use Rattle.flu_top.specs.Done.{IsReadName}
-use Rattle.flu_top.specs.Jobs.{IsJobRead, HasJobFault}
-use Rattle.flu_top.specs.Checking.{IsConflict}
-use Rattle.flu_top.specs.Plans.{IsInvalid}
-
--- the command asks for an accepted job, the bytes under the job's name are the text of the fault's job, which is not accepted,
--- and the fault is its first conflict
-pub record HasConflict (command : Command) (old new : Option Contents) (fault : CheckFault) : Type 0 where
-  pub asked : IsTrue (asks_accepted command)
-  pub conflict : IsConflict fault
-  pub job : WhereTold old new (IsJobRead (job_named command) fault.program)
-
--- the command names a plan, the bytes under the job's name are the text of this program, which is accepted, and the plan's text
--- has this first fault for it
-pub record HasPlanFault (command : Command) (old new : Option Contents) (fault : PlanFault) : Type 0 where
-  pub plan : List ℕ
-  pub program : Program
-  pub asked : plan_named command ≡ Some plan
-  pub accepted : IsAccepted program
-  pub is_fault : fault ≢ faults.NoMemory
-  pub first : WhereTold old new (λ left _. HasJob (job_named command) left program × (plan_behind (job_named command) plan left program ≡ Err fault))
-
--- the command names a plan, the bytes under the job's name are the text of this program, which is accepted, and those under the
--- plan's name are the text of these nodes, which are not valid for it: this is the first thing that keeps them from that
-pub record HasInvalidPlan (command : Command) (old new : Option Contents) (p : Program) (nodes : List Node) (why : Invalid) : Type 0 where
-  pub plan : List ℕ
-  pub asked : plan_named command ≡ Some plan
-  pub accepted : IsAccepted p
-  pub invalid : IsInvalid p nodes why
-  pub text : WhereTold old new (λ left _. HasJob (job_named command) left p × (plan_behind (job_named command) plan left p ≡ Ok nodes))
-
--- what is wrong with the command's plan
-abbrev pub HasPlanDefect : Command → Option Contents → Option Contents → PlanDefect → Type 0
-HasPlanDefect command old new (defects.Text fault) = HasPlanFault command old new fault
-HasPlanDefect command old new (defects.Invalid checked fault) = HasInvalidPlan command old new (program_of checked) fault.plan.nodes fault.why
-
--- the command reads sources, the bytes under the job's name are the text of this program, which is accepted where the command
--- asks for that, and this is the first fault of its sources
-pub record HasSourceFault (command : Command) (old new : Option Contents) (p : Program) (fault : SourceFault) : Type 0 where
-  pub asked : IsTrue (reads_sources command)
-  pub accepted : IsTrue (asks_accepted command) → IsAccepted p
-  pub source : fault.source < length p.sources
-  pub first : WhereTold old new (λ left _. HasJob (job_named command) left p × (fault_behind (job_named command) left p ≡ Some fault))
+use Rattle.flu_top.specs.Causes.{HasJobFault, HasConflict, HasPlanDefect, HasSourceFault}
 
 -- a name that is read failed
 abbrev pub HasReadFault : Command → Option Contents → (List ℕ → ℕ) → (List ℕ → ℕ) → Type 0

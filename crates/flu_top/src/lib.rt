@@ -5,6 +5,7 @@ mod checking;
 mod commands;
 mod depths;
 mod folding;
+pub mod laws;
 mod lines;
 mod names;
 mod pieces;

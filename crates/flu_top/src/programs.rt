@@ -3,7 +3,8 @@
 ghost use Rattle.std.specs.Prelude.{◌≤◌, List, ℕ, IfOk, IfErr};
 ghost use Rattle.flu_outside.specs.Outside.{WhereTold};
 ghost use Rattle.flu_outside.specs.Taking.{TakesFrom};
-ghost use Rattle.flu_top.specs.Jobs.{IsJobRead, IsJobRefusal};
+ghost use Rattle.flu_top.specs.Jobs.{IsJobRefusal};
+ghost use Rattle.flu_top.specs.Causes.{IsJobRead};
 
 use crate::refusals::Refusal;
 use flu_model::Program;

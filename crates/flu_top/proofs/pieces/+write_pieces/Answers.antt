@@ -1,4 +1,4 @@
-use Rattle.std.proofs.Common.{List, ℕ, [], map, take, drop, length, get_or, ◌-◌}
+use Rattle.std.proofs.Common.{[], map, take, drop, length, get_or, ◌-◌}
 use Rattle.std.specs.List.{concat}
 use Rattle.flu_top.proofs.Written.{writes_as, writes_more, pieces_split}
 use Rattle.flu_top.proofs.pieces.+write_pieces.Goals as goal

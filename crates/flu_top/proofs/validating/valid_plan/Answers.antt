@@ -3,7 +3,7 @@ use Rattle.std.proofs.lemmas.Result.{IfOk-weaker, IfErr-weaker}
 use Rattle.flu_outside.specs.Outside.{WhereTold}
 use Rattle.flu_deps.specs.Checking.{program_of}
 use Rattle.flu_lemmas.proofs.Named.{fronts_at, fronts_then}
-use Rattle.flu_top.specs.Jobs.{IsJobRead}
+use Rattle.flu_top.specs.Causes.{IsJobRead}
 use Rattle.flu_top.specs.Plans.{IsPlanRead, IsTextRefusal}
 use Rattle.flu_top.proofs.Validations.{is_validated, only_with_plan, text_refusal, valid_refusal}
 use Rattle.flu_top.proofs.validating.valid_plan.Goals as goal

@@ -1,0 +1,96 @@
+-- The laws of outcomes.
+use Rattle.std.proofs.Common.{refl}
+use Rattle.flu_top.specs.Outcome as cases
+use Rattle.flu_top.specs.Laws.{KnownStatuses, DoneIsDone, DoneIsQuiet, BadWordsExactly, BadWordsLine, BadWordsTouchNothing, JobFaultIsFirst, ConflictIsFirst, PlanDefectIsFirst, SourceFaultIsFirst, ReadFaultRose, ReadFaultLine, WriteFaultRose, WriteFaultIsPart, WriteFaultLine, NoMemoryLine, NothingIsWritten, FrontsAreTaken, NoOtherIsRead, GoodIsDone, JobFaultIsRefused, ConflictIsRefused, PlanDefectIsRefused, SourceFaultIsRefused, CompletesByFaults, CallsForOneStatus}
+use Rattle.flu_top.proofs.Statuses.{at_0, at_2, at_3, at_4, at_5, at_6, at_7, at_8, at_9, known_status, nothing_written, of_no_command, bad_words_exactly}
+use Rattle.flu_top.proofs.Completeness.{completes_of, one_status}
+
+-- ---- the statuses
+pub known_law : KnownStatuses
+known_law words old new status outcome = known_status words old new status outcome
+
+pub nothing_law : NothingIsWritten
+nothing_law words old new status outcome some other = nothing_written words old new status outcome some other
+
+pub done_law : DoneIsDone
+done_law words old new status outcome is = let found = at_0 words old new status outcome is in (found.0, found.1, found.2)
+
+pub quiet_law : DoneIsQuiet
+quiet_law words old new status outcome is = (at_0 words old new status outcome is).3
+
+pub bad_words_law : BadWordsExactly
+bad_words_law words old new status outcome = bad_words_exactly words old new status outcome
+
+pub bad_words_line_law : BadWordsLine
+bad_words_line_law words old new status outcome at bad = (of_no_command words old new status outcome at bad).1
+
+pub untouched_law : BadWordsTouchNothing
+untouched_law words old new status outcome is = (at_2 words old new status outcome is).2
+
+pub job_fault_law : JobFaultIsFirst
+job_fault_law words old new status outcome is =
+    let found = at_3 words old new status outcome is in (found.0, found.1, found.2, found.3, found.4.said)
+
+pub conflict_law : ConflictIsFirst
+conflict_law words old new status outcome is =
+    let found = at_4 words old new status outcome is in (found.0, found.1, found.2, found.3, found.4.said)
+
+pub plan_defect_law : PlanDefectIsFirst
+plan_defect_law words old new status outcome is =
+    let found = at_5 words old new status outcome is in (found.0, found.1, found.2, found.3, found.4.said)
+
+pub source_fault_law : SourceFaultIsFirst
+source_fault_law words old new status outcome is =
+    let found = at_6 words old new status outcome is in (found.0, found.1, found.2, found.3, found.4, found.5.said)
+
+pub read_fault_law : ReadFaultRose
+read_fault_law words left before now out_before out_now status faults is = faults.read is
+
+pub read_fault_line_law : ReadFaultLine
+read_fault_line_law words old new status outcome is = (at_7 words old new status outcome is).2.said
+
+pub write_fault_law : WriteFaultRose
+write_fault_law words left before now out_before out_now status faults is = faults.write is
+
+pub partial_law : WriteFaultIsPart
+partial_law words old new status outcome is = let found = at_8 words old new status outcome is in (found.0, found.1, found.2)
+
+pub write_fault_line_law : WriteFaultLine
+write_fault_line_law words old new status outcome is = (at_8 words old new status outcome is).3
+
+pub no_memory_line_law : NoMemoryLine
+no_memory_line_law words old new status outcome is = (at_9 words old new status outcome is).2.said
+
+-- ---- what was read
+pub fronts_law : FrontsAreTaken
+fronts_law words old new read = read.fronts
+
+pub only_law : NoOtherIsRead
+only_law words old new read = read.only
+
+-- ---- where nothing failed
+pub good_law : GoodIsDone
+good_law words told before now out_before out_now status complete command left p word is nothing good = complete command left 0 word is nothing (cases.Good refl p good)
+
+pub refused_job_law : JobFaultIsRefused
+refused_job_law words told before now out_before out_now status complete command left fault word is nothing bad =
+    complete command left 3 word is nothing (cases.FaultyJob refl fault bad)
+
+pub refused_conflict_law : ConflictIsRefused
+refused_conflict_law words told before now out_before out_now status complete command left p word is nothing asked has refused =
+    complete command left 4 word is nothing (cases.NotAccepted refl p asked has refused)
+
+pub refused_plan_law : PlanDefectIsRefused
+refused_plan_law words told before now out_before out_now status complete command left p plan word is nothing named has accepted bad =
+    complete command left 5 word is nothing (cases.NoValidPlan refl p plan named has accepted bad)
+
+pub refused_source_law : SourceFaultIsRefused
+refused_source_law words told before now out_before out_now status complete command left p fault word is nothing reads has accepted bad =
+    complete command left 6 word is nothing (cases.FaultySource refl p fault reads has accepted bad)
+
+pub completes_law : CompletesByFaults
+completes_law words old new status before now out_before out_now outcome faults =
+    completes_of words old new before now out_before out_now status outcome faults
+
+pub one_status_law : CallsForOneStatus
+one_status_law command left a b first second = one_status command left a b first second

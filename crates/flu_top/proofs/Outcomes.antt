@@ -1,0 +1,50 @@
+-- The outcome of a call, by how the doing of its words ended and by what was said.
+use Rattle.std.proofs.Common.{◌≡◌, refl, ap, subst, ℕ, List, Option, Result, Ok, Err, inl, inr}
+use Rattle.std.specs.Prelude.{IfErr, OnOk}
+use Rattle.flu_top.specs.declared.refusals.Refusal.{Refusal}
+use Rattle.flu_top.specs.declared.refusals.Refusal.TheVariants as refusals
+use Rattle.flu_top.specs.Words.{Command, command_in}
+use Rattle.flu_top.specs.Refusing.{IsRefusal}
+use Rattle.flu_top.specs.Lines.{IsSaid}
+use Rattle.flu_top.specs.Answer.{status_of, status_after, line_of}
+use Rattle.flu_top.specs.Ending.{Call, WroteNothing, IsEnding, IsRefused, Ends}
+use Rattle.flu_top.specs.Outcome.{Outside, outside, Outcome, FaultsFirst}
+use Rattle.flu_top.specs.Outcome as cases
+use Rattle.flu_top.proofs.Endings.{said_of, read_fault_at, write_fault_at}
+
+-- the outside before and behind a call, where err told and counted this
+abbrev pub before : Call → Option (List ℕ) → ℕ → Outside
+before c err count = outside c.left c.taken err count
+
+abbrev pub behind : Call → Option (List ℕ) → ℕ → Outside
+behind c err count = outside c.left_after c.taken_after err count
+
+pub outcome_of : (c : Call) (err err_after : Option (List ℕ)) (count count_after : ℕ) (ended : Result (Unit {0}) Refusal) → Ends c ended → OnOk ended (err_after ≡ err) → IfErr ended (λ refusal. IsSaid (line_of refusal) err err_after count count_after) → Outcome c.words (before c err count) (behind c err_after count_after) (status_after ended)
+outcome_of c err err_after count count_after ended ends quiet said = elim ends.how [
+  | inl ending ↦ by_ended ending.0 ending.1 ended ending.2 quiet said
+  | inr refused ↦ by_words refused.0 refused.1 refused.2
+]
+  where
+    by_words : (at : ℕ) → command_in c.words ≡ Err at → IsRefused c at ended → Outcome c.words (before c err count) (behind c err_after count_after) (status_after ended)
+    by_words at word refused =
+        let line = said_of (λ l. IsSaid l err err_after count count_after) ended (refusals.BadWords (record { at = at })) said refused.words in
+        cases.BadWords (ap status_after refused.words) at word refused.files (record { nothing = refused.nothing; said = line })
+
+    by_refusal : (command : Command) → command_in c.words ≡ Ok command → (refusal : Refusal) → IsRefusal command c.left c.left_after c.counts c.counts_after refusal → WroteNothing c → IsSaid (line_of refusal) err err_after count count_after → Outcome c.words (before c err count) (behind c err_after count_after) (status_of refusal)
+    by_refusal command word (refusals.BadWords bad) why nothing line = absurd why
+    by_refusal command word (refusals.JobFault fault) why nothing line = cases.BadJob refl command word fault why (record { nothing = nothing; said = line })
+    by_refusal command word (refusals.Conflict fault) why nothing line = cases.Conflicts refl command word fault why (record { nothing = nothing; said = line })
+    by_refusal command word (refusals.PlanDefect defect) why nothing line = cases.BadPlan refl command word defect why (record { nothing = nothing; said = line })
+    by_refusal command word (refusals.SourceFault p fault) why nothing line = cases.BadSource refl command word p fault why (record { nothing = nothing; said = line })
+    by_refusal command word refusals.ReadFault why nothing line = cases.ReadFailed refl command word (record { nothing = nothing; said = line })
+    by_refusal command word refusals.WriteFault why nothing line = absurd why
+    by_refusal command word refusals.NoMemory why nothing line = cases.NoMemory refl command word (record { nothing = nothing; said = line })
+
+    by_ended : (command : Command) → command_in c.words ≡ Ok command → (ended : Result (Unit {0}) Refusal) → IsEnding c command ended → OnOk ended (err_after ≡ err) → IfErr ended (λ refusal. IsSaid (line_of refusal) err err_after count count_after) → Outcome c.words (before c err count) (behind c err_after count_after) (status_after ended)
+    by_ended command word (Ok u) ending same line = cases.Done refl command word ending same
+    by_ended command word (Err refusal) (inl ending) same line = by_refusal command word refusal ending.why ending.nothing line
+    by_ended command word (Err refusal) (inr ending) same line =
+        cases.WriteFailed (ap status_of ending.0) command word ending.1.partly (subst (λ r. IsSaid (line_of r) err err_after count count_after) ending.0 line)
+
+pub faults_of : (c : Call) (ended : Result (Unit {0}) Refusal) → Ends c ended → FaultsFirst c.words c.left c.counts c.counts_after c.count c.count_after (status_after ended)
+faults_of c ended ends = record { read = λ is. read_fault_at c ended ends is; write = λ is. (write_fault_at c ended ends is).2.rose }

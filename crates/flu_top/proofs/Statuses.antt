@@ -1,0 +1,161 @@
+-- What an outcome says at each status.
+use Rattle.std.proofs.Common.{◌≡◌, ◌≢◌, sym, ◌∙◌, subst, ℕ, List, [], ◌∷◌, Ok, Err, arith}
+use Rattle.std.specs.Prelude.{Contains, ◌↔◌}
+use Rattle.flu_outside.specs.Outside.{WhereTold}
+use Rattle.flu_model.specs.declared.jobs.Program.{Program}
+use Rattle.flu_parse.specs.declared.faults.JobFault.{JobFault}
+use Rattle.flu_check.specs.declared.CheckFault.{CheckFault}
+use Rattle.flu_streams.specs.declared.faults.SourceFault.{SourceFault}
+use Rattle.flu_top.specs.declared.refusals.PlanDefect.{PlanDefect}
+use Rattle.flu_top.specs.Words.{Command, command_in}
+use Rattle.flu_top.specs.Wants.{job_named}
+use Rattle.flu_top.specs.Done.{IsDone, IsPartlyDone}
+use Rattle.flu_top.specs.Causes.{HasJobFault, HasConflict, HasPlanDefect, HasSourceFault}
+use Rattle.flu_top.specs.Names.{source_name}
+use Rattle.flu_top.specs.Lines.{bad_words_line, job_fault_line, conflict_line, plan_defect_line, source_fault_line, read_fault_line, write_fault_line, no_memory_line}
+use Rattle.flu_top.specs.Outcome.{Outside, Said, Refused, Outcome}
+use Rattle.flu_top.specs.Outcome as cases
+
+pub at_0 : (words : List (List ℕ)) (old new : Outside) (status : ℕ) → Outcome words old new status → status ≡ 0 → (command : Command) × (command_in words ≡ Ok command) × WhereTold old.left new.left (IsDone command old.out new.out) × (new.err ≡ old.err)
+at_0 words old new status (cases.Done is command word done quiet) e = (command, word, done, quiet)
+at_0 words old new status (cases.BadWords is at word files refused) e = absurd (omega (arith, is, e))
+at_0 words old new status (cases.BadJob is command word fault has refused) e = absurd (omega (arith, is, e))
+at_0 words old new status (cases.Conflicts is command word fault has refused) e = absurd (omega (arith, is, e))
+at_0 words old new status (cases.BadPlan is command word defect has refused) e = absurd (omega (arith, is, e))
+at_0 words old new status (cases.BadSource is command word p fault has refused) e = absurd (omega (arith, is, e))
+at_0 words old new status (cases.ReadFailed is command word refused) e = absurd (omega (arith, is, e))
+at_0 words old new status (cases.WriteFailed is command word partly said) e = absurd (omega (arith, is, e))
+at_0 words old new status (cases.NoMemory is command word refused) e = absurd (omega (arith, is, e))
+
+pub at_2 : (words : List (List ℕ)) (old new : Outside) (status : ℕ) → Outcome words old new status → status ≡ 2 → (at : ℕ) × (command_in words ≡ Err at) × (new.left ≡ old.left) × Refused old new (bad_words_line at)
+at_2 words old new status (cases.Done is command word done quiet) e = absurd (omega (arith, is, e))
+at_2 words old new status (cases.BadWords is at word files refused) e = (at, word, files, refused)
+at_2 words old new status (cases.BadJob is command word fault has refused) e = absurd (omega (arith, is, e))
+at_2 words old new status (cases.Conflicts is command word fault has refused) e = absurd (omega (arith, is, e))
+at_2 words old new status (cases.BadPlan is command word defect has refused) e = absurd (omega (arith, is, e))
+at_2 words old new status (cases.BadSource is command word p fault has refused) e = absurd (omega (arith, is, e))
+at_2 words old new status (cases.ReadFailed is command word refused) e = absurd (omega (arith, is, e))
+at_2 words old new status (cases.WriteFailed is command word partly said) e = absurd (omega (arith, is, e))
+at_2 words old new status (cases.NoMemory is command word refused) e = absurd (omega (arith, is, e))
+
+pub at_3 : (words : List (List ℕ)) (old new : Outside) (status : ℕ) → Outcome words old new status → status ≡ 3 → (command : Command) × (fault : JobFault) × (command_in words ≡ Ok command) × HasJobFault (job_named command) old.left new.left fault × Refused old new (job_fault_line fault)
+at_3 words old new status (cases.Done is command word done quiet) e = absurd (omega (arith, is, e))
+at_3 words old new status (cases.BadWords is at word files refused) e = absurd (omega (arith, is, e))
+at_3 words old new status (cases.BadJob is command word fault has refused) e = (command, fault, word, has, refused)
+at_3 words old new status (cases.Conflicts is command word fault has refused) e = absurd (omega (arith, is, e))
+at_3 words old new status (cases.BadPlan is command word defect has refused) e = absurd (omega (arith, is, e))
+at_3 words old new status (cases.BadSource is command word p fault has refused) e = absurd (omega (arith, is, e))
+at_3 words old new status (cases.ReadFailed is command word refused) e = absurd (omega (arith, is, e))
+at_3 words old new status (cases.WriteFailed is command word partly said) e = absurd (omega (arith, is, e))
+at_3 words old new status (cases.NoMemory is command word refused) e = absurd (omega (arith, is, e))
+
+pub at_4 : (words : List (List ℕ)) (old new : Outside) (status : ℕ) → Outcome words old new status → status ≡ 4 → (command : Command) × (fault : CheckFault) × (command_in words ≡ Ok command) × HasConflict command old.left new.left fault × Refused old new (conflict_line fault)
+at_4 words old new status (cases.Done is command word done quiet) e = absurd (omega (arith, is, e))
+at_4 words old new status (cases.BadWords is at word files refused) e = absurd (omega (arith, is, e))
+at_4 words old new status (cases.BadJob is command word fault has refused) e = absurd (omega (arith, is, e))
+at_4 words old new status (cases.Conflicts is command word fault has refused) e = (command, fault, word, has, refused)
+at_4 words old new status (cases.BadPlan is command word defect has refused) e = absurd (omega (arith, is, e))
+at_4 words old new status (cases.BadSource is command word p fault has refused) e = absurd (omega (arith, is, e))
+at_4 words old new status (cases.ReadFailed is command word refused) e = absurd (omega (arith, is, e))
+at_4 words old new status (cases.WriteFailed is command word partly said) e = absurd (omega (arith, is, e))
+at_4 words old new status (cases.NoMemory is command word refused) e = absurd (omega (arith, is, e))
+
+pub at_5 : (words : List (List ℕ)) (old new : Outside) (status : ℕ) → Outcome words old new status → status ≡ 5 → (command : Command) × (defect : PlanDefect) × (command_in words ≡ Ok command) × HasPlanDefect command old.left new.left defect × Refused old new (plan_defect_line defect)
+at_5 words old new status (cases.Done is command word done quiet) e = absurd (omega (arith, is, e))
+at_5 words old new status (cases.BadWords is at word files refused) e = absurd (omega (arith, is, e))
+at_5 words old new status (cases.BadJob is command word fault has refused) e = absurd (omega (arith, is, e))
+at_5 words old new status (cases.Conflicts is command word fault has refused) e = absurd (omega (arith, is, e))
+at_5 words old new status (cases.BadPlan is command word defect has refused) e = (command, defect, word, has, refused)
+at_5 words old new status (cases.BadSource is command word p fault has refused) e = absurd (omega (arith, is, e))
+at_5 words old new status (cases.ReadFailed is command word refused) e = absurd (omega (arith, is, e))
+at_5 words old new status (cases.WriteFailed is command word partly said) e = absurd (omega (arith, is, e))
+at_5 words old new status (cases.NoMemory is command word refused) e = absurd (omega (arith, is, e))
+
+pub at_6 : (words : List (List ℕ)) (old new : Outside) (status : ℕ) → Outcome words old new status → status ≡ 6 → (command : Command) × (p : Program) × (fault : SourceFault) × (command_in words ≡ Ok command) × HasSourceFault command old.left new.left p fault × Refused old new (source_fault_line (source_name p fault.source) fault.row fault.why)
+at_6 words old new status (cases.Done is command word done quiet) e = absurd (omega (arith, is, e))
+at_6 words old new status (cases.BadWords is at word files refused) e = absurd (omega (arith, is, e))
+at_6 words old new status (cases.BadJob is command word fault has refused) e = absurd (omega (arith, is, e))
+at_6 words old new status (cases.Conflicts is command word fault has refused) e = absurd (omega (arith, is, e))
+at_6 words old new status (cases.BadPlan is command word defect has refused) e = absurd (omega (arith, is, e))
+at_6 words old new status (cases.BadSource is command word p fault has refused) e = (command, p, fault, word, has, refused)
+at_6 words old new status (cases.ReadFailed is command word refused) e = absurd (omega (arith, is, e))
+at_6 words old new status (cases.WriteFailed is command word partly said) e = absurd (omega (arith, is, e))
+at_6 words old new status (cases.NoMemory is command word refused) e = absurd (omega (arith, is, e))
+
+pub at_7 : (words : List (List ℕ)) (old new : Outside) (status : ℕ) → Outcome words old new status → status ≡ 7 → (command : Command) × (command_in words ≡ Ok command) × Refused old new read_fault_line
+at_7 words old new status (cases.Done is command word done quiet) e = absurd (omega (arith, is, e))
+at_7 words old new status (cases.BadWords is at word files refused) e = absurd (omega (arith, is, e))
+at_7 words old new status (cases.BadJob is command word fault has refused) e = absurd (omega (arith, is, e))
+at_7 words old new status (cases.Conflicts is command word fault has refused) e = absurd (omega (arith, is, e))
+at_7 words old new status (cases.BadPlan is command word defect has refused) e = absurd (omega (arith, is, e))
+at_7 words old new status (cases.BadSource is command word p fault has refused) e = absurd (omega (arith, is, e))
+at_7 words old new status (cases.ReadFailed is command word refused) e = (command, word, refused)
+at_7 words old new status (cases.WriteFailed is command word partly said) e = absurd (omega (arith, is, e))
+at_7 words old new status (cases.NoMemory is command word refused) e = absurd (omega (arith, is, e))
+
+pub at_8 : (words : List (List ℕ)) (old new : Outside) (status : ℕ) → Outcome words old new status → status ≡ 8 → (command : Command) × (command_in words ≡ Ok command) × WhereTold old.left new.left (IsPartlyDone command old.out new.out) × Said old new write_fault_line
+at_8 words old new status (cases.Done is command word done quiet) e = absurd (omega (arith, is, e))
+at_8 words old new status (cases.BadWords is at word files refused) e = absurd (omega (arith, is, e))
+at_8 words old new status (cases.BadJob is command word fault has refused) e = absurd (omega (arith, is, e))
+at_8 words old new status (cases.Conflicts is command word fault has refused) e = absurd (omega (arith, is, e))
+at_8 words old new status (cases.BadPlan is command word defect has refused) e = absurd (omega (arith, is, e))
+at_8 words old new status (cases.BadSource is command word p fault has refused) e = absurd (omega (arith, is, e))
+at_8 words old new status (cases.ReadFailed is command word refused) e = absurd (omega (arith, is, e))
+at_8 words old new status (cases.WriteFailed is command word partly said) e = (command, word, partly, said)
+at_8 words old new status (cases.NoMemory is command word refused) e = absurd (omega (arith, is, e))
+
+pub at_9 : (words : List (List ℕ)) (old new : Outside) (status : ℕ) → Outcome words old new status → status ≡ 9 → (command : Command) × (command_in words ≡ Ok command) × Refused old new no_memory_line
+at_9 words old new status (cases.Done is command word done quiet) e = absurd (omega (arith, is, e))
+at_9 words old new status (cases.BadWords is at word files refused) e = absurd (omega (arith, is, e))
+at_9 words old new status (cases.BadJob is command word fault has refused) e = absurd (omega (arith, is, e))
+at_9 words old new status (cases.Conflicts is command word fault has refused) e = absurd (omega (arith, is, e))
+at_9 words old new status (cases.BadPlan is command word defect has refused) e = absurd (omega (arith, is, e))
+at_9 words old new status (cases.BadSource is command word p fault has refused) e = absurd (omega (arith, is, e))
+at_9 words old new status (cases.ReadFailed is command word refused) e = absurd (omega (arith, is, e))
+at_9 words old new status (cases.WriteFailed is command word partly said) e = absurd (omega (arith, is, e))
+at_9 words old new status (cases.NoMemory is command word refused) e = (command, word, refused)
+
+-- ---- what holds at more than one status
+pub known_status : (words : List (List ℕ)) (old new : Outside) (status : ℕ) → Outcome words old new status → Contains (0 ∷ 2 ∷ 3 ∷ 4 ∷ 5 ∷ 6 ∷ 7 ∷ 8 ∷ 9 ∷ []) status
+known_status words old new status (cases.Done is command word done quiet) = (0, omega arith, sym is)
+known_status words old new status (cases.BadWords is at word files refused) = (1, omega arith, sym is)
+known_status words old new status (cases.BadJob is command word fault has refused) = (2, omega arith, sym is)
+known_status words old new status (cases.Conflicts is command word fault has refused) = (3, omega arith, sym is)
+known_status words old new status (cases.BadPlan is command word defect has refused) = (4, omega arith, sym is)
+known_status words old new status (cases.BadSource is command word p fault has refused) = (5, omega arith, sym is)
+known_status words old new status (cases.ReadFailed is command word refused) = (6, omega arith, sym is)
+known_status words old new status (cases.WriteFailed is command word partly said) = (7, omega arith, sym is)
+known_status words old new status (cases.NoMemory is command word refused) = (8, omega arith, sym is)
+
+pub nothing_written : (words : List (List ℕ)) (old new : Outside) (status : ℕ) → Outcome words old new status → status ≢ 0 → status ≢ 8 → new.out ≡ old.out
+nothing_written words old new status (cases.Done is command word done quiet) some other = absurd (some is)
+nothing_written words old new status (cases.BadWords is at word files refused) some other = refused.nothing
+nothing_written words old new status (cases.BadJob is command word fault has refused) some other = refused.nothing
+nothing_written words old new status (cases.Conflicts is command word fault has refused) some other = refused.nothing
+nothing_written words old new status (cases.BadPlan is command word defect has refused) some other = refused.nothing
+nothing_written words old new status (cases.BadSource is command word p fault has refused) some other = refused.nothing
+nothing_written words old new status (cases.ReadFailed is command word refused) some other = refused.nothing
+nothing_written words old new status (cases.WriteFailed is command word partly said) some other = absurd (other is)
+nothing_written words old new status (cases.NoMemory is command word refused) some other = refused.nothing
+
+-- words that are no command have status 2, and no others
+no_command : (words : List (List ℕ)) (command : Command) (at : ℕ) → command_in words ≡ Ok command → command_in words ≡ Err at → ⊥
+no_command words command at is bad = let e = sym is ∙ bad in cc
+
+same_place : (words : List (List ℕ)) (a b : ℕ) → command_in words ≡ Err a → command_in words ≡ Err b → a ≡ b
+same_place words a b first second = let e = sym first ∙ second in cc
+
+pub of_no_command : (words : List (List ℕ)) (old new : Outside) (status : ℕ) → Outcome words old new status → (at : ℕ) → command_in words ≡ Err at → (status ≡ 2) × Said old new (bad_words_line at)
+of_no_command words old new status (cases.Done is command word done quiet) place bad = absurd (no_command words command place word bad)
+of_no_command words old new status (cases.BadWords is at word files refused) place bad = (is, subst (λ n. Said old new (bad_words_line n)) (same_place words at place word bad) refused.said)
+of_no_command words old new status (cases.BadJob is command word fault has refused) place bad = absurd (no_command words command place word bad)
+of_no_command words old new status (cases.Conflicts is command word fault has refused) place bad = absurd (no_command words command place word bad)
+of_no_command words old new status (cases.BadPlan is command word defect has refused) place bad = absurd (no_command words command place word bad)
+of_no_command words old new status (cases.BadSource is command word p fault has refused) place bad = absurd (no_command words command place word bad)
+of_no_command words old new status (cases.ReadFailed is command word refused) place bad = absurd (no_command words command place word bad)
+of_no_command words old new status (cases.WriteFailed is command word partly said) place bad = absurd (no_command words command place word bad)
+of_no_command words old new status (cases.NoMemory is command word refused) place bad = absurd (no_command words command place word bad)
+
+pub bad_words_exactly : (words : List (List ℕ)) (old new : Outside) (status : ℕ) → Outcome words old new status → (status ≡ 2) ↔ ((at : ℕ) × (command_in words ≡ Err at))
+bad_words_exactly words old new status outcome =
+    (λ is. let found = at_2 words old new status outcome is in (found.0, found.1), λ bad. (of_no_command words old new status outcome bad.0 bad.1).0)

@@ -1,0 +1,5 @@
+use Rattle.flu_top.proofs.LawsOfOutcome.{one_status_law}
+use Rattle.flu_top.proofs.laws.calls_for_one_status.Goals as goal
+
+pub returns : goal.returns
+returns c = one_status_law

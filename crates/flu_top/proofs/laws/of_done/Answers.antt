@@ -1,0 +1,8 @@
+use Rattle.flu_top.proofs.LawsOfOutcome.{done_law, quiet_law}
+use Rattle.flu_top.proofs.laws.of_done.Goals as goal
+
+pub returns-clause-done : goal.returns-clause-done
+returns-clause-done c = done_law
+
+pub returns-clause-quiet : goal.returns-clause-quiet
+returns-clause-quiet c = quiet_law

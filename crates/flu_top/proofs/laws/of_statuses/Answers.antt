@@ -1,0 +1,8 @@
+use Rattle.flu_top.proofs.LawsOfOutcome.{known_law, nothing_law}
+use Rattle.flu_top.proofs.laws.of_statuses.Goals as goal
+
+pub returns-clause-known : goal.returns-clause-known
+returns-clause-known c = known_law
+
+pub returns-clause-nothing : goal.returns-clause-nothing
+returns-clause-nothing c = nothing_law

@@ -1,0 +1,194 @@
+-- What follows from the outcome of a call: each status by itself, what was read, and what comes where nothing failed.
+use Rattle.std.specs.Prelude.{◌≡◌, ◌≢◌, ◌↔◌, ◌⊎◌, ℕ, List, [], ◌∷◌, Contains, IsTrue, Option, Some, Ok, Err}
+use Rattle.flu_outside.specs.Outside.{Contents, WhereTold, Rose}
+use Rattle.flu_outside.specs.Taking.{bytes_left, TookFronts}
+use Rattle.flu_model.specs.declared.jobs.Program.{Program}
+use Rattle.flu_model.specs.Modes.{IsAccepted}
+use Rattle.flu_parse.specs.declared.faults.JobFault.{JobFault}
+use Rattle.flu_parse.specs.Reading.{job_in}
+use Rattle.flu_check.specs.declared.CheckFault.{CheckFault}
+use Rattle.flu_streams.specs.declared.faults.SourceFault.{SourceFault}
+use Rattle.flu_top.specs.declared.refusals.PlanDefect.{PlanDefect}
+use Rattle.flu_top.specs.Words.{Command, command_in}
+use Rattle.flu_top.specs.Taking.{TookOnly}
+use Rattle.flu_top.specs.Behind.{HasJob, fault_behind}
+use Rattle.flu_top.specs.Wants.{job_named, plan_named, asks_accepted, reads_sources}
+use Rattle.flu_top.specs.Done.{HasValidPlan, IsGood, IsDone, IsPartlyDone, IsReadBy}
+use Rattle.flu_top.specs.Causes.{HasJobFault, HasConflict, HasPlanDefect, HasSourceFault}
+use Rattle.flu_top.specs.Names.{source_name}
+use Rattle.flu_top.specs.Lines.{bad_words_line, job_fault_line, conflict_line, plan_defect_line, source_fault_line, read_fault_line, write_fault_line, no_memory_line}
+use Rattle.flu_top.specs.Outcome.{Outside, Said, Outcome, ReadOnly, FaultsFirst, CallsFor, NothingFailed, Completes}
+
+-- ---- the statuses
+-- the status is one of these
+abbrev pub KnownStatuses : Type 0
+KnownStatuses =
+    (words : List (List ℕ)) (old new : Outside) (status : ℕ) → Outcome words old new status → Contains (0 ∷ 2 ∷ 3 ∷ 4 ∷ 5 ∷ 6 ∷ 7 ∷ 8 ∷ 9 ∷ []) status
+
+-- status 0: all that the command reads was read to its end, and out got what it writes
+abbrev pub DoneIsDone : Type 0
+DoneIsDone =
+    (words : List (List ℕ)) (old new : Outside) (status : ℕ) → Outcome words old new status → status ≡ 0
+    → (command : Command) × (command_in words ≡ Ok command) × WhereTold old.left new.left (IsDone command old.out new.out)
+
+-- status 0: err is untouched
+abbrev pub DoneIsQuiet : Type 0
+DoneIsQuiet =
+    (words : List (List ℕ)) (old new : Outside) (status : ℕ) → Outcome words old new status → status ≡ 0 → new.err ≡ old.err
+
+-- status 2 comes exactly where the words are no command
+abbrev pub BadWordsExactly : Type 0
+BadWordsExactly =
+    (words : List (List ℕ)) (old new : Outside) (status : ℕ) → Outcome words old new status → (status ≡ 2) ↔ ((at : ℕ) × (command_in words ≡ Err at))
+
+-- words that are no command: err gets their line
+abbrev pub BadWordsLine : Type 0
+BadWordsLine =
+    (words : List (List ℕ)) (old new : Outside) (status : ℕ) → Outcome words old new status
+    → (at : ℕ) → command_in words ≡ Err at → Said old new (bad_words_line at)
+
+-- status 2: no file is touched
+abbrev pub BadWordsTouchNothing : Type 0
+BadWordsTouchNothing =
+    (words : List (List ℕ)) (old new : Outside) (status : ℕ) → Outcome words old new status → status ≡ 2 → new.left ≡ old.left
+
+-- status 3: the job's bytes have a fault, and err gets the line of the first one
+abbrev pub JobFaultIsFirst : Type 0
+JobFaultIsFirst =
+    (words : List (List ℕ)) (old new : Outside) (status : ℕ) → Outcome words old new status → status ≡ 3
+    → (command : Command) × (fault : JobFault) × (command_in words ≡ Ok command)
+    × HasJobFault (job_named command) old.left new.left fault × Said old new (job_fault_line fault)
+
+-- status 4: the command asks for an accepted job and its job is none, and err gets the line of its first conflict
+abbrev pub ConflictIsFirst : Type 0
+ConflictIsFirst =
+    (words : List (List ℕ)) (old new : Outside) (status : ℕ) → Outcome words old new status → status ≡ 4
+    → (command : Command) × (fault : CheckFault) × (command_in words ≡ Ok command)
+    × HasConflict command old.left new.left fault × Said old new (conflict_line fault)
+
+-- status 5: the command names a plan and its job is accepted, but the plan's text has a fault for it or the plan is not valid for it, and err
+-- gets the line of the first one
+abbrev pub PlanDefectIsFirst : Type 0
+PlanDefectIsFirst =
+    (words : List (List ℕ)) (old new : Outside) (status : ℕ) → Outcome words old new status → status ≡ 5
+    → (command : Command) × (defect : PlanDefect) × (command_in words ≡ Ok command)
+    × HasPlanDefect command old.left new.left defect × Said old new (plan_defect_line defect)
+
+-- status 6: the command reads sources and one of its job's has a defect, and err gets the line of the first one
+abbrev pub SourceFaultIsFirst : Type 0
+SourceFaultIsFirst =
+    (words : List (List ℕ)) (old new : Outside) (status : ℕ) → Outcome words old new status → status ≡ 6
+    → (command : Command) × (p : Program) × (fault : SourceFault) × (command_in words ≡ Ok command)
+    × HasSourceFault command old.left new.left p fault
+    × Said old new (source_fault_line (source_name p fault.source) fault.row fault.why)
+
+-- status 7: the count of a name that the call reads rose
+abbrev pub ReadFaultRose : Type 0
+ReadFaultRose =
+    (words : List (List ℕ)) (left : Option Contents) (before now : List ℕ → ℕ) (out_before out_now status : ℕ) → FaultsFirst words left before now out_before out_now status → status ≡ 7
+    → (name : List ℕ) × IsReadBy words left name × Rose (before name) (now name)
+
+-- status 7: err gets the line of a read fault
+abbrev pub ReadFaultLine : Type 0
+ReadFaultLine =
+    (words : List (List ℕ)) (old new : Outside) (status : ℕ) → Outcome words old new status → status ≡ 7 → Said old new read_fault_line
+
+-- status 8: out's count rose
+abbrev pub WriteFaultRose : Type 0
+WriteFaultRose =
+    (words : List (List ℕ)) (left : Option Contents) (before now : List ℕ → ℕ) (out_before out_now status : ℕ) → FaultsFirst words left before now out_before out_now status → status ≡ 8 → Rose out_before out_now
+
+-- status 8: all was read, and out got fewer bytes than the command writes, from their front
+abbrev pub WriteFaultIsPart : Type 0
+WriteFaultIsPart =
+    (words : List (List ℕ)) (old new : Outside) (status : ℕ) → Outcome words old new status → status ≡ 8
+    → (command : Command) × (command_in words ≡ Ok command) × WhereTold old.left new.left (IsPartlyDone command old.out new.out)
+
+-- status 8: err gets the line of a write fault
+abbrev pub WriteFaultLine : Type 0
+WriteFaultLine =
+    (words : List (List ℕ)) (old new : Outside) (status : ℕ) → Outcome words old new status → status ≡ 8 → Said old new write_fault_line
+
+-- status 9: err gets the line of want of memory
+abbrev pub NoMemoryLine : Type 0
+NoMemoryLine =
+    (words : List (List ℕ)) (old new : Outside) (status : ℕ) → Outcome words old new status → status ≡ 9 → Said old new no_memory_line
+
+-- at every status but 0 and 8 out gets nothing
+abbrev pub NothingIsWritten : Type 0
+NothingIsWritten =
+    (words : List (List ℕ)) (old new : Outside) (status : ℕ) → Outcome words old new status → status ≢ 0 → status ≢ 8 → new.out ≡ old.out
+
+-- ---- what was read
+-- bytes are taken from the front of names
+abbrev pub FrontsAreTaken : Type 0
+FrontsAreTaken =
+    (words : List (List ℕ)) (old new : Option Contents) → ReadOnly words old new → WhereTold old new TookFronts
+
+-- no byte is taken of a name that the call does not read
+abbrev pub NoOtherIsRead : Type 0
+NoOtherIsRead =
+    (words : List (List ℕ)) (old new : Option Contents) → ReadOnly words old new → WhereTold old new (TookOnly (IsReadBy words old))
+
+-- ---- where nothing failed
+-- a command that nothing refuses has status 0, or 9
+abbrev pub GoodIsDone : Type 0
+GoodIsDone =
+    (words : List (List ℕ)) (told : Option Contents) (before now : List ℕ → ℕ) (out_before out_now status : ℕ)
+    → Completes words told before now out_before out_now status
+    → (command : Command) (left : Contents) (p : Program) → command_in words ≡ Ok command → told ≡ Some left
+    → NothingFailed command told before now out_before out_now
+    → IsGood command left p
+    → (status ≡ 0) ⊎ (status ≡ 9)
+
+-- a job's text with a fault has status 3, or 9
+abbrev pub JobFaultIsRefused : Type 0
+JobFaultIsRefused =
+    (words : List (List ℕ)) (told : Option Contents) (before now : List ℕ → ℕ) (out_before out_now status : ℕ)
+    → Completes words told before now out_before out_now status
+    → (command : Command) (left : Contents) (fault : JobFault) → command_in words ≡ Ok command → told ≡ Some left
+    → NothingFailed command told before now out_before out_now
+    → job_in (bytes_left left (job_named command)) ≡ Err fault
+    → (status ≡ 3) ⊎ (status ≡ 9)
+
+-- a job that is not accepted, where the command asks for that, has status 4, or 9
+abbrev pub ConflictIsRefused : Type 0
+ConflictIsRefused =
+    (words : List (List ℕ)) (told : Option Contents) (before now : List ℕ → ℕ) (out_before out_now status : ℕ)
+    → Completes words told before now out_before out_now status
+    → (command : Command) (left : Contents) (p : Program) → command_in words ≡ Ok command → told ≡ Some left
+    → NothingFailed command told before now out_before out_now
+    → IsTrue (asks_accepted command) → HasJob (job_named command) left p → ¬ IsAccepted p
+    → (status ≡ 4) ⊎ (status ≡ 9)
+
+-- a plan that is not valid for an accepted job has status 5, or 9
+abbrev pub PlanDefectIsRefused : Type 0
+PlanDefectIsRefused =
+    (words : List (List ℕ)) (told : Option Contents) (before now : List ℕ → ℕ) (out_before out_now status : ℕ)
+    → Completes words told before now out_before out_now status
+    → (command : Command) (left : Contents) (p : Program) (plan : List ℕ) → command_in words ≡ Ok command → told ≡ Some left
+    → NothingFailed command told before now out_before out_now
+    → plan_named command ≡ Some plan → HasJob (job_named command) left p → IsAccepted p → ¬ HasValidPlan (job_named command) plan left p
+    → (status ≡ 5) ⊎ (status ≡ 9)
+
+-- a source with a defect, where the command reads sources, has status 6, or 9
+abbrev pub SourceFaultIsRefused : Type 0
+SourceFaultIsRefused =
+    (words : List (List ℕ)) (told : Option Contents) (before now : List ℕ → ℕ) (out_before out_now status : ℕ)
+    → Completes words told before now out_before out_now status
+    → (command : Command) (left : Contents) (p : Program) (fault : SourceFault) → command_in words ≡ Ok command → told ≡ Some left
+    → NothingFailed command told before now out_before out_now
+    → IsTrue (reads_sources command) → HasJob (job_named command) left p → (IsTrue (asks_accepted command) → IsAccepted p)
+    → fault_behind (job_named command) left p ≡ Some fault
+    → (status ≡ 6) ⊎ (status ≡ 9)
+
+-- completeness follows from the outcome, where 7 and 8 come only from faults of the outside
+abbrev pub CompletesByFaults : Type 0
+CompletesByFaults =
+    (words : List (List ℕ)) (old new : Outside) (status : ℕ) (before now : List ℕ → ℕ) (out_before out_now : ℕ)
+    → Outcome words old new status → FaultsFirst words old.left before now out_before out_now status
+    → Completes words old.left before now out_before out_now status
+
+-- a command and the files call for one status at most: what refuses a command comes in an order, and the first decides
+abbrev pub CallsForOneStatus : Type 0
+CallsForOneStatus = (command : Command) (left : Contents) (a b : ℕ) → CallsFor command left a → CallsFor command left b → a ≡ b

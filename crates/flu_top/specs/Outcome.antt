@@ -1,0 +1,114 @@
+-- THE OUTCOME of a call of `flumina`: what its status says of the words, of what the files held and hold, and of what out and
+-- err got.
+use Rattle.std.specs.Prelude.{◌≡◌, ℕ, List, Option, Some, Ok, Err, IsTrue, ◌⊎◌}
+use Rattle.flu_outside.specs.Outside.{Contents, WhereTold, Rose}
+use Rattle.flu_outside.specs.Taking.{bytes_left, TookFronts}
+use Rattle.flu_model.specs.declared.jobs.Program.{Program}
+use Rattle.flu_model.specs.Modes.{IsAccepted}
+use Rattle.flu_parse.specs.declared.faults.JobFault.{JobFault}
+use Rattle.flu_parse.specs.Reading.{job_in}
+use Rattle.flu_check.specs.declared.CheckFault.{CheckFault}
+use Rattle.flu_streams.specs.declared.faults.SourceFault.{SourceFault}
+use Rattle.flu_top.specs.declared.refusals.PlanDefect.{PlanDefect}
+use Rattle.flu_top.specs.Words.{Command, command_in}
+use Rattle.flu_top.specs.Taking.{TookOnly}
+use Rattle.flu_top.specs.Behind.{HasJob, fault_behind}
+use Rattle.flu_top.specs.Wants.{want}
+use Rattle.flu_top.specs.Done.{HasValidPlan, IsGood, IsDone, IsPartlyDone, IsReadName, IsReadBy}
+use Rattle.flu_top.specs.Causes.{HasJobFault, HasConflict, HasPlanDefect, HasSourceFault}
+use Rattle.flu_top.specs.Names.{source_name}
+use Rattle.flu_top.specs.Lines.{IsSaid, bad_words_line, job_fault_line, conflict_line, plan_defect_line, source_fault_line}
+use Rattle.flu_top.specs.Lines.{read_fault_line, write_fault_line, no_memory_line}
+
+-- what the files have left, and what out and err have taken, where they tell that, and how often err has failed
+pub record Outside : Type 0 where
+  pub left : Option Contents
+  pub out : Option (List ℕ)
+  pub err : Option (List ℕ)
+  pub err_faults : ℕ
+
+abbrev pub outside : Option Contents → Option (List ℕ) → Option (List ℕ) → ℕ → Outside
+outside left out err err_faults = record { left = left; out = out; err = err; err_faults = err_faults }
+
+-- err got this line, or failed and has a front of it
+abbrev pub Said : Outside → Outside → List ℕ → Type 0
+Said old new line = IsSaid line old.err new.err old.err_faults new.err_faults
+
+-- out got nothing, and err this line
+pub record Refused (old new : Outside) (line : List ℕ) : Type 0 where
+  pub nothing : new.out ≡ old.out
+  pub said : Said old new line
+
+-- ---- the cases, one for each status: `old` is the outside before the call, and `new` behind it
+pub data Outcome (words : List (List ℕ)) (old new : Outside) (status : ℕ) : Type 0 where
+  -- nothing refuses the command, all that it reads was read to its end, and out got all that it writes
+  Done : status ≡ 0 → (command : Command) → command_in words ≡ Ok command
+      → WhereTold old.left new.left (IsDone command old.out new.out) → new.err ≡ old.err → Outcome words old new status
+  -- the words are no command: the one at this place does not fit; no file was read
+  BadWords : status ≡ 2 → (at : ℕ) → command_in words ≡ Err at
+      → new.left ≡ old.left → Refused old new (bad_words_line at) → Outcome words old new status
+  -- the bytes of the command's job have this first fault
+  BadJob : status ≡ 3 → (command : Command) → command_in words ≡ Ok command → (fault : JobFault)
+      → HasJobFault (want command).job old.left new.left fault
+      → Refused old new (job_fault_line fault) → Outcome words old new status
+  -- the command wants an accepted job, and its job has this first conflict
+  Conflicts : status ≡ 4 → (command : Command) → command_in words ≡ Ok command → (fault : CheckFault)
+      → HasConflict command old.left new.left fault
+      → Refused old new (conflict_line fault) → Outcome words old new status
+  -- the command's plan has this first defect for its job, which is accepted
+  BadPlan : status ≡ 5 → (command : Command) → command_in words ≡ Ok command → (defect : PlanDefect)
+      → HasPlanDefect command old.left new.left defect
+      → Refused old new (plan_defect_line defect) → Outcome words old new status
+  -- the command reads the sources of its job, and this is the first defect of the first one that has any
+  BadSource : status ≡ 6 → (command : Command) → command_in words ≡ Ok command → (p : Program) (fault : SourceFault)
+      → HasSourceFault command old.left new.left p fault
+      → Refused old new (source_fault_line (source_name p fault.source) fault.row fault.why)
+      → Outcome words old new status
+  -- a file that the command reads failed
+  ReadFailed : status ≡ 7 → (command : Command) → command_in words ≡ Ok command
+      → Refused old new read_fault_line → Outcome words old new status
+  -- nothing refuses the command, and all that it reads was read; out failed, and got fewer bytes than it writes, from their front
+  WriteFailed : status ≡ 8 → (command : Command) → command_in words ≡ Ok command
+      → WhereTold old.left new.left (IsPartlyDone command old.out new.out)
+      → Said old new write_fault_line → Outcome words old new status
+  -- there was no memory
+  NoMemory : status ≡ 9 → (command : Command) → command_in words ≡ Ok command
+      → Refused old new no_memory_line → Outcome words old new status
+
+-- ---- what was read
+-- bytes were taken from the front of names, and of no name that the call does not read
+pub record ReadOnly (words : List (List ℕ)) (old new : Option Contents) : Type 0 where
+  pub fronts : WhereTold old new TookFronts
+  pub only : WhereTold old new (TookOnly (IsReadBy words old))
+
+-- ---- the faults of the outside
+-- status 7 comes only where the count of a name that the call reads rose, and status 8 only where out's did
+pub record FaultsFirst (words : List (List ℕ)) (left : Option Contents) (before now : List ℕ → ℕ) (out_before out_now status : ℕ) : Type 0 where
+  pub read : status ≡ 7 → (name : List ℕ) × IsReadBy words left name × Rose (before name) (now name)
+  pub write : status ≡ 8 → Rose out_before out_now
+
+-- ---- completeness
+-- the status that a command and the files call for where nothing fails
+pub data CallsFor (command : Command) (left : Contents) (status : ℕ) : Type 0 where
+  Good : status ≡ 0 → (p : Program) → IsGood command left p → CallsFor command left status
+  FaultyJob : status ≡ 3 → (fault : JobFault) → job_in (bytes_left left (want command).job) ≡ Err fault
+      → CallsFor command left status
+  NotAccepted : status ≡ 4 → (p : Program) → IsTrue (want command).accepted → HasJob (want command).job left p
+      → ¬ IsAccepted p → CallsFor command left status
+  NoValidPlan : status ≡ 5 → (p : Program) (plan : List ℕ) → (want command).plan ≡ Some plan
+      → HasJob (want command).job left p → IsAccepted p
+      → ¬ HasValidPlan (want command).job plan left p → CallsFor command left status
+  FaultySource : status ≡ 6 → (p : Program) (fault : SourceFault) → IsTrue (want command).sources
+      → HasJob (want command).job left p → (IsTrue (want command).accepted → IsAccepted p)
+      → fault_behind (want command).job left p ≡ Some fault → CallsFor command left status
+
+-- no name that the command reads failed, and out did not
+pub record NothingFailed (command : Command) (left : Option Contents) (before now : List ℕ → ℕ) (out_before out_now : ℕ) : Type 0 where
+  pub files : (name : List ℕ) → IsReadName left command name → ¬ Rose (before name) (now name)
+  pub out : ¬ Rose out_before out_now
+
+-- where nothing failed, the status is the one that the command and the files call for, or that of want of memory
+abbrev pub Completes : List (List ℕ) → Option Contents → (List ℕ → ℕ) → (List ℕ → ℕ) → ℕ → ℕ → ℕ → Type 0
+Completes words told before now out_before out_now status =
+    (command : Command) (left : Contents) (wanted : ℕ) → command_in words ≡ Ok command → told ≡ Some left
+    → NothingFailed command told before now out_before out_now → CallsFor command left wanted → (status ≡ wanted) ⊎ (status ≡ 9)

@@ -1,0 +1,68 @@
+//! What follows from the outcome of a call of `flumina`: what each status says by itself, what was read, and what comes where nothing
+//! failed. Each law is the contract of a function that does nothing.
+
+ghost use Rattle.flu_top.specs.Laws.{KnownStatuses, DoneIsDone, DoneIsQuiet, BadWordsExactly, BadWordsLine, BadWordsTouchNothing, JobFaultIsFirst, ConflictIsFirst, PlanDefectIsFirst, SourceFaultIsFirst, ReadFaultRose, ReadFaultLine, WriteFaultRose, WriteFaultIsPart, WriteFaultLine, NoMemoryLine, NothingIsWritten, FrontsAreTaken, NoOtherIsRead, GoodIsDone, JobFaultIsRefused, ConflictIsRefused, PlanDefectIsRefused, SourceFaultIsRefused, CompletesByFaults, CallsForOneStatus};
+
+/// The statuses, and which of them write to out.
+pub fn of_statuses()
+    ensures known { KnownStatuses }
+    ensures nothing { NothingIsWritten }
+{}
+
+/// Status 0: all that the command reads was read to its end, what it writes stands in out, and err is untouched.
+pub fn of_done()
+    ensures done { DoneIsDone }
+    ensures quiet { DoneIsQuiet }
+{}
+
+/// Status 2 comes exactly where the words are no command, with its line, and then no file is read.
+pub fn of_bad_words()
+    ensures exactly { BadWordsExactly }
+    ensures line { BadWordsLine }
+    ensures untouched { BadWordsTouchNothing }
+{}
+
+/// The statuses 3 to 6 come only where a fault of the job's text, a conflict of the job, a defect of the plan or a defect of a source
+/// refuses the command, with the line of the first one.
+pub fn of_refusals()
+    ensures job_fault { JobFaultIsFirst }
+    ensures conflict { ConflictIsFirst }
+    ensures plan_defect { PlanDefectIsFirst }
+    ensures source_fault { SourceFaultIsFirst }
+{}
+
+/// Status 7 comes only where the count of a name that the call reads rose, and 8 only where out's count rose; then out has a front of
+/// what the command writes. Each of them, and 9, has its line.
+pub fn of_faults()
+    ensures read_fault { ReadFaultRose }
+    ensures read_fault_line { ReadFaultLine }
+    ensures write_fault { WriteFaultRose }
+    ensures partial { WriteFaultIsPart }
+    ensures write_fault_line { WriteFaultLine }
+    ensures no_memory_line { NoMemoryLine }
+{}
+
+/// Bytes are taken from the front of names, and of no name that the call does not read.
+pub fn of_reading()
+    ensures fronts { FrontsAreTaken }
+    ensures only { NoOtherIsRead }
+{}
+
+/// Where no count rose, the status is the one that the command, its job's text, its plan and its sources call for, or 9.
+pub fn of_completeness()
+    ensures completes { GoodIsDone }
+    ensures refuses_job { JobFaultIsRefused }
+    ensures refuses_conflict { ConflictIsRefused }
+    ensures refuses_plan { PlanDefectIsRefused }
+    ensures refuses_source { SourceFaultIsRefused }
+{}
+
+/// That a call completes follows from its outcome, where the statuses 7 and 8 come only from faults of the outside.
+pub fn completes_by_faults()
+    ensures { CompletesByFaults }
+{}
+
+/// A command and its files call for one status at most, so that the refusals come in an order.
+pub fn calls_for_one_status()
+    ensures { CallsForOneStatus }
+{}
