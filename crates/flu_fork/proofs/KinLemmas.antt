@@ -39,10 +39,6 @@ over_child true false false f g = refl
 over_child false false true f g = absurd (not_both false (g refl) refl)
 over_child false false false f g = refl
 
-or_first : (a b : Bool) → a ≡ true → (a || b) ≡ true
-or_first true b e = refl
-or_first false b e = cc
-
 some_number : {a b : ℕ} → Some a ≡ Some b → a ≡ b
 some_number e = cc
 

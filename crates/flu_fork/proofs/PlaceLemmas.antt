@@ -25,7 +25,7 @@ use Rattle.flu_fork.specs.LawsBelow.{LawsBelow}
 use Rattle.flu_fork.specs.Settings.{Setting, IsSetting, events_at, moments}
 use Rattle.flu_fork.specs.Streams.{IsEventAt}
 use Rattle.flu_fork.specs.Places.{HasMoment, EventsHaveMoments, MomentsAreEvents}
-use Rattle.flu_fork.proofs.Moments.{stream_itags, moments_in_range, moments_there}
+use Rattle.flu_fork.proofs.Moments.{stream_itags, moments_there}
 use Rattle.flu_fork.proofs.Standing.{stream_later, event_stands}
 
 -- ---- event order
@@ -166,10 +166,6 @@ module _ (laws : LawsBelow) (k : Setting) (ok : IsSetting k) where
   pub places_at : (before after : List Moment) (m : Moment) → moments k ≡ before ++ m ∷ after
       → AllByRecursion (λ (q : Moment). q.event.itag.0 ≡ m.event.itag.0 → q.index < m.index) before
   places_at before after m split = laws.places_rise k.program k.opening (λ i. 0) (merged k.lists) before after m split
-
-  pub range_at : (before after : List Moment) (m : Moment) → moments k ≡ before ++ m ∷ after → m.event.itag.0 < count_of_itags k.program
-  range_at before after m split =
-      all_at_place (λ (q : Moment). q.event.itag.0 < count_of_itags k.program) (moments k) before after m split (moments_in_range laws k ok)
 
   -- ONE PLACE: a moment of m's itag with m's index is m, at m's place
   pub one_place : (before after front back : List Moment) (m q : Moment) → moments k ≡ before ++ m ∷ after → moments k ≡ front ++ q ∷ back

@@ -1,23 +1,21 @@
 -- What the left part of the walk gives up for the root's event, and what it would not be served with.
-use Rattle.std.proofs.Common.{◌≡◌, ◌<◌, ◌≤◌, ℕ, zero, suc, true, false, Some, None, List, [], ◌∷◌, ◌++◌, length, map, inl, inr, refl, sym, ap, subst, ◌∙◌, arith}
+use Rattle.std.proofs.Common.{◌≡◌, ℕ, true, false, List, [], ◌∷◌, ◌++◌, map, inl, inr, refl, sym, ap, subst, ◌∙◌, arith}
 use Rattle.std.specs.Prelude.{nat_lt, slice_index}
 use Rattle.std.specs.List.{range_with_len}
 use Rattle.std.proofs.lemmas.Bool.{cases_lt}
-use Rattle.std.proofs.lemmas.List.{get_or_past}
 use Rattle.flu_lemmas.proofs.Tests.{lt_true, not_both, true_lt}
 use Rattle.flu_model.specs.declared.events.Itag.{Itag}
-use Rattle.flu_model.specs.Itags.{count_of_itags, tag_of_itag, is_dependent}
+use Rattle.flu_model.specs.Itags.{tag_of_itag, is_dependent}
 use Rattle.flu_deps.specs.Dependencies.{itags_depend}
-use Rattle.flu_deps.specs.Owned.{kids_at}
 use Rattle.flu_laws.specs.Lots.{depends_on}
 use Rattle.flu_laws.specs.Spans.{Moment, is_below}
 use Rattle.flu_fork.specs.declared.content.Content.{Content}
 use Rattle.flu_fork.specs.declared.lots.Lot.{Lot}
 use Rattle.flu_fork.specs.LawsBelow.{LawsBelow}
-use Rattle.flu_fork.specs.Settings.{Setting, IsSetting, moments}
+use Rattle.flu_fork.specs.Settings.{moments}
 use Rattle.flu_fork.specs.Classes.{Itags, itag, below}
 use Rattle.flu_fork.specs.Laws.{no_counts}
-use Rattle.flu_fork.specs.Lots.{job, nodes, setting_of, LotFits}
+use Rattle.flu_fork.specs.Lots.{job, nodes, setting_of}
 use Rattle.flu_fork.specs.Serving.{CountsBefore, CountsNoneBehind, IsOnLoan, Served, none_counted, CountsJustBefore}
 use Rattle.flu_fork.specs.Walks.{IsMomentOf, IsWalk, counts, none, root_event, LeftIsServed, OthersAreNotServed}
 use Rattle.flu_fork.proofs.LotLemmas.{setting_holds}
@@ -74,8 +72,10 @@ module _ (laws : LawsBelow) (k : Content) (one two three four : Moment) (walk : 
     served = record {
       loan = loan;
       exact = from_third (below (job k) (nodes k) 1) lot.upto (
-        ((λ h d. ap (λ us. is_below us one) upto ∙ below_is 0 0 one walk.first (counts 1 0 0)),
-        ((λ h d. absurd (not_both _ h (subst (λ (i : Itag). below (job k) (nodes k) 1 i.0 ≡ false) (sym walk.second.itag_is) right_not_left))), tt)),
+        (
+          (λ h d. ap (λ us. is_below us one) upto ∙ below_is 0 0 one walk.first (counts 1 0 0)),
+          ((λ h d. absurd (not_both _ h (subst (λ (i : Itag). below (job k) (nodes k) 1 i.0 ≡ false) (sym walk.second.itag_is) right_not_left))), tt),
+        ),
         ((λ h d. ap (λ us. is_below us four) upto ∙ below_is 0 1 four walk.fourth (counts 1 0 0)), tt),
       );
     }

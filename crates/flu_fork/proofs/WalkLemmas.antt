@@ -1,34 +1,28 @@
 -- A walk through the laws: each row fits by the one before it.
-use Rattle.std.proofs.Common.{◌≡◌, ◌<◌, ◌≤◌, ◌+◌, ℕ, zero, suc, Bool, true, false, cond, Some, None, List, [], ◌∷◌, ◌++◌, length, map, inl, inr, refl, sym, ap, subst, ◌∙◌, arith}
+use Rattle.std.proofs.Common.{◌≡◌, ◌<◌, ◌≤◌, ◌+◌, ℕ, zero, suc, Bool, true, false, cond, Some, List, [], ◌∷◌, ◌++◌, length, map, refl, sym, ap, subst, ◌∙◌, arith}
 use Rattle.std.specs.Prelude.{nat_lt, ◌==◌, ◌||◌, slice_index}
 use Rattle.std.specs.List.{range_with_len}
-use Rattle.std.proofs.lemmas.Bool.{cases_Bool, cases_eq, cases_lt, ne_eqb}
+use Rattle.std.proofs.lemmas.Bool.{ne_eqb}
 use Rattle.std.proofs.lemmas.List.{get_or_past}
-use Rattle.flu_lemmas.proofs.Tests.{false_if_not, lt_true, not_both, true_lt}
-use Rattle.flu_model.specs.declared.events.Event.{Event}
+use Rattle.flu_lemmas.proofs.Tests.{not_both}
 use Rattle.flu_model.specs.declared.events.Itag.{Itag}
 use Rattle.flu_model.specs.Contents.{Contents}
 use Rattle.flu_model.specs.Itags.{count_of_itags, tag_of_itag, is_dependent}
-use Rattle.flu_model.specs.Merging.{is_before}
 use Rattle.flu_model.specs.Owners.{owner_of}
-use Rattle.flu_deps.specs.Dependencies.{itags_depend}
-use Rattle.flu_deps.specs.Owned.{kids_at}
 use Rattle.flu_laws.specs.Lots.{IsExact, CountsOneMore, depends_on}
 use Rattle.flu_laws.specs.Spans.{Moment, AreAtMost, is_below}
-use Rattle.flu_fork.specs.declared.content.Content.{Content}
-use Rattle.flu_fork.specs.declared.lots.Lot.{Lot}
 use Rattle.flu_fork.specs.LawsBelow.{LawsBelow}
 use Rattle.flu_fork.specs.Settings.{Setting, IsSetting, moments}
-use Rattle.flu_fork.specs.Classes.{itag, below}
+use Rattle.flu_fork.specs.Classes.{itag}
 use Rattle.flu_fork.specs.Fitting.{Fits}
 use Rattle.flu_fork.specs.Kin.{own_at, below_at, above_at, IsOfKids}
-use Rattle.flu_fork.specs.Laws.{no_counts, PartsFit, UpdatesWell}
+use Rattle.flu_fork.specs.Laws.{PartsFit, UpdatesWell}
 use Rattle.flu_fork.specs.Parts.{joined_counts, ArePaired}
 use Rattle.flu_fork.specs.Walks.{IsMomentOf, IsWalk, counts, none, to_left, to_right, at_left, at_right, at_root, after_root, RowsFit, WalksFit}
 use Rattle.flu_fork.proofs.Forking.{opening_law, forks_law}
 use Rattle.flu_fork.proofs.Joining.{joins_law}
-use Rattle.flu_fork.proofs.KinLemmas.{of_kids, own_below}
-use Rattle.flu_fork.proofs.Sides.{owner_at, owner_is_below, owner_is_there, across, right_and_left}
+use Rattle.flu_fork.proofs.KinLemmas.{of_kids}
+use Rattle.flu_fork.proofs.Sides.{owner_is_below, owner_is_there, across, right_and_left}
 use Rattle.flu_fork.proofs.Updates.{updates_law}
 
 or_first : (a b : Bool) → a ≡ true → (a || b) ≡ true

@@ -1,11 +1,10 @@
 -- What a count holds in the rows of the walk, by the classes of its cell and the changes of the events that are counted there.
-use Rattle.std.proofs.Common.{◌≡◌, ◌<◌, ◌≤◌, ℕ, Bool, true, false, cond, Some, None, List, [], ◌∷◌, refl, sym, ap, subst, ◌∙◌, arith}
-use Rattle.std.specs.Prelude.{nat_le, nat_lt, not, ◌&&◌, ℤ, pos, slice_index}
+use Rattle.std.proofs.Common.{◌≡◌, ◌<◌, ℕ, Bool, true, false, cond, Some, None, List, [], ◌∷◌, refl, ap, ◌∙◌, arith}
+use Rattle.std.specs.Prelude.{nat_le, nat_lt, not, ◌&&◌, pos, slice_index}
 use Rattle.std.specs.Int.{int_wrap}
 use Rattle.std.specs.List.{filter}
 use Rattle.flu_lemmas.proofs.Tests.{and_right, false_if_not, not_both, not_true}
 use Rattle.flu_model.specs.declared.events.Cell.{Cell}
-use Rattle.flu_model.specs.declared.events.Worth.{Worth}
 use Rattle.flu_model.specs.declared.events.Worth.TheVariants.{Sum}
 use Rattle.flu_model.specs.Contents.{added}
 use Rattle.flu_model.specs.Itags.{count_of_itags}
@@ -14,8 +13,8 @@ use Rattle.flu_laws.specs.Spans.{Moment, is_below, is_between, changed_by}
 use Rattle.flu_laws.specs.Uses.{needs}
 use Rattle.flu_fork.specs.LawsBelow.{LawsBelow}
 use Rattle.flu_fork.specs.Settings.{Setting, IsSetting, moments}
-use Rattle.flu_fork.specs.Classes.{below, beside, mode_by, is_needed, is_moved, is_base, is_away}
-use Rattle.flu_fork.specs.Walks.{IsMomentOf, IsWalk, IsCount, CountsHold, WalksCount, counts, none, to_left, updated, at_left, at_right, at_root, after_root}
+use Rattle.flu_fork.specs.Classes.{below, beside, mode_by, is_needed, is_base, is_away}
+use Rattle.flu_fork.specs.Walks.{IsMomentOf, IsWalk, IsCount, WalksCount, counts, none, to_left, updated, at_left, at_right, at_root, after_root}
 use Rattle.flu_fork.proofs.Cells.{some_found, root_base, left_base, right_base, not_needed_not_moved}
 use Rattle.flu_fork.proofs.Sides.{beside_is_not_below}
 use Rattle.flu_fork.proofs.WalkLemmas.{each_of_three, below_is, rows, in_right, left_not_right, root_not_right, root_above_right}

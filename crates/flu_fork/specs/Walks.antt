@@ -1,8 +1,7 @@
 -- A WALK through the laws: four events at a plan of three nodes, from the opening through two forks and a join, with the counts of each row; and what the left
 -- part gives up on the way.
-use Rattle.std.specs.Prelude.{◌≡◌, ℕ, ℤ, pos, true, false, Some, None, List, [], ◌∷◌}
+use Rattle.std.specs.Prelude.{◌≡◌, ℕ, pos, true, false, Some, None, List, [], ◌∷◌}
 use Rattle.flu_model.specs.declared.events.Cell.{Cell}
-use Rattle.flu_model.specs.declared.events.Worth.{Worth}
 use Rattle.flu_model.specs.declared.events.Worth.TheVariants.{Sum}
 use Rattle.flu_model.specs.declared.jobs.Program.{Program}
 use Rattle.flu_model.specs.Contents.{Contents}
@@ -11,7 +10,7 @@ use Rattle.flu_model.specs.Owners.{owner_of}
 use Rattle.flu_model.specs.Updates.{effect_of}
 use Rattle.flu_deps.specs.Dependencies.{itags_depend}
 use Rattle.flu_deps.specs.Owned.{kids_at}
-use Rattle.flu_laws.specs.Changes.{Change, Put, Gain}
+use Rattle.flu_laws.specs.Changes.{Put, Gain}
 use Rattle.flu_laws.specs.Spans.{Moment, change_at}
 use Rattle.flu_laws.specs.Uses.{needs}
 use Rattle.flu_fork.specs.declared.content.Content.{Content}
@@ -22,7 +21,7 @@ use Rattle.flu_fork.specs.Classes.{itag, mode_by}
 use Rattle.flu_fork.specs.Fitting.{Fits}
 use Rattle.flu_fork.specs.Lots.{setting_of, LotFits}
 use Rattle.flu_fork.specs.Parts.{left_part, right_part, joined_state}
-use Rattle.flu_fork.specs.Serving.{LotCounts, none_counted, Served}
+use Rattle.flu_fork.specs.Serving.{none_counted, Served}
 
 -- the moment is that of the event with index n of itag i
 pub record IsMomentOf (i n : ℕ) (m : Moment) : Type 0 where
