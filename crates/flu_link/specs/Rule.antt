@@ -29,7 +29,8 @@ pub record Shows (up : UpperSeat) (low : LowerSeat) (phase : ℕ) (slot : Option
   pub lent : phase ≡ 0 → (lot : Lot) × (slot ≡ Some lot) × LotFits up.case up.lower lot × (loan lot ≡ up.lent)
   pub empty : 0 < phase → phase < 3 → slot ≡ None
   pub taken : phase ≡ 3 → up.taken ≡ true → slot ≡ None
-  pub given : phase ≡ 3 → up.taken ≡ false → (lot : Lot) × (slot ≡ Some lot) × LotFits up.case up.lower lot × Served up.case up.lower (lent_counts up.lent) up.ask lot × (lot.upto ≡ low.given)
+  pub given : phase ≡ 3 → up.taken ≡ false → (lot : Lot) × (slot ≡ Some lot) × LotFits up.case up.lower lot
+      × Served up.case up.lower (lent_counts up.lent) up.ask lot × (lot.upto ≡ low.given)
 
 -- and else it is out with the end that stores next
 pub record Lies (up : UpperSeat) (low : LowerSeat) (phase : ℕ) (home : maybe.Option (Option Lot)) : Type 0 where
@@ -44,7 +45,8 @@ pub record Agrees (up : UpperSeat) (low : LowerSeat) (phase : ℕ) : Type 0 wher
   pub same_taken : up.taken ≡ true → up.received ≡ low.given
   pub held : 0 < phase → phase < 3 → low.held ≡ up.lent
   pub held_out : low.out ≡ true → low.held ≡ up.lent
-  pub asked : phase ≡ 2 → (up.taken ≡ false) × AsksAbove up.case up.lower up.ask × (up.ask.index ≡ slice_index up.lent.upto up.ask.itag.0) × (up.ask.itag.0 < 2 ^ 32)
+  pub asked : phase ≡ 2 → (up.taken ≡ false) × AsksAbove up.case up.lower up.ask × (up.ask.index ≡ slice_index up.lent.upto up.ask.itag.0)
+      × (up.ask.itag.0 < 2 ^ 32)
   -- the parts of the ask that the lower end read since its last store
   pub itag : low.phase ≡ 2 → IfSome low.itag (λ i. i ≡ up.ask.itag.0)
   pub index : low.phase ≡ 2 → IfSome low.index (λ k. k ≡ up.ask.index)
