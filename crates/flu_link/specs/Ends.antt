@@ -71,4 +71,5 @@ pub record Closes (up : UpperNote) (low : LowerNote) (phase : ℕ) (found : Opti
   pub lent : phase ≡ phase_lent → (lot : Lot) × (found ≡ Some lot) × LotFits up.case up.lower lot × (counts_of lot ≡ up.lent)
   pub empty : phase_lent < phase → phase < phase_given → found ≡ None
   pub taken : phase ≡ phase_given → up.taken ≡ true → found ≡ None
-  pub given : phase ≡ phase_given → up.taken ≡ false → (lot : Lot) × (found ≡ Some lot) × LotFits up.case up.lower lot × Served up.case up.lower up.lent up.ask lot × (lot.upto ≡ low.given)
+  pub given : phase ≡ phase_given → up.taken ≡ false → (lot : Lot) × (found ≡ Some lot) × LotFits up.case up.lower lot
+      × Served up.case up.lower up.lent up.ask lot × (lot.upto ≡ low.given)

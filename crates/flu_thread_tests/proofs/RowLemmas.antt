@@ -44,7 +44,8 @@ none_there : (y : Event) → None ≡ Some y → ⊥
 none_there y is = cc
 
 -- what holds of each of the five events holds of every event
-each : (P : ℕ → ℕ → Event → Type 0) → P 0 0 (event 1 0 (pos 5)) → P 0 1 (event 4 0 (pos 2)) → P 1 0 (event 2 1 (pos 7)) → P 2 0 (event 3 2 (pos 0)) → P 2 1 (event 5 2 (pos 0))
+each : (P : ℕ → ℕ → Event → Type 0) → P 0 0 (event 1 0 (pos 5)) → P 0 1 (event 4 0 (pos 2)) → P 1 0 (event 2 1 (pos 7)) → P 2 0 (event 3 2 (pos 0))
+    → P 2 1 (event 5 2 (pos 0))
     → (i l : ℕ) (y : Event) → slice_get (row_events i) l ≡ Some y → P i l y
 each P a b c d e zero zero y is = subst (P 0 0) (let same : event 1 0 (pos 5) ≡ y = cc in same) a
 each P a b c d e zero (suc zero) y is = subst (P 0 1) (let same : event 4 0 (pos 2) ≡ y = cc in same) b
@@ -95,7 +96,8 @@ exact k r = record {
   next = refl;
   others = λ j l y at dep. (
     (λ less. absurd (let z = nothing j in omega arith)),
-    λ earlier. absurd (let later : is_before y first ≡ false = each (λ j l y. is_before y first ≡ false) refl refl refl refl refl j l y (known k r j l y at) in cc),
+    λ earlier. absurd (let later : is_before y first ≡ false = each (λ j l y. is_before y first ≡ false) refl refl refl refl refl j l y
+        (known k r j l y at) in cc),
   );
 }
 
@@ -105,14 +107,17 @@ one_more (suc zero) = refl
 one_more (suc (suc zero)) = refl
 one_more (suc (suc (suc j))) = let other : (suc (suc (suc j)) == 0) ≡ false = ne_eqb (suc (suc (suc j))) 0 (λ z. omega arith) in rw other refl
 
-fits_again : (k : Content) → IsRow k → IsSetting (setting_of k) → ExactnessAgrees → CentralLaw → HasMoment (setting_of k) 0 0 first → (lot : Lot) → IsUnused k lot
+fits_again : (k : Content) → IsRow k → IsSetting (setting_of k) → ExactnessAgrees → CentralLaw → HasMoment (setting_of k) 0 0 first → (lot : Lot)
+    → IsUnused k lot
     → Fits (setting_of k) 1 (effect_of (job k) (held lot.state) first).cells none one
 fits_again k r is agrees central h lot u =
     let at : (first, 0) ≡ ((h.moment).event, (h.moment).index) = λ j. (sym h.event j, sym h.index j) in
-    let good = (agrees (setting_of k) h.front h.back h.moment none is h.stands).1 (subst (λ (z : Event × ℕ). IsStreamExact (setting_of k) z.0.itag.0 z.1 z.0 none) at (exact k r)) in
+    let good = (agrees (setting_of k) h.front h.back h.moment none is h.stands).1
+    (subst (λ (z : Event × ℕ). IsStreamExact (setting_of k) z.0.itag.0 z.1 z.0 none) at (exact k r)) in
     let owner = subst (λ (x : Event). owner_of (job k) (nodes k) x.itag ≡ Some 1) (sym h.event) r.shape.left in
     let more = subst (λ (x : Event). CountsOneMore x.itag.0 none one) (sym h.event) one_more in
-    let fits : Fits (setting_of k) 1 (held lot.state) none none = subst (λ (z : List ℕ × List ℕ). Fits (setting_of k) 1 (held lot.state) z.0 z.1) (λ j. (u.since j, u.upto j)) u.fits in
+    let fits : Fits (setting_of k) 1 (held lot.state) none none = subst (λ (z : List ℕ × List ℕ). Fits (setting_of k) 1 (held lot.state) z.0 z.1)
+    (λ j. (u.since j, u.upto j)) u.fits in
     let told = central (setting_of k) 1 h.front h.back h.moment (held lot.state) none none one is owner h.stands good (sym r.shape.itags) more fits in
     subst (λ (x : Event). Fits (setting_of k) 1 (effect_of (job k) (held lot.state) x).cells none one) h.event told.fits
 
@@ -120,7 +125,8 @@ pub updated : (k : Content) → IsRow k → ContentsAreSettings → EventsHaveMo
     → held new.state ≡ (effect_of (job k) (held old.state) first).cells → new.since ≡ none → new.upto ≡ one → LotFits k 1 new
 updated k r settings moments agrees central old new u cells since upto =
     let h = moments (setting_of k) 0 0 first (settings k) (there k r 0 0 first refl) in
-    subst (λ (z : Contents × List ℕ × List ℕ). Fits (setting_of k) 1 z.0 z.1 z.2) (λ j. (sym cells j, sym since j, sym upto j)) (fits_again k r (settings k) agrees central h old u)
+    subst (λ (z : Contents × List ℕ × List ℕ). Fits (setting_of k) 1 z.0 z.1 z.2) (λ j. (sym cells j, sym since j, sym upto j))
+    (fits_again k r (settings k) agrees central h old u)
 
 -- ---- and the first read, for which the leaf gives its lot
 
@@ -150,12 +156,12 @@ one_owner v w same = cc
 clear : (k : Content) → IsRow k → ContentsAreSettings → ItagsAreOfNodes → IsClearOf (setting_of k) (own (job k) (nodes k) 1) one read
 clear k r settings of_nodes j l y mine other dep least at =
     each (Clear k)
-        (λ mine other least. absurd (omega arith))
-        (λ mine other least. refl)
-        (λ mine other least. absurd (not_mine mine))
-        (λ mine other least. absurd (other refl))
-        (λ mine other least. absurd (other refl))
-        j l y (known k r j l y at) mine other least
+    (λ mine other least. absurd (omega arith))
+    (λ mine other least. refl)
+    (λ mine other least. absurd (not_mine mine))
+    (λ mine other least. absurd (other refl))
+    (λ mine other least. absurd (other refl))
+    j l y (known k r j l y at) mine other least
   where
     not_mine : own (job k) (nodes k) 1 1 ≡ true → ⊥
     not_mine mine =
@@ -163,7 +169,8 @@ clear k r settings of_nodes j l y mine other dep least at =
         let owner = ((of_nodes (setting_of k) 1 1 (settings k) small).owner).0 mine in
         let same = one_owner 1 2 (sym owner ∙ r.shape.right) in omega arith
 
-pub serves : (k : Content) → IsRow k → ContentsAreSettings → ItagsAreOfNodes → LeavesServe → (lot : Lot) → LotFits k 1 lot → lot.since ≡ none → lot.upto ≡ one → IsServed k lot
+pub serves : (k : Content) → IsRow k → ContentsAreSettings → ItagsAreOfNodes → LeavesServe → (lot : Lot) → LotFits k 1 lot → lot.since ≡ none → lot.upto ≡ one
+    → IsServed k lot
 serves k r settings of_nodes leaves lot fits since upto = record {
   fits = fits;
   served = leaves k 1 no_events first_read read lot r.shape.leaf (let c = r.shape.count in omega arith) fits (on_loan k r settings of_nodes lot since upto)

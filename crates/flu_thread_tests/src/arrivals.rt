@@ -1,11 +1,11 @@
 //! Arrival words with two watches.
 
+ghost use Rattle.std.specs.Prelude.{◌≡◌, [], ◌∷◌};
+
 use flu_arrive::{Feeder, Watch, arrivals};
 use flu_model::Itag;
 use std::alloc::{AllocError, Global};
 use std::test::Fail;
-
-ghost use Rattle.std.specs.Prelude.{◌≡◌, [], ◌∷◌};
 
 /// What two watches see of three items that are fed one by one, and of four more of another itag, which are fed at once.
 fn seen(mut feeder: Feeder, mut one: Watch, mut two: Watch) -> [u64; 6]

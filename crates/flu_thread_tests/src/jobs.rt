@@ -62,7 +62,10 @@ fn source(alloc: Global, name: &str, kind: u32) -> Result<Source, AllocError> {
 fn kinds(alloc: Global) -> Result<List<Kind>, AllocError> {
     let adds = vec![in alloc; always(Act::Add(COUNT, Expr::Value))]?;
     let texts = vec![in alloc; Piece::Read(COUNT)]?;
-    let puts_out = vec![in alloc; always(Act::Emit(List::of(texts))), always(Act::Clear(COUNT))]?;
+    let puts_out = vec![in alloc;
+        always(Act::Emit(List::of(texts))),
+        always(Act::Clear(COUNT)),
+    ]?;
     let inc = kind(alloc, "inc", true, adds)?;
     let read = kind(alloc, "read", false, puts_out)?;
     Ok(List::of(vec![in alloc; inc, read]?))
@@ -80,7 +83,11 @@ fn job(alloc: Global) -> Result<Option<Program>, AllocError> {
     };
     let families = vec![in alloc; family]?;
     let depends = vec![in alloc; all(0, 1), all(1, 1)]?;
-    let sources = vec![in alloc; source(alloc, "a", 0)?, source(alloc, "b", 0)?, source(alloc, "c", 1)?]?;
+    let sources = vec![in alloc;
+        source(alloc, "a", 0)?,
+        source(alloc, "b", 0)?,
+        source(alloc, "c", 1)?,
+    ]?;
     Ok(program(
         1,
         List::of(families),

@@ -51,7 +51,13 @@ pub fn with_first_event(alloc: Global, case: &Case, lot: Lot) -> Result<Lot, All
         itag: Itag(0),
         value: 5,
     };
-    update(alloc, case.checked().program(), &mut state, &first, &mut outs)?;
+    update(
+        alloc,
+        case.checked().program(),
+        &mut state,
+        &first,
+        &mut outs,
+    )?;
     Ok(Lot {
         state,
         since,
