@@ -1,20 +1,19 @@
 -- What the case of the tests gives, by the laws of lots.
-use Rattle.std.proofs.Common.{◌≡◌, ◌≢◌, ℕ, zero, suc, ◌+◌, ◌<◌, ◌≤◌, ◌↔◌, Bool, true, false, ◌||◌, ◌==◌, if◌then◌else◌, pos, List, [], ◌∷◌, map, length, get_or, sym, refl, ap, ◌∙◌, subst, ne_eqb, arith, Option, Some, None}
+use Rattle.std.proofs.Common.{◌≡◌, ◌≢◌, ℕ, zero, suc, ◌<◌, ◌≤◌, Bool, true, false, ◌||◌, ◌==◌, pos, List, [], ◌∷◌, map, length, sym, refl, ap, ◌∙◌, subst, ne_eqb, arith, Some, None}
 use Rattle.std.specs.Prelude.{slice_get, slice_index, slice_index_or}
 use Rattle.std.specs.List.{range_with_len}
 use Rattle.flu_model.specs.declared.events.Event.{Event}
 use Rattle.flu_model.specs.declared.events.Item.{Item}
 use Rattle.flu_model.specs.Contents.{Contents}
 use Rattle.flu_model.specs.Itags.{count_of_itags}
-use Rattle.flu_model.specs.Listed.{listed}
 use Rattle.flu_model.specs.Merging.{is_before, events_of}
 use Rattle.flu_model.specs.Owners.{owner_of}
 use Rattle.flu_model.specs.Updates.{effect_of}
 use Rattle.flu_cells.specs.Holding.{held}
-use Rattle.flu_laws.specs.Lots.{IsExact, CountsOneMore}
+use Rattle.flu_laws.specs.Lots.{CountsOneMore}
 use Rattle.flu_fork.specs.declared.content.Content.{Content}
 use Rattle.flu_fork.specs.declared.lots.Lot.{Lot}
-use Rattle.flu_fork.specs.Classes.{itag, own, below, above}
+use Rattle.flu_fork.specs.Classes.{own, below}
 use Rattle.flu_fork.specs.Fitting.{Fits}
 use Rattle.flu_fork.specs.Kin.{own_at, above_at, ItagsAreOfNodes, ItagsAreOfKids}
 use Rattle.flu_fork.specs.Laws.{no_counts, CentralLaw}

@@ -1,4 +1,4 @@
-use Rattle.std.proofs.Common.{rules, ap, ◌∙◌, ◌≡◌, [], ◌∷◌, pos}
+use Rattle.std.proofs.Common.{ap, ◌∙◌, ◌≡◌, [], ◌∷◌, pos}
 use Rattle.flu_model.specs.declared.jobs.Program.{Program}
 use Rattle.flu_model.specs.Updates.{effect_of}
 use Rattle.flu_deps.specs.Checking.{program_of}
