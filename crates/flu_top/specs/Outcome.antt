@@ -67,7 +67,8 @@ pub data Outcome (words : List (List ℕ)) (old new : Outside) (status : ℕ) : 
   -- a file that the command reads failed
   ReadFailed : status ≡ 7 → (command : Command) → command_in words ≡ Ok command
       → Refused old new read_fault_line → Outcome words old new status
-  -- nothing refuses the command, and all that it reads was read; out failed, and got fewer bytes than it writes, from their front
+  -- nothing refuses the command, and all that it reads was read; out failed, and got fewer bytes than the command
+  -- writes, from their front
   WriteFailed : status ≡ 8 → (command : Command) → command_in words ≡ Ok command
       → WhereTold old.left new.left (IsPartlyDone command old.out new.out)
       → Said old new write_fault_line → Outcome words old new status
@@ -83,7 +84,8 @@ pub record ReadOnly (words : List (List ℕ)) (old new : Option Contents) : Type
 
 -- ---- the faults of the outside
 -- status 7 comes only where the count of a name that the call reads rose, and status 8 only where out's did
-pub record FaultsFirst (words : List (List ℕ)) (left : Option Contents) (before now : List ℕ → ℕ) (out_before out_now status : ℕ) : Type 0 where
+pub record FaultsFirst (words : List (List ℕ)) (left : Option Contents) (before now : List ℕ → ℕ)
+    (out_before out_now status : ℕ) : Type 0 where
   pub read : status ≡ 7 → (name : List ℕ) × IsReadBy words left name × Rose (before name) (now name)
   pub write : status ≡ 8 → Rose out_before out_now
 
@@ -103,7 +105,8 @@ pub data CallsFor (command : Command) (left : Contents) (status : ℕ) : Type 0 
       → fault_behind (want command).job left p ≡ Some fault → CallsFor command left status
 
 -- no name that the command reads failed, and out did not
-pub record NothingFailed (command : Command) (left : Option Contents) (before now : List ℕ → ℕ) (out_before out_now : ℕ) : Type 0 where
+pub record NothingFailed (command : Command) (left : Option Contents) (before now : List ℕ → ℕ)
+    (out_before out_now : ℕ) : Type 0 where
   pub files : (name : List ℕ) → IsReadName left command name → ¬ Rose (before name) (now name)
   pub out : ¬ Rose out_before out_now
 
@@ -111,4 +114,5 @@ pub record NothingFailed (command : Command) (left : Option Contents) (before no
 abbrev pub Completes : List (List ℕ) → Option Contents → (List ℕ → ℕ) → (List ℕ → ℕ) → ℕ → ℕ → ℕ → Type 0
 Completes words told before now out_before out_now status =
     (command : Command) (left : Contents) (wanted : ℕ) → command_in words ≡ Ok command → told ≡ Some left
-    → NothingFailed command told before now out_before out_now → CallsFor command left wanted → (status ≡ wanted) ⊎ (status ≡ 9)
+    → NothingFailed command told before now out_before out_now → CallsFor command left wanted
+    → (status ≡ wanted) ⊎ (status ≡ 9)

@@ -38,10 +38,34 @@ pub record Want : Type 1 where
 
 -- the report of the fold; the normal form of the job; the normal form of the plan; the text of a greedy plan
 abbrev pub want : Command → Want
-want (Fold job) = record { job = job; accepted = false; plan = None; sources = true; writes = λ left p text. text ≡ report_behind job left p }
-want (Check job) = record { job = job; accepted = true; plan = None; sources = false; writes = λ left p text. text ≡ normal_form (job_of p) }
-want (Valid job plan) = record { job = job; accepted = true; plan = Some plan; sources = false; writes = λ left p text. text ≡ found_printed p (plan_behind job plan left p) }
-want (Plan job depth) = record { job = job; accepted = true; plan = None; sources = false; writes = λ left p text. IsPlanText p depth text }
+want (Fold job) = record {
+  job = job;
+  accepted = false;
+  plan = None;
+  sources = true;
+  writes = λ left p text. text ≡ report_behind job left p;
+}
+want (Check job) = record {
+  job = job;
+  accepted = true;
+  plan = None;
+  sources = false;
+  writes = λ left p text. text ≡ normal_form (job_of p);
+}
+want (Valid job plan) = record {
+  job = job;
+  accepted = true;
+  plan = Some plan;
+  sources = false;
+  writes = λ left p text. text ≡ found_printed p (plan_behind job plan left p);
+}
+want (Plan job depth) = record {
+  job = job;
+  accepted = true;
+  plan = None;
+  sources = false;
+  writes = λ left p text. IsPlanText p depth text;
+}
 
 -- ---- the same, each by its own name
 -- the name of the job that a command reads
