@@ -10,3 +10,5 @@ pub mod Joining
 pub mod LotLemmas
 pub mod GatheringLemmas
 pub mod Noting
+pub mod Standing
+pub mod PlaceLemmas

@@ -27,7 +27,7 @@ use Rattle.flu_fork.specs.Settings.{Setting, IsSetting, events_at, moments}
 
 -- ---- the itags of events
 -- the events of a stream are of its itag
-stream_itags : (i low : ℕ) (items : List Item) → is_stream_from i low items ≡ true → AllByRecursion (λ (x : Event). x.itag.0 ≡ i) (events_of items)
+pub stream_itags : (i low : ℕ) (items : List Item) → is_stream_from i low items ≡ true → AllByRecursion (λ (x : Event). x.itag.0 ≡ i) (events_of items)
 stream_itags i low [] e = tt
 stream_itags i low (EventItem x ∷ items) e = (true_eq x.itag.0 i (and_left _ _ (and_left _ _ e)), stream_itags i (x.time + 1) items (and_right _ _ e))
 stream_itags i low (Beat t ∷ items) e = stream_itags i (t + 1) items (and_right _ _ e)

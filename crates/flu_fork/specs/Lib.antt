@@ -11,3 +11,4 @@ pub mod Streams
 pub mod Places
 pub mod Texts
 pub mod Serving
+pub mod Kin

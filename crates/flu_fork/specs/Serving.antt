@@ -83,23 +83,27 @@ pub record IsForkedFrom (k : Content) (w : ℕ) (lent : LotCounts) (fork : List 
   pub inside : (i : ℕ) → below (job k) (nodes k) w i ≡ true → slice_index lent.upto i ≤ slice_index fork i
   pub first : AreAtMost lent.since fork
 
+-- a lot has a count for each itag of the job, and no other
+abbrev pub CountsEach : Content → Lot → Type 0
+CountsEach k lot = length lot.upto ≡ count_of_itags (job k)
+
 -- THE JOIN SERVES: two parts that were served for y join to a lot that is served for y by the node's own loan, where the node's own itags are exact for y
 abbrev pub JoinsServe : Type 0
 JoinsServe =
     (k : Content) (w l r : ℕ) (lent : LotCounts) (fork : List ℕ) (y : Ask) (left right lot : Lot)
-    → kids k w ≡ Some (l, r) → IsForkedFrom k w lent fork
+    → kids k w ≡ Some (l, r) → CountsEach k left → IsForkedFrom k w lent fork
     → Served k l (record { since = lent.since; upto = fork }) y left → Served k r (record { since = fork; upto = fork }) y right
     → HasJoinedCounts k w left right lot → CountsJustBefore k (own (job k) (nodes k) w) y lot.upto
     → Served k w lent y lot
 
 -- THE NEXT PARTS begin, in each child's subtree, where the taken ones ended
 pub record GrowsFromBoth (k : Content) (l r : ℕ) (left right lot : Lot) : Type 0 where
-  pub left : GrownFrom k l left.upto lot.upto
-  pub right : GrownFrom k r right.upto lot.upto
+  pub at_left : GrownFrom k l left.upto lot.upto
+  pub at_right : GrownFrom k r right.upto lot.upto
 
 abbrev pub JoinsGrow : Type 0
 JoinsGrow =
-    (k : Content) (w l r : ℕ) (since fork : List ℕ) (left right lot : Lot) → kids k w ≡ Some (l, r)
+    (k : Content) (w l r : ℕ) (since fork : List ℕ) (left right lot : Lot) → kids k w ≡ Some (l, r) → CountsEach k left → CountsEach k right
     → IsOnLoan k l (record { since = since; upto = fork }) left → IsOnLoan k r (record { since = fork; upto = fork }) right
     → HasJoinedCounts k w left right lot → GrowsFromBoth k l r left right lot
 

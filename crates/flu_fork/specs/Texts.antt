@@ -1,5 +1,5 @@
 -- THE TEXTS of a set of itags: what the fold puts out for their counted events, each event's once.
-use Rattle.std.specs.Prelude.{◌≡◌, ◌≢◌, ◌⊎◌, ℕ, ◌+◌, ◌<◌, Bool, true, false, ◌&&◌, List, ◌∷◌, ◌++◌, length, slice_index}
+use Rattle.std.specs.Prelude.{◌≡◌, ◌≢◌, ◌⊎◌, ℕ, ◌+◌, ◌<◌, Bool, true, false, ◌&&◌, List, [], ◌∷◌, ◌++◌, length, slice_index}
 use Rattle.std.specs.List.{filter, flat_map}
 use Rattle.std.specs.List.Sorted.{IsPermutation}
 use Rattle.flu_model.specs.declared.events.Out.{Out}
@@ -60,10 +60,10 @@ TextsGrow =
 
 -- an itag of the whole set is in exactly one of three
 pub data InOneOf (whole a b c : Bool) : Type 0 where
-  | pub InNone : whole ≡ false → a ≡ false → b ≡ false → c ≡ false → InOneOf whole a b c
-  | pub InFirst : whole ≡ true → a ≡ true → b ≡ false → c ≡ false → InOneOf whole a b c
-  | pub InSecond : whole ≡ true → a ≡ false → b ≡ true → c ≡ false → InOneOf whole a b c
-  | pub InThird : whole ≡ true → a ≡ false → b ≡ false → c ≡ true → InOneOf whole a b c
+  InNone : whole ≡ false → a ≡ false → b ≡ false → c ≡ false → InOneOf whole a b c
+  InFirst : whole ≡ true → a ≡ true → b ≡ false → c ≡ false → InOneOf whole a b c
+  InSecond : whole ≡ true → a ≡ false → b ≡ true → c ≡ false → InOneOf whole a b c
+  InThird : whole ≡ true → a ≡ false → b ≡ false → c ≡ true → InOneOf whole a b c
 
 -- THREE SETS: where each itag of a set is in exactly one of three, its outputs are those of the three, one after another
 abbrev pub TextsOfThree : Type 0

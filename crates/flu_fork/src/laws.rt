@@ -3,6 +3,7 @@
 
 ghost use Rattle.flu_fork.specs.LawsBelow.{LawsBelow};
 ghost use Rattle.flu_fork.specs.Laws.{NothingIsCopied, NeededIsBase, BaseIsNotAway, CopiesAreOnlyRead, FittingHasSorts, OpeningFits, ForksFit, JoinsFit, CentralLaw};
+ghost use Rattle.flu_fork.specs.Places.{EventsHaveMoments, MomentsAreEvents};
 
 use flu_deps::laws::{itags_are_owned, plans_are_trees};
 
@@ -68,12 +69,22 @@ pub fn updates_fit()
     laws_below();
 }
 
+/// Each event of the streams has one moment of the fold, with the earlier events in front of it and the later ones behind it,
+/// and each moment is that of an event of the streams.
+pub fn events_have_moments()
+    ensures moments { EventsHaveMoments }
+    ensures events { MomentsAreEvents }
+{
+    laws_below();
+}
+
 // The laws of jobs and of trees that those of lots rest on.
 fn laws_below()
     ensures { LawsBelow }
 {
     flu_laws::accepted_is_lawful();
     flu_laws::changes_keep_to_modes();
+    flu_laws::dependency_turns();
     flu_laws::fits_again();
     flu_laws::moments_are_in_order();
     flu_laws::updates_are_changes();
