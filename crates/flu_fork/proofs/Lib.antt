@@ -12,3 +12,9 @@ pub mod GatheringLemmas
 pub mod Noting
 pub mod Standing
 pub mod PlaceLemmas
+pub mod KinLemmas
+pub mod ServingLemmas
+pub mod LoanLemmas
+pub mod Permuted
+pub mod TextLemmas
+pub mod StreamLemmas

@@ -1,5 +1,5 @@
 -- Where events stand in the fold: moments are in event order, each is an event of the streams, and each event stands once.
-use Rattle.std.proofs.Common.{◌≡◌, ◌≢◌, ◌<◌, ◌≤◌, ◌+◌, ℕ, zero, suc, Bool, true, false, cond, Some, None, List, [], ◌∷◌, ◌++◌, length, inl, inr, refl, sym, ap, subst, ◌∙◌, arith}
+use Rattle.std.proofs.Common.{◌≡◌, ◌≢◌, ◌<◌, ◌≤◌, ◌+◌, ℕ, zero, suc, Bool, true, false, cond, Some, None, List, [], ◌∷◌, ◌++◌, append_assoc, length, inl, inr, refl, sym, ap, subst, ◌∙◌, arith}
 use Rattle.std.specs.Prelude.{◌==◌, ◌&&◌, nat_le, slice_get, slice_index_or, ⊤}
 use Rattle.std.specs.Cmp.{IsTotalOrder, IsStrictWeakOrder}
 use Rattle.std.specs.Ordering.{is_lt}
@@ -82,7 +82,7 @@ at_index P [] n x all e = cc
 at_index P (y ∷ ys) zero x all e = let same : y ≡ x = cc in subst P same all.0
 at_index P (y ∷ ys) (suc n) x all e = at_index P ys n x all.1 e
 
-same_rest : {X : Type 0} (xs us vs : List X) (x y : X) → xs ++ x ∷ us ≡ xs ++ y ∷ vs → us ≡ vs
+pub same_rest : {X : Type 0} (xs us vs : List X) (x y : X) → xs ++ x ∷ us ≡ xs ++ y ∷ vs → us ≡ vs
 same_rest [] us vs x y e = cc
 same_rest (z ∷ xs) us vs x y e = let rest : xs ++ x ∷ us ≡ xs ++ y ∷ vs = cc in same_rest xs us vs x y rest
 
@@ -216,15 +216,11 @@ module _ (laws : LawsBelow) (k : Setting) (ok : IsSetting k) where
             all_at_place (λ (r : Moment). r.event.itag.0 ≡ m.event.itag.0 → r.index < m.index) (before ++ q ∷ mid) before mid q refl
             (places_at (before ++ q ∷ mid) after m split) same in
             let first : IsEventAt k m.event.itag.0 q.index q.event =
-            subst (λ (i : ℕ). IsEventAt k i q.index q.event) same (moment_is_listed before (mid ++ m ∷ after) q (split ∙ regroup before mid after q m)) in
+            subst (λ (i : ℕ). IsEventAt k i q.index q.event) same (moment_is_listed before (mid ++ m ∷ after) q (split ∙ append_assoc before (q ∷ mid) (m ∷ after))) in
             before_by_time q.event m.event
             (times_rise m.event.itag.0 q.index m.index q.event m.event less first (moment_is_listed (before ++ q ∷ mid) after m split))
         | inr other ↦ before_by_itag q.event m.event weak other
       ]
-    where
-      regroup : (us vs ws : List Moment) (a b : Moment) → (us ++ a ∷ vs) ++ b ∷ ws ≡ us ++ a ∷ (vs ++ b ∷ ws)
-      regroup [] vs ws a b = refl
-      regroup (u ∷ us) vs ws a b = ap (λ l. u ∷ l) (regroup us vs ws a b)
 
   pub all_earlier : (before after : List Moment) (m : Moment) → moments k ≡ before ++ m ∷ after
       → AllByRecursion (λ (q : Moment). is_before q.event m.event ≡ true) before
@@ -236,11 +232,7 @@ module _ (laws : LawsBelow) (k : Setting) (ok : IsSetting k) where
       → AllByRecursion (λ (q : Moment). is_before m.event q.event ≡ true) after
   all_later before after m split =
       all_from_places (λ (q : Moment). is_before m.event q.event ≡ true) after
-      (λ us vs q e. in_front before us vs m q (split ∙ ap (λ l. before ++ m ∷ l) e ∙ sym (regroup before us vs m q)))
-    where
-      regroup : (us vs ws : List Moment) (a b : Moment) → (us ++ a ∷ vs) ++ b ∷ ws ≡ us ++ a ∷ (vs ++ b ∷ ws)
-      regroup [] vs ws a b = refl
-      regroup (u ∷ us) vs ws a b = ap (λ l. u ∷ l) (regroup us vs ws a b)
+      (λ us vs q e. in_front before us vs m q (split ∙ ap (λ l. before ++ m ∷ l) e ∙ sym (append_assoc before (m ∷ us) (q ∷ vs))))
 
   pub has_moment : (i n : ℕ) (x : Event) → IsEventAt k i n x → HasMoment k i n x
   has_moment i n x e =

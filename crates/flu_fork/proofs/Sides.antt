@@ -16,10 +16,10 @@ use Rattle.flu_fork.specs.Settings.{Setting, IsSetting}
 use Rattle.flu_fork.specs.Classes.{itag, below, above, beside}
 
 -- ---- what an owner says
-below_by : (p : Program) (nodes : List Node) (w i v : ℕ) → owner_of p nodes (itag i) ≡ Some v → below p nodes w i ≡ is_within nodes w v
+pub below_by : (p : Program) (nodes : List Node) (w i v : ℕ) → owner_of p nodes (itag i) ≡ Some v → below p nodes w i ≡ is_within nodes w v
 below_by p nodes w i v e = rw e refl
 
-above_by : (p : Program) (nodes : List Node) (w i v : ℕ) → owner_of p nodes (itag i) ≡ Some v → above p nodes w i ≡ (is_within nodes v w && not (v == w))
+pub above_by : (p : Program) (nodes : List Node) (w i v : ℕ) → owner_of p nodes (itag i) ≡ Some v → above p nodes w i ≡ (is_within nodes v w && not (v == w))
 above_by p nodes w i v e = rw e refl
 
 below_none : (p : Program) (nodes : List Node) (w i : ℕ) → owner_of p nodes (itag i) ≡ None → below p nodes w i ≡ false

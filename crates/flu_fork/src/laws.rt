@@ -3,7 +3,11 @@
 
 ghost use Rattle.flu_fork.specs.LawsBelow.{LawsBelow};
 ghost use Rattle.flu_fork.specs.Laws.{NothingIsCopied, NeededIsBase, BaseIsNotAway, CopiesAreOnlyRead, FittingHasSorts, OpeningFits, ForksFit, JoinsFit, CentralLaw};
+ghost use Rattle.flu_fork.specs.Kin.{ItagsAreOfNodes, ItagsAreOfKids, ItagsAreOfTheRoot};
 ghost use Rattle.flu_fork.specs.Places.{EventsHaveMoments, MomentsAreEvents};
+ghost use Rattle.flu_fork.specs.Serving.{LentIsOnLoan, LoansArePaired, JoinsServe, JoinsGrow, ClearIsJustBefore, JustBeforeAtLeaf, JustBeforeAtInner, JustBeforeIsExact, LeavesServe, ContentsAreSettings};
+ghost use Rattle.flu_fork.specs.Streams.{PrefixesAgree, ExactnessAgrees};
+ghost use Rattle.flu_fork.specs.Texts.{NoTexts, TextsAreOfTheSet, TextsGrow, TextsOfThree, TextsEnd, StatesEnd, OutputsAreOfMoments};
 
 use flu_deps::laws::{itags_are_owned, plans_are_trees};
 
@@ -69,11 +73,91 @@ pub fn updates_fit()
     laws_below();
 }
 
+/// Whose itags are whose in a valid plan: what a node owns, what is below it and what is above it, by its owner and by its
+/// children.
+pub fn itags_are_of_nodes()
+    ensures nodes { ItagsAreOfNodes }
+    ensures kids { ItagsAreOfKids }
+    ensures root { ItagsAreOfTheRoot }
+{
+    laws_below();
+}
+
 /// Each event of the streams has one moment of the fold, with the earlier events in front of it and the later ones behind it,
 /// and each moment is that of an event of the streams.
 pub fn events_have_moments()
     ensures moments { EventsHaveMoments }
     ensures events { MomentsAreEvents }
+{
+    laws_below();
+}
+
+/// That counts are a prefix, and that they are exact for an event, is so by the events of the streams and their order, without
+/// the fold.
+pub fn prefixes_are_of_streams()
+    ensures prefix { PrefixesAgree }
+    ensures exact { ExactnessAgrees }
+{
+    laws_below();
+}
+
+/// A case is a setting, so each law of settings holds of it.
+pub fn contents_are_settings()
+    ensures { ContentsAreSettings }
+{}
+
+/// A lot is on the loan that it was lent with, and two parts of one fork that are each on its loan are paired, whatever the other
+/// one did in between.
+pub fn loans_are_paired()
+    ensures lent { LentIsOnLoan }
+    ensures paired { LoansArePaired }
+{}
+
+/// An event that is before all that are not counted, of the itags of a set on which it depends, has of that set just the events
+/// before it counted. So a leaf may give up its lot for an event from above where it is clear for the leaf's own itags.
+pub fn clear_events_are_served()
+    ensures clear { ClearIsJustBefore }
+    ensures leaf { LeavesServe }
+{
+    laws_below();
+}
+
+/// What is counted just before an event in a whole subtree is so by the node's own itags and by the subtrees of its children. Where
+/// it is so below a node and above it, the counts are exact for an event of the node.
+pub fn subtrees_count_just_before()
+    ensures leaf { JustBeforeAtLeaf }
+    ensures inner { JustBeforeAtInner }
+    ensures exact { JustBeforeIsExact }
+{
+    laws_below();
+}
+
+/// Two parts that were served for an event join to a lot that is served for it. The next parts begin, in each child's subtree,
+/// where the taken ones ended.
+pub fn served_lots_join()
+    ensures serves { JoinsServe }
+    ensures grows { JoinsGrow }
+{
+    laws_below();
+}
+
+/// The texts of a set of itags: none where nothing is counted, the same where the counts of the set are the same, more by an
+/// event's outputs where it is counted, and those of three sets together where each itag is in one of the three.
+pub fn texts_are_counted()
+    ensures nothing { NoTexts }
+    ensures same { TextsAreOfTheSet }
+    ensures grow { TextsGrow }
+    ensures three { TextsOfThree }
+{
+    laws_below();
+}
+
+/// At the end: the texts of the root's subtree are the outputs of the fold, its state is the final state, and the outputs of the
+/// fold are those of its moments.
+pub fn texts_end()
+    ensures texts { TextsEnd }
+    ensures states { StatesEnd }
+    ensures outputs { OutputsAreOfMoments }
 {
     laws_below();
 }
