@@ -1,8 +1,7 @@
 -- When an event is one at which a worker may aim, by what it has seen, and what holds of a whole lot then.
-use Rattle.std.proofs.Common.{◌≡◌, ◌≢◌, ◌<◌, ◌≤◌, ◌+◌, ℕ, zero, suc, Bool, true, false, cond, Option, Some, None, List, [], ◌∷◌, length, take, ◌⊎◌, inl, inr, refl, sym, ap, subst, ◌∙◌, arith}
-use Rattle.std.specs.Prelude.{◌==◌, ◌&&◌, ◌||◌, not, is_some, is_none, slice_get, slice_index, slice_index_or}
-use Rattle.std.proofs.lemmas.Bool.{cases_Bool, cases_lt, ne_eqb, or_left, or_right}
-use Rattle.flu_lemmas.proofs.Searches.{eq_true}
+use Rattle.std.proofs.Common.{◌≡◌, ◌≢◌, ◌<◌, ℕ, zero, suc, true, false, cond, Option, Some, None, List, [], ◌∷◌, length, take, inl, inr, refl, sym, ap, subst, ◌∙◌, arith}
+use Rattle.std.specs.Prelude.{◌==◌, ◌||◌, not, slice_get, slice_index, slice_index_or}
+use Rattle.std.proofs.lemmas.Bool.{cases_lt, ne_eqb, or_left, or_right}
 use Rattle.flu_lemmas.proofs.Tests.{and_left, and_right, both, not_both, true_eq}
 use Rattle.flu_model.specs.declared.events.Event.{Event}
 use Rattle.flu_model.specs.declared.events.Itag.{Itag}
@@ -12,21 +11,17 @@ use Rattle.flu_model.specs.Itags.{count_of_itags}
 use Rattle.flu_model.specs.Listed.{listed}
 use Rattle.flu_model.specs.Merging.{events_of}
 use Rattle.flu_model.specs.Owners.{owns}
-use Rattle.flu_deps.specs.Dependencies.{itags_depend}
 use Rattle.flu_fork.specs.declared.content.Content.{Content}
 use Rattle.flu_fork.specs.declared.lots.Ask.{Ask}
 use Rattle.flu_fork.specs.declared.lots.Lot.{Lot}
-use Rattle.flu_fork.specs.Classes.{Itags, itag, own, above}
+use Rattle.flu_fork.specs.Classes.{Itags, own, above}
 use Rattle.flu_fork.specs.Settings.{events_at}
 use Rattle.flu_fork.specs.Streams.{IsEventAt, IsClearOf}
 use Rattle.flu_fork.specs.Lots.{job, nodes, kids, setting_of, LotFits}
-use Rattle.flu_fork.specs.Serving.{LotCounts, IsOnLoan, Served, AsksAbove}
-use Rattle.flu_mail.specs.Passing.{seen_items, next_event}
-use Rattle.flu_mail.specs.Waiting.{is_leaf, waits_for, serving_waits_for}
-use Rattle.flu_worker.specs.declared.hand.Hand.{Hand}
+use Rattle.flu_fork.specs.Serving.{LotCounts, Served, AsksAbove}
+use Rattle.flu_mail.specs.Waiting.{is_leaf}
 use Rattle.flu_worker.specs.Agreeing.{Agrees, IsTarget, IsExactFor}
-use Rattle.flu_worker.specs.Choosing.{Sight, own_itags, next_at, takes, if_ready, event_of, serves, earliest, least_next, least_ready, ask_for, if_own, if_serves, is_same_ask, first_some, new_target, next_by, gives_by}
-use Rattle.flu_worker.specs.Hands.{is_whole}
+use Rattle.flu_worker.specs.Choosing.{Sight, own_itags, next_at, takes, if_ready, event_of, serves, least_next, least_ready, ask_for, if_serves, is_same_ask, first_some, new_target}
 use Rattle.flu_worker.specs.LawsBelow.{LawsBelow}
 use Rattle.flu_worker.proofs.Changing.{above_just_before}
 use Rattle.flu_worker.proofs.CountLemmas.{no_items, some_within}

@@ -1,5 +1,5 @@
 -- What counts agree after an event is counted, after a lot came down, and after two parts are joined.
-use Rattle.std.proofs.Common.{◌≡◌, ◌≢◌, ◌<◌, ◌≤◌, ◌+◌, ℕ, Bool, true, false, cond, Option, Some, None, List, length, ◌⊎◌, inl, inr, refl, sym, ap, subst, ◌∙◌, arith}
+use Rattle.std.proofs.Common.{◌≡◌, ◌<◌, ◌≤◌, ◌+◌, ℕ, true, false, cond, Some, List, length, inl, inr, refl, sym, ap, ◌∙◌, arith}
 use Rattle.std.specs.Prelude.{◌==◌, slice_index}
 use Rattle.std.proofs.lemmas.Bool.{cases_Bool, cases_lt}
 use Rattle.flu_lemmas.proofs.Tests.{not_both}
@@ -11,7 +11,7 @@ use Rattle.flu_fork.specs.declared.lots.Ask.{Ask}
 use Rattle.flu_fork.specs.declared.lots.Lot.{Lot}
 use Rattle.flu_fork.specs.Classes.{own, below, above}
 use Rattle.flu_fork.specs.Lots.{job, nodes, kids, setting_of, LotFits, LotsPaired, HasJoinedCounts}
-use Rattle.flu_fork.specs.Serving.{LotCounts, GrownFrom, IsOnLoan, IsForkedFrom, CountsJustBefore, Served, GrowsFromBoth}
+use Rattle.flu_fork.specs.Serving.{LotCounts, GrownFrom, IsForkedFrom, CountsJustBefore, Served, GrowsFromBoth}
 use Rattle.flu_worker.specs.Agreeing.{Agrees, Grows, IsTarget, IsForkedAt, left_loan, right_loan}
 use Rattle.flu_worker.proofs.Mails.{CountsLike}
 use Rattle.flu_worker.specs.LawsBelow.{LawsBelow}
@@ -199,8 +199,13 @@ module _ (laws : LawsBelow) (k : Content) (w l r : ℕ) (e : kids k w ≡ Some (
 
   pub joined_target : IsTarget k w counts lot.upto y
   joined_target = record {
-    known = target.known; next = joined_next; place = target.place; event = target.event; is = target.is;
-    clear_own = target.clear_own; clear_above = target.clear_above;
+    known = target.known;
+    next = joined_next;
+    place = target.place;
+    event = target.event;
+    is = target.is;
+    clear_own = target.clear_own;
+    clear_above = target.clear_above;
   }
 
   pub joined_left_grown : GrownFrom k l left.upto lot.upto

@@ -1,5 +1,5 @@
 -- Lists of counts.
-use Rattle.std.proofs.Common.{◌≡◌, ◌≢◌, ◌<◌, ◌≤◌, ◌+◌, ℕ, zero, suc, Bool, true, false, cond, Option, Some, None, List, [], ◌∷◌, ◌++◌, length, map, inl, inr, refl, sym, ap, ◌∙◌, arith}
+use Rattle.std.proofs.Common.{◌≡◌, ◌≢◌, ◌<◌, ◌≤◌, ◌+◌, ℕ, zero, suc, Bool, true, false, cond, Some, None, List, [], ◌∷◌, ◌++◌, length, map, inl, inr, refl, sym, ap, ◌∙◌, arith}
 use Rattle.std.specs.Prelude.{◌==◌, is_none, slice_get, slice_index, slice_index_or, slice_set}
 use Rattle.std.specs.List.{range_with_len}
 use Rattle.std.proofs.lemmas.Bool.{cases_eq, cases_lt, ne_eqb}
@@ -62,7 +62,7 @@ module _ (i : ℕ) (old new : List ℕ) (one : CountsOneMore i old new) where
   ]
 
 pub one_more_each : (i j a b : ℕ) → a ≤ b → cond (j == i) (a + 1) a ≤ cond (j == i) (b + 1) b
-one_more_each i j a b le = elim (j == i) as (λ t. cond t (a + 1) a ≤ cond t (b + 1) b) [ | true ↦ omega arith | false ↦ le ]
+one_more_each i j a b le = elim (j == i) as (λ t. cond t (a + 1) a ≤ cond t (b + 1) b) [ true ↦ omega arith | false ↦ le ]
 
 -- ---- the counts of a joined lot
 choose_zero : (t : Bool) (x y : ℕ) → y ≡ 0 → x ≡ 0 → cond t x y ≡ 0

@@ -1,12 +1,12 @@
 -- The earliest of some events.
-use Rattle.std.proofs.Common.{◌≡◌, ◌≢◌, ◌<◌, ◌≤◌, ℕ, zero, suc, Bool, true, false, cond, Option, Some, None, List, [], ◌∷◌, length, ◌+◌, ◌⊎◌, inl, inr, refl, sym, ap, subst, ◌∙◌, arith}
+use Rattle.std.proofs.Common.{◌≡◌, ◌<◌, ◌≤◌, ℕ, zero, suc, Bool, true, false, cond, Option, Some, None, List, [], ◌∷◌, length, ◌+◌, inl, inr, refl, sym, ap, subst, ◌∙◌, arith}
 use Rattle.std.specs.Prelude.{⊤, map, slice_index_or}
 use Rattle.std.specs.List.{fold, filter, range_with_len, AllByRecursion}
 use Rattle.flu_lemmas.proofs.Elements.{all_filter}
 use Rattle.std.proofs.lemmas.List.Folds.{fold_along}
-use Rattle.std.proofs.lemmas.Bool.{cases_Bool, cases_eq}
+use Rattle.std.proofs.lemmas.Bool.{cases_eq}
 use Rattle.std.proofs.lemmas.Grind.{common_steps}
-use Rattle.flu_lemmas.proofs.Tests.{false_if_not, not_both}
+use Rattle.flu_lemmas.proofs.Tests.{not_both}
 use Rattle.flu_model.specs.declared.events.Event.{Event}
 use Rattle.flu_model.specs.declared.events.Itag.{Itag}
 use Rattle.flu_model.specs.Itags.{count_of_itags}
@@ -46,14 +46,14 @@ Together t (Some u) (Some v) = (is_before v u ≡ false) × (t u ≡ true → u 
 together_step : (t : Event → Bool) (a b : Option Event) (o : Option Event) → Together t a b → Together t (earlier a o) (earlier b (pass t o))
 together_step t None None None h = tt
 together_step t None None (Some v) h =
-    elim (t v) as (λ q. t v ≡ q → Together t (Some v) (cond q (Some v) None)) [ | true ↦ λ e. (not_itself v, λ _. refl) | false ↦ λ e. e ] refl
+    elim (t v) as (λ q. t v ≡ q → Together t (Some v) (cond q (Some v) None)) [ true ↦ λ e. (not_itself v, λ _. refl) | false ↦ λ e. e ] refl
 together_step t None (Some w) o h = absurd h
 together_step t (Some u) None None h = h
 together_step t (Some u) (Some w) None h = h
 together_step t (Some u) None (Some v) h =
     elim (is_before v u) as (λ q. is_before v u ≡ q → Together t (cond q (Some v) (Some u)) (cond (t v) (Some v) None)) [
-      | true ↦ λ e. (elim (t v) as (λ q. t v ≡ q → Together t (Some v) (cond q (Some v) None)) [ | true ↦ λ f. (not_itself v, λ _. refl) | false ↦ λ f. f ] refl)
-      | false ↦ λ e. (elim (t v) as (λ q. t v ≡ q → Together t (Some u) (cond q (Some v) None)) [ | true ↦ λ f. (e, λ g. absurd (not_both _ g h)) | false ↦ λ f. h ] refl)
+      | true ↦ λ e. (elim (t v) as (λ q. t v ≡ q → Together t (Some v) (cond q (Some v) None)) [ true ↦ λ f. (not_itself v, λ _. refl) | false ↦ λ f. f ] refl)
+      | false ↦ λ e. (elim (t v) as (λ q. t v ≡ q → Together t (Some u) (cond q (Some v) None)) [ true ↦ λ f. (e, λ g. absurd (not_both _ g h)) | false ↦ λ f. h ] refl)
     ] refl
 together_step t (Some u) (Some w) (Some v) h =
     elim (is_before v u) as (λ q. is_before v u ≡ q → Together t (cond q (Some v) (Some u)) (earlier (Some w) (cond (t v) (Some v) None))) [
@@ -133,7 +133,7 @@ earlier_one : (P : Event → Type 0) (a b : Option Event) → ((x : Event) → a
 earlier_one P None b pa pb x e = pb x e
 earlier_one P (Some u) None pa pb x e = pa x e
 earlier_one P (Some u) (Some v) pa pb x e =
-    elim (is_before v u) as (λ q. cond q (Some v) (Some u) ≡ Some x → P x) [ | true ↦ λ h. pb x h | false ↦ λ h. pa x h ] e
+    elim (is_before v u) as (λ q. cond q (Some v) (Some u) ≡ Some x → P x) [ true ↦ λ h. pb x h | false ↦ λ h. pa x h ] e
 
 found_from : (P : Event → Type 0) (f : Itag → Option Event) (itags : List Itag) (found : Option Event) → ((x : Event) → found ≡ Some x → P x)
     → AllByRecursion (λ i. (x : Event) → f i ≡ Some x → P x) itags → (x : Event) → fold (λ o i. earlier o (f i)) found itags ≡ Some x → P x

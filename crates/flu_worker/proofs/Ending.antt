@@ -1,6 +1,6 @@
 -- A worker that has nothing left.
-use Rattle.std.proofs.Common.{◌≡◌, ◌<◌, ◌≤◌, ℕ, Bool, true, false, zero, suc, Option, Some, None, List, [], ◌∷◌, length, ◌⊎◌, inl, inr, refl, sym, ap, subst, ◌∙◌, arith}
-use Rattle.std.specs.Prelude.{◌↔◌, ◌==◌, ◌&&◌, ◌||◌, not, is_none, is_some, slice_get, slice_index, slice_index_or, IsSome}
+use Rattle.std.proofs.Common.{◌≡◌, ◌<◌, ◌≤◌, ℕ, Bool, true, false, Option, Some, None, List, [], ◌∷◌, length, ◌⊎◌, inl, inr, refl, sym, ap, ◌∙◌, arith}
+use Rattle.std.specs.Prelude.{◌==◌, ◌&&◌, ◌||◌, not, is_none, is_some, slice_index, slice_index_or, IsSome}
 use Rattle.std.specs.List.{list_all, AllByRecursion}
 use Rattle.std.proofs.lemmas.Bool.{cases_Bool, cases_lt}
 use Rattle.flu_lemmas.proofs.Searches.{eq_true}
@@ -12,7 +12,6 @@ use Rattle.flu_model.specs.Itags.{count_of_itags}
 use Rattle.flu_model.specs.Listed.{listed}
 use Rattle.flu_model.specs.Merging.{events_of}
 use Rattle.flu_model.specs.Owners.{owns, ancestors_own}
-use Rattle.flu_fork.specs.declared.content.Content.{Content}
 use Rattle.flu_fork.specs.declared.lots.Ask.{Ask}
 use Rattle.flu_fork.specs.declared.lots.Lot.{Lot}
 use Rattle.flu_fork.specs.Classes.{itag}
@@ -29,19 +28,18 @@ use Rattle.flu_worker.specs.declared.hand.Hand.TheVariants.{Empty, Whole, Lendin
 use Rattle.flu_worker.specs.declared.holding.Holding.{Holding}
 use Rattle.flu_worker.specs.declared.holding.Holding.TheVariants.{Empty as NoLot, Whole as WholeLot, LendingBoth, LendingLeft, LendingRight, Down as BothOut, TakingLeft, TakingRight, Gone}
 use Rattle.flu_worker.specs.Agreeing.{Agrees, IsTarget}
-use Rattle.flu_worker.specs.Calls.{HasDoneAll, IsForked, IsFinished}
+use Rattle.flu_worker.specs.Calls.{HasDoneAll, IsFinished}
 use Rattle.flu_worker.specs.Choosing.{sight, own_itags, above_itags}
 use Rattle.flu_worker.specs.Finishing.{is_over, has_done_all}
 use Rattle.flu_worker.specs.Hands.{is_whole, is_down}
 use Rattle.flu_worker.specs.LawsBelow.{LawsBelow}
-use Rattle.flu_worker.specs.Notes.{WorkerNote, own_of, above_of, below_of}
-use Rattle.flu_worker.specs.Rule.{Rule, IsMailed, Holds, HoldsWhole, IsDown}
+use Rattle.flu_worker.specs.Notes.{WorkerNote, above_of, below_of}
+use Rattle.flu_worker.specs.Rule.{Rule, IsMailed, HoldsWhole, IsDown}
 use Rattle.flu_tables.specs.Lists.{itags_where}
 use Rattle.flu_worker.proofs.CountLemmas.{beyond, no_items, some_within, few_events}
 use Rattle.flu_worker.proofs.EarliestLemmas.{all_where, where_all}
 use Rattle.flu_worker.proofs.Nodes.{above_not_below}
-use Rattle.flu_worker.proofs.Serving.{hand_whole}
-use Rattle.flu_worker.proofs.Steps.{counts_long, counted_within, some_not_none}
+use Rattle.flu_worker.proofs.Steps.{counts_long, counted_within}
 
 -- ---- all of an itag is seen and counted
 abbrev over_now : WorkerNote → Itag → Bool
@@ -87,7 +85,7 @@ at_rest Down e = inr refl
 at_rest (Taking l r) e = cc
 
 rests : (h : Hand) → (h ≡ Whole) ⊎ (h ≡ Down) → (is_whole h || is_down h) ≡ true
-rests h o = elim o [ | inl e ↦ ap (λ (x : Hand). is_whole x || is_down x) e | inr e ↦ ap (λ (x : Hand). is_whole x || is_down x) e ]
+rests h o = elim o [ inl e ↦ ap (λ (x : Hand). is_whole x || is_down x) e | inr e ↦ ap (λ (x : Hand). is_whole x || is_down x) e ]
 
 module _ (n : WorkerNote) (mail : Mailbox) (mailed : IsMailed n mail) where
   seen_long : length n.seen ≡ count_of_itags (job n.case)
@@ -140,16 +138,17 @@ module _ (n : WorkerNote) (mail : Mailbox) (mailed : IsMailed n mail) where
 pub done_tells : (n : WorkerNote) (mail : Mailbox) → IsMailed n mail → (b : Bool) → b ≡ has_done_all (sight n) n.hand → (b ≡ true → HasDoneAll n) × (HasDoneAll n → b ≡ true)
 done_tells n mail mailed b is = (
   (λ e. (let all = sym is ∙ e in
-  let two = and_left ((is_whole n.hand || is_down n.hand) && list_all (over_now n) (own_itags n.case n.node)) _ all in
-  done_all n mail mailed (and_left (is_whole n.hand || is_down n.hand) _ two) (and_right (is_whole n.hand || is_down n.hand) _ two)
-  (and_right ((is_whole n.hand || is_down n.hand) && list_all (over_now n) (own_itags n.case n.node)) _ all))),
-  (λ d. (let t = all_done n mail mailed d in is ∙ both _ _ (both _ _ t.rest t.mine) t.over)))
+      let two = and_left ((is_whole n.hand || is_down n.hand) && list_all (over_now n) (own_itags n.case n.node)) _ all in
+      done_all n mail mailed (and_left (is_whole n.hand || is_down n.hand) _ two) (and_right (is_whole n.hand || is_down n.hand) _ two)
+      (and_right ((is_whole n.hand || is_down n.hand) && list_all (over_now n) (own_itags n.case n.node)) _ all))),
+  (λ d. (let t = all_done n mail mailed d in is ∙ both _ _ (both _ _ t.rest t.mine) t.over)),
+)
 
 -- ---- then it keeps no target, and a worker whose parts are lent has those of one fork
 module _ (laws : LawsBelow) (n : WorkerNote) (mail : Mailbox) (mailed : IsMailed n mail) (d : HasDoneAll n) (upto : List ℕ) (agrees : Agrees n.case n.node n.counts n.held.upto upto)
     (there : (i : ℕ) → slice_index upto i ≤ length (events_at (setting_of n.case) i)) where
   held_least : (i : ℕ) → slice_index n.held.upto i ≤ slice_index upto i
-  held_least i = elim (cases_Bool (below_of n i)) [ | inl h ↦ agrees.inside i h | inr h ↦ (let e = agrees.outside i h in omega arith) ]
+  held_least i = elim (cases_Bool (below_of n i)) [ inl h ↦ agrees.inside i h | inr h ↦ (let e = agrees.outside i h in omega arith) ]
 
   pub above_complete : IsComplete (setting_of n.case) (above_of n) n.held.upto
   above_complete i over =
@@ -182,7 +181,7 @@ differ : {h : Hand} → h ≡ Whole → h ≡ Down → ⊥
 differ a b = cc
 
 no_rest : {P : Type 0} (h g : Hand) → h ≡ g → (h ≡ Whole) ⊎ (h ≡ Down) → (is_whole g || is_down g) ≡ false → P
-no_rest h g e o f = absurd (Rattle.flu_lemmas.proofs.Tests.not_both _ (rests g (elim o [ | inl a ↦ inl (sym e ∙ a) | inr b ↦ inr (sym e ∙ b) ])) f)
+no_rest h g e o f = absurd (Rattle.flu_lemmas.proofs.Tests.not_both _ (rests g (elim o [ inl a ↦ inl (sym e ∙ a) | inr b ↦ inr (sym e ∙ b) ])) f)
 
 leaf_if_none : (n : WorkerNote) (lot : Lot) → HoldsWhole n lot → n.kept ≡ None → kids n.case n.node ≡ None
 leaf_if_none n lot h none = by_kids (kids n.case n.node) refl

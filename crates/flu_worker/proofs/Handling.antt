@@ -1,5 +1,5 @@
 -- The rule after the lot was given, and after an event was handled.
-use Rattle.std.proofs.Common.{◌≡◌, ◌≢◌, ◌<◌, ◌≤◌, ◌+◌, ℕ, true, Option, Some, None, List, ◌++◌, length, refl, sym, ap, subst, ◌∙◌, arith}
+use Rattle.std.proofs.Common.{◌≡◌, ◌<◌, ◌+◌, ℕ, true, Some, None, List, length, refl, sym, ap, subst, ◌∙◌, arith}
 use Rattle.std.specs.Prelude.{slice_get, slice_index, slice_index_or, slice_set, []}
 use Rattle.flu_model.specs.declared.events.Event.{Event}
 use Rattle.flu_model.specs.declared.events.Out.{Out}
@@ -10,7 +10,7 @@ use Rattle.flu_laws.specs.Lots.{CountsOneMore}
 use Rattle.flu_fork.specs.declared.lots.Ask.{Ask}
 use Rattle.flu_fork.specs.declared.lots.Lot.{Lot}
 use Rattle.flu_fork.specs.Places.{HasMoment}
-use Rattle.flu_fork.specs.Lots.{job, nodes, kids, setting_of, LotFits}
+use Rattle.flu_fork.specs.Lots.{job, setting_of, LotFits}
 use Rattle.flu_fork.specs.Serving.{Served}
 use Rattle.flu_mail.specs.declared.mailbox.Mailbox.{Mailbox}
 use Rattle.flu_mail.specs.Mailboxes.{counts_of}
@@ -88,7 +88,11 @@ gives laws v mail h lot y rule is may =
         place = record { case = refl; node = refl; seen = refl };
         same = record { lent_left = refl; lent_right = refl; taken_left = refl; taken_right = refl };
         hand_was = hand_whole v.hand (give_hand laws v rule.mailed.there lot whole y may);
-        hand = refl; kept = refl; held = refl; given = refl; counts = refl;
+        hand = refl;
+        kept = refl;
+        held = refl;
+        given = refl;
+        counts = refl;
       };
       fits = whole.fits;
       served = (give_aims laws v rule.mailed.there lot whole y may).served;
@@ -176,7 +180,9 @@ module _ (laws : LawsBelow) (v : WorkerNote) (old : Mailbox) (was : Holding) (ru
         same = record { lent_left = refl; lent_right = refl; taken_left = refl; taken_right = refl };
         hand_was = hand_whole v.hand (next_hand laws v rule.mailed.there lot whole x next);
         hand = hand_anew v.case v.node more h is;
-        kept = refl; held = refl; given = refl;
+        kept = refl;
+        held = refl;
+        given = refl;
         owned = mine;
       }
 
@@ -185,13 +191,16 @@ module _ (laws : LawsBelow) (v : WorkerNote) (old : Mailbox) (was : Holding) (ru
         let m : HasMoment (setting_of v.case) x.itag.0 x.index event = laws.events (setting_of v.case) x.itag.0 x.index event (laws.settings v.case) exact.is in
         let itag_is : m.moment.event.itag ≡ x.itag = ap (λ (e : Event). e.itag) m.event ∙ λ i. record { 0 = m.itag i } in
         record {
-          front = m.front; back = m.back; moment = m.moment;
+          front = m.front;
+          back = m.back;
+          moment = m.moment;
           stands = m.stands;
           itag = itag_is;
           index = m.index;
           next = own_count;
           counts = λ j. (
             (λ e. ap (slice_index counts) e ∙ ap (λ (c : List ℕ). slice_index c x.itag.0) set ∙ set_here v.counts x.itag.0 _ in_range ∙ ap (λ (u : ℕ). u + 1) own_count),
-            (λ other. ap (λ (c : List ℕ). slice_index c j) set ∙ set_there v.counts x.itag.0 _ j other));
+            (λ other. ap (λ (c : List ℕ). slice_index c j) set ∙ set_there v.counts x.itag.0 _ j other),
+          );
           outputs = puts m.front m.back m.moment m.stands itag_is m.index;
         }

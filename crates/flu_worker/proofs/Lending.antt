@@ -1,36 +1,28 @@
 -- The rule after a part was lent or taken, and after the lot was given or an event handled.
-use Rattle.std.proofs.Common.{◌≡◌, ◌<◌, ◌≤◌, ◌+◌, ℕ, true, false, Option, Some, None, List, length, inl, inr, refl, sym, ap, subst, ◌∙◌, arith}
-use Rattle.std.specs.Prelude.{is_some, slice_index, slice_set, IsSome}
-use Rattle.flu_model.specs.Itags.{count_of_itags}
-use Rattle.flu_model.specs.Listed.{listed}
-use Rattle.flu_laws.specs.Lots.{CountsOneMore}
+use Rattle.std.proofs.Common.{◌≡◌, ℕ, Option, Some, None, List, refl, sym, ap, subst, ◌∙◌}
+use Rattle.std.specs.Prelude.{is_some, slice_index, IsSome}
 use Rattle.flu_fork.specs.declared.content.Content.{Content}
 use Rattle.flu_fork.specs.declared.lots.Ask.{Ask}
 use Rattle.flu_fork.specs.declared.lots.Lot.{Lot}
-use Rattle.flu_fork.specs.Lots.{job, nodes, kids, setting_of, LotFits, LotsPaired, HasJoinedCounts}
-use Rattle.flu_fork.specs.Serving.{LotCounts, GrownFrom, IsOnLoan, Served, counts_of}
+use Rattle.flu_fork.specs.Lots.{kids, LotFits, LotsPaired, HasJoinedCounts}
+use Rattle.flu_fork.specs.Serving.{LotCounts, GrownFrom, Served, counts_of}
 use Rattle.flu_mail.specs.declared.mailbox.Mailbox.{Mailbox}
-use Rattle.flu_mail.specs.Mailboxes as mails
-use Rattle.flu_worker.specs.declared.hand.Hand.{Hand}
-use Rattle.flu_worker.specs.declared.hand.Hand.TheVariants.{Empty, Whole, Lending, Down, Taking}
+use Rattle.flu_worker.specs.declared.hand.Hand.TheVariants.{Whole}
 use Rattle.flu_worker.specs.declared.hand.Side.{Side}
 use Rattle.flu_worker.specs.declared.hand.Side.TheVariants.{Left, Right}
 use Rattle.flu_worker.specs.declared.holding.Holding.{Holding}
 use Rattle.flu_worker.specs.declared.holding.Holding.TheVariants.{Empty as NoLot, Whole as WholeLot, LendingBoth, LendingLeft, LendingRight, Down as BothOut, TakingLeft, TakingRight, Gone}
-use Rattle.flu_worker.specs.Agreeing.{Agrees, Grows, IsTarget, IsForkedAt, left_loan, right_loan}
-use Rattle.flu_worker.specs.Calls.{LendsPart, IsFitPart, TakesPart, GivesLot, HandlesEvent, IsWholeLot}
-use Rattle.flu_worker.specs.Choosing.{may_give, next_of}
-use Rattle.flu_worker.proofs.Mails.{IsSameMail}
-use Rattle.flu_worker.specs.Hands.{at_side, after_lend, after_take}
-use Rattle.flu_worker.specs.Holding.{hand_of, IsHeldAs}
+use Rattle.flu_worker.specs.Agreeing.{IsTarget, IsForkedAt, left_loan, right_loan}
+use Rattle.flu_worker.specs.Calls.{LendsPart, IsFitPart, TakesPart}
+use Rattle.flu_worker.specs.Hands.{after_lend, after_take}
+use Rattle.flu_worker.specs.Holding.{hand_of}
 use Rattle.flu_worker.specs.LawsBelow.{LawsBelow}
-use Rattle.flu_worker.specs.Moving.{LeftLeaves, RightLeaves, LeftComes, RightComes, IsWholeOf, AreMates, AwaitsLeft, AwaitsRight}
-use Rattle.flu_worker.specs.Notes.{WorkerNote, taken_from}
-use Rattle.flu_worker.specs.Rule.{Rule, IsMailed, HoldsNone, HoldsWhole, IsPart, LendsBoth, LendsLeft, LendsRight, IsDown, TakesLeft, TakesRight}
+use Rattle.flu_worker.specs.Moving.{LeftLeaves, RightLeaves, LeftComes, RightComes, AwaitsLeft, AwaitsRight}
+use Rattle.flu_worker.specs.Notes.{WorkerNote}
+use Rattle.flu_worker.specs.Rule.{Rule, IsMailed, HoldsWhole, IsPart, LendsBoth, LendsLeft, LendsRight, IsDown, TakesLeft, TakesRight}
 use Rattle.flu_worker.proofs.Aiming.{never_ask, some_ask}
 use Rattle.flu_worker.proofs.Changing.{joined_agrees, joined_target, joined_served, joined_left_grown, joined_right_grown}
-use Rattle.flu_worker.proofs.Serving.{give_aims, give_hand, hand_whole, next_aims, next_hand}
-use Rattle.flu_worker.proofs.Steps.{some_not_none, holds_anew, hand_anew, mailed_after, mailed_still, counts_long}
+use Rattle.flu_worker.proofs.Steps.{some_not_none, mailed_still, counts_long}
 
 pub the_kids : (o : Option (ℕ × ℕ)) → IsSome o → (l : ℕ) × (r : ℕ) × (o ≡ Some (l, r))
 the_kids None e = cc
@@ -85,8 +77,16 @@ left_from_both v mail a b rule =
         };
       };
       note = record {
-        place = record { case = refl; node = refl; seen = refl }; hand = sym (ap (after_lend Left) rule.hand);
-        kept = refl; counts = refl; held = refl; given = refl; lent_left = refl; lent_right = refl; taken_left = refl; taken_right = refl;
+        place = record { case = refl; node = refl; seen = refl };
+        hand = sym (ap (after_lend Left) rule.hand);
+        kept = refl;
+        counts = refl;
+        held = refl;
+        given = refl;
+        lent_left = refl;
+        lent_right = refl;
+        taken_left = refl;
+        taken_right = refl;
       };
       part = record { fits = λ l r e. (h.left l r e).fits; grown = λ l r e. part_grown v.case l (left_loan v.held a.upto) v.taken_left a (h.left l r e) };
     }
@@ -107,8 +107,16 @@ left_from_one v mail a rule =
         };
       };
       note = record {
-        place = record { case = refl; node = refl; seen = refl }; hand = sym (ap (after_lend Left) rule.hand);
-        kept = refl; counts = refl; held = refl; given = refl; lent_left = refl; lent_right = refl; taken_left = refl; taken_right = refl;
+        place = record { case = refl; node = refl; seen = refl };
+        hand = sym (ap (after_lend Left) rule.hand);
+        kept = refl;
+        counts = refl;
+        held = refl;
+        given = refl;
+        lent_left = refl;
+        lent_right = refl;
+        taken_left = refl;
+        taken_right = refl;
       };
       part = record { fits = λ l r e. (h.left l r e).fits; grown = λ l r e. part_grown v.case l (left_loan v.held a.upto) v.taken_left a (h.left l r e) };
     }
@@ -124,8 +132,16 @@ right_from_both v mail a b rule =
         holds = record { kept = h.kept; forked = h.forked; left = h.left; right = (h.right two.0 two.1 two.2).loaned };
       };
       note = record {
-        place = record { case = refl; node = refl; seen = refl }; hand = sym (ap (after_lend Right) rule.hand);
-        kept = refl; counts = refl; held = refl; given = refl; lent_left = refl; lent_right = refl; taken_left = refl; taken_right = refl;
+        place = record { case = refl; node = refl; seen = refl };
+        hand = sym (ap (after_lend Right) rule.hand);
+        kept = refl;
+        counts = refl;
+        held = refl;
+        given = refl;
+        lent_left = refl;
+        lent_right = refl;
+        taken_left = refl;
+        taken_right = refl;
       };
       part = record { fits = λ l r e. (h.right l r e).fits; grown = λ l r e. part_grown v.case r (right_loan a.upto) v.taken_right b (h.right l r e) };
     }
@@ -147,13 +163,21 @@ right_from_one v mail b rule =
         };
       };
       note = record {
-        place = record { case = refl; node = refl; seen = refl }; hand = sym (ap (after_lend Right) rule.hand);
-        kept = refl; counts = refl; held = refl; given = refl; lent_left = refl; lent_right = refl; taken_left = refl; taken_right = refl;
+        place = record { case = refl; node = refl; seen = refl };
+        hand = sym (ap (after_lend Right) rule.hand);
+        kept = refl;
+        counts = refl;
+        held = refl;
+        given = refl;
+        lent_left = refl;
+        lent_right = refl;
+        taken_left = refl;
+        taken_right = refl;
       };
       part = record { fits = λ l r e. (h.right l r e).fits; grown = λ l r e. part_grown v.case r (right_loan b.upto) v.taken_right b (h.right l r e) };
     }
 
-lent_as : (s : Side) (v : WorkerNote) (mail : Mailbox) (new new' : Holding) (lot lot' : Lot) (f : WorkerNote → Holding → Lot → WorkerNote) 
+lent_as : (s : Side) (v : WorkerNote) (mail : Mailbox) (new new' : Holding) (lot lot' : Lot) (f : WorkerNote → Holding → Lot → WorkerNote)
     → new' ≡ new → lot' ≡ lot → Lent s v (f v new lot) mail new lot → Lent s v (f v new' lot') mail new' lot'
 lent_as s v mail new new' lot lot' f en el h =
     subst (λ (x : Holding). Lent s v (f v x lot') mail x lot') (sym en) (subst (λ (x : Lot). Lent s v (f v new x) mail new x) (sym el) h)
@@ -245,12 +269,23 @@ module _ (laws : LawsBelow) (v : WorkerNote) (mail : Mailbox) (lot : Lot) (kept 
           hand = refl;
           holds = record {
             down = record { forked = h.forked; left = h.left; right = h.right; target = h.target };
-            kept = kept; fits = fits; taken = refl; served = λ y l r e f. served l r y f e;
+            kept = kept;
+            fits = fits;
+            taken = refl;
+            served = λ y l r e f. served l r y f e;
           };
         };
         note = record {
-          place = record { case = refl; node = refl; seen = refl }; hand = sym (ap (after_take Left) rule.hand);
-          kept = refl; counts = refl; held = refl; given = refl; lent_left = refl; lent_right = refl; taken_left = refl; taken_right = refl;
+          place = record { case = refl; node = refl; seen = refl };
+          hand = sym (ap (after_take Left) rule.hand);
+          kept = refl;
+          counts = refl;
+          held = refl;
+          given = refl;
+          lent_left = refl;
+          lent_right = refl;
+          taken_left = refl;
+          taken_right = refl;
         };
       }
 
@@ -269,8 +304,16 @@ module _ (laws : LawsBelow) (v : WorkerNote) (mail : Mailbox) (lot : Lot) (kept 
               (served two.0 two.1 y.0 two.2 y.1) (h.served y.0 two.0 two.1 y.1 two.2) whole wfits counts);
         };
         note = record {
-          place = record { case = refl; node = refl; seen = refl }; hand = sym (ap (after_take Left) rule.hand);
-          kept = refl; counts = refl; held = refl; given = refl; lent_left = refl; lent_right = refl; taken_left = refl; taken_right = refl;
+          place = record { case = refl; node = refl; seen = refl };
+          hand = sym (ap (after_take Left) rule.hand);
+          kept = refl;
+          counts = refl;
+          held = refl;
+          given = refl;
+          lent_left = refl;
+          lent_right = refl;
+          taken_left = refl;
+          taken_right = refl;
         };
       }
 
@@ -316,12 +359,23 @@ module _ (laws : LawsBelow) (v : WorkerNote) (mail : Mailbox) (lot : Lot) (kept 
           hand = refl;
           holds = record {
             down = record { forked = h.forked; left = h.left; right = h.right; target = h.target };
-            kept = kept; fits = fits; taken = refl; served = λ y l r e f. served l r y f e;
+            kept = kept;
+            fits = fits;
+            taken = refl;
+            served = λ y l r e f. served l r y f e;
           };
         };
         note = record {
-          place = record { case = refl; node = refl; seen = refl }; hand = sym (ap (after_take Right) rule.hand);
-          kept = refl; counts = refl; held = refl; given = refl; lent_left = refl; lent_right = refl; taken_left = refl; taken_right = refl;
+          place = record { case = refl; node = refl; seen = refl };
+          hand = sym (ap (after_take Right) rule.hand);
+          kept = refl;
+          counts = refl;
+          held = refl;
+          given = refl;
+          lent_left = refl;
+          lent_right = refl;
+          taken_left = refl;
+          taken_right = refl;
         };
       }
 
@@ -340,8 +394,16 @@ module _ (laws : LawsBelow) (v : WorkerNote) (mail : Mailbox) (lot : Lot) (kept 
               (h.served y.0 two.0 two.1 y.1 two.2) (served two.0 two.1 y.0 two.2 y.1) whole wfits counts);
         };
         note = record {
-          place = record { case = refl; node = refl; seen = refl }; hand = sym (ap (after_take Right) rule.hand);
-          kept = refl; counts = refl; held = refl; given = refl; lent_left = refl; lent_right = refl; taken_left = refl; taken_right = refl;
+          place = record { case = refl; node = refl; seen = refl };
+          hand = sym (ap (after_take Right) rule.hand);
+          kept = refl;
+          counts = refl;
+          held = refl;
+          given = refl;
+          lent_left = refl;
+          lent_right = refl;
+          taken_left = refl;
+          taken_right = refl;
         };
       }
 

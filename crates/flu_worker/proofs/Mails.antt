@@ -4,7 +4,7 @@ use Rattle.flu_model.specs.declared.events.Item.{Item}
 use Rattle.flu_model.specs.declared.jobs.Program.{Program}
 use Rattle.flu_model.specs.declared.plans.Node.{Node}
 use Rattle.flu_mail.specs.declared.mailbox.Mailbox.{Mailbox}
-use Rattle.flu_mail.specs.Mailboxes.{node_of, seen_of, counts_of, IsAt, IsOver}
+use Rattle.flu_mail.specs.Mailboxes.{node_of, seen_of, IsAt, IsOver}
 
 -- another mailbox of the same node that has seen the same
 pub record IsSameMail (lists : List (List Item)) (old new : Mailbox) : Type 0 where

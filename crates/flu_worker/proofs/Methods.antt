@@ -1,22 +1,18 @@
 -- What the methods of a worker owe, by its value before the call.
-use Rattle.std.proofs.Common.{◌≡◌, ◌<◌, ◌≤◌, ◌+◌, ℕ, Bool, true, false, cond, Option, Some, None, List, [], length, refl, sym, ap, subst, ◌∙◌, arith}
+use Rattle.std.proofs.Common.{◌≡◌, ◌<◌, ℕ, Bool, true, false, Option, List, refl, sym, ap, subst, ◌∙◌}
 use Rattle.std.specs.Prelude.{◌==◌, ◌&&◌, slice_index, IfSome}
 use Rattle.flu_lemmas.proofs.Searches.{eq_true}
 use Rattle.flu_model.specs.Itags.{count_of_itags}
-use Rattle.flu_model.specs.Listed.{listed}
-use Rattle.flu_model.specs.declared.jobs.Program.{Program}
-use Rattle.flu_model.specs.declared.plans.Node.{Node}
 use Rattle.flu_fork.specs.declared.content.Content.{Content}
 use Rattle.flu_fork.specs.declared.lots.Ask.{Ask}
-use Rattle.flu_fork.specs.Lots.{job, nodes}
+use Rattle.flu_fork.specs.Lots.{job}
 use Rattle.flu_fork.specs.Serving.{AsksAbove}
 use Rattle.flu_mail.specs.declared.mailbox.Mailbox.{Mailbox}
-use Rattle.flu_mail.specs.Mailboxes.{counts_of, IsAt, IsOver}
+use Rattle.flu_mail.specs.Mailboxes.{counts_of}
 use Rattle.flu_worker.specs.declared.hand.Hand.{Hand}
 use Rattle.flu_worker.specs.declared.holding.Holding.{Holding}
-use Rattle.flu_worker.specs.Choosing.{Sight, sight, sight_at, next_by, next_of, target_by, target_of, gives_by, may_give}
+use Rattle.flu_worker.specs.Choosing.{sight, sight_at, next_by, next_of, target_by, target_of, gives_by, may_give}
 use Rattle.flu_worker.specs.Hands.{is_whole, is_down}
-use Rattle.flu_worker.specs.Holding.{hand_of}
 use Rattle.flu_worker.specs.LawsBelow.{LawsBelow}
 use Rattle.flu_worker.specs.Notes.{WorkerNote, above_of}
 use Rattle.flu_worker.specs.Rule.{Rule, IsMailed}

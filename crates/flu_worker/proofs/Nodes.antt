@@ -1,5 +1,5 @@
 -- What a node owns, what is above it and below it, and what is below its children.
-use Rattle.std.proofs.Common.{◌≡◌, ◌<◌, ℕ, true, false, Some, None, List, ◌⊎◌, inl, inr, refl, sym, ap, subst, ◌∙◌}
+use Rattle.std.proofs.Common.{◌≡◌, ◌<◌, ℕ, true, false, Some, ◌⊎◌, inl, inr, sym, ap, ◌∙◌}
 use Rattle.std.specs.Prelude.{◌||◌, ◌==◌}
 use Rattle.std.proofs.lemmas.Bool.{cases_Bool, or_left, or_right}
 use Rattle.flu_lemmas.proofs.Searches.{eq_true}

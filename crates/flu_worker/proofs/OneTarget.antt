@@ -1,11 +1,10 @@
 -- An own event that an inner worker may take is before the next event of each itag above it, which is so held up.
-use Rattle.std.proofs.Common.{◌≡◌, ◌≢◌, ◌<◌, ◌≤◌, ℕ, Bool, true, false, Option, Some, None, length, refl, sym, ap, subst, ◌∙◌, arith}
-use Rattle.std.specs.Prelude.{◌==◌, ◌&&◌, ◌||◌, not, is_none, slice_get, slice_index, IsSome}
+use Rattle.std.proofs.Common.{◌≡◌, ◌≢◌, ℕ, true, false, Option, Some, None, refl, sym, ap, ◌∙◌, arith}
+use Rattle.std.specs.Prelude.{not, is_none, slice_index, IsSome}
 use Rattle.std.proofs.lemmas.Bool.{ne_eqb, or_left, or_right}
 use Rattle.flu_lemmas.proofs.Places.{slice_get-there}
 use Rattle.flu_lemmas.proofs.Tests.{both, false_if_not, not_both}
 use Rattle.flu_model.specs.declared.events.Event.{Event}
-use Rattle.flu_model.specs.Itags.{count_of_itags}
 use Rattle.flu_model.specs.Listed.{listed}
 use Rattle.flu_model.specs.Merging.{is_before}
 use Rattle.flu_fork.specs.declared.lots.Ask.{Ask}
@@ -14,8 +13,7 @@ use Rattle.flu_fork.specs.Settings.{events_at}
 use Rattle.flu_fork.specs.Streams.{IsEventAt}
 use Rattle.flu_fork.specs.Lots.{job, nodes, kids, setting_of}
 use Rattle.flu_fork.specs.Serving.{AsksAbove}
-use Rattle.flu_mail.specs.Waiting.{is_leaf}
-use Rattle.flu_worker.specs.Choosing.{Sight, least_next, if_ready, event_of, serves}
+use Rattle.flu_worker.specs.Choosing.{Sight, serves}
 use Rattle.flu_worker.specs.Laws.{TargetsAreOne}
 use Rattle.flu_worker.specs.LawsBelow.{LawsBelow}
 use Rattle.flu_worker.proofs.Aiming.{IsReadyOwn, least_found}

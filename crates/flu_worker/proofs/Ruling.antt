@@ -1,5 +1,5 @@
 -- The rule of a new worker, and after a lot came down.
-use Rattle.std.proofs.Common.{Result, Ok, Err, ◌≡◌, ◌<◌, ◌≤◌, ◌+◌, ℕ, zero, suc, true, false, cond, Option, Some, None, List, [], ◌∷◌, length, map, replicate, refl, sym, ap, subst, ◌∙◌, arith}
+use Rattle.std.proofs.Common.{Result, Ok, Err, ◌≡◌, ◌<◌, ◌≤◌, ◌+◌, ℕ, zero, suc, false, cond, None, List, ◌∷◌, length, map, replicate, refl, sym, ap, subst, ◌∙◌, arith}
 use Rattle.std.specs.Prelude.{slice_index, IfOk}
 use Rattle.std.specs.List.{range_with_len}
 use Rattle.flu_model.specs.declared.streams.Streams.{Streams}
@@ -18,14 +18,13 @@ use Rattle.flu_fork.specs.declared.content.Content.{Content}
 use Rattle.flu_fork.specs.declared.lots.Lot.{Lot}
 use Rattle.flu_fork.specs.Classes.{itag, above}
 use Rattle.flu_fork.specs.Laws.{no_counts}
-use Rattle.flu_fork.specs.Lots.{job, nodes, kids, LotFits, CountsNothing}
+use Rattle.flu_fork.specs.Lots.{job, nodes, LotFits, CountsNothing}
 use Rattle.flu_fork.specs.Serving.{LotCounts, GrownFrom, none_counted}
 use Rattle.flu_fork.specs.Serving as lots
 use Rattle.flu_mail.specs.declared.mailbox.Mailbox.{Mailbox}
 use Rattle.flu_mail.specs.Mailboxes.{node_of, seen_of, counts_of, is_above, IsAt, IsOver}
-use Rattle.flu_worker.specs.declared.hand.Hand.TheVariants.{Empty, Whole, Lending, Down, Taking}
 use Rattle.flu_worker.specs.declared.holding.Holding.{Holding}
-use Rattle.flu_worker.specs.declared.holding.Holding.TheVariants.{Empty as NoLot, Gone}
+use Rattle.flu_worker.specs.declared.holding.Holding.TheVariants.{Gone}
 use Rattle.flu_worker.specs.Agreeing.{Agrees, Grows}
 use Rattle.flu_worker.specs.Calls.{IsNew, HoldsLot, start_hand}
 use Rattle.flu_worker.proofs.Mails.{IsSameMail, CountsLike}
@@ -35,7 +34,7 @@ use Rattle.flu_worker.specs.LawsBelow.{LawsBelow}
 use Rattle.flu_worker.specs.Notes.{WorkerNote}
 use Rattle.flu_worker.specs.Rule.{Rule, IsMailed, Holds, HoldsNone}
 use Rattle.flu_worker.specs.Starting.{IsFirst}
-use Rattle.flu_worker.proofs.Changing.{agrees_held, grows_held, like_above, like_rest, like_own, agrees_itself, grown_itself, counts_rise}
+use Rattle.flu_worker.proofs.Changing.{agrees_held, grows_held, like_above, like_rest, like_own, agrees_itself, grown_itself}
 use Rattle.flu_worker.proofs.Steps.{has_none, hand_anew, holds_anew, mailed_after, counts_long, mail_long}
 
 -- ---- new
@@ -48,19 +47,50 @@ nothing_counted k = replicate_is 0 (count_of_itags (job k))
 
 abbrev pub new_note : Content → ℕ → Holding → WorkerNote
 new_note k w h = record {
-  case = k; node = w; hand = hand_of h; kept = None; seen = no_counts (job k); counts = no_counts (job k); held = none_counted k; given = no_counts (job k);
-  lent_left = none_counted k; lent_right = none_counted k; taken_left = no_counts (job k); taken_right = no_counts (job k);
+  case = k;
+  node = w;
+  hand = hand_of h;
+  kept = None;
+  seen = no_counts (job k);
+  counts = no_counts (job k);
+  held = none_counted k;
+  given = no_counts (job k);
+  lent_left = none_counted k;
+  lent_right = none_counted k;
+  taken_left = no_counts (job k);
+  taken_right = no_counts (job k);
 }
 
 -- what a new worker is made of, where each list of counts is that of nothing
 pub note_is : (k j : Content) (w : ℕ) (h : Holding) (seen counts none a b c d e f g x y : List ℕ) → j ≡ k → seen ≡ no_counts (job k) → counts ≡ no_counts (job k) → none ≡ no_counts (job k)
     → a ≡ none → b ≡ none → c ≡ none → d ≡ none → e ≡ none → f ≡ none → g ≡ none → x ≡ none → y ≡ none
-    → record { case = j; node = w; hand = hand_of h; kept = None; seen = seen; counts = counts; held = record { since = a; upto = b }; given = c;
-      lent_left = record { since = d; upto = e }; lent_right = record { since = f; upto = g }; taken_left = x; taken_right = y } ≡ new_note k w h
+    → record {
+      case = j;
+      node = w;
+      hand = hand_of h;
+      kept = None;
+      seen = seen;
+      counts = counts;
+      held = record { since = a; upto = b };
+      given = c;
+      lent_left = record { since = d; upto = e };
+      lent_right = record { since = f; upto = g };
+      taken_left = x;
+      taken_right = y;
+    } ≡ new_note k w h
 note_is k j w h seen counts none a b c d e f g x y ej es ec en ea eb e3 ed ee ef eg ex ey = λ i. record {
-  case = ej i; node = w; hand = hand_of h; kept = None; seen = es i; counts = ec i; held = record { since = (ea ∙ en) i; upto = (eb ∙ en) i }; given = (e3 ∙ en) i;
-  lent_left = record { since = (ed ∙ en) i; upto = (ee ∙ en) i }; lent_right = record { since = (ef ∙ en) i; upto = (eg ∙ en) i };
-  taken_left = (ex ∙ en) i; taken_right = (ey ∙ en) i;
+  case = ej i;
+  node = w;
+  hand = hand_of h;
+  kept = None;
+  seen = es i;
+  counts = ec i;
+  held = record { since = (ea ∙ en) i; upto = (eb ∙ en) i };
+  given = (e3 ∙ en) i;
+  lent_left = record { since = (ed ∙ en) i; upto = (ee ∙ en) i };
+  lent_right = record { since = (ef ∙ en) i; upto = (eg ∙ en) i };
+  taken_left = (ex ∙ en) i;
+  taken_right = (ey ∙ en) i;
 }
 
 new_grows : (k : Content) (w : ℕ) → Grows k w (no_counts (job k)) (no_counts (job k)) (no_counts (job k))
@@ -117,8 +147,18 @@ new_rule k w mail h n e there is_new is =
 pub is_new : (k : Content) (w : ℕ) (h : Holding) (n : WorkerNote) → n ≡ new_note k w h → IsFirst k w h → IsNew k w n
 is_new k w h n e is =
     subst (λ (m : WorkerNote). IsNew k w m) (sym e) (record {
-      case = refl; node = refl; hand = new_hand k w h is; kept = refl; seen = refl; counts = refl; held = refl; given = refl;
-      taken_left = refl; taken_right = refl; lent_left = refl; lent_right = refl;
+      case = refl;
+      node = refl;
+      hand = new_hand k w h is;
+      kept = refl;
+      seen = refl;
+      counts = refl;
+      held = refl;
+      given = refl;
+      taken_left = refl;
+      taken_right = refl;
+      lent_left = refl;
+      lent_right = refl;
     })
 
 -- ---- hold

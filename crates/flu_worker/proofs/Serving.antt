@@ -1,6 +1,6 @@
 -- What a worker takes next is exact for its lot, and the lot that it gives is served.
-use Rattle.std.proofs.Common.{◌≡◌, ◌<◌, ℕ, Bool, true, false, cond, Option, Some, None, List, length, inl, inr, refl, sym, ap, subst, ◌∙◌}
-use Rattle.std.specs.Prelude.{◌==◌, ◌&&◌, is_some, is_none, slice_index, IsSome}
+use Rattle.std.proofs.Common.{◌≡◌, ◌<◌, ℕ, Bool, true, false, cond, Option, Some, None, length, inl, inr, refl, sym, ap, ◌∙◌}
+use Rattle.std.specs.Prelude.{◌==◌, ◌&&◌, is_none, slice_index}
 use Rattle.std.proofs.lemmas.Bool.{cases_Bool}
 use Rattle.flu_lemmas.proofs.Tests.{and_left, and_right, true_eq}
 use Rattle.flu_model.specs.Owners.{owns}
@@ -11,7 +11,7 @@ use Rattle.flu_fork.specs.Serving.{Served, AsksAbove}
 use Rattle.flu_worker.specs.declared.hand.Hand.{Hand}
 use Rattle.flu_worker.specs.declared.hand.Hand.TheVariants.{Empty, Whole, Lending, Down, Taking}
 use Rattle.flu_worker.specs.Agreeing.{IsTarget, IsExactFor}
-use Rattle.flu_worker.specs.Choosing.{Sight, sight, event_of, serves, least_ready, ask_for, if_own, is_same_ask, next_of, gives_by, may_give}
+use Rattle.flu_worker.specs.Choosing.{sight, event_of, serves, least_ready, ask_for, if_own, is_same_ask, next_of, gives_by, may_give}
 use Rattle.flu_worker.specs.Hands.{is_whole}
 use Rattle.flu_worker.specs.LawsBelow.{LawsBelow}
 use Rattle.flu_worker.specs.Notes.{WorkerNote, own_of, above_of}

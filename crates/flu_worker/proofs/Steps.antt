@@ -1,5 +1,5 @@
 -- What a lot that is whole anew keeps of the rule.
-use Rattle.std.proofs.Common.{◌≡◌, ◌<◌, ◌≤◌, ℕ, zero, suc, true, false, Option, Some, None, List, [], length, refl, sym, ap, subst, ◌∙◌, arith}
+use Rattle.std.proofs.Common.{◌≡◌, ◌<◌, ◌≤◌, ℕ, true, false, Option, Some, None, List, [], length, refl, sym, ap, subst, ◌∙◌, arith}
 use Rattle.std.specs.Prelude.{is_some, slice_index, slice_index_or, IsSome}
 use Rattle.std.proofs.lemmas.List.{length-map}
 use Rattle.flu_lemmas.proofs.Places.{slice_get-there, slice_index-map}
@@ -10,23 +10,21 @@ use Rattle.flu_model.specs.declared.plans.Node.{Node}
 use Rattle.flu_model.specs.Itags.{count_of_itags}
 use Rattle.flu_model.specs.Listed.{listed}
 use Rattle.flu_fork.specs.declared.content.Content.{Content}
-use Rattle.flu_fork.specs.declared.lots.Ask.{Ask}
 use Rattle.flu_fork.specs.declared.lots.Lot.{Lot}
 use Rattle.flu_fork.specs.Lots.{job, nodes, kids, LotFits, HasCounts, PartsFitKids}
-use Rattle.flu_fork.specs.Serving.{LotCounts, GrownFrom}
+use Rattle.flu_fork.specs.Serving.{GrownFrom}
 use Rattle.flu_mail.specs.declared.mailbox.Mailbox.{Mailbox}
 use Rattle.flu_mail.specs.declared.entries.Entry.{Entry}
 use Rattle.flu_mail.specs.Mailboxes.{node_of, seen_of, counts_of, IsAt, IsOver}
-use Rattle.flu_worker.specs.declared.hand.Hand.{Hand}
-use Rattle.flu_worker.specs.declared.hand.Hand.TheVariants.{Empty, Whole, Lending, Down, Taking}
+use Rattle.flu_worker.specs.declared.hand.Hand.TheVariants.{Lending}
 use Rattle.flu_worker.specs.declared.holding.Holding.{Holding}
 use Rattle.flu_worker.specs.declared.holding.Holding.TheVariants.{Empty as NoLot, Whole as WholeLot, LendingBoth, LendingLeft, LendingRight, Down as BothOut, TakingLeft, TakingRight, Gone}
-use Rattle.flu_worker.specs.Agreeing.{Agrees, Grows, left_loan, right_loan}
+use Rattle.flu_worker.specs.Agreeing.{Agrees, Grows}
 use Rattle.flu_worker.proofs.Mails.{IsSameMail}
 use Rattle.flu_worker.specs.Hands.{is_open, first_hand}
 use Rattle.flu_worker.specs.Holding.{hand_of, IsHeldAs}
 use Rattle.flu_worker.specs.Notes.{WorkerNote}
-use Rattle.flu_worker.specs.Rule.{Rule, IsMailed, Holds, HoldsNone, HoldsWhole, IsPart, LendsBoth, LendsLeft, LendsRight, IsDown, TakesLeft, TakesRight}
+use Rattle.flu_worker.specs.Rule.{Rule, IsMailed, Holds, HoldsNone, HoldsWhole, LendsBoth, IsDown}
 use Rattle.flu_worker.proofs.Aiming.{never_ask}
 
 -- ---- more is seen
@@ -65,7 +63,10 @@ module _ (n : WorkerNote) (lot : Lot) (kept : n.kept ≡ None) (fits : LotFits n
     (agrees : Agrees n.case n.node n.counts n.held.upto lot.upto) (grows : Grows n.case n.node n.taken_left n.taken_right lot.upto) where
   whole_at_leaf : kids n.case n.node ≡ None → HoldsWhole n lot
   whole_at_leaf leaf = record {
-    fits = fits; since = since; agrees = agrees; grows = grows;
+    fits = fits;
+    since = since;
+    agrees = agrees;
+    grows = grows;
     leaf = λ _. kept;
     inner = λ some. absurd (some_not_none (kids n.case n.node) leaf some);
     target = λ y e. never_ask n.kept kept e;

@@ -1,15 +1,14 @@
 -- The target that a worker asks for.
-use Rattle.std.proofs.Common.{◌≡◌, ◌<◌, ◌≤◌, ℕ, Bool, true, false, cond, Option, Some, None, List, length, ◌⊎◌, inl, inr, refl, sym, ap, subst, ◌∙◌}
+use Rattle.std.proofs.Common.{◌≡◌, ◌<◌, ℕ, true, cond, Option, Some, None, List, length, ◌⊎◌, refl, sym, ap, subst, ◌∙◌}
 use Rattle.std.specs.Prelude.{slice_index, IfSome}
 use Rattle.flu_model.specs.Itags.{count_of_itags}
 use Rattle.flu_fork.specs.declared.content.Content.{Content}
 use Rattle.flu_fork.specs.declared.lots.Ask.{Ask}
 use Rattle.flu_fork.specs.Settings.{events_at}
-use Rattle.flu_fork.specs.Lots.{job, nodes, kids, setting_of}
+use Rattle.flu_fork.specs.Lots.{job, setting_of}
 use Rattle.flu_fork.specs.Serving.{LotCounts, AsksAbove}
 use Rattle.flu_mail.specs.declared.mailbox.Mailbox.{Mailbox}
 use Rattle.flu_worker.specs.declared.hand.Hand.{Hand}
-use Rattle.flu_worker.specs.declared.hand.Side.{Side}
 use Rattle.flu_worker.specs.declared.hand.Side.TheVariants.{Left, Right}
 use Rattle.flu_worker.specs.declared.holding.Holding.{Holding}
 use Rattle.flu_worker.specs.declared.holding.Holding.TheVariants.{Empty as NoLot, Whole as WholeLot, LendingBoth, LendingLeft, LendingRight, Down as BothOut, TakingLeft, TakingRight, Gone}
@@ -20,7 +19,7 @@ use Rattle.flu_worker.specs.Hands.{is_down, is_whole}
 use Rattle.flu_worker.specs.Holding.{hand_of}
 use Rattle.flu_worker.specs.LawsBelow.{LawsBelow}
 use Rattle.flu_worker.specs.Notes.{WorkerNote, own_of, above_of}
-use Rattle.flu_worker.specs.Rule.{Rule, Holds, HoldsWhole, IsDown, TakesLeft, TakesRight}
+use Rattle.flu_worker.specs.Rule.{Rule, Holds, IsDown}
 use Rattle.flu_worker.proofs.Aiming.{never_ask, new_is_target, some_ask}
 use Rattle.flu_worker.proofs.CountLemmas.{some_within}
 use Rattle.flu_worker.proofs.Nodes.{above_kids, above_not_below}
@@ -93,8 +92,11 @@ askable laws n y a l r e Right =
 
 down_asks : (n : WorkerNote) → IsDown n → (y : Ask) → IsTarget n.case n.node n.counts n.lent_left.upto y → CanAsk n y
 down_asks n h y t = record {
-  known = t.known; place = t.place; there = some_within _ y.index t.event t.is;
-  left = t.next; right = t.next ∙ sym (ap (λ (m : LotCounts). slice_index m.upto y.itag.0) h.right);
+  known = t.known;
+  place = t.place;
+  there = some_within _ y.index t.event t.is;
+  left = t.next;
+  right = t.next ∙ sym (ap (λ (m : LotCounts). slice_index m.upto y.itag.0) h.right);
 }
 
 -- a kept target is one
@@ -128,7 +130,9 @@ module _ (laws : LawsBelow) (n : WorkerNote) (mail : Mailbox) (h : Holding) (rul
 
   kept_down : IsDown n → (y : Ask) → IsTarget n.case n.node n.counts n.lent_left.upto y → IsDown (record n { kept = Some y })
   kept_down down y t = record {
-    forked = down.forked; left = down.left; right = down.right;
+    forked = down.forked;
+    left = down.left;
+    right = down.right;
     target = λ z e. subst (λ (u : Ask). IsTarget n.case n.node n.counts n.lent_left.upto u) (some_ask e) t;
   }
 

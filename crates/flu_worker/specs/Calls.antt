@@ -15,7 +15,7 @@ use Rattle.flu_fork.specs.Lots.{job, kids, setting_of, LotFits}
 use Rattle.flu_fork.specs.Serving.{counts_of, none_counted, AsksAbove, GrownFrom}
 use Rattle.flu_fork.specs.Texts.{outputs_then, IsComplete}
 use Rattle.flu_worker.specs.declared.hand.Hand.{Hand}
-use Rattle.flu_worker.specs.declared.hand.Hand.TheVariants.{Empty, Whole, Lending, Down, Taking}
+use Rattle.flu_worker.specs.declared.hand.Hand.TheVariants.{Empty, Whole, Down}
 use Rattle.flu_worker.specs.declared.hand.Side.{Side}
 use Rattle.flu_worker.specs.Hands.{at_side, first_hand, after_lend, after_take}
 use Rattle.flu_worker.specs.Notes.{WorkerNote, lent_to, taken_from, own_of, above_of, below_of}

@@ -1,5 +1,5 @@
 -- Which event a worker takes next, at which one it aims, and when it may give its lot. These are functions of what contracts see of it.
-use Rattle.std.specs.Prelude.{◌≡◌, ℕ, Bool, true, false, ◌==◌, ◌&&◌, Option, Some, None, List, slice_get, slice_index, if◌then◌else◌, is_none}
+use Rattle.std.specs.Prelude.{ℕ, Bool, false, ◌==◌, ◌&&◌, Option, Some, None, List, slice_get, slice_index, if◌then◌else◌, is_none}
 use Rattle.std.specs.List.{fold}
 use Rattle.flu_model.specs.declared.events.Event.{Event}
 use Rattle.flu_model.specs.declared.events.Itag.{Itag}

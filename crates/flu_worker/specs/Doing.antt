@@ -1,5 +1,5 @@
 -- What an update puts out.
-use Rattle.std.specs.Prelude.{◌≡◌, ℕ, List, ◌∷◌, ◌++◌}
+use Rattle.std.specs.Prelude.{◌≡◌, List, ◌∷◌, ◌++◌}
 use Rattle.flu_model.specs.declared.events.Out.{Out}
 use Rattle.flu_laws.specs.Spans.{Moment}
 use Rattle.flu_fork.specs.declared.content.Content.{Content}

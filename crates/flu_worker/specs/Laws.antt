@@ -1,5 +1,5 @@
 -- What holds of the choices of a worker.
-use Rattle.std.specs.Prelude.{◌≡◌, ℕ, true, false, Some, slice_index, IsSome}
+use Rattle.std.specs.Prelude.{◌≡◌, false, Some, slice_index, IsSome}
 use Rattle.flu_model.specs.declared.events.Event.{Event}
 use Rattle.flu_fork.specs.declared.lots.Ask.{Ask}
 use Rattle.flu_fork.specs.Lots.{kids}

@@ -55,13 +55,7 @@ fn earlier(a: Option<Event>, b: Option<Event>) -> Option<Event>
 {
     match a {
         Some(x) => match b {
-            Some(y) => {
-                if before(&y, &x) {
-                    Some(y)
-                } else {
-                    Some(x)
-                }
-            }
+            Some(y) => { if before(&y, &x) { Some(y) } else { Some(x) } }
             None => Some(x),
         },
         None => b,
@@ -108,7 +102,13 @@ fn comes_first(x: &Event, found: &Option<Event>) -> bool
 
 // The earlier one of what was found so far and of the next event of an itag, where the node may take that. What the node may
 // take is looked up last, since this takes longest.
-fn earlier_ready(case: &Case, node: u32, mail: &Mailbox, found: Option<Event>, i: Itag) -> Option<Event>
+fn earlier_ready(
+    case: &Case,
+    node: u32,
+    mail: &Mailbox,
+    found: Option<Event>,
+    i: Itag,
+) -> Option<Event>
     requires mail { IsMailFor case.now node mail.now }
     requires known { i.0 < count_of_itags (job case.now) }
     ensures { result ≡ earlier found (if_ready (sight_at case.now node mail.now) (next_at (sight_at case.now node mail.now) i)) }
@@ -217,7 +217,10 @@ fn new_target(case: &Case, node: u32, mail: &Mailbox, asked: Option<Ask>) -> Opt
     ensures { result ≡ new_target (sight_at case.now node mail.now) asked }
 {
     let own = if_ready(case, node, mail, least_next(case, node, mail));
-    first_some(ask_for(case, node, mail, own), if_serves(case, node, mail, asked))
+    first_some(
+        ask_for(case, node, mail, own),
+        if_serves(case, node, mail, asked),
+    )
 }
 
 // Whether an ask is the kept target.
@@ -257,7 +260,13 @@ fn if_own(case: &Case, node: u32, mail: &Mailbox, kept: Option<Ask>) -> Option<A
 }
 
 /// The event that a worker takes next.
-pub fn next_ask(case: &Case, node: u32, mail: &Mailbox, hand: Hand, kept: Option<Ask>) -> Option<Ask>
+pub fn next_ask(
+    case: &Case,
+    node: u32,
+    mail: &Mailbox,
+    hand: Hand,
+    kept: Option<Ask>,
+) -> Option<Ask>
     requires mail { IsMailFor case.now node mail.now }
     requires known { IfSome kept (λ y. y.itag.0 < count_of_itags (job case.now)) }
     ensures { result ≡ next_by (sight_at case.now node mail.now) hand kept }

@@ -63,9 +63,7 @@ pub fn come_left(
 {
     match holding {
         Holding::Down => Ok(Holding::TakingLeft(lot)),
-        Holding::TakingRight(right) => {
-            Ok(Holding::Whole(join(alloc, case, node, lot, right)?))
-        }
+        Holding::TakingRight(right) => { Ok(Holding::Whole(join(alloc, case, node, lot, right)?)) }
         _ => unreachable!(),
     }
 }
@@ -87,9 +85,7 @@ pub fn come_right(
 {
     match holding {
         Holding::Down => Ok(Holding::TakingRight(lot)),
-        Holding::TakingLeft(left) => {
-            Ok(Holding::Whole(join(alloc, case, node, left, lot)?))
-        }
+        Holding::TakingLeft(left) => { Ok(Holding::Whole(join(alloc, case, node, left, lot)?)) }
         _ => unreachable!(),
     }
 }

@@ -166,7 +166,8 @@ impl Worker {
         let since = Snapshot::of(&lot.since);
         let upto = Snapshot::of(&lot.upto);
         self.holding = Holding::Gone;
-        self.mail.count_above(case.tables(), case.streams(), lot.upto.items());
+        self.mail
+            .count_above(case.tables(), case.streams(), lot.upto.items());
         self.holding = held_as(alloc, case, self.node, lot)?;
         self.held_since = since;
         self.held_upto = upto;

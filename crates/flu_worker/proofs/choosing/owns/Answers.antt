@@ -1,8 +1,8 @@
-use Rattle.std.proofs.Common.{◌≡◌, Some, sym, ap, subst, ◌∙◌}
+use Rattle.std.proofs.Common.{sym, ap, subst, ◌∙◌}
 use Rattle.flu_deps.specs.declared.valid.Valid.{Valid}
 use Rattle.flu_deps.specs.Validated.{plan_of, IsValidFor}
 use Rattle.flu_model.specs.Owners.{owner_of}
-use Rattle.flu_fork.specs.Lots.{job, nodes, setting_of}
+use Rattle.flu_fork.specs.Lots.{job}
 use Rattle.flu_worker.proofs.Nodes.{owner_tells}
 use Rattle.flu_worker.proofs.choosing.owns.Goals as goal
 

@@ -7,4 +7,4 @@ abbrev pub invariant-loop-i : goal.invariant-loop-i
 invariant-loop-i l =
     (l.i-items ≡ own_itags l.case l.node)
     × (fold (λ found i. earlier found (if_ready (sight_at l.case l.node l.mail) (next_at (sight_at l.case l.node l.mail) i))) l.found (drop l.i-index l.i-items)
-      ≡ least_ready (sight_at l.case l.node l.mail))
+    ≡ least_ready (sight_at l.case l.node l.mail))

@@ -1,4 +1,3 @@
-use Rattle.std.proofs.Common.{◌≡◌, ℕ, ◌++◌, [], ◌∷◌, map, sym, ap, ◌∙◌}
 use Rattle.flu_worker.proofs.CountLemmas.{one_zero_more}
 use Rattle.flu_worker.proofs.counting.no_counts.Goals as goal
 

@@ -1,5 +1,5 @@
-use Rattle.std.proofs.Common.{◌≡◌, ◌<◌, [], ℕ, length, sym, ap, subst, ◌∙◌, arith}
-use Rattle.std.specs.Prelude.{slice_index, slice_index_or}
+use Rattle.std.proofs.Common.{[], length, ap, ◌∙◌, arith}
+use Rattle.std.specs.Prelude.{slice_index_or}
 use Rattle.flu_model.specs.declared.streams.Streams.{Streams}
 use Rattle.flu_model.specs.Listed.{listed}
 use Rattle.flu_mail.specs.Mailboxes.{counts_of}

@@ -1,6 +1,5 @@
-use Rattle.std.proofs.Common.{◌≡◌, Option, Some, None, sym, ap, subst, ◌∙◌, refl}
+use Rattle.std.proofs.Common.{◌≡◌, sym, subst, refl}
 use Rattle.std.specs.Prelude.{slice_index, IfSome}
-use Rattle.flu_fork.specs.declared.lots.Ask.{Ask}
 use Rattle.flu_fork.specs.Serving.{AsksAbove}
 use Rattle.flu_worker.specs.Calls.{IsAskable, KeepsTarget}
 use Rattle.flu_worker.specs.Notes.{WorkerNote}

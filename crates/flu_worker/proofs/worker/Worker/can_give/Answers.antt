@@ -1,10 +1,10 @@
-use Rattle.std.proofs.Common.{◌≡◌, ◌<◌, sym, ap, subst, ◌∙◌, refl}
+use Rattle.std.proofs.Common.{◌<◌, sym, ap, subst, ◌∙◌, refl}
 use Rattle.flu_model.specs.Itags.{count_of_itags}
 use Rattle.flu_fork.specs.declared.content.Content.{Content}
 use Rattle.flu_fork.specs.Lots.{job}
 use Rattle.flu_worker.specs.Notes.{WorkerNote}
 use Rattle.flu_worker.specs.Rule.{Rule}
-use Rattle.flu_worker.proofs.Methods.{mail_for, known_kept, gives_is, next_whole}
+use Rattle.flu_worker.proofs.Methods.{mail_for, gives_is, next_whole}
 use Rattle.flu_worker.proofs.worker.Worker.can_give.Goals as goal
 
 pub gives-requires-clause-mail : goal.gives-requires-clause-mail

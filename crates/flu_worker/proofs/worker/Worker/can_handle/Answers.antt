@@ -1,4 +1,4 @@
-use Rattle.std.proofs.Common.{◌≡◌, sym, ap, subst, ◌∙◌, refl}
+use Rattle.std.proofs.Common.{sym, ap, ◌∙◌, refl}
 use Rattle.flu_worker.specs.Notes.{WorkerNote}
 use Rattle.flu_worker.specs.Choosing.{next_of}
 use Rattle.flu_worker.proofs.Methods.{mail_for, known_kept, next_is}

@@ -1,4 +1,4 @@
-use Rattle.std.proofs.Common.{◌≡◌, true, sym, ap, subst, ◌∙◌, refl}
+use Rattle.std.proofs.Common.{sym, ap, subst, ◌∙◌, refl}
 use Rattle.flu_worker.specs.Finishing.{has_done_all}
 use Rattle.flu_worker.specs.Notes.{WorkerNote}
 use Rattle.flu_worker.specs.Rule.{Rule}

@@ -1,4 +1,4 @@
-use Rattle.std.proofs.Common.{◌≡◌, List, ℕ, None, sym, ap, subst, ◌∙◌}
+use Rattle.std.proofs.Common.{List, ℕ, None, sym, ap, subst, ◌∙◌}
 use Rattle.flu_worker.specs.declared.hand.Hand.TheVariants.{Empty}
 use Rattle.flu_worker.specs.declared.holding.Holding.{Holding}
 use Rattle.flu_worker.specs.declared.holding.Holding.TheVariants.{Empty as NoLot}

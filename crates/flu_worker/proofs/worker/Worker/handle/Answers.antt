@@ -1,4 +1,4 @@
-use Rattle.std.proofs.Common.{◌≡◌, ◌<◌, ◌+◌, List, ℕ, [], None, Some, length, refl, sym, ap, subst, ◌∙◌, arith}
+use Rattle.std.proofs.Common.{◌<◌, ◌+◌, List, ℕ, [], None, length, refl, sym, ap, subst, ◌∙◌, arith}
 use Rattle.std.specs.Prelude.{slice_index, slice_index_or, slice_set}
 use Rattle.flu_model.specs.declared.streams.Streams.{Streams}
 use Rattle.flu_model.specs.Itags.{count_of_itags}
@@ -10,7 +10,7 @@ use Rattle.flu_fork.specs.declared.content.Content.{Content}
 use Rattle.flu_fork.specs.Lots.{job, LotFits}
 use Rattle.flu_worker.specs.declared.holding.Holding.{Holding}
 use Rattle.flu_worker.specs.Agreeing.{IsExactFor}
-use Rattle.flu_worker.specs.Calls.{HandlesEvent, CountsEvent}
+use Rattle.flu_worker.specs.Calls.{HandlesEvent}
 use Rattle.flu_worker.specs.Doing.{PutsOut}
 use Rattle.flu_worker.specs.Hands.{is_whole}
 use Rattle.flu_worker.specs.Holding.{hand_of}

@@ -1,7 +1,5 @@
 use Rattle.std.proofs.Common.{◌≡◌, List, ℕ, refl, sym, ap, subst, ◌∙◌}
-use Rattle.flu_model.specs.Listed.{listed}
 use Rattle.flu_fork.specs.declared.content.Content.{Content}
-use Rattle.flu_fork.specs.Classes.{above}
 use Rattle.flu_fork.specs.Lots.{job, nodes}
 use Rattle.flu_fork.specs.Serving.{LotCounts}
 use Rattle.flu_fork.specs.Serving as lots
@@ -10,7 +8,6 @@ use Rattle.flu_worker.specs.Calls.{HoldsLot}
 use Rattle.flu_worker.specs.Holding.{hand_of}
 use Rattle.flu_worker.specs.Notes.{WorkerNote}
 use Rattle.flu_worker.specs.Rule.{Rule}
-use Rattle.flu_worker.proofs.Mails.{IsSameMail, CountsLike}
 use Rattle.flu_worker.proofs.Ruling.{IsCaseAt, held_at, hold_rule, holds_lot, like_told, same_told}
 use Rattle.flu_worker.proofs.worker.Worker.hold.Goals as goal
 

@@ -1,4 +1,4 @@
-use Rattle.std.proofs.Common.{◌≡◌, ℕ, map, ap, ◌∙◌}
+use Rattle.std.proofs.Common.{ℕ, map, ap, ◌∙◌}
 use Rattle.std.specs.List.{range_with_len}
 use Rattle.flu_model.specs.Itags.{count_of_itags}
 use Rattle.flu_deps.specs.Checking.{program_of}

@@ -1,4 +1,4 @@
-use Rattle.std.proofs.Common.{◌≡◌, ◌≤◌, [], length, sym, ap, subst}
+use Rattle.std.proofs.Common.{◌≤◌, [], length, sym, subst}
 use Rattle.std.specs.Prelude.{slice_index_or}
 use Rattle.flu_model.specs.Listed.{listed}
 use Rattle.flu_worker.specs.Notes.{WorkerNote}

@@ -1,4 +1,4 @@
-use Rattle.std.proofs.Common.{◌≡◌, List, ℕ, sym, ap, subst}
+use Rattle.std.proofs.Common.{List, ℕ, sym, ap, subst}
 use Rattle.flu_fork.specs.declared.content.Content.{Content}
 use Rattle.flu_worker.specs.declared.hand.Side.TheVariants.{Right}
 use Rattle.flu_worker.specs.declared.holding.Holding.{Holding}
