@@ -1,0 +1,10 @@
+pub mod Counts
+pub mod Hands
+pub mod Tying
+pub mod Joined
+pub mod Leaves
+pub mod Gathering
+pub mod Settling
+pub mod Readying
+pub mod Rooted
+pub mod Feeds
