@@ -84,7 +84,7 @@ done_at n l lot outs hangs opened phase final = record {
 }
 
 pub finished_open : (n : WorkerNote) → IsFinished n → is_open n.hand ≡ true
-finished_open n done = elim done.hand [ | inl e ↦ ap is_open e | inr e ↦ ap is_open e ]
+finished_open n done = elim done.hand [ inl e ↦ ap is_open e | inr e ↦ ap is_open e ]
 
 pub leaf_done : (laws : LawsBelow) (n : WorkerNote) (l : LowerNote) (lot : Lot) (outs : List Out) → Hangs n l → l.phase ≡ 1 → IsFinished n → kids n.case n.node ≡ None
     → IsWholeLot n lot → Tells n outs → IsDone l l lot outs

@@ -32,7 +32,7 @@ use Rattle.flu_run.specs.Ties.{IsAskedFor, Hangs, Lets, Tells}
 use Rattle.flu_run.specs.Seeing.{Sees, SeesMore, WatchesFrom, limits_of}
 use Rattle.flu_run.specs.Starts.{StartsAt, IsAskedNow}
 use Rattle.flu_run.specs.Stays.{StaysHome, StaysThere, StaysUnder, IsSameUpper, other}
-use Rattle.flu_arrive.specs.Notes.{WatchNote, zeros}
+use Rattle.flu_arrive.specs.Notes.{WatchNote, zeros, unseen}
 use Rattle.flu_run.proofs.Counts.{zeros_at, same_zeros, some_kids}
 use Rattle.flu_run.proofs.Hands.{first_home, lend_open, lend_home, lend_out, lend_other, take_open, take_out, take_home, take_other, lending_takes_none}
 
@@ -115,11 +115,11 @@ still_held : (p q : ℕ) → (1 ≤ p → p ≤ 2 → (1 ≤ q) × (q ≤ 2)) �
 still_held p q still (inl e) other = let s = still (omega arith) (omega arith) in one_or_two q s.0 s.1 other
   where
     one_or_two : (q : ℕ) → 1 ≤ q → q ≤ 2 → q ≢ 2 → q ≡ 1
-    one_or_two q a b o = elim (cases_eq q 2) [ | inl t ↦ absurd (o t) | inr f ↦ omega arith ]
+    one_or_two q a b o = elim (cases_eq q 2) [ inl t ↦ absurd (o t) | inr f ↦ omega arith ]
 still_held p q still (inr e) other = let s = still (omega arith) (omega arith) in one_or_two q s.0 s.1 other
   where
     one_or_two : (q : ℕ) → 1 ≤ q → q ≤ 2 → q ≢ 2 → q ≡ 1
-    one_or_two q a b o = elim (cases_eq q 2) [ | inl t ↦ absurd (o t) | inr f ↦ omega arith ]
+    one_or_two q a b o = elim (cases_eq q 2) [ inl t ↦ absurd (o t) | inr f ↦ omega arith ]
 
 phases : (l : LowerNote) → (l.phase ≡ 1) ⊎ IsAskedFor l → (l.phase ≡ 1) ⊎ (l.phase ≡ 2)
 phases l (inl e) = inl e
@@ -170,7 +170,7 @@ hangs_event n n' l x hangs h =
 
 pub hangs_there : (s : Side) (n n' : WorkerNote) (l : LowerNote) → Hangs n l → StaysThere s n n' → Hangs n' l
 hangs_there s n n' l hangs t =
-    let was : is_open n'.hand ≡ true → is_open n.hand ≡ true = λ o. elim t.opens [ | inl same ↦ sym (ap is_open same) ∙ o | inr both ↦ both.0 ] in record {
+    let was : is_open n'.hand ≡ true → is_open n.hand ≡ true = λ o. elim t.opens [ inl same ↦ sym (ap is_open same) ∙ o | inr both ↦ both.0 ] in record {
       case = hangs.case ∙ sym t.place.case;
       lower = hangs.lower ∙ sym t.place.node;
       given = hangs.given ∙ sym t.given;
@@ -458,7 +458,7 @@ under_trans a b c p q = record {
 
 pub hangs_under : (n n' : WorkerNote) (l : LowerNote) → Hangs n l → StaysUnder n n' → Hangs n' l
 hangs_under n n' l hangs t =
-    let was : is_open n'.hand ≡ true → is_open n.hand ≡ true = λ o. elim t.opens [ | inl same ↦ sym (ap is_open same) ∙ o | inr both ↦ both.0 ] in record {
+    let was : is_open n'.hand ≡ true → is_open n.hand ≡ true = λ o. elim t.opens [ inl same ↦ sym (ap is_open same) ∙ o | inr both ↦ both.0 ] in record {
       case = hangs.case ∙ sym t.place.case;
       lower = hangs.lower ∙ sym t.place.node;
       given = hangs.given ∙ sym t.given;
@@ -468,7 +468,7 @@ hangs_under n n' l hangs t =
 
 pub asked_under : (n n' : WorkerNote) (l : LowerNote) (y : Ask) → IsAskedNow n l y → StaysUnder n n' → IsAskedNow n' l y
 asked_under n n' l y a t = record {
-  opened = elim t.opens [ | inl same ↦ ap is_open same ∙ a.opened | inr both ↦ both.1 ];
+  opened = elim t.opens [ inl same ↦ ap is_open same ∙ a.opened | inr both ↦ both.1 ];
   noted = a.noted;
   above = subst (λ (k : Content). AsksAbove k n'.node y) (sym t.place.case) (subst (λ (w : ℕ). AsksAbove n.case w y) (sym t.place.node) a.above);
   next = a.next ∙ ap (λ (m : LotCounts). slice_index m.upto y.itag.0) (sym t.held);
@@ -579,6 +579,12 @@ sees_from k n v case seen from =
       one_each = ap length from.noted ∙ length-map v.limits (λ (n : ℕ). 0);
       limits = from.limits ∙ ap limits_of (sym case);
     }
+
+pub watches_at : (k k' : Content) (w : WatchNote) (limits : List ℕ) → k' ≡ k → w ≡ unseen limits → limits ≡ limits_of k' → WatchesFrom k w
+watches_at k k' w limits e is are = record {
+  noted = ap (λ v. v.noted) is ∙ ap zeros (sym (ap (λ v. v.limits) is));
+  limits = ap (λ v. v.limits) is ∙ are ∙ ap limits_of e;
+}
 
 pub hangs_seen : (n n' : WorkerNote) (l : LowerNote) → Hangs n l → SeesMore n n' → Hangs n' l
 hangs_seen n n' l h more = subst (λ (m : WorkerNote). Hangs m l) (sym more.rest) record { case = h.case; lower = h.lower; given = h.given; held = h.held; phase = h.phase }

@@ -1,8 +1,8 @@
 //! The thread of a leaf.
 
-ghost use Rattle.std.specs.Prelude.{◌≡◌, None, OnOk, IfSome};
-ghost use Rattle.flu_fork.specs.Lots.{kids};
-ghost use Rattle.flu_worker.specs.Calls.{IsFinished};
+ghost use Rattle.std.specs.Prelude.{◌≡◌, ◌<◌, None, length, IfOk, OnOk, IfSome};
+ghost use Rattle.flu_fork.specs.Lots.{nodes, kids};
+ghost use Rattle.flu_worker.specs.Calls.{IsNew, IsFinished};
 ghost use Rattle.flu_run.specs.EndNotes.{end_note, IsSameEnd};
 ghost use Rattle.flu_run.specs.Ended.{Keeps};
 ghost use Rattle.flu_run.specs.Seeing.{WatchesFrom};
@@ -60,6 +60,14 @@ pub fn wait(backoff: &Backoff, moved: bool) {
     }
 }
 
+/// The worker of a node of what has the case.
+pub fn new_worker<H: HasCase>(alloc: Global, holder: &H, node: u32) -> Result<Worker, AllocError>
+    requires { node < length (nodes (H.content holder.now)) }
+    ensures { IfOk result (IsNew (H.content holder.now) node) }
+{
+    Worker::new(alloc, holder.case(), node)
+}
+
 // What the leaf hands on.
 fn finish(worker: Worker, end: End, outs: Outs) -> Ended
     requires hangs { Hangs worker (end_note end) }
@@ -95,7 +103,7 @@ pub fn leaf<H: HasCase, G: Gate, R: Wait>(
     let mut end = end;
     let mut watch = watch;
     let case = holder.case();
-    let Ok(mut worker) = Worker::new(alloc, case, node) else {
+    let Ok(mut worker) = new_worker(alloc, holder, node) else {
         end.stop();
         return Ended::Cut(Why::NoMemory);
     };

@@ -17,7 +17,7 @@ use crate::handed::{Ended, FromEnd, Why};
 use crate::holder::HasCase;
 use crate::inner::{Rest, gather, work};
 use crate::laws::laws_below;
-use crate::leaf::leaf;
+use crate::leaf::{leaf, new_worker};
 use flu_arrive::Watch;
 use flu_link::{Upper, link};
 use flu_seq::Gate;
@@ -82,7 +82,10 @@ fn manage<H: HasCase + Sync, G: Gate, R: Threads + Wait + Sync>(
     node: u32,
     given: (Snapshot<End>, Snapshot<End>, Snapshot<End>),
     mine: (Worker, Watch, End, Upper, Upper),
-    started: (PromisedHandle<Ended, FromEnd>, PromisedHandle<Ended, FromEnd>),
+    started: (
+        PromisedHandle<Ended, FromEnd>,
+        PromisedHandle<Ended, FromEnd>,
+    ),
 ) -> Ended
     requires there { node < length (nodes (H.content holder.now)) }
     requires inner { IsSome (kids (H.content holder.now) node) }
@@ -154,36 +157,43 @@ fn reach_out<H: HasCase>(
     Ok((upper, End::Linked(lower), theirs))
 }
 
-// Makes the worker of a node with children, and the links to them.
+// Makes the worker of a node with children, and the links to them. None where memory is wanting: then its end is told to stop.
 fn prepare<H: HasCase>(
     alloc: Global,
     holder: &H,
     at: (u32, u32, u32),
     end: End,
     watch: Watch,
-) -> Result<Prepared, End>
+) -> Option<Prepared>
     requires starts { StartsAt (H.content holder.now) at.0 (end_note end) }
     requires watches { WatchesFrom (H.content holder.now) watch }
     requires kids { kids (H.content holder.now) at.0 ≡ Some (at.1, at.2) }
-    ensures given { IfOk result (λ r. r.given.0.value ≡ end) }
-    ensures ready { IfOk result (λ r. IsReady (H.content holder.now) at (end_note r.given.0.value) (end_note r.given.1.value) (end_note r.given.2.value) r.worker (end_note r.end) r.left_upper r.right_upper (end_note r.left_end) (end_note r.right_end)) }
-    ensures watches { IfOk result (λ r. WatchesFrom (H.content holder.now) r.watch × WatchesFrom (H.content holder.now) r.left_watch × WatchesFrom (H.content holder.now) r.right_watch) }
-    ensures left_from { IfOk result (λ r. r.left_from.0.value ≡ r.left_end) }
-    ensures right_from { IfOk result (λ r. r.right_from.0.value ≡ r.right_end) }
+    ensures given { IfSome result (λ r. r.given.0.value ≡ end) }
+    ensures ready { IfSome result (λ r. IsReady (H.content holder.now) at (end_note r.given.0.value) (end_note r.given.1.value) (end_note r.given.2.value) r.worker (end_note r.end) r.left_upper r.right_upper (end_note r.left_end) (end_note r.right_end)) }
+    ensures watch { IfSome result (λ r. WatchesFrom (H.content holder.now) r.watch) }
+    ensures left_watch { IfSome result (λ r. WatchesFrom (H.content holder.now) r.left_watch) }
+    ensures right_watch { IfSome result (λ r. WatchesFrom (H.content holder.now) r.right_watch) }
+    ensures left_from { IfSome result (λ r. r.left_from.0.value ≡ r.left_end) }
+    ensures right_from { IfSome result (λ r. r.right_from.0.value ≡ r.right_end) }
 {
     laws_below();
+    let mut end = end;
     let mut watch = watch;
     let (node, left, right) = at;
     let Ok((left_upper, left_end, left_watch)) = reach_out(alloc, holder, left, &mut watch) else {
-        return Err(end);
+        end.stop();
+        return None;
     };
-    let Ok((right_upper, right_end, right_watch)) = reach_out(alloc, holder, right, &mut watch) else {
-        return Err(end);
+    let Ok((right_upper, right_end, right_watch)) = reach_out(alloc, holder, right, &mut watch)
+    else {
+        end.stop();
+        return None;
     };
-    let Ok(worker) = Worker::new(alloc, holder.case(), node) else {
-        return Err(end);
+    let Ok(worker) = new_worker(alloc, holder, node) else {
+        end.stop();
+        return None;
     };
-    Ok(Prepared {
+    Some(Prepared {
         given: (
             Snapshot::of(&end),
             Snapshot::of(&left_end),
@@ -220,12 +230,8 @@ pub fn subtree<H: HasCase + Sync, G: Gate, R: Threads + Wait + Sync>(
     let Some((left, right)) = holder.case().valid().kids(node) else {
         return leaf(rt, alloc, holder, gate, node, end, watch);
     };
-    let prepared = match prepare(alloc, holder, (node, left, right), end, watch) {
-        Ok(prepared) => prepared,
-        Err(mut end) => {
-            end.stop();
-            return Ended::Cut(Why::NoMemory);
-        }
+    let Some(prepared) = prepare(alloc, holder, (node, left, right), end, watch) else {
+        return Ended::Cut(Why::NoMemory);
     };
     let Prepared {
         given,
