@@ -1,5 +1,6 @@
 pub mod Counts
 pub mod Hands
+pub mod Looking
 pub mod Tying
 pub mod Joined
 pub mod Leaves
