@@ -18,3 +18,4 @@ pub mod LoanLemmas
 pub mod Permuted
 pub mod TextLemmas
 pub mod StreamLemmas
+pub mod TableLemmas

@@ -7,6 +7,7 @@ ghost use Rattle.flu_model.specs.Sorts.{IsStateOf};
 ghost use Rattle.flu_deps.specs.Checking.{program_of};
 ghost use Rattle.flu_deps.specs.Validated.{plan_of, IsValidFor};
 ghost use Rattle.flu_cells.specs.Holding.{held};
+ghost use Rattle.flu_tables.specs.Tables.{AreTablesOf};
 ghost use Rattle.flu_fork.specs.Tables.{AreTables};
 
 use crate::note::CaseNote;
@@ -14,12 +15,13 @@ use crate::rights::{Right, rights};
 use flu_cells::State;
 use flu_deps::{Checked, Valid};
 use flu_model::Streams;
+use flu_tables::Tables;
 use std::alloc::{AllocError, Global};
 use std::marker::Model;
 use std::snapshot::Snapshot;
 
-/// An accepted job with a plan that is valid for it and with streams, all borrowed, the opening state, and for each node with
-/// children the cells that go to the right one, computed once.
+/// An accepted job with a plan that is valid for it and with streams, all borrowed, and the opening state; and, computed once, for
+/// each node with children the cells that go to the right one, and the tables of the job and the plan.
 #[derive(Drop)]
 pub struct Case<'a> {
     checked: &'a Checked,
@@ -27,10 +29,12 @@ pub struct Case<'a> {
     streams: &'a Streams,
     opening: State,
     rights: Vec<Right>,
+    tables: Tables,
     ghost of_job: { IsValidFor (program_of checked.now) valid.now },
     ghost one_each: { length (listed streams.now) ≡ count_of_itags (program_of checked.now) },
     ghost opening_sorts: { ∥ IsStateOf (program_of checked.now).families (held opening) ∥₁ },
-    ghost tables: { AreTables (program_of checked.now) (plan_of valid.now).nodes rights.items },
+    ghost rights_are: { AreTables (program_of checked.now) (plan_of valid.now).nodes rights.items },
+    ghost tables_are: { ∥ AreTablesOf (program_of checked.now) (plan_of valid.now).nodes tables ∥₁ },
 }
 
 impl<'a> Model for Case<'a> {
@@ -69,12 +73,14 @@ impl<'a> Case<'a> {
         ensures { IfOk result (IsCaseOf c.now v.now s.now opening) }
     {
         let rights = rights(alloc, c.program(), v)?;
+        let tables = Tables::new(alloc, c, v)?;
         Ok(Case {
             checked: c,
             valid: v,
             streams: s,
             opening,
             rights,
+            tables,
         })
     }
 
@@ -104,6 +110,13 @@ impl<'a> Case<'a> {
         ensures { result.now ≡ self.now.opening }
     {
         &self.opening
+    }
+
+    /// Which itags the nodes and their ancestors own, and which itags depend on each other.
+    pub fn tables(&self) -> &Tables
+        ensures { AreTablesOf (job self.now) (nodes self.now) result.now }
+    {
+        &self.tables
     }
 
     /// The content of the case, in a value that borrows nothing. It takes no memory.

@@ -1,6 +1,6 @@
 //! Counts of events.
 
-ghost use Rattle.std.specs.Prelude.{◌≡◌, ◌<◌, ◌+◌, length, map, slice_index, slice_set, IfOk};
+ghost use Rattle.std.specs.Prelude.{◌≡◌, ◌<◌, ◌+◌, ◌^◌, length, map, slice_index, slice_set, IfOk};
 ghost use Rattle.std.specs.List.{range_with_len};
 
 use std::alloc::{AllocError, Global};
@@ -48,7 +48,7 @@ impl Counts {
     /// One more event of an itag, by its number.
     pub fn count_one(&mut self, itag: usize)
         requires in_range { itag < length self.old }
-        requires room { slice_index self.old itag < 18446744073709551615 }
+        requires room { slice_index self.old itag + 1 < 2 ^ 64 }
         ensures { self.new ≡ slice_set self.old itag (slice_index self.old itag + 1) }
     {
         self.numbers[itag] += 1;

@@ -47,7 +47,7 @@ event_of_stream i low (End ∷ []) k y s e = cc
 event_of_stream i low (End ∷ x ∷ rest) k y s e = cc
 
 -- what is among the seen items is among all
-still_there : (items : List Item) (seen k : ℕ) (y : Event) → slice_get (events_of (take seen items)) k ≡ Some y → slice_get (events_of items) k ≡ Some y
+pub still_there : (items : List Item) (seen k : ℕ) (y : Event) → slice_get (events_of (take seen items)) k ≡ Some y → slice_get (events_of items) k ≡ Some y
 still_there [] zero k y e = e
 still_there [] (suc seen) k y e = e
 still_there (item ∷ rest) zero k y e = cc

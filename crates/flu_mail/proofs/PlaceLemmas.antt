@@ -40,6 +40,14 @@ next_at_place (EventItem x ∷ rest) (suc seen) (suc count) = next_at_place rest
 next_at_place (Beat t ∷ rest) (suc seen) count = next_at_place rest seen count
 next_at_place (End ∷ rest) (suc seen) count = next_at_place rest seen count
 
+-- and the pending event is the one at its place
+pub pending_at_place : (items : List Item) (count : ℕ) → event_in (slice_get items (place_of items count)) ≡ slice_get (events_of items) count
+pending_at_place [] count = refl
+pending_at_place (EventItem x ∷ rest) zero = refl
+pending_at_place (EventItem x ∷ rest) (suc count) = pending_at_place rest count
+pending_at_place (Beat t ∷ rest) count = pending_at_place rest count
+pending_at_place (End ∷ rest) count = pending_at_place rest count
+
 -- the event with the next index stands at the first event behind
 pub place_step : (items : List Item) (count : ℕ) → count < length (events_of items)
     → place_of items (suc count) ≡ suc (place_of items count) + place_of (drop (suc (place_of items count)) items) 0

@@ -68,7 +68,7 @@ all_pass_clears p waits lists seen counts x j y s h lt waited uncounted =
 
 -- ---- when all is seen
 
-stream_of : (i : ℕ) (lists : List (List Item)) (j : ℕ) → are_streams i lists ≡ true → j < length lists
+pub stream_of : (i : ℕ) (lists : List (List Item)) (j : ℕ) → are_streams i lists ≡ true → j < length lists
     → is_stream_from (i + j) 0 (slice_index_or lists j []) ≡ true
 stream_of i [] j s lt = absurd (omega arith)
 stream_of i (items ∷ rest) zero s lt = let here : i ≡ i + 0 = omega arith in ap (λ n. is_stream_from n 0 items) (sym here) ∙ and_left (is_stream_from i 0 items) _ s

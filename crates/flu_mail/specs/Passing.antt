@@ -13,6 +13,10 @@ seen_items lists seen j = take (slice_index seen j) (slice_index_or lists j [])
 abbrev pub next_event : List Item → ℕ → Option Event
 next_event items count = slice_get (events_of items) count
 
+-- the first event of an itag that is not counted, seen or not
+abbrev pub pending_event : List (List Item) → List ℕ → ℕ → Option Event
+pending_event lists counts i = slice_get (events_of (slice_index_or lists i [])) (slice_index counts i)
+
 -- the end, or a time that is at least this one
 abbrev pub time_passes : ℕ → Item → Bool
 time_passes t (EventItem x) = nat_le t x.time

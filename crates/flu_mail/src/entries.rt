@@ -10,10 +10,10 @@ ghost use Rattle.flu_mail.specs.Entries.{role_at, IsEntryAt, IsEntryOver};
 use crate::places::first_event;
 use flu_deps::nodes::{is_within, owns};
 use flu_deps::{Checked, Valid};
-use flu_model::{Itag, Streams, Tag, tag_of};
+use flu_model::{Itag, Streams};
 
 /// Whose an itag is, seen from a node.
-#[derive(Clone, Copy, PartialEq, Eq)]
+#[derive(Clone, Copy, PartialEq, Eq, Debug)]
 pub enum Role {
     /// The node owns it.
     Own,
@@ -27,7 +27,6 @@ pub enum Role {
 #[derive(Clone, Copy, PartialEq, Eq)]
 pub struct Entry {
     pub role: Role,
-    pub tag: Tag,
     /// How many items of the itag's stream were seen.
     pub seen: u64,
     /// How many of its events were counted.
@@ -49,7 +48,6 @@ pub fn new_entry(c: &Checked, v: &Valid, s: &Streams, node: u32, i: Itag) -> Ent
 {
     Entry {
         role: role_of(c, v, node, i),
-        tag: tag_of(c.program(), i),
         seen: 0,
         count: 0,
         place: first_event(s.items(i), 0),

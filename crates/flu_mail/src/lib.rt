@@ -8,4 +8,5 @@ mod passing;
 mod places;
 mod waiting;
 
+pub use entries::Role;
 pub use mailbox::Mailbox;

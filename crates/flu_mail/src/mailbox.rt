@@ -1,6 +1,7 @@
 //! Mailboxes.
 
-ghost use Rattle.std.specs.Prelude.{◌≡◌, ◌<◌, ◌≤◌, ◌+◌, ◌&&◌, ℕ, [], List, IfOk, not, length, replicate, slice_get, slice_index, slice_index_or, slice_set};
+ghost use Rattle.std.specs.Prelude.{◌≡◌, ◌<◌, ◌≤◌, ◌+◌, ℕ, true, [], List, Some, IfOk, IfSome, length, replicate, slice_index, slice_index_or, slice_set, if◌then◌else◌};
+ghost use Rattle.std.specs.List.{list_any, AllByRecursion};
 ghost use Rattle.flu_model.specs.declared.jobs.Program.{Program};
 ghost use Rattle.flu_model.specs.declared.plans.Node.{Node};
 ghost use Rattle.flu_model.specs.declared.events.Item.{Item};
@@ -9,21 +10,25 @@ ghost use Rattle.flu_model.specs.Listed.{listed};
 ghost use Rattle.flu_model.specs.Merging.{events_of};
 ghost use Rattle.flu_deps.specs.Checking.{program_of};
 ghost use Rattle.flu_deps.specs.Validated.{plan_of, IsValidFor};
-ghost use Rattle.flu_mail.specs.Passing.{seen_items, next_event, passes};
+ghost use Rattle.flu_tables.specs.Tables.{program_in, nodes_in};
+ghost use Rattle.flu_mail.specs.Entries.{role_at};
+ghost use Rattle.flu_mail.specs.Passing.{seen_items, next_event, pending_event, passes};
 ghost use Rattle.flu_mail.specs.Waiting.{is_ready, is_ready_to_serve};
 
-use crate::entries::{Entry, new_entry};
+use crate::entries::{Entry, Role, new_entry};
 use crate::passing::{event_at, first_items, last_passes};
 use crate::places::place_after;
-use crate::waiting::{Purpose, awaits};
-use flu_deps::{Checked, Valid, dep};
-use flu_model::{Event, Itag, Item, Program, Streams, Tag, before, itag_count};
+use crate::waiting::{Purpose, asks};
+use flu_deps::{Checked, Valid};
+use flu_model::{Event, Itag, Item, Streams, before, itag_count};
+use flu_tables::Tables;
 use std::alloc::{AllocError, Global};
 
 /// What the worker of a node has seen of each itag's stream, and how many of its events it has counted (`docs/TREE.md`).
 ///
 /// It is made over the streams of a job with a valid plan, and its calls are for these. For each itag it keeps where the next
-/// event stands, so that `next` and `passes` look at one item each.
+/// event stands, so that `next`, `pending` and `passes` look at one item each, and the calls that count go forward from there. It
+/// borrows nothing, so a worker that has one can go to another thread; the streams and the tables are handed to each call.
 #[derive(Drop)]
 pub struct Mailbox {
     node: u32,
@@ -32,8 +37,8 @@ pub struct Mailbox {
 }
 
 impl Mailbox {
-    ghost use Rattle.flu_mail.specs.Mailboxes.{node_of, seen_of, counts_of, IsAt, IsOver};
-    ghost use Rattle.flu_mail.specs.LoopParts.{tag_in, holds_up, is_held_up};
+    ghost use Rattle.flu_mail.specs.Mailboxes.{node_of, seen_of, counts_of, is_above, IsAt, IsOver};
+    ghost use Rattle.flu_mail.specs.LoopParts.{holds_up};
 
     /// The mailbox of a node, which has seen and counted nothing. It looks at the items before each itag's first event.
     pub fn new(
@@ -77,11 +82,51 @@ impl Mailbox {
         self.entries[i.0 as usize].seen = count;
     }
 
+    /// How many items of an itag's stream were seen; 0 where there is no such itag.
+    pub fn seen(&self, i: Itag) -> u64
+        ensures { result ≡ slice_index (seen_of self.now) i.0 }
+    {
+        match self.entries.get(i.0 as usize) {
+            Some(entry) => entry.seen,
+            None => 0,
+        }
+    }
+
+    /// How many events of an itag were counted; 0 where there is no such itag.
+    pub fn count(&self, i: Itag) -> u64
+        ensures { result ≡ slice_index (counts_of self.now) i.0 }
+    {
+        match self.entries.get(i.0 as usize) {
+            Some(entry) => entry.count,
+            None => 0,
+        }
+    }
+
+    /// Whether the node owns an itag, an ancestor of it does, or neither.
+    pub fn role(&self, i: Itag) -> Role
+        requires { i.0 < length (seen_of self.now) }
+        ensures { (p : Program) (nodes : List Node) → IsAt p nodes self.now → result ≡ role_at p nodes (node_of self.now) i }
+    {
+        self.entries[i.0 as usize].role
+    }
+
+    /// The first event of an itag that is not counted, seen or not.
+    pub fn pending(&self, s: &Streams, i: Itag) -> Option<Event>
+        requires over { IsOver (listed s.now) self.now }
+        requires in_range { i.0 < length (listed s.now) }
+        ensures event { result ≡ pending_event (listed s.now) (counts_of self.now) i.0 }
+        ensures itag { IfSome result (λ x. x.itag ≡ i) }
+    {
+        event_at(s.items(i), self.entries[i.0 as usize].place)
+    }
+
     /// The first event of an itag that is seen and not counted.
     pub fn next(&self, s: &Streams, i: Itag) -> Option<Event>
         requires over { IsOver (listed s.now) self.now }
         requires in_range { i.0 < length (listed s.now) }
-        ensures { result ≡ next_event (seen_items (listed s.now) (seen_of self.now) i.0) (slice_index (counts_of self.now) i.0) }
+        ensures event { result ≡ next_event (seen_items (listed s.now) (seen_of self.now) i.0) (slice_index (counts_of self.now) i.0) }
+        ensures pending { IfSome result (λ x. pending_event (listed s.now) (counts_of self.now) i.0 ≡ Some x) }
+        ensures itag { IfSome result (λ x. x.itag ≡ i) }
     {
         event_at(self.seen_items(s, i), self.entries[i.0 as usize].place)
     }
@@ -110,67 +155,53 @@ impl Mailbox {
 
     /// Whether the node may take its event x: each other itag that the node or an ancestor owns lets x pass; at a leaf only the
     /// dependent ones are asked.
-    pub fn ready(&self, c: &Checked, s: &Streams, x: &Event) -> bool
+    pub fn ready(&self, t: &Tables, s: &Streams, x: &Event) -> bool
         requires over { IsOver (listed s.now) self.now }
-        requires one_each { length (seen_of self.now) ≡ count_of_itags (program_of c.now) }
-        ensures { (nodes : List Node) → IsAt (program_of c.now) nodes self.now → result ≡ is_ready (program_of c.now) nodes (listed s.now) (node_of self.now) (seen_of self.now) (counts_of self.now) x.now }
+        requires at { IsAt (program_in t.now) (nodes_in t.now) self.now }
+        ensures { result ≡ is_ready (program_in t.now) (nodes_in t.now) (listed s.now) (node_of self.now) (seen_of self.now) (counts_of self.now) x.now }
     {
-        !self.is_held_up(c.program(), s, Purpose::Take, x)
+        !self.is_held_up(t, s, Purpose::Take, x, t.own(self.node))
+            && !self.is_held_up(t, s, Purpose::Take, x, t.above(self.node))
     }
 
     /// Whether the node may give up its state for an ancestor's event y: each itag that the node owns lets y pass; at a leaf only
     /// the dependent ones are asked.
-    pub fn ready_to_serve(&self, c: &Checked, s: &Streams, y: &Event) -> bool
+    pub fn ready_to_serve(&self, t: &Tables, s: &Streams, y: &Event) -> bool
         requires over { IsOver (listed s.now) self.now }
-        requires one_each { length (seen_of self.now) ≡ count_of_itags (program_of c.now) }
-        ensures { (nodes : List Node) → IsAt (program_of c.now) nodes self.now → result ≡ is_ready_to_serve (program_of c.now) nodes (listed s.now) (node_of self.now) (seen_of self.now) (counts_of self.now) y.now }
+        requires at { IsAt (program_in t.now) (nodes_in t.now) self.now }
+        ensures { result ≡ is_ready_to_serve (program_in t.now) (nodes_in t.now) (listed s.now) (node_of self.now) (seen_of self.now) (counts_of self.now) y.now }
     {
-        !self.is_held_up(c.program(), s, Purpose::Serve, y)
+        !self.is_held_up(t, s, Purpose::Serve, y, t.own(self.node))
     }
 
-    // Whether some itag that x waits for does not let it pass.
-    fn is_held_up(&self, p: &Program, s: &Streams, purpose: Purpose, x: &Event) -> bool
+    // Whether some itag of a list, for which x waits, does not let it pass.
+    fn is_held_up(
+        &self,
+        t: &Tables,
+        s: &Streams,
+        purpose: Purpose,
+        x: &Event,
+        among: &[Itag],
+    ) -> bool
         requires over { IsOver (listed s.now) self.now }
-        requires one_each { length (seen_of self.now) ≡ count_of_itags p.now }
-        ensures { result ≡ is_held_up p.now self.now (listed s.now) purpose x.now }
+        requires in_range { AllByRecursion (λ j. j.0 < length (listed s.now)) among.now }
+        ensures { result ≡ list_any (holds_up (program_in t.now) self.now (listed s.now) purpose x.now) among.now }
     {
-        let tag = self.tag(x.itag);
-        for j in 0..itag_count(p) {
-            if self.holds_up(p, s, purpose, x, tag, Itag(j)) {
+        for j in among {
+            if self.holds_up(t, s, purpose, x, *j) {
                 return true;
             }
         }
         false
     }
 
-    // Whether x waits for itag j, which does not let it pass. What depends on what is looked up last, since this takes longest.
-    fn holds_up(
-        &self,
-        p: &Program,
-        s: &Streams,
-        purpose: Purpose,
-        x: &Event,
-        tag: Tag,
-        j: Itag,
-    ) -> bool
+    // Whether x waits for itag j, which does not let it pass.
+    fn holds_up(&self, t: &Tables, s: &Streams, purpose: Purpose, x: &Event, j: Itag) -> bool
         requires over { IsOver (listed s.now) self.now }
         requires in_range { j.0 < length (listed s.now) }
-        ensures { result ≡ holds_up p.now self.now (listed s.now) purpose x.now tag j.0 }
+        ensures { result ≡ holds_up (program_in t.now) self.now (listed s.now) purpose x.now j }
     {
-        let entry = self.entries[j.0 as usize];
-        awaits(purpose, x.itag, j, entry.role)
-            && !self.passes(s, j, x)
-            && (!self.leaf || dep(p, tag, entry.tag))
-    }
-
-    // The tag of an itag.
-    fn tag(&self, i: Itag) -> Tag
-        ensures { result ≡ tag_in (slice_get self.now.entries.items i.0) }
-    {
-        match self.entries.get(i.0 as usize) {
-            Some(entry) => entry.tag,
-            None => Tag { kind: 0, key: 0 },
-        }
+        asks(purpose, x.itag, j) && (!self.leaf || t.depend(x.itag, j)) && !self.passes(s, j, x)
     }
 
     /// One more event of an itag is counted.
@@ -207,5 +238,24 @@ impl Mailbox {
             place,
             ..entry
         };
+    }
+
+    /// The events of each itag that an ancestor of the node owns are counted now as far as these counts say.
+    pub fn count_above(&mut self, t: &Tables, s: &Streams, counts: &[u64])
+        requires over { IsOver (listed s.now) self.old }
+        requires at { IsAt (program_in t.now) (nodes_in t.now) self.old }
+        requires one_each { length counts.now ≡ length (counts_of self.old) }
+        requires forward { (i : ℕ) → i < length counts.now → is_above t.now self.old i ≡ true → slice_index (counts_of self.old) i ≤ slice_index counts.now i }
+        requires there { (i : ℕ) → i < length counts.now → is_above t.now self.old i ≡ true → slice_index counts.now i ≤ length (events_of (slice_index_or (listed s.now) i [])) }
+        ensures counts { (i : ℕ) → slice_index (counts_of self.new) i ≡ (if is_above t.now self.old i then slice_index counts.now i else slice_index (counts_of self.old) i) }
+        ensures seen { seen_of self.new ≡ seen_of self.old }
+        ensures node { node_of self.new ≡ node_of self.old }
+        ensures at { (p : Program) (nodes : List Node) → IsAt p nodes self.old → IsAt p nodes self.new }
+        ensures over { IsOver (listed s.now) self.new }
+    {
+        let above = t.above(self.node);
+        for i in above {
+            self.set_count(s, *i, counts[i.0 as usize]);
+        }
     }
 }

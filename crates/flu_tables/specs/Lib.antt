@@ -1,0 +1,5 @@
+pub mod Lists
+pub mod LoopShares
+pub mod LoopRows
+pub mod LoopTables
+pub mod Tables
