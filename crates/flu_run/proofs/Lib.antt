@@ -2,6 +2,7 @@ pub mod Counts
 pub mod Hands
 pub mod Looking
 pub mod Tying
+pub mod Sights
 pub mod Joined
 pub mod Leaves
 pub mod Gathering

@@ -210,7 +210,7 @@ pub fn work<G: Gate, R: Wait>(
             stop_all(&mut end, &mut left, &mut right);
             return Err(Why::Stopped);
         }
-        observe(case, &mut worker, &mut watch);
+        observe(case, node, &mut worker, &mut watch);
         let asked = look(&worker, &mut end);
         if asked.is_none() && worker.finished(case) {
             return Ok(Rest {

@@ -113,7 +113,7 @@ pub fn leaf<H: HasCase, G: Gate, R: Wait>(
         if end.stopped() {
             return Ended::Cut(Why::Stopped);
         }
-        observe(case, &mut worker, &mut watch);
+        observe(case, node, &mut worker, &mut watch);
         let asked = look(&worker, &mut end);
         if asked.is_none() && worker.finished(case) {
             return finish(worker, end, outs);
