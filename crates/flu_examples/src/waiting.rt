@@ -1,17 +1,21 @@
 //! What the nodes of a plan wait for: a count that two sources add to and a third reads, with a node for each.
 
-ghost use Rattle.std.specs.Prelude.{◌≡◌, [], ◌∷◌, IfOk, IsTrue};
+ghost use Rattle.std.specs.Prelude.{◌≡◌, ◌<◌, [], ◌∷◌, IfOk, IsTrue, length, replicate};
+ghost use Rattle.flu_model.specs.Itags.{count_of_itags};
 ghost use Rattle.flu_model.specs.Listed.{listed};
 ghost use Rattle.flu_model.specs.Streaming.{is_stream_from};
 ghost use Rattle.flu_deps.specs.Checking.{program_of};
-ghost use Rattle.flu_deps.specs.Validated.{IsValidFor};
+ghost use Rattle.flu_deps.specs.Validated.{plan_of, IsValidFor};
+ghost use Rattle.flu_tables.specs.Tables.{program_in, nodes_in, AreTablesOf};
+ghost use Rattle.flu_mail.specs.Mailboxes.{seen_of, counts_of, IsAt, IsOver};
 
 use crate::jobs::{INC, READ, shared_count};
 use flu_check::check;
 use flu_deps::{Checked, Valid};
-use flu_mail::Mailbox;
+use flu_mail::{Mailbox, Role};
 use flu_model::{Event, Itag, Item, Streams, TagRef, itag_count};
 use flu_plan::read_plan;
+use flu_tables::Tables;
 use flu_valid::validate;
 use std::alloc::{AllocError, Global};
 use std::process::Abort;
@@ -120,6 +124,26 @@ fn streams(alloc: Global, a: &[Item], b: &[Item], c: &[Item]) -> Result<Streams,
     Ok(Streams::new(lists))
 }
 
+/// The mailbox of the node l of a job, beside the tables of the job and the plan.
+fn left_mailbox(
+    alloc: Global,
+    c: &Checked,
+    v: &Valid,
+    t: &Tables,
+    s: &Streams,
+) -> Result<Mailbox, AllocError>
+    requires of { IsValidFor (program_of c.now) v.now }
+    requires tables { AreTablesOf (program_of c.now) (plan_of v.now).nodes t.now }
+    requires node { 1 < length (plan_of v.now).nodes }
+    requires one_each { length (listed s.now) ≡ count_of_itags (program_of c.now) }
+    ensures at { IfOk result (IsAt (program_in t.now) (nodes_in t.now)) }
+    ensures over { IfOk result (IsOver (listed s.now)) }
+    ensures seen { IfOk result (λ m. seen_of m ≡ replicate (count_of_itags (program_of c.now)) 0) }
+    ensures counts { IfOk result (λ m. counts_of m ≡ replicate (count_of_itags (program_of c.now)) 0) }
+{
+    Mailbox::new(alloc, c, v, s, LEFT)
+}
+
 #[test]
 fn a_read_waits_for_what_is_before_it(rt: HostRuntime) -> Result<(), Fail> {
     let c = job(&rt, rt.alloc())?;
@@ -132,13 +156,14 @@ fn a_read_waits_for_what_is_before_it(rt: HostRuntime) -> Result<(), Fail> {
         &EVENT_AT_2,
         &READS_AT_3_AND_5,
     )?;
-    let mut m = Mailbox::new(rt.alloc(), &c, &v, &s, LEFT)?;
+    let t = Tables::new(rt.alloc(), &c, &v)?;
+    let mut m = left_mailbox(rt.alloc(), &c, &v, &t, &s)?;
     m.see(INC_A, 1);
-    assert!(rt; !m.ready_to_serve(&c, &s, &FIRST_READ));
+    assert!(rt; !m.ready_to_serve(&t, &s, &FIRST_READ));
     m.count_one(&s, INC_A);
-    assert!(rt; !m.ready_to_serve(&c, &s, &FIRST_READ));
+    assert!(rt; !m.ready_to_serve(&t, &s, &FIRST_READ));
     m.see(INC_A, 2);
-    assert!(rt; m.ready_to_serve(&c, &s, &FIRST_READ));
+    assert!(rt; m.ready_to_serve(&t, &s, &FIRST_READ));
     Ok(())
 }
 
@@ -149,10 +174,11 @@ fn the_last_seen_time_is_enough(rt: HostRuntime) -> Result<(), Fail> {
     assert_eq!(rt; itag_count(c.program()), 3);
     assert_eq!(rt; v.count(), 3);
     let s = streams(rt.alloc(), &EVENT_AT_3, &NOTHING, &READ_AT_3)?;
-    let mut m = Mailbox::new(rt.alloc(), &c, &v, &s, LEFT)?;
+    let t = Tables::new(rt.alloc(), &c, &v)?;
+    let mut m = left_mailbox(rt.alloc(), &c, &v, &t, &s)?;
     m.see(INC_A, 1);
     m.count_one(&s, INC_A);
-    assert!(rt; m.ready_to_serve(&c, &s, &FIRST_READ));
+    assert!(rt; m.ready_to_serve(&t, &s, &FIRST_READ));
     Ok(())
 }
 
@@ -168,13 +194,19 @@ fn an_event_waits_for_the_reads_before_it(rt: HostRuntime) -> Result<(), Fail> {
         &EVENT_AT_2,
         &READS_AT_3_AND_5,
     )?;
-    let mut m = Mailbox::new(rt.alloc(), &c, &v, &s, LEFT)?;
+    let t = Tables::new(rt.alloc(), &c, &v)?;
+    let mut m = left_mailbox(rt.alloc(), &c, &v, &t, &s)?;
     m.see(INC_A, 1);
     let first = m.next(&s, INC_A).expect(&rt, "the event at 1");
-    assert!(rt; !m.ready(&c, &s, &first));
+    assert!(rt; !m.ready(&t, &s, &first));
     m.see(READS, 1);
-    assert!(rt; m.ready(&c, &s, &first));
+    assert!(rt; m.ready(&t, &s, &first));
     m.set_count(&s, INC_A, 1);
     assert!(rt; m.next(&s, INC_A).is_none());
+    assert_eq!(rt; m.pending(&s, INC_A).expect(&rt, "the event at 4").time, 4);
+    assert_eq!(rt; m.seen(INC_A), 1);
+    assert_eq!(rt; m.count(INC_A), 1);
+    assert_eq!(rt; m.role(INC_A), Role::Own);
+    assert_eq!(rt; m.role(READS), Role::Above);
     Ok(())
 }
