@@ -38,15 +38,16 @@ pub fn words(alloc: Global, limits: &[u64]) -> Result<(Feeder, Watch), AllocErro
 }
 
 /// Feeds all items, which are so many of each itag: of each itag in turn a piece, until all are fed.
-pub fn feed_all(feeder: &mut Feeder, mut left: Vec<u64>)
+pub fn feed_all(feeder: &mut Feeder, mut left: Vec<u64>, itags: u32)
     requires fresh { feeder.old.counts ≡ zeros feeder.old.limits }
     requires left { left.items ≡ feeder.old.limits }
+    requires one_each { vec_len left ≡ itags }
     ensures limits { feeder.new.limits ≡ feeder.old.limits }
     ensures all { (i : ℕ) → slice_index feeder.new.counts i ≡ slice_index feeder.old.limits i }
 {
     let mut most = greatest(left.as_slice());
     while most > 0 {
-        feed_round(feeder, &mut left);
+        feed_round(feeder, &mut left, itags);
         most = most.saturating_sub(PIECE);
     }
 }
@@ -63,26 +64,29 @@ fn greatest(numbers: &[u64]) -> u64
 }
 
 // Feeds a piece of each itag.
-fn feed_round(feeder: &mut Feeder, left: &mut Vec<u64>)
-    requires { IsLeft feeder.old left.old.items }
+fn feed_round(feeder: &mut Feeder, left: &mut Vec<u64>, itags: u32)
+    requires rest { IsLeft feeder.old left.old.items }
+    requires one_each { vec_len left.old ≡ itags }
     ensures rest { IsLeft feeder.new left.new.items }
     ensures limits { feeder.new.limits ≡ feeder.old.limits }
+    ensures one_each { vec_len left.new ≡ itags }
     ensures less { (i : ℕ) → slice_index left.new.items i ≡ slice_index left.old.items i - 64 }
 {
-    for at in 0..left.len() {
-        feed_piece(feeder, left, at);
+    for i in 0..itags {
+        feed_piece(feeder, left, Itag(i));
     }
 }
 
 // Feeds a piece of an itag.
-fn feed_piece(feeder: &mut Feeder, left: &mut Vec<u64>, at: usize)
+fn feed_piece(feeder: &mut Feeder, left: &mut Vec<u64>, i: Itag)
     requires rest { IsLeft feeder.old left.old.items }
-    requires in_range { at < vec_len left.old }
+    requires in_range { i.0 < vec_len left.old }
     ensures rest { IsLeft feeder.new left.new.items }
     ensures limits { feeder.new.limits ≡ feeder.old.limits }
-    ensures less { left.new.items ≡ slice_set left.old.items at (slice_index left.old.items at - 64) }
+    ensures less { left.new.items ≡ slice_set left.old.items i.0 (slice_index left.old.items i.0 - 64) }
 {
+    let at = i.0 as usize;
     let n = min(left[at], PIECE);
-    feeder.feed_many(Itag(at as u32), n);
+    feeder.feed_many(i, n);
     left[at] -= n;
 }

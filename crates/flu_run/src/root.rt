@@ -1,6 +1,6 @@
 //! The run of a case on the tree of threads.
 
-ghost use Rattle.std.specs.Prelude.{◌≡◌, IfOk};
+ghost use Rattle.std.specs.Prelude.{◌≡◌, IfOk, vec_len};
 ghost use Rattle.std.specs.List.Sorted.{IsPermutation};
 ghost use Rattle.std.specs.Thread.{IsSync};
 ghost use Rattle.flu_model.specs.Folding.{final_state, final_outputs};
@@ -23,7 +23,7 @@ use crate::tree::subtree;
 use flu_arrive::{Feeder, Watch};
 use flu_cells::State;
 use flu_fork::Lot;
-use flu_model::Outs;
+use flu_model::{Outs, itag_count};
 use flu_seq::{Engine, Gate};
 use std::alloc::{AllocError, Global};
 use std::snapshot::Snapshot;
@@ -74,6 +74,7 @@ fn run_all<H: HasCase + Sync, G: Gate, R: Threads + Wait + Sync>(
 {
     laws_below();
     let case = holder.case();
+    let itags = itag_count(case.checked().program());
     let Ok(limits) = limits(alloc, case) else {
         return Ended::Cut(Why::NoMemory);
     };
@@ -82,7 +83,7 @@ fn run_all<H: HasCase + Sync, G: Gate, R: Threads + Wait + Sync>(
     };
     let top = End::Top(case.note());
     let from = FromEnd(Snapshot::of(&top));
-    started(rt, alloc, holder, gate, (feeder, limits), top, watch, from)
+    started(rt, alloc, holder, gate, (feeder, limits, itags), top, watch, from)
 }
 
 // Runs all workers in threads, below the end that is given, and feeds the items that are left meanwhile.
@@ -91,7 +92,7 @@ fn started<H: HasCase + Sync, G: Gate, R: Threads + Wait + Sync>(
     alloc: Global,
     holder: &H,
     gate: &G,
-    feed: (Feeder, Vec<u64>),
+    feed: (Feeder, Vec<u64>, u32),
     top: End,
     watch: Watch,
     from: FromEnd,
@@ -101,14 +102,15 @@ fn started<H: HasCase + Sync, G: Gate, R: Threads + Wait + Sync>(
     requires from { from.0.value ≡ top }
     requires fresh { feed.0.counts ≡ zeros feed.0.limits }
     requires left { feed.1.items ≡ feed.0.limits }
+    requires one_each { vec_len feed.1 ≡ feed.2 }
     ensures { Keeps (end_note top) result }
 {
-    let (mut feeder, left) = feed;
+    let (mut feeder, left, itags) = feed;
     thread::scope(
         thread::scope_env(),
         rt,
         move |scope| -> Ended
-            requires { IsSync R.row × IsSync H.row × IsSync G.row × StartsAt (H.content holder.now) 0 (end_note top) × WatchesFrom (H.content holder.now) watch × (from.0.value ≡ top) × (feeder.counts ≡ zeros feeder.limits) × (left.items ≡ feeder.limits) }
+            requires { IsSync R.row × IsSync H.row × IsSync G.row × StartsAt (H.content holder.now) 0 (end_note top) × WatchesFrom (H.content holder.now) watch × (from.0.value ≡ top) × (feeder.counts ≡ zeros feeder.limits) × (left.items ≡ feeder.limits) × (vec_len left ≡ itags) }
             ensures { Keeps (end_note top) result }
         {
             let Ok(root) = scope.spawn_with(
@@ -120,7 +122,7 @@ fn started<H: HasCase + Sync, G: Gate, R: Threads + Wait + Sync>(
             ) else {
                 return Ended::Cut(Why::Refused);
             };
-            feed_all(&mut feeder, left);
+            feed_all(&mut feeder, left, itags);
             root.join(rt)
         },
     )
@@ -155,6 +157,6 @@ fn fall_back<H: HasCase, B: Engine<R>, R>(
 {
     laws_below();
     let case = holder.case();
-    let opening = case.opening().copy()?;
-    backup.batch(rt, alloc, opening, case.streams())
+    let start = case.opening().copy()?;
+    backup.batch(rt, alloc, start, case.streams())
 }
