@@ -1,14 +1,12 @@
 -- Whose itags are whose: by the owners in a valid plan, and by how nodes stand to each other.
-use Rattle.std.proofs.Common.{◌≡◌, ◌≢◌, ◌<◌, ◌≤◌, ℕ, Bool, true, false, Some, None, List, length, inl, inr, refl, sym, ap, subst, ◌∙◌, arith}
+use Rattle.std.proofs.Common.{◌≡◌, ◌<◌, ℕ, Bool, true, false, Some, None, length, inl, inr, refl, sym, ap, ◌∙◌, arith}
 use Rattle.std.specs.Prelude.{◌==◌, ◌||◌, ◌&&◌, not}
 use Rattle.std.proofs.lemmas.Bool.{cases_Bool}
 use Rattle.flu_lemmas.proofs.Numbers.{same_turns}
 use Rattle.flu_lemmas.proofs.Searches.{eq_true}
 use Rattle.flu_lemmas.proofs.Tests.{and_left, and_right, false_if_not, not_both, not_true, true_eq}
-use Rattle.flu_model.specs.declared.jobs.Program.{Program}
-use Rattle.flu_model.specs.declared.plans.Node.{Node}
 use Rattle.flu_model.specs.Itags.{count_of_itags}
-use Rattle.flu_model.specs.Owners.{owner_of, is_within}
+use Rattle.flu_model.specs.Owners.{is_within}
 use Rattle.flu_deps.specs.Owned.{kids_at}
 use Rattle.flu_deps.specs.Owners.{IsOwned}
 use Rattle.flu_deps.specs.Trees.{IsUnder, IsOrdered, HasSubtrees}
@@ -17,7 +15,7 @@ use Rattle.flu_fork.specs.Settings.{Setting, IsSetting}
 use Rattle.flu_fork.specs.Classes.{itag}
 use Rattle.flu_fork.specs.Texts.{InOneOf, InNone, InFirst, InSecond, InThird}
 use Rattle.flu_fork.specs.Kin.{own_at, below_at, above_at, IsOfNode, IsOfKids, IsOfRoot, ItagsAreOfNodes, ItagsAreOfKids, ItagsAreOfTheRoot}
-use Rattle.flu_fork.proofs.Sides.{OwnerOf, below_by, above_by, owner_at, owner_is_below, root_has_all, left_and_right}
+use Rattle.flu_fork.proofs.Sides.{below_by, above_by, owner_is_below, root_has_all, left_and_right}
 
 -- ---- tests
 one_of_three : (whole a b c : Bool) → whole ≡ (a || (b || c)) → (a ≡ true → b ≡ false) → (a ≡ true → c ≡ false) → (b ≡ true → c ≡ false)
@@ -40,10 +38,6 @@ over_child true false true f g = refl
 over_child true false false f g = refl
 over_child false false true f g = absurd (not_both false (g refl) refl)
 over_child false false false f g = refl
-
-or_first : (a b : Bool) → a ≡ true → (a || b) ≡ true
-or_first true b e = refl
-or_first false b e = cc
 
 some_number : {a b : ℕ} → Some a ≡ Some b → a ≡ b
 some_number e = cc

@@ -19,3 +19,6 @@ pub mod Permuted
 pub mod TextLemmas
 pub mod StreamLemmas
 pub mod TableLemmas
+pub mod WalkLemmas
+pub mod ServedWalk
+pub mod WalkValues

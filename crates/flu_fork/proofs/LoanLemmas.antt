@@ -1,21 +1,19 @@
 -- Lots on loan: two parts of one fork are paired, and what they join to is on the node's own loan.
-use Rattle.std.proofs.Common.{◌≡◌, ◌<◌, ◌≤◌, ℕ, Bool, true, false, cond, Some, None, List, length, inl, inr, refl, sym, ap, subst, ◌∙◌, arith}
-use Rattle.std.specs.Prelude.{map, slice_index}
-use Rattle.std.specs.List.{range_with_len}
+use Rattle.std.proofs.Common.{◌≡◌, ◌<◌, ◌≤◌, ℕ, Bool, true, false, cond, Some, List, length, inl, inr, refl, sym, ap, ◌∙◌, arith}
+use Rattle.std.specs.Prelude.{slice_index}
 use Rattle.std.proofs.lemmas.Bool.{cases_Bool, cases_lt}
 use Rattle.std.proofs.lemmas.List.{get_or_past}
 use Rattle.std.proofs.lemmas.List.FromFn.{length-map-range_with_len}
 use Rattle.flu_lemmas.proofs.Tests.{false_if_not, not_both}
 use Rattle.flu_model.specs.Itags.{count_of_itags}
-use Rattle.flu_laws.specs.Spans.{AreAtMost}
 use Rattle.flu_fork.specs.declared.content.Content.{Content}
 use Rattle.flu_fork.specs.declared.lots.Ask.{Ask}
 use Rattle.flu_fork.specs.declared.lots.Lot.{Lot}
 use Rattle.flu_fork.specs.LawsBelow.{LawsBelow}
 use Rattle.flu_fork.specs.Classes.{own, below}
-use Rattle.flu_fork.specs.Lots.{job, nodes, kids, setting_of, LotsPaired, HasJoinedCounts}
+use Rattle.flu_fork.specs.Lots.{job, nodes, kids, setting_of, HasJoinedCounts}
 use Rattle.flu_fork.specs.Parts.{joined_counts}
-use Rattle.flu_fork.specs.Serving.{LotCounts, GrownFrom, IsOnLoan, CountsEach, CountsJustBefore, Served, IsForkedFrom, GrowsFromBoth, LentIsOnLoan, LoansArePaired, JoinsServe, JoinsGrow}
+use Rattle.flu_fork.specs.Serving.{LotCounts, IsOnLoan, CountsEach, CountsJustBefore, IsForkedFrom, GrowsFromBoth, LentIsOnLoan, LoansArePaired, JoinsServe, JoinsGrow}
 use Rattle.flu_fork.proofs.Forking.{counts_at}
 use Rattle.flu_fork.proofs.LotLemmas.{setting_holds}
 use Rattle.flu_fork.proofs.Sides.{left_and_right, kid_below, right_and_left, not_below_both}

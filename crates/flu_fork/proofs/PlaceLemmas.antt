@@ -1,5 +1,5 @@
 -- Where events stand in the fold: moments are in event order, each is an event of the streams, and each event stands once.
-use Rattle.std.proofs.Common.{◌≡◌, ◌≢◌, ◌<◌, ◌≤◌, ◌+◌, ℕ, zero, suc, Bool, true, false, cond, Some, None, List, [], ◌∷◌, ◌++◌, append_assoc, length, inl, inr, refl, sym, ap, subst, ◌∙◌, arith}
+use Rattle.std.proofs.Common.{◌≡◌, ◌≢◌, ◌<◌, ◌≤◌, ◌+◌, ℕ, zero, suc, true, false, cond, Some, List, [], ◌∷◌, ◌++◌, append_assoc, length, inl, inr, refl, sym, ap, subst, ◌∙◌, arith}
 use Rattle.std.specs.Prelude.{◌==◌, ◌&&◌, nat_le, slice_get, slice_index_or, ⊤}
 use Rattle.std.specs.Cmp.{IsTotalOrder, IsStrictWeakOrder}
 use Rattle.std.specs.Ordering.{is_lt}
@@ -25,7 +25,7 @@ use Rattle.flu_fork.specs.LawsBelow.{LawsBelow}
 use Rattle.flu_fork.specs.Settings.{Setting, IsSetting, events_at, moments}
 use Rattle.flu_fork.specs.Streams.{IsEventAt}
 use Rattle.flu_fork.specs.Places.{HasMoment, EventsHaveMoments, MomentsAreEvents}
-use Rattle.flu_fork.proofs.Moments.{stream_itags, moments_in_range, moments_there}
+use Rattle.flu_fork.proofs.Moments.{stream_itags, moments_there}
 use Rattle.flu_fork.proofs.Standing.{stream_later, event_stands}
 
 -- ---- event order
@@ -167,10 +167,6 @@ module _ (laws : LawsBelow) (k : Setting) (ok : IsSetting k) where
       → AllByRecursion (λ (q : Moment). q.event.itag.0 ≡ m.event.itag.0 → q.index < m.index) before
   places_at before after m split = laws.places_rise k.program k.opening (λ i. 0) (merged k.lists) before after m split
 
-  pub range_at : (before after : List Moment) (m : Moment) → moments k ≡ before ++ m ∷ after → m.event.itag.0 < count_of_itags k.program
-  range_at before after m split =
-      all_at_place (λ (q : Moment). q.event.itag.0 < count_of_itags k.program) (moments k) before after m split (moments_in_range laws k ok)
-
   -- ONE PLACE: a moment of m's itag with m's index is m, at m's place
   pub one_place : (before after front back : List Moment) (m q : Moment) → moments k ≡ before ++ m ∷ after → moments k ≡ front ++ q ∷ back
       → q.event.itag.0 ≡ m.event.itag.0 → q.index ≡ m.index → (before ≡ front) × ((m ≡ q) × (after ≡ back))
@@ -216,7 +212,8 @@ module _ (laws : LawsBelow) (k : Setting) (ok : IsSetting k) where
             all_at_place (λ (r : Moment). r.event.itag.0 ≡ m.event.itag.0 → r.index < m.index) (before ++ q ∷ mid) before mid q refl
             (places_at (before ++ q ∷ mid) after m split) same in
             let first : IsEventAt k m.event.itag.0 q.index q.event =
-            subst (λ (i : ℕ). IsEventAt k i q.index q.event) same (moment_is_listed before (mid ++ m ∷ after) q (split ∙ append_assoc before (q ∷ mid) (m ∷ after))) in
+            subst (λ (i : ℕ). IsEventAt k i q.index q.event) same
+            (moment_is_listed before (mid ++ m ∷ after) q (split ∙ append_assoc before (q ∷ mid) (m ∷ after))) in
             before_by_time q.event m.event
             (times_rise m.event.itag.0 q.index m.index q.event m.event less first (moment_is_listed (before ++ q ∷ mid) after m split))
         | inr other ↦ before_by_itag q.event m.event weak other

@@ -1,6 +1,6 @@
 -- What is counted before and behind an event: by the prefix, by what it is clear of, and by the itags of a node's subtree.
-use Rattle.std.proofs.Common.{◌≡◌, ◌≢◌, ◌<◌, ◌≤◌, ℕ, Bool, true, false, Some, None, List, [], ◌∷◌, ◌++◌, append_assoc, inl, inr, refl, sym, ap, subst, ◌∙◌, arith}
-use Rattle.std.specs.Prelude.{nat_lt, slice_get, slice_index, ◌&&◌, not}
+use Rattle.std.proofs.Common.{◌≡◌, ◌<◌, ◌≤◌, ℕ, Bool, true, false, Some, None, List, [], ◌∷◌, ◌++◌, append_assoc, inl, inr, refl, sym, ap, subst, ◌∙◌, arith}
+use Rattle.std.specs.Prelude.{nat_lt, slice_get, slice_index, not}
 use Rattle.std.specs.List.{AllByRecursion}
 use Rattle.std.proofs.lemmas.Bool.{cases_Bool, cases_eq, cases_lt, not_from_false}
 use Rattle.flu_lemmas.proofs.Elements.{all_map, all_front, all_back, all_of_both, all_at_place, all_from_places}
@@ -9,20 +9,18 @@ use Rattle.flu_model.specs.declared.events.Event.{Event}
 use Rattle.flu_model.specs.declared.events.Itag.{Itag}
 use Rattle.flu_model.specs.Itags.{count_of_itags, tag_of_itag}
 use Rattle.flu_model.specs.Merging.{is_before}
-use Rattle.flu_deps.specs.Owned.{kids_at}
 use Rattle.flu_laws.specs.Lots.{IsExact, depends_on}
 use Rattle.flu_laws.specs.Spans.{Moment, is_below}
 use Rattle.flu_fork.specs.declared.content.Content.{Content}
 use Rattle.flu_fork.specs.declared.lots.Ask.{Ask}
-use Rattle.flu_fork.specs.declared.lots.Lot.{Lot}
 use Rattle.flu_fork.specs.LawsBelow.{LawsBelow}
 use Rattle.flu_fork.specs.Settings.{Setting, IsSetting, moments}
-use Rattle.flu_fork.specs.Classes.{Itags, own, below, above, beside}
+use Rattle.flu_fork.specs.Classes.{Itags, own, below, above}
 use Rattle.flu_fork.specs.Fitting.{IsPrefix}
 use Rattle.flu_fork.specs.Lots.{job, nodes, kids, setting_of}
 use Rattle.flu_fork.specs.Streams.{IsEventAt, IsClearOf}
-use Rattle.flu_fork.specs.Texts.{InOneOf, InNone, InFirst, InSecond, InThird}
-use Rattle.flu_fork.specs.Serving.{CountsBefore, CountsNoneBehind, CountsJustBefore, Served, ClearIsJustBefore, JustBeforeAtLeaf, JustBeforeAtInner, JustBeforeIsExact, LeavesServe}
+use Rattle.flu_fork.specs.Texts.{InNone, InFirst, InSecond, InThird}
+use Rattle.flu_fork.specs.Serving.{CountsBefore, CountsJustBefore, ClearIsJustBefore, JustBeforeAtLeaf, JustBeforeAtInner, JustBeforeIsExact, LeavesServe}
 use Rattle.flu_fork.proofs.LotLemmas.{setting_holds}
 use Rattle.flu_fork.proofs.Moments.{moments_in_range}
 use Rattle.flu_fork.proofs.Sides.{independent}
@@ -113,13 +111,14 @@ module _ (laws : LawsBelow) (k : Content) where
       → ((i : ℕ) → i < count_of_itags (job k) → set i ≡ true → slice_index more i ≡ slice_index upto i)
       → CountsJustBefore k set y upto → CountsJustBefore k set y more
   just_before_as set y upto more same just before after m split ei ex =
-      let here = just before after m split ei ex in
-      (each_before laws S (setting_holds k) before after m split (λ q. set q.event.itag.0 ≡ true → depends_on (job k) m q ≡ true → is_below upto q ≡ true)
-      (λ q. set q.event.itag.0 ≡ true → depends_on (job k) m q ≡ true → is_below more q ≡ true)
-      (λ q lt h inside d. ap (nat_lt q.index) (same q.event.itag.0 lt inside) ∙ h inside d) here.0,
-      each_behind laws S (setting_holds k) before after m split (λ q. set q.event.itag.0 ≡ true → depends_on (job k) m q ≡ true → is_below upto q ≡ false)
-      (λ q. set q.event.itag.0 ≡ true → depends_on (job k) m q ≡ true → is_below more q ≡ false)
-      (λ q lt h inside d. ap (nat_lt q.index) (same q.event.itag.0 lt inside) ∙ h inside d) here.1)
+      let here = just before after m split ei ex in (
+        each_before laws S (setting_holds k) before after m split (λ q. set q.event.itag.0 ≡ true → depends_on (job k) m q ≡ true → is_below upto q ≡ true)
+            (λ q. set q.event.itag.0 ≡ true → depends_on (job k) m q ≡ true → is_below more q ≡ true)
+            (λ q lt h inside d. ap (nat_lt q.index) (same q.event.itag.0 lt inside) ∙ h inside d) here.0,
+        each_behind laws S (setting_holds k) before after m split (λ q. set q.event.itag.0 ≡ true → depends_on (job k) m q ≡ true → is_below upto q ≡ false)
+            (λ q. set q.event.itag.0 ≡ true → depends_on (job k) m q ≡ true → is_below more q ≡ false)
+            (λ q lt h inside d. ap (nat_lt q.index) (same q.event.itag.0 lt inside) ∙ h inside d) here.1,
+      )
 
   -- CLEAR
   pub clear_just_before : (set : Itags) (y : Ask) (x : Event) (upto : List ℕ) → IsPrefix (job k) (moments (setting_of k)) upto
@@ -129,11 +128,12 @@ module _ (laws : LawsBelow) (k : Content) where
       let listed = moment_is_listed laws S (setting_holds k) before after m split in
       let found : IsEventAt (setting_of k) y.itag.0 y.index m.event = (λ j. slice_get (events (sym ei j)) (sym ex j)) ∙ listed in
       let same : x ≡ m.event = some_event (sym there ∙ found) in
-      let next_m : slice_index upto m.event.itag.0 ≡ m.index = ap (λ (i : Itag). slice_index upto i.0) ei ∙ next ∙ sym ex in
-      (counted_before laws S (setting_holds k) before after m split upto next_m set (subst (IsClearOf S set upto) same clear),
-      all_map (λ q. depends_on (job k) m q ≡ true → is_below upto q ≡ false)
-      (λ q. set q.event.itag.0 ≡ true → depends_on (job k) m q ≡ true → is_below upto q ≡ false) after (λ q h inside d. h d)
-      (none_behind laws S (setting_holds k) before after m split upto next_m prefix))
+      let next_m : slice_index upto m.event.itag.0 ≡ m.index = ap (λ (i : Itag). slice_index upto i.0) ei ∙ next ∙ sym ex in (
+        counted_before laws S (setting_holds k) before after m split upto next_m set (subst (IsClearOf S set upto) same clear),
+        all_map (λ q. depends_on (job k) m q ≡ true → is_below upto q ≡ false)
+            (λ q. set q.event.itag.0 ≡ true → depends_on (job k) m q ≡ true → is_below upto q ≡ false) after (λ q h inside d. h d)
+            (none_behind laws S (setting_holds k) before after m split upto next_m prefix),
+      )
     where
       events : Itag → List Event
       events i = Rattle.flu_fork.specs.Settings.events_at (setting_of k) i.0
@@ -144,15 +144,16 @@ module _ (laws : LawsBelow) (k : Content) where
     at_leaf leaf just before after m split ei ex =
         let here = just before after m split ei ex in
         let mine = λ (i : ℕ) (lt : i < count_of_itags (job k)) (inside : below (job k) (nodes k) w i ≡ true).
-        (sym (leaf_owns laws S (setting_holds k) w i lt leaf) ∙ inside) in
-        (each_before laws S (setting_holds k) before after m split
-        (λ q. own (job k) (nodes k) w q.event.itag.0 ≡ true → depends_on (job k) m q ≡ true → is_below upto q ≡ true)
-        (λ q. below (job k) (nodes k) w q.event.itag.0 ≡ true → depends_on (job k) m q ≡ true → is_below upto q ≡ true)
-        (λ q lt h inside d. h (mine q.event.itag.0 lt inside) d) here.0,
-        each_behind laws S (setting_holds k) before after m split
-        (λ q. own (job k) (nodes k) w q.event.itag.0 ≡ true → depends_on (job k) m q ≡ true → is_below upto q ≡ false)
-        (λ q. below (job k) (nodes k) w q.event.itag.0 ≡ true → depends_on (job k) m q ≡ true → is_below upto q ≡ false)
-        (λ q lt h inside d. h (mine q.event.itag.0 lt inside) d) here.1)
+        (sym (leaf_owns laws S (setting_holds k) w i lt leaf) ∙ inside) in (
+          each_before laws S (setting_holds k) before after m split
+              (λ q. own (job k) (nodes k) w q.event.itag.0 ≡ true → depends_on (job k) m q ≡ true → is_below upto q ≡ true)
+              (λ q. below (job k) (nodes k) w q.event.itag.0 ≡ true → depends_on (job k) m q ≡ true → is_below upto q ≡ true)
+              (λ q lt h inside d. h (mine q.event.itag.0 lt inside) d) here.0,
+          each_behind laws S (setting_holds k) before after m split
+              (λ q. own (job k) (nodes k) w q.event.itag.0 ≡ true → depends_on (job k) m q ≡ true → is_below upto q ≡ false)
+              (λ q. below (job k) (nodes k) w q.event.itag.0 ≡ true → depends_on (job k) m q ≡ true → is_below upto q ≡ false)
+              (λ q lt h inside d. h (mine q.event.itag.0 lt inside) d) here.1,
+        )
 
     -- what holds of a node's own itags and of those of its children's subtrees
     in_three : (l r i : ℕ) → kids k w ≡ Some (l, r) → i < count_of_itags (job k) → (P : Type 0)
@@ -172,13 +173,14 @@ module _ (laws : LawsBelow) (k : Content) where
     at_inner l r e mine lefts rights before after m split ei ex =
         let a = mine before after m split ei ex in
         let b = lefts before after m split ei ex in
-        let c = rights before after m split ei ex in
-        (each_before laws S (setting_holds k) before after m split (Three true m) (One (below (job k) (nodes k) w) true m)
-        (λ q lt h inside d. in_three l r q.event.itag.0 e lt (is_below upto q ≡ true) (λ u. h.0 u d) (λ u. h.1.0 u d) (λ u. h.1.1 u d) inside)
-        (all_three true m before a.0 b.0 c.0),
-        each_behind laws S (setting_holds k) before after m split (Three false m) (One (below (job k) (nodes k) w) false m)
-        (λ q lt h inside d. in_three l r q.event.itag.0 e lt (is_below upto q ≡ false) (λ u. h.0 u d) (λ u. h.1.0 u d) (λ u. h.1.1 u d) inside)
-        (all_three false m after a.1 b.1 c.1))
+        let c = rights before after m split ei ex in (
+          each_before laws S (setting_holds k) before after m split (Three true m) (One (below (job k) (nodes k) w) true m)
+              (λ q lt h inside d. in_three l r q.event.itag.0 e lt (is_below upto q ≡ true) (λ u. h.0 u d) (λ u. h.1.0 u d) (λ u. h.1.1 u d) inside)
+              (all_three true m before a.0 b.0 c.0),
+          each_behind laws S (setting_holds k) before after m split (Three false m) (One (below (job k) (nodes k) w) false m)
+              (λ q lt h inside d. in_three l r q.event.itag.0 e lt (is_below upto q ≡ false) (λ u. h.0 u d) (λ u. h.1.0 u d) (λ u. h.1.1 u d) inside)
+              (all_three false m after a.1 b.1 c.1),
+        )
       where
         One : Itags → Bool → Moment → Moment → Type 0
         One set t n q = set q.event.itag.0 ≡ true → depends_on (job k) n q ≡ true → is_below upto q ≡ t

@@ -1,6 +1,6 @@
 -- Each event of the streams stands in the fold: the one with this place among those of its itag.
-use Rattle.std.proofs.Common.{◌≡◌, ◌<◌, ◌≤◌, ◌+◌, ℕ, zero, suc, Bool, true, false, cond, Some, List, [], ◌∷◌, ◌++◌, length, inl, inr, refl, sym, ap, subst, ◌∙◌, arith}
-use Rattle.std.specs.Prelude.{◌==◌, ◌||◌, not, nat_le, nat_lt, slice_get, slice_index_or, ⊤}
+use Rattle.std.proofs.Common.{◌≡◌, ◌<◌, ◌≤◌, ◌+◌, ℕ, zero, suc, Bool, true, false, cond, Some, List, [], ◌∷◌, ◌++◌, inl, inr, refl, sym, ap, subst, ◌∙◌, arith}
+use Rattle.std.specs.Prelude.{◌==◌, ◌||◌, not, nat_le, slice_get, slice_index_or, ⊤}
 use Rattle.std.specs.List.{filter, AllByRecursion}
 use Rattle.std.proofs.lemmas.Bool.{cases_Bool, cases_eq, ne_eqb}
 use Rattle.std.proofs.lemmas.List.Elements.{filter-append}
@@ -58,7 +58,7 @@ put_first : (i : ℕ) (x : Event) (ys : List Event) → of_itag i x ≡ true →
 put_first i x [] e all = keep i x [] e
 put_first i x (y ∷ ys) e all =
     elim (is_before x y) as (λ b. is_before x y ≡ b
-        → filter (of_itag i) (cond b (x ∷ y ∷ ys) (y ∷ put_in_order is_before x ys)) ≡ x ∷ filter (of_itag i) (y ∷ ys)) [
+    → filter (of_itag i) (cond b (x ∷ y ∷ ys) (y ∷ put_in_order is_before x ys)) ≡ x ∷ filter (of_itag i) (y ∷ ys)) [
       | true ↦ λ h. keep i x (y ∷ ys) e
       | false ↦ λ h.
           (let apart : of_itag i y ≡ false = no_later (of_itag i y) (is_before x y) all.0 h in
@@ -83,12 +83,15 @@ later_goes i x y le = grind (arith, common_steps)
 pub stream_later : (i low : ℕ) (items : List Item) → is_stream_from i low items ≡ true → AllByRecursion (λ (y : Event). low ≤ y.time) (events_of items)
 stream_later i low [] e = tt
 stream_later i low (EventItem x ∷ items) e =
-    let here : low ≤ x.time = true_le low x.time (and_right _ (nat_le low x.time) (and_left _ (is_stream_from i (x.time + 1) items) e)) in
-    (here, all_map (λ (y : Event). x.time + 1 ≤ y.time) (λ (y : Event). low ≤ y.time) (events_of items) (λ y le. omega arith)
-    (stream_later i (x.time + 1) items (and_right _ _ e)))
+    let here : low ≤ x.time = true_le low x.time (and_right _ (nat_le low x.time) (and_left _ (is_stream_from i (x.time + 1) items) e)) in (
+      here,
+      all_map (λ (y : Event). x.time + 1 ≤ y.time) (λ (y : Event). low ≤ y.time) (events_of items) (λ y le. omega arith)
+          (stream_later i (x.time + 1) items (and_right _ _ e)),
+    )
 stream_later i low (Beat t ∷ items) e =
     let here : low ≤ t = true_le low t (and_left (nat_le low t) (is_stream_from i (t + 1) items) e) in
-    all_map (λ (y : Event). t + 1 ≤ y.time) (λ (y : Event). low ≤ y.time) (events_of items) (λ y le. omega arith) (stream_later i (t + 1) items (and_right _ _ e))
+    all_map (λ (y : Event). t + 1 ≤ y.time) (λ (y : Event). low ≤ y.time) (events_of items) (λ y le. omega arith)
+    (stream_later i (t + 1) items (and_right _ _ e))
 stream_later i low (End ∷ []) e = tt
 stream_later i low (End ∷ y ∷ items) e = cc
 
@@ -96,7 +99,7 @@ stream_ordered : (j i low : ℕ) (items : List Item) → is_stream_from i low it
 stream_ordered j i low [] e = tt
 stream_ordered j i low (EventItem x ∷ items) e = (
   (λ _. all_map (λ (y : Event). x.time + 1 ≤ y.time) (λ y. goes j x y ≡ true) (events_of items) (λ y le. later_goes j x y le)
-  (stream_later i (x.time + 1) items (and_right _ _ e))),
+      (stream_later i (x.time + 1) items (and_right _ _ e))),
   stream_ordered j i (x.time + 1) items (and_right _ _ e),
 )
 stream_ordered j i low (Beat t ∷ items) e = stream_ordered j i (t + 1) items (and_right _ _ e)
@@ -202,7 +205,12 @@ stands p s seen (y ∷ xs) i j x e =
           let r = stands p (effect_of p s y).cells (λ u. cond (u == y.itag.0) (seen u + 1) (seen u)) xs i j x
           (sym (ap (λ l. slice_get l j) (keep_not i y xs (ne_eqb y.itag.0 i other))) ∙ e) in
           record {
-            front = now ∷ r.front; back = r.back; moment = r.moment; at = ap (λ l. now ∷ l) r.at; event = r.event; place = r.place ∙ ap (λ n. n + j) up;
+            front = now ∷ r.front;
+            back = r.back;
+            moment = r.moment;
+            at = ap (λ l. now ∷ l) r.at;
+            event = r.event;
+            place = r.place ∙ ap (λ n. n + j) up;
           }
     ]
   where
@@ -212,13 +220,22 @@ stands p s seen (y ∷ xs) i j x e =
     here : ((n : ℕ) → slice_get (filter (of_itag i) xs) n ≡ Some x → Stands (rest_of p s seen y xs) x (cond (i == y.itag.0) (seen i + 1) (seen i) + n))
         → y.itag.0 ≡ i → (j : ℕ) → slice_get (y ∷ filter (of_itag i) xs) j ≡ Some x → Stands (now ∷ rest_of p s seen y xs) x (seen i + j)
     here next same zero f = record {
-      front = []; back = rest_of p s seen y xs; moment = now; at = refl; event = some_same f; place = ap seen same ∙ (omega arith);
+      front = [];
+      back = rest_of p s seen y xs;
+      moment = now;
+      at = refl;
+      event = some_same f;
+      place = ap seen same ∙ (omega arith);
     }
     here next same (suc j) f =
         let up : cond (i == y.itag.0) (seen i + 1) (seen i) ≡ seen i + 1 = ap (λ b. cond b (seen i + 1) (seen i)) (eq_true i y.itag.0 (sym same)) in
         let r = next j f in
         record {
-          front = now ∷ r.front; back = r.back; moment = r.moment; at = ap (λ l. now ∷ l) r.at; event = r.event;
+          front = now ∷ r.front;
+          back = r.back;
+          moment = r.moment;
+          at = ap (λ l. now ∷ l) r.at;
+          event = r.event;
           place = r.place ∙ ap (λ n. n + j) up ∙ (omega arith);
         }
 

@@ -1,7 +1,6 @@
 -- Prefix and exact by the events of the streams: an event stands in front of another in the fold where it is before it.
-use Rattle.std.proofs.Common.{◌≡◌, ◌<◌, ℕ, true, false, List, [], ◌∷◌, ◌++◌, append_assoc, inl, inr, refl, sym, ap, subst, ◌∙◌, arith}
+use Rattle.std.proofs.Common.{◌≡◌, ◌<◌, ℕ, true, false, List, ◌∷◌, ◌++◌, append_assoc, inl, inr, sym, ap, ◌∙◌, arith}
 use Rattle.std.specs.Prelude.{nat_lt, slice_index}
-use Rattle.std.specs.List.{AllByRecursion}
 use Rattle.flu_lemmas.proofs.Elements.{all_at_place, all_from_places, two_places}
 use Rattle.flu_lemmas.proofs.Tests.{false_if_not, lt_true, not_both, true_lt}
 use Rattle.flu_model.specs.declared.events.Event.{Event}
@@ -15,7 +14,7 @@ use Rattle.flu_fork.specs.Settings.{Setting, IsSetting, moments}
 use Rattle.flu_fork.specs.Classes.{itag}
 use Rattle.flu_fork.specs.Fitting.{IsPrefix}
 use Rattle.flu_fork.specs.Places.{HasMoment}
-use Rattle.flu_fork.specs.Streams.{IsEventAt, IsStreamPrefix, IsStreamExact, PrefixesAgree, ExactnessAgrees}
+use Rattle.flu_fork.specs.Streams.{IsStreamPrefix, IsStreamExact, PrefixesAgree, ExactnessAgrees}
 use Rattle.flu_fork.proofs.PlaceLemmas.{not_before_both, not_before_itself, same_rest, all_earlier, all_later, moment_is_listed, has_moment}
 
 module _ (laws : LawsBelow) (k : Setting) (ok : IsSetting k) where
@@ -80,9 +79,9 @@ module _ (laws : LawsBelow) (k : Setting) (ok : IsSetting k) where
       at_front : (mid : List Moment) → before ≡ hy.front ++ hy.moment ∷ mid → (l < slice_index upto j) × (is_before y m.event ≡ true)
       at_front mid at = (
         true_lt l (slice_index upto j) (sym (below_is j l y hy upto)
-        ∙ all_at_place (λ q. depends_on k.program m q ≡ true → is_below upto q ≡ true) before hy.front mid hy.moment at exact.counted depends),
+            ∙ all_at_place (λ q. depends_on k.program m q ≡ true → is_below upto q ≡ true) before hy.front mid hy.moment at exact.counted depends),
         ap (λ z. is_before z m.event) (sym hy.event)
-        ∙ all_at_place (λ (r : Moment). is_before r.event m.event ≡ true) before hy.front mid hy.moment at (all_earlier laws k ok before after m split),
+            ∙ all_at_place (λ (r : Moment). is_before r.event m.event ≡ true) before hy.front mid hy.moment at (all_earlier laws k ok before after m split),
       )
 
       -- behind m it is not

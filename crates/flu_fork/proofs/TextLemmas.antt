@@ -9,7 +9,7 @@ use Rattle.std.proofs.lemmas.List.Elements.{filter-append}
 use Rattle.std.proofs.lemmas.List.Sorted.{IsPermutation-refl, IsPermutation-trans, IsPermutation-append, IsPermutation-append_left}
 use Rattle.flu_lemmas.proofs.Elements.{all_map, all_of_both, all_at_place, all_from_places, filter_same}
 use Rattle.flu_lemmas.proofs.Numbers.{less_than_next, not_less_than_itself}
-use Rattle.flu_lemmas.proofs.Tests.{and_left, and_right, both, false_if_not, lt_true, not_both, true_lt}
+use Rattle.flu_lemmas.proofs.Tests.{and_left, and_right, both, false_if_not, lt_true, true_lt}
 use Rattle.flu_model.specs.declared.events.Cell.{Cell}
 use Rattle.flu_model.specs.declared.events.Event.{Event}
 use Rattle.flu_model.specs.declared.events.Out.{Out}
@@ -84,14 +84,17 @@ module _ (set : Itags) (m : Moment) (old new : List ℕ) (one : CountsMoment m o
               | inl less ↦ lt_true q.index (slice_index new q.event.itag.0) (omega arith) ∙ sym (lt_true q.index (slice_index old q.event.itag.0) (omega arith))
               | inr more ↦ elim (cases_eq q.index m.index) [
                 | inl here ↦ absurd (other here)
-                | inr there ↦ lt_false q.index (slice_index new q.event.itag.0) (omega arith) ∙ sym (lt_false q.index (slice_index old q.event.itag.0) (omega arith))
+                | inr there ↦
+                    lt_false q.index (slice_index new q.event.itag.0) (omega arith)
+                    ∙ sym (lt_false q.index (slice_index old q.event.itag.0) (omega arith))
               ]
             ])
         | inr other ↦ ap (λ n. set q.event.itag.0 && nat_lt q.index n) (one.rest q.event.itag.0 other)
       ]
 
   not_yet : is_counted set old m ≡ false
-  not_yet = ap (λ n. set m.event.itag.0 && nat_lt m.index n) one.was ∙ ap (λ x. set m.event.itag.0 && x) (not_less_than_itself m.index) ∙ and_no (set m.event.itag.0)
+  not_yet =
+      ap (λ n. set m.event.itag.0 && nat_lt m.index n) one.was ∙ ap (λ x. set m.event.itag.0 && x) (not_less_than_itself m.index) ∙ and_no (set m.event.itag.0)
     where
       and_no : (b : Bool) → (b && false) ≡ false
       and_no true = refl

@@ -12,3 +12,4 @@ pub mod Places
 pub mod Texts
 pub mod Serving
 pub mod Kin
+pub mod Walks

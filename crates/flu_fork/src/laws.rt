@@ -7,6 +7,7 @@ ghost use Rattle.flu_fork.specs.Kin.{ItagsAreOfNodes, ItagsAreOfKids, ItagsAreOf
 ghost use Rattle.flu_fork.specs.Places.{EventsHaveMoments, MomentsAreEvents};
 ghost use Rattle.flu_fork.specs.Serving.{LentIsOnLoan, LoansArePaired, JoinsServe, JoinsGrow, ClearIsJustBefore, JustBeforeAtLeaf, JustBeforeAtInner, JustBeforeIsExact, LeavesServe, ContentsAreSettings};
 ghost use Rattle.flu_fork.specs.Streams.{PrefixesAgree, ExactnessAgrees};
+ghost use Rattle.flu_fork.specs.Walks.{WalksFit, WalksCount, LeftIsServed, OthersAreNotServed};
 ghost use Rattle.flu_fork.specs.Texts.{NoTexts, TextsAreOfTheSet, TextsGrow, TextsOfThree, TextsEnd, StatesEnd, OutputsAreOfMoments};
 
 use flu_deps::laws::{itags_are_owned, plans_are_trees};
@@ -158,6 +159,25 @@ pub fn texts_end()
     ensures texts { TextsEnd }
     ensures states { StatesEnd }
     ensures outputs { OutputsAreOfMoments }
+{
+    laws_below();
+}
+
+/// A walk through the laws, the first table of `docs/TREE.md`: the opening, a fork, an event at each child, the join, an event at the
+/// root, a second fork and an event at the left child. Each row fits by the row before it, with the counts of the table, and the
+/// texts at the root are those of the fold. A cell to which the events add 5, 7 and 2 holds what the table says.
+pub fn walks_fit()
+    ensures rows { WalksFit }
+    ensures values { WalksCount }
+{
+    laws_below();
+}
+
+/// What the left child of the walk gives up for the root's event: the lot with its first event counted is served, and neither the
+/// one without it, which would come too early, nor the one with the second event too.
+pub fn walks_are_served()
+    ensures served { LeftIsServed }
+    ensures others { OthersAreNotServed }
 {
     laws_below();
 }

@@ -1,0 +1,16 @@
+pub mod Mails
+pub mod CountLemmas
+pub mod Nodes
+pub mod Changing
+pub mod EarliestLemmas
+pub mod Aiming
+pub mod Serving
+pub mod Steps
+pub mod Ruling
+pub mod Lending
+pub mod Handling
+pub mod Doing
+pub mod Targets
+pub mod Ending
+pub mod Methods
+pub mod OneTarget

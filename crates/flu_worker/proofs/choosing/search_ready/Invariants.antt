@@ -1,0 +1,10 @@
+use Rattle.std.proofs.Common.{◌≡◌, drop}
+use Rattle.std.specs.List.{fold}
+use Rattle.flu_worker.specs.Choosing.{sight_at, own_itags, next_at, if_ready, earlier, least_ready}
+use Rattle.flu_worker.proofs.choosing.search_ready.Given as goal
+
+abbrev pub invariant-loop-i : goal.invariant-loop-i
+invariant-loop-i l =
+    (l.i-items ≡ own_itags l.case l.node)
+    × (fold (λ found i. earlier found (if_ready (sight_at l.case l.node l.mail) (next_at (sight_at l.case l.node l.mail) i))) l.found (drop l.i-index l.i-items)
+    ≡ least_ready (sight_at l.case l.node l.mail))

@@ -1,0 +1,5 @@
+use Rattle.flu_worker.proofs.CountLemmas.{one_zero_more}
+use Rattle.flu_worker.proofs.counting.no_counts.Goals as goal
+
+pub loop-itag-preserved : goal.loop-itag-preserved
+loop-itag-preserved c = one_zero_more c.loop-itag._itag _ _ c.in_ok-push.ensures.items c.loop-itag.invariant

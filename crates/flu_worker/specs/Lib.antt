@@ -1,0 +1,14 @@
+pub mod Notes
+pub mod Hands
+pub mod Calls
+pub mod Agreeing
+pub mod Holding
+pub mod Rule
+pub mod Choosing
+pub mod Sights
+pub mod Moving
+pub mod Starting
+pub mod Doing
+pub mod Finishing
+pub mod LawsBelow
+pub mod Laws

@@ -1,0 +1,28 @@
+//! What holds of the choices of a worker, and the laws on which its rule rests. Each law is the contract of a function that does
+//! nothing.
+
+ghost use Rattle.flu_worker.specs.Laws.{TargetsAreOne};
+ghost use Rattle.flu_worker.specs.LawsBelow.{LawsBelow};
+
+/// Of an inner worker's two possible targets only one is there: where it may take its least next event, it may not serve the next
+/// event of an itag above it, since its own one is before that and holds it up.
+pub fn targets_are_one()
+    ensures { TargetsAreOne }
+{
+    laws_below();
+}
+
+/// The laws of lots, of whose itags are whose, and of waiting.
+pub(crate) fn laws_below()
+    ensures { LawsBelow }
+{
+    flu_fork::laws::clear_events_are_served();
+    flu_fork::laws::contents_are_settings();
+    flu_fork::laws::events_have_moments();
+    flu_fork::laws::itags_are_of_nodes();
+    flu_fork::laws::loans_are_paired();
+    flu_fork::laws::served_lots_join();
+    flu_fork::laws::subtrees_count_just_before();
+    flu_fork::laws::updates_fit();
+    flu_mail::laws::ready_clears();
+}
