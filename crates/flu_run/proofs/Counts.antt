@@ -8,6 +8,7 @@ use Rattle.flu_model.specs.declared.events.Item.{Item}
 use Rattle.flu_model.specs.declared.jobs.Program.{Program}
 use Rattle.flu_model.specs.declared.plans.Node.{Node}
 use Rattle.flu_model.specs.Itags.{count_of_itags}
+use Rattle.flu_arrive.specs.Notes.{zeros}
 use Rattle.flu_fork.specs.Classes.{below}
 use Rattle.flu_fork.specs.Parts.{joined_counts}
 
@@ -44,11 +45,11 @@ zeros_at [] i = refl
 zeros_at (n ∷ ns) zero = refl
 zeros_at (n ∷ ns) (suc i) = zeros_at ns i
 
-pub same_zeros : (xs ys : List ℕ) → length xs ≡ length ys → map (λ (n : ℕ). 0) xs ≡ map (λ (n : ℕ). 0) ys
+pub same_zeros : (xs ys : List ℕ) → length xs ≡ length ys → zeros xs ≡ zeros ys
 same_zeros [] [] e = refl
 same_zeros [] (y ∷ ys) e = absurd (omega arith)
 same_zeros (x ∷ xs) [] e = absurd (omega arith)
-same_zeros (x ∷ xs) (y ∷ ys) e = ap (λ l. 0 ∷ l) (same_zeros xs ys (omega arith))
+same_zeros (x ∷ xs) (y ∷ ys) e = ap (λ (l : List ℕ). 0 ∷ l) (same_zeros xs ys (omega arith))
 
 -- ---- children
 pub some_kids : (o : Option (ℕ × ℕ)) → is_some o ≡ true → (l : ℕ) × (r : ℕ) × (o ≡ Some (l, r))

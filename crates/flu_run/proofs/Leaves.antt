@@ -39,7 +39,7 @@ one_alone false false e = InNone refl refl refl refl
 one_alone true false e = cc
 one_alone false true e = cc
 
-never : Itags
+abbrev never : Itags
 never i = false
 
 texts_alike : (laws : LawsBelow) (k : Content) (a b : Itags) (upto : List ℕ) (outs : List Out) → ((i : ℕ) → i < count_of_itags (job k) → b i ≡ a i)

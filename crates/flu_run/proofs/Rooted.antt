@@ -9,7 +9,6 @@ use Rattle.flu_model.specs.Contents.{Contents}
 use Rattle.flu_model.specs.Folding.{final_state, final_outputs}
 use Rattle.flu_model.specs.Listed.{listed}
 use Rattle.flu_model.specs.Sorts.{IsStateOf}
-use Rattle.flu_cells.specs.declared.state.State.{State}
 use Rattle.flu_cells.specs.Holding.{held}
 use Rattle.flu_fork.specs.declared.content.Content.{Content}
 use Rattle.flu_fork.specs.declared.lots.Lot.{Lot}
@@ -51,7 +50,7 @@ pub batch_as : {T E : Type 0} (r : Result T E) (P : Program → Contents → Lis
     → p ≡ p' → o ≡ o' → l ≡ l' → IfOk r (P p o l) → IfOk r (P p' o' l')
 batch_as r P p p' o o' l l' ep eo el h = subst (λ x. IfOk r (P x o' l')) ep (subst (λ x. IfOk r (P p x l')) eo (subst (λ x. IfOk r (P p o x)) el h))
 
-pub opening_sorts : (laws : LawsBelow) (k k' : Content) (p : Program) (start o : State) → p ≡ job k → k' ≡ k → o ≡ k'.opening → held start ≡ held o → IsStateOf p.families (held start)
-opening_sorts laws k k' p start o ep ek eo es =
-    subst (λ (q : Program). IsStateOf q.families (held start)) (sym ep)
-    (subst (IsStateOf (job k).families) (sym (es ∙ ap held eo ∙ ap (λ (j : Content). held j.opening) ek)) (laws.settings k).opening_sorts)
+pub opening_sorts : (laws : LawsBelow) (k k' : Content) (p : Program) (s : Contents) → p ≡ job k → k' ≡ k → s ≡ held k'.opening → IsStateOf p.families s
+opening_sorts laws k k' p s ep ek es =
+    subst (λ (q : Program). IsStateOf q.families s) (sym ep)
+    (subst (IsStateOf (job k).families) (sym (es ∙ ap (λ (j : Content). held j.opening) ek)) (laws.settings k).opening_sorts)

@@ -19,6 +19,7 @@ use crate::handed::{Done, Ended, Why};
 use crate::holder::HasCase;
 use crate::laws::laws_below;
 use crate::leaf::{turn, wait};
+use crate::shapes::any;
 use crate::sight::observe;
 use crate::up::look;
 use crossbeam_utils::Backoff;
@@ -55,7 +56,7 @@ fn reach(
     let sent = request(case, worker, left, right, end, asked);
     let from_left = take(alloc, case, worker, left, Side::Left)?;
     let from_right = take(alloc, case, worker, right, Side::Right)?;
-    Ok(sent || from_left || from_right)
+    Ok(any(sent, from_left, from_right))
 }
 
 // Asks for the parts that are out, where there is a target, and says whether it did.
@@ -84,7 +85,7 @@ fn request(
     };
     let to_left = ask(worker, left, Side::Left, target);
     let to_right = ask(worker, right, Side::Right, target);
-    to_left || to_right
+    any(to_left, to_right, false)
 }
 
 // Lends the parts that are still to be lent, and says whether there were any.
@@ -100,7 +101,7 @@ fn hand_down(worker: &mut Worker, left: &mut Upper, right: &mut Upper) -> bool
 {
     let to_left = lend(worker, left, Side::Left);
     let to_right = lend(worker, right, Side::Right);
-    to_left || to_right
+    any(to_left, to_right, false)
 }
 
 // One turn: what goes down and comes up, and the worker's own event. It says whether anything moved.
@@ -137,7 +138,7 @@ fn turn_inner<G: Gate>(
     let reached = reach(alloc, case, worker, left, right, end, asked)?;
     let turned = turn(alloc, case, gate, node, worker, end, outs, asked)?;
     let lent = hand_down(worker, left, right);
-    Ok(reached || turned || lent)
+    Ok(any(reached, turned, lent))
 }
 
 // Whether the worker is to stop, by any of its ends.
@@ -156,7 +157,7 @@ fn are_stopped(worker: &Worker, end: &mut End, left: &mut Upper, right: &mut Upp
     let above = end.stopped();
     let at_left = left.stopped();
     let at_right = right.stopped();
-    above || at_left || at_right
+    any(above, at_left, at_right)
 }
 
 // Tells all around to stop.

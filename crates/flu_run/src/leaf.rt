@@ -14,6 +14,7 @@ use crate::ends::End;
 use crate::handed::{Done, Ended, Why};
 use crate::holder::HasCase;
 use crate::laws::laws_below;
+use crate::shapes::any;
 use crate::sight::observe;
 use crate::up::{act, look, receive, reply};
 use crossbeam_utils::Backoff;
@@ -48,7 +49,7 @@ pub fn turn<G: Gate>(
     let gave = reply(case, worker, end, asked, outs);
     let received = receive(alloc, case, worker, end, outs)?;
     let acted = act(alloc, case, gate, node, worker, end, outs)?;
-    Ok(gave || received || acted)
+    Ok(any(gave, received, acted))
 }
 
 /// Waits a little longer each time, until something moves again.

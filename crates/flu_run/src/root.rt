@@ -83,7 +83,16 @@ fn run_all<H: HasCase + Sync, G: Gate, R: Threads + Wait + Sync>(
     };
     let top = End::Top(case.note());
     let from = FromEnd(Snapshot::of(&top));
-    started(rt, alloc, holder, gate, (feeder, limits, itags), top, watch, from)
+    started(
+        rt,
+        alloc,
+        holder,
+        gate,
+        (feeder, limits, itags),
+        top,
+        watch,
+        from,
+    )
 }
 
 // Runs all workers in threads, below the end that is given, and feeds the items that are left meanwhile.

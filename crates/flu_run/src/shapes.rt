@@ -5,6 +5,11 @@ ghost use Rattle.flu_worker.specs.Hands.{is_open, may_lend, may_take};
 
 use flu_worker::{Hand, Side};
 
+/// Whether any of three steps moved something.
+pub const fn any(a: bool, b: bool, c: bool) -> bool {
+    a || b || c
+}
+
 /// Whether a worker has its lot, or parts of it are out.
 pub fn is_open(hand: Hand) -> bool
     ensures { result ≡ is_open hand }

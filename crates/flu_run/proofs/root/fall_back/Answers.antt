@@ -7,7 +7,7 @@ use Rattle.flu_run.proofs.Rooted.{batch_as, opening_sorts}
 use Rattle.flu_run.proofs.root.fall_back.Goals as goal
 
 pub batch-requires-clause-sorts : goal.batch-requires-clause-sorts
-batch-requires-clause-sorts g c = opening_sorts c.laws_below.ensures _ _ _ _ _ c.requires c.case-case.ensures c.opening.ensures c.in_ok-start.ensures
+batch-requires-clause-sorts g c = opening_sorts c.laws_below.ensures _ _ _ _ c.requires c.case-case.ensures (c.in_ok-start.ensures ∙ ap held c.opening.ensures)
 
 pub returns-clause-state : goal.returns-clause-state
 returns-clause-state g c =

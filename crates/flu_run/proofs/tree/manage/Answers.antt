@@ -3,7 +3,7 @@ use Rattle.flu_run.proofs.Tying.{sees_from}
 use Rattle.flu_run.proofs.tree.manage.Goals as goal
 
 pub work-rest-requires-clause-sees : goal.work-rest-requires-clause-sees
-work-rest-requires-clause-sees g c = sees_from _ _ _ c.requires.case c.requires.seen c.requires.watches
+work-rest-requires-clause-sees g c = λ κs within. sees_from _ _ _ c.requires.case c.requires.seen c.requires.watches
 
 pub settle-requires-clause-rest : goal.settle-requires-clause-rest
 settle-requires-clause-rest g c =
