@@ -1,5 +1,5 @@
 -- Each step keeps the rule of the arrival words.
-use Rattle.std.proofs.Common.{◌≡◌, ℕ, zero, suc, ◌+◌, ◌-◌, ◌^◌, ◌<◌, ◌≤◌, ◌≢◌, ◌⊎◌, Bool, true, false, List, [], ◌∷◌, ◌++◌, map, length, take, get_or, set, sym, refl, ap, ◌∙◌, subst, ⊎_elim, add-one, length-set, get_or-set_same, get_or-set_other, arith}
+use Rattle.std.proofs.Common.{◌≡◌, ℕ, zero, suc, ◌+◌, ◌-◌, ◌<◌, ◌≤◌, true, false, List, [], ◌∷◌, ◌++◌, length, take, get_or, set, sym, refl, ap, ◌∙◌, subst, ⊎_elim, add-one, length-set, get_or-set_same, get_or-set_other, arith}
 use Rattle.std.proofs.lemmas.List.{get_or_default}
 use mathlib.Core.Logic.{dite}
 use mathlib.Core.Option.{none, some, some-injective}
@@ -45,7 +45,8 @@ starts limits = record {
     each (suc j) v e = cc
 
 -- the other notes stay true where the words only rise, and only the feeder raises them
-stays : (limits counts counts' : List ℕ) (feeder seat : ℕ) (v : Note) → ((i : ℕ) → get_or counts i 0 ≤ get_or counts' i 0) → (v.feeds ≡ true → counts ≡ counts') → Knows limits counts feeder seat v → Knows limits counts' feeder seat v
+stays : (limits counts counts' : List ℕ) (feeder seat : ℕ) (v : Note) → ((i : ℕ) → get_or counts i 0 ≤ get_or counts' i 0)
+    → (v.feeds ≡ true → counts ≡ counts') → Knows limits counts feeder seat v → Knows limits counts' feeder seat v
 stays limits counts counts' feeder seat v rise same k = record {
   limits_are = k.limits_are;
   long = k.long;
@@ -60,7 +61,8 @@ raised (n ∷ ns) zero c le (suc k) = omega arith
 raised (n ∷ ns) (suc i) c le zero = omega arith
 raised (n ∷ ns) (suc i) c le (suc k) = raised ns i c le k
 
-bounded : (counts limits : List ℕ) (i c : ℕ) → i < length counts → c ≤ get_or limits i 0 → ((k : ℕ) → get_or counts k 0 ≤ get_or limits k 0) → (k : ℕ) → get_or (set counts i c) k 0 ≤ get_or limits k 0
+bounded : (counts limits : List ℕ) (i c : ℕ) → i < length counts → c ≤ get_or limits i 0 → ((k : ℕ) → get_or counts k 0 ≤ get_or limits k 0) → (k : ℕ)
+    → get_or (set counts i c) k 0 ≤ get_or limits k 0
 bounded counts limits i c near le below k = dite (ℕ_discrete k i)
     (λ e. subst (λ (j : ℕ). get_or (set counts i c) j 0 ≤ get_or limits j 0) (sym e) (let g = get_or-set_same counts i c 0 near in omega arith))
     (λ ne. let g = get_or-set_other counts i k c 0 ne in let b = below k in omega arith)
@@ -68,7 +70,8 @@ bounded counts limits i c near le below k = dite (ℕ_discrete k i)
 back : (i : ℕ) → (i + 1) - 1 ≡ i
 back i = omega arith
 
-pub feeds : (limits : List ℕ) (n id : ℕ) (m : Sat) (i c : ℕ) → m.0.feeds ≡ true → i < length m.0.counts → get_or m.0.counts i 0 ≤ c → c ≤ get_or m.0.limits i 0
+pub feeds : (limits : List ℕ) (n id : ℕ) (m : Sat) (i c : ℕ) → m.0.feeds ≡ true → i < length m.0.counts → get_or m.0.counts i 0 ≤ c
+    → c ≤ get_or m.0.limits i 0
     → Allows (Kept limits) n id m (i + 1) (λ _. c) (λ _. fed (step n (i + 1) c 0 none) m c)
 feeds limits n id m i c it near more fits s r wide at small =
     let k = r.each id m.0 at in let f = k.feeds it in
@@ -107,7 +110,8 @@ looks limits n id m i it near s r wide at small =
     let y : ℕ = get_or s.words (i + 1) 0 in
     let found : y ≡ get_or r.counts i 0 = ap (λ ws. get_or ws (i + 1) 0) r.words_are ∙ (rw add-one refl) in
     let w : Note = note m.0.feeds m.0.limits (set m.0.counts (i + 1 - 1) y) (m.0.looks + 1) in
-    let most : y ≤ get_or m.0.limits i 0 = (let b = r.below i in let l : get_or m.0.limits i 0 ≡ get_or limits i 0 = ap (λ l. get_or l i 0) k.limits_are in omega arith) in
+    let most : y ≤ get_or m.0.limits i 0 = (let b = r.below i in let l : get_or m.0.limits i 0 ≡ get_or limits i 0 = ap (λ l. get_or l i 0) k.limits_are in
+    omega arith) in
     let least : get_or m.0.counts i 0 ≤ y = (let b = k.watches it i in omega arith) in (
       w,
       keeps,
@@ -139,7 +143,8 @@ splits limits id v s r at = record {
   long = r.long;
   below = r.below;
   each = λ seat u e. ⊎_elim
-      (λ t. ⊎_elim (λ (p : (seat ≡ id) × (v ≡ u)). subst (λ (z : ℕ × Note). Knows limits r.counts r.feeder z.0 z.1) (λ j. (sym p.0 j, p.1 j)) (r.each id v at)) (λ p. r.each seat u p.1) (at_set s.views id seat v u t))
+      (λ t. ⊎_elim (λ (p : (seat ≡ id) × (v ≡ u)). subst (λ (z : ℕ × Note). Knows limits r.counts r.feeder z.0 z.1) (λ j. (sym p.0 j, p.1 j))
+      (r.each id v at)) (λ p. r.each seat u p.1) (at_set s.views id seat v u t))
       (λ t. subst (Knows limits r.counts r.feeder seat) t record {
         limits_are = (r.each id v at).limits_are;
         long = zeros_long v.limits ∙ ap length (r.each id v at).limits_are;

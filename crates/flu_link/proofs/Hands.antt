@@ -1,15 +1,13 @@
 -- What an end knows after its steps, in the words of its contracts.
-use Rattle.std.proofs.Common.{◌≡◌, ◌≢◌, ℕ, ◌+◌, ◌<◌, ◌≤◌, ◌⊎◌, Bool, true, false, List, [], ◌∷◌, get_or, sym, refl, ap, ◌∙◌, subst, ⊎_elim, inl, inr, arith, Option, Some, None, IfSome, IfNone, IsSome}
+use Rattle.std.proofs.Common.{◌≡◌, ◌≢◌, ℕ, ◌≤◌, ◌⊎◌, true, false, List, [], ◌∷◌, get_or, sym, refl, ap, ◌∙◌, subst, ⊎_elim, inr, Option, Some, None, IfSome, IfNone, IsSome}
 use Rattle.std.specs.Prelude.{OnSome}
 use Rattle.atomic_table.specs.Table.{rest}
 use Rattle.atomic_table.specs.Seated.{TableId}
 use Rattle.flu_fork.specs.declared.lots.Lot.{Lot}
-use Rattle.flu_fork.specs.declared.lots.Ask.{Ask}
 use Rattle.flu_fork.specs.Lots.{LotFits}
-use Rattle.flu_fork.specs.Serving.{LotCounts, GrownFrom, Served}
+use Rattle.flu_fork.specs.Serving.{GrownFrom, Served}
 use Rattle.flu_link.specs.declared.notes.UpperSeat.{UpperSeat}
 use Rattle.flu_link.specs.declared.notes.LowerSeat.{LowerSeat}
-use Rattle.flu_link.specs.declared.notes.Loan.{Loan}
 use Rattle.flu_link.specs.declared.notes.View.{View}
 use Rattle.flu_link.specs.declared.notes.View.TheVariants.{Top, Bottom, Joined}
 use Rattle.flu_link.specs.Seats.{Sat, ask, loan, lent_counts, both_sides, upper_or, lower_or}
@@ -19,17 +17,22 @@ use Rattle.flu_link.specs.Ends.{upper_note, lower_note, both_parts, IsUpper, IsL
 use Rattle.flu_link.proofs.Stepping.{bool_cases}
 use Rattle.flu_link.proofs.UpperSteps.{IsEmptyHanded}
 
-pub upper_now : (d : UpperSeat) (table mine : TableId) (m : Sat) (u : UpperSeat) (cs : List (ℕ × Option Lot)) → mine ≡ table → table.words ≡ 4 → m ≡ (Top u, cs) → IsEmptyHanded u cs → IsUpper d table mine m
+pub upper_now : (d : UpperSeat) (table mine : TableId) (m : Sat) (u : UpperSeat) (cs : List (ℕ × Option Lot)) → mine ≡ table → table.words ≡ 4
+    → m ≡ (Top u, cs) → IsEmptyHanded u cs → IsUpper d table mine m
 upper_now d table mine m u cs here words is hand = subst (IsUpper d table mine) (sym is) record { here = here; words = words; top = refl; hand = hand }
 
-pub lower_now : (d : LowerSeat) (table mine : TableId) (m : Sat) (l : LowerSeat) → mine ≡ table → table.words ≡ 4 → m ≡ (Bottom l, []) → l.out ≡ false → IsLower d table mine m
-lower_now d table mine m l here words is inside = subst (IsLower d table mine) (sym is) record { here = here; words = words; bottom = refl; inside = inside; bare = refl }
+pub lower_now : (d : LowerSeat) (table mine : TableId) (m : Sat) (l : LowerSeat) → mine ≡ table → table.words ≡ 4 → m ≡ (Bottom l, []) → l.out ≡ false
+    → IsLower d table mine m
+lower_now d table mine m l here words is inside = subst (IsLower d table mine)
+    (sym is) record { here = here; words = words; bottom = refl; inside = inside; bare = refl }
 
 -- what contracts see of an end whose seat is this
-pub upper_told : (d : UpperSeat) (link link' : TableId) (m : Sat) (u : UpperSeat) (cs : List (ℕ × Option Lot)) → link' ≡ link → m ≡ (Top u, cs) → upper_note link' (upper_or d m.0) ≡ upper_note link u
+pub upper_told : (d : UpperSeat) (link link' : TableId) (m : Sat) (u : UpperSeat) (cs : List (ℕ × Option Lot)) → link' ≡ link → m ≡ (Top u, cs)
+    → upper_note link' (upper_or d m.0) ≡ upper_note link u
 upper_told d link link' m u cs same is = λ j. upper_note (same j) (upper_or d (is j).0)
 
-pub lower_told : (d : LowerSeat) (link link' : TableId) (m : Sat) (l : LowerSeat) (cs : List (ℕ × Option Lot)) → link' ≡ link → m ≡ (Bottom l, cs) → lower_note link' (lower_or d m.0) ≡ lower_note link l
+pub lower_told : (d : LowerSeat) (link link' : TableId) (m : Sat) (l : LowerSeat) (cs : List (ℕ × Option Lot)) → link' ≡ link → m ≡ (Bottom l, cs)
+    → lower_note link' (lower_or d m.0) ≡ lower_note link l
 lower_told d link link' m l cs same is = λ j. lower_note (same j) (lower_or d (is j).0)
 
 -- the slot in hand, over an exchange
@@ -51,7 +54,8 @@ took_lot u lot = record (peeked_up u 3) { out = true; taken = true; received = l
 
 abbrev pub TookAs : UpperSeat → Sat → Option Lot → Type 0
 TookAs u m None = (m ≡ (Top (took_nothing u), (0, None) ∷ [])) × (u.taken ≡ true)
-TookAs u m (Some lot) = (m ≡ (Top (took_lot u lot), (0, Some lot) ∷ [])) × LotFits u.case u.lower lot × Served u.case u.lower (lent_counts u.lent) u.ask lot × (u.taken ≡ false)
+TookAs u m (Some lot) = (m ≡ (Top (took_lot u lot), (0, Some lot) ∷ [])) × LotFits u.case u.lower lot × Served u.case u.lower (lent_counts u.lent) u.ask lot
+    × (u.taken ≡ false)
 
 pub record Took (u : UpperSeat) (m : Sat) (v : Option Lot) : Type 0 where
   pub what : TookAs u m v
@@ -60,9 +64,16 @@ pub took : (u : UpperSeat) (cs : List (ℕ × Option Lot)) (n : ℕ) (m : Sat) �
 took u cs n m f hand three = subst (λ (k : ℕ). Fetches u cs k m → (v : Option Lot) × Took u m v) (sym three) (λ g. ⊎_elim
     (λ (t : (u.out ≡ false) × (cs ≡ [])). ⊎_elim
     (λ (e : u.taken ≡ true). (None, record { what = (g.nothing refl t.0 e ∙ ap (λ l. (Top (took_nothing u), (0, None) ∷ l)) t.1, e) }))
-    (λ (e : u.taken ≡ false). let h = g.lot refl e in (Some h.0, record { what = (h.1 ∙ ap (λ l. (Top (took_lot u h.0), (0, Some h.0) ∷ l)) t.1, h.2, h.3, e) }))
+    (λ (e : u.taken ≡ false). let h = g.lot refl e in (
+      Some h.0,
+      record {
+        what =
+            (h.1 ∙ ap (λ l. (Top (took_lot u h.0), (0, Some h.0) ∷ l)) t.1, h.2, h.3, e);
+      },
+    ))
     (bool_cases u.taken))
-    (λ (t : (u.out ≡ true) × (cs ≡ (0, None) ∷ [])). let h = g.had refl t.0 in (None, record { what = (h.0 ∙ (λ j. (Top (record (peeked_up u 3) { out = t.0 j }), t.1 j)), h.1) }))
+    (λ (t : (u.out ≡ true) × (cs ≡ (0, None) ∷ [])). let h = g.had refl t.0 in
+    (None, record { what = (h.0 ∙ (λ j. (Top (record (peeked_up u 3) { out = t.0 j }), t.1 j)), h.1) }))
     hand) f
 
 -- where no ask stands, it has nothing
@@ -79,7 +90,8 @@ pub record PeekedUp (old new : UpperNote) (n : ℕ) : Type 0 where
   pub note : new ≡ found_below old new.phase
   pub phase : new.phase ≡ n
 
-pub peeked : (d : UpperSeat) (table link : TableId) (before : Sat) (old new : UpperNote) (n : ℕ) → IsUpper d table link before → upper_note link (upper_or d before.0) ≡ old
+pub peeked : (d : UpperSeat) (table link : TableId) (before : Sat) (old new : UpperNote) (n : ℕ) → IsUpper d table link before
+    → upper_note link (upper_or d before.0) ≡ old
     → new ≡ upper_note link (peeked_up (upper_or d before.0) n) → PeekedUp old new n
 peeked d table link before old new n _ same is =
     let e : new ≡ found_below old n = is ∙ ap (λ (z : UpperNote). found_below z n) same in
@@ -93,11 +105,13 @@ pub record Takes (old new : UpperNote) (result : Option Lot) : Type 0 where
   pub asked : OnSome result (old.taken ≡ false)
   pub none : IfNone result ((new ≡ found_below old new.phase) × ((new.phase ≢ 3) ⊎ (old.taken ≡ true)))
 
-told_taken : (d u : UpperSeat) (old : UpperNote) (link link' : TableId) (m m' : Sat) (v x : Option Lot) → upper_note link u ≡ old → link' ≡ link → Took u m v → m.1 ≡ (0, x) ∷ rest m.1 → m' ≡ (m.0, (0, None) ∷ rest m.1)
+told_taken : (d u : UpperSeat) (old : UpperNote) (link link' : TableId) (m m' : Sat) (v x : Option Lot) → upper_note link u ≡ old → link' ≡ link → Took u m v
+    → m.1 ≡ (0, x) ∷ rest m.1 → m' ≡ (m.0, (0, None) ∷ rest m.1)
     → Takes old (upper_note link' (upper_or d m'.0)) x
 told_taken d u old link link' m m' None x same here t is is' =
     let after = swapped m m' (Top (took_nothing u)) None None t.what.0 is' in
-    let e : upper_note link' (upper_or d m'.0) ≡ found_below old 3 = upper_told d link link' m' (took_nothing u) _ here after ∙ ap (λ (z : UpperNote). found_below z 3) same in
+    let e : upper_note link' (upper_or d m'.0) ≡ found_below old 3 = upper_told d link link' m' (took_nothing u) _ here after
+    ∙ ap (λ (z : UpperNote). found_below z 3) same in
     subst (λ (r : Option Lot). Takes old (upper_note link' (upper_or d m'.0)) r) (sym (got m (Top (took_nothing u)) None x t.what.0 is)) record {
       note = tt;
       fits = tt;
@@ -115,14 +129,19 @@ told_taken d u old link link' m m' (Some lot) x same here t is is' =
       none = tt;
     }
 
-pub takes : (d : UpperSeat) (table link link' : TableId) (before : Sat) (old : UpperNote) (m m' : Sat) (v x : Option Lot) → IsUpper d table link before → upper_note link (upper_or d before.0) ≡ old
-    → link' ≡ link → Took (upper_or d before.0) m v → m.1 ≡ (0, x) ∷ rest m.1 → m' ≡ (m.0, (0, None) ∷ rest m.1) → Takes old (upper_note link' (upper_or d m'.0)) x
+pub takes : (d : UpperSeat) (table link link' : TableId) (before : Sat) (old : UpperNote) (m m' : Sat) (v x : Option Lot) → IsUpper d table link before
+    → upper_note link (upper_or d before.0) ≡ old
+    → link' ≡ link → Took (upper_or d before.0) m v → m.1 ≡ (0, x) ∷ rest m.1 → m' ≡ (m.0, (0, None) ∷ rest m.1)
+    → Takes old (upper_note link' (upper_or d m'.0)) x
 takes d table link link' before old m m' v x _ = told_taken d (upper_or d before.0) old link link' m m' v x
 
 -- and the seat after it
-pub emptied : (d u : UpperSeat) (table mine : TableId) (m m' : Sat) (v : Option Lot) → mine ≡ table → table.words ≡ 4 → Took u m v → m' ≡ (m.0, (0, None) ∷ rest m.1) → IsUpper d table mine m'
-emptied d u table mine m m' None here words t is' = upper_now d table mine m' _ _ here words (swapped m m' (Top (took_nothing u)) None None t.what.0 is') (inr (refl, refl))
-emptied d u table mine m m' (Some lot) here words t is' = upper_now d table mine m' _ _ here words (swapped m m' (Top (took_lot u lot)) (Some lot) None t.what.0 is') (inr (refl, refl))
+pub emptied : (d u : UpperSeat) (table mine : TableId) (m m' : Sat) (v : Option Lot) → mine ≡ table → table.words ≡ 4 → Took u m v
+    → m' ≡ (m.0, (0, None) ∷ rest m.1) → IsUpper d table mine m'
+emptied d u table mine m m' None here words t is' = upper_now d table mine m' _ _ here words (swapped m m' (Top (took_nothing u)) None None t.what.0 is')
+    (inr (refl, refl))
+emptied d u table mine m m' (Some lot) here words t is' = upper_now d table mine m' _ _ here words
+    (swapped m m' (Top (took_lot u lot)) (Some lot) None t.what.0 is') (inr (refl, refl))
 
 -- ---- the lower end
 
@@ -131,7 +150,8 @@ pub record PeekedLow (old new : LowerNote) (n : ℕ) : Type 0 where
   pub note : new ≡ found_above old new.phase
   pub phase : new.phase ≡ n
 
-pub peeked_below : (d : LowerSeat) (table link : TableId) (before : Sat) (old new : LowerNote) (n : ℕ) → IsLower d table link before → lower_note link (lower_or d before.0) ≡ old
+pub peeked_below : (d : LowerSeat) (table link : TableId) (before : Sat) (old new : LowerNote) (n : ℕ) → IsLower d table link before
+    → lower_note link (lower_or d before.0) ≡ old
     → new ≡ lower_note link (peeked_low (lower_or d before.0) n) → PeekedLow old new n
 peeked_below d table link before old new n _ same is =
     let e : new ≡ found_above old n = is ∙ ap (λ (z : LowerNote). found_above z n) same in
@@ -160,19 +180,24 @@ pub record HoldTells (old new : LowerNote) (result : Option Lot) : Type 0 where
   pub none : IfNone result ((new ≡ found_above old new.phase) × (new.phase ≢ 0))
   pub still : IfNone result (1 ≤ old.phase → old.phase ≤ 2 → (1 ≤ new.phase) × (new.phase ≤ 2))
 
-told_held : (d l : LowerSeat) (old : LowerNote) (link link' : TableId) (m m' : Sat) (h : Held l m) (x : Option Lot) → lower_note link l ≡ old → link' ≡ link → m.1 ≡ (0, x) ∷ rest m.1
-    → m' ≡ (Bottom (record (peeked_low l 0) { phase = 1; out = false; held = loan h.lot; itag = None; index = None }), []) → HoldTells old (lower_note link' (lower_or d m'.0)) x
-told_held d l old link link' m m' h x same here is is' = subst (λ (r : Option Lot). HoldTells old (lower_note link' (lower_or d m'.0)) r) (sym (got m _ (Some h.lot) x h.seat is)) record {
-  note = lower_told d link link' m' _ _ here is' ∙ ap (λ (z : LowerNote). after_hold z h.lot) same;
-  fits = subst (λ (z : LowerNote). LotFits z.case z.lower h.lot) same h.fits;
-  grown = subst (λ (z : LowerNote). GrownFrom z.case z.lower z.given (h.lot).upto) same h.grown;
-  none = tt;
-  still = tt;
-}
+told_held : (d l : LowerSeat) (old : LowerNote) (link link' : TableId) (m m' : Sat) (h : Held l m) (x : Option Lot) → lower_note link l ≡ old → link' ≡ link
+    → m.1 ≡ (0, x) ∷ rest m.1
+    → m' ≡ (Bottom (record (peeked_low l 0) { phase = 1; out = false; held = loan h.lot; itag = None; index = None }), [])
+    → HoldTells old (lower_note link' (lower_or d m'.0)) x
+told_held d l old link link' m m' h x same here is is' = subst (λ (r : Option Lot). HoldTells old (lower_note link' (lower_or d m'.0)) r)
+    (sym (got m _ (Some h.lot) x h.seat is)) record {
+      note = lower_told d link link' m' _ _ here is' ∙ ap (λ (z : LowerNote). after_hold z h.lot) same;
+      fits = subst (λ (z : LowerNote). LotFits z.case z.lower h.lot) same h.fits;
+      grown = subst (λ (z : LowerNote). GrownFrom z.case z.lower z.given (h.lot).upto) same h.grown;
+      none = tt;
+      still = tt;
+    }
 
-pub hold_tells : (d : LowerSeat) (table link link' : TableId) (before : Sat) (old : LowerNote) (m m' : Sat) (h : Held (lower_or d before.0) m) (x : Option Lot) → IsLower d table link before
+pub hold_tells : (d : LowerSeat) (table link link' : TableId) (before : Sat) (old : LowerNote) (m m' : Sat) (h : Held (lower_or d before.0) m)
+    (x : Option Lot) → IsLower d table link before
     → lower_note link (lower_or d before.0) ≡ old → link' ≡ link → m.1 ≡ (0, x) ∷ rest m.1
-    → m' ≡ (Bottom (record (peeked_low (lower_or d before.0) 0) { phase = 1; out = false; held = loan h.lot; itag = None; index = None }), []) → HoldTells old (lower_note link' (lower_or d m'.0)) x
+    → m' ≡ (Bottom (record (peeked_low (lower_or d before.0) 0) { phase = 1; out = false; held = loan h.lot; itag = None; index = None }), [])
+    → HoldTells old (lower_note link' (lower_or d m'.0)) x
 hold_tells d table link link' before old m m' h x _ = told_held d (lower_or d before.0) old link link' m m' h x
 
 -- both parts of the ask are noted
@@ -189,17 +214,22 @@ pub record Noted (l : LowerSeat) (old : LowerNote) : Type 0 where
   pub index_is : l.index ≡ Some index
   pub ask_is : old.ask ≡ Some (ask itag index)
 
-pub noted : (d : LowerSeat) (table link : TableId) (before : Sat) (old : LowerNote) → IsLower d table link before → lower_note link (lower_or d before.0) ≡ old → IsSome old.ask → Noted (lower_or d before.0) old
+pub noted : (d : LowerSeat) (table link : TableId) (before : Sat) (old : LowerNote) → IsLower d table link before
+    → lower_note link (lower_or d before.0) ≡ old → IsSome old.ask → Noted (lower_or d before.0) old
 noted d table link before old _ same some =
     let p = parts (lower_or d before.0).itag (lower_or d before.0).index (subst (λ (z : LowerNote). IsSome z.ask) (sym same) some) in
     record { itag = p.0; index = p.1; itag_is = p.2; index_is = p.3; ask_is = sym (ap (λ (z : LowerNote). z.ask) same) ∙ (λ j. both_parts (p.2 j) (p.3 j)) }
 
-pub replied : (l : LowerSeat) (cs : List (ℕ × Option Lot)) (n : ℕ) (m : Sat) → Replies l cs n m → cs ≡ [] → n ≡ 2 → m ≡ (Bottom (record (peeked_low l 2) { out = true }), (0, None) ∷ [])
-replied l cs n m r bare asked = subst (λ (k : ℕ). Replies l cs k m → m ≡ (Bottom (record (peeked_low l 2) { out = true }), (0, None) ∷ [])) (sym asked) (λ g. bared m _ _ _ (g.slot refl) (ap (λ z. (0, None) ∷ z) bare)) r
+pub replied : (l : LowerSeat) (cs : List (ℕ × Option Lot)) (n : ℕ) (m : Sat) → Replies l cs n m → cs ≡ [] → n ≡ 2
+    → m ≡ (Bottom (record (peeked_low l 2) { out = true }), (0, None) ∷ [])
+replied l cs n m r bare asked = subst (λ (k : ℕ). Replies l cs k m → m ≡ (Bottom (record (peeked_low l 2) { out = true }), (0, None) ∷ [])) (sym asked)
+    (λ g. bared m _ _ _ (g.slot refl) (ap (λ z. (0, None) ∷ z) bare)) r
 
-pub asked_note : (d : LowerSeat) (table link : TableId) (before : Sat) (old : LowerNote) (n i k : ℕ) → IsLower d table link before → lower_note link (lower_or d before.0) ≡ old → n ≡ 2
+pub asked_note : (d : LowerSeat) (table link : TableId) (before : Sat) (old : LowerNote) (n i k : ℕ) → IsLower d table link before
+    → lower_note link (lower_or d before.0) ≡ old → n ≡ 2
     → lower_note link (record (peeked_low (lower_or d before.0) n) { itag = Some i; index = Some k }) ≡ after_asked old (ask i k)
-asked_note d table link before old n i k _ same two = (λ j. lower_note link (record (peeked_low (lower_or d before.0) (two j)) { itag = Some i; index = Some k })) ∙ ap (λ (z : LowerNote). after_asked z (ask i k)) same
+asked_note d table link before old n i k _ same two = (λ j. lower_note link
+    (record (peeked_low (lower_or d before.0) (two j)) { itag = Some i; index = Some k })) ∙ ap (λ (z : LowerNote). after_asked z (ask i k)) same
 
 -- ---- both ends
 
@@ -207,10 +237,12 @@ pub joined : (m m' o : Sat) (u : UpperSeat) (l : LowerSeat) → m.0 ≡ Top u �
 joined m m' o u l top bottom is = ap (λ (z : Sat). z.0) is ∙ λ j. both_sides (top j) (bottom j)
 
 -- what the closed link had in the slot
-pub last : (u : UpperSeat) (l : LowerSeat) (n : ℕ) (cs : List (ℕ × Option Lot)) (slot x : Option Lot) → cs ≡ (0, slot) ∷ [] → cs ≡ (0, x) ∷ rest cs → AtEnd u l n slot → AtEnd u l n x
+pub last : (u : UpperSeat) (l : LowerSeat) (n : ℕ) (cs : List (ℕ × Option Lot)) (slot x : Option Lot) → cs ≡ (0, slot) ∷ [] → cs ≡ (0, x) ∷ rest cs
+    → AtEnd u l n slot → AtEnd u l n x
 last u l n cs slot x a b c = subst (AtEnd u l n) (ap (λ (z : List (ℕ × Option Lot)). (get_or z 0 (0, slot)).1) (sym a ∙ b)) c
 
-pub closed : (u : UpperSeat) (l : LowerSeat) (link link' : TableId) (n : ℕ) (x : Option Lot) → AtEnd u l n x → Closes (upper_note link u) (lower_note link' l) n x
+pub closed : (u : UpperSeat) (l : LowerSeat) (link link' : TableId) (n : ℕ) (x : Option Lot) → AtEnd u l n x
+    → Closes (upper_note link u) (lower_note link' l) n x
 closed u l link link' n x c = record {
   follows = c.follows;
   lent = λ z. let t = (c.shows).lent z in (t.0, t.1, t.2, ap lent_counts t.3);
@@ -219,7 +251,8 @@ closed u l link link' n x c = record {
   given = (c.shows).given;
 }
 
-pub agreed : (u : UpperSeat) (l : LowerSeat) (n : ℕ) (x : Option Lot) → AtEnd u l n x → u.phase ≤ 1 → l.phase ≡ 1 → (x ≡ None) × (lent_counts l.held ≡ lent_counts u.lent)
+pub agreed : (u : UpperSeat) (l : LowerSeat) (n : ℕ) (x : Option Lot) → AtEnd u l n x → u.phase ≤ 1 → l.phase ≡ 1
+    → (x ≡ None) × (lent_counts l.held ≡ lent_counts u.lent)
 agreed u l n x c a b = let t = c.counts a b in (t.0, ap lent_counts t.1)
 
 pub hand_kept : (u : UpperSeat) (m m' : Sat) (w : View) → m.0 ≡ Top u → m' ≡ (w, m.1) → IsEmptyHanded u m.1 → IsEmptyHanded u m'.1

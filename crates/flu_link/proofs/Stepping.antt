@@ -1,17 +1,16 @@
 -- A step of one end keeps the rule where it keeps what ties the two ends together.
-use Rattle.std.proofs.Common.{◌≡◌, ◌≢◌, ℕ, zero, suc, ◌+◌, ◌<◌, ◌≤◌, ◌⊎◌, Bool, true, false, ◌||◌, if◌then◌else◌, List, [], ◌∷◌, ◌++◌, length, get_or, set, sym, refl, ap, ◌∙◌, subst, ⊎_elim, inl, inr, arith, Option, Some, None}
+use Rattle.std.proofs.Common.{◌≡◌, ◌≢◌, ℕ, ◌≤◌, ◌⊎◌, Bool, true, false, ◌||◌, if◌then◌else◌, List, [], ◌∷◌, get_or, set, sym, refl, ap, ◌∙◌, subst, ⊎_elim, inl, inr, arith, Option, Some}
 use mathlib.Core.Option as maybe
-use lib.ListN.{get_elem?}
 use lib.Seq.{set-get_or}
-use Rattle.atomic_table.specs.Table.{State, Me, Act, Valid, homes_after, carried_after, stepped, Allows, Splits, Joins}
-use Rattle.atomic_table.proofs.Lists.{at_set, at_snoc}
+use Rattle.atomic_table.specs.Table.{State, Act, Valid, homes_after, carried_after, Allows}
+use Rattle.atomic_table.proofs.Lists.{at_set}
 use Rattle.flu_fork.specs.declared.lots.Lot.{Lot}
 use Rattle.flu_link.specs.declared.notes.UpperSeat.{UpperSeat}
 use Rattle.flu_link.specs.declared.notes.LowerSeat.{LowerSeat}
 use Rattle.flu_link.specs.declared.notes.View.{View}
 use Rattle.flu_link.specs.declared.notes.View.TheVariants.{Fresh, Top, Bottom, Joined, Closed}
 use Rattle.flu_link.specs.Seats.{Sat}
-use Rattle.flu_link.specs.Rule.{Follows, Shows, Lies, Agrees, Stops, Linked, Knows, Kept}
+use Rattle.flu_link.specs.Rule.{Follows, Shows, Agrees, Linked, Knows, Kept}
 
 abbrev pub St : Type 0
 St = State (Option Lot) View
@@ -20,14 +19,16 @@ abbrev pub Homes : Type 0
 Homes = List (maybe.Option (Option Lot))
 
 -- what a seat knows stays true where the note of the other end changes
-upper_moved : (upper lower mode : ℕ) (up up' : UpperSeat) (low : LowerSeat) (seat : ℕ) (v : View) → mode ≡ 1 → seat ≢ upper → Knows upper lower mode up low seat v → Knows upper lower mode up' low seat v
+upper_moved : (upper lower mode : ℕ) (up up' : UpperSeat) (low : LowerSeat) (seat : ℕ) (v : View) → mode ≡ 1 → seat ≢ upper
+    → Knows upper lower mode up low seat v → Knows upper lower mode up' low seat v
 upper_moved upper lower mode up up' low seat (Fresh u) one other k = absurd (other k.0)
 upper_moved upper lower mode up up' low seat (Top u) one other k = absurd (other k.0)
 upper_moved upper lower mode up up' low seat (Bottom l) one other k = k
 upper_moved upper lower mode up up' low seat (Joined u l) one other k = absurd (other k.0)
 upper_moved upper lower mode up up' low seat Closed one other k = tt
 
-lower_moved : (upper lower mode : ℕ) (up : UpperSeat) (low low' : LowerSeat) (seat : ℕ) (v : View) → mode ≡ 1 → seat ≢ lower → Knows upper lower mode up low seat v → Knows upper lower mode up low' seat v
+lower_moved : (upper lower mode : ℕ) (up : UpperSeat) (low low' : LowerSeat) (seat : ℕ) (v : View) → mode ≡ 1 → seat ≢ lower
+    → Knows upper lower mode up low seat v → Knows upper lower mode up low' seat v
 lower_moved upper lower mode up low low' seat (Fresh u) one other k = absurd (let z : mode ≡ 0 = k.2 in omega arith)
 lower_moved upper lower mode up low low' seat (Top u) one other k = k
 lower_moved upper lower mode up low low' seat (Bottom l) one other k = absurd (other k.0)
@@ -37,9 +38,11 @@ lower_moved upper lower mode up low low' seat Closed one other k = tt
 -- what a step of the upper end is to show
 abbrev pub UpperGoes : ℕ → ℕ → UpperSeat → List (ℕ × Option Lot) → ℕ → (ℕ → ℕ) → (ℕ → Sat → Type 0) → Type 0
 UpperGoes n id u cs i f told = (low : LowerSeat) (words : List ℕ) (homes : Homes) → Linked u low words homes
-    → (u' : UpperSeat) × (a : Act (Option Lot)) × Valid homes cs a × Linked u' low (set words i (f (get_or words i 0))) (homes_after homes cs a) × told (get_or words i 0) (Top u', carried_after cs a)
+    → (u' : UpperSeat) × (a : Act (Option Lot)) × Valid homes cs a × Linked u' low (set words i (f (get_or words i 0))) (homes_after homes cs a)
+    × told (get_or words i 0) (Top u', carried_after cs a)
 
-pub upper_steps : (n id : ℕ) (m : Sat) (u : UpperSeat) (i : ℕ) (f : ℕ → ℕ) (told : ℕ → Sat → Type 0) → m.0 ≡ Top u → UpperGoes n id u m.1 i f told → Allows Kept n id m i f told
+pub upper_steps : (n id : ℕ) (m : Sat) (u : UpperSeat) (i : ℕ) (f : ℕ → ℕ) (told : ℕ → Sat → Type 0) → m.0 ≡ Top u → UpperGoes n id u m.1 i f told
+    → Allows Kept n id m i f told
 upper_steps n id m u i f told is goes s r wide at small =
     let k : Knows r.upper r.lower r.mode r.up r.low id (Top u) = subst (Knows r.upper r.lower r.mode r.up r.low id) is (r.each id m.0 at) in
     let one : r.mode ≡ 1 = k.2 in
@@ -64,9 +67,11 @@ upper_steps n id m u i f told is goes s r wide at small =
 
 abbrev pub LowerGoes : ℕ → ℕ → LowerSeat → List (ℕ × Option Lot) → ℕ → (ℕ → ℕ) → (ℕ → Sat → Type 0) → Type 0
 LowerGoes n id l cs i f told = (up : UpperSeat) (words : List ℕ) (homes : Homes) → Linked up l words homes
-    → (l' : LowerSeat) × (a : Act (Option Lot)) × Valid homes cs a × Linked up l' (set words i (f (get_or words i 0))) (homes_after homes cs a) × told (get_or words i 0) (Bottom l', carried_after cs a)
+    → (l' : LowerSeat) × (a : Act (Option Lot)) × Valid homes cs a × Linked up l' (set words i (f (get_or words i 0))) (homes_after homes cs a)
+    × told (get_or words i 0) (Bottom l', carried_after cs a)
 
-pub lower_steps : (n id : ℕ) (m : Sat) (l : LowerSeat) (i : ℕ) (f : ℕ → ℕ) (told : ℕ → Sat → Type 0) → m.0 ≡ Bottom l → LowerGoes n id l m.1 i f told → Allows Kept n id m i f told
+pub lower_steps : (n id : ℕ) (m : Sat) (l : LowerSeat) (i : ℕ) (f : ℕ → ℕ) (told : ℕ → Sat → Type 0) → m.0 ≡ Bottom l → LowerGoes n id l m.1 i f told
+    → Allows Kept n id m i f told
 lower_steps n id m l i f told is goes s r wide at small =
     let k : Knows r.upper r.lower r.mode r.up r.low id (Bottom l) = subst (Knows r.upper r.lower r.mode r.up r.low id) is (r.each id m.0 at) in
     let one : r.mode ≡ 1 = k.2 in
@@ -91,9 +96,17 @@ lower_steps n id m l i f told is goes s r wide at small =
 
 -- the upper note with other numbers that no claim on the lots reads
 abbrev pub aside : UpperSeat → ℕ → Bool → ℕ → Bool → ℕ → ℕ → UpperSeat
-aside u phase out looks stopped stop_looks stop_found = record u { phase = phase; out = out; looks = looks; stopped = stopped; stop_looks = stop_looks; stop_found = stop_found }
+aside u phase out looks stopped stop_looks stop_found = record u {
+  phase = phase;
+  out = out;
+  looks = looks;
+  stopped = stopped;
+  stop_looks = stop_looks;
+  stop_found = stop_found;
+}
 
-pub aside_agrees : (u : UpperSeat) (low : LowerSeat) (p phase : ℕ) (out : Bool) (looks : ℕ) (stopped : Bool) (stop_looks stop_found : ℕ) → Agrees u low p → Agrees (aside u phase out looks stopped stop_looks stop_found) low p
+pub aside_agrees : (u : UpperSeat) (low : LowerSeat) (p phase : ℕ) (out : Bool) (looks : ℕ) (stopped : Bool) (stop_looks stop_found : ℕ) → Agrees u low p
+    → Agrees (aside u phase out looks stopped stop_looks stop_found) low p
 aside_agrees u low p phase out looks stopped stop_looks stop_found a = record {
   grown = a.grown;
   same = a.same;
@@ -106,7 +119,8 @@ aside_agrees u low p phase out looks stopped stop_looks stop_found a = record {
   none = a.none;
 }
 
-pub aside_shows : (u : UpperSeat) (low : LowerSeat) (p phase : ℕ) (out : Bool) (looks : ℕ) (stopped : Bool) (stop_looks stop_found : ℕ) (slot : Option Lot) → Shows u low p slot → Shows (aside u phase out looks stopped stop_looks stop_found) low p slot
+pub aside_shows : (u : UpperSeat) (low : LowerSeat) (p phase : ℕ) (out : Bool) (looks : ℕ) (stopped : Bool) (stop_looks stop_found : ℕ) (slot : Option Lot)
+    → Shows u low p slot → Shows (aside u phase out looks stopped stop_looks stop_found) low p slot
 aside_shows u low p phase out looks stopped stop_looks stop_found slot s = record { lent = s.lent; empty = s.empty; taken = s.taken; given = s.given }
 
 -- the lower note with other numbers that no claim on the lots reads
@@ -122,7 +136,8 @@ low_shows u l l' p slot same s = record {
   given = λ a b. let g = s.given a b in (g.0, g.1, g.2, g.3, g.4 ∙ sym same);
 }
 
-pub low_agrees : (u : UpperSeat) (l : LowerSeat) (p looks : ℕ) (stopped : Bool) (stop_looks stop_found : ℕ) → Agrees u l p → Agrees u (apart_from l looks stopped stop_looks stop_found) p
+pub low_agrees : (u : UpperSeat) (l : LowerSeat) (p looks : ℕ) (stopped : Bool) (stop_looks stop_found : ℕ) → Agrees u l p
+    → Agrees u (apart_from l looks stopped stop_looks stop_found) p
 low_agrees u l p looks stopped stop_looks stop_found a = record {
   grown = a.grown;
   same = a.same;

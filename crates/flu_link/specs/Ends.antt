@@ -1,5 +1,5 @@
 -- What the two ends of a link are, and what is in it when it is closed.
-use Rattle.std.specs.Prelude.{◌≡◌, ℕ, ◌≤◌, ◌<◌, ◌⊎◌, true, false, [], ◌∷◌, Option, Some, None, IfSome}
+use Rattle.std.specs.Prelude.{◌≡◌, ℕ, ◌<◌, ◌⊎◌, true, false, [], ◌∷◌, Option, Some, None}
 use Rattle.atomic_table.specs.Seated.{TableId}
 use Rattle.flu_fork.specs.declared.lots.Lot.{Lot}
 use Rattle.flu_fork.specs.declared.lots.Ask.{Ask}
@@ -9,7 +9,7 @@ use Rattle.flu_link.specs.declared.notes.UpperSeat.{UpperSeat}
 use Rattle.flu_link.specs.declared.notes.LowerSeat.{LowerSeat}
 use Rattle.flu_link.specs.declared.notes.View.TheVariants.{Top, Bottom}
 use Rattle.flu_link.specs.Seats.{Sat, ask, lent_counts, upper_or, lower_or}
-use Rattle.flu_link.specs.Notes.{UpperNote, LowerNote}
+use Rattle.flu_link.specs.Notes.{UpperNote, LowerNote, phase_lent, phase_given}
 use Rattle.flu_link.specs.Rule.{Follows}
 
 -- the ask, where both parts of it were read
@@ -68,7 +68,8 @@ pub record IsLower (d : LowerSeat) (table mine : TableId) (me : Sat) : Type 0 wh
 -- that was given and not taken
 pub record Closes (up : UpperNote) (low : LowerNote) (phase : ℕ) (found : Option Lot) : Type 0 where
   pub follows : Follows up.phase low.phase phase
-  pub lent : phase ≡ 0 → (lot : Lot) × (found ≡ Some lot) × LotFits up.case up.lower lot × (counts_of lot ≡ up.lent)
-  pub empty : 0 < phase → phase < 3 → found ≡ None
-  pub taken : phase ≡ 3 → up.taken ≡ true → found ≡ None
-  pub given : phase ≡ 3 → up.taken ≡ false → (lot : Lot) × (found ≡ Some lot) × LotFits up.case up.lower lot × Served up.case up.lower up.lent up.ask lot × (lot.upto ≡ low.given)
+  pub lent : phase ≡ phase_lent → (lot : Lot) × (found ≡ Some lot) × LotFits up.case up.lower lot × (counts_of lot ≡ up.lent)
+  pub empty : phase_lent < phase → phase < phase_given → found ≡ None
+  pub taken : phase ≡ phase_given → up.taken ≡ true → found ≡ None
+  pub given : phase ≡ phase_given → up.taken ≡ false → (lot : Lot) × (found ≡ Some lot) × LotFits up.case up.lower lot
+      × Served up.case up.lower up.lent up.ask lot × (lot.upto ≡ low.given)

@@ -1,5 +1,5 @@
--- What contracts see of the two ends of a link, and how each call changes it. Phase 0 is Lent, 1 Held, 2 Asked, 3 Given.
-use Rattle.std.specs.Prelude.{◌≡◌, ℕ, ◌+◌, Bool, true, false, List, Option, Some, None}
+-- What contracts see of the two ends of a link, and how each call changes it.
+use Rattle.std.specs.Prelude.{ℕ, ◌+◌, Bool, true, false, List, Option, Some, None}
 use Rattle.atomic_table.specs.Seated.{TableId}
 use Rattle.flu_fork.specs.declared.content.Content.{Content}
 use Rattle.flu_fork.specs.declared.lots.Lot.{Lot}
@@ -7,6 +7,19 @@ use Rattle.flu_fork.specs.declared.lots.Ask.{Ask}
 use Rattle.flu_fork.specs.Laws.{no_counts}
 use Rattle.flu_fork.specs.Lots.{job}
 use Rattle.flu_fork.specs.Serving.{LotCounts, counts_of, none_counted}
+
+-- THE PHASES, in the order in which they follow one another; behind the last the first comes
+abbrev pub phase_lent : ℕ
+phase_lent = 0
+
+abbrev pub phase_held : ℕ
+phase_held = 1
+
+abbrev pub phase_asked : ℕ
+phase_asked = 2
+
+abbrev pub phase_given : ℕ
+phase_given = 3
 
 -- the end of the worker above
 pub record UpperNote : Type 0 where
@@ -53,7 +66,7 @@ upper_start link k v = record {
   link = link;
   case = k;
   lower = v;
-  phase = 3;
+  phase = phase_given;
   lent = none_counted k;
   received = no_counts (job k);
   ask = record { itag = record { 0 = 0 }; index = 0 };
@@ -69,7 +82,7 @@ lower_start link k v = record {
   link = link;
   case = k;
   lower = v;
-  phase = 3;
+  phase = phase_given;
   held = none_counted k;
   given = no_counts (job k);
   ask = None;
@@ -85,13 +98,13 @@ abbrev pub found_below : UpperNote → ℕ → UpperNote
 found_below u phase = record u { phase = phase; looks = u.looks + 1 }
 
 abbrev pub after_ask : UpperNote → Ask → UpperNote
-after_ask u a = record u { phase = 2; looks = u.looks + 1; ask = a; taken = false }
+after_ask u a = record u { phase = phase_asked; looks = u.looks + 1; ask = a; taken = false }
 
 abbrev pub after_take : UpperNote → Lot → UpperNote
-after_take u lot = record u { phase = 3; looks = u.looks + 1; taken = true; received = lot.upto }
+after_take u lot = record u { phase = phase_given; looks = u.looks + 1; taken = true; received = lot.upto }
 
 abbrev pub after_lend : UpperNote → Lot → UpperNote
-after_lend u lot = record u { phase = 0; looks = u.looks + 1; lent = counts_of lot }
+after_lend u lot = record u { phase = phase_lent; looks = u.looks + 1; lent = counts_of lot }
 
 -- ---- the lower end
 
@@ -99,10 +112,10 @@ abbrev pub found_above : LowerNote → ℕ → LowerNote
 found_above l phase = record l { phase = phase; looks = l.looks + 1 }
 
 abbrev pub after_hold : LowerNote → Lot → LowerNote
-after_hold l lot = record l { phase = 1; looks = l.looks + 1; held = counts_of lot; ask = None }
+after_hold l lot = record l { phase = phase_held; looks = l.looks + 1; held = counts_of lot; ask = None }
 
 abbrev pub after_asked : LowerNote → Ask → LowerNote
-after_asked l y = record l { phase = 2; looks = l.looks + 1; ask = Some y }
+after_asked l y = record l { phase = phase_asked; looks = l.looks + 1; ask = Some y }
 
 abbrev pub after_give : LowerNote → Lot → LowerNote
-after_give l lot = record l { phase = 3; looks = l.looks + 1; given = lot.upto; ask = None }
+after_give l lot = record l { phase = phase_given; looks = l.looks + 1; given = lot.upto; ask = None }

@@ -1,4 +1,4 @@
--- THE RULE of a link's table, which holds between any two steps. Phase 0 is Lent, 1 Held, 2 Asked, 3 Given.
+-- THE RULE of a link's table, which holds between any two steps.
 use Rattle.std.specs.Prelude.{◌≡◌, ◌≢◌, ℕ, ◌^◌, ◌<◌, ◌≤◌, true, false, ◌||◌, if◌then◌else◌, List, [], ◌∷◌, slice_index, Option, Some, None, IfSome}
 use mathlib.Core.Option as maybe
 use lib.ListN.{get_elem?}
@@ -11,44 +11,47 @@ use Rattle.flu_link.specs.declared.notes.LowerSeat.{LowerSeat}
 use Rattle.flu_link.specs.declared.notes.View.{View}
 use Rattle.flu_link.specs.declared.notes.View.TheVariants.{Fresh, Top, Bottom, Joined, Closed}
 use Rattle.flu_link.specs.Seats.{loan, lent_counts, lower_seat}
+use Rattle.flu_link.specs.Notes.{phase_lent, phase_held, phase_asked, phase_given}
 
 -- THE PHASE, by those that the ends noted last: where an end stores next, it knows the phase, and else the phase is what it noted or the one behind it
 pub record Follows (up low phase : ℕ) : Type 0 where
-  pub four : phase < 4
-  pub upper_lent : up ≡ 0 → phase ≤ 1
-  pub upper_held : up ≡ 1 → phase ≡ 1
-  pub upper_asked : up ≡ 2 → 2 ≤ phase
-  pub upper_given : up ≡ 3 → phase ≡ 3
-  pub lower_lent : low ≡ 0 → phase ≡ 0
-  pub lower_held : low ≡ 1 → (1 ≤ phase) × (phase ≤ 2)
-  pub lower_asked : low ≡ 2 → phase ≡ 2
-  pub lower_given : low ≡ 3 → (phase ≢ 1) × (phase ≢ 2)
+  pub four : phase ≤ phase_given
+  pub upper_lent : up ≡ phase_lent → phase ≤ phase_held
+  pub upper_held : up ≡ phase_held → phase ≡ phase_held
+  pub upper_asked : up ≡ phase_asked → phase_asked ≤ phase
+  pub upper_given : up ≡ phase_given → phase ≡ phase_given
+  pub lower_lent : low ≡ phase_lent → phase ≡ phase_lent
+  pub lower_held : low ≡ phase_held → (phase_held ≤ phase) × (phase ≤ phase_asked)
+  pub lower_asked : low ≡ phase_asked → phase ≡ phase_asked
+  pub lower_given : low ≡ phase_given → (phase ≢ phase_held) × (phase ≢ phase_asked)
 
 -- THE SLOT, where it is at home: a lot that was lent fits, and has the counts that the upper end lent; a lot that was given fits, and is served for the ask
 pub record Shows (up : UpperSeat) (low : LowerSeat) (phase : ℕ) (slot : Option Lot) : Type 0 where
-  pub lent : phase ≡ 0 → (lot : Lot) × (slot ≡ Some lot) × LotFits up.case up.lower lot × (loan lot ≡ up.lent)
-  pub empty : 0 < phase → phase < 3 → slot ≡ None
-  pub taken : phase ≡ 3 → up.taken ≡ true → slot ≡ None
-  pub given : phase ≡ 3 → up.taken ≡ false → (lot : Lot) × (slot ≡ Some lot) × LotFits up.case up.lower lot × Served up.case up.lower (lent_counts up.lent) up.ask lot × (lot.upto ≡ low.given)
+  pub lent : phase ≡ phase_lent → (lot : Lot) × (slot ≡ Some lot) × LotFits up.case up.lower lot × (loan lot ≡ up.lent)
+  pub empty : phase_lent < phase → phase < phase_given → slot ≡ None
+  pub taken : phase ≡ phase_given → up.taken ≡ true → slot ≡ None
+  pub given : phase ≡ phase_given → up.taken ≡ false → (lot : Lot) × (slot ≡ Some lot) × LotFits up.case up.lower lot
+      × Served up.case up.lower (lent_counts up.lent) up.ask lot × (lot.upto ≡ low.given)
 
 -- and else it is out with the end that stores next
 pub record Lies (up : UpperSeat) (low : LowerSeat) (phase : ℕ) (home : maybe.Option (Option Lot)) : Type 0 where
-  pub upper_out : up.out ≡ true → (phase ≡ 3) × (up.phase ≡ 3) × (up.taken ≡ true) × (low.out ≡ false)
-  pub lower_out : low.out ≡ true → (phase ≡ low.phase) × (phase ≢ 1) × (phase < 3)
+  pub upper_out : up.out ≡ true → (phase ≡ phase_given) × (up.phase ≡ phase_given) × (up.taken ≡ true) × (low.out ≡ false)
+  pub lower_out : low.out ≡ true → (phase ≡ low.phase) × (phase ≢ phase_held) × (phase < phase_given)
   pub at_home : up.out ≡ false → low.out ≡ false → (slot : Option Lot) × (home ≡ maybe.some slot) × Shows up low phase slot
 
 -- THE COUNTS AND THE ASK, of which both ends know
 pub record Agrees (up : UpperSeat) (low : LowerSeat) (phase : ℕ) : Type 0 where
-  pub grown : phase < 3 → GrownFrom up.case up.lower low.given up.lent.upto
-  pub same : phase < 3 → up.received ≡ low.given
+  pub grown : phase < phase_given → GrownFrom up.case up.lower low.given up.lent.upto
+  pub same : phase < phase_given → up.received ≡ low.given
   pub same_taken : up.taken ≡ true → up.received ≡ low.given
-  pub held : 0 < phase → phase < 3 → low.held ≡ up.lent
+  pub held : phase_lent < phase → phase < phase_given → low.held ≡ up.lent
   pub held_out : low.out ≡ true → low.held ≡ up.lent
-  pub asked : phase ≡ 2 → (up.taken ≡ false) × AsksAbove up.case up.lower up.ask × (up.ask.index ≡ slice_index up.lent.upto up.ask.itag.0) × (up.ask.itag.0 < 2 ^ 32)
+  pub asked : phase ≡ phase_asked → (up.taken ≡ false) × AsksAbove up.case up.lower up.ask × (up.ask.index ≡ slice_index up.lent.upto up.ask.itag.0)
+      × (up.ask.itag.0 < 2 ^ 32)
   -- the parts of the ask that the lower end read since its last store
-  pub itag : low.phase ≡ 2 → IfSome low.itag (λ i. i ≡ up.ask.itag.0)
-  pub index : low.phase ≡ 2 → IfSome low.index (λ k. k ≡ up.ask.index)
-  pub none : low.phase ≢ 2 → (low.itag ≡ None) × (low.index ≡ None)
+  pub itag : low.phase ≡ phase_asked → IfSome low.itag (λ i. i ≡ up.ask.itag.0)
+  pub index : low.phase ≡ phase_asked → IfSome low.index (λ k. k ≡ up.ask.index)
+  pub none : low.phase ≢ phase_asked → (low.itag ≡ None) × (low.index ≡ None)
 
 -- THE STOP WORD is 1 where an end stopped
 pub record Stops (up : UpperSeat) (low : LowerSeat) (stop : ℕ) : Type 0 where

@@ -1,5 +1,5 @@
 -- What the seats at a link's table know: the upper end's, the lower end's, and one that is both. Phase 0 is Lent, 1 Held, 2 Asked, 3 Given.
-use Rattle.std.specs.Prelude.{ℕ, true, false, List, Option, Some, None}
+use Rattle.std.specs.Prelude.{ℕ, true, false, Option, None}
 use Rattle.atomic_table.specs.Table.{Me}
 use Rattle.flu_fork.specs.declared.content.Content.{Content}
 use Rattle.flu_fork.specs.declared.lots.Lot.{Lot}

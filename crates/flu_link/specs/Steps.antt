@@ -1,5 +1,5 @@
 -- What each step on a link's table tells: of the step, the seat before, the number found or stored, and the seat after.
-use Rattle.std.specs.Prelude.{◌≡◌, ◌≢◌, ℕ, ◌+◌, ◌^◌, ◌<◌, ◌≤◌, Bool, true, false, List, [], ◌∷◌, slice_index, Option, Some, None}
+use Rattle.std.specs.Prelude.{◌≡◌, ◌≢◌, ℕ, ◌+◌, ◌^◌, ◌<◌, ◌≤◌, true, false, List, [], ◌∷◌, slice_index, Option, Some, None}
 use Rattle.atomic_table.specs.Table.{Step}
 use Rattle.flu_fork.specs.declared.lots.Lot.{Lot}
 use Rattle.flu_fork.specs.Lots.{LotFits}
@@ -31,7 +31,10 @@ pub record Fetches (u : UpperSeat) (out : List (ℕ × Option Lot)) (n : ℕ) (m
   pub other : n ≢ 3 → m' ≡ (Top (peeked_up u n), out)
   pub had : n ≡ 3 → u.out ≡ true → (m' ≡ (Top (peeked_up u n), out)) × (u.taken ≡ true)
   pub nothing : n ≡ 3 → u.out ≡ false → u.taken ≡ true → m' ≡ (Top (record (peeked_up u n) { out = true }), (0, None) ∷ out)
-  pub lot : n ≡ 3 → u.taken ≡ false → (lot : Lot) × (m' ≡ (Top (record (peeked_up u n) { out = true; taken = true; received = lot.upto }), (0, Some lot) ∷ out)) × LotFits u.case u.lower lot × Served u.case u.lower (lent_counts u.lent) u.ask lot
+  pub lot : n ≡ 3 → u.taken ≡ false → (lot : Lot) × (m' ≡ (
+    Top (record (peeked_up u n) { out = true; taken = true; received = lot.upto }),
+    (0, Some lot) ∷ out,
+  )) × LotFits u.case u.lower lot × Served u.case u.lower (lent_counts u.lent) u.ask lot
 
 abbrev pub fetches : Play
 fetches st m n m' = (u : UpperSeat) → m.0 ≡ Top u → Fetches u m.1 n m'
@@ -53,17 +56,20 @@ stops_up st m n m' = (u : UpperSeat) → m.0 ≡ Top u → m' ≡ (Top (record u
 
 abbrev pub sees_stop_up : Play
 sees_stop_up st m n m' =
-    (u : UpperSeat) → m.0 ≡ Top u → (m' ≡ (Top (record u { stop_looks = u.stop_looks + 1; stop_found = n }), m.1)) × (n ≤ 1) × (u.stop_found ≤ n) × (u.stopped ≡ true → n ≡ 1)
+    (u : UpperSeat) → m.0 ≡ Top u → (m' ≡ (Top (record u { stop_looks = u.stop_looks + 1; stop_found = n }), m.1)) × (n ≤ 1) × (u.stop_found ≤ n)
+    × (u.stopped ≡ true → n ≡ 1)
 
 abbrev pub looks_low : Play
-looks_low st m n m' = (l : LowerSeat) → m.0 ≡ Bottom l → (m' ≡ (Bottom (peeked_low l n), m.1)) × (1 ≤ l.phase → l.phase ≤ 2 → (1 ≤ n) × (n ≤ 2)) × (l.phase ≡ 2 → n ≡ 2)
+looks_low st m n m' = (l : LowerSeat) → m.0 ≡ Bottom l → (m' ≡ (Bottom (peeked_low l n), m.1)) × (1 ≤ l.phase → l.phase ≤ 2 → (1 ≤ n) × (n ≤ 2))
+    × (l.phase ≡ 2 → n ≡ 2)
 
 -- the lower end looks, and takes the lot where it finds Lent
 pub record Holds (l : LowerSeat) (out : List (ℕ × Option Lot)) (n : ℕ) (m' : Sat) : Type 0 where
   -- while it holds, the upper end can only ask
   pub still : 1 ≤ l.phase → l.phase ≤ 2 → (1 ≤ n) × (n ≤ 2)
   pub other : n ≢ 0 → m' ≡ (Bottom (peeked_low l n), out)
-  pub lot : n ≡ 0 → (lot : Lot) × (m' ≡ (Bottom (record (peeked_low l n) { out = true; held = loan lot }), (0, Some lot) ∷ out)) × LotFits l.case l.lower lot × GrownFrom l.case l.lower l.given lot.upto
+  pub lot : n ≡ 0 → (lot : Lot) × (m' ≡ (Bottom (record (peeked_low l n) { out = true; held = loan lot }), (0, Some lot) ∷ out)) × LotFits l.case l.lower lot
+      × GrownFrom l.case l.lower l.given lot.upto
 
 abbrev pub holds : Play
 holds st m n m' = (l : LowerSeat) → m.0 ≡ Bottom l → Holds l m.1 n m'
@@ -81,7 +87,8 @@ abbrev pub stores_held : Play
 stores_held st m n m' = (l : LowerSeat) → m.0 ≡ Bottom l → m' ≡ (Bottom (record l { phase = 1; out = false; itag = None; index = None }), [])
 
 abbrev pub gives_lot : Play
-gives_lot st m n m' = (l : LowerSeat) (lot : Lot) → m.0 ≡ Bottom l → m.1 ≡ (0, Some lot) ∷ [] → m' ≡ (Bottom (record l { phase = 3; out = false; given = lot.upto; itag = None; index = None }), [])
+gives_lot st m n m' = (l : LowerSeat) (lot : Lot) → m.0 ≡ Bottom l → m.1 ≡ (0, Some lot) ∷ []
+    → m' ≡ (Bottom (record l { phase = 3; out = false; given = lot.upto; itag = None; index = None }), [])
 
 abbrev pub sees_itag : Play
 sees_itag st m n m' = (l : LowerSeat) → m.0 ≡ Bottom l → (m' ≡ (Bottom (record l { itag = Some n }), m.1)) × (n < 2 ^ 32)
@@ -95,7 +102,8 @@ stops_low st m n m' = (l : LowerSeat) → m.0 ≡ Bottom l → m' ≡ (Bottom (r
 
 abbrev pub sees_stop_low : Play
 sees_stop_low st m n m' =
-    (l : LowerSeat) → m.0 ≡ Bottom l → (m' ≡ (Bottom (record l { stop_looks = l.stop_looks + 1; stop_found = n }), m.1)) × (n ≤ 1) × (l.stop_found ≤ n) × (l.stopped ≡ true → n ≡ 1)
+    (l : LowerSeat) → m.0 ≡ Bottom l → (m' ≡ (Bottom (record l { stop_looks = l.stop_looks + 1; stop_found = n }), m.1)) × (n ≤ 1) × (l.stop_found ≤ n)
+    × (l.stopped ≡ true → n ≡ 1)
 
 -- what the slot of a link has at its end
 pub record AtEnd (u : UpperSeat) (l : LowerSeat) (phase : ℕ) (slot : Option Lot) : Type 0 where

@@ -4,7 +4,7 @@ ghost use Rattle.std.specs.Prelude.{◌≡◌, ◌≢◌, ◌⊎◌, ℕ, ◌+�
 ghost use Rattle.flu_fork.specs.declared.lots.Ask.{Ask as AskNote};
 ghost use Rattle.flu_fork.specs.Lots.{LotFits};
 ghost use Rattle.flu_fork.specs.Serving.{AsksAbove, GrownFrom, Served};
-ghost use Rattle.flu_link.specs.Notes.{upper_start, lower_start, found_below, after_ask, after_take, after_lend, found_above, after_hold, after_asked, after_give};
+ghost use Rattle.flu_link.specs.Notes.{phase_lent, phase_held, phase_asked, phase_given, upper_start, lower_start, found_below, after_ask, after_take, after_lend, found_above, after_hold, after_asked, after_give};
 ghost use Rattle.flu_link.specs.Ends.{Closes};
 
 use crate::notes::{ASKED, Board, GIVEN, HELD, LENT, Place};
@@ -21,10 +21,9 @@ use std::sync::Arc;
 
 /// The end of the worker above. It asks for lots, takes them and lends others.
 ///
-/// Contracts see of it which link it is, the content of the case and the lower node, the phase that it found or stored last (0 is
-/// Lent, 1 Held, 2 Asked, 3 Given), the counts of the lot lent last, the `upto` of the lot taken last, the event asked for last,
-/// whether no ask stands whose lot is not yet taken, its looks at the phase, whether it stopped, and its looks at the stop word
-/// with the number found last.
+/// Contracts see of it which link it is, the content of the case and the lower node, the phase that it found or stored last, the
+/// counts of the lot lent last, the `upto` of the lot taken last, the event asked for last, whether no ask stands whose lot is not
+/// yet taken, its looks at the phase, whether it stopped, and its looks at the stop word with the number found last.
 #[derive(Drop)]
 pub struct Upper {
     board: Arc<Board, Global>,
@@ -50,9 +49,9 @@ impl Model for Upper {
 
 /// The end of the worker below. It holds lots and gives them back when asked.
 ///
-/// Contracts see of it which link it is, the content of the case and the lower node, the phase that it found or stored last (0 is
-/// Lent, 1 Held, 2 Asked, 3 Given), the counts of the lot held last, the `upto` of the lot given last, the ask that it read since
-/// it stored a phase, its looks at the phase, whether it stopped, and its looks at the stop word with the number found last.
+/// Contracts see of it which link it is, the content of the case and the lower node, the phase that it found or stored last, the
+/// counts of the lot held last, the `upto` of the lot given last, the ask that it read since it stored a phase, its looks at the
+/// phase, whether it stopped, and its looks at the stop word with the number found last.
 #[derive(Drop)]
 pub struct Lower {
     board: Arc<Board, Global>,
@@ -106,9 +105,9 @@ impl Upper {
         requires above { AsksAbove self.old.case self.old.lower a }
         requires next { a.index ≡ slice_index self.old.lent.upto a.itag.0 }
         ensures asked { result ≡ true → self.new ≡ after_ask self.old a }
-        ensures sure { self.old.phase ≡ 1 → result ≡ true }
-        ensures not_yet { result ≡ false → (self.new ≡ found_below self.old self.new.phase) × (self.new.phase ≢ 1) }
-        ensures still { result ≡ false → self.old.phase ≤ 1 → self.new.phase ≤ 1 }
+        ensures sure { self.old.phase ≡ phase_held → result ≡ true }
+        ensures not_yet { result ≡ false → (self.new ≡ found_below self.old self.new.phase) × (self.new.phase ≢ phase_held) }
+        ensures still { result ≡ false → self.old.phase ≤ phase_held → self.new.phase ≤ phase_held }
     {
         let shared = &self.board.shared;
         if shared.load::<PeekUp>(&mut self.place, 0) != HELD {
@@ -127,8 +126,8 @@ impl Upper {
         ensures fits { IfSome result (LotFits self.old.case self.old.lower) }
         ensures served { IfSome result (Served self.old.case self.old.lower self.old.lent self.old.ask) }
         ensures asked { OnSome result (self.old.taken ≡ false) }
-        ensures not_yet { IfNone result ((self.new ≡ found_below self.old self.new.phase) × ((self.new.phase ≢ 3) ⊎ (self.old.taken ≡ true))) }
-        ensures still { IfNone result (self.old.phase ≤ 1 → self.new.phase ≤ 1) }
+        ensures not_yet { IfNone result ((self.new ≡ found_below self.old self.new.phase) × ((self.new.phase ≢ phase_given) ⊎ (self.old.taken ≡ true))) }
+        ensures still { IfNone result (self.old.phase ≤ phase_held → self.new.phase ≤ phase_held) }
     {
         let shared = &self.board.shared;
         if shared.load::<Fetch>(&mut self.place, 0) != GIVEN {
@@ -147,8 +146,8 @@ impl Upper {
         requires grown { GrownFrom self.old.case self.old.lower self.old.received lot.upto }
         requires free { self.old.taken ≡ true }
         ensures lent { OnOk result (self.new ≡ after_lend self.old lot) }
-        ensures sure { self.old.phase ≡ 3 → IsOk result }
-        ensures not_yet { IfErr result (λ back. (back ≡ lot) × (self.new ≡ found_below self.old self.new.phase) × (self.new.phase ≢ 3)) }
+        ensures sure { self.old.phase ≡ phase_given → IsOk result }
+        ensures not_yet { IfErr result (λ back. (back ≡ lot) × (self.new ≡ found_below self.old self.new.phase) × (self.new.phase ≢ phase_given)) }
     {
         let shared = &self.board.shared;
         if shared.load::<Fetch>(&mut self.place, 0) != GIVEN {
@@ -182,8 +181,8 @@ impl Lower {
         ensures note { IfSome result (λ lot. self.new ≡ after_hold self.old lot) }
         ensures fits { IfSome result (LotFits self.old.case self.old.lower) }
         ensures grown { IfSome result (λ lot. GrownFrom self.old.case self.old.lower self.old.given lot.upto) }
-        ensures not_yet { IfNone result ((self.new ≡ found_above self.old self.new.phase) × (self.new.phase ≢ 0)) }
-        ensures still { IfNone result (1 ≤ self.old.phase → self.old.phase ≤ 2 → (1 ≤ self.new.phase) × (self.new.phase ≤ 2)) }
+        ensures not_yet { IfNone result ((self.new ≡ found_above self.old self.new.phase) × (self.new.phase ≢ phase_lent)) }
+        ensures still { IfNone result (phase_held ≤ self.old.phase → self.old.phase ≤ phase_asked → (phase_held ≤ self.new.phase) × (self.new.phase ≤ phase_asked)) }
     {
         let shared = &self.board.shared;
         if shared.load::<Hold>(&mut self.place, 0) != LENT {
@@ -199,9 +198,9 @@ impl Lower {
         ensures note { IfSome result (λ y. self.new ≡ after_asked self.old y) }
         ensures above { IfSome result (AsksAbove self.old.case self.old.lower) }
         ensures next { IfSome result (λ y. y.index ≡ slice_index self.old.held.upto y.itag.0) }
-        ensures sure { self.old.phase ≡ 2 → IsSome result }
-        ensures not_yet { IfNone result ((self.new ≡ found_above self.old self.new.phase) × (self.new.phase ≢ 2)) }
-        ensures still { IfNone result (1 ≤ self.old.phase → self.old.phase ≤ 2 → (1 ≤ self.new.phase) × (self.new.phase ≤ 2)) }
+        ensures sure { self.old.phase ≡ phase_asked → IsSome result }
+        ensures not_yet { IfNone result ((self.new ≡ found_above self.old self.new.phase) × (self.new.phase ≢ phase_asked)) }
+        ensures still { IfNone result (phase_held ≤ self.old.phase → self.old.phase ≤ phase_asked → (phase_held ≤ self.new.phase) × (self.new.phase ≤ phase_asked)) }
     {
         let shared = &self.board.shared;
         if shared.load::<PeekLow>(&mut self.place, 0) != ASKED {
@@ -226,7 +225,7 @@ impl Lower {
         requires served { (y : AskNote) → self.old.ask ≡ Some y → Served self.old.case self.old.lower self.old.held y lot }
         ensures given { OnOk result (self.new ≡ after_give self.old lot) }
         ensures sure { IsOk result }
-        ensures not_yet { IfErr result (λ back. (back ≡ lot) × (self.new ≡ found_above self.old self.new.phase) × (self.new.phase ≢ 2)) }
+        ensures not_yet { IfErr result (λ back. (back ≡ lot) × (self.new ≡ found_above self.old self.new.phase) × (self.new.phase ≢ phase_asked)) }
     {
         let shared = &self.board.shared;
         if shared.load::<Reply>(&mut self.place, 0) != ASKED {
@@ -259,7 +258,7 @@ impl Lower {
 pub fn close(upper: Upper, lower: Lower) -> Option<Lot>
     requires { lower.link ≡ upper.link }
     ensures found { (phase : ℕ) × Closes upper lower phase result }
-    ensures agree { upper.phase ≤ 1 → lower.phase ≡ 1 → (result ≡ None) × (lower.held ≡ upper.lent) }
+    ensures agree { upper.phase ≤ phase_held → lower.phase ≡ phase_held → (result ≡ None) × (lower.held ≡ upper.lent) }
 {
     let Upper { board, mut place } = upper;
     let Lower {

@@ -1,4 +1,4 @@
-use Rattle.std.proofs.Common.{rules, arith, ap, sym, subst, ◌∙◌, ◌<◌, ◌≡◌, ◌+◌, ◌≤◌, length, get_or, List}
+use Rattle.std.proofs.Common.{rules, arith, ap, ◌<◌, ◌+◌, ◌≤◌, length, get_or}
 use Rattle.flu_arrive.proofs.Keeps.{feeds, reads}
 use Rattle.flu_arrive.proofs.ends.Feeder.feed_many.Goals as goal
 

@@ -1,0 +1,13 @@
+//! Tests of the links between workers and of the arrival words, in one thread. It has no code of its own.
+#![tactic(auto)]
+
+#[cfg(test)]
+mod arrivals;
+#[cfg(test)]
+mod crossing;
+#[cfg(test)]
+mod jobs;
+#[cfg(test)]
+mod links;
+#[cfg(test)]
+mod lots;
