@@ -5,7 +5,7 @@ use Rattle.flu_fork.specs.declared.content.Content.{Content}
 use Rattle.flu_fork.specs.Laws.{no_counts}
 use Rattle.flu_fork.specs.Lots.{job}
 use Rattle.flu_fork.specs.Serving.{none_counted}
-use Rattle.flu_link.specs.Notes.{UpperNote, LowerNote}
+use Rattle.flu_link.specs.Notes.{UpperNote, LowerNote, phase_held, phase_asked}
 use Rattle.flu_run.specs.declared.ends.End.{End}
 use Rattle.flu_run.specs.declared.ends.End.TheVariants.{Linked, Top}
 
@@ -19,7 +19,7 @@ top_start k = record {
   link = no_link;
   case = k;
   lower = 0;
-  phase = 1;
+  phase = phase_held;
   held = none_counted k;
   given = no_counts (job k);
   ask = None;
@@ -51,7 +51,7 @@ pub record IsSameLoan (old new : LowerNote) : Type 0 where
 -- a look at the phase: while the end holds a lot, the upper end can only ask for it
 pub record LooksUp (old new : LowerNote) : Type 0 where
   pub same : IsSameLoan old new
-  pub still : 1 ≤ old.phase → old.phase ≤ 2 → (1 ≤ new.phase) × (new.phase ≤ 2)
+  pub still : phase_held ≤ old.phase → old.phase ≤ phase_asked → (phase_held ≤ new.phase) × (new.phase ≤ phase_asked)
 
 -- a stop, or a look whether to stop
 pub record LooksAside (old new : LowerNote) : Type 0 where

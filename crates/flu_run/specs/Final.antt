@@ -7,7 +7,7 @@ use Rattle.flu_fork.specs.Classes.{below}
 use Rattle.flu_fork.specs.Lots.{job, nodes, setting_of, LotFits}
 use Rattle.flu_fork.specs.Serving.{LotCounts}
 use Rattle.flu_fork.specs.Texts.{HasTexts, IsComplete}
-use Rattle.flu_link.specs.Notes.{LowerNote}
+use Rattle.flu_link.specs.Notes.{LowerNote, phase_held}
 use Rattle.flu_run.specs.EndNotes.{IsSameEnd}
 
 -- THE PROMISE of a subtree: a lot that fits its node and begins where the lent one did, with all events of the subtree, and outside it those that were lent; and
@@ -22,5 +22,5 @@ pub record IsFinal (k : Content) (v : ℕ) (lent : LotCounts) (lot : Lot) (outs 
 -- and the end that it was given, which noted Held last
 pub record IsDone (given back : LowerNote) (lot : Lot) (outs : List Out) : Type 0 where
   pub same : IsSameEnd given back
-  pub phase : back.phase ≡ 1
+  pub phase : back.phase ≡ phase_held
   pub final : IsFinal given.case given.lower back.held lot outs

@@ -8,7 +8,7 @@ use Rattle.flu_fork.specs.Lots.{job, nodes, kids}
 use Rattle.flu_worker.specs.declared.hand.Side.TheVariants.{Left, Right}
 use Rattle.flu_worker.specs.Notes.{WorkerNote}
 use Rattle.flu_worker.specs.Calls.{IsFinished}
-use Rattle.flu_link.specs.Notes.{UpperNote, LowerNote, upper_start, lower_start}
+use Rattle.flu_link.specs.Notes.{UpperNote, LowerNote, phase_held, upper_start, lower_start}
 use Rattle.flu_run.specs.EndNotes.{IsSameEnd}
 use Rattle.flu_run.specs.Starts.{StartsAt, EndStarts}
 use Rattle.flu_run.specs.Stays.{IsSameUpper}
@@ -22,7 +22,7 @@ pub record Rests (n0 : WorkerNote) (l0 : LowerNote) (u0 v0 : UpperNote) (n : Wor
   pub left_end : IsSameUpper u0 u
   pub right_end : IsSameUpper v0 v
   pub hangs : Hangs n l
-  pub phase : l.phase ≡ 1
+  pub phase : l.phase ≡ phase_held
   pub tells : Tells n outs
   pub left : Lets Left n u
   pub right : Lets Right n v

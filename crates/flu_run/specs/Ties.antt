@@ -8,11 +8,11 @@ use Rattle.flu_fork.specs.Texts.{HasTexts}
 use Rattle.flu_worker.specs.declared.hand.Side.{Side}
 use Rattle.flu_worker.specs.Hands.{at_side, is_open, is_out, may_take}
 use Rattle.flu_worker.specs.Notes.{WorkerNote, lent_to, taken_from, own_of}
-use Rattle.flu_link.specs.Notes.{UpperNote, LowerNote}
+use Rattle.flu_link.specs.Notes.{UpperNote, LowerNote, phase_held, phase_asked, phase_given}
 
 -- the end noted Asked last, for an event of a node above that the lot does not count
 pub record IsAskedFor (l : LowerNote) : Type 0 where
-  pub phase : l.phase ≡ 2
+  pub phase : l.phase ≡ phase_asked
   pub ask : Ask
   pub noted : l.ask ≡ Some ask
   pub above : AsksAbove l.case l.lower ask
@@ -24,7 +24,7 @@ pub record Hangs (n : WorkerNote) (l : LowerNote) : Type 0 where
   pub lower : l.lower ≡ n.node
   pub given : l.given ≡ n.given
   pub held : is_open n.hand ≡ true → l.held ≡ n.held
-  pub phase : is_open n.hand ≡ true → (l.phase ≡ 1) ⊎ IsAskedFor l
+  pub phase : is_open n.hand ≡ true → (l.phase ≡ phase_held) ⊎ IsAskedFor l
 
 -- THE END BELOW, of a side: where the part is here, a lot may be lent; where it is out, it is lent or held below, or asked for, for the target that is kept
 pub record Lets (s : Side) (n : WorkerNote) (u : UpperNote) : Type 0 where
@@ -32,8 +32,8 @@ pub record Lets (s : Side) (n : WorkerNote) (u : UpperNote) : Type 0 where
   pub lower : (l r : ℕ) → kids n.case n.node ≡ Some (l, r) → u.lower ≡ at_side s l r
   pub lent : u.lent ≡ lent_to s n
   pub received : u.received ≡ taken_from s n
-  pub home : is_out s n.hand ≡ false → (u.taken ≡ true) × (u.phase ≡ 3)
-  pub out : is_out s n.hand ≡ true → ((u.taken ≡ true) × (u.phase ≤ 1)) ⊎ ((u.taken ≡ false) × (may_take s n.hand ≡ true) × (n.kept ≡ Some u.ask))
+  pub home : is_out s n.hand ≡ false → (u.taken ≡ true) × (u.phase ≡ phase_given)
+  pub out : is_out s n.hand ≡ true → ((u.taken ≡ true) × (u.phase ≤ phase_held)) ⊎ ((u.taken ≡ false) × (may_take s n.hand ≡ true) × (n.kept ≡ Some u.ask))
 
 -- THE OUTPUTS are those of the node's own events that the worker counted
 abbrev pub Tells : WorkerNote → List Out → Type 0

@@ -4,7 +4,7 @@ ghost use Rattle.std.specs.Prelude.{◌≡◌, ◌≢◌, ◌<◌, IfSome, IfNon
 ghost use Rattle.flu_fork.specs.declared.lots.Ask.{Ask as AskNote};
 ghost use Rattle.flu_fork.specs.Lots.{LotFits};
 ghost use Rattle.flu_fork.specs.Serving.{AsksAbove, GrownFrom, Served};
-ghost use Rattle.flu_link.specs.Notes.{after_hold, after_asked, after_give};
+ghost use Rattle.flu_link.specs.Notes.{phase_asked, after_hold, after_asked, after_give};
 ghost use Rattle.flu_run.specs.EndNotes.{end_note, LooksUp, LooksAside};
 
 use flu_fork::{Ask, CaseNote, Lot};
@@ -37,7 +37,7 @@ impl End {
         ensures above { IfSome result (AsksAbove (end_note self.old).case (end_note self.old).lower) }
         ensures next { IfSome result (λ y. y.index ≡ slice_index (end_note self.old).held.upto y.itag.0) }
         ensures not_yet { IfNone result (LooksUp (end_note self.old) (end_note self.new)) }
-        ensures none { IfNone result ((end_note self.new).phase ≢ 2) }
+        ensures none { IfNone result ((end_note self.new).phase ≢ phase_asked) }
     {
         match self {
             End::Linked(lower) => lower.asked(),

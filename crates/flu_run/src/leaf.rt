@@ -3,6 +3,7 @@
 ghost use Rattle.std.specs.Prelude.{◌≡◌, ◌<◌, None, length, IfOk, OnOk, IfSome};
 ghost use Rattle.flu_fork.specs.Lots.{nodes, kids};
 ghost use Rattle.flu_worker.specs.Calls.{IsNew, IsFinished};
+ghost use Rattle.flu_link.specs.Notes.{phase_held};
 ghost use Rattle.flu_run.specs.EndNotes.{end_note, IsSameEnd};
 ghost use Rattle.flu_run.specs.Ended.{Keeps};
 ghost use Rattle.flu_run.specs.Seeing.{WatchesFrom};
@@ -75,7 +76,7 @@ fn finish(worker: Worker, end: End, outs: Outs) -> Ended
     requires tells { Tells worker outs }
     requires finished { IsFinished worker }
     requires leaf { kids worker.case worker.node ≡ None }
-    requires phase { (end_note end).phase ≡ 1 }
+    requires phase { (end_note end).phase ≡ phase_held }
     ensures { Keeps (end_note end) result }
 {
     laws_below();

@@ -3,6 +3,7 @@
 ghost use Rattle.std.specs.Prelude.{◌≡◌, true, Some, OnOk, IfSome, IfNone, slice_index};
 ghost use Rattle.flu_fork.specs.Serving.{AsksAbove};
 ghost use Rattle.flu_worker.specs.Hands as hands;
+ghost use Rattle.flu_link.specs.Notes.{phase_held};
 ghost use Rattle.flu_run.specs.EndNotes.{end_note, IsSameEnd};
 ghost use Rattle.flu_run.specs.Starts.{IsAskedNow};
 ghost use Rattle.flu_run.specs.Stays.{StaysHome};
@@ -51,7 +52,7 @@ pub fn look(worker: &Worker, end: &mut End) -> Option<Ask>
     ensures hangs { Hangs worker.now (end_note end.new) }
     ensures same { IsSameEnd (end_note end.old) (end_note end.new) }
     ensures asked { IfSome result (IsAskedNow worker.now (end_note end.new)) }
-    ensures none { IfNone result (hands.is_open worker.now.hand ≡ true → (end_note end.new).phase ≡ 1) }
+    ensures none { IfNone result (hands.is_open worker.now.hand ≡ true → (end_note end.new).phase ≡ phase_held) }
 {
     if !is_open(worker.hand()) {
         return None;
