@@ -147,7 +147,8 @@ pub fn opened<'a>(
 ) -> Result<Case<'a>, AllocError>
     requires of { IsValidFor (program_of checked.now) valid.now }
     requires one_each { length (listed streams.now) ≡ count_of_itags (program_of checked.now) }
-    ensures { IfOk result (λ k. listed k.streams ≡ listed streams.now) }
+    ensures job { IfOk result (λ k. k.checked ≡ checked.now) }
+    ensures row { IfOk result (λ k. listed k.streams ≡ listed streams.now) }
 {
     Case::new(alloc, checked, valid, streams, State::new(alloc))
 }

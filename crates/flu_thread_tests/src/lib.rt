@@ -1,4 +1,5 @@
-//! Tests of the links between workers and of the arrival words, in one thread. It has no code of its own.
+//! Tests of the links between workers and of the arrival words, in one thread, and of runs on a tree of threads. It has no code of
+//! its own.
 #![tactic(auto)]
 
 #[cfg(test)]
@@ -11,3 +12,5 @@ mod jobs;
 mod links;
 #[cfg(test)]
 mod lots;
+#[cfg(test)]
+mod runs;

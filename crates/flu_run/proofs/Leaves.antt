@@ -1,0 +1,100 @@
+-- A leaf that has no event left keeps its promise.
+use Rattle.std.proofs.Common.{◌≡◌, ◌<◌, ◌≤◌, ℕ, Bool, true, false, Option, Some, None, List, [], ◌++◌, append-nil, length, ◌⊎◌, inl, inr, refl, sym, ap, subst, ◌∙◌, arith}
+use Rattle.std.specs.Prelude.{slice_index, is_some, IsSome}
+use Rattle.std.proofs.lemmas.Bool.{cases_Bool, cases_lt}
+use Rattle.flu_lemmas.proofs.Tests.{not_both}
+use Rattle.flu_model.specs.declared.events.Out.{Out}
+use Rattle.flu_model.specs.Itags.{count_of_itags}
+use Rattle.flu_fork.specs.declared.content.Content.{Content}
+use Rattle.flu_fork.specs.declared.lots.Lot.{Lot}
+use Rattle.flu_fork.specs.Classes.{Itags, own, below}
+use Rattle.flu_fork.specs.Lots.{job, nodes, kids, setting_of}
+use Rattle.flu_fork.specs.Serving.{LotCounts}
+use Rattle.flu_fork.specs.Settings.{events_at}
+use Rattle.flu_fork.specs.Texts.{HasTexts, InOneOf, InNone, InFirst}
+use Rattle.flu_worker.specs.declared.hand.Hand.TheVariants.{Whole, Down}
+use Rattle.flu_worker.specs.Hands.{is_open}
+use Rattle.flu_worker.specs.Notes.{WorkerNote, own_of, below_of}
+use Rattle.flu_worker.specs.Calls.{IsFinished, IsWholeLot}
+use Rattle.flu_link.specs.Notes.{LowerNote}
+use Rattle.flu_run.specs.EndNotes.{IsSameEnd}
+use Rattle.flu_run.specs.LawsBelow.{LawsBelow}
+use Rattle.flu_run.specs.Ties.{Hangs, Tells}
+use Rattle.flu_run.specs.Final.{IsFinal, IsDone}
+use Rattle.flu_run.proofs.Joined.{none_there}
+
+pub whole_of_leaf : (n : WorkerNote) → IsFinished n → kids n.case n.node ≡ None → n.hand ≡ Whole
+whole_of_leaf n done leaf = elim done.hand [
+  | inl whole ↦ whole
+  | inr down ↦ absurd (no_kids (kids n.case n.node) leaf (done.inner down))
+]
+  where
+    no_kids : (o : Option (ℕ × ℕ)) → o ≡ None → is_some o ≡ true → ⊥
+    no_kids o a b = cc
+
+-- two sets with the same itags of the job have the same outputs
+one_alone : (whole a : Bool) → whole ≡ a → InOneOf whole a false false
+one_alone true true e = InFirst refl refl refl refl
+one_alone false false e = InNone refl refl refl refl
+one_alone true false e = cc
+one_alone false true e = cc
+
+abbrev never : Itags
+never i = false
+
+texts_alike : (laws : LawsBelow) (k : Content) (a b : Itags) (upto : List ℕ) (outs : List Out) → ((i : ℕ) → i < count_of_itags (job k) → b i ≡ a i)
+    → HasTexts (setting_of k) a upto outs → HasTexts (setting_of k) b upto outs
+texts_alike laws k a b upto outs same has =
+    subst (HasTexts (setting_of k) b upto) (append-nil (outs ++ []) ∙ append-nil outs)
+    (laws.three_texts (setting_of k) b a never never upto outs [] [] (laws.settings k) (λ i lt. one_alone (b i) (a i) (same i lt)) has
+    (laws.no_texts (setting_of k) never upto (λ i e. cc)) (laws.no_texts (setting_of k) never upto (λ i e. cc)))
+
+module _ (laws : LawsBelow) (n : WorkerNote) (lot : Lot) (outs : List Out) (done : IsFinished n) (leaf : kids n.case n.node ≡ None) (whole : IsWholeLot n lot) (tells : Tells n outs) where
+  leaf_owns : (i : ℕ) → i < count_of_itags (job n.case) → below_of n i ≡ own_of n i
+  leaf_owns i lt = (laws.of_nodes (setting_of n.case) n.node i (laws.settings n.case) lt).leaf leaf
+
+  complete : (i : ℕ) → below_of n i ≡ true → slice_index lot.upto i ≡ length (events_at (setting_of n.case) i)
+  complete i inside =
+      elim (cases_lt i (count_of_itags (job n.case))) [
+        | inl lt ↦
+            let mine : own_of n i ≡ true = sym (leaf_owns i lt) ∙ inside in
+            whole.own i mine ∙ done.own i mine
+        | inr ge ↦ none_there n.case lot.upto i whole.fits.upto_each ge
+      ]
+
+  leaf_final : IsFinal n.case n.node n.held lot outs
+  leaf_final = record {
+    fits = whole.fits;
+    since = whole.since;
+    inside = complete;
+    outside = whole.outside;
+    texts = texts_alike laws n.case (own_of n) (below_of n) lot.upto outs leaf_owns (laws.same_texts (setting_of n.case) (own_of n) n.counts lot.upto outs whole.own tells);
+  }
+
+-- as its end sees it
+pub final_as : (k k' : Content) (w w' : ℕ) (a b : LotCounts) (lot : Lot) (outs : List Out) → k' ≡ k → w' ≡ w → b ≡ a → IsFinal k w a lot outs → IsFinal k' w' b lot outs
+final_as k k' w w' a b lot outs ek ew em h =
+    subst (λ (j : Content). IsFinal j w' b lot outs) (sym ek) (subst (λ (v : ℕ). IsFinal k v b lot outs) (sym ew) (subst (λ (m : LotCounts). IsFinal k w m lot outs) (sym em) h))
+
+pub done_at : (n : WorkerNote) (l : LowerNote) (lot : Lot) (outs : List Out) → Hangs n l → is_open n.hand ≡ true → l.phase ≡ 1 → IsFinal n.case n.node n.held lot outs → IsDone l l lot outs
+done_at n l lot outs hangs opened phase final = record {
+  same = record { link = refl; case = refl; lower = refl };
+  phase = phase;
+  final = final_as n.case l.case n.node l.lower n.held l.held lot outs hangs.case hangs.lower (hangs.held opened) final;
+}
+
+pub finished_open : (n : WorkerNote) → IsFinished n → is_open n.hand ≡ true
+finished_open n done = elim done.hand [ inl e ↦ ap is_open e | inr e ↦ ap is_open e ]
+
+pub leaf_done : (laws : LawsBelow) (n : WorkerNote) (l : LowerNote) (lot : Lot) (outs : List Out) → Hangs n l → l.phase ≡ 1 → IsFinished n → kids n.case n.node ≡ None
+    → IsWholeLot n lot → Tells n outs → IsDone l l lot outs
+leaf_done laws n l lot outs hangs phase done leaf whole tells =
+    done_at n l lot outs hangs (finished_open n done) phase (leaf_final laws n lot outs done leaf whole tells)
+
+-- a promise on the way, over steps that keep the end
+pub done_over : (l0 l l' : LowerNote) (lot : Lot) (outs : List Out) → IsSameEnd l0 l → IsDone l l' lot outs → IsDone l0 l' lot outs
+done_over l0 l l' lot outs same d = record {
+  same = record { link = d.same.link ∙ same.link; case = d.same.case ∙ same.case; lower = d.same.lower ∙ same.lower };
+  phase = d.phase;
+  final = final_as l.case l0.case l.lower l0.lower l'.held l'.held lot outs (sym same.case) (sym same.lower) refl d.final;
+}

@@ -1,0 +1,12 @@
+pub mod Counts
+pub mod Hands
+pub mod Looking
+pub mod Tying
+pub mod Sights
+pub mod Joined
+pub mod Leaves
+pub mod Gathering
+pub mod Settling
+pub mod Readying
+pub mod Rooted
+pub mod Feeds

@@ -1,0 +1,10 @@
+pub mod LawsBelow
+pub mod EndNotes
+pub mod Final
+pub mod Ended
+pub mod Ties
+pub mod Stays
+pub mod Starts
+pub mod Seeing
+pub mod Rests
+pub mod LoopFeeding

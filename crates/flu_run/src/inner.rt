@@ -1,0 +1,293 @@
+//! The thread of a worker with children, whose subtrees run in threads of their own.
+
+ghost use Rattle.std.specs.Prelude.{◌≡◌, ◌<◌, ◌++◌, [], length, IsSome, OnOk, IfOk, IfSome};
+ghost use Rattle.flu_fork.specs.Lots.{nodes, kids};
+ghost use Rattle.flu_worker.specs.declared.hand.Side.TheVariants.{Left, Right};
+ghost use Rattle.flu_link.specs.Notes.{LowerNote};
+ghost use Rattle.flu_run.specs.EndNotes.{end_note, IsSameEnd};
+ghost use Rattle.flu_run.specs.Ended.{Keeps};
+ghost use Rattle.flu_run.specs.Final.{IsDone};
+ghost use Rattle.flu_run.specs.Rests.{Rests};
+ghost use Rattle.flu_run.specs.Seeing.{Sees};
+ghost use Rattle.flu_run.specs.Starts.{IsAskedNow, EndStarts};
+ghost use Rattle.flu_run.specs.Stays.{StaysUnder, IsSameUpper};
+ghost use Rattle.flu_run.specs.Ties.{Hangs, Lets, Tells};
+
+use crate::down::{ask, lend, take};
+use crate::ends::End;
+use crate::handed::{Done, Ended, Why};
+use crate::holder::HasCase;
+use crate::laws::laws_below;
+use crate::leaf::{turn, wait};
+use crate::shapes::any;
+use crate::sight::observe;
+use crate::up::look;
+use crossbeam_utils::Backoff;
+use flu_arrive::Watch;
+use flu_fork::{Ask, Case, join};
+use flu_link::{Upper, close};
+use flu_model::Outs;
+use flu_seq::Gate;
+use flu_worker::{Side, Worker};
+use std::alloc::{AllocError, Global};
+use std::sync::Wait;
+
+// Asks for the parts that are out, where there is a target, and takes those that are there. It says whether anything moved.
+fn reach(
+    alloc: Global,
+    case: &Case,
+    worker: &mut Worker,
+    left: &mut Upper,
+    right: &mut Upper,
+    end: &End,
+    asked: Option<Ask>,
+) -> Result<bool, AllocError>
+    requires case { case.now ≡ worker.old.case }
+    requires inner { IsSome (kids worker.old.case worker.old.node) }
+    requires asked { IfSome asked (IsAskedNow worker.old (end_note end.now)) }
+    requires left { Lets Left worker.old left.old }
+    requires right { Lets Right worker.old right.old }
+    ensures left { OnOk result (Lets Left worker.new left.new) }
+    ensures right { OnOk result (Lets Right worker.new right.new) }
+    ensures under { OnOk result (StaysUnder worker.old worker.new) }
+    ensures left_end { OnOk result (IsSameUpper left.old left.new) }
+    ensures right_end { OnOk result (IsSameUpper right.old right.new) }
+{
+    let sent = request(case, worker, left, right, end, asked);
+    let from_left = take(alloc, case, worker, left, Side::Left)?;
+    let from_right = take(alloc, case, worker, right, Side::Right)?;
+    Ok(any(sent, from_left, from_right))
+}
+
+// Asks for the parts that are out, where there is a target, and says whether it did.
+fn request(
+    case: &Case,
+    worker: &mut Worker,
+    left: &mut Upper,
+    right: &mut Upper,
+    end: &End,
+    asked: Option<Ask>,
+) -> bool
+    requires case { case.now ≡ worker.old.case }
+    requires inner { IsSome (kids worker.old.case worker.old.node) }
+    requires asked { IfSome asked (IsAskedNow worker.old (end_note end.now)) }
+    requires left { Lets Left worker.old left.old }
+    requires right { Lets Right worker.old right.old }
+    ensures left { Lets Left worker.new left.new }
+    ensures right { Lets Right worker.new right.new }
+    ensures under { StaysUnder worker.old worker.new }
+    ensures left_end { IsSameUpper left.old left.new }
+    ensures right_end { IsSameUpper right.old right.new }
+{
+    let _end = end;
+    let Some(target) = worker.ask_of(case, asked) else {
+        return false;
+    };
+    let to_left = ask(worker, left, Side::Left, target);
+    let to_right = ask(worker, right, Side::Right, target);
+    any(to_left, to_right, false)
+}
+
+// Lends the parts that are still to be lent, and says whether there were any.
+fn hand_down(worker: &mut Worker, left: &mut Upper, right: &mut Upper) -> bool
+    requires inner { IsSome (kids worker.old.case worker.old.node) }
+    requires left { Lets Left worker.old left.old }
+    requires right { Lets Right worker.old right.old }
+    ensures left { Lets Left worker.new left.new }
+    ensures right { Lets Right worker.new right.new }
+    ensures under { StaysUnder worker.old worker.new }
+    ensures left_end { IsSameUpper left.old left.new }
+    ensures right_end { IsSameUpper right.old right.new }
+{
+    let to_left = lend(worker, left, Side::Left);
+    let to_right = lend(worker, right, Side::Right);
+    any(to_left, to_right, false)
+}
+
+// One turn: what goes down and comes up, and the worker's own event. It says whether anything moved.
+fn turn_inner<G: Gate>(
+    alloc: Global,
+    case: &Case,
+    gate: &G,
+    node: u32,
+    worker: &mut Worker,
+    end: &mut End,
+    left: &mut Upper,
+    right: &mut Upper,
+    outs: &mut Outs,
+    asked: Option<Ask>,
+) -> Result<bool, AllocError>
+    requires case { case.now ≡ worker.old.case }
+    requires inner { IsSome (kids worker.old.case worker.old.node) }
+    requires hangs { Hangs worker.old (end_note end.old) }
+    requires tells { Tells worker.old outs.old }
+    requires asked { IfSome asked (IsAskedNow worker.old (end_note end.old)) }
+    requires left { Lets Left worker.old left.old }
+    requires right { Lets Right worker.old right.old }
+    ensures hangs { OnOk result (Hangs worker.new (end_note end.new)) }
+    ensures tells { OnOk result (Tells worker.new outs.new) }
+    ensures same { OnOk result (IsSameEnd (end_note end.old) (end_note end.new)) }
+    ensures case { OnOk result (worker.new.case ≡ worker.old.case) }
+    ensures node { OnOk result (worker.new.node ≡ worker.old.node) }
+    ensures seen { OnOk result (worker.new.seen ≡ worker.old.seen) }
+    ensures left { OnOk result (Lets Left worker.new left.new) }
+    ensures right { OnOk result (Lets Right worker.new right.new) }
+    ensures left_end { OnOk result (IsSameUpper left.old left.new) }
+    ensures right_end { OnOk result (IsSameUpper right.old right.new) }
+{
+    let reached = reach(alloc, case, worker, left, right, end, asked)?;
+    let turned = turn(alloc, case, gate, node, worker, end, outs, asked)?;
+    let lent = hand_down(worker, left, right);
+    Ok(any(reached, turned, lent))
+}
+
+// Whether the worker is to stop, by any of its ends.
+fn are_stopped(worker: &Worker, end: &mut End, left: &mut Upper, right: &mut Upper) -> bool
+    requires hangs { Hangs worker.now (end_note end.old) }
+    requires left { Lets Left worker.now left.old }
+    requires right { Lets Right worker.now right.old }
+    ensures hangs { Hangs worker.now (end_note end.new) }
+    ensures same { IsSameEnd (end_note end.old) (end_note end.new) }
+    ensures left { Lets Left worker.now left.new }
+    ensures right { Lets Right worker.now right.new }
+    ensures left_end { IsSameUpper left.old left.new }
+    ensures right_end { IsSameUpper right.old right.new }
+{
+    let _worker = worker;
+    let above = end.stopped();
+    let at_left = left.stopped();
+    let at_right = right.stopped();
+    any(above, at_left, at_right)
+}
+
+// Tells all around to stop.
+fn stop_all(end: &mut End, left: &mut Upper, right: &mut Upper) {
+    end.stop();
+    left.stop();
+    right.stop();
+}
+
+/// What a worker with children has, once it has no event left.
+#[derive(Drop)]
+pub struct Rest {
+    pub worker: Worker,
+    pub end: End,
+    pub left: Upper,
+    pub right: Upper,
+    pub outs: Outs,
+}
+
+/// Does the worker's own work until it has no event left, or is stopped.
+pub fn work<G: Gate, R: Wait>(
+    rt: &R,
+    alloc: Global,
+    case: &Case,
+    gate: &G,
+    worker: Worker,
+    watch: Watch,
+    end: End,
+    left: Upper,
+    right: Upper,
+    node: u32,
+) -> Result<Rest, Why>
+    requires case { case.now ≡ worker.case }
+    requires inner { IsSome (kids worker.case worker.node) }
+    requires hangs { Hangs worker (end_note end) }
+    requires fresh { Tells worker [] }
+    requires sees { Sees worker watch }
+    requires left { Lets Left worker left }
+    requires right { Lets Right worker right }
+    ensures { IfOk result (λ r. Rests worker (end_note end) left right r.worker (end_note r.end) r.left r.right r.outs) }
+{
+    let mut worker = worker;
+    let mut watch = watch;
+    let mut end = end;
+    let mut left = left;
+    let mut right = right;
+    let mut outs = Outs::of(Vec::new(alloc));
+    let backoff = Backoff::new();
+    for _ in rt.forever() {
+        if are_stopped(&worker, &mut end, &mut left, &mut right) {
+            stop_all(&mut end, &mut left, &mut right);
+            return Err(Why::Stopped);
+        }
+        observe(case, node, &mut worker, &mut watch);
+        let asked = look(&worker, &mut end);
+        if asked.is_none() && worker.finished(case) {
+            return Ok(Rest {
+                worker,
+                end,
+                left,
+                right,
+                outs,
+            });
+        }
+        let Ok(moved) = turn_inner(
+            alloc,
+            case,
+            gate,
+            node,
+            &mut worker,
+            &mut end,
+            &mut left,
+            &mut right,
+            &mut outs,
+            asked,
+        ) else {
+            stop_all(&mut end, &mut left, &mut right);
+            return Err(Why::NoMemory);
+        };
+        wait(&backoff, moved);
+    }
+    unreachable!()
+}
+
+/// What the worker and the subtrees of its children hand on together.
+pub fn gather<H: HasCase>(
+    alloc: Global,
+    holder: &H,
+    node: u32,
+    rest: Rest,
+    left: Done,
+    right: Done,
+) -> Ended
+    requires case { rest.worker.case ≡ H.content holder.now }
+    requires node { (rest.worker.node ≡ node) × (node < length (nodes (H.content holder.now))) }
+    requires inner { IsSome (kids (H.content holder.now) node) }
+    requires rests { Rests rest.worker (end_note rest.end) rest.left rest.right rest.worker (end_note rest.end) rest.left rest.right rest.outs }
+    requires left { (l : LowerNote) × EndStarts rest.left l × IsDone l (end_note left.end) left.lot left.outs }
+    requires right { (l : LowerNote) × EndStarts rest.right l × IsDone l (end_note right.end) right.lot right.outs }
+    ensures { Keeps (end_note rest.end) result }
+{
+    laws_below();
+    let Rest {
+        worker: _,
+        mut end,
+        left: left_upper,
+        right: right_upper,
+        mut outs,
+    } = rest;
+    let None = close(left_upper, left.end.into_lower()) else {
+        unreachable!();
+    };
+    let None = close(right_upper, right.end.into_lower()) else {
+        unreachable!();
+    };
+    let Ok(lot) = join(alloc, holder.case(), node, left.lot, right.lot) else {
+        end.stop();
+        return Ended::Cut(Why::NoMemory);
+    };
+    let Ok(()) = put_behind(&mut outs, left.outs, right.outs) else {
+        end.stop();
+        return Ended::Cut(Why::NoMemory);
+    };
+    Ended::Done(Done { end, lot, outs })
+}
+
+// Puts the outputs of both behind those that are there.
+fn put_behind(outs: &mut Outs, left: Outs, right: Outs) -> Result<(), AllocError>
+    ensures { OnOk result (outs.new ≡ (outs.old ++ left) ++ right) }
+{
+    outs.append(left)?;
+    outs.append(right)
+}

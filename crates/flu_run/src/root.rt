@@ -1,0 +1,171 @@
+//! The run of a case on the tree of threads.
+
+ghost use Rattle.std.specs.Prelude.{◌≡◌, IfOk, vec_len};
+ghost use Rattle.std.specs.List.Sorted.{IsPermutation};
+ghost use Rattle.std.specs.Thread.{IsSync};
+ghost use Rattle.flu_model.specs.Folding.{final_state, final_outputs};
+ghost use Rattle.flu_model.specs.Listed.{listed};
+ghost use Rattle.flu_model.specs.Sorts.{IsStateOf};
+ghost use Rattle.flu_cells.specs.Holding.{held};
+ghost use Rattle.flu_fork.specs.Lots.{job};
+ghost use Rattle.flu_arrive.specs.Notes.{zeros};
+ghost use Rattle.flu_run.specs.EndNotes.{end_note};
+ghost use Rattle.flu_run.specs.Ended.{Keeps, EndsWhole, IsWhole};
+ghost use Rattle.flu_run.specs.Seeing.{WatchesFrom};
+ghost use Rattle.flu_run.specs.Starts.{StartsAt};
+
+use crate::ends::End;
+use crate::feeding::{feed_all, limits, words};
+use crate::handed::{Done, Ended, FromEnd, Why};
+use crate::holder::HasCase;
+use crate::laws::laws_below;
+use crate::tree::subtree;
+use flu_arrive::{Feeder, Watch};
+use flu_cells::State;
+use flu_fork::Lot;
+use flu_model::{Outs, itag_count};
+use flu_seq::{Engine, Gate};
+use std::alloc::{AllocError, Global};
+use std::snapshot::Snapshot;
+use std::sync::Wait;
+use std::thread;
+use std::thread::Threads;
+
+/// Runs the events of a case on a tree of threads, one for each worker of its plan, while the calling thread lets the items arrive
+/// (`docs/TREE.md`). The state is the fold's, which holds values of the job's sorts, and the outputs are the fold's in some order.
+///
+/// Each worker passes the gate before and after each of its updates. It waits for lots, asks and items by looking again, a little
+/// later each time.
+///
+/// Where a thread is refused, all workers stop, and the backup, an engine of the same job, runs the batch from a copy of the opening
+/// state.
+///
+/// # Errors
+///
+/// Only where memory is wanting: a worker that finds none stops the others.
+pub fn run_tree<H: HasCase + Sync, G: Gate, B: Engine<R>, R: Threads + Wait + Sync>(
+    rt: &R,
+    alloc: Global,
+    case: &H,
+    gate: &G,
+    backup: &mut B,
+) -> Result<(State, Outs), AllocError>
+    requires { B.program_of backup.old ≡ job (H.content case.now) }
+    ensures state { IfOk result (λ r. held r.0 ≡ final_state (job (H.content case.now)) (held (H.content case.now).opening) (listed (H.content case.now).streams)) }
+    ensures sorts { IfOk result (λ r. IsStateOf (job (H.content case.now)).families (held r.0)) }
+    ensures outputs { IfOk result (λ r. IsPermutation (final_outputs (job (H.content case.now)) (held (H.content case.now).opening) (listed (H.content case.now).streams)) r.1) }
+    ensures same { B.program_of backup.new ≡ B.program_of backup.old }
+{
+    match run_all(rt, alloc, case, gate) {
+        Ended::Done(done) => Ok(taken(case, done)),
+        Ended::Cut(Why::Refused) => fall_back(rt, alloc, case, backup),
+        Ended::Cut(Why::NoMemory | Why::Stopped) => Err(AllocError),
+    }
+}
+
+// Runs all workers in threads, and feeds the items meanwhile.
+fn run_all<H: HasCase + Sync, G: Gate, R: Threads + Wait + Sync>(
+    rt: &R,
+    alloc: Global,
+    holder: &H,
+    gate: &G,
+) -> Ended
+    ensures { EndsWhole (H.content holder.now) result }
+{
+    laws_below();
+    let case = holder.case();
+    let itags = itag_count(case.checked().program());
+    let Ok(limits) = limits(alloc, case) else {
+        return Ended::Cut(Why::NoMemory);
+    };
+    let Ok((feeder, watch)) = words(alloc, limits.as_slice()) else {
+        return Ended::Cut(Why::NoMemory);
+    };
+    let top = End::Top(case.note());
+    let from = FromEnd(Snapshot::of(&top));
+    started(
+        rt,
+        alloc,
+        holder,
+        gate,
+        (feeder, limits, itags),
+        top,
+        watch,
+        from,
+    )
+}
+
+// Runs all workers in threads, below the end that is given, and feeds the items that are left meanwhile.
+fn started<H: HasCase + Sync, G: Gate, R: Threads + Wait + Sync>(
+    rt: &R,
+    alloc: Global,
+    holder: &H,
+    gate: &G,
+    feed: (Feeder, Vec<u64>, u32),
+    top: End,
+    watch: Watch,
+    from: FromEnd,
+) -> Ended
+    requires starts { StartsAt (H.content holder.now) 0 (end_note top) }
+    requires watches { WatchesFrom (H.content holder.now) watch }
+    requires from { from.0.value ≡ top }
+    requires fresh { feed.0.counts ≡ zeros feed.0.limits }
+    requires left { feed.1.items ≡ feed.0.limits }
+    requires one_each { vec_len feed.1 ≡ feed.2 }
+    ensures { Keeps (end_note top) result }
+{
+    let (mut feeder, left, itags) = feed;
+    thread::scope(
+        thread::scope_env(),
+        rt,
+        move |scope| -> Ended
+            requires { IsSync R.row × IsSync H.row × IsSync G.row × StartsAt (H.content holder.now) 0 (end_note top) × WatchesFrom (H.content holder.now) watch × (from.0.value ≡ top) × (feeder.counts ≡ zeros feeder.limits) × (left.items ≡ feeder.limits) × (vec_len left ≡ itags) }
+            ensures { Keeps (end_note top) result }
+        {
+            let Ok(root) = scope.spawn_with(
+                from,
+                move || -> Ended
+                    requires { IsSync R.row × IsSync H.row × IsSync G.row × StartsAt (H.content holder.now) 0 (end_note top) × WatchesFrom (H.content holder.now) watch }
+                    ensures { Keeps (end_note top) result }
+                { subtree(rt, alloc, holder, gate, 0, top, watch) },
+            ) else {
+                return Ended::Cut(Why::Refused);
+            };
+            feed_all(&mut feeder, left, itags);
+            root.join(rt)
+        },
+    )
+}
+
+// What the root handed on.
+fn taken<H: HasCase>(holder: &H, done: Done) -> (State, Outs)
+    requires { IsWhole (H.content holder.now) done.lot done.outs }
+    ensures state { held result.0 ≡ final_state (job (H.content holder.now)) (held (H.content holder.now).opening) (listed (H.content holder.now).streams) }
+    ensures sorts { IsStateOf (job (H.content holder.now)).families (held result.0) }
+    ensures outputs { IsPermutation (final_outputs (job (H.content holder.now)) (held (H.content holder.now).opening) (listed (H.content holder.now).streams)) result.1 }
+{
+    laws_below();
+    let _holder = holder;
+    let Done { lot, outs, .. } = done;
+    let Lot { state, .. } = lot;
+    (state, outs)
+}
+
+// The run of the backup, from a copy of the opening state.
+fn fall_back<H: HasCase, B: Engine<R>, R>(
+    rt: &R,
+    alloc: Global,
+    holder: &H,
+    backup: &mut B,
+) -> Result<(State, Outs), AllocError>
+    requires { B.program_of backup.old ≡ job (H.content holder.now) }
+    ensures state { IfOk result (λ r. held r.0 ≡ final_state (job (H.content holder.now)) (held (H.content holder.now).opening) (listed (H.content holder.now).streams)) }
+    ensures sorts { IfOk result (λ r. IsStateOf (job (H.content holder.now)).families (held r.0)) }
+    ensures outputs { IfOk result (λ r. IsPermutation (final_outputs (job (H.content holder.now)) (held (H.content holder.now).opening) (listed (H.content holder.now).streams)) r.1) }
+    ensures same { B.program_of backup.new ≡ B.program_of backup.old }
+{
+    laws_below();
+    let case = holder.case();
+    let start = case.opening().copy()?;
+    backup.batch(rt, alloc, start, case.streams())
+}

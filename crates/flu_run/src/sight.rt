@@ -1,0 +1,48 @@
+//! What a worker sees of the arrival words.
+
+ghost use Rattle.std.specs.Prelude.{◌≡◌, ◌<◌, All};
+ghost use Rattle.flu_model.specs.Itags.{count_of_itags};
+ghost use Rattle.flu_fork.specs.Lots.{job};
+ghost use Rattle.flu_run.specs.Seeing.{Sees, SeesMore};
+
+use flu_arrive::Watch;
+use flu_fork::Case;
+use flu_model::Itag;
+use flu_worker::Worker;
+
+/// Looks once at the word of each itag that the node or a node above it owns.
+pub fn observe(case: &Case, node: u32, worker: &mut Worker, watch: &mut Watch)
+    requires case { case.now ≡ worker.old.case }
+    requires sees { Sees worker.old watch.old }
+    ensures sees { Sees worker.new watch.new }
+    ensures more { SeesMore worker.old worker.new }
+{
+    let tables = case.tables();
+    look_at_each(case, tables.own(node), worker, watch);
+    look_at_each(case, tables.above(node), worker, watch);
+}
+
+// Looks once at the word of each of some itags.
+fn look_at_each(case: &Case, itags: &[Itag], worker: &mut Worker, watch: &mut Watch)
+    requires case { case.now ≡ worker.old.case }
+    requires known { All (λ i. i.0 < count_of_itags (job case.now)) itags.now }
+    requires sees { Sees worker.old watch.old }
+    ensures sees { Sees worker.new watch.new }
+    ensures more { SeesMore worker.old worker.new }
+{
+    for i in itags {
+        look_at(case, worker, watch, *i);
+    }
+}
+
+// Looks at the word of an itag.
+fn look_at(case: &Case, worker: &mut Worker, watch: &mut Watch, i: Itag)
+    requires case { case.now ≡ worker.old.case }
+    requires known { i.0 < count_of_itags (job case.now) }
+    requires sees { Sees worker.old watch.old }
+    ensures sees { Sees worker.new watch.new }
+    ensures more { SeesMore worker.old worker.new }
+{
+    let count = watch.seen(i);
+    worker.see(case, i, count);
+}
