@@ -1,0 +1,10 @@
+pub mod Lists
+pub mod Looks
+pub mod Totals
+pub mod PlanParts
+pub mod PlanRead
+pub mod PlanTrees
+pub mod PlanFound
+pub mod PlanWalks
+pub mod PlanWritten
+pub mod PlanTexts

@@ -1,0 +1,4 @@
+pub mod Means
+pub mod Texts
+pub mod Plans
+pub mod Laws
