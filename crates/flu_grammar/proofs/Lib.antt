@@ -8,3 +8,14 @@ pub mod PlanFound
 pub mod PlanWalks
 pub mod PlanWritten
 pub mod PlanTexts
+pub mod Heads
+pub mod JobCells
+pub mod Cuts
+pub mod JobTerms
+pub mod JobTemplates
+pub mod JobActions
+pub mod JobNames
+pub mod JobSources
+pub mod JobDrafts
+pub mod JobFound
+pub mod JobTexts

@@ -141,3 +141,42 @@ module _ {X Y : Type 0} where
   pairs_weaker R Q f [] (y ∷ ys) h = absurd h
   pairs_weaker R Q f (x ∷ xs) [] h = absurd h
   pairs_weaker R Q f (x ∷ xs) (y ∷ ys) h = (f x y h.0, pairs_weaker R Q f xs ys h.1)
+
+-- ---- pairs of longer lists
+module _ {X Y : Type 0} (R : X → Y → Type 0) where
+  pub pairs_push : (xs : List X) (ys : List Y) (x : X) (y : Y) → Pairs R xs ys → R x y → Pairs R (xs ++ x ∷ []) (ys ++ y ∷ [])
+  pairs_push [] [] x y h r = (r, tt)
+  pairs_push [] (w ∷ ys) x y h r = absurd h
+  pairs_push (z ∷ xs) [] x y h r = absurd h
+  pairs_push (z ∷ xs) (w ∷ ys) x y h r = (h.0, pairs_push xs ys x y h.1 r)
+
+  -- where the one list has an element in its middle, the other has one too
+  pub record Split (xs : List X) (x : X) (rest : List X) (all : List Y) : Type 0 where
+    pub front : List Y
+    pub one : Y
+    pub back : List Y
+    pub is : all ≡ front ++ one ∷ back
+    pub left : Pairs R xs front
+    pub here : R x one
+
+  pub pairs_split : (xs : List X) (x : X) (rest : List X) (all : List Y) → Pairs R (xs ++ x ∷ rest) all → Split xs x rest all
+  pairs_split [] x rest [] h = absurd h
+  pairs_split [] x rest (y ∷ ys) h = record { front = []; one = y; back = ys; is = refl; left = tt; here = h.0 }
+  pairs_split (z ∷ xs) x rest [] h = absurd h
+  pairs_split (z ∷ xs) x rest (y ∷ ys) h =
+      let more = pairs_split xs x rest ys h.1 in
+      record { front = y ∷ more.front; one = more.one; back = more.back; is = ap (λ l. y ∷ l) more.is; left = (h.0, more.left); here = more.here }
+
+  -- where each element of the one goes with one thing at most, so does the list
+  pub pairs_same : ((x : X) (y z : Y) → R x y → R x z → y ≡ z) → (xs : List X) (ys zs : List Y) → Pairs R xs ys → Pairs R xs zs → ys ≡ zs
+  pairs_same same [] [] [] h k = refl
+  pairs_same same [] [] (z ∷ zs) h k = absurd k
+  pairs_same same [] (y ∷ ys) zs h k = absurd h
+  pairs_same same (x ∷ xs) [] zs h k = absurd h
+  pairs_same same (x ∷ xs) (y ∷ ys) [] h k = absurd k
+  pairs_same same (x ∷ xs) (y ∷ ys) (z ∷ zs) h k = λ i. same x y z h.0 k.0 i ∷ pairs_same same xs ys zs h.1 k.1 i
+
+pub get_behind : {X : Type 0} (xs ys : List X) (i : ℕ) (y : X) → slice_get ys i ≡ Some y → slice_get (xs ++ ys) (length xs + i) ≡ Some y
+get_behind [] ys i y e = let zero_more : 0 + i ≡ i = omega arith in ap (slice_get ys) zero_more ∙ e
+get_behind (x ∷ xs) ys i y e =
+    let place : suc (length xs) + i ≡ suc (length xs + i) = omega arith in ap (slice_get (x ∷ (xs ++ ys))) place ∙ get_behind xs ys i y e

@@ -1,9 +1,25 @@
 //! Laws of the meaning of texts, each the contract of a function that does nothing.
 
-ghost use Rattle.flu_grammar.specs.Laws.{PlansAreGrammar, TextsHaveOnePlan};
+ghost use Rattle.flu_grammar.specs.Laws.{JobsAreGrammar, TextsHaveOneJob, PlansAreGrammar, TextsHaveOnePlan};
 
 use flu_plan::laws::{found_is_plan, plans_keep_rules};
+use flu_syntax::laws::found_is_job;
 use flu_text::laws::reading_is_exact;
+
+/// The job that is read of some bytes is exactly the one that they are the text of, by the grammar and by what each part of it means.
+pub fn jobs_are_grammar()
+    ensures { JobsAreGrammar }
+{
+    reading_is_exact();
+    found_is_job();
+}
+
+/// No bytes are the text of two jobs.
+pub fn texts_have_one_job()
+    ensures { TextsHaveOneJob }
+{
+    jobs_are_grammar();
+}
 
 /// The plan that is read of some bytes is exactly the one that they are the text of, by the grammar and by what each part of it means.
 pub fn plans_are_grammar()
