@@ -39,7 +39,7 @@ kind_head i k = record { number = i; keyed = k.keyed; has_value = k.has_value }
 -- ---- one declaration more
 
 -- the names with one declaration more
-abbrev next : List ℕ → Naming → Declaration → Naming
+abbrev pub next : List ℕ → Naming → Declaration → Naming
 next text n (d.Cell s keyed sort) = record n { families = n.families ++ (name_of text s, record { number = length n.families; keyed = keyed; sort = sort }) ∷ [] }
 next text n (d.Tag s keyed has_value) = record n { kinds = n.kinds ++ (name_of text s, record { number = length n.kinds; keyed = keyed; has_value = has_value }) ∷ [] }
 next text n (d.Depends a b relation) = record n { depends = n.depends + 1 }
@@ -47,7 +47,7 @@ next text n (d.On kind actions) = n
 next text n (d.Source s file rate slack tags) = record n { sources = n.sources ++ name_of text s ∷ [] }
 
 -- what is looked at before
-abbrev Checks : List ℕ → Naming → Declaration → Type 0
+abbrev pub Checks : List ℕ → Naming → Declaration → Type 0
 Checks text n (d.Cell s keyed sort) = (is_declared n (name_of text s) ≡ false) × (length n.families < 64)
 Checks text n (d.Tag s keyed has_value) = (is_declared n (name_of text s) ≡ false) × (length n.kinds < 64)
 Checks text n (d.Depends a b relation) = n.depends < 4096
@@ -64,7 +64,7 @@ fresh_passes : (text : List ℕ) (n : Naming) (s : WrittenSpan) → is_declared 
 fresh_passes text n s free =
     passes (not (is_declared n (name_of text s))) (f.TwiceNamed s.from) (Ok (name_of text s)) (name_of text s) (ap not free) refl
 
-declare_is : (text : List ℕ) (n : Naming) (x : Declaration) (m : Naming) → declare text n x ≡ Ok m → Checks text n x × (next text n x ≡ m)
+pub declare_is : (text : List ℕ) (n : Naming) (x : Declaration) (m : Naming) → declare text n x ≡ Ok m → Checks text n x × (next text n x ≡ m)
 unfolding declare with_family with_kind with_source
 declare_is text n (d.Cell s keyed sort) m e =
     let grown = λ (name : List ℕ). record n { families = n.families ++ (name, record { number = length n.families; keyed = keyed; sort = sort }) ∷ [] } in
@@ -202,7 +202,7 @@ module _ (text : List ℕ) where
       sym (list_any-append (bytes_eq s) (all_names done) (name ∷ [])) ∙ ap (λ l. list_any (bytes_eq s) (all_names done ++ l)) (sym is)
       ∙ ap (list_any (bytes_eq s)) (sym (grown (names_in text) done x))
 
-  named_next : (done : Declarations) (n : Naming) (x : Declaration) → Named done n → Named (done ++ x ∷ []) (next text n x)
+  pub named_next : (done : Declarations) (n : Naming) (x : Declaration) → Named done n → Named (done ++ x ∷ []) (next text n x)
   named_next done n (d.Cell s keyed sort) named =
       let x = d.Cell s keyed sort in
       let name = name_of text s in
@@ -280,7 +280,7 @@ module _ (text : List ℕ) where
       let none : list_any (bytes_eq name) (all_names done) ≡ false = sym (named.declared name) ∙ free in
       differ_push (all_names done) name (λ i here. not_both (bytes_eq name name) (bytes_itself name) (fails_at (bytes_eq name) (all_names done) i name none here)) own
 
-  own_next : (done : Declarations) (n : Naming) (x : Declaration) → Named done n → Checks text n x → OwnNames done → OwnNames (done ++ x ∷ [])
+  pub own_next : (done : Declarations) (n : Naming) (x : Declaration) → Named done n → Checks text n x → OwnNames done → OwnNames (done ++ x ∷ [])
   own_next done n (d.Cell s keyed sort) named h own =
       let x = d.Cell s keyed sort in
       let many = ap length named.families in
@@ -426,10 +426,10 @@ module _ (text : List ℕ) where
         subst (λ (l : Declarations). Named l more.0) same more.2,
       )
 
-  none_named : Named [] no_names
+  pub none_named : Named [] no_names
   none_named = record { families = refl; kinds = refl; sources = refl; depends = refl; declared = λ s. refl }
 
-  none_own : OwnNames []
+  pub none_own : OwnNames []
   none_own = record { own = differ_none; few_families = omega arith; few_kinds = omega arith; few_sources = omega arith; few_depends = omega arith }
 
   pub naming_is : (ds : Declarations) (n : Naming) → naming_of text ds ≡ Ok n → Named ds n × OwnNames ds

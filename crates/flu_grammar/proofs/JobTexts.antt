@@ -109,13 +109,13 @@ kinds_one text (d.Depends a b relation) = inl refl
 kinds_one text (d.On kind actions) = inl refl
 kinds_one text (d.Source s file rate slack tags) = inl refl
 
-know_families : (text : List ℕ) (ds : Declarations) (n : Naming) → Named text ds n → AllDiffer (all_names text ds) → KnowFamilies n (all_families text ds)
+pub know_families : (text : List ℕ) (ds : Declarations) (n : Naming) → Named text ds n → AllDiffer (all_names text ds) → KnowFamilies n (all_families text ds)
 know_families text ds n named own = record {
   heads_are = named.families;
   differ = among_differ text family_name (families_in text) (families_one text) ds own;
 }
 
-know_kinds : (text : List ℕ) (ds : Declarations) (n : Naming) → Named text ds n → AllDiffer (all_names text ds) → KnowKinds n (all_kinds text ds)
+pub know_kinds : (text : List ℕ) (ds : Declarations) (n : Naming) → Named text ds n → AllDiffer (all_names text ds) → KnowKinds n (all_kinds text ds)
 know_kinds text ds n named own = record { heads_are = named.kinds; differ = among_differ text kind_name (kinds_in text) (kinds_one text) ds own }
 
 -- ---- parts of a job

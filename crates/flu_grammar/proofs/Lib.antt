@@ -19,3 +19,4 @@ pub mod JobSources
 pub mod JobDrafts
 pub mod JobFound
 pub mod JobTexts
+pub mod Faults

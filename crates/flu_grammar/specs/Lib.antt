@@ -9,3 +9,4 @@ pub mod Declared
 pub mod Sources
 pub mod Jobs
 pub mod Laws
+pub mod Faults

@@ -1,5 +1,6 @@
 //! Laws of the meaning of texts, each the contract of a function that does nothing.
 
+ghost use Rattle.flu_grammar.specs.Faults.{RefusedIsNoJob, RefusedIsNoPlan, FamilyIsUnknown, KindIsUnknown, PlanKindIsUnknown, PlanSourceIsUnknown, ChildIsUnknown, TwiceNamedIsDeclaredTwice, NoTreeIsNodeTwice};
 ghost use Rattle.flu_grammar.specs.Laws.{JobsAreGrammar, TextsHaveOneJob, PlansAreGrammar, TextsHaveOnePlan};
 
 use flu_plan::laws::{found_is_plan, plans_keep_rules};
@@ -36,3 +37,28 @@ pub fn texts_have_one_plan()
 {
     plans_are_grammar();
 }
+
+/// Bytes in which a fault is found are the text of no job, and of no plan.
+pub fn refused_texts_are_none()
+    ensures job { RefusedIsNoJob }
+    ensures plan { RefusedIsNoPlan }
+{
+    jobs_are_grammar();
+    plans_are_grammar();
+}
+
+/// Where a name is told to be unknown, nothing of that name is declared as what is needed there.
+pub fn unknown_names_are_not_declared()
+    ensures family { FamilyIsUnknown }
+    ensures kind { KindIsUnknown }
+    ensures plan_kind { PlanKindIsUnknown }
+    ensures plan_source { PlanSourceIsUnknown }
+    ensures child { ChildIsUnknown }
+{}
+
+/// Where a name is told to be declared twice, an earlier declaration gives it, and no name before is declared twice; so it is with
+/// the nodes of a plan.
+pub fn twice_named_is_declared_before()
+    ensures job { TwiceNamedIsDeclaredTwice }
+    ensures plan { NoTreeIsNodeTwice }
+{}

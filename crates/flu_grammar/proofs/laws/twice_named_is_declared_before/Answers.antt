@@ -1,0 +1,8 @@
+use Rattle.flu_grammar.proofs.Faults.{twice_named, node_twice}
+use Rattle.flu_grammar.proofs.laws.twice_named_is_declared_before.Goals as goal
+
+pub returns-clause-job : goal.returns-clause-job
+returns-clause-job c = twice_named
+
+pub returns-clause-plan : goal.returns-clause-plan
+returns-clause-plan c = node_twice
