@@ -1,6 +1,6 @@
 -- The scan of a template finds the pieces into which its bytes are cut at their braces, and the other way round.
 use Rattle.std.proofs.Common.{◌≡◌, ℕ, suc, ◌+◌, ◌<◌, ◌≤◌, Bool, true, false, cond, List, [], ◌∷◌, ◌++◌, length, Option, Some, None, refl, sym, ap, subst, ◌∙◌, append_assoc, length-append, arith}
-use Rattle.std.specs.Prelude.{nat_lt, not, ◌==◌, ◌&&◌, if◌then◌else◌}
+use Rattle.std.specs.Prelude.{nat_lt, not, ◌==◌, ◌&&◌, if◌then◌else◌, IsTrue}
 use Rattle.std.specs.List.{list_all}
 use Rattle.std.proofs.lemmas.Grind.{common_steps}
 use Rattle.std.proofs.lemmas.List.{append-nil}
@@ -12,7 +12,21 @@ use Rattle.flu_layout.specs.Spelling.{inside}
 use Rattle.flu_parse.specs.declared.pieces.WrittenPiece.{WrittenPiece}
 use Rattle.flu_parse.specs.declared.pieces.WrittenPiece.TheVariants as w
 use Rattle.flu_parse.specs.Templates.{open_brace, close_brace, span, braced, field_at, Scan, Template, with_plain, with_piece, scan_byte, continued, end_of_scan, scan, scan_start, template_at}
-use Rattle.flu_grammar.specs.Templates.{no_brace, AreCut, cut_none, cut_plain, cut_field, field_between}
+use Rattle.flu_grammar.specs.Templates.{no_brace}
+
+-- these bytes are cut, where what stands between two braces is told by its places
+pub data AreCut (field : ℕ → ℕ → WrittenPiece) : Bool → ℕ → List ℕ → List WrittenPiece → Type 0 where
+  cut_none : (plain_first : Bool) (at : ℕ) → AreCut field plain_first at [] []
+  cut_plain : (at b : ℕ) (more rest : List ℕ) (pieces : List WrittenPiece) → IsTrue (list_all no_brace (b ∷ more))
+      → AreCut field false (at + length (b ∷ more)) rest pieces
+      → AreCut field true at ((b ∷ more) ++ rest) (w.Plain (span at (at + length (b ∷ more))) ∷ pieces)
+  cut_field : (plain_first : Bool) (at : ℕ) (word rest : List ℕ) (pieces : List WrittenPiece) → IsTrue (list_all no_brace word)
+      → AreCut field true (at + 1 + length word + 1) rest pieces
+      → AreCut field plain_first at (open_brace ∷ (word ++ close_brace ∷ rest)) (field (at + 1) (at + 1 + length word) ∷ pieces)
+
+-- what stands between two braces of a text
+abbrev pub field_between : List ℕ → Bool → ℕ → ℕ → WrittenPiece
+field_between text in_flush from to = braced (field_at text in_flush from to)
 
 -- between pieces, or within a field
 abbrev outside : List WrittenPiece → ℕ → Scan

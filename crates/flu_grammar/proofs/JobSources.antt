@@ -273,8 +273,8 @@ module _ (text : List ℕ) (n : Naming) (kinds : List DeclaredKind) (knows : Kno
       let h = kind_head t.kind k in
       let ks = keys_found k.keyed v.keys t.keys is.keys in
       let many : tag_count v.keys ≡ part_count t = ap (λ (x : Keys). length (listed_keys x)) ks.2 in
-      let last = keys_of v.keys >>= λ k. Ok (record { tags = done.tags ++ record { kind = t.kind; keys = k } ∷ []; itags = done.itags + tag_count v.keys }) in
-      let third = unless (not (list_any (share_tag (record { kind = t.kind; keys = written_keys v.keys })) done.tags)) (f.TwiceNamed v.kind.from) >> last in
+      let last : Found Listed = keys_of v.keys >>= λ k. Ok (record { tags = done.tags ++ record { kind = t.kind; keys = k } ∷ []; itags = done.itags + tag_count v.keys }) in
+      let third : Found Listed = unless (not (list_any (share_tag (record { kind = t.kind; keys = written_keys v.keys })) done.tags)) (f.TwiceNamed v.kind.from) >> last in
       binds (kind_of text n v.kind) (tag_looks done v) h (with_one_tag done t) (kind_found v.kind t.kind k is.kind.here is.kind.name)
       (passes (are_bracketed k.keyed v.keys) (f.WrongShape v.kind.from) (unless (nat_le (done.itags + tag_count v.keys) 256) (f.OverLimit Itags 257) >> third)
       (with_one_tag done t) ks.0

@@ -31,6 +31,7 @@ use Rattle.flu_grammar.specs.Templates.{MeansPiece, MeansTemplate}
 use Rattle.flu_grammar.proofs.Looks.{ok_same, ok_ok, passed, passes, binds, thens, Finds, found_each, finds_each}
 use Rattle.flu_grammar.proofs.Heads.{HeadFound, looked_up}
 use Rattle.flu_grammar.proofs.Cuts.{template_cut, cut_template}
+use Rattle.flu_grammar.proofs.Fields.{formed, told}
 use Rattle.flu_grammar.proofs.JobCells.{family_name, family_head, KnowFamilies, known_is, at_means, at_found, look_up_found, cell_from}
 
 module _ (text : List ℕ) (n : Naming) (families : List Family) (knows : KnowFamilies n families) (under : KindHead) (in_flush : Bool) where
@@ -129,10 +130,11 @@ module _ (text : List ℕ) (n : Naming) (families : List Family) (knows : KnowFa
       let fits = list_all (piece_fits text n under in_flush) t.pieces in
       let one = then_ok (known_names text n s.from t.pieces) (unless (t.whole && fits) (f.WrongShape s.from) >> pieces_of text n under s.from t.pieces) ps e in
       let two = passed (t.whole && fits) (f.WrongShape s.from) (pieces_of text n under s.from t.pieces) ps one.2 in
+      let means = pieces_mean s.from t.pieces ps (and_right t.whole fits two.0) (found_each (piece_of text n under s.from) t.pieces ps two.1) in
       record {
         parts = t.pieces;
-        cut = template_cut text in_flush s (and_left t.whole fits two.0);
-        means = pieces_mean s.from t.pieces ps (and_right t.whole fits two.0) (found_each (piece_of text n under s.from) t.pieces ps two.1);
+        cut = formed (template_cut text in_flush s (and_left t.whole fits two.0)) families under.keyed under.has_value ps means;
+        means = means;
       }
 
   pub template_found : (s : WrittenSpan) (ps : List Piece) → MeansTemplate text families under.keyed under.has_value in_flush s ps
@@ -141,7 +143,7 @@ module _ (text : List ℕ) (n : Naming) (families : List Family) (knows : KnowFa
   template_found s ps is =
       let t = template_at text in_flush s in
       let fits = list_all (piece_fits text n under in_flush) t.pieces in
-      let same = cut_template text in_flush s is.parts is.cut in
+      let same = cut_template text in_flush s is.parts (told is.cut) in
       let parts : t.pieces ≡ is.parts = ap (λ (x : Template). x.pieces) same in
       let all = pieces_pass s.from is.parts ps is.means in
       let named : known_names text n s.from t.pieces ≡ Ok tt = ap (known_names text n s.from) parts ∙ all.named in

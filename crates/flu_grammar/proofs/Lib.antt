@@ -11,6 +11,7 @@ pub mod PlanTexts
 pub mod Heads
 pub mod JobCells
 pub mod Cuts
+pub mod Fields
 pub mod JobTerms
 pub mod JobTemplates
 pub mod JobActions
