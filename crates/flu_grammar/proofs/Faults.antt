@@ -1,19 +1,15 @@
 -- What the faults of the readers say.
-use Rattle.std.proofs.Common.{◌≡◌, ℕ, suc, ◌+◌, ◌<◌, Bool, true, false, List, [], ◌∷◌, ◌++◌, map, length, Option, Some, None, Ok, Err, refl, sym, ap, subst, ◌∙◌, append_assoc, arith}
+use Rattle.std.proofs.Common.{◌≡◌, ℕ, ◌+◌, Bool, true, false, List, [], ◌∷◌, ◌++◌, map, length, Option, Some, None, Ok, Err, refl, sym, ap, subst, ◌∙◌, append_assoc}
 use Rattle.std.specs.Prelude.{not, nat_lt, slice_get, if◌then◌else◌}
 use Rattle.std.specs.List.{list_any, flat_map, position, position_or_len}
 use Rattle.std.specs.Str.{bytes_eq}
-use Rattle.std.proofs.lemmas.List.{append-nil, map-append}
+use Rattle.std.proofs.lemmas.List.{map-append}
 use Rattle.flu_lemmas.proofs.Elements.{fails_at}
 use Rattle.flu_lemmas.proofs.Tests.{lt_true, not_both}
 use Rattle.flu_model.specs.declared.limits.What.{What}
 use Rattle.flu_model.specs.declared.limits.What.TheVariants.{Families, Kinds, Sources, Depends}
-use Rattle.flu_model.specs.declared.jobs.Family.{Family}
 use Rattle.flu_model.specs.declared.jobs.Kind.{Kind}
 use Rattle.flu_model.specs.declared.jobs.Source.{Source}
-use Rattle.flu_model.specs.declared.jobs.Program.{Program}
-use Rattle.flu_model.specs.declared.plans.Node.{Node}
-use Rattle.flu_model.specs.Erasure.{Job}
 use Rattle.flu_model.specs.Rules.{is_same_text}
 use Rattle.flu_text.specs.declared.written.WrittenSpan.{WrittenSpan}
 use Rattle.flu_syntax.specs.Tree.{Declaration, Declarations}
@@ -22,20 +18,15 @@ use Rattle.flu_layout.specs.Spelling.{name_of}
 use Rattle.flu_parse.specs.declared.faults.JobFault.{JobFault}
 use Rattle.flu_parse.specs.declared.faults.JobFault.TheVariants as j
 use Rattle.flu_parse.specs.Faults.{Found as JobFound, ◌>>=◌, ◌>>◌, unless as job_unless, room, each}
-use Rattle.flu_parse.specs.Naming.{Naming, look_up, is_declared, known, fresh_name, with_family, with_kind, with_source, declare, no_names, naming_of, family_of, kind_of}
-use Rattle.flu_parse.specs.Reading.{job_in}
-use Rattle.flu_plan.specs.declared.fault.PlanFault.{PlanFault}
+use Rattle.flu_parse.specs.Naming.{Naming, look_up, is_declared, known, fresh_name, with_family, with_kind, with_source, declare, no_names}
 use Rattle.flu_plan.specs.declared.fault.PlanFault.TheVariants as p
 use Rattle.flu_plan.specs.declared.written.WrittenNode.{WrittenNode}
-use Rattle.flu_plan.specs.Faults.{Found as PlanFound, unless as plan_unless}
-use Rattle.flu_plan.specs.Resolving.{with_name, names_of, known as plan_known, kind_named, source_named, kid_of, kind_of as plan_kind_of, source_of as plan_source_of}
-use Rattle.flu_plan.specs.Reading.{plan_in}
+use Rattle.flu_plan.specs.Faults.{unless as plan_unless}
+use Rattle.flu_plan.specs.Resolving.{with_name, known as plan_known, kind_named, source_named}
 use Rattle.flu_grammar.specs.Means.{AllDiffer}
-use Rattle.flu_grammar.specs.Declared.{DeclaredKind, names_in, families_in, kinds_in}
-use Rattle.flu_grammar.specs.Plans.{IsPlanText}
-use Rattle.flu_grammar.specs.Jobs.{IsJobText}
+use Rattle.flu_grammar.specs.Declared.{families_in, kinds_in}
 use Rattle.flu_grammar.specs.Laws.{JobsAreGrammar, PlansAreGrammar}
-use Rattle.flu_grammar.specs.Faults.{RefusedIsNoJob, RefusedIsNoPlan, IsUnknown, FamilyIsUnknown, KindIsUnknown, PlanKindIsUnknown, PlanSourceIsUnknown, ChildIsUnknown, spans_in, IsDeclaredTwice, TwiceNamedIsDeclaredTwice, IsNodeTwice, NoTreeIsNodeTwice}
+use Rattle.flu_grammar.specs.Faults.{RefusedIsNoJob, RefusedIsNoPlan, FamilyIsUnknown, KindIsUnknown, PlanKindIsUnknown, PlanSourceIsUnknown, ChildIsUnknown, spans_in, IsDeclaredTwice, TwiceNamedIsDeclaredTwice, IsNodeTwice, NoTreeIsNodeTwice}
 use Rattle.flu_grammar.proofs.Lists.{bytes_itself, bytes_is, get_below, differ_none, differ_push, any_there, met_at}
 use Rattle.flu_grammar.proofs.PlanRead.{written_name}
 use Rattle.flu_grammar.proofs.JobCells.{family_head, look_up_found}

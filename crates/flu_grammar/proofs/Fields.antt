@@ -1,8 +1,8 @@
 -- The form of a field that is found is the one that it has, and the other way round.
-use Rattle.std.proofs.Common.{◌≡◌, ℕ, suc, ◌+◌, ◌-◌, ◌<◌, ◌≤◌, ◌^◌, pos, Bool, true, false, List, [], ◌∷◌, ◌++◌, length, Option, Some, None, inl, inr, refl, sym, ap, subst, ◌∙◌, arith}
-use Rattle.std.specs.Prelude.{nat_lt, nat_le, not, ◌==◌, ◌&&◌, if◌then◌else◌, option_map, codes, position, slice_get, IsTrue}
+use Rattle.std.proofs.Common.{◌≡◌, ℕ, ◌+◌, ◌-◌, ◌<◌, ◌^◌, pos, Bool, true, false, List, [], ◌∷◌, ◌++◌, length, Option, Some, None, inl, inr, refl, sym, ap, subst, ◌∙◌}
+use Rattle.std.specs.Prelude.{nat_lt, nat_le, not, ◌&&◌, if◌then◌else◌, option_map, codes, position, slice_get}
 use Rattle.std.specs.Char.{is_ascii_digit}
-use Rattle.std.specs.List.{list_all, list_any}
+use Rattle.std.specs.List.{list_all}
 use Rattle.std.specs.Str.{bytes_eq}
 use Rattle.std.specs.Str.Parse.{digits_value}
 use Rattle.flu_lemmas.specs.Items.{Pairs}
@@ -17,16 +17,14 @@ use Rattle.flu_names.specs.Names.{is_name, is_name_byte, begins_as_name, is_rese
 use Rattle.flu_model.specs.declared.jobs.Family.{Family}
 use Rattle.flu_model.specs.declared.jobs.Piece.{Piece}
 use Rattle.flu_text.specs.Lexeme.{number_of}
-use Rattle.flu_text.specs.declared.written.WrittenSpan.{WrittenSpan}
 use Rattle.flu_syntax.specs.declared.tree.WrittenKey.{WrittenKey}
 use Rattle.flu_syntax.specs.declared.tree.WrittenKey.TheVariants as k
-use Rattle.flu_layout.specs.Spelling.{inside}
 use Rattle.flu_parse.specs.declared.pieces.WrittenPiece.{WrittenPiece}
 use Rattle.flu_parse.specs.declared.pieces.WrittenPiece.TheVariants as w
-use Rattle.flu_parse.specs.Templates.{Template, open_brace, close_brace, is_open_bracket, span, digits_at, key_at, ref_with, ref_at, field_at, braced, template_at}
+use Rattle.flu_parse.specs.Templates.{open_brace, close_brace, is_open_bracket, span, digits_at, key_at, ref_with, ref_at, field_at, braced}
 use Rattle.flu_grammar.specs.Templates.{IsField, field_value, field_key, field_time, field_cell, field_family, field_own, field_fixed, AreCut, cut_none, cut_plain, cut_field, MeansPiece}
 use Rattle.flu_grammar.proofs.Lists.{bytes_itself, bytes_is, some_same}
-use Rattle.flu_grammar.proofs.Cuts.{field_between, template_cut, cut_template}
+use Rattle.flu_grammar.proofs.Cuts.{field_between}
 use Rattle.flu_grammar.proofs.Cuts.{AreCut as IsCut, cut_none as is_none, cut_plain as is_plain, cut_field as is_field}
 
 -- ---- what is found has the form

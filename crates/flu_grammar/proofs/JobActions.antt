@@ -1,5 +1,5 @@
 -- Actions that are found are what they mean, and the other way round.
-use Rattle.std.proofs.Common.{◌≡◌, ℕ, suc, ◌+◌, ◌<◌, ◌≤◌, Bool, true, false, List, [], ◌∷◌, ◌++◌, length, Option, Some, None, Ok, refl, sym, ap, subst, ◌∙◌, append_assoc, length-append, arith}
+use Rattle.std.proofs.Common.{◌≡◌, ℕ, ◌+◌, ◌≤◌, true, false, List, [], ◌∷◌, ◌++◌, length, Option, Some, None, Ok, refl, sym, ap, subst, ◌∙◌, append_assoc, arith}
 use Rattle.std.specs.Prelude.{nat_lt, slice_get}
 use Rattle.std.proofs.lemmas.List.{append-nil, length_push}
 use Rattle.flu_lemmas.specs.Items.{Pairs}
@@ -8,16 +8,13 @@ use Rattle.flu_lemmas.proofs.Tests.{true_lt, lt_true}
 use Rattle.flu_model.specs.declared.limits.What.TheVariants.{Actions}
 use Rattle.flu_model.specs.declared.jobs.Sort.TheVariants.{Sum, Max, Last}
 use Rattle.flu_model.specs.declared.jobs.Family.{Family}
-use Rattle.flu_model.specs.declared.jobs.CellRef.{CellRef}
-use Rattle.flu_model.specs.declared.jobs.Piece.{Piece}
 use Rattle.flu_model.specs.Erasure.{Term, PlainAct, Adding, Raising, Setting, Clearing, Emitting, Flushing, PlainAction}
 use Rattle.flu_syntax.specs.declared.tokens.Verb.TheVariants as verb
 use Rattle.flu_syntax.specs.Tree.{Tree, Deed, Writes, Clears, Emits, Flushes, Action}
-use Rattle.flu_layout.specs.Spelling.{name_of}
 use Rattle.flu_parse.specs.declared.faults.JobFault.TheVariants as f
 use Rattle.flu_parse.specs.declared.names.FamilyHead.{FamilyHead}
 use Rattle.flu_parse.specs.declared.names.KindHead.{KindHead}
-use Rattle.flu_parse.specs.Faults.{Found, ◌>>=◌, ◌>>◌, unless, room, each}
+use Rattle.flu_parse.specs.Faults.{◌>>=◌, ◌>>◌, unless, room, each}
 use Rattle.flu_parse.specs.Naming.{Naming, family_of}
 use Rattle.flu_parse.specs.Cells.{resolved_cell}
 use Rattle.flu_parse.specs.Terms.{expression_of}
@@ -25,7 +22,7 @@ use Rattle.flu_parse.specs.Templates.{template_of}
 use Rattle.flu_parse.specs.Actions.{resolved_act, guard_of, action_of, with_action, resolved_actions}
 use Rattle.flu_grammar.specs.Means.{IfWritten}
 use Rattle.flu_grammar.specs.Terms.{MeansExpression}
-use Rattle.flu_grammar.specs.Actions.{MeansKeyedFamily, MeansDeed, means_add, means_raise, means_set, means_clear, means_emit, means_flush, MeansAction}
+use Rattle.flu_grammar.specs.Actions.{MeansDeed, means_add, means_raise, means_set, means_clear, means_emit, means_flush, MeansAction}
 use Rattle.flu_grammar.proofs.Lists.{pairs_weaker}
 use Rattle.flu_grammar.proofs.Looks.{ok_same, ok_ok, passed, passes, binds, Finds}
 use Rattle.flu_grammar.proofs.JobCells.{family_head, KnowFamilies, family_is, family_found, cell_means, cell_found}

@@ -1,5 +1,5 @@
 -- Cells that are found are what they mean, and the other way round.
-use Rattle.std.proofs.Common.{◌≡◌, ℕ, ◌+◌, ◌<◌, Bool, true, false, List, [], ◌∷◌, map, Option, Some, None, Ok, refl, sym, ap, subst, ◌∙◌, arith}
+use Rattle.std.proofs.Common.{◌≡◌, ℕ, ◌+◌, ◌<◌, Bool, true, List, map, Option, Some, None, Ok, refl, sym, ap, subst, ◌∙◌, arith}
 use Rattle.std.specs.Prelude.{not, nat_lt, slice_get, ◌&&◌}
 use Rattle.flu_lemmas.proofs.Loops.{bind_ok}
 use Rattle.flu_lemmas.proofs.Tests.{and_left, and_right, both, not_true, true_lt, lt_true}
@@ -21,7 +21,7 @@ use Rattle.flu_layout.specs.Spelling.{name_of, written_value}
 use Rattle.flu_parse.specs.declared.faults.JobFault.TheVariants as f
 use Rattle.flu_parse.specs.declared.names.FamilyHead.{FamilyHead}
 use Rattle.flu_parse.specs.declared.names.KindHead.{KindHead}
-use Rattle.flu_parse.specs.Faults.{Found, ◌>>=◌, ◌>>◌, unless}
+use Rattle.flu_parse.specs.Faults.{◌>>=◌, ◌>>◌, unless}
 use Rattle.flu_parse.specs.Naming.{Naming, look_up, known, family_of}
 use Rattle.flu_parse.specs.Cells.{resolved_key, brackets_fit, is_wanted, family_for, at_of, resolved_cell}
 use Rattle.flu_grammar.specs.Means.{AllDiffer}

@@ -1,21 +1,17 @@
 -- The declarations of a job, looked at in order: what is found of them is what they mean, and the other way round.
-use Rattle.std.proofs.Common.{◌≡◌, ◌≢◌, ℕ, zero, suc, ◌+◌, ◌<◌, ◌≤◌, Bool, true, false, List, [], ◌∷◌, ◌++◌, map, length, Option, Some, None, Ok, refl, sym, ap, subst, ◌∙◌, append_assoc, length-append, arith}
+use Rattle.std.proofs.Common.{◌≡◌, ℕ, zero, suc, ◌+◌, ◌≤◌, Bool, true, false, List, [], ◌∷◌, ◌++◌, map, length, Option, Some, Ok, refl, sym, ap, subst, ◌∙◌, append_assoc, arith}
 use Rattle.std.specs.Prelude.{not, ◌==◌, slice_get, if◌then◌else◌}
 use Rattle.std.specs.List.{list_any, flat_map}
 use Rattle.std.specs.Str.{bytes_eq}
-use Rattle.std.proofs.lemmas.List.{append-nil, map-append, length-map}
+use Rattle.std.proofs.lemmas.List.{append-nil, map-append}
 use Rattle.flu_lemmas.specs.Items.{Pairs}
 use Rattle.flu_lemmas.specs.Totals.{total}
 use Rattle.flu_lemmas.proofs.Elements.{fails_at}
 use Rattle.flu_lemmas.proofs.Loops.{bind_ok}
-use Rattle.flu_lemmas.proofs.Places.{slice_get-behind}
 use Rattle.flu_lemmas.proofs.Searches.{eq_true}
-use Rattle.flu_lemmas.proofs.Tests.{not_true, not_both, false_if_not, true_eq}
+use Rattle.flu_lemmas.proofs.Tests.{not_true, not_both, false_if_not}
 use Rattle.flu_lemmas.proofs.Totals.{total-append}
 use Rattle.flu_model.specs.declared.jobs.Family.{Family}
-use Rattle.flu_model.specs.declared.jobs.Depend.{Depend}
-use Rattle.flu_model.specs.declared.jobs.Keys.{Keys}
-use Rattle.flu_model.specs.declared.jobs.TagRef.{TagRef}
 use Rattle.flu_model.specs.declared.jobs.Source.{Source}
 use Rattle.flu_model.specs.Erasure.{PlainAction, PlainKind}
 use Rattle.flu_model.specs.Rules.{is_same_text}
@@ -28,22 +24,22 @@ use Rattle.flu_syntax.specs.Tree as d
 use Rattle.flu_layout.specs.Spelling.{name_of}
 use Rattle.flu_parse.specs.declared.faults.JobFault.TheVariants as f
 use Rattle.flu_parse.specs.declared.names.KindHead.{KindHead}
-use Rattle.flu_parse.specs.Faults.{Found, ◌>>=◌, ◌>>◌, unless, each}
+use Rattle.flu_parse.specs.Faults.{◌>>=◌, ◌>>◌, unless, each}
 use Rattle.flu_parse.specs.Naming.{Naming, kind_of}
 use Rattle.flu_parse.specs.Actions.{resolved_actions}
 use Rattle.flu_parse.specs.Resolving.{Drafted, with_depend, with_actions, with_on, with_source, with_declaration, idle_kind, first_draft, draft_of}
 use Rattle.flu_grammar.specs.Means.{AllDiffer, IsNamed}
 use Rattle.flu_grammar.specs.Actions.{MeansAction}
-use Rattle.flu_grammar.specs.Declared.{DeclaredKind, WrittenDepend, WrittenSource, kinds_in, depends_in, ons_in, actions_in, sources_in}
-use Rattle.flu_grammar.specs.Sources.{MeansKind, MeansDepend, MeansListedKeys, MeansTag, MeansNumber, MeansSource}
+use Rattle.flu_grammar.specs.Declared.{DeclaredKind, WrittenDepend, WrittenSource, depends_in, ons_in, actions_in, sources_in}
+use Rattle.flu_grammar.specs.Sources.{MeansDepend, MeansSource}
 use Rattle.flu_grammar.specs.Jobs.{MeansDeclaredKind}
-use Rattle.flu_grammar.proofs.Lists.{bytes_itself, bytes_is, some_same, get_front, get_below, get_map, get_unmap, differ_none, differ_tail, differ_head, differ_push, differ_front, any_none, any_there, pairs_left, pairs_right, pairs_push, pairs_split, pairs_same}
-use Rattle.flu_grammar.proofs.Looks.{ok_same, ok_ok, passed, passes, binds}
-use Rattle.flu_grammar.proofs.Heads.{heads, HeadFound}
+use Rattle.flu_grammar.proofs.Lists.{bytes_itself, bytes_is, some_same, get_map, get_unmap, differ_none, differ_tail, differ_head, differ_push, pairs_left, pairs_push}
+use Rattle.flu_grammar.proofs.Looks.{ok_same, passed}
+use Rattle.flu_grammar.proofs.Heads.{heads}
 use Rattle.flu_grammar.proofs.JobCells.{KnowFamilies}
-use Rattle.flu_grammar.proofs.JobActions.{actions_mean, actions_found}
-use Rattle.flu_grammar.proofs.JobNames.{kind_name, kind_head, grown, unchanged, split_more}
-use Rattle.flu_grammar.proofs.JobSources.{KnowKinds, kind_is, kind_found, depend_is, depend_found, part_count, with_one_depend, with_one_source, OneSource, source_is, source_found}
+use Rattle.flu_grammar.proofs.JobActions.{actions_mean}
+use Rattle.flu_grammar.proofs.JobNames.{kind_name, kind_head, grown, unchanged}
+use Rattle.flu_grammar.proofs.JobSources.{KnowKinds, kind_is, depend_is, part_count, with_one_depend, with_one_source, source_is}
 
 -- how many itags some sources list
 abbrev pub itag_count : List Source → ℕ

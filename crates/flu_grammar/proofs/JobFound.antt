@@ -1,10 +1,9 @@
 -- A job that is written is found: each declaration passes, and what is found is the job.
-use Rattle.std.proofs.Common.{◌≡◌, ◌≢◌, ℕ, zero, suc, ◌+◌, ◌<◌, ◌≤◌, Bool, true, false, List, [], ◌∷◌, ◌++◌, map, length, Option, Some, None, Ok, refl, sym, ap, subst, ◌∙◌, append_assoc, arith}
-use Rattle.std.specs.Prelude.{not, ◌==◌, slice_get, if◌then◌else◌}
+use Rattle.std.proofs.Common.{◌≡◌, ℕ, suc, ◌+◌, ◌≤◌, true, false, List, [], ◌∷◌, ◌++◌, map, length, Option, Some, None, Ok, refl, sym, ap, subst, ◌∙◌, append_assoc, arith}
+use Rattle.std.specs.Prelude.{not, ◌==◌, slice_get}
 use Rattle.std.specs.List.{list_any, flat_map}
 use Rattle.std.specs.Str.{bytes_eq}
 use Rattle.std.proofs.lemmas.List.{append-nil, map-append}
-use Rattle.std.proofs.lemmas.Grind.{flat_map-append}
 use Rattle.flu_lemmas.specs.Items.{Pairs}
 use Rattle.flu_lemmas.specs.Totals.{total}
 use Rattle.flu_lemmas.proofs.Places.{slice_get-behind}
@@ -12,30 +11,28 @@ use Rattle.flu_lemmas.proofs.Tests.{false_if_not, true_eq}
 use Rattle.flu_lemmas.proofs.Totals.{total-append}
 use Rattle.flu_model.specs.declared.jobs.Family.{Family}
 use Rattle.flu_model.specs.declared.jobs.Depend.{Depend}
-use Rattle.flu_model.specs.declared.jobs.Keys.{Keys}
 use Rattle.flu_model.specs.declared.jobs.TagRef.{TagRef}
 use Rattle.flu_model.specs.declared.jobs.Source.{Source}
-use Rattle.flu_model.specs.Erasure.{PlainAction, PlainKind}
+use Rattle.flu_model.specs.Erasure.{PlainKind}
 use Rattle.flu_model.specs.Rules.{is_same_text}
 use Rattle.flu_text.specs.declared.written.WrittenSpan.{WrittenSpan}
 use Rattle.flu_text.specs.declared.written.WrittenNumber.{WrittenNumber}
 use Rattle.flu_syntax.specs.declared.tree.WrittenTag.{WrittenTag}
 use Rattle.flu_syntax.specs.Tree.{Action, Declaration, Declarations}
 use Rattle.flu_syntax.specs.Tree as d
-use Rattle.flu_layout.specs.Spelling.{name_of, written_value}
+use Rattle.flu_layout.specs.Spelling.{name_of}
 use Rattle.flu_parse.specs.declared.faults.JobFault.TheVariants as f
-use Rattle.flu_parse.specs.declared.names.KindHead.{KindHead}
-use Rattle.flu_parse.specs.Faults.{Found, ◌>>=◌, ◌>>◌, unless, each}
+use Rattle.flu_parse.specs.Faults.{◌>>=◌, ◌>>◌, unless, each}
 use Rattle.flu_parse.specs.Naming.{Naming, kind_of}
 use Rattle.flu_parse.specs.Actions.{resolved_actions}
 use Rattle.flu_parse.specs.Resolving.{Drafted, with_depend, with_actions, with_on, with_source, with_declaration, first_draft, draft_of}
 use Rattle.flu_grammar.specs.Means.{AllDiffer, IsNamed}
 use Rattle.flu_grammar.specs.Actions.{MeansAction}
-use Rattle.flu_grammar.specs.Declared.{DeclaredKind, WrittenDepend, WrittenSource, kinds_in, depends_in, ons_in, actions_in, sources_in}
+use Rattle.flu_grammar.specs.Declared.{DeclaredKind, WrittenDepend, WrittenSource, depends_in, ons_in, actions_in, sources_in}
 use Rattle.flu_grammar.specs.Sources.{MeansKind, MeansDepend, MeansTag, MeansNumber, MeansSource}
 use Rattle.flu_grammar.specs.Jobs.{MeansDeclaredKind}
-use Rattle.flu_grammar.proofs.Lists.{bytes_itself, bytes_is, some_same, get_behind, get_front, get_below, get_map, any_none, pairs_left, pairs_right, Split, pairs_split, pairs_same}
-use Rattle.flu_grammar.proofs.Looks.{ok_same, ok_ok, passes, binds}
+use Rattle.flu_grammar.proofs.Lists.{bytes_itself, bytes_is, some_same, get_behind, get_front, get_below, get_map, any_none, pairs_left, pairs_right, pairs_split, pairs_same}
+use Rattle.flu_grammar.proofs.Looks.{ok_same, passes, binds}
 use Rattle.flu_grammar.proofs.JobCells.{KnowFamilies}
 use Rattle.flu_grammar.proofs.JobActions.{actions_found}
 use Rattle.flu_grammar.proofs.JobNames.{kind_name, kind_head, split_more}

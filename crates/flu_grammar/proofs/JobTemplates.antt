@@ -1,12 +1,11 @@
 -- Templates that are found are what they mean, and the other way round.
-use Rattle.std.proofs.Common.{◌≡◌, ℕ, Bool, true, false, List, [], ◌∷◌, Option, Some, None, Ok, refl, sym, ap, subst, ◌∙◌}
-use Rattle.std.specs.Prelude.{◌&&◌, ◌||◌, Result}
+use Rattle.std.proofs.Common.{◌≡◌, ℕ, Bool, true, List, [], ◌∷◌, Some, None, Ok, refl, sym, ap, subst, ◌∙◌}
+use Rattle.std.specs.Prelude.{◌&&◌}
 use Rattle.std.specs.List.{list_all}
 use Rattle.flu_lemmas.specs.Items.{Pairs}
 use Rattle.flu_lemmas.proofs.Loops.{bind_ok, then_ok}
 use Rattle.flu_lemmas.proofs.Tests.{and_left, and_right, both}
 use Rattle.flu_model.specs.declared.jobs.Family.{Family}
-use Rattle.flu_model.specs.declared.jobs.CellRef.{CellRef}
 use Rattle.flu_model.specs.declared.jobs.At.{At}
 use Rattle.flu_model.specs.declared.jobs.At.TheVariants as at
 use Rattle.flu_model.specs.declared.jobs.Piece.{Piece}
@@ -14,22 +13,19 @@ use Rattle.flu_model.specs.declared.jobs.Piece.TheVariants as piece
 use Rattle.flu_text.specs.declared.written.WrittenSpan.{WrittenSpan}
 use Rattle.flu_syntax.specs.declared.tree.WrittenKey.{WrittenKey}
 use Rattle.flu_syntax.specs.declared.tree.WrittenKey.TheVariants as k
-use Rattle.flu_syntax.specs.declared.tree.WrittenRef.{WrittenRef}
 use Rattle.flu_layout.specs.Spelling.{name_of}
-use Rattle.flu_parse.specs.declared.faults.JobFault.{JobFault}
 use Rattle.flu_parse.specs.declared.faults.JobFault.TheVariants as f
-use Rattle.flu_parse.specs.declared.names.FamilyHead.{FamilyHead}
 use Rattle.flu_parse.specs.declared.names.KindHead.{KindHead}
 use Rattle.flu_parse.specs.declared.pieces.WrittenPiece.{WrittenPiece}
 use Rattle.flu_parse.specs.declared.pieces.WrittenPiece.TheVariants as w
-use Rattle.flu_parse.specs.Faults.{Found, ◌>>=◌, ◌>>◌, unless, each}
+use Rattle.flu_parse.specs.Faults.{◌>>=◌, ◌>>◌, unless, each}
 use Rattle.flu_parse.specs.Naming.{Naming, look_up, known}
 use Rattle.flu_parse.specs.Cells.{brackets_fit, at_of}
 use Rattle.flu_parse.specs.Templates.{Template, template_at, known_name, known_names, own_key_fits, read_fits, piece_fits, piece_of, pieces_of, template_of}
-use Rattle.flu_grammar.specs.Cells.{MeansKey, MeansCell}
+use Rattle.flu_grammar.specs.Cells.{MeansKey}
 use Rattle.flu_grammar.specs.Templates.{MeansPiece, MeansTemplate}
 use Rattle.flu_grammar.proofs.Looks.{ok_same, ok_ok, passed, passes, binds, thens, Finds, found_each, finds_each}
-use Rattle.flu_grammar.proofs.Heads.{HeadFound, looked_up}
+use Rattle.flu_grammar.proofs.Heads.{looked_up}
 use Rattle.flu_grammar.proofs.Cuts.{template_cut, cut_template}
 use Rattle.flu_grammar.proofs.Fields.{formed, told}
 use Rattle.flu_grammar.proofs.JobCells.{family_name, family_head, KnowFamilies, known_is, at_means, at_found, look_up_found, cell_from}

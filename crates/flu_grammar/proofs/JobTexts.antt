@@ -1,8 +1,8 @@
 -- The job of a text is read exactly where the text is that job's.
-use Rattle.std.proofs.Common.{◌≡◌, ◌⊎◌, inl, inr, ℕ, zero, suc, ◌+◌, ◌<◌, ◌≤◌, Bool, true, List, [], ◌∷◌, ◌++◌, map, length, Option, Some, None, Ok, Err, refl, sym, ap, subst, ◌∙◌, length-append, arith}
+use Rattle.std.proofs.Common.{◌≡◌, ◌⊎◌, inl, inr, ℕ, zero, suc, ◌+◌, ◌≤◌, List, [], ◌∷◌, ◌++◌, map, length, Option, Some, None, Ok, Err, refl, sym, ap, subst, ◌∙◌, length-append, arith}
 use Rattle.std.specs.Prelude.{nat_le, slice_get}
 use Rattle.std.specs.List.{flat_map}
-use Rattle.std.specs.Str.{IsUtf8, is_utf8}
+use Rattle.std.specs.Str.{is_utf8}
 use Rattle.std.specs.Str.Lossy.{utf8_valid_len}
 use Rattle.std.proofs.lemmas.List.{length-map}
 use Rattle.std.proofs.lemmas.Str.{IsUtf8-from_is_utf8, is_utf8-from_IsUtf8}
@@ -10,12 +10,12 @@ use Rattle.flu_lemmas.specs.Items.{Pairs}
 use Rattle.flu_lemmas.specs.Totals.{total}
 use Rattle.flu_lemmas.proofs.Loops.{bind_ok}
 use Rattle.flu_lemmas.proofs.Tests.{true_le, le_true}
-use Rattle.flu_model.specs.declared.limits.What.TheVariants.{Bytes, Nesting}
+use Rattle.flu_model.specs.declared.limits.What.TheVariants.{Bytes}
 use Rattle.flu_model.specs.declared.jobs.Family.{Family}
 use Rattle.flu_model.specs.declared.jobs.TagRef.{TagRef}
 use Rattle.flu_model.specs.declared.jobs.Source.{Source}
 use Rattle.flu_model.specs.declared.events.Tag.{Tag}
-use Rattle.flu_model.specs.Erasure.{PlainKind, Job}
+use Rattle.flu_model.specs.Erasure.{Job}
 use Rattle.flu_model.specs.Listing.{tag, listed_keys, listed_tags, tags_of_source, itags_of_sources}
 use Rattle.flu_model.specs.Rules.{is_version}
 use Rattle.flu_text.specs.declared.words.Token.{Token}
@@ -24,17 +24,16 @@ use Rattle.flu_text.specs.Reading.{reading, Reading as TokenReading}
 use Rattle.flu_text.specs.Laws.{ReadingIsTokens}
 use Rattle.flu_syntax.specs.Tree.{Declaration, Declarations, Job as WrittenJob}
 use Rattle.flu_syntax.specs.Tree as d
-use Rattle.flu_syntax.specs.Grammar.{IsJob}
 use Rattle.flu_syntax.specs.Laws.{FoundIsJob}
 use Rattle.flu_syntax.specs.Machine.{Verdict, verdict, Found as IsVerdict, Unexpected, TooDeep}
 use Rattle.flu_layout.specs.Spelling.{name_of, written_value}
 use Rattle.flu_parse.specs.declared.faults.JobFault.TheVariants as f
-use Rattle.flu_parse.specs.Faults.{Found, ◌>>=◌, ◌>>◌, unless}
+use Rattle.flu_parse.specs.Faults.{◌>>=◌}
 use Rattle.flu_parse.specs.Naming.{Naming, naming_of}
-use Rattle.flu_parse.specs.Resolving.{Drafted, family, draft_of, version_of, job_with, resolved}
+use Rattle.flu_parse.specs.Resolving.{family, draft_of, version_of, job_with, resolved}
 use Rattle.flu_parse.specs.Reading.{text_in, found_tokens, tokens_in, found_job, written_in, job_in}
 use Rattle.flu_grammar.specs.Means.{AllDiffer}
-use Rattle.flu_grammar.specs.Declared.{DeclaredKind, WrittenDepend, WrittenSource, names_in, families_in, kinds_in, depends_in, ons_in, sources_in}
+use Rattle.flu_grammar.specs.Declared.{names_in, families_in, kinds_in, depends_in, ons_in, sources_in}
 use Rattle.flu_grammar.specs.Sources.{MeansDepend, MeansSource}
 use Rattle.flu_grammar.specs.Jobs.{MeansVersion, MeansDeclaredKind, MeansJob, IsJobText}
 use Rattle.flu_grammar.specs.Laws.{JobsAreGrammar, TextsHaveOneJob}
@@ -42,9 +41,9 @@ use Rattle.flu_grammar.proofs.Lists.{differ_none, differ_cons, differ_tail, diff
 use Rattle.flu_grammar.proofs.Looks.{ok_same, ok_ok, passed, passes, binds}
 use Rattle.flu_grammar.proofs.Heads.{heads}
 use Rattle.flu_grammar.proofs.JobCells.{family_name, family_head, KnowFamilies}
-use Rattle.flu_grammar.proofs.JobNames.{kind_name, kind_head, all_names, all_families, all_kinds, source_names_in, Named, OwnNames, naming_is, naming_found}
+use Rattle.flu_grammar.proofs.JobNames.{kind_name, all_names, all_families, all_kinds, source_names_in, Named, OwnNames, naming_is, naming_found}
 use Rattle.flu_grammar.proofs.JobSources.{KnowKinds, part_count}
-use Rattle.flu_grammar.proofs.JobDrafts.{itag_count, Drafts, drafts_are}
+use Rattle.flu_grammar.proofs.JobDrafts.{itag_count, drafts_are}
 use Rattle.flu_grammar.proofs.JobFound.{Aim, drafted}
 
 -- ---- the names of families and of kinds are among all

@@ -1,24 +1,17 @@
 -- The plan that is read is what its text means.
-use Rattle.std.proofs.Common.{◌≡◌, ℕ, zero, suc, ◌+◌, ◌<◌, ◌≤◌, Bool, true, false, List, [], ◌∷◌, ◌++◌, map, length, Option, Some, None, Ok, refl, sym, ap, subst, ◌∙◌, append_assoc, arith}
-use Rattle.std.specs.Prelude.{not, ◌==◌, slice_get, nat_le}
+use Rattle.std.proofs.Common.{◌≡◌, ℕ, zero, suc, ◌+◌, ◌<◌, true, List, [], ◌∷◌, ◌++◌, map, length, Option, Some, None, Ok, refl, sym, ap, subst, ◌∙◌, append_assoc, arith}
+use Rattle.std.specs.Prelude.{not, ◌==◌, slice_get}
 use Rattle.std.specs.List.{list_any, flat_map, AllByRecursion}
-use Rattle.std.specs.Str.{bytes_eq, IsUtf8, is_utf8}
-use Rattle.std.specs.Str.Lossy.{utf8_valid_len}
+use Rattle.std.specs.Str.{bytes_eq}
 use Rattle.std.proofs.lemmas.List.{append-nil, length-map}
-use Rattle.std.proofs.lemmas.Str.{IsUtf8-from_is_utf8}
 use Rattle.flu_lemmas.specs.Items.{Pairs}
 use Rattle.flu_lemmas.proofs.Elements.{fails_at}
 use Rattle.flu_lemmas.proofs.Loops.{bind_ok, then_ok}
 use Rattle.flu_lemmas.proofs.Places.{slice_get-there}
-use Rattle.flu_lemmas.proofs.Tests.{not_true, not_both, true_eq, true_le}
-use Rattle.flu_model.specs.declared.limits.What.TheVariants.{Bytes}
+use Rattle.flu_lemmas.proofs.Tests.{not_true, not_both, true_eq}
 use Rattle.flu_model.specs.declared.jobs.Program.{Program}
 use Rattle.flu_model.specs.declared.plans.Node.{Node}
-use Rattle.flu_text.specs.declared.words.Token.{Token}
 use Rattle.flu_text.specs.declared.written.WrittenSpan.{WrittenSpan}
-use Rattle.flu_text.specs.Reading.{reading, Reading as TokenReading}
-use Rattle.flu_text.specs.Grammar.{AreTokens}
-use Rattle.flu_text.specs.Laws.{ReadingIsTokens}
 use Rattle.flu_layout.specs.Spelling.{name_of}
 use Rattle.flu_plan.specs.declared.fault.PlanFault.TheVariants as f
 use Rattle.flu_plan.specs.declared.written.WrittenNode.{WrittenNode}
@@ -26,19 +19,16 @@ use Rattle.flu_plan.specs.declared.drafts.DraftNode.{DraftNode}
 use Rattle.flu_plan.specs.declared.drafts.Visit.{Visit}
 use Rattle.flu_plan.specs.Faults.{◌>>=◌, ◌>>◌, unless, each}
 use Rattle.flu_plan.specs.Resolving.{with_name, names_of, node_of, nodes_of}
-use Rattle.flu_plan.specs.Shape.{kids_of_node, kids_at, visit, with_visits, walk, preorder, is_met, below, all_below, children_of}
+use Rattle.flu_plan.specs.Shape.{kids_at, visit, with_visits, walk, preorder, is_met, below, all_below, children_of}
 use Rattle.flu_plan.specs.Limits.{within_limits}
 use Rattle.flu_plan.specs.Numbering.{number_of, planned_kids, planned_node, planned_found, planned_at, planned}
-use Rattle.flu_plan.specs.Machine.{written_in}
-use Rattle.flu_plan.specs.Grammar.{ArePlan, FoundIsPlan}
-use Rattle.flu_plan.specs.Reading.{text_in, found_tokens, tokens_in, tree_in, resolved, plan_in}
+use Rattle.flu_plan.specs.Reading.{tree_in, resolved}
 use Rattle.flu_plan.specs.Kept.{KeepsRules}
-use Rattle.flu_plan.specs.Laws.{PlansKeepRules}
 use Rattle.flu_grammar.specs.Means.{AllDiffer, IfWritten}
-use Rattle.flu_grammar.specs.Plans.{MeansChild, MeansKids, MeansNode, HasSome, MeansPlan, IsPlanText}
+use Rattle.flu_grammar.specs.Plans.{MeansChild, MeansKids, MeansNode, HasSome, MeansPlan}
 use Rattle.flu_grammar.proofs.Lists.{bytes_itself, some_same, get_below, get_map, get_unmap, differ_none, differ_push, met_at, pairs_left, pairs_right, pairs_length}
 use Rattle.flu_grammar.proofs.Looks.{ok_same, passed, Finds, found_each}
-use Rattle.flu_grammar.proofs.PlanParts.{preds_mean, IsDrawn, node_drawn, KidNamed, kids_named}
+use Rattle.flu_grammar.proofs.PlanParts.{preds_mean, node_drawn, KidNamed, kids_named}
 
 -- ---- the names of nodes
 

@@ -1,7 +1,7 @@
 -- The plan of a text is read exactly where the text is that plan's.
-use Rattle.std.proofs.Common.{◌≡◌, ◌≢◌, ℕ, ◌<◌, ◌≤◌, Bool, true, List, [], ◌∷◌, length, Ok, Err, refl, sym, ap, subst, ◌∙◌, arith}
+use Rattle.std.proofs.Common.{◌≡◌, ◌≢◌, ℕ, ◌<◌, List, [], ◌∷◌, length, Ok, Err, refl, sym, ap, subst, ◌∙◌, arith}
 use Rattle.std.specs.Prelude.{nat_le}
-use Rattle.std.specs.Str.{IsUtf8, is_utf8}
+use Rattle.std.specs.Str.{is_utf8}
 use Rattle.std.specs.Str.Lossy.{utf8_valid_len}
 use Rattle.std.proofs.lemmas.Str.{IsUtf8-from_is_utf8, is_utf8-from_IsUtf8}
 use Rattle.flu_lemmas.proofs.Loops.{bind_ok}
@@ -14,14 +14,14 @@ use Rattle.flu_text.specs.Reading.{reading, Reading as TokenReading}
 use Rattle.flu_text.specs.Laws.{ReadingIsTokens}
 use Rattle.flu_plan.specs.declared.fault.PlanFault.TheVariants as f
 use Rattle.flu_plan.specs.declared.written.WrittenNode.{WrittenNode}
-use Rattle.flu_plan.specs.Faults.{◌>>=◌, ◌>>◌, unless}
+use Rattle.flu_plan.specs.Faults.{◌>>=◌}
 use Rattle.flu_plan.specs.Machine.{written_in}
 use Rattle.flu_plan.specs.Grammar.{ArePlan, FoundIsPlan}
 use Rattle.flu_plan.specs.Reading.{text_in, found_tokens, tokens_in, resolved, plan_in}
 use Rattle.flu_plan.specs.Laws.{PlansKeepRules}
-use Rattle.flu_grammar.specs.Plans.{MeansPlan, IsPlanText}
+use Rattle.flu_grammar.specs.Plans.{IsPlanText}
 use Rattle.flu_grammar.specs.Laws.{PlansAreGrammar, TextsHaveOnePlan}
-use Rattle.flu_grammar.proofs.Looks.{ok_same, ok_ok, passed, passes, binds}
+use Rattle.flu_grammar.proofs.Looks.{ok_same, passed, passes, binds}
 use Rattle.flu_grammar.proofs.PlanRead.{resolved_means}
 use Rattle.flu_grammar.proofs.PlanWritten.{means_resolved}
 

@@ -1,6 +1,6 @@
 -- In a tree in preorder no node is a child twice, and the root is none.
-use Rattle.std.proofs.Common.{◌≡◌, ◌⊎◌, inl, inr, ℕ, zero, suc, ◌+◌, ◌<◌, ◌≤◌, Bool, true, false, cond, List, [], ◌∷◌, ◌++◌, map, length, Option, Some, None, Ok, refl, sym, ap, subst, ◌∙◌, append_assoc, arith}
-use Rattle.std.specs.Prelude.{not, ◌==◌, slice_get}
+use Rattle.std.proofs.Common.{◌≡◌, inl, inr, ℕ, ◌+◌, ◌<◌, ◌≤◌, true, List, [], ◌∷◌, ◌++◌, Option, Some, None, Ok, refl, sym, ap, ◌∙◌, append_assoc, arith}
+use Rattle.std.specs.Prelude.{not, ◌==◌}
 use Rattle.std.specs.List.{list_any, flat_map}
 use Rattle.std.proofs.lemmas.Bool.{cases_eq}
 use Rattle.std.proofs.lemmas.List.{append-nil}
@@ -11,7 +11,7 @@ use Rattle.flu_model.specs.declared.plans.Node.{Node}
 use Rattle.flu_model.specs.PlanRules.{with_kids as tree_kids, are_subtrees}
 use Rattle.flu_plan.specs.declared.fault.PlanFault.TheVariants as f
 use Rattle.flu_plan.specs.declared.drafts.DraftNode.{DraftNode}
-use Rattle.flu_plan.specs.Faults.{◌>>=◌, ◌>>◌, unless, each}
+use Rattle.flu_plan.specs.Faults.{each}
 use Rattle.flu_plan.specs.Shape.{name_at, with_child, with_kids_of, with_kids}
 use Rattle.flu_grammar.proofs.Looks.{ok_ok, passes, binds}
 use Rattle.flu_grammar.proofs.Totals.{not_there}

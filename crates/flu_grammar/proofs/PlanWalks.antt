@@ -1,33 +1,28 @@
 -- The nodes of a text, as they are found where they mean a plan, and the walk over them, which meets them in the order of the plan.
-use Rattle.std.proofs.Common.{◌≡◌, ◌⊎◌, inl, inr, ℕ, zero, suc, ◌+◌, ◌<◌, ◌≤◌, Bool, true, false, List, [], ◌∷◌, ◌++◌, map, length, Option, Some, None, Ok, refl, sym, ap, subst, ◌∙◌, arith}
-use Rattle.std.specs.Prelude.{◌==◌, ◌&&◌, slice_get}
-use Rattle.std.specs.List.{list_all, position}
+use Rattle.std.proofs.Common.{◌≡◌, ℕ, zero, suc, ◌+◌, ◌≤◌, true, List, [], ◌∷◌, map, length, Option, Some, None, Ok, refl, sym, ap, subst, ◌∙◌, arith}
+use Rattle.std.specs.Prelude.{◌==◌, slice_get}
+use Rattle.std.specs.List.{position}
 use Rattle.std.specs.Str.{bytes_eq}
 use Rattle.flu_lemmas.specs.Items.{Pairs}
-use Rattle.flu_lemmas.proofs.Elements.{passes_at}
 use Rattle.flu_lemmas.proofs.Tests.{and_left, and_right, true_eq}
 use Rattle.flu_model.specs.declared.jobs.Program.{Program}
-use Rattle.flu_model.specs.declared.plans.Pred.{Pred}
 use Rattle.flu_model.specs.declared.plans.Node.{Node}
-use Rattle.flu_model.specs.PlanRules.{with_kids as tree_kids, are_subtrees, with_depths, depths_below, are_small_keys}
+use Rattle.flu_model.specs.PlanRules.{with_kids as tree_kids, are_subtrees, with_depths, depths_below}
 use Rattle.flu_text.specs.declared.written.WrittenSpan.{WrittenSpan}
 use Rattle.flu_layout.specs.Spelling.{name_of}
-use Rattle.flu_plan.specs.declared.written.WrittenPred.{WrittenPred}
 use Rattle.flu_plan.specs.declared.written.WrittenNode.{WrittenNode}
-use Rattle.flu_plan.specs.declared.drafts.DraftPred.{DraftPred}
 use Rattle.flu_plan.specs.declared.drafts.DraftNode.{DraftNode}
 use Rattle.flu_plan.specs.declared.drafts.Visit.{Visit}
-use Rattle.flu_plan.specs.Faults.{◌>>=◌, each, found_of_each}
+use Rattle.flu_plan.specs.Faults.{◌>>=◌, found_of_each}
 use Rattle.flu_plan.specs.Resolving.{known, pred_of, kid_of, kids_of, node_of}
 use Rattle.flu_plan.specs.Shape.{kids_of_node, kids_at, with_visits, walk}
-use Rattle.flu_plan.specs.Limits.{keys_of_pred, keys_of_node}
 use Rattle.flu_plan.specs.Numbering.{planned_pred}
 use Rattle.flu_grammar.specs.Means.{AllDiffer, IfWritten}
-use Rattle.flu_grammar.specs.Plans.{MeansChild, MeansKids, MeansNode, MeansPlan}
-use Rattle.flu_grammar.proofs.Lists.{some_same, get_map, get_unmap, pairs_left, pairs_made}
-use Rattle.flu_grammar.proofs.Looks.{ok_ok, binds, Finds, finds_each}
+use Rattle.flu_grammar.specs.Plans.{MeansChild, MeansKids, MeansPlan}
+use Rattle.flu_grammar.proofs.Lists.{some_same, get_map, get_unmap, pairs_made}
+use Rattle.flu_grammar.proofs.Looks.{binds, finds_each}
 use Rattle.flu_grammar.proofs.PlanRead.{written_name}
-use Rattle.flu_grammar.proofs.PlanFound.{differ_from, named_found, preds_found, preds_small}
+use Rattle.flu_grammar.proofs.PlanFound.{named_found, preds_found}
 
 -- a written node, by its place, and a node of the plan, by its number, have one name
 pub record SameName (names : List (List ℕ)) (plan : List Node) (place number : ℕ) : Type 0 where
@@ -98,10 +93,12 @@ module _ (p : Program) (text : List ℕ) (written : List WrittenNode) (plan : Li
       let kids = kids_found v.kids node.kids is.kids in
       let d : DraftNode = record { name = v.name; preds = preds.drafts; kids = kids.0 } in (
         d,
-        (binds (found_of_each (pred_of p text) v.preds) (λ q. kids_of text the_names v.kids >>= λ k. Ok (record { name = v.name; preds = q; kids = k }))
-            preds.drafts d (finds_each (pred_of p text) v.preds preds.drafts preds.found)
-            (binds (kids_of text the_names v.kids) (λ k. Ok (record { name = v.name; preds = preds.drafts; kids = k })) kids.0 d kids.1 refl),
-        record { number = one.0; node = node; planned = one.2; fits = record { name = sym is.name; preds = preds.are; kids = kids.2 } }),
+        (
+          binds (found_of_each (pred_of p text) v.preds) (λ q. kids_of text the_names v.kids >>= λ k. Ok (record { name = v.name; preds = q; kids = k }))
+              preds.drafts d (finds_each (pred_of p text) v.preds preds.drafts preds.found)
+              (binds (kids_of text the_names v.kids) (λ k. Ok (record { name = v.name; preds = preds.drafts; kids = k })) kids.0 d kids.1 refl),
+          record { number = one.0; node = node; planned = one.2; fits = record { name = sym is.name; preds = preds.are; kids = kids.2 } },
+        ),
       )
 
   pub drafts_found : (drafts : List DraftNode) × Pairs IsDraft written drafts

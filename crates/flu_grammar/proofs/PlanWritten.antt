@@ -1,8 +1,8 @@
 -- A plan that written nodes mean is the one that is read of them.
-use Rattle.std.proofs.Common.{◌≡◌, ◌⊎◌, inl, inr, ℕ, zero, suc, ◌+◌, ◌<◌, ◌≤◌, Bool, true, false, cond, List, [], ◌∷◌, ◌++◌, map, length, Option, Some, None, Ok, refl, sym, ap, subst, ◌∙◌, arith}
-use Rattle.std.specs.Prelude.{◌==◌, ◌&&◌, slice_get, sum_by, nat_le}
-use Rattle.std.specs.List.{list_all, list_any, flat_map, position_or_len}
-use Rattle.std.proofs.lemmas.Bool.{cases_eq, cases_lt, ne_eqb, eq-eqb}
+use Rattle.std.proofs.Common.{◌≡◌, inl, inr, ℕ, suc, ◌+◌, ◌<◌, ◌≤◌, true, List, [], ◌∷◌, ◌++◌, map, length, Option, Some, None, Ok, refl, sym, ap, subst, ◌∙◌, arith}
+use Rattle.std.specs.Prelude.{◌==◌, slice_get, nat_le}
+use Rattle.std.specs.List.{list_all, flat_map}
+use Rattle.std.proofs.lemmas.Bool.{cases_eq, cases_lt}
 use Rattle.std.proofs.lemmas.List.{length-map}
 use Rattle.std.proofs.lemmas.List.Folds.{list_all-map}
 use Rattle.flu_lemmas.specs.Items.{Pairs}
@@ -12,7 +12,7 @@ use Rattle.flu_lemmas.proofs.Counting.{times-cons, times_of_same, times_of_other
 use Rattle.flu_lemmas.proofs.Elements.{passes_at}
 use Rattle.flu_lemmas.proofs.Places.{slice_get-there}
 use Rattle.flu_lemmas.proofs.Searches.{eq_true}
-use Rattle.flu_lemmas.proofs.Tests.{true_eq, le_true, true_le}
+use Rattle.flu_lemmas.proofs.Tests.{true_eq, le_true}
 use Rattle.flu_lemmas.proofs.Totals.{sum_by-total}
 use Rattle.flu_model.specs.declared.limits.What.TheVariants.{Nodes, Predicates, Depth}
 use Rattle.flu_model.specs.declared.jobs.Program.{Program}
@@ -33,9 +33,9 @@ use Rattle.flu_plan.specs.Reading.{tree_in, resolved}
 use Rattle.flu_plan.specs.Kept.{KeepsRules}
 use Rattle.flu_grammar.specs.Means.{AllDiffer, IfWritten}
 use Rattle.flu_grammar.specs.Plans.{MeansPlan}
-use Rattle.flu_grammar.proofs.Lists.{some_same, get_below, get_map, get_unmap, any_there, only_at, pairs_right, pairs_weaker, pairs_length}
+use Rattle.flu_grammar.proofs.Lists.{get_below, get_map, get_unmap, any_there, only_at, pairs_right, pairs_weaker}
 use Rattle.flu_grammar.proofs.Looks.{ok_ok, passes, binds, thens, Finds, finds_each}
-use Rattle.flu_grammar.proofs.Totals.{HasOwn, total_no_more, total_ones, total_none, times_in_each}
+use Rattle.flu_grammar.proofs.Totals.{total_no_more, total_ones, total_none, times_in_each}
 use Rattle.flu_grammar.proofs.PlanParts.{node_drawn}
 use Rattle.flu_grammar.proofs.PlanRead.{written_name}
 use Rattle.flu_grammar.proofs.PlanTrees.{kid_list, plan_kids, draft_kids, once_each, children_pass}
@@ -206,9 +206,11 @@ module _ (text : List ℕ) (names : List (List ℕ)) (plan : List Node) (drafts 
     all_met v [] h = (v, refl)
     all_met v (d ∷ ds) h =
         let here : is_met o v ≡ true = ap (is_met o) (omega arith) ∙ h 0 d refl in
-        let more = all_met (v + 1) ds (λ i e there. ap (is_met o) (omega arith) ∙ h (suc i) e there) in
-        (more.0, binds (unless (is_met o v) (f.NotATree (name_of text d.name)) >> Ok (v + 1)) (λ t. each (below text o) t ds) (v + 1) more.0
-        (passes (is_met o v) (f.NotATree (name_of text d.name)) (Ok (v + 1)) (v + 1) here refl) more.1)
+        let more = all_met (v + 1) ds (λ i e there. ap (is_met o) (omega arith) ∙ h (suc i) e there) in (
+          more.0,
+          binds (unless (is_met o v) (f.NotATree (name_of text d.name)) >> Ok (v + 1)) (λ t. each (below text o) t ds) (v + 1) more.0
+              (passes (is_met o v) (f.NotATree (name_of text d.name)) (Ok (v + 1)) (v + 1) here refl) more.1,
+        )
 
     pub all_are_met : (m : ℕ) × (all_below text o drafts ≡ Ok m)
     all_are_met = all_met 0 drafts (λ i d here. met (0 + i) d (ap (slice_get drafts) (omega arith) ∙ here))
@@ -262,13 +264,16 @@ means_resolved p text written plan some means =
       fits = λ a d here.
           (pairs_right (λ v d. (node_of p text names v ≡ Ok d) × FitsAt text names plan d) written drafts got.1 a d here).2.1;
       all = λ u n there. (
-          let one = means.each_planned u n there in (one.0, record {
-            name = name_of text (one.1).name;
-            written = get_map (written_name text) written one.0 one.1 one.2;
-            node = n;
-            planned = there;
-            is = (one.3).name;
-          }));
+          let one = means.each_planned u n there in (
+            one.0,
+            record {
+              name = name_of text (one.1).name;
+              written = get_map (written_name text) written one.0 one.1 one.2;
+              node = n;
+              planned = there;
+              is = (one.3).name;
+            },
+          ));
     } in
     let first = slice_get-there written 0 some in
     let child = means.root first.0 first.1 in

@@ -1,6 +1,6 @@
 -- Totals over two lists of which the one has, for each element of the other, one of its own.
-use Rattle.std.proofs.Common.{◌≡◌, ◌⊎◌, inl, inr, ℕ, zero, suc, ◌+◌, ◌<◌, ◌≤◌, Bool, true, false, cond, List, [], ◌∷◌, ◌++◌, map, length, Option, Some, None, refl, sym, ap, subst, ◌∙◌, arith}
-use Rattle.std.specs.Prelude.{slice_get, ◌==◌, ◌||◌, not}
+use Rattle.std.proofs.Common.{◌≡◌, ◌⊎◌, inl, inr, ℕ, zero, suc, ◌+◌, ◌≤◌, false, List, [], ◌∷◌, ◌++◌, map, length, Some, refl, sym, ap, ◌∙◌, arith}
+use Rattle.std.specs.Prelude.{slice_get, ◌==◌, ◌||◌}
 use Rattle.std.specs.List.{list_any, flat_map}
 use Rattle.std.proofs.lemmas.Bool.{cases_eq, ne_eqb}
 use Rattle.flu_lemmas.specs.Totals.{total}
@@ -48,7 +48,7 @@ module _ {X Y K : Type 0} (key_x : X → K) (key_y : Y → K) (weight_x : X → 
       let other = own (suc i) y e in
       elim (without at.front at.back first.other other.place other.other (ap (λ (l : List Y). slice_get l other.place) (sym at.is) ∙ other.here)) [
         | inl same ↦ absurd (differ_head (key_x x) (map key_x xs) d i
-              (get_map key_x xs i y e ∙ ap (λ (k : K). Some k) (sym other.same ∙ ap key_y (sym same) ∙ first.same)))
+            (get_map key_x xs i y e ∙ ap (λ (k : K). Some k) (sym other.same ∙ ap key_y (sym same) ∙ first.same)))
         | inr there ↦ record { place = there.0; other = other.other; here = there.1; same = other.same; no_less = other.no_less }
       ])) in
       let whole : total weight_y ys ≡ total weight_y at.front + total weight_y (first.other ∷ at.back) = ap (total weight_y) at.is ∙ total-append weight_y at.front (first.other ∷ at.back) in

@@ -1,5 +1,5 @@
 -- What a written action means, under a kind that is keyed or not and has a value or not.
-use Rattle.std.specs.Prelude.{◌≡◌, ℕ, Bool, true, false, List, Option, Some, None, slice_get}
+use Rattle.std.specs.Prelude.{◌≡◌, ℕ, Bool, true, false, List, Some, None, slice_get}
 use Rattle.flu_model.specs.declared.jobs.Sort.TheVariants.{Sum, Max, Last}
 use Rattle.flu_model.specs.declared.jobs.Family.{Family}
 use Rattle.flu_model.specs.declared.jobs.CellRef.{CellRef}
