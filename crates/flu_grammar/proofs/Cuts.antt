@@ -130,7 +130,8 @@ module _ (field : ℕ → ℕ → Option WrittenPiece) where
   scan_word pieces start place (b ∷ word) more h =
       let plain = and_left (no_brace b) (list_all no_brace word) h in
       let same : place + 1 + length word ≡ place + suc (length word) = omega arith in
-      one_byte (within_field pieces start) place b (word ++ more) (within_field pieces start) (field_byte pieces start place b (opens_not b plain) (closes_not b plain))
+      one_byte (within_field pieces start) place b (word ++ more) (within_field pieces start) (field_byte pieces start place b (opens_not b plain)
+      (closes_not b plain))
       ∙ scan_word pieces start (place + 1) word more (and_right (no_brace b) (list_all no_brace word) h)
       ∙ ap (λ k. scan field (within_field pieces start) k more) same
 
@@ -177,7 +178,8 @@ module _ (field : ℕ → ℕ → Option WrittenPiece) where
 
   -- where the plain bytes that are open end
   plain_ends : (done : List WrittenPiece) (pend : List ℕ) (start place : ℕ) (rest : List ℕ) (t : Template) → place ≡ start + length pend
-      → list_all no_brace pend ≡ true → ((first : Bool) → Scanned (done ++ plain_part pend start place) first place rest t) → Scanned done true start (pend ++ rest) t
+      → list_all no_brace pend ≡ true → ((first : Bool) → Scanned (done ++ plain_part pend start place) first place rest t) → Scanned done true start
+      (pend ++ rest) t
   plain_ends done [] start place rest t here plain more =
       let m = more true in
       let same : place ≡ start = omega (arith, here) in
@@ -218,17 +220,19 @@ module _ (field : ℕ → ℕ → Option WrittenPiece) where
   scanned_none : Both []
   unfolding scan
   scanned_none = record {
-    between = λ done pend start place here plain whole. plain_ends done pend start place [] (scan field (outside done start) place []) here plain (λ first. record {
-      pieces = [];
-      is = append-nil (done ++ plain_part pend start place) ∙ sym (part_is done pend start place here);
-      cut = cut_none first place;
-    });
+    between = λ done pend start place here plain whole. plain_ends done pend start place [] (scan field (outside done start) place []) here plain
+        (λ first. record {
+          pieces = [];
+          is = append-nil (done ++ plain_part pend start place) ∙ sym (part_is done pend start place here);
+          cut = cut_none first place;
+        });
     within = λ done word at place here plain whole first. (let bad : false ≡ true = whole in absurd cc);
   }
 
   between_more : (b : ℕ) (bytes : List ℕ) → Both bytes → (opens closes : Bool) → (b == open_brace) ≡ opens → (b == close_brace) ≡ closes
       → (done : List WrittenPiece) (pend : List ℕ) (start place : ℕ) → place ≡ start + length pend → list_all no_brace pend ≡ true
-      → IsWhole (scan field (outside done start) place (b ∷ bytes)) → Scanned done true start (pend ++ b ∷ bytes) (scan field (outside done start) place (b ∷ bytes))
+      → IsWhole (scan field (outside done start) place (b ∷ bytes)) → Scanned done true start (pend ++ b ∷ bytes) (scan field (outside done start) place
+      (b ∷ bytes))
   between_more b bytes more true closes opens_is closes_is done pend start place here plain whole =
       let inner = with_plain (outside done start) place in
       let is : scan field (outside done start) place (b ∷ bytes) ≡ scan field (within_field inner (place + 1)) (place + 1) bytes =
@@ -248,7 +252,8 @@ module _ (field : ℕ → ℕ → Option WrittenPiece) where
       let is : scan field (outside done start) place (b ∷ bytes) ≡ scan field (outside done start) (place + 1) bytes =
       one_byte (outside done start) place b bytes (outside done start) (plain_byte done start place b opens_is closes_is) in
       let longer : length (pend ++ b ∷ []) ≡ length pend + 1 = length-append pend (b ∷ []) in
-      let got = more.between done (pend ++ b ∷ []) start (place + 1) (omega (arith, here, longer)) (list_all_push no_brace pend b plain (not_brace b opens_is closes_is))
+      let got = more.between done (pend ++ b ∷ []) start (place + 1) (omega (arith, here, longer)) (list_all_push no_brace pend b plain
+      (not_brace b opens_is closes_is))
       (sym (ap (λ (t : Template). t.whole) is) ∙ whole) in
       record {
         pieces = got.pieces;
@@ -282,7 +287,8 @@ module _ (field : ℕ → ℕ → Option WrittenPiece) where
       let is : scan field (within_field done (at + 1)) place (b ∷ bytes) ≡ scan field (within_field done (at + 1)) (place + 1) bytes =
       one_byte (within_field done (at + 1)) place b bytes (within_field done (at + 1)) (field_byte done (at + 1) place b opens_is closes_is) in
       let longer : length (word ++ b ∷ []) ≡ length word + 1 = length-append word (b ∷ []) in
-      let got = more.within done (word ++ b ∷ []) at (place + 1) (omega (arith, here, longer)) (list_all_push no_brace word b plain (not_brace b opens_is closes_is))
+      let got = more.within done (word ++ b ∷ []) at (place + 1) (omega (arith, here, longer)) (list_all_push no_brace word b plain
+      (not_brace b opens_is closes_is))
       (sym (ap (λ (t : Template). t.whole) is) ∙ whole) first in
       record {
         pieces = got.pieces;
@@ -298,7 +304,8 @@ module _ (field : ℕ → ℕ → Option WrittenPiece) where
         within = within_more b bytes more (b == open_brace) (b == close_brace) refl refl;
       }
 
-  pub scan_cut : (at : ℕ) (bytes : List ℕ) → IsWhole (scan field (scan_start at) at bytes) → AreCut found true at bytes (scan field (scan_start at) at bytes).pieces
+  pub scan_cut : (at : ℕ) (bytes : List ℕ) → IsWhole (scan field (scan_start at) at bytes) → AreCut found true at bytes (scan field
+      (scan_start at) at bytes).pieces
   scan_cut at bytes whole =
       let none_more : at ≡ at + 0 = omega arith in
       let got = (scanned_all bytes).between [] [] at at none_more refl whole in

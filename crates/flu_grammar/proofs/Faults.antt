@@ -92,7 +92,8 @@ no_place : {X : Type 0} (q : X → Bool) (xs : List X) (i : ℕ) (x : X) → pos
 no_place q xs i x none there passes =
     let found = met_at q xs (any_there q xs i x there passes) in
     let below = get_below xs (position_or_len q xs) found.0 found.1 in
-    let some : position q xs ≡ Some (position_or_len q xs) = ap (λ b. if b then Some (position_or_len q xs) else None) (lt_true (position_or_len q xs) (length xs) below) in
+    let some : position q xs ≡ Some (position_or_len q xs) = ap (λ b. if b then Some (position_or_len q xs) else None) (lt_true (position_or_len q xs)
+    (length xs) below) in
     no_some (position_or_len q xs) (sym none ∙ some)
 
 pub plan_kind_is_unknown : PlanKindIsUnknown
@@ -226,7 +227,8 @@ module _ (text : List ℕ) where
       longer = map-append (written_name text) done (v ∷ [])
 
       by : (b : Bool) → list_any (bytes_eq (written_name text v)) (map (written_name text) done) ≡ b
-          → ((plan_unless (not b) (p.NotATree (written_name text v)) >> Ok (map (written_name text) done ++ written_name text v ∷ [])) >>= λ t. each (with_name text) t ws)
+          → ((plan_unless (not b) (p.NotATree (written_name text v)) >> Ok (map (written_name text) done ++ written_name text v ∷ [])) >>= λ t. each
+          (with_name text) t ws)
           ≡ Err (p.NotATree name)
           → (AllDiffer (map (written_name text) (done ++ v ∷ [])) → each (with_name text) (map (written_name text) (done ++ v ∷ [])) ws ≡ Err (p.NotATree name)
           → IsNodeTwice text ((done ++ v ∷ []) ++ ws) name)

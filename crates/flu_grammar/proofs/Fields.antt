@@ -39,7 +39,8 @@ number_means ds n e =
 
 module _ (text : List ℕ) (from to : ℕ) where
   -- a reference to a cell with something in brackets
-  keyed_means : (i : ℕ) (inner : List ℕ) (q : WrittenPiece) → position is_open_bracket (spelled text from to) ≡ Some i → is_name (spelled text from (from + i)) ≡ true
+  keyed_means : (i : ℕ) (inner : List ℕ) (q : WrittenPiece) → position is_open_bracket (spelled text from to) ≡ Some i → is_name (spelled text from
+      (from + i)) ≡ true
       → spelled text (to - 1) to ≡ codes "]" → spelled text (from + i + 1) (to - 1) ≡ inner
       → option_map (λ key. w.Read (record { family = span from (from + i); key = key })) (key_at inner (from + i + 1)) ≡ Some q → IsField text false from to q
   unfolding key_at digits_at
@@ -48,7 +49,11 @@ module _ (text : List ℕ) (from to : ℕ) where
       elim (chosen (bytes_eq inner (codes "key")) (Some (k.OwnKey (from + i + 1))) (digits_at inner (from + i + 1)) (Some m.0) m.1) [
         | inl h ↦
             let key : k.OwnKey (from + i + 1) ≡ m.0 = some_same (k.OwnKey (from + i + 1)) m.0 h.1 in
-            subst (λ (x : WrittenPiece). IsField text false from to x) (ap (λ (x : WrittenKey). w.Read (record { family = span from (from + i); key = x })) key ∙ m.2)
+            subst (λ (x : WrittenPiece). IsField text false from to x) (ap (λ (x : WrittenKey). w.Read (record {
+              family = span from
+                  (from + i);
+              key = x;
+            })) key ∙ m.2)
             (field_own i refl place named closes (is ∙ bytes_is inner (codes "key") h.0))
         | inr h ↦ subst (λ (x : WrittenPiece). IsField text false from to x) m.2 (digits inner is m.0 h.1)
       ]
@@ -57,7 +62,8 @@ module _ (text : List ℕ) (from to : ℕ) where
           → IsField text false from to (w.Read (record { family = span from (from + i); key = key }))
       digits [] is key e = absurd cc
       digits (b ∷ bs) is key e =
-          elim (chosen (list_all is_ascii_digit (b ∷ bs)) (option_map (λ n. k.Fixed (record { value = pos n; at = from + i + 1 })) (number_of (b ∷ bs))) None (Some key) e) [
+          elim (chosen (list_all is_ascii_digit (b ∷ bs)) (option_map (λ n. k.Fixed (record { value = pos n; at = from + i + 1 })) (number_of
+          (b ∷ bs))) None (Some key) e) [
             | inl h ↦
                 let m = mapped (λ n. k.Fixed (record { value = pos n; at = from + i + 1 })) (number_of (b ∷ bs)) key h.1 in
                 let number = number_means (b ∷ bs) m.0 m.1 in
@@ -68,7 +74,8 @@ module _ (text : List ℕ) (from to : ℕ) where
             | inr h ↦ absurd cc
           ]
 
-  ref_means : (o : Option ℕ) (q : WrittenPiece) → position is_open_bracket (spelled text from to) ≡ o → ref_with text from to o ≡ Some q → IsField text false from to q
+  ref_means : (o : Option ℕ) (q : WrittenPiece) → position is_open_bracket (spelled text from to) ≡ o → ref_with text from to o ≡ Some q
+      → IsField text false from to q
   unfolding ref_with
   ref_means None q place e =
       let read : WrittenPiece = w.Read (record { family = span from to; key = k.Alone }) in
@@ -82,14 +89,17 @@ module _ (text : List ℕ) (from to : ℕ) where
       (option_map (λ key. w.Read (record { family = span from (from + i); key = key })) (key_at inner (from + i + 1))) None (Some q) e) [
         | inl h ↦
             keyed_means i inner q place (and_left (is_name (spelled text from (from + i))) (bytes_eq (spelled text (to - 1) to) (codes "]")) h.0)
-            (bytes_is (spelled text (to - 1) to) (codes "]") (and_right (is_name (spelled text from (from + i))) (bytes_eq (spelled text (to - 1) to) (codes "]")) h.0))
+            (bytes_is (spelled text (to - 1) to) (codes "]") (and_right (is_name (spelled text from (from + i))) (bytes_eq (spelled text (to - 1) to)
+            (codes "]")) h.0))
             refl h.1
         | inr h ↦ absurd cc
       ]
 
-  by_tests : (a b c in_flush e : Bool) (q : WrittenPiece) → bytes_eq (spelled text from to) (codes "value") ≡ a → bytes_eq (spelled text from to) (codes "key") ≡ b
+  by_tests : (a b c in_flush e : Bool) (q : WrittenPiece) → bytes_eq (spelled text from to) (codes "value") ≡ a → bytes_eq (spelled text from to)
+      (codes "key") ≡ b
       → bytes_eq (spelled text from to) (codes "time") ≡ c → bytes_eq (spelled text from to) (codes "cell") ≡ e
-      → (if a then Some w.Value else if b then Some w.Key else if c then Some w.Time else if in_flush then (if e then Some w.CellValue else None) else ref_at text from to)
+      → (if a then Some w.Value else if b then Some w.Key else if c then Some w.Time else if in_flush then
+      (if e then Some w.CellValue else None) else ref_at text from to)
       ≡ Some q → IsField text in_flush from to q
   by_tests true b c in_flush e q ea eb ec ee h =
       subst (λ (x : WrittenPiece). IsField text in_flush from to x) (some_same w.Value q h) (field_value (bytes_is (spelled text from to) (codes "value") ea))
@@ -105,7 +115,8 @@ module _ (text : List ℕ) (from to : ℕ) where
   pub field_means : (in_flush : Bool) (q : WrittenPiece) → field_at text in_flush from to ≡ Some q → IsField text in_flush from to q
   unfolding field_at
   field_means in_flush q e =
-      by_tests (bytes_eq (spelled text from to) (codes "value")) (bytes_eq (spelled text from to) (codes "key")) (bytes_eq (spelled text from to) (codes "time")) in_flush
+      by_tests (bytes_eq (spelled text from to) (codes "value")) (bytes_eq (spelled text from to) (codes "key")) (bytes_eq (spelled text from to)
+      (codes "time")) in_flush
       (bytes_eq (spelled text from to) (codes "cell")) q refl refl refl refl e
 
 -- ---- what has the form is found
@@ -130,7 +141,8 @@ not_reserved n word i named found =
     let other = fails_at (λ (x : Reserved). bytes_eq (reserved_spelling x) n) reserved_words i word (not_true (is_reserved n) free) found in
     false_if_not (bytes_eq n (reserved_spelling word)) (λ e.
     not_both (bytes_eq (reserved_spelling word) n)
-    (subst (λ (x : List ℕ). bytes_eq (reserved_spelling word) x ≡ true) (sym (bytes_is n (reserved_spelling word) e)) (bytes_itself (reserved_spelling word))) other)
+    (subst (λ (x : List ℕ). bytes_eq (reserved_spelling word) x ≡ true) (sym (bytes_is n (reserved_spelling word) e)) (bytes_itself
+    (reserved_spelling word))) other)
 
 -- and has no bracket
 no_bracket : (n : List ℕ) → is_name n ≡ true → position is_open_bracket n ≡ None
@@ -233,7 +245,8 @@ pub formed : {text : List ℕ} {in_flush first : Bool} {at : ℕ} {bytes : List 
     → AreCut text in_flush first at bytes qs
 formed (is_none first at) families keyed has_value ps h = cut_none first at
 formed (is_plain at b more rest qs plain cut) families keyed has_value [] h = absurd h
-formed (is_plain at b more rest qs plain cut) families keyed has_value (p ∷ ps) h = cut_plain at b more rest qs plain (formed cut families keyed has_value ps h.1)
+formed (is_plain at b more rest qs plain cut) families keyed has_value (p ∷ ps) h = cut_plain at b more rest qs plain
+    (formed cut families keyed has_value ps h.1)
 formed (is_field first at word rest qs plain cut) families keyed has_value [] h = absurd h
 formed {text} {in_flush} (is_field first at word rest qs plain cut) families keyed has_value (p ∷ ps) h =
     cut_field first at word rest (field_between text in_flush (at + 1) (at + 1 + length word)) qs plain
@@ -249,5 +262,6 @@ pub told : {text : List ℕ} {in_flush first : Bool} {at : ℕ} {bytes : List �
 told (cut_none first at) = is_none first at
 told (cut_plain at b more rest qs plain cut) = is_plain at b more rest qs plain (told cut)
 told {text} {in_flush} (cut_field first at word rest field qs plain form cut) =
-    subst (λ (x : WrittenPiece). IsCut (field_between text in_flush) first at (open_brace ∷ (word ++ close_brace ∷ rest)) (x ∷ qs)) (ap braced (field_found form))
+    subst (λ (x : WrittenPiece). IsCut (field_between text in_flush) first at (open_brace ∷ (word ++ close_brace ∷ rest)) (x ∷ qs)) (ap braced
+    (field_found form))
     (is_field first at word rest qs plain (told cut))

@@ -48,7 +48,8 @@ module _ {X H : Type 0} (name : X → List ℕ) (head : ℕ → X → H) where
   looks_up i (y ∷ ys) zero x d here =
       let same : x ≡ y = sym (some_same y x here) in
       let zero_more : i ≡ i + 0 = omega arith in
-      ap (λ b. if b then Some (head i y) else look_up (name x) (heads (i + 1) ys)) (ap (λ (z : X). bytes_eq (name x) (name z)) (sym same) ∙ bytes_itself (name x))
+      ap (λ b. if b then Some (head i y) else look_up (name x) (heads (i + 1) ys)) (ap (λ (z : X). bytes_eq (name x) (name z)) (sym same) ∙ bytes_itself
+      (name x))
       ∙ (λ j. Some (head (zero_more j) (sym same j)))
   looks_up i (y ∷ ys) (suc k) x d here =
       let other : bytes_eq (name x) (name y) ≡ false = false_if_not (bytes_eq (name x) (name y)) (λ same. differ_head (name y) (map name ys) d k

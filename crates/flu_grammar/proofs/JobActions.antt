@@ -44,7 +44,8 @@ module _ (text : List ℕ) (n : Naming) (families : List Family) (knows : KnowFa
       let one = bind_ok (resolved_cell text n under (Some Max) r) (λ c. expression_of text n under e >>= λ t. Ok (Raising c t)) a q in
       let two = bind_ok (expression_of text n under e) (λ t. Ok (Raising one.0 t)) a one.2 in
       subst (λ (x : PlainAct). Means (Writes verb.Raise r e) x) (ok_same (Raising one.0 two.0) a two.2)
-      (means_raise r e one.0 two.0 (cell_means text n families knows under (Some Max) r one.0 one.1) (expression_means text n families knows under e two.0 two.1))
+      (means_raise r e one.0 two.0 (cell_means text n families knows under (Some Max) r one.0 one.1)
+      (expression_means text n families knows under e two.0 two.1))
   deed_means (Writes verb.Set r e) a q =
       let one = bind_ok (resolved_cell text n under (Some Last) r) (λ c. expression_of text n under e >>= λ t. Ok (Setting c t)) a q in
       let two = bind_ok (expression_of text n under e) (λ t. Ok (Setting one.0 t)) a one.2 in
@@ -52,10 +53,12 @@ module _ (text : List ℕ) (n : Naming) (families : List Family) (knows : KnowFa
       (means_set r e one.0 two.0 (cell_means text n families knows under (Some Last) r one.0 one.1) (expression_means text n families knows under e two.0 two.1))
   deed_means (Clears r) a q =
       let one = bind_ok (resolved_cell text n under None r) (λ c. Ok (Clearing c)) a q in
-      subst (λ (x : PlainAct). Means (Clears r) x) (ok_same (Clearing one.0) a one.2) (means_clear r one.0 (cell_means text n families knows under None r one.0 one.1))
+      subst (λ (x : PlainAct). Means (Clears r) x) (ok_same (Clearing one.0) a one.2) (means_clear r one.0
+      (cell_means text n families knows under None r one.0 one.1))
   deed_means (Emits s) a q =
       let one = bind_ok (template_of text n under false s) (λ ps. Ok (Emitting ps)) a q in
-      subst (λ (x : PlainAct). Means (Emits s) x) (ok_same (Emitting one.0) a one.2) (means_emit s one.0 (template_means text n families knows under false s one.0 one.1))
+      subst (λ (x : PlainAct). Means (Emits s) x) (ok_same (Emitting one.0) a one.2) (means_emit s one.0
+      (template_means text n families knows under false s one.0 one.1))
   deed_means (Flushes name s) a q =
       let one = bind_ok (family_of text n name)
       (λ h. unless h.keyed (f.WrongShape name.from) >> (template_of text n under true s >>= λ ps. Ok (Flushing h.number ps))) a q in
@@ -79,10 +82,12 @@ module _ (text : List ℕ) (n : Naming) (families : List Family) (knows : KnowFa
       (cell_found text n families knows under (Some Sum) r c cell) (ap (λ x. x >>= λ t. Ok (Adding c t)) (expression_found text n families knows under e t term))
   deed_found (means_raise r e c t cell term) =
       binds (resolved_cell text n under (Some Max) r) (λ c. expression_of text n under e >>= λ t. Ok (Raising c t)) c (Raising c t)
-      (cell_found text n families knows under (Some Max) r c cell) (ap (λ x. x >>= λ t. Ok (Raising c t)) (expression_found text n families knows under e t term))
+      (cell_found text n families knows under (Some Max) r c cell) (ap (λ x. x >>= λ t. Ok (Raising c t))
+      (expression_found text n families knows under e t term))
   deed_found (means_set r e c t cell term) =
       binds (resolved_cell text n under (Some Last) r) (λ c. expression_of text n under e >>= λ t. Ok (Setting c t)) c (Setting c t)
-      (cell_found text n families knows under (Some Last) r c cell) (ap (λ x. x >>= λ t. Ok (Setting c t)) (expression_found text n families knows under e t term))
+      (cell_found text n families knows under (Some Last) r c cell) (ap (λ x. x >>= λ t. Ok (Setting c t))
+      (expression_found text n families knows under e t term))
   deed_found (means_clear r c cell) = ap (λ x. x >>= λ y. Ok (Clearing y)) (cell_found text n families knows under None r c cell)
   deed_found (means_emit s ps is) = ap (λ x. x >>= λ y. Ok (Emitting y)) (template_found text n families knows under false s ps is)
   deed_found (means_flush name s number ps family is) =
@@ -129,7 +134,8 @@ module _ (text : List ℕ) (n : Naming) (families : List Family) (knows : KnowFa
       let same : done ≡ all = ok_same done all e in
       ([], sym same ∙ sym (append-nil done), tt, λ few. subst (λ (l : List PlainAction). length l ≤ 32) same few)
   each_action done (w ∷ ws) all e =
-      let one = bind_ok (room Actions 32 (length done) >> (action_of text n under w >>= λ a. Ok (done ++ a ∷ []))) (λ t. each (with_action text n under) t ws) all e in
+      let one = bind_ok (room Actions 32 (length done) >> (action_of text n under w >>= λ a. Ok (done ++ a ∷ []))) (λ t. each
+      (with_action text n under) t ws) all e in
       let two = passed (nat_lt (length done) 32) (f.OverLimit Actions 33) (action_of text n under w >>= λ a. Ok (done ++ a ∷ [])) one.0 one.1 in
       let three = bind_ok (action_of text n under w) (λ a. Ok (done ++ a ∷ [])) one.0 two.1 in
       let grown : one.0 ≡ done ++ three.0 ∷ [] = sym (ok_same (done ++ three.0 ∷ []) one.0 three.2) in
@@ -150,7 +156,8 @@ module _ (text : List ℕ) (n : Naming) (families : List Family) (knows : KnowFa
   each_passes done (w ∷ ws) [] h few = absurd h
   each_passes done (w ∷ ws) (a ∷ acts) h few =
       let longer = length_push done a in
-      binds (room Actions 32 (length done) >> (action_of text n under w >>= λ a. Ok (done ++ a ∷ []))) (λ t. each (with_action text n under) t ws) (done ++ a ∷ [])
+      binds (room Actions 32 (length done) >> (action_of text n under w >>= λ a. Ok (done ++ a ∷ []))) (λ t. each (with_action text n under) t ws)
+      (done ++ a ∷ [])
       (done ++ a ∷ acts)
       (passes (nat_lt (length done) 32) (f.OverLimit Actions 33) (action_of text n under w >>= λ a. Ok (done ++ a ∷ [])) (done ++ a ∷ [])
       (lt_true (length done) 32 (omega arith)) (ap (λ x. x >>= λ a. Ok (done ++ a ∷ [])) h.0))
@@ -168,4 +175,5 @@ module _ (text : List ℕ) (n : Naming) (families : List Family) (knows : KnowFa
   pub actions_found : (ws : List Action) (acts : List PlainAction) → Pairs (MeansAction text families under.keyed under.has_value) ws acts → length acts ≤ 32
       → resolved_actions text n under ws ≡ Ok acts
   actions_found ws acts is few =
-      each_passes [] ws acts (pairs_weaker (MeansAction text families under.keyed under.has_value) (Finds (action_of text n under)) action_found ws acts is) (omega arith)
+      each_passes [] ws acts (pairs_weaker (MeansAction text families under.keyed under.has_value) (Finds (action_of text n under)) action_found ws acts is)
+      (omega arith)

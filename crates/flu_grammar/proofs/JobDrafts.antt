@@ -47,7 +47,8 @@ itag_count ss = total (λ (s : Source). total part_count s.tags) ss
 
 module _ (text : List ℕ) where
   -- where no `on` is of a name, no actions are
-  pub no_actions : (name : List ℕ) (ds : Declarations) → ((i : ℕ) → slice_get (flat_map (ons_in text) ds) i ≡ Some name → ⊥) → flat_map (actions_in text name) ds ≡ []
+  pub no_actions : (name : List ℕ) (ds : Declarations) → ((i : ℕ) → slice_get (flat_map (ons_in text) ds) i ≡ Some name → ⊥) → flat_map
+      (actions_in text name) ds ≡ []
   no_actions name [] none = refl
   no_actions name (d.Cell s keyed sort ∷ ds) none = no_actions name ds none
   no_actions name (d.Tag s keyed has_value ∷ ds) none = no_actions name ds none
@@ -82,13 +83,15 @@ module _ (text : List ℕ) (n : Naming) (families : List Family) (kinds : List D
 
   -- ---- a declaration that has no actions of a kind
 
-  kind_kept : (done : Declarations) (x : Declaration) (k : DeclaredKind) (p : PlainKind) → actions_in text k.name x ≡ [] → Kind done k p → Kind (done ++ x ∷ []) k p
+  kind_kept : (done : Declarations) (x : Declaration) (k : DeclaredKind) (p : PlainKind) → actions_in text k.name x ≡ [] → Kind done k p → Kind
+      (done ++ x ∷ []) k p
   kind_kept done x k p none is = record {
     name = is.name;
     keyed = is.keyed;
     has_value = is.has_value;
     actions =
-        subst (λ (l : List Action). Pairs (MeansAction text families k.keyed k.has_value) l p.actions) (unchanged text (actions_in text k.name) done x none) is.actions;
+        subst (λ (l : List Action). Pairs (MeansAction text families k.keyed k.has_value) l p.actions) (unchanged text
+        (actions_in text k.name) done x none) is.actions;
     few_actions = is.few_actions;
   }
 
@@ -101,11 +104,13 @@ module _ (text : List ℕ) (n : Naming) (families : List Family) (kinds : List D
 
   -- ---- an `on`
 
-  other_kind : (kind : WrittenSpan) (actions : List Action) (k : DeclaredKind) → (name_of text kind ≡ k.name → ⊥) → actions_in text k.name (d.On kind actions) ≡ []
+  other_kind : (kind : WrittenSpan) (actions : List Action) (k : DeclaredKind) → (name_of text kind ≡ k.name → ⊥) → actions_in text k.name
+      (d.On kind actions) ≡ []
   other_kind kind actions k other =
       chosen text false kind k.name actions (false_if_not (bytes_eq (name_of text kind) k.name) (λ same. other (bytes_is (name_of text kind) k.name same)))
 
-  kind_on : (done : Declarations) (kind : WrittenSpan) (actions : List Action) (k : DeclaredKind) (p : PlainKind) (acts : List PlainAction) → name_of text kind ≡ k.name
+  kind_on : (done : Declarations) (kind : WrittenSpan) (actions : List Action) (k : DeclaredKind) (p : PlainKind) (acts : List PlainAction)
+      → name_of text kind ≡ k.name
       → flat_map (actions_in text k.name) done ≡ [] → Kind done k p → Pairs (MeansAction text families k.keyed k.has_value) actions acts → length acts ≤ 32
       → Kind (done ++ d.On kind actions ∷ []) k (record p { actions = acts })
   kind_on done kind actions k p acts named none is means few =
@@ -119,7 +124,8 @@ module _ (text : List ℕ) (n : Naming) (families : List Family) (kinds : List D
         few_actions = few;
       }
 
-  kinds_on : (done : Declarations) (kind : WrittenSpan) (actions : List Action) (acts : List PlainAction) (ks : List DeclaredKind) (ps : List PlainKind) (number : ℕ)
+  kinds_on : (done : Declarations) (kind : WrittenSpan) (actions : List Action) (acts : List PlainAction) (ks : List DeclaredKind) (ps : List PlainKind)
+      (number : ℕ)
       (k : DeclaredKind) → AllDiffer (map kind_name ks) → slice_get ks number ≡ Some k → name_of text kind ≡ k.name → flat_map (actions_in text k.name) done ≡ []
       → Pairs (MeansAction text families k.keyed k.has_value) actions acts → length acts ≤ 32 → Pairs (Kind done) ks ps
       → Pairs (Kind (done ++ d.On kind actions ∷ [])) ks (with_actions ps number acts)
@@ -141,7 +147,8 @@ module _ (text : List ℕ) (n : Naming) (families : List Family) (kinds : List D
 
   one_number : (name : List ℕ) (i j : ℕ) → IsGiven name i → IsGiven name j → i ≡ j
   one_number name i j a b =
-      knows.differ i j name (get_map kind_name kinds i a.0 a.1 ∙ ap (λ (z : List ℕ). Some z) a.2) (get_map kind_name kinds j b.0 b.1 ∙ ap (λ (z : List ℕ). Some z) b.2)
+      knows.differ i j name (get_map kind_name kinds i a.0 a.1 ∙ ap (λ (z : List ℕ). Some z) a.2) (get_map kind_name kinds j b.0 b.1 ∙ ap (λ
+      (z : List ℕ). Some z) b.2)
 
   on_next : (done : Declarations) (x more : Drafted) (kind : WrittenSpan) (actions : List Action) → Drafts done x → with_on text n x kind actions ≡ Ok more
       → Drafts (done ++ d.On kind actions ∷ []) more
@@ -150,10 +157,12 @@ module _ (text : List ℕ) (n : Naming) (families : List Family) (kinds : List D
       let on = d.On kind actions in
       let name = name_of text kind in
       let one = bind_ok (kind_of text n kind) (λ h. unless (not (list_any (λ g. g == h.number) x.given)) (f.TwiceNamed kind.from)
-      >> (resolved_actions text n h actions >>= λ acts. Ok (record x { kinds = with_actions x.kinds h.number acts; given = x.given ++ h.number ∷ [] }))) more e in
+      >> (resolved_actions text n h actions >>= λ acts. Ok
+      (record x { kinds = with_actions x.kinds h.number acts; given = x.given ++ h.number ∷ [] }))) more e in
       let h = one.0 in
       let two = passed (not (list_any (λ g. g == h.number) x.given)) (f.TwiceNamed kind.from)
-      (resolved_actions text n h actions >>= λ acts. Ok (record x { kinds = with_actions x.kinds h.number acts; given = x.given ++ h.number ∷ [] })) more one.2 in
+      (resolved_actions text n h actions >>= λ acts. Ok
+      (record x { kinds = with_actions x.kinds h.number acts; given = x.given ++ h.number ∷ [] })) more one.2 in
       let three = bind_ok (resolved_actions text n h actions)
       (λ acts. Ok (record x { kinds = with_actions x.kinds h.number acts; given = x.given ++ h.number ∷ [] })) more two.1 in
       let acts = three.0 in
@@ -180,7 +189,8 @@ module _ (text : List ℕ) (n : Naming) (families : List Family) (kinds : List D
         given =
             subst (λ (l : List (List ℕ)). Pairs IsGiven l (x.given ++ h.number ∷ [])) (sym (grown text (ons_in text) done on))
             (pairs_push IsGiven (flat_map (ons_in text) done) x.given name h.number is.given given);
-        own_ons = subst (λ (l : List (List ℕ)). AllDiffer l) (sym (grown text (ons_in text) done on)) (differ_push (flat_map (ons_in text) done) name new is.own_ons);
+        own_ons = subst (λ (l : List (List ℕ)). AllDiffer l) (sym (grown text (ons_in text) done on)) (differ_push (flat_map
+            (ons_in text) done) name new is.own_ons);
         depends = subst (λ (l : List WrittenDepend). Pairs (MeansDepend text kinds) l x.depends) (unchanged text depends_in done on refl) is.depends;
         sources = subst (λ (l : List WrittenSource). Pairs (MeansSource text kinds) l x.sources) (unchanged text sources_in done on refl) is.sources;
         own_files = is.own_files;
@@ -206,7 +216,8 @@ module _ (text : List ℕ) (n : Naming) (families : List Family) (kinds : List D
     few_itags = is.few_itags;
   }
 
-  depend_next : (done : Declarations) (x more : Drafted) (a b : WrittenSpan) (relation : WrittenRelation) → Drafts done x → with_depend text n x a b relation ≡ Ok more
+  depend_next : (done : Declarations) (x more : Drafted) (a b : WrittenSpan) (relation : WrittenRelation) → Drafts done x
+      → with_depend text n x a b relation ≡ Ok more
       → Drafts (done ++ d.Depends a b relation ∷ []) more
   depend_next done x more a b relation is e =
       let y = d.Depends a b relation in
@@ -258,12 +269,15 @@ module _ (text : List ℕ) (n : Naming) (families : List Family) (kinds : List D
       } in
       subst (λ (z : Drafted). Drafts (done ++ y ∷ []) z) one.is drafts
 
-  pub drafts_next : (done : Declarations) (x more : Drafted) (y : Declaration) → Drafts done x → with_declaration text n x y ≡ Ok more → Drafts (done ++ y ∷ []) more
+  pub drafts_next : (done : Declarations) (x more : Drafted) (y : Declaration) → Drafts done x → with_declaration text n x y ≡ Ok more → Drafts
+      (done ++ y ∷ []) more
   unfolding with_declaration
   drafts_next done x more (d.Cell s keyed sort) is e =
-      subst (λ (z : Drafted). Drafts (done ++ d.Cell s keyed sort ∷ []) z) (ok_same x more e) (nothing_next done x (d.Cell s keyed sort) (λ name. refl) refl refl refl is)
+      subst (λ (z : Drafted). Drafts (done ++ d.Cell s keyed sort ∷ []) z) (ok_same x more e) (nothing_next done x (d.Cell s keyed sort)
+      (λ name. refl) refl refl refl is)
   drafts_next done x more (d.Tag s keyed has_value) is e =
-      subst (λ (z : Drafted). Drafts (done ++ d.Tag s keyed has_value ∷ []) z) (ok_same x more e) (nothing_next done x (d.Tag s keyed has_value) (λ name. refl) refl refl refl is)
+      subst (λ (z : Drafted). Drafts (done ++ d.Tag s keyed has_value ∷ []) z) (ok_same x more e) (nothing_next done x (d.Tag s keyed has_value)
+      (λ name. refl) refl refl refl is)
   drafts_next done x more (d.Depends a b relation) is e = depend_next done x more a b relation is e
   drafts_next done x more (d.On kind actions) is e = on_next done x more kind actions is e
   drafts_next done x more (d.Source name file rate slack tags) is e = source_next done x more name file rate slack tags is e

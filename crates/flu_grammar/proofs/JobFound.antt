@@ -90,7 +90,8 @@ module _ (text : List ℕ) (n : Naming) (families : List Family) (kinds : List D
       let lists : a ∷ [] ≡ b ∷ [] = ap (λ (z : Drafted). z.depends) same in
       (cc)
 
-  kind_is_same : (all : Declarations) (k : DeclaredKind) (p q : PlainKind) → MeansDeclaredKind text families all k p → MeansDeclaredKind text families all k q → p ≡ q
+  kind_is_same : (all : Declarations) (k : DeclaredKind) (p q : PlainKind) → MeansDeclaredKind text families all k p
+      → MeansDeclaredKind text families all k q → p ≡ q
   kind_is_same all k p q x y =
       let ws = flat_map (actions_in text k.name) all in
       let one = actions_found text n families know (kind_head 0 k) ws p.actions x.actions x.few_actions in
@@ -109,7 +110,8 @@ module _ (text : List ℕ) (n : Naming) (families : List Family) (kinds : List D
     depend_passes a b relation job_kinds depends sources aim =
         let v : WrittenDepend = record { a = a; b = b; relation = relation } in
         let split = pairs_split (MeansDepend text kinds) (flat_map depends_in done) v (flat_map depends_in rest) depends
-        (subst (λ (l : List WrittenDepend). Pairs (MeansDepend text kinds) l depends) (split_more text depends_in done rest (d.Depends a b relation)) aim.depends_are) in
+        (subst (λ (l : List WrittenDepend). Pairs (MeansDepend text kinds) l depends) (split_more text depends_in done rest
+        (d.Depends a b relation)) aim.depends_are) in
         (with_one_depend text n kinds knows x split.one, depend_found text n kinds knows x v split.one split.here)
 
     source_passes : (v : WrittenSource) (job_kinds : List PlainKind) (depends : List Depend) (sources : List Source)
@@ -120,12 +122,15 @@ module _ (text : List ℕ) (n : Naming) (families : List Family) (kinds : List D
         (subst (λ (l : List WrittenSource). Pairs (MeansSource text kinds) l sources)
         (split_more text sources_in done rest (d.Source v.name v.file v.rate v.slack v.tags)) aim.sources_are) in
         let s = split.one in
-        let front : x.sources ≡ split.front = pairs_same (MeansSource text kinds) source_same (flat_map sources_in done) x.sources split.front drafts.sources split.left in
+        let front : x.sources ≡ split.front = pairs_same (MeansSource text kinds) source_same
+        (flat_map sources_in done) x.sources split.front drafts.sources split.left in
         let whole : sources ≡ x.sources ++ s ∷ split.back = split.is ∙ ap (λ (l : List Source). l ++ s ∷ split.back) (sym front) in
         let file = λ (z : Source). z.file in
         let files : AllDiffer (map (λ (z : Source). z.file) x.sources ++ s.file ∷ map (λ (z : Source). z.file) split.back) =
-        subst (λ (l : List (List ℕ)). AllDiffer l) (ap (map (λ (z : Source). z.file)) whole ∙ map-append (λ (z : Source). z.file) x.sources (s ∷ split.back)) aim.own_files in
-        let new : list_any (λ (z : Source). is_same_text s.file z.file) x.sources ≡ false = any_none (λ (z : Source). is_same_text s.file z.file) x.sources (λ i z at.
+        subst (λ (l : List (List ℕ)). AllDiffer l) (ap (map (λ (z : Source). z.file)) whole ∙ map-append (λ (z : Source). z.file) x.sources
+        (s ∷ split.back)) aim.own_files in
+        let new : list_any (λ (z : Source). is_same_text s.file z.file) x.sources ≡ false = any_none (λ (z : Source). is_same_text s.file z.file) x.sources
+        (λ i z at.
         false_if_not (is_same_text s.file z.file) (λ same. (
         let here = get_map (λ (y : Source). y.file) x.sources i z at in
         let place : i ≡ length (map (λ (y : Source). y.file) x.sources) = files i (length (map (λ (y : Source). y.file) x.sources)) s.file
@@ -184,14 +189,17 @@ module _ (text : List ℕ) (n : Naming) (families : List Family) (kinds : List D
         let more : Drafted = record x { kinds = with_actions x.kinds number (job_kind.0).actions; given = x.given ++ number ∷ [] } in (
           more,
           binds (kind_of text n kind) (λ h. unless (not (list_any (λ g. g == h.number) x.given)) (f.TwiceNamed kind.from)
-              >> (resolved_actions text n h actions >>= λ acts. Ok (record x { kinds = with_actions x.kinds h.number acts; given = x.given ++ h.number ∷ [] }))) h more
+              >> (resolved_actions text n h actions >>= λ acts. Ok
+              (record x { kinds = with_actions x.kinds h.number acts; given = x.given ++ h.number ∷ [] }))) h more
               (kind_found text n kinds knows kind number k known.1.1 known.1.2)
               (passes (not (list_any (λ g. g == number) x.given)) (f.TwiceNamed kind.from)
-              (resolved_actions text n h actions >>= λ acts. Ok (record x { kinds = with_actions x.kinds number acts; given = x.given ++ number ∷ [] })) more (ap not new)
+              (resolved_actions text n h actions >>= λ acts. Ok
+              (record x { kinds = with_actions x.kinds number acts; given = x.given ++ number ∷ [] })) more (ap not new)
               (ap (λ z. z >>= λ acts. Ok (record x { kinds = with_actions x.kinds number acts; given = x.given ++ number ∷ [] })) found)),
         )
 
-    declaration_passes : (y : Declaration) (job_kinds : List PlainKind) (depends : List Depend) (sources : List Source) → Aim (done ++ y ∷ rest) job_kinds depends sources
+    declaration_passes : (y : Declaration) (job_kinds : List PlainKind) (depends : List Depend) (sources : List Source) → Aim
+        (done ++ y ∷ rest) job_kinds depends sources
         → (more : Drafted) × (with_declaration text n x y ≡ Ok more)
     unfolding with_declaration
     declaration_passes (d.Cell s keyed sort) job_kinds depends sources aim = (x, refl)
@@ -201,7 +209,8 @@ module _ (text : List ℕ) (n : Naming) (families : List Family) (kinds : List D
     declaration_passes (d.Source name file rate slack tags) job_kinds depends sources aim =
         source_passes (record { name = name; file = file; rate = rate; slack = slack; tags = tags }) job_kinds depends sources aim
 
-  all_pass : (done ds : Declarations) (x : Drafted) (job_kinds : List PlainKind) (depends : List Depend) (sources : List Source) → Aim (done ++ ds) job_kinds depends sources
+  all_pass : (done ds : Declarations) (x : Drafted) (job_kinds : List PlainKind) (depends : List Depend) (sources : List Source) → Aim
+      (done ++ ds) job_kinds depends sources
       → Drafts text n families kinds know knows done x → (more : Drafted) × (each (with_declaration text n) x ds ≡ Ok more)
   unfolding each
   all_pass done [] x job_kinds depends sources aim drafts = (x, refl)

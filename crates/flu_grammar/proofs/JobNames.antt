@@ -37,8 +37,14 @@ kind_head i k = record { number = i; keyed = k.keyed; has_value = k.has_value }
 
 -- the names with one declaration more
 abbrev pub next : List ℕ → Naming → Declaration → Naming
-next text n (d.Cell s keyed sort) = record n { families = n.families ++ (name_of text s, record { number = length n.families; keyed = keyed; sort = sort }) ∷ [] }
-next text n (d.Tag s keyed has_value) = record n { kinds = n.kinds ++ (name_of text s, record { number = length n.kinds; keyed = keyed; has_value = has_value }) ∷ [] }
+next text n (d.Cell s keyed sort) = record n {
+  families = n.families ++
+      (name_of text s, record { number = length n.families; keyed = keyed; sort = sort }) ∷ [];
+}
+next text n (d.Tag s keyed has_value) = record n {
+  kinds = n.kinds ++
+      (name_of text s, record { number = length n.kinds; keyed = keyed; has_value = has_value }) ∷ [];
+}
 next text n (d.Depends a b relation) = record n { depends = n.depends + 1 }
 next text n (d.On kind actions) = n
 next text n (d.Source s file rate slack tags) = record n { sources = n.sources ++ name_of text s ∷ [] }
@@ -111,7 +117,8 @@ declare_passes text n (d.On kind actions) h = refl
 declare_passes text n (d.Source s file rate slack tags) h =
     binds (fresh_name text n s) (λ name. room Sources 64 (length n.sources) >> Ok (record n { sources = n.sources ++ name ∷ [] })) (name_of text s)
     (next text n (d.Source s file rate slack tags)) (fresh_passes text n s h.0)
-    (passes (nat_lt (length n.sources) 64) (f.OverLimit Sources 65) (Ok (next text n (d.Source s file rate slack tags))) (next text n (d.Source s file rate slack tags))
+    (passes (nat_lt (length n.sources) 64) (f.OverLimit Sources 65) (Ok (next text n (d.Source s file rate slack tags))) (next text n
+    (d.Source s file rate slack tags))
     (lt_true (length n.sources) 64 h.1) refl)
 
 -- ---- the names of some declarations
@@ -275,7 +282,8 @@ module _ (text : List ℕ) where
       → AllDiffer (all_names done ++ name ∷ [])
   name_new done n name named free own =
       let none : list_any (bytes_eq name) (all_names done) ≡ false = sym (named.declared name) ∙ free in
-      differ_push (all_names done) name (λ i here. not_both (bytes_eq name name) (bytes_itself name) (fails_at (bytes_eq name) (all_names done) i name none here)) own
+      differ_push (all_names done) name (λ i here. not_both (bytes_eq name name) (bytes_itself name) (fails_at (bytes_eq name)
+      (all_names done) i name none here)) own
 
   pub own_next : (done : Declarations) (n : Naming) (x : Declaration) → Named done n → Checks text n x → OwnNames done → OwnNames (done ++ x ∷ [])
   own_next done n (d.Cell s keyed sort) named h own =
@@ -361,7 +369,8 @@ module _ (text : List ℕ) where
       named.declared name
       ∙ any_none (bytes_eq name) front (λ i y here. false_if_not (bytes_eq name y) (λ same. (
       let at = get_front front (name ∷ back) i y here in
-      let place : i ≡ length front = differ i (length front) name (at ∙ ap (λ (z : List ℕ). Some z) (sym (bytes_is name y same))) (slice_get-behind front name back) in
+      let place : i ≡ length front = differ i (length front) name (at ∙ ap (λ (z : List ℕ). Some z) (sym (bytes_is name y same)))
+      (slice_get-behind front name back) in
       let below = get_below front i y here in
       omega (arith, place, below))))
 

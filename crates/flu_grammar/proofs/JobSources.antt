@@ -138,7 +138,8 @@ apart_push tags t new apart = λ i j a b lt x y. at i j a b lt (slice_get_push t
 
 apart_before : (tags : List TagRef) (t : TagRef) (rest : List TagRef) → AreApart (tags ++ t ∷ rest) → list_any (share_tag t) tags ≡ false
 apart_before tags t rest apart =
-    any_none (share_tag t) tags (λ i a here. apart i (length tags) a t (get_below tags i a here) (get_front tags (t ∷ rest) i a here) (slice_get-behind tags t rest))
+    any_none (share_tag t) tags (λ i a here. apart i (length tags) a t (get_below tags i a here) (get_front tags (t ∷ rest) i a here)
+    (slice_get-behind tags t rest))
 
 -- how many tags a part of a list is
 abbrev pub part_count : TagRef → ℕ
@@ -149,7 +150,8 @@ module _ (text : List ℕ) (n : Naming) (kinds : List DeclaredKind) (knows : Kno
 
   pub kind_is : (s : WrittenSpan) (h : KindHead) → kind_of text n s ≡ Ok h → HeadFound kind_name kind_head kinds (name_of text s) 0 h
   kind_is s h e =
-      looked_up kind_name kind_head 0 kinds (name_of text s) h (ap (look_up (name_of text s)) (sym knows.heads_are) ∙ known_is s.from (look_up (name_of text s) n.kinds) h e)
+      looked_up kind_name kind_head 0 kinds (name_of text s) h (ap (look_up (name_of text s)) (sym knows.heads_are) ∙ known_is s.from (look_up
+      (name_of text s) n.kinds) h e)
 
   pub kind_found : (s : WrittenSpan) (i : ℕ) (k : DeclaredKind) → slice_get kinds i ≡ Some k → k.name ≡ name_of text s → kind_of text n s ≡ Ok (kind_head i k)
   kind_found s i k here named =
@@ -243,11 +245,13 @@ module _ (text : List ℕ) (n : Naming) (kinds : List DeclaredKind) (knows : Kno
       let h = one.0 in
       let last = keys_of v.keys >>= λ k. Ok (record { tags = done.tags ++ record { kind = h.number; keys = k } ∷ []; itags = done.itags + tag_count v.keys }) in
       let third = unless (not (list_any (share_tag (record { kind = h.number; keys = written_keys v.keys })) done.tags)) (f.TwiceNamed v.kind.from) >> last in
-      let a = passed (are_bracketed h.keyed v.keys) (f.WrongShape v.kind.from) (unless (nat_le (done.itags + tag_count v.keys) 256) (f.OverLimit Itags 257) >> third)
+      let a = passed (are_bracketed h.keyed v.keys) (f.WrongShape v.kind.from) (unless (nat_le (done.itags + tag_count v.keys) 256)
+      (f.OverLimit Itags 257) >> third)
       more one.2 in
       let b = passed (nat_le (done.itags + tag_count v.keys) 256) (f.OverLimit Itags 257) third more a.1 in
       let c = passed (not (list_any (share_tag (record { kind = h.number; keys = written_keys v.keys })) done.tags)) (f.TwiceNamed v.kind.from) last more b.1 in
-      let two = bind_ok (keys_of v.keys) (λ k. Ok (record { tags = done.tags ++ record { kind = h.number; keys = k } ∷ []; itags = done.itags + tag_count v.keys })) more c.1 in
+      let two = bind_ok (keys_of v.keys) (λ k. Ok
+      (record { tags = done.tags ++ record { kind = h.number; keys = k } ∷ []; itags = done.itags + tag_count v.keys })) more c.1 in
       let head = kind_is v.kind h one.1 in
       let ks = keys_are h.keyed v.keys two.0 a.0 two.1 in
       let t : TagRef = record { kind = h.number; keys = two.0 } in
@@ -262,10 +266,12 @@ module _ (text : List ℕ) (n : Naming) (kinds : List DeclaredKind) (knows : Kno
             ap (λ (k : Keys). list_any (share_tag (record { kind = h.number; keys = k })) done.tags) (sym ks.1)
             ∙ not_true (list_any (share_tag (record { kind = h.number; keys = written_keys v.keys })) done.tags) c.0;
         few = omega (arith, many, room_left);
-        is = (λ i. record { tags = done.tags ++ t ∷ []; itags = done.itags + sym many i }) ∙ ok_same (record { tags = done.tags ++ t ∷ []; itags = done.itags + tag_count v.keys }) more two.2;
+        is = (λ i. record { tags = done.tags ++ t ∷ []; itags = done.itags + sym many i }) ∙ ok_same
+            (record { tags = done.tags ++ t ∷ []; itags = done.itags + tag_count v.keys }) more two.2;
       }
 
-  tag_found : (done : Listed) (v : WrittenTag) (t : TagRef) → MeansTag text kinds v t → list_any (share_tag t) done.tags ≡ false → done.itags + part_count t ≤ 256
+  tag_found : (done : Listed) (v : WrittenTag) (t : TagRef) → MeansTag text kinds v t → list_any (share_tag t) done.tags ≡ false
+      → done.itags + part_count t ≤ 256
       → with_tag text n done v ≡ Ok (with_one_tag done t)
   unfolding with_tag
   tag_found done v t is apart few =
@@ -273,8 +279,10 @@ module _ (text : List ℕ) (n : Naming) (kinds : List DeclaredKind) (knows : Kno
       let h = kind_head t.kind k in
       let ks = keys_found k.keyed v.keys t.keys is.keys in
       let many : tag_count v.keys ≡ part_count t = ap (λ (x : Keys). length (listed_keys x)) ks.2 in
-      let last : Found Listed = keys_of v.keys >>= λ k. Ok (record { tags = done.tags ++ record { kind = t.kind; keys = k } ∷ []; itags = done.itags + tag_count v.keys }) in
-      let third : Found Listed = unless (not (list_any (share_tag (record { kind = t.kind; keys = written_keys v.keys })) done.tags)) (f.TwiceNamed v.kind.from) >> last in
+      let last : Found Listed = keys_of v.keys >>= λ k. Ok
+      (record { tags = done.tags ++ record { kind = t.kind; keys = k } ∷ []; itags = done.itags + tag_count v.keys }) in
+      let third : Found Listed = unless (not (list_any (share_tag (record { kind = t.kind; keys = written_keys v.keys })) done.tags))
+      (f.TwiceNamed v.kind.from) >> last in
       binds (kind_of text n v.kind) (tag_looks done v) h (with_one_tag done t) (kind_found v.kind t.kind k is.kind.here is.kind.name)
       (passes (are_bracketed k.keyed v.keys) (f.WrongShape v.kind.from) (unless (nat_le (done.itags + tag_count v.keys) 256) (f.OverLimit Itags 257) >> third)
       (with_one_tag done t) ks.0
@@ -368,7 +376,8 @@ module _ (text : List ℕ) (n : Naming) (kinds : List DeclaredKind) (knows : Kno
         sources = d.sources ++ record { name = name_of text v.name; file = bytes; rate = rate; slack = slack; tags = listed.tags } ∷ [];
         itags = listed.itags;
       } in
-      let one = bind_ok (file_of text d.sources v.file) (λ bytes. rate_of v.rate >>= λ rate. slack_of v.slack >>= λ slack. tags_of text n d.itags v.tags >>= λ listed. Ok (record d {
+      let one = bind_ok (file_of text d.sources v.file)
+      (λ bytes. rate_of v.rate >>= λ rate. slack_of v.slack >>= λ slack. tags_of text n d.itags v.tags >>= λ listed. Ok (record d {
         sources = d.sources ++ record { name = name_of text v.name; file = bytes; rate = rate; slack = slack; tags = listed.tags } ∷ [];
         itags = listed.itags;
       })) more e in
@@ -384,9 +393,11 @@ module _ (text : List ℕ) (n : Naming) (kinds : List DeclaredKind) (knows : Kno
         sources = d.sources ++ record { name = name_of text v.name; file = one.0; rate = two.0; slack = three.0; tags = listed.tags } ∷ [];
         itags = listed.itags;
       })) more three.2 in
-      let last = unless (not (list_any (λ (s : Source). is_same_text (inside text v.file) s.file) d.sources)) (f.TwiceNamed v.file.from) >> Ok (inside text v.file) in
+      let last = unless (not (list_any (λ (s : Source). is_same_text (inside text v.file) s.file) d.sources)) (f.TwiceNamed v.file.from) >> Ok
+      (inside text v.file) in
       let some = passed (nat_lt 0 (length (inside text v.file))) (f.WrongShape v.file.from) last one.0 one.1 in
-      let new = passed (not (list_any (λ (s : Source). is_same_text (inside text v.file) s.file) d.sources)) (f.TwiceNamed v.file.from) (Ok (inside text v.file)) one.0 some.1 in
+      let new = passed (not (list_any (λ (s : Source). is_same_text (inside text v.file) s.file) d.sources)) (f.TwiceNamed v.file.from) (Ok
+      (inside text v.file)) one.0 some.1 in
       let file : inside text v.file ≡ one.0 = ok_same (inside text v.file) one.0 new.1 in
       let none = not_true (list_any (λ (s : Source). is_same_text (inside text v.file) s.file) d.sources) new.0 in
       let tags = tags_are (record { tags = []; itags = d.itags }) v.tags four.0 four.1 apart_none in
@@ -414,14 +425,17 @@ module _ (text : List ℕ) (n : Naming) (kinds : List DeclaredKind) (knows : Kno
       → with_source text n d v.name v.file v.rate v.slack v.tags ≡ Ok (with_one_source d s)
   unfolding with_source
   source_found d v s is own few =
-      let last = unless (not (list_any (λ (x : Source). is_same_text (inside text v.file) x.file) d.sources)) (f.TwiceNamed v.file.from) >> Ok (inside text v.file) in
+      let last = unless (not (list_any (λ (x : Source). is_same_text (inside text v.file) x.file) d.sources)) (f.TwiceNamed v.file.from) >> Ok
+      (inside text v.file) in
       let file : file_of text d.sources v.file ≡ Ok s.file =
       passes (nat_lt 0 (length (inside text v.file))) (f.WrongShape v.file.from) last s.file
       (lt_true 0 (length (inside text v.file)) (bytes_some (inside text v.file) (subst (λ (b : List ℕ). b ≢ []) is.file is.some_file)))
       (passes (not (list_any (λ (x : Source). is_same_text (inside text v.file) x.file) d.sources)) (f.TwiceNamed v.file.from) (Ok (inside text v.file)) s.file
-      (ap (λ (b : List ℕ). not (list_any (λ (x : Source). is_same_text b x.file) d.sources)) (sym is.file) ∙ ap not own) (ok_ok (inside text v.file) s.file (sym is.file))) in
+      (ap (λ (b : List ℕ). not (list_any (λ (x : Source). is_same_text b x.file) d.sources)) (sym is.file) ∙ ap not own) (ok_ok (inside text v.file) s.file
+      (sym is.file))) in
       let listed : Listed = record { tags = s.tags; itags = d.itags + total part_count s.tags } in
-      binds (file_of text d.sources v.file) (λ bytes. rate_of v.rate >>= λ rate. slack_of v.slack >>= λ slack. tags_of text n d.itags v.tags >>= λ listed. Ok (record d {
+      binds (file_of text d.sources v.file)
+      (λ bytes. rate_of v.rate >>= λ rate. slack_of v.slack >>= λ slack. tags_of text n d.itags v.tags >>= λ listed. Ok (record d {
         sources = d.sources ++ record { name = name_of text v.name; file = bytes; rate = rate; slack = slack; tags = listed.tags } ∷ [];
         itags = listed.itags;
       })) s.file (with_one_source d s) file
@@ -437,6 +451,8 @@ module _ (text : List ℕ) (n : Naming) (kinds : List DeclaredKind) (knows : Kno
         sources = d.sources ++ record { name = name_of text v.name; file = s.file; rate = s.rate; slack = s.slack; tags = listed.tags } ∷ [];
         itags = listed.itags;
       })) listed (with_one_source d s) (tags_found (record { tags = []; itags = d.itags }) v.tags s.tags is.tags is.apart few)
-      (ok_ok (record d { sources = d.sources ++ record { name = name_of text v.name; file = s.file; rate = s.rate; slack = s.slack; tags = s.tags } ∷ []; itags = d.itags + total part_count s.tags })
+      (ok_ok (record d { sources = d.sources ++ record { name = name_of text v.name; file = s.file; rate = s.rate; slack = s.slack;
+        tags = s.tags } ∷ []; itags = d.itags + total part_count s.tags })
       (with_one_source d s)
-      (λ i. record d { sources = d.sources ++ record { name = sym is.name i; file = s.file; rate = s.rate; slack = s.slack; tags = s.tags } ∷ []; itags = d.itags + total part_count s.tags })))))
+      (λ i. record d { sources = d.sources ++ record { name = sym is.name i; file = s.file; rate = s.rate; slack = s.slack; tags = s.tags } ∷ [];
+        itags = d.itags + total part_count s.tags })))))

@@ -47,7 +47,8 @@ module _ (text : List ℕ) (n : Naming) (families : List Family) (knows : KnowFa
       let two = bind_ok (at_of under r.key) (λ a. Ok (piece.Read (record { family = one.0.number; at = a }))) p one.2 in
       let found : look_up (name_of text r.family) n.families ≡ Some one.0 = known_is place (look_up (name_of text r.family) n.families) one.0 one.1 in
       let read = sym (ap (read_fits under r.key) found) ∙ fits in
-      let head = looked_up family_name family_head 0 families (name_of text r.family) one.0 (ap (look_up (name_of text r.family)) (sym knows.heads_are) ∙ found) in
+      let head = looked_up family_name family_head 0 families (name_of text r.family) one.0 (ap (look_up (name_of text r.family)) (sym knows.heads_are)
+      ∙ found) in
       subst (λ (x : Piece). Means (w.Read r) x) (ok_same (piece.Read (record { family = one.0.number; at = two.0 })) p two.2)
       (cell_from text n families knows under None r one.0 two.0 head tt
       (at_means under one.0.keyed r.key two.0 (and_left (brackets_fit one.0.keyed r.key) (own_key_fits under r.key) read) two.1))
@@ -71,7 +72,12 @@ module _ (text : List ℕ) (n : Naming) (families : List Family) (knows : KnowFa
 
   piece_found : (place : ℕ) (q : WrittenPiece) (p : Piece) → Means q p → Passes place q p
   unfolding piece_of known_name
-  piece_found place (w.Plain s) (piece.Plain t) h = record { named = refl; fits = refl; found = ok_ok (piece.Plain (name_of text s)) (piece.Plain t) (ap piece.Plain (sym h)) }
+  piece_found place (w.Plain s) (piece.Plain t) h = record {
+    named = refl;
+    fits = refl;
+    found = ok_ok (piece.Plain (name_of text s)) (piece.Plain t)
+        (ap piece.Plain (sym h));
+  }
   piece_found place w.Value piece.Value h = record { named = refl; fits = h; found = refl }
   piece_found place w.Key piece.Key h = record { named = refl; fits = h; found = refl }
   piece_found place w.Time piece.Time h = record { named = refl; fits = refl; found = refl }
@@ -144,7 +150,8 @@ module _ (text : List ℕ) (n : Naming) (families : List Family) (knows : KnowFa
       let all = pieces_pass s.from is.parts ps is.means in
       let named : known_names text n s.from t.pieces ≡ Ok tt = ap (known_names text n s.from) parts ∙ all.named in
       let fit : fits ≡ true = ap (list_all (piece_fits text n under in_flush)) parts ∙ all.fits in
-      let found : pieces_of text n under s.from t.pieces ≡ Ok ps = ap (pieces_of text n under s.from) parts ∙ finds_each (piece_of text n under s.from) is.parts ps all.found in
+      let found : pieces_of text n under s.from t.pieces ≡ Ok ps = ap (pieces_of text n under s.from) parts ∙ finds_each
+      (piece_of text n under s.from) is.parts ps all.found in
       thens (known_names text n s.from t.pieces) (unless (t.whole && fits) (f.WrongShape s.from) >> pieces_of text n under s.from t.pieces) tt ps named
       (passes (t.whole && fits) (f.WrongShape s.from) (pieces_of text n under s.from t.pieces) ps
       (both t.whole fits (ap (λ (x : Template). x.whole) same) fit) found)

@@ -97,5 +97,6 @@ module _ (text : List ℕ) (n : Naming) (families : List Family) (knows : KnowFa
   unfolding expression_of
   expression_found e t is =
       let found = term_found is.means in
-      thens (first_token text n under (first_part e)) (unless (nat_le (height e) 32) (f.OverLimit Height 33) >> term_of text n under e) tt t (first_right e t found)
+      thens (first_token text n under (first_part e)) (unless (nat_le (height e) 32) (f.OverLimit Height 33) >> term_of text n under e) tt t
+      (first_right e t found)
       (passes (nat_le (height e) 32) (f.OverLimit Height 33) (term_of text n under e) t (le_true (height e) 32 is.low) found)

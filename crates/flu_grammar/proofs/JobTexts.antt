@@ -159,7 +159,8 @@ version_is (Some w) v e =
 version_found : (o : Option WrittenNumber) (v : ℕ) → MeansVersion o v → version_of o ≡ Ok v
 version_found None v h = ok_ok 1 v (sym h)
 version_found (Some w) v h =
-    passes (is_version (written_value w.value)) (f.WrongShape w.at) (Ok (written_value w.value)) v (ap is_version (sym h.0) ∙ h.1) (ok_ok (written_value w.value) v (sym h.0))
+    passes (is_version (written_value w.value)) (f.WrongShape w.at) (Ok (written_value w.value)) v (ap is_version (sym h.0) ∙ h.1) (ok_ok
+    (written_value w.value) v (sym h.0))
 
 -- ---- the meaning
 

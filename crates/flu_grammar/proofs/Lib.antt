@@ -21,3 +21,4 @@ pub mod JobDrafts
 pub mod JobFound
 pub mod JobTexts
 pub mod Faults
+pub mod Printed

@@ -80,7 +80,8 @@ walk_below drafts n low zero wanted all i x e = absurd cc
 walk_below drafts n low (suc k) [] all i x e = absurd cc
 walk_below drafts n low (suc k) (v ∷ wanted) all zero x e = subst (λ (y : Visit). y.node < n) (some_same v x e) all.0
 walk_below drafts n low (suc k) (v ∷ wanted) all (suc i) x e =
-    walk_below drafts n low k (with_visits v.depth (kids_at drafts v.node) wanted) (visits_below n v.depth (kids_at drafts v.node) wanted (low v.node) all.1) i x e
+    walk_below drafts n low k (with_visits v.depth (kids_at drafts v.node) wanted) (visits_below n v.depth (kids_at drafts v.node) wanted
+    (low v.node) all.1) i x e
 
 -- all are met
 pub each_met : (text : List ℕ) (order : List Visit) (v : ℕ) (ds : List DraftNode) (m : ℕ) → each (below text order) v ds ≡ Ok m
@@ -173,7 +174,8 @@ module _ (p : Program) (text : List ℕ) (written : List WrittenNode) (names : L
         kids = kids_mean v.kids d.kids (kids_named text names v.kids d.kids drawn.kids);
       }
 
-  pub read_planned : (i : ℕ) (v : WrittenNode) → slice_get written i ≡ Some v → HasSome (planned text o drafts) (λ node. MeansNode p text (planned text o drafts) v node)
+  pub read_planned : (i : ℕ) (v : WrittenNode) → slice_get written i ≡ Some v → HasSome (planned text o drafts) (λ node. MeansNode p text
+      (planned text o drafts) v node)
   read_planned i v here =
       let two = pairs_left (Finds (node_of p text names)) written drafts read.pairs i v here in
       (number_of o i, planned_node text o two.0, numbered i two.0 two.1, node_means v two.0 two.2)

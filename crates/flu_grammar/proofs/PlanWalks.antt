@@ -56,7 +56,8 @@ module _ (p : Program) (text : List ℕ) (written : List WrittenNode) (plan : Li
   child_found s u child =
       let one = means.each_planned u child.0 child.1 in
       let named : name_of text (one.1).name ≡ name_of text s = sym (one.3).name ∙ child.2 in
-      let there : slice_get the_names one.0 ≡ Some (name_of text s) = get_map (written_name text) written one.0 one.1 one.2 ∙ ap (λ (x : List ℕ). Some x) named in
+      let there : slice_get the_names one.0 ≡ Some (name_of text s) = get_map (written_name text) written one.0 one.1 one.2 ∙ ap (λ
+      (x : List ℕ). Some x) named in
       let own : AllDiffer (map (λ (x : List ℕ). x) the_names) = λ i j x a b. (
       let first = get_unmap (λ (y : List ℕ). y) the_names i x a in
       let second = get_unmap (λ (y : List ℕ). y) the_names j x b in
@@ -138,9 +139,11 @@ module _ (text : List ℕ) (names : List (List ℕ)) (plan : List Node) (drafts 
         is = sym at.fits.name;
       }
 
-  pub draft_at : (a u : ℕ) (n : Node) → SameName names plan a u → slice_get plan u ≡ Some n → (d : DraftNode) × (slice_get drafts a ≡ Some d) × Fits text names plan d n
+  pub draft_at : (a u : ℕ) (n : Node) → SameName names plan a u → slice_get plan u ≡ Some n → (d : DraftNode) × (slice_get drafts a ≡ Some d)
+      × Fits text names plan d n
   draft_at a u n same there =
-      let one = get_unmap (λ (x : DraftNode). name_of text x.name) drafts a same.name (ap (λ (l : List (List ℕ)). slice_get l a) (sym found.named) ∙ same.written) in
+      let one = get_unmap (λ (x : DraftNode). name_of text x.name) drafts a same.name (ap (λ (l : List (List ℕ)). slice_get l a) (sym found.named)
+      ∙ same.written) in
       let at = found.fits a one.0 one.1 in
       let number : at.number ≡ u = one_number a at.number u (place_fits a one.0 one.1) same in
       let node : at.node ≡ n = some_same at.node n (sym at.planned ∙ ap (slice_get plan) number ∙ there) in
@@ -196,7 +199,8 @@ module _ (text : List ℕ) (names : List (List ℕ)) (plan : List Node) (drafts 
       (kids_wanted x.depth (draft.0).kids n.kids wanted visits (draft.2).kids all.1)
       (λ i m there. ap (slice_get plan) (omega arith) ∙ suffix (suc i) m there) (omega arith) in
       let steps : Walks (w + 1) (walk drafts k (with_visits x.depth (kids_at drafts x.node) visits)) (with_visits x.depth (draft.0).kids visits) rest =
-      subst (λ (o : Option (ℕ × ℕ)). Walks (w + 1) (walk drafts k (with_visits x.depth o visits)) (with_visits x.depth (draft.0).kids visits) rest) (sym kids) next in
+      subst (λ (o : Option (ℕ × ℕ)). Walks (w + 1) (walk drafts k (with_visits x.depth o visits)) (with_visits x.depth (draft.0).kids visits) rest)
+      (sym kids) next in
       record {
         follows = (same, steps.follows);
         depths =

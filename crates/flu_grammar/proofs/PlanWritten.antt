@@ -198,7 +198,8 @@ module _ (text : List ℕ) (names : List (List ℕ)) (plan : List Node) (drafts 
         let same = place_fits text names plan drafts found a d here in
         let x = follower text names plan drafts found 0 o plan follows at.number at.node at.planned in
         let there = at_number at.number x.0 x.1 in
-        any_there (λ (y : Visit). a == y.node) o at.number x.0 x.1 (eq_true a (x.0).node (one_place text names plan drafts found a (x.0).node at.number same there))
+        any_there (λ (y : Visit). a == y.node) o at.number x.0 x.1 (eq_true a (x.0).node (one_place text names plan drafts found a
+        (x.0).node at.number same there))
 
     all_met : (v : ℕ) (ds : List DraftNode) → ((i : ℕ) (d : DraftNode) → slice_get ds i ≡ Some d → is_met o (v + i) ≡ true)
         → (m : ℕ) × (each (below text o) v ds ≡ Ok m)

@@ -51,7 +51,8 @@ module _ {X Y K : Type 0} (key_x : X → K) (key_y : Y → K) (weight_x : X → 
             (get_map key_x xs i y e ∙ ap (λ (k : K). Some k) (sym other.same ∙ ap key_y (sym same) ∙ first.same)))
         | inr there ↦ record { place = there.0; other = other.other; here = there.1; same = other.same; no_less = other.no_less }
       ])) in
-      let whole : total weight_y ys ≡ total weight_y at.front + total weight_y (first.other ∷ at.back) = ap (total weight_y) at.is ∙ total-append weight_y at.front (first.other ∷ at.back) in
+      let whole : total weight_y ys ≡ total weight_y at.front + total weight_y (first.other ∷ at.back) = ap (total weight_y) at.is
+      ∙ total-append weight_y at.front (first.other ∷ at.back) in
       let parts : total weight_y (at.front ++ at.back) ≡ total weight_y at.front + total weight_y at.back = total-append weight_y at.front at.back in
       let less = first.no_less in
       omega (arith, whole, parts, rest, less)

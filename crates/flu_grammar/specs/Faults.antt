@@ -31,7 +31,8 @@ abbrev pub RefusedIsNoJob : Type 0
 RefusedIsNoJob = (bytes : List ℕ) (fault : JobFault) (job : Job) → job_in bytes ≡ Err fault → IsJobText bytes job → ⊥
 
 abbrev pub RefusedIsNoPlan : Type 0
-RefusedIsNoPlan = (program : Program) (bytes : List ℕ) (fault : PlanFault) (plan : List Node) → plan_in program bytes ≡ Err fault → IsPlanText program bytes plan → ⊥
+RefusedIsNoPlan = (program : Program) (bytes : List ℕ) (fault : PlanFault) (plan : List Node) → plan_in program bytes ≡ Err fault
+    → IsPlanText program bytes plan → ⊥
 
 -- ---- unknown names
 

@@ -14,7 +14,7 @@ use Rattle.flu_syntax.specs.Tree.{Job as WrittenJob, Declarations}
 use Rattle.flu_syntax.specs.Grammar.{IsJob}
 use Rattle.flu_layout.specs.Spelling.{written_value}
 use Rattle.flu_grammar.specs.Means.{AllDiffer, IsNamed}
-use Rattle.flu_grammar.specs.Texts.{IsText}
+use Rattle.flu_grammar.specs.Texts.{IsShortText}
 use Rattle.flu_grammar.specs.Actions.{MeansAction}
 use Rattle.flu_grammar.specs.Declared.{DeclaredKind, names_in, families_in, kinds_in, depends_in, ons_in, actions_in, sources_in}
 use Rattle.flu_grammar.specs.Sources.{MeansDepend, MeansSource}
@@ -53,7 +53,7 @@ pub record MeansJob (text : List ℕ) (written : WrittenJob) (job : Job) : Type 
 
 -- The bytes are the text of this job.
 pub record IsJobText (bytes : List ℕ) (job : Job) : Type 0 where
-  pub text : IsText bytes
+  pub text : IsShortText bytes
   pub tokens : List Token
   pub cut : AreTokens bytes tokens
   pub written : WrittenJob

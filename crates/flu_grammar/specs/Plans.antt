@@ -19,7 +19,7 @@ use Rattle.flu_plan.specs.declared.written.WrittenNode.{WrittenNode}
 use Rattle.flu_plan.specs.Grammar.{ArePlan}
 use Rattle.flu_plan.specs.Kept.{KeepsRules}
 use Rattle.flu_grammar.specs.Means.{AllDiffer, IfWritten, IsNamed}
-use Rattle.flu_grammar.specs.Texts.{IsText}
+use Rattle.flu_grammar.specs.Texts.{IsShortText}
 
 -- the job's kind, or source, of this number has the written name
 abbrev pub MeansKind : Program → List ℕ → WrittenSpan → ℕ → Type 0
@@ -69,7 +69,7 @@ pub record MeansPlan (p : Program) (text : List ℕ) (written : List WrittenNode
 
 -- The bytes are the text of this plan of a job.
 pub record IsPlanText (p : Program) (bytes : List ℕ) (plan : List Node) : Type 0 where
-  pub text : IsText bytes
+  pub text : IsShortText bytes
   pub tokens : List Token
   pub cut : AreTokens bytes tokens
   pub written : List WrittenNode

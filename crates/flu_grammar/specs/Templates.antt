@@ -22,14 +22,16 @@ use Rattle.flu_grammar.specs.Cells.{MeansCell}
 abbrev pub no_brace : ℕ → Bool
 no_brace b = not (b == open_brace) && not (b == close_brace)
 
--- What stands between two braces, from one place to before another: `value`, `key`, `time`; in a flush `cell`; in an emit a family's
--- name, with perhaps `key` or a number in brackets behind it, of which the first stands at `bracket`.
+-- What stands between two braces, from one place to before another: `value`, `key` or `time`; in a flush `cell`; in an emit a
+-- family's name, alone or with `key` or a number in brackets behind it. `bracket` is how far behind the name's begin the first
+-- bracket stands.
 pub data IsField (text : List ℕ) (in_flush : Bool) (from to : ℕ) : WrittenPiece → Type 0 where
   field_value : spelled text from to ≡ codes "value" → IsField text in_flush from to w.Value
   field_key : spelled text from to ≡ codes "key" → IsField text in_flush from to w.Key
   field_time : spelled text from to ≡ codes "time" → IsField text in_flush from to w.Time
   field_cell : in_flush ≡ true → spelled text from to ≡ codes "cell" → IsField text in_flush from to w.CellValue
-  field_family : in_flush ≡ false → is_name (spelled text from to) ≡ true → IsField text in_flush from to (w.Read (record { family = span from to; key = k.Alone }))
+  field_family : in_flush ≡ false → is_name (spelled text from to) ≡ true → IsField text in_flush from to (w.Read
+      (record { family = span from to; key = k.Alone }))
   field_own : (bracket : ℕ) → in_flush ≡ false → position is_open_bracket (spelled text from to) ≡ Some bracket
       → is_name (spelled text from (from + bracket)) ≡ true → spelled text (to - 1) to ≡ codes "]"
       → spelled text (from + bracket + 1) (to - 1) ≡ codes "key"

@@ -3,6 +3,6 @@ use Rattle.std.specs.Prelude.{◌≤◌, ℕ, List, length}
 use Rattle.std.specs.Str.{IsUtf8}
 
 -- UTF-8 of at most 1,048,576 bytes
-pub record IsText (bytes : List ℕ) : Type 0 where
+pub record IsShortText (bytes : List ℕ) : Type 0 where
   pub short : length bytes ≤ 1048576
   pub utf8 : IsUtf8 bytes

@@ -1,8 +1,9 @@
 //! Laws of the meaning of texts, each the contract of a function that does nothing.
 
 ghost use Rattle.flu_grammar.specs.Faults.{RefusedIsNoJob, RefusedIsNoPlan, FamilyIsUnknown, KindIsUnknown, PlanKindIsUnknown, PlanSourceIsUnknown, ChildIsUnknown, TwiceNamedIsDeclaredTwice, NoTreeIsNodeTwice};
-ghost use Rattle.flu_grammar.specs.Laws.{JobsAreGrammar, TextsHaveOneJob, PlansAreGrammar, TextsHaveOnePlan};
+ghost use Rattle.flu_grammar.specs.Laws.{JobsAreGrammar, TextsHaveOneJob, PlansAreGrammar, TextsHaveOnePlan, NormalFormIsText, PrintedIsText, JobTextsKeepRules};
 
+use flu_parse::laws::{jobs_keep_rules, printed_is_read};
 use flu_plan::laws::{found_is_plan, plans_keep_rules};
 use flu_syntax::laws::found_is_job;
 use flu_text::laws::reading_is_exact;
@@ -36,6 +37,25 @@ pub fn texts_have_one_plan()
     ensures { TextsHaveOnePlan }
 {
     plans_are_grammar();
+}
+
+/// What is printed of a job, or of a plan, is a text of it.
+pub fn printed_texts_are_grammar()
+    ensures job { NormalFormIsText }
+    ensures plan { PrintedIsText }
+{
+    jobs_are_grammar();
+    printed_is_read();
+    plans_are_grammar();
+    flu_plan::laws::printed_is_read();
+}
+
+/// The job that a text means keeps the rules of the language.
+pub fn job_texts_keep_rules()
+    ensures { JobTextsKeepRules }
+{
+    jobs_are_grammar();
+    jobs_keep_rules();
 }
 
 /// Bytes in which a fault is found are the text of no job, and of no plan.
