@@ -22,3 +22,4 @@ pub mod JobFound
 pub mod JobTexts
 pub mod Faults
 pub mod Printed
+pub mod FaultKinds
