@@ -23,3 +23,4 @@ pub mod JobTexts
 pub mod Faults
 pub mod Printed
 pub mod FaultKinds
+pub mod TextFaults

@@ -1,6 +1,12 @@
 -- What some faults of the readers say, by the rules that they break.
-use Rattle.std.specs.Prelude.{◌≡◌, ◌≢◌, ℕ, List, [], ◌∷◌, ◌++◌, map, Ok, Err, Some, slice_get}
+use Rattle.std.specs.Prelude.{◌≡◌, ◌≢◌, ◌<◌, ◌≤◌, ◌↔◌, ℕ, length, List, [], ◌∷◌, ◌++◌, map, Ok, Err, Some, slice_get}
 use Rattle.std.specs.List.{flat_map}
+use Rattle.std.specs.Str.{IsUtf8}
+use Rattle.std.specs.Str.Lossy.{utf8_valid_len}
+use Rattle.flu_model.specs.declared.limits.What.TheVariants.{Bytes}
+use Rattle.flu_text.specs.declared.words.Token.{Token}
+use Rattle.flu_text.specs.Grammar.{AreTokens, IsFirstBadPlace}
+use Rattle.flu_syntax.specs.Grammar.{IsFirstThatCannotFollow}
 use Rattle.flu_model.specs.declared.jobs.Family.{Family}
 use Rattle.flu_model.specs.declared.jobs.Kind.{Kind}
 use Rattle.flu_model.specs.declared.jobs.Source.{Source}
@@ -20,6 +26,7 @@ use Rattle.flu_plan.specs.declared.written.WrittenNode.{WrittenNode}
 use Rattle.flu_plan.specs.Resolving.{names_of, kid_of, kind_of as plan_kind_of, source_of as plan_source_of}
 use Rattle.flu_plan.specs.Reading.{plan_in}
 use Rattle.flu_grammar.specs.Means.{AllDiffer}
+use Rattle.flu_grammar.specs.Texts.{IsShortText}
 use Rattle.flu_grammar.specs.Declared.{DeclaredKind, names_in, families_in, kinds_in}
 use Rattle.flu_grammar.specs.Plans.{IsPlanText}
 use Rattle.flu_grammar.specs.Jobs.{IsJobText}
@@ -33,6 +40,31 @@ RefusedIsNoJob = (bytes : List ℕ) (fault : JobFault) (job : Job) → job_in by
 abbrev pub RefusedIsNoPlan : Type 0
 RefusedIsNoPlan = (program : Program) (bytes : List ℕ) (fault : PlanFault) (plan : List Node) → plan_in program bytes ≡ Err fault
     → IsPlanText program bytes plan → ⊥
+
+-- ---- bytes, tokens and grammar
+
+-- more bytes than a text may have
+abbrev pub BytesAreTooMany : Type 0
+BytesAreTooMany = (bytes : List ℕ) (count : ℕ) → (job_in bytes ≡ Err (j.OverLimit Bytes count)) ↔ ((1048576 < length bytes) × (count ≡ 1048577))
+
+-- bytes that are few enough and not UTF-8, with the place of the first sequence that is not
+abbrev pub BytesAreNotUtf8 : Type 0
+BytesAreNotUtf8 =
+    (bytes : List ℕ) (at : ℕ) → (job_in bytes ≡ Err (j.BadUtf8 at)) ↔ ((length bytes ≤ 1048576) × (IsUtf8 bytes → ⊥) × (at ≡ utf8_valid_len bytes))
+
+-- a text in which tokens lead to a place where none begins
+abbrev pub NoTokenBegins : Type 0
+NoTokenBegins = (bytes : List ℕ) (at : ℕ) → (job_in bytes ≡ Err (j.BadToken at)) ↔ (IsShortText bytes × IsFirstBadPlace bytes at)
+
+-- a text of tokens, with the place of the first one with which those before it can no longer be continued to a job
+pub record IsNotContinued (bytes : List ℕ) (at : ℕ) : Type 0 where
+  pub text : IsShortText bytes
+  pub tokens : List Token
+  pub cut : AreTokens bytes tokens
+  pub first : IsFirstThatCannotFollow (length bytes) tokens at
+
+abbrev pub UnexpectedIsNotContinued : Type 0
+UnexpectedIsNotContinued = (bytes : List ℕ) (at : ℕ) → job_in bytes ≡ Err (j.Unexpected at) → IsNotContinued bytes at
 
 -- ---- unknown names
 

@@ -1,11 +1,11 @@
 //! Laws of the meaning of texts, each the contract of a function that does nothing.
 
-ghost use Rattle.flu_grammar.specs.Faults.{RefusedIsNoJob, RefusedIsNoPlan, FamilyIsUnknown, KindIsUnknown, PlanKindIsUnknown, PlanSourceIsUnknown, ChildIsUnknown, TwiceNamedIsDeclaredTwice, NoTreeIsNodeTwice};
+ghost use Rattle.flu_grammar.specs.Faults.{BytesAreTooMany, BytesAreNotUtf8, NoTokenBegins, UnexpectedIsNotContinued, RefusedIsNoJob, RefusedIsNoPlan, FamilyIsUnknown, KindIsUnknown, PlanKindIsUnknown, PlanSourceIsUnknown, ChildIsUnknown, TwiceNamedIsDeclaredTwice, NoTreeIsNodeTwice};
 ghost use Rattle.flu_grammar.specs.Laws.{JobsAreGrammar, TextsHaveOneJob, PlansAreGrammar, TextsHaveOnePlan, NormalFormIsText, PrintedIsText, JobTextsKeepRules};
 
 use flu_parse::laws::{jobs_keep_rules, printed_is_read};
 use flu_plan::laws::{found_is_plan, plans_keep_rules};
-use flu_syntax::laws::found_is_job;
+use flu_syntax::laws::{found_is_job, unexpected_is_first};
 use flu_text::laws::reading_is_exact;
 
 /// The job that is read of some bytes is exactly the one that they are the text of, by the grammar and by what each part of it means.
@@ -65,6 +65,17 @@ pub fn refused_texts_are_none()
 {
     jobs_are_grammar();
     plans_are_grammar();
+}
+
+/// What the faults of bytes, tokens and grammar say of the bytes in which they are found.
+pub fn faults_of_texts()
+    ensures bytes { BytesAreTooMany }
+    ensures utf8 { BytesAreNotUtf8 }
+    ensures token { NoTokenBegins }
+    ensures grammar { UnexpectedIsNotContinued }
+{
+    reading_is_exact();
+    unexpected_is_first();
 }
 
 /// Where a name is told to be unknown, nothing of that name is declared as what is needed there.
