@@ -24,3 +24,4 @@ pub mod Faults
 pub mod Printed
 pub mod FaultKinds
 pub mod TextFaults
+pub mod Twice

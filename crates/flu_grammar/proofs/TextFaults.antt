@@ -30,7 +30,7 @@ use Rattle.flu_grammar.proofs.FaultKinds.{IsOfWritten, Plain, resolved_faults}
 -- ---- where a fault comes from
 
 module _ {E A B : Type 0} where
-  fault_from : (r : Result A E) (g : A → Result B E) (e : E) → (r >>= g) ≡ Err e → (r ≡ Err e) ⊎ ((x : A) × (r ≡ Ok x) × (g x ≡ Err e))
+  pub fault_from : (r : Result A E) (g : A → Result B E) (e : E) → (r >>= g) ≡ Err e → (r ≡ Err e) ⊎ ((x : A) × (r ≡ Ok x) × (g x ≡ Err e))
   fault_from (Ok x) g e h = inr (x, refl, h)
   fault_from (Err y) g e h = let same : y ≡ e = cc in inl (ap (λ (z : E). let r : Result A E = Err z in r) same)
 
@@ -38,7 +38,7 @@ module _ {E A B : Type 0} where
   fault_on r g e h = ap (λ s. s >>= g) h
 
 module _ {E B : Type 0} where
-  fault_then : (b : Bool) (fault : E) (r : Result B E) (e : E) → (cond {A = Result (Unit {0}) E} b (Ok tt) (Err fault) >> r) ≡ Err e
+  pub fault_then : (b : Bool) (fault : E) (r : Result B E) (e : E) → (cond {A = Result (Unit {0}) E} b (Ok tt) (Err fault) >> r) ≡ Err e
       → ((b ≡ false) × (fault ≡ e)) ⊎ ((b ≡ true) × (r ≡ Err e))
   fault_then true fault r e h = inr (refl, h)
   fault_then false fault r e h = inl (refl, cc)

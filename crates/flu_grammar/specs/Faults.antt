@@ -14,11 +14,13 @@ use Rattle.flu_model.specs.declared.jobs.Program.{Program}
 use Rattle.flu_model.specs.declared.plans.Node.{Node}
 use Rattle.flu_model.specs.Erasure.{Job}
 use Rattle.flu_text.specs.declared.written.WrittenSpan.{WrittenSpan}
-use Rattle.flu_syntax.specs.Tree.{Declaration, Declarations, Cell, Tag, Depends, On, Source as SourceLine}
-use Rattle.flu_layout.specs.Spelling.{name_of}
+use Rattle.flu_syntax.specs.Tree.{Action, Declaration, Declarations, Cell, Tag, Depends, On, Source as SourceLine}
+use Rattle.flu_layout.specs.Spelling.{name_of, inside}
 use Rattle.flu_parse.specs.declared.faults.JobFault.{JobFault}
 use Rattle.flu_parse.specs.declared.faults.JobFault.TheVariants as j
 use Rattle.flu_parse.specs.Naming.{Naming, naming_of, family_of, kind_of}
+use Rattle.flu_parse.specs.Listings.{file_of}
+use Rattle.flu_parse.specs.Resolving.{Drafted, with_on, draft_of}
 use Rattle.flu_parse.specs.Reading.{job_in}
 use Rattle.flu_plan.specs.declared.fault.PlanFault.{PlanFault}
 use Rattle.flu_plan.specs.declared.fault.PlanFault.TheVariants as p
@@ -27,7 +29,7 @@ use Rattle.flu_plan.specs.Resolving.{names_of, kid_of, kind_of as plan_kind_of, 
 use Rattle.flu_plan.specs.Reading.{plan_in}
 use Rattle.flu_grammar.specs.Means.{AllDiffer}
 use Rattle.flu_grammar.specs.Texts.{IsShortText}
-use Rattle.flu_grammar.specs.Declared.{DeclaredKind, names_in, families_in, kinds_in}
+use Rattle.flu_grammar.specs.Declared.{DeclaredKind, WrittenSource, names_in, families_in, kinds_in, ons_in, sources_in}
 use Rattle.flu_grammar.specs.Plans.{IsPlanText}
 use Rattle.flu_grammar.specs.Jobs.{IsJobText}
 
@@ -129,6 +131,30 @@ pub record IsDeclaredTwice (text : List ℕ) (ds : Declarations) (at : ℕ) : Ty
 
 abbrev pub TwiceNamedIsDeclaredTwice : Type 0
 TwiceNamedIsDeclaredTwice = (text : List ℕ) (ds : Declarations) (at : ℕ) → naming_of text ds ≡ Err (j.TwiceNamed at) → IsDeclaredTwice text ds at
+
+-- An `on` of this kind at this place, where one of the declarations before it is an `on` of the same kind.
+pub record IsOnTwice (text : List ℕ) (before : Declarations) (kind : WrittenSpan) (at : ℕ) : Type 0 where
+  pub here : at ≡ kind.from
+  pub place : ℕ
+  pub earlier : slice_get (flat_map (ons_in text) before) place ≡ Some (name_of text kind)
+
+abbrev pub TwiceNamedIsOnTwice : Type 0
+TwiceNamedIsOnTwice =
+    (text : List ℕ) (ds before : Declarations) (n : Naming) (x : Drafted) (kind : WrittenSpan) (actions : List Action) (at : ℕ) → naming_of text ds ≡ Ok n
+    → draft_of text n before ≡ Ok x → with_on text n x kind actions ≡ Err (j.TwiceNamed at) → IsOnTwice text before kind at
+
+-- This file text at this place, where a source before it has the same.
+pub record IsFileTwice (text : List ℕ) (before : Declarations) (file : WrittenSpan) (at : ℕ) : Type 0 where
+  pub here : at ≡ file.from
+  pub place : ℕ
+  pub source : WrittenSource
+  pub earlier : slice_get (flat_map sources_in before) place ≡ Some source
+  pub same : inside text source.file ≡ inside text file
+
+abbrev pub TwiceNamedIsFileTwice : Type 0
+TwiceNamedIsFileTwice =
+    (text : List ℕ) (ds before : Declarations) (n : Naming) (x : Drafted) (file : WrittenSpan) (at : ℕ) → naming_of text ds ≡ Ok n
+    → draft_of text n before ≡ Ok x → file_of text x.sources file ≡ Err (j.TwiceNamed at) → IsFileTwice text before file at
 
 -- This node is the first that has the name of one before it.
 pub record IsNodeTwice (text : List ℕ) (nodes : List WrittenNode) (name : List ℕ) : Type 0 where

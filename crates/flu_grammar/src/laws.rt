@@ -1,6 +1,6 @@
 //! Laws of the meaning of texts, each the contract of a function that does nothing.
 
-ghost use Rattle.flu_grammar.specs.Faults.{BytesAreTooMany, BytesAreNotUtf8, NoTokenBegins, UnexpectedIsNotContinued, RefusedIsNoJob, RefusedIsNoPlan, FamilyIsUnknown, KindIsUnknown, PlanKindIsUnknown, PlanSourceIsUnknown, ChildIsUnknown, TwiceNamedIsDeclaredTwice, NoTreeIsNodeTwice};
+ghost use Rattle.flu_grammar.specs.Faults.{BytesAreTooMany, BytesAreNotUtf8, NoTokenBegins, UnexpectedIsNotContinued, RefusedIsNoJob, RefusedIsNoPlan, FamilyIsUnknown, KindIsUnknown, PlanKindIsUnknown, PlanSourceIsUnknown, ChildIsUnknown, TwiceNamedIsDeclaredTwice, TwiceNamedIsOnTwice, TwiceNamedIsFileTwice, NoTreeIsNodeTwice};
 ghost use Rattle.flu_grammar.specs.Laws.{JobsAreGrammar, TextsHaveOneJob, PlansAreGrammar, TextsHaveOnePlan, NormalFormIsText, PrintedIsText, JobTextsKeepRules};
 
 use flu_parse::laws::{jobs_keep_rules, printed_is_read};
@@ -88,8 +88,10 @@ pub fn unknown_names_are_not_declared()
 {}
 
 /// Where a name is told to be declared twice, an earlier declaration gives it, and no name before is declared twice; so it is with
-/// the nodes of a plan.
+/// the nodes of a plan, with an `on` of a kind, and with the file of a source.
 pub fn twice_named_is_declared_before()
     ensures job { TwiceNamedIsDeclaredTwice }
+    ensures on { TwiceNamedIsOnTwice }
+    ensures file { TwiceNamedIsFileTwice }
     ensures plan { NoTreeIsNodeTwice }
 {}
