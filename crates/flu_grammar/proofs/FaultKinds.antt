@@ -1,5 +1,5 @@
 -- Which faults the looks at a written job find: none of bytes, tokens or grammar.
-use Rattle.std.proofs.Common.{◌≡◌, ℕ, ◌+◌, Bool, true, false, cond, List, [], ◌∷◌, ◌++◌, length, Option, Some, None, Ok, Err, refl, sym, ap, subst, ◌∙◌}
+use Rattle.std.proofs.Common.{◌≡◌, ℕ, ◌+◌, Bool, true, false, cond, List, [], ◌∷◌, ◌++◌, length, Option, Some, None, Ok, Err, refl, subst}
 use Rattle.std.specs.Prelude.{Result, not, ◌==◌, ◌&&◌, nat_lt, nat_le}
 use Rattle.std.specs.List.{list_any, list_all}
 use Rattle.flu_lemmas.specs.Loops.{◌>>=◌, ◌>>◌, each}
@@ -7,20 +7,18 @@ use Rattle.flu_lemmas.proofs.Loops.{collect}
 use Rattle.flu_model.specs.declared.limits.What.{What}
 use Rattle.flu_model.specs.declared.limits.What.TheVariants.{Families, Kinds, Sources, Depends, Key, Rate, Itags, Actions, Height, Slack}
 use Rattle.flu_model.specs.declared.jobs.Sort.{Sort}
-use Rattle.flu_model.specs.declared.jobs.Sort.TheVariants.{Sum, Max, Last}
 use Rattle.flu_model.specs.declared.jobs.At.TheVariants as at
 use Rattle.flu_model.specs.declared.jobs.Keys.TheVariants as keys
 use Rattle.flu_model.specs.declared.jobs.Piece.TheVariants as piece
 use Rattle.flu_model.specs.declared.jobs.Source.{Source}
 use Rattle.flu_model.specs.Contents.{key_count}
 use Rattle.flu_model.specs.Rules.{is_version, is_same_text}
-use Rattle.flu_model.specs.Erasure.{Literal, EventValue, EventKey, EventTime, CellRead, CellHeld, Negative, Negation, Operation, Clearing, Emitting, Flushing, PlainAction}
+use Rattle.flu_model.specs.Erasure.{Literal, EventValue, EventKey, EventTime, CellRead, CellHeld, Negative, Negation, Operation, Clearing, Emitting, Flushing}
 use Rattle.flu_rules.specs.Keys.{share_tag}
 use Rattle.flu_text.specs.declared.written.WrittenSpan.{WrittenSpan}
 use Rattle.flu_text.specs.declared.written.WrittenNumber.{WrittenNumber}
 use Rattle.flu_text.specs.declared.written.WrittenKeys.{WrittenKeys}
 use Rattle.flu_text.specs.declared.written.WrittenKeys.TheVariants as ks
-use Rattle.flu_syntax.specs.declared.tokens.Verb.{Verb}
 use Rattle.flu_syntax.specs.declared.tree.WrittenKey.{WrittenKey}
 use Rattle.flu_syntax.specs.declared.tree.WrittenKey.TheVariants as k
 use Rattle.flu_syntax.specs.declared.tree.WrittenRef.{WrittenRef}
@@ -68,7 +66,8 @@ module _ {E : Type 0} (P : E → Type 0) where
   faults_then (Ok x) g a b e h = b e h
   faults_then (Err y) g a b e h = let same : y ≡ e = cc in subst P same (a y refl)
 
-  pub faults_each : {S X : Type 0} (step : S → X → Result S E) → ((s : S) (x : X) → FaultsAre P (step s x)) → (s : S) (xs : List X) → FaultsAre P (each step s xs)
+  pub faults_each : {S X : Type 0} (step : S → X → Result S E) → ((s : S) (x : X) → FaultsAre P (step s x)) → (s : S) (xs : List X) → FaultsAre P
+      (each step s xs)
   unfolding each
   faults_each step all s [] = no_fault s
   faults_each step all s (x ∷ xs) = faults_bind (step s x) (λ t. each step t xs) (all s x) (λ t. faults_each step all t xs)
@@ -123,7 +122,8 @@ module _ (P : JobFault → Type 0) (plain : Plain P) where
     module _ (under : KindHead) where
       cell_faults : (wanted : Option Sort) (r : WrittenRef) → FaultsAre P (resolved_cell text n under wanted r)
       cell_faults wanted r =
-          faults_bind P (family_for text n wanted r) (λ family. at_of under r.key >>= λ a. Ok (record { family = family.number; at = a })) (family_faults wanted r)
+          faults_bind P (family_for text n wanted r) (λ family. at_of under r.key >>= λ a. Ok (record { family = family.number; at = a }))
+          (family_faults wanted r)
           (λ family. faults_bind P (at_of under r.key) (λ a. Ok (record { family = family.number; at = a })) (at_faults under r.key)
           (λ a. no_fault P (record { family = family.number; at = a })))
 
@@ -197,7 +197,8 @@ module _ (P : JobFault → Type 0) (plain : Plain P) where
           let fits = t.whole && list_all (piece_fits text n under in_flush) t.pieces in
           faults_then P (known_names text n s.from t.pieces) (unless fits (f.WrongShape s.from) >> pieces_of text n under s.from t.pieces)
           (faults_each P (λ done q. known_name text n s.from q) (λ done q. name_faults s.from q) tt t.pieces)
-          (faults_then P (unless fits (f.WrongShape s.from)) (pieces_of text n under s.from t.pieces) (fault_unless P fits (f.WrongShape s.from) (plain.shape s.from))
+          (faults_then P (unless fits (f.WrongShape s.from)) (pieces_of text n under s.from t.pieces) (fault_unless P fits (f.WrongShape s.from)
+          (plain.shape s.from))
           (faults_each P (collect (piece_of text n under s.from)) (λ done q. faults_bind P (piece_of text n under s.from q) (λ y. Ok (done ++ y ∷ []))
           (piece_faults s.from q) (λ y. no_fault P (done ++ y ∷ []))) [] t.pieces))
 
@@ -210,7 +211,8 @@ module _ (P : JobFault → Type 0) (plain : Plain P) where
       act_faults (Clears r) = faults_bind P (resolved_cell text n under None r) (λ c. Ok (Clearing c)) (cell_faults None r) (λ c. no_fault P (Clearing c))
       act_faults (Emits s) = faults_bind P (template_of text n under false s) (λ ps. Ok (Emitting ps)) (template_faults false s) (λ ps. no_fault P (Emitting ps))
       act_faults (Flushes name s) =
-          faults_bind P (family_of text n name) (λ h. unless h.keyed (f.WrongShape name.from) >> (template_of text n under true s >>= λ ps. Ok (Flushing h.number ps)))
+          faults_bind P (family_of text n name) (λ h. unless h.keyed (f.WrongShape name.from) >> (template_of text n under true s >>= λ ps. Ok
+          (Flushing h.number ps)))
           (known_faults name.from (look_up (name_of text name) n.families))
           (λ h. faults_then P (unless h.keyed (f.WrongShape name.from)) (template_of text n under true s >>= λ ps. Ok (Flushing h.number ps))
           (fault_unless P h.keyed (f.WrongShape name.from) (plain.shape name.from))
@@ -224,7 +226,8 @@ module _ (P : JobFault → Type 0) (plain : Plain P) where
       action_faults : (a : Action) → FaultsAre P (action_of text n under a)
       unfolding action_of
       action_faults a =
-          faults_bind P (resolved_act text n under a.deed) (λ act. guard_of text n under a.guard >>= λ guard. Ok (record { act = act; guard = guard })) (act_faults a.deed)
+          faults_bind P (resolved_act text n under a.deed) (λ act. guard_of text n under a.guard >>= λ guard. Ok (record { act = act; guard = guard }))
+          (act_faults a.deed)
           (λ act. faults_bind P (guard_of text n under a.guard) (λ guard. Ok (record { act = act; guard = guard })) (guard_faults a.guard)
           (λ guard. no_fault P (record { act = act; guard = guard })))
 
@@ -292,15 +295,18 @@ module _ (P : JobFault → Type 0) (plain : Plain P) where
             tags = done.tags ++ record { kind = kind.number; keys = k } ∷ [];
             itags = done.itags + tag_count v.keys;
           }) in r in
-          let third = λ (kind : KindHead). unless (not (list_any (share_tag (record { kind = kind.number; keys = written_keys v.keys })) done.tags)) (f.TwiceNamed v.kind.from) >> last kind in
+          let third = λ (kind : KindHead). unless (not (list_any (share_tag (record { kind = kind.number; keys = written_keys v.keys })) done.tags))
+          (f.TwiceNamed v.kind.from) >> last kind in
           let second = λ (kind : KindHead). unless (nat_le (done.itags + tag_count v.keys) 256) (f.OverLimit Itags 257) >> third kind in
           faults_bind P (kind_of text n v.kind) (λ kind. unless (are_bracketed kind.keyed v.keys) (f.WrongShape v.kind.from) >> second kind) (kind_faults v.kind)
           (λ kind. faults_then P (unless (are_bracketed kind.keyed v.keys) (f.WrongShape v.kind.from)) (second kind)
           (fault_unless P (are_bracketed kind.keyed v.keys) (f.WrongShape v.kind.from) (plain.shape v.kind.from))
           (faults_then P (unless (nat_le (done.itags + tag_count v.keys) 256) (f.OverLimit Itags 257)) (third kind)
           (fault_unless P (nat_le (done.itags + tag_count v.keys) 256) (f.OverLimit Itags 257) (plain.limit Itags 257 tt))
-          (faults_then P (unless (not (list_any (share_tag (record { kind = kind.number; keys = written_keys v.keys })) done.tags)) (f.TwiceNamed v.kind.from)) (last kind)
-          (fault_unless P (not (list_any (share_tag (record { kind = kind.number; keys = written_keys v.keys })) done.tags)) (f.TwiceNamed v.kind.from) (twice v.kind.from))
+          (faults_then P (unless (not (list_any (share_tag (record { kind = kind.number; keys = written_keys v.keys })) done.tags))
+          (f.TwiceNamed v.kind.from)) (last kind)
+          (fault_unless P (not (list_any (share_tag (record { kind = kind.number; keys = written_keys v.keys })) done.tags)) (f.TwiceNamed v.kind.from)
+          (twice v.kind.from))
           (faults_bind P (keys_of v.keys) (λ k. Ok (record {
             tags = done.tags ++ record { kind = kind.number; keys = k } ∷ [];
             itags = done.itags + tag_count v.keys;
@@ -338,7 +344,8 @@ module _ (P : JobFault → Type 0) (plain : Plain P) where
             sources = x.sources ++ record { name = name_of text name; file = bytes; rate = a; slack = b; tags = listed.tags } ∷ [];
             itags = listed.itags;
           }) in r in
-          faults_bind P (file_of text x.sources file) (λ bytes. rate_of rate >>= λ a. slack_of slack >>= λ b. tags_of text n x.itags tags >>= λ l. made bytes a b l)
+          faults_bind P (file_of text x.sources file)
+          (λ bytes. rate_of rate >>= λ a. slack_of slack >>= λ b. tags_of text n x.itags tags >>= λ l. made bytes a b l)
           (file_faults x.sources file)
           (λ bytes. faults_bind P (rate_of rate) (λ a. slack_of slack >>= λ b. tags_of text n x.itags tags >>= λ l. made bytes a b l) (rate_faults rate)
           (λ a. faults_bind P (slack_of slack) (λ b. tags_of text n x.itags tags >>= λ l. made bytes a b l) (slack_faults slack)
@@ -370,7 +377,8 @@ module _ (P : JobFault → Type 0) (plain : Plain P) where
 
     room_faults : {A : Type 0} (what : What) (most count : ℕ) (x : A) → IsOfWritten what → FaultsAre P (room what most count >> Ok x)
     room_faults what most count x is =
-        faults_then P (room what most count) (Ok x) (fault_unless P (nat_lt count most) (f.OverLimit what (most + 1)) (plain.limit what (most + 1) is)) (no_fault P x)
+        faults_then P (room what most count) (Ok x) (fault_unless P (nat_lt count most) (f.OverLimit what (most + 1)) (plain.limit what (most + 1) is))
+        (no_fault P x)
 
     declare_faults : (n : Naming) (y : Declaration) → FaultsAre P (declare text n y)
     unfolding declare with_family with_kind with_source
@@ -399,8 +407,10 @@ module _ (P : JobFault → Type 0) (plain : Plain P) where
     pub resolved_faults : (job : WrittenJob) → FaultsAre P (resolved text job)
     unfolding resolved
     resolved_faults job =
-        faults_bind P (naming_of text job.declarations) (λ n. version_of job.version >>= λ version. draft_of text n job.declarations >>= λ x. Ok (job_with version n x))
+        faults_bind P (naming_of text job.declarations) (λ n. version_of job.version >>= λ version. draft_of text n job.declarations >>= λ x. Ok
+        (job_with version n x))
         (faults_each P (declare text) declare_faults no_names job.declarations)
-        (λ n. faults_bind P (version_of job.version) (λ version. draft_of text n job.declarations >>= λ x. Ok (job_with version n x)) (version_faults job.version)
+        (λ n. faults_bind P (version_of job.version) (λ version. draft_of text n job.declarations >>= λ x. Ok (job_with version n x))
+        (version_faults job.version)
         (λ version. faults_bind P (draft_of text n job.declarations) (λ x. Ok (job_with version n x)) (draft_faults text n twice job.declarations)
         (λ x. no_fault P (job_with version n x))))

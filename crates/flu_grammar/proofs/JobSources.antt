@@ -451,8 +451,18 @@ module _ (text : List ℕ) (n : Naming) (kinds : List DeclaredKind) (knows : Kno
         sources = d.sources ++ record { name = name_of text v.name; file = s.file; rate = s.rate; slack = s.slack; tags = listed.tags } ∷ [];
         itags = listed.itags;
       })) listed (with_one_source d s) (tags_found (record { tags = []; itags = d.itags }) v.tags s.tags is.tags is.apart few)
-      (ok_ok (record d { sources = d.sources ++ record { name = name_of text v.name; file = s.file; rate = s.rate; slack = s.slack;
-        tags = s.tags } ∷ []; itags = d.itags + total part_count s.tags })
+      (ok_ok (record d {
+        sources = d.sources ++ record {
+          name = name_of text v.name;
+          file = s.file;
+          rate = s.rate;
+          slack = s.slack;
+          tags = s.tags;
+        } ∷ [];
+        itags = d.itags + total part_count s.tags;
+      })
       (with_one_source d s)
-      (λ i. record d { sources = d.sources ++ record { name = sym is.name i; file = s.file; rate = s.rate; slack = s.slack; tags = s.tags } ∷ [];
-        itags = d.itags + total part_count s.tags })))))
+      (λ i. record d {
+        sources = d.sources ++ record { name = sym is.name i; file = s.file; rate = s.rate; slack = s.slack; tags = s.tags } ∷ [];
+        itags = d.itags + total part_count s.tags;
+      })))))

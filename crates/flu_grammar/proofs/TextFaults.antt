@@ -1,5 +1,5 @@
 -- The faults of bytes, tokens and grammar: each comes where its rule is broken, and nowhere else.
-use Rattle.std.proofs.Common.{◌≡◌, ◌⊎◌, inl, inr, ℕ, ◌<◌, ◌≤◌, Bool, true, false, cond, List, [], ◌∷◌, length, Ok, Err, refl, sym, ap, subst, ◌∙◌, arith}
+use Rattle.std.proofs.Common.{◌≡◌, ◌⊎◌, inl, inr, ℕ, ◌<◌, ◌≤◌, Bool, true, false, cond, List, length, Ok, Err, refl, sym, ap, subst, ◌∙◌, arith}
 use Rattle.std.specs.Prelude.{Result, nat_le}
 use Rattle.std.specs.Str.{IsUtf8, is_utf8}
 use Rattle.std.specs.Str.Lossy.{utf8_valid_len}
@@ -7,7 +7,6 @@ use Rattle.std.proofs.lemmas.Grind.{common_steps}
 use Rattle.std.proofs.lemmas.Str.{IsUtf8-from_is_utf8, is_utf8-from_IsUtf8}
 use Rattle.flu_lemmas.specs.Loops.{◌>>=◌, ◌>>◌}
 use Rattle.flu_lemmas.proofs.Tests.{true_le, le_true, false_if_not, not_both}
-use Rattle.flu_model.specs.declared.limits.What.{What}
 use Rattle.flu_model.specs.declared.limits.What.TheVariants.{Bytes, Nesting}
 use Rattle.flu_model.specs.Erasure.{Job}
 use Rattle.flu_text.specs.declared.words.Token.{Token}
@@ -24,7 +23,7 @@ use Rattle.flu_parse.specs.Resolving.{resolved}
 use Rattle.flu_parse.specs.Reading.{text_in, found_tokens, tokens_in, found_job, written_in, job_in}
 use Rattle.flu_grammar.specs.Texts.{IsShortText}
 use Rattle.flu_grammar.specs.Faults.{BytesAreTooMany, BytesAreNotUtf8, NoTokenBegins, IsNotContinued, UnexpectedIsNotContinued}
-use Rattle.flu_grammar.proofs.Looks.{ok_same, passes, binds}
+use Rattle.flu_grammar.proofs.Looks.{ok_same, passes}
 use Rattle.flu_grammar.proofs.FaultKinds.{IsOfWritten, Plain, resolved_faults}
 
 -- ---- where a fault comes from
@@ -202,7 +201,8 @@ too_many bytes count h =
 behind_length : (bytes : List ℕ) (e : JobFault) → length bytes ≤ 1048576 → (text_in bytes >>= λ text. the_rest text) ≡ Err e → job_in bytes ≡ Err e
 unfolding job_in
 behind_length bytes e few h =
-    ap (λ c. cond {A = Found (Unit {0})} c (Ok tt) (Err (f.OverLimit Bytes 1048577)) >> (text_in bytes >>= λ text. the_rest text)) (le_true (length bytes) 1048576 few) ∙ h
+    ap (λ c. cond {A = Found (Unit {0})} c (Ok tt) (Err (f.OverLimit Bytes 1048577)) >> (text_in bytes >>= λ text. the_rest text)) (le_true
+    (length bytes) 1048576 few) ∙ h
 
 not_utf8 : (bytes : List ℕ) (at : ℕ) → (length bytes ≤ 1048576) × (IsUtf8 bytes → ⊥) × (at ≡ utf8_valid_len bytes) → job_in bytes ≡ Err (f.BadUtf8 at)
 not_utf8 bytes at h =

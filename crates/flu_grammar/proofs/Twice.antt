@@ -1,22 +1,14 @@
 -- A name that is told to be named twice was named before, by its rule.
-use Rattle.std.proofs.Common.{◌≡◌, ◌⊎◌, inl, inr, ℕ, ◌+◌, ◌<◌, Bool, true, false, cond, List, [], ◌∷◌, ◌++◌, map, length, Option, Some, None, Ok, Err, refl, sym, ap, subst, ◌∙◌, append_assoc, arith}
-use Rattle.std.specs.Prelude.{Result, not, ◌==◌, nat_lt, nat_le, slice_get}
+use Rattle.std.proofs.Common.{◌≡◌, inl, inr, ℕ, ◌+◌, Bool, true, false, List, [], ◌∷◌, ◌++◌, length, Some, Ok, Err, refl, sym, ap, ◌∙◌, arith}
+use Rattle.std.specs.Prelude.{not, ◌==◌, nat_lt, slice_get}
 use Rattle.std.specs.List.{list_any, flat_map, position_or_len}
-use Rattle.flu_lemmas.specs.Items.{Pairs}
-use Rattle.flu_lemmas.specs.Loops.{◌>>=◌, ◌>>◌, each}
+use Rattle.flu_lemmas.specs.Loops.{◌>>=◌, ◌>>◌}
 use Rattle.flu_lemmas.proofs.Tests.{true_eq}
-use Rattle.flu_model.specs.declared.limits.What.TheVariants.{Itags}
 use Rattle.flu_model.specs.declared.jobs.Family.{Family}
-use Rattle.flu_model.specs.declared.jobs.TagRef.{TagRef}
 use Rattle.flu_model.specs.declared.jobs.Source.{Source}
 use Rattle.flu_model.specs.Rules.{is_same_text}
-use Rattle.flu_rules.specs.Keys.{share_tag}
 use Rattle.flu_text.specs.declared.written.WrittenSpan.{WrittenSpan}
-use Rattle.flu_text.specs.declared.written.WrittenNumber.{WrittenNumber}
-use Rattle.flu_syntax.specs.declared.tree.WrittenTag.{WrittenTag}
-use Rattle.flu_syntax.specs.declared.tree.WrittenRelation.{WrittenRelation}
-use Rattle.flu_syntax.specs.Tree.{Action, Declaration, Declarations}
-use Rattle.flu_syntax.specs.Tree as d
+use Rattle.flu_syntax.specs.Tree.{Action, Declarations}
 use Rattle.flu_layout.specs.Spelling.{name_of, inside}
 use Rattle.flu_parse.specs.declared.faults.JobFault.{JobFault}
 use Rattle.flu_parse.specs.declared.faults.JobFault.TheVariants as f
@@ -25,16 +17,15 @@ use Rattle.flu_parse.specs.Faults.{Found, unless}
 use Rattle.flu_parse.specs.Naming.{Naming, kind_of}
 use Rattle.flu_parse.specs.Actions.{resolved_actions}
 use Rattle.flu_parse.specs.Listings.{file_of}
-use Rattle.flu_parse.specs.Resolving.{Drafted, with_actions, with_on, with_declaration}
+use Rattle.flu_parse.specs.Resolving.{Drafted, with_actions, with_on}
 use Rattle.flu_grammar.specs.Means.{IsNamed}
-use Rattle.flu_grammar.specs.Declared.{DeclaredKind, WrittenSource, ons_in, sources_in}
+use Rattle.flu_grammar.specs.Declared.{DeclaredKind, ons_in, sources_in}
 use Rattle.flu_grammar.specs.Faults.{IsOnTwice, IsFileTwice, TwiceNamedIsOnTwice, TwiceNamedIsFileTwice}
 use Rattle.flu_grammar.proofs.Lists.{bytes_is, some_same, met_at, pairs_right}
 use Rattle.flu_grammar.proofs.TextFaults.{fault_from, fault_then}
-use Rattle.flu_grammar.proofs.FaultKinds.{IsOfWritten, Plain, kind_faults, actions_faults}
-use Rattle.flu_grammar.proofs.Heads.{HeadFound}
+use Rattle.flu_grammar.proofs.FaultKinds.{Plain, kind_faults, actions_faults}
 use Rattle.flu_grammar.proofs.JobCells.{KnowFamilies}
-use Rattle.flu_grammar.proofs.JobNames.{kind_name, kind_head, all_families, all_kinds, naming_is}
+use Rattle.flu_grammar.proofs.JobNames.{kind_name, all_families, all_kinds, naming_is}
 use Rattle.flu_grammar.proofs.JobSources.{KnowKinds, kind_is}
 use Rattle.flu_grammar.proofs.JobDrafts.{Drafts, drafts_are}
 use Rattle.flu_grammar.proofs.JobTexts.{know_families, know_kinds}
@@ -54,7 +45,8 @@ module _ (text : List ℕ) (n : Naming) (families : List Family) (kinds : List D
   unfolding with_on
   on_twice kind actions at e =
       elim (fault_from (kind_of text n kind) (λ h. unless (not (list_any (λ g. g == h.number) x.given)) (f.TwiceNamed kind.from)
-      >> (resolved_actions text n h actions >>= λ acts. Ok (record x { kinds = with_actions x.kinds h.number acts; given = x.given ++ h.number ∷ [] }))) (f.TwiceNamed at) e) [
+      >> (resolved_actions text n h actions >>= λ acts. Ok (record x { kinds = with_actions x.kinds h.number acts; given = x.given ++ h.number ∷ [] })))
+      (f.TwiceNamed at) e) [
         | inl unknown ↦ absurd (kind_faults NotTwice not_twice text n kind (f.TwiceNamed at) unknown)
         | inr found ↦
             elim (fault_then (not (list_any (λ g. g == found.0.number) x.given)) (f.TwiceNamed kind.from)
@@ -63,7 +55,8 @@ module _ (text : List ℕ) (n : Naming) (families : List Family) (kinds : List D
               | inl again ↦ given found.0 found.1 (list_any (λ g. g == found.0.number) x.given) refl again.0 again.1
               | inr later ↦
                   elim (fault_from (resolved_actions text n found.0 actions)
-                  (λ acts. Ok (record x { kinds = with_actions x.kinds found.0.number acts; given = x.given ++ found.0.number ∷ [] })) (f.TwiceNamed at) later.1) [
+                  (λ acts. Ok (record x { kinds = with_actions x.kinds found.0.number acts; given = x.given ++ found.0.number ∷ [] }))
+                  (f.TwiceNamed at) later.1) [
                     | inl fault ↦ absurd (actions_faults NotTwice not_twice text n found.0 actions (f.TwiceNamed at) fault)
                     | inr fine ↦ absurd (ok_no_fault fine.2)
                   ]
@@ -73,7 +66,8 @@ module _ (text : List ℕ) (n : Naming) (families : List Family) (kinds : List D
       ok_no_fault : {y : Drafted} → (let r : Found Drafted = Ok y in r) ≡ Err (f.TwiceNamed at) → ⊥
       ok_no_fault e = cc
 
-      given : (h : KindHead) → kind_of text n kind ≡ Ok h → (b : Bool) → list_any (λ g. g == h.number) x.given ≡ b → not b ≡ false → f.TwiceNamed kind.from ≡ f.TwiceNamed at
+      given : (h : KindHead) → kind_of text n kind ≡ Ok h → (b : Bool) → list_any (λ g. g == h.number) x.given ≡ b → not b ≡ false
+          → f.TwiceNamed kind.from ≡ f.TwiceNamed at
           → IsOnTwice text done kind at
       given h is false any bad place = absurd cc
       given h is true any bad place =
@@ -95,7 +89,8 @@ module _ (text : List ℕ) (n : Naming) (families : List Family) (kinds : List D
   pub file_twice : (file : WrittenSpan) (at : ℕ) → file_of text x.sources file ≡ Err (f.TwiceNamed at) → IsFileTwice text done file at
   file_twice file at e =
       elim (fault_then (nat_lt 0 (length (inside text file))) (f.WrongShape file.from)
-      (unless (not (list_any (λ (s : Source). is_same_text (inside text file) s.file) x.sources)) (f.TwiceNamed file.from) >> Ok (inside text file)) (f.TwiceNamed at) e) [
+      (unless (not (list_any (λ (s : Source). is_same_text (inside text file) s.file) x.sources)) (f.TwiceNamed file.from) >> Ok (inside text file))
+      (f.TwiceNamed at) e) [
         | inl empty ↦ absurd (let bad : f.WrongShape file.from ≡ f.TwiceNamed at = empty.1 in cc)
         | inr some ↦
             elim (fault_then (not (list_any (λ (s : Source). is_same_text (inside text file) s.file) x.sources)) (f.TwiceNamed file.from)
@@ -105,7 +100,8 @@ module _ (text : List ℕ) (n : Naming) (families : List Family) (kinds : List D
             ]
       ]
     where
-      read : (b : Bool) → list_any (λ (s : Source). is_same_text (inside text file) s.file) x.sources ≡ b → not b ≡ false → f.TwiceNamed file.from ≡ f.TwiceNamed at
+      read : (b : Bool) → list_any (λ (s : Source). is_same_text (inside text file) s.file) x.sources ≡ b → not b ≡ false
+          → f.TwiceNamed file.from ≡ f.TwiceNamed at
           → IsFileTwice text done file at
       read false any bad place = absurd cc
       read true any bad place =
