@@ -1,0 +1,267 @@
+-- The form of a field that is found is the one that it has, and the other way round.
+use Rattle.std.proofs.Common.{◌≡◌, ℕ, ◌+◌, ◌-◌, ◌<◌, ◌^◌, pos, Bool, true, false, List, [], ◌∷◌, ◌++◌, length, Option, Some, None, inl, inr, refl, sym, ap, subst, ◌∙◌}
+use Rattle.std.specs.Prelude.{nat_lt, nat_le, not, ◌&&◌, if◌then◌else◌, option_map, codes, position, slice_get}
+use Rattle.std.specs.Char.{is_ascii_digit}
+use Rattle.std.specs.List.{list_all}
+use Rattle.std.specs.Str.{bytes_eq}
+use Rattle.std.specs.Str.Parse.{digits_value}
+use Rattle.flu_lemmas.specs.Items.{Pairs}
+use Rattle.flu_lemmas.specs.Spans.{spelled}
+use Rattle.flu_lemmas.proofs.Elements.{fails_at, passes_at}
+use Rattle.flu_lemmas.proofs.Places.{position_passes}
+use Rattle.flu_lemmas.proofs.Prefixes.{chosen, mapped}
+use Rattle.flu_lemmas.proofs.Tests.{and_left, and_right, both, not_true, not_both, false_if_not, true_lt, lt_true, true_eq}
+use Rattle.flu_names.specs.declared.reserved.Reserved.{Reserved}
+use Rattle.flu_names.specs.declared.reserved.Reserved.TheVariants as r
+use Rattle.flu_names.specs.Names.{is_name, is_name_byte, begins_as_name, is_reserved, reserved_spelling, reserved_words}
+use Rattle.flu_model.specs.declared.jobs.Family.{Family}
+use Rattle.flu_model.specs.declared.jobs.Piece.{Piece}
+use Rattle.flu_text.specs.Lexeme.{number_of}
+use Rattle.flu_syntax.specs.declared.tree.WrittenKey.{WrittenKey}
+use Rattle.flu_syntax.specs.declared.tree.WrittenKey.TheVariants as k
+use Rattle.flu_parse.specs.declared.pieces.WrittenPiece.{WrittenPiece}
+use Rattle.flu_parse.specs.declared.pieces.WrittenPiece.TheVariants as w
+use Rattle.flu_parse.specs.Templates.{open_brace, close_brace, is_open_bracket, span, digits_at, key_at, ref_with, ref_at, field_at, braced}
+use Rattle.flu_grammar.specs.Templates.{IsField, field_value, field_key, field_time, field_cell, field_family, field_own, field_fixed, AreCut, cut_none, cut_plain, cut_field, MeansPiece}
+use Rattle.flu_grammar.proofs.Lists.{bytes_itself, bytes_is, some_same}
+use Rattle.flu_grammar.proofs.Cuts.{field_between}
+use Rattle.flu_grammar.proofs.Cuts.{AreCut as IsCut, cut_none as is_none, cut_plain as is_plain, cut_field as is_field}
+
+-- ---- what is found has the form
+
+number_means : (ds : List ℕ) (n : ℕ) → number_of ds ≡ Some n → (digits_value 10 ds ≡ n) × (digits_value 10 ds < 2 ^ 63)
+unfolding number_of
+number_means ds n e =
+    elim (chosen (nat_lt (digits_value 10 ds) (2 ^ 63)) (Some (digits_value 10 ds)) None (Some n) e) [
+      | inl h ↦ (some_same (digits_value 10 ds) n h.1, true_lt (digits_value 10 ds) (2 ^ 63) h.0)
+      | inr h ↦ absurd cc
+    ]
+
+module _ (text : List ℕ) (from to : ℕ) where
+  -- a reference to a cell with something in brackets
+  keyed_means : (i : ℕ) (inner : List ℕ) (q : WrittenPiece) → position is_open_bracket (spelled text from to) ≡ Some i → is_name (spelled text from
+      (from + i)) ≡ true
+      → spelled text (to - 1) to ≡ codes "]" → spelled text (from + i + 1) (to - 1) ≡ inner
+      → option_map (λ key. w.Read (record { family = span from (from + i); key = key })) (key_at inner (from + i + 1)) ≡ Some q → IsField text false from to q
+  unfolding key_at digits_at
+  keyed_means i inner q place named closes is e =
+      let m = mapped (λ key. w.Read (record { family = span from (from + i); key = key })) (key_at inner (from + i + 1)) q e in
+      elim (chosen (bytes_eq inner (codes "key")) (Some (k.OwnKey (from + i + 1))) (digits_at inner (from + i + 1)) (Some m.0) m.1) [
+        | inl h ↦
+            let key : k.OwnKey (from + i + 1) ≡ m.0 = some_same (k.OwnKey (from + i + 1)) m.0 h.1 in
+            subst (λ (x : WrittenPiece). IsField text false from to x) (ap (λ (x : WrittenKey). w.Read (record {
+              family = span from
+                  (from + i);
+              key = x;
+            })) key ∙ m.2)
+            (field_own i refl place named closes (is ∙ bytes_is inner (codes "key") h.0))
+        | inr h ↦ subst (λ (x : WrittenPiece). IsField text false from to x) m.2 (digits inner is m.0 h.1)
+      ]
+    where
+      digits : (ds : List ℕ) → spelled text (from + i + 1) (to - 1) ≡ ds → (key : WrittenKey) → digits_at ds (from + i + 1) ≡ Some key
+          → IsField text false from to (w.Read (record { family = span from (from + i); key = key }))
+      digits [] is key e = absurd cc
+      digits (b ∷ bs) is key e =
+          elim (chosen (list_all is_ascii_digit (b ∷ bs)) (option_map (λ n. k.Fixed (record { value = pos n; at = from + i + 1 })) (number_of
+          (b ∷ bs))) None (Some key) e) [
+            | inl h ↦
+                let m = mapped (λ n. k.Fixed (record { value = pos n; at = from + i + 1 })) (number_of (b ∷ bs)) key h.1 in
+                let number = number_means (b ∷ bs) m.0 m.1 in
+                let same : k.Fixed (record { value = pos (digits_value 10 (b ∷ bs)); at = from + i + 1 }) ≡ key =
+                ap (λ (n : ℕ). k.Fixed (record { value = pos n; at = from + i + 1 })) number.0 ∙ m.2 in
+                subst (λ (x : WrittenKey). IsField text false from to (w.Read (record { family = span from (from + i); key = x }))) same
+                (field_fixed i b bs refl place named closes is h.0 number.1)
+            | inr h ↦ absurd cc
+          ]
+
+  ref_means : (o : Option ℕ) (q : WrittenPiece) → position is_open_bracket (spelled text from to) ≡ o → ref_with text from to o ≡ Some q
+      → IsField text false from to q
+  unfolding ref_with
+  ref_means None q place e =
+      let read : WrittenPiece = w.Read (record { family = span from to; key = k.Alone }) in
+      elim (chosen (is_name (spelled text from to)) (Some read) None (Some q) e) [
+        | inl h ↦ subst (λ (x : WrittenPiece). IsField text false from to x) (some_same read q h.1) (field_family refl h.0)
+        | inr h ↦ absurd cc
+      ]
+  ref_means (Some i) q place e =
+      let inner = spelled text (from + i + 1) (to - 1) in
+      elim (chosen (is_name (spelled text from (from + i)) && bytes_eq (spelled text (to - 1) to) (codes "]"))
+      (option_map (λ key. w.Read (record { family = span from (from + i); key = key })) (key_at inner (from + i + 1))) None (Some q) e) [
+        | inl h ↦
+            keyed_means i inner q place (and_left (is_name (spelled text from (from + i))) (bytes_eq (spelled text (to - 1) to) (codes "]")) h.0)
+            (bytes_is (spelled text (to - 1) to) (codes "]") (and_right (is_name (spelled text from (from + i))) (bytes_eq (spelled text (to - 1) to)
+            (codes "]")) h.0))
+            refl h.1
+        | inr h ↦ absurd cc
+      ]
+
+  by_tests : (a b c in_flush e : Bool) (q : WrittenPiece) → bytes_eq (spelled text from to) (codes "value") ≡ a → bytes_eq (spelled text from to)
+      (codes "key") ≡ b
+      → bytes_eq (spelled text from to) (codes "time") ≡ c → bytes_eq (spelled text from to) (codes "cell") ≡ e
+      → (if a then Some w.Value else if b then Some w.Key else if c then Some w.Time else if in_flush then
+      (if e then Some w.CellValue else None) else ref_at text from to)
+      ≡ Some q → IsField text in_flush from to q
+  by_tests true b c in_flush e q ea eb ec ee h =
+      subst (λ (x : WrittenPiece). IsField text in_flush from to x) (some_same w.Value q h) (field_value (bytes_is (spelled text from to) (codes "value") ea))
+  by_tests false true c in_flush e q ea eb ec ee h =
+      subst (λ (x : WrittenPiece). IsField text in_flush from to x) (some_same w.Key q h) (field_key (bytes_is (spelled text from to) (codes "key") eb))
+  by_tests false false true in_flush e q ea eb ec ee h =
+      subst (λ (x : WrittenPiece). IsField text in_flush from to x) (some_same w.Time q h) (field_time (bytes_is (spelled text from to) (codes "time") ec))
+  by_tests false false false true true q ea eb ec ee h =
+      subst (λ (x : WrittenPiece). IsField text true from to x) (some_same w.CellValue q h) (field_cell refl (bytes_is (spelled text from to) (codes "cell") ee))
+  by_tests false false false true false q ea eb ec ee h = absurd cc
+  by_tests false false false false e q ea eb ec ee h = ref_means (position is_open_bracket (spelled text from to)) q refl h
+
+  pub field_means : (in_flush : Bool) (q : WrittenPiece) → field_at text in_flush from to ≡ Some q → IsField text in_flush from to q
+  unfolding field_at
+  field_means in_flush q e =
+      by_tests (bytes_eq (spelled text from to) (codes "value")) (bytes_eq (spelled text from to) (codes "key")) (bytes_eq (spelled text from to)
+      (codes "time")) in_flush
+      (bytes_eq (spelled text from to) (codes "cell")) q refl refl refl refl e
+
+-- ---- what has the form is found
+
+abbrev field_with : List ℕ → Bool → ℕ → ℕ → List ℕ → Option WrittenPiece
+field_with text in_flush from to bytes =
+    if bytes_eq bytes (codes "value") then Some w.Value
+    else if bytes_eq bytes (codes "key") then Some w.Key
+    else if bytes_eq bytes (codes "time") then Some w.Time
+    else if in_flush then (if bytes_eq bytes (codes "cell") then Some w.CellValue else None)
+    else ref_at text from to
+
+spelled_so : (text : List ℕ) (in_flush : Bool) (from to : ℕ) (bytes : List ℕ) → spelled text from to ≡ bytes
+    → field_at text in_flush from to ≡ field_with text in_flush from to bytes
+unfolding field_at
+spelled_so text in_flush from to bytes e = ap (field_with text in_flush from to) e
+
+-- a name is no reserved word
+not_reserved : (n : List ℕ) (word : Reserved) (i : ℕ) → is_name n ≡ true → slice_get reserved_words i ≡ Some word → bytes_eq n (reserved_spelling word) ≡ false
+not_reserved n word i named found =
+    let free = and_right (begins_as_name n && list_all is_name_byte n && nat_le (length n) 32) (not (is_reserved n)) named in
+    let other = fails_at (λ (x : Reserved). bytes_eq (reserved_spelling x) n) reserved_words i word (not_true (is_reserved n) free) found in
+    false_if_not (bytes_eq n (reserved_spelling word)) (λ e.
+    not_both (bytes_eq (reserved_spelling word) n)
+    (subst (λ (x : List ℕ). bytes_eq (reserved_spelling word) x ≡ true) (sym (bytes_is n (reserved_spelling word) e)) (bytes_itself
+    (reserved_spelling word))) other)
+
+-- and has no bracket
+no_bracket : (n : List ℕ) → is_name n ≡ true → position is_open_bracket n ≡ None
+no_bracket n named = by (position is_open_bracket n) refl
+  where
+    front : (begins_as_name n && list_all is_name_byte n && nat_le (length n) 32) ≡ true
+    front = and_left (begins_as_name n && list_all is_name_byte n && nat_le (length n) 32) (not (is_reserved n)) named
+
+    bytes : list_all is_name_byte n ≡ true
+    bytes = and_right (begins_as_name n) (list_all is_name_byte n) (and_left (begins_as_name n && list_all is_name_byte n) (nat_le (length n) 32) front)
+
+    by : (o : Option ℕ) → position is_open_bracket n ≡ o → position is_open_bracket n ≡ None
+    by None e = e
+    by (Some i) e =
+        let at = position_passes is_open_bracket n i e in
+        let byte = passes_at is_name_byte n i at.0 bytes at.1 in
+        let is : at.0 ≡ 91 = true_eq at.0 91 at.2 in
+        let bad : false ≡ true = sym (ap is_name_byte is) ∙ byte in
+        absurd cc
+
+-- what has a bracket is none of the words without one
+not_word : (n word : List ℕ) (i : ℕ) → position is_open_bracket n ≡ Some i → position is_open_bracket word ≡ None → bytes_eq n word ≡ false
+not_word n word i there none =
+    false_if_not (bytes_eq n word) (λ e. (let bad : None ≡ Some i = sym none ∙ ap (position is_open_bracket) (sym (bytes_is n word e)) ∙ there in cc))
+
+-- where the word is none of the three, it is a reference in an emit
+is_reference : (text : List ℕ) (from to : ℕ) → bytes_eq (spelled text from to) (codes "value") ≡ false → bytes_eq (spelled text from to) (codes "key") ≡ false
+    → bytes_eq (spelled text from to) (codes "time") ≡ false → field_at text false from to ≡ ref_at text from to
+unfolding field_at
+is_reference text from to a b c =
+    ap (λ t. if t then Some w.Value else if bytes_eq (spelled text from to) (codes "key") then Some w.Key else if bytes_eq (spelled text from to)
+    (codes "time") then Some w.Time else ref_at text from to) a
+    ∙ ap (λ t. if t then Some w.Key else if bytes_eq (spelled text from to) (codes "time") then Some w.Time else ref_at text from to) b
+    ∙ ap (λ t. if t then Some w.Time else ref_at text from to) c
+
+bracketed : (text : List ℕ) (from to i : ℕ) → position is_open_bracket (spelled text from to) ≡ Some i → field_at text false from to ≡ ref_at text from to
+bracketed text from to i place =
+    is_reference text from to (not_word (spelled text from to) (codes "value") i place refl) (not_word (spelled text from to) (codes "key") i place refl)
+    (not_word (spelled text from to) (codes "time") i place refl)
+
+keyed_found : (text : List ℕ) (from to i : ℕ) (key : WrittenKey) → position is_open_bracket (spelled text from to) ≡ Some i
+    → is_name (spelled text from (from + i)) ≡ true → spelled text (to - 1) to ≡ codes "]"
+    → key_at (spelled text (from + i + 1) (to - 1)) (from + i + 1) ≡ Some key
+    → field_at text false from to ≡ Some (w.Read (record { family = span from (from + i); key = key }))
+unfolding ref_with
+keyed_found text from to i key place named closes is =
+    let made = option_map (λ key. w.Read (record { family = span from (from + i); key = key })) (key_at (spelled text (from + i + 1) (to - 1)) (from + i + 1)) in
+    bracketed text from to i place
+    ∙ ap (ref_with text from to) place
+    ∙ ap (λ t. if t then made else None) (both (is_name (spelled text from (from + i))) (bytes_eq (spelled text (to - 1) to) (codes "]")) named
+    (subst (λ (x : List ℕ). bytes_eq x (codes "]") ≡ true) (sym closes) refl))
+    ∙ ap (option_map (λ key. w.Read (record { family = span from (from + i); key = key }))) is
+
+digits_found : (b at : ℕ) (bs : List ℕ) → list_all is_ascii_digit (b ∷ bs) ≡ true → digits_value 10 (b ∷ bs) < 2 ^ 63
+    → key_at (b ∷ bs) at ≡ Some (k.Fixed (record { value = pos (digits_value 10 (b ∷ bs)); at = at }))
+unfolding key_at digits_at number_of
+digits_found b at bs digits small =
+    let other : bytes_eq (b ∷ bs) (codes "key") ≡ false = false_if_not (bytes_eq (b ∷ bs) (codes "key")) (λ e. not_both (list_all is_ascii_digit (b ∷ bs)) digits
+    (ap (list_all is_ascii_digit) (bytes_is (b ∷ bs) (codes "key") e))) in
+    let read = option_map (λ n. k.Fixed (record { value = pos n; at = at })) (number_of (b ∷ bs)) in
+    ap (λ t. if t then Some (k.OwnKey at) else if list_all is_ascii_digit (b ∷ bs) then read else None) other
+    ∙ ap (λ t. if t then read else None) digits
+    ∙ ap (λ t. option_map (λ n. k.Fixed (record { value = pos n; at = at })) (if t then Some (digits_value 10 (b ∷ bs)) else None))
+    (lt_true (digits_value 10 (b ∷ bs)) (2 ^ 63) small)
+
+own_found : (at : ℕ) → key_at (codes "key") at ≡ Some (k.OwnKey at)
+unfolding key_at
+own_found at = refl
+
+in_emit : (text : List ℕ) (in_flush : Bool) (from to : ℕ) (q : WrittenPiece) → in_flush ≡ false → field_at text false from to ≡ Some q
+    → field_at text in_flush from to ≡ Some q
+in_emit text in_flush from to q e found = ap (λ b. field_at text b from to) e ∙ found
+
+pub field_found : {text : List ℕ} {in_flush : Bool} {from to : ℕ} {q : WrittenPiece} → IsField text in_flush from to q → field_at text in_flush from to ≡ Some q
+unfolding ref_with
+field_found {text} {in_flush} {from} {to} (field_value e) = spelled_so text in_flush from to (codes "value") e
+field_found {text} {in_flush} {from} {to} (field_key e) = spelled_so text in_flush from to (codes "key") e
+field_found {text} {in_flush} {from} {to} (field_time e) = spelled_so text in_flush from to (codes "time") e
+field_found {text} {in_flush} {from} {to} (field_cell flush e) =
+    spelled_so text in_flush from to (codes "cell") e ∙ ap (λ b. if b then Some w.CellValue else ref_at text from to) flush
+field_found {text} {in_flush} {from} {to} (field_family emit named) =
+    in_emit text in_flush from to (w.Read (record { family = span from to; key = k.Alone })) emit
+    (is_reference text from to (not_reserved (spelled text from to) r.Value 21 named refl) (not_reserved (spelled text from to) r.Key 22 named refl)
+    (not_reserved (spelled text from to) r.Time 23 named refl)
+    ∙ ap (ref_with text from to) (no_bracket (spelled text from to) named)
+    ∙ ap (λ t. if t then Some (w.Read (record { family = span from to; key = k.Alone })) else None) named)
+field_found {text} {in_flush} {from} {to} (field_own i emit place named closes is) =
+    in_emit text in_flush from to (w.Read (record { family = span from (from + i); key = k.OwnKey (from + i + 1) })) emit
+    (keyed_found text from to i (k.OwnKey (from + i + 1)) place named closes (ap (λ (x : List ℕ). key_at x (from + i + 1)) is ∙ own_found (from + i + 1)))
+field_found {text} {in_flush} {from} {to} (field_fixed i b bs emit place named closes is digits small) =
+    let key : WrittenKey = k.Fixed (record { value = pos (digits_value 10 (b ∷ bs)); at = from + i + 1 }) in
+    in_emit text in_flush from to (w.Read (record { family = span from (from + i); key = key })) emit
+    (keyed_found text from to i key place named closes (ap (λ (x : List ℕ). key_at x (from + i + 1)) is ∙ digits_found b (from + i + 1) bs digits small))
+
+-- ---- templates
+
+-- where each piece means something, each field has a form
+pub formed : {text : List ℕ} {in_flush first : Bool} {at : ℕ} {bytes : List ℕ} {qs : List WrittenPiece} → IsCut (field_between text in_flush) first at bytes qs
+    → (families : List Family) (keyed has_value : Bool) (ps : List Piece) → Pairs (MeansPiece text families keyed has_value in_flush) qs ps
+    → AreCut text in_flush first at bytes qs
+formed (is_none first at) families keyed has_value ps h = cut_none first at
+formed (is_plain at b more rest qs plain cut) families keyed has_value [] h = absurd h
+formed (is_plain at b more rest qs plain cut) families keyed has_value (p ∷ ps) h = cut_plain at b more rest qs plain
+    (formed cut families keyed has_value ps h.1)
+formed (is_field first at word rest qs plain cut) families keyed has_value [] h = absurd h
+formed {text} {in_flush} (is_field first at word rest qs plain cut) families keyed has_value (p ∷ ps) h =
+    cut_field first at word rest (field_between text in_flush (at + 1) (at + 1 + length word)) qs plain
+    (by (field_at text in_flush (at + 1) (at + 1 + length word)) refl h.0) (formed cut families keyed has_value ps h.1)
+  where
+    by : (o : Option WrittenPiece) → field_at text in_flush (at + 1) (at + 1 + length word) ≡ o → MeansPiece text families keyed has_value in_flush (braced o) p
+        → IsField text in_flush (at + 1) (at + 1 + length word) (braced o)
+    by None e means = absurd means
+    by (Some q) e means = field_means text (at + 1) (at + 1 + length word) in_flush q e
+
+pub told : {text : List ℕ} {in_flush first : Bool} {at : ℕ} {bytes : List ℕ} {qs : List WrittenPiece} → AreCut text in_flush first at bytes qs
+    → IsCut (field_between text in_flush) first at bytes qs
+told (cut_none first at) = is_none first at
+told (cut_plain at b more rest qs plain cut) = is_plain at b more rest qs plain (told cut)
+told {text} {in_flush} (cut_field first at word rest field qs plain form cut) =
+    subst (λ (x : WrittenPiece). IsCut (field_between text in_flush) first at (open_brace ∷ (word ++ close_brace ∷ rest)) (x ∷ qs)) (ap braced
+    (field_found form))
+    (is_field first at word rest qs plain (told cut))

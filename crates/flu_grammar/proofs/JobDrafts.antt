@@ -1,0 +1,311 @@
+-- The declarations of a job, looked at in order: what is found of them is what they mean, and the other way round.
+use Rattle.std.proofs.Common.{◌≡◌, ℕ, zero, suc, ◌+◌, ◌≤◌, Bool, true, false, List, [], ◌∷◌, ◌++◌, map, length, Option, Some, Ok, refl, sym, ap, subst, ◌∙◌, append_assoc, arith}
+use Rattle.std.specs.Prelude.{not, ◌==◌, slice_get, if◌then◌else◌}
+use Rattle.std.specs.List.{list_any, flat_map}
+use Rattle.std.specs.Str.{bytes_eq}
+use Rattle.std.proofs.lemmas.List.{append-nil, map-append}
+use Rattle.flu_lemmas.specs.Items.{Pairs}
+use Rattle.flu_lemmas.specs.Totals.{total}
+use Rattle.flu_lemmas.proofs.Elements.{fails_at}
+use Rattle.flu_lemmas.proofs.Loops.{bind_ok}
+use Rattle.flu_lemmas.proofs.Searches.{eq_true}
+use Rattle.flu_lemmas.proofs.Tests.{not_true, not_both, false_if_not}
+use Rattle.flu_lemmas.proofs.Totals.{total-append}
+use Rattle.flu_model.specs.declared.jobs.Family.{Family}
+use Rattle.flu_model.specs.declared.jobs.Source.{Source}
+use Rattle.flu_model.specs.Erasure.{PlainAction, PlainKind}
+use Rattle.flu_model.specs.Rules.{is_same_text}
+use Rattle.flu_text.specs.declared.written.WrittenSpan.{WrittenSpan}
+use Rattle.flu_text.specs.declared.written.WrittenNumber.{WrittenNumber}
+use Rattle.flu_syntax.specs.declared.tree.WrittenTag.{WrittenTag}
+use Rattle.flu_syntax.specs.declared.tree.WrittenRelation.{WrittenRelation}
+use Rattle.flu_syntax.specs.Tree.{Action, Declaration, Declarations}
+use Rattle.flu_syntax.specs.Tree as d
+use Rattle.flu_layout.specs.Spelling.{name_of}
+use Rattle.flu_parse.specs.declared.faults.JobFault.TheVariants as f
+use Rattle.flu_parse.specs.declared.names.KindHead.{KindHead}
+use Rattle.flu_parse.specs.Faults.{◌>>=◌, ◌>>◌, unless, each}
+use Rattle.flu_parse.specs.Naming.{Naming, kind_of}
+use Rattle.flu_parse.specs.Actions.{resolved_actions}
+use Rattle.flu_parse.specs.Resolving.{Drafted, with_depend, with_actions, with_on, with_source, with_declaration, idle_kind, first_draft, draft_of}
+use Rattle.flu_grammar.specs.Means.{AllDiffer, IsNamed}
+use Rattle.flu_grammar.specs.Actions.{MeansAction}
+use Rattle.flu_grammar.specs.Declared.{DeclaredKind, WrittenDepend, WrittenSource, depends_in, ons_in, actions_in, sources_in}
+use Rattle.flu_grammar.specs.Sources.{MeansDepend, MeansSource}
+use Rattle.flu_grammar.specs.Jobs.{MeansDeclaredKind}
+use Rattle.flu_grammar.proofs.Lists.{bytes_itself, bytes_is, some_same, get_map, get_unmap, differ_none, differ_tail, differ_head, differ_push, pairs_left, pairs_push}
+use Rattle.flu_grammar.proofs.Looks.{ok_same, passed}
+use Rattle.flu_grammar.proofs.Heads.{heads}
+use Rattle.flu_grammar.proofs.JobCells.{KnowFamilies}
+use Rattle.flu_grammar.proofs.JobActions.{actions_mean}
+use Rattle.flu_grammar.proofs.JobNames.{kind_name, kind_head, grown, unchanged}
+use Rattle.flu_grammar.proofs.JobSources.{KnowKinds, kind_is, depend_is, part_count, with_one_depend, with_one_source, source_is}
+
+-- how many itags some sources list
+abbrev pub itag_count : List Source → ℕ
+itag_count ss = total (λ (s : Source). total part_count s.tags) ss
+
+module _ (text : List ℕ) where
+  -- where no `on` is of a name, no actions are
+  pub no_actions : (name : List ℕ) (ds : Declarations) → ((i : ℕ) → slice_get (flat_map (ons_in text) ds) i ≡ Some name → ⊥) → flat_map
+      (actions_in text name) ds ≡ []
+  no_actions name [] none = refl
+  no_actions name (d.Cell s keyed sort ∷ ds) none = no_actions name ds none
+  no_actions name (d.Tag s keyed has_value ∷ ds) none = no_actions name ds none
+  no_actions name (d.Depends a b relation ∷ ds) none = no_actions name ds none
+  no_actions name (d.Source s file rate slack tags ∷ ds) none = no_actions name ds none
+  no_actions name (d.On kind actions ∷ ds) none =
+      let other : bytes_eq (name_of text kind) name ≡ false = false_if_not (bytes_eq (name_of text kind) name)
+      (λ same. none 0 (ap (λ (n : List ℕ). Some n) (bytes_is (name_of text kind) name same))) in
+      ap (λ b. (if b then actions else []) ++ flat_map (actions_in text name) ds) other ∙ no_actions name ds (λ i e. none (suc i) e)
+
+  pub chosen : (b : Bool) (kind : WrittenSpan) (name : List ℕ) (actions : List Action) → bytes_eq (name_of text kind) name ≡ b
+      → actions_in text name (d.On kind actions) ≡ (if b then actions else [])
+  chosen b kind name actions e = ap (λ c. if c then actions else []) e
+
+module _ (text : List ℕ) (n : Naming) (families : List Family) (kinds : List DeclaredKind) (know : KnowFamilies n families) (knows : KnowKinds n kinds) where
+  abbrev Kind : Declarations → DeclaredKind → PlainKind → Type 0
+  Kind done k p = MeansDeclaredKind text families done k p
+
+  abbrev IsGiven : List ℕ → ℕ → Type 0
+  IsGiven name number = IsNamed kind_name kinds name number
+
+  -- what is drafted is what these declarations mean
+  pub record Drafts (done : Declarations) (x : Drafted) : Type 0 where
+    pub kinds_are : Pairs (Kind done) kinds x.kinds
+    pub given : Pairs IsGiven (flat_map (ons_in text) done) x.given
+    pub own_ons : AllDiffer (flat_map (ons_in text) done)
+    pub depends : Pairs (MeansDepend text kinds) (flat_map depends_in done) x.depends
+    pub sources : Pairs (MeansSource text kinds) (flat_map sources_in done) x.sources
+    pub own_files : AllDiffer (map (λ (s : Source). s.file) x.sources)
+    pub itags : x.itags ≡ itag_count x.sources
+    pub few_itags : x.itags ≤ 256
+
+  -- ---- a declaration that has no actions of a kind
+
+  kind_kept : (done : Declarations) (x : Declaration) (k : DeclaredKind) (p : PlainKind) → actions_in text k.name x ≡ [] → Kind done k p → Kind
+      (done ++ x ∷ []) k p
+  kind_kept done x k p none is = record {
+    name = is.name;
+    keyed = is.keyed;
+    has_value = is.has_value;
+    actions =
+        subst (λ (l : List Action). Pairs (MeansAction text families k.keyed k.has_value) l p.actions) (unchanged text
+        (actions_in text k.name) done x none) is.actions;
+    few_actions = is.few_actions;
+  }
+
+  kinds_kept : (done : Declarations) (x : Declaration) (ks : List DeclaredKind) (ps : List PlainKind)
+      → ((i : ℕ) (k : DeclaredKind) → slice_get ks i ≡ Some k → actions_in text k.name x ≡ []) → Pairs (Kind done) ks ps → Pairs (Kind (done ++ x ∷ [])) ks ps
+  kinds_kept done x [] [] none h = tt
+  kinds_kept done x [] (p ∷ ps) none h = absurd h
+  kinds_kept done x (k ∷ ks) [] none h = absurd h
+  kinds_kept done x (k ∷ ks) (p ∷ ps) none h = (kind_kept done x k p (none 0 k refl) h.0, kinds_kept done x ks ps (λ i c e. none (suc i) c e) h.1)
+
+  -- ---- an `on`
+
+  other_kind : (kind : WrittenSpan) (actions : List Action) (k : DeclaredKind) → (name_of text kind ≡ k.name → ⊥) → actions_in text k.name
+      (d.On kind actions) ≡ []
+  other_kind kind actions k other =
+      chosen text false kind k.name actions (false_if_not (bytes_eq (name_of text kind) k.name) (λ same. other (bytes_is (name_of text kind) k.name same)))
+
+  kind_on : (done : Declarations) (kind : WrittenSpan) (actions : List Action) (k : DeclaredKind) (p : PlainKind) (acts : List PlainAction)
+      → name_of text kind ≡ k.name
+      → flat_map (actions_in text k.name) done ≡ [] → Kind done k p → Pairs (MeansAction text families k.keyed k.has_value) actions acts → length acts ≤ 32
+      → Kind (done ++ d.On kind actions ∷ []) k (record p { actions = acts })
+  kind_on done kind actions k p acts named none is means few =
+      let all : flat_map (actions_in text k.name) (done ++ d.On kind actions ∷ []) ≡ actions =
+      grown text (actions_in text k.name) done (d.On kind actions) ∙ ap (λ l. l ++ actions_in text k.name (d.On kind actions)) none
+      ∙ chosen text true kind k.name actions (subst (λ (x : List ℕ). bytes_eq (name_of text kind) x ≡ true) named (bytes_itself (name_of text kind))) in record {
+        name = is.name;
+        keyed = is.keyed;
+        has_value = is.has_value;
+        actions = subst (λ (l : List Action). Pairs (MeansAction text families k.keyed k.has_value) l acts) (sym all) means;
+        few_actions = few;
+      }
+
+  kinds_on : (done : Declarations) (kind : WrittenSpan) (actions : List Action) (acts : List PlainAction) (ks : List DeclaredKind) (ps : List PlainKind)
+      (number : ℕ)
+      (k : DeclaredKind) → AllDiffer (map kind_name ks) → slice_get ks number ≡ Some k → name_of text kind ≡ k.name → flat_map (actions_in text k.name) done ≡ []
+      → Pairs (MeansAction text families k.keyed k.has_value) actions acts → length acts ≤ 32 → Pairs (Kind done) ks ps
+      → Pairs (Kind (done ++ d.On kind actions ∷ [])) ks (with_actions ps number acts)
+  kinds_on done kind actions acts [] ps number k own here named none means few h = absurd cc
+  kinds_on done kind actions acts (c ∷ ks) [] number k own here named none means few h = absurd h
+  kinds_on done kind actions acts (c ∷ ks) (p ∷ ps) zero k own here named none means few h =
+      let same : k ≡ c = sym (some_same c k here) in
+      let first = subst (λ (x : DeclaredKind). Kind done x p → Kind (done ++ d.On kind actions ∷ []) x (record p { actions = acts })) same
+      (λ is. kind_on done kind actions k p acts named none is means few) h.0 in
+      let rest = kinds_kept done (d.On kind actions) ks ps (λ i x at. other_kind kind actions x (λ is. differ_head (kind_name c) (map kind_name ks) own i
+      (get_map kind_name ks i x at ∙ ap (λ (z : List ℕ). Some z) (sym is ∙ named ∙ ap (λ (z : DeclaredKind). z.name) same)))) h.1 in
+      (first, rest)
+  kinds_on done kind actions acts (c ∷ ks) (p ∷ ps) (suc number) k own here named none means few h =
+      let other : name_of text kind ≡ c.name → ⊥ = λ is. differ_head (kind_name c) (map kind_name ks) own number
+      (get_map kind_name ks number k here ∙ ap (λ (z : List ℕ). Some z) (sym named ∙ is)) in (
+        kind_kept done (d.On kind actions) c p (other_kind kind actions c other) h.0,
+        kinds_on done kind actions acts ks ps number k (differ_tail (kind_name c) (map kind_name ks) own) here named none means few h.1,
+      )
+
+  one_number : (name : List ℕ) (i j : ℕ) → IsGiven name i → IsGiven name j → i ≡ j
+  one_number name i j a b =
+      knows.differ i j name (get_map kind_name kinds i a.0 a.1 ∙ ap (λ (z : List ℕ). Some z) a.2) (get_map kind_name kinds j b.0 b.1 ∙ ap (λ
+      (z : List ℕ). Some z) b.2)
+
+  on_next : (done : Declarations) (x more : Drafted) (kind : WrittenSpan) (actions : List Action) → Drafts done x → with_on text n x kind actions ≡ Ok more
+      → Drafts (done ++ d.On kind actions ∷ []) more
+  unfolding with_on
+  on_next done x more kind actions is e =
+      let on = d.On kind actions in
+      let name = name_of text kind in
+      let one = bind_ok (kind_of text n kind) (λ h. unless (not (list_any (λ g. g == h.number) x.given)) (f.TwiceNamed kind.from)
+      >> (resolved_actions text n h actions >>= λ acts. Ok
+      (record x { kinds = with_actions x.kinds h.number acts; given = x.given ++ h.number ∷ [] }))) more e in
+      let h = one.0 in
+      let two = passed (not (list_any (λ g. g == h.number) x.given)) (f.TwiceNamed kind.from)
+      (resolved_actions text n h actions >>= λ acts. Ok
+      (record x { kinds = with_actions x.kinds h.number acts; given = x.given ++ h.number ∷ [] })) more one.2 in
+      let three = bind_ok (resolved_actions text n h actions)
+      (λ acts. Ok (record x { kinds = with_actions x.kinds h.number acts; given = x.given ++ h.number ∷ [] })) more two.1 in
+      let acts = three.0 in
+      let head = kind_is text n kinds knows kind h one.1 in
+      let k = head.declared in
+      let zero_more : head.place ≡ 0 + head.place = omega arith in
+      let number : head.place ≡ h.number = zero_more ∙ ap (λ (z : KindHead). z.number) head.is in
+      let here : slice_get kinds h.number ≡ Some k = ap (slice_get kinds) (sym number) ∙ head.here in
+      let given : IsGiven name h.number = (k, here, head.named) in
+      let not_given = not_true (list_any (λ g. g == h.number) x.given) two.0 in
+      let new : (i : ℕ) → slice_get (flat_map (ons_in text) done) i ≡ Some name → ⊥ = λ i at. (
+      let got = pairs_left IsGiven (flat_map (ons_in text) done) x.given is.given i name at in
+      let same : got.0 ≡ h.number = one_number name got.0 h.number got.2 given in
+      not_both (got.0 == h.number) (eq_true got.0 h.number same) (fails_at (λ g. g == h.number) x.given i got.0 not_given got.1)) in
+      let none : flat_map (actions_in text k.name) done ≡ [] = no_actions text k.name done (λ i at. new i (at ∙ ap (λ (z : List ℕ). Some z) head.named)) in
+      let means = actions_mean text n families know h actions acts three.1 in
+      let keyed : h.keyed ≡ k.keyed = ap (λ (z : KindHead). z.keyed) (sym head.is) in
+      let has_value : h.has_value ≡ k.has_value = ap (λ (z : KindHead). z.has_value) (sym head.is) in
+      let acts_mean : Pairs (MeansAction text families k.keyed k.has_value) actions acts =
+      subst (λ (b : Bool). Pairs (MeansAction text families b k.has_value) actions acts) keyed
+      (subst (λ (b : Bool). Pairs (MeansAction text families h.keyed b) actions acts) has_value means.0) in
+      let drafts : Drafts (done ++ on ∷ []) (record x { kinds = with_actions x.kinds h.number acts; given = x.given ++ h.number ∷ [] }) = record {
+        kinds_are = kinds_on done kind actions acts kinds x.kinds h.number k knows.differ here (sym head.named) none acts_mean means.1 is.kinds_are;
+        given =
+            subst (λ (l : List (List ℕ)). Pairs IsGiven l (x.given ++ h.number ∷ [])) (sym (grown text (ons_in text) done on))
+            (pairs_push IsGiven (flat_map (ons_in text) done) x.given name h.number is.given given);
+        own_ons = subst (λ (l : List (List ℕ)). AllDiffer l) (sym (grown text (ons_in text) done on)) (differ_push (flat_map
+            (ons_in text) done) name new is.own_ons);
+        depends = subst (λ (l : List WrittenDepend). Pairs (MeansDepend text kinds) l x.depends) (unchanged text depends_in done on refl) is.depends;
+        sources = subst (λ (l : List WrittenSource). Pairs (MeansSource text kinds) l x.sources) (unchanged text sources_in done on refl) is.sources;
+        own_files = is.own_files;
+        itags = is.itags;
+        few_itags = is.few_itags;
+      } in
+      subst (λ (z : Drafted). Drafts (done ++ on ∷ []) z)
+      (ok_same (record x { kinds = with_actions x.kinds h.number acts; given = x.given ++ h.number ∷ [] }) more three.2) drafts
+
+  -- ---- the others
+
+  -- a declaration of a name
+  nothing_next : (done : Declarations) (x : Drafted) (y : Declaration) → ((name : List ℕ) → actions_in text name y ≡ []) → ons_in text y ≡ [] → depends_in y ≡ []
+      → sources_in y ≡ [] → Drafts done x → Drafts (done ++ y ∷ []) x
+  nothing_next done x y no_acts no_on no_depend no_source is = record {
+    kinds_are = kinds_kept done y kinds x.kinds (λ i k at. no_acts k.name) is.kinds_are;
+    given = subst (λ (l : List (List ℕ)). Pairs IsGiven l x.given) (unchanged text (ons_in text) done y no_on) is.given;
+    own_ons = subst (λ (l : List (List ℕ)). AllDiffer l) (unchanged text (ons_in text) done y no_on) is.own_ons;
+    depends = subst (λ (l : List WrittenDepend). Pairs (MeansDepend text kinds) l x.depends) (unchanged text depends_in done y no_depend) is.depends;
+    sources = subst (λ (l : List WrittenSource). Pairs (MeansSource text kinds) l x.sources) (unchanged text sources_in done y no_source) is.sources;
+    own_files = is.own_files;
+    itags = is.itags;
+    few_itags = is.few_itags;
+  }
+
+  depend_next : (done : Declarations) (x more : Drafted) (a b : WrittenSpan) (relation : WrittenRelation) → Drafts done x
+      → with_depend text n x a b relation ≡ Ok more
+      → Drafts (done ++ d.Depends a b relation ∷ []) more
+  depend_next done x more a b relation is e =
+      let y = d.Depends a b relation in
+      let v : WrittenDepend = record { a = a; b = b; relation = relation } in
+      let one = depend_is text n kinds knows x a b relation more e in
+      let drafts : Drafts (done ++ y ∷ []) (with_one_depend text n kinds knows x one.0) = record {
+        kinds_are = kinds_kept done y kinds x.kinds (λ i k at. refl) is.kinds_are;
+        given = subst (λ (l : List (List ℕ)). Pairs IsGiven l x.given) (unchanged text (ons_in text) done y refl) is.given;
+        own_ons = subst (λ (l : List (List ℕ)). AllDiffer l) (unchanged text (ons_in text) done y refl) is.own_ons;
+        depends =
+            subst (λ (l : List WrittenDepend). Pairs (MeansDepend text kinds) l (x.depends ++ one.0 ∷ [])) (sym (grown text depends_in done y))
+            (pairs_push (MeansDepend text kinds) (flat_map depends_in done) x.depends v one.0 is.depends one.1);
+        sources = subst (λ (l : List WrittenSource). Pairs (MeansSource text kinds) l x.sources) (unchanged text sources_in done y refl) is.sources;
+        own_files = is.own_files;
+        itags = is.itags;
+        few_itags = is.few_itags;
+      } in
+      subst (λ (z : Drafted). Drafts (done ++ y ∷ []) z) one.2 drafts
+
+  file_new : (ss : List Source) (s : Source) → list_any (λ (z : Source). is_same_text s.file z.file) ss ≡ false → AllDiffer (map (λ (z : Source). z.file) ss)
+      → AllDiffer (map (λ (z : Source). z.file) (ss ++ s ∷ []))
+  file_new ss s new own =
+      subst (λ (l : List (List ℕ)). AllDiffer l) (sym (map-append (λ (z : Source). z.file) ss (s ∷ [])))
+      (differ_push (map (λ (z : Source). z.file) ss) s.file (λ i at. (
+      let got = get_unmap (λ (z : Source). z.file) ss i s.file at in
+      not_both (is_same_text s.file (got.0).file) (subst (λ (z : List ℕ). is_same_text s.file z ≡ true) (sym got.2) (bytes_itself s.file))
+      (fails_at (λ (z : Source). is_same_text s.file z.file) ss i got.0 new got.1))) own)
+
+  source_next : (done : Declarations) (x more : Drafted) (name file : WrittenSpan) (rate slack : Option WrittenNumber) (tags : List WrittenTag) → Drafts done x
+      → with_source text n x name file rate slack tags ≡ Ok more → Drafts (done ++ d.Source name file rate slack tags ∷ []) more
+  source_next done x more name file rate slack tags is e =
+      let y = d.Source name file rate slack tags in
+      let v : WrittenSource = record { name = name; file = file; rate = rate; slack = slack; tags = tags } in
+      let one = source_is text n kinds knows x v more e in
+      let s = one.source in
+      let count = total-append (λ (z : Source). total part_count z.tags) x.sources (s ∷ []) in
+      let before = is.itags in
+      let drafts : Drafts (done ++ y ∷ []) (with_one_source text n kinds knows x s) = record {
+        kinds_are = kinds_kept done y kinds x.kinds (λ i k at. refl) is.kinds_are;
+        given = subst (λ (l : List (List ℕ)). Pairs IsGiven l x.given) (unchanged text (ons_in text) done y refl) is.given;
+        own_ons = subst (λ (l : List (List ℕ)). AllDiffer l) (unchanged text (ons_in text) done y refl) is.own_ons;
+        depends = subst (λ (l : List WrittenDepend). Pairs (MeansDepend text kinds) l x.depends) (unchanged text depends_in done y refl) is.depends;
+        sources =
+            subst (λ (l : List WrittenSource). Pairs (MeansSource text kinds) l (x.sources ++ s ∷ [])) (sym (grown text sources_in done y))
+            (pairs_push (MeansSource text kinds) (flat_map sources_in done) x.sources v s is.sources one.means);
+        own_files = file_new x.sources s one.own_file is.own_files;
+        itags = omega (arith, count, before);
+        few_itags = one.few is.few_itags;
+      } in
+      subst (λ (z : Drafted). Drafts (done ++ y ∷ []) z) one.is drafts
+
+  pub drafts_next : (done : Declarations) (x more : Drafted) (y : Declaration) → Drafts done x → with_declaration text n x y ≡ Ok more → Drafts
+      (done ++ y ∷ []) more
+  unfolding with_declaration
+  drafts_next done x more (d.Cell s keyed sort) is e =
+      subst (λ (z : Drafted). Drafts (done ++ d.Cell s keyed sort ∷ []) z) (ok_same x more e) (nothing_next done x (d.Cell s keyed sort)
+      (λ name. refl) refl refl refl is)
+  drafts_next done x more (d.Tag s keyed has_value) is e =
+      subst (λ (z : Drafted). Drafts (done ++ d.Tag s keyed has_value ∷ []) z) (ok_same x more e) (nothing_next done x (d.Tag s keyed has_value)
+      (λ name. refl) refl refl refl is)
+  drafts_next done x more (d.Depends a b relation) is e = depend_next done x more a b relation is e
+  drafts_next done x more (d.On kind actions) is e = on_next done x more kind actions is e
+  drafts_next done x more (d.Source name file rate slack tags) is e = source_next done x more name file rate slack tags is e
+
+  pub drafts_all : (done ds : Declarations) (x more : Drafted) → Drafts done x → each (with_declaration text n) x ds ≡ Ok more → Drafts (done ++ ds) more
+  unfolding each
+  drafts_all done [] x more is e =
+      subst (λ (l : Declarations). Drafts l more) (sym (append-nil done)) (subst (λ (z : Drafted). Drafts done z) (ok_same x more e) is)
+  drafts_all done (y ∷ ds) x more is e =
+      let one = bind_ok (with_declaration text n x y) (λ t. each (with_declaration text n) t ds) more e in
+      subst (λ (l : Declarations). Drafts l more) (append_assoc done (y ∷ []) ds)
+      (drafts_all (done ++ y ∷ []) ds one.0 more (drafts_next done x one.0 y is one.1) one.2)
+
+  idle : (i : ℕ) (ks : List DeclaredKind) → Pairs (Kind []) ks (map idle_kind (heads kind_name kind_head i ks))
+  idle i [] = tt
+  idle i (k ∷ ks) = (record { name = refl; keyed = refl; has_value = refl; actions = tt; few_actions = omega arith }, idle (i + 1) ks)
+
+  pub first_drafts : Drafts [] (first_draft n)
+  first_drafts = record {
+    kinds_are = subst (λ (l : List (List ℕ × KindHead)). Pairs (Kind []) kinds (map idle_kind l)) (sym knows.heads_are) (idle 0 kinds);
+    given = tt;
+    own_ons = differ_none;
+    depends = tt;
+    sources = tt;
+    own_files = differ_none;
+    itags = refl;
+    few_itags = omega arith;
+  }
+
+  pub drafts_are : (ds : Declarations) (x : Drafted) → draft_of text n ds ≡ Ok x → Drafts ds x
+  drafts_are ds x e = drafts_all [] ds (first_draft n) x first_drafts e

@@ -1,0 +1,242 @@
+-- A job that is written is found: each declaration passes, and what is found is the job.
+use Rattle.std.proofs.Common.{◌≡◌, ℕ, suc, ◌+◌, ◌≤◌, true, false, List, [], ◌∷◌, ◌++◌, map, length, Option, Some, None, Ok, refl, sym, ap, subst, ◌∙◌, append_assoc, arith}
+use Rattle.std.specs.Prelude.{not, ◌==◌, slice_get}
+use Rattle.std.specs.List.{list_any, flat_map}
+use Rattle.std.specs.Str.{bytes_eq}
+use Rattle.std.proofs.lemmas.List.{append-nil, map-append}
+use Rattle.flu_lemmas.specs.Items.{Pairs}
+use Rattle.flu_lemmas.specs.Totals.{total}
+use Rattle.flu_lemmas.proofs.Places.{slice_get-behind}
+use Rattle.flu_lemmas.proofs.Tests.{false_if_not, true_eq}
+use Rattle.flu_lemmas.proofs.Totals.{total-append}
+use Rattle.flu_model.specs.declared.jobs.Family.{Family}
+use Rattle.flu_model.specs.declared.jobs.Depend.{Depend}
+use Rattle.flu_model.specs.declared.jobs.TagRef.{TagRef}
+use Rattle.flu_model.specs.declared.jobs.Source.{Source}
+use Rattle.flu_model.specs.Erasure.{PlainKind}
+use Rattle.flu_model.specs.Rules.{is_same_text}
+use Rattle.flu_text.specs.declared.written.WrittenSpan.{WrittenSpan}
+use Rattle.flu_text.specs.declared.written.WrittenNumber.{WrittenNumber}
+use Rattle.flu_syntax.specs.declared.tree.WrittenTag.{WrittenTag}
+use Rattle.flu_syntax.specs.Tree.{Action, Declaration, Declarations}
+use Rattle.flu_syntax.specs.Tree as d
+use Rattle.flu_layout.specs.Spelling.{name_of}
+use Rattle.flu_parse.specs.declared.faults.JobFault.TheVariants as f
+use Rattle.flu_parse.specs.Faults.{◌>>=◌, ◌>>◌, unless, each}
+use Rattle.flu_parse.specs.Naming.{Naming, kind_of}
+use Rattle.flu_parse.specs.Actions.{resolved_actions}
+use Rattle.flu_parse.specs.Resolving.{Drafted, with_depend, with_actions, with_on, with_source, with_declaration, first_draft, draft_of}
+use Rattle.flu_grammar.specs.Means.{AllDiffer, IsNamed}
+use Rattle.flu_grammar.specs.Actions.{MeansAction}
+use Rattle.flu_grammar.specs.Declared.{DeclaredKind, WrittenDepend, WrittenSource, depends_in, ons_in, actions_in, sources_in}
+use Rattle.flu_grammar.specs.Sources.{MeansKind, MeansDepend, MeansTag, MeansNumber, MeansSource}
+use Rattle.flu_grammar.specs.Jobs.{MeansDeclaredKind}
+use Rattle.flu_grammar.proofs.Lists.{bytes_itself, bytes_is, some_same, get_behind, get_front, get_below, get_map, any_none, pairs_left, pairs_right, pairs_split, pairs_same}
+use Rattle.flu_grammar.proofs.Looks.{ok_same, passes, binds}
+use Rattle.flu_grammar.proofs.JobCells.{KnowFamilies}
+use Rattle.flu_grammar.proofs.JobActions.{actions_found}
+use Rattle.flu_grammar.proofs.JobNames.{kind_name, kind_head, split_more}
+use Rattle.flu_grammar.proofs.JobSources.{KnowKinds, kind_found, keys_found, depend_found, part_count, with_one_depend, with_one_source, source_found}
+use Rattle.flu_grammar.proofs.JobDrafts.{itag_count, no_actions, chosen, Drafts, first_drafts, drafts_next, drafts_all}
+
+module _ (text : List ℕ) (n : Naming) (families : List Family) (kinds : List DeclaredKind) (know : KnowFamilies n families) (knows : KnowKinds n kinds) where
+  -- the parts of a job that declarations mean
+  pub record Aim (all : Declarations) (job_kinds : List PlainKind) (depends : List Depend) (sources : List Source) : Type 0 where
+    pub kinds_are : Pairs (MeansDeclaredKind text families all) kinds job_kinds
+    pub known_ons : (i : ℕ) (name : List ℕ) → slice_get (flat_map (ons_in text) all) i ≡ Some name → (number : ℕ) × IsNamed kind_name kinds name number
+    pub own_ons : AllDiffer (flat_map (ons_in text) all)
+    pub depends_are : Pairs (MeansDepend text kinds) (flat_map depends_in all) depends
+    pub sources_are : Pairs (MeansSource text kinds) (flat_map sources_in all) sources
+    pub own_files : AllDiffer (map (λ (s : Source). s.file) sources)
+    pub few_itags : itag_count sources ≤ 256
+
+  -- ---- what is meant is one thing
+
+  kind_same : (s : WrittenSpan) (i j : ℕ) → MeansKind text kinds s i → MeansKind text kinds s j → i ≡ j
+  kind_same s i j a b =
+      knows.differ i j (name_of text s) (get_map kind_name kinds i a.kind a.here ∙ ap (λ (z : List ℕ). Some z) a.name)
+      (get_map kind_name kinds j b.kind b.here ∙ ap (λ (z : List ℕ). Some z) b.name)
+
+  tag_same : (v : WrittenTag) (a b : TagRef) → MeansTag text kinds v a → MeansTag text kinds v b → a ≡ b
+  tag_same v a b x y =
+      let number = kind_same v.kind a.kind b.kind x.kind y.kind in
+      let one = (keys_found x.kind.kind.keyed v.keys a.keys x.keys).2 in
+      let two = (keys_found y.kind.kind.keyed v.keys b.keys y.keys).2 in
+      let same : a.keys ≡ b.keys = sym one ∙ two in
+      λ i. record { kind = number i; keys = same i }
+
+  number_same : (default most : ℕ) (o : Option WrittenNumber) (a b : ℕ) → MeansNumber default most o a → MeansNumber default most o b → a ≡ b
+  number_same default most None a b x y = x ∙ sym y
+  number_same default most (Some v) a b x y = x.0 ∙ sym y.0
+
+  source_same : (v : WrittenSource) (a b : Source) → MeansSource text kinds v a → MeansSource text kinds v b → a ≡ b
+  source_same v a b x y =
+      let tags = pairs_same (MeansTag text kinds) tag_same v.tags a.tags b.tags x.tags y.tags in
+      let rate = number_same 1 1000000000 v.rate a.rate b.rate x.rate y.rate in
+      let slack = number_same 0 60000 v.slack a.slack b.slack x.slack y.slack in
+      let name : a.name ≡ b.name = x.name ∙ sym y.name in
+      let file : a.file ≡ b.file = x.file ∙ sym y.file in
+      λ i. record { name = name i; file = file i; rate = rate i; slack = slack i; tags = tags i }
+
+  no_draft : Drafted
+  no_draft = record { kinds = []; given = []; depends = []; sources = []; itags = 0 }
+
+  depend_same : (v : WrittenDepend) (a b : Depend) → MeansDepend text kinds v a → MeansDepend text kinds v b → a ≡ b
+  unfolding no_draft
+  depend_same v a b x y =
+      let one = depend_found text n kinds knows no_draft v a x in
+      let two = depend_found text n kinds knows no_draft v b y in
+      let same = ok_same (with_one_depend text n kinds knows no_draft a) (with_one_depend text n kinds knows no_draft b) (sym one ∙ two) in
+      let lists : a ∷ [] ≡ b ∷ [] = ap (λ (z : Drafted). z.depends) same in
+      (cc)
+
+  kind_is_same : (all : Declarations) (k : DeclaredKind) (p q : PlainKind) → MeansDeclaredKind text families all k p
+      → MeansDeclaredKind text families all k q → p ≡ q
+  kind_is_same all k p q x y =
+      let ws = flat_map (actions_in text k.name) all in
+      let one = actions_found text n families know (kind_head 0 k) ws p.actions x.actions x.few_actions in
+      let two = actions_found text n families know (kind_head 0 k) ws q.actions y.actions y.few_actions in
+      let acts : p.actions ≡ q.actions = ok_same p.actions q.actions (sym one ∙ two) in
+      let name : p.name ≡ q.name = x.name ∙ sym y.name in
+      let keyed : p.keyed ≡ q.keyed = x.keyed ∙ sym y.keyed in
+      let has_value : p.has_value ≡ q.has_value = x.has_value ∙ sym y.has_value in
+      λ i. record { name = name i; keyed = keyed i; has_value = has_value i; actions = acts i }
+
+  -- ---- each declaration passes
+
+  module _ (done rest : Declarations) (x : Drafted) (drafts : Drafts text n families kinds know knows done x) where
+    depend_passes : (a b : WrittenSpan) (relation : _) (job_kinds : List PlainKind) (depends : List Depend) (sources : List Source)
+        → Aim (done ++ d.Depends a b relation ∷ rest) job_kinds depends sources → (more : Drafted) × (with_depend text n x a b relation ≡ Ok more)
+    depend_passes a b relation job_kinds depends sources aim =
+        let v : WrittenDepend = record { a = a; b = b; relation = relation } in
+        let split = pairs_split (MeansDepend text kinds) (flat_map depends_in done) v (flat_map depends_in rest) depends
+        (subst (λ (l : List WrittenDepend). Pairs (MeansDepend text kinds) l depends) (split_more text depends_in done rest
+        (d.Depends a b relation)) aim.depends_are) in
+        (with_one_depend text n kinds knows x split.one, depend_found text n kinds knows x v split.one split.here)
+
+    source_passes : (v : WrittenSource) (job_kinds : List PlainKind) (depends : List Depend) (sources : List Source)
+        → Aim (done ++ d.Source v.name v.file v.rate v.slack v.tags ∷ rest) job_kinds depends sources
+        → (more : Drafted) × (with_source text n x v.name v.file v.rate v.slack v.tags ≡ Ok more)
+    source_passes v job_kinds depends sources aim =
+        let split = pairs_split (MeansSource text kinds) (flat_map sources_in done) v (flat_map sources_in rest) sources
+        (subst (λ (l : List WrittenSource). Pairs (MeansSource text kinds) l sources)
+        (split_more text sources_in done rest (d.Source v.name v.file v.rate v.slack v.tags)) aim.sources_are) in
+        let s = split.one in
+        let front : x.sources ≡ split.front = pairs_same (MeansSource text kinds) source_same
+        (flat_map sources_in done) x.sources split.front drafts.sources split.left in
+        let whole : sources ≡ x.sources ++ s ∷ split.back = split.is ∙ ap (λ (l : List Source). l ++ s ∷ split.back) (sym front) in
+        let file = λ (z : Source). z.file in
+        let files : AllDiffer (map (λ (z : Source). z.file) x.sources ++ s.file ∷ map (λ (z : Source). z.file) split.back) =
+        subst (λ (l : List (List ℕ)). AllDiffer l) (ap (map (λ (z : Source). z.file)) whole ∙ map-append (λ (z : Source). z.file) x.sources
+        (s ∷ split.back)) aim.own_files in
+        let new : list_any (λ (z : Source). is_same_text s.file z.file) x.sources ≡ false = any_none (λ (z : Source). is_same_text s.file z.file) x.sources
+        (λ i z at.
+        false_if_not (is_same_text s.file z.file) (λ same. (
+        let here = get_map (λ (y : Source). y.file) x.sources i z at in
+        let place : i ≡ length (map (λ (y : Source). y.file) x.sources) = files i (length (map (λ (y : Source). y.file) x.sources)) s.file
+        (get_front (map (λ (y : Source). y.file) x.sources) (s.file ∷ map (λ (y : Source). y.file) split.back) i z.file here
+        ∙ ap (λ (l : List ℕ). Some l) (sym (bytes_is s.file z.file same)))
+        (slice_get-behind (map (λ (y : Source). y.file) x.sources) s.file (map (λ (y : Source). y.file) split.back)) in
+        let below = get_below (map (λ (y : Source). y.file) x.sources) i z.file here in
+        omega (arith, place, below)))) in
+        let all = ap itag_count whole in
+        let parts = total-append (λ (z : Source). total part_count z.tags) x.sources (s ∷ split.back) in
+        let most = aim.few_itags in
+        let before = drafts.itags in
+        (with_one_source text n kinds knows x s, source_found text n kinds knows x v s split.here new (omega (arith, all, parts, most, before)))
+
+    on_passes : (kind : WrittenSpan) (actions : List Action) (job_kinds : List PlainKind) (depends : List Depend) (sources : List Source)
+        → Aim (done ++ d.On kind actions ∷ rest) job_kinds depends sources → (more : Drafted) × (with_on text n x kind actions ≡ Ok more)
+    unfolding with_on
+    on_passes kind actions job_kinds depends sources aim =
+        let all = done ++ d.On kind actions ∷ rest in
+        let name = name_of text kind in
+        let front = flat_map (ons_in text) done in
+        let back = flat_map (ons_in text) rest in
+        let ons : flat_map (ons_in text) all ≡ front ++ name ∷ back = split_more text (ons_in text) done rest (d.On kind actions) in
+        let own : AllDiffer (front ++ name ∷ back) = subst (λ (l : List (List ℕ)). AllDiffer l) ons aim.own_ons in
+        let known = aim.known_ons (length front) name (ap (λ (l : List (List ℕ)). slice_get l (length front)) ons ∙ slice_get-behind front name back) in
+        let number = known.0 in
+        let k = known.1.0 in
+        let h = kind_head number k in
+        let before : (i : ℕ) → slice_get front i ≡ Some name → ⊥ = λ i at. (
+        let place : i ≡ length front = own i (length front) name (get_front front (name ∷ back) i name at) (slice_get-behind front name back) in
+        let below = get_below front i name at in
+        omega (arith, place, below)) in
+        let behind : (i : ℕ) → slice_get back i ≡ Some name → ⊥ = λ i at. (
+        let place : length front ≡ length front + suc i = own (length front) (length front + suc i) name (slice_get-behind front name back)
+        (get_behind front (name ∷ back) (suc i) name at) in
+        omega (arith, place)) in
+        let new : list_any (λ g. g == number) x.given ≡ false = any_none (λ g. g == number) x.given (λ i g at. false_if_not (g == number) (λ same. (
+        let got = pairs_right (λ (z : List ℕ) (m : ℕ). IsNamed kind_name kinds z m) front x.given drafts.given i g at in
+        let is : g ≡ number = true_eq g number same in
+        let kind_at : got.2.0 ≡ k = some_same got.2.0 k (sym got.2.1 ∙ ap (slice_get kinds) is ∙ known.1.1) in
+        let named : got.0 ≡ name = sym got.2.2 ∙ ap (λ (z : DeclaredKind). z.name) kind_at ∙ known.1.2 in
+        before i (got.1 ∙ ap (λ (z : List ℕ). Some z) named)))) in
+        let job_kind = pairs_left (MeansDeclaredKind text families all) kinds job_kinds aim.kinds_are number k known.1.1 in
+        let is = job_kind.2 in
+        let named : name ≡ k.name = sym known.1.2 in
+        let only : flat_map (actions_in text k.name) all ≡ actions =
+        split_more text (actions_in text k.name) done rest (d.On kind actions)
+        ∙ ap (λ (l : List Action). l ++ (actions_in text k.name (d.On kind actions) ++ flat_map (actions_in text k.name) rest))
+        (no_actions text k.name done (λ i at. before i (at ∙ ap (λ (z : List ℕ). Some z) (sym named))))
+        ∙ ap (λ (l : List Action). l ++ flat_map (actions_in text k.name) rest)
+        (chosen text true kind k.name actions (subst (λ (z : List ℕ). bytes_eq name z ≡ true) named (bytes_itself name)))
+        ∙ ap (λ (l : List Action). actions ++ l) (no_actions text k.name rest (λ i at. behind i (at ∙ ap (λ (z : List ℕ). Some z) (sym named))))
+        ∙ append-nil actions in
+        let found : resolved_actions text n h actions ≡ Ok (job_kind.0).actions = actions_found text n families know h actions (job_kind.0).actions
+        (subst (λ (l : List Action). Pairs (MeansAction text families k.keyed k.has_value) l (job_kind.0).actions) only is.actions) is.few_actions in
+        let more : Drafted = record x { kinds = with_actions x.kinds number (job_kind.0).actions; given = x.given ++ number ∷ [] } in (
+          more,
+          binds (kind_of text n kind) (λ h. unless (not (list_any (λ g. g == h.number) x.given)) (f.TwiceNamed kind.from)
+              >> (resolved_actions text n h actions >>= λ acts. Ok
+              (record x { kinds = with_actions x.kinds h.number acts; given = x.given ++ h.number ∷ [] }))) h more
+              (kind_found text n kinds knows kind number k known.1.1 known.1.2)
+              (passes (not (list_any (λ g. g == number) x.given)) (f.TwiceNamed kind.from)
+              (resolved_actions text n h actions >>= λ acts. Ok
+              (record x { kinds = with_actions x.kinds number acts; given = x.given ++ number ∷ [] })) more (ap not new)
+              (ap (λ z. z >>= λ acts. Ok (record x { kinds = with_actions x.kinds number acts; given = x.given ++ number ∷ [] })) found)),
+        )
+
+    declaration_passes : (y : Declaration) (job_kinds : List PlainKind) (depends : List Depend) (sources : List Source) → Aim
+        (done ++ y ∷ rest) job_kinds depends sources
+        → (more : Drafted) × (with_declaration text n x y ≡ Ok more)
+    unfolding with_declaration
+    declaration_passes (d.Cell s keyed sort) job_kinds depends sources aim = (x, refl)
+    declaration_passes (d.Tag s keyed has_value) job_kinds depends sources aim = (x, refl)
+    declaration_passes (d.Depends a b relation) job_kinds depends sources aim = depend_passes a b relation job_kinds depends sources aim
+    declaration_passes (d.On kind actions) job_kinds depends sources aim = on_passes kind actions job_kinds depends sources aim
+    declaration_passes (d.Source name file rate slack tags) job_kinds depends sources aim =
+        source_passes (record { name = name; file = file; rate = rate; slack = slack; tags = tags }) job_kinds depends sources aim
+
+  all_pass : (done ds : Declarations) (x : Drafted) (job_kinds : List PlainKind) (depends : List Depend) (sources : List Source) → Aim
+      (done ++ ds) job_kinds depends sources
+      → Drafts text n families kinds know knows done x → (more : Drafted) × (each (with_declaration text n) x ds ≡ Ok more)
+  unfolding each
+  all_pass done [] x job_kinds depends sources aim drafts = (x, refl)
+  all_pass done (y ∷ ds) x job_kinds depends sources aim drafts =
+      let one = declaration_passes done ds x drafts y job_kinds depends sources aim in
+      let next = drafts_next text n families kinds know knows done x one.0 y drafts one.1 in
+      let more = all_pass (done ++ y ∷ []) ds one.0 job_kinds depends sources
+      (subst (λ (l : Declarations). Aim l job_kinds depends sources) (sym (append_assoc done (y ∷ []) ds)) aim) next in
+      (more.0, binds (with_declaration text n x y) (λ t. each (with_declaration text n) t ds) one.0 more.0 one.1 more.1)
+
+  -- what is found of all declarations is the job
+  pub record IsDrafted (ds : Declarations) (job_kinds : List PlainKind) (depends : List Depend) (sources : List Source) : Type 0 where
+    pub draft : Drafted
+    pub found : draft_of text n ds ≡ Ok draft
+    pub kinds_are : draft.kinds ≡ job_kinds
+    pub depends_are : draft.depends ≡ depends
+    pub sources_are : draft.sources ≡ sources
+
+  pub drafted : (ds : Declarations) (job_kinds : List PlainKind) (depends : List Depend) (sources : List Source) → Aim ds job_kinds depends sources
+      → IsDrafted ds job_kinds depends sources
+  drafted ds job_kinds depends sources aim =
+      let got = all_pass [] ds (first_draft n) job_kinds depends sources aim (first_drafts text n families kinds know knows) in
+      let is = drafts_all text n families kinds know knows [] ds (first_draft n) got.0 (first_drafts text n families kinds know knows) got.1 in record {
+        draft = got.0;
+        found = got.1;
+        kinds_are = pairs_same (MeansDeclaredKind text families ds) (kind_is_same ds) kinds got.0.kinds job_kinds is.kinds_are aim.kinds_are;
+        depends_are = pairs_same (MeansDepend text kinds) depend_same (flat_map depends_in ds) got.0.depends depends is.depends aim.depends_are;
+        sources_are = pairs_same (MeansSource text kinds) source_same (flat_map sources_in ds) got.0.sources sources is.sources aim.sources_are;
+      }

@@ -1,0 +1,157 @@
+-- Templates that are found are what they mean, and the other way round.
+use Rattle.std.proofs.Common.{◌≡◌, ℕ, Bool, true, List, [], ◌∷◌, Some, None, Ok, refl, sym, ap, subst, ◌∙◌}
+use Rattle.std.specs.Prelude.{◌&&◌}
+use Rattle.std.specs.List.{list_all}
+use Rattle.flu_lemmas.specs.Items.{Pairs}
+use Rattle.flu_lemmas.proofs.Loops.{bind_ok, then_ok}
+use Rattle.flu_lemmas.proofs.Tests.{and_left, and_right, both}
+use Rattle.flu_model.specs.declared.jobs.Family.{Family}
+use Rattle.flu_model.specs.declared.jobs.At.{At}
+use Rattle.flu_model.specs.declared.jobs.At.TheVariants as at
+use Rattle.flu_model.specs.declared.jobs.Piece.{Piece}
+use Rattle.flu_model.specs.declared.jobs.Piece.TheVariants as piece
+use Rattle.flu_text.specs.declared.written.WrittenSpan.{WrittenSpan}
+use Rattle.flu_syntax.specs.declared.tree.WrittenKey.{WrittenKey}
+use Rattle.flu_syntax.specs.declared.tree.WrittenKey.TheVariants as k
+use Rattle.flu_layout.specs.Spelling.{name_of}
+use Rattle.flu_parse.specs.declared.faults.JobFault.TheVariants as f
+use Rattle.flu_parse.specs.declared.names.KindHead.{KindHead}
+use Rattle.flu_parse.specs.declared.pieces.WrittenPiece.{WrittenPiece}
+use Rattle.flu_parse.specs.declared.pieces.WrittenPiece.TheVariants as w
+use Rattle.flu_parse.specs.Faults.{◌>>=◌, ◌>>◌, unless, each}
+use Rattle.flu_parse.specs.Naming.{Naming, look_up, known}
+use Rattle.flu_parse.specs.Cells.{brackets_fit, at_of}
+use Rattle.flu_parse.specs.Templates.{Template, template_at, known_name, known_names, own_key_fits, read_fits, piece_fits, piece_of, pieces_of, template_of}
+use Rattle.flu_grammar.specs.Cells.{MeansKey}
+use Rattle.flu_grammar.specs.Templates.{MeansPiece, MeansTemplate}
+use Rattle.flu_grammar.proofs.Looks.{ok_same, ok_ok, passed, passes, binds, thens, Finds, found_each, finds_each}
+use Rattle.flu_grammar.proofs.Heads.{looked_up}
+use Rattle.flu_grammar.proofs.Cuts.{template_cut, cut_template}
+use Rattle.flu_grammar.proofs.Fields.{formed, told}
+use Rattle.flu_grammar.proofs.JobCells.{family_name, family_head, KnowFamilies, known_is, at_means, at_found, look_up_found, cell_from}
+
+module _ (text : List ℕ) (n : Naming) (families : List Family) (knows : KnowFamilies n families) (under : KindHead) (in_flush : Bool) where
+  abbrev Means : WrittenPiece → Piece → Type 0
+  Means q p = MeansPiece text families under.keyed under.has_value in_flush q p
+
+  piece_means : (place : ℕ) (q : WrittenPiece) (p : Piece) → piece_fits text n under in_flush q ≡ true → piece_of text n under place q ≡ Ok p → Means q p
+  unfolding piece_of
+  piece_means place (w.Plain s) p fits e = subst (λ (x : Piece). Means (w.Plain s) x) (ok_same (piece.Plain (name_of text s)) p e) refl
+  piece_means place w.Value p fits e = subst (λ (x : Piece). Means w.Value x) (ok_same piece.Value p e) fits
+  piece_means place w.Key p fits e = subst (λ (x : Piece). Means w.Key x) (ok_same piece.Key p e) fits
+  piece_means place w.Time p fits e = subst (λ (x : Piece). Means w.Time x) (ok_same piece.Time p e) tt
+  piece_means place w.CellValue p fits e = subst (λ (x : Piece). Means w.CellValue x) (ok_same piece.CellValue p e) tt
+  piece_means place (w.Read r) p fits e =
+      let one = bind_ok (known place (look_up (name_of text r.family) n.families))
+      (λ family. at_of under r.key >>= λ a. Ok (piece.Read (record { family = family.number; at = a }))) p e in
+      let two = bind_ok (at_of under r.key) (λ a. Ok (piece.Read (record { family = one.0.number; at = a }))) p one.2 in
+      let found : look_up (name_of text r.family) n.families ≡ Some one.0 = known_is place (look_up (name_of text r.family) n.families) one.0 one.1 in
+      let read = sym (ap (read_fits under r.key) found) ∙ fits in
+      let head = looked_up family_name family_head 0 families (name_of text r.family) one.0 (ap (look_up (name_of text r.family)) (sym knows.heads_are)
+      ∙ found) in
+      subst (λ (x : Piece). Means (w.Read r) x) (ok_same (piece.Read (record { family = one.0.number; at = two.0 })) p two.2)
+      (cell_from text n families knows under None r one.0 two.0 head tt
+      (at_means under one.0.keyed r.key two.0 (and_left (brackets_fit one.0.keyed r.key) (own_key_fits under r.key) read) two.1))
+  piece_means place w.Formless p fits e = absurd cc
+
+  -- what a piece that means something passes
+  record Passes (place : ℕ) (q : WrittenPiece) (p : Piece) : Type 0 where
+    named : known_name text n place q ≡ Ok tt
+    fits : piece_fits text n under in_flush q ≡ true
+    found : piece_of text n under place q ≡ Ok p
+
+  own_key : (keyed : Bool) (key : WrittenKey) (a : At) → MeansKey keyed under.keyed key a → own_key_fits under key ≡ true
+  own_key keyed k.Alone a h = refl
+  own_key keyed (k.OwnKey place) a h = by a h
+    where
+      by : (a : At) → MeansKey keyed under.keyed (k.OwnKey place) a → under.keyed ≡ true
+      by at.OwnKey h = h.1
+      by at.Alone h = absurd h
+      by (at.Fixed key) h = absurd h
+  own_key keyed (k.Fixed number) a h = refl
+
+  piece_found : (place : ℕ) (q : WrittenPiece) (p : Piece) → Means q p → Passes place q p
+  unfolding piece_of known_name
+  piece_found place (w.Plain s) (piece.Plain t) h = record {
+    named = refl;
+    fits = refl;
+    found = ok_ok (piece.Plain (name_of text s)) (piece.Plain t)
+        (ap piece.Plain (sym h));
+  }
+  piece_found place w.Value piece.Value h = record { named = refl; fits = h; found = refl }
+  piece_found place w.Key piece.Key h = record { named = refl; fits = h; found = refl }
+  piece_found place w.Time piece.Time h = record { named = refl; fits = refl; found = refl }
+  piece_found place w.CellValue piece.CellValue h = record { named = refl; fits = refl; found = refl }
+  piece_found place (w.Read r) (piece.Read c) h =
+      let x = h.family in
+      let found = look_up_found text n families knows r.family c.family x h.here h.name in
+      let key = at_found under x.keyed r.key c.at h.key in record {
+        named = ap (λ o. known place o >>= λ _. Ok tt) found;
+        fits = ap (read_fits under r.key) found ∙ both (brackets_fit x.keyed r.key) (own_key_fits under r.key) key.0 (own_key x.keyed r.key c.at h.key);
+        found =
+            binds (known place (look_up (name_of text r.family) n.families))
+            (λ family. at_of under r.key >>= λ a. Ok (piece.Read (record { family = family.number; at = a }))) (family_head c.family x) (piece.Read c)
+            (ap (known place) found) (binds (at_of under r.key) (λ a. Ok (piece.Read (record { family = c.family; at = a }))) c.at (piece.Read c) key.1 refl);
+      }
+  piece_found place _ _ h = absurd h
+
+  pieces_mean : (place : ℕ) (qs : List WrittenPiece) (ps : List Piece) → list_all (piece_fits text n under in_flush) qs ≡ true
+      → Pairs (Finds (piece_of text n under place)) qs ps → Pairs Means qs ps
+  pieces_mean place [] [] fits h = tt
+  pieces_mean place [] (p ∷ ps) fits h = absurd h
+  pieces_mean place (q ∷ qs) [] fits h = absurd h
+  pieces_mean place (q ∷ qs) (p ∷ ps) fits h = (
+    piece_means place q p (and_left (piece_fits text n under in_flush q) (list_all (piece_fits text n under in_flush) qs) fits) h.0,
+    pieces_mean place qs ps (and_right (piece_fits text n under in_flush q) (list_all (piece_fits text n under in_flush) qs) fits) h.1,
+  )
+
+  -- what pieces that mean something pass
+  record AllPass (place : ℕ) (qs : List WrittenPiece) (ps : List Piece) : Type 0 where
+    named : each (λ done q. known_name text n place q) tt qs ≡ Ok tt
+    fits : list_all (piece_fits text n under in_flush) qs ≡ true
+    found : Pairs (Finds (piece_of text n under place)) qs ps
+
+  pieces_pass : (place : ℕ) (qs : List WrittenPiece) (ps : List Piece) → Pairs Means qs ps → AllPass place qs ps
+  unfolding each
+  pieces_pass place [] [] h = record { named = refl; fits = refl; found = tt }
+  pieces_pass place [] (p ∷ ps) h = absurd h
+  pieces_pass place (q ∷ qs) [] h = absurd h
+  pieces_pass place (q ∷ qs) (p ∷ ps) h =
+      let one = piece_found place q p h.0 in
+      let more = pieces_pass place qs ps h.1 in record {
+        named = binds (known_name text n place q) (λ t. each (λ done x. known_name text n place x) t qs) tt tt one.named more.named;
+        fits = both (piece_fits text n under in_flush q) (list_all (piece_fits text n under in_flush) qs) one.fits more.fits;
+        found = (one.found, more.found);
+      }
+
+  pub template_means : (s : WrittenSpan) (ps : List Piece) → template_of text n under in_flush s ≡ Ok ps
+      → MeansTemplate text families under.keyed under.has_value in_flush s ps
+  unfolding template_of
+  template_means s ps e =
+      let t = template_at text in_flush s in
+      let fits = list_all (piece_fits text n under in_flush) t.pieces in
+      let one = then_ok (known_names text n s.from t.pieces) (unless (t.whole && fits) (f.WrongShape s.from) >> pieces_of text n under s.from t.pieces) ps e in
+      let two = passed (t.whole && fits) (f.WrongShape s.from) (pieces_of text n under s.from t.pieces) ps one.2 in
+      let means = pieces_mean s.from t.pieces ps (and_right t.whole fits two.0) (found_each (piece_of text n under s.from) t.pieces ps two.1) in
+      record {
+        parts = t.pieces;
+        cut = formed (template_cut text in_flush s (and_left t.whole fits two.0)) families under.keyed under.has_value ps means;
+        means = means;
+      }
+
+  pub template_found : (s : WrittenSpan) (ps : List Piece) → MeansTemplate text families under.keyed under.has_value in_flush s ps
+      → template_of text n under in_flush s ≡ Ok ps
+  unfolding template_of
+  template_found s ps is =
+      let t = template_at text in_flush s in
+      let fits = list_all (piece_fits text n under in_flush) t.pieces in
+      let same = cut_template text in_flush s is.parts (told is.cut) in
+      let parts : t.pieces ≡ is.parts = ap (λ (x : Template). x.pieces) same in
+      let all = pieces_pass s.from is.parts ps is.means in
+      let named : known_names text n s.from t.pieces ≡ Ok tt = ap (known_names text n s.from) parts ∙ all.named in
+      let fit : fits ≡ true = ap (list_all (piece_fits text n under in_flush)) parts ∙ all.fits in
+      let found : pieces_of text n under s.from t.pieces ≡ Ok ps = ap (pieces_of text n under s.from) parts ∙ finds_each
+      (piece_of text n under s.from) is.parts ps all.found in
+      thens (known_names text n s.from t.pieces) (unless (t.whole && fits) (f.WrongShape s.from) >> pieces_of text n under s.from t.pieces) tt ps named
+      (passes (t.whole && fits) (f.WrongShape s.from) (pieces_of text n under s.from t.pieces) ps
+      (both t.whole fits (ap (λ (x : Template). x.whole) same) fit) found)

@@ -1,0 +1,102 @@
+-- Expressions that are found are what they mean, and the other way round.
+use Rattle.std.proofs.Common.{◌≡◌, ℕ, List, None, Ok, refl, ap, subst}
+use Rattle.std.specs.Prelude.{nat_le}
+use Rattle.flu_lemmas.proofs.Loops.{bind_ok, then_ok}
+use Rattle.flu_lemmas.proofs.Tests.{true_le, le_true}
+use Rattle.flu_model.specs.declared.limits.What.TheVariants.{Height}
+use Rattle.flu_model.specs.declared.jobs.Family.{Family}
+use Rattle.flu_model.specs.Erasure.{Term, Literal, EventValue, EventKey, EventTime, CellRead, CellHeld, Negative, Negation, Operation}
+use Rattle.flu_syntax.specs.Tree.{Tree, NumberTree, ValueTree, KeyTree, TimeTree, ReadTree, HasTree, ParenTree, NegTree, NotTree, TwoTree}
+use Rattle.flu_parse.specs.declared.faults.JobFault.TheVariants as f
+use Rattle.flu_parse.specs.declared.names.KindHead.{KindHead}
+use Rattle.flu_parse.specs.Faults.{◌>>=◌, ◌>>◌, unless}
+use Rattle.flu_parse.specs.Naming.{Naming}
+use Rattle.flu_parse.specs.Cells.{at_of, family_for, resolved_cell}
+use Rattle.flu_parse.specs.Terms.{height, first_part, first_token, term_of, expression_of}
+use Rattle.flu_grammar.specs.Terms.{MeansTerm, means_number, means_value, means_key, means_time, means_read, means_held, means_inside, means_negative, means_negation, means_operation, MeansExpression}
+use Rattle.flu_grammar.proofs.Looks.{ok_same, passed, passes, binds, thens}
+use Rattle.flu_grammar.proofs.JobCells.{KnowFamilies, cell_means, cell_found}
+
+module _ (text : List ℕ) (n : Naming) (families : List Family) (knows : KnowFamilies n families) (under : KindHead) where
+  abbrev Means : Tree → Term → Type 0
+  Means e t = MeansTerm text families under.keyed under.has_value e t
+
+  pub term_means : (e : Tree) (t : Term) → term_of text n under e ≡ Ok t → MeansTerm text families under.keyed under.has_value e t
+  unfolding term_of
+  term_means (NumberTree m) t e = subst (λ (x : Term). Means (NumberTree m) x) (ok_same (Literal m.value) t e) (means_number m)
+  term_means (ValueTree at) t e =
+      let one = passed under.has_value (f.WrongShape at) (Ok EventValue) t e in
+      subst (λ (x : Term). Means (ValueTree at) x) (ok_same EventValue t one.1) (means_value at one.0)
+  term_means (KeyTree at) t e =
+      let one = passed under.keyed (f.WrongShape at) (Ok EventKey) t e in
+      subst (λ (x : Term). Means (KeyTree at) x) (ok_same EventKey t one.1) (means_key at one.0)
+  term_means (TimeTree at) t e = subst (λ (x : Term). Means (TimeTree at) x) (ok_same EventTime t e) (means_time at)
+  term_means (ReadTree r) t e =
+      let one = bind_ok (resolved_cell text n under None r) (λ c. Ok (CellRead c)) t e in
+      subst (λ (x : Term). Means (ReadTree r) x) (ok_same (CellRead one.0) t one.2)
+      (means_read r one.0 (cell_means text n families knows under None r one.0 one.1))
+  term_means (HasTree at r) t e =
+      let one = bind_ok (resolved_cell text n under None r) (λ c. Ok (CellHeld c)) t e in
+      subst (λ (x : Term). Means (HasTree at r) x) (ok_same (CellHeld one.0) t one.2)
+      (means_held at r one.0 (cell_means text n families knows under None r one.0 one.1))
+  term_means (ParenTree at e) t q = means_inside at e t (term_means e t q)
+  term_means (NegTree at e) t q =
+      let one = bind_ok (term_of text n under e) (λ s. Ok (Negative s)) t q in
+      subst (λ (x : Term). Means (NegTree at e) x) (ok_same (Negative one.0) t one.2) (means_negative at e one.0 (term_means e one.0 one.1))
+  term_means (NotTree at e) t q =
+      let one = bind_ok (term_of text n under e) (λ s. Ok (Negation s)) t q in
+      subst (λ (x : Term). Means (NotTree at e) x) (ok_same (Negation one.0) t one.2) (means_negation at e one.0 (term_means e one.0 one.1))
+  term_means (TwoTree op a b) t q =
+      let one = bind_ok (term_of text n under a) (λ s. term_of text n under b >>= λ u. Ok (Operation op s u)) t q in
+      let two = bind_ok (term_of text n under b) (λ u. Ok (Operation op one.0 u)) t one.2 in
+      subst (λ (x : Term). Means (TwoTree op a b) x) (ok_same (Operation op one.0 two.0) t two.2)
+      (means_operation op a b one.0 two.0 (term_means a one.0 one.1) (term_means b two.0 two.1))
+
+  pub term_found : {e : Tree} {t : Term} → MeansTerm text families under.keyed under.has_value e t → term_of text n under e ≡ Ok t
+  unfolding term_of
+  term_found (means_number m) = refl
+  term_found (means_value at has) = passes under.has_value (f.WrongShape at) (Ok EventValue) EventValue has refl
+  term_found (means_key at keyed) = passes under.keyed (f.WrongShape at) (Ok EventKey) EventKey keyed refl
+  term_found (means_time at) = refl
+  term_found (means_read r c is) = ap (λ x. x >>= λ y. Ok (CellRead y)) (cell_found text n families knows under None r c is)
+  term_found (means_held at r c is) = ap (λ x. x >>= λ y. Ok (CellHeld y)) (cell_found text n families knows under None r c is)
+  term_found (means_inside at e t is) = term_found is
+  term_found (means_negative at e t is) = ap (λ x. x >>= λ y. Ok (Negative y)) (term_found is)
+  term_found (means_negation at e t is) = ap (λ x. x >>= λ y. Ok (Negation y)) (term_found is)
+  term_found (means_operation op a b s u left right) =
+      binds (term_of text n under a) (λ x. term_of text n under b >>= λ y. Ok (Operation op x y)) s (Operation op s u) (term_found left)
+      (ap (λ x. x >>= λ y. Ok (Operation op s y)) (term_found right))
+
+  -- where an expression is found, its first token is right
+  first_right : (e : Tree) (t : Term) → term_of text n under e ≡ Ok t → first_token text n under (first_part e) ≡ Ok tt
+  unfolding term_of first_token
+  first_right (NumberTree m) t e = refl
+  first_right (ValueTree at) t e =
+      let one = passed under.has_value (f.WrongShape at) (Ok EventValue) t e in ap (λ b. unless b (f.WrongShape at)) one.0
+  first_right (KeyTree at) t e = let one = passed under.keyed (f.WrongShape at) (Ok EventKey) t e in ap (λ b. unless b (f.WrongShape at)) one.0
+  first_right (TimeTree at) t e = refl
+  first_right (ReadTree r) t e =
+      let one = bind_ok (resolved_cell text n under None r) (λ c. Ok (CellRead c)) t e in
+      let two = bind_ok (family_for text n None r) (λ family. at_of under r.key >>= λ a. Ok (record { family = family.number; at = a })) one.0 one.1 in
+      ap (λ x. x >>= λ _. Ok tt) two.1
+  first_right (HasTree at r) t e = refl
+  first_right (ParenTree at e) t q = refl
+  first_right (NegTree at e) t q = refl
+  first_right (NotTree at e) t q = refl
+  first_right (TwoTree op a b) t q =
+      let one = bind_ok (term_of text n under a) (λ s. term_of text n under b >>= λ u. Ok (Operation op s u)) t q in first_right a one.0 one.1
+
+  pub expression_means : (e : Tree) (t : Term) → expression_of text n under e ≡ Ok t → MeansExpression text families under.keyed under.has_value e t
+  unfolding expression_of
+  expression_means e t q =
+      let one = then_ok (first_token text n under (first_part e)) (unless (nat_le (height e) 32) (f.OverLimit Height 33) >> term_of text n under e) t q in
+      let two = passed (nat_le (height e) 32) (f.OverLimit Height 33) (term_of text n under e) t one.2 in
+      record { low = true_le (height e) 32 two.0; means = term_means e t two.1 }
+
+  pub expression_found : (e : Tree) (t : Term) → MeansExpression text families under.keyed under.has_value e t → expression_of text n under e ≡ Ok t
+  unfolding expression_of
+  expression_found e t is =
+      let found = term_found is.means in
+      thens (first_token text n under (first_part e)) (unless (nat_le (height e) 32) (f.OverLimit Height 33) >> term_of text n under e) tt t
+      (first_right e t found)
+      (passes (nat_le (height e) 32) (f.OverLimit Height 33) (term_of text n under e) t (le_true (height e) 32 is.low) found)

@@ -1,0 +1,311 @@
+-- The job of a text is read exactly where the text is that job's.
+use Rattle.std.proofs.Common.{◌≡◌, ◌⊎◌, inl, inr, ℕ, zero, suc, ◌+◌, ◌≤◌, List, [], ◌∷◌, ◌++◌, map, length, Option, Some, None, Ok, Err, refl, sym, ap, subst, ◌∙◌, length-append, arith}
+use Rattle.std.specs.Prelude.{nat_le, slice_get}
+use Rattle.std.specs.List.{flat_map}
+use Rattle.std.specs.Str.{is_utf8}
+use Rattle.std.specs.Str.Lossy.{utf8_valid_len}
+use Rattle.std.proofs.lemmas.List.{length-map}
+use Rattle.std.proofs.lemmas.Str.{IsUtf8-from_is_utf8, is_utf8-from_IsUtf8}
+use Rattle.flu_lemmas.specs.Items.{Pairs}
+use Rattle.flu_lemmas.specs.Totals.{total}
+use Rattle.flu_lemmas.proofs.Loops.{bind_ok}
+use Rattle.flu_lemmas.proofs.Tests.{true_le, le_true}
+use Rattle.flu_model.specs.declared.limits.What.TheVariants.{Bytes}
+use Rattle.flu_model.specs.declared.jobs.Family.{Family}
+use Rattle.flu_model.specs.declared.jobs.TagRef.{TagRef}
+use Rattle.flu_model.specs.declared.jobs.Source.{Source}
+use Rattle.flu_model.specs.declared.events.Tag.{Tag}
+use Rattle.flu_model.specs.Erasure.{Job}
+use Rattle.flu_model.specs.Listing.{tag, listed_keys, listed_tags, tags_of_source, itags_of_sources}
+use Rattle.flu_model.specs.Rules.{is_version}
+use Rattle.flu_text.specs.declared.words.Token.{Token}
+use Rattle.flu_text.specs.declared.written.WrittenNumber.{WrittenNumber}
+use Rattle.flu_text.specs.Reading.{reading, Reading as TokenReading}
+use Rattle.flu_text.specs.Laws.{ReadingIsTokens}
+use Rattle.flu_syntax.specs.Tree.{Declaration, Declarations, Job as WrittenJob}
+use Rattle.flu_syntax.specs.Tree as d
+use Rattle.flu_syntax.specs.Laws.{FoundIsJob}
+use Rattle.flu_syntax.specs.Machine.{Verdict, verdict, Found as IsVerdict, Unexpected, TooDeep}
+use Rattle.flu_layout.specs.Spelling.{name_of, written_value}
+use Rattle.flu_parse.specs.declared.faults.JobFault.TheVariants as f
+use Rattle.flu_parse.specs.Faults.{◌>>=◌}
+use Rattle.flu_parse.specs.Naming.{Naming, naming_of}
+use Rattle.flu_parse.specs.Resolving.{family, draft_of, version_of, job_with, resolved}
+use Rattle.flu_parse.specs.Reading.{text_in, found_tokens, tokens_in, found_job, written_in, job_in}
+use Rattle.flu_grammar.specs.Means.{AllDiffer}
+use Rattle.flu_grammar.specs.Declared.{names_in, families_in, kinds_in, depends_in, ons_in, sources_in}
+use Rattle.flu_grammar.specs.Sources.{MeansDepend, MeansSource}
+use Rattle.flu_grammar.specs.Jobs.{MeansVersion, MeansDeclaredKind, MeansJob, IsJobText}
+use Rattle.flu_grammar.specs.Laws.{JobsAreGrammar, TextsHaveOneJob}
+use Rattle.flu_grammar.proofs.Lists.{differ_none, differ_cons, differ_tail, differ_head, get_behind, pairs_left, pairs_length}
+use Rattle.flu_grammar.proofs.Looks.{ok_same, ok_ok, passed, passes, binds}
+use Rattle.flu_grammar.proofs.Heads.{heads}
+use Rattle.flu_grammar.proofs.JobCells.{family_name, family_head, KnowFamilies}
+use Rattle.flu_grammar.proofs.JobNames.{kind_name, all_names, all_families, all_kinds, source_names_in, Named, OwnNames, naming_is, naming_found}
+use Rattle.flu_grammar.proofs.JobSources.{KnowKinds, part_count}
+use Rattle.flu_grammar.proofs.JobDrafts.{itag_count, drafts_are}
+use Rattle.flu_grammar.proofs.JobFound.{Aim, drafted}
+
+-- ---- the names of families and of kinds are among all
+
+module _ (text : List ℕ) {X : Type 0} (name : X → List ℕ) (g : Declaration → List X) where
+  -- a declaration gives nothing of a sort, or one thing of its name
+  abbrev GivesOne : Declaration → Type 0
+  GivesOne y = (g y ≡ []) ⊎ ((x : X) × (g y ≡ x ∷ []) × (names_in text y ≡ name x ∷ []))
+
+  -- what stands among the names of more declarations
+  abbrev Stands : Declarations → List ℕ → Type 0
+  Stands ds s = (j : ℕ) × (slice_get (flat_map (names_in text) ds) j ≡ Some s)
+
+  stands_later : (y : Declaration) (ds : Declarations) (s : List ℕ) → Stands ds s → Stands (y ∷ ds) s
+  stands_later y ds s more = (length (names_in text y) + more.0, get_behind (names_in text y) (flat_map (names_in text) ds) more.0 s more.1)
+
+  stands_at : (y : Declaration) (ds : Declarations) (s : List ℕ) (x : X) → names_in text y ≡ name x ∷ []
+      → ((i : ℕ) → slice_get (map name (flat_map g ds)) i ≡ Some s → Stands ds s) → (i : ℕ) → slice_get (name x ∷ map name (flat_map g ds)) i ≡ Some s
+      → Stands (y ∷ ds) s
+  stands_at y ds s x is more zero e = (0, ap (λ (l : List (List ℕ)). slice_get (l ++ flat_map (names_in text) ds) 0) is ∙ e)
+  stands_at y ds s x is more (suc i) e = stands_later y ds s (more i e)
+
+  stands_in : (y : Declaration) (ds : Declarations) (s : List ℕ) → GivesOne y → ((i : ℕ) → slice_get (map name (flat_map g ds)) i ≡ Some s → Stands ds s)
+      → (i : ℕ) → slice_get (map name (g y ++ flat_map g ds)) i ≡ Some s → Stands (y ∷ ds) s
+  stands_in y ds s (inl none) more i e = stands_later y ds s (more i (sym (ap (λ (l : List X). slice_get (map name (l ++ flat_map g ds)) i) none) ∙ e))
+  stands_in y ds s (inr one) more i e =
+      stands_at y ds s one.0 one.2 more i (sym (ap (λ (l : List X). slice_get (map name (l ++ flat_map g ds)) i) one.1) ∙ e)
+
+  among : ((y : Declaration) → GivesOne y) → (ds : Declarations) (i : ℕ) (s : List ℕ) → slice_get (map name (flat_map g ds)) i ≡ Some s → Stands ds s
+  among gives [] i s e = absurd cc
+  among gives (y ∷ ds) i s e = stands_in y ds s (gives y) (λ k at. among gives ds k s at) i e
+
+  behind_names : (xs : List (List ℕ)) (ds : Declarations) → AllDiffer (xs ++ flat_map (names_in text) ds) → AllDiffer (flat_map (names_in text) ds)
+  behind_names [] ds own = own
+  behind_names (x ∷ xs) ds own = behind_names xs ds (differ_tail x (xs ++ flat_map (names_in text) ds) own)
+
+  differ_in : (y : Declaration) (ds : Declarations) → GivesOne y → AllDiffer (flat_map (names_in text) (y ∷ ds)) → AllDiffer (map name (flat_map g ds))
+      → ((i : ℕ) (s : List ℕ) → slice_get (map name (flat_map g ds)) i ≡ Some s → Stands ds s) → AllDiffer (map name (flat_map g (y ∷ ds)))
+  differ_in y ds (inl none) own rest stands = subst (λ (l : List X). AllDiffer (map name (l ++ flat_map g ds))) (sym none) rest
+  differ_in y ds (inr one) own rest stands =
+      let whole : AllDiffer (name one.0 ∷ flat_map (names_in text) ds) = subst (λ (l : List (List ℕ)). AllDiffer (l ++ flat_map (names_in text) ds)) one.2 own in
+      subst (λ (l : List X). AllDiffer (map name (l ++ flat_map g ds))) (sym one.1)
+      (differ_cons (name one.0) (map name (flat_map g ds)) (λ i e. (
+      let there = stands i (name one.0) e in differ_head (name one.0) (flat_map (names_in text) ds) whole there.0 there.1)) rest)
+
+  among_differ : ((y : Declaration) → GivesOne y) → (ds : Declarations) → AllDiffer (flat_map (names_in text) ds) → AllDiffer (map name (flat_map g ds))
+  among_differ gives [] own = differ_none
+  among_differ gives (y ∷ ds) own =
+      differ_in y ds (gives y) own (among_differ gives ds (behind_names (names_in text y) ds own)) (λ i s e. among gives ds i s e)
+
+families_one : (text : List ℕ) (y : Declaration) → GivesOne text family_name (families_in text) y
+families_one text (d.Cell s keyed sort) = inr (record { name = name_of text s; keyed = keyed; sort = sort }, refl, refl)
+families_one text (d.Tag s keyed has_value) = inl refl
+families_one text (d.Depends a b relation) = inl refl
+families_one text (d.On kind actions) = inl refl
+families_one text (d.Source s file rate slack tags) = inl refl
+
+kinds_one : (text : List ℕ) (y : Declaration) → GivesOne text kind_name (kinds_in text) y
+kinds_one text (d.Cell s keyed sort) = inl refl
+kinds_one text (d.Tag s keyed has_value) = inr (record { name = name_of text s; keyed = keyed; has_value = has_value }, refl, refl)
+kinds_one text (d.Depends a b relation) = inl refl
+kinds_one text (d.On kind actions) = inl refl
+kinds_one text (d.Source s file rate slack tags) = inl refl
+
+pub know_families : (text : List ℕ) (ds : Declarations) (n : Naming) → Named text ds n → AllDiffer (all_names text ds) → KnowFamilies n (all_families text ds)
+know_families text ds n named own = record {
+  heads_are = named.families;
+  differ = among_differ text family_name (families_in text) (families_one text) ds own;
+}
+
+pub know_kinds : (text : List ℕ) (ds : Declarations) (n : Naming) → Named text ds n → AllDiffer (all_names text ds) → KnowKinds n (all_kinds text ds)
+know_kinds text ds n named own = record { heads_are = named.kinds; differ = among_differ text kind_name (kinds_in text) (kinds_one text) ds own }
+
+-- ---- parts of a job
+
+families_back : (i : ℕ) (fs : List Family) → map family (heads family_name family_head i fs) ≡ fs
+families_back i [] = refl
+families_back i (x ∷ fs) = ap (λ l. x ∷ l) (families_back (i + 1) fs)
+
+as_many_sources : (text : List ℕ) (ds : Declarations) → length (flat_map (source_names_in text) ds) ≡ length (flat_map sources_in ds)
+as_many_sources text [] = refl
+as_many_sources text (d.Cell s keyed sort ∷ ds) = as_many_sources text ds
+as_many_sources text (d.Tag s keyed has_value ∷ ds) = as_many_sources text ds
+as_many_sources text (d.Depends a b relation ∷ ds) = as_many_sources text ds
+as_many_sources text (d.On kind actions ∷ ds) = as_many_sources text ds
+as_many_sources text (d.Source s file rate slack tags ∷ ds) = ap (λ (m : ℕ). suc m) (as_many_sources text ds)
+
+tags_counted : (ts : List TagRef) → length (flat_map listed_tags ts) ≡ total part_count ts
+tags_counted [] = refl
+tags_counted (t ∷ ts) =
+    let one = length-append (listed_tags t) (flat_map listed_tags ts) in
+    let two = length-map (listed_keys t.keys) (λ (k : ℕ). tag t.kind k) in
+    let more = tags_counted ts in
+    omega (arith, one, two, more)
+
+itags_counted : (i : ℕ) (ss : List Source) → length (itags_of_sources i ss) ≡ itag_count ss
+itags_counted i [] = refl
+itags_counted i (s ∷ ss) =
+    let pair : Tag → Tag × ℕ = λ t. (t, i) in
+    let one = length-append (map pair (tags_of_source s)) (itags_of_sources (i + 1) ss) in
+    let two = length-map (tags_of_source s) pair in
+    let tags = tags_counted s.tags in
+    let more = itags_counted (i + 1) ss in
+    omega (arith, one, two, tags, more)
+
+version_is : (o : Option WrittenNumber) (v : ℕ) → version_of o ≡ Ok v → MeansVersion o v
+version_is None v e = sym (ok_same 1 v e)
+version_is (Some w) v e =
+    let one = passed (is_version (written_value w.value)) (f.WrongShape w.at) (Ok (written_value w.value)) v e in
+    let same : written_value w.value ≡ v = ok_same (written_value w.value) v one.1 in
+    (sym same, ap is_version (sym same) ∙ one.0)
+
+version_found : (o : Option WrittenNumber) (v : ℕ) → MeansVersion o v → version_of o ≡ Ok v
+version_found None v h = ok_ok 1 v (sym h)
+version_found (Some w) v h =
+    passes (is_version (written_value w.value)) (f.WrongShape w.at) (Ok (written_value w.value)) v (ap is_version (sym h.0) ∙ h.1) (ok_ok
+    (written_value w.value) v (sym h.0))
+
+-- ---- the meaning
+
+job_means : (text : List ℕ) (written : WrittenJob) (job : Job) → resolved text written ≡ Ok job → MeansJob text written job
+unfolding resolved
+job_means text written job e =
+    let ds = written.declarations in
+    let one = bind_ok (naming_of text ds) (λ n. version_of written.version >>= λ version. draft_of text n ds >>= λ x. Ok (job_with version n x)) job e in
+    let n = one.0 in
+    let two = bind_ok (version_of written.version) (λ version. draft_of text n ds >>= λ x. Ok (job_with version n x)) job one.2 in
+    let three = bind_ok (draft_of text n ds) (λ x. Ok (job_with two.0 n x)) job two.2 in
+    let x = three.0 in
+    let names = naming_is text ds n one.1 in
+    let named = names.0 in
+    let own = names.1 in
+    let families = all_families text ds in
+    let kinds = all_kinds text ds in
+    let know = know_families text ds n named own.own in
+    let knows = know_kinds text ds n named own.own in
+    let is = drafts_are text n families kinds know knows ds x three.1 in
+    let the_families : map family n.families ≡ families = ap (map family) named.families ∙ families_back 0 families in
+    let kinds_many = pairs_length (MeansDeclaredKind text families ds) kinds x.kinds is.kinds_are in
+    let depends_many = pairs_length (MeansDepend text kinds) (flat_map depends_in ds) x.depends is.depends in
+    let sources_many = pairs_length (MeansSource text kinds) (flat_map sources_in ds) x.sources is.sources in
+    let named_many = as_many_sources text ds in
+    let itags = itags_counted 0 x.sources in
+    let drafted_itags = is.itags in
+    let few_itags = is.few_itags in
+    let few_kinds = own.few_kinds in
+    let few_depends = own.few_depends in
+    let few_sources = own.few_sources in
+    let means : MeansJob text written (job_with two.0 n x) = record {
+      version = version_is written.version two.0 two.1;
+      own_names = own.own;
+      families = the_families;
+      kinds = subst (λ (l : List Family). Pairs (MeansDeclaredKind text l ds) kinds x.kinds) (sym the_families) is.kinds_are;
+      known_ons = λ i name at. (let got = pairs_left _ (flat_map (ons_in text) ds) x.given is.given i name at in (got.0, got.2));
+      own_ons = is.own_ons;
+      depends = is.depends;
+      sources = is.sources;
+      own_files = is.own_files;
+      few_families = subst (λ (l : List Family). length l ≤ 64) (sym the_families) own.few_families;
+      few_kinds = omega (arith, kinds_many, few_kinds);
+      few_depends = omega (arith, depends_many, few_depends);
+      few_sources = omega (arith, sources_many, named_many, few_sources);
+      few_itags = omega (arith, itags, drafted_itags, few_itags);
+    } in
+    subst (λ (j : Job). MeansJob text written j) (ok_same (job_with two.0 n x) job three.2) means
+
+job_found : (text : List ℕ) (written : WrittenJob) (job : Job) → MeansJob text written job → resolved text written ≡ Ok job
+unfolding resolved
+job_found text written job is =
+    let ds = written.declarations in
+    let families = all_families text ds in
+    let kinds = all_kinds text ds in
+    let kinds_many = pairs_length (MeansDeclaredKind text job.families ds) kinds job.kinds is.kinds in
+    let depends_many = pairs_length (MeansDepend text kinds) (flat_map depends_in ds) job.depends is.depends in
+    let sources_many = pairs_length (MeansSource text kinds) (flat_map sources_in ds) job.sources is.sources in
+    let named_many = as_many_sources text ds in
+    let few_kinds = is.few_kinds in
+    let few_depends = is.few_depends in
+    let few_sources = is.few_sources in
+    let few_itags = is.few_itags in
+    let itags = itags_counted 0 job.sources in
+    let own : OwnNames text ds = record {
+      own = is.own_names;
+      few_families = subst (λ (l : List Family). length l ≤ 64) is.families is.few_families;
+      few_kinds = omega (arith, kinds_many, few_kinds);
+      few_sources = omega (arith, sources_many, named_many, few_sources);
+      few_depends = omega (arith, depends_many, few_depends);
+    } in
+    let names = naming_found text ds own in
+    let n = names.0 in
+    let know = know_families text ds n names.2 own.own in
+    let knows = know_kinds text ds n names.2 own.own in
+    let aim : Aim text n families kinds know knows ds job.kinds job.depends job.sources = record {
+      kinds_are = subst (λ (l : List Family). Pairs (MeansDeclaredKind text l ds) kinds job.kinds) is.families is.kinds;
+      known_ons = is.known_ons;
+      own_ons = is.own_ons;
+      depends_are = is.depends;
+      sources_are = is.sources;
+      own_files = is.own_files;
+      few_itags = omega (arith, itags, few_itags);
+    } in
+    let draft = drafted text n families kinds know knows ds job.kinds job.depends job.sources aim in
+    let the_families : map family n.families ≡ job.families = ap (map family) names.2.families ∙ families_back 0 families ∙ sym is.families in
+    let same : job_with job.version n draft.draft ≡ job = λ i. record {
+      version = job.version;
+      families = the_families i;
+      kinds = draft.kinds_are i;
+      depends = draft.depends_are i;
+      sources = draft.sources_are i;
+    } in
+    binds (naming_of text ds) (λ n. version_of written.version >>= λ version. draft_of text n ds >>= λ x. Ok (job_with version n x)) n job names.1
+    (binds (version_of written.version) (λ version. draft_of text n ds >>= λ x. Ok (job_with version n x)) job.version job
+    (version_found written.version job.version is.version)
+    (binds (draft_of text n ds) (λ x. Ok (job_with job.version n x)) draft.draft job draft.found (ok_ok (job_with job.version n draft.draft) job same)))
+
+-- ---- the whole
+
+tokens_are : (r : TokenReading) (ts : List Token) → found_tokens r ≡ Ok ts → r ≡ Ok ts
+tokens_are (Ok x) ts e = ap (λ (l : List Token). let r : TokenReading = Ok l in r) (ok_same x ts e)
+tokens_are (Err at) ts e = absurd cc
+
+verdict_is : (v : Verdict WrittenJob) (written : WrittenJob) → found_job v ≡ Ok written → v ≡ IsVerdict written
+verdict_is (IsVerdict x) written e = ap IsVerdict (ok_same x written e)
+verdict_is (Unexpected at) written e = absurd cc
+verdict_is TooDeep written e = absurd cc
+
+is_text : ReadingIsTokens → FoundIsJob → (bytes : List ℕ) (job : Job) → job_in bytes ≡ Ok job → IsJobText bytes job
+unfolding job_in
+is_text tokens found bytes job e =
+    let one = passed (nat_le (length bytes) 1048576) (f.OverLimit Bytes 1048577)
+    (text_in bytes >>= λ text. tokens_in text >>= λ ts. written_in (length text) ts >>= λ written. resolved text written) job e in
+    let text = bind_ok (text_in bytes) (λ text. tokens_in text >>= λ ts. written_in (length text) ts >>= λ written. resolved text written) job one.1 in
+    let inner = passed (is_utf8 bytes) (f.BadUtf8 (utf8_valid_len bytes)) (Ok bytes) text.0 text.1 in
+    let same : text.0 ≡ bytes = sym (ok_same bytes text.0 inner.1) in
+    let rest : (tokens_in bytes >>= λ ts. written_in (length bytes) ts >>= λ written. resolved bytes written) ≡ Ok job =
+    subst (λ (x : List ℕ). (tokens_in x >>= λ ts. written_in (length x) ts >>= λ written. resolved x written) ≡ Ok job) same text.2 in
+    let ts = bind_ok (tokens_in bytes) (λ ts. written_in (length bytes) ts >>= λ written. resolved bytes written) job rest in
+    let written = bind_ok (written_in (length bytes) ts.0) (λ written. resolved bytes written) job ts.2 in
+    record {
+      text = record { short = true_le (length bytes) 1048576 one.0; utf8 = IsUtf8-from_is_utf8 bytes inner.0 };
+      tokens = ts.0;
+      cut = (tokens bytes ts.0).0 (tokens_are (reading bytes) ts.0 ts.1);
+      written = written.0;
+      grammar = (found (length bytes) ts.0 written.0).0 (verdict_is (verdict (length bytes) ts.0) written.0 written.1);
+      means = job_means bytes written.0 job written.2;
+    }
+
+is_read : ReadingIsTokens → FoundIsJob → (bytes : List ℕ) (job : Job) → IsJobText bytes job → job_in bytes ≡ Ok job
+unfolding job_in
+is_read tokens found bytes job is =
+    passes (nat_le (length bytes) 1048576) (f.OverLimit Bytes 1048577)
+    (text_in bytes >>= λ text. tokens_in text >>= λ ts. written_in (length text) ts >>= λ written. resolved text written) job
+    (le_true (length bytes) 1048576 is.text.short)
+    (binds (text_in bytes) (λ text. tokens_in text >>= λ ts. written_in (length text) ts >>= λ written. resolved text written) bytes job
+    (passes (is_utf8 bytes) (f.BadUtf8 (utf8_valid_len bytes)) (Ok bytes) bytes (is_utf8-from_IsUtf8 bytes is.text.utf8) refl)
+    (binds (tokens_in bytes) (λ ts. written_in (length bytes) ts >>= λ written. resolved bytes written) is.tokens job
+    (ap found_tokens ((tokens bytes is.tokens).1 is.cut))
+    (binds (written_in (length bytes) is.tokens) (λ written. resolved bytes written) is.written job
+    (ap found_job ((found (length bytes) is.tokens is.written).1 is.grammar)) (job_found bytes is.written job is.means))))
+
+pub jobs_are_grammar : ReadingIsTokens → FoundIsJob → JobsAreGrammar
+jobs_are_grammar tokens found = λ bytes job. (is_text tokens found bytes job, is_read tokens found bytes job)
+
+pub texts_have_one_job : JobsAreGrammar → TextsHaveOneJob
+texts_have_one_job grammar = λ bytes a b is_a is_b. ok_same a b (sym ((grammar bytes a).1 is_a) ∙ (grammar bytes b).1 is_b)

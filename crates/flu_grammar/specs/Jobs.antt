@@ -1,0 +1,61 @@
+-- What a job text is, and which job it means: tokens, a job that is written by the grammar, and what each of its declarations says.
+use Rattle.std.specs.Prelude.{◌≡◌, ◌≤◌, ℕ, List, map, length, Option, Some, None, slice_get, IsTrue}
+use Rattle.std.specs.List.{flat_map}
+use Rattle.flu_lemmas.specs.Items.{Pairs}
+use Rattle.flu_model.specs.declared.jobs.Family.{Family}
+use Rattle.flu_model.specs.declared.jobs.Source.{Source}
+use Rattle.flu_model.specs.Erasure.{PlainKind, Job}
+use Rattle.flu_model.specs.Listing.{itags_of_sources}
+use Rattle.flu_model.specs.Rules.{is_version}
+use Rattle.flu_text.specs.declared.words.Token.{Token}
+use Rattle.flu_text.specs.declared.written.WrittenNumber.{WrittenNumber}
+use Rattle.flu_text.specs.Grammar.{AreTokens}
+use Rattle.flu_syntax.specs.Tree.{Job as WrittenJob, Declarations}
+use Rattle.flu_syntax.specs.Grammar.{IsJob}
+use Rattle.flu_layout.specs.Spelling.{written_value}
+use Rattle.flu_grammar.specs.Means.{AllDiffer, IsNamed}
+use Rattle.flu_grammar.specs.Texts.{IsShortText}
+use Rattle.flu_grammar.specs.Actions.{MeansAction}
+use Rattle.flu_grammar.specs.Declared.{DeclaredKind, names_in, families_in, kinds_in, depends_in, ons_in, actions_in, sources_in}
+use Rattle.flu_grammar.specs.Sources.{MeansDepend, MeansSource}
+
+-- version 1 or 2, and 1 where none is written
+abbrev pub MeansVersion : Option WrittenNumber → ℕ → Type 0
+MeansVersion None version = version ≡ 1
+MeansVersion (Some n) version = (version ≡ written_value n.value) × IsTrue (is_version version)
+
+-- A declared kind is the job's kind of its name, with the actions that stand in its `on`, in their order, where it has one.
+pub record MeansDeclaredKind (text : List ℕ) (families : List Family) (declarations : Declarations) (declared : DeclaredKind) (kind : PlainKind) : Type 0 where
+  pub name : kind.name ≡ declared.name
+  pub keyed : kind.keyed ≡ declared.keyed
+  pub has_value : kind.has_value ≡ declared.has_value
+  pub actions : Pairs (MeansAction text families declared.keyed declared.has_value) (flat_map (actions_in text declared.name) declarations) kind.actions
+  pub few_actions : length kind.actions ≤ 32
+
+-- The declarations mean these parts of a job, each in the order of the text. All names differ, each `on` is of a declared kind and
+-- no two are of one, and no two sources read one file.
+pub record MeansJob (text : List ℕ) (written : WrittenJob) (job : Job) : Type 0 where
+  pub version : MeansVersion written.version job.version
+  pub own_names : AllDiffer (flat_map (names_in text) written.declarations)
+  pub families : job.families ≡ flat_map (families_in text) written.declarations
+  pub kinds : Pairs (MeansDeclaredKind text job.families written.declarations) (flat_map (kinds_in text) written.declarations) job.kinds
+  pub known_ons : (i : ℕ) (name : List ℕ) → slice_get (flat_map (ons_in text) written.declarations) i ≡ Some name
+      → (number : ℕ) × IsNamed (λ (k : DeclaredKind). k.name) (flat_map (kinds_in text) written.declarations) name number
+  pub own_ons : AllDiffer (flat_map (ons_in text) written.declarations)
+  pub depends : Pairs (MeansDepend text (flat_map (kinds_in text) written.declarations)) (flat_map depends_in written.declarations) job.depends
+  pub sources : Pairs (MeansSource text (flat_map (kinds_in text) written.declarations)) (flat_map sources_in written.declarations) job.sources
+  pub own_files : AllDiffer (map (λ (s : Source). s.file) job.sources)
+  pub few_families : length job.families ≤ 64
+  pub few_kinds : length job.kinds ≤ 64
+  pub few_depends : length job.depends ≤ 4096
+  pub few_sources : length job.sources ≤ 64
+  pub few_itags : length (itags_of_sources 0 job.sources) ≤ 256
+
+-- The bytes are the text of this job.
+pub record IsJobText (bytes : List ℕ) (job : Job) : Type 0 where
+  pub text : IsShortText bytes
+  pub tokens : List Token
+  pub cut : AreTokens bytes tokens
+  pub written : WrittenJob
+  pub grammar : IsJob tokens written
+  pub means : MeansJob bytes written job

@@ -1,0 +1,54 @@
+-- What is read is what the grammar says.
+use Rattle.std.specs.Prelude.{◌≡◌, ◌≤◌, ◌↔◌, ℕ, List, length, Ok, IsTrue}
+use Rattle.std.specs.Str.{IsUtf8}
+use Rattle.flu_model.specs.declared.jobs.Program.{Program}
+use Rattle.flu_model.specs.declared.plans.Node.{Node}
+use Rattle.flu_model.specs.declared.jobs.Family.{Family}
+use Rattle.flu_model.specs.declared.jobs.Kind.{Kind}
+use Rattle.flu_model.specs.declared.jobs.Depend.{Depend}
+use Rattle.flu_model.specs.declared.jobs.Source.{Source}
+use Rattle.flu_model.specs.Erasure.{Job}
+use Rattle.flu_rules.specs.Kept.{KeepsRules}
+use Rattle.flu_parse.specs.Laws.{job_with}
+use Rattle.flu_parse.specs.Printing.{normal_form}
+use Rattle.flu_parse.specs.Reading.{job_in}
+use Rattle.flu_plan.specs.Kept.{KeepsRules as PlanKeepsRules}
+use Rattle.flu_plan.specs.Printing.{printed, has_text}
+use Rattle.flu_plan.specs.Reading.{plan_in}
+use Rattle.flu_grammar.specs.Plans.{IsPlanText}
+use Rattle.flu_grammar.specs.Jobs.{IsJobText}
+
+-- the plan that is read of some bytes is the one that they are the text of
+abbrev pub PlansAreGrammar : Type 0
+PlansAreGrammar = (p : Program) (bytes : List ℕ) (plan : List Node) → (plan_in p bytes ≡ Ok plan) ↔ IsPlanText p bytes plan
+
+-- no bytes are the text of two plans
+abbrev pub TextsHaveOnePlan : Type 0
+TextsHaveOnePlan = (p : Program) (bytes : List ℕ) (a b : List Node) → IsPlanText p bytes a → IsPlanText p bytes b → a ≡ b
+
+-- the job that is read of some bytes is the one that they are the text of
+abbrev pub JobsAreGrammar : Type 0
+JobsAreGrammar = (bytes : List ℕ) (job : Job) → (job_in bytes ≡ Ok job) ↔ IsJobText bytes job
+
+-- no bytes are the text of two jobs
+abbrev pub TextsHaveOneJob : Type 0
+TextsHaveOneJob = (bytes : List ℕ) (a b : Job) → IsJobText bytes a → IsJobText bytes b → a ≡ b
+
+-- the normal form of a job that keeps the rules is a text of that job, where it is not too long
+abbrev pub NormalFormIsText : Type 0
+NormalFormIsText =
+    (version : ℕ) (families : List Family) (kinds : List Kind) (depends : List Depend) (sources : List Source)
+    → KeepsRules version families kinds depends sources
+    → IsUtf8 (normal_form (job_with version families kinds depends sources))
+    → length (normal_form (job_with version families kinds depends sources)) ≤ 1048576
+    → IsJobText (normal_form (job_with version families kinds depends sources)) (job_with version families kinds depends sources)
+
+-- and what is printed of a plan that has a text is a text of that plan
+abbrev pub PrintedIsText : Type 0
+PrintedIsText = (p : Program) (plan : List Node) → PlanKeepsRules plan → IsTrue (has_text p plan) → IsPlanText p (printed p plan) plan
+
+-- the job of a text keeps the rules of the language, wherever the boxes of its expressions lie
+abbrev pub JobTextsKeepRules : Type 0
+JobTextsKeepRules =
+    (bytes : List ℕ) (version : ℕ) (families : List Family) (kinds : List Kind) (depends : List Depend) (sources : List Source)
+    → IsJobText bytes (job_with version families kinds depends sources) → KeepsRules version families kinds depends sources

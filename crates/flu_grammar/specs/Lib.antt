@@ -1,0 +1,12 @@
+pub mod Means
+pub mod Texts
+pub mod Plans
+pub mod Cells
+pub mod Terms
+pub mod Templates
+pub mod Actions
+pub mod Declared
+pub mod Sources
+pub mod Jobs
+pub mod Laws
+pub mod Faults

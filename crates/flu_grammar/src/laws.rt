@@ -1,0 +1,97 @@
+//! Laws of the meaning of texts, each the contract of a function that does nothing.
+
+ghost use Rattle.flu_grammar.specs.Faults.{BytesAreTooMany, BytesAreNotUtf8, NoTokenBegins, UnexpectedIsNotContinued, RefusedIsNoJob, RefusedIsNoPlan, FamilyIsUnknown, KindIsUnknown, PlanKindIsUnknown, PlanSourceIsUnknown, ChildIsUnknown, TwiceNamedIsDeclaredTwice, TwiceNamedIsOnTwice, TwiceNamedIsFileTwice, NoTreeIsNodeTwice};
+ghost use Rattle.flu_grammar.specs.Laws.{JobsAreGrammar, TextsHaveOneJob, PlansAreGrammar, TextsHaveOnePlan, NormalFormIsText, PrintedIsText, JobTextsKeepRules};
+
+use flu_parse::laws::{jobs_keep_rules, printed_is_read};
+use flu_plan::laws::{found_is_plan, plans_keep_rules};
+use flu_syntax::laws::{found_is_job, unexpected_is_first};
+use flu_text::laws::reading_is_exact;
+
+/// The job that is read of some bytes is exactly the one that they are the text of, by the grammar and by what each part of it means.
+pub fn jobs_are_grammar()
+    ensures { JobsAreGrammar }
+{
+    reading_is_exact();
+    found_is_job();
+}
+
+/// No bytes are the text of two jobs.
+pub fn texts_have_one_job()
+    ensures { TextsHaveOneJob }
+{
+    jobs_are_grammar();
+}
+
+/// The plan that is read of some bytes is exactly the one that they are the text of, by the grammar and by what each part of it means.
+pub fn plans_are_grammar()
+    ensures { PlansAreGrammar }
+{
+    reading_is_exact();
+    found_is_plan();
+    plans_keep_rules();
+}
+
+/// No bytes are the text of two plans.
+pub fn texts_have_one_plan()
+    ensures { TextsHaveOnePlan }
+{
+    plans_are_grammar();
+}
+
+/// What is printed of a job, or of a plan, is a text of it.
+pub fn printed_texts_are_grammar()
+    ensures job { NormalFormIsText }
+    ensures plan { PrintedIsText }
+{
+    jobs_are_grammar();
+    printed_is_read();
+    plans_are_grammar();
+    flu_plan::laws::printed_is_read();
+}
+
+/// The job that a text means keeps the rules of the language.
+pub fn job_texts_keep_rules()
+    ensures { JobTextsKeepRules }
+{
+    jobs_are_grammar();
+    jobs_keep_rules();
+}
+
+/// Bytes in which a fault is found are the text of no job, and of no plan.
+pub fn refused_texts_are_none()
+    ensures job { RefusedIsNoJob }
+    ensures plan { RefusedIsNoPlan }
+{
+    jobs_are_grammar();
+    plans_are_grammar();
+}
+
+/// What the faults of bytes, tokens and grammar say of the bytes in which they are found.
+pub fn faults_of_texts()
+    ensures bytes { BytesAreTooMany }
+    ensures utf8 { BytesAreNotUtf8 }
+    ensures token { NoTokenBegins }
+    ensures grammar { UnexpectedIsNotContinued }
+{
+    reading_is_exact();
+    unexpected_is_first();
+}
+
+/// Where a name is told to be unknown, nothing of that name is declared as what is needed there.
+pub fn unknown_names_are_not_declared()
+    ensures family { FamilyIsUnknown }
+    ensures kind { KindIsUnknown }
+    ensures plan_kind { PlanKindIsUnknown }
+    ensures plan_source { PlanSourceIsUnknown }
+    ensures child { ChildIsUnknown }
+{}
+
+/// Where a name is told to be declared twice, an earlier declaration gives it, and no name before is declared twice; so it is with
+/// the nodes of a plan, with an `on` of a kind, and with the file of a source.
+pub fn twice_named_is_declared_before()
+    ensures job { TwiceNamedIsDeclaredTwice }
+    ensures on { TwiceNamedIsOnTwice }
+    ensures file { TwiceNamedIsFileTwice }
+    ensures plan { NoTreeIsNodeTwice }
+{}
