@@ -1,11 +1,11 @@
 -- What a worker with children hands on, once it and both subtrees have no event left.
-use Rattle.std.proofs.Common.{◌≡◌, ◌<◌, ◌≤◌, ℕ, true, Option, Some, None, List, ◌++◌, length, ◌⊎◌, inl, inr, sym, ap, subst, ◌∙◌, arith}
+use Rattle.std.proofs.Common.{◌≡◌, ◌<◌, ◌≤◌, ℕ, true, Option, Some, None, List, ◌++◌, length, inl, inr, sym, ap, subst, ◌∙◌, arith}
 use Rattle.std.specs.Prelude.{is_some, IsSome}
 use Rattle.flu_model.specs.declared.events.Out.{Out}
 use Rattle.flu_fork.specs.declared.content.Content.{Content}
 use Rattle.flu_fork.specs.declared.lots.Lot.{Lot}
 use Rattle.flu_fork.specs.declared.lots.Ask.{Ask}
-use Rattle.flu_fork.specs.Lots.{nodes, kids, setting_of, LotFits, LotsPaired, HasJoinedCounts}
+use Rattle.flu_fork.specs.Lots.{nodes, kids, LotFits, LotsPaired, HasJoinedCounts}
 use Rattle.flu_worker.specs.declared.hand.Hand.TheVariants.{Down}
 use Rattle.flu_worker.specs.declared.hand.Side.{Side}
 use Rattle.flu_worker.specs.declared.hand.Side.TheVariants.{Left, Right}

@@ -1,18 +1,17 @@
 -- A leaf that has no event left keeps its promise.
-use Rattle.std.proofs.Common.{◌≡◌, ◌<◌, ◌≤◌, ℕ, Bool, true, false, Option, Some, None, List, [], ◌++◌, append-nil, length, ◌⊎◌, inl, inr, refl, sym, ap, subst, ◌∙◌, arith}
-use Rattle.std.specs.Prelude.{slice_index, is_some, IsSome}
-use Rattle.std.proofs.lemmas.Bool.{cases_Bool, cases_lt}
-use Rattle.flu_lemmas.proofs.Tests.{not_both}
+use Rattle.std.proofs.Common.{◌≡◌, ◌<◌, ℕ, Bool, true, false, Option, None, List, [], ◌++◌, append-nil, length, inl, inr, refl, sym, ap, subst, ◌∙◌}
+use Rattle.std.specs.Prelude.{slice_index, is_some}
+use Rattle.std.proofs.lemmas.Bool.{cases_lt}
 use Rattle.flu_model.specs.declared.events.Out.{Out}
 use Rattle.flu_model.specs.Itags.{count_of_itags}
 use Rattle.flu_fork.specs.declared.content.Content.{Content}
 use Rattle.flu_fork.specs.declared.lots.Lot.{Lot}
-use Rattle.flu_fork.specs.Classes.{Itags, own, below}
-use Rattle.flu_fork.specs.Lots.{job, nodes, kids, setting_of}
+use Rattle.flu_fork.specs.Classes.{Itags}
+use Rattle.flu_fork.specs.Lots.{job, kids, setting_of}
 use Rattle.flu_fork.specs.Serving.{LotCounts}
 use Rattle.flu_fork.specs.Settings.{events_at}
 use Rattle.flu_fork.specs.Texts.{HasTexts, InOneOf, InNone, InFirst}
-use Rattle.flu_worker.specs.declared.hand.Hand.TheVariants.{Whole, Down}
+use Rattle.flu_worker.specs.declared.hand.Hand.TheVariants.{Whole}
 use Rattle.flu_worker.specs.Hands.{is_open}
 use Rattle.flu_worker.specs.Notes.{WorkerNote, own_of, below_of}
 use Rattle.flu_worker.specs.Calls.{IsFinished, IsWholeLot}

@@ -1,8 +1,8 @@
 -- What a look leaves of what is said of an end.
-use Rattle.std.proofs.Common.{◌≡◌, ◌≢◌, ◌≤◌, ℕ, Bool, true, false, Option, Some, None, ap}
+use Rattle.std.proofs.Common.{◌≡◌, ◌≢◌, ◌≤◌, ℕ, Bool, Option, Some, None, ap}
 use Rattle.std.specs.Prelude.{IfNone}
 use Rattle.flu_link.specs.Notes.{UpperNote, LowerNote, found_above}
-use Rattle.flu_run.specs.EndNotes.{IsSameLoan, LooksUp, LooksAside, LooksAsideBelow}
+use Rattle.flu_run.specs.EndNotes.{LooksUp, LooksAside, LooksAsideBelow}
 
 pub looks_up : (l l' : LowerNote) → l' ≡ found_above l l'.phase → (1 ≤ l.phase → l.phase ≤ 2 → (1 ≤ l'.phase) × (l'.phase ≤ 2)) → LooksUp l l'
 looks_up l l' e still = record {

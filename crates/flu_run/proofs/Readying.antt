@@ -1,5 +1,5 @@
 -- A worker with its ends and those of its children, as they are made, are ready.
-use Rattle.std.proofs.Common.{◌≡◌, ◌<◌, ◌≤◌, ℕ, true, false, Option, Some, None, length, inl, inr, refl, sym, ap, subst, ◌∙◌, arith}
+use Rattle.std.proofs.Common.{◌≡◌, ℕ, true, Option, Some, None, inl, refl, sym, ap, subst, ◌∙◌, arith}
 use Rattle.flu_lemmas.proofs.Tests.{not_both}
 use Rattle.atomic_table.specs.Seated.{TableId}
 use Rattle.flu_deps.specs.Trees.{AreKids}

@@ -1,7 +1,7 @@
 -- What the root hands on is the fold's.
-use Rattle.std.proofs.Common.{◌≡◌, ◌<◌, ℕ, List, length, inr, refl, sym, ap, subst, ◌∙◌}
+use Rattle.std.proofs.Common.{◌≡◌, ◌<◌, List, length, inr, refl, sym, ap, subst, ◌∙◌}
 use Rattle.std.specs.List.Sorted.{IsPermutation}
-use Rattle.std.specs.Prelude.{Result, Ok, Err, IfOk}
+use Rattle.std.specs.Prelude.{Result, IfOk}
 use Rattle.flu_model.specs.declared.events.Item.{Item}
 use Rattle.flu_model.specs.declared.events.Out.{Out}
 use Rattle.flu_model.specs.declared.jobs.Program.{Program}

@@ -1,7 +1,7 @@
 -- The itags at whose words a worker looks, and what it finds there.
 use Rattle.std.proofs.Common.{◌≡◌, ◌<◌, ◌≤◌, ℕ, zero, suc, Bool, List, [], ◌∷◌, map, length, refl, sym, ap, subst, ◌∙◌, arith}
-use Rattle.std.specs.Prelude.{slice_index, slice_index_or, slice_set}
-use Rattle.std.specs.List.{All, filter, range_with_len}
+use Rattle.std.specs.Prelude.{slice_index, slice_index_or}
+use Rattle.std.specs.List.{All, range_with_len}
 use Rattle.std.proofs.lemmas.List.{length-map}
 use Rattle.std.proofs.lemmas.List.Elements.{All-filter}
 use Rattle.std.proofs.lemmas.List.FromFn.{length-map-range_with_len, get_or-map-range_with_len}
@@ -15,7 +15,7 @@ use Rattle.flu_fork.specs.declared.content.Content.{Content}
 use Rattle.flu_fork.specs.Lots.{job}
 use Rattle.flu_worker.specs.Notes.{WorkerNote}
 use Rattle.flu_arrive.specs.Notes.{WatchNote}
-use Rattle.flu_run.specs.Seeing.{Sees, limits_of}
+use Rattle.flu_run.specs.Seeing.{Sees}
 
 pub all_known : (p : Program) (test : Itag → Bool) → All (λ (i : Itag). i.0 < count_of_itags p) (itags_where p test)
 all_known p test =

@@ -1,6 +1,6 @@
 -- What a worker's thread keeps over its steps.
-use Rattle.std.proofs.Common.{◌≡◌, ◌≢◌, ◌<◌, ◌≤◌, ◌+◌, ℕ, zero, suc, Bool, true, false, Option, Some, None, List, [], ◌∷◌, ◌++◌, map, length, ◌⊎◌, inl, inr, refl, sym, ap, subst, ◌∙◌, arith}
-use Rattle.std.specs.Prelude.{slice_index, is_some, IsSome, IfSome, IfNone}
+use Rattle.std.proofs.Common.{◌≡◌, ◌≢◌, ◌<◌, ◌≤◌, ◌+◌, ℕ, zero, suc, true, false, Option, Some, None, List, [], length, ◌⊎◌, inl, inr, refl, sym, ap, subst, ◌∙◌, arith}
+use Rattle.std.specs.Prelude.{slice_index, IsSome, IfSome, IfNone}
 use Rattle.std.specs.List.{range_with_len}
 use Rattle.std.proofs.lemmas.Bool.{cases_eq}
 use Rattle.std.proofs.lemmas.List.{length-map}
@@ -17,12 +17,12 @@ use Rattle.flu_fork.specs.Classes.{own}
 use Rattle.flu_fork.specs.Laws.{no_counts}
 use Rattle.flu_fork.specs.Lots.{job, nodes, kids, setting_of, LotFits}
 use Rattle.flu_fork.specs.Serving.{LotCounts, counts_of, AsksAbove, GrownFrom}
-use Rattle.flu_fork.specs.Texts.{HasTexts, CountsMoment, outputs_then}
+use Rattle.flu_fork.specs.Texts.{HasTexts, CountsMoment}
 use Rattle.flu_worker.specs.declared.hand.Hand.{Hand}
 use Rattle.flu_worker.specs.declared.hand.Hand.TheVariants.{Empty, Whole, Lending, Down, Taking}
 use Rattle.flu_worker.specs.declared.hand.Side.{Side}
 use Rattle.flu_worker.specs.declared.hand.Side.TheVariants.{Left, Right}
-use Rattle.flu_worker.specs.Hands.{at_side, is_open, is_out, may_lend, may_take, first_hand}
+use Rattle.flu_worker.specs.Hands.{at_side, is_open, is_out, may_lend, may_take}
 use Rattle.flu_worker.specs.Notes.{WorkerNote, lent_to, taken_from, own_of}
 use Rattle.flu_worker.specs.Calls.{IsNew, IsAskable, start_hand, IsSamePlace, HoldsLot, GivesLot, HandlesEvent, CountsEvent, LendsPart, IsFitPart, TakesPart, KeepsTarget}
 use Rattle.flu_link.specs.Notes.{UpperNote, LowerNote, found_below, after_ask, after_take, after_lend, after_hold, after_asked, after_give}
@@ -31,7 +31,7 @@ use Rattle.flu_run.specs.LawsBelow.{LawsBelow}
 use Rattle.flu_run.specs.Ties.{IsAskedFor, Hangs, Lets, Tells}
 use Rattle.flu_run.specs.Seeing.{Sees, SeesMore, WatchesFrom, limits_of}
 use Rattle.flu_run.specs.Starts.{StartsAt, IsAskedNow}
-use Rattle.flu_run.specs.Stays.{StaysHome, StaysThere, StaysUnder, IsSameUpper, other}
+use Rattle.flu_run.specs.Stays.{StaysHome, StaysThere, StaysUnder, other}
 use Rattle.flu_arrive.specs.Notes.{WatchNote, zeros, unseen}
 use Rattle.flu_run.proofs.Counts.{zeros_at, same_zeros, some_kids}
 use Rattle.flu_run.proofs.Hands.{first_home, lend_open, lend_home, lend_out, lend_other, take_open, take_out, take_home, take_other, lending_takes_none}

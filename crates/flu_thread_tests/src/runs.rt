@@ -14,6 +14,7 @@ use std::sync::atomic::{AtomicU64, Ordering};
 use std::test::Fail;
 
 /// Folds for a job that it borrows.
+#[derive(Drop)]
 struct Folding<'a> {
     program: &'a Program,
 }
@@ -46,6 +47,7 @@ enum Seen {
 }
 
 /// Lets each leaf wait, before its first event, until the other one has come there too, and counts the passes.
+#[derive(Drop)]
 struct Meeting {
     left: AtomicU64,
     right: AtomicU64,
@@ -89,7 +91,7 @@ impl Meeting {
     }
 }
 
-fn seen(held: Option<&State>) -> Seen {
+fn count_in(held: Option<&State>) -> Seen {
     let Some(state) = held else {
         return Seen::NoState;
     };
@@ -115,7 +117,7 @@ fn expected(node: u32, point: u32, itag: u32, index: u64) -> Option<Seen> {
 impl Gate for Meeting {
     fn pass(&self, node: u32, point: u32, itag: Itag, index: u64, held: Option<&State>) {
         self.passes.fetch_add(1, Ordering::SeqCst);
-        if expected(node, point, itag.0, index) != Some(seen(held)) {
+        if expected(node, point, itag.0, index) != Some(count_in(held)) {
             self.wrong.fetch_add(1, Ordering::SeqCst);
         }
         if point == 1 && index == 0 {
