@@ -1,5 +1,5 @@
 -- What two subtrees hand on, and what their parent counted, is what the parent's subtree hands on.
-use Rattle.std.proofs.Common.{◌≡◌, ◌<◌, ◌≤◌, ℕ, Bool, true, false, cond, Some, List, ◌++◌, length, inl, inr, refl, sym, ap, subst, ◌∙◌, arith}
+use Rattle.std.proofs.Common.{◌≡◌, ◌<◌, ◌≤◌, ℕ, Bool, true, false, cond, Some, List, ◌++◌, length, inl, inr, refl, sym, ap, ◌∙◌, arith}
 use Rattle.std.specs.Prelude.{slice_index}
 use Rattle.std.proofs.lemmas.Bool.{cases_lt}
 use Rattle.flu_lemmas.proofs.Tests.{not_both}
@@ -9,8 +9,7 @@ use Rattle.flu_model.specs.Merging.{events_of}
 use Rattle.flu_fork.specs.declared.content.Content.{Content}
 use Rattle.flu_fork.specs.declared.lots.Lot.{Lot}
 use Rattle.flu_fork.specs.Classes.{own, below}
-use Rattle.flu_fork.specs.Lots.{job, nodes, kids, setting_of, LotFits, LotsPaired, HasJoinedCounts}
-use Rattle.flu_fork.specs.Serving.{LotCounts, IsOnLoan}
+use Rattle.flu_fork.specs.Lots.{job, nodes, kids, setting_of, LotFits, HasJoinedCounts}
 use Rattle.flu_fork.specs.Settings.{events_at}
 use Rattle.flu_fork.specs.Texts.{InOneOf, InNone, InFirst, InSecond, InThird}
 use Rattle.flu_worker.specs.declared.hand.Hand.TheVariants.{Down}
@@ -32,33 +31,10 @@ pub own_or_kids : (laws : LawsBelow) (k : Content) (w l r i : ℕ) → kids k w 
     → InOneOf (below (job k) (nodes k) w i) (own (job k) (nodes k) w i) (below (job k) (nodes k) l i) (below (job k) (nodes k) r i)
 own_or_kids laws k w l r i e lt = (laws.of_kids (setting_of k) w l r i (laws.settings k) e lt).parts
 
--- what comes back complete is still on its loan
-on_loan : (k : Content) (v : ℕ) (lent : LotCounts) (lot : Lot) (outs : List Out) → ((i : ℕ) → slice_index lent.upto i ≤ length (events_at (setting_of k) i)) → IsFinal k v lent lot outs
-    → IsOnLoan k v lent lot
-on_loan k v lent lot outs there f = record {
-  since = f.since;
-  outside = f.outside;
-  inside = λ i inside. (let a = f.inside i inside in let b = there i in omega arith);
-}
-
 module _ (laws : LawsBelow) (n : WorkerNote) (l r : ℕ) (e : kids n.case n.node ≡ Some (l, r)) (done : IsFinished n) (down : n.hand ≡ Down) (left right : Lot)
     (outs lefts rights : List Out) (fl : IsFinal n.case l n.lent_left left lefts) (fr : IsFinal n.case r n.lent_right right rights) where
   forked : IsForked n
   forked = done.forked down
-
-  left_loan : n.lent_left ≡ record { since = n.held.since; upto = n.lent_left.upto }
-  left_loan = λ i. record { since = forked.left_since i; upto = n.lent_left.upto }
-
-  right_loan : n.lent_right ≡ record { since = n.lent_left.upto; upto = n.lent_left.upto }
-  right_loan = λ i. record { since = forked.right_since i; upto = forked.right_upto i }
-
-  -- they can be joined
-  pub are_paired : LotsPaired n.case l r left right
-  are_paired =
-      laws.paired n.case l r n.held.since n.lent_left.upto left right forked.first
-      (subst (λ (lent : LotCounts). IsOnLoan n.case l lent left) left_loan (on_loan n.case l n.lent_left left lefts forked.there fl))
-      (subst (λ (lent : LotCounts). IsOnLoan n.case r lent right) right_loan
-      (on_loan n.case r n.lent_right right rights (λ i. subst (λ (u : List ℕ). slice_index u i ≤ length (events_at (setting_of n.case) i)) (sym forked.right_upto) (forked.there i)) fr))
 
   module _ (lot : Lot) (fits : LotFits n.case n.node lot) (counts : HasJoinedCounts n.case n.node left right lot) (tells : Tells n outs) where
     at : (i : ℕ) → slice_index lot.upto i ≡ cond (below (job n.case) (nodes n.case) r i) (slice_index right.upto i) (slice_index left.upto i)

@@ -1,6 +1,6 @@
 -- A leaf that has no event left keeps its promise.
-use Rattle.std.proofs.Common.{◌≡◌, ◌<◌, ℕ, Bool, true, false, Option, None, List, [], ◌++◌, append-nil, length, inl, inr, refl, sym, ap, subst, ◌∙◌}
-use Rattle.std.specs.Prelude.{slice_index, is_some}
+use Rattle.std.proofs.Common.{◌≡◌, ◌<◌, ℕ, Bool, true, false, None, List, [], ◌++◌, append-nil, length, inl, inr, refl, sym, ap, subst, ◌∙◌}
+use Rattle.std.specs.Prelude.{slice_index}
 use Rattle.std.proofs.lemmas.Bool.{cases_lt}
 use Rattle.flu_model.specs.declared.events.Out.{Out}
 use Rattle.flu_model.specs.Itags.{count_of_itags}
@@ -11,25 +11,14 @@ use Rattle.flu_fork.specs.Lots.{job, kids, setting_of}
 use Rattle.flu_fork.specs.Serving.{LotCounts}
 use Rattle.flu_fork.specs.Settings.{events_at}
 use Rattle.flu_fork.specs.Texts.{HasTexts, InOneOf, InNone, InFirst}
-use Rattle.flu_worker.specs.declared.hand.Hand.TheVariants.{Whole}
 use Rattle.flu_worker.specs.Hands.{is_open}
 use Rattle.flu_worker.specs.Notes.{WorkerNote, own_of, below_of}
 use Rattle.flu_worker.specs.Calls.{IsFinished, IsWholeLot}
 use Rattle.flu_link.specs.Notes.{LowerNote}
-use Rattle.flu_run.specs.EndNotes.{IsSameEnd}
 use Rattle.flu_run.specs.LawsBelow.{LawsBelow}
 use Rattle.flu_run.specs.Ties.{Hangs, Tells}
 use Rattle.flu_run.specs.Final.{IsFinal, IsDone}
 use Rattle.flu_run.proofs.Joined.{none_there}
-
-pub whole_of_leaf : (n : WorkerNote) → IsFinished n → kids n.case n.node ≡ None → n.hand ≡ Whole
-whole_of_leaf n done leaf = elim done.hand [
-  | inl whole ↦ whole
-  | inr down ↦ absurd (no_kids (kids n.case n.node) leaf (done.inner down))
-]
-  where
-    no_kids : (o : Option (ℕ × ℕ)) → o ≡ None → is_some o ≡ true → ⊥
-    no_kids o a b = cc
 
 -- two sets with the same itags of the job have the same outputs
 one_alone : (whole a : Bool) → whole ≡ a → InOneOf whole a false false
@@ -89,11 +78,3 @@ pub leaf_done : (laws : LawsBelow) (n : WorkerNote) (l : LowerNote) (lot : Lot) 
     → IsWholeLot n lot → Tells n outs → IsDone l l lot outs
 leaf_done laws n l lot outs hangs phase done leaf whole tells =
     done_at n l lot outs hangs (finished_open n done) phase (leaf_final laws n lot outs done leaf whole tells)
-
--- a promise on the way, over steps that keep the end
-pub done_over : (l0 l l' : LowerNote) (lot : Lot) (outs : List Out) → IsSameEnd l0 l → IsDone l l' lot outs → IsDone l0 l' lot outs
-done_over l0 l l' lot outs same d = record {
-  same = record { link = d.same.link ∙ same.link; case = d.same.case ∙ same.case; lower = d.same.lower ∙ same.lower };
-  phase = d.phase;
-  final = final_as l.case l0.case l.lower l0.lower l'.held l'.held lot outs (sym same.case) (sym same.lower) refl d.final;
-}

@@ -1,6 +1,5 @@
 pub mod Counts
 pub mod Hands
-pub mod Looking
 pub mod Tying
 pub mod Sights
 pub mod Joined
@@ -9,4 +8,3 @@ pub mod Gathering
 pub mod Settling
 pub mod Readying
 pub mod Rooted
-pub mod Feeds

@@ -12,7 +12,7 @@ use Rattle.flu_worker.specs.declared.hand.Side.TheVariants.{Left, Right}
 use Rattle.flu_worker.specs.Hands.{at_side, is_out}
 use Rattle.flu_worker.specs.Notes.{WorkerNote, lent_to, taken_from}
 use Rattle.flu_worker.specs.Calls.{IsNew}
-use Rattle.flu_link.specs.Notes.{UpperNote, LowerNote, upper_start, lower_start}
+use Rattle.flu_link.specs.Notes.{UpperNote, LowerNote, upper_start}
 use Rattle.flu_run.specs.LawsBelow.{LawsBelow}
 use Rattle.flu_run.specs.Ties.{Lets}
 use Rattle.flu_run.specs.Starts.{StartsAt, EndStarts}
@@ -47,13 +47,6 @@ lets_new s k w l r link n u new e made = subst (λ (m : UpperNote). Lets s n m) 
 
     not_out : is_out s n.hand ≡ true → ⊥
     not_out o = not_both _ o (ap (is_out s) new.hand ∙ start_home s k w)
-
-pub made_link : (k k' : Content) (v : ℕ) (u : UpperNote) (l : LowerNote) → k' ≡ k → l.link ≡ u.link → u ≡ upper_start u.link k' v → l ≡ lower_start l.link k' v → MadeLink k v u l
-made_link k k' v u l e one upper lower = record {
-  link = u.link;
-  upper = upper ∙ ap (λ (j : Content). upper_start u.link j v) e;
-  lower = lower ∙ (λ i. lower_start (one i) (e i) v);
-}
 
 made_ends : (k : Content) (v : ℕ) (u : UpperNote) (l : LowerNote) → MadeLink k v u l → EndStarts u l
 made_ends k v u l made = record {

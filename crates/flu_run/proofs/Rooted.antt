@@ -1,5 +1,5 @@
 -- What the root hands on is the fold's.
-use Rattle.std.proofs.Common.{◌≡◌, ◌<◌, List, length, inr, refl, sym, ap, subst, ◌∙◌}
+use Rattle.std.proofs.Common.{◌≡◌, ◌<◌, List, length, sym, ap, subst, ◌∙◌}
 use Rattle.std.specs.List.Sorted.{IsPermutation}
 use Rattle.std.specs.Prelude.{Result, IfOk}
 use Rattle.flu_model.specs.declared.events.Item.{Item}
@@ -13,29 +13,11 @@ use Rattle.flu_cells.specs.Holding.{held}
 use Rattle.flu_fork.specs.declared.content.Content.{Content}
 use Rattle.flu_fork.specs.declared.lots.Lot.{Lot}
 use Rattle.flu_fork.specs.Lots.{job, nodes, setting_of}
-use Rattle.flu_fork.specs.Serving.{LotCounts}
-use Rattle.flu_link.specs.Notes.{LowerNote}
-use Rattle.flu_run.specs.declared.handed.Ended.{Ended}
-use Rattle.flu_run.specs.declared.handed.Ended.TheVariants.{Done, Cut}
-use Rattle.flu_run.specs.EndNotes.{end_note, no_link, top_start}
-use Rattle.flu_run.specs.Final.{IsFinal}
-use Rattle.flu_run.specs.Ended.{Keeps, IsWhole, EndsWhole}
+use Rattle.flu_run.specs.Ended.{IsWhole}
 use Rattle.flu_run.specs.LawsBelow.{LawsBelow}
-use Rattle.flu_run.specs.Starts.{StartsAt}
 
 root_there : (laws : LawsBelow) (k : Content) → 0 < length (nodes k)
 root_there laws k = (laws.rooted (nodes k) (laws.settings k).one_tree).root
-
-pub root_starts : (laws : LawsBelow) (k : Content) (l : LowerNote) → l ≡ top_start k → StartsAt k 0 l
-root_starts laws k l e = record { there = root_there laws k; link = no_link; is = inr (refl, e) }
-
-whole_of : (k : Content) (lent : LotCounts) (lot : Lot) (outs : List Out) → IsFinal k 0 lent lot outs → IsWhole k lot outs
-whole_of k lent lot outs f = record { fits = f.fits; all = f.inside; texts = f.texts }
-
-pub ends_whole : (k : Content) (given : LowerNote) (e : Ended) → given ≡ top_start k → Keeps given e → EndsWhole k e
-ends_whole k given (Done d) is keeps =
-    whole_of k (end_note d.end).held d.lot d.outs (subst (λ (g : LowerNote). IsFinal g.case g.lower (end_note d.end).held d.lot d.outs) is keeps.final)
-ends_whole k given (Cut why) is keeps = tt
 
 pub the_state : (laws : LawsBelow) (k : Content) (lot : Lot) (outs : List Out) → IsWhole k lot outs → held lot.state ≡ final_state (job k) (held k.opening) (listed k.streams)
 the_state laws k lot outs w = laws.states_end (setting_of k) (held lot.state) lot.since lot.upto (laws.settings k) w.fits w.all

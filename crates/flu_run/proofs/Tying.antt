@@ -18,23 +18,21 @@ use Rattle.flu_fork.specs.Laws.{no_counts}
 use Rattle.flu_fork.specs.Lots.{job, nodes, kids, setting_of, LotFits}
 use Rattle.flu_fork.specs.Serving.{LotCounts, counts_of, AsksAbove, GrownFrom}
 use Rattle.flu_fork.specs.Texts.{HasTexts, CountsMoment}
-use Rattle.flu_worker.specs.declared.hand.Hand.{Hand}
-use Rattle.flu_worker.specs.declared.hand.Hand.TheVariants.{Empty, Whole, Lending, Down, Taking}
 use Rattle.flu_worker.specs.declared.hand.Side.{Side}
 use Rattle.flu_worker.specs.declared.hand.Side.TheVariants.{Left, Right}
 use Rattle.flu_worker.specs.Hands.{at_side, is_open, is_out, may_lend, may_take}
 use Rattle.flu_worker.specs.Notes.{WorkerNote, lent_to, taken_from, own_of}
-use Rattle.flu_worker.specs.Calls.{IsNew, IsAskable, start_hand, IsSamePlace, HoldsLot, GivesLot, HandlesEvent, CountsEvent, LendsPart, IsFitPart, TakesPart, KeepsTarget}
-use Rattle.flu_link.specs.Notes.{UpperNote, LowerNote, found_below, after_ask, after_take, after_lend, after_hold, after_asked, after_give}
-use Rattle.flu_run.specs.EndNotes.{IsSameEnd, LooksUp, LooksAside, LooksAsideBelow}
+use Rattle.flu_worker.specs.Calls.{IsNew, IsAskable, start_hand, IsSamePlace, HandlesEvent, CountsEvent, LendsPart, IsFitPart, TakesPart}
+use Rattle.flu_link.specs.Notes.{UpperNote, LowerNote, after_lend, after_asked}
+use Rattle.flu_run.specs.EndNotes.{LooksUp}
 use Rattle.flu_run.specs.LawsBelow.{LawsBelow}
 use Rattle.flu_run.specs.Ties.{IsAskedFor, Hangs, Lets, Tells}
 use Rattle.flu_run.specs.Seeing.{Sees, SeesMore, WatchesFrom, limits_of}
-use Rattle.flu_run.specs.Starts.{StartsAt, IsAskedNow}
+use Rattle.flu_run.specs.Starts.{StartsAt}
 use Rattle.flu_run.specs.Stays.{StaysHome, StaysThere, StaysUnder, other}
-use Rattle.flu_arrive.specs.Notes.{WatchNote, zeros, unseen}
+use Rattle.flu_arrive.specs.Notes.{WatchNote}
 use Rattle.flu_run.proofs.Counts.{zeros_at, same_zeros, some_kids}
-use Rattle.flu_run.proofs.Hands.{first_home, lend_open, lend_home, lend_out, lend_other, take_open, take_out, take_home, take_other, lending_takes_none}
+use Rattle.flu_run.proofs.Hands.{first_home, lend_home, lend_out, take_open, take_other}
 
 -- ---- the texts
 tells_at : (k k' : Content) (w w' : ℕ) (counts : List ℕ) (outs : List Out) → k' ≡ k → w' ≡ w
@@ -42,15 +40,6 @@ tells_at : (k k' : Content) (w w' : ℕ) (counts : List ℕ) (outs : List Out) �
 tells_at k k' w w' counts outs ek ew h =
     subst (λ (v : ℕ). HasTexts (setting_of k') (own (job k') (nodes k') v) counts outs) (sym ew)
     (subst (λ (j : Content). HasTexts (setting_of j) (own (job j) (nodes j) w) counts outs) (sym ek) h)
-
-pub tells_as : (laws : LawsBelow) (n n' : WorkerNote) (outs : List Out) → IsSamePlace n n' → ((i : ℕ) → own_of n i ≡ true → slice_index n'.counts i ≡ slice_index n.counts i)
-    → Tells n outs → Tells n' outs
-tells_as laws n n' outs place same tells =
-    tells_at n.case n'.case n.node n'.node n'.counts outs place.case place.node (laws.same_texts (setting_of n.case) (own_of n) n.counts n'.counts outs same tells)
-
-pub tells_same : (n n' : WorkerNote) (outs : List Out) → IsSamePlace n n' → n'.counts ≡ n.counts → Tells n outs → Tells n' outs
-tells_same n n' outs place same tells =
-    tells_at n.case n'.case n.node n'.node n'.counts outs place.case place.node (subst (λ (c : List ℕ). HasTexts (setting_of n.case) (own_of n) c outs) (sym same) tells)
 
 counts_moment : (n n' : WorkerNote) (x : Ask) (before after : List Out) → (c : CountsEvent n.case x n.counts n'.counts before after) → CountsMoment c.moment n.counts n'.counts
 counts_moment n n' x before after c =
@@ -70,46 +59,6 @@ tells_event laws n n' x before after h c tells =
     (counts_moment n n' x before after c) tells))
 
 -- ---- the end above
-pub hangs_hold : (n n' : WorkerNote) (l l' : LowerNote) (lot : Lot) → Hangs n l → HoldsLot lot n n' → l' ≡ after_hold l lot → Hangs n' l'
-hangs_hold n n' l l' lot hangs h e = subst (λ (m : LowerNote). Hangs n' m) (sym e) record {
-  case = hangs.case ∙ sym h.place.case;
-  lower = hangs.lower ∙ sym h.place.node;
-  given = hangs.given ∙ sym h.given;
-  held = λ _. sym h.held;
-  phase = λ _. inl refl;
-}
-
-pub hangs_looks : (n : WorkerNote) (l l' : LowerNote) → Hangs n l → LooksUp l l' → is_open n.hand ≡ false → Hangs n l'
-hangs_looks n l l' hangs looks shut = record {
-  case = looks.same.case ∙ hangs.case;
-  lower = looks.same.lower ∙ hangs.lower;
-  given = looks.same.given ∙ hangs.given;
-  held = λ e. looks.same.held ∙ hangs.held e;
-  phase = λ e. absurd (not_both _ e shut);
-}
-
--- nothing is said of where an end looks aside
-asked_aside : (l l' : LowerNote) → LooksAside l l' → IsAskedFor l → IsAskedFor l'
-asked_aside l l' aside a = record {
-  phase = aside.phase ∙ a.phase;
-  ask = a.ask;
-  noted = aside.same.ask ∙ a.noted;
-  above = subst (λ (k : Content). AsksAbove k l'.lower a.ask) (sym aside.same.case) (subst (λ (v : ℕ). AsksAbove l.case v a.ask) (sym aside.same.lower) a.above);
-  next = a.next ∙ ap (λ (m : LotCounts). slice_index m.upto a.ask.itag.0) (sym aside.same.held);
-}
-
-pub hangs_aside : (n : WorkerNote) (l l' : LowerNote) → Hangs n l → LooksAside l l' → Hangs n l'
-hangs_aside n l l' hangs aside = record {
-  case = aside.same.case ∙ hangs.case;
-  lower = aside.same.lower ∙ hangs.lower;
-  given = aside.same.given ∙ hangs.given;
-  held = λ e. aside.same.held ∙ hangs.held e;
-  phase = λ e. elim (hangs.phase e) as (λ _. (l'.phase ≡ 1) ⊎ IsAskedFor l') [
-    | inl held ↦ inl (aside.phase ∙ held)
-    | inr asked ↦ inr (asked_aside l l' aside asked)
-  ];
-}
-
 -- nothing is asked: it is held
 still_held : (p q : ℕ) → (1 ≤ p → p ≤ 2 → (1 ≤ q) × (q ≤ 2)) → (p ≡ 1) ⊎ (p ≡ 2) → q ≢ 2 → q ≡ 1
 still_held p q still (inl e) other = let s = still (omega arith) (omega arith) in one_or_two q s.0 s.1 other
@@ -147,73 +96,7 @@ hangs_asked n l l' y hangs e above next = subst (λ (m : LowerNote). Hangs n m) 
   phase = λ _. inr record { phase = refl; ask = y; noted = refl; above = above; next = next };
 }
 
-pub hangs_give : (n n' : WorkerNote) (l l' : LowerNote) (lot : Lot) → Hangs n l → GivesLot lot n n' → l' ≡ after_give l lot → Hangs n' l'
-hangs_give n n' l l' lot hangs g e =
-    let shut : is_open n'.hand ≡ false = ap is_open g.hand in
-    subst (λ (m : LowerNote). Hangs n' m) (sym e) record {
-      case = hangs.case ∙ sym g.place.case;
-      lower = hangs.lower ∙ sym g.place.node;
-      given = sym g.given;
-      held = λ o. absurd (not_both _ o shut);
-      phase = λ o. absurd (not_both _ o shut);
-    }
-
-pub hangs_event : (n n' : WorkerNote) (l : LowerNote) (x : Ask) → Hangs n l → HandlesEvent x n n' → Hangs n' l
-hangs_event n n' l x hangs h =
-    let opened : is_open n.hand ≡ true = ap is_open h.hand_was in record {
-      case = hangs.case ∙ sym h.place.case;
-      lower = hangs.lower ∙ sym h.place.node;
-      given = hangs.given ∙ sym h.given;
-      held = λ _. hangs.held opened ∙ sym h.held;
-      phase = λ _. hangs.phase opened;
-    }
-
-pub hangs_there : (s : Side) (n n' : WorkerNote) (l : LowerNote) → Hangs n l → StaysThere s n n' → Hangs n' l
-hangs_there s n n' l hangs t =
-    let was : is_open n'.hand ≡ true → is_open n.hand ≡ true = λ o. elim t.opens [ inl same ↦ sym (ap is_open same) ∙ o | inr both ↦ both.0 ] in record {
-      case = hangs.case ∙ sym t.place.case;
-      lower = hangs.lower ∙ sym t.place.node;
-      given = hangs.given ∙ sym t.given;
-      held = λ o. hangs.held (was o) ∙ sym t.held;
-      phase = λ o. hangs.phase (was o);
-    }
-
--- ---- the ends below, over the steps above
-shut_home : (s : Side) (h : Hand) → is_open h ≡ false → is_out s h ≡ false
-shut_home s Empty e = refl
-shut_home s Whole e = cc
-shut_home s (Lending l r) e = cc
-shut_home s Down e = cc
-shut_home s (Taking l r) e = cc
-
-pub home_hold : (n n' : WorkerNote) (lot : Lot) → is_open n.hand ≡ false → HoldsLot lot n n' → StaysHome n n'
-home_hold n n' lot shut h = record {
-  place = h.place;
-  same = h.same;
-  home = inr (λ s. (shut_home s n.hand shut, ap (is_out s) h.hand ∙ first_home (kids n.case n.node) s));
-}
-
-pub home_give : (n n' : WorkerNote) (lot : Lot) → GivesLot lot n n' → StaysHome n n'
-home_give n n' lot g = record {
-  place = g.place;
-  same = g.same;
-  home = inr (λ s. (ap (is_out s) g.hand_was, ap (is_out s) g.hand));
-}
-
-pub home_event : (n n' : WorkerNote) (x : Ask) → HandlesEvent x n n' → StaysHome n n'
-home_event n n' x h = record {
-  place = h.place;
-  same = h.same;
-  home = inr (λ s. (ap (is_out s) h.hand_was, ap (is_out s) h.hand ∙ first_home (kids n.case n.node) s));
-}
-
-pub home_same : (n n' : WorkerNote) → n' ≡ n → StaysHome n n'
-home_same n n' e = subst (λ (m : WorkerNote). StaysHome n m) (sym e) record {
-  place = record { case = refl; node = refl; seen = refl };
-  same = record { lent_left = refl; lent_right = refl; taken_left = refl; taken_right = refl };
-  home = inl (refl, refl);
-}
-
+-- ---- the ends below
 lent_same : (s : Side) (n n' : WorkerNote) → n'.lent_left ≡ n.lent_left → n'.lent_right ≡ n.lent_right → lent_to s n' ≡ lent_to s n
 lent_same Left n n' a b = a
 lent_same Right n n' a b = b
@@ -225,54 +108,10 @@ taken_same Right n n' a b = b
 lower_as : (s : Side) (n n' : WorkerNote) (u : UpperNote) → IsSamePlace n n' → Lets s n u → (l r : ℕ) → kids n'.case n'.node ≡ Some (l, r) → u.lower ≡ at_side s l r
 lower_as s n n' u place lets l r e = lets.lower l r ((λ i. kids (sym place.case i) (sym place.node i)) ∙ e)
 
-pub lets_home : (s : Side) (n n' : WorkerNote) (u : UpperNote) → Lets s n u → StaysHome n n' → Lets s n' u
-lets_home s n n' u lets h = record {
-  case = lets.case ∙ sym h.place.case;
-  lower = lower_as s n n' u h.place lets;
-  lent = lets.lent ∙ sym (lent_same s n n' h.same.lent_left h.same.lent_right);
-  received = lets.received ∙ sym (taken_same s n n' h.same.taken_left h.same.taken_right);
-  home = λ e. elim h.home [
-    | inl same ↦ lets.home (sym (ap (is_out s) same.0) ∙ e)
-    | inr both ↦ lets.home (both s).0
-  ];
-  out = λ e. elim h.home [
-    | inl same ↦ (elim (lets.out (sym (ap (is_out s) same.0) ∙ e)) as (λ q. ((u.taken ≡ true) × (u.phase ≤ 1)) ⊎ ((u.taken ≡ false) × (may_take s n'.hand ≡ true) × (n'.kept ≡ Some u.ask))) [
-      | inl free ↦ inl free
-      | inr busy ↦ inr (busy.0, ap (may_take s) same.0 ∙ busy.1, same.1 ∙ busy.2)
-    ])
-    | inr both ↦ absurd (not_both _ e (both s).1)
-  ];
-}
-
--- ---- the ends below, over a step at the end of a side
-pub lets_there : (s : Side) (n n' : WorkerNote) (u : UpperNote) → Lets (other s) n u → StaysThere s n n' → Lets (other s) n' u
-lets_there s n n' u lets t = record {
-  case = lets.case ∙ sym t.place.case;
-  lower = lower_as (other s) n n' u t.place lets;
-  lent = lets.lent ∙ sym t.lent;
-  received = lets.received ∙ sym t.taken;
-  home = λ e. lets.home (sym t.out ∙ e);
-  out = λ e. elim (lets.out (sym t.out ∙ e)) as (λ q. ((u.taken ≡ true) × (u.phase ≤ 1)) ⊎ ((u.taken ≡ false) × (may_take (other s) n'.hand ≡ true) × (n'.kept ≡ Some u.ask))) [
-    | inl free ↦ inl free
-    | inr busy ↦ inr (busy.0, t.take busy.1, t.kept u.ask busy.2)
-  ];
-}
-
 -- ---- a part is lent
-at_side_left : {A : Type 0} (x y z : A) → at_side Left x y ≡ x
-at_side_left x y z = refl
-
 lent_here : (s : Side) (n n' : WorkerNote) (part : Lot) → LendsPart s part n n' → lent_to s n' ≡ counts_of part
 lent_here Left n n' part h = h.lent_left
 lent_here Right n n' part h = h.lent_right
-
-lent_there : (s : Side) (n n' : WorkerNote) (part : Lot) → LendsPart s part n n' → lent_to (other s) n' ≡ lent_to (other s) n
-lent_there Left n n' part h = h.lent_right
-lent_there Right n n' part h = h.lent_left
-
-taken_here : (s : Side) (n n' : WorkerNote) (part : Lot) → TakesPart s part n n' → taken_from s n' ≡ part.upto
-taken_here Left n n' part h = h.taken_left
-taken_here Right n n' part h = h.taken_right
 
 taken_there : (s : Side) (n n' : WorkerNote) (part : Lot) → TakesPart s part n n' → taken_from (other s) n' ≡ taken_from (other s) n
 taken_there Left n n' part h = h.taken_right
@@ -291,91 +130,7 @@ lets_lend s n n' u u' part lets may h e =
       out = λ _. inl (free.0, omega arith);
     }
 
-pub there_lend : (s : Side) (n n' : WorkerNote) (part : Lot) → may_lend s n.hand ≡ true → LendsPart s part n n' → StaysThere s n n'
-there_lend s n n' part may h =
-    let opens = lend_open s n.hand may in record {
-      place = h.place;
-      held = h.held;
-      given = h.given;
-      counts = h.counts;
-      opens = inr (opens.0, ap is_open h.hand ∙ opens.1);
-      lent = lent_there s n n' part h;
-      taken = taken_same (other s) n n' h.taken_left h.taken_right;
-      out = ap (is_out (other s)) h.hand ∙ lend_other s n.hand may;
-      take = λ e. absurd (not_both _ e (lending_takes_none s (other s) n.hand may));
-      kept = λ a e. h.kept ∙ e;
-    }
-
-pub there_same : (s : Side) (n n' : WorkerNote) → n' ≡ n → StaysThere s n n'
-there_same s n n' e = subst (λ (m : WorkerNote). StaysThere s n m) (sym e) record {
-  place = record { case = refl; node = refl; seen = refl };
-  held = refl;
-  given = refl;
-  counts = refl;
-  opens = inl refl;
-  lent = refl;
-  taken = refl;
-  out = refl;
-  take = λ e. e;
-  kept = λ a e. e;
-}
-
 -- ---- a part is asked for, and taken
-pub lets_ask : (s : Side) (n : WorkerNote) (u u' : UpperNote) (a : Ask) → Lets s n u → may_take s n.hand ≡ true → n.kept ≡ Some a → u' ≡ after_ask u a → Lets s n u'
-lets_ask s n u u' a lets may kept e = subst (λ (m : UpperNote). Lets s n m) (sym e) record {
-  case = lets.case;
-  lower = lets.lower;
-  lent = lets.lent;
-  received = lets.received;
-  home = λ o. absurd (not_both _ (take_out s n.hand may) o);
-  out = λ _. inr (refl, may, kept);
-}
-
-pub lets_looks : (s : Side) (n : WorkerNote) (u u' : UpperNote) → Lets s n u → is_out s n.hand ≡ true → u' ≡ found_below u u'.phase → (u.phase ≤ 1 → u'.phase ≤ 1) → Lets s n u'
-lets_looks s n u u' lets out looks still = subst (λ (m : UpperNote). Lets s n m) (sym looks) record {
-  case = lets.case;
-  lower = lets.lower;
-  lent = lets.lent;
-  received = lets.received;
-  home = λ o. absurd (not_both _ out o);
-  out = λ o. elim (lets.out o) as (λ q. ((u.taken ≡ true) × (u'.phase ≤ 1)) ⊎ ((u.taken ≡ false) × (may_take s n.hand ≡ true) × (n.kept ≡ Some u.ask))) [
-    | inl free ↦ inl (free.0, still free.1)
-    | inr busy ↦ inr busy
-  ];
-}
-
-pub lets_aside : (s : Side) (n : WorkerNote) (u u' : UpperNote) → Lets s n u → LooksAsideBelow u u' → Lets s n u'
-lets_aside s n u u' lets aside = record {
-  case = aside.case ∙ lets.case;
-  lower = λ l r e. aside.lower ∙ lets.lower l r e;
-  lent = aside.lent ∙ lets.lent;
-  received = aside.received ∙ lets.received;
-  home = λ o. (let h = lets.home o in (aside.taken ∙ h.0, aside.phase ∙ h.1));
-  out = λ o. elim (lets.out o) as (λ q. ((u'.taken ≡ true) × (u'.phase ≤ 1)) ⊎ ((u'.taken ≡ false) × (may_take s n.hand ≡ true) × (n.kept ≡ Some u'.ask))) [
-    | inl free ↦ inl (aside.taken ∙ free.0, subst (λ (p : ℕ). p ≤ 1) (sym aside.phase) free.1)
-    | inr busy ↦ inr (aside.taken ∙ busy.0, busy.1, busy.2 ∙ ap (λ (a : Ask). Some a) (sym aside.ask))
-  ];
-}
-
-pub asked_for : (s : Side) (n : WorkerNote) (u : UpperNote) → Lets s n u → may_take s n.hand ≡ true → u.taken ≡ false → n.kept ≡ Some u.ask
-asked_for s n u lets may not_taken =
-    elim (lets.out (take_out s n.hand may)) [
-      | inl free ↦ absurd (not_both _ free.0 not_taken)
-      | inr busy ↦ busy.2
-    ]
-
-pub lets_take : (s : Side) (n n' : WorkerNote) (u u' : UpperNote) (part : Lot) → Lets s n u → may_take s n.hand ≡ true → TakesPart s part n n' → u' ≡ after_take u part → Lets s n' u'
-lets_take s n n' u u' part lets may h e =
-    let home : is_out s n'.hand ≡ false = ap (is_out s) h.hand ∙ take_home s n.hand may in
-    subst (λ (m : UpperNote). Lets s n' m) (sym e) record {
-      case = lets.case ∙ sym h.place.case;
-      lower = lower_as s n n' u h.place lets;
-      lent = lets.lent ∙ sym (lent_same s n n' h.lent_left h.lent_right);
-      received = sym (taken_here s n n' part h);
-      home = λ _. (refl, refl);
-      out = λ o. absurd (not_both _ o home);
-    }
-
 pub there_take : (s : Side) (n n' : WorkerNote) (part : Lot) → may_take s n.hand ≡ true → TakesPart s part n n' → StaysThere s n n'
 there_take s n n' part may h =
     let opens = take_open s n.hand may in
@@ -391,21 +146,6 @@ there_take s n n' part may h =
       take = λ e. ap (may_take (other s)) h.hand ∙ same.1 ∙ e;
       kept = λ a e. h.kept ∙ e;
     }
-
--- a target is kept
-pub there_keeps : (s : Side) (n n' : WorkerNote) (found : Option Ask) → KeepsTarget found n n' → StaysThere s n n'
-there_keeps s n n' found h = record {
-  place = record { case = ap (λ m. m.case) h.rest; node = ap (λ m. m.node) h.rest; seen = ap (λ m. m.seen) h.rest };
-  held = ap (λ m. m.held) h.rest;
-  given = ap (λ m. m.given) h.rest;
-  counts = ap (λ m. m.counts) h.rest;
-  opens = inl (ap (λ m. m.hand) h.rest);
-  lent = ap (lent_to (other s)) h.rest ∙ lent_same (other s) n (record n { kept = n'.kept }) refl refl;
-  taken = ap (taken_from (other s)) h.rest ∙ taken_same (other s) n (record n { kept = n'.kept }) refl refl;
-  out = ap (λ m. is_out (other s) m.hand) h.rest;
-  take = λ e. ap (λ m. may_take (other s) m.hand) h.rest ∙ e;
-  kept = h.same;
-}
 
 -- ---- one step after another
 place_trans : (a b c : WorkerNote) → IsSamePlace a b → IsSamePlace b c → IsSamePlace a c
@@ -432,30 +172,6 @@ home_trans a b c p q = record {
   ];
 }
 
-pub under_there : (s : Side) (a b : WorkerNote) → StaysThere s a b → StaysUnder a b
-under_there s a b t = record { place = t.place; held = t.held; given = t.given; counts = t.counts; opens = t.opens }
-
-pub under_same : (a b : WorkerNote) → b ≡ a → StaysUnder a b
-under_same a b e = under_there Left a b (there_same Left a b e)
-
-pub under_trans : (a b c : WorkerNote) → StaysUnder a b → StaysUnder b c → StaysUnder a c
-under_trans a b c p q = record {
-  place = place_trans a b c p.place q.place;
-  held = q.held ∙ p.held;
-  given = q.given ∙ p.given;
-  counts = q.counts ∙ p.counts;
-  opens = elim p.opens as (λ _. (c.hand ≡ a.hand) ⊎ ((is_open a.hand ≡ true) × (is_open c.hand ≡ true))) [
-    | inl x ↦ (elim q.opens as (λ _. (c.hand ≡ a.hand) ⊎ ((is_open a.hand ≡ true) × (is_open c.hand ≡ true))) [
-      | inl y ↦ inl (y ∙ x)
-      | inr y ↦ inr (sym (ap is_open x) ∙ y.0, y.1)
-    ])
-    | inr x ↦ (elim q.opens as (λ _. (c.hand ≡ a.hand) ⊎ ((is_open a.hand ≡ true) × (is_open c.hand ≡ true))) [
-      | inl y ↦ inr (x.0, ap is_open y ∙ x.1)
-      | inr y ↦ inr (x.0, y.1)
-    ])
-  ];
-}
-
 pub hangs_under : (n n' : WorkerNote) (l : LowerNote) → Hangs n l → StaysUnder n n' → Hangs n' l
 hangs_under n n' l hangs t =
     let was : is_open n'.hand ≡ true → is_open n.hand ≡ true = λ o. elim t.opens [ inl same ↦ sym (ap is_open same) ∙ o | inr both ↦ both.0 ] in record {
@@ -466,47 +182,12 @@ hangs_under n n' l hangs t =
       phase = λ o. hangs.phase (was o);
     }
 
-pub asked_under : (n n' : WorkerNote) (l : LowerNote) (y : Ask) → IsAskedNow n l y → StaysUnder n n' → IsAskedNow n' l y
-asked_under n n' l y a t = record {
-  opened = elim t.opens [ inl same ↦ ap is_open same ∙ a.opened | inr both ↦ both.1 ];
-  noted = a.noted;
-  above = subst (λ (k : Content). AsksAbove k n'.node y) (sym t.place.case) (subst (λ (w : ℕ). AsksAbove n.case w y) (sym t.place.node) a.above);
-  next = a.next ∙ ap (λ (m : LotCounts). slice_index m.upto y.itag.0) (sym t.held);
-}
-
 -- ---- as the calls say it
-pub tells_hold : (laws : LawsBelow) (n n' : WorkerNote) (lot : Lot) (outs : List Out) → HoldsLot lot n n' → Tells n outs → Tells n' outs
-tells_hold laws n n' lot outs h tells = tells_as laws n n' outs h.place h.counts_own tells
-
 pub hangs_look : (n : WorkerNote) (l l' : LowerNote) (found : Option Ask) → Hangs n l → is_open n.hand ≡ true
     → IfSome found (λ y. l' ≡ after_asked l y) → IfSome found (AsksAbove l.case l.lower) → IfSome found (λ y. y.index ≡ slice_index l.held.upto y.itag.0)
     → IfNone found (LooksUp l l') → IfNone found (l'.phase ≢ 2) → Hangs n l'
 hangs_look n l l' None hangs o note above next looks not_two = hangs_none n l l' hangs looks o not_two
 hangs_look n l l' (Some y) hangs o note above next looks not_two = hangs_asked n l l' y hangs note above next
-
-asked_now : (n : WorkerNote) (l l' : LowerNote) (y : Ask) → Hangs n l → is_open n.hand ≡ true → l' ≡ after_asked l y → AsksAbove l.case l.lower y
-    → y.index ≡ slice_index l.held.upto y.itag.0 → IsAskedNow n l' y
-asked_now n l l' y hangs o note above next = record {
-  opened = o;
-  noted = ap (λ m. m.ask) note;
-  above = subst (λ (k : Content). AsksAbove k n.node y) hangs.case (subst (λ (v : ℕ). AsksAbove l.case v y) hangs.lower above);
-  next = next ∙ ap (λ (m : LotCounts). slice_index m.upto y.itag.0) (hangs.held o);
-}
-
-pub asked_look : (n : WorkerNote) (l l' : LowerNote) (found : Option Ask) → Hangs n l → is_open n.hand ≡ true
-    → IfSome found (λ y. l' ≡ after_asked l y) → IfSome found (AsksAbove l.case l.lower) → IfSome found (λ y. y.index ≡ slice_index l.held.upto y.itag.0)
-    → IfSome found (IsAskedNow n l')
-asked_look n l l' None hangs o note above next = tt
-asked_look n l l' (Some y) hangs o note above next = asked_now n l l' y hangs o note above next
-
-pub none_look : (n : WorkerNote) (l l' : LowerNote) (found : Option Ask) → Hangs n l → is_open n.hand ≡ true → IfNone found (LooksUp l l') → IfNone found (l'.phase ≢ 2)
-    → IfNone found (is_open n.hand ≡ true → l'.phase ≡ 1)
-none_look n l l' None hangs o looks not_two = λ _. none_asked n l l' hangs looks o not_two
-none_look n l l' (Some y) hangs o looks not_two = tt
-
-pub same_look : (l l' : LowerNote) (found : Option Ask) → IfSome found (λ y. l' ≡ after_asked l y) → IfNone found (LooksUp l l') → IsSameEnd l l'
-same_look l l' None note looks = record { link = looks.same.link; case = looks.same.case; lower = looks.same.lower }
-same_look l l' (Some y) note looks = record { link = ap (λ m. m.link) note; case = ap (λ m. m.case) note; lower = ap (λ m. m.lower) note }
 
 pub fits_below : (s : Side) (n : WorkerNote) (u : UpperNote) (part : Lot) → IsSome (kids n.case n.node) → Lets s n u
     → IsFitPart s part n → LotFits u.case u.lower part
@@ -580,15 +261,6 @@ sees_from k n v case seen from =
       limits = from.limits ∙ ap limits_of (sym case);
     }
 
-pub watches_at : (k k' : Content) (w : WatchNote) (limits : List ℕ) → k' ≡ k → w ≡ unseen limits → limits ≡ limits_of k' → WatchesFrom k w
-watches_at k k' w limits e is are = record {
-  noted = ap (λ v. v.noted) is ∙ ap zeros (sym (ap (λ v. v.limits) is));
-  limits = ap (λ v. v.limits) is ∙ are ∙ ap limits_of e;
-}
-
-pub hangs_seen : (n n' : WorkerNote) (l : LowerNote) → Hangs n l → SeesMore n n' → Hangs n' l
-hangs_seen n n' l h more = subst (λ (m : WorkerNote). Hangs m l) (sym more.rest) record { case = h.case; lower = h.lower; given = h.given; held = h.held; phase = h.phase }
-
 pub lets_seen : (s : Side) (n n' : WorkerNote) (u : UpperNote) → Lets s n u → SeesMore n n' → Lets s n' u
 lets_seen Left n n' u h more =
     subst (λ (m : WorkerNote). Lets Left m u) (sym more.rest) record { case = h.case; lower = h.lower; lent = h.lent; received = h.received; home = h.home; out = h.out }
@@ -597,6 +269,3 @@ lets_seen Right n n' u h more =
 
 pub tells_seen : (n n' : WorkerNote) (outs : List Out) → Tells n outs → SeesMore n n' → Tells n' outs
 tells_seen n n' outs h more = subst (λ (m : WorkerNote). Tells m outs) (sym more.rest) h
-
-pub sees_same : (n n' : WorkerNote) (v : WatchNote) → Sees n v → IsSamePlace n n' → Sees n' v
-sees_same n n' v h p = record { seen = p.seen ∙ h.seen; one_each = h.one_each; limits = h.limits ∙ ap limits_of (sym p.case) }
