@@ -1,4 +1,4 @@
-//! Tests of the links between workers and of the arrival words, in one thread. It has no code of its own.
+//! Tests of the links between workers, of the arrival words and of workers, in one thread. It has no code of its own.
 #![tactic(auto)]
 
 #[cfg(test)]
@@ -11,3 +11,7 @@ mod jobs;
 mod links;
 #[cfg(test)]
 mod lots;
+#[cfg(test)]
+mod steps;
+#[cfg(test)]
+mod workers;
