@@ -64,6 +64,23 @@ pub fn does(
     Ok(worker.can_handle(case).is_none())
 }
 
+/// Whether the worker takes just this event now, or none.
+pub fn does_one(
+    alloc: Global,
+    case: &Case,
+    worker: &mut Worker,
+    outs: &mut Outs,
+    one: Option<Ask>,
+) -> Result<bool, AllocError>
+    requires { case.now ≡ worker.old.case }
+    ensures { IfOk result (λ good. Works worker.old worker.new) }
+{
+    match one {
+        Some(x) => does(alloc, case, worker, outs, &[x]),
+        None => does(alloc, case, worker, outs, &[]),
+    }
+}
+
 /// Lends the part for a side to the leaf there, where it has these counts.
 #[tactic(auto, using(crate::proofs::StepLemmas::fit_of, crate::proofs::StepLemmas::grown_of, crate::proofs::StepLemmas::shut, crate::proofs::StepLemmas::lent_now, crate::proofs::StepLemmas::lends_of, crate::proofs::StepLemmas::leaf_at_back))]
 pub fn lends(

@@ -8,7 +8,7 @@ ghost use Rattle.flu_thread_tests.specs.Steps.{Works, AreBack, AreLent};
 
 use crate::jobs::{has_shape, is_alone, made, opened};
 use crate::lots::counts_are;
-use crate::steps::{Told, begun, does, gives, lends};
+use crate::steps::{Told, begun, does, does_one, gives, lends};
 use flu_fork::{Ask, Case, Lot};
 use flu_model::{Itag, Outs};
 use flu_worker::{Side, Worker};
@@ -137,16 +137,16 @@ fn work_below(
     root: &Worker,
     left: &mut Worker,
     right: &mut Worker,
-    asks: [&[Ask]; 2],
+    asks: [Option<Ask>; 2],
 ) -> Result<bool, AllocError>
     requires { AreLent case.now root.now left.old right.old }
     ensures { IfOk result (λ good. good ≡ true → AreLent case.now root.now left.new right.new) }
 {
     let mut outs = Outs::of(Vec::new(alloc));
-    if !does(alloc, case, left, &mut outs, asks[0])? {
+    if !does_one(alloc, case, left, &mut outs, asks[0])? {
         return Ok(false);
     }
-    if !does(alloc, case, right, &mut outs, asks[1])? {
+    if !does_one(alloc, case, right, &mut outs, asks[1])? {
         return Ok(false);
     }
     Ok(outs.items().is_empty())
@@ -178,9 +178,9 @@ fn come_back(
 
 /// What a round is to be: the lots as they go down, the events that the leaves take, the lots as they come back, and the read.
 #[derive(Clone, Copy)]
-struct Round<'a> {
+struct Round {
     down: [Told; 2],
-    below: [&'a [Ask]; 2],
+    below: [Option<Ask>; 2],
     back: [Told; 2],
     read: Ask,
 }
@@ -194,7 +194,7 @@ fn go_round(
     left: &mut Worker,
     right: &mut Worker,
     outs: &mut Outs,
-    to_be: &Round<'_>,
+    to_be: &Round,
 ) -> Result<bool, AllocError>
     requires row { IsRow case.now }
     requires back { AreBack case.now root.old left.old right.old }
@@ -226,16 +226,16 @@ fn go_round(
 
 const NONE: [u64; 3] = [0, 0, 0];
 
-const FIRST: Round<'static> = Round {
+const FIRST: Round = Round {
     down: [[NONE, NONE], [NONE, NONE]],
-    below: [&[INC_5], &[INC_7]],
+    below: [Some(INC_5), Some(INC_7)],
     back: [[NONE, [1, 0, 0]], [NONE, [0, 1, 0]]],
     read: READ_12,
 };
 
-const SECOND: Round<'static> = Round {
+const SECOND: Round = Round {
     down: [[NONE, [1, 1, 1]], [[1, 1, 1], [1, 1, 1]]],
-    below: [&[INC_2], &[]],
+    below: [Some(INC_2), None],
     back: [[NONE, [2, 1, 1]], [[1, 1, 1], [1, 1, 1]]],
     read: READ_2,
 };
