@@ -15,8 +15,12 @@ use flu_model::{Itag, Outs};
 use flu_worker::{Side, Worker};
 use std::alloc::{AllocError, Global};
 
-/// The `since` and the `upto` of a lot.
-pub type Told = [[u64; 3]; 2];
+/// The counts of a lot.
+#[derive(Clone, Copy)]
+pub struct Told {
+    pub since: [u64; 3],
+    pub upto: [u64; 3],
+}
 
 /// A worker that has seen so many items of each itag.
 pub fn begun(
@@ -98,7 +102,7 @@ pub fn lends(
     ensures leaf { IfOk result (λ good. good ≡ true → IsLent case.now side root.new leaf.new) }
 {
     let lot = root.lend(side);
-    if !counts_are(&lot, &told[0], &told[1]) {
+    if !counts_are(&lot, &told.since, &told.upto) {
         return Ok(false);
     }
     leaf.hold(alloc, case, lot)?;
@@ -128,7 +132,7 @@ pub fn gives(
         return Ok(false);
     }
     let lot = leaf.give(case, y);
-    if !counts_are(&lot, &told[0], &told[1]) {
+    if !counts_are(&lot, &told.since, &told.upto) {
         return Ok(false);
     }
     root.take_reply(alloc, case, side, lot)?;

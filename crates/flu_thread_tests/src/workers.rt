@@ -226,21 +226,62 @@ fn go_round(
 
 const NONE: [u64; 3] = [0, 0, 0];
 
+const UNUSED: Told = Told {
+    since: NONE,
+    upto: NONE,
+};
+
 const FIRST: Round = Round {
-    down: [[NONE, NONE], [NONE, NONE]],
+    down: [UNUSED, UNUSED],
     below: [Some(INC_5), Some(INC_7)],
-    back: [[NONE, [1, 0, 0]], [NONE, [0, 1, 0]]],
+    back: [
+        Told {
+            since: NONE,
+            upto: [1, 0, 0],
+        },
+        Told {
+            since: NONE,
+            upto: [0, 1, 0],
+        },
+    ],
     read: READ_12,
 };
 
 const SECOND: Round = Round {
-    down: [[NONE, [1, 1, 1]], [[1, 1, 1], [1, 1, 1]]],
+    down: [
+        Told {
+            since: NONE,
+            upto: [1, 1, 1],
+        },
+        Told {
+            since: [1, 1, 1],
+            upto: [1, 1, 1],
+        },
+    ],
     below: [Some(INC_2), None],
-    back: [[NONE, [2, 1, 1]], [[1, 1, 1], [1, 1, 1]]],
+    back: [
+        Told {
+            since: NONE,
+            upto: [2, 1, 1],
+        },
+        Told {
+            since: [1, 1, 1],
+            upto: [1, 1, 1],
+        },
+    ],
     read: READ_2,
 };
 
-const LAST: [Told; 2] = [[NONE, [2, 1, 2]], [[2, 1, 2], [2, 1, 2]]];
+const LAST: [Told; 2] = [
+    Told {
+        since: NONE,
+        upto: [2, 1, 2],
+    },
+    Told {
+        since: [2, 1, 2],
+        upto: [2, 1, 2],
+    },
+];
 
 /// Both rounds, and the last parts go down.
 fn rounds(
