@@ -20,18 +20,22 @@ const INC_5: Ask = Ask {
     itag: Itag(0),
     index: 0,
 };
+
 const INC_7: Ask = Ask {
     itag: Itag(1),
     index: 0,
 };
+
 const READ_12: Ask = Ask {
     itag: Itag(2),
     index: 0,
 };
+
 const INC_2: Ask = Ask {
     itag: Itag(0),
     index: 1,
 };
+
 const READ_2: Ask = Ask {
     itag: Itag(2),
     index: 1,
