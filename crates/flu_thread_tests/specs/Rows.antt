@@ -35,6 +35,11 @@ pub record HasShape (k : Content) : Type 0 where
   pub right : owner_of (job k) (nodes k) (itag 1) ≡ Some 2
   pub reads : owner_of (job k) (nodes k) (itag 2) ≡ Some 0
 
+-- one node has all
+pub record IsAlone (k : Content) : Type 0 where
+  pub itags : count_of_itags (job k) ≡ 3
+  pub count : length (nodes k) ≡ 1
+
 pub record IsRow (k : Content) : Type 0 where
   pub shape : HasShape k
   pub streams : listed k.streams ≡ row

@@ -9,7 +9,7 @@ use std::test::Fail;
 fn cross<T: Send + Drop>(_end: T) {}
 
 fn all_cross(alloc: Global) -> Result<bool, AllocError> {
-    let Some((checked, valid, streams)) = made(alloc)? else {
+    let Some((checked, valid, streams)) = made(alloc, 3)? else {
         return Ok(false);
     };
     let case = opened(alloc, &checked, &valid, &streams)?;

@@ -1,13 +1,13 @@
 //! A count to which two sources add and that a third puts out and clears, with a plan that has the reads at the root and each
 //! source that adds at a leaf, and with streams.
 
-ghost use Rattle.std.specs.Prelude.{◌≡◌, length, map, IfOk, IfSome, IsTrue, true};
+ghost use Rattle.std.specs.Prelude.{◌≡◌, ◌≤◌, length, map, IfOk, IfSome, IsTrue, true};
 ghost use Rattle.flu_model.specs.declared.events.Item.TheVariants.{Event as ItemEvent};
 ghost use Rattle.flu_model.specs.Itags.{count_of_itags};
 ghost use Rattle.flu_model.specs.Listed.{listed};
 ghost use Rattle.flu_deps.specs.Checking.{program_of};
 ghost use Rattle.flu_deps.specs.Validated.{IsValidFor};
-ghost use Rattle.flu_thread_tests.specs.Rows.{row, HasShape};
+ghost use Rattle.flu_thread_tests.specs.Rows.{row, IsAlone, HasShape};
 
 use flu_cells::State;
 use flu_check::check;
@@ -61,7 +61,8 @@ fn source(alloc: Global, name: &str, kind: u32) -> Result<Source, AllocError> {
 
 fn kinds(alloc: Global) -> Result<List<Kind>, AllocError> {
     let adds = vec![in alloc; always(Act::Add(COUNT, Expr::Value))]?;
-    let texts = vec![in alloc; Piece::Read(COUNT)]?;
+    let word = Piece::Plain(Text::of(String::from_str(alloc, "count ")?));
+    let texts = vec![in alloc; word, Piece::Read(COUNT)]?;
     let puts_out = vec![in alloc;
         always(Act::Emit(List::of(texts))),
         always(Act::Clear(COUNT)),
@@ -120,8 +121,9 @@ fn streams(alloc: Global) -> Result<Streams, AllocError>
 
 // ---- a case
 
-/// The job with its plan and with streams; none where it is refused.
-pub fn made(alloc: Global) -> Result<Option<(Checked, Valid, Streams)>, AllocError>
+/// The job with its greedy plan of a depth and with streams; none where it is refused.
+pub fn made(alloc: Global, depth: u32) -> Result<Option<(Checked, Valid, Streams)>, AllocError>
+    requires { depth ≤ 6 }
     ensures valid { IfOk result (λ made. IfSome made (λ m. IsValidFor (program_of m.0) m.1)) }
     ensures one_each { IfOk result (λ made. IfSome made (λ m. length (listed m.2) ≡ count_of_itags (program_of m.0))) }
     ensures row { IfOk result (λ made. IfSome made (λ m. listed m.2 ≡ row)) }
@@ -135,7 +137,7 @@ pub fn made(alloc: Global) -> Result<Option<(Checked, Valid, Streams)>, AllocErr
     let Ok(checked) = check(p) else {
         return Ok(None);
     };
-    let valid = plan(alloc, &checked, &[1000, 1000, 1], 3)?;
+    let valid = plan(alloc, &checked, &[1000, 1000, 1], depth)?;
     Ok(Some((checked, valid, streams(alloc)?)))
 }
 
@@ -165,4 +167,11 @@ pub fn has_shape(case: &Case) -> bool
         && v.owner(Itag(0)) == 1
         && v.owner(Itag(1)) == 2
         && v.owner(Itag(2)) == 0
+}
+
+/// Whether the plan has one node.
+pub fn is_alone(case: &Case) -> bool
+    ensures { result ≡ true → IsAlone case.now }
+{
+    itag_count(case.checked().program()) == 3 && case.valid().count() == 1
 }

@@ -1,5 +1,5 @@
-//! Tests of the links between workers and of the arrival words, in one thread, and of runs on a tree of threads. It has no code of
-//! its own.
+//! Tests of the links between workers, of the arrival words and of workers, in one thread, and of runs on a tree of threads. It has
+//! no code of its own.
 #![tactic(auto)]
 
 #[cfg(test)]
@@ -14,3 +14,7 @@ mod links;
 mod lots;
 #[cfg(test)]
 mod runs;
+#[cfg(test)]
+mod steps;
+#[cfg(test)]
+mod workers;

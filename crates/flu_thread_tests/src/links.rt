@@ -162,7 +162,7 @@ fn back(alloc: Global, case: &Case) -> Result<Option<Lot>, AllocError>
 #[test]
 fn a_lot_goes_down_a_link_and_comes_back(rt: HostRuntime) -> Result<(), Fail> {
     let alloc = rt.alloc();
-    let made = made(alloc)?;
+    let made = made(alloc, 3)?;
     assert!(rt; made.is_some());
     let (checked, valid, streams) = made.unwrap();
     let case = opened(alloc, &checked, &valid, &streams)?;

@@ -134,13 +134,13 @@ fn is_out(outs: &[Out], time: u64, text: &str) -> bool {
 /// Whether these are the two outputs of the row.
 fn are_those_of_the_row(outs: &Outs) -> bool {
     let outs = outs.items();
-    outs.len() == 2 && is_out(outs, 3, "12") && is_out(outs, 5, "2")
+    outs.len() == 2 && is_out(outs, 3, "count 12") && is_out(outs, 5, "count 2")
 }
 
 #[test]
 fn a_run_puts_out_what_the_fold_does(rt: HostRuntime) -> Result<(), Fail> {
     let alloc = rt.alloc();
-    let (checked, valid, streams) = made(alloc)?.expect(&rt, "an accepted job");
+    let (checked, valid, streams) = made(alloc, 3)?.expect(&rt, "an accepted job");
     let case = opened(alloc, &checked, &valid, &streams)?;
     let mut backup = Folding {
         program: checked.program(),
@@ -154,7 +154,7 @@ fn a_run_puts_out_what_the_fold_does(rt: HostRuntime) -> Result<(), Fail> {
 #[test]
 fn leaves_take_their_first_events_at_once(rt: HostRuntime) -> Result<(), Fail> {
     let alloc = rt.alloc();
-    let (checked, valid, streams) = made(alloc)?.expect(&rt, "an accepted job");
+    let (checked, valid, streams) = made(alloc, 3)?.expect(&rt, "an accepted job");
     let case = opened(alloc, &checked, &valid, &streams)?;
     let mut backup = Folding {
         program: checked.program(),
