@@ -1,5 +1,5 @@
 -- How the three workers of the case stand to each other after each call.
-use Rattle.std.proofs.Common.{◌≡◌, ℕ, ◌<◌, ◌≤◌, true, false, List, [], ◌∷◌, map, length, refl, sym, ap, ◌∙◌, subst, Some, None, Option, arith}
+use Rattle.std.proofs.Common.{◌≡◌, ℕ, ◌<◌, ◌≤◌, true, false, List, [], ◌∷◌, map, length, refl, sym, ap, ◌∙◌, subst, Some, Option, arith}
 use Rattle.std.specs.Prelude.{slice_index, slice_index_or, slice_set}
 use Rattle.std.specs.List.{range_with_len}
 use Rattle.flu_model.specs.declared.events.Item.{Item}
@@ -12,13 +12,13 @@ use Rattle.flu_fork.specs.Laws.{no_counts}
 use Rattle.flu_fork.specs.Lots.{job, kids, LotFits}
 use Rattle.flu_fork.specs.Serving.{LotCounts, counts_of, AsksAbove, GrownFrom, Served}
 use Rattle.flu_worker.specs.declared.hand.Hand.{Hand}
-use Rattle.flu_worker.specs.declared.hand.Hand.TheVariants.{Lending, Down, Taking}
+use Rattle.flu_worker.specs.declared.hand.Hand.TheVariants.{Lending, Down}
 use Rattle.flu_worker.specs.declared.hand.Side.{Side}
 use Rattle.flu_worker.specs.declared.hand.Side.TheVariants.{Left, Right}
-use Rattle.flu_worker.specs.Calls.{IsNew, HoldsLot, GivesLot, HandlesEvent, LendsPart, IsFitPart, TakesPart, KeepsTarget, IsAskable}
+use Rattle.flu_worker.specs.Calls.{HoldsLot, GivesLot, HandlesEvent, LendsPart, IsFitPart, TakesPart, KeepsTarget, IsAskable}
 use Rattle.flu_worker.specs.Hands.{at_side, is_open, may_lend, may_take, after_lend, after_take, first_hand}
 use Rattle.flu_worker.specs.Notes.{WorkerNote, lent_to, taken_from}
-use Rattle.flu_thread_tests.specs.Rows.{row, HasShape, IsRow}
+use Rattle.flu_thread_tests.specs.Rows.{row, IsRow}
 use Rattle.flu_thread_tests.specs.Steps.{IsBegun, Works, AreAt, IsBack, IsLent, Lends, Takes, AreBack, AreLent}
 
 -- ---- at the start
