@@ -5,3 +5,5 @@ pub mod Framing
 pub mod Stepping
 pub mod Starts
 pub mod Shown
+pub mod Arriving
+pub mod Keeping

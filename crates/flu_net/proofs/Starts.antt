@@ -102,6 +102,7 @@ start_rule laws k n start = subst (λ (j : Content). Rule (record n { case = j }
       };
       tells = record {
         done = nil;
+        long = length-map-range_with_len (λ (i : ℕ). 0) 0 (count_of_itags (job k));
         counted = λ w m i a own. ap (λ (c : List ℕ). slice_index c i) (start.workers.new w m a).counts;
         texts = subst (HasTexts (setting_of k) (below (job k) (nodes k) 0) nil) (sym start.outs)
             (laws.no_texts (setting_of k) (below (job k) (nodes k) 0) nil (λ i set. none_counted_at i));

@@ -1,6 +1,7 @@
 -- The laws of plans, of lots and of texts on which the rule of the net rests.
 use Rattle.flu_deps.specs.Trees.{ChildrenAreLater, TreesAreRooted}
 use Rattle.flu_fork.specs.Kin.{ItagsAreOfNodes, ItagsAreOfKids, ItagsAreOfTheRoot}
+use Rattle.flu_fork.specs.Places.{MomentsAreEvents}
 use Rattle.flu_fork.specs.Serving.{ContentsAreSettings, LoansArePaired}
 use Rattle.flu_fork.specs.Texts.{NoTexts, TextsAreOfTheSet, TextsGrow, TextsEnd, StatesEnd}
 
@@ -11,6 +12,7 @@ pub record LawsBelow : Type 0 where
   pub of_nodes : ItagsAreOfNodes
   pub of_kids : ItagsAreOfKids
   pub of_root : ItagsAreOfTheRoot
+  pub events : MomentsAreEvents
   pub paired : LoansArePaired
   pub no_texts : NoTexts
   pub same_texts : TextsAreOfTheSet

@@ -110,6 +110,7 @@ pub record IsSeen (k : Content) (seen : List ℕ) : Type 0 where
 -- OUTPUTS ONCE: `done` is, of each itag, what its owner counted, and the outputs are those of these events, each event's once
 pub record Tells (k : Content) (workers : List WorkerNote) (outs : List Out) : Type 0 where
   pub done : List ℕ
+  pub long : length done ≡ count_of_itags (job k)
   pub counted : (w : ℕ) (n : WorkerNote) (i : ℕ) → slice_get workers w ≡ Some n → own (job k) (nodes k) w i ≡ true → slice_index n.counts i ≡ slice_index done i
   pub texts : HasTexts (setting_of k) (below (job k) (nodes k) 0) done outs
 

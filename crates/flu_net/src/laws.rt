@@ -8,6 +8,7 @@ pub(crate) fn laws_below()
 {
     flu_deps::laws::plans_are_trees();
     flu_fork::laws::contents_are_settings();
+    flu_fork::laws::events_have_moments();
     flu_fork::laws::itags_are_of_nodes();
     flu_fork::laws::loans_are_paired();
     flu_fork::laws::texts_are_counted();

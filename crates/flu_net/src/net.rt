@@ -1,14 +1,18 @@
 //! The net.
 
-ghost use Rattle.std.specs.Prelude.{◌≡◌, false, IfOk};
-ghost use Rattle.flu_net.specs.Enabled.{is_enabled};
+ghost use Rattle.std.specs.Prelude.{◌≡◌, ◌↔◌, true, false, IfOk, OnOk, OnErr, IsErrOf};
+ghost use Rattle.flu_net.specs.Effects.{arrived, Makes, Handles, Asks, Takes, Gives, Holds, Lends};
+ghost use Rattle.flu_net.specs.Enabled.{is_enabled, may_arrive, may_handle, may_ask, may_take_part, may_give_up, may_hold, may_lend_part};
 ghost use Rattle.flu_net.specs.Starting.{IsStart};
 
-use crate::edges::Edge;
+use crate::edges::{
+    Edge, ask_at, given_at, given_lot, held_at, kid_of, lent_at, lent_lot, may_lend, may_take, put,
+};
 use crate::laws::laws_below;
+use crate::showing::{one_more, show};
 use crate::starting::{first_edges, first_workers, no_counts};
 use crate::steps::{Step, StepFault};
-use flu_fork::{Case, CaseNote, Counts};
+use flu_fork::{Ask, Case, CaseNote, Counts};
 use flu_model::{Itag, Outs, itag_count};
 use flu_worker::{Side, Worker};
 use std::alloc::{AllocError, Global};
@@ -67,5 +71,258 @@ impl Net {
             edges,
             outs: Outs::of(Vec::new(alloc)),
         })
+    }
+
+    /// Whether a step may be made. It takes no memory.
+    pub fn enabled(&self, case: &Case, s: Step) -> bool
+        requires { case.now ≡ self.now.case }
+        ensures { result ≡ is_enabled self.now s }
+    {
+        if self.gone {
+            return false;
+        }
+        match s {
+            Step::Arrive(i) => self.may_arrive(case, i),
+            Step::Handle(w) => self.may_handle(case, w),
+            Step::Ask(w, side) => self.may_ask(case, w, side),
+            Step::Take(w, side) => self.may_take_part(case, w, side),
+            Step::Give(w) => self.may_give_up(case, w),
+            Step::Hold(w) => self.may_hold(w),
+            Step::Lend(w, side) => self.may_lend_part(w, side),
+        }
+    }
+
+    /// Makes a step, where it is enabled.
+    ///
+    /// # Errors
+    ///
+    /// `NotEnabled` exactly where the step is not enabled: the net is as it was. `NoMemory` where memory is wanting: the net is to be
+    /// given up then.
+    pub fn step(&mut self, alloc: Global, case: &Case, s: Step) -> Result<(), StepFault>
+        requires { case.now ≡ self.old.case }
+        ensures not_enabled { IsErrOf result StepFault.NotEnabled ↔ (is_enabled self.old s ≡ false) }
+        ensures same { is_enabled self.old s ≡ false → self.new ≡ self.old }
+        ensures made { OnOk result (Makes s self.old self.new) }
+        ensures gone { IsErrOf result StepFault.NoMemory → self.new.gone ≡ true }
+    {
+        if !self.enabled(case, s) {
+            return Err(StepFault::NotEnabled);
+        }
+        match self.make(alloc, case, s) {
+            Ok(()) => Ok(()),
+            Err(_) => Err(StepFault::NoMemory),
+        }
+    }
+
+    // ---- which steps are enabled
+
+    fn may_arrive(&self, case: &Case, i: Itag) -> bool
+        requires case { case.now ≡ self.now.case }
+        requires gone { self.now.gone ≡ false }
+        ensures { result ≡ may_arrive self.now i }
+    {
+        if (i.0 as usize) < self.seen.items().len() {
+            self.seen.at(i.0 as usize) < case.streams().items(i).len() as u64
+        } else {
+            false
+        }
+    }
+
+    fn may_handle(&self, case: &Case, w: u32) -> bool
+        requires case { case.now ≡ self.now.case }
+        requires gone { self.now.gone ≡ false }
+        ensures { result ≡ may_handle self.now w }
+    {
+        match self.workers.get(w as usize) {
+            Some(worker) => worker.can_handle(case).is_some(),
+            None => false,
+        }
+    }
+
+    fn may_ask(&self, case: &Case, w: u32, side: Side) -> bool
+        requires case { case.now ≡ self.now.case }
+        requires gone { self.now.gone ≡ false }
+        ensures { result ≡ may_ask self.now w side }
+    {
+        if !held_at(self.edges.as_slice(), kid_of(case, w, side)) {
+            return false;
+        }
+        match self.workers.get(w as usize) {
+            Some(worker) => {
+                may_take(side, worker.hand())
+                    && worker.target(case, ask_at(self.edges.as_slice(), w)).is_some()
+            }
+            None => false,
+        }
+    }
+
+    fn may_take_part(&self, case: &Case, w: u32, side: Side) -> bool
+        requires case { case.now ≡ self.now.case }
+        ensures { result ≡ may_take_part self.now w side }
+    {
+        given_at(self.edges.as_slice(), kid_of(case, w, side))
+    }
+
+    fn may_give_up(&self, case: &Case, w: u32) -> bool
+        requires case { case.now ≡ self.now.case }
+        requires gone { self.now.gone ≡ false }
+        ensures { result ≡ may_give_up self.now w }
+    {
+        match (ask_at(self.edges.as_slice(), w), self.workers.get(w as usize)) {
+            (Some(y), Some(worker)) => worker.can_give(case, y),
+            _ => false,
+        }
+    }
+
+    fn may_hold(&self, w: u32) -> bool
+        ensures { result ≡ may_hold self.now w }
+    {
+        lent_at(self.edges.as_slice(), w)
+    }
+
+    fn may_lend_part(&self, w: u32, side: Side) -> bool
+        ensures { result ≡ may_lend_part self.now w side }
+    {
+        match self.workers.get(w as usize) {
+            Some(worker) => may_lend(side, worker.hand()),
+            None => false,
+        }
+    }
+
+    // ---- the steps
+
+    fn make(&mut self, alloc: Global, case: &Case, s: Step) -> Result<(), AllocError>
+        requires case { case.now ≡ self.old.case }
+        requires may { is_enabled self.old s ≡ true }
+        ensures made { OnOk result (Makes s self.old self.new) }
+        ensures gone { OnErr result (self.new.gone ≡ true) }
+    {
+        match s {
+            Step::Arrive(i) => {
+                self.arrive(case, i);
+                Ok(())
+            }
+            Step::Handle(w) => self.handle(alloc, case, w),
+            Step::Ask(w, side) => {
+                self.ask(case, w, side);
+                Ok(())
+            }
+            Step::Take(w, side) => self.take(alloc, case, w, side),
+            Step::Give(w) => {
+                self.give(case, w);
+                Ok(())
+            }
+            Step::Hold(w) => self.hold(alloc, case, w),
+            Step::Lend(w, side) => {
+                self.lend(case, w, side);
+                Ok(())
+            }
+        }
+    }
+
+    fn arrive(&mut self, case: &Case, i: Itag)
+        requires case { case.now ≡ self.old.case }
+        requires gone { self.old.gone ≡ false }
+        requires may { may_arrive self.old i ≡ true }
+        ensures { self.new ≡ arrived self.old i }
+    {
+        let count = one_more(self.seen.at(i.0 as usize), case.streams().items(i));
+        show(self.workers.as_mut_slice(), case, i, count);
+        self.seen.count_one(i.0 as usize);
+    }
+
+    fn handle(&mut self, alloc: Global, case: &Case, w: u32) -> Result<(), AllocError>
+        requires case { case.now ≡ self.old.case }
+        requires gone { self.old.gone ≡ false }
+        requires may { may_handle self.old w ≡ true }
+        ensures made { OnOk result (Handles w self.old self.new) }
+        ensures gone { OnErr result (self.new.gone ≡ true) }
+    {
+        laws_below();
+        let Some(event) = self.workers[w as usize].can_handle(case) else {
+            unreachable!();
+        };
+        self.gone = true;
+        self.workers[w as usize].handle(alloc, case, event, &mut self.outs)?;
+        self.gone = false;
+        Ok(())
+    }
+
+    fn ask(&mut self, case: &Case, w: u32, side: Side)
+        requires case { case.now ≡ self.old.case }
+        requires gone { self.old.gone ≡ false }
+        requires may { may_ask self.old w side ≡ true }
+        ensures { Asks w side self.old self.new }
+    {
+        laws_below();
+        let Some(kid) = kid_of(case, w, side) else {
+            unreachable!();
+        };
+        let asked = ask_at(self.edges.as_slice(), w);
+        let Some(target) = self.workers[w as usize].ask_of(case, asked) else {
+            unreachable!();
+        };
+        put(self.edges.as_mut_slice(), kid, Edge::Asked(target));
+    }
+
+    fn take(&mut self, alloc: Global, case: &Case, w: u32, side: Side) -> Result<(), AllocError>
+        requires case { case.now ≡ self.old.case }
+        requires gone { self.old.gone ≡ false }
+        requires may { may_take_part self.old w side ≡ true }
+        ensures made { OnOk result (Takes w side self.old self.new) }
+        ensures gone { OnErr result (self.new.gone ≡ true) }
+    {
+        laws_below();
+        let Some(kid) = kid_of(case, w, side) else {
+            unreachable!();
+        };
+        self.gone = true;
+        let lot = given_lot(put(self.edges.as_mut_slice(), kid, Edge::Home));
+        self.workers[w as usize].take_reply(alloc, case, side, lot)?;
+        self.gone = false;
+        Ok(())
+    }
+
+    fn give(&mut self, case: &Case, w: u32)
+        requires case { case.now ≡ self.old.case }
+        requires gone { self.old.gone ≡ false }
+        requires may { may_give_up self.old w ≡ true }
+        ensures { Gives w self.old self.new }
+    {
+        laws_below();
+        let Some(y) = ask_at(self.edges.as_slice(), w) else {
+            unreachable!();
+        };
+        let lot = self.workers[w as usize].give(case, y);
+        put(self.edges.as_mut_slice(), w, Edge::Given(lot));
+    }
+
+    fn hold(&mut self, alloc: Global, case: &Case, w: u32) -> Result<(), AllocError>
+        requires case { case.now ≡ self.old.case }
+        requires gone { self.old.gone ≡ false }
+        requires may { may_hold self.old w ≡ true }
+        ensures made { OnOk result (Holds w self.old self.new) }
+        ensures gone { OnErr result (self.new.gone ≡ true) }
+    {
+        laws_below();
+        self.gone = true;
+        let lot = lent_lot(put(self.edges.as_mut_slice(), w, Edge::Held));
+        self.workers[w as usize].hold(alloc, case, lot)?;
+        self.gone = false;
+        Ok(())
+    }
+
+    fn lend(&mut self, case: &Case, w: u32, side: Side)
+        requires case { case.now ≡ self.old.case }
+        requires gone { self.old.gone ≡ false }
+        requires may { may_lend_part self.old w side ≡ true }
+        ensures { Lends w side self.old self.new }
+    {
+        laws_below();
+        let Some(kid) = kid_of(case, w, side) else {
+            unreachable!();
+        };
+        let part = self.workers[w as usize].lend(side);
+        put(self.edges.as_mut_slice(), kid, Edge::Lent(part));
     }
 }

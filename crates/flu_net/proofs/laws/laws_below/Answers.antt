@@ -8,6 +8,7 @@ returns c = record {
   of_nodes = c.itags_are_of_nodes.ensures.nodes;
   of_kids = c.itags_are_of_nodes.ensures.kids;
   of_root = c.itags_are_of_nodes.ensures.root;
+  events = c.events_have_moments.ensures.events;
   paired = c.loans_are_paired.ensures.paired;
   no_texts = c.texts_are_counted.ensures.nothing;
   same_texts = c.texts_are_counted.ensures.same;
