@@ -94,7 +94,7 @@ module _ (old : NetNote) (rule : Rule old) (i : Itag) (may : may_arrive old i �
 
   ties_seen : Ties old.case (set old.seen i.0 count) (map (seeing i.0 count) old.workers) old.edges
   ties_seen = record {
-    workers_each = length-map (seeing i.0 count) old.workers ∙ rule.ties.workers_each;
+    workers_each = length-map old.workers (seeing i.0 count) ∙ rule.ties.workers_each;
     edges_each = rule.ties.edges_each;
     placed = λ w m e.
         (let from = mapped_from (seeing i.0 count) old.workers w m e in

@@ -15,19 +15,23 @@ use Rattle.flu_model.specs.Merging.{events_of}
 use Rattle.flu_fork.specs.declared.content.Content.{Content}
 use Rattle.flu_fork.specs.declared.lots.Ask.{Ask}
 use Rattle.flu_fork.specs.Classes.{itag, own, below}
-use Rattle.flu_fork.specs.Lots.{job, nodes, kids, setting_of}
+use Rattle.flu_fork.specs.Lots.{job, nodes, kids, setting_of, LotFits}
+use Rattle.flu_fork.specs.Serving.{Served}
 use Rattle.flu_fork.specs.Settings.{events_at}
 use Rattle.flu_fork.specs.Texts.{HasTexts, outputs_then}
-use Rattle.flu_worker.specs.Calls.{HandlesEvent, CountsEvent}
+use Rattle.flu_worker.specs.declared.hand.Side.{Side}
+use Rattle.flu_worker.specs.Calls.{HandlesEvent, CountsEvent, IsAskable, IsFitPart}
+use Rattle.flu_worker.specs.Hands.{at_side, may_lend, may_take}
 use Rattle.flu_worker.specs.Notes.{WorkerNote, own_of}
 use Rattle.flu_net.specs.declared.edges.Edge.{Edge}
 use Rattle.flu_net.specs.declared.edges.Edge.TheVariants.{Home, Lent, Held, Asked, Given}
-use Rattle.flu_net.specs.Effects.{IsStepOf, Handles}
+use Rattle.flu_net.specs.Effects.{IsStepOf, Asks, Gives, Handles, Holds, Lends, Takes}
 use Rattle.flu_net.specs.LawsBelow.{LawsBelow}
 use Rattle.flu_net.specs.Notes.{NetNote}
 use Rattle.flu_net.specs.Rule.{IsSeen, Rule, Tells, Ties}
 use Rattle.flu_net.proofs.Lists.{set_here, set_there, same_some}
-use Rattle.flu_net.proofs.Stepping.{ties_handle}
+use Rattle.flu_net.proofs.Readying.{kid_pair, lend_was, take_may}
+use Rattle.flu_net.proofs.Stepping.{ties_ask, ties_give, ties_handle, ties_hold, ties_lend, ties_take}
 
 -- ---- a net as its parts say
 ties_as : (k j : Content) (a b : List ℕ) (ws vs : List WorkerNote) (es fs : List Edge) → j ≡ k → b ≡ a → vs ≡ ws → fs ≡ es → Ties k a ws es → Ties j b vs fs
@@ -154,3 +158,55 @@ rule_handles laws w old new rule h =
           (tells_event laws old.case old.workers old.outs rule.tells w s.was s.is s.at h.event new.outs h.counts
           (own_at old.case w s.was h.event.itag.0 placed.case placed.node h.does.owned));
     }
+
+-- ---- the other steps
+own_to : (k : Content) (w : ℕ) (n : WorkerNote) (i : ℕ) → n.case ≡ k → n.node ≡ w → own (job k) (nodes k) w i ≡ true → own_of n i ≡ true
+own_to k w n i ek ew e = (λ j. own (job (ek j)) (nodes (ek j)) (ew j) i) ∙ e
+
+pub rule_holds : LawsBelow → (w : ℕ) (old new : NetNote) → Rule old → Holds w old new → Rule new
+rule_holds laws w old new rule h =
+    let s = h.step in
+    let placed = rule.ties.placed w s.was s.at in
+    rule_same w old new laws rule s (set old.edges w Held) h.edges h.outs
+    (ties_hold laws old.case old.seen old.workers old.edges rule.ties w s.was s.is s.at h.lot h.lent h.does)
+    (λ i mine. h.does.counts_own i (own_to old.case w s.was i placed.case placed.node mine))
+
+pub rule_gives : LawsBelow → (w : ℕ) (old new : NetNote) → Rule old → (h : Gives w old new)
+    → LotFits h.step.was.case h.step.was.node h.lot → Served h.step.was.case h.step.was.node h.step.was.held h.ask h.lot → Rule new
+rule_gives laws w old new rule h fits served =
+    let s = h.step in
+    rule_same w old new laws rule s (set old.edges w (Given h.lot)) h.edges h.outs
+    (ties_give laws old.case old.seen old.workers old.edges rule.ties w s.was s.is s.at h.ask h.lot h.asked h.does fits served)
+    (λ i mine. ap (λ c. slice_index c i) h.does.counts)
+
+pub rule_lends : LawsBelow → (w : ℕ) (side : Side) (old new : NetNote) → Rule old → (h : Lends w side old new)
+    → may_lend side h.step.was.hand ≡ true → IsFitPart side h.lot h.step.was → Rule new
+rule_lends laws w side old new rule h may fit =
+    let s = h.step in
+    let pair = kid_pair old.case w h.kid side h.is_kid in
+    let same : h.kid ≡ at_side side pair.0 pair.1 = pair.3 in
+    rule_same w old new laws rule s (set old.edges (at_side side pair.0 pair.1) (Lent h.lot)) (h.edges ∙ ap (λ v. set old.edges v (Lent h.lot)) same) h.outs
+    (ties_lend laws old.case old.seen old.workers old.edges rule.ties w s.was s.is s.at side pair.0 pair.1 pair.2 h.lot
+    (sym (ap (slice_get old.edges) same) ∙ lend_was laws old rule w s.was s.at h.kid side h.is_kid may) may h.does fit)
+    (λ i mine. ap (λ c. slice_index c i) h.does.counts)
+
+pub rule_asks : LawsBelow → (w : ℕ) (side : Side) (old new : NetNote) → Rule old → (h : Asks w side old new)
+    → slice_get old.edges h.kid ≡ Some Held → may_take side h.step.was.hand ≡ true → IsAskable h.step.is h.target → Rule new
+rule_asks laws w side old new rule h held may askable =
+    let s = h.step in
+    let pair = kid_pair old.case w h.kid side h.is_kid in
+    let same : h.kid ≡ at_side side pair.0 pair.1 = pair.3 in
+    rule_same w old new laws rule s (set old.edges (at_side side pair.0 pair.1) (Asked h.target)) (h.edges ∙ ap (λ v. set old.edges v (Asked h.target)) same) h.outs
+    (ties_ask laws old.case old.seen old.workers old.edges rule.ties w s.was s.is s.at side pair.0 pair.1 pair.2 h.target
+    (sym (ap (slice_get old.edges) same) ∙ held) may h.does askable)
+    (λ i mine. ap (λ (x : WorkerNote). slice_index x.counts i) h.does.rest)
+
+pub rule_takes : LawsBelow → (w : ℕ) (side : Side) (old new : NetNote) → Rule old → (h : Takes w side old new) → Rule new
+rule_takes laws w side old new rule h =
+    let s = h.step in
+    let pair = kid_pair old.case w h.kid side h.is_kid in
+    let same : h.kid ≡ at_side side pair.0 pair.1 = pair.3 in
+    rule_same w old new laws rule s (set old.edges (at_side side pair.0 pair.1) Home) (h.edges ∙ ap (λ v. set old.edges v Home) same) h.outs
+    (ties_take laws old.case old.seen old.workers old.edges rule.ties w s.was s.is s.at side pair.0 pair.1 pair.2 h.lot
+    (sym (ap (slice_get old.edges) same) ∙ h.given) (take_may laws old rule w s.was s.at h.kid side h.is_kid h.lot h.given) h.does)
+    (λ i mine. ap (λ c. slice_index c i) h.does.counts)

@@ -7,3 +7,4 @@ pub mod Starts
 pub mod Shown
 pub mod Arriving
 pub mod Keeping
+pub mod Readying

@@ -15,3 +15,6 @@ module _ {X : Type 0} (f : X → X) (xs ys : List X) (w : ℕ) (d : X) (is : ys 
       let next : suc w ≡ w + 1 = omega arith in
       ap (set ys w) e ∙ ap (λ (l : List X). set l w (f (get_or ys w d))) is ∙ map_one_more f xs w (get_or ys w d) shown_at
       ∙ ap (λ n. map f (take n xs) ++ drop n xs) next
+
+pub less : {X : Type 0} (f : X → X) (xs : List X) (w most : ℕ) → w < most → most ≡ length xs → w < length xs
+less f xs w most lt is = omega arith

@@ -63,6 +63,8 @@ pub record Takes (w : ℕ) (s : Side) (old new : NetNote) : Type 0 where
 
 pub record Gives (w : ℕ) (old new : NetNote) : Type 0 where
   pub step : IsStepOf w old new
+  pub ask : AskNote
+  pub asked : slice_get old.edges w ≡ Some (Asked ask)
   pub lot : Lot
   pub does : GivesLot lot step.was step.is
   pub edges : new.edges ≡ slice_set old.edges w (Given lot)

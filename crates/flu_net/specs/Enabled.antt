@@ -10,7 +10,7 @@ use Rattle.flu_net.specs.declared.edges.Edge.{Edge}
 use Rattle.flu_net.specs.declared.edges.Edge.TheVariants.{Home, Lent, Held, Asked, Given}
 use Rattle.flu_net.specs.declared.steps.Step.{Step}
 use Rattle.flu_net.specs.declared.steps.Step.TheVariants.{Arrive, Handle, Ask, Take, Give, Hold, Lend}
-use Rattle.flu_net.specs.Notes.{NetNote, edge_below, asked_of}
+use Rattle.flu_net.specs.Notes.{NetNote, kid_of, edge_below, asked_of}
 
 abbrev pub is_held : Option Edge → Bool
 is_held None = false
@@ -50,8 +50,11 @@ abbrev pub may_handle : NetNote → ℕ → Bool
 may_handle n w = if_there (λ v. is_some (next_of v)) (slice_get n.workers w)
 
 -- ASK: the part is with the child, the worker may take it, and has a target
+abbrev pub aims : NetNote → ℕ → Side → Option WorkerNote → Bool
+aims n w s here = if_there (λ v. may_take s v.hand && is_some (target_of v (asked_of n w))) here
+
 abbrev pub may_ask : NetNote → ℕ → Side → Bool
-may_ask n w s = is_held (edge_below n w s) && if_there (λ v. may_take s v.hand && is_some (target_of v (asked_of n w))) (slice_get n.workers w)
+may_ask n w s = is_held (edge_below n w s) && aims n w s (slice_get n.workers w)
 
 -- TAKE: the child gave the part
 abbrev pub may_take_part : NetNote → ℕ → Side → Bool
@@ -73,9 +76,9 @@ may_give_up n w = gives_for n w (slice_get n.edges w)
 abbrev pub may_hold : NetNote → ℕ → Bool
 may_hold n w = is_lent (slice_get n.edges w)
 
--- LEND: the worker has the part to lend
+-- LEND: there is such a child, and the worker has the part to lend to it
 abbrev pub may_lend_part : NetNote → ℕ → Side → Bool
-may_lend_part n w s = if_there (λ v. may_lend s v.hand) (slice_get n.workers w)
+may_lend_part n w s = is_some (kid_of n.case w s) && if_there (λ v. may_lend s v.hand) (slice_get n.workers w)
 
 abbrev pub by_step : NetNote → Step → Bool
 by_step n (Arrive i) = may_arrive n i

@@ -124,10 +124,10 @@ pub fn ask_at(edges: &[Edge], v: u32) -> Option<Ask>
 }
 
 /// Puts something on the edge above a node, and hands out what was on it.
-pub fn put(edges: &mut [Edge], v: u32, edge: Edge) -> Edge
-    requires { v < length edges.old }
-    ensures was { slice_get edges.old v ≡ Some result }
-    ensures is { edges.new ≡ slice_set edges.old v edge }
+pub fn put(edges: &mut Vec<Edge>, v: u32, edge: Edge) -> Edge
+    requires { v < length edges.old.items }
+    ensures was { slice_get edges.old.items v ≡ Some result }
+    ensures is { edges.new.items ≡ slice_set edges.old.items v edge }
 {
     std::mem::replace(&mut edges[v as usize], edge)
 }

@@ -1,9 +1,12 @@
 //! The net.
 
-ghost use Rattle.std.specs.Prelude.{◌≡◌, ◌↔◌, true, false, IfOk, OnOk, OnErr, IsErrOf};
+ghost use Rattle.std.specs.Prelude.{◌≡◌, ◌↔◌, true, false, Some, slice_get, IfOk, OnOk, OnErr, IsErrOf};
 ghost use Rattle.flu_net.specs.Effects.{arrived, Makes, Handles, Asks, Takes, Gives, Holds, Lends};
-ghost use Rattle.flu_net.specs.Enabled.{is_enabled, may_arrive, may_handle, may_ask, may_take_part, may_give_up, may_hold, may_lend_part};
+ghost use Rattle.flu_net.specs.Enabled.{aims, if_there, is_enabled, may_arrive, may_handle, may_ask, may_take_part, may_give_up, may_hold, may_lend_part};
+ghost use Rattle.flu_net.specs.Notes.{asked_of};
+ghost use Rattle.flu_net.specs.Rule.{IsWell, Tells};
 ghost use Rattle.flu_net.specs.Starting.{IsStart};
+ghost use Rattle.flu_worker.specs.Choosing.{may_give};
 
 use crate::edges::{
     Edge, ask_at, given_at, given_lot, held_at, kid_of, lent_at, lent_lot, may_lend, may_take, put,
@@ -73,6 +76,22 @@ impl Net {
         })
     }
 
+    /// What was put out: of each event that its owner counted the outputs in the fold, each event's once.
+    pub fn outputs(&self) -> &Outs
+        ensures same { result.now ≡ self.now.outs }
+        ensures once { self.now.gone ≡ false → Tells self.now.case self.now.workers self.now.outs }
+    {
+        &self.outs
+    }
+
+    /// The rule of the net, which holds after any list of steps: each lot fits its node, and the workers and edges are tied to each
+    /// other. This call does nothing.
+    pub fn rule(&self)
+        ensures { IsWell self.now }
+    {
+        let _gone = &self.gone;
+    }
+
     /// Whether a step may be made. It takes no memory.
     pub fn enabled(&self, case: &Case, s: Step) -> bool
         requires { case.now ≡ self.now.case }
@@ -88,7 +107,7 @@ impl Net {
             Step::Take(w, side) => self.may_take_part(case, w, side),
             Step::Give(w) => self.may_give_up(case, w),
             Step::Hold(w) => self.may_hold(w),
-            Step::Lend(w, side) => self.may_lend_part(w, side),
+            Step::Lend(w, side) => self.may_lend_part(case, w, side),
         }
     }
 
@@ -144,13 +163,20 @@ impl Net {
         requires gone { self.now.gone ≡ false }
         ensures { result ≡ may_ask self.now w side }
     {
-        if !held_at(self.edges.as_slice(), kid_of(case, w, side)) {
-            return false;
-        }
+        held_at(self.edges.as_slice(), kid_of(case, w, side)) && self.aims(case, w, side)
+    }
+
+    // Whether the worker may take the part, and has a target.
+    fn aims(&self, case: &Case, w: u32, side: Side) -> bool
+        requires case { case.now ≡ self.now.case }
+        requires gone { self.now.gone ≡ false }
+        ensures { result ≡ aims self.now w side (slice_get self.now.workers w) }
+    {
+        laws_below();
+        let asked = ask_at(self.edges.as_slice(), w);
         match self.workers.get(w as usize) {
             Some(worker) => {
-                may_take(side, worker.hand())
-                    && worker.target(case, ask_at(self.edges.as_slice(), w)).is_some()
+                may_take(side, worker.hand()) && worker.target(case, asked).is_some()
             }
             None => false,
         }
@@ -168,9 +194,23 @@ impl Net {
         requires gone { self.now.gone ≡ false }
         ensures { result ≡ may_give_up self.now w }
     {
-        match (ask_at(self.edges.as_slice(), w), self.workers.get(w as usize)) {
-            (Some(y), Some(worker)) => worker.can_give(case, y),
-            _ => false,
+        match ask_at(self.edges.as_slice(), w) {
+            Some(y) => self.gives(case, w, y),
+            None => false,
+        }
+    }
+
+    // Whether the worker may give its lot for what is asked of it.
+    fn gives(&self, case: &Case, w: u32, y: Ask) -> bool
+        requires case { case.now ≡ self.now.case }
+        requires gone { self.now.gone ≡ false }
+        requires asked { asked_of self.now w ≡ Some y }
+        ensures { result ≡ if_there (λ v. may_give v y) (slice_get self.now.workers w) }
+    {
+        laws_below();
+        match self.workers.get(w as usize) {
+            Some(worker) => worker.can_give(case, y),
+            None => false,
         }
     }
 
@@ -180,9 +220,13 @@ impl Net {
         lent_at(self.edges.as_slice(), w)
     }
 
-    fn may_lend_part(&self, w: u32, side: Side) -> bool
+    fn may_lend_part(&self, case: &Case, w: u32, side: Side) -> bool
+        requires { case.now ≡ self.now.case }
         ensures { result ≡ may_lend_part self.now w side }
     {
+        if kid_of(case, w, side).is_none() {
+            return false;
+        }
         match self.workers.get(w as usize) {
             Some(worker) => may_lend(side, worker.hand()),
             None => false,
@@ -227,7 +271,7 @@ impl Net {
         ensures { self.new ≡ arrived self.old i }
     {
         let count = one_more(self.seen.at(i.0 as usize), case.streams().items(i));
-        show(self.workers.as_mut_slice(), case, i, count);
+        show(&mut self.workers, case, i, count);
         self.seen.count_one(i.0 as usize);
     }
 
@@ -262,7 +306,7 @@ impl Net {
         let Some(target) = self.workers[w as usize].ask_of(case, asked) else {
             unreachable!();
         };
-        put(self.edges.as_mut_slice(), kid, Edge::Asked(target));
+        put(&mut self.edges, kid, Edge::Asked(target));
     }
 
     fn take(&mut self, alloc: Global, case: &Case, w: u32, side: Side) -> Result<(), AllocError>
@@ -277,7 +321,7 @@ impl Net {
             unreachable!();
         };
         self.gone = true;
-        let lot = given_lot(put(self.edges.as_mut_slice(), kid, Edge::Home));
+        let lot = given_lot(put(&mut self.edges, kid, Edge::Home));
         self.workers[w as usize].take_reply(alloc, case, side, lot)?;
         self.gone = false;
         Ok(())
@@ -294,7 +338,7 @@ impl Net {
             unreachable!();
         };
         let lot = self.workers[w as usize].give(case, y);
-        put(self.edges.as_mut_slice(), w, Edge::Given(lot));
+        put(&mut self.edges, w, Edge::Given(lot));
     }
 
     fn hold(&mut self, alloc: Global, case: &Case, w: u32) -> Result<(), AllocError>
@@ -306,7 +350,7 @@ impl Net {
     {
         laws_below();
         self.gone = true;
-        let lot = lent_lot(put(self.edges.as_mut_slice(), w, Edge::Held));
+        let lot = lent_lot(put(&mut self.edges, w, Edge::Held));
         self.workers[w as usize].hold(alloc, case, lot)?;
         self.gone = false;
         Ok(())
@@ -323,6 +367,6 @@ impl Net {
             unreachable!();
         };
         let part = self.workers[w as usize].lend(side);
-        put(self.edges.as_mut_slice(), kid, Edge::Lent(part));
+        put(&mut self.edges, kid, Edge::Lent(part));
     }
 }

@@ -9,9 +9,9 @@ use flu_model::{Item, Itag};
 use flu_worker::Worker;
 
 /// All workers have seen so many items of an itag from now on.
-pub fn show(workers: &mut [Worker], case: &Case, i: Itag, count: u64)
-    requires { AllMaySee case.now i.0 count workers.old }
-    ensures { workers.new ≡ map (seeing i.0 count) workers.old }
+pub fn show(workers: &mut Vec<Worker>, case: &Case, i: Itag, count: u64)
+    requires { AllMaySee case.now i.0 count workers.old.items }
+    ensures { workers.new.items ≡ map (seeing i.0 count) workers.old.items }
 {
     for w in 0..workers.len() {
         workers[w].see(case, i, count);
