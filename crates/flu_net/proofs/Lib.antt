@@ -1,0 +1,10 @@
+pub mod Hands
+pub mod Lists
+pub mod Touching
+pub mod Framing
+pub mod Stepping
+pub mod Starts
+pub mod Shown
+pub mod Arriving
+pub mod Keeping
+pub mod Readying

@@ -1,0 +1,18 @@
+use Rattle.flu_net.proofs.laws.laws_below.Goals as goal
+
+pub returns : goal.returns
+returns c = record {
+  children = c.plans_are_trees.ensures.children;
+  parents = c.plans_are_trees.ensures.parents;
+  settings = c.contents_are_settings.ensures;
+  of_nodes = c.itags_are_of_nodes.ensures.nodes;
+  of_kids = c.itags_are_of_nodes.ensures.kids;
+  of_root = c.itags_are_of_nodes.ensures.root;
+  events = c.events_have_moments.ensures.events;
+  paired = c.loans_are_paired.ensures.paired;
+  no_texts = c.texts_are_counted.ensures.nothing;
+  same_texts = c.texts_are_counted.ensures.same;
+  more_texts = c.texts_are_counted.ensures.grow;
+  texts_end = c.texts_end.ensures.texts;
+  states_end = c.texts_end.ensures.states;
+}

@@ -1,0 +1,21 @@
+-- The laws of plans, of lots and of texts on which the rule of the net rests.
+use Rattle.flu_deps.specs.Trees.{ChildrenAreLater, TreesAreRooted}
+use Rattle.flu_fork.specs.Kin.{ItagsAreOfNodes, ItagsAreOfKids, ItagsAreOfTheRoot}
+use Rattle.flu_fork.specs.Places.{MomentsAreEvents}
+use Rattle.flu_fork.specs.Serving.{ContentsAreSettings, LoansArePaired}
+use Rattle.flu_fork.specs.Texts.{NoTexts, TextsAreOfTheSet, TextsGrow, TextsEnd, StatesEnd}
+
+pub record LawsBelow : Type 0 where
+  pub children : ChildrenAreLater
+  pub parents : TreesAreRooted
+  pub settings : ContentsAreSettings
+  pub of_nodes : ItagsAreOfNodes
+  pub of_kids : ItagsAreOfKids
+  pub of_root : ItagsAreOfTheRoot
+  pub events : MomentsAreEvents
+  pub paired : LoansArePaired
+  pub no_texts : NoTexts
+  pub same_texts : TextsAreOfTheSet
+  pub more_texts : TextsGrow
+  pub texts_end : TextsEnd
+  pub states_end : StatesEnd

@@ -1,0 +1,124 @@
+-- THE RULE OF THE NET: what holds after any list of steps, by node and by edge. Each worker keeps a rule of its own beside it.
+use Rattle.std.specs.Prelude.{◌≡◌, ℕ, ◌<◌, ◌≤◌, true, false, Some, List, [], length, slice_get, slice_index, slice_index_or}
+use Rattle.flu_model.specs.declared.events.Out.{Out}
+use Rattle.flu_model.specs.Itags.{count_of_itags}
+use Rattle.flu_model.specs.Listed.{listed}
+use Rattle.flu_fork.specs.declared.content.Content.{Content}
+use Rattle.flu_fork.specs.declared.lots.Ask.{Ask}
+use Rattle.flu_fork.specs.declared.lots.Lot.{Lot}
+use Rattle.flu_fork.specs.Classes.{own, below}
+use Rattle.flu_fork.specs.Lots.{job, nodes, kids, setting_of, LotFits}
+use Rattle.flu_fork.specs.Serving.{AsksAbove, GrownFrom, Served, counts_of, none_counted}
+use Rattle.flu_fork.specs.Texts.{HasTexts}
+use Rattle.flu_worker.specs.declared.hand.Side.{Side}
+use Rattle.flu_worker.specs.Hands.{at_side, is_open, is_out, may_take}
+use Rattle.flu_worker.specs.Notes.{WorkerNote, lent_to, taken_from}
+use Rattle.flu_net.specs.declared.edges.Edge.{Edge}
+use Rattle.flu_net.specs.declared.edges.Edge.TheVariants.{Home, Lent, Held, Asked, Given}
+use Rattle.flu_net.specs.Notes.{NetNote}
+
+-- ---- a worker under its edge: the lot is with it exactly where the edge is Held or Asked
+
+-- a lot on its way down: it fits the node, and its counts go on from those of the lot given last
+pub record IsUnderLent (n : WorkerNote) (lot : Lot) : Type 0 where
+  pub shut : is_open n.hand ≡ false
+  pub fits : LotFits n.case n.node lot
+  pub grown : GrownFrom n.case n.node n.given lot.upto
+
+-- an ask names the next event of an itag above the node
+pub record IsUnderAsk (n : WorkerNote) (y : Ask) : Type 0 where
+  pub opened : is_open n.hand ≡ true
+  pub above : AsksAbove n.case n.node y
+  pub next : y.index ≡ slice_index n.held.upto y.itag.0
+
+-- a lot on its way up is the one that was given last, and fits the node
+pub record IsUnderGiven (n : WorkerNote) (lot : Lot) : Type 0 where
+  pub shut : is_open n.hand ≡ false
+  pub fits : LotFits n.case n.node lot
+  pub given : n.given ≡ lot.upto
+
+abbrev pub Hangs : WorkerNote → Edge → Type 0
+Hangs n Home = is_open n.hand ≡ false
+Hangs n (Lent lot) = IsUnderLent n lot
+Hangs n Held = is_open n.hand ≡ true
+Hangs n (Asked y) = IsUnderAsk n y
+Hangs n (Given lot) = IsUnderGiven n lot
+
+-- ---- the edge to a child, between the worker n and the child's worker c
+
+-- the part is not out, and what was taken last is what the child gave last
+pub record IsAtHome (s : Side) (n c : WorkerNote) : Type 0 where
+  pub home : is_out s n.hand ≡ false
+  pub given : c.given ≡ taken_from s n
+
+-- the part is out, as it was lent
+pub record IsOverLent (s : Side) (n c : WorkerNote) (lot : Lot) : Type 0 where
+  pub out : is_out s n.hand ≡ true
+  pub lent : counts_of lot ≡ lent_to s n
+  pub given : c.given ≡ taken_from s n
+
+-- the child has the loan
+pub record IsOverHeld (s : Side) (n c : WorkerNote) : Type 0 where
+  pub out : is_out s n.hand ≡ true
+  pub held : c.held ≡ lent_to s n
+  pub given : c.given ≡ taken_from s n
+
+-- it is asked for the target that the worker keeps
+pub record IsOverAsk (s : Side) (n c : WorkerNote) (y : Ask) : Type 0 where
+  pub take : may_take s n.hand ≡ true
+  pub held : c.held ≡ lent_to s n
+  pub given : c.given ≡ taken_from s n
+  pub kept : n.kept ≡ Some y
+
+-- what the child gave is served for that target
+pub record IsOverGiven (s : Side) (n c : WorkerNote) (lot : Lot) : Type 0 where
+  pub take : may_take s n.hand ≡ true
+  pub target : Ask
+  pub kept : n.kept ≡ Some target
+  pub served : Served c.case c.node (lent_to s n) target lot
+
+abbrev pub Lets : Side → WorkerNote → Edge → WorkerNote → Type 0
+Lets s n Home c = IsAtHome s n c
+Lets s n (Lent lot) c = IsOverLent s n c lot
+Lets s n Held c = IsOverHeld s n c
+Lets s n (Asked y) c = IsOverAsk s n c y
+Lets s n (Given lot) c = IsOverGiven s n c lot
+
+-- ---- all workers and edges
+
+pub record IsPlaced (k : Content) (seen : List ℕ) (w : ℕ) (n : WorkerNote) : Type 0 where
+  pub case : n.case ≡ k
+  pub node : n.node ≡ w
+  pub sees : n.seen ≡ seen
+
+pub record Ties (k : Content) (seen : List ℕ) (workers : List WorkerNote) (edges : List Edge) : Type 0 where
+  pub workers_each : length workers ≡ length (nodes k)
+  pub edges_each : length edges ≡ length (nodes k)
+  pub placed : (w : ℕ) (n : WorkerNote) → slice_get workers w ≡ Some n → IsPlaced k seen w n
+  -- nothing is above the root, which has the opening lot
+  pub top : slice_get edges 0 ≡ Some Home
+  pub root : (n : WorkerNote) → slice_get workers 0 ≡ Some n → n.held ≡ none_counted k
+  pub hangs : (w : ℕ) (n : WorkerNote) (e : Edge) → 0 < w → slice_get workers w ≡ Some n → slice_get edges w ≡ Some e → Hangs n e
+  pub lets : (s : Side) (w l r : ℕ) (n c : WorkerNote) (e : Edge) → kids k w ≡ Some (l, r) → slice_get workers w ≡ Some n
+      → slice_get edges (at_side s l r) ≡ Some e → slice_get workers (at_side s l r) ≡ Some c → Lets s n e c
+
+-- no more items are seen than there are
+pub record IsSeen (k : Content) (seen : List ℕ) : Type 0 where
+  pub one_each : length seen ≡ count_of_itags (job k)
+  pub there : (i : ℕ) → slice_index seen i ≤ length (slice_index_or (listed k.streams) i [])
+
+-- OUTPUTS ONCE: `done` is, of each itag, what its owner counted, and the outputs are those of these events, each event's once
+pub record Tells (k : Content) (workers : List WorkerNote) (outs : List Out) : Type 0 where
+  pub done : List ℕ
+  pub long : length done ≡ count_of_itags (job k)
+  pub counted : (w : ℕ) (n : WorkerNote) (i : ℕ) → slice_get workers w ≡ Some n → own (job k) (nodes k) w i ≡ true → slice_index n.counts i ≡ slice_index done i
+  pub texts : HasTexts (setting_of k) (below (job k) (nodes k) 0) done outs
+
+pub record Rule (n : NetNote) : Type 0 where
+  pub seen : IsSeen n.case n.seen
+  pub ties : Ties n.case n.seen n.workers n.edges
+  pub tells : Tells n.case n.workers n.outs
+
+-- so it is, but where memory was wanting in a step
+abbrev pub IsWell : NetNote → Type 0
+IsWell n = n.gone ≡ false → Rule n

@@ -1,0 +1,16 @@
+//! The laws on which the rule of the net rests.
+
+ghost use Rattle.flu_net.specs.LawsBelow.{LawsBelow};
+
+/// The laws of plans, of lots and of texts.
+pub(crate) fn laws_below()
+    ensures { LawsBelow }
+{
+    flu_deps::laws::plans_are_trees();
+    flu_fork::laws::contents_are_settings();
+    flu_fork::laws::events_have_moments();
+    flu_fork::laws::itags_are_of_nodes();
+    flu_fork::laws::loans_are_paired();
+    flu_fork::laws::texts_are_counted();
+    flu_fork::laws::texts_end();
+}

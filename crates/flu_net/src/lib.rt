@@ -1,0 +1,13 @@
+//! The whole tree of workers in one hand: every list of its steps keeps the rule of the net (`docs/TREE.md`).
+#![tactic(auto)]
+
+mod edges;
+pub mod laws;
+mod net;
+mod showing;
+mod starting;
+mod steps;
+
+pub use edges::Edge;
+pub use net::Net;
+pub use steps::{Step, StepFault};
