@@ -98,21 +98,21 @@ module _ (old : NetNote) (rule : Rule old) (i : Itag) (may : may_arrive old i �
     edges_each = rule.ties.edges_each;
     placed = λ w m e.
         (let from = mapped_from (seeing i.0 count) old.workers w m e in
-         let was = rule.ties.placed w from.0 from.1 in
-         subst (IsPlaced old.case (set old.seen i.0 count) w) from.2
-         (record { case = was.case; node = was.node; sees = ap (λ s. set s i.0 count) was.sees }));
+        let was = rule.ties.placed w from.0 from.1 in
+        subst (IsPlaced old.case (set old.seen i.0 count) w) from.2
+        (record { case = was.case; node = was.node; sees = ap (λ s. set s i.0 count) was.sees }));
     top = rule.ties.top;
     root = λ m e.
         (let from = mapped_from (seeing i.0 count) old.workers 0 m e in
-         ap (λ (x : WorkerNote). x.held) (sym from.2) ∙ rule.ties.root from.0 from.1);
+        ap (λ (x : WorkerNote). x.held) (sym from.2) ∙ rule.ties.root from.0 from.1);
     hangs = λ w m e some a b.
         (let from = mapped_from (seeing i.0 count) old.workers w m a in
-         subst (λ x. Hangs x e) from.2 (hangs_seen i.0 count from.0 e (rule.ties.hangs w from.0 e some from.1 b)));
+        subst (λ x. Hangs x e) from.2 (hangs_seen i.0 count from.0 e (rule.ties.hangs w from.0 e some from.1 b)));
     lets = λ s w l r m c e are a b d.
         (let from = mapped_from (seeing i.0 count) old.workers w m a in
-         let kid = mapped_from (seeing i.0 count) old.workers (at_side s l r) c d in
-         subst (λ x. Lets s x e c) from.2 (subst (λ x. Lets s (seeing i.0 count from.0) e x) kid.2
-         (lets_seen i.0 count s from.0 e kid.0 (rule.ties.lets s w l r from.0 kid.0 e are from.1 b kid.1))));
+        let kid = mapped_from (seeing i.0 count) old.workers (at_side s l r) c d in
+        subst (λ x. Lets s x e c) from.2 (subst (λ x. Lets s (seeing i.0 count from.0) e x) kid.2
+        (lets_seen i.0 count s from.0 e kid.0 (rule.ties.lets s w l r from.0 kid.0 e are from.1 b kid.1))));
   }
 
   pub rule_arrived : Rule (arrived old i)
@@ -124,7 +124,7 @@ module _ (old : NetNote) (rule : Rule old) (i : Itag) (may : may_arrive old i �
       long = rule.tells.long;
       counted = λ w m j a mine.
           (let from = mapped_from (seeing i.0 count) old.workers w m a in
-           ap (λ (x : WorkerNote). slice_index x.counts j) (sym from.2) ∙ rule.tells.counted w from.0 j from.1 mine);
+          ap (λ (x : WorkerNote). slice_index x.counts j) (sym from.2) ∙ rule.tells.counted w from.0 j from.1 mine);
       texts = rule.tells.texts;
     };
   }

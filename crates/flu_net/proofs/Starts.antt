@@ -91,8 +91,8 @@ start_rule laws k n start = subst (λ (j : Content). Rule (record n { case = j }
         edges_each = start.edges.each;
         placed = λ w m e. (let is = start.workers.new w m e in record { case = is.case; node = is.node; sees = is.seen ∙ sym start.seen });
         top = (let root = (laws.parents (nodes k) (laws.settings k).one_tree).root in
-               let one = start.edges.each in
-               let found = get_there n.edges 0 (omega arith) in found.1 ∙ ap Some (start.edges.home 0 found.0 found.1));
+            let one = start.edges.each in
+            let found = get_there n.edges 0 (omega arith) in found.1 ∙ ap Some (start.edges.home 0 found.0 found.1));
         root = λ m e. (start.workers.new 0 m e).held;
         hangs = λ w m e some a b. subst (Hangs m) (sym (start.edges.home w e b)) (ap is_open (start.workers.new w m a).hand ∙ start_shut k w some);
         lets = λ s w l r m c e are a b d. subst (λ (x : Edge). Lets s m x c) (sym (start.edges.home (at_side s l r) e b)) (record {

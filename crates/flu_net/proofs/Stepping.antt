@@ -229,7 +229,8 @@ module _ (laws : LawsBelow) (k : Content) (seen : List ℕ) (ws : List WorkerNot
         root = λ _. h.held;
         hangs = λ e some is. hangs_under n m e h.place h.held h.given opens (t.hangs w n e some at is);
         above = λ q u a b p e f here up is. lets_under q p e n m h.place h.held h.given (t.lets q u a b p n e f up (ap (slice_get es) here ∙ is) (ap (slice_get ws) here ∙ at));
-        below = λ q a b c e f up is.
-            (let later = (under laws k q w a b f).earlier in t.hangs (at_side q a b) c e (omega arith) up is,
-              lets_home q n m e c h.same (ap (is_out q) h.hand_was) (ap (is_out q) h.hand ∙ first_home (kids n.case n.node) q) (t.lets q w a b n c e f at is up));
+        below = λ q a b c e f up is. (
+          let later = (under laws k q w a b f).earlier in t.hangs (at_side q a b) c e (omega arith) up is,
+          lets_home q n m e c h.same (ap (is_out q) h.hand_was) (ap (is_out q) h.hand ∙ first_home (kids n.case n.node) q) (t.lets q w a b n c e f at is up),
+        );
       })

@@ -5,7 +5,7 @@ ghost use Rattle.flu_net.specs.Effects.{seeing};
 ghost use Rattle.flu_net.specs.Showing.{AllMaySee};
 
 use flu_fork::Case;
-use flu_model::{Item, Itag};
+use flu_model::{Itag, Item};
 use flu_worker::Worker;
 
 /// All workers have seen so many items of an itag from now on.

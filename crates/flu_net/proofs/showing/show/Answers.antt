@@ -23,7 +23,8 @@ pub see-requires-clause-there : goal.see-requires-clause-there
 see-requires-clause-there c = (may c).there
 
 pub loop-w-preserved : goal.loop-w-preserved
-loop-w-preserved c =
-    (c.loop-w.invariant.0,
-      shown_more (seeing c.args.i.0 c.args.count) c.args.workers.now.items c.loop-w.workers.items c.loop-w.w c.index_mut.result.now c.loop-w.invariant.1
-      (less (seeing c.args.i.0 c.args.count) c.args.workers.now.items c.loop-w.w _ c.loop-w-test.true c.loop-w.invariant.0) c.see.new.self (c.see.ensures ∙ ap (seeing c.args.i.0 c.args.count) c.index_mut.ensures.value))
+loop-w-preserved c = (
+  c.loop-w.invariant.0,
+  shown_more (seeing c.args.i.0 c.args.count) c.args.workers.now.items c.loop-w.workers.items c.loop-w.w c.index_mut.result.now c.loop-w.invariant.1
+      (less (seeing c.args.i.0 c.args.count) c.args.workers.now.items c.loop-w.w _ c.loop-w-test.true c.loop-w.invariant.0) c.see.new.self (c.see.ensures ∙ ap (seeing c.args.i.0 c.args.count) c.index_mut.ensures.value),
+)
