@@ -1,5 +1,4 @@
-//! Tests of the links between workers, of the arrival words and of workers, in one thread, and of runs on a tree of threads. It has
-//! no code of its own.
+//! Tests of the links between workers, of the arrival words and of workers, in one thread. It has no code of its own.
 #![tactic(auto)]
 
 #[cfg(test)]
@@ -12,8 +11,6 @@ mod jobs;
 mod links;
 #[cfg(test)]
 mod lots;
-#[cfg(test)]
-mod runs;
 #[cfg(test)]
 mod steps;
 #[cfg(test)]
