@@ -19,7 +19,7 @@ use Rattle.flu_net.specs.declared.edges.Edge.TheVariants.{Home, Lent, Held, Aske
 use Rattle.flu_net.specs.Effects.{seeing, arrived}
 use Rattle.flu_net.specs.Enabled.{may_arrive}
 use Rattle.flu_net.specs.Notes.{NetNote}
-use Rattle.flu_net.specs.Rule.{Hangs, Lets, IsPlaced, IsSeen, Rule, Ties}
+use Rattle.flu_net.specs.Rule.{Hangs, Lets, IsPlaced, IsSeen, Rule, Stands, Ties}
 use Rattle.flu_net.specs.Showing.{AllMaySee}
 
 mapped_from : {X : Type 0} (f : X → X) (xs : List X) (w : ℕ) (y : X) → slice_get (map f xs) w ≡ Some y → (x : X) × (slice_get xs w ≡ Some x) × (f x ≡ y)
@@ -119,6 +119,10 @@ module _ (old : NetNote) (rule : Rule old) (i : Itag) (may : may_arrive old i �
   rule_arrived = record {
     seen = seen_more;
     ties = ties_seen;
+    stands = λ w m e a b.
+        (let from = mapped_from (seeing i.0 count) old.workers w m a in
+        let was = rule.stands w from.0 e from.1 b in
+        subst (λ (x : WorkerNote). Stands w x e) from.2 (record { asked = was.asked; sound = was.sound; root = was.root }));
     tells = record {
       done = rule.tells.done;
       long = rule.tells.long;

@@ -8,3 +8,9 @@ pub mod Shown
 pub mod Arriving
 pub mod Keeping
 pub mod Readying
+pub mod Standing
+pub mod Placed
+pub mod Asking
+pub mod Going
+pub mod Resting
+pub mod Ended

@@ -15,7 +15,7 @@ use Rattle.flu_worker.specs.declared.hand.Hand.TheVariants.{Empty}
 use Rattle.flu_worker.specs.declared.hand.Side.{Side}
 use Rattle.flu_worker.specs.declared.hand.Side.TheVariants.{Left, Right}
 use Rattle.flu_worker.specs.Calls.{IsNew, start_hand}
-use Rattle.flu_worker.specs.Hands.{at_side, is_open, is_out}
+use Rattle.flu_worker.specs.Hands.{at_side, is_lost, is_open, is_out}
 use Rattle.flu_worker.specs.Notes.{WorkerNote, taken_from}
 use Rattle.flu_net.specs.declared.edges.Edge.{Edge}
 use Rattle.flu_net.specs.declared.edges.Edge.TheVariants.{Home}
@@ -24,8 +24,9 @@ use Rattle.flu_net.specs.Notes.{NetNote}
 use Rattle.flu_fork.specs.Texts.{HasTexts}
 use Rattle.flu_net.specs.Rule.{Hangs, Lets, IsSeen, Rule}
 use Rattle.flu_net.specs.Starting.{AreNew, AreHome, IsStart}
-use Rattle.flu_net.proofs.Hands.{first_home}
+use Rattle.flu_net.proofs.Hands.{first_home, first_open}
 use Rattle.flu_net.proofs.Lists.{get_there, same_some, zeros_at}
+use Rattle.flu_net.proofs.Standing.{first_sound, never}
 
 -- ---- one more
 pub new_more : (k : Content) (w : ℕ) (old new : List WorkerNote) (n : WorkerNote) → new ≡ old ++ n ∷ [] → IsNew k w n → AreNew k w old → AreNew k (w + 1) new
@@ -67,6 +68,10 @@ start_home : (s : Side) (k : Content) (w : ℕ) → is_out s (start_hand k w) �
 start_home s k zero = first_home (kids k 0) s
 start_home s k (suc w) = refl
 
+start_sound : (k : Content) (w : ℕ) → is_lost (start_hand k w) ≡ false
+start_sound k zero = first_sound (kids k 0)
+start_sound k (suc w) = refl
+
 none_taken : (s : Side) (k : Content) (w : ℕ) (n : WorkerNote) → IsNew k w n → taken_from s n ≡ no_counts (job k)
 none_taken Left k w n is = is.taken_left
 none_taken Right k w n is = is.taken_right
@@ -100,6 +105,11 @@ start_rule laws k n start = subst (λ (j : Content). Rule (record n { case = j }
           given = (start.workers.new (at_side s l r) c d).given ∙ sym (none_taken s k w m (start.workers.new w m a));
         });
       };
+      stands = λ w m e a b. (let is = start.workers.new w m a in record {
+        asked = λ y kept over. absurd (never m.kept is.kept kept);
+        sound = ap is_lost is.hand ∙ start_sound k w;
+        root = λ top. ap is_open is.hand ∙ ap (λ v. is_open (start_hand k v)) top ∙ first_open (kids k 0);
+      });
       tells = record {
         done = nil;
         long = length-map-range_with_len (λ (i : ℕ). 0) 0 (count_of_itags (job k));

@@ -4,6 +4,7 @@ use Rattle.flu_fork.specs.Kin.{ItagsAreOfNodes, ItagsAreOfKids, ItagsAreOfTheRoo
 use Rattle.flu_fork.specs.Places.{MomentsAreEvents}
 use Rattle.flu_fork.specs.Serving.{ContentsAreSettings, LoansArePaired}
 use Rattle.flu_fork.specs.Texts.{NoTexts, TextsAreOfTheSet, TextsGrow, TextsEnd, StatesEnd}
+use Rattle.flu_worker.specs.Laws.{NewTargets, AskedGoOn, OwnGoOn, NothingIsNext}
 
 pub record LawsBelow : Type 0 where
   pub children : ChildrenAreLater
@@ -19,3 +20,7 @@ pub record LawsBelow : Type 0 where
   pub more_texts : TextsGrow
   pub texts_end : TextsEnd
   pub states_end : StatesEnd
+  pub new_targets : NewTargets
+  pub asked_go_on : AskedGoOn
+  pub own_go_on : OwnGoOn
+  pub nothing_next : NothingIsNext

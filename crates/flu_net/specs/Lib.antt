@@ -6,3 +6,5 @@ pub mod LawsBelow
 pub mod Showing
 pub mod Starting
 pub mod Stays
+pub mod Final
+pub mod Blocking

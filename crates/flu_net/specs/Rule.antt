@@ -11,8 +11,8 @@ use Rattle.flu_fork.specs.Lots.{job, nodes, kids, setting_of, LotFits}
 use Rattle.flu_fork.specs.Serving.{AsksAbove, GrownFrom, Served, counts_of, none_counted}
 use Rattle.flu_fork.specs.Texts.{HasTexts}
 use Rattle.flu_worker.specs.declared.hand.Side.{Side}
-use Rattle.flu_worker.specs.Hands.{at_side, is_open, is_out, may_take}
-use Rattle.flu_worker.specs.Notes.{WorkerNote, lent_to, taken_from}
+use Rattle.flu_worker.specs.Hands.{at_side, is_lost, is_open, is_out, may_take}
+use Rattle.flu_worker.specs.Notes.{WorkerNote, above_of, lent_to, taken_from}
 use Rattle.flu_net.specs.declared.edges.Edge.{Edge}
 use Rattle.flu_net.specs.declared.edges.Edge.TheVariants.{Home, Lent, Held, Asked, Given}
 use Rattle.flu_net.specs.Notes.{NetNote}
@@ -102,6 +102,16 @@ pub record Ties (k : Content) (seen : List ℕ) (workers : List WorkerNote) (edg
   pub lets : (s : Side) (w l r : ℕ) (n c : WorkerNote) (e : Edge) → kids k w ≡ Some (l, r) → slice_get workers w ≡ Some n
       → slice_get edges (at_side s l r) ≡ Some e → slice_get workers (at_side s l r) ≡ Some c → Lets s n e c
 
+-- a worker with the edge above it: what it keeps as its target, and is of an itag above it, is asked over this edge; its lot is not lost; and the root has its lot,
+-- or parts of it are out
+pub record Stands (w : ℕ) (n : WorkerNote) (e : Edge) : Type 0 where
+  pub asked : (y : Ask) → n.kept ≡ Some y → above_of n y.itag.0 ≡ true → e ≡ Asked y
+  pub sound : is_lost n.hand ≡ false
+  pub root : w ≡ 0 → is_open n.hand ≡ true
+
+abbrev pub AllStand : List WorkerNote → List Edge → Type 0
+AllStand workers edges = (w : ℕ) (n : WorkerNote) (e : Edge) → slice_get workers w ≡ Some n → slice_get edges w ≡ Some e → Stands w n e
+
 -- no more items are seen than there are
 pub record IsSeen (k : Content) (seen : List ℕ) : Type 0 where
   pub one_each : length seen ≡ count_of_itags (job k)
@@ -117,6 +127,7 @@ pub record Tells (k : Content) (workers : List WorkerNote) (outs : List Out) : T
 pub record Rule (n : NetNote) : Type 0 where
   pub seen : IsSeen n.case n.seen
   pub ties : Ties n.case n.seen n.workers n.edges
+  pub stands : AllStand n.workers n.edges
   pub tells : Tells n.case n.workers n.outs
 
 -- so it is, but where memory was wanting in a step

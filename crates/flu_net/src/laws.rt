@@ -2,7 +2,7 @@
 
 ghost use Rattle.flu_net.specs.LawsBelow.{LawsBelow};
 
-/// The laws of plans, of lots and of texts.
+/// The laws of plans, of lots, of texts and of targets.
 pub(crate) fn laws_below()
     ensures { LawsBelow }
 {
@@ -13,4 +13,6 @@ pub(crate) fn laws_below()
     flu_fork::laws::loans_are_paired();
     flu_fork::laws::texts_are_counted();
     flu_fork::laws::texts_end();
+    flu_worker::laws::targets_are_own_or_asked();
+    flu_worker::laws::waiting_ends();
 }

@@ -7,6 +7,7 @@ mod net;
 mod showing;
 mod starting;
 mod steps;
+mod workers;
 
 pub use edges::Edge;
 pub use net::Net;

@@ -3,6 +3,8 @@
 ghost use Rattle.std.specs.Prelude.{◌≡◌, ◌↔◌, true, false, Some, slice_get, IfOk, OnOk, OnErr, IsErrOf};
 ghost use Rattle.flu_net.specs.Effects.{arrived, Makes, Handles, Asks, Takes, Gives, Holds, Lends};
 ghost use Rattle.flu_net.specs.Enabled.{aims, if_there, is_enabled, may_arrive, may_handle, may_ask, may_take_part, may_give_up, may_hold, may_lend_part};
+ghost use Rattle.flu_net.specs.Blocking.{IsQuiet};
+ghost use Rattle.flu_net.specs.Final.{IsFinal};
 ghost use Rattle.flu_net.specs.Notes.{asked_of};
 ghost use Rattle.flu_net.specs.Rule.{IsWell, Tells};
 ghost use Rattle.flu_net.specs.Starting.{IsStart};
@@ -11,6 +13,7 @@ ghost use Rattle.flu_worker.specs.Choosing.{may_give};
 use crate::edges::{
     Edge, ask_at, given_at, given_lot, held_at, kid_of, lent_at, lent_lot, may_lend, may_take, put,
 };
+use crate::workers::all_keep;
 use crate::laws::laws_below;
 use crate::showing::{one_more, show};
 use crate::starting::{first_edges, first_workers, no_counts};
@@ -90,6 +93,15 @@ impl Net {
         ensures { IsWell self.now }
     {
         let _gone = &self.gone;
+    }
+
+    /// The net never blocks: no step is enabled exactly where it is final, so where all items are seen, each worker has counted all
+    /// events of its own itags and of those above it, and each leaf has its lot. This call does nothing but go over the workers.
+    pub fn never_blocks(&self)
+        ensures { self.now.gone ≡ false → (IsQuiet self.now ↔ IsFinal self.now) }
+    {
+        laws_below();
+        all_keep(self.workers.as_slice());
     }
 
     /// Whether a step may be made. It takes no memory.

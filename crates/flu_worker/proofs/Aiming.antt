@@ -1,7 +1,7 @@
 -- When an event is one at which a worker may aim, by what it has seen, and what holds of a whole lot then.
-use Rattle.std.proofs.Common.{◌≡◌, ◌≢◌, ◌<◌, ℕ, zero, suc, true, false, cond, Option, Some, None, List, [], ◌∷◌, length, take, inl, inr, refl, sym, ap, subst, ◌∙◌, arith}
-use Rattle.std.specs.Prelude.{◌==◌, ◌||◌, not, slice_get, slice_index, slice_index_or}
-use Rattle.std.proofs.lemmas.Bool.{cases_lt, ne_eqb, or_left, or_right}
+use Rattle.std.proofs.Common.{◌≡◌, ◌≢◌, ◌<◌, ◌≤◌, ℕ, zero, suc, true, false, cond, Option, Some, None, List, [], ◌∷◌, length, take, inl, inr, refl, sym, ap, subst, ◌∙◌, arith}
+use Rattle.std.specs.Prelude.{◌==◌, ◌||◌, not, slice_get, slice_index, slice_index_or, IsSome}
+use Rattle.std.proofs.lemmas.Bool.{cases_eq, cases_lt, ne_eqb, or_left, or_right}
 use Rattle.flu_lemmas.proofs.Tests.{and_left, and_right, both, not_both, true_eq}
 use Rattle.flu_model.specs.declared.events.Event.{Event}
 use Rattle.flu_model.specs.declared.events.Itag.{Itag}
@@ -20,17 +20,18 @@ use Rattle.flu_fork.specs.Streams.{IsEventAt, IsClearOf}
 use Rattle.flu_fork.specs.Lots.{job, nodes, kids, setting_of, LotFits}
 use Rattle.flu_fork.specs.Serving.{LotCounts, Served, AsksAbove}
 use Rattle.flu_mail.specs.Waiting.{is_leaf}
-use Rattle.flu_worker.specs.Agreeing.{Agrees, IsTarget, IsExactFor}
+use Rattle.flu_worker.specs.Agreeing.{Agrees, IsFirstOf, IsTarget, IsExactFor}
 use Rattle.flu_worker.specs.Choosing.{Sight, own_itags, next_at, takes, if_ready, event_of, serves, least_next, least_ready, ask_for, if_serves, is_same_ask, first_some, new_target}
 use Rattle.flu_worker.specs.LawsBelow.{LawsBelow}
 use Rattle.flu_worker.proofs.Changing.{above_just_before}
 use Rattle.flu_worker.proofs.CountLemmas.{no_items, some_within}
 use Rattle.flu_worker.proofs.EarliestLemmas.{all_where, found_is}
-use Rattle.flu_worker.proofs.Nodes.{own_owner, own_below, above_not_below}
+use Rattle.flu_worker.proofs.Nodes.{not_leaf, own_owner, own_below, above_not_below}
+use Rattle.flu_worker.proofs.Rising.{rises}
 
 -- ---- events that are there
 -- what is among the seen items is among all
-still_there : (items : List Item) (seen k : ℕ) (y : Event) → slice_get (events_of (take seen items)) k ≡ Some y → slice_get (events_of items) k ≡ Some y
+pub still_there : (items : List Item) (seen k : ℕ) (y : Event) → slice_get (events_of (take seen items)) k ≡ Some y → slice_get (events_of items) k ≡ Some y
 still_there [] zero k y e = e
 still_there [] (suc seen) k y e = e
 still_there (item ∷ rest) zero k y e = cc
@@ -77,11 +78,30 @@ module _ (laws : LawsBelow) (s : Sight) where
   pub ready_above : (x : Event) → takes s x ≡ true → IsClearOf (setting_of s.case) (above (job s.case) (nodes s.case) s.node) s.counts x
   ready_above x = ready_clear (above (job s.case) (nodes s.case) s.node) x (λ j h. or_right (own (job s.case) (nodes s.case) s.node j) _ h)
 
+  -- and at an inner worker no event of these itags that is not counted is before it
+  ready_first : (set : Itags) (x : Event) → ((j : ℕ) → set j ≡ true → (own (job s.case) (nodes s.case) s.node j || above (job s.case) (nodes s.case) s.node j) ≡ true)
+      → IsSome (kids s.case s.node) → takes s x ≡ true → IsEventAt (setting_of s.case) x.itag.0 (slice_index s.counts x.itag.0) x → IsFirstOf (setting_of s.case) set s.counts x
+  ready_first set x within inner ready is j n y inside le at =
+      elim (cases_eq j x.itag.0) [
+        | inl same ↦
+            (let le_x : slice_index s.counts x.itag.0 ≤ n = subst (λ (u : ℕ). slice_index s.counts u ≤ n) same le in
+            rises laws (setting_of s.case) (laws.settings s.case) x.itag.0 (slice_index s.counts x.itag.0) n x y is
+            (subst (λ (u : ℕ). IsEventAt (setting_of s.case) u n y) same at) le_x)
+        | inr other ↦
+            (laws.ready (job s.case) (nodes s.case) (listed s.case.streams) s.node s.seen s.counts x j y (laws.settings s.case).streams ready (known_at s.case j n y at)
+            (both _ _ (both _ _ (not_same x j other) (within j inside)) (or_left _ _ (not_leaf (kids s.case s.node) inner))) (n, le, at)).1
+      ]
+
   -- READY TO SERVE: the same of the node's own itags
   pub serving_own : (x : Event) → serves s (Some x) ≡ true → IsClearOf (setting_of s.case) (own (job s.case) (nodes s.case) s.node) s.counts x
   serving_own x ready j n y inside other d le at =
       (laws.serving (job s.case) (nodes s.case) (listed s.case.streams) s.node s.seen s.counts x j y (laws.settings s.case).streams ready (known_at s.case j n y at)
       (both _ _ inside (or_right (not (is_leaf (nodes s.case) s.node)) _ d)) (n, le, at)).0
+
+  serving_first : (x : Event) → IsSome (kids s.case s.node) → serves s (Some x) ≡ true → IsFirstOf (setting_of s.case) (own (job s.case) (nodes s.case) s.node) s.counts x
+  serving_first x inner ready j n y inside le at =
+      (laws.serving (job s.case) (nodes s.case) (listed s.case.streams) s.node s.seen s.counts x j y (laws.settings s.case).streams ready (known_at s.case j n y at)
+      (both _ _ inside (or_left _ _ (not_leaf (kids s.case s.node) inner))) (n, le, at)).1
 
   -- ---- the events that are found
   pub record IsReadyOwn (x : Event) : Type 0 where
@@ -137,6 +157,8 @@ module _ (laws : LawsBelow) (s : Sight) where
       is = r.is;
       clear_own = ready_own x r.ready;
       clear_above = λ _. ready_above x r.ready;
+      first_own = λ inner. ready_first (own (job s.case) (nodes s.case) s.node) x (λ j h. or_left _ _ h) inner r.ready r.is;
+      first_above = λ inner _. ready_first (above (job s.case) (nodes s.case) s.node) x (λ j h. or_right (own (job s.case) (nodes s.case) s.node j) _ h) inner r.ready r.is;
     }
 
     pub serving_target : (y : Ask) → AsksAbove s.case s.node y → y.index ≡ slice_index held y.itag.0 → serves s (event_of s.case y) ≡ true → IsTarget s.case s.node s.counts upto y
@@ -154,6 +176,8 @@ module _ (laws : LawsBelow) (s : Sight) where
               is = e;
               clear_own = serving_own x f;
               clear_above = λ mine. absurd (not_both _ (own_below laws s.case s.node y.itag.0 up.known mine) out);
+              first_own = λ inner. serving_first x inner f;
+              first_above = λ inner mine. absurd (not_both _ (own_below laws s.case s.node y.itag.0 up.known mine) out);
             }
 
     ask_target : (o : Option Event) → ((x : Event) → o ≡ Some x → IsReadyOwn x) → (y : Ask) → ask_for s o ≡ Some y → IsTarget s.case s.node s.counts upto y × (own (job s.case) (nodes s.case) s.node y.itag.0 ≡ true)

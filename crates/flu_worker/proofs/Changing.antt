@@ -206,6 +206,8 @@ module _ (laws : LawsBelow) (k : Content) (w l r : ℕ) (e : kids k w ≡ Some (
     is = target.is;
     clear_own = target.clear_own;
     clear_above = target.clear_above;
+    first_own = target.first_own;
+    first_above = target.first_above;
   }
 
   pub joined_left_grown : GrownFrom k l left.upto lot.upto

@@ -19,15 +19,18 @@ use Rattle.flu_tables.specs.Lists.{itag, itags_where}
 use Rattle.flu_worker.specs.Choosing.{Sight, own_itags, takes, if_ready, earlier, earliest}
 
 -- ---- the order of events
-not_itself : (x : Event) → is_before x x ≡ false
+pub not_itself : (x : Event) → is_before x x ≡ false
 not_itself x = grind (arith, common_steps)
+
+pub not_after : (x y : Event) → is_before x y ≡ true → is_before y x ≡ false
+not_after x y e = grind (arith, common_steps)
 
 -- what is before x is before all that is not before x
 before_later : (v u w : Event) → is_before v u ≡ true → is_before w u ≡ false → is_before v w ≡ true
 before_later v u w a b = grind (arith, common_steps)
 
 -- and so what is not before x is not before what is before x
-later_not_before : (v u w : Event) → is_before v u ≡ true → is_before w u ≡ false → is_before w v ≡ false
+pub later_not_before : (v u w : Event) → is_before v u ≡ true → is_before w u ≡ false → is_before w v ≡ false
 later_not_before v u w a b = grind (arith, common_steps)
 
 -- ---- where the earliest event passes a test, it is the earliest of those that pass it
@@ -104,6 +107,42 @@ none_is_ready s f itags e =
 pub first_is_ready : (s : Sight) (f : Itag → Option Event) (itags : List Itag) (x : Event) → earliest f itags ≡ Some x → takes s x ≡ true → Some x ≡ earliest (λ i. if_ready s (f i)) itags
 first_is_ready s f itags x e p =
     some_with (takes s) _ _ x (together (takes s) f itags) e p ∙ same_earliest (λ i. pass (takes s) (f i)) (λ i. if_ready s (f i)) (λ i. ready_is s (f i)) itags
+
+-- ---- and none of the events is before it
+
+-- what is not before an event is not before those that this one is not before
+pub not_before : (u v w : Event) → is_before u v ≡ false → is_before v w ≡ false → is_before u w ≡ false
+not_before u v w a b = grind (arith, common_steps)
+
+-- an event is found, and x is not before it
+abbrev pub NotBefore : Event → Option Event → Type 0
+NotBefore x None = ⊥
+NotBefore x (Some m) = is_before x m ≡ false
+
+still_not : (x : Event) (a b : Option Event) → NotBefore x a → NotBefore x (earlier a b)
+still_not x None b h = absurd h
+still_not x (Some u) None h = h
+still_not x (Some u) (Some v) h =
+    elim (is_before v u) as (λ q. is_before v u ≡ q → NotBefore x (cond q (Some v) (Some u))) [ true ↦ λ e. later_not_before v u x e h | false ↦ λ e. h ] refl
+
+not_now : (x : Event) (a : Option Event) → NotBefore x (earlier a (Some x))
+not_now x None = not_itself x
+not_now x (Some u) = elim (is_before x u) as (λ q. is_before x u ≡ q → NotBefore x (cond q (Some x) (Some u))) [ true ↦ λ e. not_itself x | false ↦ λ e. e ] refl
+
+not_from : (x : Event) (f : Itag → Option Event) (itags : List Itag) (found : Option Event) → NotBefore x found → NotBefore x (fold (λ o i. earlier o (f i)) found itags)
+not_from x f [] found h = h
+not_from x f (i ∷ rest) found h = not_from x f rest (earlier found (f i)) (still_not x found (f i) h)
+
+none_from : (f : Itag → Option Event) (itags : List Itag) (found : Option Event)
+    → AllByRecursion (λ i. (x : Event) → f i ≡ Some x → NotBefore x (fold (λ o i. earlier o (f i)) found itags)) itags
+none_from f [] found = tt
+none_from f (i ∷ rest) found = (
+  (λ x e. not_from x f rest (earlier found (f i)) (subst (λ (o : Option Event). NotBefore x (earlier found o)) (sym e) (not_now x found))),
+  none_from f rest (earlier found (f i)),
+)
+
+pub none_before : (f : Itag → Option Event) (itags : List Itag) → AllByRecursion (λ i. (x : Event) → f i ≡ Some x → NotBefore x (earliest f itags)) itags
+none_before f itags = none_from f itags None
 
 -- ---- listed itags
 pub all_where : (p : Program) (test : Itag → Bool) (Q : Itag → Type 0) → ((i : Itag) → i.0 < count_of_itags p → test i ≡ true → Q i) → AllByRecursion Q (itags_where p test)

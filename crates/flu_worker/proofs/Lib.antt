@@ -3,6 +3,7 @@ pub mod CountLemmas
 pub mod Nodes
 pub mod Changing
 pub mod EarliestLemmas
+pub mod Rising
 pub mod Aiming
 pub mod Serving
 pub mod Steps
@@ -14,3 +15,5 @@ pub mod Targets
 pub mod Ending
 pub mod Methods
 pub mod OneTarget
+pub mod Telling
+pub mod Waiting

@@ -1,6 +1,6 @@
 -- What a node owns, what is above it and below it, and what is below its children.
-use Rattle.std.proofs.Common.{◌≡◌, ◌<◌, ℕ, true, false, Some, ◌⊎◌, inl, inr, sym, ap, ◌∙◌}
-use Rattle.std.specs.Prelude.{◌||◌, ◌==◌}
+use Rattle.std.proofs.Common.{◌≡◌, ◌<◌, ℕ, true, false, Option, Some, None, ◌⊎◌, inl, inr, refl, sym, ap, ◌∙◌}
+use Rattle.std.specs.Prelude.{◌||◌, ◌==◌, not, is_none, IsSome}
 use Rattle.std.proofs.lemmas.Bool.{cases_Bool, or_left, or_right}
 use Rattle.flu_lemmas.proofs.Searches.{eq_true}
 use Rattle.flu_lemmas.proofs.Tests.{false_if_not, not_both, true_eq}
@@ -11,6 +11,10 @@ use Rattle.flu_fork.specs.Classes.{itag, own, below, above}
 use Rattle.flu_fork.specs.Kin.{IsOfNode, IsOfKids}
 use Rattle.flu_fork.specs.Lots.{job, nodes, kids, setting_of}
 use Rattle.flu_worker.specs.LawsBelow.{LawsBelow}
+
+pub not_leaf : (o : Option (ℕ × ℕ)) → IsSome o → not (is_none o) ≡ true
+not_leaf None e = cc
+not_leaf (Some p) e = refl
 
 module _ (laws : LawsBelow) (k : Content) where
   of_node : (w i : ℕ) → i < count_of_itags (job k) → IsOfNode (setting_of k) w i

@@ -17,11 +17,7 @@ use Rattle.flu_worker.specs.Choosing.{Sight, serves}
 use Rattle.flu_worker.specs.Laws.{TargetsAreOne}
 use Rattle.flu_worker.specs.LawsBelow.{LawsBelow}
 use Rattle.flu_worker.proofs.Aiming.{IsReadyOwn, least_found}
-use Rattle.flu_worker.proofs.Nodes.{own_not_above}
-
-not_leaf : (o : Option (ℕ × ℕ)) → IsSome o → not (is_none o) ≡ true
-not_leaf None e = cc
-not_leaf (Some p) e = refl
+use Rattle.flu_worker.proofs.Nodes.{not_leaf, own_not_above}
 
 module _ (laws : LawsBelow) (s : Sight) (inner : IsSome (kids s.case s.node)) (x : Event) (r : IsReadyOwn laws s x) (y : Ask) (up : AsksAbove s.case s.node y)
     (next : y.index ≡ slice_index s.counts y.itag.0) (e : Event) (at : IsEventAt (setting_of s.case) y.itag.0 y.index e) where

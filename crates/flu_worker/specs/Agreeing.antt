@@ -2,14 +2,15 @@
 use Rattle.std.specs.Prelude.{◌≡◌, ◌⊎◌, ℕ, ◌<◌, ◌≤◌, true, false, Some, List, ◌∷◌, ◌++◌, length, slice_index, IsSome}
 use Rattle.flu_model.specs.declared.events.Event.{Event}
 use Rattle.flu_model.specs.Itags.{count_of_itags}
+use Rattle.flu_model.specs.Merging.{is_before}
 use Rattle.flu_model.specs.Owners.{owner_of}
 use Rattle.flu_laws.specs.Spans.{Moment, AreAtMost}
 use Rattle.flu_laws.specs.Lots.{IsExact}
 use Rattle.flu_fork.specs.declared.content.Content.{Content}
 use Rattle.flu_fork.specs.declared.lots.Ask.{Ask}
-use Rattle.flu_fork.specs.Settings.{events_at, moments}
+use Rattle.flu_fork.specs.Settings.{Setting, events_at, moments}
 use Rattle.flu_fork.specs.Streams.{IsEventAt, IsClearOf}
-use Rattle.flu_fork.specs.Classes.{own, below, above}
+use Rattle.flu_fork.specs.Classes.{Itags, own, below, above}
 use Rattle.flu_fork.specs.Lots.{job, nodes, kids, setting_of}
 use Rattle.flu_fork.specs.Serving.{LotCounts, GrownFrom}
 
@@ -27,8 +28,13 @@ pub record Grows (k : Content) (w : ℕ) (taken_left taken_right upto : List ℕ
   pub left : (l r : ℕ) → kids k w ≡ Some (l, r) → GrownFrom k l taken_left upto
   pub right : (l r : ℕ) → kids k w ≡ Some (l, r) → GrownFrom k r taken_right upto
 
+-- FIRST: no event of a set of itags that is not below the counts, seen or not, is before x, whether they are dependent or not
+abbrev pub IsFirstOf : Setting → Itags → List ℕ → Event → Type 0
+IsFirstOf k set upto x = (j l : ℕ) (y : Event) → set j ≡ true → slice_index upto j ≤ l → IsEventAt k j l y → is_before y x ≡ false
+
 -- A TARGET: the next event by these counts, of an itag of the node or of one above it. It is before each event that is not counted and on which it depends, of
--- the node's other itags, and if it is the node's own, of those above it
+-- the node's other itags, and if it is the node's own, of those above it. An inner worker aims at events in event order: no event of these itags that is not counted
+-- is before its target
 pub record IsTarget (k : Content) (w : ℕ) (counts upto : List ℕ) (y : Ask) : Type 0 where
   pub known : y.itag.0 < count_of_itags (job k)
   pub next : y.index ≡ slice_index upto y.itag.0
@@ -37,6 +43,8 @@ pub record IsTarget (k : Content) (w : ℕ) (counts upto : List ℕ) (y : Ask) :
   pub is : IsEventAt (setting_of k) y.itag.0 y.index event
   pub clear_own : IsClearOf (setting_of k) (own (job k) (nodes k) w) counts event
   pub clear_above : own (job k) (nodes k) w y.itag.0 ≡ true → IsClearOf (setting_of k) (above (job k) (nodes k) w) counts event
+  pub first_own : IsSome (kids k w) → IsFirstOf (setting_of k) (own (job k) (nodes k) w) counts event
+  pub first_above : IsSome (kids k w) → own (job k) (nodes k) w y.itag.0 ≡ true → IsFirstOf (setting_of k) (above (job k) (nodes k) w) counts event
 
 -- A FORK: the counts of the lot that a worker forked last agree, and its parts begin where it held
 pub record IsForkedAt (k : Content) (w : ℕ) (counts : List ℕ) (held : LotCounts) (upto : List ℕ) : Type 0 where

@@ -3,7 +3,8 @@ use Rattle.flu_fork.specs.Kin.{ItagsAreOfNodes, ItagsAreOfKids}
 use Rattle.flu_fork.specs.Laws.{CentralLaw}
 use Rattle.flu_fork.specs.Places.{EventsHaveMoments}
 use Rattle.flu_fork.specs.Serving.{ContentsAreSettings, LoansArePaired, JoinsServe, JoinsGrow, ClearIsJustBefore, JustBeforeIsExact, LeavesServe}
-use Rattle.flu_mail.specs.Laws.{ReadyClears, ServingClears}
+use Rattle.flu_laws.specs.Spans.{PlacesRise}
+use Rattle.flu_mail.specs.Laws.{ReadyClears, ServingClears, ReadyWhenClear, ServingWhenClear}
 
 pub record LawsBelow : Type 0 where
   pub settings : ContentsAreSettings
@@ -19,3 +20,6 @@ pub record LawsBelow : Type 0 where
   pub leaves : LeavesServe
   pub ready : ReadyClears
   pub serving : ServingClears
+  pub seen_ready : ReadyWhenClear
+  pub seen_serving : ServingWhenClear
+  pub rising : PlacesRise

@@ -1,13 +1,31 @@
 //! What holds of the choices of a worker, and the laws on which its rule rests. Each law is the contract of a function that does
 //! nothing.
 
-ghost use Rattle.flu_worker.specs.Laws.{TargetsAreOne};
+ghost use Rattle.flu_worker.specs.Laws.{TargetsAreOne, NewTargets, AskedGoOn, OwnGoOn, NothingIsNext};
 ghost use Rattle.flu_worker.specs.LawsBelow.{LawsBelow};
 
 /// Of an inner worker's two possible targets only one is there: where it may take its least next event, it may not serve the next
 /// event of an itag above it, since its own one is before that and holds it up.
 pub fn targets_are_one()
     ensures { TargetsAreOne }
+{
+    laws_below();
+}
+
+/// A new target of an inner worker is the worker's own, or it is what is asked of it.
+pub fn targets_are_own_or_asked()
+    ensures { NewTargets }
+{
+    laws_below();
+}
+
+/// When all is seen, a worker waits for none but those above it and below it. Where no event of an itag above is before what is
+/// asked, it may take its least next event or serve what is asked; where nothing is left above, it may take its least next event;
+/// and where all events of its own itags are counted, it has none.
+pub fn waiting_ends()
+    ensures asked { AskedGoOn }
+    ensures own { OwnGoOn }
+    ensures nothing { NothingIsNext }
 {
     laws_below();
 }
@@ -24,5 +42,7 @@ pub(crate) fn laws_below()
     flu_fork::laws::served_lots_join();
     flu_fork::laws::subtrees_count_just_before();
     flu_fork::laws::updates_fit();
+    flu_laws::moments_are_in_order();
     flu_mail::laws::ready_clears();
+    flu_mail::laws::ready_when_clear();
 }

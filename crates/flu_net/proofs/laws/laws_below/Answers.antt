@@ -15,4 +15,8 @@ returns c = record {
   more_texts = c.texts_are_counted.ensures.grow;
   texts_end = c.texts_end.ensures.texts;
   states_end = c.texts_end.ensures.states;
+  new_targets = c.targets_are_own_or_asked.ensures;
+  asked_go_on = c.waiting_ends.ensures.asked;
+  own_go_on = c.waiting_ends.ensures.own;
+  nothing_next = c.waiting_ends.ensures.nothing;
 }

@@ -15,4 +15,7 @@ returns c = record {
   leaves = c.clear_events_are_served.ensures.leaf;
   ready = c.ready_clears.ensures.ready;
   serving = c.ready_clears.ensures.serve;
+  seen_ready = c.ready_when_clear.ensures.ready;
+  seen_serving = c.ready_when_clear.ensures.serve;
+  rising = c.moments_are_in_order.ensures.places;
 }

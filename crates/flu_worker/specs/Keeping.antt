@@ -1,0 +1,47 @@
+-- What a worker's rule says of what contracts see of it, in each hand.
+use Rattle.std.specs.Prelude.{◌≡◌, ◌⊎◌, ◌||◌, ℕ, ◌<◌, ◌≤◌, Bool, true, false, Some, None, length, slice_index, IsSome}
+use Rattle.flu_model.specs.Itags.{count_of_itags}
+use Rattle.flu_fork.specs.declared.lots.Ask.{Ask}
+use Rattle.flu_fork.specs.Lots.{job, nodes, kids, setting_of}
+use Rattle.flu_fork.specs.Settings.{events_at}
+use Rattle.flu_worker.specs.declared.hand.Hand.{Hand}
+use Rattle.flu_worker.specs.declared.hand.Hand.TheVariants.{Empty, Whole, Lending, Down, Taking}
+use Rattle.flu_worker.specs.declared.hand.Side.{Side}
+use Rattle.flu_worker.specs.Agreeing.{IsTarget}
+use Rattle.flu_worker.specs.Hands.{is_lost, is_open, is_out}
+use Rattle.flu_worker.specs.Notes.{WorkerNote, lent_to, own_of, above_of}
+
+-- a leaf keeps no target, and an inner worker whose parts both came back has one
+pub record KeepsWhole (n : WorkerNote) : Type 0 where
+  pub leaf : kids n.case n.node ≡ None → n.kept ≡ None
+  pub inner : IsSome (kids n.case n.node) → IsSome n.kept
+
+-- a part is still to be lent, and no target is kept
+pub record KeepsLending (left right : Bool) (n : WorkerNote) : Type 0 where
+  pub inner : IsSome (kids n.case n.node)
+  pub kept : n.kept ≡ None
+  pub some : (left || right) ≡ true
+
+-- one part came back, for a target
+pub record KeepsTaking (left right : Bool) (n : WorkerNote) : Type 0 where
+  pub inner : IsSome (kids n.case n.node)
+  pub kept : IsSome n.kept
+  pub some : (left || right) ≡ true
+
+abbrev pub KeepsIn : Hand → WorkerNote → Type 0
+KeepsIn Empty n = n.kept ≡ None
+KeepsIn Whole n = KeepsWhole n
+KeepsIn (Lending left right) n = KeepsLending left right n
+KeepsIn Down n = IsSome (kids n.case n.node)
+KeepsIn (Taking left right) n = is_lost (Taking left right) ≡ false → KeepsTaking left right n
+
+pub record HasRule (n : WorkerNote) : Type 0 where
+  pub there : n.node < length (nodes n.case)
+  pub counted : (i : ℕ) → slice_index n.counts i ≤ length (events_at (setting_of n.case) i)
+  pub keeps : KeepsIn n.hand n
+  -- while the lot is here or parts of it are out, the events of the itags above are counted as in the lot that was held, and in a part that is out those of the
+  -- node's own itags and of the itags above are counted as the worker counts them
+  pub held : (i : ℕ) → is_open n.hand ≡ true → is_lost n.hand ≡ false → i < count_of_itags (job n.case) → above_of n i ≡ true → slice_index n.counts i ≡ slice_index n.held.upto i
+  pub lent : (s : Side) (i : ℕ) → is_out s n.hand ≡ true → (own_of n i ≡ true) ⊎ (above_of n i ≡ true) → slice_index n.counts i ≡ slice_index (lent_to s n).upto i
+  -- a kept target is one by what is counted
+  pub target : (y : Ask) → n.kept ≡ Some y → IsTarget n.case n.node n.counts n.counts y
