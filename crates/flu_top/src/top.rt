@@ -14,6 +14,7 @@ use crate::commands::run;
 use crate::lines::say;
 use crate::refusals::{Refusal, status};
 use crate::words::read_words;
+use flu_grammar::laws::{jobs_are_grammar, plans_are_grammar};
 use flu_outside::{Files, Sink};
 use flu_report::write_all;
 use flu_seq::Gate;
@@ -54,6 +55,8 @@ pub fn flumina<F: Files, K: Sink, E: Sink, G: Gate>(
     ensures completes { Completes (map string_bytes words.now) (F.left files.old)
         (F.faults files.old) (F.faults files.new) (K.faults out.old) (K.faults out.new) result }
 {
+    jobs_are_grammar();
+    plans_are_grammar();
     let _ = gate;
     let ended = do_words(alloc, words, files, out);
     answer(err, ended)
