@@ -88,11 +88,23 @@ module _ (laws : LawsBelow) (n : NetNote) (rule : Rule n) where
       let p = (laws.parents (nodes n.case) (laws.settings n.case).one_tree).above v some lt in
       elim p.one [
         | inl left ↦ record {
-          up = p.parent; side = Left; left = p.kids.0; right = p.kids.1; are = p.are; is = left; earlier = p.under.earlier;
+          up = p.parent;
+          side = Left;
+          left = p.kids.0;
+          right = p.kids.1;
+          are = p.are;
+          is = left;
+          earlier = p.under.earlier;
           there = (let a = p.under.earlier in let b = p.under.there in omega arith);
         }
         | inr right ↦ record {
-          up = p.parent; side = Right; left = p.kids.0; right = p.kids.1; are = p.are; is = right; earlier = p.under.earlier;
+          up = p.parent;
+          side = Right;
+          left = p.kids.0;
+          right = p.kids.1;
+          are = p.are;
+          is = right;
+          earlier = p.under.earlier;
           there = (let a = p.under.earlier in let b = p.under.there in omega arith);
         }
       ]

@@ -13,11 +13,11 @@ ghost use Rattle.flu_worker.specs.Choosing.{may_give};
 use crate::edges::{
     Edge, ask_at, given_at, given_lot, held_at, kid_of, lent_at, lent_lot, may_lend, may_take, put,
 };
-use crate::workers::all_keep;
 use crate::laws::laws_below;
 use crate::showing::{one_more, show};
 use crate::starting::{first_edges, first_workers, no_counts};
 use crate::steps::{Step, StepFault};
+use crate::workers::all_keep;
 use flu_fork::{Ask, Case, CaseNote, Counts};
 use flu_model::{Itag, Outs, itag_count};
 use flu_worker::{Side, Worker};

@@ -11,8 +11,7 @@ returns c = λ gone.
     let n = c.args.self.now in
     let rule = subst IsWell c.self.view_is c.self.invariant gone in
     let same : c.as_slice.result.now ≡ n.workers = c.as_slice.ensures.value ∙ ap (λ (x : NetNote). x.workers) c.self.view_is in
-    let keep : AllKeep n.workers = subst AllKeep same c.all_keep.ensures in
-    (
+    let keep : AllKeep n.workers = subst AllKeep same c.all_keep.ensures in (
       (λ quiet. final_if_quiet c.laws_below.ensures n rule keep gone quiet),
       (λ final. quiet_if_final c.laws_below.ensures n rule keep final),
     )
