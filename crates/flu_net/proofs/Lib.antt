@@ -2,9 +2,14 @@ pub mod Hands
 pub mod Lists
 pub mod Touching
 pub mod Framing
+pub mod Sums
+pub mod Sizes
 pub mod Stepping
 pub mod Starts
 pub mod Shown
 pub mod Arriving
 pub mod Keeping
 pub mod Readying
+pub mod Measures
+pub mod Lessening
+pub mod MostSteps
