@@ -76,7 +76,7 @@ module _ (laws : LawsBelow) (k : Content) (ws : List WorkerNote) (outs : List Ou
     at_itag : c.moment.event.itag.0 ≡ x.itag.0
     at_itag = ap (λ (i : Itag). i.0) c.itag
 
-    known : x.itag.0 < count_of_itags (job k)
+    pub known : x.itag.0 < count_of_itags (job k)
     known =
         let is = laws.events (setting_of k) c.front c.back c.moment (laws.settings k) c.stands in
         elim (cases_lt x.itag.0 (count_of_itags (job k))) [
@@ -150,7 +150,7 @@ rule_same w old new laws rule s es edges outs ties stands same = record {
       (tells_same laws old.case old.workers old.outs rule.tells w s.was s.is s.at same);
 }
 
-own_at : (k : Content) (w : ℕ) (n : WorkerNote) (i : ℕ) → n.case ≡ k → n.node ≡ w → own_of n i ≡ true → own (job k) (nodes k) w i ≡ true
+pub own_at : (k : Content) (w : ℕ) (n : WorkerNote) (i : ℕ) → n.case ≡ k → n.node ≡ w → own_of n i ≡ true → own (job k) (nodes k) w i ≡ true
 own_at k w n i ek ew e = sym (λ j. own (job (ek j)) (nodes (ek j)) (ew j) i) ∙ e
 
 pub rule_handles : LawsBelow → (w : ℕ) (old new : NetNote) → Rule old → Handles w old new → Rule new
@@ -179,7 +179,7 @@ known_ask n m y found h askable k w s l r ek ew are =
     let here : kids m.case m.node ≡ Some (l, r) = (λ i. kids ((case ∙ ek) i) ((node ∙ ew) i)) ∙ are in
     subst (λ (j : Content). y.itag.0 < count_of_itags (job j)) case (askable l r here s).0.known
 
-own_to : (k : Content) (w : ℕ) (n : WorkerNote) (i : ℕ) → n.case ≡ k → n.node ≡ w → own (job k) (nodes k) w i ≡ true → own_of n i ≡ true
+pub own_to : (k : Content) (w : ℕ) (n : WorkerNote) (i : ℕ) → n.case ≡ k → n.node ≡ w → own (job k) (nodes k) w i ≡ true → own_of n i ≡ true
 own_to k w n i ek ew e = (λ j. own (job (ek j)) (nodes (ek j)) (ew j) i) ∙ e
 
 pub rule_holds : LawsBelow → (w : ℕ) (old new : NetNote) → Rule old → Holds w old new → Rule new

@@ -2,6 +2,8 @@ pub mod Hands
 pub mod Lists
 pub mod Touching
 pub mod Framing
+pub mod Sums
+pub mod Sizes
 pub mod Stepping
 pub mod Starts
 pub mod Shown
@@ -14,3 +16,6 @@ pub mod Asking
 pub mod Going
 pub mod Resting
 pub mod Ended
+pub mod Measures
+pub mod Lessening
+pub mod MostSteps

@@ -3,6 +3,8 @@ pub mod Rule
 pub mod Enabled
 pub mod Effects
 pub mod LawsBelow
+pub mod Measure
+pub mod Runs
 pub mod Showing
 pub mod Starting
 pub mod Stays

@@ -1,6 +1,14 @@
-//! The laws on which the rule of the net rests.
+//! The law of runs, and the laws on which the rule of the net rests.
 
 ghost use Rattle.flu_net.specs.LawsBelow.{LawsBelow};
+ghost use Rattle.flu_net.specs.Runs.{RunsAreBounded};
+
+/// However the steps of a net are ordered, no more of them can be made than items + events + 8 · nodes · (events + 1).
+pub fn runs_are_bounded()
+    ensures { RunsAreBounded }
+{
+    laws_below();
+}
 
 /// The laws of plans, of lots, of texts and of targets.
 pub(crate) fn laws_below()

@@ -1,10 +1,11 @@
 //! The net.
 
-ghost use Rattle.std.specs.Prelude.{◌≡◌, ◌↔◌, true, false, Some, slice_get, IfOk, OnOk, OnErr, IsErrOf};
+ghost use Rattle.std.specs.Prelude.{◌≡◌, ◌↔◌, ◌<◌, ◌≤◌, true, false, Some, slice_get, IfOk, OnOk, OnErr, IsErrOf};
 ghost use Rattle.flu_net.specs.Effects.{arrived, Makes, Handles, Asks, Takes, Gives, Holds, Lends};
 ghost use Rattle.flu_net.specs.Enabled.{aims, if_there, is_enabled, may_arrive, may_handle, may_ask, may_take_part, may_give_up, may_hold, may_lend_part};
 ghost use Rattle.flu_net.specs.Blocking.{IsQuiet};
 ghost use Rattle.flu_net.specs.Final.{IsFinal};
+ghost use Rattle.flu_net.specs.Measure.{most_steps, steps_left};
 ghost use Rattle.flu_net.specs.Notes.{asked_of};
 ghost use Rattle.flu_net.specs.Rule.{IsWell, Tells};
 ghost use Rattle.flu_net.specs.Starting.{IsStart};
@@ -63,7 +64,8 @@ impl Net {
     ///
     /// Only where memory is wanting.
     pub fn new(alloc: Global, case: &Case) -> Result<Net, AllocError>
-        ensures { IfOk result (IsStart case.now) }
+        ensures start { IfOk result (IsStart case.now) }
+        ensures most { IfOk result (λ n. steps_left n ≤ most_steps case.now) }
     {
         laws_below();
         let seen = no_counts(alloc, itag_count(case.checked().program()))?;
@@ -123,7 +125,8 @@ impl Net {
         }
     }
 
-    /// Makes a step, where it is enabled.
+    /// Makes a step, where it is enabled. Fewer steps are left then, whichever it was: so a list of steps that are made is no longer than
+    /// the number of those that are left at the start.
     ///
     /// # Errors
     ///
@@ -134,8 +137,11 @@ impl Net {
         ensures not_enabled { IsErrOf result StepFault.NotEnabled ↔ (is_enabled self.old s ≡ false) }
         ensures same { is_enabled self.old s ≡ false → self.new ≡ self.old }
         ensures made { OnOk result (Makes s self.old self.new) }
+        ensures left { OnOk result (steps_left self.new < steps_left self.old) }
         ensures gone { IsErrOf result StepFault.NoMemory → self.new.gone ≡ true }
     {
+        laws_below();
+        self.rule();
         if !self.enabled(case, s) {
             return Err(StepFault::NotEnabled);
         }
