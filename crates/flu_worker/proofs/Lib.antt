@@ -14,3 +14,4 @@ pub mod Targets
 pub mod Ending
 pub mod Methods
 pub mod OneTarget
+pub mod Telling

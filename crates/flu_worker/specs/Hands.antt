@@ -1,5 +1,5 @@
 -- What a worker has in its hand, by its shape, and how the steps change that.
-use Rattle.std.specs.Prelude.{ℕ, Bool, true, false, not, Option, Some, None, if◌then◌else◌}
+use Rattle.std.specs.Prelude.{ℕ, Bool, true, false, not, ◌&&◌, Option, Some, None, if◌then◌else◌}
 use Rattle.flu_worker.specs.declared.hand.Hand.{Hand}
 use Rattle.flu_worker.specs.declared.hand.Hand.TheVariants.{Empty, Whole, Lending, Down, Taking}
 use Rattle.flu_worker.specs.declared.hand.Side.{Side}
@@ -30,6 +30,14 @@ is_down Whole = false
 is_down (Lending l r) = false
 is_down Down = true
 is_down (Taking l r) = false
+
+-- memory was wanting, and the lot is lost
+abbrev pub is_lost : Hand → Bool
+is_lost Empty = false
+is_lost Whole = false
+is_lost (Lending l r) = false
+is_lost Down = false
+is_lost (Taking l r) = l && r
 
 -- the part for this side is to be lent
 abbrev pub may_lend : Side → Hand → Bool

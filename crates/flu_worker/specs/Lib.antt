@@ -4,6 +4,7 @@ pub mod Calls
 pub mod Agreeing
 pub mod Holding
 pub mod Rule
+pub mod Keeping
 pub mod Choosing
 pub mod Sights
 pub mod Moving

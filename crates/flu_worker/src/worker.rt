@@ -10,6 +10,7 @@ ghost use Rattle.flu_worker.specs.Calls.{IsNew, HoldsLot, GivesLot, HandlesEvent
 ghost use Rattle.flu_worker.specs.Hands.{is_open, is_whole, may_lend, may_take, at_side};
 ghost use Rattle.flu_worker.specs.Notes.{lent_to};
 ghost use Rattle.flu_worker.specs.Choosing.{may_give, next_of, target_of};
+ghost use Rattle.flu_worker.specs.Keeping.{HasRule};
 ghost use Rattle.flu_worker.specs.Starting.{IsFirst};
 
 use crate::choosing::{gives, next_ask, target};
@@ -115,6 +116,14 @@ impl Worker {
         ensures { self.new ≡ record self.old { seen = slice_set self.old.seen i.0 count } }
     {
         self.mail.see(i, count);
+    }
+
+    /// The rule of the worker, by what contracts see of it. This call does nothing.
+    pub fn rule(&self)
+        ensures { HasRule self.now }
+    {
+        laws_below();
+        let _node = &self.node;
     }
 
     /// What it has in its hand, by its shape.
