@@ -38,33 +38,44 @@ all_at_leaf laws k w lent lot leaf fits since mine outside = record {
   outside = outside;
 }
 
--- such a lot is on its loan
-on_loan : (k : Content) (w v : ℕ) (lent : LotCounts) (since fork : List ℕ) (lot : Lot) → IsLastFork k w lent fork
-    → BringsAll k v (record { since = since; upto = fork }) lot → IsOnLoan k v (record { since = since; upto = fork }) lot
-on_loan k w v lent since fork lot last all = record {
-  since = all.since;
-  outside = all.outside;
-  inside = λ i h. (let a = last.there i in let b = all.inside i h in omega arith);
-}
+module _ (k : Content) (w : ℕ) (lent to_left to_right : LotCounts) (last : IsLastFork k w lent to_left to_right) where
+  abbrev fork : List ℕ
+  fork = to_left.upto
+
+  -- such lots are on the loans of the fork
+  on_left : (l : ℕ) (left : Lot) → BringsAll k l to_left left → IsOnLoan k l (record { since = lent.since; upto = fork }) left
+  on_left l left all = record {
+    since = all.since ∙ last.left_since;
+    outside = all.outside;
+    inside = λ i h. (let a = last.there i in let b = all.inside i h in omega arith);
+  }
+
+  on_right : (r : ℕ) (right : Lot) → BringsAll k r to_right right → IsOnLoan k r (record { since = fork; upto = fork }) right
+  on_right r right all = record {
+    since = all.since ∙ last.right_since;
+    outside = λ i h. all.outside i h ∙ ap (λ u. slice_index u i) last.right_upto;
+    inside = λ i h. (let a = last.there i in let b = all.inside i h in omega arith);
+  }
 
 pub all_paired : LastOnesArePaired
-all_paired k w l r lent fork left right last fl fr =
-    paired_law k l r lent.since fork left right last.first (on_loan k w l lent lent.since fork left last fl) (on_loan k w r lent fork fork right last fr)
+all_paired k w l r lent to_left to_right left right last fl fr =
+    paired_law k l r lent.since to_left.upto left right last.first
+    (on_left k w lent to_left to_right last l left fl) (on_right k w lent to_left to_right last r right fr)
 
-module _ (laws : LawsBelow) (k : Content) (w l r : ℕ) (lent : LotCounts) (fork : List ℕ) (left right lot : Lot) (e : kids k w ≡ Some (l, r))
-    (last : IsLastFork k w lent fork) (fl : BringsAll k l (record { since = lent.since; upto = fork }) left)
-    (fr : BringsAll k r (record { since = fork; upto = fork }) right) (fits : LotFits k w lot) (joined : HasJoinedCounts k w left right lot) where
-  loan_left : IsOnLoan k l (record { since = lent.since; upto = fork }) left
-  loan_left = on_loan k w l lent lent.since fork left last fl
+module _ (laws : LawsBelow) (k : Content) (w l r : ℕ) (lent to_left to_right : LotCounts) (left right lot : Lot) (e : kids k w ≡ Some (l, r))
+    (last : IsLastFork k w lent to_left to_right) (fl : BringsAll k l to_left left) (fr : BringsAll k r to_right right)
+    (fits : LotFits k w lot) (joined : HasJoinedCounts k w left right lot) where
+  loan_left : IsOnLoan k l (record { since = lent.since; upto = to_left.upto }) left
+  loan_left = on_left k w lent to_left to_right last l left fl
 
-  loan_right : IsOnLoan k r (record { since = fork; upto = fork }) right
-  loan_right = on_loan k w r lent fork fork right last fr
+  loan_right : IsOnLoan k r (record { since = to_left.upto; upto = to_left.upto }) right
+  loan_right = on_right k w lent to_left to_right last r right fr
 
   as_left : (i : ℕ) → i < count_of_itags (job k) → below (job k) (nodes k) r i ≡ false → slice_index lot.upto i ≡ slice_index left.upto i
-  as_left i lt out = at_left laws k w l r e lent.since fork left right lot loan_left loan_right fl.fits.upto_each joined i lt out
+  as_left i lt out = at_left laws k w l r e lent.since to_left.upto left right lot loan_left loan_right fl.fits.upto_each joined i lt out
 
   as_right : (i : ℕ) → i < count_of_itags (job k) → below (job k) (nodes k) r i ≡ true → slice_index lot.upto i ≡ slice_index right.upto i
-  as_right i lt h = at_right laws k w l r e lent.since fork left right lot loan_left loan_right fl.fits.upto_each joined i lt h
+  as_right i lt h = at_right laws k w l r e lent.since to_left.upto left right lot loan_left loan_right fl.fits.upto_each joined i lt h
 
   parts : (i : ℕ) → i < count_of_itags (job k) → InOneOf (below (job k) (nodes k) w i) (own (job k) (nodes k) w i) (below (job k) (nodes k) l i) (below (job k) (nodes k) r i)
   parts i lt = (kids_law laws (setting_of k) w l r i (setting_holds k) e lt).parts
@@ -114,12 +125,12 @@ module _ (laws : LawsBelow) (k : Content) (w l r : ℕ) (lent : LotCounts) (fork
   all_together = record {
     all = record {
       fits = fits;
-      since = joined.since ∙ fl.since;
+      since = joined.since ∙ fl.since ∙ last.left_since;
       inside = all_below;
       outside = λ i out.
-          neither laws k w l r e lent.since fork left right lot loan_left loan_right fl.fits.upto_each joined i
-          (not_left laws k w l r e lent.since fork left right lot loan_left loan_right fl.fits.upto_each joined i out)
-          (not_right laws k w l r e lent.since fork left right lot loan_left loan_right fl.fits.upto_each joined i out)
+          neither laws k w l r e lent.since to_left.upto left right lot loan_left loan_right fl.fits.upto_each joined i
+          (not_left laws k w l r e lent.since to_left.upto left right lot loan_left loan_right fl.fits.upto_each joined i out)
+          (not_right laws k w l r e lent.since to_left.upto left right lot loan_left loan_right fl.fits.upto_each joined i out)
           ∙ last.outside i out;
     };
     own = all_own;
@@ -128,4 +139,5 @@ module _ (laws : LawsBelow) (k : Content) (w l r : ℕ) (lent : LotCounts) (fork
   }
 
 pub all_joined : LawsBelow → JoinsBringAll
-all_joined laws k w l r lent fork left right lot e last fl fr fits joined = all_together laws k w l r lent fork left right lot e last fl fr fits joined
+all_joined laws k w l r lent to_left to_right left right lot e last fl fr fits joined =
+    all_together laws k w l r lent to_left to_right left right lot e last fl fr fits joined

@@ -1,5 +1,5 @@
 -- BRINGS ALL: lots that come back at the end, when no event is left.
-use Rattle.std.specs.Prelude.{◌≡◌, ℕ, ◌≤◌, true, false, Some, None, List, length, slice_index}
+use Rattle.std.specs.Prelude.{◌≡◌, ℕ, ◌≤◌, true, false, Some, None, length, slice_index}
 use Rattle.flu_laws.specs.Spans.{AreAtMost}
 use Rattle.flu_fork.specs.declared.content.Content.{Content}
 use Rattle.flu_fork.specs.declared.lots.Lot.{Lot}
@@ -16,12 +16,16 @@ pub record BringsAll (k : Content) (v : ℕ) (lent : LotCounts) (lot : Lot) : Ty
   pub inside : IsComplete (setting_of k) (below (job k) (nodes k) v) lot.upto
   pub outside : (i : ℕ) → below (job k) (nodes k) v i ≡ false → slice_index lot.upto i ≡ slice_index lent.upto i
 
--- the counts at which a node's lot was forked last: all events of the node's own are counted, and outside its subtree those that were lent
-pub record IsLastFork (k : Content) (w : ℕ) (lent : LotCounts) (fork : List ℕ) : Type 0 where
-  pub first : AreAtMost lent.since fork
-  pub there : (i : ℕ) → slice_index fork i ≤ length (events_at (setting_of k) i)
-  pub own : IsComplete (setting_of k) (own (job k) (nodes k) w) fork
-  pub outside : (i : ℕ) → below (job k) (nodes k) w i ≡ false → slice_index fork i ≡ slice_index lent.upto i
+-- the loans to both children are those of the last fork of a node's lot: all events of the node's own are counted in it, and outside its subtree those that
+-- were lent
+pub record IsLastFork (k : Content) (w : ℕ) (lent to_left to_right : LotCounts) : Type 0 where
+  pub left_since : to_left.since ≡ lent.since
+  pub right_since : to_right.since ≡ to_left.upto
+  pub right_upto : to_right.upto ≡ to_left.upto
+  pub first : AreAtMost lent.since to_left.upto
+  pub there : (i : ℕ) → slice_index to_left.upto i ≤ length (events_at (setting_of k) i)
+  pub own : IsComplete (setting_of k) (own (job k) (nodes k) w) to_left.upto
+  pub outside : (i : ℕ) → below (job k) (nodes k) w i ≡ false → slice_index to_left.upto i ≡ slice_index lent.upto i
 
 -- what the lots of both children join to brings all, by the loan of their node; and the counts of the three are one another's
 pub record JoinsAll (k : Content) (w l r : ℕ) (lent : LotCounts) (left right lot : Lot) : Type 0 where
@@ -42,13 +46,12 @@ LeavesBringAll =
 -- two lots that bring all from the last fork are paired
 abbrev pub LastOnesArePaired : Type 0
 LastOnesArePaired =
-    (k : Content) (w l r : ℕ) (lent : LotCounts) (fork : List ℕ) (left right : Lot) → IsLastFork k w lent fork
-    → BringsAll k l (record { since = lent.since; upto = fork }) left → BringsAll k r (record { since = fork; upto = fork }) right
-    → LotsPaired k l r left right
+    (k : Content) (w l r : ℕ) (lent to_left to_right : LotCounts) (left right : Lot) → IsLastFork k w lent to_left to_right
+    → BringsAll k l to_left left → BringsAll k r to_right right → LotsPaired k l r left right
 
 -- THEIR JOIN BRINGS ALL
 abbrev pub JoinsBringAll : Type 0
 JoinsBringAll =
-    (k : Content) (w l r : ℕ) (lent : LotCounts) (fork : List ℕ) (left right lot : Lot) → kids k w ≡ Some (l, r) → IsLastFork k w lent fork
-    → BringsAll k l (record { since = lent.since; upto = fork }) left → BringsAll k r (record { since = fork; upto = fork }) right
-    → LotFits k w lot → HasJoinedCounts k w left right lot → JoinsAll k w l r lent left right lot
+    (k : Content) (w l r : ℕ) (lent to_left to_right : LotCounts) (left right lot : Lot) → kids k w ≡ Some (l, r) → IsLastFork k w lent to_left to_right
+    → BringsAll k l to_left left → BringsAll k r to_right right → LotFits k w lot → HasJoinedCounts k w left right lot
+    → JoinsAll k w l r lent left right lot
