@@ -14,6 +14,7 @@ pub mod PlaceLemmas
 pub mod KinLemmas
 pub mod ServingLemmas
 pub mod LoanLemmas
+pub mod AllLemmas
 pub mod Permuted
 pub mod TextLemmas
 pub mod StreamLemmas

@@ -61,12 +61,12 @@ module _ (laws : LawsBelow) (k : Content) (w l r : ℕ) (e : kids k w ≡ Some (
   right_not_left : (i : ℕ) → in_right i ≡ true → in_left i ≡ false
   right_not_left i h = not_below_both laws (setting_of k) (setting_holds k) w r l i (right_and_left laws (setting_of k) (setting_holds k) w l r e) h
 
-  not_left : (i : ℕ) → in_both i ≡ false → in_left i ≡ false
+  pub not_left : (i : ℕ) → in_both i ≡ false → in_left i ≡ false
   not_left i out =
       false_if_not _ (λ h. not_both _
       (kid_below laws (setting_of k) (setting_holds k) w l r i (left_and_right laws (setting_of k) (setting_holds k) w l r e) h) out)
 
-  not_right : (i : ℕ) → in_both i ≡ false → in_right i ≡ false
+  pub not_right : (i : ℕ) → in_both i ≡ false → in_right i ≡ false
   not_right i out =
       false_if_not _ (λ h. not_both _
       (kid_below laws (setting_of k) (setting_holds k) w r l i (right_and_left laws (setting_of k) (setting_holds k) w l r e) h) out)
@@ -80,10 +80,10 @@ module _ (laws : LawsBelow) (k : Content) (w l r : ℕ) (e : kids k w ≡ Some (
       ap (λ u. slice_index u i) counts_are
       ∙ counts_at (count_of_itags (job k)) (λ j. cond (in_right j) (slice_index right.upto j) (slice_index left.upto j)) i lt
 
-  at_left : (i : ℕ) → i < count_of_itags (job k) → in_right i ≡ false → slice_index lot.upto i ≡ slice_index left.upto i
+  pub at_left : (i : ℕ) → i < count_of_itags (job k) → in_right i ≡ false → slice_index lot.upto i ≡ slice_index left.upto i
   at_left i lt out = at i lt ∙ ap (λ t. cond t (slice_index right.upto i) (slice_index left.upto i)) out
 
-  at_right : (i : ℕ) → i < count_of_itags (job k) → in_right i ≡ true → slice_index lot.upto i ≡ slice_index right.upto i
+  pub at_right : (i : ℕ) → i < count_of_itags (job k) → in_right i ≡ true → slice_index lot.upto i ≡ slice_index right.upto i
   at_right i lt h = at i lt ∙ ap (λ t. cond t (slice_index right.upto i) (slice_index left.upto i)) h
 
   -- beyond the itags of the job
@@ -120,7 +120,7 @@ module _ (laws : LawsBelow) (k : Content) (w l r : ℕ) (e : kids k w ≡ Some (
         | inr ge ↦ (let x = fork_end i ge in let y = at_end i ge in omega arith)
       ]
 
-  neither : (i : ℕ) → in_left i ≡ false → in_right i ≡ false → slice_index lot.upto i ≡ slice_index fork i
+  pub neither : (i : ℕ) → in_left i ≡ false → in_right i ≡ false → slice_index lot.upto i ≡ slice_index fork i
   neither i hl hr =
       elim (cases_lt i (count_of_itags (job k))) [
         | inl lt ↦ at_left i lt hr ∙ a.outside i hl

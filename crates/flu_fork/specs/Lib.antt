@@ -11,5 +11,6 @@ pub mod Streams
 pub mod Places
 pub mod Texts
 pub mod Serving
+pub mod Completing
 pub mod Kin
 pub mod Walks

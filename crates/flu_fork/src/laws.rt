@@ -2,6 +2,7 @@
 //! nothing, and speaks of states as contracts see them, as what each cell holds.
 
 ghost use Rattle.flu_fork.specs.LawsBelow.{LawsBelow};
+ghost use Rattle.flu_fork.specs.Completing.{LeavesBringAll, LastOnesArePaired, JoinsBringAll};
 ghost use Rattle.flu_fork.specs.Laws.{NothingIsCopied, NeededIsBase, BaseIsNotAway, CopiesAreOnlyRead, FittingHasSorts, OpeningFits, ForksFit, JoinsFit, CentralLaw};
 ghost use Rattle.flu_fork.specs.Kin.{ItagsAreOfNodes, ItagsAreOfKids, ItagsAreOfTheRoot};
 ghost use Rattle.flu_fork.specs.Places.{EventsHaveMoments, MomentsAreEvents};
@@ -138,6 +139,16 @@ pub fn subtrees_count_just_before()
 pub fn served_lots_join()
     ensures serves { JoinsServe }
     ensures grows { JoinsGrow }
+{
+    laws_below();
+}
+
+/// At the end, when all events of a node's subtree are counted: so it is at a leaf by its own events, and two lots of which each has
+/// all events of a child's subtree, from the last fork of the node, are paired and join to one that has all of the node's subtree.
+pub fn last_lots_join()
+    ensures leaf { LeavesBringAll }
+    ensures paired { LastOnesArePaired }
+    ensures joined { JoinsBringAll }
 {
     laws_below();
 }
