@@ -1,5 +1,5 @@
 -- What is asked comes first of the itags above: no event of theirs that is not counted is before it.
-use Rattle.std.proofs.Common.{◌≡◌, ◌⊎◌, ◌<◌, ◌≤◌, ℕ, zero, suc, true, false, Some, length, inl, inr, refl, sym, ap, subst, ◌∙◌, arith}
+use Rattle.std.proofs.Common.{◌≡◌, ◌<◌, ◌≤◌, ℕ, zero, suc, true, false, Some, inl, inr, sym, ap, subst, ◌∙◌, arith}
 use Rattle.std.specs.Prelude.{is_some, slice_get, slice_index}
 use Rattle.flu_model.specs.declared.events.Event.{Event}
 use Rattle.flu_model.specs.Merging.{is_before}
@@ -10,7 +10,6 @@ use Rattle.flu_fork.specs.Streams.{IsEventAt}
 use Rattle.flu_worker.specs.Agreeing.{IsFirstOf}
 use Rattle.flu_worker.specs.Hands.{at_side}
 use Rattle.flu_worker.specs.Notes.{WorkerNote}
-use Rattle.flu_net.specs.declared.edges.Edge.{Edge}
 use Rattle.flu_net.specs.declared.edges.Edge.TheVariants.{Asked}
 use Rattle.flu_net.specs.Blocking.{AllKeep}
 use Rattle.flu_net.specs.LawsBelow.{LawsBelow}

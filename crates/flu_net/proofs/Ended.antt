@@ -1,18 +1,17 @@
 -- Where the net is final, no step is enabled.
-use Rattle.std.proofs.Common.{◌≡◌, ◌⊎◌, ◌<◌, ◌≤◌, ◌+◌, ℕ, zero, suc, Bool, true, false, cond, Option, Some, None, List, length, inl, inr, refl, sym, ap, subst, ◌∙◌, arith}
-use Rattle.std.specs.Prelude.{◌&&◌, is_none, is_some, slice_get, slice_index}
+use Rattle.std.proofs.Common.{◌≡◌, ◌<◌, ◌≤◌, ◌+◌, ℕ, zero, suc, Bool, true, false, cond, Option, Some, None, length, inl, inr, refl, sym, ap, ◌∙◌, arith}
+use Rattle.std.specs.Prelude.{◌&&◌, is_none, is_some, slice_get}
 use Rattle.std.proofs.lemmas.Option.{slice_get_within}
 use Rattle.flu_lemmas.proofs.Places.{slice_get-within}
 use Rattle.flu_lemmas.proofs.Tests.{and_left, and_right, false_if_not, not_both, true_lt}
 use Rattle.flu_model.specs.declared.events.Event.{Event}
 use Rattle.flu_fork.specs.declared.lots.Ask.{Ask}
-use Rattle.flu_fork.specs.declared.lots.Lot.{Lot}
 use Rattle.flu_fork.specs.Lots.{nodes, kids, setting_of}
 use Rattle.flu_fork.specs.Settings.{events_at}
 use Rattle.flu_worker.specs.declared.hand.Hand.{Hand}
 use Rattle.flu_worker.specs.declared.hand.Side.{Side}
-use Rattle.flu_worker.specs.declared.hand.Side.TheVariants.{Left, Right}
-use Rattle.flu_worker.specs.Choosing.{sight, ask_for, first_some, if_own, if_ready, if_serves, least_ready, may_give, new_target, next_of, target_of}
+use Rattle.flu_worker.specs.declared.hand.Side.TheVariants.{Left}
+use Rattle.flu_worker.specs.Choosing.{sight, ask_for, first_some, if_own, if_ready, if_serves, least_ready, new_target, next_of, target_of}
 use Rattle.flu_worker.specs.Hands.{at_side, is_down, is_open, is_out, is_whole, may_lend, may_take}
 use Rattle.flu_worker.specs.Laws.{HasNoNext}
 use Rattle.flu_worker.specs.Notes.{WorkerNote}
@@ -28,7 +27,7 @@ use Rattle.flu_net.specs.Notes.{NetNote, asked_of, asked_over, edge_at, side_of}
 use Rattle.flu_net.specs.Rule.{Hangs, IsUnderAsk, Lets, Rule}
 use Rattle.flu_net.proofs.Framing.{under}
 use Rattle.flu_net.proofs.Hands.{lend_home, shut_home, take_out}
-use Rattle.flu_net.proofs.Placed.{placed_at, as_placed, edge_there, in_tree, sound_at, worker_at}
+use Rattle.flu_net.proofs.Placed.{placed_at, edge_there, in_tree, sound_at, worker_at}
 use Rattle.flu_net.proofs.Stepping.{hangs_now}
 
 -- nothing is chosen

@@ -1,21 +1,19 @@
 -- Where no step is enabled, nothing is asked: else the worker that is asked, or one below it, could go on.
 use Rattle.std.proofs.Common.{◌≡◌, ◌⊎◌, ◌<◌, ◌≤◌, ◌+◌, ℕ, zero, suc, Bool, true, false, cond, Option, Some, None, [], length, inl, inr, refl, sym, ap, subst, ◌∙◌, arith}
-use Rattle.std.specs.Prelude.{◌==◌, ◌&&◌, ◌||◌, not, is_none, is_some, slice_get, slice_index, slice_index_or, IsSome}
-use Rattle.std.proofs.lemmas.Option.{slice_get_within}
+use Rattle.std.specs.Prelude.{◌||◌, is_none, is_some, slice_get, slice_index, slice_index_or, IsSome}
 use Rattle.flu_lemmas.proofs.Places.{slice_get-there}
 use Rattle.flu_lemmas.proofs.Searches.{eq_true}
 use Rattle.flu_lemmas.proofs.Tests.{both, not_both}
 use Rattle.flu_model.specs.declared.events.Event.{Event}
 use Rattle.flu_model.specs.Listed.{listed}
-use Rattle.flu_fork.specs.declared.content.Content.{Content}
 use Rattle.flu_fork.specs.declared.lots.Ask.{Ask}
-use Rattle.flu_fork.specs.Lots.{job, nodes, kids, setting_of}
+use Rattle.flu_fork.specs.Lots.{nodes, kids, setting_of}
 use Rattle.flu_fork.specs.Settings.{events_at}
 use Rattle.flu_worker.specs.declared.hand.Hand.{Hand}
 use Rattle.flu_worker.specs.declared.hand.Hand.TheVariants.{Empty, Whole, Lending, Down, Taking}
 use Rattle.flu_worker.specs.declared.hand.Side.{Side}
 use Rattle.flu_worker.specs.declared.hand.Side.TheVariants.{Left, Right}
-use Rattle.flu_worker.specs.Choosing.{Sight, sight, ask_for, event_of, first_some, gives_by, if_own, if_ready, if_serves, is_same_ask, least_next, least_ready, may_give, new_target, next_of, serves, takes, target_of}
+use Rattle.flu_worker.specs.Choosing.{sight, ask_for, event_of, first_some, gives_by, if_own, if_ready, if_serves, is_same_ask, least_next, least_ready, may_give, new_target, next_of, serves, target_of}
 use Rattle.flu_worker.specs.Hands.{at_side, is_down, is_lost, is_open, is_whole, may_lend, may_take}
 use Rattle.flu_worker.specs.Keeping.{KeepsIn}
 use Rattle.flu_worker.specs.Laws.{AllSeen, HasReady}

@@ -1,6 +1,6 @@
 -- Each step keeps what is said of a worker with the edge above it.
 use Rattle.std.proofs.Common.{◌≡◌, ◌≢◌, ◌<◌, ℕ, Bool, true, false, cond, Option, Some, None, List, length, set, inl, inr, refl, sym, ap, subst, ◌∙◌, arith}
-use Rattle.std.specs.Prelude.{slice_get, slice_index}
+use Rattle.std.specs.Prelude.{slice_get}
 use Rattle.std.proofs.lemmas.Bool.{cases_eq}
 use Rattle.std.proofs.lemmas.Option.{slice_get_within}
 use Rattle.flu_lemmas.proofs.Tests.{not_both}
@@ -17,7 +17,7 @@ use Rattle.flu_worker.specs.declared.hand.Side.TheVariants.{Left, Right}
 use Rattle.flu_worker.specs.Calls.{IsSamePlace, HandlesEvent, HoldsLot, GivesLot, LendsPart, TakesPart, KeepsTarget}
 use Rattle.flu_worker.specs.Choosing.{sight, first_some, new_target, target_of}
 use Rattle.flu_worker.specs.Hands.{is_down, is_lost, is_open, may_lend, may_take, first_hand, after_lend, after_take}
-use Rattle.flu_worker.specs.Notes.{WorkerNote, own_of, above_of}
+use Rattle.flu_worker.specs.Notes.{WorkerNote, above_of}
 use Rattle.flu_net.specs.declared.edges.Edge.{Edge}
 use Rattle.flu_net.specs.declared.edges.Edge.TheVariants.{Home, Lent, Held, Asked, Given}
 use Rattle.flu_net.specs.LawsBelow.{LawsBelow}

@@ -1,9 +1,8 @@
-use Rattle.std.proofs.Common.{◌≡◌, ◌<◌, ℕ, Some, List, length, inl, inr, sym, ap, subst, ◌∙◌, arith}
+use Rattle.std.proofs.Common.{◌≡◌, Some, inl, inr, sym, ap, subst, ◌∙◌, arith}
 use Rattle.std.specs.Prelude.{slice_get}
 use Rattle.std.proofs.lemmas.Bool.{cases_eq}
 use Rattle.std.proofs.lemmas.Option.{slice_get_within}
 use Rattle.flu_worker.specs.Keeping.{HasRule}
-use Rattle.flu_worker.specs.Notes.{WorkerNote}
 use Rattle.flu_net.proofs.Lists.{same_some}
 use Rattle.flu_net.proofs.Readying.{at_index}
 use Rattle.flu_net.proofs.workers.all_keep.Goals as goal
