@@ -24,23 +24,24 @@ use Rattle.flu_net.specs.declared.edges.Edge.TheVariants.{Home, Lent, Held, Aske
 use Rattle.flu_net.specs.declared.steps.Step.{Step}
 use Rattle.flu_net.specs.declared.steps.Step.TheVariants.{Arrive, Handle, Ask, Take, Give, Hold, Lend}
 use Rattle.flu_net.specs.Effects.{IsStepOf, Asks, Gives, Handles, Holds, Lends, Takes, Makes, arrived, seeing}
-use Rattle.flu_net.specs.Enabled.{by_step, if_there, is_enabled, is_held, may_arrive, may_ask, may_lend_part}
+use Rattle.flu_net.specs.Enabled.{by_step, if_there, is_held, may_arrive, may_ask, may_lend_part}
 use Rattle.flu_net.specs.LawsBelow.{LawsBelow}
 use Rattle.flu_net.specs.Measure.{counted_in, events_of, items_of, on_edges, size, steps_left, steps_on, to_be_lent, uncounted, unseen}
 use Rattle.flu_net.specs.Notes.{NetNote, kid_of, edge_below}
-use Rattle.flu_net.specs.Rule.{IsWell, Rule}
-use Rattle.flu_net.specs.Runs.{Runs}
+use Rattle.flu_net.specs.Rule.{Rule}
+use Rattle.flu_net.specs.Runs.{Runs, StepsLower}
 use Rattle.flu_net.proofs.Arriving.{fewer, in_range, in_seen}
 use Rattle.flu_net.proofs.Framing.{under}
 use Rattle.flu_net.proofs.Keeping.{known, own_at, own_to}
 use Rattle.flu_net.proofs.Measures.{counts_rise, counts_stay, edge_changes, first_lends, left_of, lend_lends, lends, lends_by, lends_is, most_nodes, one_node, shut_lends, take_lends, worker_changes}
 use Rattle.flu_net.proofs.Readying.{held_edge, kid_pair, lend_was, ready_shut, there_test}
+use Rattle.flu_net.proofs.Sizes.{TreesBelow}
 use Rattle.flu_net.proofs.Sums.{total_change, total_map, total_same}
 
 left_after : (w : ℕ) (old new : NetNote) (s : IsStepOf w old new) (es : List Edge) → new.edges ≡ es → steps_left new ≡ left_of old.case old.seen (set old.workers w s.is) es
 left_after w old new s es edges = λ i. left_of (s.case i) (s.seen i) (s.workers i) (edges i)
 
-module _ (laws : LawsBelow) (old : NetNote) (rule : Rule old) where
+module _ (laws : LawsBelow) (trees : TreesBelow) (old : NetNote) (rule : Rule old) where
   abbrev k : Content
   k = old.case
 
@@ -66,10 +67,10 @@ module _ (laws : LawsBelow) (old : NetNote) (rule : Rule old) where
         → lends s.is + steps_on k v (Some b) < lends s.was + steps_on k v (Some a) → steps_left new < steps_left old
     fewer_left v a b at edges same less =
         let after = left_after w old new s (set old.edges v b) edges in
-        let edge = edge_changes laws k old.edges v a b rule.ties.edges_each at in
-        let worker = worker_changes laws k old.workers w s.was s.is s.at in
+        let edge = edge_changes laws trees k old.edges v a b rule.ties.edges_each at in
+        let worker = worker_changes laws trees k old.workers w s.was s.is s.at in
         let counts : 5 * length (nodes k) * uncounted k (set old.workers w s.is) ≡ 5 * length (nodes k) * uncounted k old.workers =
-        ap (λ u. 5 * length (nodes k) * u) (counts_stay laws k old.workers w s.was s.is s.at same) in
+        ap (λ u. 5 * length (nodes k) * u) (counts_stay laws trees k old.workers w s.was s.is s.at same) in
         omega arith
 
   less_hold : (new : NetNote) (w : ℕ) → Holds w old new → steps_left new < steps_left old
@@ -79,7 +80,7 @@ module _ (laws : LawsBelow) (old : NetNote) (rule : Rule old) where
       let none : lends s.was ≡ 0 = lends_was new w s ∙ shut_lends k (kids k w) s.was.hand shut in
       let now : lends s.is ≡ lends_by k (kids k w) (first_hand (kids k w)) =
       lends_is k w s.is (h.does.place.case ∙ was_case new w s) (h.does.place.node ∙ was_node new w s) ∙ ap (lends_by k (kids k w)) (h.does.hand ∙ first_was new w s) in
-      let most = first_lends laws k w (in_tree new w s) in
+      let most = first_lends laws trees k w (in_tree new w s) in
       fewer_left new w s w (Lent h.lot) Held h.lent h.edges (λ i mine. h.does.counts_own i (own_to k w s.was i (was_case new w s) (was_node new w s) mine)) (omega arith)
 
   less_give : (new : NetNote) (w : ℕ) → Gives w old new → steps_left new < steps_left old
@@ -113,7 +114,7 @@ module _ (laws : LawsBelow) (old : NetNote) (rule : Rule old) where
       let lending = there_test (λ (x : WorkerNote). may_lend side x.hand) (slice_get old.workers w) s.was s.at passes in
       let there = (under laws k side w pair.0 pair.1 pair.2).there in
       let same : h.kid ≡ at_side side pair.0 pair.1 = pair.3 in
-      let some = one_node laws k h.kid (omega arith) in
+      let some = one_node laws trees k h.kid (omega arith) in
       let before : lends s.was ≡ lends_by k (Some (pair.0, pair.1)) s.was.hand = lends_was new w s ∙ ap (λ o. lends_by k o s.was.hand) pair.2 in
       let now : lends s.is ≡ lends_by k (Some (pair.0, pair.1)) (after_lend side s.was.hand) =
       lends_is k w s.is (h.does.place.case ∙ was_case new w s) (h.does.place.node ∙ was_node new w s) ∙ (λ i. lends_by k (pair.2 i) (h.does.hand i)) in
@@ -127,11 +128,11 @@ module _ (laws : LawsBelow) (old : NetNote) (rule : Rule old) where
       let none : lends s.was ≡ 0 = lends_was new w s ∙ ap (lends_by k (kids k w)) h.does.hand_was in
       let now : lends s.is ≡ lends_by k (kids k w) (first_hand (kids k w)) =
       lends_is k w s.is (h.does.place.case ∙ was_case new w s) (h.does.place.node ∙ was_node new w s) ∙ ap (lends_by k (kids k w)) (h.does.hand ∙ first_was new w s) in
-      let first = first_lends laws k w (in_tree new w s) in
-      let most = most_nodes laws k w in
-      let worker = worker_changes laws k old.workers w s.was s.is s.at in
+      let first = first_lends laws trees k w (in_tree new w s) in
+      let most = most_nodes laws trees k w in
+      let worker = worker_changes laws trees k old.workers w s.was s.is s.at in
       let after = left_after w old new s old.edges h.edges in
-      let rise = counts_rise laws k old.workers w s.was s.is s.at h.event.itag.0 h.event.index is_known mine h.counts.next there h.counts.counts in
+      let rise = counts_rise laws trees k old.workers w s.was s.is s.at h.event.itag.0 h.event.index is_known mine h.counts.next there h.counts.counts in
       let product : 5 * length (nodes k) * (uncounted k (set old.workers w s.is) + 1) ≡ 5 * length (nodes k) * uncounted k old.workers =
       ap (λ u. 5 * length (nodes k) * u) rise in
       let split = mul-add (5 * length (nodes k)) (uncounted k (set old.workers w s.is)) 1 in
@@ -191,26 +192,25 @@ module _ (laws : LawsBelow) (old : NetNote) (rule : Rule old) where
         let c = lent_seen in
         omega arith
 
-pub lessens : LawsBelow → (s : Step) (old new : NetNote) → IsWell old → is_enabled old s ≡ true → Makes s old new → steps_left new < steps_left old
-lessens laws s old new well enabled made = by s (and_right (not old.gone) _ enabled) made
+pub lessens : LawsBelow → TreesBelow → StepsLower
+lessens laws trees s old new step = by s (and_right (not old.gone) _ step.enabled) step.made
   where
     rule : Rule old
-    rule = well (not_true old.gone (and_left (not old.gone) _ enabled))
+    rule = step.well (not_true old.gone (and_left (not old.gone) _ step.enabled))
 
     by : (s : Step) → by_step old s ≡ true → Makes s old new → steps_left new < steps_left old
-    by (Arrive i) may m = subst (λ x. steps_left x < steps_left old) (sym m) (less_arrive laws old rule i may)
-    by (Handle w) may m = less_handle laws old rule new w m
-    by (Ask w side) may m = less_ask laws old rule new w side (and_left _ _ may) m
-    by (Take w side) may m = less_take laws old rule new w side m
-    by (Give w) may m = less_give laws old rule new w m
-    by (Hold w) may m = less_hold laws old rule new w m
-    by (Lend w side) may m = less_lend laws old rule new w side may m
+    by (Arrive i) may m = subst (λ x. steps_left x < steps_left old) (sym m) (less_arrive laws trees old rule i may)
+    by (Handle w) may m = less_handle laws trees old rule new w m
+    by (Ask w side) may m = less_ask laws trees old rule new w side (and_left _ _ may) m
+    by (Take w side) may m = less_take laws trees old rule new w side m
+    by (Give w) may m = less_give laws trees old rule new w m
+    by (Hold w) may m = less_hold laws trees old rule new w m
+    by (Lend w side) may m = less_lend laws trees old rule new w side may m
 
 -- as many steps as a run has are fewer left behind it
-pub run_lowers : LawsBelow → (steps : List Step) (old new : NetNote) → Runs steps old new → length steps + steps_left new ≤ steps_left old
-run_lowers laws [] old new run = let same : steps_left new ≡ steps_left old = ap steps_left run in omega arith
-run_lowers laws (s ∷ steps) old new run =
-    let first = run.1 in
-    let less = lessens laws s old run.0 first.well first.enabled first.made in
-    let rest = run_lowers laws steps run.0 new run.2 in
+pub run_lowers : LawsBelow → TreesBelow → (steps : List Step) (old new : NetNote) → Runs steps old new → length steps + steps_left new ≤ steps_left old
+run_lowers laws trees [] old new run = let same : steps_left new ≡ steps_left old = ap steps_left run in omega arith
+run_lowers laws trees (s ∷ steps) old new run =
+    let less = lessens laws trees s old run.0 run.1 in
+    let rest = run_lowers laws trees steps run.0 new run.2 in
     omega arith

@@ -21,7 +21,7 @@ use Rattle.flu_net.specs.LawsBelow.{LawsBelow}
 use Rattle.flu_net.specs.Measure.{size, events_of, counted_in, uncounted, rounds_below, to_lend, to_be_lent, steps_on, on_edges, unseen}
 use Rattle.flu_net.specs.Notes.{side_of, kid_of}
 use Rattle.flu_net.proofs.Lists.{set_here, set_there}
-use Rattle.flu_net.proofs.Sizes.{size_most, size_some, size_kids}
+use Rattle.flu_net.proofs.Sizes.{TreesBelow, size_most, size_some, size_kids}
 use Rattle.flu_net.proofs.Sums.{total_change, total_same, total_set}
 
 -- the number by the parts of a net
@@ -73,12 +73,12 @@ lend_lends k l r kid Right (Lending a false) may is = cc
 lend_lends k l r kid s Down may is = cc
 lend_lends k l r kid s (Taking a b) may is = cc
 
-module _ (laws : LawsBelow) (k : Content) where
+module _ (laws : LawsBelow) (trees : TreesBelow) (k : Content) where
   pub one_node : (w : ℕ) → w < length (nodes k) → 1 ≤ size (nodes k) w
-  one_node w lt = size_some (nodes k) (laws.order (nodes k) (laws.settings k).one_tree) w lt
+  one_node w lt = size_some (nodes k) (trees.order (nodes k) (laws.settings k).one_tree) w lt
 
   pub most_nodes : (w : ℕ) → size (nodes k) w ≤ length (nodes k)
-  most_nodes w = size_most (nodes k) (laws.order (nodes k) (laws.settings k).one_tree) w
+  most_nodes w = size_most (nodes k) (trees.order (nodes k) (laws.settings k).one_tree) w
 
   -- a whole lot that is there anew: the parts to lend make fewer rounds than the subtree has nodes
   pub first_lends : (w : ℕ) → w < length (nodes k) → lends_by k (kids k w) (first_hand (kids k w)) + 5 ≤ 5 * size (nodes k) w
@@ -88,7 +88,7 @@ module _ (laws : LawsBelow) (k : Content) where
       at None e = let some = one_node w lt in omega arith
       at (Some both) e =
           let tree = (laws.settings k).one_tree in
-          let more = size_kids (nodes k) (laws.order (nodes k) tree) (laws.subtrees (nodes k) tree) w both.0 both.1 (laws.children (nodes k) w both.0 both.1 tree e) e lt in
+          let more = size_kids (nodes k) (trees.order (nodes k) tree) (trees.subtrees (nodes k) tree) w both.0 both.1 (laws.children (nodes k) w both.0 both.1 tree e) e lt in
           omega arith
 
   -- ---- one edge becomes another

@@ -16,13 +16,14 @@ use Rattle.flu_net.specs.declared.edges.Edge.{Edge}
 use Rattle.flu_net.specs.LawsBelow.{LawsBelow}
 use Rattle.flu_net.specs.Measure.{counted_in, events_of, items_of, itags, most_steps, on_edges, steps_left, steps_on, to_be_lent, uncounted, unseen}
 use Rattle.flu_net.specs.Notes.{NetNote}
-use Rattle.flu_net.specs.Runs.{RunsAreBounded}
+use Rattle.flu_net.specs.Runs.{RunsAreBounded, StartsAreBounded}
 use Rattle.flu_net.specs.Starting.{AreHome, AreNew, IsStart}
 use Rattle.flu_net.proofs.Lessening.{run_lowers}
 use Rattle.flu_net.proofs.Measures.{first_lends, left_of, lends, lends_by, lends_is, most_nodes}
+use Rattle.flu_net.proofs.Sizes.{TreesBelow}
 use Rattle.flu_net.proofs.Sums.{total_le, total_none, total_same, total_zero}
 
-module _ (laws : LawsBelow) (k : Content) where
+module _ (laws : LawsBelow) (trees : TreesBelow) (k : Content) where
   -- only the root has something to lend
   lent_first : (ws : List WorkerNote) → AreNew k (length (nodes k)) ws → to_be_lent ws ≤ 5 * length (nodes k)
   lent_first [] new = omega arith
@@ -30,8 +31,8 @@ module _ (laws : LawsBelow) (k : Content) where
       let is : IsNew k 0 v = new.new 0 v refl in
       let here : lends v ≡ lends_by k (kids k 0) (first_hand (kids k 0)) = lends_is k 0 v is.case is.node ∙ ap (lends_by k (kids k 0)) is.hand in
       let root = (laws.parents (nodes k) (laws.settings k).one_tree).root in
-      let first = first_lends laws k 0 root in
-      let most = most_nodes laws k 0 in
+      let first = first_lends laws trees k 0 root in
+      let most = most_nodes laws trees k 0 in
       let rest : total lends ws ≡ 0 = total_none lends ws (λ i x at. shut i x (new.new (suc i) x at)) in
       omega arith
     where
@@ -63,8 +64,11 @@ module _ (laws : LawsBelow) (k : Content) where
       let one = mul-one (8 * length (nodes k)) in
       omega arith
 
-pub runs_bounded : LawsBelow → RunsAreBounded
-runs_bounded laws k old new steps start run =
-    let most = most_at_start laws k old start in
-    let lower = run_lowers laws steps old new run in
+pub starts_bounded : LawsBelow → TreesBelow → StartsAreBounded
+starts_bounded laws trees k n start = most_at_start laws trees k n start
+
+pub runs_bounded : LawsBelow → TreesBelow → RunsAreBounded
+runs_bounded laws trees k old new steps start run =
+    let most = most_at_start laws trees k old start in
+    let lower = run_lowers laws trees steps old new run in
     omega arith

@@ -11,9 +11,14 @@ use Rattle.flu_lemmas.specs.Totals.{total}
 use Rattle.flu_model.specs.declared.plans.Node.{Node}
 use Rattle.flu_model.specs.Owners.{is_within}
 use Rattle.flu_deps.specs.Owned.{kids_at}
-use Rattle.flu_deps.specs.Trees.{AreKids, HasSubtrees, IsOrdered}
+use Rattle.flu_deps.specs.Trees.{AreKids, HasSubtrees, IsOrdered, NodesAreOrdered, SubtreesAreOfChildren}
 use Rattle.flu_net.specs.Measure.{size}
 use Rattle.flu_net.proofs.Sums.{once_in_run, total_le, total_plus}
+
+-- the laws of subtrees
+pub record TreesBelow : Type 0 where
+  pub subtrees : SubtreesAreOfChildren
+  pub order : NodesAreOrdered
 
 one_of_three : (a b c d : Bool) → d ≡ (a || (b || c)) → (a ≡ true → b ≡ false) → (a ≡ true → c ≡ false) → (b ≡ true → c ≡ false)
     → cond {A = ℕ} a 1 0 + (cond b 1 0 + cond c 1 0) ≤ cond d 1 0

@@ -1,5 +1,5 @@
 -- The laws of plans, of lots and of texts on which the rule of the net rests.
-use Rattle.flu_deps.specs.Trees.{ChildrenAreLater, TreesAreRooted, SubtreesAreOfChildren, NodesAreOrdered}
+use Rattle.flu_deps.specs.Trees.{ChildrenAreLater, TreesAreRooted}
 use Rattle.flu_fork.specs.Kin.{ItagsAreOfNodes, ItagsAreOfKids, ItagsAreOfTheRoot}
 use Rattle.flu_fork.specs.Places.{MomentsAreEvents}
 use Rattle.flu_fork.specs.Serving.{ContentsAreSettings, LoansArePaired}
@@ -9,8 +9,6 @@ use Rattle.flu_worker.specs.Laws.{NewTargets, AskedGoOn, OwnGoOn, NothingIsNext}
 pub record LawsBelow : Type 0 where
   pub children : ChildrenAreLater
   pub parents : TreesAreRooted
-  pub subtrees : SubtreesAreOfChildren
-  pub order : NodesAreOrdered
   pub settings : ContentsAreSettings
   pub of_nodes : ItagsAreOfNodes
   pub of_kids : ItagsAreOfKids

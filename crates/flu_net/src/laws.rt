@@ -1,13 +1,17 @@
-//! The law of runs, and the laws on which the rule of the net rests.
+//! The laws of steps, and those on which the rule of the net rests.
 
 ghost use Rattle.flu_net.specs.LawsBelow.{LawsBelow};
-ghost use Rattle.flu_net.specs.Runs.{RunsAreBounded};
+ghost use Rattle.flu_net.specs.Runs.{StepsLower, StartsAreBounded, RunsAreBounded};
 
-/// However the steps of a net are ordered, no more of them can be made than items + events + 8 · nodes · (events + 1).
-pub fn runs_are_bounded()
-    ensures { RunsAreBounded }
+/// Each step lowers the number of steps that are left, which is bounded at the start. So no more steps can be made than
+/// items + events + 8 · nodes · (events + 1), however they are ordered.
+pub fn steps_are_bounded()
+    ensures step { StepsLower }
+    ensures start { StartsAreBounded }
+    ensures runs { RunsAreBounded }
 {
     laws_below();
+    flu_deps::laws::plans_are_trees();
 }
 
 /// The laws of plans, of lots, of texts and of targets.

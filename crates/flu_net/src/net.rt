@@ -14,7 +14,7 @@ ghost use Rattle.flu_worker.specs.Choosing.{may_give};
 use crate::edges::{
     Edge, ask_at, given_at, given_lot, held_at, kid_of, lent_at, lent_lot, may_lend, may_take, put,
 };
-use crate::laws::laws_below;
+use crate::laws::{laws_below, steps_are_bounded};
 use crate::showing::{one_more, show};
 use crate::starting::{first_edges, first_workers, no_counts};
 use crate::steps::{Step, StepFault};
@@ -68,6 +68,7 @@ impl Net {
         ensures most { IfOk result (λ n. steps_left n ≤ most_steps case.now) }
     {
         laws_below();
+        steps_are_bounded();
         let seen = no_counts(alloc, itag_count(case.checked().program()))?;
         let workers = first_workers(alloc, case)?;
         let edges = first_edges(alloc, case)?;
@@ -140,7 +141,7 @@ impl Net {
         ensures left { OnOk result (steps_left self.new < steps_left self.old) }
         ensures gone { IsErrOf result StepFault.NoMemory → self.new.gone ≡ true }
     {
-        laws_below();
+        steps_are_bounded();
         self.rule();
         if !self.enabled(case, s) {
             return Err(StepFault::NotEnabled);

@@ -4,8 +4,6 @@ pub returns : goal.returns
 returns c = record {
   children = c.plans_are_trees.ensures.children;
   parents = c.plans_are_trees.ensures.parents;
-  subtrees = c.plans_are_trees.ensures.subtrees;
-  order = c.plans_are_trees.ensures.order;
   settings = c.contents_are_settings.ensures;
   of_nodes = c.itags_are_of_nodes.ensures.nodes;
   of_kids = c.itags_are_of_nodes.ensures.kids;
