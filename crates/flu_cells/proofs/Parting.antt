@@ -243,9 +243,9 @@ none_before_first m f from first last es rest e is_first is_last r there j le be
     let lt : j < key_count = omega (arith, before, last_key f e.0 same at.0.1) in
     let gt : is_gt (cell_cmp e.0 (cell f j)) ≡ true = after e.0 (cell f j) same before in
     none_of (far_held m (cell f j)) (λ w is.
-      let least : is_gt (cell_cmp e.0 (cell f j)) ≡ false =
-      subst (λ xs. IfSome (slice_get xs 0) (λ d. IsLeBy cell_cmp d.0 (cell f j))) there (range.2 (cell f j) (within_ends f from j le lt) (ap is_some is)) in
-      not_both (is_gt (cell_cmp e.0 (cell f j))) gt least)
+    let least : is_gt (cell_cmp e.0 (cell f j)) ≡ false =
+    subst (λ xs. IfSome (slice_get xs 0) (λ d. IsLeBy cell_cmp d.0 (cell f j))) there (range.2 (cell f j) (within_ends f from j le lt) (ap is_some is)) in
+    not_both (is_gt (cell_cmp e.0 (cell f j))) gt least)
 
 -- ---- a family that is cleared, one cell after another
 pub cleared_more : (p : Cell → Bool) (s s' : Contents) (k : Cell) → p k ≡ true → s' ≡ with_worth s k None → only (λ c. not (p c)) s' ≡ only (λ c. not (p c)) s

@@ -322,7 +322,11 @@ impl State {
     {
         let first = near_slot(Cell { family, key: from })?;
         let slot = self.near.next(first)?;
-        if slot / NEAR == family { Some(slot % NEAR) } else { None }
+        if slot / NEAR == family {
+            Some(slot % NEAR)
+        } else {
+            None
+        }
     }
 
     // The keys of a family's cells that have a slot and hold something, rising.

@@ -14,8 +14,7 @@ pub loop-slot-preserved : goal.loop-slot-preserved
 loop-slot-preserved c =
     let slot = c.in-Some.slot in
     let near = c.loop-slot.near in
-    let left = c.in_ok-absorb_slot.ensures.left in
-    (
+    let left = c.in_ok-absorb_slot.ensures.left in (
       c.in_ok-absorb_slot.ensures.ok ∙ c.loop-slot.invariant.0,
       (λ d w e. c.loop-slot.invariant.1 d w (near_before (near_held near) (cell_of slot) d w (sym (ap (λ s. s d) (slot_unset near _ slot None c.in-Some.ensures.found.1 left)) ∙ e))),
       below_slot (value_at near) _ c.loop-slot.from slot left c.loop-slot.invariant.2 c.in-Some.ensures.least,

@@ -10,8 +10,7 @@ use Rattle.flu_cells.proofs.state.State.clear_family.Goals as goal
 
 pub loop-key-preserved : goal.loop-key-preserved
 loop-key-preserved c =
-    let k = cell c.args.family c.in-Some.key in
-    (
+    let k = cell c.args.family c.in-Some.key in (
       cleared_more (λ d. d.family == c.args.family) (held c.loop-key.self) _ k (same_number c.args.family) c.clear.ensures ∙ c.loop-key.invariant.0,
       clear_below-more (held c.loop-key.self) _ c.args.family c.loop-key.from c.in-Some.key c.clear.ensures c.loop-key.invariant.1 c.in-Some.ensures.least,
       omega (arith, c.in-Some.ensures.found.1),

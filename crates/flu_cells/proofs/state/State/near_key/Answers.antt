@@ -11,7 +11,7 @@ pub returns-in_err-slot-clause-none : goal.returns-in_err-slot-clause-none
 returns-in_err-slot-clause-none c =
     let none : (j : ℕ) → c.args.from ≤ j → is_near (cell c.args.family j) ≡ true → held c.args.self.now (cell c.args.family j) ≡ None =
     λ j le is. in_slot c.args.self.now.near c.args.self.now.far (cell c.args.family j) is
-      ∙ c.in_err-slot.ensures.none (slot_of (cell c.args.family j)) (omega (arith, c.in_ok-first.ensures.some.0, le)) in
+    ∙ c.in_err-slot.ensures.none (slot_of (cell c.args.family j)) (omega (arith, c.in_ok-first.ensures.some.0, le)) in
     none_anyway c.from_residual-in_err-slot.result none
 
 pub returns-then-slot-family-clause-found : goal.returns-then-slot-family-clause-found
@@ -23,8 +23,7 @@ returns-then-slot-family-clause-found c =
     let first = c.in_ok-first.ensures.some in
     let row : slot / 64 ≡ f = c.if-slot-family.true in
     let again : slot_of (cell f (slot % 64)) ≡ slot = omega (arith, row) in
-    let is : is_near (cell f (slot % 64)) ≡ true = near_from (cell f (slot % 64)) (omega (arith, row, found.1)) (omega arith) in
-    (
+    let is : is_near (cell f (slot % 64)) ≡ true = near_from (cell f (slot % 64)) (omega (arith, row, found.1)) (omega arith) in (
       omega (arith, row, first.0, found.0),
       is,
       subst IsSome (sym (in_slot s.near s.far (cell f (slot % 64)) is ∙ ap (value_at s.near) again)) found.2,

@@ -12,12 +12,11 @@ pub loop-key-preserved : goal.loop-key-preserved
 loop-key-preserved c =
     let f = c.args.family in
     let s = c.args.self.now in
-    let k = c.in-Some.key in
-    (
+    let k = c.in-Some.key in (
       c.in_ok-push.ensures.items ∙ ap (λ ks. ks ++ k ∷ []) c.loop-key.invariant.0
-      ∙ sym (filter_next (λ j. is_near (cell f j) && is_some (held s (cell f j))) c.loop-key.from k c.in-Some.ensures.found.0
-        (λ j le lt. not_kept (is_near (cell f j)) (held s (cell f j)) (λ is. c.in-Some.ensures.least j le lt))
-        (both _ _ c.in-Some.ensures.found.1 c.in-Some.ensures.found.2)),
+          ∙ sym (filter_next (λ j. is_near (cell f j) && is_some (held s (cell f j))) c.loop-key.from k c.in-Some.ensures.found.0
+          (λ j le lt. not_kept (is_near (cell f j)) (held s (cell f j)) (λ is. c.in-Some.ensures.least j le lt))
+          (both _ _ c.in-Some.ensures.found.1 c.in-Some.ensures.found.2)),
       omega (arith, near_key (cell f k) c.in-Some.ensures.found.1),
     )
 

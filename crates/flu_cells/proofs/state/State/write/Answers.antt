@@ -13,15 +13,15 @@ invariant_of-self c =
     let s = c.args.self.now in
     record {
       without_neutral = by_result c.set.result (IsWithoutNeutral (contents_of c.set.new.self s.far)) c.set.ensures.ok c.set.ensures.err
-        (λ u. subst IsWithoutNeutral
+          (λ u. subst IsWithoutNeutral
           (sym (contents-near_with s.near c.set.new.self s.far c.args.c (Some c.args.w) c.in-Some.ensures.some.2 (u ∙ ap (λ slot. with_value (value_at s.near) slot (Some c.args.w)) c.in-Some.ensures.some.0)))
           (without_neutral-with _ _ _ s.without_neutral c.requires.kept))
-        (λ e. subst IsWithoutNeutral (sym (contents-same s.near c.set.new.self s.far s.far e (λ i. far_held s.far))) s.without_neutral);
+          (λ e. subst IsWithoutNeutral (sym (contents-same s.near c.set.new.self s.far s.far e (λ i. far_held s.far))) s.without_neutral);
       keys_in_range = by_result c.set.result (HasKeysInRange (contents_of c.set.new.self s.far)) c.set.ensures.ok c.set.ensures.err
-        (λ u. subst HasKeysInRange
+          (λ u. subst HasKeysInRange
           (sym (contents-near_with s.near c.set.new.self s.far c.args.c (Some c.args.w) c.in-Some.ensures.some.2 (u ∙ ap (λ slot. with_value (value_at s.near) slot (Some c.args.w)) c.in-Some.ensures.some.0)))
           (keys_in_range-with _ _ _ s.keys_in_range (λ v h. c.requires.key)))
-        (λ e. subst HasKeysInRange (sym (contents-same s.near c.set.new.self s.far s.far e (λ i. far_held s.far))) s.keys_in_range);
+          (λ e. subst HasKeysInRange (sym (contents-same s.near c.set.new.self s.far s.far e (λ i. far_held s.far))) s.keys_in_range);
       far_alone = s.far_alone;
     }
 
@@ -31,16 +31,16 @@ invariant_of-self-in-None c =
     let m = c.insert.new.self in
     record {
       without_neutral = by_result c.insert.result (IsWithoutNeutral (contents_of s.near m)) c.insert.ensures.updates c.insert.ensures.err
-        (λ u. subst IsWithoutNeutral (sym (contents-far_with s.near s.far m c.args.c (Some c.args.w) c.in-None.ensures.none (far-updated s.far m _ _ u)))
+          (λ u. subst IsWithoutNeutral (sym (contents-far_with s.near s.far m c.args.c (Some c.args.w) c.in-None.ensures.none (far-updated s.far m _ _ u)))
           (without_neutral-with _ _ _ s.without_neutral c.requires.kept))
-        (λ e. subst IsWithoutNeutral (sym (contents-same s.near s.near s.far m (λ i. value_at s.near) (far-unchanged s.far m e))) s.without_neutral);
+          (λ e. subst IsWithoutNeutral (sym (contents-same s.near s.near s.far m (λ i. value_at s.near) (far-unchanged s.far m e))) s.without_neutral);
       keys_in_range = by_result c.insert.result (HasKeysInRange (contents_of s.near m)) c.insert.ensures.updates c.insert.ensures.err
-        (λ u. subst HasKeysInRange (sym (contents-far_with s.near s.far m c.args.c (Some c.args.w) c.in-None.ensures.none (far-updated s.far m _ _ u)))
+          (λ u. subst HasKeysInRange (sym (contents-far_with s.near s.far m c.args.c (Some c.args.w) c.in-None.ensures.none (far-updated s.far m _ _ u)))
           (keys_in_range-with _ _ _ s.keys_in_range (λ v h. c.requires.key)))
-        (λ e. subst HasKeysInRange (sym (contents-same s.near s.near s.far m (λ i. value_at s.near) (far-unchanged s.far m e))) s.keys_in_range);
+          (λ e. subst HasKeysInRange (sym (contents-same s.near s.near s.far m (λ i. value_at s.near) (far-unchanged s.far m e))) s.keys_in_range);
       far_alone = by_result c.insert.result (HasFarAlone m) c.insert.ensures.updates c.insert.ensures.err
-        (λ u. far_alone-with s.far m c.args.c (Some c.args.w) c.in-None.ensures.none (far-updated s.far m _ _ u) s.far_alone)
-        (λ e. far_alone-same s.far m (far-unchanged s.far m e) s.far_alone);
+          (λ u. far_alone-with s.far m c.args.c (Some c.args.w) c.in-None.ensures.none (far-updated s.far m _ _ u) s.far_alone)
+          (λ e. far_alone-same s.far m (far-unchanged s.far m e) s.far_alone);
     }
 
 pub returns-in-Some-clause-ok : goal.returns-in-Some-clause-ok
@@ -48,7 +48,7 @@ returns-in-Some-clause-ok c =
     let s = c.args.self.now in
     on_ok_weaker c.set.result
     (λ u. contents-near_with s.near c.set.new.self s.far c.args.c (Some c.args.w) c.in-Some.ensures.some.2
-      (u ∙ ap (λ slot. with_value (value_at s.near) slot (Some c.args.w)) c.in-Some.ensures.some.0))
+    (u ∙ ap (λ slot. with_value (value_at s.near) slot (Some c.args.w)) c.in-Some.ensures.some.0))
     c.set.ensures.ok
 
 pub returns-in-Some-clause-err : goal.returns-in-Some-clause-err
