@@ -107,34 +107,6 @@ moved_none s t k e = λ i c. at c i
         ] refl
 
 -- ---- a family, one cell after another
--- a cell of the cells of a test moves
-pub moves_more : (p : Cell → Bool) (s e t u : Contents) (k : Cell) (w : Worth) → p k ≡ true → s k ≡ Some w → Moves p s e t u
-    → Moves p (with_worth s k None) e (with_worth t k (Some w)) u
-moves_more p s e t u k w in_p is whole = (
-  whole.0 ∙ (λ i c. out c i),
-  whole.1 ∙ (λ i c. moved c i),
-)
-  where
-    out : (c : Cell) → only (λ d. not (p d)) s c ≡ only (λ d. not (p d)) (with_worth s k None) c
-    out c =
-        elim (is_same_cell c k) as (λ b. is_same_cell c k ≡ b → cond (not (p c)) (s c) None ≡ cond (not (p c)) (cond b None (s c)) None) [
-          | true ↦ λ same. let here : p c ≡ true = ap p (made_alike cell c.family c.key k.family k.key same) ∙ in_p in
-              ap (λ b. cond (not b) (s c) None) here ∙ ap (λ b. cond {A = Option Worth} (not b) None None) (sym here)
-          | false ↦ λ other. refl
-        ] refl
-
-    nothing : (b : Bool) (o : Option Worth) → o ≡ over o (cond b None None)
-    nothing true o = refl
-    nothing false o = refl
-
-    moved : (c : Cell) → overlay t (only p s) c ≡ overlay (with_worth t k (Some w)) (only p (with_worth s k None)) c
-    moved c =
-        elim (is_same_cell c k) as (λ b. is_same_cell c k ≡ b → over (t c) (cond (p c) (s c) None) ≡ over (cond b (Some w) (t c)) (cond (p c) (cond b None (s c)) None)) [
-          | true ↦ λ same. let at : c ≡ k = made_alike cell c.family c.key k.family k.key same in
-              ap (λ b. over (t c) (cond b (s c) None)) (ap p at ∙ in_p) ∙ ap (over (t c)) (ap s at ∙ is) ∙ nothing (p c) (Some w)
-          | false ↦ λ other. refl
-        ] refl
-
 -- where a state has none of the cells of a test, nothing is left to move
 pub moves_none : (p : Cell → Bool) (s e t u : Contents) → ((c : Cell) → p c ≡ true → s c ≡ None) → Moves p s e t u → (e ≡ s) × (u ≡ t)
 moves_none p s e t u none whole = (
