@@ -1,10 +1,10 @@
-use Rattle.std.proofs.Common.{◌≡◌, ◌<◌, ◌≤◌, ◌+◌, ◌*◌, ◌/◌, ◌%◌, ℕ, true, None, sym, ap, subst, ◌∙◌, arith}
+use Rattle.std.proofs.Common.{◌≡◌, ◌<◌, ◌≤◌, ◌/◌, ◌%◌, ℕ, true, None, sym, ap, subst, ◌∙◌, arith}
 use Rattle.std.specs.Prelude.{IsSome}
 use Rattle.flu_model.specs.Contents.{cell}
 use Rattle.flu_dense.specs.Holding.{value_at}
 use Rattle.flu_cells.specs.Entries.{is_near, slot_of}
 use Rattle.flu_cells.specs.Holding.{held}
-use Rattle.flu_cells.proofs.NearLemmas.{in_slot, near_from, near_key, near_family, none_anyway}
+use Rattle.flu_cells.proofs.NearLemmas.{in_slot, near_from, near_key, none_anyway}
 use Rattle.flu_cells.proofs.state.State.near_key.Goals as goal
 
 pub returns-in_err-slot-clause-none : goal.returns-in_err-slot-clause-none

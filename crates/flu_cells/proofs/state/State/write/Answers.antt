@@ -1,6 +1,5 @@
-use Rattle.std.proofs.Common.{◌≡◌, Some, sym, ap, subst, ◌∙◌}
+use Rattle.std.proofs.Common.{Some, sym, ap, subst, ◌∙◌}
 use Rattle.std.proofs.lemmas.Result.{on_ok_weaker, on_err_weaker}
-use Rattle.flu_model.specs.Contents.{with_worth}
 use Rattle.flu_dense.specs.Holding.{value_at}
 use Rattle.flu_dense.specs.Values.{with_value}
 use Rattle.flu_cells.specs.Entries.{far_held, contents_of, IsWithoutNeutral, HasKeysInRange, HasFarAlone}
