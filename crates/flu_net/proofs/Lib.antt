@@ -8,3 +8,5 @@ pub mod Shown
 pub mod Arriving
 pub mod Keeping
 pub mod Readying
+pub mod Finals
+pub mod Bringing

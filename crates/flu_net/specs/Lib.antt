@@ -4,5 +4,7 @@ pub mod Enabled
 pub mod Effects
 pub mod LawsBelow
 pub mod Showing
+pub mod Final
+pub mod Ending
 pub mod Starting
 pub mod Stays
