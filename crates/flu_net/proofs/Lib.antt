@@ -19,3 +19,5 @@ pub mod Ended
 pub mod Measures
 pub mod Lessening
 pub mod MostSteps
+pub mod Finals
+pub mod Bringing

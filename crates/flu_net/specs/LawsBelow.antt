@@ -1,6 +1,9 @@
 -- The laws of plans, of lots and of texts on which the rule of the net rests.
+use Rattle.flu_deps.specs.Owners.{ItagsAreOwned}
 use Rattle.flu_deps.specs.Trees.{ChildrenAreLater, TreesAreRooted}
+use Rattle.flu_fork.specs.Completing.{LeavesBringAll, LastOnesArePaired, JoinsBringAll}
 use Rattle.flu_fork.specs.Kin.{ItagsAreOfNodes, ItagsAreOfKids, ItagsAreOfTheRoot}
+use Rattle.flu_fork.specs.Laws.{FittingHasSorts}
 use Rattle.flu_fork.specs.Places.{MomentsAreEvents}
 use Rattle.flu_fork.specs.Serving.{ContentsAreSettings, LoansArePaired}
 use Rattle.flu_fork.specs.Texts.{NoTexts, TextsAreOfTheSet, TextsGrow, TextsEnd, StatesEnd}
@@ -9,12 +12,17 @@ use Rattle.flu_worker.specs.Laws.{NewTargets, AskedGoOn, OwnGoOn, NothingIsNext}
 pub record LawsBelow : Type 0 where
   pub children : ChildrenAreLater
   pub parents : TreesAreRooted
+  pub owned : ItagsAreOwned
+  pub sorts : FittingHasSorts
   pub settings : ContentsAreSettings
   pub of_nodes : ItagsAreOfNodes
   pub of_kids : ItagsAreOfKids
   pub of_root : ItagsAreOfTheRoot
   pub events : MomentsAreEvents
   pub paired : LoansArePaired
+  pub at_leaf : LeavesBringAll
+  pub last_paired : LastOnesArePaired
+  pub last_joined : JoinsBringAll
   pub no_texts : NoTexts
   pub same_texts : TextsAreOfTheSet
   pub more_texts : TextsGrow

@@ -6,7 +6,8 @@ pub mod LawsBelow
 pub mod Measure
 pub mod Runs
 pub mod Showing
+pub mod Final
+pub mod Ending
 pub mod Starting
 pub mod Stays
-pub mod Final
 pub mod Blocking

@@ -2,6 +2,8 @@
 #![tactic(auto)]
 
 mod edges;
+mod finishing;
+mod joining;
 pub mod laws;
 mod net;
 mod showing;

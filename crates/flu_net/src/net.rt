@@ -9,17 +9,26 @@ ghost use Rattle.flu_net.specs.Measure.{most_steps, steps_left};
 ghost use Rattle.flu_net.specs.Notes.{asked_of};
 ghost use Rattle.flu_net.specs.Rule.{IsWell, Tells};
 ghost use Rattle.flu_net.specs.Starting.{IsStart};
+ghost use Rattle.std.specs.List.Sorted.{IsPermutation};
+ghost use Rattle.flu_model.specs.Folding.{final_state, final_outputs};
+ghost use Rattle.flu_model.specs.Listed.{listed};
+ghost use Rattle.flu_model.specs.Sorts.{IsStateOf};
+ghost use Rattle.flu_cells.specs.Holding.{held};
+ghost use Rattle.flu_fork.specs.Lots.{job};
 ghost use Rattle.flu_worker.specs.Choosing.{may_give};
 
 use crate::edges::{
     Edge, ask_at, given_at, given_lot, held_at, kid_of, lent_at, lent_lot, may_lend, may_take, put,
 };
+use crate::finishing::{all_over, all_seen};
+use crate::joining::whole_lot;
 use crate::laws::{laws_below, steps_are_bounded};
 use crate::showing::{one_more, show};
 use crate::starting::{first_edges, first_workers, no_counts};
 use crate::steps::{Step, StepFault};
 use crate::workers::all_keep;
-use flu_fork::{Ask, Case, CaseNote, Counts};
+use flu_cells::State;
+use flu_fork::{Ask, Case, CaseNote, Counts, Lot};
 use flu_model::{Itag, Outs, itag_count};
 use flu_worker::{Side, Worker};
 use std::alloc::{AllocError, Global};
@@ -150,6 +159,51 @@ impl Net {
             Ok(()) => Ok(()),
             Err(_) => Err(StepFault::NoMemory),
         }
+    }
+
+    // ---- the end
+
+    /// Whether nothing is left to do: all items of each itag are seen, and each worker has counted all events of its node's own itags
+    /// and of those above it, and each leaf has its lot. A net that is to be given up is not final. It takes no memory.
+    pub fn is_final(&self, case: &Case) -> bool
+        requires { case.now ≡ self.now.case }
+        ensures exact { self.now.gone ≡ false → ((result ≡ true) ↔ IsFinal self.now) }
+        ensures gone { self.now.gone ≡ true → result ≡ false }
+    {
+        laws_below();
+        if self.gone {
+            return false;
+        }
+        if !all_seen(case, &self.seen) {
+            return false;
+        }
+        all_over(case, self.workers.as_slice())
+    }
+
+    /// The state and the outputs of a final net: the state is the fold's, which holds values of the job's sorts, and the outputs are
+    /// the fold's in some order.
+    ///
+    /// # Errors
+    ///
+    /// Only where memory is wanting.
+    pub fn joined(self, alloc: Global, case: &Case) -> Result<(State, Outs), AllocError>
+        requires case { case.now ≡ self.case }
+        requires gone { self.gone ≡ false }
+        requires is_final { IsFinal self }
+        ensures state { IfOk result (λ r. held r.0 ≡ final_state (job self.case) (held self.case.opening) (listed self.case.streams)) }
+        ensures sorts { IfOk result (λ r. IsStateOf (job self.case).families (held r.0)) }
+        ensures outputs { IfOk result (λ r. IsPermutation (final_outputs (job self.case) (held self.case.opening) (listed self.case.streams)) r.1) }
+    {
+        laws_below();
+        let Net {
+            workers,
+            edges,
+            outs,
+            ..
+        } = self;
+        let lot = whole_lot(alloc, case, workers, edges)?;
+        let Lot { state, .. } = lot;
+        Ok((state, outs))
     }
 
     // ---- which steps are enabled

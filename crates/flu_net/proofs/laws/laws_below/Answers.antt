@@ -4,12 +4,17 @@ pub returns : goal.returns
 returns c = record {
   children = c.plans_are_trees.ensures.children;
   parents = c.plans_are_trees.ensures.parents;
+  owned = c.itags_are_owned.ensures;
+  sorts = c.fitting_states_have_sorts.ensures;
   settings = c.contents_are_settings.ensures;
   of_nodes = c.itags_are_of_nodes.ensures.nodes;
   of_kids = c.itags_are_of_nodes.ensures.kids;
   of_root = c.itags_are_of_nodes.ensures.root;
   events = c.events_have_moments.ensures.events;
   paired = c.loans_are_paired.ensures.paired;
+  at_leaf = c.last_lots_join.ensures.leaf;
+  last_paired = c.last_lots_join.ensures.paired;
+  last_joined = c.last_lots_join.ensures.joined;
   no_texts = c.texts_are_counted.ensures.nothing;
   same_texts = c.texts_are_counted.ensures.same;
   more_texts = c.texts_are_counted.ensures.grow;
