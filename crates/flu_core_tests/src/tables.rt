@@ -65,6 +65,11 @@ fn sum_at(key: u16) -> Cell
     }
 }
 
+/// Whether a state holds something at just these keys of the family 1.
+fn has_keys(state: &State, want: &[u32]) -> Result<bool, Fail> {
+    Ok(*state.keys(1)?.as_slice() == *want)
+}
+
 /// Whether the table of a state holds just the slots 64 and 127, each with 5.
 fn holds_both(state: &State) -> bool {
     let near = state.near();
@@ -81,17 +86,17 @@ fn near_cells_stand_in_the_table_and_all_keys_rise(rt: HostRuntime) -> Result<()
     for key in [70, 63, 64, 0] {
         state.add(sum_at(key), 5)?;
     }
-    assert_eq!(rt; *state.keys(1)?.as_slice() == [0, 63, 64, 70], true);
+    assert_eq!(rt; has_keys(&state, &[0, 63, 64, 70])?, true);
     assert_eq!(rt; holds_both(&state), true);
     let mut wanted = CellSet::new(rt.alloc());
     wanted.add(sum_at(63))?;
     wanted.add(sum_at(70))?;
     let taken = state.take_out(&wanted)?;
-    assert_eq!(rt; *state.keys(1)?.as_slice() == [0, 64], true);
-    assert_eq!(rt; *taken.keys(1)?.as_slice() == [63, 70], true);
+    assert_eq!(rt; has_keys(&state, &[0, 64])?, true);
+    assert_eq!(rt; has_keys(&taken, &[63, 70])?, true);
     assert_eq!(rt; state.near().next(65), None);
     state.absorb(taken)?;
-    assert_eq!(rt; *state.keys(1)?.as_slice() == [0, 63, 64, 70], true);
+    assert_eq!(rt; has_keys(&state, &[0, 63, 64, 70])?, true);
     assert_eq!(rt; holds_both(&state), true);
     Ok(())
 }
