@@ -1,0 +1,5 @@
+pub mod Chosen
+pub mod Nothing
+pub mod Turns
+pub mod Batches
+pub mod Bounds

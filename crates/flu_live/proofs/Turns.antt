@@ -1,0 +1,101 @@
+-- What a step keeps of a net, and what it adds to the counts.
+use Rattle.std.proofs.Common.{◌≡◌, ◌+◌, ◌^◌, ◌<◌, ◌≤◌, ℕ, true, false, List, length, get_or, refl, sym, ap, subst, ◌∙◌, arith}
+use Rattle.flu_fork.specs.declared.content.Content.{Content}
+use Rattle.flu_net.specs.declared.steps.Step.{Step}
+use Rattle.flu_net.specs.declared.steps.Step.TheVariants.{Arrive, Handle, Ask, Take, Give, Hold, Lend}
+use Rattle.std.specs.Prelude.{slice_get}
+use Rattle.std.proofs.lemmas.Option.{slice_get-get_or}
+use Rattle.flu_net.specs.Enabled.{is_enabled}
+use Rattle.flu_net.specs.Effects.{Makes, arrived}
+use Rattle.flu_live.proofs.Chosen.{is_on}
+use Rattle.flu_net.specs.Notes.{NetNote}
+use Rattle.flu_live.specs.declared.counts.StepCounts.{StepCounts}
+use Rattle.flu_live.specs.Counting.{steps_in}
+use Rattle.flu_live.specs.Drawing.{IsOnItsWay}
+use Rattle.flu_net.specs.Measure.{most_steps, steps_left}
+use Rattle.flu_live.specs.Seeded.{IsDrawn, IsSeeded, Reaches, begun, counting, made, marked, next_draw, no_steps}
+use Rattle.flu_live.specs.Possible.{all_steps, enabled_steps}
+use Rattle.flu_live.specs.declared.simulating.Drawing.{Drawing}
+use Rattle.flu_net.specs.Starting.{IsStart}
+
+pub kept_case : (s : Step) (old new : NetNote) → Makes s old new → new.case ≡ old.case
+kept_case (Arrive i) old new does = ap (λ (n : NetNote). n.case) does
+kept_case (Handle w) old new does = does.step.case
+kept_case (Ask w side) old new does = does.step.case
+kept_case (Take w side) old new does = does.step.case
+kept_case (Give w) old new does = does.step.case
+kept_case (Hold w) old new does = does.step.case
+kept_case (Lend w side) old new does = does.step.case
+
+pub still_there : (s : Step) (old new : NetNote) → old.gone ≡ false → Makes s old new → new.gone ≡ false
+still_there (Arrive i) old new there does = ap (λ (n : NetNote). n.gone) does ∙ there
+still_there (Handle w) old new there does = does.step.gone
+still_there (Ask w side) old new there does = does.step.gone
+still_there (Take w side) old new there does = does.step.gone
+still_there (Give w) old new there does = does.step.gone
+still_there (Hold w) old new there does = does.step.gone
+still_there (Lend w side) old new there does = does.step.gone
+
+pub one_more : (s : Step) (c : StepCounts) → steps_in (counting s c) ≡ steps_in c + 1
+one_more (Arrive i) c = omega arith
+one_more (Handle w) c = omega arith
+one_more (Ask w side) c = omega arith
+one_more (Take w side) c = omega arith
+one_more (Give w) c = omega arith
+one_more (Hold w) c = omega arith
+one_more (Lend w side) c = omega arith
+
+-- ---- a run on its way
+
+as_is : (k : Content) (seed seed' : ℕ) (net : NetNote) (x x' : ℕ) (steps steps' : StepCounts) (mark mark' : ℕ) → seed ≡ seed' → x ≡ x' → steps ≡ steps' → mark ≡ mark'
+    → Reaches k seed net x steps mark → Reaches k seed' net x' steps' mark'
+as_is k seed seed' net x x' steps steps' mark mark' a b c d run =
+    subst (λ m. Reaches k seed' net x' steps' m) d
+    (subst (λ (t : StepCounts). Reaches k seed' net x' t mark) c (subst (λ y. Reaches k seed' net y steps mark) b (subst (λ r. Reaches k r net x steps mark) a run)))
+
+-- the room for steps to come, as numbers
+room_begun : (a l m : ℕ) → a ≡ 0 → l ≤ m → a + l ≤ m
+room_begun a l m none most = omega arith
+
+room_made : (a b l l' m : ℕ) → b ≡ a + 1 → a + l ≤ m → l' < l → b + l' ≤ m
+room_made a b l l' m more room left = omega arith
+
+room_for : (a l l' m n : ℕ) → a + l ≤ m → m < n → l' < l → a + 1 < n
+room_for a l l' m n room few left = omega arith
+
+pub begun_run : (k : Content) (d : Drawing) → IsStart k d.net → d.last ≡ d.seed → d.seed < 2 ^ 31 → d.steps ≡ no_steps → d.mark ≡ 0 → steps_left d.net ≤ most_steps k → most_steps k < 2 ^ 128
+    → IsOnItsWay k d
+begun_run k d start last small steps mark most few =
+    let none : steps_in d.steps ≡ 0 = ap steps_in steps in
+    record {
+      case = start.case;
+      gone = start.gone;
+      run = as_is k d.seed d.seed d.net d.seed d.last no_steps d.steps 0 d.mark refl (sym last) (sym steps) (sym mark) (begun start);
+      small = subst (λ (x : ℕ). x < 2 ^ 31) (sym last) small;
+      room = room_begun (steps_in d.steps) (steps_left d.net) (most_steps k) none most;
+      few = few;
+    }
+
+pub made_one : (k : Content) (old new : Drawing) (place : ℕ) (s : Step) → IsOnItsWay k old → new.seed ≡ old.seed → new.last ≡ next_draw old.last → new.last < 2 ^ 31
+    → IsDrawn old.net new.last place s → Makes s old.net new.net → steps_left new.net < steps_left old.net → new.steps ≡ counting s old.steps → new.mark ≡ marked old.mark place
+    → IsOnItsWay k new
+made_one k old new place s way seed last small drawn does left steps mark =
+    let more : steps_in new.steps ≡ steps_in old.steps + 1 = ap steps_in steps ∙ one_more s old.steps in
+    record {
+      case = kept_case s old.net new.net does ∙ way.case;
+      gone = still_there s old.net new.net way.gone does;
+      run = as_is k old.seed new.seed new.net (next_draw old.last) new.last (counting s old.steps) new.steps (marked old.mark place) new.mark (sym seed) (sym last) (sym steps) (sym mark)
+          (made way.run (subst (λ x. IsDrawn old.net x place s) last drawn) does);
+      small = small;
+      room = room_made (steps_in old.steps) (steps_in new.steps) (steps_left old.net) (steps_left new.net) (most_steps k) more way.room left;
+      few = way.few;
+    }
+
+-- the counts have room for one step more
+pub has_room : (k : Content) (old : Drawing) (new : NetNote) → IsOnItsWay k old → steps_left new < steps_left old.net → steps_in old.steps + 1 < 2 ^ 128
+has_room k old new way left = room_for (steps_in old.steps) (steps_left old.net) (steps_left new) (most_steps k) (2 ^ 128) way.room way.few left
+
+-- what is drawn is enabled
+pub drawn_on : (n : NetNote) (enabled : List Step) (place : ℕ) (d : Step) → enabled ≡ enabled_steps n → place < length enabled → is_enabled n (get_or enabled place d) ≡ true
+drawn_on n enabled place d are there =
+    is_on n (all_steps n.case) place (get_or enabled place d) (sym (ap (λ l. slice_get l place) are) ∙ slice_get-get_or enabled place d there)

@@ -1,0 +1,6 @@
+use Rattle.std.proofs.Common.{◌≡◌, [], take}
+use Rattle.flu_live.specs.Possible.{enabled_among}
+use Rattle.flu_live.proofs.possible.first_enabled.Given as goal
+
+abbrev pub invariant-loop-s : goal.invariant-loop-s
+invariant-loop-s l = enabled_among l.net (take l.s-index l.steps) ≡ []

@@ -1,0 +1,6 @@
+-- How many steps some counts have together.
+use Rattle.std.specs.Prelude.{ℕ, ◌+◌}
+use Rattle.flu_live.specs.declared.counts.StepCounts.{StepCounts}
+
+abbrev pub steps_in : StepCounts → ℕ
+steps_in c = c.arrive + c.handle + c.ask + c.take + c.give + c.hold + c.lend

@@ -1,0 +1,16 @@
+-- A run that a seed draws, on its way.
+use Rattle.std.specs.Prelude.{◌≡◌, ℕ, ◌+◌, ◌^◌, ◌<◌, ◌≤◌, false}
+use Rattle.flu_fork.specs.declared.content.Content.{Content}
+use Rattle.flu_net.specs.Measure.{most_steps, steps_left}
+use Rattle.flu_live.specs.declared.simulating.Drawing.{Drawing}
+use Rattle.flu_live.specs.Counting.{steps_in}
+use Rattle.flu_live.specs.Seeded.{Reaches}
+
+-- what the run came to, and that there is room for the steps to come
+pub record IsOnItsWay (k : Content) (d : Drawing) : Type 0 where
+  pub case : d.net.case ≡ k
+  pub gone : d.net.gone ≡ false
+  pub run : Reaches k d.seed d.net d.last d.steps d.mark
+  pub small : d.last < 2 ^ 31
+  pub room : steps_in d.steps + steps_left d.net ≤ most_steps k
+  pub few : most_steps k < 2 ^ 128

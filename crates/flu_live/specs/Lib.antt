@@ -1,0 +1,4 @@
+pub mod Seeded
+pub mod Possible
+pub mod Counting
+pub mod Drawing

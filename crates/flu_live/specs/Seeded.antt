@@ -1,0 +1,58 @@
+-- THE SEEDED SCHEDULE: which step a seed draws at each moment, and what the run of these steps counts.
+use Rattle.std.specs.Prelude.{◌≡◌, ℕ, ◌+◌, ◌*◌, ◌/◌, ◌%◌, ◌^◌, Some, List, [], length, slice_get}
+use Rattle.flu_fork.specs.declared.content.Content.{Content}
+use Rattle.flu_net.specs.declared.steps.Step.{Step}
+use Rattle.flu_net.specs.declared.steps.Step.TheVariants.{Arrive, Handle, Ask, Take, Give, Hold, Lend}
+use Rattle.flu_net.specs.Effects.{Makes}
+use Rattle.flu_net.specs.Notes.{NetNote}
+use Rattle.flu_net.specs.Starting.{IsStart}
+use Rattle.flu_live.specs.declared.counts.StepCounts.{StepCounts}
+use Rattle.flu_live.specs.Possible.{enabled_steps}
+
+-- ---- numbers
+
+-- the number that is drawn after x; the first one is drawn after the seed
+unfoldable pub next_draw : ℕ → ℕ
+next_draw x = (x * 1103515245 + 12345) % 2 ^ 31
+
+-- the place, from 0, that a drawn number gives among so many steps
+unfoldable pub place_of : ℕ → ℕ → ℕ
+place_of x count = x / 65536 % count
+
+-- the mark, once the step at a place was made
+unfoldable pub marked : ℕ → ℕ → ℕ
+marked mark place = (mark * 33 + place) % 2 ^ 32
+
+-- ---- how many steps of each kind
+
+abbrev pub no_steps : StepCounts
+no_steps = record { arrive = 0; handle = 0; ask = 0; take = 0; give = 0; hold = 0; lend = 0 }
+
+abbrev pub counting : Step → StepCounts → StepCounts
+counting (Arrive i) c = record c { arrive = c.arrive + 1 }
+counting (Handle w) c = record c { handle = c.handle + 1 }
+counting (Ask w s) c = record c { ask = c.ask + 1 }
+counting (Take w s) c = record c { take = c.take + 1 }
+counting (Give w) c = record c { give = c.give + 1 }
+counting (Hold w) c = record c { hold = c.hold + 1 }
+counting (Lend w s) c = record c { lend = c.lend + 1 }
+
+-- ---- runs
+
+-- the step that the number x draws from a net, at this place among those that are enabled
+pub record IsDrawn (n : NetNote) (x place : ℕ) (s : Step) : Type 0 where
+  pub at : place ≡ place_of x (length (enabled_steps n))
+  pub is : slice_get (enabled_steps n) place ≡ Some s
+
+-- the nets that a seed comes to, each with the number drawn last, the steps made and the mark
+pub data Reaches (k : Content) (seed : ℕ) : NetNote → ℕ → StepCounts → ℕ → Type 0 where
+  begun : {n : NetNote} → IsStart k n → Reaches k seed n seed no_steps 0
+  made : {old new : NetNote} {x place : ℕ} {s : Step} {steps : StepCounts} {mark : ℕ} → Reaches k seed old x steps mark
+      → IsDrawn old (next_draw x) place s → Makes s old new → Reaches k seed new (next_draw x) (counting s steps) (marked mark place)
+
+-- these are the steps and the mark of a whole run: no step is enabled in the end
+pub record IsSeeded (k : Content) (seed : ℕ) (steps : StepCounts) (mark : ℕ) : Type 0 where
+  pub net : NetNote
+  pub last : ℕ
+  pub run : Reaches k seed net last steps mark
+  pub ended : enabled_steps net ≡ []

@@ -1,0 +1,15 @@
+//! Runs of the net: which step may be made, how many steps a run may have at most, and the run that a seed draws (`docs/TREE.md`).
+#![tactic(auto)]
+
+mod bounding;
+mod counts;
+mod drawing;
+mod engines;
+mod possible;
+mod simulating;
+
+pub use bounding::bound;
+pub use counts::StepCounts;
+pub use engines::NetEngine;
+pub use possible::some_enabled;
+pub use simulating::{Run, simulate};

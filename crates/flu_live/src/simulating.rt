@@ -1,0 +1,135 @@
+//! The run that a seed draws.
+
+ghost use Rattle.std.specs.Prelude.{◌≡◌, ◌^◌, ◌<◌, [], length, IfOk, OnOk};
+ghost use Rattle.std.specs.List.Sorted.{IsPermutation};
+ghost use Rattle.flu_model.specs.Folding.{final_state, final_outputs};
+ghost use Rattle.flu_model.specs.Listed.{listed};
+ghost use Rattle.flu_model.specs.Sorts.{IsStateOf};
+ghost use Rattle.flu_cells.specs.Holding.{held};
+ghost use Rattle.flu_fork.specs.Lots.{job};
+ghost use Rattle.flu_net.specs.Measure.{steps_left};
+ghost use Rattle.flu_live.specs.Drawing.{IsOnItsWay};
+ghost use Rattle.flu_live.specs.Possible.{enabled_steps};
+ghost use Rattle.flu_live.specs.Seeded.{IsSeeded};
+
+use crate::bounding::bound;
+use crate::counts::StepCounts;
+use crate::drawing::{marked, next_draw, place_of};
+use crate::possible::{all_steps, put_enabled};
+use flu_cells::State;
+use flu_fork::Case;
+use flu_model::Outs;
+use flu_net::{Net, Step, StepFault};
+use std::alloc::{AllocError, Global};
+
+/// What a run of the net came to: the state and what was put out, how many steps of each kind were made, and the mark, which the
+/// places of the drawn steps make.
+#[derive(Drop)]
+pub struct Run {
+    pub state: State,
+    pub outs: Outs,
+    pub steps: StepCounts,
+    pub mark: u32,
+}
+
+// A run on its way: the net, and the number that was drawn last.
+#[derive(Drop)]
+struct Drawing {
+    seed: u32,
+    last: u32,
+    net: Net,
+    steps: StepCounts,
+    mark: u32,
+}
+
+/// Runs a case on the net by the steps that a seed draws (`docs/TREE.md`). The state is the fold's, which holds values of the job's
+/// sorts, and the outputs are the fold's in some order; the steps and the mark are those of the drawn run.
+///
+/// # Errors
+///
+/// Only where memory is wanting.
+pub fn simulate(alloc: Global, case: &Case, seed: u32) -> Result<Run, AllocError>
+    requires { seed < 2 ^ 31 }
+    ensures state { IfOk result (λ r. held r.state ≡ final_state (job case.now) (held case.now.opening) (listed case.now.streams)) }
+    ensures sorts { IfOk result (λ r. IsStateOf (job case.now).families (held r.state)) }
+    ensures outputs { IfOk result (λ r. IsPermutation (final_outputs (job case.now) (held case.now.opening) (listed case.now.streams)) r.outs) }
+    ensures drawn { IfOk result (λ r. IsSeeded case.now seed r.steps r.mark) }
+{
+    let steps = all_steps(alloc, case)?;
+    let mut run = Drawing::begin(alloc, case, seed)?;
+    let mut enabled = Vec::new(alloc);
+    put_enabled(&mut enabled, &run.net, case, steps.as_slice())?;
+    while !enabled.is_empty() {
+        run.turn(alloc, case, enabled.as_slice())?;
+        put_enabled(&mut enabled, &run.net, case, steps.as_slice())?;
+    }
+    run.end(alloc, case)
+}
+
+impl Drawing {
+    // The run before its first step.
+    fn begin(alloc: Global, case: &Case, seed: u32) -> Result<Drawing, AllocError>
+        requires { seed < 2 ^ 31 }
+        ensures way { IfOk result (IsOnItsWay case.now) }
+        ensures seed { IfOk result (λ d. d.seed ≡ seed) }
+    {
+        // The bound fits its type, and so does each count of steps.
+        let _most = bound(case);
+        let net = Net::new(alloc, case)?;
+        Ok(Drawing {
+            seed,
+            last: seed,
+            net,
+            steps: StepCounts::none(),
+            mark: 0,
+        })
+    }
+
+    // Makes the step that is drawn of these.
+    fn turn(&mut self, alloc: Global, case: &Case, enabled: &[Step]) -> Result<(), AllocError>
+        requires way { IsOnItsWay case.now self.old }
+        requires enabled { enabled.now ≡ enabled_steps self.old.net }
+        requires some { 0 < length enabled.now }
+        ensures way { OnOk result (IsOnItsWay case.now self.new) }
+        ensures left { OnOk result (steps_left self.new.net < steps_left self.old.net) }
+        ensures seed { self.new.seed ≡ self.old.seed }
+    {
+        self.last = next_draw(self.last);
+        let place = place_of(self.last, enabled.len());
+        let drawn = enabled[place];
+        match self.net.step(alloc, case, drawn) {
+            Ok(()) => {}
+            Err(StepFault::NotEnabled) => unreachable!(),
+            Err(StepFault::NoMemory) => return Err(AllocError),
+        }
+        self.steps.count(drawn);
+        self.mark = marked(self.mark, place);
+        Ok(())
+    }
+
+    // What the run came to, once no step is enabled.
+    fn end(self, alloc: Global, case: &Case) -> Result<Run, AllocError>
+        requires way { IsOnItsWay case.now self }
+        requires ended { enabled_steps self.net ≡ [] }
+        ensures state { IfOk result (λ r. held r.state ≡ final_state (job case.now) (held case.now.opening) (listed case.now.streams)) }
+        ensures sorts { IfOk result (λ r. IsStateOf (job case.now).families (held r.state)) }
+        ensures outputs { IfOk result (λ r. IsPermutation (final_outputs (job case.now) (held case.now.opening) (listed case.now.streams)) r.outs) }
+        ensures drawn { IfOk result (λ r. IsSeeded case.now self.seed r.steps r.mark) }
+    {
+        let Drawing {
+            net,
+            steps,
+            mark,
+            ..
+        } = self;
+        net.never_blocks();
+        net.rule();
+        let (state, outs) = net.joined(alloc, case)?;
+        Ok(Run {
+            state,
+            outs,
+            steps,
+            mark,
+        })
+    }
+}

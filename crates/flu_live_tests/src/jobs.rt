@@ -1,0 +1,117 @@
+//! Jobs with their plans, and runs of them.
+
+ghost use Rattle.std.specs.Prelude.{◌≡◌, ◌^◌, ◌<◌, length, IfOk};
+ghost use Rattle.flu_model.specs.Itags.{count_of_itags};
+ghost use Rattle.flu_model.specs.Listed.{listed};
+ghost use Rattle.flu_deps.specs.Checking.{program_of};
+ghost use Rattle.flu_deps.specs.Validated.{IsValidFor};
+
+use flu_cells::State;
+use flu_check::check;
+use flu_deps::{Checked, Valid};
+use flu_fork::Case;
+use flu_live::{NetEngine, Run, StepCounts, bound, simulate, some_enabled};
+use flu_model::{Outs, Streams};
+use flu_net::Net;
+use flu_outside::MemFiles;
+use flu_parse::read_job;
+use flu_plan::read_plan;
+use flu_report::report_text;
+use flu_seq::Engine;
+use flu_streams::gather;
+use flu_valid::validate;
+use std::alloc::{AllocError, Global};
+use std::test::Fail;
+
+/// The files of a job's sources, each with its name.
+pub type Sources = &'static [(&'static str, &'static str)];
+
+/// The reports of a run and of a batch with the same seed, how many steps of each kind the run had, its mark, the bound on its steps, and
+/// whether a step is enabled at the start.
+#[derive(Drop)]
+pub struct Told {
+    pub report: String,
+    pub batch: String,
+    pub steps: StepCounts,
+    pub mark: u32,
+    pub most: u128,
+    pub begins: bool,
+}
+
+fn opened<'a>(
+    alloc: Global,
+    checked: &'a Checked,
+    valid: &'a Valid,
+    streams: &'a Streams,
+) -> Result<Case<'a>, AllocError>
+    requires of { IsValidFor (program_of checked.now) valid.now }
+    requires one_each { length (listed streams.now) ≡ count_of_itags (program_of checked.now) }
+{
+    Case::new(alloc, checked, valid, streams, State::new(alloc))
+}
+
+/// What a batch of the engine puts out.
+fn batched(
+    alloc: Global,
+    checked: &Checked,
+    valid: &Valid,
+    streams: &Streams,
+    seed: u32,
+) -> Result<Outs, AllocError>
+    requires of { IsValidFor (program_of checked.now) valid.now }
+    requires one_each { length (listed streams.now) ≡ count_of_itags (program_of checked.now) }
+    requires seed { seed < 2 ^ 31 }
+{
+    let mut engine = NetEngine {
+        checked,
+        valid,
+        seed,
+    };
+    let (_state, outs) = engine.batch(&(), alloc, State::new(alloc), streams)?;
+    Ok(outs)
+}
+
+/// What a run of a job with a plan over some files came to; none where the job is not accepted or the plan is not valid for it.
+pub fn ran(
+    alloc: Global,
+    job: &str,
+    plan: &str,
+    files: Sources,
+    seed: u32,
+) -> Result<Option<Told>, Fail>
+    requires { seed < 2 ^ 31 }
+{
+    let Ok(checked) = check(read_job(alloc, job.as_bytes())?) else {
+        return Ok(None);
+    };
+    let Ok(plan) = read_plan(alloc, checked.program(), plan.as_bytes()) else {
+        return Ok(None);
+    };
+    let Ok(valid) = validate(&checked, plan) else {
+        return Ok(None);
+    };
+    let mut sources = MemFiles::new(alloc);
+    for (name, text) in files {
+        sources.add(name, text.as_bytes().to_vec(alloc)?)?;
+    }
+    let streams = gather(alloc, checked.program(), &mut sources)?;
+    let case = opened(alloc, &checked, &valid, &streams)?;
+    let net = Net::new(alloc, &case)?;
+    let Run {
+        outs,
+        steps,
+        mark,
+        ..
+    } = simulate(alloc, &case, seed)?;
+    let report = report_text(alloc, checked.program(), outs)?;
+    let others = batched(alloc, &checked, &valid, &streams, seed)?;
+    let batch = report_text(alloc, checked.program(), others)?;
+    Ok(Some(Told {
+        report: String::from_str(alloc, report.as_str())?,
+        batch: String::from_str(alloc, batch.as_str())?,
+        steps,
+        mark,
+        most: bound(&case),
+        begins: some_enabled(&net, &case).is_some(),
+    }))
+}
