@@ -1,4 +1,0 @@
-pub mod BitLemmas
-pub mod ListLemmas
-pub mod RowLemmas
-pub mod TableLemmas

@@ -1,5 +1,0 @@
-pub mod Masks
-pub mod Values
-pub mod Rows
-pub mod Tables
-pub mod Holding
