@@ -1,6 +1,7 @@
 -- What a worker with children has at its end, for the end that it was given.
-use Rattle.std.proofs.Common.{◌≡◌, ℕ, true, Option, Some, None, List, refl, sym, ap, subst, ◌∙◌}
-use Rattle.std.specs.Prelude.{Result, Ok, Err, IfOk, IfNone, is_none}
+use Rattle.std.proofs.Common.{◌≡◌, ℕ, true, false, Option, Some, None, List, refl, sym, ap, subst, ◌∙◌}
+use Rattle.std.specs.Prelude.{Result, Ok, Err, IfOk, IfErr, OnOk, IsOk, IfNone, is_none}
+use Rattle.flu_lemmas.proofs.Tests.{not_both}
 use Rattle.flu_model.specs.declared.events.Out.{Out}
 use Rattle.flu_fork.specs.declared.content.Content.{Content}
 use Rattle.flu_fork.specs.declared.lots.Ask.{Ask}
@@ -9,13 +10,17 @@ use Rattle.flu_worker.specs.Hands.{is_open}
 use Rattle.flu_worker.specs.Notes.{WorkerNote}
 use Rattle.flu_worker.specs.Calls.{IsFinished}
 use Rattle.flu_link.specs.Notes.{UpperNote, LowerNote}
-use Rattle.flu_run.specs.EndNotes.{IsSameEnd}
+use Rattle.flu_run.specs.declared.handed.Why.{Why}
+use Rattle.flu_run.specs.declared.handed.Ended.{Ended}
+use Rattle.flu_run.specs.declared.handed.Ended.TheVariants.{Done, Cut}
+use Rattle.flu_run.specs.EndNotes.{end_note, IsSameEnd}
+use Rattle.flu_run.specs.Ended.{Keeps}
 use Rattle.flu_run.specs.Ties.{Hangs, Lets, Tells}
 use Rattle.flu_run.specs.Seeing.{SeesMore}
 use Rattle.flu_run.specs.Stays.{IsSameUpper}
 use Rattle.flu_run.specs.Starts.{EndStarts}
 use Rattle.flu_run.specs.Rests.{Rests, Settles}
-use Rattle.flu_run.proofs.Leaves.{finished_open}
+use Rattle.flu_run.proofs.Leaves.{final_as, finished_open}
 use Rattle.flu_run.proofs.Tying.{tells_seen, lets_seen}
 
 -- nothing is asked of a worker that is open: its lot is held
@@ -76,3 +81,26 @@ settled k w given a b n0 l0 u0 v0 n l u v outs ek ew eg lu lv sa sb r = record {
 pub if_ok : {T E : Type 0} (r : Result T E) (P Q : T → Type 0) → ((x : T) → P x → Q x) → IfOk r P → IfOk r Q
 if_ok (Ok x) P Q f p = f x p
 if_ok (Err e) P Q f p = tt
+
+-- two results, each with what holds of its value
+pub if_both : {T U E F : Type 0} (a : Result T E) (b : Result U F) (P Q : T → Type 0) (R : U → Type 0) (S : T → U → Type 0)
+    → ((x : T) (y : U) → P x → Q x → R y → S x y) → IfOk a P → IfOk a Q → IfOk b R → IfOk a (λ x. IfOk b (S x))
+if_both (Ok x) (Ok y) P Q R S f p q r = f x y p q r
+if_both (Ok x) (Err e) P Q R S f p q r = tt
+if_both (Err e) b P Q R S f p q r = tt
+
+-- what is handed on only where the turns ended well
+pub if_turned : {T U E F : Type 0} (turned : Result T E) (r : Result U F) (x : U) (P : U → Type 0) → OnOk turned (P x) → IfOk r (λ y. (y ≡ x) × IsOk turned) → IfOk r P
+if_turned (Ok t) (Ok y) x P p q = subst P (sym q.0) p
+if_turned (Err e) (Ok y) x P p q = absurd (not_both false q.1 refl)
+if_turned turned (Err e) x P p q = tt
+
+-- what keeps the promise for the end after the turns keeps it for the end before them
+pub keeps_turned : {T : Type 0} (turned : Result T Why) (l m : LowerNote) (r : Ended) → OnOk turned (IsSameEnd l m) → IfErr turned (λ why. r ≡ Cut why) → Keeps m r → Keeps l r
+keeps_turned (Err why) l m r same cut kept = subst (Keeps l) (sym cut) tt
+keeps_turned (Ok t) l m (Cut why) same cut kept = tt
+keeps_turned (Ok t) l m (Done d) same cut kept = record {
+  same = end_trans l m (end_note d.end) same kept.same;
+  phase = kept.phase;
+  final = final_as m.case l.case m.lower l.lower (end_note d.end).held (end_note d.end).held d.lot d.outs (sym same.case) (sym same.lower) refl kept.final;
+}

@@ -1,9 +1,9 @@
 //! The thread of a worker with children, whose subtrees run in threads of their own.
 
-ghost use Rattle.std.specs.Prelude.{◌≡◌, ◌<◌, ◌++◌, [], length, IsSome, OnOk, IfOk, IfSome};
+ghost use Rattle.std.specs.Prelude.{◌≡◌, ◌<◌, ◌≤◌, ◌++◌, [], length, IsSome, IsOk, OnOk, IfOk, IfSome};
 ghost use Rattle.flu_fork.specs.Lots.{nodes, kids};
 ghost use Rattle.flu_worker.specs.declared.hand.Side.TheVariants.{Left, Right};
-ghost use Rattle.flu_link.specs.Notes.{LowerNote};
+ghost use Rattle.flu_link.specs.Notes.{LowerNote, phase_held};
 ghost use Rattle.flu_run.specs.EndNotes.{end_note, IsSameEnd};
 ghost use Rattle.flu_run.specs.Ended.{Keeps};
 ghost use Rattle.flu_run.specs.Final.{IsDone};
@@ -24,7 +24,7 @@ use crate::sight::observe;
 use crate::up::look;
 use crossbeam_utils::Backoff;
 use flu_arrive::Watch;
-use flu_fork::{Ask, Case, join};
+use flu_fork::{Ask, Case, Lot, join};
 use flu_link::{Upper, close};
 use flu_model::Outs;
 use flu_seq::Gate;
@@ -177,6 +177,62 @@ pub struct Rest {
     pub outs: Outs,
 }
 
+// Takes turns until the worker has no event left, or is stopped. It owns none of what it works on, so that it leaves nothing to
+// be let go on its ways out.
+fn take_turns<G: Gate, R: Wait>(
+    rt: &R,
+    alloc: Global,
+    case: &Case,
+    gate: &G,
+    node: u32,
+    worker: &mut Worker,
+    watch: &mut Watch,
+    end: &mut End,
+    left: &mut Upper,
+    right: &mut Upper,
+    outs: &mut Outs,
+) -> Result<(), Why>
+    requires case { case.now ≡ worker.old.case }
+    requires inner { IsSome (kids worker.old.case worker.old.node) }
+    requires hangs { Hangs worker.old (end_note end.old) }
+    requires tells { Tells worker.old outs.old }
+    requires sees { Sees worker.old watch.old }
+    requires left { Lets Left worker.old left.old }
+    requires right { Lets Right worker.old right.old }
+    ensures { OnOk result (Rests worker.old (end_note end.old) left.old right.old worker.new (end_note end.new) left.new right.new outs.new) }
+{
+    let backoff = Backoff::new();
+    for _ in rt.forever() {
+        if are_stopped(worker, end, left, right) {
+            stop_all(end, left, right);
+            return Err(Why::Stopped);
+        }
+        observe(case, node, worker, watch);
+        let asked = look(worker, end);
+        if asked.is_none() && worker.finished(case) {
+            return Ok(());
+        }
+        let Ok(moved) = turn_inner(
+            alloc, case, gate, node, worker, end, left, right, outs, asked,
+        ) else {
+            stop_all(end, left, right);
+            return Err(Why::NoMemory);
+        };
+        wait(&backoff, moved);
+    }
+    unreachable!()
+}
+
+// What is left after the turns, unless they were cut short.
+fn rest_of(turned: Result<(), Why>, rest: Rest) -> Result<Rest, Why>
+    ensures { IfOk result (λ r. (r ≡ rest) × IsOk turned) }
+{
+    match turned {
+        Ok(()) => Ok(rest),
+        Err(why) => Err(why),
+    }
+}
+
 /// Does the worker's own work until it has no event left, or is stopped.
 pub fn work<G: Gate, R: Wait>(
     rt: &R,
@@ -205,41 +261,63 @@ pub fn work<G: Gate, R: Wait>(
     let mut left = left;
     let mut right = right;
     let mut outs = Outs::of(Vec::new(alloc));
-    let backoff = Backoff::new();
-    for _ in rt.forever() {
-        if are_stopped(&worker, &mut end, &mut left, &mut right) {
-            stop_all(&mut end, &mut left, &mut right);
-            return Err(Why::Stopped);
-        }
-        observe(case, node, &mut worker, &mut watch);
-        let asked = look(&worker, &mut end);
-        if asked.is_none() && worker.finished(case) {
-            return Ok(Rest {
-                worker,
-                end,
-                left,
-                right,
-                outs,
-            });
-        }
-        let Ok(moved) = turn_inner(
-            alloc,
-            case,
-            gate,
-            node,
-            &mut worker,
-            &mut end,
-            &mut left,
-            &mut right,
-            &mut outs,
-            asked,
-        ) else {
-            stop_all(&mut end, &mut left, &mut right);
-            return Err(Why::NoMemory);
-        };
-        wait(&backoff, moved);
-    }
-    unreachable!()
+    let turned = take_turns(
+        rt,
+        alloc,
+        case,
+        gate,
+        node,
+        &mut worker,
+        &mut watch,
+        &mut end,
+        &mut left,
+        &mut right,
+        &mut outs,
+    );
+    let rest = Rest {
+        worker,
+        end,
+        left,
+        right,
+        outs,
+    };
+    rest_of(turned, rest)
+}
+
+// Closes the link to a child that noted Held last: no lot is in it, and the child held what was lent last.
+fn close_link(upper: Upper, end: End)
+    requires linked { 0 < (end_note end).lower }
+    requires link { (end_note end).link ≡ upper.link }
+    requires free { upper.phase ≤ phase_held }
+    requires held { (end_note end).phase ≡ phase_held }
+    ensures { (end_note end).held ≡ upper.lent }
+{
+    let None = close(upper, end.into_lower()) else {
+        unreachable!();
+    };
+}
+
+// A lot and outputs behind an end, where there was memory for both. Else the end is told to stop.
+fn ended(end: End, lot: Result<Lot, AllocError>, outs: Result<Outs, AllocError>) -> Ended
+    requires { IfOk lot (λ l. IfOk outs (λ o. IsDone (end_note end) (end_note end) l o)) }
+    ensures { Keeps (end_note end) result }
+{
+    let Ok(lot) = lot else {
+        return give_up(end);
+    };
+    let Ok(outs) = outs else {
+        return give_up(end);
+    };
+    Ended::Done(Done { end, lot, outs })
+}
+
+// Gives up for want of memory.
+fn give_up(end: End) -> Ended
+    ensures { Keeps (end_note end) result }
+{
+    let mut end = end;
+    end.stop();
+    Ended::Cut(Why::NoMemory)
 }
 
 /// What the worker and the subtrees of its children hand on together.
@@ -261,33 +339,34 @@ pub fn gather<H: HasCase>(
 {
     laws_below();
     let Rest {
-        worker: _,
-        mut end,
+        worker: _worker,
+        end,
         left: left_upper,
         right: right_upper,
-        mut outs,
+        outs,
     } = rest;
-    let None = close(left_upper, left.end.into_lower()) else {
-        unreachable!();
-    };
-    let None = close(right_upper, right.end.into_lower()) else {
-        unreachable!();
-    };
-    let Ok(lot) = join(alloc, holder.case(), node, left.lot, right.lot) else {
-        end.stop();
-        return Ended::Cut(Why::NoMemory);
-    };
-    let Ok(()) = put_behind(&mut outs, left.outs, right.outs) else {
-        end.stop();
-        return Ended::Cut(Why::NoMemory);
-    };
-    Ended::Done(Done { end, lot, outs })
+    let Done {
+        end: left_end,
+        lot: left_lot,
+        outs: left_outs,
+    } = left;
+    let Done {
+        end: right_end,
+        lot: right_lot,
+        outs: right_outs,
+    } = right;
+    close_link(left_upper, left_end);
+    close_link(right_upper, right_end);
+    let lot = join(alloc, holder.case(), node, left_lot, right_lot);
+    ended(end, lot, in_turn(outs, left_outs, right_outs))
 }
 
-// Puts the outputs of both behind those that are there.
-fn put_behind(outs: &mut Outs, left: Outs, right: Outs) -> Result<(), AllocError>
-    ensures { OnOk result (outs.new ≡ (outs.old ++ left) ++ right) }
+// The outputs of both behind the first.
+fn in_turn(outs: Outs, left: Outs, right: Outs) -> Result<Outs, AllocError>
+    ensures { IfOk result (λ all. all ≡ (outs ++ left) ++ right) }
 {
+    let mut outs = outs;
     outs.append(left)?;
-    outs.append(right)
+    outs.append(right)?;
+    Ok(outs)
 }

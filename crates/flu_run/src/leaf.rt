@@ -1,12 +1,13 @@
 //! The thread of a leaf.
 
-ghost use Rattle.std.specs.Prelude.{◌≡◌, ◌<◌, None, length, IfOk, OnOk, IfSome};
+ghost use Rattle.std.specs.Prelude.{◌≡◌, ◌<◌, [], None, length, IfOk, IfErr, OnOk, IfSome};
 ghost use Rattle.flu_fork.specs.Lots.{nodes, kids};
 ghost use Rattle.flu_worker.specs.Calls.{IsNew, IsFinished};
 ghost use Rattle.flu_link.specs.Notes.{phase_held};
 ghost use Rattle.flu_run.specs.EndNotes.{end_note, IsSameEnd};
+ghost use Rattle.flu_run.specs.declared.handed.Ended.TheVariants.{Cut};
 ghost use Rattle.flu_run.specs.Ended.{Keeps};
-ghost use Rattle.flu_run.specs.Seeing.{WatchesFrom};
+ghost use Rattle.flu_run.specs.Seeing.{Sees, WatchesFrom};
 ghost use Rattle.flu_run.specs.Starts.{StartsAt, IsAskedNow};
 ghost use Rattle.flu_run.specs.Stays.{StaysHome};
 ghost use Rattle.flu_run.specs.Ties.{Hangs, Tells};
@@ -86,6 +87,112 @@ fn finish(worker: Worker, end: End, outs: Outs) -> Ended
     Ended::Done(Done { end, lot, outs })
 }
 
+// Takes turns until the worker has no event left, or is stopped. It owns none of what it works on, so that it leaves nothing to
+// be let go on its ways out.
+fn take_turns<G: Gate, R: Wait>(
+    rt: &R,
+    alloc: Global,
+    case: &Case,
+    gate: &G,
+    node: u32,
+    worker: &mut Worker,
+    end: &mut End,
+    watch: &mut Watch,
+    outs: &mut Outs,
+) -> Result<(), Why>
+    requires case { case.now ≡ worker.old.case }
+    requires hangs { Hangs worker.old (end_note end.old) }
+    requires tells { Tells worker.old outs.old }
+    requires sees { Sees worker.old watch.old }
+    ensures case { OnOk result (worker.new.case ≡ worker.old.case) }
+    ensures node { OnOk result (worker.new.node ≡ worker.old.node) }
+    ensures same { OnOk result (IsSameEnd (end_note end.old) (end_note end.new)) }
+    ensures hangs { OnOk result (Hangs worker.new (end_note end.new)) }
+    ensures phase { OnOk result ((end_note end.new).phase ≡ phase_held) }
+    ensures tells { OnOk result (Tells worker.new outs.new) }
+    ensures finished { OnOk result (IsFinished worker.new) }
+{
+    let backoff = Backoff::new();
+    for _ in rt.forever() {
+        if end.stopped() {
+            return Err(Why::Stopped);
+        }
+        observe(case, node, worker, watch);
+        let asked = look(worker, end);
+        if asked.is_none() && worker.finished(case) {
+            return Ok(());
+        }
+        let Ok(moved) = turn(alloc, case, gate, node, worker, end, outs, asked) else {
+            end.stop();
+            return Err(Why::NoMemory);
+        };
+        wait(&backoff, moved);
+    }
+    unreachable!()
+}
+
+// What the leaf hands on after its turns.
+fn settle(turned: Result<(), Why>, worker: Worker, end: End, outs: Outs) -> Ended
+    requires hangs { OnOk turned (Hangs worker (end_note end)) }
+    requires tells { OnOk turned (Tells worker outs) }
+    requires finished { OnOk turned (IsFinished worker) }
+    requires leaf { OnOk turned (kids worker.case worker.node ≡ None) }
+    requires phase { OnOk turned ((end_note end).phase ≡ phase_held) }
+    ensures kept { Keeps (end_note end) result }
+    ensures cut { IfErr turned (λ why. result ≡ Cut why) }
+{
+    match turned {
+        Ok(()) => finish(worker, end, outs),
+        Err(why) => Ended::Cut(why),
+    }
+}
+
+// Does a leaf's work with its worker.
+fn work<G: Gate, R: Wait>(
+    rt: &R,
+    alloc: Global,
+    case: &Case,
+    gate: &G,
+    node: u32,
+    worker: Worker,
+    end: End,
+    watch: Watch,
+) -> Ended
+    requires case { case.now ≡ worker.case }
+    requires leaf { kids worker.case worker.node ≡ None }
+    requires hangs { Hangs worker (end_note end) }
+    requires fresh { Tells worker [] }
+    requires sees { Sees worker watch }
+    ensures { Keeps (end_note end) result }
+{
+    let mut worker = worker;
+    let mut end = end;
+    let mut watch = watch;
+    let mut outs = Outs::of(Vec::new(alloc));
+    let turned = take_turns(
+        rt,
+        alloc,
+        case,
+        gate,
+        node,
+        &mut worker,
+        &mut end,
+        &mut watch,
+        &mut outs,
+    );
+    settle(turned, worker, end, outs)
+}
+
+// Gives up for want of memory.
+fn give_up(end: End, watch: Watch) -> Ended
+    ensures { Keeps (end_note end) result }
+{
+    let _watch = watch;
+    let mut end = end;
+    end.stop();
+    Ended::Cut(Why::NoMemory)
+}
+
 /// Does a leaf's work until it has no event left, or is stopped.
 pub fn leaf<H: HasCase, G: Gate, R: Wait>(
     rt: &R,
@@ -102,38 +209,8 @@ pub fn leaf<H: HasCase, G: Gate, R: Wait>(
     ensures { Keeps (end_note end) result }
 {
     laws_below();
-    let mut end = end;
-    let mut watch = watch;
-    let case = holder.case();
-    let Ok(mut worker) = new_worker(alloc, holder, node) else {
-        end.stop();
-        return Ended::Cut(Why::NoMemory);
-    };
-    let mut outs = Outs::of(Vec::new(alloc));
-    let backoff = Backoff::new();
-    for _ in rt.forever() {
-        if end.stopped() {
-            return Ended::Cut(Why::Stopped);
-        }
-        observe(case, node, &mut worker, &mut watch);
-        let asked = look(&worker, &mut end);
-        if asked.is_none() && worker.finished(case) {
-            return finish(worker, end, outs);
-        }
-        let Ok(moved) = turn(
-            alloc,
-            case,
-            gate,
-            node,
-            &mut worker,
-            &mut end,
-            &mut outs,
-            asked,
-        ) else {
-            end.stop();
-            return Ended::Cut(Why::NoMemory);
-        };
-        wait(&backoff, moved);
+    match new_worker(alloc, holder, node) {
+        Ok(worker) => work(rt, alloc, holder.case(), gate, node, worker, end, watch),
+        Err(_) => give_up(end, watch),
     }
-    unreachable!()
 }

@@ -7,13 +7,14 @@ ghost use Rattle.flu_fork.specs.Lots.{job, nodes, kids};
 ghost use Rattle.flu_worker.specs.declared.hand.Side.TheVariants.{Left, Right};
 ghost use Rattle.flu_run.specs.EndNotes.{end_note};
 ghost use Rattle.flu_run.specs.Ended.{Keeps};
+ghost use Rattle.flu_run.specs.Final.{IsDone};
 ghost use Rattle.flu_run.specs.Rests.{Settles, MadeLink, IsReady};
 ghost use Rattle.flu_run.specs.Seeing.{WatchesFrom};
 ghost use Rattle.flu_run.specs.Starts.{StartsAt, EndStarts};
 ghost use Rattle.flu_run.specs.Ties.{Hangs, Lets, Tells};
 
 use crate::ends::End;
-use crate::handed::{Ended, FromEnd, Why};
+use crate::handed::{Done, Ended, FromEnd, Why};
 use crate::holder::HasCase;
 use crate::inner::{Rest, gather, work};
 use crate::laws::laws_below;
@@ -63,13 +64,57 @@ fn settle<H: HasCase>(
     let told_by_kids = told(why(&left), why(&right));
     match rest {
         Err(why) => Ended::Cut(told(why, told_by_kids)),
-        Ok(rest) => match left {
-            Ended::Cut(_) => Ended::Cut(told_by_kids),
-            Ended::Done(left) => match right {
-                Ended::Cut(_) => Ended::Cut(told_by_kids),
-                Ended::Done(right) => gather(alloc, holder, node, rest, left, right),
-            },
-        },
+        Ok(rest) => settle_left(alloc, holder, node, given, rest, left, right, told_by_kids),
+    }
+}
+
+// The same once the worker came to its end.
+fn settle_left<H: HasCase>(
+    alloc: Global,
+    holder: &H,
+    node: u32,
+    given: (Snapshot<End>, Snapshot<End>, Snapshot<End>),
+    rest: Rest,
+    left: Ended,
+    right: Ended,
+    told_by_kids: Why,
+) -> Ended
+    requires there { node < length (nodes (H.content holder.now)) }
+    requires inner { IsSome (kids (H.content holder.now) node) }
+    requires rest { Settles (H.content holder.now) node (end_note given.0.value) (end_note given.1.value) (end_note given.2.value) rest.worker (end_note rest.end) rest.left rest.right rest.outs }
+    requires left { Keeps (end_note given.1.value) left }
+    requires right { Keeps (end_note given.2.value) right }
+    ensures { Keeps (end_note given.0.value) result }
+{
+    match left {
+        Ended::Cut(_) => Ended::Cut(told_by_kids),
+        Ended::Done(left) => {
+            settle_right(alloc, holder, node, given, rest, left, right, told_by_kids)
+        }
+    }
+}
+
+// The same once the worker and the left subtree came to their ends.
+fn settle_right<H: HasCase>(
+    alloc: Global,
+    holder: &H,
+    node: u32,
+    given: (Snapshot<End>, Snapshot<End>, Snapshot<End>),
+    rest: Rest,
+    left: Done,
+    right: Ended,
+    told_by_kids: Why,
+) -> Ended
+    requires there { node < length (nodes (H.content holder.now)) }
+    requires inner { IsSome (kids (H.content holder.now) node) }
+    requires rest { Settles (H.content holder.now) node (end_note given.0.value) (end_note given.1.value) (end_note given.2.value) rest.worker (end_note rest.end) rest.left rest.right rest.outs }
+    requires left { IsDone (end_note given.1.value) (end_note left.end) left.lot left.outs }
+    requires right { Keeps (end_note given.2.value) right }
+    ensures { Keeps (end_note given.0.value) result }
+{
+    match right {
+        Ended::Cut(_) => Ended::Cut(told_by_kids),
+        Ended::Done(right) => gather(alloc, holder, node, rest, left, right),
     }
 }
 

@@ -1,11 +1,5 @@
-use Rattle.std.proofs.Common.{rules}
-use Rattle.flu_run.proofs.Settling.{rests_now}
+use Rattle.flu_run.proofs.Settling.{if_turned}
 use Rattle.flu_run.proofs.inner.work.Goals as goal
 
-pub returns-then-finished : goal.returns-then-finished
-returns-then-finished g c =
-    let i = c.loop.invariant in
-    let s = c.are_stopped.ensures in
-    let a = c.look-asked.ensures in
-    rests_now _ _ _ _ _ _ _ _ _ _ _ _ _ _ c.look-asked.result i.same_case i.same_node i.same_end s.same a.same i.same_left s.left_end i.same_right s.right_end
-    c.observe.ensures.more a.hangs (search rules) a.none i.tells s.left s.right (search rules)
+pub returns : goal.returns
+returns g c = if_turned c.take_turns-turned.result c.rest_of.result _ _ c.take_turns-turned.ensures c.rest_of.ensures

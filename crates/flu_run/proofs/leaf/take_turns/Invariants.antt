@@ -1,10 +1,8 @@
 use Rattle.std.proofs.Common.{◌≡◌}
-use Rattle.flu_worker.specs.declared.hand.Side.TheVariants.{Left, Right}
 use Rattle.flu_run.specs.EndNotes.{end_note, IsSameEnd}
 use Rattle.flu_run.specs.Seeing.{Sees}
-use Rattle.flu_run.specs.Stays.{IsSameUpper}
-use Rattle.flu_run.specs.Ties.{Hangs, Lets, Tells}
-use Rattle.flu_run.proofs.inner.work.Given as goal
+use Rattle.flu_run.specs.Ties.{Hangs, Tells}
+use Rattle.flu_run.proofs.leaf.take_turns.Given as goal
 
 abbrev pub invariant-loop : goal.invariant-loop
 invariant-loop g l = record {
@@ -15,9 +13,5 @@ invariant-loop g l = record {
   same_end : IsSameEnd (end_note l.fn.end) (end_note l.end);
   hangs : Hangs l.worker (end_note l.end);
   tells : Tells l.worker l.outs;
-  left : Lets Left l.worker l.left;
-  right : Lets Right l.worker l.right;
-  same_left : IsSameUpper l.fn.left l.left;
-  same_right : IsSameUpper l.fn.right l.right;
   sees : Sees l.worker l.watch;
 }
