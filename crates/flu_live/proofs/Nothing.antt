@@ -1,9 +1,8 @@
 -- No possible step is enabled exactly where no step at all is.
-use Rattle.std.proofs.Common.{◌≡◌, ◌+◌, ◌<◌, ℕ, zero, suc, Bool, true, false, cond, Option, Some, None, List, [], ◌∷◌, ◌++◌, map, length, ◌⊎◌, inl, inr, refl, sym, ap, subst, ◌∙◌, arith}
-use Rattle.std.specs.Prelude.{◌↔◌, IfSome, IfNone, IsNone, filter, is_some, nat_lt, not, ◌&&◌, slice_get, slice_index, slice_index_or}
+use Rattle.std.proofs.Common.{◌≡◌, ◌+◌, ◌<◌, ℕ, zero, suc, Bool, true, false, cond, Option, Some, None, List, [], ◌∷◌, ◌++◌, map, length, refl, subst, arith}
+use Rattle.std.specs.Prelude.{◌↔◌, IfSome, IfNone, IsNone, filter, is_some, not, slice_get, slice_index, slice_index_or}
 use Rattle.std.specs.List.{AllByRecursion, flat_map, range_with_len}
-use Rattle.std.proofs.lemmas.List.FromFn.{length-range_with_len}
-use Rattle.flu_lemmas.proofs.Elements.{all_append, all_back, all_front, all_of_any, all_of_each}
+use Rattle.flu_lemmas.proofs.Elements.{all_back, all_front, all_of_each}
 use Rattle.flu_lemmas.proofs.Mapped.{all_of_mapped}
 use Rattle.flu_lemmas.proofs.Places.{slice_get-within}
 use Rattle.flu_lemmas.proofs.Tests.{and_right, not_both, true_lt}
@@ -11,10 +10,8 @@ use Rattle.flu_model.specs.declared.events.Itag.{Itag}
 use Rattle.flu_model.specs.declared.events.Item.{Item}
 use Rattle.flu_model.specs.Itags.{count_of_itags}
 use Rattle.flu_model.specs.Listed.{listed}
-use Rattle.flu_model.specs.declared.plans.Node.{Node}
 use Rattle.flu_deps.specs.Owned.{kids_of}
-use Rattle.flu_fork.specs.declared.content.Content.{Content}
-use Rattle.flu_fork.specs.Lots.{job, kids, nodes}
+use Rattle.flu_fork.specs.Lots.{job, nodes}
 use Rattle.flu_worker.specs.Choosing.{next_of}
 use Rattle.flu_worker.specs.Hands.{may_lend}
 use Rattle.flu_worker.specs.declared.hand.Side.{Side}

@@ -6,14 +6,14 @@ use Rattle.flu_net.specs.declared.steps.Step.TheVariants.{Arrive, Handle, Ask, T
 use Rattle.std.specs.Prelude.{slice_get}
 use Rattle.std.proofs.lemmas.Option.{slice_get-get_or}
 use Rattle.flu_net.specs.Enabled.{is_enabled}
-use Rattle.flu_net.specs.Effects.{Makes, arrived}
+use Rattle.flu_net.specs.Effects.{Makes}
 use Rattle.flu_live.proofs.Chosen.{is_on}
 use Rattle.flu_net.specs.Notes.{NetNote}
 use Rattle.flu_live.specs.declared.counts.StepCounts.{StepCounts}
 use Rattle.flu_live.specs.Counting.{steps_in}
 use Rattle.flu_live.specs.Drawing.{IsOnItsWay}
 use Rattle.flu_net.specs.Measure.{most_steps, steps_left}
-use Rattle.flu_live.specs.Seeded.{IsDrawn, IsSeeded, Reaches, begun, counting, made, marked, next_draw, no_steps}
+use Rattle.flu_live.specs.Seeded.{IsDrawn, Reaches, begun, counting, made, marked, next_draw, no_steps}
 use Rattle.flu_live.specs.Possible.{all_steps, enabled_steps}
 use Rattle.flu_live.specs.declared.simulating.Drawing.{Drawing}
 use Rattle.flu_net.specs.Starting.{IsStart}

@@ -1,5 +1,5 @@
 -- A run that a seed draws, on its way.
-use Rattle.std.specs.Prelude.{◌≡◌, ℕ, ◌+◌, ◌^◌, ◌<◌, ◌≤◌, false}
+use Rattle.std.specs.Prelude.{◌≡◌, ◌+◌, ◌^◌, ◌<◌, ◌≤◌, false}
 use Rattle.flu_fork.specs.declared.content.Content.{Content}
 use Rattle.flu_net.specs.Measure.{most_steps, steps_left}
 use Rattle.flu_live.specs.declared.simulating.Drawing.{Drawing}

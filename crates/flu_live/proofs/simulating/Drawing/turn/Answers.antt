@@ -1,11 +1,10 @@
-use Rattle.std.proofs.Common.{◌≡◌, Some, Err, length, get_or, refl, sym, ap, ◌∙◌}
+use Rattle.std.proofs.Common.{Err, length, get_or, refl, sym, ap, ◌∙◌}
 use Rattle.std.specs.Prelude.{slice_get}
 use Rattle.std.proofs.lemmas.Option.{slice_get-get_or}
 use Rattle.flu_lemmas.proofs.Tests.{not_both}
 use Rattle.flu_net.specs.declared.steps.Step.{Step}
 use Rattle.flu_net.specs.declared.steps.Step.TheVariants.{Arrive}
 use Rattle.flu_net.specs.Enabled.{is_enabled}
-use Rattle.flu_live.specs.Possible.{all_steps, enabled_steps}
 use Rattle.flu_live.specs.Seeded.{place_of}
 use Rattle.flu_live.proofs.Turns.{drawn_on, has_room, made_one}
 use Rattle.flu_live.proofs.simulating.Drawing.turn.Goals as goal
