@@ -24,6 +24,11 @@ abbrev pub found_printed : Program → Found (List Node) → List ℕ
 found_printed p (Ok nodes) = printed p nodes
 found_printed p (Err fault) = []
 
+-- the file of a plan, if there is one
+abbrev pub plan_files : Option (List ℕ) → List (List ℕ)
+plan_files None = []
+plan_files (Some plan) = plan ∷ []
+
 -- what a command wants
 pub record Want : Type 1 where
   -- the name of the job that it reads, and whether that has to be accepted
@@ -43,7 +48,7 @@ want (Fold job) = record {
   accepted = false;
   plan = None;
   sources = true;
-  writes = λ left p text. text ≡ report_behind job left p;
+  writes = λ left p text. text ≡ report_behind (job ∷ []) left p;
 }
 want (Check job) = record {
   job = job;
@@ -84,14 +89,13 @@ asks_accepted command = (want command).accepted
 abbrev pub reads_sources : Command → Bool
 reads_sources command = (want command).sources
 
+-- the names of the texts that a command reads, one after another: its job's, and its plan's, if it reads one
+abbrev pub texts_named : Command → List (List ℕ)
+texts_named command = job_named command ∷ plan_files (plan_named command)
+
 -- this text is what a command writes
 abbrev pub Writes : Command → Contents → Program → List ℕ → Type 0
 Writes command = (want command).writes
-
--- the file of a plan, if there is one
-abbrev pub plan_files : Option (List ℕ) → List (List ℕ)
-plan_files None = []
-plan_files (Some plan) = plan ∷ []
 
 -- the files that a command reads besides its job
 abbrev pub files_read : Command → Program → List (List ℕ)

@@ -10,6 +10,7 @@ mod lines;
 mod names;
 mod pieces;
 mod plan_lines;
+mod planned;
 mod planning;
 mod plans;
 mod programs;
