@@ -5,7 +5,8 @@ Usage: docs/definitions.py [--files]
 
 These are the files in `specs/` that declare a name of the contract, all files in `specs/` that those import, and so on; no proof is among
 them. The types of the code that they speak of are declared in `src/`, and those files are counted apart. Lines are counted without empty
-ones, comments and imports. The table has a row for each crate; with `--files` a line for each file is printed in its place.
+ones, comments and imports. The table has a row for each crate; with `--files` a line for each file is printed in its place. The last line says
+how many of these only the first faults of texts need: what is not cited any more where `flu_top/specs/TextFaults.antt` is left out.
 """
 import re
 import sys
@@ -13,6 +14,7 @@ from pathlib import Path
 
 CRATES = Path(__file__).resolve().parent.parent / "crates"
 CALL = CRATES / "flu_top" / "src" / "top.rt"
+FAULTS = CRATES / "flu_top" / "specs" / "TextFaults.antt"
 NAMES = re.compile(r"^\s*(?:ghost |pub )*use Rattle\.([\w.]+)\.\{([^}]*)\}", re.M)
 WHOLE = re.compile(r"^\s*(?:ghost |pub )*use Rattle\.([\w.]+)(?: as \w+)?;?$", re.M)
 
@@ -34,11 +36,11 @@ def file_of(module):
     return CRATES / crate / "specs" / (rest.replace(".", "/") + ".antt")
 
 
-def cited():
-    """The files that the contract cites, and all that they import."""
+def cited(without=None):
+    """The files that the contract cites, and all that they import; without a file, and what it alone imports."""
     words = contract()
     wanted = [module for module, names in NAMES.findall(CALL.read_text()) if words & set(re.findall(r"\w+", names))]
-    found = set()
+    found = {without}
     while wanted:
         path = file_of(wanted.pop())
         if path is None or path in found:
@@ -47,7 +49,7 @@ def cited():
         if path.suffix == ".antt":
             text = path.read_text()
             wanted += [module for module, _ in NAMES.findall(text)] + WHOLE.findall(text)
-    return found
+    return found - {without}
 
 
 def lines_of(path):
@@ -67,7 +69,9 @@ def main():
             own = [path for path in definitions if path.relative_to(CRATES).parts[0] == crate]
             print(f"| `{crate}` | {', '.join(f'{path.stem} {lines_of(path)}' for path in own)} | {sum(map(lines_of, own))} |")
     code = len(files) - len(definitions)
+    faults = [path for path in definitions if path not in cited(without=FAULTS)]
     print(f"\n{len(definitions)} files of definitions, {sum(map(lines_of, definitions))} lines; types that {code} files of code declare")
+    print(f"for the first faults of texts alone: {len(faults)} files of definitions, {sum(map(lines_of, faults))} lines")
 
 
 main()

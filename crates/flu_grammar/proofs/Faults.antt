@@ -88,7 +88,7 @@ plan_unknown_then here None at e = (refl, cc)
 plan_unknown_then here (Some x) at e = absurd cc
 
 -- where no place is found, no element passes
-no_place : {X : Type 0} (q : X → Bool) (xs : List X) (i : ℕ) (x : X) → position q xs ≡ None → slice_get xs i ≡ Some x → q x ≡ true → ⊥
+pub no_place : {X : Type 0} (q : X → Bool) (xs : List X) (i : ℕ) (x : X) → position q xs ≡ None → slice_get xs i ≡ Some x → q x ≡ true → ⊥
 no_place q xs i x none there passes =
     let found = met_at q xs (any_there q xs i x there passes) in
     let below = get_below xs (position_or_len q xs) found.0 found.1 in
@@ -127,7 +127,7 @@ child_is_unknown = λ text names s at e. (
 
 module _ (text : List ℕ) where
   -- a name that is declared is one of those before
-  declared_before : (done : Declarations) (n : Naming) (name : List ℕ) → Named text done n → is_declared n name ≡ true
+  pub declared_before : (done : Declarations) (n : Naming) (name : List ℕ) → Named text done n → is_declared n name ≡ true
       → (i : ℕ) × (slice_get (all_names text done) i ≡ Some name)
   declared_before done n name named e =
       let met = met_at (bytes_eq name) (all_names text done) (sym (named.declared name) ∙ e) in

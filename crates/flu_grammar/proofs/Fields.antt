@@ -1,11 +1,10 @@
 -- The form of a field that is found is the one that it has, and the other way round.
 use Rattle.std.proofs.Common.{◌≡◌, ℕ, ◌+◌, ◌-◌, ◌<◌, ◌^◌, pos, Bool, true, false, List, [], ◌∷◌, ◌++◌, length, Option, Some, None, inl, inr, refl, sym, ap, subst, ◌∙◌}
-use Rattle.std.specs.Prelude.{nat_lt, nat_le, not, ◌&&◌, if◌then◌else◌, option_map, codes, position, slice_get}
+use Rattle.std.specs.Prelude.{nat_lt, nat_le, not, ◌&&◌, ◌||◌, if◌then◌else◌, option_map, codes, position, slice_get}
 use Rattle.std.specs.Char.{is_ascii_digit}
-use Rattle.std.specs.List.{list_all}
+use Rattle.std.specs.List.{list_all, list_any}
 use Rattle.std.specs.Str.{bytes_eq}
 use Rattle.std.specs.Str.Parse.{digits_value}
-use Rattle.flu_lemmas.specs.Items.{Pairs}
 use Rattle.flu_lemmas.specs.Spans.{spelled}
 use Rattle.flu_lemmas.proofs.Elements.{fails_at, passes_at}
 use Rattle.flu_lemmas.proofs.Places.{position_passes}
@@ -14,15 +13,13 @@ use Rattle.flu_lemmas.proofs.Tests.{and_left, and_right, both, not_true, not_bot
 use Rattle.flu_names.specs.declared.reserved.Reserved.{Reserved}
 use Rattle.flu_names.specs.declared.reserved.Reserved.TheVariants as r
 use Rattle.flu_names.specs.Names.{is_name, is_name_byte, begins_as_name, is_reserved, reserved_spelling, reserved_words}
-use Rattle.flu_model.specs.declared.jobs.Family.{Family}
-use Rattle.flu_model.specs.declared.jobs.Piece.{Piece}
 use Rattle.flu_text.specs.Lexeme.{number_of}
 use Rattle.flu_syntax.specs.declared.tree.WrittenKey.{WrittenKey}
 use Rattle.flu_syntax.specs.declared.tree.WrittenKey.TheVariants as k
 use Rattle.flu_parse.specs.declared.pieces.WrittenPiece.{WrittenPiece}
 use Rattle.flu_parse.specs.declared.pieces.WrittenPiece.TheVariants as w
 use Rattle.flu_parse.specs.Templates.{open_brace, close_brace, is_open_bracket, span, digits_at, key_at, ref_with, ref_at, field_at, braced}
-use Rattle.flu_grammar.specs.Templates.{IsField, field_value, field_key, field_time, field_cell, field_family, field_own, field_fixed, AreCut, cut_none, cut_plain, cut_field, MeansPiece}
+use Rattle.flu_grammar.specs.Templates.{IsField, field_value, field_key, field_time, field_cell, field_family, field_own, field_fixed, AreCut, cut_none, cut_plain, cut_field}
 use Rattle.flu_grammar.proofs.Lists.{bytes_itself, bytes_is, some_same}
 use Rattle.flu_grammar.proofs.Cuts.{field_between}
 use Rattle.flu_grammar.proofs.Cuts.{AreCut as IsCut, cut_none as is_none, cut_plain as is_plain, cut_field as is_field}
@@ -239,23 +236,50 @@ field_found {text} {in_flush} {from} {to} (field_fixed i b bs emit place named c
 
 -- ---- templates
 
--- where each piece means something, each field has a form
+-- what stands between two braces and has the form of no field
+abbrev pub is_formless : WrittenPiece → Bool
+is_formless (w.Plain s) = false
+is_formless w.Value = false
+is_formless w.Key = false
+is_formless w.Time = false
+is_formless w.CellValue = false
+is_formless (w.Read r) = false
+is_formless w.Formless = true
+
+or_behind : (a b : Bool) → (a || b) ≡ false → b ≡ false
+or_behind true b e = absurd cc
+or_behind false b e = e
+
+-- where no piece is formless, each field has a form
 pub formed : {text : List ℕ} {in_flush first : Bool} {at : ℕ} {bytes : List ℕ} {qs : List WrittenPiece} → IsCut (field_between text in_flush) first at bytes qs
-    → (families : List Family) (keyed has_value : Bool) (ps : List Piece) → Pairs (MeansPiece text families keyed has_value in_flush) qs ps
-    → AreCut text in_flush first at bytes qs
-formed (is_none first at) families keyed has_value ps h = cut_none first at
-formed (is_plain at b more rest qs plain cut) families keyed has_value [] h = absurd h
-formed (is_plain at b more rest qs plain cut) families keyed has_value (p ∷ ps) h = cut_plain at b more rest qs plain
-    (formed cut families keyed has_value ps h.1)
-formed (is_field first at word rest qs plain cut) families keyed has_value [] h = absurd h
-formed {text} {in_flush} (is_field first at word rest qs plain cut) families keyed has_value (p ∷ ps) h =
+    → list_any is_formless qs ≡ false → AreCut text in_flush first at bytes qs
+formed (is_none first at) none = cut_none first at
+formed (is_plain at b more rest qs plain cut) none = cut_plain at b more rest qs plain (formed cut none)
+formed {text} {in_flush} (is_field first at word rest qs plain cut) none =
     cut_field first at word rest (field_between text in_flush (at + 1) (at + 1 + length word)) qs plain
-    (by (field_at text in_flush (at + 1) (at + 1 + length word)) refl h.0) (formed cut families keyed has_value ps h.1)
+    (by (field_at text in_flush (at + 1) (at + 1 + length word)) refl none)
+    (formed cut (or_behind (is_formless (field_between text in_flush (at + 1) (at + 1 + length word))) (list_any is_formless qs) none))
   where
-    by : (o : Option WrittenPiece) → field_at text in_flush (at + 1) (at + 1 + length word) ≡ o → MeansPiece text families keyed has_value in_flush (braced o) p
+    by : (o : Option WrittenPiece) → field_at text in_flush (at + 1) (at + 1 + length word) ≡ o → (is_formless (braced o) || list_any is_formless qs) ≡ false
         → IsField text in_flush (at + 1) (at + 1 + length word) (braced o)
-    by None e means = absurd means
-    by (Some q) e means = field_means text (at + 1) (at + 1 + length word) in_flush q e
+    by None e none = absurd cc
+    by (Some q) e none = field_means text (at + 1) (at + 1 + length word) in_flush q e
+
+-- and the other way round
+field_formed : {text : List ℕ} {in_flush : Bool} {from to : ℕ} {q : WrittenPiece} → IsField text in_flush from to q → is_formless q ≡ false
+field_formed (field_value e) = refl
+field_formed (field_key e) = refl
+field_formed (field_time e) = refl
+field_formed (field_cell flush e) = refl
+field_formed (field_family emit named) = refl
+field_formed (field_own i emit place named closes is) = refl
+field_formed (field_fixed i b bs emit place named closes is digits small) = refl
+
+pub all_formed : {text : List ℕ} {in_flush first : Bool} {at : ℕ} {bytes : List ℕ} {qs : List WrittenPiece} → AreCut text in_flush first at bytes qs
+    → list_any is_formless qs ≡ false
+all_formed (cut_none first at) = refl
+all_formed (cut_plain at b more rest qs plain cut) = all_formed cut
+all_formed (cut_field first at word rest field qs plain form cut) = ap (λ b. b || list_any is_formless qs) (field_formed form) ∙ all_formed cut
 
 pub told : {text : List ℕ} {in_flush first : Bool} {at : ℕ} {bytes : List ℕ} {qs : List WrittenPiece} → AreCut text in_flush first at bytes qs
     → IsCut (field_between text in_flush) first at bytes qs

@@ -100,7 +100,7 @@ has_sort : (wanted : Option Sort) (sort : Sort) → is_wanted wanted sort ≡ tr
 has_sort None sort e = tt
 has_sort (Some wanted) sort e = sort_is wanted sort e
 
-wants_sort : (wanted : Option Sort) (sort : Sort) → HasSort wanted sort → is_wanted wanted sort ≡ true
+pub wants_sort : (wanted : Option Sort) (sort : Sort) → HasSort wanted sort → is_wanted wanted sort ≡ true
 wants_sort None sort h = refl
 wants_sort (Some wanted) sort h = ap (is_sort wanted) h ∙ itself wanted
 

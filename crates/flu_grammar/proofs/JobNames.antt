@@ -152,7 +152,7 @@ module _ (text : List ℕ) where
     pub few_sources : length (flat_map source_names_in done) ≤ 64
     pub few_depends : length (flat_map depends_in done) ≤ 4096
 
-  heads_length : {X H : Type 0} (name : X → List ℕ) (head : ℕ → X → H) (i : ℕ) (xs : List X) → length (heads name head i xs) ≡ length xs
+  pub heads_length : {X H : Type 0} (name : X → List ℕ) (head : ℕ → X → H) (i : ℕ) (xs : List X) → length (heads name head i xs) ≡ length xs
   heads_length name head i [] = refl
   heads_length name head i (x ∷ xs) = let more = heads_length name head (i + 1) xs in omega arith
 

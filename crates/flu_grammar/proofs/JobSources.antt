@@ -123,7 +123,7 @@ slack_found (Some x) n h =
 
 -- ---- parts of a list that are apart
 
-apart_none : AreApart []
+pub apart_none : AreApart []
 apart_none = λ i j a b lt x y. cc
 
 apart_push : (tags : List TagRef) (t : TagRef) → list_any (share_tag t) tags ≡ false → AreApart tags → AreApart (tags ++ t ∷ [])
@@ -295,15 +295,15 @@ module _ (text : List ℕ) (n : Naming) (kinds : List DeclaredKind) (knows : Kno
       (ok_ok (record { tags = done.tags ++ t ∷ []; itags = done.itags + tag_count v.keys }) (with_one_tag done t)
       (λ i. record { tags = done.tags ++ t ∷ []; itags = done.itags + many i }))))))
 
-  record AllTags (done : Listed) (vs : List WrittenTag) (all : Listed) : Type 0 where
-    new : List TagRef
-    tags : done.tags ++ new ≡ all.tags
-    itags : done.itags + total part_count new ≡ all.itags
-    means : Pairs (MeansTag text kinds) vs new
-    apart : AreApart all.tags
-    few : done.itags ≤ 256 → all.itags ≤ 256
+  pub record AllTags (done : Listed) (vs : List WrittenTag) (all : Listed) : Type 0 where
+    pub new : List TagRef
+    pub tags : done.tags ++ new ≡ all.tags
+    pub itags : done.itags + total part_count new ≡ all.itags
+    pub means : Pairs (MeansTag text kinds) vs new
+    pub apart : AreApart all.tags
+    pub few : done.itags ≤ 256 → all.itags ≤ 256
 
-  tags_are : (done : Listed) (vs : List WrittenTag) (all : Listed) → each (with_tag text n) done vs ≡ Ok all → AreApart done.tags → AllTags done vs all
+  pub tags_are : (done : Listed) (vs : List WrittenTag) (all : Listed) → each (with_tag text n) done vs ≡ Ok all → AreApart done.tags → AllTags done vs all
   unfolding each
   tags_are done [] all e apart =
       let same : done ≡ all = ok_same done all e in record {

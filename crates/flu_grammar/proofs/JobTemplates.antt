@@ -1,9 +1,10 @@
 -- Templates that are found are what they mean, and the other way round.
-use Rattle.std.proofs.Common.{◌≡◌, ℕ, Bool, true, List, [], ◌∷◌, Some, None, Ok, refl, sym, ap, subst, ◌∙◌}
+use Rattle.std.proofs.Common.{◌≡◌, ℕ, Bool, true, false, List, [], ◌∷◌, Some, None, Ok, refl, sym, ap, subst, ◌∙◌}
 use Rattle.std.specs.Prelude.{◌&&◌}
-use Rattle.std.specs.List.{list_all}
+use Rattle.std.specs.List.{list_all, list_any}
 use Rattle.flu_lemmas.specs.Items.{Pairs}
 use Rattle.flu_lemmas.proofs.Loops.{bind_ok, then_ok}
+use Rattle.flu_lemmas.proofs.Elements.{passes_at}
 use Rattle.flu_lemmas.proofs.Tests.{and_left, and_right, both}
 use Rattle.flu_model.specs.declared.jobs.Family.{Family}
 use Rattle.flu_model.specs.declared.jobs.At.{At}
@@ -24,10 +25,11 @@ use Rattle.flu_parse.specs.Cells.{brackets_fit, at_of}
 use Rattle.flu_parse.specs.Templates.{Template, template_at, known_name, known_names, own_key_fits, read_fits, piece_fits, piece_of, pieces_of, template_of}
 use Rattle.flu_grammar.specs.Cells.{MeansKey}
 use Rattle.flu_grammar.specs.Templates.{MeansPiece, MeansTemplate}
+use Rattle.flu_grammar.proofs.Lists.{any_none}
 use Rattle.flu_grammar.proofs.Looks.{ok_same, ok_ok, passed, passes, binds, thens, Finds, found_each, finds_each}
 use Rattle.flu_grammar.proofs.Heads.{looked_up}
 use Rattle.flu_grammar.proofs.Cuts.{template_cut, cut_template}
-use Rattle.flu_grammar.proofs.Fields.{formed, told}
+use Rattle.flu_grammar.proofs.Fields.{is_formless, formed, told}
 use Rattle.flu_grammar.proofs.JobCells.{family_name, family_head, KnowFamilies, known_is, at_means, at_found, look_up_found, cell_from}
 
 module _ (text : List ℕ) (n : Naming) (families : List Family) (knows : KnowFamilies n families) (under : KindHead) (in_flush : Bool) where
@@ -124,6 +126,18 @@ module _ (text : List ℕ) (n : Naming) (families : List Family) (knows : KnowFa
         found = (one.found, more.found);
       }
 
+  pub fits_formed : (q : WrittenPiece) → piece_fits text n under in_flush q ≡ true → is_formless q ≡ false
+  fits_formed (w.Plain s) fits = refl
+  fits_formed w.Value fits = refl
+  fits_formed w.Key fits = refl
+  fits_formed w.Time fits = refl
+  fits_formed w.CellValue fits = refl
+  fits_formed (w.Read r) fits = refl
+  fits_formed w.Formless fits = absurd cc
+
+  pub fit_formed : (qs : List WrittenPiece) → list_all (piece_fits text n under in_flush) qs ≡ true → list_any is_formless qs ≡ false
+  fit_formed qs fits = any_none is_formless qs (λ i q here. fits_formed q (passes_at (piece_fits text n under in_flush) qs i q fits here))
+
   pub template_means : (s : WrittenSpan) (ps : List Piece) → template_of text n under in_flush s ≡ Ok ps
       → MeansTemplate text families under.keyed under.has_value in_flush s ps
   unfolding template_of
@@ -135,7 +149,7 @@ module _ (text : List ℕ) (n : Naming) (families : List Family) (knows : KnowFa
       let means = pieces_mean s.from t.pieces ps (and_right t.whole fits two.0) (found_each (piece_of text n under s.from) t.pieces ps two.1) in
       record {
         parts = t.pieces;
-        cut = formed (template_cut text in_flush s (and_left t.whole fits two.0)) families under.keyed under.has_value ps means;
+        cut = formed (template_cut text in_flush s (and_left t.whole fits two.0)) (fit_formed t.pieces (and_right t.whole fits two.0));
         means = means;
       }
 

@@ -123,7 +123,7 @@ families_back : (i : ℕ) (fs : List Family) → map family (heads family_name f
 families_back i [] = refl
 families_back i (x ∷ fs) = ap (λ l. x ∷ l) (families_back (i + 1) fs)
 
-as_many_sources : (text : List ℕ) (ds : Declarations) → length (flat_map (source_names_in text) ds) ≡ length (flat_map sources_in ds)
+pub as_many_sources : (text : List ℕ) (ds : Declarations) → length (flat_map (source_names_in text) ds) ≡ length (flat_map sources_in ds)
 as_many_sources text [] = refl
 as_many_sources text (d.Cell s keyed sort ∷ ds) = as_many_sources text ds
 as_many_sources text (d.Tag s keyed has_value ∷ ds) = as_many_sources text ds

@@ -25,3 +25,7 @@ pub mod Printed
 pub mod FaultKinds
 pub mod TextFaults
 pub mod Twice
+pub mod Broken
+pub mod BrokenJobs
+pub mod PlanMachine
+pub mod BrokenPlans

@@ -25,7 +25,7 @@ use Rattle.flu_grammar.proofs.Looks.{ok_same, passed, passes, binds}
 use Rattle.flu_grammar.proofs.PlanRead.{resolved_means}
 use Rattle.flu_grammar.proofs.PlanWritten.{means_resolved}
 
-tokens_are : (r : TokenReading) (ts : List Token) → found_tokens r ≡ Ok ts → r ≡ Ok ts
+pub tokens_are : (r : TokenReading) (ts : List Token) → found_tokens r ≡ Ok ts → r ≡ Ok ts
 tokens_are (Ok x) ts e = ap (λ (l : List Token). let r : TokenReading = Ok l in r) (ok_same x ts e)
 tokens_are (Err at) ts e = absurd cc
 

@@ -57,12 +57,13 @@ of_job : Plain IsOfJob
 of_job = record { unknown = λ at. tt; shape = λ at. tt; limit = λ what count is. is }
 
 -- where a fault of a text comes from
-data ComesFrom (bytes : List ℕ) (e : JobFault) : Type 0 where
+pub data ComesFrom (bytes : List ℕ) (e : JobFault) : Type 0 where
   of_bytes : nat_le (length bytes) 1048576 ≡ false → f.OverLimit Bytes 1048577 ≡ e → ComesFrom bytes e
   of_utf8 : nat_le (length bytes) 1048576 ≡ true → is_utf8 bytes ≡ false → f.BadUtf8 (utf8_valid_len bytes) ≡ e → ComesFrom bytes e
   of_token : (at : ℕ) → IsShortText bytes → reading bytes ≡ Err at → f.BadToken at ≡ e → ComesFrom bytes e
   of_grammar : (ts : List Token) → IsShortText bytes → reading bytes ≡ Ok ts → found_job (verdict (length bytes) ts) ≡ Err e → ComesFrom bytes e
-  of_written : IsOfJob e → ComesFrom bytes e
+  of_written : (ts : List Token) (written : WrittenJob) → IsShortText bytes → reading bytes ≡ Ok ts → verdict (length bytes) ts ≡ IsVerdict written
+      → resolved bytes written ≡ Err e → ComesFrom bytes e
 
 tokens_fault : (r : TokenReading) (e : JobFault) → found_tokens r ≡ Err e → (at : ℕ) × (r ≡ Err at) × (f.BadToken at ≡ e)
 tokens_fault (Ok ts) e h = absurd cc
@@ -71,6 +72,11 @@ tokens_fault (Err at) e h = (at, refl, cc)
 tokens_are : (r : TokenReading) (ts : List Token) → found_tokens r ≡ Ok ts → r ≡ Ok ts
 tokens_are (Ok x) ts e = ap (λ (l : List Token). let r : TokenReading = Ok l in r) (ok_same x ts e)
 tokens_are (Err at) ts e = absurd cc
+
+verdict_is : (v : Verdict WrittenJob) (written : WrittenJob) → found_job v ≡ Ok written → v ≡ IsVerdict written
+verdict_is (IsVerdict x) written e = ap (λ (z : WrittenJob). let v : Verdict WrittenJob = IsVerdict z in v) (ok_same x written e)
+verdict_is (Unexpected at) written e = absurd cc
+verdict_is TooDeep written e = absurd cc
 
 abbrev the_rest : List ℕ → Found Job
 the_rest text = tokens_in text >>= λ ts. written_in (length text) ts >>= λ written. resolved text written
@@ -82,11 +88,12 @@ written_from bytes e short h =
       | inr ts ↦
           elim (fault_from (written_in (length bytes) ts.0) (λ written. resolved bytes written) e ts.2) [
             | inl at ↦ of_grammar ts.0 short (tokens_are (reading bytes) ts.0 ts.1) at
-            | inr written ↦ of_written (resolved_faults IsOfJob of_job bytes (λ at. tt) written.0 e written.2)
+            | inr written ↦
+                of_written ts.0 written.0 short (tokens_are (reading bytes) ts.0 ts.1) (verdict_is (verdict (length bytes) ts.0) written.0 written.1) written.2
           ]
     ]
 
-comes_from : (bytes : List ℕ) (e : JobFault) → job_in bytes ≡ Err e → ComesFrom bytes e
+pub comes_from : (bytes : List ℕ) (e : JobFault) → job_in bytes ≡ Err e → ComesFrom bytes e
 unfolding job_in
 comes_from bytes e h =
     elim (fault_then (nat_le (length bytes) 1048576) (f.OverLimit Bytes 1048577) (text_in bytes >>= λ text. the_rest text) e h) [
@@ -114,7 +121,7 @@ comes_from bytes e h =
 
 -- ---- what each says
 
-longer : (n : ℕ) → nat_le n 1048576 ≡ false → 1048576 < n
+pub longer : (n : ℕ) → nat_le n 1048576 ≡ false → 1048576 < n
 longer n e = grind (arith, common_steps)
 
 not_few : (n : ℕ) → 1048576 < n → nat_le n 1048576 ≡ false
@@ -141,7 +148,7 @@ bytes_fault bytes count (of_grammar ts short read fault) =
 
     nesting_not_bytes : Nesting ≡ Bytes → ⊥
     nesting_not_bytes e = cc
-bytes_fault bytes count (of_written is) = absurd is
+bytes_fault bytes count (of_written ts written short read found is) = absurd (resolved_faults IsOfJob of_job bytes (λ at. tt) written (f.OverLimit Bytes count) is)
 
 utf8_fault : (bytes : List ℕ) (at : ℕ) → ComesFrom bytes (f.BadUtf8 at) → (length bytes ≤ 1048576) × (IsUtf8 bytes → ⊥) × (at ≡ utf8_valid_len bytes)
 utf8_fault bytes at (of_bytes long is) = absurd cc
@@ -153,7 +160,7 @@ utf8_fault bytes at (of_grammar ts short read fault) =
       | inl unexpected ↦ absurd (let bad : f.Unexpected unexpected.0 ≡ f.BadUtf8 at = unexpected.2 in cc)
       | inr deep ↦ absurd (let bad : f.OverLimit Nesting 65 ≡ f.BadUtf8 at = deep in cc)
     ]
-utf8_fault bytes at (of_written is) = absurd is
+utf8_fault bytes at (of_written ts written short read found is) = absurd (resolved_faults IsOfJob of_job bytes (λ at. tt) written (f.BadUtf8 at) is)
 
 token_fault : ReadingIsBadPlace → (bytes : List ℕ) (at : ℕ) → ComesFrom bytes (f.BadToken at) → IsShortText bytes × IsFirstBadPlace bytes at
 token_fault place bytes at (of_bytes long is) = absurd cc
@@ -166,7 +173,7 @@ token_fault place bytes at (of_grammar ts short read fault) =
       | inl unexpected ↦ absurd (let bad : f.Unexpected unexpected.0 ≡ f.BadToken at = unexpected.2 in cc)
       | inr deep ↦ absurd (let bad : f.OverLimit Nesting 65 ≡ f.BadToken at = deep in cc)
     ]
-token_fault place bytes at (of_written is) = absurd is
+token_fault place bytes at (of_written ts written short read found is) = absurd (resolved_faults IsOfJob of_job bytes (λ at. tt) written (f.BadToken at) is)
 
 unexpected_fault : ReadingIsTokens → UnexpectedIsFirst → (bytes : List ℕ) (at : ℕ) → ComesFrom bytes (f.Unexpected at)
     → IsNotContinued bytes at
@@ -188,7 +195,7 @@ unexpected_fault tokens first bytes at (of_grammar ts short read fault) =
   where
     at_same : (n : ℕ) → f.Unexpected n ≡ f.Unexpected at → n ≡ at
     at_same n e = cc
-unexpected_fault tokens first bytes at (of_written is) = absurd is
+unexpected_fault tokens first bytes at (of_written ts written short read found is) = absurd (resolved_faults IsOfJob of_job bytes (λ at. tt) written (f.Unexpected at) is)
 
 -- ---- and where it is found
 

@@ -1,5 +1,5 @@
 -- A name that is told to be named twice was named before, by its rule.
-use Rattle.std.proofs.Common.{◌≡◌, inl, inr, ℕ, ◌+◌, Bool, true, false, List, [], ◌∷◌, ◌++◌, length, Some, Ok, Err, refl, sym, ap, ◌∙◌, arith}
+use Rattle.std.proofs.Common.{◌≡◌, inl, inr, ℕ, ◌+◌, Bool, true, false, List, [], ◌∷◌, ◌++◌, length, Some, Ok, Err, refl, sym, ap, subst, ◌∙◌, arith}
 use Rattle.std.specs.Prelude.{not, ◌==◌, nat_lt, slice_get}
 use Rattle.std.specs.List.{list_any, flat_map, position_or_len}
 use Rattle.flu_lemmas.specs.Loops.{◌>>=◌, ◌>>◌}
@@ -40,6 +40,24 @@ not_twice = record { unknown = λ at. tt; shape = λ at. tt; limit = λ what cou
 
 module _ (text : List ℕ) (n : Naming) (families : List Family) (kinds : List DeclaredKind) (know : KnowFamilies n families) (knows : KnowKinds n kinds)
     (done : Declarations) (x : Drafted) (drafts : Drafts text n families kinds know knows done x) where
+  -- a kind whose `on` was met has an earlier one
+  pub given_twice : (kind : WrittenSpan) (h : KindHead) → kind_of text n kind ≡ Ok h → list_any (λ g. g == h.number) x.given ≡ true
+      → IsOnTwice text done kind kind.from
+  given_twice kind h is any =
+      let met = met_at (λ g. g == h.number) x.given any in
+      let got = pairs_right (λ (z : List ℕ) (m : ℕ). IsNamed kind_name kinds z m) (flat_map (ons_in text) done) x.given drafts.given
+      (position_or_len (λ g. g == h.number) x.given) met.0 met.1 in
+      let head = kind_is text n kinds knows kind h is in
+      let zero_more : head.place ≡ 0 + head.place = omega arith in
+      let number : head.place ≡ met.0 = zero_more ∙ ap (λ (z : KindHead). z.number) head.is ∙ sym (true_eq met.0 h.number met.2) in
+      let same : head.declared ≡ got.2.0 = some_same head.declared got.2.0 (sym head.here ∙ ap (slice_get kinds) number ∙ got.2.1) in
+      let name : got.0 ≡ name_of text kind = sym got.2.2 ∙ ap (λ (z : DeclaredKind). z.name) (sym same) ∙ head.named in
+      record {
+        here = refl;
+        place = position_or_len (λ g. g == h.number) x.given;
+        earlier = got.1 ∙ ap (λ (z : List ℕ). Some z) name;
+      }
+
   -- a second `on` of a kind
   pub on_twice : (kind : WrittenSpan) (actions : List Action) (at : ℕ) → with_on text n x kind actions ≡ Err (f.TwiceNamed at) → IsOnTwice text done kind at
   unfolding with_on
@@ -70,20 +88,22 @@ module _ (text : List ℕ) (n : Naming) (families : List Family) (kinds : List D
           → f.TwiceNamed kind.from ≡ f.TwiceNamed at
           → IsOnTwice text done kind at
       given h is false any bad place = absurd cc
-      given h is true any bad place =
-          let met = met_at (λ g. g == h.number) x.given any in
-          let got = pairs_right (λ (z : List ℕ) (m : ℕ). IsNamed kind_name kinds z m) (flat_map (ons_in text) done) x.given drafts.given
-          (position_or_len (λ g. g == h.number) x.given) met.0 met.1 in
-          let head = kind_is text n kinds knows kind h is in
-          let zero_more : head.place ≡ 0 + head.place = omega arith in
-          let number : head.place ≡ met.0 = zero_more ∙ ap (λ (z : KindHead). z.number) head.is ∙ sym (true_eq met.0 h.number met.2) in
-          let same : head.declared ≡ got.2.0 = some_same head.declared got.2.0 (sym head.here ∙ ap (slice_get kinds) number ∙ got.2.1) in
-          let name : got.0 ≡ name_of text kind = sym got.2.2 ∙ ap (λ (z : DeclaredKind). z.name) (sym same) ∙ head.named in
-          record {
-            here = cc;
-            place = position_or_len (λ g. g == h.number) x.given;
-            earlier = got.1 ∙ ap (λ (z : List ℕ). Some z) name;
-          }
+      given h is true any bad place = let same : kind.from ≡ at = cc in subst (λ (m : ℕ). IsOnTwice text done kind m) same (given_twice kind h is any)
+
+  -- a file that was met is that of an earlier source
+  pub read_twice : (file : WrittenSpan) → list_any (λ (s : Source). is_same_text (inside text file) s.file) x.sources ≡ true
+      → IsFileTwice text done file file.from
+  read_twice file any =
+      let met = met_at (λ (s : Source). is_same_text (inside text file) s.file) x.sources any in
+      let got = pairs_right _ (flat_map sources_in done) x.sources drafts.sources
+      (position_or_len (λ (s : Source). is_same_text (inside text file) s.file) x.sources) met.0 met.1 in
+      record {
+        here = refl;
+        place = position_or_len (λ (s : Source). is_same_text (inside text file) s.file) x.sources;
+        source = got.0;
+        earlier = got.1;
+        same = sym (got.2).file ∙ sym (bytes_is (inside text file) (met.0).file met.2);
+      }
 
   -- a file that an earlier source reads
   pub file_twice : (file : WrittenSpan) (at : ℕ) → file_of text x.sources file ≡ Err (f.TwiceNamed at) → IsFileTwice text done file at
@@ -104,17 +124,7 @@ module _ (text : List ℕ) (n : Naming) (families : List Family) (kinds : List D
           → f.TwiceNamed file.from ≡ f.TwiceNamed at
           → IsFileTwice text done file at
       read false any bad place = absurd cc
-      read true any bad place =
-          let met = met_at (λ (s : Source). is_same_text (inside text file) s.file) x.sources any in
-          let got = pairs_right _ (flat_map sources_in done) x.sources drafts.sources
-          (position_or_len (λ (s : Source). is_same_text (inside text file) s.file) x.sources) met.0 met.1 in
-          record {
-            here = cc;
-            place = position_or_len (λ (s : Source). is_same_text (inside text file) s.file) x.sources;
-            source = got.0;
-            earlier = got.1;
-            same = sym (got.2).file ∙ sym (bytes_is (inside text file) (met.0).file met.2);
-          }
+      read true any bad place = let same : file.from ≡ at = cc in subst (λ (m : ℕ). IsFileTwice text done file m) same (read_twice file any)
 
 pub is_on_twice : TwiceNamedIsOnTwice
 is_on_twice = λ text ds before n x kind actions at named drafted e. (

@@ -10,3 +10,6 @@ pub mod Sources
 pub mod Jobs
 pub mod Laws
 pub mod Faults
+pub mod Broken
+pub mod BrokenJobs
+pub mod BrokenPlans

@@ -1,6 +1,8 @@
 //! Laws of the meaning of texts, each the contract of a function that does nothing.
 
 ghost use Rattle.flu_grammar.specs.Faults.{BytesAreTooMany, BytesAreNotUtf8, NoTokenBegins, UnexpectedIsNotContinued, RefusedIsNoJob, RefusedIsNoPlan, FamilyIsUnknown, KindIsUnknown, PlanKindIsUnknown, PlanSourceIsUnknown, ChildIsUnknown, TwiceNamedIsDeclaredTwice, TwiceNamedIsOnTwice, TwiceNamedIsFileTwice, NoTreeIsNodeTwice};
+ghost use Rattle.flu_grammar.specs.BrokenJobs.{FaultsAreByRule};
+ghost use Rattle.flu_grammar.specs.BrokenPlans.{PlanFaultsAreByRule};
 ghost use Rattle.flu_grammar.specs.Laws.{JobsAreGrammar, TextsHaveOneJob, PlansAreGrammar, TextsHaveOnePlan, NormalFormIsText, PrintedIsText, JobTextsKeepRules};
 
 use flu_parse::laws::{jobs_keep_rules, printed_is_read};
@@ -95,3 +97,16 @@ pub fn twice_named_is_declared_before()
     ensures file { TwiceNamedIsFileTwice }
     ensures plan { NoTreeIsNodeTwice }
 {}
+
+/// Each fault that is found in the bytes of a job, or of a plan, is by a rule that they break, at its place: an unknown name is needed there and declared
+/// nowhere, a wrong shape is one of the listed ones, a limit is passed, and what is named twice was named before.
+pub fn faults_are_by_rule()
+    ensures job { FaultsAreByRule }
+    ensures plan { PlanFaultsAreByRule }
+{
+    reading_is_exact();
+    found_is_job();
+    unexpected_is_first();
+    found_is_plan();
+    flu_plan::laws::unexpected_is_first();
+}

@@ -3,13 +3,16 @@ use Rattle.std.proofs.Common.{◌≡◌, ◌≢◌, arith, sym, ◌∙◌, refl,
 use Rattle.std.specs.Prelude.{List, IsTrue}
 use Rattle.flu_outside.specs.Outside.{WhereTold, Contents}
 use Rattle.flu_model.specs.declared.jobs.Program.{Program}
-use Rattle.flu_model.specs.Erasure.{IsSameJob}
+use Rattle.flu_model.specs.Erasure.{IsSameJob, job_of}
 use Rattle.flu_model.specs.declared.plans.Node.{Node}
 use Rattle.flu_model.specs.Modes.{IsAccepted}
 use Rattle.flu_model.specs.Validity.{IsValid}
 use Rattle.flu_deps.specs.Checking.{program_of}
 use Rattle.flu_parse.specs.declared.faults.JobFault.{JobFault}
 use Rattle.flu_parse.specs.Reading.{job_in}
+use Rattle.flu_plan.specs.Reading.{plan_in}
+use Rattle.flu_grammar.specs.Plans.{IsPlanText}
+use Rattle.flu_grammar.specs.Laws.{JobsAreGrammar, PlansAreGrammar}
 use Rattle.flu_plan.specs.declared.fault.PlanFault.{PlanFault}
 use Rattle.flu_outside.specs.Taking.{bytes_left}
 use Rattle.flu_streams.specs.declared.faults.SourceFault.{SourceFault}
@@ -17,7 +20,7 @@ use Rattle.flu_lemmas.proofs.Told.{of_told}
 use Rattle.flu_top.specs.declared.refusals.PlanDefect.{PlanDefect}
 use Rattle.flu_top.specs.declared.refusals.PlanDefect.TheVariants as defects
 use Rattle.flu_top.specs.Words.{Command, command_in}
-use Rattle.flu_top.specs.Behind.{HasJob, emptied, fault_behind, plan_behind}
+use Rattle.flu_top.specs.Behind.{HasJob, HasPlan, fault_behind, plan_behind}
 use Rattle.flu_top.specs.Wants.{job_named, plan_named, asks_accepted, reads_sources, texts_named}
 use Rattle.flu_top.specs.Done.{HasValidPlan, HasPlanAsked, IsGood, IsDone, IsReadName}
 use Rattle.flu_top.specs.Causes.{IsJobRead, HasJobFault, HasConflict, HasPlanDefect, HasSourceFault}
@@ -27,38 +30,10 @@ use Rattle.flu_top.proofs.SameJob.{same_fault}
 use Rattle.flu_top.proofs.SameAcceptance.{same_accepted}
 use Rattle.flu_top.proofs.SamePlans.{same_plan, same_valid}
 
--- ---- two programs of one text
-same_job : (job : List ℕ) (left : Contents) (p q : Program) → HasJob job left p → HasJob job left q → IsSameJob p q
-same_job job left p q first second = let e = sym first ∙ second in cc
-
-not_both : (job : List ℕ) (left : Contents) (p : Program) (fault : JobFault) → HasJob job left p → job_in (bytes_left left job) ≡ Err fault → ⊥
-not_both job left p fault has bad = let e = sym has ∙ bad in cc
-
-same_fault_of_text : (command : Command) (left : Contents) (p q : Program) → HasJob (job_named command) left p → HasJob (job_named command) left q
-    → fault_behind (texts_named command) left p ≡ fault_behind (texts_named command) left q
-same_fault_of_text command left p q first second = same_fault (texts_named command) left p q (same_job (job_named command) left p q first second)
-
-accepted_of_text : (job : List ℕ) (left : Contents) (p q : Program) → HasJob job left p → HasJob job left q → IsAccepted p → IsAccepted q
-accepted_of_text job left p q first second = same_accepted p q (same_job job left p q first second)
-
-same_plan_behind : (job plan : List ℕ) (left : Contents) (p q : Program) → IsSameJob p q → plan_behind job plan left p ≡ plan_behind job plan left q
-unfolding plan_behind
-same_plan_behind job plan left p q same = same_plan p q (bytes_left (emptied job left) plan) same
-
-valid_of_text : (job plan : List ℕ) (left : Contents) (p q : Program) → HasJob job left p → HasJob job left q → HasValidPlan job plan left p → HasValidPlan job plan left q
-valid_of_text job plan left p q first second found =
-    let same = same_job job left p q first second in
-    (found.0, sym (same_plan_behind job plan left p q same) ∙ found.1, same_valid p q found.0 same found.2)
-
--- ---- plans with a defect
-faulty_text : (job plan : List ℕ) (left : Contents) (p : Program) (fault : PlanFault) → plan_behind job plan left p ≡ Err fault → HasValidPlan job plan left p → ⊥
-faulty_text job plan left p fault is found = let e = sym is ∙ found.1 in cc
-
-invalid_plan : (job plan : List ℕ) (left : Contents) (p : Program) (nodes : List Node) → ¬ IsValid p nodes → plan_behind job plan left p ≡ Ok nodes → HasValidPlan job plan left p → ⊥
-invalid_plan job plan left p nodes refused is found =
-    let e = sym found.1 ∙ is in
-    let same : found.0 ≡ nodes = cc in
-    refused (subst (IsValid p) same found.2)
+-- texts are read by their grammar
+pub record ByGrammar : Type 0 where
+  pub jobs : JobsAreGrammar
+  pub plans : PlansAreGrammar
 
 -- ---- each outcome of a call in which nothing failed
 -- the status that is wanted, or that of want of memory
@@ -74,128 +49,169 @@ record Leads (wanted : ℕ) (command : Command) (left : Contents) : Type 0 where
   source : (p : Program) (fault : SourceFault) → IsTrue (reads_sources command) → (IsTrue (asks_accepted command) → IsAccepted p) → HasJob (job_named command) left p
       → HasPlanAsked command left p → fault_behind (texts_named command) left p ≡ Some fault → IsStatus wanted 6
 
--- ---- what the status that is called for leaves of the others
-leads_done : (command : Command) (left : Contents) (p : Program) → IsGood command left p → Leads 0 command left
-leads_done command left p good = record {
-  done = λ q other. inl refl;
-  job = λ fault bad. absurd (not_both (job_named command) left p fault good.has bad);
-  conflict = λ q asked refused has. absurd (refused (accepted_of_text (job_named command) left p q good.has has (good.accepted asked)));
-  plan = λ plan q named accepted has bad. absurd (bad (valid_of_text (job_named command) plan left p q good.has has (good.plan plan named)));
-  source = λ q fault asked accepted has plan bad. absurd (no_fault q fault has (good.sources asked) bad);
-}
-  where
-    no_fault : (q : Program) (fault : SourceFault) → HasJob (job_named command) left q → fault_behind (texts_named command) left p ≡ None → fault_behind (texts_named command) left q ≡ Some fault → ⊥
-    no_fault q fault has none bad = let e = sym none ∙ (same_fault_of_text command left p q good.has has ∙ bad) in cc
-
-leads_job : (command : Command) (left : Contents) (fault : JobFault) → job_in (bytes_left left (job_named command)) ≡ Err fault → Leads 3 command left
-leads_job command left fault bad = record {
-  done = λ q good. absurd (not_both (job_named command) left q fault good.has bad);
-  job = λ other found. inl refl;
-  conflict = λ q asked refused has. absurd (not_both (job_named command) left q fault has bad);
-  plan = λ plan q named accepted has other. absurd (not_both (job_named command) left q fault has bad);
-  source = λ q other asked accepted has plan found. absurd (not_both (job_named command) left q fault has bad);
-}
-
-leads_conflict : (command : Command) (left : Contents) (p : Program) → IsTrue (asks_accepted command) → HasJob (job_named command) left p → ¬ IsAccepted p → Leads 4 command left
-leads_conflict command left p asked has refused = record {
-  done = λ q good. absurd (refused (accepted_of_text (job_named command) left q p good.has has (good.accepted asked)));
-  job = λ fault bad. absurd (not_both (job_named command) left p fault has bad);
-  conflict = λ q asked none found. inl refl;
-  plan = λ plan q named accepted found bad. absurd (refused (accepted_of_text (job_named command) left q p found has accepted));
-  source = λ q fault reads accepted found plan bad. absurd (refused (accepted_of_text (job_named command) left q p found has (accepted asked)));
-}
-
-leads_plan : (command : Command) (left : Contents) (p : Program) (plan : List ℕ) → plan_named command ≡ Some plan → HasJob (job_named command) left p → IsAccepted p → ¬ HasValidPlan (job_named command) plan left p → Leads 5 command left
-leads_plan command left p plan named has accepted bad = record {
-  done = λ q good. absurd (bad (valid_of_text (job_named command) plan left q p good.has has (good.plan plan named)));
-  job = λ fault found. absurd (not_both (job_named command) left p fault has found);
-  conflict = λ q asked refused found. absurd (refused (accepted_of_text (job_named command) left p q has found accepted));
-  plan = λ name q also found others worse. inl refl;
-  source = λ q fault reads also found valid others. absurd (bad (valid_of_text (job_named command) plan left q p found has (valid plan named)));
-}
-
-leads_source : (command : Command) (left : Contents) (p : Program) (fault : SourceFault) → IsTrue (reads_sources command) → HasJob (job_named command) left p → (IsTrue (asks_accepted command) → IsAccepted p) → HasPlanAsked command left p → fault_behind (texts_named command) left p ≡ Some fault → Leads 6 command left
-leads_source command left p fault reads has accepted valid bad = record {
-  done = λ q good. absurd (no_fault q good.has (good.sources reads));
-  job = λ other found. absurd (not_both (job_named command) left p other has found);
-  conflict = λ q asked refused found. absurd (refused (accepted_of_text (job_named command) left p q has found (accepted asked)));
-  plan = λ plan q named also found other. absurd (other (valid_of_text (job_named command) plan left p q has found (valid plan named)));
-  source = λ q other asked also found plan others. inl refl;
-}
-  where
-    no_fault : (q : Program) → HasJob (job_named command) left q → fault_behind (texts_named command) left q ≡ None → ⊥
-    no_fault q found none = let e = sym none ∙ (same_fault_of_text command left q p found has ∙ bad) in cc
-
-leads : (command : Command) (left : Contents) (wanted : ℕ) → CallsFor command left wanted → Leads wanted command left
-leads command left wanted (cases.Good is p good) = subst (λ n. Leads n command left) (sym is) (leads_done command left p good)
-leads command left wanted (cases.FaultyJob is fault bad) = subst (λ n. Leads n command left) (sym is) (leads_job command left fault bad)
-leads command left wanted (cases.NotAccepted is p asked has refused) = subst (λ n. Leads n command left) (sym is) (leads_conflict command left p asked has refused)
-leads command left wanted (cases.NoValidPlan is p plan named has accepted bad) = subst (λ n. Leads n command left) (sym is) (leads_plan command left p plan named has accepted bad)
-leads command left wanted (cases.FaultySource is p fault reads has accepted valid bad) =
-    subst (λ n. Leads n command left) (sym is) (leads_source command left p fault reads has accepted valid bad)
-
--- a command and the files call for one status
+-- a status that is wanted and is not that of want of memory
 settled : (wanted status : ℕ) → IsStatus wanted status → status ≢ 9 → wanted ≡ status
 settled wanted status (inl same) other = sym same
 settled wanted status (inr nine) other = absurd (other nine)
 
-pub one_status : (command : Command) (left : Contents) (a b : ℕ) → CallsFor command left a → CallsFor command left b → a ≡ b
-one_status command left a b first (cases.Good is p good) = settled a 0 ((leads command left a first).done p good) (λ e. omega (arith, e)) ∙ sym is
-one_status command left a b first (cases.FaultyJob is fault bad) = settled a 3 ((leads command left a first).job fault bad) (λ e. omega (arith, e)) ∙ sym is
-one_status command left a b first (cases.NotAccepted is p asked has refused) =
-    settled a 4 ((leads command left a first).conflict p asked refused has) (λ e. omega (arith, e)) ∙ sym is
-one_status command left a b first (cases.NoValidPlan is p plan named has accepted bad) =
-    settled a 5 ((leads command left a first).plan plan p named accepted has bad) (λ e. omega (arith, e)) ∙ sym is
-one_status command left a b first (cases.FaultySource is p fault reads has accepted valid bad) =
-    settled a 6 ((leads command left a first).source p fault reads accepted has valid bad) (λ e. omega (arith, e)) ∙ sym is
-
--- ---- the outcome
+-- ---- commands
 same_command : (words : List (List ℕ)) (a b : Command) → command_in words ≡ Ok a → command_in words ≡ Ok b → a ≡ b
 same_command words a b first second = let e = sym first ∙ second in cc
 
 no_command : (words : List (List ℕ)) (command : Command) (at : ℕ) → command_in words ≡ Ok command → command_in words ≡ Err at → ⊥
 no_command words command at is bad = let e = sym is ∙ bad in cc
 
--- what each outcome shows of the files
-by_defect : (wanted : ℕ) (command : Command) (left : Contents) (old new : Option Contents) (defect : PlanDefect) → old ≡ Some left → Leads wanted command left → HasPlanDefect command old new defect → IsStatus wanted 5
-by_defect wanted command left old new (defects.Text fault) told leads why =
-    let found = of_told (λ old _. HasJob (job_named command) old why.program × (plan_behind (job_named command) why.plan old why.program ≡ Err fault)) left old new told why.first in
-    leads.plan why.plan why.program why.asked why.accepted found.1.0 (faulty_text (job_named command) why.plan left why.program fault found.1.1)
-by_defect wanted command left old new (defects.Invalid checked fault) told leads why =
-    let found = of_told (λ old _. HasJob (job_named command) old (program_of checked) × (plan_behind (job_named command) why.plan old (program_of checked) ≡ Ok fault.plan.nodes)) left old new told why.text in
-    leads.plan why.plan (program_of checked) why.asked why.accepted found.1.0 (invalid_plan (job_named command) why.plan left (program_of checked) fault.plan.nodes why.invalid.refused found.1.1)
+module _ (grammar : ByGrammar) where
+  -- ---- two programs of one text
+  same_job : (job : List ℕ) (left : Contents) (p q : Program) → HasJob job left p → HasJob job left q → IsSameJob p q
+  same_job job left p q first second =
+      let e = sym ((grammar.jobs (bytes_left left job) (job_of p)).1 first) ∙ (grammar.jobs (bytes_left left job) (job_of q)).1 second in cc
 
-by_case : (words : List (List ℕ)) (old new : Outside) (before now : List ℕ → ℕ) (out_before out_now status wanted : ℕ) (command : Command) (left : Contents) → Outcome words old new status → FaultsFirst words old.left before now out_before out_now status → command_in words ≡ Ok command → old.left ≡ Some left → NothingFailed command old.left before now out_before out_now → Leads wanted command left → IsStatus wanted status
-by_case words old new before now out_before out_now status wanted command left (cases.Done is other also done quiet) faults word told nothing leads =
-    let same = same_command words other command also word in
-    let found = of_told (IsDone command old.out new.out) left old.left new.left told (subst (λ (d : Command). WhereTold old.left new.left (IsDone d old.out new.out)) same done) in
-    subst (IsStatus wanted) (sym is) (leads.done found.1.0 found.1.2.good)
-by_case words old new before now out_before out_now status wanted command left (cases.BadWords is at bad files refused) faults word told nothing leads = absurd (no_command words command at word bad)
-by_case words old new before now out_before out_now status wanted command left (cases.BadJob is other also fault why refused) faults word told nothing leads =
-    let same = same_command words other command also word in
-    let has = subst (λ (d : Command). HasJobFault (job_named d) old.left new.left fault) same why in
-    subst (IsStatus wanted) (sym is) (leads.job fault (of_told (λ old _. job_in (bytes_left old (job_named command)) ≡ Err fault) left old.left new.left told has.first).1)
-by_case words old new before now out_before out_now status wanted command left (cases.Conflicts is other also fault why refused) faults word told nothing leads =
-    let same = same_command words other command also word in
-    let has = subst (λ (d : Command). HasConflict d old.left new.left fault) same why in
-    subst (IsStatus wanted) (sym is) (leads.conflict fault.program has.asked has.conflict.refused (of_told (IsJobRead (job_named command) fault.program) left old.left new.left told has.job).1.has)
-by_case words old new before now out_before out_now status wanted command left (cases.BadPlan is other also defect why refused) faults word told nothing leads =
-    let same = same_command words other command also word in
-    let has = subst (λ (d : Command). HasPlanDefect d old.left new.left defect) same why in
-    subst (IsStatus wanted) (sym is) (by_defect wanted command left old.left new.left defect told leads has)
-by_case words old new before now out_before out_now status wanted command left (cases.BadSource is other also p fault why refused) faults word told nothing leads =
-    let same = same_command words other command also word in
-    let has = subst (λ (d : Command). HasSourceFault d old.left new.left p fault) same why in
-    let found = of_told (λ old _. HasJob (job_named command) old p × HasPlanAsked command old p × (fault_behind (texts_named command) old p ≡ Some fault)) left old.left new.left told has.first in
-    subst (IsStatus wanted) (sym is) (leads.source p fault has.asked has.accepted found.1.0 found.1.1 found.1.2)
-by_case words old new before now out_before out_now status wanted command left (cases.ReadFailed is other also refused) faults word told nothing leads =
-    let rose = faults.read is in
-    let same = same_command words rose.1.0 command rose.1.1 word in
-    absurd (nothing.files rose.0 (subst (λ (d : Command). IsReadName old.left d rose.0) same rose.1.2) rose.2)
-by_case words old new before now out_before out_now status wanted command left (cases.WriteFailed is other also partly said) faults word told nothing leads = absurd (nothing.out (faults.write is))
-by_case words old new before now out_before out_now status wanted command left (cases.NoMemory is other also refused) faults word told nothing leads = inr is
+  not_both : (job : List ℕ) (left : Contents) (p : Program) (fault : JobFault) → HasJob job left p → job_in (bytes_left left job) ≡ Err fault → ⊥
+  not_both job left p fault has bad = let e = sym ((grammar.jobs (bytes_left left job) (job_of p)).1 has) ∙ bad in cc
 
--- completeness follows from the outcome, where a fault of the outside comes first
-pub completes_of : (words : List (List ℕ)) (old new : Outside) (before now : List ℕ → ℕ) (out_before out_now status : ℕ) → Outcome words old new status → FaultsFirst words old.left before now out_before out_now status → Completes words old.left before now out_before out_now status
-completes_of words old new before now out_before out_now status outcome faults command left wanted word told nothing called =
-    by_case words old new before now out_before out_now status wanted command left outcome faults word told nothing (leads command left wanted called)
+  same_fault_of_text : (command : Command) (left : Contents) (p q : Program) → HasJob (job_named command) left p → HasJob (job_named command) left q
+      → fault_behind (texts_named command) left p ≡ fault_behind (texts_named command) left q
+  same_fault_of_text command left p q first second = same_fault (texts_named command) left p q (same_job (job_named command) left p q first second)
+
+  accepted_of_text : (job : List ℕ) (left : Contents) (p q : Program) → HasJob job left p → HasJob job left q → IsAccepted p → IsAccepted q
+  accepted_of_text job left p q first second = same_accepted p q (same_job job left p q first second)
+
+  -- a plan's text for a program is one for another that is the same job
+  same_plan_text : (p q : Program) (bytes : List ℕ) (nodes : List Node) → IsSameJob p q → IsPlanText p bytes nodes → IsPlanText q bytes nodes
+  same_plan_text p q bytes nodes same is = (grammar.plans q bytes nodes).0 (sym (same_plan p q bytes same) ∙ (grammar.plans p bytes nodes).1 is)
+
+  valid_of_text : (job plan : List ℕ) (left : Contents) (p q : Program) → HasJob job left p → HasJob job left q → HasValidPlan job plan left p
+      → HasValidPlan job plan left q
+  valid_of_text job plan left p q first second found =
+      let same = same_job job left p q first second in
+      (found.0, same_plan_text p q (plan_behind job plan left) found.0 same found.1, same_valid p q found.0 same found.2)
+
+  -- ---- plans with a defect
+  faulty_text : (job plan : List ℕ) (left : Contents) (p : Program) (fault : PlanFault) → plan_in p (plan_behind job plan left) ≡ Err fault
+      → HasValidPlan job plan left p → ⊥
+  faulty_text job plan left p fault is found = let e = sym is ∙ (grammar.plans p (plan_behind job plan left) found.0).1 found.1 in cc
+
+  invalid_plan : (job plan : List ℕ) (left : Contents) (p : Program) (nodes : List Node) → ¬ IsValid p nodes → HasPlan job plan left p nodes
+      → HasValidPlan job plan left p → ⊥
+  invalid_plan job plan left p nodes refused is found =
+      let bytes = plan_behind job plan left in
+      let e = sym ((grammar.plans p bytes found.0).1 found.1) ∙ (grammar.plans p bytes nodes).1 is in
+      let same : found.0 ≡ nodes = cc in
+      refused (subst (IsValid p) same found.2)
+
+  -- ---- what the status that is called for leaves of the others
+  leads_done : (command : Command) (left : Contents) (p : Program) → IsGood command left p → Leads 0 command left
+  leads_done command left p good = record {
+    done = λ q other. inl refl;
+    job = λ fault bad. absurd (not_both (job_named command) left p fault good.has bad);
+    conflict = λ q asked refused has. absurd (refused (accepted_of_text (job_named command) left p q good.has has (good.accepted asked)));
+    plan = λ plan q named accepted has bad. absurd (bad (valid_of_text (job_named command) plan left p q good.has has (good.plan plan named)));
+    source = λ q fault asked accepted has plan bad. absurd (no_fault q fault has (good.sources asked) bad);
+  }
+    where
+      no_fault : (q : Program) (fault : SourceFault) → HasJob (job_named command) left q → fault_behind (texts_named command) left p ≡ None → fault_behind (texts_named command) left q ≡ Some fault → ⊥
+      no_fault q fault has none bad = let e = sym none ∙ (same_fault_of_text command left p q good.has has ∙ bad) in cc
+
+  leads_job : (command : Command) (left : Contents) (fault : JobFault) → job_in (bytes_left left (job_named command)) ≡ Err fault → Leads 3 command left
+  leads_job command left fault bad = record {
+    done = λ q good. absurd (not_both (job_named command) left q fault good.has bad);
+    job = λ other found. inl refl;
+    conflict = λ q asked refused has. absurd (not_both (job_named command) left q fault has bad);
+    plan = λ plan q named accepted has other. absurd (not_both (job_named command) left q fault has bad);
+    source = λ q other asked accepted has plan found. absurd (not_both (job_named command) left q fault has bad);
+  }
+
+  leads_conflict : (command : Command) (left : Contents) (p : Program) → IsTrue (asks_accepted command) → HasJob (job_named command) left p → ¬ IsAccepted p → Leads 4 command left
+  leads_conflict command left p asked has refused = record {
+    done = λ q good. absurd (refused (accepted_of_text (job_named command) left q p good.has has (good.accepted asked)));
+    job = λ fault bad. absurd (not_both (job_named command) left p fault has bad);
+    conflict = λ q asked none found. inl refl;
+    plan = λ plan q named accepted found bad. absurd (refused (accepted_of_text (job_named command) left q p found has accepted));
+    source = λ q fault reads accepted found plan bad. absurd (refused (accepted_of_text (job_named command) left q p found has (accepted asked)));
+  }
+
+  leads_plan : (command : Command) (left : Contents) (p : Program) (plan : List ℕ) → plan_named command ≡ Some plan → HasJob (job_named command) left p → IsAccepted p → ¬ HasValidPlan (job_named command) plan left p → Leads 5 command left
+  leads_plan command left p plan named has accepted bad = record {
+    done = λ q good. absurd (bad (valid_of_text (job_named command) plan left q p good.has has (good.plan plan named)));
+    job = λ fault found. absurd (not_both (job_named command) left p fault has found);
+    conflict = λ q asked refused found. absurd (refused (accepted_of_text (job_named command) left p q has found accepted));
+    plan = λ name q also found others worse. inl refl;
+    source = λ q fault reads also found valid others. absurd (bad (valid_of_text (job_named command) plan left q p found has (valid plan named)));
+  }
+
+  leads_source : (command : Command) (left : Contents) (p : Program) (fault : SourceFault) → IsTrue (reads_sources command) → HasJob (job_named command) left p → (IsTrue (asks_accepted command) → IsAccepted p) → HasPlanAsked command left p → fault_behind (texts_named command) left p ≡ Some fault → Leads 6 command left
+  leads_source command left p fault reads has accepted valid bad = record {
+    done = λ q good. absurd (no_fault q good.has (good.sources reads));
+    job = λ other found. absurd (not_both (job_named command) left p other has found);
+    conflict = λ q asked refused found. absurd (refused (accepted_of_text (job_named command) left p q has found (accepted asked)));
+    plan = λ plan q named also found other. absurd (other (valid_of_text (job_named command) plan left p q has found (valid plan named)));
+    source = λ q other asked also found plan others. inl refl;
+  }
+    where
+      no_fault : (q : Program) → HasJob (job_named command) left q → fault_behind (texts_named command) left q ≡ None → ⊥
+      no_fault q found none = let e = sym none ∙ (same_fault_of_text command left q p found has ∙ bad) in cc
+
+  leads : (command : Command) (left : Contents) (wanted : ℕ) → CallsFor command left wanted → Leads wanted command left
+  leads command left wanted (cases.Good is p good) = subst (λ n. Leads n command left) (sym is) (leads_done command left p good)
+  leads command left wanted (cases.FaultyJob is fault bad) = subst (λ n. Leads n command left) (sym is) (leads_job command left fault bad)
+  leads command left wanted (cases.NotAccepted is p asked has refused) = subst (λ n. Leads n command left) (sym is) (leads_conflict command left p asked has refused)
+  leads command left wanted (cases.NoValidPlan is p plan named has accepted bad) = subst (λ n. Leads n command left) (sym is) (leads_plan command left p plan named has accepted bad)
+  leads command left wanted (cases.FaultySource is p fault reads has accepted valid bad) =
+      subst (λ n. Leads n command left) (sym is) (leads_source command left p fault reads has accepted valid bad)
+
+  -- a command and the files call for one status
+  pub one_status : (command : Command) (left : Contents) (a b : ℕ) → CallsFor command left a → CallsFor command left b → a ≡ b
+  one_status command left a b first (cases.Good is p good) = settled a 0 ((leads command left a first).done p good) (λ e. omega (arith, e)) ∙ sym is
+  one_status command left a b first (cases.FaultyJob is fault bad) = settled a 3 ((leads command left a first).job fault bad) (λ e. omega (arith, e)) ∙ sym is
+  one_status command left a b first (cases.NotAccepted is p asked has refused) =
+      settled a 4 ((leads command left a first).conflict p asked refused has) (λ e. omega (arith, e)) ∙ sym is
+  one_status command left a b first (cases.NoValidPlan is p plan named has accepted bad) =
+      settled a 5 ((leads command left a first).plan plan p named accepted has bad) (λ e. omega (arith, e)) ∙ sym is
+  one_status command left a b first (cases.FaultySource is p fault reads has accepted valid bad) =
+      settled a 6 ((leads command left a first).source p fault reads accepted has valid bad) (λ e. omega (arith, e)) ∙ sym is
+
+  -- ---- the outcome
+  -- what each outcome shows of the files
+  by_defect : (wanted : ℕ) (command : Command) (left : Contents) (old new : Option Contents) (defect : PlanDefect) → old ≡ Some left → Leads wanted command left → HasPlanDefect command old new defect → IsStatus wanted 5
+  by_defect wanted command left old new (defects.Text fault) told leads why =
+      let found = of_told (λ old _. HasJob (job_named command) old why.program × (plan_in why.program (plan_behind (job_named command) why.plan old) ≡ Err fault)) left old new told why.first in
+      leads.plan why.plan why.program why.asked why.accepted found.1.0 (faulty_text (job_named command) why.plan left why.program fault found.1.1)
+  by_defect wanted command left old new (defects.Invalid checked fault) told leads why =
+      let found = of_told (λ old _. HasJob (job_named command) old (program_of checked) × HasPlan (job_named command) why.plan old (program_of checked) fault.plan.nodes) left old new told why.text in
+      leads.plan why.plan (program_of checked) why.asked why.accepted found.1.0 (invalid_plan (job_named command) why.plan left (program_of checked) fault.plan.nodes why.invalid.refused found.1.1)
+
+  by_case : (words : List (List ℕ)) (old new : Outside) (before now : List ℕ → ℕ) (out_before out_now status wanted : ℕ) (command : Command) (left : Contents) → Outcome words old new status → FaultsFirst words old.left before now out_before out_now status → command_in words ≡ Ok command → old.left ≡ Some left → NothingFailed command old.left before now out_before out_now → Leads wanted command left → IsStatus wanted status
+  by_case words old new before now out_before out_now status wanted command left (cases.Done is other also done quiet) faults word told nothing leads =
+      let same = same_command words other command also word in
+      let found = of_told (IsDone command old.out new.out) left old.left new.left told (subst (λ (d : Command). WhereTold old.left new.left (IsDone d old.out new.out)) same done) in
+      subst (IsStatus wanted) (sym is) (leads.done found.1.0 found.1.2.good)
+  by_case words old new before now out_before out_now status wanted command left (cases.BadWords is at bad files refused) faults word told nothing leads = absurd (no_command words command at word bad)
+  by_case words old new before now out_before out_now status wanted command left (cases.BadJob is other also fault why refused) faults word told nothing leads =
+      let same = same_command words other command also word in
+      let has = subst (λ (d : Command). HasJobFault (job_named d) old.left new.left fault) same why in
+      subst (IsStatus wanted) (sym is) (leads.job fault (of_told (λ old _. job_in (bytes_left old (job_named command)) ≡ Err fault) left old.left new.left told has.first).1)
+  by_case words old new before now out_before out_now status wanted command left (cases.Conflicts is other also fault why refused) faults word told nothing leads =
+      let same = same_command words other command also word in
+      let has = subst (λ (d : Command). HasConflict d old.left new.left fault) same why in
+      subst (IsStatus wanted) (sym is) (leads.conflict fault.program has.asked has.conflict.refused (of_told (IsJobRead (job_named command) fault.program) left old.left new.left told has.job).1.has)
+  by_case words old new before now out_before out_now status wanted command left (cases.BadPlan is other also defect why refused) faults word told nothing leads =
+      let same = same_command words other command also word in
+      let has = subst (λ (d : Command). HasPlanDefect d old.left new.left defect) same why in
+      subst (IsStatus wanted) (sym is) (by_defect wanted command left old.left new.left defect told leads has)
+  by_case words old new before now out_before out_now status wanted command left (cases.BadSource is other also p fault why refused) faults word told nothing leads =
+      let same = same_command words other command also word in
+      let has = subst (λ (d : Command). HasSourceFault d old.left new.left p fault) same why in
+      let found = of_told (λ old _. HasJob (job_named command) old p × HasPlanAsked command old p × (fault_behind (texts_named command) old p ≡ Some fault)) left old.left new.left told has.first in
+      subst (IsStatus wanted) (sym is) (leads.source p fault has.asked has.accepted found.1.0 found.1.1 found.1.2)
+  by_case words old new before now out_before out_now status wanted command left (cases.ReadFailed is other also refused) faults word told nothing leads =
+      let rose = faults.read is in
+      let same = same_command words rose.1.0 command rose.1.1 word in
+      absurd (nothing.files rose.0 (subst (λ (d : Command). IsReadName old.left d rose.0) same rose.1.2) rose.2)
+  by_case words old new before now out_before out_now status wanted command left (cases.WriteFailed is other also partly said) faults word told nothing leads = absurd (nothing.out (faults.write is))
+  by_case words old new before now out_before out_now status wanted command left (cases.NoMemory is other also refused) faults word told nothing leads = inr is
+
+  -- completeness follows from the outcome, where a fault of the outside comes first
+  pub completes_of : (words : List (List ℕ)) (old new : Outside) (before now : List ℕ → ℕ) (out_before out_now status : ℕ) → Outcome words old new status → FaultsFirst words old.left before now out_before out_now status → Completes words old.left before now out_before out_now status
+  completes_of words old new before now out_before out_now status outcome faults command left wanted word told nothing called =
+      by_case words old new before now out_before out_now status wanted command left outcome faults word told nothing (leads command left wanted called)

@@ -13,6 +13,7 @@ use Rattle.flu_parse.specs.declared.faults.JobFault.TheVariants as f
 use Rattle.flu_parse.specs.Faults.{Fails}
 use Rattle.flu_parse.specs.Reading.{job_in}
 use Rattle.flu_outside.specs.Taking.{TookWhole}
+use Rattle.flu_grammar.specs.Laws.{JobsAreGrammar}
 use Rattle.flu_top.specs.Jobs.{IsJobRefusal}
 use Rattle.flu_top.specs.Causes.{IsJobRead, HasJobFault}
 use Rattle.flu_top.specs.Answer.{refusal_of_job}
@@ -43,10 +44,11 @@ short_job bytes j is = by_length (nat_le (length bytes) 1048576) refl
     by_length true few = grind (arith, nat_tests)
     by_length false many = let e = sym (long_job bytes many) ∙ is in absurd (cc)
 
-pub job_is_read : (job bytes : List ℕ) (p : Program) (a b : Option Contents) → WhereTold a b (TookWhole job 1048576 bytes) → job_in bytes ≡ Ok (job_of p) → WhereTold a b (IsJobRead job p)
-job_is_read job bytes p a b whole is =
+pub job_is_read : JobsAreGrammar → (job bytes : List ℕ) (p : Program) (a b : Option Contents) → WhereTold a b (TookWhole job 1048576 bytes) → job_in bytes ≡ Ok (job_of p)
+    → WhereTold a b (IsJobRead job p)
+job_is_read grammar job bytes p a b whole is =
     told_weaker (TookWhole job 1048576 bytes) (IsJobRead job p) a b
-    (λ x y w. record { has = job_of_whole job bytes x y w ∙ is; end = w.end (short_job bytes (job_of p) is) }) whole
+    (λ x y w. record { has = (grammar (bytes_left x job) (job_of p)).0 (job_of_whole job bytes x y w ∙ is); end = w.end (short_job bytes (job_of p) is) }) whole
 
 has_job_fault : (job bytes : List ℕ) (fault : JobFault) (a b : Option Contents) → fault ≢ f.NoMemory → WhereTold a b (TookWhole job 1048576 bytes) → job_in bytes ≡ Err fault → HasJobFault job a b fault
 has_job_fault job bytes fault a b other whole is = record {

@@ -3,7 +3,7 @@ use Rattle.std.proofs.Common.{refl}
 use Rattle.flu_top.specs.Outcome as cases
 use Rattle.flu_top.specs.Laws.{KnownStatuses, DoneIsDone, DoneIsQuiet, BadWordsExactly, BadWordsLine, BadWordsTouchNothing, JobFaultIsFirst, ConflictIsFirst, PlanDefectIsFirst, SourceFaultIsFirst, ReadFaultRose, ReadFaultLine, WriteFaultRose, WriteFaultIsPart, WriteFaultLine, NoMemoryLine, NothingIsWritten, FrontsAreTaken, NoOtherIsRead, GoodIsDone, JobFaultIsRefused, ConflictIsRefused, PlanDefectIsRefused, SourceFaultIsRefused, CompletesByFaults, CallsForOneStatus}
 use Rattle.flu_top.proofs.Statuses.{at_0, at_2, at_3, at_4, at_5, at_6, at_7, at_8, at_9, known_status, nothing_written, of_no_command, bad_words_exactly}
-use Rattle.flu_top.proofs.Completeness.{completes_of, one_status}
+use Rattle.flu_top.proofs.Completeness.{ByGrammar, completes_of, one_status}
 
 -- ---- the statuses
 pub known_law : KnownStatuses
@@ -88,9 +88,9 @@ pub refused_source_law : SourceFaultIsRefused
 refused_source_law words told before now out_before out_now status complete command left p fault word is nothing reads has accepted valid bad =
     complete command left 6 word is nothing (cases.FaultySource refl p fault reads has accepted valid bad)
 
-pub completes_law : CompletesByFaults
-completes_law words old new status before now out_before out_now outcome faults =
-    completes_of words old new before now out_before out_now status outcome faults
+pub completes_law : ByGrammar → CompletesByFaults
+completes_law grammar words old new status before now out_before out_now outcome faults =
+    completes_of grammar words old new before now out_before out_now status outcome faults
 
-pub one_status_law : CallsForOneStatus
-one_status_law command left a b first second = one_status command left a b first second
+pub one_status_law : ByGrammar → CallsForOneStatus
+one_status_law grammar command left a b first second = one_status grammar command left a b first second

@@ -12,6 +12,7 @@ use Rattle.flu_plan.specs.declared.fault.PlanFault.TheVariants as f
 use Rattle.flu_plan.specs.Faults.{Fails}
 use Rattle.flu_plan.specs.Reading.{plan_in}
 use Rattle.flu_outside.specs.Taking.{TookWhole}
+use Rattle.flu_grammar.specs.Laws.{PlansAreGrammar}
 use Rattle.flu_top.specs.Plans.{IsPlanRead, HasTextFault, IsTextRefusal}
 use Rattle.flu_top.specs.Answer.{refusal_of_plan}
 
@@ -41,10 +42,11 @@ short_plan p bytes nodes is = by_length (nat_le (length bytes) 1048576) refl
     by_length true few = grind (arith, nat_tests)
     by_length false many = let e = sym (long_plan p bytes many) ∙ is in absurd (cc)
 
-pub plan_is_read : (p : Program) (plan bytes : List ℕ) (nodes : List Node) (a b : Option Contents) → WhereTold a b (TookWhole plan 1048576 bytes) → plan_in p bytes ≡ Ok nodes → WhereTold a b (IsPlanRead p plan nodes)
-plan_is_read p plan bytes nodes a b whole is =
+pub plan_is_read : PlansAreGrammar → (p : Program) (plan bytes : List ℕ) (nodes : List Node) (a b : Option Contents) → WhereTold a b (TookWhole plan 1048576 bytes)
+    → plan_in p bytes ≡ Ok nodes → WhereTold a b (IsPlanRead p plan nodes)
+plan_is_read grammar p plan bytes nodes a b whole is =
     told_weaker (TookWhole plan 1048576 bytes) (IsPlanRead p plan nodes) a b
-    (λ x y w. record { has = plan_of_whole p plan bytes x y w ∙ is; end = w.end (short_plan p bytes nodes is) }) whole
+    (λ x y w. record { has = (grammar p (bytes_left x plan) nodes).0 (plan_of_whole p plan bytes x y w ∙ is); end = w.end (short_plan p bytes nodes is) }) whole
 
 has_text_fault : (p : Program) (plan bytes : List ℕ) (fault : PlanFault) (a b : Option Contents) → fault ≢ f.NoMemory → WhereTold a b (TookWhole plan 1048576 bytes) → plan_in p bytes ≡ Err fault → HasTextFault p plan a b fault
 has_text_fault p plan bytes fault a b other whole is = record {

@@ -1,5 +1,5 @@
 -- A job's text is read, then a plan's, and the plan is looked at for the job.
-use Rattle.std.proofs.Common.{◌≡◌, refl, sym, ap, ◌∙◌, subst, ℕ, ◌≤◌, List, [], ◌∷◌, Option, Some, Ok, Err, inl, inr, arith}
+use Rattle.std.proofs.Common.{◌≡◌, refl, sym, ap, ◌∙◌, subst, ℕ, ◌≤◌, List, [], ◌∷◌, Option, Some, Err, inl, inr, arith}
 use Rattle.std.specs.Prelude.{Contains}
 use Rattle.std.proofs.lemmas.Bool.{false≢true}
 use Rattle.std.proofs.lemmas.List.Elements.{Contains-append_right}
@@ -15,13 +15,13 @@ use Rattle.flu_lemmas.proofs.Named.{rose_behind}
 use Rattle.flu_lemmas.proofs.Told.{told_both, told_then, told_weaker}
 use Rattle.flu_plan.specs.Reading.{plan_in}
 use Rattle.flu_plan.specs.Printing.{printed}
+use Rattle.flu_grammar.specs.Plans.{IsPlanText}
 use Rattle.flu_top.specs.declared.refusals.PlanDefect.TheVariants as defects
 use Rattle.flu_top.specs.declared.refusals.Refusal.{Refusal}
 use Rattle.flu_top.specs.declared.refusals.Refusal.TheVariants as refusals
 use Rattle.flu_top.specs.Words.{Valid}
 use Rattle.flu_top.specs.Taking.{TookOnly}
-use Rattle.flu_top.specs.Behind.{HasJob, plan_behind}
-use Rattle.flu_top.specs.Wants.{found_printed}
+use Rattle.flu_top.specs.Behind.{HasJob, HasPlan, plan_behind}
 use Rattle.flu_top.specs.Done.{IsReadName, IsWritten}
 use Rattle.flu_top.specs.Causes.{IsJobRead, HasInvalidPlan}
 use Rattle.flu_top.specs.Ready.{HasNodes, IsReady}
@@ -30,20 +30,24 @@ use Rattle.flu_top.specs.Refusing.{IsRefusal}
 use Rattle.flu_top.proofs.Sequence.{may_have, emptied_is, one_text, two_texts}
 
 -- ---- the plan behind the job
-plan_at : (job plan : List ℕ) (p : Program) (x y : Contents) → IsJobRead job p x y × TakesFrom job x y → plan_behind job plan x p ≡ plan_in p (bytes_left y plan)
+plan_at : (job plan : List ℕ) (p : Program) (x y : Contents) → IsJobRead job p x y × TakesFrom job x y → plan_behind job plan x ≡ bytes_left y plan
 unfolding plan_behind
-plan_at job plan p x y first = ap (λ left. plan_in p (bytes_left left plan)) (emptied_is job x y first.0.end first.1)
+plan_at job plan p x y first = ap (λ left. bytes_left left plan) (emptied_is job x y first.0.end first.1)
+
+has_plan_at : (job plan : List ℕ) (p : Program) (nodes : List Node) (x y : Contents) → IsJobRead job p x y × TakesFrom job x y
+    → IsPlanText p (bytes_left y plan) nodes → HasPlan job plan x p nodes
+has_plan_at job plan p nodes x y first is = subst (λ bytes. IsPlanText p bytes nodes) (sym (plan_at job plan p x y first)) is
 
 ready_at : (job plan : List ℕ) (p : Program) (nodes : List Node) (x y z : Contents) → IsValid p nodes → IsJobRead job p x y × TakesFrom job x y
     → IsPlanRead p plan nodes y z × TakesFrom plan y z → IsReady (Valid job plan) p x z
 ready_at job plan p nodes x y z valid first second = record {
   has = first.0.has;
-  plan = λ name named. (nodes, by_name name named (plan_at job plan p x y first ∙ second.0.has), valid);
+  plan = λ name named. (nodes, by_name name named (has_plan_at job plan p nodes x y first second.0.has), valid);
   texts = two_texts job plan x y z (one_text job x y first.0.end first.1) second.0.end second.1;
 }
   where
-    by_name : (name : List ℕ) → Some plan ≡ Some name → plan_behind job plan x p ≡ Ok nodes → plan_behind job name x p ≡ Ok nodes
-    by_name name named is = let same : plan ≡ name = cc in subst (λ n. plan_behind job n x p ≡ Ok nodes) same is
+    by_name : (name : List ℕ) → Some plan ≡ Some name → HasPlan job plan x p nodes → HasPlan job name x p nodes
+    by_name name named is = let same : plan ≡ name = cc in subst (λ n. HasPlan job n x p nodes) same is
 
 pub is_ready : (job plan : List ℕ) (p : Program) (nodes : List Node) (a b c : Option Contents) → WhereTold a b (IsJobRead job p) → WhereTold a b (TakesFrom job)
     → WhereTold b c (IsPlanRead p plan nodes) → WhereTold b c (TakesFrom plan) → IsValid p nodes → WhereTold a c (IsReady (Valid job plan) p)
@@ -56,7 +60,7 @@ pub has_nodes : (job plan : List ℕ) (p : Program) (nodes : List Node) (a b c :
     → WhereTold b c (IsPlanRead p plan nodes) → WhereTold a c (HasNodes job plan p nodes)
 has_nodes job plan p nodes a b c read taken found =
     told_then (λ x y. IsJobRead job p x y × TakesFrom job x y) (IsPlanRead p plan nodes) (HasNodes job plan p nodes) a b c
-    (λ x y z first second. plan_at job plan p x y first ∙ second.has) (told_both (IsJobRead job p) (TakesFrom job) a b read taken) found
+    (λ x y z first second. has_plan_at job plan p nodes x y first second.has) (told_both (IsJobRead job p) (TakesFrom job) a b read taken) found
 
 -- ---- the normal form of a valid plan
 validated_at : (job plan : List ℕ) (p : Program) (nodes : List Node) (text : List ℕ) (x z : Contents) → IsAccepted p → text ≡ printed p nodes
@@ -68,7 +72,7 @@ validated_at job plan p nodes text x z accepted is both = (
     job_end = both.0.texts.ends job (0, omega arith, refl);
     other_ends = λ name found. both.0.texts.ends name (Contains-append_right (job ∷ []) (plan ∷ []) name found);
   },
-  is ∙ ap (found_printed p) (sym both.1),
+  record { nodes = nodes; has = both.1; is = is },
 )
 
 pub is_validated : (job plan : List ℕ) (p : Program) (nodes : List Node) (text : List ℕ) (a c : Option Contents) → IsAccepted p → WhereTold a c (IsReady (Valid job plan) p)
@@ -94,8 +98,8 @@ text_refusal job plan p a b c k l m (refusals.PlanDefect (defects.Text fault)) r
   asked = refl;
   accepted = accepted;
   is_fault = is.is_fault;
-  first = told_then (λ x y. IsJobRead job p x y × TakesFrom job x y) (λ left _. plan_in p (bytes_left left plan) ≡ Err fault) (λ left _. HasJob job left p × (plan_behind job plan left p ≡ Err fault)) a b c
-      (λ x y z first e. (first.0.has, plan_at job plan p x y first ∙ e)) (told_both (IsJobRead job p) (TakesFrom job) a b read taken) is.first;
+  first = told_then (λ x y. IsJobRead job p x y × TakesFrom job x y) (λ left _. plan_in p (bytes_left left plan) ≡ Err fault) (λ left _. HasJob job left p × (plan_in p (plan_behind job plan left) ≡ Err fault)) a b c
+      (λ x y z first e. (first.0.has, ap (plan_in p) (plan_at job plan p x y first) ∙ e)) (told_both (IsJobRead job p) (TakesFrom job) a b read taken) is.first;
 }
 text_refusal job plan p a b c k l m (refusals.PlanDefect (defects.Invalid checked fault)) read taken rise accepted is = absurd is
 text_refusal job plan p a b c k l m (refusals.SourceFault q fault) read taken rise accepted is = absurd is
@@ -117,8 +121,8 @@ valid_refusal job plan checked nodes a b c k m (refusals.PlanDefect (defects.Inv
       asked = refl;
       accepted = accepted;
       invalid = is.2;
-      text = told_then (λ x y. IsJobRead job (program_of checked) x y × TakesFrom job x y) (IsPlanRead (program_of checked) plan nodes) (λ left _. HasJob job left (program_of checked) × (plan_behind job plan left (program_of checked) ≡ Ok nodes)) a b c
-          (λ x y z first second. (first.0.has, plan_at job plan (program_of checked) x y first ∙ second.has)) (told_both (IsJobRead job (program_of checked)) (TakesFrom job) a b read taken) found;
+      text = told_then (λ x y. IsJobRead job (program_of checked) x y × TakesFrom job x y) (IsPlanRead (program_of checked) plan nodes) (λ left _. HasJob job left (program_of checked) × HasPlan job plan left (program_of checked) nodes) a b c
+          (λ x y z first second. (first.0.has, has_plan_at job plan (program_of checked) nodes x y first second.has)) (told_both (IsJobRead job (program_of checked)) (TakesFrom job) a b read taken) found;
     })
 valid_refusal job plan checked nodes a b c k m (refusals.SourceFault q fault) read taken accepted found is = absurd is
 valid_refusal job plan checked nodes a b c k m refusals.ReadFault read taken accepted found is = absurd is

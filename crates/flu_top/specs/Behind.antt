@@ -1,5 +1,5 @@
 -- What a job's text, a plan's and the sources are, where the files tell what they have left when a call begins.
-use Rattle.std.specs.Prelude.{◌≡◌, ℕ, List, [], ◌∷◌, option_map, Option, Ok, if◌then◌else◌}
+use Rattle.std.specs.Prelude.{ℕ, List, [], ◌∷◌, option_map, Option, if◌then◌else◌}
 use Rattle.std.specs.Str.{bytes_eq}
 use Rattle.flu_outside.specs.Outside.{Contents}
 use Rattle.flu_model.specs.declared.jobs.Program.{Program}
@@ -9,15 +9,14 @@ use Rattle.flu_model.specs.Folding.{final_outputs}
 use Rattle.flu_model.specs.Reports as reports
 use Rattle.flu_outside.specs.Taking.{bytes_left}
 use Rattle.flu_model.specs.declared.plans.Node.{Node}
-use Rattle.flu_parse.specs.Reading.{job_in}
-use Rattle.flu_plan.specs.Faults.{Found}
-use Rattle.flu_plan.specs.Reading.{plan_in}
+use Rattle.flu_grammar.specs.Jobs.{IsJobText}
+use Rattle.flu_grammar.specs.Plans.{IsPlanText}
 use Rattle.flu_streams.specs.declared.faults.SourceFault.{SourceFault}
 use Rattle.flu_streams.specs.Good.{first_fault, lists_of}
 
 -- the bytes under the job's name are the text of this program
 abbrev pub HasJob : List ℕ → Contents → Program → Type 0
-HasJob job left p = job_in (bytes_left left job) ≡ Ok (job_of p)
+HasJob job left p = IsJobText (bytes_left left job) (job_of p)
 
 -- what is left behind a text, which was read to its end: another file with its name is empty
 unfoldable pub emptied : List ℕ → Contents → Contents
@@ -36,6 +35,10 @@ fault_behind texts left p = first_fault p (emptied_each texts left)
 unfoldable pub report_behind : List (List ℕ) → Contents → Program → List ℕ
 report_behind texts left p = reports.report p (final_outputs p nothing_held (lists_of p (emptied_each texts left)))
 
--- the nodes of the plan of the text under a name, which is read behind the job's, or that text's first fault
-unfoldable pub plan_behind : List ℕ → List ℕ → Contents → Program → Found (List Node)
-plan_behind job plan left p = plan_in p (bytes_left (emptied job left) plan)
+-- the bytes under a plan's name, which are read behind the job's
+unfoldable pub plan_behind : List ℕ → List ℕ → Contents → List ℕ
+plan_behind job plan left = bytes_left (emptied job left) plan
+
+-- those are the text of these nodes, as a plan of the program
+abbrev pub HasPlan : List ℕ → List ℕ → Contents → Program → List Node → Type 0
+HasPlan job plan left p nodes = IsPlanText p (plan_behind job plan left) nodes

@@ -1,5 +1,5 @@
 -- What refuses a command, in order: a fault of its job's text, a conflict of that job, a defect of its plan, a defect of a source.
-use Rattle.std.specs.Prelude.{◌≡◌, ◌≢◌, ◌<◌, ℕ, List, [], length, Option, Some, Ok, Err, IsTrue}
+use Rattle.std.specs.Prelude.{◌≡◌, ◌≢◌, ◌<◌, ℕ, List, [], length, Option, Some, IsTrue}
 use Rattle.flu_outside.specs.Outside.{Contents, WhereTold}
 use Rattle.flu_model.specs.declared.jobs.Program.{Program}
 use Rattle.flu_model.specs.declared.plans.Node.{Node}
@@ -9,7 +9,6 @@ use Rattle.flu_outside.specs.Taking.{bytes_left}
 use Rattle.flu_deps.specs.Checking.{program_of}
 use Rattle.flu_parse.specs.declared.faults.JobFault.{JobFault}
 use Rattle.flu_parse.specs.declared.faults.JobFault.TheVariants as jobs
-use Rattle.flu_parse.specs.Reading.{job_in}
 use Rattle.flu_check.specs.declared.CheckFault.{CheckFault}
 use Rattle.flu_check.specs.Faults.{IsFirstCheckFault}
 use Rattle.flu_plan.specs.declared.fault.PlanFault.{PlanFault}
@@ -20,7 +19,8 @@ use Rattle.flu_streams.specs.declared.faults.SourceFault.{SourceFault}
 use Rattle.flu_top.specs.declared.refusals.PlanDefect.{PlanDefect}
 use Rattle.flu_top.specs.declared.refusals.PlanDefect.TheVariants as defects
 use Rattle.flu_top.specs.Words.{Command}
-use Rattle.flu_top.specs.Behind.{HasJob, fault_behind, plan_behind}
+use Rattle.flu_top.specs.Behind.{HasJob, HasPlan, fault_behind, plan_behind}
+use Rattle.flu_top.specs.TextFaults.{IsFirstJobFault, IsFirstTextFault}
 use Rattle.flu_top.specs.Wants.{job_named, plan_named, asks_accepted, reads_sources, texts_named}
 use Rattle.flu_top.specs.Done.{HasPlanAsked}
 
@@ -33,7 +33,7 @@ pub record IsJobRead (job : List ℕ) (p : Program) (old new : Contents) : Type 
 -- the bytes under the job's name have this fault
 pub record HasJobFault (job : List ℕ) (old new : Option Contents) (fault : JobFault) : Type 0 where
   pub is_fault : fault ≢ jobs.NoMemory
-  pub first : WhereTold old new (λ left _. job_in (bytes_left left job) ≡ Err fault)
+  pub first : WhereTold old new (λ left _. IsFirstJobFault (bytes_left left job) fault)
 
 -- ---- the job
 -- the fault's job is not accepted, and the fault is its first conflict of independent tags
@@ -57,7 +57,7 @@ pub record HasPlanFault (command : Command) (old new : Option Contents) (fault :
   pub asked : plan_named command ≡ Some plan
   pub accepted : IsAccepted program
   pub is_fault : fault ≢ plans.NoMemory
-  pub first : WhereTold old new (λ left _. HasJob (job_named command) left program × (plan_behind (job_named command) plan left program ≡ Err fault))
+  pub first : WhereTold old new (λ left _. HasJob (job_named command) left program × IsFirstTextFault program (plan_behind (job_named command) plan left) fault)
 
 -- the plan is not valid for the job, and this is the first thing that keeps it from that
 pub record IsInvalid (p : Program) (nodes : List Node) (why : Invalid) : Type 0 where
@@ -71,7 +71,7 @@ pub record HasInvalidPlan (command : Command) (old new : Option Contents) (p : P
   pub asked : plan_named command ≡ Some plan
   pub accepted : IsAccepted p
   pub invalid : IsInvalid p nodes why
-  pub text : WhereTold old new (λ left _. HasJob (job_named command) left p × (plan_behind (job_named command) plan left p ≡ Ok nodes))
+  pub text : WhereTold old new (λ left _. HasJob (job_named command) left p × HasPlan (job_named command) plan left p nodes)
 
 -- what is wrong with the command's plan
 abbrev pub HasPlanDefect : Command → Option Contents → Option Contents → PlanDefect → Type 0

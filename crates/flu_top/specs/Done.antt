@@ -7,12 +7,12 @@ use Rattle.flu_model.specs.Modes.{IsAccepted}
 use Rattle.flu_model.specs.Validity.{IsValid}
 use Rattle.flu_outside.specs.Writing.{AppendsAll, AppendsPart}
 use Rattle.flu_top.specs.Words.{Command, command_in}
-use Rattle.flu_top.specs.Behind.{HasJob, fault_behind, plan_behind}
+use Rattle.flu_top.specs.Behind.{HasJob, HasPlan, fault_behind}
 use Rattle.flu_top.specs.Wants.{job_named, plan_named, asks_accepted, reads_sources, texts_named, files_read, Writes}
 
 -- the text under a name, which is read behind the job's, is a plan that is valid for the job
 abbrev pub HasValidPlan : List ℕ → List ℕ → Contents → Program → Type 0
-HasValidPlan job plan left p = (nodes : List Node) × (plan_behind job plan left p ≡ Ok nodes) × IsValid p nodes
+HasValidPlan job plan left p = (nodes : List Node) × HasPlan job plan left p nodes × IsValid p nodes
 
 -- the plan that the command names, if it names one, is valid for the job
 abbrev pub HasPlanAsked : Command → Contents → Program → Type 0

@@ -5,13 +5,13 @@ use Rattle.flu_outside.specs.Taking.{bytes_left, TookFronts}
 use Rattle.flu_model.specs.declared.jobs.Program.{Program}
 use Rattle.flu_model.specs.Modes.{IsAccepted}
 use Rattle.flu_parse.specs.declared.faults.JobFault.{JobFault}
-use Rattle.flu_parse.specs.Reading.{job_in}
 use Rattle.flu_check.specs.declared.CheckFault.{CheckFault}
 use Rattle.flu_streams.specs.declared.faults.SourceFault.{SourceFault}
 use Rattle.flu_top.specs.declared.refusals.PlanDefect.{PlanDefect}
 use Rattle.flu_top.specs.Words.{Command, command_in}
 use Rattle.flu_top.specs.Taking.{TookOnly}
 use Rattle.flu_top.specs.Behind.{HasJob, fault_behind}
+use Rattle.flu_top.specs.TextFaults.{IsFirstJobFault}
 use Rattle.flu_top.specs.Wants.{job_named, plan_named, asks_accepted, reads_sources, texts_named}
 use Rattle.flu_top.specs.Done.{HasValidPlan, HasPlanAsked, IsGood, IsDone, IsPartlyDone, IsReadBy}
 use Rattle.flu_top.specs.Causes.{HasJobFault, HasConflict, HasPlanDefect, HasSourceFault}
@@ -148,7 +148,7 @@ JobFaultIsRefused =
     → Completes words told before now out_before out_now status
     → (command : Command) (left : Contents) (fault : JobFault) → command_in words ≡ Ok command → told ≡ Some left
     → NothingFailed command told before now out_before out_now
-    → job_in (bytes_left left (job_named command)) ≡ Err fault
+    → IsFirstJobFault (bytes_left left (job_named command)) fault
     → (status ≡ 3) ⊎ (status ≡ 9)
 
 -- a job that is not accepted, where the command asks for that, has status 4, or 9

@@ -2,6 +2,7 @@ pub mod Depths
 pub mod Words
 pub mod Taking
 pub mod Behind
+pub mod TextFaults
 pub mod Rates
 pub mod Wants
 pub mod Done

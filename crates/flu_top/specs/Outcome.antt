@@ -6,13 +6,13 @@ use Rattle.flu_outside.specs.Taking.{bytes_left, TookFronts}
 use Rattle.flu_model.specs.declared.jobs.Program.{Program}
 use Rattle.flu_model.specs.Modes.{IsAccepted}
 use Rattle.flu_parse.specs.declared.faults.JobFault.{JobFault}
-use Rattle.flu_parse.specs.Reading.{job_in}
 use Rattle.flu_check.specs.declared.CheckFault.{CheckFault}
 use Rattle.flu_streams.specs.declared.faults.SourceFault.{SourceFault}
 use Rattle.flu_top.specs.declared.refusals.PlanDefect.{PlanDefect}
 use Rattle.flu_top.specs.Words.{Command, command_in}
 use Rattle.flu_top.specs.Taking.{TookOnly}
 use Rattle.flu_top.specs.Behind.{HasJob, fault_behind}
+use Rattle.flu_top.specs.TextFaults.{IsFirstJobFault}
 use Rattle.flu_top.specs.Wants.{want, texts_named}
 use Rattle.flu_top.specs.Done.{HasValidPlan, HasPlanAsked, IsGood, IsDone, IsPartlyDone, IsReadName, IsReadBy}
 use Rattle.flu_top.specs.Causes.{HasJobFault, HasConflict, HasPlanDefect, HasSourceFault}
@@ -93,7 +93,7 @@ pub record FaultsFirst (words : List (List ℕ)) (left : Option Contents) (befor
 -- the status that a command and the files call for where nothing fails
 pub data CallsFor (command : Command) (left : Contents) (status : ℕ) : Type 0 where
   Good : status ≡ 0 → (p : Program) → IsGood command left p → CallsFor command left status
-  FaultyJob : status ≡ 3 → (fault : JobFault) → job_in (bytes_left left (want command).job) ≡ Err fault
+  FaultyJob : status ≡ 3 → (fault : JobFault) → IsFirstJobFault (bytes_left left (want command).job) fault
       → CallsFor command left status
   NotAccepted : status ≡ 4 → (p : Program) → IsTrue (want command).accepted → HasJob (want command).job left p
       → ¬ IsAccepted p → CallsFor command left status

@@ -1,5 +1,5 @@
 -- What the reading of a plan and the look at its validity give, and what refuses it.
-use Rattle.std.specs.Prelude.{◌≡◌, ◌≢◌, ℕ, List, [], Option, Some, Ok, Err, ⊤}
+use Rattle.std.specs.Prelude.{◌≡◌, ◌≢◌, ℕ, List, [], Option, Some, ⊤}
 use Rattle.flu_outside.specs.Outside.{Contents, WhereTold, Rose}
 use Rattle.flu_model.specs.declared.jobs.Program.{Program}
 use Rattle.flu_model.specs.declared.plans.Node.{Node}
@@ -8,7 +8,8 @@ use Rattle.flu_deps.specs.Checking.{program_of}
 use Rattle.flu_outside.specs.Taking.{bytes_left}
 use Rattle.flu_plan.specs.declared.fault.PlanFault.{PlanFault}
 use Rattle.flu_plan.specs.declared.fault.PlanFault.TheVariants as faults
-use Rattle.flu_plan.specs.Reading.{plan_in}
+use Rattle.flu_grammar.specs.Plans.{IsPlanText}
+use Rattle.flu_top.specs.TextFaults.{IsFirstTextFault}
 use Rattle.flu_top.specs.declared.refusals.PlanDefect.TheVariants as defects
 use Rattle.flu_top.specs.declared.refusals.Refusal.{Refusal}
 use Rattle.flu_top.specs.declared.refusals.Refusal.TheVariants as refusals
@@ -16,13 +17,13 @@ use Rattle.flu_top.specs.Causes.{IsInvalid}
 
 -- the bytes under a name are the text of this plan of the job, and were read to their end
 pub record IsPlanRead (p : Program) (plan : List ℕ) (nodes : List Node) (old new : Contents) : Type 0 where
-  pub has : plan_in p (bytes_left old plan) ≡ Ok nodes
+  pub has : IsPlanText p (bytes_left old plan) nodes
   pub end : new plan ≡ Some []
 
 -- the bytes under a name have this fault as the text of a plan of the job
 pub record HasTextFault (p : Program) (plan : List ℕ) (old new : Option Contents) (fault : PlanFault) : Type 0 where
   pub is_fault : fault ≢ faults.NoMemory
-  pub first : WhereTold old new (λ left _. plan_in p (bytes_left left plan) ≡ Err fault)
+  pub first : WhereTold old new (λ left _. IsFirstTextFault p (bytes_left left plan) fault)
 
 -- why a plan was not read
 abbrev pub IsTextRefusal : Program → List ℕ → Option Contents → Option Contents → (List ℕ → ℕ) → (List ℕ → ℕ) → Refusal → Type 0

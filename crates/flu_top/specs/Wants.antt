@@ -1,28 +1,28 @@
 -- What each command wants: the files that it reads, what it asks of them, and what it writes.
-use Rattle.std.specs.Prelude.{◌≡◌, ℕ, List, [], ◌∷◌, ◌++◌, Bool, true, false, if◌then◌else◌, Option, Some, None, Ok, Err}
+use Rattle.std.specs.Prelude.{◌≡◌, ℕ, List, [], ◌∷◌, ◌++◌, Bool, true, false, if◌then◌else◌, Option, Some, None}
 use Rattle.flu_outside.specs.Outside.{Contents}
 use Rattle.flu_model.specs.declared.jobs.Program.{Program}
 use Rattle.flu_model.specs.declared.plans.Node.{Node}
 use Rattle.flu_model.specs.Erasure.{job_of}
 use Rattle.flu_parse.specs.Printing.{normal_form}
-use Rattle.flu_plan.specs.Faults.{Found}
 use Rattle.flu_plan.specs.Printing.{printed}
 use Rattle.flu_planner.specs.Plans.{IsGreedyPlan}
 use Rattle.flu_streams.specs.Files.{files_of}
-use Rattle.flu_top.specs.Words.{Command, Fold, Check, Valid, Plan}
-use Rattle.flu_top.specs.Behind.{report_behind, plan_behind}
+use Rattle.flu_top.specs.Words.{Command, Fold, Check, Valid, Plan, Run}
+use Rattle.flu_top.specs.Behind.{HasPlan, report_behind}
 use Rattle.flu_top.specs.Rates.{source_rates}
 
 -- this is the text of the greedy plan of all itags of a job at a depth, where an itag has its source's rate
-pub record IsPlanText (p : Program) (depth : ℕ) (text : List ℕ) : Type 0 where
+pub record IsGreedyText (p : Program) (depth : ℕ) (text : List ℕ) : Type 0 where
   pub nodes : List Node
   pub greedy : IsGreedyPlan p (source_rates p) depth nodes
   pub is : text ≡ printed p nodes
 
--- a plan that was found, printed
-abbrev pub found_printed : Program → Found (List Node) → List ℕ
-found_printed p (Ok nodes) = printed p nodes
-found_printed p (Err fault) = []
+-- this is the normal form of the plan under a name
+pub record IsPlanPrinted (job plan : List ℕ) (left : Contents) (p : Program) (text : List ℕ) : Type 0 where
+  pub nodes : List Node
+  pub has : HasPlan job plan left p nodes
+  pub is : text ≡ printed p nodes
 
 -- the file of a plan, if there is one
 abbrev pub plan_files : Option (List ℕ) → List (List ℕ)
@@ -41,7 +41,8 @@ pub record Want : Type 1 where
   -- the text that it writes, by what its files have left and by the job's program
   pub writes : Contents → Program → List ℕ → Type 0
 
--- the report of the fold; the normal form of the job; the normal form of the plan; the text of a greedy plan
+-- the report of the fold; the normal form of the job; the normal form of the plan; the text of a greedy plan; the report of
+-- the fold again, which a run on the tree of threads gives too
 abbrev pub want : Command → Want
 want (Fold job) = record {
   job = job;
@@ -62,14 +63,21 @@ want (Valid job plan) = record {
   accepted = true;
   plan = Some plan;
   sources = false;
-  writes = λ left p text. text ≡ found_printed p (plan_behind job plan left p);
+  writes = λ left p text. IsPlanPrinted job plan left p text;
 }
 want (Plan job depth) = record {
   job = job;
   accepted = true;
   plan = None;
   sources = false;
-  writes = λ left p text. IsPlanText p depth text;
+  writes = λ left p text. IsGreedyText p depth text;
+}
+want (Run job plan) = record {
+  job = job;
+  accepted = true;
+  plan = plan;
+  sources = true;
+  writes = λ left p text. text ≡ report_behind (job ∷ plan_files plan) left p;
 }
 
 -- ---- the same, each by its own name

@@ -3,6 +3,8 @@
 
 ghost use Rattle.flu_top.specs.Laws.{KnownStatuses, DoneIsDone, DoneIsQuiet, BadWordsExactly, BadWordsLine, BadWordsTouchNothing, JobFaultIsFirst, ConflictIsFirst, PlanDefectIsFirst, SourceFaultIsFirst, ReadFaultRose, ReadFaultLine, WriteFaultRose, WriteFaultIsPart, WriteFaultLine, NoMemoryLine, NothingIsWritten, FrontsAreTaken, NoOtherIsRead, GoodIsDone, JobFaultIsRefused, ConflictIsRefused, PlanDefectIsRefused, SourceFaultIsRefused, CompletesByFaults, CallsForOneStatus};
 
+use flu_grammar::laws::{jobs_are_grammar, plans_are_grammar};
+
 /// The statuses, and which of them write to out.
 pub fn of_statuses()
     ensures known { KnownStatuses }
@@ -60,9 +62,15 @@ pub fn of_completeness()
 /// That a call completes follows from its outcome, where the statuses 7 and 8 come only from faults of the outside.
 pub fn completes_by_faults()
     ensures { CompletesByFaults }
-{}
+{
+    jobs_are_grammar();
+    plans_are_grammar();
+}
 
 /// A command and its files call for one status at most, so that the refusals come in an order.
 pub fn calls_for_one_status()
     ensures { CallsForOneStatus }
-{}
+{
+    jobs_are_grammar();
+    plans_are_grammar();
+}

@@ -1,6 +1,7 @@
 //! The top call: what the program does with its words, its files and its streams.
 #![tactic(auto)]
 
+mod backup;
 mod checking;
 mod commands;
 mod depths;
@@ -16,6 +17,8 @@ mod plans;
 mod programs;
 mod rates;
 mod refusals;
+mod running;
+mod sharing;
 mod top;
 mod validating;
 mod words;

@@ -9,7 +9,6 @@ ghost use Rattle.flu_outside.specs.Taking.{TookFronts};
 ghost use Rattle.flu_planner.specs.Plans.{IsGreedyPlan};
 ghost use Rattle.flu_top.specs.Words.{Valid as ValidCommand};
 ghost use Rattle.flu_top.specs.Taking.{TookOnly};
-ghost use Rattle.flu_top.specs.Behind.{plan_behind};
 ghost use Rattle.flu_top.specs.Rates.{source_rates};
 ghost use Rattle.flu_top.specs.Done.{IsReadName};
 ghost use Rattle.flu_top.specs.Ready.{IsReady, HasNodes};

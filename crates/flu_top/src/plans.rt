@@ -6,6 +6,7 @@ ghost use Rattle.flu_outside.specs.Taking.{TakesFrom};
 ghost use Rattle.flu_top.specs.Plans.{IsPlanRead, IsTextRefusal};
 
 use crate::refusals::Refusal;
+use flu_grammar::laws::plans_are_grammar;
 use flu_model::{Plan, Program};
 use flu_outside::{Files, read_whole};
 use flu_plan::read_plan;
@@ -26,6 +27,7 @@ pub fn plan_of<F: Files>(
     ensures taken { WhereTold (F.left files.old) (F.left files.new) (TakesFrom plan.now) }
     ensures counts { (n : List ℕ) → F.faults files.old n ≤ F.faults files.new n }
 {
+    plans_are_grammar();
     let bytes = read_whole(alloc, files, plan, MOST_BYTES)?;
     let found = read_plan(alloc, program, &bytes)?;
     Ok(found)

@@ -7,6 +7,7 @@ ghost use Rattle.flu_top.specs.Jobs.{IsJobRefusal};
 ghost use Rattle.flu_top.specs.Causes.{IsJobRead};
 
 use crate::refusals::Refusal;
+use flu_grammar::laws::jobs_are_grammar;
 use flu_model::Program;
 use flu_outside::{Files, read_whole};
 use flu_parse::read_job;
@@ -22,6 +23,7 @@ pub fn program_of<F: Files>(alloc: Global, files: &mut F, job: &str) -> Result<P
     ensures taken { WhereTold (F.left files.old) (F.left files.new) (TakesFrom job.now) }
     ensures counts { (n : List ℕ) → F.faults files.old n ≤ F.faults files.new n }
 {
+    jobs_are_grammar();
     let bytes = read_whole(alloc, files, job, MOST_BYTES)?;
     let program = read_job(alloc, &bytes)?;
     Ok(program)

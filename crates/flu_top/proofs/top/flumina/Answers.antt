@@ -17,4 +17,4 @@ returns-clause-faults g c =
     subst (FaultsFirst (map string_bytes c.args.words.now) _ _ _ _ _) (sym c.answer.ensures.status) (faults_of _ c.do_words-ended.result c.do_words-ended.ensures.ends)
 
 pub returns-clause-completes : goal.returns-clause-completes
-returns-clause-completes g c = completes_of _ _ _ _ _ _ _ _ (returns-clause-outcome g c) (returns-clause-faults g c)
+returns-clause-completes g c = completes_of (record { jobs = c.jobs_are_grammar.ensures; plans = c.plans_are_grammar.ensures }) _ _ _ _ _ _ _ _ (returns-clause-outcome g c) (returns-clause-faults g c)
