@@ -12,6 +12,7 @@ const USAGE: &str = "  flumina fold JOB
   flumina check JOB
   flumina valid JOB PLAN
   flumina plan JOB [--depth D]
+  flumina run JOB [PLAN]
   flumina --help
 ";
 

@@ -4,7 +4,7 @@ use crate::rows::program_of;
 use std::alloc::AllocError;
 use std::{fs, io, rt};
 
-/// A line for each file of a command's words, and of the sources of a job that is folded, which cannot be opened.
+/// A line for each file of a command's words, and of the sources of a job that is folded or run, which cannot be opened.
 pub fn names_hint<R: rt::Files + AllocGlobal>(
     rt: &R,
     words: &[String],
@@ -14,12 +14,12 @@ pub fn names_hint<R: rt::Files + AllocGlobal>(
         return Ok(told);
     };
     push_reason(rt, &mut told, job.as_str())?;
-    if command.as_str() == "valid" {
+    if command.as_str() == "valid" || command.as_str() == "run" {
         if let Some(plan) = words.get(2) {
             push_reason(rt, &mut told, plan.as_str())?;
         }
     }
-    if command.as_str() == "fold" {
+    if command.as_str() == "fold" || command.as_str() == "run" {
         push_sources(rt, &mut told, job.as_str())?;
     }
     Ok(told)

@@ -19,10 +19,10 @@ use Rattle.flu_streams.specs.declared.faults.SourceFault.{SourceFault}
 use Rattle.flu_lemmas.proofs.Told.{of_told}
 use Rattle.flu_top.specs.declared.refusals.PlanDefect.{PlanDefect}
 use Rattle.flu_top.specs.declared.refusals.PlanDefect.TheVariants as defects
-use Rattle.flu_top.specs.Words.{Command, Fold, Check, Valid, Plan, command_in}
+use Rattle.flu_top.specs.Words.{Command, command_in}
 use Rattle.flu_top.specs.Behind.{HasJob, HasPlan, fault_behind, plan_behind}
-use Rattle.flu_top.specs.Wants.{job_named, plan_named, asks_accepted, reads_sources}
-use Rattle.flu_top.specs.Done.{HasValidPlan, IsGood, IsDone, IsReadName}
+use Rattle.flu_top.specs.Wants.{job_named, plan_named, asks_accepted, reads_sources, texts_named}
+use Rattle.flu_top.specs.Done.{HasValidPlan, HasPlanAsked, IsGood, IsDone, IsReadName}
 use Rattle.flu_top.specs.Causes.{IsJobRead, HasJobFault, HasConflict, HasPlanDefect, HasSourceFault}
 use Rattle.flu_top.specs.Outcome.{Outside, Outcome, FaultsFirst, CallsFor, NothingFailed, Completes}
 use Rattle.flu_top.specs.Outcome as cases
@@ -35,13 +35,6 @@ pub record ByGrammar : Type 0 where
   pub jobs : JobsAreGrammar
   pub plans : PlansAreGrammar
 
--- no command reads a plan and sources
-no_sources : (command : Command) (plan : List ℕ) → plan_named command ≡ Some plan → IsTrue (reads_sources command) → ⊥
-no_sources (Fold job) plan named reads = cc
-no_sources (Check job) plan named reads = cc
-no_sources (Valid job name) plan named reads = cc
-no_sources (Plan job depth) plan named reads = cc
-
 -- ---- each outcome of a call in which nothing failed
 -- the status that is wanted, or that of want of memory
 abbrev IsStatus : ℕ → ℕ → Type 0
@@ -53,7 +46,8 @@ record Leads (wanted : ℕ) (command : Command) (left : Contents) : Type 0 where
   job : (fault : JobFault) → job_in (bytes_left left (job_named command)) ≡ Err fault → IsStatus wanted 3
   conflict : (p : Program) → IsTrue (asks_accepted command) → ¬ IsAccepted p → HasJob (job_named command) left p → IsStatus wanted 4
   plan : (plan : List ℕ) (p : Program) → plan_named command ≡ Some plan → IsAccepted p → HasJob (job_named command) left p → ¬ HasValidPlan (job_named command) plan left p → IsStatus wanted 5
-  source : (p : Program) (fault : SourceFault) → IsTrue (reads_sources command) → (IsTrue (asks_accepted command) → IsAccepted p) → HasJob (job_named command) left p → fault_behind (job_named command) left p ≡ Some fault → IsStatus wanted 6
+  source : (p : Program) (fault : SourceFault) → IsTrue (reads_sources command) → (IsTrue (asks_accepted command) → IsAccepted p) → HasJob (job_named command) left p
+      → HasPlanAsked command left p → fault_behind (texts_named command) left p ≡ Some fault → IsStatus wanted 6
 
 -- a status that is wanted and is not that of want of memory
 settled : (wanted status : ℕ) → IsStatus wanted status → status ≢ 9 → wanted ≡ status
@@ -76,8 +70,9 @@ module _ (grammar : ByGrammar) where
   not_both : (job : List ℕ) (left : Contents) (p : Program) (fault : JobFault) → HasJob job left p → job_in (bytes_left left job) ≡ Err fault → ⊥
   not_both job left p fault has bad = let e = sym ((grammar.jobs (bytes_left left job) (job_of p)).1 has) ∙ bad in cc
 
-  same_fault_of_text : (job : List ℕ) (left : Contents) (p q : Program) → HasJob job left p → HasJob job left q → fault_behind job left p ≡ fault_behind job left q
-  same_fault_of_text job left p q first second = same_fault job left p q (same_job job left p q first second)
+  same_fault_of_text : (command : Command) (left : Contents) (p q : Program) → HasJob (job_named command) left p → HasJob (job_named command) left q
+      → fault_behind (texts_named command) left p ≡ fault_behind (texts_named command) left q
+  same_fault_of_text command left p q first second = same_fault (texts_named command) left p q (same_job (job_named command) left p q first second)
 
   accepted_of_text : (job : List ℕ) (left : Contents) (p q : Program) → HasJob job left p → HasJob job left q → IsAccepted p → IsAccepted q
   accepted_of_text job left p q first second = same_accepted p q (same_job job left p q first second)
@@ -112,11 +107,11 @@ module _ (grammar : ByGrammar) where
     job = λ fault bad. absurd (not_both (job_named command) left p fault good.has bad);
     conflict = λ q asked refused has. absurd (refused (accepted_of_text (job_named command) left p q good.has has (good.accepted asked)));
     plan = λ plan q named accepted has bad. absurd (bad (valid_of_text (job_named command) plan left p q good.has has (good.plan plan named)));
-    source = λ q fault asked accepted has bad. absurd (no_fault q fault has (good.sources asked) bad);
+    source = λ q fault asked accepted has plan bad. absurd (no_fault q fault has (good.sources asked) bad);
   }
     where
-      no_fault : (q : Program) (fault : SourceFault) → HasJob (job_named command) left q → fault_behind (job_named command) left p ≡ None → fault_behind (job_named command) left q ≡ Some fault → ⊥
-      no_fault q fault has none bad = let e = sym none ∙ (same_fault_of_text (job_named command) left p q good.has has ∙ bad) in cc
+      no_fault : (q : Program) (fault : SourceFault) → HasJob (job_named command) left q → fault_behind (texts_named command) left p ≡ None → fault_behind (texts_named command) left q ≡ Some fault → ⊥
+      no_fault q fault has none bad = let e = sym none ∙ (same_fault_of_text command left p q good.has has ∙ bad) in cc
 
   leads_job : (command : Command) (left : Contents) (fault : JobFault) → job_in (bytes_left left (job_named command)) ≡ Err fault → Leads 3 command left
   leads_job command left fault bad = record {
@@ -124,7 +119,7 @@ module _ (grammar : ByGrammar) where
     job = λ other found. inl refl;
     conflict = λ q asked refused has. absurd (not_both (job_named command) left q fault has bad);
     plan = λ plan q named accepted has other. absurd (not_both (job_named command) left q fault has bad);
-    source = λ q other asked accepted has found. absurd (not_both (job_named command) left q fault has bad);
+    source = λ q other asked accepted has plan found. absurd (not_both (job_named command) left q fault has bad);
   }
 
   leads_conflict : (command : Command) (left : Contents) (p : Program) → IsTrue (asks_accepted command) → HasJob (job_named command) left p → ¬ IsAccepted p → Leads 4 command left
@@ -133,7 +128,7 @@ module _ (grammar : ByGrammar) where
     job = λ fault bad. absurd (not_both (job_named command) left p fault has bad);
     conflict = λ q asked none found. inl refl;
     plan = λ plan q named accepted found bad. absurd (refused (accepted_of_text (job_named command) left q p found has accepted));
-    source = λ q fault reads accepted found bad. absurd (refused (accepted_of_text (job_named command) left q p found has (accepted asked)));
+    source = λ q fault reads accepted found plan bad. absurd (refused (accepted_of_text (job_named command) left q p found has (accepted asked)));
   }
 
   leads_plan : (command : Command) (left : Contents) (p : Program) (plan : List ℕ) → plan_named command ≡ Some plan → HasJob (job_named command) left p → IsAccepted p → ¬ HasValidPlan (job_named command) plan left p → Leads 5 command left
@@ -142,28 +137,28 @@ module _ (grammar : ByGrammar) where
     job = λ fault found. absurd (not_both (job_named command) left p fault has found);
     conflict = λ q asked refused found. absurd (refused (accepted_of_text (job_named command) left p q has found accepted));
     plan = λ name q also found others worse. inl refl;
-    source = λ q fault reads also found others. absurd (no_sources command plan named reads);
+    source = λ q fault reads also found valid others. absurd (bad (valid_of_text (job_named command) plan left q p found has (valid plan named)));
   }
 
-  leads_source : (command : Command) (left : Contents) (p : Program) (fault : SourceFault) → IsTrue (reads_sources command) → HasJob (job_named command) left p → (IsTrue (asks_accepted command) → IsAccepted p) → fault_behind (job_named command) left p ≡ Some fault → Leads 6 command left
-  leads_source command left p fault reads has accepted bad = record {
+  leads_source : (command : Command) (left : Contents) (p : Program) (fault : SourceFault) → IsTrue (reads_sources command) → HasJob (job_named command) left p → (IsTrue (asks_accepted command) → IsAccepted p) → HasPlanAsked command left p → fault_behind (texts_named command) left p ≡ Some fault → Leads 6 command left
+  leads_source command left p fault reads has accepted valid bad = record {
     done = λ q good. absurd (no_fault q good.has (good.sources reads));
     job = λ other found. absurd (not_both (job_named command) left p other has found);
     conflict = λ q asked refused found. absurd (refused (accepted_of_text (job_named command) left p q has found (accepted asked)));
-    plan = λ plan q named also found other. absurd (no_sources command plan named reads);
-    source = λ q other asked also found others. inl refl;
+    plan = λ plan q named also found other. absurd (other (valid_of_text (job_named command) plan left p q has found (valid plan named)));
+    source = λ q other asked also found plan others. inl refl;
   }
     where
-      no_fault : (q : Program) → HasJob (job_named command) left q → fault_behind (job_named command) left q ≡ None → ⊥
-      no_fault q found none = let e = sym none ∙ (same_fault_of_text (job_named command) left q p found has ∙ bad) in cc
+      no_fault : (q : Program) → HasJob (job_named command) left q → fault_behind (texts_named command) left q ≡ None → ⊥
+      no_fault q found none = let e = sym none ∙ (same_fault_of_text command left q p found has ∙ bad) in cc
 
   leads : (command : Command) (left : Contents) (wanted : ℕ) → CallsFor command left wanted → Leads wanted command left
   leads command left wanted (cases.Good is p good) = subst (λ n. Leads n command left) (sym is) (leads_done command left p good)
   leads command left wanted (cases.FaultyJob is fault bad) = subst (λ n. Leads n command left) (sym is) (leads_job command left fault bad)
   leads command left wanted (cases.NotAccepted is p asked has refused) = subst (λ n. Leads n command left) (sym is) (leads_conflict command left p asked has refused)
   leads command left wanted (cases.NoValidPlan is p plan named has accepted bad) = subst (λ n. Leads n command left) (sym is) (leads_plan command left p plan named has accepted bad)
-  leads command left wanted (cases.FaultySource is p fault reads has accepted bad) =
-      subst (λ n. Leads n command left) (sym is) (leads_source command left p fault reads has accepted bad)
+  leads command left wanted (cases.FaultySource is p fault reads has accepted valid bad) =
+      subst (λ n. Leads n command left) (sym is) (leads_source command left p fault reads has accepted valid bad)
 
   -- a command and the files call for one status
   pub one_status : (command : Command) (left : Contents) (a b : ℕ) → CallsFor command left a → CallsFor command left b → a ≡ b
@@ -173,8 +168,8 @@ module _ (grammar : ByGrammar) where
       settled a 4 ((leads command left a first).conflict p asked refused has) (λ e. omega (arith, e)) ∙ sym is
   one_status command left a b first (cases.NoValidPlan is p plan named has accepted bad) =
       settled a 5 ((leads command left a first).plan plan p named accepted has bad) (λ e. omega (arith, e)) ∙ sym is
-  one_status command left a b first (cases.FaultySource is p fault reads has accepted bad) =
-      settled a 6 ((leads command left a first).source p fault reads accepted has bad) (λ e. omega (arith, e)) ∙ sym is
+  one_status command left a b first (cases.FaultySource is p fault reads has accepted valid bad) =
+      settled a 6 ((leads command left a first).source p fault reads accepted has valid bad) (λ e. omega (arith, e)) ∙ sym is
 
   -- ---- the outcome
   -- what each outcome shows of the files
@@ -207,8 +202,8 @@ module _ (grammar : ByGrammar) where
   by_case words old new before now out_before out_now status wanted command left (cases.BadSource is other also p fault why refused) faults word told nothing leads =
       let same = same_command words other command also word in
       let has = subst (λ (d : Command). HasSourceFault d old.left new.left p fault) same why in
-      let found = of_told (λ old _. HasJob (job_named command) old p × (fault_behind (job_named command) old p ≡ Some fault)) left old.left new.left told has.first in
-      subst (IsStatus wanted) (sym is) (leads.source p fault has.asked has.accepted found.1.0 found.1.1)
+      let found = of_told (λ old _. HasJob (job_named command) old p × HasPlanAsked command old p × (fault_behind (texts_named command) old p ≡ Some fault)) left old.left new.left told has.first in
+      subst (IsStatus wanted) (sym is) (leads.source p fault has.asked has.accepted found.1.0 found.1.1 found.1.2)
   by_case words old new before now out_before out_now status wanted command left (cases.ReadFailed is other also refused) faults word told nothing leads =
       let rose = faults.read is in
       let same = same_command words rose.1.0 command rose.1.1 word in

@@ -85,8 +85,8 @@ refused_plan_law words told before now out_before out_now status complete comman
     complete command left 5 word is nothing (cases.NoValidPlan refl p plan named has accepted bad)
 
 pub refused_source_law : SourceFaultIsRefused
-refused_source_law words told before now out_before out_now status complete command left p fault word is nothing reads has accepted bad =
-    complete command left 6 word is nothing (cases.FaultySource refl p fault reads has accepted bad)
+refused_source_law words told before now out_before out_now status complete command left p fault word is nothing reads has accepted valid bad =
+    complete command left 6 word is nothing (cases.FaultySource refl p fault reads has accepted valid bad)
 
 pub completes_law : ByGrammar → CompletesByFaults
 completes_law grammar words old new status before now out_before out_now outcome faults =

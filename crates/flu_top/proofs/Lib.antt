@@ -7,6 +7,8 @@ pub mod Sequence
 pub mod Checks
 pub mod Validations
 pub mod Plannings
+pub mod Runnings
+pub mod SharedCases
 pub mod RateLemmas
 pub mod SameJob
 pub mod SameAcceptance

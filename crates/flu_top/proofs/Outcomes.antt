@@ -4,6 +4,7 @@ use Rattle.std.specs.Prelude.{IfErr, OnOk}
 use Rattle.flu_top.specs.declared.refusals.Refusal.{Refusal}
 use Rattle.flu_top.specs.declared.refusals.Refusal.TheVariants as refusals
 use Rattle.flu_top.specs.Words.{Command, command_in}
+use Rattle.flu_top.specs.Jobs.{program_read}
 use Rattle.flu_top.specs.Refusing.{IsRefusal}
 use Rattle.flu_top.specs.Lines.{IsSaid}
 use Rattle.flu_top.specs.Answer.{status_of, status_after, line_of}
@@ -35,7 +36,7 @@ outcome_of c err err_after count count_after ended ends quiet said = elim ends.h
     by_refusal command word (refusals.JobFault fault) why nothing line = cases.BadJob refl command word fault why (record { nothing = nothing; said = line })
     by_refusal command word (refusals.Conflict fault) why nothing line = cases.Conflicts refl command word fault why (record { nothing = nothing; said = line })
     by_refusal command word (refusals.PlanDefect defect) why nothing line = cases.BadPlan refl command word defect why (record { nothing = nothing; said = line })
-    by_refusal command word (refusals.SourceFault p fault) why nothing line = cases.BadSource refl command word p fault why (record { nothing = nothing; said = line })
+    by_refusal command word (refusals.SourceFault job fault) why nothing line = cases.BadSource refl command word (program_read job) fault why (record { nothing = nothing; said = line })
     by_refusal command word refusals.ReadFault why nothing line = cases.ReadFailed refl command word (record { nothing = nothing; said = line })
     by_refusal command word refusals.WriteFault why nothing line = absurd why
     by_refusal command word refusals.NoMemory why nothing line = cases.NoMemory refl command word (record { nothing = nothing; said = line })

@@ -25,7 +25,7 @@ use Rattle.flu_streams.specs.Tags.{kind_named, key_named, tag_named, place_named
 use Rattle.flu_streams.specs.Tests.{where_true, test_tag, test_value, test_time, test_items, tests, defect_of, first_defect, has_ended, times_of, items_of, rows_of}
 use Rattle.flu_streams.specs.Good.{fault_of_source, items_held, first_fault}
 use Rattle.flu_lemmas.proofs.Places.{position-map}
-use Rattle.flu_top.specs.Behind.{emptied, fault_behind}
+use Rattle.flu_top.specs.Behind.{emptied_each, fault_behind}
 
 -- ---- what a row's tag and value are tested by depends on the kinds without their actions
 kind_of_plain : List PlainKind → List ℕ → Option ℕ
@@ -113,6 +113,6 @@ same_first_fault p q left same =
     ap (λ (ss : List Source). first_some (λ e. fault_of_source p.kinds left e.0 e.1) (each_with_before ss)) (ap (λ j. j.sources) same)
     ∙ ap (λ f. first_some f (each_with_before q.sources)) (fun_ext (λ (e : List Source × Source). same_source_fault p.kinds q.kinds left e.0 e.1 (ap (λ j. j.kinds) same)))
 
-pub same_fault : (job : List ℕ) (left : Contents) (p q : Program) → IsSameJob p q → fault_behind job left p ≡ fault_behind job left q
+pub same_fault : (texts : List (List ℕ)) (left : Contents) (p q : Program) → IsSameJob p q → fault_behind texts left p ≡ fault_behind texts left q
 unfolding fault_behind
-same_fault job left p q same = same_first_fault p q (emptied job left) same
+same_fault texts left p q same = same_first_fault p q (emptied_each texts left) same

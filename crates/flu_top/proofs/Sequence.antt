@@ -1,10 +1,10 @@
 -- A job's text is read, and then its sources.
 use Rattle.std.proofs.Common.{◌≡◌, ◌≢◌, refl, sym, ap, ◌∙◌, subst, ℕ, ◌≤◌, List, [], ◌∷◌, Bool, true, false, Option, Some, None, inl, inr, ◌⊎◌, zero, suc, if◌then◌else◌, arith}
-use Rattle.std.specs.Prelude.{Contains, is_some, option_map}
+use Rattle.std.specs.Prelude.{Contains, IsTrue, is_some, option_map, ◌++◌}
 use Rattle.std.specs.Str.{bytes_eq}
 use Rattle.std.proofs.Math.Path.{fun_ext}
 use Rattle.std.proofs.lemmas.Bool.{false≢true}
-use Rattle.std.proofs.lemmas.List.Elements.{Contains-append_cases, Contains-append_right}
+use Rattle.std.proofs.lemmas.List.Elements.{Contains-append_cases, Contains-append_left, Contains-append_right}
 use Rattle.std.proofs.lemmas.Slice.Eq.{bytes_eq-Decides}
 use Rattle.flu_outside.specs.Outside.{WhereTold, Contents}
 use Rattle.flu_model.specs.declared.events.Item.{Item}
@@ -19,17 +19,23 @@ use Rattle.flu_streams.specs.Files.{files_of, LeavesOthers, AreReadOut}
 use Rattle.flu_streams.specs.Good.{first_fault, lists_of, AreGood}
 use Rattle.flu_top.specs.declared.refusals.Refusal.{Refusal}
 use Rattle.flu_top.specs.declared.refusals.Refusal.TheVariants as refusals
+use Rattle.flu_model.specs.Modes.{IsAccepted}
 use Rattle.flu_top.specs.Words.{Command, Fold}
 use Rattle.flu_top.specs.Taking.{TookOnly}
-use Rattle.flu_top.specs.Behind.{HasJob, emptied, fault_behind, report_behind}
-use Rattle.flu_top.specs.Wants.{job_named}
-use Rattle.flu_top.specs.Done.{MayHaveJob, IsReadName, IsWritten}
+use Rattle.flu_top.specs.Behind.{HasJob, emptied, emptied_each, fault_behind, report_behind}
+use Rattle.flu_top.specs.Wants.{job_named, plan_named, asks_accepted, reads_sources, plan_files, texts_named, files_read, Writes}
+use Rattle.flu_top.specs.Done.{HasPlanAsked, MayHaveJob, IsReadName, IsWritten}
+use Rattle.flu_top.specs.Ready.{AreTextsRead, IsReady}
 use Rattle.flu_top.specs.Jobs.{IsJobRefusal}
-use Rattle.flu_top.specs.Causes.{IsJobRead}
+use Rattle.flu_top.specs.Causes.{IsJobRead, HasSourceFault}
 use Rattle.flu_top.specs.Folding.{IsReported, IsReportRefusal}
 use Rattle.flu_top.specs.Refusing.{IsRefusal}
 
 -- ---- names
+pub only_one : (one name : List ℕ) → Contains (one ∷ []) name → one ≡ name
+only_one one name (zero, lt, e) = e
+only_one one name (suc k, lt, e) = absurd (omega arith)
+
 -- a name is among others, or is not
 among : (names : List (List ℕ)) (name : List ℕ) → Contains names name ⊎ (Contains names name → ⊥)
 among [] name = inr (λ found. absurd (omega (arith, found.1)))
@@ -38,17 +44,30 @@ among (other ∷ names) name = by_test (bytes_eq other name) refl (among names n
     by_rest : other ≢ name → Contains names name ⊎ (Contains names name → ⊥) → Contains (other ∷ names) name ⊎ (Contains (other ∷ names) name → ⊥)
     by_rest apart (inl found) = inl (Contains-append_right (other ∷ []) names name found)
     by_rest apart (inr missing) =
-        inr (λ found. elim (Contains-append_cases (other ∷ []) names name found) [ inl one ↦ apart (only_one one) | inr more ↦ missing more ])
-      where
-        only_one : Contains (other ∷ []) name → other ≡ name
-        only_one (zero, lt, e) = e
-        only_one (suc k, lt, e) = absurd (omega arith)
+        inr (λ found. elim (Contains-append_cases (other ∷ []) names name found) [ inl one ↦ apart (only_one other name one) | inr more ↦ missing more ])
 
     by_test : (b : Bool) → bytes_eq other name ≡ b → Contains names name ⊎ (Contains names name → ⊥) → Contains (other ∷ names) name ⊎ (Contains (other ∷ names) name → ⊥)
     by_test true t rest = inl (0, omega arith, (bytes_eq-Decides other name).0 t)
     by_test false f rest = by_rest (λ same. false≢true (sym f ∙ (bytes_eq-Decides other name).1 same)) rest
 
+pub same_or_apart : (a b : List ℕ) → (a ≡ b) ⊎ (a ≢ b)
+same_or_apart a b = by_test (bytes_eq a b) refl
+  where
+    by_test : (t : Bool) → bytes_eq a b ≡ t → (a ≡ b) ⊎ (a ≢ b)
+    by_test true t = inl ((bytes_eq-Decides a b).0 t)
+    by_test false f = inr (λ same. false≢true (sym f ∙ (bytes_eq-Decides a b).1 same))
+
 -- ---- the names that are read
+pub may_have_ready : (command : Command) (p : Program) (a b : Option Contents) → WhereTold a b (IsReady command p) → MayHaveJob a (job_named command) p
+may_have_ready command p None b ready = tt
+may_have_ready command p (Some x) None ready = absurd ready
+may_have_ready command p (Some x) (Some y) ready = ready.has
+
+source_is_read : (command : Command) (p : Program) (name : List ℕ) → IsTrue (reads_sources command) → Contains (files_of p.sources) name → Contains (files_read command p) name
+source_is_read command p name reads found =
+    subst (λ (b : Bool). Contains (plan_files (plan_named command) ++ (if b then files_of p.sources else [])) name) (sym reads)
+    (Contains-append_right (plan_files (plan_named command)) (files_of p.sources) name found)
+
 pub may_have : (job : List ℕ) (p : Program) (a b : Option Contents) → WhereTold a b (IsJobRead job p) → MayHaveJob a job p
 may_have job p None b read = tt
 may_have job p (Some x) None read = absurd read
@@ -58,11 +77,20 @@ pub only_job : (command : Command) (a b : Option Contents) → WhereTold a b (Ta
 only_job command a b taken =
     told_weaker (TakesFrom (job_named command)) (TookOnly (IsReadName a command)) a b (λ x y took name unread. took.others name (λ same. unread (inl same))) taken
 
-pub only_both : (job : List ℕ) (p : Program) (a b c : Option Contents) → WhereTold a b (IsJobRead job p) → WhereTold a b (TakesFrom job) → WhereTold b c (LeavesOthers (files_of p.sources)) → WhereTold a c (TookOnly (IsReadName a (Fold job)))
-only_both job p a b c read taken others =
-    let may = may_have job p a b read in
-    told_then (TakesFrom job) (LeavesOthers (files_of p.sources)) (TookOnly (IsReadName a (Fold job))) a b c
-    (λ x y z took left name unread. left name (λ found. unread (inr (p, may, λ asked. absurd (false≢true asked), found))) ∙ took.others name (λ same. unread (inl same))) taken others
+pub only_ready : (command : Command) (p : Program) (a b c : Option Contents) → IsTrue (reads_sources command) → (IsTrue (asks_accepted command) → IsAccepted p)
+    → WhereTold a b (IsReady command p) → WhereTold b c (LeavesOthers (files_of p.sources)) → WhereTold a c (TookOnly (IsReadName a command))
+only_ready command p a b c reads accepted ready others =
+    told_then (IsReady command p) (LeavesOthers (files_of p.sources)) (TookOnly (IsReadName a command)) a b c
+    (λ x y z first left name unread. left name (λ found. unread (of_source name found)) ∙ first.texts.others name (λ found. unread (of_text name found))) ready others
+  where
+    of_source : (name : List ℕ) → Contains (files_of p.sources) name → IsReadName a command name
+    of_source name found = inr (p, may_have_ready command p a b ready, accepted, source_is_read command p name reads found)
+
+    of_text : (name : List ℕ) → Contains (texts_named command) name → IsReadName a command name
+    of_text name found = elim (Contains-append_cases (job_named command ∷ []) (plan_files (plan_named command)) name found) [
+      | inl job ↦ inl (sym (only_one (job_named command) name job))
+      | inr plan ↦ inr (p, may_have_ready command p a b ready, accepted, Contains-append_left (plan_files (plan_named command)) (if reads_sources command then files_of p.sources else []) name plan)
+    ]
 
 -- ---- the report of a job
 pub is_reported : (p : Program) (report : List ℕ) (lists : List (List Item)) (a b : Option Contents) → WhereTold a b (λ old _. AreGood p old) → WhereTold a b (λ old _. lists ≡ lists_of p old) → AreReadOut (files_of p.sources) b → report ≡ reports.report p (final_outputs p nothing_held lists) → WhereTold a b (IsReported p report)
@@ -76,34 +104,82 @@ emptied_some : (o : Option (List ℕ)) → true ≡ is_some o → option_map {U 
 emptied_some None e = absurd (cc)
 emptied_some (Some bytes) e = refl
 
--- what is left behind a job's text
-pub emptied_is : (job : List ℕ) (p : Program) (old new : Contents) → IsJobRead job p old new → TakesFrom job old new → emptied job old ≡ new
+-- what is left behind a text
+pub emptied_is : (text : List ℕ) (old new : Contents) → new text ≡ Some [] → TakesFrom text old new → emptied text old ≡ new
 unfolding emptied
-emptied_is job p old new read taken = fun_ext (λ name. by_test name (bytes_eq name job) refl)
+emptied_is text old new end taken = fun_ext (λ name. by_test name (bytes_eq name text) refl)
   where
-    by_test : (name : List ℕ) (b : Bool) → bytes_eq name job ≡ b → (if bytes_eq name job then option_map {U = List ℕ} (λ (bytes : List ℕ). []) (old name) else old name) ≡ new name
+    by_test : (name : List ℕ) (b : Bool) → bytes_eq name text ≡ b → (if bytes_eq name text then option_map {U = List ℕ} (λ (bytes : List ℕ). []) (old name) else old name) ≡ new name
     by_test name true t =
-        let same : name ≡ job = (bytes_eq-Decides name job).0 t in
-        rw t (ap (λ n. option_map {U = List ℕ} (λ (bytes : List ℕ). []) (old n)) same ∙ (emptied_some (old job) (sym (ap is_some read.end) ∙ taken.there) ∙ (sym read.end ∙ sym (ap new same))))
-    by_test name false f = rw f (sym (taken.others name (λ same. false≢true (sym f ∙ (bytes_eq-Decides name job).1 same))))
+        let same : name ≡ text = (bytes_eq-Decides name text).0 t in
+        rw t (ap (λ n. option_map {U = List ℕ} (λ (bytes : List ℕ). []) (old n)) same ∙ (emptied_some (old text) (sym (ap is_some end) ∙ taken.there) ∙ (sym end ∙ sym (ap new same))))
+    by_test name false f = rw f (sym (taken.others name (λ same. false≢true (sym f ∙ (bytes_eq-Decides name text).1 same))))
 
-folded_at : (job : List ℕ) (p : Program) (report : List ℕ) (x y z : Contents) → IsJobRead job p x y × TakesFrom job x y → IsReported p report y z × LeavesOthers (files_of p.sources) y z → IsWritten (Fold job) report x z
+-- ---- the texts that are read
+pub one_text : (text : List ℕ) (x y : Contents) → y text ≡ Some [] → TakesFrom text x y → AreTextsRead (text ∷ []) x y
+one_text text x y end taken = record {
+  behind = emptied_is text x y end taken;
+  ends = λ name found. ap y (sym (only_one text name found)) ∙ end;
+  others = λ name missing. taken.others name (λ same. missing (0, omega arith, sym same));
+}
+
+pub two_texts : (first second : List ℕ) (x y z : Contents) → AreTextsRead (first ∷ []) x y → z second ≡ Some [] → TakesFrom second y z → AreTextsRead (first ∷ second ∷ []) x z
+two_texts first second x y z read end taken = record {
+  behind = ap (emptied second) read.behind ∙ emptied_is second y z end taken;
+  ends = λ name found. by_name name (Contains-append_cases (first ∷ []) (second ∷ []) name found) (same_or_apart name second);
+  others = λ name missing.
+      taken.others name (λ same. missing (1, omega arith, sym same)) ∙ read.others name (λ found. missing (Contains-append_left (first ∷ []) (second ∷ []) name found));
+}
+  where
+    by_name : (name : List ℕ) → Contains (first ∷ []) name ⊎ Contains (second ∷ []) name → (name ≡ second) ⊎ (name ≢ second) → z name ≡ Some []
+    by_name name found (inl same) = ap z same ∙ end
+    by_name name (inl found) (inr apart) = taken.others name apart ∙ read.ends name found
+    by_name name (inr found) (inr apart) = absurd (apart (sym (only_one second name found)))
+
+-- the job's text alone was read, for a command that names no plan
+pub ready_alone : (command : Command) (p : Program) (a b : Option Contents) → texts_named command ≡ job_named command ∷ [] → ((left : Contents) → HasPlanAsked command left p)
+    → WhereTold a b (IsJobRead (job_named command) p) → WhereTold a b (TakesFrom (job_named command)) → WhereTold a b (IsReady command p)
+ready_alone command p a b alone asked read taken =
+    told_weaker (λ x y. IsJobRead (job_named command) p x y × TakesFrom (job_named command) x y) (IsReady command p) a b
+    (λ x y first. record {
+      has = first.0.has;
+      plan = asked x;
+      texts = subst (λ texts. AreTextsRead texts x y) (sym alone) (one_text (job_named command) x y first.0.end first.1);
+    })
+    (told_both (IsJobRead (job_named command) p) (TakesFrom (job_named command)) a b read taken)
+
+-- ---- the report of a command's job
+-- what the command writes is the report of its job
+abbrev pub WritesReport : Command → Type 0
+WritesReport command = (left : Contents) (p : Program) (text : List ℕ) → text ≡ report_behind (texts_named command) left p → Writes command left p text
+
+reported_at : (command : Command) (p : Program) (report : List ℕ) (x y z : Contents) → IsTrue (reads_sources command) → (IsTrue (asks_accepted command) → IsAccepted p)
+    → WritesReport command → IsReady command p x y → IsReported p report y z × LeavesOthers (files_of p.sources) y z → IsWritten command report x z
 unfolding fault_behind report_behind
-folded_at job p report x y z first second =
-    let is = emptied_is job p x y first.0 first.1 in (
-      p,
-      record {
-        good = record { has = first.0.has; accepted = λ asked. absurd (false≢true asked); plan = λ plan named. absurd (cc); sources = λ asked. ap (first_fault p) is ∙ second.0.good };
-        job_end = elim (among (files_of p.sources) job) [ inl found ↦ second.0.ends job found | inr missing ↦ second.1 job missing ∙ first.0.end ];
-        other_ends = second.0.ends;
-      },
-      second.0.is ∙ ap (λ left. reports.report p (final_outputs p nothing_held (lists_of p left))) (sym is),
-    )
+reported_at command p report x y z reads accepted writes first second = (
+  p,
+  record {
+    good = record { has = first.has; accepted = accepted; plan = first.plan; sources = λ asked. ap (first_fault p) first.texts.behind ∙ second.0.good };
+    job_end = text_end (job_named command) (0, omega arith, refl);
+    other_ends = λ name found. by_name name (Contains-append_cases (plan_files (plan_named command)) (if reads_sources command then files_of p.sources else []) name found);
+  },
+  writes x p report (second.0.is ∙ ap (λ left. reports.report p (final_outputs p nothing_held (lists_of p left))) (sym first.texts.behind)),
+)
+  where
+    text_end : (name : List ℕ) → Contains (texts_named command) name → z name ≡ Some []
+    text_end name text =
+        elim (among (files_of p.sources) name) [ inl found ↦ second.0.ends name found | inr missing ↦ second.1 name missing ∙ first.texts.ends name text ]
 
-pub is_folded : (job : List ℕ) (p : Program) (report : List ℕ) (a b c : Option Contents) → WhereTold a b (IsJobRead job p) → WhereTold a b (TakesFrom job) → WhereTold b c (LeavesOthers (files_of p.sources)) → WhereTold b c (IsReported p report) → WhereTold a c (IsWritten (Fold job) report)
-is_folded job p report a b c read taken others reported =
-    told_then (λ x y. IsJobRead job p x y × TakesFrom job x y) (λ y z. IsReported p report y z × LeavesOthers (files_of p.sources) y z) (IsWritten (Fold job) report) a b c
-    (folded_at job p report) (told_both (IsJobRead job p) (TakesFrom job) a b read taken) (told_both (IsReported p report) (LeavesOthers (files_of p.sources)) b c reported others)
+    by_name : (name : List ℕ) → Contains (plan_files (plan_named command)) name ⊎ Contains (if reads_sources command then files_of p.sources else []) name → z name ≡ Some []
+    by_name name (inl plan) = text_end name (Contains-append_right (job_named command ∷ []) (plan_files (plan_named command)) name plan)
+    by_name name (inr found) = second.0.ends name (subst (λ (b : Bool). Contains (if b then files_of p.sources else []) name) reads found)
+
+pub is_reported_behind : (command : Command) (p : Program) (report : List ℕ) (a b c : Option Contents) → IsTrue (reads_sources command) → (IsTrue (asks_accepted command) → IsAccepted p)
+    → WritesReport command → WhereTold a b (IsReady command p) → WhereTold b c (LeavesOthers (files_of p.sources)) → WhereTold b c (IsReported p report) → WhereTold a c (IsWritten command report)
+is_reported_behind command p report a b c reads accepted writes ready others reported =
+    told_then (IsReady command p) (λ y z. IsReported p report y z × LeavesOthers (files_of p.sources) y z) (IsWritten command report) a b c
+    (λ x y z first second. reported_at command p report x y z reads accepted writes first second)
+    ready (told_both (IsReported p report) (LeavesOthers (files_of p.sources)) b c reported others)
 
 -- ---- what refuses a job
 pub job_refusal : (command : Command) (a b : Option Contents) (before now : List ℕ → ℕ) (refusal : Refusal) → IsJobRefusal (job_named command) a b before now refusal → IsRefusal command a b before now refusal
@@ -116,25 +192,27 @@ job_refusal command a b before now refusals.ReadFault is = (job_named command, i
 job_refusal command a b before now refusals.WriteFault is = is
 job_refusal command a b before now refusals.NoMemory is = is
 
-fault_at : (job : List ℕ) (p : Program) (x y : Contents) → IsJobRead job p x y × TakesFrom job x y → fault_behind job x p ≡ first_fault p y
+fault_at : (command : Command) (p : Program) (x y : Contents) → IsReady command p x y → fault_behind (texts_named command) x p ≡ first_fault p y
 unfolding fault_behind
-fault_at job p x y first = ap (first_fault p) (emptied_is job p x y first.0 first.1)
+fault_at command p x y ready = ap (first_fault p) ready.texts.behind
 
-pub report_refusal : (job : List ℕ) (p : Program) (a b c : Option Contents) (k l m : List ℕ → ℕ) (refusal : Refusal) → WhereTold a b (IsJobRead job p) → WhereTold a b (TakesFrom job) → ((n : List ℕ) → k n ≤ l n) → IsReportRefusal p b c l m refusal → IsRefusal (Fold job) a c k m refusal
-report_refusal job p a b c k l m (refusals.BadWords bad) read taken rise is = is
-report_refusal job p a b c k l m (refusals.JobFault fault) read taken rise is = absurd is
-report_refusal job p a b c k l m (refusals.Conflict fault) read taken rise is = absurd is
-report_refusal job p a b c k l m (refusals.PlanDefect defect) read taken rise is = absurd is
-report_refusal job p a b c k l m (refusals.SourceFault q fault) read taken rise is =
-    subst (λ r. IsRefusal (Fold job) a c k m (refusals.SourceFault r fault)) (sym is.program)
+pub report_refusal : (command : Command) (p : Program) (a b c : Option Contents) (k l m : List ℕ → ℕ) (refusal : Refusal) → IsTrue (reads_sources command)
+    → (IsTrue (asks_accepted command) → IsAccepted p) → WhereTold a b (IsReady command p) → ((n : List ℕ) → k n ≤ l n) → IsReportRefusal p b c l m refusal → IsRefusal command a c k m refusal
+report_refusal command p a b c k l m (refusals.BadWords bad) reads accepted ready rise is = is
+report_refusal command p a b c k l m (refusals.JobFault fault) reads accepted ready rise is = absurd is
+report_refusal command p a b c k l m (refusals.Conflict fault) reads accepted ready rise is = absurd is
+report_refusal command p a b c k l m (refusals.PlanDefect defect) reads accepted ready rise is = absurd is
+report_refusal command p a b c k l m (refusals.SourceFault q fault) reads accepted ready rise is =
+    subst (λ (r : Program). HasSourceFault command a c r fault) (sym is.program)
     record {
-      asked = refl;
-      accepted = λ asked. absurd (false≢true asked);
+      asked = reads;
+      accepted = accepted;
       source = is.source;
-      first = told_then (λ x y. IsJobRead job p x y × TakesFrom job x y) (λ left _. first_fault p left ≡ Some fault) (λ left _. HasJob job left p × (fault_behind job left p ≡ Some fault)) a b c
-          (λ x y z first e. (first.0.has, fault_at job p x y first ∙ e)) (told_both (IsJobRead job p) (TakesFrom job) a b read taken) is.first;
+      first = told_then (IsReady command p) (λ left _. first_fault p left ≡ Some fault)
+          (λ left _. HasJob (job_named command) left p × HasPlanAsked command left p × (fault_behind (texts_named command) left p ≡ Some fault)) a b c
+          (λ x y z first e. (first.has, first.plan, fault_at command p x y first ∙ e)) ready is.first;
     }
-report_refusal job p a b c k l m refusals.ReadFault read taken rise is =
-    (is.0, inr (p, may_have job p a b read, λ asked. absurd (false≢true asked), is.1), rose_behind (k is.0) (l is.0) (m is.0) (rise is.0) is.2)
-report_refusal job p a b c k l m refusals.WriteFault read taken rise is = is
-report_refusal job p a b c k l m refusals.NoMemory read taken rise is = tt
+report_refusal command p a b c k l m refusals.ReadFault reads accepted ready rise is =
+    (is.0, inr (p, may_have_ready command p a b ready, accepted, source_is_read command p is.0 reads is.1), rose_behind (k is.0) (l is.0) (m is.0) (rise is.0) is.2)
+report_refusal command p a b c k l m refusals.WriteFault reads accepted ready rise is = is
+report_refusal command p a b c k l m refusals.NoMemory reads accepted ready rise is = tt

@@ -1,19 +1,20 @@
 -- A job's text is read, then a plan's, and the plan is looked at for the job.
-use Rattle.std.proofs.Common.{◌≡◌, ◌≢◌, refl, sym, ap, ◌∙◌, subst, ℕ, ◌≤◌, List, [], ◌∷◌, Bool, true, false, Option, Some, Err, inl, inr, ◌⊎◌, zero, suc, arith}
+use Rattle.std.proofs.Common.{◌≡◌, refl, sym, ap, ◌∙◌, subst, ℕ, ◌≤◌, List, [], ◌∷◌, Option, Some, Err, inl, inr, arith}
 use Rattle.std.specs.Prelude.{Contains}
-use Rattle.std.specs.Str.{bytes_eq}
 use Rattle.std.proofs.lemmas.Bool.{false≢true}
-use Rattle.std.proofs.lemmas.Slice.Eq.{bytes_eq-Decides}
+use Rattle.std.proofs.lemmas.List.Elements.{Contains-append_right}
 use Rattle.flu_outside.specs.Outside.{WhereTold, Contents}
 use Rattle.flu_model.specs.declared.jobs.Program.{Program}
 use Rattle.flu_model.specs.declared.plans.Node.{Node}
 use Rattle.flu_model.specs.Modes.{IsAccepted}
+use Rattle.flu_model.specs.Validity.{IsValid}
 use Rattle.flu_deps.specs.declared.checked.Checked.{Checked}
 use Rattle.flu_deps.specs.Checking.{program_of}
 use Rattle.flu_outside.specs.Taking.{bytes_left, TakesFrom}
 use Rattle.flu_lemmas.proofs.Named.{rose_behind}
-use Rattle.flu_lemmas.proofs.Told.{told_both, told_then}
+use Rattle.flu_lemmas.proofs.Told.{told_both, told_then, told_weaker}
 use Rattle.flu_plan.specs.Reading.{plan_in}
+use Rattle.flu_plan.specs.Printing.{printed}
 use Rattle.flu_grammar.specs.Plans.{IsPlanText}
 use Rattle.flu_top.specs.declared.refusals.PlanDefect.TheVariants as defects
 use Rattle.flu_top.specs.declared.refusals.Refusal.{Refusal}
@@ -23,55 +24,62 @@ use Rattle.flu_top.specs.Taking.{TookOnly}
 use Rattle.flu_top.specs.Behind.{HasJob, HasPlan, plan_behind}
 use Rattle.flu_top.specs.Done.{IsReadName, IsWritten}
 use Rattle.flu_top.specs.Causes.{IsJobRead, HasInvalidPlan}
-use Rattle.flu_top.specs.Plans.{IsPlanRead, IsTextRefusal, IsValidated, IsValidRefusal}
+use Rattle.flu_top.specs.Ready.{HasNodes, IsReady}
+use Rattle.flu_top.specs.Plans.{IsPlanRead, IsTextRefusal, IsValidRefusal}
 use Rattle.flu_top.specs.Refusing.{IsRefusal}
-use Rattle.flu_top.proofs.Sequence.{may_have, emptied_is}
-
--- ---- names
-same_or_apart : (a b : List ℕ) → (a ≡ b) ⊎ (a ≢ b)
-same_or_apart a b = by_test (bytes_eq a b) refl
-  where
-    by_test : (t : Bool) → bytes_eq a b ≡ t → (a ≡ b) ⊎ (a ≢ b)
-    by_test true t = inl ((bytes_eq-Decides a b).0 t)
-    by_test false f = inr (λ same. false≢true (sym f ∙ (bytes_eq-Decides a b).1 same))
-
-only_one : (plan name : List ℕ) → Contains (plan ∷ []) name → plan ≡ name
-only_one plan name (zero, lt, e) = e
-only_one plan name (suc k, lt, e) = absurd (omega arith)
+use Rattle.flu_top.proofs.Sequence.{may_have, emptied_is, one_text, two_texts}
 
 -- ---- the plan behind the job
 plan_at : (job plan : List ℕ) (p : Program) (x y : Contents) → IsJobRead job p x y × TakesFrom job x y → plan_behind job plan x ≡ bytes_left y plan
 unfolding plan_behind
-plan_at job plan p x y first = ap (λ left. bytes_left left plan) (emptied_is job p x y first.0 first.1)
+plan_at job plan p x y first = ap (λ left. bytes_left left plan) (emptied_is job x y first.0.end first.1)
 
 has_plan_at : (job plan : List ℕ) (p : Program) (nodes : List Node) (x y : Contents) → IsJobRead job p x y × TakesFrom job x y
     → IsPlanText p (bytes_left y plan) nodes → HasPlan job plan x p nodes
 has_plan_at job plan p nodes x y first is = subst (λ bytes. IsPlanText p bytes nodes) (sym (plan_at job plan p x y first)) is
 
-validated_at : (job plan : List ℕ) (p : Program) (nodes : List Node) (text : List ℕ) (x y z : Contents) → IsAccepted p → IsValidated p nodes text → IsJobRead job p x y × TakesFrom job x y → IsPlanRead p plan nodes y z × TakesFrom plan y z → IsWritten (Valid job plan) text x z
-validated_at job plan p nodes text x y z accepted validated first second =
-    let is = has_plan_at job plan p nodes x y first second.0.has in (
-      p,
-      record {
-        good = record {
-          has = first.0.has;
-          accepted = λ asked. accepted;
-          plan = λ name named. (nodes, by_name name named is, validated.valid);
-          sources = λ asked. absurd (false≢true asked);
-        };
-        job_end = elim (same_or_apart job plan) [ inl same ↦ ap z same ∙ second.0.end | inr apart ↦ second.1.others job apart ∙ first.0.end ];
-        other_ends = λ name found. ap z (sym (only_one plan name found)) ∙ second.0.end;
-      },
-      record { nodes = nodes; has = is; is = validated.is },
-    )
+ready_at : (job plan : List ℕ) (p : Program) (nodes : List Node) (x y z : Contents) → IsValid p nodes → IsJobRead job p x y × TakesFrom job x y
+    → IsPlanRead p plan nodes y z × TakesFrom plan y z → IsReady (Valid job plan) p x z
+ready_at job plan p nodes x y z valid first second = record {
+  has = first.0.has;
+  plan = λ name named. (nodes, by_name name named (has_plan_at job plan p nodes x y first second.0.has), valid);
+  texts = two_texts job plan x y z (one_text job x y first.0.end first.1) second.0.end second.1;
+}
   where
     by_name : (name : List ℕ) → Some plan ≡ Some name → HasPlan job plan x p nodes → HasPlan job name x p nodes
     by_name name named is = let same : plan ≡ name = cc in subst (λ n. HasPlan job n x p nodes) same is
 
-pub is_validated : (job plan : List ℕ) (p : Program) (nodes : List Node) (text : List ℕ) (a b c : Option Contents) → WhereTold a b (IsJobRead job p) → WhereTold a b (TakesFrom job) → IsAccepted p → WhereTold b c (IsPlanRead p plan nodes) → WhereTold b c (TakesFrom plan) → IsValidated p nodes text → WhereTold a c (IsWritten (Valid job plan) text)
-is_validated job plan p nodes text a b c read taken accepted found also validated =
-    told_then (λ x y. IsJobRead job p x y × TakesFrom job x y) (λ y z. IsPlanRead p plan nodes y z × TakesFrom plan y z) (IsWritten (Valid job plan) text) a b c
-    (λ x y z first second. validated_at job plan p nodes text x y z accepted validated first second) (told_both (IsJobRead job p) (TakesFrom job) a b read taken) (told_both (IsPlanRead p plan nodes) (TakesFrom plan) b c found also)
+pub is_ready : (job plan : List ℕ) (p : Program) (nodes : List Node) (a b c : Option Contents) → WhereTold a b (IsJobRead job p) → WhereTold a b (TakesFrom job)
+    → WhereTold b c (IsPlanRead p plan nodes) → WhereTold b c (TakesFrom plan) → IsValid p nodes → WhereTold a c (IsReady (Valid job plan) p)
+is_ready job plan p nodes a b c read taken found also valid =
+    told_then (λ x y. IsJobRead job p x y × TakesFrom job x y) (λ y z. IsPlanRead p plan nodes y z × TakesFrom plan y z) (IsReady (Valid job plan) p) a b c
+    (λ x y z first second. ready_at job plan p nodes x y z valid first second)
+    (told_both (IsJobRead job p) (TakesFrom job) a b read taken) (told_both (IsPlanRead p plan nodes) (TakesFrom plan) b c found also)
+
+pub has_nodes : (job plan : List ℕ) (p : Program) (nodes : List Node) (a b c : Option Contents) → WhereTold a b (IsJobRead job p) → WhereTold a b (TakesFrom job)
+    → WhereTold b c (IsPlanRead p plan nodes) → WhereTold a c (HasNodes job plan p nodes)
+has_nodes job plan p nodes a b c read taken found =
+    told_then (λ x y. IsJobRead job p x y × TakesFrom job x y) (IsPlanRead p plan nodes) (HasNodes job plan p nodes) a b c
+    (λ x y z first second. has_plan_at job plan p nodes x y first second.has) (told_both (IsJobRead job p) (TakesFrom job) a b read taken) found
+
+-- ---- the normal form of a valid plan
+validated_at : (job plan : List ℕ) (p : Program) (nodes : List Node) (text : List ℕ) (x z : Contents) → IsAccepted p → text ≡ printed p nodes
+    → IsReady (Valid job plan) p x z × HasNodes job plan p nodes x z → IsWritten (Valid job plan) text x z
+validated_at job plan p nodes text x z accepted is both = (
+  p,
+  record {
+    good = record { has = both.0.has; accepted = λ asked. accepted; plan = both.0.plan; sources = λ asked. absurd (false≢true asked) };
+    job_end = both.0.texts.ends job (0, omega arith, refl);
+    other_ends = λ name found. both.0.texts.ends name (Contains-append_right (job ∷ []) (plan ∷ []) name found);
+  },
+  record { nodes = nodes; has = both.1; is = is },
+)
+
+pub is_validated : (job plan : List ℕ) (p : Program) (nodes : List Node) (text : List ℕ) (a c : Option Contents) → IsAccepted p → WhereTold a c (IsReady (Valid job plan) p)
+    → WhereTold a c (HasNodes job plan p nodes) → text ≡ printed p nodes → WhereTold a c (IsWritten (Valid job plan) text)
+is_validated job plan p nodes text a c accepted ready found is =
+    told_weaker (λ x z. IsReady (Valid job plan) p x z × HasNodes job plan p nodes x z) (IsWritten (Valid job plan) text) a c
+    (λ x z both. validated_at job plan p nodes text x z accepted is both) (told_both (IsReady (Valid job plan) p) (HasNodes job plan p nodes) a c ready found)
 
 pub only_with_plan : (job plan : List ℕ) (p : Program) (a b c : Option Contents) → WhereTold a b (IsJobRead job p) → WhereTold a b (TakesFrom job) → IsAccepted p → WhereTold b c (TakesFrom plan) → WhereTold a c (TookOnly (IsReadName a (Valid job plan)))
 only_with_plan job plan p a b c read taken accepted also =

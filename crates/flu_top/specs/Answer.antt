@@ -9,6 +9,7 @@ use Rattle.flu_outside.specs.declared.files.TakeFault.TheVariants as takes
 use Rattle.flu_top.specs.declared.refusals.PlanDefect.TheVariants as defects
 use Rattle.flu_top.specs.declared.refusals.Refusal.{Refusal}
 use Rattle.flu_top.specs.declared.refusals.Refusal.TheVariants as refusals
+use Rattle.flu_top.specs.Jobs.{program_read}
 use Rattle.flu_top.specs.Names.{source_name}
 use Rattle.flu_top.specs.Lines.{bad_words_line, job_fault_line, conflict_line, plan_defect_line, source_fault_line, read_fault_line, write_fault_line, no_memory_line}
 
@@ -17,7 +18,7 @@ status_of (refusals.BadWords bad) = 2
 status_of (refusals.JobFault fault) = 3
 status_of (refusals.Conflict fault) = 4
 status_of (refusals.PlanDefect defect) = 5
-status_of (refusals.SourceFault p fault) = 6
+status_of (refusals.SourceFault job fault) = 6
 status_of refusals.ReadFault = 7
 status_of refusals.WriteFault = 8
 status_of refusals.NoMemory = 9
@@ -27,7 +28,7 @@ line_of (refusals.BadWords bad) = bad_words_line bad.at
 line_of (refusals.JobFault fault) = job_fault_line fault
 line_of (refusals.Conflict fault) = conflict_line fault
 line_of (refusals.PlanDefect defect) = plan_defect_line defect
-line_of (refusals.SourceFault p fault) = source_fault_line (source_name p fault.source) fault.row fault.why
+line_of (refusals.SourceFault job fault) = source_fault_line (source_name (program_read job) fault.source) fault.row fault.why
 line_of refusals.ReadFault = read_fault_line
 line_of refusals.WriteFault = write_fault_line
 line_of refusals.NoMemory = no_memory_line

@@ -1,5 +1,5 @@
--- What a job's text and its sources are, where the files tell what they have left when a call begins.
-use Rattle.std.specs.Prelude.{ℕ, List, [], option_map, Option, if◌then◌else◌}
+-- What a job's text, a plan's and the sources are, where the files tell what they have left when a call begins.
+use Rattle.std.specs.Prelude.{ℕ, List, [], ◌∷◌, option_map, Option, if◌then◌else◌}
 use Rattle.std.specs.Str.{bytes_eq}
 use Rattle.flu_outside.specs.Outside.{Contents}
 use Rattle.flu_model.specs.declared.jobs.Program.{Program}
@@ -18,17 +18,22 @@ use Rattle.flu_streams.specs.Good.{first_fault, lists_of}
 abbrev pub HasJob : List ℕ → Contents → Program → Type 0
 HasJob job left p = IsJobText (bytes_left left job) (job_of p)
 
--- what is left behind the job's text, which was read to its end: another file with the job's name is empty
+-- what is left behind a text, which was read to its end: another file with its name is empty
 unfoldable pub emptied : List ℕ → Contents → Contents
-emptied job left name = if bytes_eq name job then option_map (λ bytes. []) (left name) else left name
+emptied text left name = if bytes_eq name text then option_map (λ bytes. []) (left name) else left name
 
--- the first fault of the program's sources
-unfoldable pub fault_behind : List ℕ → Contents → Program → Option SourceFault
-fault_behind job left p = first_fault p (emptied job left)
+-- what is left behind several texts, one read after another
+abbrev pub emptied_each : List (List ℕ) → Contents → Contents
+emptied_each [] left = left
+emptied_each (text ∷ texts) left = emptied_each texts (emptied text left)
 
--- the report of the fold of all events of the program's sources from the empty state
-unfoldable pub report_behind : List ℕ → Contents → Program → List ℕ
-report_behind job left p = reports.report p (final_outputs p nothing_held (lists_of p (emptied job left)))
+-- the first fault of the program's sources, which are read behind some texts
+unfoldable pub fault_behind : List (List ℕ) → Contents → Program → Option SourceFault
+fault_behind texts left p = first_fault p (emptied_each texts left)
+
+-- the report of the fold of all events of the program's sources, which are read behind some texts, from the empty state
+unfoldable pub report_behind : List (List ℕ) → Contents → Program → List ℕ
+report_behind texts left p = reports.report p (final_outputs p nothing_held (lists_of p (emptied_each texts left)))
 
 -- the bytes under a plan's name, which are read behind the job's
 unfoldable pub plan_behind : List ℕ → List ℕ → Contents → List ℕ

@@ -21,7 +21,8 @@ use Rattle.flu_top.specs.declared.refusals.PlanDefect.TheVariants as defects
 use Rattle.flu_top.specs.Words.{Command}
 use Rattle.flu_top.specs.Behind.{HasJob, HasPlan, fault_behind, plan_behind}
 use Rattle.flu_top.specs.TextFaults.{IsFirstJobFault, IsFirstTextFault}
-use Rattle.flu_top.specs.Wants.{job_named, plan_named, asks_accepted, reads_sources}
+use Rattle.flu_top.specs.Wants.{job_named, plan_named, asks_accepted, reads_sources, texts_named}
+use Rattle.flu_top.specs.Done.{HasPlanAsked}
 
 -- the bytes under the job's name are the text of this program, and were read to their end
 pub record IsJobRead (job : List ℕ) (p : Program) (old new : Contents) : Type 0 where
@@ -79,9 +80,9 @@ HasPlanDefect command old new (defects.Invalid checked fault) = HasInvalidPlan c
 
 -- ---- the sources
 -- the command reads sources, the bytes under the job's name are the text of this program, which is accepted where the command
--- asks for that, and this is the first fault of its sources
+-- asks for that, a plan that the command names is valid for it, and this is the first fault of its sources
 pub record HasSourceFault (command : Command) (old new : Option Contents) (p : Program) (fault : SourceFault) : Type 0 where
   pub asked : IsTrue (reads_sources command)
   pub accepted : IsTrue (asks_accepted command) → IsAccepted p
   pub source : fault.source < length p.sources
-  pub first : WhereTold old new (λ left _. HasJob (job_named command) left p × (fault_behind (job_named command) left p ≡ Some fault))
+  pub first : WhereTold old new (λ left _. HasJob (job_named command) left p × HasPlanAsked command left p × (fault_behind (texts_named command) left p ≡ Some fault))

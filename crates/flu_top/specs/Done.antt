@@ -8,19 +8,23 @@ use Rattle.flu_model.specs.Validity.{IsValid}
 use Rattle.flu_outside.specs.Writing.{AppendsAll, AppendsPart}
 use Rattle.flu_top.specs.Words.{Command, command_in}
 use Rattle.flu_top.specs.Behind.{HasJob, HasPlan, fault_behind}
-use Rattle.flu_top.specs.Wants.{job_named, plan_named, asks_accepted, reads_sources, files_read, Writes}
+use Rattle.flu_top.specs.Wants.{job_named, plan_named, asks_accepted, reads_sources, texts_named, files_read, Writes}
 
 -- the text under a name, which is read behind the job's, is a plan that is valid for the job
 abbrev pub HasValidPlan : List ℕ → List ℕ → Contents → Program → Type 0
 HasValidPlan job plan left p = (nodes : List Node) × HasPlan job plan left p nodes × IsValid p nodes
+
+-- the plan that the command names, if it names one, is valid for the job
+abbrev pub HasPlanAsked : Command → Contents → Program → Type 0
+HasPlanAsked command left p = (plan : List ℕ) → plan_named command ≡ Some plan → HasValidPlan (job_named command) plan left p
 
 -- the program is the command's job, which is accepted where the command asks for that, the plan that the command names is valid
 -- for it, and its sources have no defect where the command reads them
 pub record IsGood (command : Command) (left : Contents) (p : Program) : Type 0 where
   pub has : HasJob (job_named command) left p
   pub accepted : IsTrue (asks_accepted command) → IsAccepted p
-  pub plan : (plan : List ℕ) → plan_named command ≡ Some plan → HasValidPlan (job_named command) plan left p
-  pub sources : IsTrue (reads_sources command) → fault_behind (job_named command) left p ≡ None
+  pub plan : HasPlanAsked command left p
+  pub sources : IsTrue (reads_sources command) → fault_behind (texts_named command) left p ≡ None
 
 -- nothing refuses the command, and its job and all else that it reads were read to their end
 pub record IsRead (command : Command) (p : Program) (old new : Contents) : Type 0 where

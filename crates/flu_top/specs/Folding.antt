@@ -10,6 +10,7 @@ use Rattle.flu_streams.specs.Files.{files_of, OneRose}
 use Rattle.flu_streams.specs.Good.{first_fault, lists_of}
 use Rattle.flu_top.specs.declared.refusals.Refusal.{Refusal}
 use Rattle.flu_top.specs.declared.refusals.Refusal.TheVariants as refusals
+use Rattle.flu_top.specs.Jobs.{program_read}
 
 -- the program's sources have no defect, this is the report of the fold of their events, and they were read to their end
 pub record IsReported (p : Program) (report : List ℕ) (old new : Contents) : Type 0 where
@@ -29,7 +30,7 @@ IsReportRefusal p old new before now (refusals.BadWords bad) = ⊥
 IsReportRefusal p old new before now (refusals.JobFault fault) = ⊥
 IsReportRefusal p old new before now (refusals.Conflict fault) = ⊥
 IsReportRefusal p old new before now (refusals.PlanDefect defect) = ⊥
-IsReportRefusal p old new before now (refusals.SourceFault q fault) = IsFaulty p old new q fault
+IsReportRefusal p old new before now (refusals.SourceFault job fault) = IsFaulty p old new (program_read job) fault
 IsReportRefusal p old new before now refusals.ReadFault = OneRose (files_of p.sources) before now
 IsReportRefusal p old new before now refusals.WriteFault = ⊥
 IsReportRefusal p old new before now refusals.NoMemory = ⊤

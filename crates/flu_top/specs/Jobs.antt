@@ -1,9 +1,18 @@
--- What refuses the reading of a job.
+-- A job that was read, and what refuses the reading of one.
 use Rattle.std.specs.Prelude.{ℕ, List, Option, ⊤}
 use Rattle.flu_outside.specs.Outside.{Contents, Rose}
+use Rattle.flu_model.specs.declared.jobs.Program.{Program}
+use Rattle.flu_deps.specs.Checking.{program_of}
+use Rattle.flu_top.specs.declared.refusals.JobRead.{JobRead}
+use Rattle.flu_top.specs.declared.refusals.JobRead.TheVariants as read
 use Rattle.flu_top.specs.declared.refusals.Refusal.{Refusal}
 use Rattle.flu_top.specs.declared.refusals.Refusal.TheVariants as refusals
 use Rattle.flu_top.specs.Causes.{HasJobFault}
+
+-- the program of a job that was read
+abbrev pub program_read : JobRead → Program
+program_read (read.Unchecked p) = p
+program_read (read.Accepted checked) = program_of checked
 
 -- why a job was not read
 abbrev pub IsJobRefusal : List ℕ → Option Contents → Option Contents → (List ℕ → ℕ) → (List ℕ → ℕ) → Refusal → Type 0
@@ -11,7 +20,7 @@ IsJobRefusal job old new before now (refusals.BadWords bad) = ⊥
 IsJobRefusal job old new before now (refusals.JobFault fault) = HasJobFault job old new fault
 IsJobRefusal job old new before now (refusals.Conflict fault) = ⊥
 IsJobRefusal job old new before now (refusals.PlanDefect defect) = ⊥
-IsJobRefusal job old new before now (refusals.SourceFault p fault) = ⊥
+IsJobRefusal job old new before now (refusals.SourceFault other fault) = ⊥
 IsJobRefusal job old new before now refusals.ReadFault = Rose (before job) (now job)
 IsJobRefusal job old new before now refusals.WriteFault = ⊥
 IsJobRefusal job old new before now refusals.NoMemory = ⊤

@@ -12,8 +12,8 @@ use Rattle.flu_top.specs.Words.{Command, command_in}
 use Rattle.flu_top.specs.Taking.{TookOnly}
 use Rattle.flu_top.specs.Behind.{HasJob, fault_behind}
 use Rattle.flu_top.specs.TextFaults.{IsFirstJobFault}
-use Rattle.flu_top.specs.Wants.{job_named, plan_named, asks_accepted, reads_sources}
-use Rattle.flu_top.specs.Done.{HasValidPlan, IsGood, IsDone, IsPartlyDone, IsReadBy}
+use Rattle.flu_top.specs.Wants.{job_named, plan_named, asks_accepted, reads_sources, texts_named}
+use Rattle.flu_top.specs.Done.{HasValidPlan, HasPlanAsked, IsGood, IsDone, IsPartlyDone, IsReadBy}
 use Rattle.flu_top.specs.Causes.{HasJobFault, HasConflict, HasPlanDefect, HasSourceFault}
 use Rattle.flu_top.specs.Names.{source_name}
 use Rattle.flu_top.specs.Lines.{bad_words_line, job_fault_line, conflict_line, plan_defect_line, source_fault_line, read_fault_line, write_fault_line, no_memory_line}
@@ -171,7 +171,7 @@ PlanDefectIsRefused =
     → plan_named command ≡ Some plan → HasJob (job_named command) left p → IsAccepted p → ¬ HasValidPlan (job_named command) plan left p
     → (status ≡ 5) ⊎ (status ≡ 9)
 
--- a source with a defect, where the command reads sources, has status 6, or 9
+-- a source with a defect, where the command reads sources and a plan that it names is valid, has status 6, or 9
 abbrev pub SourceFaultIsRefused : Type 0
 SourceFaultIsRefused =
     (words : List (List ℕ)) (told : Option Contents) (before now : List ℕ → ℕ) (out_before out_now status : ℕ)
@@ -179,7 +179,7 @@ SourceFaultIsRefused =
     → (command : Command) (left : Contents) (p : Program) (fault : SourceFault) → command_in words ≡ Ok command → told ≡ Some left
     → NothingFailed command told before now out_before out_now
     → IsTrue (reads_sources command) → HasJob (job_named command) left p → (IsTrue (asks_accepted command) → IsAccepted p)
-    → fault_behind (job_named command) left p ≡ Some fault
+    → HasPlanAsked command left p → fault_behind (texts_named command) left p ≡ Some fault
     → (status ≡ 6) ⊎ (status ≡ 9)
 
 -- completeness follows from the outcome, where 7 and 8 come only from faults of the outside

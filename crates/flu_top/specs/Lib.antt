@@ -7,12 +7,13 @@ pub mod Rates
 pub mod Wants
 pub mod Done
 pub mod Causes
+pub mod Ready
 pub mod Names
 pub mod Lines
 pub mod Outcome
 pub mod Laws
-pub mod Answer
 pub mod Jobs
+pub mod Answer
 pub mod Folding
 pub mod Checking
 pub mod Plans

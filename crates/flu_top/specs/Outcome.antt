@@ -13,8 +13,8 @@ use Rattle.flu_top.specs.Words.{Command, command_in}
 use Rattle.flu_top.specs.Taking.{TookOnly}
 use Rattle.flu_top.specs.Behind.{HasJob, fault_behind}
 use Rattle.flu_top.specs.TextFaults.{IsFirstJobFault}
-use Rattle.flu_top.specs.Wants.{want}
-use Rattle.flu_top.specs.Done.{HasValidPlan, IsGood, IsDone, IsPartlyDone, IsReadName, IsReadBy}
+use Rattle.flu_top.specs.Wants.{want, texts_named}
+use Rattle.flu_top.specs.Done.{HasValidPlan, HasPlanAsked, IsGood, IsDone, IsPartlyDone, IsReadName, IsReadBy}
 use Rattle.flu_top.specs.Causes.{HasJobFault, HasConflict, HasPlanDefect, HasSourceFault}
 use Rattle.flu_top.specs.Names.{source_name}
 use Rattle.flu_top.specs.Lines.{IsSaid, bad_words_line, job_fault_line, conflict_line, plan_defect_line, source_fault_line}
@@ -102,7 +102,7 @@ pub data CallsFor (command : Command) (left : Contents) (status : ℕ) : Type 0 
       → ¬ HasValidPlan (want command).job plan left p → CallsFor command left status
   FaultySource : status ≡ 6 → (p : Program) (fault : SourceFault) → IsTrue (want command).sources
       → HasJob (want command).job left p → (IsTrue (want command).accepted → IsAccepted p)
-      → fault_behind (want command).job left p ≡ Some fault → CallsFor command left status
+      → HasPlanAsked command left p → fault_behind (texts_named command) left p ≡ Some fault → CallsFor command left status
 
 -- no name that the command reads failed, and out did not
 pub record NothingFailed (command : Command) (left : Option Contents) (before now : List ℕ → ℕ)

@@ -3,13 +3,11 @@ use Rattle.std.specs.Prelude.{◌≡◌, ◌≢◌, ℕ, List, [], Option, Some,
 use Rattle.flu_outside.specs.Outside.{Contents, WhereTold, Rose}
 use Rattle.flu_model.specs.declared.jobs.Program.{Program}
 use Rattle.flu_model.specs.declared.plans.Node.{Node}
-use Rattle.flu_model.specs.Validity.{IsValid}
 use Rattle.flu_deps.specs.declared.checked.Checked.{Checked}
 use Rattle.flu_deps.specs.Checking.{program_of}
 use Rattle.flu_outside.specs.Taking.{bytes_left}
 use Rattle.flu_plan.specs.declared.fault.PlanFault.{PlanFault}
 use Rattle.flu_plan.specs.declared.fault.PlanFault.TheVariants as faults
-use Rattle.flu_plan.specs.Printing.{printed}
 use Rattle.flu_grammar.specs.Plans.{IsPlanText}
 use Rattle.flu_top.specs.TextFaults.{IsFirstTextFault}
 use Rattle.flu_top.specs.declared.refusals.PlanDefect.TheVariants as defects
@@ -39,12 +37,7 @@ IsTextRefusal p plan old new before now refusals.ReadFault = Rose (before plan) 
 IsTextRefusal p plan old new before now refusals.WriteFault = ⊥
 IsTextRefusal p plan old new before now refusals.NoMemory = ⊤
 
--- the plan is valid for the job, and this is its normal form
-pub record IsValidated (p : Program) (nodes : List Node) (text : List ℕ) : Type 0 where
-  pub valid : IsValid p nodes
-  pub is : text ≡ printed p nodes
-
--- why there is no normal form of a plan that was read
+-- why a plan that was read is not taken
 abbrev pub IsValidRefusal : Checked → List Node → Refusal → Type 0
 IsValidRefusal checked nodes (refusals.BadWords bad) = ⊥
 IsValidRefusal checked nodes (refusals.JobFault fault) = ⊥

@@ -6,6 +6,7 @@ use Rattle.flu_top.specs.declared.refusals.Refusal.TheVariants as refusals
 use Rattle.flu_top.specs.Words.{Command}
 use Rattle.flu_top.specs.Wants.{job_named}
 use Rattle.flu_top.specs.Done.{IsReadName}
+use Rattle.flu_top.specs.Jobs.{program_read}
 use Rattle.flu_top.specs.Causes.{HasJobFault, HasConflict, HasPlanDefect, HasSourceFault}
 
 -- a name that is read failed
@@ -18,7 +19,7 @@ IsRefusal command old new before now (refusals.BadWords bad) = ⊥
 IsRefusal command old new before now (refusals.JobFault fault) = HasJobFault (job_named command) old new fault
 IsRefusal command old new before now (refusals.Conflict fault) = HasConflict command old new fault
 IsRefusal command old new before now (refusals.PlanDefect defect) = HasPlanDefect command old new defect
-IsRefusal command old new before now (refusals.SourceFault p fault) = HasSourceFault command old new p fault
+IsRefusal command old new before now (refusals.SourceFault job fault) = HasSourceFault command old new (program_read job) fault
 IsRefusal command old new before now refusals.ReadFault = HasReadFault command old before now
 IsRefusal command old new before now refusals.WriteFault = ⊥
 IsRefusal command old new before now refusals.NoMemory = ⊤

@@ -8,7 +8,7 @@ use Rattle.flu_parse.specs.Printing.{normal_form}
 use Rattle.flu_plan.specs.Printing.{printed}
 use Rattle.flu_planner.specs.Plans.{IsGreedyPlan}
 use Rattle.flu_streams.specs.Files.{files_of}
-use Rattle.flu_top.specs.Words.{Command, Fold, Check, Valid, Plan}
+use Rattle.flu_top.specs.Words.{Command, Fold, Check, Valid, Plan, Run}
 use Rattle.flu_top.specs.Behind.{HasPlan, report_behind}
 use Rattle.flu_top.specs.Rates.{source_rates}
 
@@ -24,6 +24,11 @@ pub record IsPlanPrinted (job plan : List ℕ) (left : Contents) (p : Program) (
   pub has : HasPlan job plan left p nodes
   pub is : text ≡ printed p nodes
 
+-- the file of a plan, if there is one
+abbrev pub plan_files : Option (List ℕ) → List (List ℕ)
+plan_files None = []
+plan_files (Some plan) = plan ∷ []
+
 -- what a command wants
 pub record Want : Type 1 where
   -- the name of the job that it reads, and whether that has to be accepted
@@ -36,14 +41,15 @@ pub record Want : Type 1 where
   -- the text that it writes, by what its files have left and by the job's program
   pub writes : Contents → Program → List ℕ → Type 0
 
--- the report of the fold; the normal form of the job; the normal form of the plan; the text of a greedy plan
+-- the report of the fold; the normal form of the job; the normal form of the plan; the text of a greedy plan; the report of
+-- the fold again, which a run on the tree of threads gives too
 abbrev pub want : Command → Want
 want (Fold job) = record {
   job = job;
   accepted = false;
   plan = None;
   sources = true;
-  writes = λ left p text. text ≡ report_behind job left p;
+  writes = λ left p text. text ≡ report_behind (job ∷ []) left p;
 }
 want (Check job) = record {
   job = job;
@@ -66,6 +72,13 @@ want (Plan job depth) = record {
   sources = false;
   writes = λ left p text. IsGreedyText p depth text;
 }
+want (Run job plan) = record {
+  job = job;
+  accepted = true;
+  plan = plan;
+  sources = true;
+  writes = λ left p text. text ≡ report_behind (job ∷ plan_files plan) left p;
+}
 
 -- ---- the same, each by its own name
 -- the name of the job that a command reads
@@ -84,14 +97,13 @@ asks_accepted command = (want command).accepted
 abbrev pub reads_sources : Command → Bool
 reads_sources command = (want command).sources
 
+-- the names of the texts that a command reads, one after another: its job's, and its plan's, if it reads one
+abbrev pub texts_named : Command → List (List ℕ)
+texts_named command = job_named command ∷ plan_files (plan_named command)
+
 -- this text is what a command writes
 abbrev pub Writes : Command → Contents → Program → List ℕ → Type 0
 Writes command = (want command).writes
-
--- the file of a plan, if there is one
-abbrev pub plan_files : Option (List ℕ) → List (List ℕ)
-plan_files None = []
-plan_files (Some plan) = plan ∷ []
 
 -- the files that a command reads besides its job
 abbrev pub files_read : Command → Program → List (List ℕ)

@@ -1,16 +1,17 @@
 -- The words of a command.
-use Rattle.std.specs.Prelude.{ℕ, List, [], ◌∷◌, Bool, false, not, ◌==◌, if◌then◌else◌, Option, Some, None, Result, Ok, Err, codes}
+use Rattle.std.specs.Prelude.{ℕ, List, [], ◌∷◌, Bool, false, not, ◌==◌, if◌then◌else◌, Option, Some, None, option_map, Result, Ok, Err, codes}
 use Rattle.std.specs.Str.{bytes_eq}
 use Rattle.flu_top.specs.declared.words.Command.{Command as NamedCommand}
 use Rattle.flu_top.specs.declared.words.Command.TheVariants as named
 use Rattle.flu_top.specs.Depths.{depth_of}
 
--- what the words ask for, each with the names of its files, and how deep a plan is wanted
+-- what the words ask for, each with the names of its files, where a plan may be left out, and how deep a plan is wanted
 pub data Command : Type 0 where
   Fold : (job : List ℕ) → Command
   Check : (job : List ℕ) → Command
   Valid : (job plan : List ℕ) → Command
   Plan : (job : List ℕ) → (depth : ℕ) → Command
+  Run : (job : List ℕ) → (plan : Option (List ℕ)) → Command
 
 -- a command without where its names lie in memory
 abbrev pub plain_command : NamedCommand → Command
@@ -18,6 +19,7 @@ plain_command (named.Fold job) = Fold job.now
 plain_command (named.Check job) = Check job.now
 plain_command (named.Valid job plan) = Valid job.now plan.now
 plain_command (named.Plan job depth) = Plan job.now depth.levels
+plain_command (named.Run job plan) = Run job.now (option_map (λ name. name.now) plan)
 
 -- a word that can name a file: it is not empty and does not begin with a dash
 abbrev pub is_file_name : List ℕ → Bool
@@ -81,12 +83,30 @@ abbrev pub on_depth : (List ℕ → ℕ → Command) → Result (List ℕ × ℕ
 on_depth command (Ok both) = Ok (command both.0 both.1)
 on_depth command (Err at) = Err at
 
+abbrev pub no_word_after_plan : List ℕ → List ℕ → List (List ℕ) → Result (List ℕ × Option (List ℕ)) ℕ
+no_word_after_plan job plan [] = Ok (job, Some plan)
+no_word_after_plan job plan (w ∷ ws) = Err 3
+
+abbrev pub any_plan_after : List ℕ → List (List ℕ) → Result (List ℕ × Option (List ℕ)) ℕ
+any_plan_after job [] = Ok (job, None)
+any_plan_after job (w ∷ ws) = if is_file_name w then no_word_after_plan job w ws else Err 2
+
+-- the name of a job and, where there is one, of a plan in the words behind a command that has no others
+abbrev pub job_and_any_plan : List (List ℕ) → Result (List ℕ × Option (List ℕ)) ℕ
+job_and_any_plan [] = Err 1
+job_and_any_plan (w ∷ ws) = if is_file_name w then any_plan_after w ws else Err 1
+
+abbrev pub on_any_plan : (List ℕ → Option (List ℕ) → Command) → Result (List ℕ × Option (List ℕ)) ℕ → Result Command ℕ
+on_any_plan command (Ok names) = Ok (command names.0 names.1)
+on_any_plan command (Err at) = Err at
+
 abbrev pub command_of : List ℕ → List (List ℕ) → Result Command ℕ
 command_of w ws =
     if bytes_eq w (codes "fold") then on_job Fold (job_alone ws)
     else if bytes_eq w (codes "check") then on_job Check (job_alone ws)
     else if bytes_eq w (codes "valid") then on_both Valid (job_and_plan ws)
-    else if bytes_eq w (codes "plan") then on_depth Plan (job_and_depth ws) else Err 0
+    else if bytes_eq w (codes "plan") then on_depth Plan (job_and_depth ws)
+    else if bytes_eq w (codes "run") then on_any_plan Run (job_and_any_plan ws) else Err 0
 
 -- the command that words are, or the number from 0 of the first word that does not fit, which is the number of words where
 -- one is missing

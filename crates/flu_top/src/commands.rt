@@ -12,14 +12,24 @@ use crate::checking::check_job;
 use crate::folding::fold_job;
 use crate::planning::plan_job;
 use crate::refusals::Refusal;
+use crate::running::{run_greedily, run_planned};
 use crate::validating::valid_plan;
 use crate::words::Command;
 use flu_model::Text;
 use flu_outside::Files;
+use flu_seq::Gate;
 use std::alloc::Global;
+use std::sync::Wait;
+use std::thread::Threads;
 
 /// What a command writes, or why there is nothing to write.
-pub fn run<F: Files>(alloc: Global, files: &mut F, command: Command) -> Result<Text, Refusal>
+pub fn run<F: Files, G: Gate, R: Threads + Wait + Sync>(
+    rt: &R,
+    alloc: Global,
+    files: &mut F,
+    command: Command,
+    gate: &G,
+) -> Result<Text, Refusal>
     ensures written { IfOk result (λ text. WhereTold (F.left files.old) (F.left files.new) (IsWritten (plain_command command.entry) text)) }
     ensures refused { IfErr result (IsRefusal (plain_command command.entry) (F.left files.old) (F.left files.new) (F.faults files.old) (F.faults files.new)) }
     ensures fronts { WhereTold (F.left files.old) (F.left files.new) TookFronts }
@@ -30,5 +40,10 @@ pub fn run<F: Files>(alloc: Global, files: &mut F, command: Command) -> Result<T
         Command::Check { job } => check_job(alloc, files, job),
         Command::Valid { job, plan } => valid_plan(alloc, files, job, plan),
         Command::Plan { job, depth } => plan_job(alloc, files, job, depth),
+        Command::Run {
+            job,
+            plan: Some(plan),
+        } => run_planned(rt, alloc, files, job, plan, gate),
+        Command::Run { job, plan: None } => run_greedily(rt, alloc, files, job, gate),
     }
 }

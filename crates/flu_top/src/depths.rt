@@ -16,6 +16,9 @@ pub struct Depth {
     pub ghost at_most: { levels ≤ 6 },
 }
 
+/// How deep a plan is where no depth is given: three levels below its root.
+pub const USUAL_DEPTH: Depth = Depth { levels: 3 };
+
 /// The depth that the bytes of a word ask for: one to ten digits, of a number from 0 to 6.
 #[tactic(auto, unfolding(crate::specs::Depths::depth_of))]
 pub fn depth_of(digits: &[u8]) -> Option<Depth>

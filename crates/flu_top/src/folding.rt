@@ -16,7 +16,7 @@ ghost use Rattle.flu_top.specs.Folding.{IsReported, IsReportRefusal};
 ghost use Rattle.flu_top.specs.Refusing.{IsRefusal};
 
 use crate::programs::program_of;
-use crate::refusals::Refusal;
+use crate::refusals::{JobRead, Refusal};
 use flu_cells::State;
 use flu_model::{Program, Streams, Text};
 use flu_outside::Files;
@@ -47,7 +47,9 @@ fn report_of<F: Files>(alloc: Global, files: &mut F, program: Program) -> Result
 {
     let streams = match gather(alloc, &program, files) {
         Ok(streams) => streams,
-        Err(GatherFault::Source(fault)) => return Err(Refusal::SourceFault(program, fault)),
+        Err(GatherFault::Source(fault)) => {
+            return Err(Refusal::SourceFault(JobRead::Unchecked(program), fault));
+        }
         Err(GatherFault::ReadFault) => return Err(Refusal::ReadFault),
         Err(GatherFault::NoMemory) => return Err(Refusal::NoMemory),
     };

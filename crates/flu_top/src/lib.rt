@@ -1,6 +1,7 @@
 //! The top call: what the program does with its words, its files and its streams.
 #![tactic(auto)]
 
+mod backup;
 mod checking;
 mod commands;
 mod depths;
@@ -10,11 +11,14 @@ mod lines;
 mod names;
 mod pieces;
 mod plan_lines;
+mod planned;
 mod planning;
 mod plans;
 mod programs;
 mod rates;
 mod refusals;
+mod running;
+mod sharing;
 mod top;
 mod validating;
 mod words;

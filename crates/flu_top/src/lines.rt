@@ -42,10 +42,10 @@ fn write_line<E: Sink>(err: &mut E, refusal: &Refusal) -> Result<(), Failed>
         Refusal::JobFault(fault) => write_job_fault(err, fault),
         Refusal::Conflict(fault) => write_conflict(err, fault),
         Refusal::PlanDefect(defect) => write_plan_defect(err, defect),
-        Refusal::SourceFault(program, fault) => {
+        Refusal::SourceFault(job, fault) => {
             write_source_fault(
                 err,
-                source_name(program, fault.source),
+                source_name(job.program(), fault.source),
                 fault.row,
                 fault.why,
             )

@@ -10,15 +10,13 @@ ghost use Rattle.flu_top.specs.Checking.{IsCheckRefusal};
 ghost use Rattle.flu_top.specs.Planning.{IsPlanned};
 ghost use Rattle.flu_top.specs.Refusing.{IsRefusal};
 
-use crate::checking::accepted;
 use crate::depths::Depth;
+use crate::planned::planned_greedily;
 use crate::programs::program_of;
-use crate::rates::source_rates;
 use crate::refusals::Refusal;
 use flu_model::{Program, Text};
 use flu_outside::Files;
 use flu_plan::print_plan;
-use flu_planner::plan;
 use std::alloc::Global;
 
 /// The text of the greedy plan of the job that a file holds.
@@ -44,12 +42,10 @@ fn plan_text(alloc: Global, program: Program, depth: Depth) -> Result<Text, Refu
     ensures planned { IfOk result (IsPlanned program depth.levels) }
     ensures refused { IfErr result (IsCheckRefusal program) }
 {
-    let checked = match accepted(program) {
-        Ok(checked) => checked,
+    let planned = match planned_greedily(alloc, program, depth) {
+        Ok(planned) => planned,
         Err(refusal) => return Err(refusal),
     };
-    let rates = source_rates(alloc, checked.program())?;
-    let found = plan(alloc, &checked, &rates, depth.levels)?;
-    let text = print_plan(alloc, checked.program(), found.plan())?;
+    let text = print_plan(alloc, planned.checked.program(), planned.valid.plan())?;
     Ok(text)
 }

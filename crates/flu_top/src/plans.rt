@@ -25,6 +25,7 @@ pub fn plan_of<F: Files>(
     ensures read { IfOk result (λ found. WhereTold (F.left files.old) (F.left files.new) (IsPlanRead program.now plan.now found.nodes)) }
     ensures refused { IfErr result (IsTextRefusal program.now plan.now (F.left files.old) (F.left files.new) (F.faults files.old) (F.faults files.new)) }
     ensures taken { WhereTold (F.left files.old) (F.left files.new) (TakesFrom plan.now) }
+    ensures counts { (n : List ℕ) → F.faults files.old n ≤ F.faults files.new n }
 {
     plans_are_grammar();
     let bytes = read_whole(alloc, files, plan, MOST_BYTES)?;

@@ -14,6 +14,29 @@ use flu_streams::SourceFault;
 use flu_valid::ValidFault;
 use std::alloc::AllocError;
 
+/// A job that was read.
+#[derive(Drop)]
+pub enum JobRead {
+    /// Whether it is accepted was not asked.
+    Unchecked(Program),
+    /// It is accepted.
+    Accepted(Checked),
+}
+
+impl JobRead {
+    ghost use Rattle.flu_top.specs.Jobs.{program_read};
+
+    /// The job.
+    pub fn program(&self) -> &Program
+        ensures { result.now ≡ program_read self.now }
+    {
+        match self {
+            JobRead::Unchecked(program) => program,
+            JobRead::Accepted(checked) => checked.program(),
+        }
+    }
+}
+
 /// What is wrong with a plan.
 #[derive(Drop)]
 pub enum PlanDefect {
@@ -35,7 +58,7 @@ pub enum Refusal {
     /// The plan has a defect.
     PlanDefect(PlanDefect),
     /// A source of this job has a defect.
-    SourceFault(Program, SourceFault),
+    SourceFault(JobRead, SourceFault),
     /// A file that the command reads failed.
     ReadFault,
     /// Out failed.

@@ -19,6 +19,8 @@ use flu_outside::{Files, Sink};
 use flu_report::write_all;
 use flu_seq::Gate;
 use std::alloc::Global;
+use std::sync::Wait;
+use std::thread::Threads;
 
 /// Does what the words after the program's name say, and answers the status.
 ///
@@ -26,12 +28,18 @@ use std::alloc::Global;
 /// report to `out`. `check JOB` reads the job alone, which has to be accepted, and writes it in normal form. `valid JOB
 /// PLAN` reads such a job and then a plan, which has to be valid for it, and writes the plan in normal form. `plan JOB
 /// [--depth D]` reads such a job alone and writes the greedy plan of all its itags, by the rates of its sources, with
-/// at most D levels below the root: 0 to 6, and 3 where no depth is given. Status 0: all was written. Else the line of
-/// the answer goes to `err`, and a failure of `err` changes no status: 2 for words that are no command, 3 for a job
-/// text with a fault, 4 for a job that is not accepted, 5 for a plan text with a fault or a plan that is not valid, 6
-/// for a source with a defect, 7 where a file that was read failed, 8 where `out` failed, 9 where there was no memory.
-/// `docs/LANGUAGE.md` has the forms and the lines, and `docs/TRUST.md` what is to be believed.
-pub fn flumina<F: Files, K: Sink, E: Sink, G: Gate>(
+/// at most D levels below the root: 0 to 6, and 3 where no depth is given. `run JOB [PLAN]` reads such a job, a plan that
+/// is valid for it, or takes its greedy plan of depth 3, reads the sources, runs the events on a thread for each node of
+/// the plan and writes the report of the fold. Status 0: all was written. Else the line of the answer goes to `err`, and
+/// a failure of `err` changes no status: 2 for words that are no command, 3 for a job text with a fault, 4 for a job that
+/// is not accepted, 5 for a plan text with a fault or a plan that is not valid, 6 for a source with a defect, 7 where a
+/// file that was read failed, 8 where `out` failed, 9 where there was no memory. `docs/LANGUAGE.md` has the forms and the
+/// lines, and `docs/TRUST.md` what is to be believed.
+///
+/// Each worker of a run passes the gate before and after each of its updates. `run` alone starts threads, and waits for
+/// them: what is said here holds where the call returns.
+pub fn flumina<F: Files, K: Sink, E: Sink, G: Gate, R: Threads + Wait + Sync>(
+    rt: &R,
     alloc: Global,
     words: &[String],
     files: &mut F,
@@ -57,17 +65,18 @@ pub fn flumina<F: Files, K: Sink, E: Sink, G: Gate>(
 {
     jobs_are_grammar();
     plans_are_grammar();
-    let _ = gate;
-    let ended = do_words(alloc, words, files, out);
+    let ended = do_words(rt, alloc, words, files, out, gate);
     answer(err, ended)
 }
 
 // Does what the words say.
-fn do_words<F: Files, K: Sink>(
+fn do_words<F: Files, K: Sink, G: Gate, R: Threads + Wait + Sync>(
+    rt: &R,
     alloc: Global,
     words: &[String],
     files: &mut F,
     out: &mut K,
+    gate: &G,
 ) -> Result<(), Refusal>
     ensures ends { Ends (record { words = map string_bytes words.now; left = F.left files.old; left_after = F.left files.new; counts = F.faults files.old; counts_after = F.faults files.new; taken = K.taken out.old; taken_after = K.taken out.new; count = K.faults out.old; count_after = K.faults out.new }) result }
     ensures fronts { WhereTold (F.left files.old) (F.left files.new) TookFronts }
@@ -77,7 +86,7 @@ fn do_words<F: Files, K: Sink>(
         Ok(command) => command,
         Err(bad) => return Err(Refusal::BadWords(bad)),
     };
-    let text = match run(alloc, files, command) {
+    let text = match run(rt, alloc, files, command, gate) {
         Ok(text) => text,
         Err(refusal) => return Err(refusal),
     };

@@ -1,12 +1,9 @@
 //! The words of a command.
 
-ghost use Rattle.std.specs.Prelude.{◌≡◌, MatchResult, Ok, Err, map, string_bytes};
-ghost use Rattle.flu_top.specs.Words.{command_in, plain_command, job_alone, job_and_plan, job_and_depth, depth_after, is_file_name};
+ghost use Rattle.std.specs.Prelude.{◌≡◌, MatchResult, Ok, Err, map, option_map, string_bytes};
+ghost use Rattle.flu_top.specs.Words.{command_in, plain_command, job_alone, job_and_plan, job_and_depth, job_and_any_plan, depth_after, is_file_name};
 
-use crate::depths::{Depth, depth_of};
-
-/// How many levels a plan has below its root where no depth is given.
-const USUAL_LEVELS: u32 = 3;
+use crate::depths::{Depth, USUAL_DEPTH, depth_of};
 
 /// The words are no command: the place from 0 of the first word that does not fit, or the number of words where one is missing.
 #[derive(Clone, Copy, Debug, PartialEq, Eq)]
@@ -25,6 +22,8 @@ pub enum Command<'a> {
     Valid { job: &'a str, plan: &'a str },
     /// `plan JOB [--depth D]`: the greedy plan of the job, where it is accepted.
     Plan { job: &'a str, depth: Depth },
+    /// `run JOB [PLAN]`: the report of a run on the tree of threads, by the plan, or by the greedy plan where none is named.
+    Run { job: &'a str, plan: Option<&'a str> },
 }
 
 /// The command that words are.
@@ -50,6 +49,10 @@ pub fn read_words(words: &[String]) -> Result<Command<'_>, BadWords>
         "plan" => {
             let (job, depth) = job_and_depth(operands)?;
             Ok(Command::Plan { job, depth })
+        }
+        "run" => {
+            let (job, plan) = job_and_any_plan(operands)?;
+            Ok(Command::Run { job, plan })
         }
         _ => Err(BadWords { at: 0 }),
     }
@@ -97,6 +100,30 @@ fn job_and_plan(operands: &[String]) -> Result<(&str, &str), BadWords>
     Ok((job.as_str(), plan.as_str()))
 }
 
+// The name of a job and, where there is one, of a plan in the words behind a command that has no others.
+fn job_and_any_plan(operands: &[String]) -> Result<(&str, Option<&str>), BadWords>
+    ensures { MatchResult result
+        (λ names. job_and_any_plan (map string_bytes operands.now) ≡ Ok (names.0.now, option_map (λ name. name.now) names.1))
+        (λ bad. job_and_any_plan (map string_bytes operands.now) ≡ Err bad.at) }
+{
+    let [job, behind @ ..] = operands else {
+        return Err(BadWords { at: 1 });
+    };
+    if !is_file_name(job.as_str()) {
+        return Err(BadWords { at: 1 });
+    }
+    let [plan, others @ ..] = behind else {
+        return Ok((job.as_str(), None));
+    };
+    if !is_file_name(plan.as_str()) {
+        return Err(BadWords { at: 2 });
+    }
+    if !others.is_empty() {
+        return Err(BadWords { at: 3 });
+    }
+    Ok((job.as_str(), Some(plan.as_str())))
+}
+
 // The name of a job and a depth in the words behind a command that has no others.
 fn job_and_depth(operands: &[String]) -> Result<(&str, Depth), BadWords>
     ensures { MatchResult result
@@ -120,9 +147,7 @@ fn depth_after(options: &[String]) -> Result<Depth, BadWords>
         (λ bad. depth_after (map string_bytes options.now) ≡ Err bad.at) }
 {
     let [option, values @ ..] = options else {
-        return Ok(Depth {
-            levels: USUAL_LEVELS,
-        });
+        return Ok(USUAL_DEPTH);
     };
     if option.as_str() != "--depth" {
         return Err(BadWords { at: 2 });

@@ -13,6 +13,7 @@ pub const HELP: &str =
   flumina check JOB              say whether the job's work may be shared, write the job in normal form
   flumina valid JOB PLAN         say whether a plan shares that work rightly, write the plan in normal form
   flumina plan JOB [--depth D]   write a plan, with at most D levels below its root: 0 to 6, or 3
+  flumina run JOB [PLAN]         run the job on a thread for each node of the plan, or of a made one, write the report
   flumina --help                 write this
   flumina --version              write the version and the toolchain that proves it
 

@@ -7,7 +7,7 @@ use flu_seq::OpenGate;
 use flu_top::flumina;
 use std::io::{IsTerminal, Write};
 use std::process::ExitCode;
-use std::{env, io, rt, str};
+use std::{env, io, str};
 
 mod help;
 #[cfg(test)]
@@ -35,12 +35,7 @@ fn main(rt: HostRuntime) -> ExitCode {
 }
 
 /// Does what the words say over the files of the system, and answers the status.
-fn run<R: rt::Files + AllocGlobal + Drop, O: Write + Drop, E: Write + Drop>(
-    rt: R,
-    words: &[String],
-    out: O,
-    err: E,
-) -> u8 {
+fn run<O: Write + Drop, E: Write + Drop>(rt: &HostRuntime, words: &[String], out: O, err: E) -> u8 {
     answer(rt, words, &mut HostSink::new(out), &mut HostSink::new(err))
 }
 
@@ -67,16 +62,10 @@ fn run_for_a_person<O: Write + Drop, E: Write + Drop>(
 }
 
 // `--help` and `--version` are answered here, each as the only word; all other words go to the proved call as they are.
-fn answer<R: rt::Files + AllocGlobal + Drop, O: Sink, E: Sink>(
-    rt: R,
-    words: &[String],
-    out: &mut O,
-    err: &mut E,
-) -> u8 {
+fn answer<O: Sink, E: Sink>(rt: &HostRuntime, words: &[String], out: &mut O, err: &mut E) -> u8 {
     if let Some(text) = help::told(words) {
         return help::tell(text, out, err);
     }
-    let alloc = rt.alloc();
     let mut files = HostFiles::new(rt);
-    flumina(alloc, words, &mut files, out, err, &OpenGate)
+    flumina(rt, rt.alloc(), words, &mut files, out, err, &OpenGate)
 }

@@ -7,13 +7,16 @@ use super::jobs::{
 use super::{check_all, checked, folded, planned, refused, unchecked};
 use std::test::Fail;
 
-const QUOTES: &str = "1,quote,10\n5,quote,20\nend\n";
+pub const QUOTES: &str = "1,quote,10\n5,quote,20\nend\n";
 
-const NORTH: &str = "2,trade,3\n6,trade,1\nend\n";
+pub const NORTH: &str = "2,trade,3\n6,trade,1\nend\n";
 
-const SOUTH: &str = "3,trade,4\nend\n";
+pub const SOUTH: &str = "3,trade,4\nend\n";
 
-const DAYS: &str = "4,shut\n7,shut\nend\n";
+pub const DAYS: &str = "4,shut\n7,shut\nend\n";
+
+pub const PRICED: &str =
+    "2,trade,at 10\n3,trade,at 10\n4,shut,vol 70\n6,trade,at 20\n7,shut,vol 20\n";
 
 #[test]
 fn reads_are_shared_in_version_2(rt: HostRuntime) -> Result<(), Fail> {
@@ -49,7 +52,7 @@ fn trades_at_the_last_price(rt: HostRuntime) -> Result<(), Fail> {
                 ("t2.csv", SOUTH),
                 ("s.csv", DAYS),
             ],
-            "2,trade,at 10\n3,trade,at 10\n4,shut,vol 70\n6,trade,at 20\n7,shut,vol 20\n",
+            PRICED,
         ),
         folded(
             &[

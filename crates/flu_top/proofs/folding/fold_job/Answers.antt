@@ -1,14 +1,19 @@
+use Rattle.std.proofs.Common.{refl}
+use Rattle.std.proofs.lemmas.Bool.{false≢true}
 use Rattle.std.proofs.lemmas.Result.{IfOk-weaker, IfErr-weaker}
 use Rattle.flu_lemmas.proofs.Named.{fronts_at, fronts_then}
 use Rattle.flu_top.specs.Words.{Fold}
-use Rattle.flu_top.proofs.Sequence.{is_folded, job_refusal, report_refusal, only_job, only_both}
+use Rattle.flu_top.proofs.Sequence.{ready_alone, is_reported_behind, job_refusal, report_refusal, only_job, only_ready}
 use Rattle.flu_top.proofs.folding.fold_job.Goals as goal
 
 pub returns-in-Ok-clause-written : goal.returns-in-Ok-clause-written
 returns-in-Ok-clause-written g c =
     let job = c.args.job.now in
     let p = c.in-Ok.program in
-    IfOk-weaker c.report_of.result _ _ (λ report reported. is_folded job p report _ _ _ c.in-Ok.ensures.read c.in-Ok.ensures.taken c.report_of.ensures.others reported) c.report_of.ensures.reported
+    let ready = ready_alone (Fold job) p _ _ refl (λ x plan named. absurd (cc)) c.in-Ok.ensures.read c.in-Ok.ensures.taken in
+    IfOk-weaker c.report_of.result _ _
+    (λ report reported. is_reported_behind (Fold job) p report _ _ _ refl (λ asked. absurd (false≢true asked)) (λ left q text is. is) ready c.report_of.ensures.others reported)
+    c.report_of.ensures.reported
 
 pub returns-in-Ok-clause-refused : goal.returns-in-Ok-clause-refused
 returns-in-Ok-clause-refused g c =
@@ -16,13 +21,20 @@ returns-in-Ok-clause-refused g c =
     let p = c.in-Ok.program in
     let left = g.F.Files.left in
     let faults = g.F.Files.faults in
-    IfErr-weaker c.report_of.result _ _ (λ refusal refused. report_refusal job p (left c.args.files.now) (left c.program_of.new.files) (left c.report_of.new.files) (faults c.args.files.now) (faults c.program_of.new.files) (faults c.report_of.new.files) refusal c.in-Ok.ensures.read c.in-Ok.ensures.taken c.in-Ok.ensures.counts refused) c.report_of.ensures.refused
+    let ready = ready_alone (Fold job) p (left c.args.files.now) (left c.program_of.new.files) refl (λ x plan named. absurd (cc)) c.in-Ok.ensures.read c.in-Ok.ensures.taken in
+    IfErr-weaker c.report_of.result _ _
+    (λ refusal refused. report_refusal (Fold job) p (left c.args.files.now) (left c.program_of.new.files) (left c.report_of.new.files)
+    (faults c.args.files.now) (faults c.program_of.new.files) (faults c.report_of.new.files) refusal refl (λ asked. absurd (false≢true asked)) ready c.in-Ok.ensures.counts refused)
+    c.report_of.ensures.refused
 
 pub returns-in-Ok-clause-fronts : goal.returns-in-Ok-clause-fronts
 returns-in-Ok-clause-fronts g c = fronts_then _ _ _ (fronts_at c.args.job.now _ _ c.in-Ok.ensures.taken) c.report_of.ensures.fronts
 
 pub returns-in-Ok-clause-only : goal.returns-in-Ok-clause-only
-returns-in-Ok-clause-only g c = only_both c.args.job.now c.in-Ok.program _ _ _ c.in-Ok.ensures.read c.in-Ok.ensures.taken c.report_of.ensures.others
+returns-in-Ok-clause-only g c =
+    let job = c.args.job.now in
+    let p = c.in-Ok.program in
+    only_ready (Fold job) p _ _ _ refl (λ asked. absurd (false≢true asked)) (ready_alone (Fold job) p _ _ refl (λ x plan named. absurd (cc)) c.in-Ok.ensures.read c.in-Ok.ensures.taken) c.report_of.ensures.others
 
 pub returns-in-Err-clause-refused : goal.returns-in-Err-clause-refused
 returns-in-Err-clause-refused g c = job_refusal (Fold c.args.job.now) _ _ _ _ c.in-Err.refusal c.in-Err.ensures.refused

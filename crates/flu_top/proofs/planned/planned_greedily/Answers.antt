@@ -2,7 +2,7 @@ use Rattle.std.proofs.Common.{sym, ap, ◌∙◌, subst, ℕ, ◌≤◌, ◌^◌
 use Rattle.std.specs.Prelude.{EachIndex, slice_index}
 use Rattle.flu_top.specs.Rates.{source_rates}
 use Rattle.flu_top.proofs.RateLemmas.{one_rate_each, rates_are_small}
-use Rattle.flu_top.proofs.planning.plan_text.Goals as goal
+use Rattle.flu_top.proofs.planned.planned_greedily.Goals as goal
 
 pub plan-requires-clause-one_each : goal.plan-requires-clause-one_each
 plan-requires-clause-one_each c =

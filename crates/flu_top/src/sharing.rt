@@ -1,0 +1,37 @@
+//! That what a case borrows may be shared by the threads of a run.
+
+ghost use Rattle.std.specs.Thread.{IsSync};
+ghost use Rattle.flu_deps.specs.contracts.checked.Checked as CheckedRow;
+ghost use Rattle.flu_deps.specs.contracts.valid.Valid as ValidRow;
+ghost use Rattle.flu_model.specs.contracts.streams.Streams as StreamsRow;
+
+use flu_deps::{Checked, Valid};
+use flu_model::Streams;
+
+// Threads may share values of the type.
+fn shared<T: Sync>(x: &T)
+    ensures { IsSync T.row }
+{
+    let _x = x;
+}
+
+/// Threads may share an accepted job.
+pub fn jobs_are_shared(checked: &Checked)
+    ensures { IsSync CheckedRow.the_row }
+{
+    shared(checked)
+}
+
+/// Threads may share a valid plan.
+pub fn plans_are_shared(valid: &Valid)
+    ensures { IsSync ValidRow.the_row }
+{
+    shared(valid)
+}
+
+/// Threads may share streams.
+pub fn streams_are_shared(streams: &Streams)
+    ensures { IsSync StreamsRow.the_row }
+{
+    shared(streams)
+}
