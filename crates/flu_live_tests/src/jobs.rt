@@ -1,6 +1,6 @@
 //! Jobs with their plans, and runs of them.
 
-ghost use Rattle.std.specs.Prelude.{◌≡◌, ◌^◌, ◌<◌, length, IfOk};
+ghost use Rattle.std.specs.Prelude.{◌≡◌, ◌^◌, ◌<◌, length, IfOk, IfSome};
 ghost use Rattle.flu_model.specs.Itags.{count_of_itags};
 ghost use Rattle.flu_model.specs.Listed.{listed};
 ghost use Rattle.flu_deps.specs.Checking.{program_of};
@@ -29,7 +29,7 @@ pub type Sources = &'static [(&'static str, &'static str)];
 /// The reports of a run and of a batch with the same seed, how many steps of each kind the run had, its mark, the bound on its steps, and
 /// whether a step is enabled at the start.
 #[derive(Drop)]
-pub struct Told {
+pub struct Heard {
     pub report: String,
     pub batch: String,
     pub steps: StepCounts,
@@ -71,15 +71,9 @@ fn batched(
     Ok(outs)
 }
 
-/// What a run of a job with a plan over some files came to; none where the job is not accepted or the plan is not valid for it.
-pub fn ran(
-    alloc: Global,
-    job: &str,
-    plan: &str,
-    files: Sources,
-    seed: u32,
-) -> Result<Option<Told>, Fail>
-    requires { seed < 2 ^ 31 }
+/// A job that is accepted, and a plan that is valid for it; none where one of the two is not.
+fn judged(alloc: Global, job: &str, plan: &str) -> Result<Option<(Checked, Valid)>, Fail>
+    ensures { IfOk result (λ both. IfSome both (λ b. IsValidFor (program_of b.0) b.1)) }
 {
     let Ok(checked) = check(read_job(alloc, job.as_bytes())?) else {
         return Ok(None);
@@ -90,28 +84,70 @@ pub fn ran(
     let Ok(valid) = validate(&checked, plan) else {
         return Ok(None);
     };
+    Ok(Some((checked, valid)))
+}
+
+/// The streams of a job's sources.
+fn gathered(alloc: Global, checked: &Checked, files: Sources) -> Result<Streams, Fail>
+    ensures { IfOk result (λ s. length (listed s) ≡ count_of_itags (program_of checked.now)) }
+{
     let mut sources = MemFiles::new(alloc);
     for (name, text) in files {
         sources.add(name, text.as_bytes().to_vec(alloc)?)?;
     }
-    let streams = gather(alloc, checked.program(), &mut sources)?;
-    let case = opened(alloc, &checked, &valid, &streams)?;
-    let net = Net::new(alloc, &case)?;
+    Ok(gather(alloc, checked.program(), &mut sources)?)
+}
+
+/// Whether a step is enabled at the start.
+fn begins(alloc: Global, case: &Case) -> Result<bool, AllocError> {
+    let net = Net::new(alloc, case)?;
+    Ok(some_enabled(&net, case).is_some())
+}
+
+/// The report of some outputs.
+fn reported(alloc: Global, checked: &Checked, outs: Outs) -> Result<String, AllocError> {
+    let text = report_text(alloc, checked.program(), outs)?;
+    String::from_str(alloc, text.as_str())
+}
+
+/// What a run of the case came to, with the report of a batch.
+fn told(alloc: Global, case: &Case, batch: String, seed: u32) -> Result<Heard, AllocError>
+    requires { seed < 2 ^ 31 }
+{
+    let begins = begins(alloc, case)?;
     let Run {
         outs,
         steps,
         mark,
         ..
-    } = simulate(alloc, &case, seed)?;
-    let report = report_text(alloc, checked.program(), outs)?;
-    let others = batched(alloc, &checked, &valid, &streams, seed)?;
-    let batch = report_text(alloc, checked.program(), others)?;
-    Ok(Some(Told {
-        report: String::from_str(alloc, report.as_str())?,
-        batch: String::from_str(alloc, batch.as_str())?,
+    } = simulate(alloc, case, seed)?;
+    let report = reported(alloc, case.checked(), outs)?;
+    Ok(Heard {
+        report,
+        batch,
         steps,
         mark,
-        most: bound(&case),
-        begins: some_enabled(&net, &case).is_some(),
-    }))
+        most: bound(case),
+        begins,
+    })
+}
+
+/// What a run of a job with a plan over some files came to; none where the job is not accepted or the plan is not valid for it.
+pub fn ran(
+    alloc: Global,
+    job: &str,
+    plan: &str,
+    files: Sources,
+    seed: u32,
+) -> Result<Option<Heard>, Fail>
+    requires { seed < 2 ^ 31 }
+{
+    let Some((checked, valid)) = judged(alloc, job, plan)? else {
+        return Ok(None);
+    };
+    let streams = gathered(alloc, &checked, files)?;
+    let outs = batched(alloc, &checked, &valid, &streams, seed)?;
+    let batch = reported(alloc, &checked, outs)?;
+    let case = opened(alloc, &checked, &valid, &streams)?;
+    Ok(Some(told(alloc, &case, batch, seed)?))
 }
