@@ -1,6 +1,5 @@
 -- A job's text is read, then a plan's, and the plan is looked at for the job.
 use Rattle.std.proofs.Common.{◌≡◌, refl, sym, ap, ◌∙◌, subst, ℕ, ◌≤◌, List, [], ◌∷◌, Option, Some, Err, inl, inr, arith}
-use Rattle.std.specs.Prelude.{Contains}
 use Rattle.std.proofs.lemmas.Bool.{false≢true}
 use Rattle.std.proofs.lemmas.List.Elements.{Contains-append_right}
 use Rattle.flu_outside.specs.Outside.{WhereTold, Contents}

@@ -7,7 +7,9 @@ use flu_seq::OpenGate;
 use flu_top::flumina;
 use std::io::{IsTerminal, Write};
 use std::process::ExitCode;
-use std::{env, io, str};
+use std::sync::Wait;
+use std::thread::Threads;
+use std::{env, io, rt, str};
 
 mod help;
 #[cfg(test)]
@@ -35,17 +37,21 @@ fn main(rt: HostRuntime) -> ExitCode {
 }
 
 /// Does what the words say over the files of the system, and answers the status.
-fn run<O: Write + Drop, E: Write + Drop>(rt: &HostRuntime, words: &[String], out: O, err: E) -> u8 {
-    answer(rt, words, &mut HostSink::new(out), &mut HostSink::new(err))
-}
-
-/// Does the same, with a hint behind the line on err. What fails in making or writing the hint changes nothing else.
-fn run_for_a_person<O: Write + Drop, E: Write + Drop>(
-    rt: &HostRuntime,
+fn run<R: rt::Files + AllocGlobal + Threads + Wait + Sync, O: Write + Drop, E: Write + Drop>(
+    rt: &R,
     words: &[String],
     out: O,
     err: E,
 ) -> u8 {
+    answer(rt, words, &mut HostSink::new(out), &mut HostSink::new(err))
+}
+
+/// Does the same, with a hint behind the line on err. What fails in making or writing the hint changes nothing else.
+fn run_for_a_person<
+    R: rt::Files + AllocGlobal + Threads + Wait + Sync,
+    O: Write + Drop,
+    E: Write + Drop,
+>(rt: &R, words: &[String], out: O, err: E) -> u8 {
     let Ok(mut line) = MemSink::with_room(rt.alloc(), LINE_ROOM) else {
         return run(rt, words, out, err);
     };
@@ -62,7 +68,12 @@ fn run_for_a_person<O: Write + Drop, E: Write + Drop>(
 }
 
 // `--help` and `--version` are answered here, each as the only word; all other words go to the proved call as they are.
-fn answer<O: Sink, E: Sink>(rt: &HostRuntime, words: &[String], out: &mut O, err: &mut E) -> u8 {
+fn answer<R: rt::Files + AllocGlobal + Threads + Wait + Sync, O: Sink, E: Sink>(
+    rt: &R,
+    words: &[String],
+    out: &mut O,
+    err: &mut E,
+) -> u8 {
     if let Some(text) = help::told(words) {
         return help::tell(text, out, err);
     }

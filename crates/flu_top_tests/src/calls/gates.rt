@@ -25,6 +25,7 @@ const NO_VALUE: u64 = 2;
 const VALUE: u64 = 3;
 
 /// What the workers of two leaves tell each other, and what was noted at the two points of each event.
+#[derive(Drop)]
 struct Meeting {
     left: AtomicU64,
     right: AtomicU64,

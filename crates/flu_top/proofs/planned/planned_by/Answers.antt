@@ -3,7 +3,6 @@ use Rattle.std.proofs.lemmas.Bool.{false≢true}
 use Rattle.flu_outside.specs.Outside.{WhereTold}
 use Rattle.flu_model.specs.Validity.{IsValid}
 use Rattle.flu_deps.specs.Checking.{program_of}
-use Rattle.flu_deps.specs.Validated.{plan_of}
 use Rattle.flu_lemmas.proofs.Named.{fronts_at, fronts_then}
 use Rattle.flu_top.specs.declared.refusals.PlanDefect.TheVariants as defects
 use Rattle.flu_top.specs.declared.refusals.Refusal.TheVariants as refusals
