@@ -144,8 +144,7 @@ pub brought_first : (laws : LawsBelow) (k : Content) (ws : List WorkerNote) (es 
     → (1 ≤ m) × (m ≤ length (nodes k)) × (ws ≡ take m ws) × AreBrought k m ws es
 brought_first laws k ws es end each m is =
     let root = (laws.parents (nodes k) (laws.settings k).one_tree).root in
-    let long = end.each in
-    (
+    let long = end.each in (
       omega arith,
       omega arith,
       sym (take_all m ws (omega arith)),
@@ -202,8 +201,7 @@ popped ws old new m x was some le is =
     let first = length-take-le m ws le in
     let size = ap (λ (l : List WorkerNote). length l) all in
     let both = length-append new (x ∷ []) in
-    let long : length new ≡ m - 1 = omega arith in
-    (
+    let long : length new ≡ m - 1 = omega arith in (
       sym (front_of new x) ∙ ap (λ (j : ℕ). take j (new ++ x ∷ [])) long ∙ ap (λ (l : List WorkerNote). take (m - 1) l) (sym all) ∙ take-take (m - 1) m ws (omega arith),
       at_index ws (m - 1) x (omega arith)
           (sym (last_or new x) ∙ ap (λ (j : ℕ). get_or (new ++ x ∷ []) j x) long ∙ ap (λ (l : List WorkerNote). get_or l (m - 1) x) (sym all)

@@ -38,8 +38,7 @@ loop-w-preserved c =
     let le = inv.1 in
     let some = inv.0 in
     let more = c.loop-w-test.true in
-    let two = popped c.args.workers.items c.loop-w.workers.items c.pop.new.self.items c.loop-w.w c.in-Some.worker inv.2 inv.0 (omega arith) c.in-Some.ensures.items in
-    (
+    let two = popped c.args.workers.items c.loop-w.workers.items c.pop.new.self.items c.loop-w.w c.in-Some.worker inv.2 inv.0 (omega arith) c.in-Some.ensures.items in (
       omega arith,
       omega arith,
       two.0,
