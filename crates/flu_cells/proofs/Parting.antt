@@ -1,22 +1,24 @@
 -- A state that is parted by tests on its cells, one after another.
-use Rattle.std.proofs.Common.{◌≡◌, ◌<◌, ℕ, Bool, true, false, cond, Option, Some, None, List, [], ◌∷◌, refl, sym, ap, subst, ◌∙◌, arith}
-use Rattle.std.specs.Prelude.{◌==◌, ◌&&◌, ◌||◌, not, is_some}
+use Rattle.std.proofs.Common.{◌≡◌, ◌<◌, ◌≤◌, ℕ, Bool, true, false, cond, Option, Some, None, List, [], ◌∷◌, refl, sym, ap, subst, ◌∙◌, arith}
+use Rattle.std.specs.Prelude.{◌==◌, ◌&&◌, ◌||◌, not, nat_lt, is_some, IfSome, slice_get}
 use Rattle.std.specs.List.{list_any, filter, range_with_len}
-use Rattle.std.specs.Ordering.{nat_cmp}
+use Rattle.std.specs.Ordering.{nat_cmp, is_gt}
 use Rattle.std.specs.BTreeMap.{BTreeMap, is_at}
-use Rattle.std.specs.BTreeMap.Range.{IsInRange, IsRangeOf}
+use Rattle.std.specs.BTreeMap.Range.{IsInRange, IsRangeOf, IsLeBy, IsEntryInRange}
 use Rattle.std.specs.declared.ops.Bound.TheVariants.{Included}
+use Rattle.std.proofs.lemmas.Bool.{ltb-false}
 use Rattle.std.proofs.lemmas.Grind.{common_steps}
 use Rattle.flu_lemmas.proofs.Numbers.{same_number}
 use Rattle.flu_lemmas.proofs.Ranges.{any_in_range}
-use Rattle.flu_lemmas.proofs.Tests.{true_eq, not_both}
+use Rattle.flu_lemmas.proofs.Tests.{true_eq, true_lt, not_both}
 use Rattle.flu_lemmas.proofs.TwoNumbers.{made_alike}
 use Rattle.flu_model.specs.declared.events.Cell.{Cell}
 use Rattle.flu_model.specs.declared.events.Worth.{Worth}
 use Rattle.flu_model.specs.Contents.{Contents, cell, is_same_cell, with_worth, key_count, all_keys, held_keys, without_family}
 use Rattle.flu_model.specs.Order.{cell_cmp}
-use Rattle.flu_cells.specs.Entries.{contents_of, overlay, HasKeysInRange}
+use Rattle.flu_cells.specs.Entries.{far_held, overlay, HasKeysInRange}
 use Rattle.flu_cells.specs.Sets.{only, Moves}
+use Rattle.flu_cells.proofs.NearLemmas.{none_of}
 
 -- ---- the tests of a set
 abbrev pub in_families : List ℕ → Cell → Bool
@@ -105,34 +107,6 @@ moved_none s t k e = λ i c. at c i
         ] refl
 
 -- ---- a family, one cell after another
--- a cell of the cells of a test moves
-pub moves_more : (p : Cell → Bool) (s e t u : Contents) (k : Cell) (w : Worth) → p k ≡ true → s k ≡ Some w → Moves p s e t u
-    → Moves p (with_worth s k None) e (with_worth t k (Some w)) u
-moves_more p s e t u k w in_p is whole = (
-  whole.0 ∙ (λ i c. out c i),
-  whole.1 ∙ (λ i c. moved c i),
-)
-  where
-    out : (c : Cell) → only (λ d. not (p d)) s c ≡ only (λ d. not (p d)) (with_worth s k None) c
-    out c =
-        elim (is_same_cell c k) as (λ b. is_same_cell c k ≡ b → cond (not (p c)) (s c) None ≡ cond (not (p c)) (cond b None (s c)) None) [
-          | true ↦ λ same. let here : p c ≡ true = ap p (made_alike cell c.family c.key k.family k.key same) ∙ in_p in
-              ap (λ b. cond (not b) (s c) None) here ∙ ap (λ b. cond {A = Option Worth} (not b) None None) (sym here)
-          | false ↦ λ other. refl
-        ] refl
-
-    nothing : (b : Bool) (o : Option Worth) → o ≡ over o (cond b None None)
-    nothing true o = refl
-    nothing false o = refl
-
-    moved : (c : Cell) → overlay t (only p s) c ≡ overlay (with_worth t k (Some w)) (only p (with_worth s k None)) c
-    moved c =
-        elim (is_same_cell c k) as (λ b. is_same_cell c k ≡ b → over (t c) (cond (p c) (s c) None) ≡ over (cond b (Some w) (t c)) (cond (p c) (cond b None (s c)) None)) [
-          | true ↦ λ same. let at : c ≡ k = made_alike cell c.family c.key k.family k.key same in
-              ap (λ b. over (t c) (cond b (s c) None)) (ap p at ∙ in_p) ∙ ap (over (t c)) (ap s at ∙ is) ∙ nothing (p c) (Some w)
-          | false ↦ λ other. refl
-        ] refl
-
 -- where a state has none of the cells of a test, nothing is left to move
 pub moves_none : (p : Cell → Bool) (s e t u : Contents) → ((c : Cell) → p c ≡ true → s c ≡ None) → Moves p s e t u → (e ≡ s) × (u ≡ t)
 moves_none p s e t u none whole = (
@@ -205,15 +179,45 @@ by_keys s f bounded = λ i c. at c (s c) refl i
           | false ↦ λ other. refl
         ] refl
 
--- ---- the range of a family
-within_ends : (f : ℕ) (c : Cell) → c.family ≡ f → c.key < key_count → IsInRange cell_cmp (Included (cell f 0)) (Included (cell f 65535)) c
-within_ends f c same lt = (grind (arith, common_steps), grind (arith, common_steps))
+-- ---- the range of a family from a key on
+within_ends : (f from j : ℕ) → from ≤ j → j < key_count → IsInRange cell_cmp (Included (cell f from)) (Included (cell f 65535)) (cell f j)
+within_ends f from j le lt = (grind (arith, common_steps), grind (arith, common_steps))
 
-pub none_there : (m : BTreeMap Cell Worth) (f : ℕ) (first last : Cell) (es : List (Cell × Worth)) → first ≡ cell f 0 → last ≡ cell f 65535
-    → IsRangeOf cell_cmp (Included first) (Included last) m es → es ≡ [] → (c : Cell) → c.family ≡ f → c.key < key_count → contents_of m c ≡ None
-none_there m f first last es is_first is_last r none c same lt =
-    (subst (λ d. IsRangeOf cell_cmp (Included (cell f 0)) (Included d) m es) is_last (subst (λ d. IsRangeOf cell_cmp (Included d) (Included last) m es) is_first r)).5
-    none c (within_ends f c same lt)
+in_family : (f from : ℕ) (c : Cell) → IsLeBy cell_cmp (cell f from) c → IsLeBy cell_cmp c (cell f 65535) → c.family ≡ f
+in_family f from c low high = grind (arith, common_steps)
+
+after : (c d : Cell) → c.family ≡ d.family → d.key < c.key → is_gt (cell_cmp c d) ≡ true
+after c d same lt = grind (arith, common_steps)
+
+last_key : (f : ℕ) (c : Cell) → c.family ≡ f → IsLeBy cell_cmp c (cell f 65535) → c.key ≤ 65535
+last_key f c same high =
+    elim (nat_lt 65535 c.key) as (λ b. nat_lt 65535 c.key ≡ b → c.key ≤ 65535) [
+      | true ↦ λ e. absurd (not_both (is_gt (cell_cmp c (cell f 65535))) (after c (cell f 65535) same (true_lt 65535 c.key e)) high)
+      | false ↦ λ e. ltb-false 65535 c.key e
+    ] refl
+
+-- such a range, by its ends
+of_ends : (m : BTreeMap Cell Worth) (f from : ℕ) (first last : Cell) (es : List (Cell × Worth)) → first ≡ cell f from → last ≡ cell f 65535
+    → IsRangeOf cell_cmp (Included first) (Included last) m es → IsRangeOf cell_cmp (Included (cell f from)) (Included (cell f 65535)) m es
+of_ends m f from first last es is_first is_last r =
+    subst (λ d. IsRangeOf cell_cmp (Included (cell f from)) (Included d) m es) is_last (subst (λ d. IsRangeOf cell_cmp (Included d) (Included last) m es) is_first r)
+
+pub none_there : (m : BTreeMap Cell Worth) (f from : ℕ) (first last : Cell) (es : List (Cell × Worth)) → first ≡ cell f from → last ≡ cell f 65535
+    → IsRangeOf cell_cmp (Included first) (Included last) m es → es ≡ [] → (j : ℕ) → from ≤ j → j < key_count → far_held m (cell f j) ≡ None
+none_there m f from first last es is_first is_last r none j le lt = (of_ends m f from first last es is_first is_last r).5 none (cell f j) (within_ends f from j le lt)
+
+pub none_before_first : (m : BTreeMap Cell Worth) (f from : ℕ) (first last : Cell) (es rest : List (Cell × Worth)) (e : Cell × Worth) → first ≡ cell f from → last ≡ cell f 65535
+    → IsRangeOf cell_cmp (Included first) (Included last) m es → es ≡ e ∷ rest → (j : ℕ) → from ≤ j → j < e.0.key → far_held m (cell f j) ≡ None
+none_before_first m f from first last es rest e is_first is_last r there j le before =
+    let range = of_ends m f from first last es is_first is_last r in
+    let at : IsEntryInRange cell_cmp (Included (cell f from)) (Included (cell f 65535)) m e = subst (λ xs. IfSome (slice_get xs 0) (IsEntryInRange cell_cmp (Included (cell f from)) (Included (cell f 65535)) m)) there range.1 in
+    let same : e.0.family ≡ f = in_family f from e.0 at.0.0 at.0.1 in
+    let lt : j < key_count = omega (arith, before, last_key f e.0 same at.0.1) in
+    let gt : is_gt (cell_cmp e.0 (cell f j)) ≡ true = after e.0 (cell f j) same before in
+    none_of (far_held m (cell f j)) (λ w is.
+    let least : is_gt (cell_cmp e.0 (cell f j)) ≡ false =
+    subst (λ xs. IfSome (slice_get xs 0) (λ d. IsLeBy cell_cmp d.0 (cell f j))) there (range.2 (cell f j) (within_ends f from j le lt) (ap is_some is)) in
+    not_both (is_gt (cell_cmp e.0 (cell f j))) gt least)
 
 -- ---- a family that is cleared, one cell after another
 pub cleared_more : (p : Cell → Bool) (s s' : Contents) (k : Cell) → p k ≡ true → s' ≡ with_worth s k None → only (λ c. not (p c)) s' ≡ only (λ c. not (p c)) s

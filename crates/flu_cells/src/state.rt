@@ -1,12 +1,16 @@
 //! A state, which holds a value in each cell that is not neutral (`docs/MODEL.md`).
 
 ghost use Rattle.std.specs.BTreeMap as tree;
-ghost use Rattle.std.specs.Prelude.{◌≡◌, ◌<◌, ◌==◌, map, not, Some, None, OnOk, OnErr, IfOk, IsOk, IsSome, IfSome, IfNone};
+ghost use Rattle.std.specs.Prelude.{◌≡◌, ◌+◌, ◌*◌, ◌<◌, ◌≤◌, ◌==◌, ◌&&◌, ℕ, map, not, true, false, is_some, Some, None, OnOk, OnErr, IfOk, IsOk, IsSome, IfSome, IfNone};
+ghost use Rattle.std.specs.List.{filter};
 ghost use Rattle.flu_model.specs.Contents.{cell, is_same_cell, nothing_held, with_worth, held_sum, added, raised, held_keys, key_count, without_family, join, joined_worth};
 ghost use Rattle.flu_model.specs.Order.{cell_cmp};
-ghost use Rattle.flu_cells.specs.Entries.{contents_of, overlay, IsWithoutNeutral, HasKeysInRange, IsWorthKept, entries_of_family};
+ghost use Rattle.flu_dense.specs.Holding.{value_at};
+ghost use Rattle.flu_dense.specs.Values.{with_value};
+ghost use Rattle.flu_cells.specs.Entries.{is_near, slot_of, slot_keys, near_held, far_held, contents_of, overlay, IsWithoutNeutral, HasKeysInRange, HasFarAlone, IsWorthKept, entries_of_family};
 
 use crate::sets::CellSet;
+use flu_dense::Dense;
 use flu_model::{Cell, Worth};
 use std::alloc::{AllocError, Global};
 use std::collections::BTreeMap;
@@ -14,16 +18,24 @@ use std::collections::BTreeMap;
 // The greatest key of a keyed family.
 const LAST_KEY: u32 = 65_535;
 
+// The families and keys below this have slots in a table.
+const NEAR: u32 = 64;
+
 /// What each cell holds: a finite map from cells to values that are not neutral. A cell that is not in it is neutral.
 ///
 /// Contracts see it as the function `held` from each cell to what it holds, if anything. Two facts always hold of it: no
 /// cell holds a neutral value (a sum of 0), and each cell that holds something has a key from 0 to 65,535.
+///
+/// The cells with a family and a key below 64 stand in a table, in which each is found in constant time, and all others in an
+/// ordered map.
 #[derive(Drop)]
 pub struct State {
-    cells: BTreeMap<Cell, Worth>,
+    near: Dense<Worth>,
+    far: BTreeMap<Cell, Worth>,
     alloc: Global,
-    pub ghost without_neutral: { IsWithoutNeutral (contents_of cells) },
-    pub ghost keys_in_range: { HasKeysInRange (contents_of cells) },
+    pub ghost without_neutral: { IsWithoutNeutral (contents_of near far) },
+    pub ghost keys_in_range: { HasKeysInRange (contents_of near far) },
+    ghost far_alone: { HasFarAlone far },
 }
 
 impl State {
@@ -35,7 +47,8 @@ impl State {
         ensures { held result ≡ nothing_held }
     {
         State {
-            cells: BTreeMap::new(alloc),
+            near: Dense::new(alloc),
+            far: BTreeMap::new(alloc),
             alloc,
         }
     }
@@ -44,7 +57,19 @@ impl State {
     pub fn get(&self, c: Cell) -> Option<Worth>
         ensures { result ≡ held self.now c }
     {
-        self.cells.get(&c).copied()
+        match near_slot(c) {
+            Some(slot) => self.near.get(slot),
+            None => self.far.get(&c).copied(),
+        }
+    }
+
+    /// The table of the cells whose family and key are below 64: the cell of family f and key k is in the slot 64 * f + k. It
+    /// takes no memory.
+    pub fn near(&self) -> &Dense<Worth>
+        ensures cells { (f : ℕ) (k : ℕ) → f < 64 → k < 64 → value_at result.now (64 * f + k) ≡ held self.now (cell f k) }
+        ensures others { (slot : ℕ) → 4096 ≤ slot → value_at result.now slot ≡ None }
+    {
+        &self.near
     }
 
     /// Adds to the sum in a cell, which wraps at the ends of 128 bits; where it comes to 0, the cell is neutral again.
@@ -91,14 +116,21 @@ impl State {
     pub fn clear_family(&mut self, family: u32)
         ensures { held self.new ≡ without_family (held self.old) family }
     {
-        while let Some(_) = self.pop_of(family) {}
+        let mut from = 0;
+        while let Some(key) = self.next_key(family, from) {
+            self.clear(Cell { family, key });
+            from = key + 1;
+        }
     }
 
     /// The keys of a family whose cells are not neutral, rising. Only that family's cells are gone through.
     pub fn keys(&self, family: u32) -> Result<Vec<u32>, AllocError>
         ensures { IfOk result (λ v. v.items ≡ held_keys (held self.now) family) }
     {
-        keys_of_family(self.alloc, &self.cells, family)
+        let mut keys = self.near_keys(family)?;
+        let far = keys_of_family(self.alloc, &self.far, family)?;
+        keys.extend_from_slice(far.as_slice())?;
+        Ok(keys)
     }
 
     /// Joins another state to this one (`docs/MODEL.md`): sums are added, the greater maximum is taken, and of last values
@@ -111,13 +143,12 @@ impl State {
         ensures empty { held other ≡ nothing_held → IsOk result }
     {
         let State {
-            mut cells,
+            near,
+            far,
             alloc: _,
         } = other;
-        while let Some((cell, theirs)) = cells.pop_first() {
-            self.hold(cell, joined(self.get(cell), theirs))?;
-        }
-        Ok(())
+        self.absorb_near(near)?;
+        self.absorb_far(far)
     }
 
     /// Moves what the cells of a set hold into a state of its own; the other cells keep what they hold. The set is gone
@@ -171,7 +202,8 @@ impl State {
         ensures { IfOk result (λ s. held s ≡ held self.now) }
     {
         Ok(State {
-            cells: self.cells.clone()?,
+            near: self.near.copy()?,
+            far: copy_of_map(&self.far)?,
             alloc: self.alloc,
         })
     }
@@ -180,8 +212,10 @@ impl State {
     fn move_family(&mut self, family: u32, other: &mut State) -> Result<(), AllocError>
         ensures { OnOk result (Moves (λ c. c.family == family) (held self.old) (held self.new) (held other.old) (held other.new)) }
     {
-        while let Some((cell, worth)) = self.pop_of(family) {
-            other.hold(cell, Some(worth))?;
+        let mut from = 0;
+        while let Some(key) = self.next_key(family, from) {
+            self.move_cell(Cell { family, key }, other)?;
+            from = key + 1;
         }
         Ok(())
     }
@@ -220,27 +254,104 @@ impl State {
         }
     }
 
-    // Takes out the first cell of a family that holds something, with what it holds.
-    fn pop_of(&mut self, family: u32) -> Option<(Cell, Worth)>
-        ensures family { IfSome result (λ e. e.0.family ≡ family) }
-        ensures held { IfSome result (λ e. held self.old e.0 ≡ Some e.1) }
-        ensures left { IfSome result (λ e. held self.new ≡ with_worth (held self.old) e.0 None) }
-        ensures fewer { IfSome result (λ e. tree.btree_map_len self.new.cells < tree.btree_map_len self.old.cells) }
-        ensures none { IfNone result ((c : Cell) → c.family ≡ family → held self.old c ≡ None) }
-        ensures same { IfNone result (held self.new ≡ held self.old) }
+    // Joins what a table holds to this state.
+    fn absorb_near(&mut self, mut near: Dense<Worth>) -> Result<(), AllocError>
+        requires { IsWithoutNeutral (near_held near) }
+        ensures ok { OnOk result (held self.new ≡ join (held self.old) (near_held near)) }
+        ensures empty { near_held near ≡ nothing_held → IsOk result }
     {
-        let cell = first_of_family(&self.cells, family)?;
-        let worth = self.take(cell)?;
-        Some((cell, worth))
+        let mut from = 0;
+        while let Some(slot) = near.next(from) {
+            self.absorb_slot(&mut near, slot)?;
+            from = slot + 1;
+        }
+        Ok(())
+    }
+
+    // Joins what a table holds in a slot to this state, and takes it out there.
+    fn absorb_slot(&mut self, near: &mut Dense<Worth>, slot: u32) -> Result<(), AllocError>
+        requires slot { slot < 4096 }
+        requires clean { IsWithoutNeutral (near_held near.old) }
+        ensures ok { OnOk result (join (held self.new) (near_held near.new) ≡ join (held self.old) (near_held near.old)) }
+        ensures left { value_at near.new ≡ with_value (value_at near.old) slot None }
+        ensures none { value_at near.old slot ≡ None → IsOk result }
+    {
+        match near.unset(slot) {
+            Some(theirs) => {
+                let cell = Cell {
+                    family: slot / NEAR,
+                    key: slot % NEAR,
+                };
+                self.hold(cell, joined(self.get(cell), theirs))
+            }
+            None => Ok(()),
+        }
+    }
+
+    // Joins what a map holds to this state.
+    fn absorb_far(&mut self, mut cells: BTreeMap<Cell, Worth>) -> Result<(), AllocError>
+        requires clean { IsWithoutNeutral (far_held cells) }
+        requires keys { HasKeysInRange (far_held cells) }
+        ensures ok { OnOk result (held self.new ≡ join (held self.old) (far_held cells)) }
+        ensures empty { far_held cells ≡ nothing_held → IsOk result }
+    {
+        while let Some((cell, theirs)) = cells.pop_first() {
+            self.hold(cell, joined(self.get(cell), theirs))?;
+        }
+        Ok(())
+    }
+
+    // The first key of a family from a key on whose cell holds something.
+    fn next_key(&self, family: u32, from: u32) -> Option<u32>
+        requires { from ≤ key_count }
+        ensures found { IfSome result (λ k. (from ≤ k) × (k < key_count) × IsSome (held self.now (cell family k))) }
+        ensures least { IfSome result (λ k. (j : ℕ) → from ≤ j → j < k → held self.now (cell family j) ≡ None) }
+        ensures none { IfNone result ((j : ℕ) → from ≤ j → held self.now (cell family j) ≡ None) }
+    {
+        match self.near_key(family, from) {
+            Some(key) => Some(key),
+            None => far_key(&self.far, family, from),
+        }
+    }
+
+    // The first key of a family from a key on whose cell has a slot and holds something.
+    fn near_key(&self, family: u32, from: u32) -> Option<u32>
+        ensures found { IfSome result (λ k. (from ≤ k) × (is_near (cell family k) ≡ true) × IsSome (held self.now (cell family k))) }
+        ensures least { IfSome result (λ k. (j : ℕ) → from ≤ j → j < k → held self.now (cell family j) ≡ None) }
+        ensures none { IfNone result ((j : ℕ) → from ≤ j → is_near (cell family j) ≡ true → held self.now (cell family j) ≡ None) }
+    {
+        let first = near_slot(Cell { family, key: from })?;
+        let slot = self.near.next(first)?;
+        if slot / NEAR == family {
+            Some(slot % NEAR)
+        } else {
+            None
+        }
+    }
+
+    // The keys of a family's cells that have a slot and hold something, rising.
+    fn near_keys(&self, family: u32) -> Result<Vec<u32>, AllocError>
+        ensures { IfOk result (λ v. v.items
+            ≡ filter (λ k. is_near (cell family k) && is_some (held self.now (cell family k))) slot_keys) }
+    {
+        let mut keys = Vec::new(self.alloc);
+        let mut from = 0;
+        while let Some(key) = self.near_key(family, from) {
+            keys.push(key)?;
+            from = key + 1;
+        }
+        Ok(keys)
     }
 
     // Takes out what a cell holds.
     fn take(&mut self, c: Cell) -> Option<Worth>
         ensures worth { result ≡ held self.old c }
         ensures left { held self.new ≡ with_worth (held self.old) c None }
-        ensures fewer { IfSome result (λ w. tree.btree_map_len self.new.cells < tree.btree_map_len self.old.cells) }
     {
-        self.cells.remove(&c)
+        match near_slot(c) {
+            Some(slot) => self.near.unset(slot),
+            None => self.far.remove(&c),
+        }
     }
 
     // Sets what a cell holds.
@@ -251,15 +362,40 @@ impl State {
         ensures err { OnErr result (held self.new ≡ held self.old) }
     {
         match w {
-            Some(worth) => {
-                self.cells.insert(c, worth)?;
-                Ok(())
-            }
+            Some(worth) => self.write(c, worth),
             None => {
                 self.clear(c);
                 Ok(())
             }
         }
+    }
+
+    // Makes a cell hold a value that is not neutral.
+    fn write(&mut self, c: Cell, w: Worth) -> Result<(), AllocError>
+        requires key { c.key < key_count }
+        requires kept { IsWorthKept (Some w) }
+        ensures ok { OnOk result (held self.new ≡ with_worth (held self.old) c (Some w)) }
+        ensures err { OnErr result (held self.new ≡ held self.old) }
+    {
+        match near_slot(c) {
+            Some(slot) => self.near.set(slot, w),
+            None => {
+                self.far.insert(c, w)?;
+                Ok(())
+            }
+        }
+    }
+}
+
+// The slot of a cell in the table, if it has one.
+fn near_slot(c: Cell) -> Option<u32>
+    ensures some { IfSome result (λ slot. (slot ≡ slot_of c) × (slot < 4096) × (is_near c ≡ true)) }
+    ensures none { IfNone result (is_near c ≡ false) }
+{
+    if c.family < NEAR && c.key < NEAR {
+        Some(NEAR * c.family + c.key)
+    } else {
+        None
     }
 }
 
@@ -314,6 +450,13 @@ fn sum_worth(n: i128) -> Option<Worth>
     if n == 0 { None } else { Some(Worth::Sum(n)) }
 }
 
+// A map that holds the same.
+fn copy_of_map(cells: &BTreeMap<Cell, Worth>) -> Result<BTreeMap<Cell, Worth>, AllocError>
+    ensures { IfOk result (λ m. far_held m ≡ far_held cells.now) }
+{
+    Ok(cells.clone()?)
+}
+
 // The keys of a family's cells in a map, rising: only the cells of that family are gone through.
 fn keys_of_family(
     alloc: Global,
@@ -329,13 +472,18 @@ fn keys_of_family(
         .collect(alloc)
 }
 
-// The first cell of a family that a map has.
-fn first_of_family(cells: &BTreeMap<Cell, Worth>, family: u32) -> Option<Cell>
-    ensures found { IfSome result (λ c. (c.family ≡ family) × IsSome (contents_of cells.now c)) }
-    ensures none { IfNone result ((c : Cell) → c.family ≡ family → c.key < key_count → contents_of cells.now c ≡ None) }
+// The first key of a family from a key on that a map has.
+fn far_key(cells: &BTreeMap<Cell, Worth>, family: u32, from: u32) -> Option<u32>
+    ensures found { IfSome result (λ k. (from ≤ k) × IsSome (far_held cells.now (cell family k))) }
+    ensures least { IfSome result (λ k. (j : ℕ) → from ≤ j → j < k → far_held cells.now (cell family j) ≡ None) }
+    ensures none { IfNone result ((j : ℕ) → from ≤ j → j < key_count → far_held cells.now (cell family j) ≡ None) }
 {
-    match cells.range(first_cell(family)..=last_cell(family)).next() {
-        Some((cell, _)) => Some(*cell),
+    if from > LAST_KEY {
+        return None;
+    }
+    let first = Cell { family, key: from };
+    match cells.range(first..=last_cell(family)).next() {
+        Some((cell, _)) => Some(cell.key),
         None => None,
     }
 }

@@ -1,12 +1,15 @@
-use Rattle.std.proofs.Common.{◌≡◌}
+use Rattle.std.proofs.Common.{◌≡◌, ◌≤◌, ◌-◌}
 use Rattle.std.specs.Prelude.{◌==◌, not}
-use Rattle.std.specs.BTreeMap.{btree_map_len}
+use Rattle.flu_model.specs.Contents.{key_count}
 use Rattle.flu_cells.specs.Holding.{held}
 use Rattle.flu_cells.specs.Sets.{only}
+use Rattle.flu_cells.proofs.NearLemmas.{IsClearBelow}
 use Rattle.flu_cells.proofs.state.State.clear_family.Given as goal
 
-abbrev pub invariant-loop : goal.invariant-loop
-invariant-loop l = only (λ c. not (c.family == l.family)) (held l.self) ≡ only (λ c. not (c.family == l.family)) (held l.initial.self)
+abbrev pub invariant-loop-key : goal.invariant-loop-key
+invariant-loop-key l =
+    (only (λ c. not (c.family == l.family)) (held l.self) ≡ only (λ c. not (c.family == l.family)) (held l.initial.self))
+    × IsClearBelow (held l.self) l.family l.from × (l.from ≤ key_count)
 
-abbrev pub decreases-loop : goal.decreases-loop
-decreases-loop l = btree_map_len l.self.cells
+abbrev pub decreases-loop-key : goal.decreases-loop-key
+decreases-loop-key l = key_count - l.from

@@ -1,0 +1,4 @@
+pub mod BitLemmas
+pub mod ListLemmas
+pub mod RowLemmas
+pub mod TableLemmas

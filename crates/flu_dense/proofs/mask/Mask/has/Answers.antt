@@ -1,0 +1,9 @@
+use Rattle.std.proofs.Common.{ap}
+use Rattle.std.specs.Prelude.{◌==◌}
+use Rattle.std.proofs.lemmas.Nat.Bits.{shr_and_one}
+use Rattle.flu_dense.specs.Masks.{has}
+use Rattle.flu_dense.proofs.mask.Mask.has.Goals as goal
+
+pub returns : goal.returns
+unfolding has
+returns c = ap (λ b. b == 1) (shr_and_one c.args.self.bits c.args.k)

@@ -1,0 +1,5 @@
+pub mod Masks
+pub mod Values
+pub mod Rows
+pub mod Tables
+pub mod Holding
