@@ -19,10 +19,10 @@ come_left-requires-clause-awaits c =
     (subst (λ (h : Holding). AwaitsLeft v.case v.node h c.args.lot) (sym c.taken-holding.ensures.was)
     (awaits_left c.laws_below.ensures v c.self.inside.mail c.args.lot c.requires.kept c.requires.fits c.requires.served c.self.inside.holding rule)))
 
-abbrev after : goal.After-drop-self-inside-4 → WorkerNote → List ℕ → WorkerNote
+abbrev after : goal.After-drop-self-inside-5 → WorkerNote → List ℕ → WorkerNote
 after c x u = record x { hand = hand_of c.in_ok-self-inside.field-0; taken_left = u }
 
-took : (c : goal.After-drop-self-inside-4) → Took Left c.args.self.now (after c c.args.self.now c.args.lot.upto) c.self.inside.mail c.in_ok-self-inside.field-0 c.args.lot
+took : (c : goal.After-drop-self-inside-5) → Took Left c.args.self.now (after c c.args.self.now c.args.lot.upto) c.self.inside.mail c.in_ok-self-inside.field-0 c.args.lot
 took c =
     let v = c.args.self.now in
     let rule : Rule v c.self.inside.mail c.self.inside.holding = subst (λ (x : WorkerNote). Rule x c.self.inside.mail c.self.inside.holding) c.self.view_is c.self.invariant in
