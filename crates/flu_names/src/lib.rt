@@ -6,6 +6,7 @@ ghost use Rattle.std.specs.Prelude.{◌≡◌};
 ghost use Rattle.std.specs.List.{list_all, list_any};
 ghost use Rattle.std.specs.Str.{bytes_eq};
 ghost use Rattle.flu_names.specs.Names.{is_name_start, is_name_byte, is_text_byte, begins_as_name, is_reserved, is_name, reserved_spelling, reserved_words, reserved_of};
+ghost use Rattle.flu_names.specs.LoopReserved.{may_be_reserved, begins_reserved};
 
 mod reserved;
 
@@ -82,8 +83,46 @@ pub fn reserved_of(bytes: &[u8]) -> Option<Reserved>
         .find(|word| word.spelling() == bytes)
 }
 
+// The first two letters settle it for nearly all names, so that they are not compared with each word.
 fn is_reserved(bytes: &[u8]) -> bool
     ensures { result ≡ is_reserved bytes.now }
 {
-    reserved::WORDS.iter().any(|word| word.spelling() == bytes)
+    may_be_reserved(bytes) && reserved::WORDS.iter().any(|word| word.spelling() == bytes)
+}
+
+// Whether a reserved word begins with the first two of some bytes.
+fn may_be_reserved(bytes: &[u8]) -> bool
+    ensures { result ≡ may_be_reserved bytes.now }
+{
+    match bytes {
+        [first, second, ..] => begins_reserved(*first, *second),
+        _ => false,
+    }
+}
+
+fn begins_reserved(first: u8, second: u8) -> bool
+    ensures { result ≡ begins_reserved first second }
+{
+    match first {
+        b'a' => second == b'd' || second == b'l' || second == b'n',
+        b'b' | b'd' | b'k' => second == b'e',
+        b'c' => second == b'e' || second == b'l',
+        b'e' => second == b'm' || second == b'n',
+        b'f' => second == b'l',
+        b'h' | b'm' => second == b'a',
+        b'i' => second == b'n',
+        b'l' => second == b'a',
+        b'n' => second == b'o',
+        b'o' => second == b'n' || second == b'r',
+        b'r' => second == b'a',
+        b's' => second == b'a'
+            || second == b'e'
+            || second == b'l'
+            || second == b'o'
+            || second == b'u',
+        b't' => second == b'a' || second == b'i',
+        b'v' => second == b'a' || second == b'e',
+        b'w' => second == b'h',
+        _ => false,
+    }
 }

@@ -1,83 +1,108 @@
-//! The jobs of the folder `examples`, under `fold`, `check` and `valid`.
+//! The jobs of the folder `examples`, under `fold`, `check`, `valid` and `run`.
 
 mod fraud;
 mod rides;
 mod trades;
 mod views;
 
+use super::runs::{ran, ran_alone};
 use super::{check_all, checked, folded, valid};
+use std::alloc::Global;
+use std::process::Abort;
+use std::sync::Wait;
 use std::test::Fail;
+use std::thread::Threads;
+
+/// An example: its files, with its job as `J` and its plan as `P`, and what the commands write.
+#[derive(Drop)]
+struct Example {
+    files: &'static [(&'static str, &'static str)],
+    report: &'static str,
+    normal_form: &'static str,
+    plan: &'static str,
+}
+
+fn check_example<R: Abort + Threads + Wait + Sync>(
+    rt: &R,
+    alloc: Global,
+    example: &Example,
+) -> Result<(), Fail> {
+    let cases = [
+        folded(example.files, example.report),
+        checked(example.files, example.normal_form),
+        valid(example.files, example.plan),
+        ran(example.files, example.report),
+        ran_alone(example.files, example.report),
+    ];
+    check_all(rt, alloc, &cases)
+}
 
 #[test]
 fn rides_of_a_bicycle_hire(rt: HostRuntime) -> Result<(), Fail> {
-    let cases = [
-        folded(
-            &[
-                ("J", rides::JOB),
-                ("examples/rides/north.csv", rides::NORTH),
-                ("examples/rides/south.csv", rides::SOUTH),
-                ("examples/rides/days.csv", rides::DAYS),
-            ],
-            rides::REPORT,
-        ),
-        checked(&[("J", rides::JOB)], rides::NORMAL_FORM),
-        valid(&[("J", rides::JOB), ("P", rides::PLAN)], rides::PLAN),
-    ];
-    check_all(&rt, rt.alloc(), &cases)
+    let example = Example {
+        files: &[
+            ("J", rides::JOB),
+            ("P", rides::PLAN),
+            ("examples/rides/north.csv", rides::NORTH),
+            ("examples/rides/south.csv", rides::SOUTH),
+            ("examples/rides/days.csv", rides::DAYS),
+        ],
+        report: rides::REPORT,
+        normal_form: rides::NORMAL_FORM,
+        plan: rides::PLAN,
+    };
+    check_example(&rt, rt.alloc(), &example)
 }
 
 #[test]
 fn views_that_read_the_fee_of_their_page(rt: HostRuntime) -> Result<(), Fail> {
-    let cases = [
-        folded(
-            &[
-                ("J", views::JOB),
-                ("examples/views/web.csv", views::WEB),
-                ("examples/views/app.csv", views::APP),
-                ("examples/views/desk.csv", views::DESK),
-                ("examples/views/hours.csv", views::HOURS),
-            ],
-            views::REPORT,
-        ),
-        checked(&[("J", views::JOB)], views::NORMAL_FORM),
-        valid(&[("J", views::JOB), ("P", views::PLAN)], views::PLAN),
-    ];
-    check_all(&rt, rt.alloc(), &cases)
+    let example = Example {
+        files: &[
+            ("J", views::JOB),
+            ("P", views::PLAN),
+            ("examples/views/web.csv", views::WEB),
+            ("examples/views/app.csv", views::APP),
+            ("examples/views/desk.csv", views::DESK),
+            ("examples/views/hours.csv", views::HOURS),
+        ],
+        report: views::REPORT,
+        normal_form: views::NORMAL_FORM,
+        plan: views::PLAN,
+    };
+    check_example(&rt, rt.alloc(), &example)
 }
 
 #[test]
 fn payments_beside_the_window_before(rt: HostRuntime) -> Result<(), Fail> {
-    let cases = [
-        folded(
-            &[
-                ("J", fraud::JOB),
-                ("examples/fraud/north.csv", fraud::NORTH),
-                ("examples/fraud/south.csv", fraud::SOUTH),
-                ("examples/fraud/windows.csv", fraud::WINDOWS),
-            ],
-            fraud::REPORT,
-        ),
-        checked(&[("J", fraud::JOB)], fraud::NORMAL_FORM),
-        valid(&[("J", fraud::JOB), ("P", fraud::PLAN)], fraud::PLAN),
-    ];
-    check_all(&rt, rt.alloc(), &cases)
+    let example = Example {
+        files: &[
+            ("J", fraud::JOB),
+            ("P", fraud::PLAN),
+            ("examples/fraud/north.csv", fraud::NORTH),
+            ("examples/fraud/south.csv", fraud::SOUTH),
+            ("examples/fraud/windows.csv", fraud::WINDOWS),
+        ],
+        report: fraud::REPORT,
+        normal_form: fraud::NORMAL_FORM,
+        plan: fraud::PLAN,
+    };
+    check_example(&rt, rt.alloc(), &example)
 }
 
 #[test]
 fn trades_at_the_last_quote(rt: HostRuntime) -> Result<(), Fail> {
-    let cases = [
-        folded(
-            &[
-                ("J", trades::JOB),
-                ("examples/trades/quotes.csv", trades::QUOTES),
-                ("examples/trades/north.csv", trades::NORTH),
-                ("examples/trades/south.csv", trades::SOUTH),
-                ("examples/trades/days.csv", trades::DAYS),
-            ],
-            trades::REPORT,
-        ),
-        checked(&[("J", trades::JOB)], trades::NORMAL_FORM),
-        valid(&[("J", trades::JOB), ("P", trades::PLAN)], trades::PLAN),
-    ];
-    check_all(&rt, rt.alloc(), &cases)
+    let example = Example {
+        files: &[
+            ("J", trades::JOB),
+            ("P", trades::PLAN),
+            ("examples/trades/quotes.csv", trades::QUOTES),
+            ("examples/trades/north.csv", trades::NORTH),
+            ("examples/trades/south.csv", trades::SOUTH),
+            ("examples/trades/days.csv", trades::DAYS),
+        ],
+        report: trades::REPORT,
+        normal_form: trades::NORMAL_FORM,
+        plan: trades::PLAN,
+    };
+    check_example(&rt, rt.alloc(), &example)
 }

@@ -15,7 +15,7 @@ pub fn ran(files: &'static [(&'static str, &'static str)], out: &'static str) ->
 }
 
 /// A call of `run J`, which takes the greedy plan, that writes a report.
-fn ran_alone(files: &'static [(&'static str, &'static str)], out: &'static str) -> Case {
+pub fn ran_alone(files: &'static [(&'static str, &'static str)], out: &'static str) -> Case {
     let mut case = ran(files, out);
     case.words = &["run", "J"];
     case
