@@ -45,4 +45,5 @@ pub(crate) fn laws_below()
     flu_laws::moments_are_in_order();
     flu_mail::laws::ready_clears();
     flu_mail::laws::ready_when_clear();
+    flu_mail::laws::seen_events_stand();
 }
