@@ -13,7 +13,6 @@ use Rattle.flu_model.specs.Listed.{listed}
 use Rattle.flu_model.specs.Merging.{is_before, events_of}
 use Rattle.flu_model.specs.Owners.{owns}
 use Rattle.flu_fork.specs.declared.lots.Ask.{Ask}
-use Rattle.flu_fork.specs.Classes.{above}
 use Rattle.flu_fork.specs.Lots.{job, nodes, setting_of}
 use Rattle.flu_fork.specs.Serving.{AsksAbove}
 use Rattle.flu_fork.specs.Settings.{events_at}
