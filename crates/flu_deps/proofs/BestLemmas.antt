@@ -1,5 +1,6 @@
 -- The first cell of a list that passes a test.
-use Rattle.std.proofs.Common.{◌≡◌, ◌<◌, ◌+◌, ℕ, Bool, true, false, cond, ◌&&◌, Option, Some, None, List, [], ◌∷◌, ◌++◌, length, drop, get_or, refl, sym, ap, subst, ◌∙◌}
+use Rattle.std.proofs.Common.{◌≡◌, ◌<◌, ◌+◌, ℕ, Bool, true, false, cond, ◌&&◌, Option, Some, None}
+use Rattle.std.proofs.Common.{List, [], ◌∷◌, ◌++◌, length, drop, get_or, refl, sym, ap, subst, ◌∙◌}
 use Rattle.std.specs.Prelude.{◌||◌, IfSome}
 use Rattle.std.specs.List.{list_any, list_all}
 use Rattle.flu_lemmas.proofs.Places.{drop_read}
@@ -23,7 +24,8 @@ pub ruleset appended = best_among-append
 
 -- ---- one more element of a list that names cells
 pub pieces_turn : (passes : Cell → Bool) (key : ℕ) (qs : List Piece) (i : ℕ) (q : Piece) (best now whole : Option Cell) → i < length qs → q ≡ get_or qs i q
-    → now ≡ best_among passes best (piece_cells key q) → best_among passes best (pieces_cells key (drop i qs)) ≡ whole → best_among passes now (pieces_cells key (drop (i + 1) qs)) ≡ whole
+    → now ≡ best_among passes best (piece_cells key q) → best_among passes best (pieces_cells key (drop i qs)) ≡ whole
+    → best_among passes now (pieces_cells key (drop (i + 1) qs)) ≡ whole
 pieces_turn passes key qs i q best now whole lt is step kept =
     let rest = pieces_cells key (drop (i + 1) qs) in
     ap (λ b. best_among passes b rest) step
@@ -33,7 +35,8 @@ pieces_turn passes key qs i q best now whole lt is step kept =
 
 pub actions_turn : (passes : Cell → Bool) (key : ℕ) (all : List Action) (i : ℕ) (a : Action) (best now whole : Option Cell) → i < length all
     → a ≡ get_or all i a
-    → now ≡ best_among passes best (action_cells key a) → best_among passes best (actions_cells key (drop i all)) ≡ whole → best_among passes now (actions_cells key (drop (i + 1) all)) ≡ whole
+    → now ≡ best_among passes best (action_cells key a) → best_among passes best (actions_cells key (drop i all)) ≡ whole
+    → best_among passes now (actions_cells key (drop (i + 1) all)) ≡ whole
 actions_turn passes key all i a best now whole lt is step kept =
     let rest = actions_cells key (drop (i + 1) all) in
     ap (λ b. best_among passes b rest) step
@@ -89,7 +92,8 @@ pub best_reaches : (passes : Cell → Bool) (best : Option Cell) (cs : List Cell
     → IsReached (best_among passes best cs) x
 best_reaches passes best [] x named pass = cc
 best_reaches passes best (c ∷ cs) x named pass =
-    elim (is_same_cell c x) as (λ b. is_same_cell c x ≡ b → (b || list_any (λ d. is_same_cell d x) cs) ≡ true → IsReached (best_among passes (better passes best c) cs) x) [
+    elim (is_same_cell c x) as (λ b. is_same_cell c x ≡ b → (b || list_any (λ d. is_same_cell d x) cs) ≡ true
+    → IsReached (best_among passes (better passes best c) cs) x) [
       | true ↦ λ e h.
           let is : c ≡ x = made_alike cell c.family c.key x.family x.key e in
           best_keeps passes (better passes best c) cs x (subst (λ y. IsReached (better passes best c) y) is (better_itself passes best c (ap passes is ∙ pass)))

@@ -17,7 +17,8 @@ use Rattle.flu_model.specs.declared.jobs.Action.{Action}
 use Rattle.flu_lemmas.proofs.Booleans.{or_true}
 use Rattle.flu_model.specs.declared.modes.Mode.TheVariants.{None as NoMode, Add as AddMode, Raise as RaiseMode, Own}
 use Rattle.flu_model.specs.Contents.{cell, is_same_cell}
-use Rattle.flu_model.specs.Modes.{means, expr_reads, guard_reads, piece_reads, act_reads, action_reads, act_overwrites, act_adds, act_raises, mode_from, mode_among}
+use Rattle.flu_model.specs.Modes.{means, expr_reads, guard_reads, piece_reads, act_reads, action_reads}
+use Rattle.flu_model.specs.Modes.{act_overwrites, act_adds, act_raises, mode_from, mode_among}
 use Rattle.flu_deps.specs.LoopNamed.{expr_cells, guard_cells, piece_cells, pieces_cells, act_cells, action_cells, actions_cells}
 
 -- whether c is among some cells
@@ -43,7 +44,8 @@ expr_named key c (Read r) = sym (or-false (means key c r))
 expr_named key c (Has r) = sym (or-false (means key c r))
 expr_named key c (Neg' p e) = expr_named key c e
 expr_named key c (Not' p e) = expr_named key c e
-expr_named key c (Two' op p a q b) = (λ i. expr_named key c a i || expr_named key c b i) ∙ sym (list_any-append (λ d. is_same_cell d c) (expr_cells key a) (expr_cells key b))
+expr_named key c (Two' op p a q b) = (λ i. expr_named key c a i || expr_named key c b i)
+    ∙ sym (list_any-append (λ d. is_same_cell d c) (expr_cells key a) (expr_cells key b))
 
 guard_named : (key : ℕ) (c : Cell) (g : Option Expr) → guard_reads key c g ≡ names c (guard_cells key g)
 guard_named key c None = refl
@@ -59,7 +61,8 @@ piece_named key c CellValue = refl
 
 pieces_named : (key : ℕ) (c : Cell) (qs : List Piece) → list_any (piece_reads key c) qs ≡ names c (pieces_cells key qs)
 pieces_named key c [] = refl
-pieces_named key c (q ∷ qs) = (λ i. piece_named key c q i || pieces_named key c qs i) ∙ sym (list_any-append (λ d. is_same_cell d c) (piece_cells key q) (pieces_cells key qs))
+pieces_named key c (q ∷ qs) = (λ i. piece_named key c q i || pieces_named key c qs i)
+    ∙ sym (list_any-append (λ d. is_same_cell d c) (piece_cells key q) (pieces_cells key qs))
 
 act_read : (key : ℕ) (c : Cell) (a : Act) → act_reads key c a ≡ true → names c (act_cells key a) ≡ true
 act_read key c (Add r e) read = or_right (means key c r) (names c (expr_cells key e)) (sym (expr_named key c e) ∙ read)
@@ -97,7 +100,8 @@ act_raised key c (Flush f qs) raise = cc
 
 -- ---- actions
 in_act : (key : ℕ) (c : Cell) (a : Action) → names c (act_cells key a.act) ≡ true → names c (action_cells key a) ≡ true
-in_act key c a named = list_any-append (λ d. is_same_cell d c) (guard_cells key a.guard) (act_cells key a.act) ∙ or_right (names c (guard_cells key a.guard)) (names c (act_cells key a.act)) named
+in_act key c a named = list_any-append (λ d. is_same_cell d c) (guard_cells key a.guard) (act_cells key a.act)
+    ∙ or_right (names c (guard_cells key a.guard)) (names c (act_cells key a.act)) named
 
 action_read : (key : ℕ) (c : Cell) (a : Action) → action_reads key c a ≡ true → names c (action_cells key a) ≡ true
 action_read key c a read =
@@ -201,6 +205,7 @@ flushed_is_named [] key f any = cc
 flushed_is_named (a ∷ all) key f any =
     list_any-append (λ d. is_same_cell d (cell f 0)) (action_cells key a) (actions_cells key all)
     ∙ (elim (or_cases (flushes f a.act) (list_any (λ (a : Action). flushes f a.act) all) any) [
-      | inl here ↦ or_left (names (cell f 0) (action_cells key a)) (names (cell f 0) (actions_cells key all)) (in_act key (cell f 0) a (flush_names key f a.act here))
+      | inl here ↦ or_left (names (cell f 0) (action_cells key a)) (names (cell f 0) (actions_cells key all))
+          (in_act key (cell f 0) a (flush_names key f a.act here))
       | inr later ↦ or_right (names (cell f 0) (action_cells key a)) (names (cell f 0) (actions_cells key all)) (flushed_is_named all key f later)
     ])

@@ -140,7 +140,8 @@ module _ (p : Program) (t : Clashes) (i j : ℕ) (li : i < count_of_itags p) (lj
   by_key : (a.key == b.key) ≡ true → done.meeting.same_key ≡ true → may_clash t i a j b ≡ true
   by_key same h =
       or_left ((always_has || same_has) || third) fourth
-      (or_left (always_has || same_has) third (or_right always_has same_has (both (a.key == b.key) (has (slice_index t.same_key (a.kind % 64)) b.kind) same (done.same_key h))))
+      (or_left (always_has || same_has) third
+      (or_right always_has same_has (both (a.key == b.key) (has (slice_index t.same_key (a.kind % 64)) b.kind) same (done.same_key h))))
 
   by_third : (f : ℕ) → has (word_at done.marks b.key) f ≡ true → has done.meeting.own f ≡ true → may_clash t i a j b ≡ true
   by_third f there own = or_left ((always_has || same_has) || third) fourth (or_right (always_has || same_has) third (done.fixed j lj refl f there own))
@@ -202,10 +203,13 @@ module _ (p : Program) (t : Clashes) (finds : FindsClashes p t) (i j : ℕ) (li 
   theirs = kind_actions p second.kind
 
   first_kind : first.kind < length p.kinds
-  first_kind = true_lt first.kind (length p.kinds) (and_left (nat_lt first.kind (length p.kinds)) _ (and_left (tag_fits p.kinds first) (tag_fits p.kinds second) fits))
+  first_kind =
+      true_lt first.kind (length p.kinds) (and_left (nat_lt first.kind (length p.kinds)) _ (and_left (tag_fits p.kinds first) (tag_fits p.kinds second) fits))
 
   second_kind : second.kind < length p.kinds
-  second_kind = true_lt second.kind (length p.kinds) (and_left (nat_lt second.kind (length p.kinds)) _ (and_right (tag_fits p.kinds first) (tag_fits p.kinds second) fits))
+  second_kind =
+      true_lt second.kind (length p.kinds)
+      (and_left (nat_lt second.kind (length p.kinds)) _ (and_right (tag_fits p.kinds first) (tag_fits p.kinds second) fits))
 
   may_where_conflict : conflicts_on p first second c ≡ true → may_clash t i first j second ≡ true
   may_where_conflict conflict =
@@ -225,10 +229,13 @@ module _ (p : Program) (t : Clashes) (finds : FindsClashes p t) (i j : ℕ) (li 
       let others = clash.second.way in
       let one = use_found ours first.key c ways clash.first.holds in
       let other = use_found theirs second.key c others clash.second.holds in
-      let one_family : one.family ≡ c.family = true_eq one.family c.family (and_left (one.family == c.family) (at_place first.key c.key one.place) one.covered) in
-      let other_family : other.family ≡ c.family = true_eq other.family c.family (and_left (other.family == c.family) (at_place second.key c.key other.place) other.covered) in
+      let one_family : one.family ≡ c.family =
+      true_eq one.family c.family (and_left (one.family == c.family) (at_place first.key c.key one.place) one.covered) in
+      let other_family : other.family ≡ c.family =
+      true_eq other.family c.family (and_left (other.family == c.family) (at_place second.key c.key other.place) other.covered) in
       let marked : is_marked done.marks one.family one.place ≡ true =
-      second_of (in_class p.version clash.one ways) (is_marked done.marks one.family one.place) clash.first.is (one.passes (marked_test p.version clash.one done.marks) done.marked) in
+      second_of (in_class p.version clash.one ways) (is_marked done.marks one.family one.place) clash.first.is
+      (one.passes (marked_test p.version clash.one done.marks) done.marked) in
       let met : is_met done.marks done.meeting other.family other.place ≡ true =
       second_of (in_class p.version clash.other others) (is_met done.marks done.meeting other.family other.place) clash.second.is
       (other.passes (met_test p.version clash.other done.marks done.meeting) done.met) in

@@ -43,6 +43,7 @@ pub word_kept : (xs : List ℕ) (i word : ℕ) → i < length xs → ((n : ℕ) 
     → (k n : ℕ) → has (slice_index xs k) n ≡ true → has (slice_index (set xs i word) k) n ≡ true
 word_kept xs i word lt more k n h =
     elim (cases_eq k i) [
-      | inl same ↦ ap (λ j. has (slice_index (set xs i word) j) n) same ∙ ap (λ w. has w n) (set_there xs i word lt) ∙ more n (ap (λ j. has (slice_index xs j) n) (sym same) ∙ h)
+      | inl same ↦ ap (λ j. has (slice_index (set xs i word) j) n) same ∙ ap (λ w. has w n) (set_there xs i word lt)
+          ∙ more n (ap (λ j. has (slice_index xs j) n) (sym same) ∙ h)
       | inr other ↦ ap (λ w. has w n) (set_other xs i k word other) ∙ h
     ]

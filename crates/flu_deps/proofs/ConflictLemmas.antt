@@ -64,10 +64,12 @@ module _ (p : Program) (a b : Tag) where
     not_behind : is_cell_before c at ≡ false
 
   in_first : (c : Cell) → names c (actions_cells a.key first_actions) ≡ true → names c named ≡ true
-  in_first c e = list_any-append (λ d. is_same_cell d c) (actions_cells a.key first_actions) (actions_cells b.key second_actions) ∙ or_left (names c (actions_cells a.key first_actions)) (names c (actions_cells b.key second_actions)) e
+  in_first c e = list_any-append (λ d. is_same_cell d c) (actions_cells a.key first_actions) (actions_cells b.key second_actions)
+      ∙ or_left (names c (actions_cells a.key first_actions)) (names c (actions_cells b.key second_actions)) e
 
   in_second : (c : Cell) → names c (actions_cells b.key second_actions) ≡ true → names c named ≡ true
-  in_second c e = list_any-append (λ d. is_same_cell d c) (actions_cells a.key first_actions) (actions_cells b.key second_actions) ∙ or_right (names c (actions_cells a.key first_actions)) (names c (actions_cells b.key second_actions)) e
+  in_second c e = list_any-append (λ d. is_same_cell d c) (actions_cells a.key first_actions) (actions_cells b.key second_actions)
+      ∙ or_right (names c (actions_cells a.key first_actions)) (names c (actions_cells b.key second_actions)) e
 
   covered : (c : Cell) → conflicts_on p a b c ≡ true → Covered c
   covered c e =
@@ -78,7 +80,9 @@ module _ (p : Program) (a b : Tag) where
           | inr too ↦ record {
             at = cell c.family 0;
             is_named = in_first (cell c.family 0) (flushed_is_named first_actions a.key c.family flushed);
-            conflicts = (λ i. modes_conflict (flushed_is_owned p.version first_actions a.key c.family 0 flushed i) (flushed_is_owned p.version second_actions b.key c.family 0 too i));
+            conflicts =
+                (λ i. modes_conflict (flushed_is_owned p.version first_actions a.key c.family 0 flushed i)
+                (flushed_is_owned p.version second_actions b.key c.family 0 too i));
             not_behind = first_of_family c;
           }
         ]
@@ -92,7 +96,9 @@ module _ (p : Program) (a b : Tag) where
     first_found = at_answer found refl
       where
         passes : IfSome found (λ d. conflicts_on p a b d ≡ true)
-        passes = subst (λ (o : Option Cell). IfSome o (λ d. conflicts_on p a b d ≡ true)) (sym is) (best_is_one (λ d. conflicts_on p a b d ≡ true) (conflicts_on p a b) (λ d. true) (λ d t e. e) None named tt (all_true named))
+        passes =
+            subst (λ (o : Option Cell). IfSome o (λ d. conflicts_on p a b d ≡ true)) (sym is)
+            (best_is_one (λ d. conflicts_on p a b d ≡ true) (conflicts_on p a b) (λ d. true) (λ d t e. e) None named tt (all_true named))
 
         at_answer : (o : Option Cell) → found ≡ o → IfSome o (IsFirstConflict p a b)
         at_answer None e = tt
@@ -107,5 +113,6 @@ module _ (p : Program) (a b : Tag) where
     none_found = at_answer found refl
       where
         at_answer : (o : Option Cell) → found ≡ o → IfNone o ((c : Cell) → conflicts_on p a b c ≡ false)
-        at_answer None e = λ c. false_if_not (conflicts_on p a b c) (λ h. let k : Covered c = covered c h in reached_none found k.at e (reached k.at k.is_named k.conflicts))
+        at_answer None e = λ c. false_if_not (conflicts_on p a b c) (λ h. let k : Covered c = covered c h in
+            reached_none found k.at e (reached k.at k.is_named k.conflicts))
         at_answer (Some d) e = tt

@@ -22,7 +22,8 @@ use Rattle.flu_model.specs.declared.jobs.Kind.{Kind}
 use Rattle.flu_model.specs.declared.jobs.Program.{Program}
 use Rattle.flu_model.specs.Contents.{cell, key_count}
 use Rattle.flu_model.specs.Expressions.{key_of, cell_of}
-use Rattle.flu_model.specs.Rules.{family_fits, is_keyed, ref_fits, expr_fits, is_good_expr, guard_fits, emit_piece_fits, flush_piece_fits, flush_template_fits, are_apart, is_short, act_fits, action_fits, kind_fits, tag_fits}
+use Rattle.flu_model.specs.Rules.{family_fits, is_keyed, ref_fits, expr_fits, is_good_expr, guard_fits, emit_piece_fits, flush_piece_fits}
+use Rattle.flu_model.specs.Rules.{flush_template_fits, are_apart, is_short, act_fits, action_fits, kind_fits, tag_fits}
 use Rattle.flu_model.specs.Templates.{written_template}
 use Rattle.flu_model.specs.Updates.{actions_of}
 use Rattle.flu_model.specs.Sorts.{key_is_in, is_cell_of}
@@ -65,7 +66,8 @@ module _ (families : List Family) (keyed has_value : Bool) (key : ℕ) (lt : nat
   expr_in (Two' op p a q b) fits =
       list_all-append (is_cell_of families) (expr_cells key a) (expr_cells key b)
       ∙ both (list_all (is_cell_of families) (expr_cells key a)) (list_all (is_cell_of families) (expr_cells key b))
-      (expr_in a (and_left (expr_fits families keyed has_value a) (expr_fits families keyed has_value b) fits)) (expr_in b (and_right (expr_fits families keyed has_value a) (expr_fits families keyed has_value b) fits))
+      (expr_in a (and_left (expr_fits families keyed has_value a) (expr_fits families keyed has_value b) fits))
+      (expr_in b (and_right (expr_fits families keyed has_value a) (expr_fits families keyed has_value b) fits))
 
   good_expr_in : (e : Expr) → is_good_expr families keyed has_value e ≡ true → list_all (is_cell_of families) (expr_cells key e) ≡ true
   good_expr_in e fits = expr_in e (and_left (expr_fits families keyed has_value e) _ fits)
@@ -95,7 +97,8 @@ module _ (families : List Family) (keyed has_value : Bool) (key : ℕ) (lt : nat
   pieces_in test one [] fits = refl
   pieces_in test one (q ∷ qs) fits =
       list_all-append (is_cell_of families) (piece_cells key q) (pieces_cells key qs)
-      ∙ both (list_all (is_cell_of families) (piece_cells key q)) (list_all (is_cell_of families) (pieces_cells key qs)) (one q (and_left (test q) (list_all test qs) fits)) (pieces_in test one qs (and_right (test q) (list_all test qs) fits))
+      ∙ both (list_all (is_cell_of families) (piece_cells key q)) (list_all (is_cell_of families) (pieces_cells key qs))
+      (one q (and_left (test q) (list_all test qs) fits)) (pieces_in test one qs (and_right (test q) (list_all test qs) fits))
 
   target_in : (r : CellRef) (e : Expr) (sort : Bool) → (ref_fits families keyed r && sort && is_good_expr families keyed has_value e) ≡ true
       → list_all (is_cell_of families) (cell_of r key ∷ expr_cells key e) ≡ true
@@ -123,7 +126,8 @@ module _ (families : List Family) (keyed has_value : Bool) (key : ℕ) (lt : nat
   actions_in : (all : List Action) → list_all (action_fits families keyed has_value) all ≡ true → list_all (is_cell_of families) (actions_cells key all) ≡ true
   actions_in [] fits = refl
   actions_in (a ∷ all) fits =
-      let one : action_fits families keyed has_value a ≡ true = and_left (action_fits families keyed has_value a) (list_all (action_fits families keyed has_value) all) fits in
+      let one : action_fits families keyed has_value a ≡ true =
+      and_left (action_fits families keyed has_value a) (list_all (action_fits families keyed has_value) all) fits in
       list_all-append (is_cell_of families) (action_cells key a) (actions_cells key all)
       ∙ both (list_all (is_cell_of families) (action_cells key a)) (list_all (is_cell_of families) (actions_cells key all))
       (list_all-append (is_cell_of families) (guard_cells key a.guard) (act_cells key a.act)
@@ -135,7 +139,8 @@ module _ (families : List Family) (keyed has_value : Bool) (key : ℕ) (lt : nat
 kind_in : (families : List Family) (kinds : List Kind) (n key : ℕ) → nat_lt key key_count ≡ true → list_all (kind_fits families) kinds ≡ true
     → list_all (is_cell_of families) (actions_cells key (actions_of (slice_get kinds n))) ≡ true
 kind_in families [] n key lt fits = refl
-kind_in families (k ∷ ks) zero key lt fits = actions_in families k.keyed k.has_value key lt k.actions (and_right _ _ (and_left (kind_fits families k) (list_all (kind_fits families) ks) fits))
+kind_in families (k ∷ ks) zero key lt fits =
+    actions_in families k.keyed k.has_value key lt k.actions (and_right _ _ (and_left (kind_fits families k) (list_all (kind_fits families) ks) fits))
 kind_in families (k ∷ ks) (suc n) key lt fits = kind_in families ks n key lt (and_right (kind_fits families k) (list_all (kind_fits families) ks) fits)
 
 tag_in : (p : Program) (t : Tag) → tag_fits p.kinds t ≡ true

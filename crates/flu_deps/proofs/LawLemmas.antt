@@ -19,7 +19,9 @@ use Rattle.flu_deps.specs.Owned.{kids_at}
 use Rattle.flu_deps.specs.Owners.{ItagsAreOwned}
 use Rattle.flu_deps.specs.Trees.{AreKids, IsRooted, PathsGoUp, SubtreesAreOfChildren, NodesAreOrdered, NodesAreApart}
 use Rattle.flu_deps.proofs.Trees.{are_kids, rooted}
-use Rattle.flu_deps.proofs.Within.{path_root, path_step, within_itself, within_step, within_cases, within_is_later, in_root, within_through, within_parent, on_one_line, sibling_not_within, not_in_both, within_kid, within_root, left_first, right_first, apart_cases, apart_kid, apart_sibling, within_is_apart}
+use Rattle.flu_deps.proofs.Within.{path_root, path_step, within_itself, within_step, within_cases, within_is_later, in_root}
+use Rattle.flu_deps.proofs.Within.{within_through, within_parent, on_one_line, sibling_not_within, not_in_both, within_kid}
+use Rattle.flu_deps.proofs.Within.{within_root, left_first, right_first, apart_cases, apart_kid, apart_sibling, within_is_apart}
 
 -- ---- mutual
 share_turns : (m n : Mode) → share m n ≡ share n m
@@ -112,8 +114,10 @@ subtrees_are_of_children nodes tree = record { leaf = leaf; inner = inner; apart
         from_iff (is_within nodes w v) ((v == w) || (is_within nodes left v || is_within nodes right v))
         (λ h. elim (within_kid nodes root w left right v lt kids h) [
           | inl same ↦ or_left (v == w) (is_within nodes left v || is_within nodes right v) (eq_true v w same)
-          | inr (inl there) ↦ or_right (v == w) (is_within nodes left v || is_within nodes right v) (or_left (is_within nodes left v) (is_within nodes right v) there)
-          | inr (inr there) ↦ or_right (v == w) (is_within nodes left v || is_within nodes right v) (or_right (is_within nodes left v) (is_within nodes right v) there)
+          | inr (inl there) ↦ or_right (v == w) (is_within nodes left v || is_within nodes right v)
+              (or_left (is_within nodes left v) (is_within nodes right v) there)
+          | inr (inr there) ↦ or_right (v == w) (is_within nodes left v || is_within nodes right v)
+              (or_right (is_within nodes left v) (is_within nodes right v) there)
         ])
         (λ h. elim (or_cases (v == w) (is_within nodes left v || is_within nodes right v) h) [
           | inl same ↦ ap (λ u. is_within nodes u v) (sym (true_eq v w same)) ∙ within_itself nodes root v lt

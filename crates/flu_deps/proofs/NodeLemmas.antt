@@ -36,5 +36,6 @@ set_below table i w k n lt below here =
     let size : length (set table i w) ≡ length table = length-set table i w in
     elim (cases_eq k i) [
       | inl same ↦ (let there : slice_index (set table i w) k ≡ w = get_or-set_at table i k w 0 same (omega arith) in omega arith)
-      | inr other ↦ (let there : slice_index (set table i w) k ≡ slice_index table k = get_or-set_other table i k w 0 other in let old = below k (omega arith) in omega arith)
+      | inr other ↦ (let there : slice_index (set table i w) k ≡ slice_index table k = get_or-set_other table i k w 0 other in
+          let old = below k (omega arith) in omega arith)
     ]

@@ -193,7 +193,8 @@ pub use_found : (all : List Action) (key : ℕ) (c : Cell) (way : Way)
     → FoundIn (λ test. list_all (action_all test) all) key c way
 use_found all key c Read any = some_found action_all key c Read (action_reads key c) (action_read_found key c) all any
 use_found all key c Overwrite any =
-    some_found action_all key c Overwrite (λ (a : Action). act_overwrites key c a.act) (λ a h. in_act key c Overwrite a (act_overwritten_found key c a.act h)) all any
+    some_found action_all key c Overwrite (λ (a : Action). act_overwrites key c a.act)
+    (λ a h. in_act key c Overwrite a (act_overwritten_found key c a.act h)) all any
 use_found all key c Add any =
     some_found action_all key c Add (λ (a : Action). act_adds key c a.act) (λ a h. in_act key c Add a (act_added_found key c a.act h)) all any
 use_found all key c Raise any =

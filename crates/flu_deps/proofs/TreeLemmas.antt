@@ -20,12 +20,14 @@ wanted_within w (v ∷ wanted) (node ∷ rest) e =
     let here : v ≡ w = true_eq v w (and_left (v == w) _ e) in
     let size : w + 1 + length rest ≡ w + length (node ∷ rest) = omega arith in
     both (nat_lt v (w + length (node ∷ rest))) _ (lt_true v (w + length (node ∷ rest)) (omega arith))
-    (ap (λ n. list_all (λ u. nat_lt u n) wanted) (sym size) ∙ without_kids (w + 1 + length rest) node.kids wanted (wanted_within (w + 1) (with_kids node.kids wanted) rest (and_right (v == w) _ e)))
+    (ap (λ n. list_all (λ u. nat_lt u n) wanted) (sym size)
+    ∙ without_kids (w + 1 + length rest) node.kids wanted (wanted_within (w + 1) (with_kids node.kids wanted) rest (and_right (v == w) _ e)))
 
 first_two : (n : ℕ) (kids : Option (ℕ × ℕ)) (wanted : List ℕ) → list_all (λ v. nat_lt v n) (with_kids kids wanted) ≡ true
     → IfSome kids (λ k. (k.0 < n) × (k.1 < n))
 first_two n None wanted e = tt
-first_two n (Some kids) wanted e = (true_lt kids.0 n (and_left (nat_lt kids.0 n) _ e), true_lt kids.1 n (and_left (nat_lt kids.1 n) _ (and_right (nat_lt kids.0 n) _ e)))
+first_two n (Some kids) wanted e =
+    (true_lt kids.0 n (and_left (nat_lt kids.0 n) _ e), true_lt kids.1 n (and_left (nat_lt kids.1 n) _ (and_right (nat_lt kids.0 n) _ e)))
 
 kids_of_subtrees : (w : ℕ) (wanted : List ℕ) (nodes : List Node) (k : ℕ) → are_subtrees w wanted nodes ≡ true
     → IfSome (kids_at nodes k) (λ kids. (kids.0 < w + length nodes) × (kids.1 < w + length nodes))
@@ -34,7 +36,8 @@ kids_of_subtrees w [] (node ∷ rest) k e = cc
 kids_of_subtrees w (v ∷ wanted) (node ∷ rest) zero e =
     let size : w + 1 + length rest ≡ w + length (node ∷ rest) = omega arith in
     first_two (w + length (node ∷ rest)) node.kids wanted
-    (ap (λ n. list_all (λ u. nat_lt u n) (with_kids node.kids wanted)) (sym size) ∙ wanted_within (w + 1) (with_kids node.kids wanted) rest (and_right (v == w) _ e))
+    (ap (λ n. list_all (λ u. nat_lt u n) (with_kids node.kids wanted)) (sym size)
+    ∙ wanted_within (w + 1) (with_kids node.kids wanted) rest (and_right (v == w) _ e))
 kids_of_subtrees w (v ∷ wanted) (node ∷ rest) (suc k) e =
     let size : w + 1 + length rest ≡ w + length (node ∷ rest) = omega arith in
     subst (λ n. IfSome (kids_at rest k) (λ kids. (kids.0 < n) × (kids.1 < n))) size

@@ -1,5 +1,6 @@
 -- The nodes of a plan are a tree: parents, and what is within what.
-use Rattle.std.proofs.Common.{◌≡◌, ◌<◌, ◌≤◌, ◌+◌, ℕ, zero, suc, true, false, cond, Option, Some, None, List, [], ◌∷◌, length, ◌⊎◌, inl, inr, refl, sym, ap, subst, ◌∙◌, arith}
+use Rattle.std.proofs.Common.{◌≡◌, ◌<◌, ◌≤◌, ◌+◌, ℕ, zero, suc, true, false, cond, Option, Some, None}
+use Rattle.std.proofs.Common.{List, [], ◌∷◌, length, ◌⊎◌, inl, inr, refl, sym, ap, subst, ◌∙◌, arith}
 use Rattle.std.specs.Prelude.{nat_le, ◌==◌, IfSome, option_map}
 use Rattle.std.specs.List.{list_all}
 use Rattle.std.proofs.lemmas.Bool.{cases_Bool, cases_lt, cases_eq, ne_eqb, or_left, or_right, or_cases}
@@ -122,7 +123,8 @@ child_times (node ∷ rest) (suc w) v e = let some = child_times rest w v e in o
 is_parent : (nodes : List Node) (w v : ℕ) → is_kid v (kids_at nodes w) ≡ true → times_child v nodes ≡ 1 → parent_of nodes v ≡ Some w
 unfolding times_child
 is_parent [] w v e once = cc
-is_parent (node ∷ rest) zero v e once = position-cons (λ (n : Node). is_kid v n.kids) node rest ∙ ap (λ b. cond b (Some 0) (option_map (λ i. i + 1) (parent_of rest v))) e
+is_parent (node ∷ rest) zero v e once = position-cons (λ (n : Node). is_kid v n.kids) node rest
+    ∙ ap (λ b. cond b (Some 0) (option_map (λ i. i + 1) (parent_of rest v))) e
 is_parent (node ∷ rest) (suc w) v e once =
     let some = child_times rest w v e in
     let none : is_kid v node.kids ≡ false = false_if_not _ (λ h. (let here = kid_times v node.kids h in omega arith)) in
@@ -165,7 +167,8 @@ wanted_later w [] nodes e = refl
 wanted_later w (v ∷ wanted) [] e = cc
 wanted_later w (v ∷ wanted) (node ∷ rest) e =
     let here : v ≡ w = true_eq v w (and_left (v == w) _ e) in
-    both (nat_le w v) _ (le_true w v (omega arith)) (weaker wanted (without_kids node.kids wanted (wanted_later (w + 1) (with_kids node.kids wanted) rest (and_right (v == w) _ e))))
+    both (nat_le w v) _ (le_true w v (omega arith))
+    (weaker wanted (without_kids node.kids wanted (wanted_later (w + 1) (with_kids node.kids wanted) rest (and_right (v == w) _ e))))
   where
     weaker : (us : List ℕ) → list_all (λ u. nat_le (w + 1) u) us ≡ true → list_all (λ u. nat_le w u) us ≡ true
     weaker [] all = refl
@@ -179,7 +182,8 @@ wanted_later w (v ∷ wanted) (node ∷ rest) e =
 first_two : (n : ℕ) (kids : Option (ℕ × ℕ)) (wanted : List ℕ) → list_all (λ v. nat_le n v) (with_kids kids wanted) ≡ true
     → IfSome kids (λ k. (n ≤ k.0) × (n ≤ k.1))
 first_two n None wanted e = tt
-first_two n (Some kids) wanted e = (true_le n kids.0 (and_left (nat_le n kids.0) _ e), true_le n kids.1 (and_left (nat_le n kids.1) _ (and_right (nat_le n kids.0) _ e)))
+first_two n (Some kids) wanted e =
+    (true_le n kids.0 (and_left (nat_le n kids.0) _ e), true_le n kids.1 (and_left (nat_le n kids.1) _ (and_right (nat_le n kids.0) _ e)))
 
 kids_later : (w : ℕ) (wanted : List ℕ) (nodes : List Node) (k : ℕ) → are_subtrees w wanted nodes ≡ true
     → IfSome (kids_at nodes k) (λ kids. (w + k + 1 ≤ kids.0) × (w + k + 1 ≤ kids.1))
@@ -206,7 +210,8 @@ kids_apart w (v ∷ wanted) (node ∷ rest) zero e = first node.kids rest (and_r
     first (Some kids) [] h = cc
     first (Some kids) (next ∷ more) h =
         let here : kids.0 ≡ w + 1 = true_eq kids.0 (w + 1) (and_left (kids.0 == w + 1) _ h) in
-        let later : list_all (λ u. nat_le (w + 1 + 1) u) (with_kids next.kids (kids.1 ∷ wanted)) ≡ true = wanted_later (w + 1 + 1) (with_kids next.kids (kids.1 ∷ wanted)) more (and_right (kids.0 == w + 1) _ h) in
+        let later : list_all (λ u. nat_le (w + 1 + 1) u) (with_kids next.kids (kids.1 ∷ wanted)) ≡ true =
+        wanted_later (w + 1 + 1) (with_kids next.kids (kids.1 ∷ wanted)) more (and_right (kids.0 == w + 1) _ h) in
         let right : w + 1 + 1 ≤ kids.1 = behind next.kids later in
         omega arith
       where
@@ -216,14 +221,24 @@ kids_apart w (v ∷ wanted) (node ∷ rest) zero e = first node.kids rest (and_r
 
 pub are_kids : (nodes : List Node) → is_tree nodes ≡ true → (w left right : ℕ) → kids_at nodes w ≡ Some (left, right) → AreKids nodes w left right
 are_kids nodes tree w left right e =
-    let inside : (left < length nodes) × (right < length nodes) = subst (λ o. IfSome o (λ kids. (kids.0 < length nodes) × (kids.1 < length nodes))) e (kids_are_nodes nodes w tree) in
-    let later : (0 + w + 1 ≤ left) × (0 + w + 1 ≤ right) = subst (λ o. IfSome o (λ kids. (0 + w + 1 ≤ kids.0) × (0 + w + 1 ≤ kids.1))) e (kids_later 0 (0 ∷ []) nodes w tree) in
+    let inside : (left < length nodes) × (right < length nodes) =
+    subst (λ o. IfSome o (λ kids. (kids.0 < length nodes) × (kids.1 < length nodes))) e (kids_are_nodes nodes w tree) in
+    let later : (0 + w + 1 ≤ left) × (0 + w + 1 ≤ right) =
+    subst (λ o. IfSome o (λ kids. (0 + w + 1 ≤ kids.0) × (0 + w + 1 ≤ kids.1))) e (kids_later 0 (0 ∷ []) nodes w tree) in
     let apart : left < right = subst (λ o. IfSome o (λ kids. kids.0 < kids.1)) e (kids_apart 0 (0 ∷ []) nodes w tree) in
     let is_left : is_kid left (kids_at nodes w) ≡ true = ap (is_kid left) e ∙ or_left _ _ (eq_true left left refl) in
     let is_right : is_kid right (kids_at nodes w) ≡ true = ap (is_kid right) e ∙ or_right _ _ (eq_true right right refl) in
     record {
-      left_under = record { there = inside.0; parent = is_parent nodes w left is_left (child_once nodes tree left (omega arith) inside.0); earlier = omega arith };
-      right_under = record { there = inside.1; parent = is_parent nodes w right is_right (child_once nodes tree right (omega arith) inside.1); earlier = omega arith };
+      left_under = record {
+        there = inside.0;
+        parent = is_parent nodes w left is_left (child_once nodes tree left (omega arith) inside.0);
+        earlier = omega arith;
+      };
+      right_under = record {
+        there = inside.1;
+        parent = is_parent nodes w right is_right (child_once nodes tree right (omega arith) inside.1);
+        earlier = omega arith;
+      };
       in_order = apart;
     }
 
@@ -235,7 +250,8 @@ rooted nodes tree = record {
       (let once = child_once nodes tree v some lt in
       let up = child_of nodes v (omega arith) in
       let kids = with_kid v (kids_at nodes up.up) refl up.is in
-      let later : (0 + up.up + 1 ≤ kids.0.0) × (0 + up.up + 1 ≤ kids.0.1) = subst (λ o. IfSome o (λ k. (0 + up.up + 1 ≤ k.0) × (0 + up.up + 1 ≤ k.1))) kids.1 (kids_later 0 (0 ∷ []) nodes up.up tree) in
+      let later : (0 + up.up + 1 ≤ kids.0.0) × (0 + up.up + 1 ≤ kids.0.1) =
+      subst (λ o. IfSome o (λ k. (0 + up.up + 1 ≤ k.0) × (0 + up.up + 1 ≤ k.1))) kids.1 (kids_later 0 (0 ∷ []) nodes up.up tree) in
       record {
         parent = up.up;
         under = record { there = lt; parent = is_parent nodes up.up v up.is once; earlier = earlier up.up v kids.0 later kids.2 };

@@ -1,5 +1,6 @@
 -- Words of numbers, and what stays in a walk over actions.
-use Rattle.std.proofs.Common.{◌≡◌, ◌<◌, ◌+◌, ◌*◌, ◌^◌, ◌%◌, ◌/◌, ℕ, Bool, true, false, cond, List, [], ◌∷◌, ◌++◌, length, take, get_or, bit_and, bit_or, w64, inl, inr, refl, sym, ap, ◌∙◌, arith}
+use Rattle.std.proofs.Common.{◌≡◌, ◌<◌, ◌+◌, ◌*◌, ◌^◌, ◌%◌, ◌/◌, ℕ, Bool, true, false, cond, List, [], ◌∷◌, ◌++◌}
+use Rattle.std.proofs.Common.{length, take, get_or, bit_and, bit_or, w64, inl, inr, refl, sym, ap, ◌∙◌, arith}
 use Rattle.std.specs.Prelude.{◌==◌, ◌||◌, not, min}
 use Rattle.std.specs.Int.{bit_at}
 use Rattle.std.specs.List.{list_all}
@@ -57,7 +58,9 @@ marked_follows v m marking keeps = record {
   class = refl;
   marking = refl;
   marks = λ e. absurd (not_true_false v.marking marking e);
-  kept = λ way family place h. still (not (in_class v.version v.class way)) (is_marked v.marks family place) (is_met v.marks v.meeting family place) (is_marked m family place) (is_met m v.meeting family place) v.marking marking (keeps family place) h;
+  kept =
+      λ way family place h. still (not (in_class v.version v.class way)) (is_marked v.marks family place) (is_met v.marks v.meeting family place)
+      (is_marked m family place) (is_met m v.meeting family place) v.marking marking (keeps family place) h;
 }
 
 pub follows_itself : (v : Visit) → Follows v v
@@ -75,21 +78,26 @@ follows_through u v w f g = record {
 -- what is told of the first elements and of one more
 pub told_more : {X : Type 0} (test : X → Bool) (xs : List X) (i : ℕ) (x : X) → i < length xs → x ≡ get_or xs i x → list_all test (take i xs) ≡ true
     → test x ≡ true → list_all test (take (i + 1) xs) ≡ true
-told_more test xs i x lt is all here = ap (list_all test) (take_more xs i x lt ∙ ap (λ y. take i xs ++ y ∷ []) (sym is)) ∙ list_all_push test (take i xs) x all here
+told_more test xs i x lt is all here = ap (list_all test) (take_more xs i x lt ∙ ap (λ y. take i xs ++ y ∷ []) (sym is))
+    ∙ list_all_push test (take i xs) x all here
 
 -- ---- what a walk leaves
 pub marked_told : (v : Visit) (class : Class) → v.class ≡ class → v.marking ≡ true → (holds : Test → Bool) → holds (is_told v) ≡ true
     → holds (marked_test v.version class v.marks) ≡ true
 marked_told v class same marking holds told =
-    sym (ap (λ b. holds (λ way family place. not (in_class v.version class way) || cond b (is_marked v.marks family place) (is_met v.marks v.meeting family place))) marking)
-    ∙ sym (ap (λ k. holds (λ way family place. not (in_class v.version k way) || cond v.marking (is_marked v.marks family place) (is_met v.marks v.meeting family place))) same)
+    sym (ap (λ b. holds (λ way family place. not (in_class v.version class way)
+    || cond b (is_marked v.marks family place) (is_met v.marks v.meeting family place))) marking)
+    ∙ sym (ap (λ k. holds (λ way family place. not (in_class v.version k way)
+    || cond v.marking (is_marked v.marks family place) (is_met v.marks v.meeting family place))) same)
     ∙ told
 
 pub met_told : (v : Visit) (class : Class) → v.class ≡ class → v.marking ≡ false → (holds : Test → Bool) → holds (is_told v) ≡ true
     → holds (met_test v.version class v.marks v.meeting) ≡ true
 met_told v class same marking holds told =
-    sym (ap (λ b. holds (λ way family place. not (in_class v.version class way) || cond b (is_marked v.marks family place) (is_met v.marks v.meeting family place))) marking)
-    ∙ sym (ap (λ k. holds (λ way family place. not (in_class v.version k way) || cond v.marking (is_marked v.marks family place) (is_met v.marks v.meeting family place))) same)
+    sym (ap (λ b. holds (λ way family place. not (in_class v.version class way)
+    || cond b (is_marked v.marks family place) (is_met v.marks v.meeting family place))) marking)
+    ∙ sym (ap (λ k. holds (λ way family place. not (in_class v.version k way)
+    || cond v.marking (is_marked v.marks family place) (is_met v.marks v.meeting family place))) same)
     ∙ told
 
 one_is_not_none : (x y i : ℕ) → bit_at x i ≡ 1 → bit_at y i ≡ 1 → bit_and x y ≡ 0 → ⊥

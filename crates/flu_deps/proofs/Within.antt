@@ -212,7 +212,12 @@ module _ (nodes : List Node) (tree : IsRooted nodes) where
 
   -- ---- nodes of which neither is within the other
   pub left_first : (w left right : ℕ) → kids_at nodes w ≡ Some (left, right) → AreKids nodes w left right → Siblings nodes w left right
-  left_first w left right e kids = record { first = kids.left_under; second = kids.right_under; differ = λ same. (let before = kids.in_order in absurd (omega arith)); cover = λ v lt h. within_kid w left right v lt e h }
+  left_first w left right e kids = record {
+    first = kids.left_under;
+    second = kids.right_under;
+    differ = λ same. (let before = kids.in_order in absurd (omega arith));
+    cover = λ v lt h. within_kid w left right v lt e h;
+  }
 
   pub right_first : (w left right : ℕ) → kids_at nodes w ≡ Some (left, right) → AreKids nodes w left right → Siblings nodes w right left
   right_first w left right e kids = record {
@@ -253,7 +258,8 @@ module _ (nodes : List Node) (tree : IsRooted nodes) where
   apart_kid w x v under lt apart = (
     false_if_not _ (λ h. not_both _ (within_parent w x v under lt h) apart.0),
     false_if_not _ (λ h. (elim (within_cases v w x under h) [
-      | inl same ↦ not_both _ (ap (is_within nodes w) (sym same) ∙ within_up w w x under (within_itself w (let a = under.there in let b = under.earlier in omega arith))) apart.0
+      | inl same ↦ not_both _ (ap (is_within nodes w) (sym same)
+          ∙ within_up w w x under (within_itself w (let a = under.there in let b = under.earlier in omega arith))) apart.0
       | inr up ↦ not_both _ up apart.1
     ])),
   )

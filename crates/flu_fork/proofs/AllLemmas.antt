@@ -77,7 +77,8 @@ module _ (laws : LawsBelow) (k : Content) (w l r : ℕ) (lent to_left to_right :
   as_right : (i : ℕ) → i < count_of_itags (job k) → below (job k) (nodes k) r i ≡ true → slice_index lot.upto i ≡ slice_index right.upto i
   as_right i lt h = at_right laws k w l r e lent.since to_left.upto left right lot loan_left loan_right fl.fits.upto_each joined i lt h
 
-  parts : (i : ℕ) → i < count_of_itags (job k) → InOneOf (below (job k) (nodes k) w i) (own (job k) (nodes k) w i) (below (job k) (nodes k) l i) (below (job k) (nodes k) r i)
+  parts : (i : ℕ) → i < count_of_itags (job k)
+      → InOneOf (below (job k) (nodes k) w i) (own (job k) (nodes k) w i) (below (job k) (nodes k) l i) (below (job k) (nodes k) r i)
   parts i lt = (kids_law laws (setting_of k) w l r i (setting_holds k) e lt).parts
 
   none_here : (i : ℕ) → count_of_itags (job k) ≤ i → slice_index lot.upto i ≡ length (events_at (setting_of k) i)

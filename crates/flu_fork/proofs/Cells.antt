@@ -18,7 +18,8 @@ use Rattle.flu_deps.specs.Trees.{IsUnder, IsRooted, HasPaths, Siblings}
 use Rattle.flu_laws.specs.Uses.{needs, writes}
 use Rattle.flu_laws.specs.Lawful.{IsLawful}
 use Rattle.flu_fork.specs.Settings.{Setting, IsSetting}
-use Rattle.flu_fork.specs.Classes.{Itags, itag, below, beside, mode_by, some_has, is_needed, is_moved, is_copied, is_base_at_child, is_base_on, is_base, is_away}
+use Rattle.flu_fork.specs.Classes.{Itags, itag, below, beside, mode_by, some_has, is_needed, is_moved}
+use Rattle.flu_fork.specs.Classes.{is_copied, is_base_at_child, is_base_on, is_base, is_away}
 use Rattle.flu_laws.specs.Versions.{NothingIsShared}
 use Rattle.flu_fork.specs.LawsBelow.{LawsBelow}
 use Rattle.flu_fork.specs.Laws.{NothingIsCopied, NeededIsBase, BaseIsNotAway, CopiesAreOnlyRead}

@@ -25,7 +25,9 @@ use Rattle.flu_fork.specs.Fitting.{IsPrefix, Fits}
 use Rattle.flu_fork.specs.Parts.{joined_state, joined_counts, ArePaired}
 use Rattle.flu_fork.specs.Laws.{JoinsFit}
 use Rattle.flu_fork.proofs.Sides.{left_and_right, right_and_left, not_below_both, across}
-use Rattle.flu_fork.proofs.Cells.{some_there, moved_if_written, moved_not_copied, copied_not_moved, not_needed_not_moved, not_needed_not_copied, lawful, uses_depend, away_unwritten, left_base, right_base, needed_is_base_up, not_base_down, away_kid, away_up, needed_away, copied_unwritten_right}
+use Rattle.flu_fork.proofs.Cells.{some_there, moved_if_written, moved_not_copied, copied_not_moved, not_needed_not_moved}
+use Rattle.flu_fork.proofs.Cells.{not_needed_not_copied, lawful, uses_depend, away_unwritten, left_base, right_base}
+use Rattle.flu_fork.proofs.Cells.{needed_is_base_up, not_base_down, away_kid, away_up, needed_away, copied_unwritten_right}
 use Rattle.flu_fork.proofs.Moments.{moments_in_range, moments_sorted}
 use Rattle.flu_fork.proofs.Effects.{same_effects, IsApart, AreOldFirst, appended}
 use Rattle.flu_fork.proofs.Forking.{counts_at}
@@ -106,12 +108,6 @@ module _ (laws : LawsBelow) (k : Setting) (w left right : ℕ) (s t : Contents) 
         | inr h ↦ upto_left i h ∙ paired.left_outside i e ∙ sym (paired.right_outside i h)
       ]
 
-  right_not_left : (i : ℕ) → in_right i ≡ true → in_left i ≡ false
-  right_not_left i e = not_below_both laws k ok w right left i by_right e
-
-  left_not_right : (i : ℕ) → in_left i ≡ true → in_right i ≡ false
-  left_not_right i e = not_below_both laws k ok w left right i by_left e
-
   since_first : AreAtMost left_since upto
   since_first i =
       elim (cases_Bool (in_right i)) [
@@ -190,7 +186,8 @@ module _ (laws : LawsBelow) (k : Setting) (w left right : ℕ) (s t : Contents) 
   new_is_not_old : (m : Moment) → is_new m ≡ true → is_below left_upto m ≡ false
   new_is_not_old m new =
       let i = m.event.itag.0 in
-      let same : slice_index left_upto i ≡ slice_index right_since i = paired.left_outside i (right_not_left i (new_is_right m new)) in
+      let same : slice_index left_upto i ≡ slice_index right_since i =
+      paired.left_outside i (not_below_both laws k ok w right left i by_right (new_is_right m new)) in
       let least : slice_index right_since i ≤ m.index = true_le (slice_index right_since i) m.index (and_left _ _ new) in
       le-ltb m.index (slice_index left_upto i) (omega arith)
 
@@ -199,7 +196,7 @@ module _ (laws : LawsBelow) (k : Setting) (w left right : ℕ) (s t : Contents) 
       let i = m.event.itag.0 in
       elim (cases_Bool (in_right i)) [
         | inl h ↦
-            let same : slice_index left_upto i ≡ slice_index right_since i = paired.left_outside i (right_not_left i h) in
+            let same : slice_index left_upto i ≡ slice_index right_since i = paired.left_outside i (not_below_both laws k ok w right left i by_right h) in
             same_below upto right_upto m (upto_right i h)
             ∙ split_below m.index (slice_index right_since i) (slice_index right_upto i) (paired.right_inside i h)
             ∙ sym (ap (λ n. nat_lt m.index n || is_new m) same)

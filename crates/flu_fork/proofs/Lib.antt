@@ -1,4 +1,3 @@
-pub mod Turns
 pub mod Sides
 pub mod Cells
 pub mod Moments

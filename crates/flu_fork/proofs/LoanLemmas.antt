@@ -13,7 +13,8 @@ use Rattle.flu_fork.specs.LawsBelow.{LawsBelow}
 use Rattle.flu_fork.specs.Classes.{own, below}
 use Rattle.flu_fork.specs.Lots.{job, nodes, kids, setting_of, HasJoinedCounts}
 use Rattle.flu_fork.specs.Parts.{joined_counts}
-use Rattle.flu_fork.specs.Serving.{LotCounts, IsOnLoan, CountsEach, CountsJustBefore, IsForkedFrom, GrowsFromBoth, LentIsOnLoan, LoansArePaired, JoinsServe, JoinsGrow}
+use Rattle.flu_fork.specs.Serving.{LotCounts, IsOnLoan, CountsEach, CountsJustBefore, IsForkedFrom}
+use Rattle.flu_fork.specs.Serving.{GrowsFromBoth, LentIsOnLoan, LoansArePaired, JoinsServe, JoinsGrow}
 use Rattle.flu_fork.proofs.Forking.{counts_at}
 use Rattle.flu_fork.proofs.LotLemmas.{setting_holds}
 use Rattle.flu_fork.proofs.Sides.{left_and_right, kid_below, right_and_left, not_below_both}

@@ -2,7 +2,7 @@
 use Rattle.std.proofs.Common.{◌≡◌, ℕ, Bool, true, false, cond, Option, Some, None, List, [], ◌∷◌, ◌++◌, inl, inr, length, map, refl, sym, ap, subst, ◌∙◌, arith}
 use Rattle.std.proofs.Math.Logic.{∥∥₁_elim}
 use Rattle.std.proofs.Props.{props}
-use Rattle.std.specs.Prelude.{not, ◌&&◌, is_some, slice_get, slice_index}
+use Rattle.std.specs.Prelude.{not, ◌&&◌, slice_get, slice_index}
 use Rattle.std.specs.List.{range_with_len}
 use Rattle.std.proofs.lemmas.List.FromFn.{length-map-range_with_len, get_or-map-range_with_len}
 use Rattle.flu_model.specs.declared.events.Cell.{Cell}
@@ -26,7 +26,7 @@ use Rattle.flu_fork.specs.Settings.{Setting, IsSetting}
 use Rattle.flu_fork.specs.Classes.{some_has, is_needed, is_copied, below}
 use Rattle.flu_fork.specs.Fitting.{Fits}
 use Rattle.flu_fork.specs.Parts.{left_part, right_part, joined_state, joined_counts, ArePaired}
-use Rattle.flu_fork.specs.Lots.{job, nodes, kids, setting_of}
+use Rattle.flu_fork.specs.Lots.{job, nodes, setting_of}
 use Rattle.flu_fork.specs.Tables.{IsRight, IsRightAt, count_by, counts_by}
 use Rattle.flu_lemmas.proofs.Ranges.{map_range_alike}
 use Rattle.flu_lemmas.proofs.Places.{slice_get_push}
@@ -130,12 +130,6 @@ counts_are p nodes r table lefts rights is =
     ∙ ap (λ m. map (count_by (map inside (range_with_len 0 n)) lefts rights) (range_with_len 0 m)) (length-map-range_with_len inside 0 n)
     ∙ map_range_alike (count_by (map inside (range_with_len 0 n)) lefts rights) (λ i. cond (inside i) (slice_index rights i) (slice_index lefts i)) 0 n
     (λ i lt. ap (λ b. cond b (slice_index rights i) (slice_index lefts i)) (get_or-map-range_with_len inside 0 n i i false (omega arith) (omega arith)))
-
--- ---- children
-
-pub some_kids : (o : Option (ℕ × ℕ)) → is_some o ≡ true → (l : ℕ) × (r : ℕ) × (o ≡ Some (l, r))
-some_kids None e = cc
-some_kids (Some kids) e = (kids.0, kids.1, refl)
 
 -- ---- one more table
 

@@ -22,7 +22,8 @@ pub record Noted (k : Content) (t : Checked × Valid × Streams × State) : Type
   pub opening_sorts : ∥ IsStateOf (program_of t.0).families (held t.3) ∥₁
   pub same : record { checked = t.0; valid = t.1; streams = t.2; opening = t.3; of_job = of_job; one_each = one_each; opening_sorts = opening_sorts } ≡ k
 
-pub noted : (k : Content) (c : Checked) (v : Valid) (s : Streams) (o : State) → c ≡ k.checked → v ≡ k.valid → s ≡ k.streams → o ≡ k.opening → Noted k (c, v, s, o)
+pub noted : (k : Content) (c : Checked) (v : Valid) (s : Streams) (o : State) → c ≡ k.checked → v ≡ k.valid → s ≡ k.streams → o ≡ k.opening
+    → Noted k (c, v, s, o)
 noted k c v s o ec ev es eo =
     let e : (c, v, s, o) ≡ (k.checked, k.valid, k.streams, k.opening) = λ i. (ec i, ev i, es i, eo i) in
     subst (Noted k) (sym e) record { of_job = k.of_job; one_each = k.one_each; opening_sorts = k.opening_sorts; same = refl }
@@ -57,6 +58,22 @@ pub noted_as : (k : Content) (c : Checked) (v : Valid) (s : Streams) (o : State)
 noted_as k c v s o ec ev es eo x y z =
     let n = noted k c v s o ec ev es eo in
     let given : Content = record { checked = c; valid = v; streams = s; opening = o; of_job = x; one_each = y; opening_sorts = z } in
-    let other : Content = record { checked = c; valid = v; streams = s; opening = o; of_job = n.of_job; one_each = n.one_each; opening_sorts = n.opening_sorts } in
-    let irrelevant : given ≡ other = λ i. record { checked = c; valid = v; streams = s; opening = o; of_job = IsValidFor-prop (program_of c) v x n.of_job i; one_each = nat_prop _ _ y n.one_each i; opening_sorts = sorts_prop _ z n.opening_sorts i } in
+    let other : Content = record {
+      checked = c;
+      valid = v;
+      streams = s;
+      opening = o;
+      of_job = n.of_job;
+      one_each = n.one_each;
+      opening_sorts = n.opening_sorts;
+    } in
+    let irrelevant : given ≡ other = λ i. record {
+      checked = c;
+      valid = v;
+      streams = s;
+      opening = o;
+      of_job = IsValidFor-prop (program_of c) v x n.of_job i;
+      one_each = nat_prop _ _ y n.one_each i;
+      opening_sorts = sorts_prop _ z n.opening_sorts i;
+    } in
     irrelevant ∙ n.same

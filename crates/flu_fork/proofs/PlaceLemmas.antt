@@ -1,54 +1,36 @@
 -- Where events stand in the fold: moments are in event order, each is an event of the streams, and each event stands once.
-use Rattle.std.proofs.Common.{◌≡◌, ◌≢◌, ◌<◌, ◌≤◌, ◌+◌, ℕ, zero, suc, true, false, cond, Some, List, [], ◌∷◌, ◌++◌, append_assoc, length, inl, inr, refl, sym, ap, subst, ◌∙◌, arith}
+use Rattle.std.proofs.Common.{◌≡◌, ◌≢◌, ◌<◌, ◌≤◌, ◌+◌, ℕ, zero, suc, true, false, cond, Some, List, [], ◌∷◌}
+use Rattle.std.proofs.Common.{◌++◌, append_assoc, length, inl, inr, refl, sym, ap, subst, ◌∙◌, arith}
 use Rattle.std.specs.Prelude.{◌==◌, ◌&&◌, nat_le, slice_get, slice_index_or, ⊤}
-use Rattle.std.specs.Cmp.{IsTotalOrder, IsStrictWeakOrder}
-use Rattle.std.specs.Ordering.{is_lt}
 use Rattle.std.specs.List.{AllByRecursion}
 use Rattle.std.proofs.lemmas.Bool.{cases_eq, cases_lt}
-use Rattle.std.proofs.lemmas.Cmp.{nat_cmp_total, on_total, then_total}
 use Rattle.std.proofs.lemmas.Grind.{common_steps}
-use Rattle.std.proofs.lemmas.List.Sorted.{ranks_by}
+use Rattle.std.proofs.lemmas.List.{get_or_past}
+use Rattle.std.proofs.lemmas.Option.{slice_get_within}
 use Rattle.flu_lemmas.proofs.Elements.{all_back, all_at_place, all_from_places, two_places}
 use Rattle.flu_lemmas.proofs.Sorting.{IsRising, in_order-rising}
 use Rattle.flu_lemmas.proofs.Tests.{and_left, and_right}
+use Rattle.flu_lemmas.proofs.InTime.{in_time, earlier-ranks}
 use Rattle.flu_model.specs.declared.events.Event.{Event}
 use Rattle.flu_model.specs.declared.events.Item.{Item}
 use Rattle.flu_model.specs.declared.events.Item.TheVariants.{Event as EventItem, Beat, End}
 use Rattle.flu_model.specs.declared.jobs.Program.{Program}
 use Rattle.flu_model.specs.Contents.{Contents}
 use Rattle.flu_model.specs.Itags.{count_of_itags}
-use Rattle.flu_model.specs.Merging.{is_before, event_cmp, events_of, all_events, merged}
+use Rattle.flu_model.specs.Merging.{is_before, events_of, all_events, merged}
 use Rattle.flu_model.specs.Streaming.{is_stream_from, are_streams}
 use Rattle.flu_model.specs.Updates.{effect_of}
 use Rattle.flu_laws.specs.Spans.{Moment, history}
 use Rattle.flu_fork.specs.LawsBelow.{LawsBelow}
 use Rattle.flu_fork.specs.Settings.{Setting, IsSetting, events_at, moments}
 use Rattle.flu_fork.specs.Streams.{IsEventAt}
-use Rattle.flu_fork.specs.Places.{HasMoment, EventsHaveMoments, MomentsAreEvents}
+use Rattle.flu_fork.specs.Places.{HasMoment, EventsHaveMoments, MomentsAreEvents, EventsAreKnown}
 use Rattle.flu_fork.proofs.Moments.{stream_itags, moments_there}
 use Rattle.flu_fork.proofs.Standing.{stream_later, event_stands}
 
 -- ---- event order
-event_cmp-total : IsTotalOrder event_cmp
-event_cmp-total = then_total (on_total (λ (x : Event). x.time) nat_cmp_total) (on_total (λ (x : Event). x.itag.0) nat_cmp_total)
-
-same_order : (x y : Event) → is_lt (event_cmp x y) ≡ is_before x y
-same_order x y = grind (arith, common_steps)
-
-is_before-cmp : (λ x y. is_lt (event_cmp x y)) ≡ is_before
-is_before-cmp = λ i x y. same_order x y i
-
-is_before-weak : IsStrictWeakOrder is_before
-is_before-weak = subst IsStrictWeakOrder is_before-cmp (ranks_by event_cmp-total (λ x. x))
-
-before_by_time : (x y : Event) → x.time < y.time → is_before x y ≡ true
-before_by_time x y lt = grind (arith, common_steps)
-
 before_by_itag : (x y : Event) → is_before y x ≡ false → x.itag.0 ≢ y.itag.0 → is_before x y ≡ true
 before_by_itag x y late other = grind (arith, common_steps)
-
-pub not_before_both : (x y : Event) → is_before x y ≡ true → is_before y x ≡ false
-not_before_both x y e = grind (arith, common_steps)
 
 pub not_before_itself : (x : Event) → is_before x x ≡ false
 not_before_itself x = grind (arith, common_steps)
@@ -96,16 +78,6 @@ something_at [] n lt = absurd (omega arith)
 something_at (x ∷ xs) zero lt = record { event = x; is = refl }
 something_at (x ∷ xs) (suc n) lt = let r = something_at xs n (omega arith) in record { event = r.event; is = r.is }
 
-pub some_within : (xs : List Event) (n : ℕ) (x : Event) → slice_get xs n ≡ Some x → n < length xs
-some_within [] n x e = cc
-some_within (y ∷ xs) zero x e = omega arith
-some_within (y ∷ xs) (suc n) x e = let h = some_within xs n x e in omega arith
-
-pub no_items : (lists : List (List Item)) (i : ℕ) → length lists ≤ i → slice_index_or lists i [] ≡ []
-no_items [] i le = refl
-no_items (x ∷ xs) zero le = absurd (omega arith)
-no_items (x ∷ xs) (suc i) le = no_items xs i (omega arith)
-
 -- ---- streams
 -- the times of a stream's events rise
 stream_rises : (i low : ℕ) (items : List Item) → is_stream_from i low items ≡ true → (a b : ℕ) (x y : Event) → a < b
@@ -144,8 +116,8 @@ module _ (laws : LawsBelow) (k : Setting) (ok : IsSetting k) where
         | inl lt ↦ lt
         | inr ge ↦
             let one = ok.one_each in
-            let none = ap (λ (items : List Item). length (events_of items)) (no_items k.lists i (omega arith)) in
-            let there = some_within (events_at k i) n x e in
+            let none = ap (λ (items : List Item). length (events_of items)) (get_or_past k.lists i [] (omega arith)) in
+            let there = slice_get_within (events_at k i) n x e in
             absurd (omega arith)
       ]
 
@@ -205,7 +177,8 @@ module _ (laws : LawsBelow) (k : Setting) (ok : IsSetting k) where
       let weak =
       all_at_place (λ (r : Moment). is_before m.event r.event ≡ false) (before ++ q ∷ mid) before mid q refl
       (order_before (before ++ q ∷ mid) after m (subst AreInOrder split
-      (in_order_too k.program k.opening (λ i. 0) (merged k.lists) (in_order-rising is_before is_before-weak (all_events k.lists))))) in
+      (in_order_too k.program k.opening (λ i. 0) (merged k.lists)
+      (in_order-rising is_before (earlier-ranks (λ (x : Event). x.time) (λ x. x.itag.0)) (all_events k.lists))))) in
       elim (cases_eq q.event.itag.0 m.event.itag.0) [
         | inl same ↦
             let less : q.index < m.index =
@@ -214,7 +187,7 @@ module _ (laws : LawsBelow) (k : Setting) (ok : IsSetting k) where
             let first : IsEventAt k m.event.itag.0 q.index q.event =
             subst (λ (i : ℕ). IsEventAt k i q.index q.event) same
             (moment_is_listed before (mid ++ m ∷ after) q (split ∙ append_assoc before (q ∷ mid) (m ∷ after))) in
-            before_by_time q.event m.event
+            in_time q.event.time q.event.itag.0 m.event.time m.event.itag.0
             (times_rise m.event.itag.0 q.index m.index q.event m.event less first (moment_is_listed (before ++ q ∷ mid) after m split))
         | inr other ↦ before_by_itag q.event m.event weak other
       ]
@@ -256,3 +229,6 @@ events_law laws k i n x ok e = has_moment laws k ok i n x e
 
 pub moments_law : LawsBelow → MomentsAreEvents
 moments_law laws k before after m ok split = moment_is_listed laws k ok before after m split
+
+pub known_law : LawsBelow → EventsAreKnown
+known_law laws k i n x ok e = event_known laws k ok i n x e

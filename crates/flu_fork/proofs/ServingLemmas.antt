@@ -5,6 +5,7 @@ use Rattle.std.specs.List.{AllByRecursion}
 use Rattle.std.proofs.lemmas.Bool.{cases_Bool, cases_eq, cases_lt, not_from_false}
 use Rattle.flu_lemmas.proofs.Elements.{all_map, all_front, all_back, all_of_both, all_at_place, all_from_places}
 use Rattle.flu_lemmas.proofs.Tests.{both, false_if_not, lt_true, not_both, true_lt}
+use Rattle.flu_lemmas.proofs.InTime.{not_back}
 use Rattle.flu_model.specs.declared.events.Event.{Event}
 use Rattle.flu_model.specs.declared.events.Itag.{Itag}
 use Rattle.flu_model.specs.Itags.{count_of_itags, tag_of_itag}
@@ -25,7 +26,7 @@ use Rattle.flu_fork.proofs.LotLemmas.{setting_holds}
 use Rattle.flu_fork.proofs.Moments.{moments_in_range}
 use Rattle.flu_fork.proofs.Sides.{independent}
 use Rattle.flu_fork.proofs.KinLemmas.{leaf_owns, of_kids}
-use Rattle.flu_fork.proofs.PlaceLemmas.{not_before_both, places_at, all_earlier, moment_is_listed}
+use Rattle.flu_fork.proofs.PlaceLemmas.{places_at, all_earlier, moment_is_listed}
 
 some_event : {x y : Event} → Some x ≡ Some y → x ≡ y
 some_event e = cc
@@ -98,7 +99,7 @@ module _ (laws : LawsBelow) (k : Setting) (ok : IsSetting k) (before after : Lis
                   let there = clear q.event.itag.0 q.index q.event inside other d not_less listed in
                   let ordered =
                   all_at_place (λ (r : Moment). is_before r.event m.event ≡ true) before us vs q e (all_earlier laws k ok before after m split) in
-                  not_both _ there (not_before_both q.event m.event ordered))
+                  not_both _ there (not_back q.event.time q.event.itag.0 m.event.time m.event.itag.0 ordered))
             ]
 
 -- ---- at a content

@@ -3,6 +3,7 @@ use Rattle.std.proofs.Common.{◌≡◌, ◌<◌, ℕ, true, false, List, ◌∷
 use Rattle.std.specs.Prelude.{nat_lt, slice_index}
 use Rattle.flu_lemmas.proofs.Elements.{all_at_place, all_from_places, two_places}
 use Rattle.flu_lemmas.proofs.Tests.{false_if_not, lt_true, not_both, true_lt}
+use Rattle.flu_lemmas.proofs.InTime.{not_back}
 use Rattle.flu_model.specs.declared.events.Event.{Event}
 use Rattle.flu_model.specs.Itags.{tag_of_itag, is_dependent}
 use Rattle.flu_model.specs.Merging.{is_before}
@@ -15,7 +16,7 @@ use Rattle.flu_fork.specs.Classes.{itag}
 use Rattle.flu_fork.specs.Fitting.{IsPrefix}
 use Rattle.flu_fork.specs.Places.{HasMoment}
 use Rattle.flu_fork.specs.Streams.{IsStreamPrefix, IsStreamExact, PrefixesAgree, ExactnessAgrees}
-use Rattle.flu_fork.proofs.PlaceLemmas.{not_before_both, not_before_itself, same_rest, all_earlier, all_later, moment_is_listed, has_moment}
+use Rattle.flu_fork.proofs.PlaceLemmas.{not_before_itself, same_rest, all_earlier, all_later, moment_is_listed, has_moment}
 
 module _ (laws : LawsBelow) (k : Setting) (ok : IsSetting k) where
   -- ---- the moment of an event
@@ -43,7 +44,7 @@ module _ (laws : LawsBelow) (k : Setting) (ok : IsSetting k) where
         | inr (inr at) ↦
             (let other =
             all_at_place (λ (q : Moment). is_before q.event y ≡ true) hy.front hx.front at.0 hx.moment at.1 hy.earlier in
-            absurd (not_both _ earlier (not_before_both x y (ap (λ z. is_before z y) (sym hx.event) ∙ other))))
+            absurd (not_both _ earlier (not_back x.time x.itag.0 y.time y.itag.0 (ap (λ z. is_before z y) (sym hx.event) ∙ other))))
       ]
 
   -- ---- prefixes
@@ -91,8 +92,10 @@ module _ (laws : LawsBelow) (k : Setting) (ok : IsSetting k) where
           same_rest before after (mid ++ hy.moment ∷ hy.back) m m
           (sym split ∙ hy.stands ∙ ap (λ us. us ++ hy.moment ∷ hy.back) at ∙ append_assoc before (m ∷ mid) (hy.moment ∷ hy.back)) in
           let none = all_at_place (λ q. depends_on k.program m q ≡ true → is_below upto q ≡ false) after mid hy.back hy.moment rest exact.others depends in
-          let later = all_at_place (λ (q : Moment). is_before q.event y ≡ true) hy.front before mid m at hy.earlier in
-          ((λ less. not_both _ (lt_true l (slice_index upto j) less) (sym (below_is j l y hy upto) ∙ none)), not_before_both m.event y later)
+          let later = all_at_place (λ (q : Moment). is_before q.event y ≡ true) hy.front before mid m at hy.earlier in (
+            (λ less. not_both _ (lt_true l (slice_index upto j) less) (sym (below_is j l y hy upto) ∙ none)),
+            not_back m.event.time m.event.itag.0 y.time y.itag.0 later,
+          )
 
       -- and m itself is not
       at_itself : m ≡ hy.moment → (l < slice_index upto j → ⊥) × (is_before y m.event ≡ false)
@@ -127,7 +130,7 @@ module _ (laws : LawsBelow) (k : Setting) (ok : IsSetting k) where
           moment_is_listed laws k ok (before ++ m ∷ us) vs q (split ∙ ap (λ l. before ++ m ∷ l) e ∙ sym (append_assoc before (m ∷ us) (q ∷ vs))) in
           let later = all_at_place (λ (r : Moment). is_before m.event r.event ≡ true) after us vs q e (all_later laws k ok before after m split) in
           not_both _ ((s.others q.event.itag.0 q.index q.event listed d).0 (true_lt q.index (slice_index upto q.event.itag.0) counted))
-          (not_before_both m.event q.event later))));
+          (not_back m.event.time m.event.itag.0 q.event.time q.event.itag.0 later))));
     }
 
 pub prefix_law : LawsBelow → PrefixesAgree

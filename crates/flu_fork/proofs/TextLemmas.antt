@@ -1,5 +1,6 @@
 -- The texts of a set of itags: they grow by those of the event that is counted, and at the end they are those of the fold.
-use Rattle.std.proofs.Common.{◌≡◌, ◌≢◌, ℕ, ◌+◌, ◌<◌, ◌≤◌, Bool, true, false, cond, List, [], ◌∷◌, ◌++◌, append_assoc, length, inl, inr, refl, sym, ap, subst, ◌∙◌, arith}
+use Rattle.std.proofs.Common.{◌≡◌, ◌≢◌, ℕ, ◌+◌, ◌<◌, ◌≤◌, Bool, true, false, cond, List, [], ◌∷◌, ◌++◌}
+use Rattle.std.proofs.Common.{append_assoc, length, inl, inr, refl, sym, ap, subst, ◌∙◌, arith}
 use Rattle.std.specs.Prelude.{nat_lt, ◌==◌, ◌&&◌, slice_index}
 use Rattle.std.specs.List.{filter, flat_map, AllByRecursion}
 use Rattle.std.specs.List.Sorted.{IsPermutation}
@@ -23,9 +24,11 @@ use Rattle.flu_model.specs.Updates.{effect_of}
 use Rattle.flu_laws.specs.Spans.{Moment, history, is_below, changed_by}
 use Rattle.flu_fork.specs.LawsBelow.{LawsBelow}
 use Rattle.flu_fork.specs.Settings.{Setting, IsSetting, events_at, moments}
-use Rattle.flu_fork.specs.Classes.{Itags, below, is_base, is_base_on}
+use Rattle.flu_fork.specs.Classes.{Itags, below}
 use Rattle.flu_fork.specs.Fitting.{Fits}
-use Rattle.flu_fork.specs.Texts.{outputs_then, is_counted, texts_of, HasTexts, IsComplete, CountsMoment, InOneOf, InNone, InFirst, InSecond, InThird, NoTexts, TextsAreOfTheSet, TextsGrow, TextsOfThree, TextsEnd, StatesEnd, OutputsAreOfMoments}
+use Rattle.flu_fork.specs.Texts.{outputs_then, is_counted, texts_of, HasTexts, IsComplete, CountsMoment, InOneOf, InNone, InFirst, InSecond}
+use Rattle.flu_fork.specs.Texts.{InThird, NoTexts, TextsAreOfTheSet, TextsGrow, TextsOfThree, TextsEnd, StatesEnd, OutputsAreOfMoments}
+use Rattle.flu_fork.proofs.Cells.{root_base}
 use Rattle.flu_fork.proofs.Moments.{moments_in_range, moments_there}
 use Rattle.flu_fork.proofs.Permuted.{permuted_is, to_end, three_parts}
 use Rattle.flu_fork.proofs.PlaceLemmas.{places_at}
@@ -209,12 +212,9 @@ module _ (laws : LawsBelow) (k : Setting) (ok : IsSetting k) (upto : List ℕ) (
       (λ m range h. both _ _ (root_has_all laws k ok m.event.itag.0 range) h)
       (moments_in_range laws k ok) all_below
 
-  root_is_base : (c : Cell) → is_base k.program k.nodes 0 c ≡ true
-  root_is_base c = ap (λ path. is_base_on k.program k.nodes path c) (laws.paths k.nodes ok.one_tree).root
-
   whole_state : (s : Contents) (since : List ℕ) → Fits k 0 s since upto → s ≡ final_state k.program k.opening k.lists
   whole_state s since fits = λ i c. (
-      fits.cells.base c (root_is_base c)
+      fits.cells.base c (root_base laws k ok c)
       ∙ ap (changed_by k.program c (k.opening c)) (keeps_all (is_below upto) (moments k) all_below)
       ∙ sym (state_by_moments laws k.program k.opening (λ i. 0) (merged k.lists) c ok.opening_sorts)
       ) i

@@ -1,5 +1,6 @@
 -- A walk through the laws: each row fits by the one before it.
-use Rattle.std.proofs.Common.{◌≡◌, ◌<◌, ◌≤◌, ◌+◌, ℕ, zero, suc, Bool, true, false, cond, Some, List, [], ◌∷◌, ◌++◌, length, map, refl, sym, ap, subst, ◌∙◌, arith}
+use Rattle.std.proofs.Common.{◌≡◌, ◌<◌, ◌≤◌, ◌+◌, ℕ, zero, suc, Bool, true, false, cond, Some}
+use Rattle.std.proofs.Common.{List, [], ◌∷◌, ◌++◌, map, refl, sym, ap, subst, ◌∙◌, arith}
 use Rattle.std.specs.Prelude.{nat_lt, ◌==◌, ◌||◌, slice_index}
 use Rattle.std.specs.List.{range_with_len}
 use Rattle.std.proofs.lemmas.Bool.{ne_eqb}
@@ -74,9 +75,6 @@ module _ (laws : LawsBelow) (k : Setting) (ok : IsSetting k) (one two three four
   known : (i : ℕ) → i < 3 → i < count_of_itags k.program
   known i lt = subst (λ n. i < n) (sym walk.itags) lt
 
-  there : (w i : ℕ) → owner_of k.program k.nodes (itag i) ≡ Some w → w < length k.nodes
-  there w i e = owner_is_there laws k ok w i e
-
   in_left : below_at k 1 0 ≡ true
   in_left = owner_is_below laws k ok 1 0 walk.left
 
@@ -121,7 +119,7 @@ module _ (laws : LawsBelow) (k : Setting) (ok : IsSetting k) (one two three four
   opening = subst (λ us. Fits k 0 k.opening us us) (ap (λ n. map (λ i. 0) (range_with_len 0 n)) walk.itags) (opening_law laws k ok)
 
   forked : PartsFit k 1 2 k.opening none none
-  forked = forks_law laws k 0 1 2 k.opening none none ok (there 0 2 walk.root) walk.kids opening
+  forked = forks_law laws k 0 1 2 k.opening none none ok (owner_is_there laws k ok 0 2 walk.root) walk.kids opening
 
   left_row : UpdatesWell k 1 one (to_left k k.opening) none (counts 1 0 0)
   left_row =
@@ -165,7 +163,8 @@ module _ (laws : LawsBelow) (k : Setting) (ok : IsSetting k) (one two three four
   joined : Fits k 0 (at_root k one two) none (counts 1 1 0)
   joined =
       subst (Fits k 0 (at_root k one two) none) joined_are
-      (joins_law laws k 0 1 2 (at_left k one) (at_right k two) none (counts 1 0 0) none (counts 0 1 0) ok (there 0 2 walk.root) walk.kids left_row.fits
+      (joins_law laws k 0 1 2 (at_left k one) (at_right k two) none (counts 1 0 0) none (counts 0 1 0) ok
+      (owner_is_there laws k ok 0 2 walk.root) walk.kids left_row.fits
       right_row.fits paired)
 
   root_row : UpdatesWell k 0 three (at_root k one two) none (counts 1 1 1)
@@ -179,7 +178,7 @@ module _ (laws : LawsBelow) (k : Setting) (ok : IsSetting k) (one two three four
       (more_third 1 1 0) joined
 
   forked_again : PartsFit k 1 2 (after_root k one two three) none (counts 1 1 1)
-  forked_again = forks_law laws k 0 1 2 (after_root k one two three) none (counts 1 1 1) ok (there 0 2 walk.root) walk.kids root_row.fits
+  forked_again = forks_law laws k 0 1 2 (after_root k one two three) none (counts 1 1 1) ok (owner_is_there laws k ok 0 2 walk.root) walk.kids root_row.fits
 
   last_row : UpdatesWell k 1 four (to_left k (after_root k one two three)) none (counts 2 1 1)
   last_row =

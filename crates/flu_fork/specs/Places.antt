@@ -1,8 +1,9 @@
 -- PLACES: where the events of the streams stand in the fold.
-use Rattle.std.specs.Prelude.{◌≡◌, ℕ, true, List, ◌∷◌, ◌++◌}
+use Rattle.std.specs.Prelude.{◌≡◌, ◌<◌, ℕ, true, List, ◌∷◌, ◌++◌}
 use Rattle.std.specs.List.{AllByRecursion}
 use Rattle.flu_model.specs.declared.events.Event.{Event}
 use Rattle.flu_model.specs.Merging.{is_before}
+use Rattle.flu_model.specs.Itags.{count_of_itags}
 use Rattle.flu_laws.specs.Spans.{Moment}
 use Rattle.flu_fork.specs.Settings.{Setting, IsSetting, moments}
 use Rattle.flu_fork.specs.Streams.{IsEventAt}
@@ -29,3 +30,7 @@ EventsHaveMoments = (k : Setting) (i n : ℕ) (x : Event) → IsSetting k → Is
 abbrev pub MomentsAreEvents : Type 0
 MomentsAreEvents =
     (k : Setting) (before after : List Moment) (m : Moment) → IsSetting k → moments k ≡ before ++ m ∷ after → IsEventAt k m.event.itag.0 m.index m.event
+
+-- an itag with an event is one of the job
+abbrev pub EventsAreKnown : Type 0
+EventsAreKnown = (k : Setting) (i n : ℕ) (x : Event) → IsSetting k → IsEventAt k i n x → i < count_of_itags k.program

@@ -5,7 +5,7 @@ ghost use Rattle.flu_fork.specs.LawsBelow.{LawsBelow};
 ghost use Rattle.flu_fork.specs.Completing.{LeavesBringAll, LastOnesArePaired, JoinsBringAll};
 ghost use Rattle.flu_fork.specs.Laws.{NothingIsCopied, NeededIsBase, BaseIsNotAway, CopiesAreOnlyRead, FittingHasSorts, OpeningFits, ForksFit, JoinsFit, CentralLaw};
 ghost use Rattle.flu_fork.specs.Kin.{ItagsAreOfNodes, ItagsAreOfKids, ItagsAreOfTheRoot};
-ghost use Rattle.flu_fork.specs.Places.{EventsHaveMoments, MomentsAreEvents};
+ghost use Rattle.flu_fork.specs.Places.{EventsHaveMoments, MomentsAreEvents, EventsAreKnown};
 ghost use Rattle.flu_fork.specs.Serving.{LentIsOnLoan, LoansArePaired, JoinsServe, JoinsGrow, ClearIsJustBefore, JustBeforeAtLeaf, JustBeforeAtInner, JustBeforeIsExact, LeavesServe, ContentsAreSettings};
 ghost use Rattle.flu_fork.specs.Streams.{PrefixesAgree, ExactnessAgrees};
 ghost use Rattle.flu_fork.specs.Walks.{WalksFit, WalksCount, LeftIsServed, OthersAreNotServed};
@@ -86,10 +86,11 @@ pub fn itags_are_of_nodes()
 }
 
 /// Each event of the streams has one moment of the fold, with the earlier events in front of it and the later ones behind it,
-/// and each moment is that of an event of the streams.
+/// and each moment is that of an event of the streams. An itag with an event is one of the job.
 pub fn events_have_moments()
     ensures moments { EventsHaveMoments }
     ensures events { MomentsAreEvents }
+    ensures known { EventsAreKnown }
 {
     laws_below();
 }

@@ -1,5 +1,6 @@
 -- Each fault that a look at a part of a written job finds is by a rule that the part breaks.
-use Rattle.std.proofs.Common.{◌≡◌, ◌≢◌, ℕ, zero, suc, ◌+◌, ◌<◌, ◌≤◌, Bool, true, false, cond, List, [], ◌∷◌, ◌++◌, length, Option, Some, None, Ok, Err, refl, sym, ap, subst, ◌∙◌, length-append, arith}
+use Rattle.std.proofs.Common.{◌≡◌, ◌≢◌, ℕ, zero, suc, ◌+◌, ◌<◌, ◌≤◌, Bool, true, false, cond, List, [], ◌∷◌, ◌++◌}
+use Rattle.std.proofs.Common.{length, Option, Some, None, Ok, Err, refl, sym, ap, subst, ◌∙◌, length-append, arith}
 use Rattle.std.specs.Prelude.{Result, ◌&&◌, nat_lt, nat_le, slice_get}
 use Rattle.std.specs.List.{list_all, list_any}
 use Rattle.std.proofs.lemmas.Grind.{common_steps}
@@ -13,13 +14,15 @@ use Rattle.flu_model.specs.declared.jobs.Sort.{Sort}
 use Rattle.flu_model.specs.declared.jobs.At.TheVariants as at
 use Rattle.flu_model.specs.declared.jobs.Piece.TheVariants as piece
 use Rattle.flu_model.specs.Contents.{key_count}
-use Rattle.flu_model.specs.Erasure.{PlainAction, Literal, EventValue, EventKey, EventTime, CellRead, CellHeld, Negative, Negation, Operation, Clearing, Emitting, Flushing}
+use Rattle.flu_model.specs.Erasure.{PlainAction, Literal, EventValue, EventKey, EventTime, CellRead}
+use Rattle.flu_model.specs.Erasure.{CellHeld, Negative, Negation, Operation, Clearing, Emitting, Flushing}
 use Rattle.flu_text.specs.declared.written.WrittenSpan.{WrittenSpan}
 use Rattle.flu_text.specs.declared.written.WrittenNumber.{WrittenNumber}
 use Rattle.flu_syntax.specs.declared.tree.WrittenKey.{WrittenKey}
 use Rattle.flu_syntax.specs.declared.tree.WrittenKey.TheVariants as k
 use Rattle.flu_syntax.specs.declared.tree.WrittenRef.{WrittenRef}
-use Rattle.flu_syntax.specs.Tree.{Tree, NumberTree, ValueTree, KeyTree, TimeTree, ReadTree, HasTree, ParenTree, NegTree, NotTree, TwoTree, Deed, Writes, Clears, Emits, Flushes, Action}
+use Rattle.flu_syntax.specs.Tree.{Tree, NumberTree, ValueTree, KeyTree, TimeTree, ReadTree, HasTree, ParenTree}
+use Rattle.flu_syntax.specs.Tree.{NegTree, NotTree, TwoTree, Deed, Writes, Clears, Emits, Flushes, Action}
 use Rattle.flu_layout.specs.Spelling.{name_of, inside, written_value}
 use Rattle.flu_parse.specs.declared.faults.JobFault.{JobFault}
 use Rattle.flu_parse.specs.declared.faults.JobFault.TheVariants as f
@@ -36,16 +39,20 @@ use Rattle.flu_parse.specs.Actions.{sort_for, act_with, resolved_act, guard_of, 
 use Rattle.flu_grammar.specs.Actions.{MeansAction}
 use Rattle.flu_grammar.specs.Templates.{AreCut}
 use Rattle.flu_grammar.specs.Faults.{NoneIsNamed}
-use Rattle.flu_grammar.specs.Broken.{family_name, IsFamily, has_brackets, BreaksKey, key_of_unkeyed, key_too_great, BreaksCell, cell_unknown, cell_of_other_sort, cell_brackets, cell_key, BreaksTerm, value_of_none, key_of_unkeyed_kind, in_read, in_held, inside_parentheses, in_negative, in_negation, on_the_left, on_the_right, BreaksExpression, in_term, too_high, BreaksPiece, piece_value, piece_key, piece_brackets, piece_own_key, BreaksTemplate, field_unknown, no_pieces, wrong_piece, field_key, BreaksDeed, in_cell, in_amount, in_cleared, in_emitted, flushed_unknown, flushed_unkeyed, in_flushed, BreaksAction, in_deed, in_guard, BreaksActions, in_action, too_many_actions}
+use Rattle.flu_grammar.specs.Broken.{family_name, IsFamily, has_brackets, BreaksKey, key_of_unkeyed, key_too_great, BreaksCell, cell_unknown}
+use Rattle.flu_grammar.specs.Broken.{cell_of_other_sort, cell_brackets, cell_key, BreaksTerm, value_of_none, key_of_unkeyed_kind, in_read, in_held}
+use Rattle.flu_grammar.specs.Broken.{inside_parentheses, in_negative, in_negation, on_the_left, on_the_right, BreaksExpression, in_term, too_high}
+use Rattle.flu_grammar.specs.Broken.{BreaksPiece, piece_value, piece_key, piece_brackets, piece_own_key, BreaksTemplate, field_unknown, no_pieces}
+use Rattle.flu_grammar.specs.Broken.{wrong_piece, field_key, BreaksDeed, in_cell, in_amount, in_cleared, in_emitted, flushed_unknown, flushed_unkeyed}
+use Rattle.flu_grammar.specs.Broken.{in_flushed, BreaksAction, in_deed, in_guard, BreaksActions, in_action, too_many_actions}
 use Rattle.flu_grammar.proofs.FaultKinds.{FaultsAre, no_fault, faults_bind}
-use Rattle.flu_grammar.proofs.Looks.{ok_same}
 use Rattle.flu_grammar.proofs.Heads.{looked_up}
 use Rattle.flu_grammar.proofs.Cuts.{template_cut, cut_template}
 use Rattle.flu_grammar.proofs.Fields.{is_formless, told, formed, all_formed}
 use Rattle.flu_grammar.proofs.JobTemplates.{fit_formed}
 use Rattle.flu_grammar.proofs.JobActions.{actions_mean}
 use Rattle.flu_grammar.proofs.Lists.{some_same, pairs_length}
-use Rattle.flu_grammar.proofs.JobCells.{family_head, KnowFamilies, wants_sort, look_up_found}
+use Rattle.flu_grammar.proofs.JobCells.{family_head, KnowFamilies, known_is, wants_sort, look_up_found}
 
 -- ---- looks, with what they found before
 
@@ -115,10 +122,6 @@ element_there xs before after x is = ap (λ l. slice_get l (length before)) is �
 pub known_where : {X : Type 0} (P : JobFault → Type 0) (at : ℕ) (o : Option X) → (o ≡ None → P (f.UnknownName at)) → FaultsAre P (known at o)
 known_where P at None p e h = let same : f.UnknownName at ≡ e = cc in subst P same (p refl)
 known_where P at (Some x) p e h = absurd cc
-
-known_found : {X : Type 0} (at : ℕ) (o : Option X) (x : X) → known at o ≡ Ok x → o ≡ Some x
-known_found at None x h = absurd cc
-known_found at (Some y) x h = ap (λ z. Some z) (ok_same y x h)
 
 pub not_less : (a b : ℕ) → nat_lt a b ≡ false → b ≤ a
 not_less a b e = grind (arith, common_steps)
@@ -212,7 +215,7 @@ module _ (text : List ℕ) (n : Naming) (families : List Family) (knows : KnowFa
         (λ h. unless (is_wanted wanted h.sort && brackets_fit h.keyed r.key) (f.WrongShape r.family.from) >> Ok h)
         (known_where (Cell wanted r) r.family.from (look_up (name_of text r.family) n.families) (λ none. cell_unknown (none_declared r.family none)))
         (λ h is. faults_where (Cell wanted r) (is_wanted wanted h.sort && brackets_fit h.keyed r.key) (f.WrongShape r.family.from) (Ok h)
-        (λ fails. shape h (declared r.family h (known_found r.family.from (look_up (name_of text r.family) n.families) h is)) (is_wanted wanted h.sort) refl fails)
+        (λ fails. shape h (declared r.family h (known_is r.family.from (look_up (name_of text r.family) n.families) h is)) (is_wanted wanted h.sort) refl fails)
         (λ yes. no_fault (Cell wanted r) h))
       where
         shape : (h : FamilyHead) (x : Declared r.family h) (b : Bool) → is_wanted wanted h.sort ≡ b → (b && brackets_fit h.keyed r.key) ≡ false
@@ -308,7 +311,8 @@ module _ (text : List ℕ) (n : Naming) (families : List Family) (knows : KnowFa
         faults_thens (Expression e) (first_token text n under (first_part e)) (unless (nat_le (height e) 32) (f.OverLimit Height 33) >> term_of text n under e)
         (faults_weaker (Expression e) (Term (first_part e)) (first_token text n under (first_part e))
         (λ fault broken. in_term fault (first_breaks e fault broken)) (token_breaks (first_part e)))
-        (λ u is. faults_where (Expression e) (nat_le (height e) 32) (f.OverLimit Height 33) (term_of text n under e) (λ fails. too_high (not_most (height e) 32 fails))
+        (λ u is. faults_where (Expression e) (nat_le (height e) 32) (f.OverLimit Height 33) (term_of text n under e)
+        (λ fails. too_high (not_most (height e) 32 fails))
         (λ yes. faults_weaker (Expression e) (Term e) (term_of text n under e) (λ fault broken. in_term fault broken) (term_breaks e)))
 
     -- ---- templates
@@ -367,7 +371,8 @@ module _ (text : List ℕ) (n : Naming) (families : List Family) (knows : KnowFa
       piece_breaks w.CellValue named fails form = absurd cc
       piece_breaks (w.Read r) named fails form = by (look_up (name_of text r.family) n.families) refl named fails
         where
-          by : (o : Option FamilyHead) → look_up (name_of text r.family) n.families ≡ o → (known s.from o >>= λ _. let r : Found (Unit {0}) = Ok tt in r) ≡ (let r : Found (Unit {0}) = Ok tt in r)
+          by : (o : Option FamilyHead) → look_up (name_of text r.family) n.families ≡ o
+              → (known s.from o >>= λ _. let r : Found (Unit {0}) = Ok tt in r) ≡ (let r : Found (Unit {0}) = Ok tt in r)
               → read_fits under r.key o ≡ false → Piece (w.Read r)
           by None is named fails = absurd cc
           by (Some h) is named fails = read_breaks r h is fails
@@ -416,7 +421,7 @@ module _ (text : List ℕ) (n : Naming) (families : List Family) (knows : KnowFa
           (known_where OfTemplate s.from (look_up (name_of text r.family) n.families) (λ none. absurd (not_both (read_fits under r.key None)
           (sym (ap (read_fits under r.key) none) ∙ passes) refl)))
           (λ h is. faults_bind OfTemplate (at_of under r.key) (λ a. Ok (piece.Read (record { family = h.number; at = a })))
-          (key_of (is_own h (known_found s.from (look_up (name_of text r.family) n.families) h is)) r.key refl)
+          (key_of (is_own h (known_is s.from (look_up (name_of text r.family) n.families) h is)) r.key refl)
           (λ a. no_fault OfTemplate (piece.Read (record { family = h.number; at = a }))))
         where
           passes : read_fits under r.key (look_up (name_of text r.family) n.families) ≡ true
@@ -432,7 +437,8 @@ module _ (text : List ℕ) (n : Naming) (families : List Family) (knows : KnowFa
               (λ fails. absurd (not_both under.keyed (ap (own_key_fits under) (sym same) ∙ own) fails)) (λ yes. no_fault OfTemplate at.OwnKey)
           key_of own (k.Fixed m) same =
               faults_bind OfTemplate (resolved_key m) (λ key. Ok (at.Fixed key))
-              (number_breaks OfTemplate m (λ great. field_key parts (is_cut whole (fit_formed text n families knows under in_flush parts fit)) i r m here same great))
+              (number_breaks OfTemplate m
+              (λ great. field_key parts (is_cut whole (fit_formed text n families knows under in_flush parts fit)) i r m here same great))
               (λ key. no_fault OfTemplate (at.Fixed key))
       great_breaks whole fit i w.Formless here =
           absurd (not_both (piece_fits text n under in_flush w.Formless) (passes_at (piece_fits text n under in_flush) parts i w.Formless fit here) refl)
@@ -442,9 +448,11 @@ module _ (text : List ℕ) (n : Naming) (families : List Family) (knows : KnowFa
       template_breaks =
           let t = template_at text in_flush s in
           let fits = list_all (piece_fits text n under in_flush) t.pieces in
-          faults_thens OfTemplate (known_names text n s.from t.pieces) (unless (t.whole && fits) (f.WrongShape s.from) >> pieces_of text n under s.from t.pieces)
+          faults_thens OfTemplate (known_names text n s.from t.pieces)
+          (unless (t.whole && fits) (f.WrongShape s.from) >> pieces_of text n under s.from t.pieces)
           names_break
-          (λ u named. faults_where OfTemplate (t.whole && fits) (f.WrongShape s.from) (pieces_of text n under s.from t.pieces) (λ fails. shape_breaks named fails)
+          (λ u named. faults_where OfTemplate (t.whole && fits) (f.WrongShape s.from) (pieces_of text n under s.from t.pieces)
+          (λ fails. shape_breaks named fails)
           (λ yes. pieces_break (and_left t.whole fits yes) (and_right t.whole fits yes)))
         where
           pieces_break : (template_at text in_flush s).whole ≡ true → list_all (piece_fits text n under in_flush) parts ≡ true
@@ -488,7 +496,7 @@ module _ (text : List ℕ) (n : Naming) (families : List Family) (knows : KnowFa
         (λ h. unless h.keyed (f.WrongShape name.from) >> (template_of text n under true s >>= λ ps. Ok (Flushing h.number ps)))
         (known_where (OfDeed (Flushes name s)) name.from (look_up (name_of text name) n.families) (λ none. flushed_unknown name s (none_declared name none)))
         (λ h is. faults_where (OfDeed (Flushes name s)) h.keyed (f.WrongShape name.from) (template_of text n under true s >>= λ ps. Ok (Flushing h.number ps))
-        (λ fails. (let x = declared name h (known_found name.from (look_up (name_of text name) n.families) h is) in
+        (λ fails. (let x = declared name h (known_is name.from (look_up (name_of text name) n.families) h is) in
         flushed_unkeyed name s x.family x.is (x.keyed ∙ fails)))
         (λ yes. faults_bind (OfDeed (Flushes name s)) (template_of text n under true s) (λ ps. Ok (Flushing h.number ps))
         (faults_weaker (OfDeed (Flushes name s)) (OfText true s) (template_of text n under true s) (λ fault broken. in_flushed name s fault broken)

@@ -1,5 +1,6 @@
 -- Each fault that the reader finds in a job text is by a rule that the text breaks.
-use Rattle.std.proofs.Common.{◌≡◌, ◌≢◌, inl, inr, ℕ, ◌+◌, ◌<◌, ◌≤◌, Bool, true, false, List, [], ◌∷◌, ◌++◌, length, Option, Some, None, Ok, Err, refl, sym, ap, subst, ◌∙◌, length-append, arith}
+use Rattle.std.proofs.Common.{◌≡◌, ◌≢◌, inl, inr, ℕ, ◌+◌, ◌<◌, ◌≤◌, Bool, true, false, List, [], ◌∷◌, ◌++◌, length}
+use Rattle.std.proofs.Common.{Option, Some, None, Ok, Err, refl, sym, ap, subst, ◌∙◌, length-append, arith}
 use Rattle.std.specs.Prelude.{not, ◌==◌, ◌&&◌, nat_lt, nat_le}
 use Rattle.std.specs.List.{list_any, flat_map, sum_by, position_or_len}
 use Rattle.std.specs.Str.{is_utf8}
@@ -38,13 +39,18 @@ use Rattle.flu_parse.specs.Naming.{Naming, look_up, is_declared, known, fresh_na
 use Rattle.flu_parse.specs.Cells.{resolved_key}
 use Rattle.flu_parse.specs.Actions.{resolved_actions}
 use Rattle.flu_parse.specs.Listings.{are_bracketed, written_keys, keys_of, tag_count, Listed, with_tag, tags_of, rate_of, slack_of, file_of}
-use Rattle.flu_parse.specs.Resolving.{Drafted, same_of, with_depend, with_actions, with_on, with_source as with_source_of, with_declaration, first_draft, draft_of, version_of, job_with, resolved}
+use Rattle.flu_parse.specs.Resolving.{Drafted, same_of, with_depend, with_actions, with_on, with_source as with_source_of}
+use Rattle.flu_parse.specs.Resolving.{with_declaration, first_draft, draft_of, version_of, job_with, resolved}
 use Rattle.flu_parse.specs.Reading.{found_job}
 use Rattle.flu_grammar.specs.Declared.{DeclaredKind, WrittenSource, families_in, kinds_in, depends_in, sources_in}
 use Rattle.flu_grammar.specs.Sources.{MeansKind, MeansTag, MeansSource}
 use Rattle.flu_grammar.specs.Faults.{NoneIsNamed, spans_in}
 use Rattle.flu_grammar.specs.Broken.{BreaksActions}
-use Rattle.flu_grammar.specs.BrokenJobs.{declared_name, has_key_brackets, IsWrittenKey, listed_itags, itags_in, IsListedTwice, BreaksTag, tag_unknown, tag_brackets, too_many_itags, listed_twice, range_falls, tag_key, BreaksDeclaration, first_unknown, second_unknown, same_of_unkeyed, kind_unknown, second_on, in_actions, no_file, second_file, high_rate, high_slack, in_tags, BreaksJob, declared_twice, too_many_families, too_many_kinds, too_many_sources, too_many_depends, no_version, in_declaration, IsFaultOf, too_many_bytes, not_utf8, no_token, not_continued, too_deep, of_written, FaultsAreByRule}
+use Rattle.flu_grammar.specs.BrokenJobs.{declared_name, has_key_brackets, IsWrittenKey, listed_itags, itags_in, IsListedTwice, BreaksTag, tag_unknown}
+use Rattle.flu_grammar.specs.BrokenJobs.{tag_brackets, too_many_itags, listed_twice, range_falls, tag_key, BreaksDeclaration, first_unknown, second_unknown}
+use Rattle.flu_grammar.specs.BrokenJobs.{same_of_unkeyed, kind_unknown, second_on, in_actions, no_file, second_file, high_rate, high_slack, in_tags}
+use Rattle.flu_grammar.specs.BrokenJobs.{BreaksJob, declared_twice, too_many_families, too_many_kinds, too_many_sources, too_many_depends, no_version}
+use Rattle.flu_grammar.specs.BrokenJobs.{in_declaration, IsFaultOf, too_many_bytes, not_utf8, no_token, not_continued, too_deep, of_written, FaultsAreByRule}
 use Rattle.flu_grammar.proofs.FaultKinds.{FaultsAre, no_fault, faults_bind}
 use Rattle.flu_grammar.proofs.Broken.{faults_found, faults_where, faults_weaker, at_element, known_where, number_breaks, not_less, not_most, actions_break}
 use Rattle.flu_grammar.proofs.Lists.{met_at, pairs_right}
@@ -121,7 +127,8 @@ module _ (text : List ℕ) (n : Naming) (all : Declarations) (know : KnowFamilie
   tag_counted v t means = ap (λ (x : Keys). length (listed_keys x)) (keys_found means.kind.kind.keyed v.keys t.keys means.keys).2
 
   tags_counted : (vs : List WrittenTag) (ts : List TagRef) → Pairs (MeansTag text kinds) vs ts → listed_itags vs ≡ total part_count ts
-  tags_counted vs ts means = sum_by-total (λ (v : WrittenTag). tag_count v.keys) vs ∙ pairs_total (MeansTag text kinds) (λ (v : WrittenTag). tag_count v.keys) part_count tag_counted vs ts means
+  tags_counted vs ts means = sum_by-total (λ (v : WrittenTag). tag_count v.keys) vs
+      ∙ pairs_total (MeansTag text kinds) (λ (v : WrittenTag). tag_count v.keys) part_count tag_counted vs ts means
 
   itags_counted : (ws : List WrittenSource) (ss : List Source) → Pairs (MeansSource text kinds) ws ss
       → sum_by (λ (w : WrittenSource). listed_itags w.tags) ws ≡ itag_count ss
@@ -269,7 +276,8 @@ module _ (text : List ℕ) (n : Naming) (all : Declarations) (know : KnowFamilie
           sources = x.sources ++ record { name = name_of text name; file = bytes; rate = a; slack = b; tags = listed.tags } ∷ [];
           itags = listed.itags;
         }) in r in
-        faults_bind P (file_of text x.sources file) (λ bytes. rate_of rate >>= λ a. slack_of slack >>= λ b. tags_of text n x.itags tags >>= λ l. made bytes a b l)
+        faults_bind P (file_of text x.sources file)
+        (λ bytes. rate_of rate >>= λ a. slack_of slack >>= λ b. tags_of text n x.itags tags >>= λ l. made bytes a b l)
         file_breaks
         (λ bytes. faults_bind P (rate_of rate) (λ a. slack_of slack >>= λ b. tags_of text n x.itags tags >>= λ l. made bytes a b l) (rate_breaks rate slack)
         (λ a. faults_bind P (slack_of slack) (λ b. tags_of text n x.itags tags >>= λ l. made bytes a b l) (slack_breaks rate slack)
@@ -284,7 +292,8 @@ module _ (text : List ℕ) (n : Naming) (all : Declarations) (know : KnowFamilie
             let read = list_any (λ (s : Source). is_same_text (inside text file) s.file) x.sources in
             faults_where P (nat_lt 0 (length (inside text file))) (f.WrongShape file.from) (unless (not read) (f.TwiceNamed file.from) >> Ok (inside text file))
             (λ fails. no_file name file rate slack tags (is_empty (inside text file) fails))
-            (λ yes. faults_where P (not read) (f.TwiceNamed file.from) (Ok (inside text file)) (λ fails. twice read refl fails) (λ own. no_fault P (inside text file)))
+            (λ yes. faults_where P (not read) (f.TwiceNamed file.from) (Ok (inside text file)) (λ fails. twice read refl fails)
+            (λ own. no_fault P (inside text file)))
           where
             twice : (b : Bool) → list_any (λ (s : Source). is_same_text (inside text file) s.file) x.sources ≡ b → not b ≡ false
                 → Broken (d.Source name file rate slack tags) (f.TwiceNamed file.from)
@@ -378,7 +387,11 @@ module _ (text : List ℕ) (job : WrittenJob) where
       faults_bind Job (fresh_name text n s) (λ name. room Families 64 (length n.families) >> Ok (made name))
       (fresh_breaks done (d.Cell s keyed sort) after is n named own s refl)
       (λ name. faults_where Job (nat_lt (length n.families) 64) (f.OverLimit Families 65) (Ok (made name))
-      (λ fails. too_many_families (over done (d.Cell s keyed sort) after is n named own (families_in text) (record { name = name_of text s; keyed = keyed; sort = sort })
+      (λ fails. too_many_families (over done (d.Cell s keyed sort) after is n named own (families_in text) (record {
+        name = name_of text s;
+        keyed = keyed;
+        sort = sort;
+      })
       refl 64 (length n.families) count (not_less (length n.families) 64 fails)))
       (λ yes. no_fault Job (made name)))
   declare_breaks done (d.Tag s keyed has_value) after is n named own =
@@ -392,7 +405,8 @@ module _ (text : List ℕ) (job : WrittenJob) where
       (λ yes. no_fault Job (made name)))
   declare_breaks done (d.Depends a b relation) after is n named own =
       faults_where Job (nat_lt n.depends 4096) (f.OverLimit Depends 4097) (Ok (record n { depends = n.depends + 1 }))
-      (λ fails. too_many_depends (over done (d.Depends a b relation) after is n named own depends_in (record { a = a; b = b; relation = relation }) refl 4096 n.depends
+      (λ fails. too_many_depends
+      (over done (d.Depends a b relation) after is n named own depends_in (record { a = a; b = b; relation = relation }) refl 4096 n.depends
       named.depends (not_less n.depends 4096 fails)))
       (λ yes. no_fault Job (record n { depends = n.depends + 1 }))
   declare_breaks done (d.On kind actions) after is n named own = no_fault Job n
@@ -436,7 +450,8 @@ module _ (text : List ℕ) (job : WrittenJob) where
       (job_with version n x)) naming_breaks
       (λ n is. faults_bind Job (version_of job.version) (λ version. draft_of text n job.declarations >>= λ x. Ok (job_with version n x))
       (version_breaks job.version refl)
-      (λ version. faults_bind Job (draft_of text n job.declarations) (λ x. Ok (job_with version n x)) (draft_breaks n is) (λ x. no_fault Job (job_with version n x))))
+      (λ version. faults_bind Job (draft_of text n job.declarations) (λ x. Ok (job_with version n x)) (draft_breaks n is)
+      (λ x. no_fault Job (job_with version n x))))
 
 -- ---- texts
 
@@ -457,7 +472,12 @@ faults_are_by_rule tokens place found first = λ bytes fault e. by bytes fault (
         grammar (IsVerdict job) is bad = absurd cc
         grammar (Unexpected at) is bad =
             let same : f.Unexpected at ≡ fault = cc in
-            subst (IsFaultOf bytes) same (not_continued at (record { text = short; tokens = ts; cut = (tokens bytes ts).0 read; first = first (length bytes) ts at is }))
+            subst (IsFaultOf bytes) same (not_continued at (record {
+              text = short;
+              tokens = ts;
+              cut = (tokens bytes ts).0 read;
+              first = first (length bytes) ts at is;
+            }))
         grammar TooDeep is bad =
             let same : f.OverLimit Nesting 65 ≡ fault = cc in
             subst (IsFaultOf bytes) same (too_deep ts short ((tokens bytes ts).0 read)

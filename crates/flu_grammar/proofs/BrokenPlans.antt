@@ -1,5 +1,6 @@
 -- Each fault that the reader finds in a plan text is by a rule that the text breaks.
-use Rattle.std.proofs.Common.{◌≡◌, ℕ, zero, suc, ◌+◌, ◌<◌, ◌≤◌, Bool, true, false, List, [], ◌∷◌, ◌++◌, length, Option, Some, None, Ok, Err, inl, inr, refl, sym, ap, subst, ◌∙◌, append_assoc, arith}
+use Rattle.std.proofs.Common.{◌≡◌, ℕ, zero, suc, ◌+◌, ◌<◌, ◌≤◌, Bool, true, false, List, [], ◌∷◌, ◌++◌, length}
+use Rattle.std.proofs.Common.{Option, Some, None, Ok, Err, inl, inr, refl, sym, ap, subst, ◌∙◌, append_assoc, arith}
 use Rattle.std.specs.Prelude.{not, ◌==◌, nat_lt, nat_le, slice_get}
 use Rattle.std.specs.List.{list_any, flat_map, position, position_or_len}
 use Rattle.std.specs.Str.{bytes_eq, is_utf8}
@@ -11,6 +12,7 @@ use Rattle.flu_lemmas.specs.Loops.{◌>>=◌, ◌>>◌, each}
 use Rattle.flu_lemmas.proofs.Loops.{bind_ok, collect}
 use Rattle.flu_lemmas.proofs.Tests.{not_both, true_le, true_eq}
 use Rattle.flu_lemmas.proofs.Totals.{sum_by-total}
+use Rattle.flu_lemmas.proofs.Bytes.{bytes_itself}
 use Rattle.flu_model.specs.declared.limits.What.TheVariants.{Bytes, Nodes, Predicates, Depth, Key}
 use Rattle.flu_model.specs.declared.jobs.Program.{Program}
 use Rattle.flu_model.specs.Contents.{key_count}
@@ -40,12 +42,16 @@ use Rattle.flu_plan.specs.Reading.{text_in, found_tokens, tokens_in, tree_in, re
 use Rattle.flu_grammar.specs.Means.{IfWritten}
 use Rattle.flu_grammar.specs.Faults.{NoneIsNamed}
 use Rattle.flu_grammar.specs.BrokenJobs.{IsWrittenKey}
-use Rattle.flu_grammar.specs.BrokenPlans.{kind_name, source_name, node_names, itself, BreaksPred, pred_kind, pred_source, BreaksNode, in_pred, left_unknown, right_unknown, names_of_kids, child_names, placed_names, BreaksPlan, node_twice, in_node, child_twice, not_below, too_many_nodes, too_many_preds, too_deep, pred_key, IsFaultOfPlan, too_many_bytes, not_utf8, no_token, not_continued, of_nodes, PlanFaultsAreByRule}
+use Rattle.flu_grammar.specs.BrokenPlans.{kind_name, source_name, node_names, itself, BreaksPred, pred_kind, pred_source, BreaksNode}
+use Rattle.flu_grammar.specs.BrokenPlans.{in_pred, left_unknown, right_unknown, names_of_kids, child_names, placed_names, BreaksPlan}
+use Rattle.flu_grammar.specs.BrokenPlans.{node_twice, in_node, child_twice, not_below, too_many_nodes, too_many_preds, too_deep, pred_key}
+use Rattle.flu_grammar.specs.BrokenPlans.{IsFaultOfPlan, too_many_bytes, not_utf8, no_token, not_continued, of_nodes, PlanFaultsAreByRule}
 use Rattle.flu_grammar.proofs.FaultKinds.{FaultsAre, no_fault, one_fault, faults_bind}
-use Rattle.flu_grammar.proofs.Broken.{faults_found, fault_where, faults_where, faults_thens, faults_weaker, at_element, element_there, fails_somewhere, not_less, not_most}
+use Rattle.flu_grammar.proofs.Broken.{faults_found, fault_where, faults_where, faults_thens, faults_weaker}
+use Rattle.flu_grammar.proofs.Broken.{at_element, element_there, fails_somewhere, not_less, not_most}
 use Rattle.flu_grammar.proofs.BrokenJobs.{pairs_total}
 use Rattle.flu_grammar.proofs.Faults as faults
-use Rattle.flu_grammar.proofs.Lists.{bytes_itself, some_same, get_map, get_unmap, differ_none, met_at, pairs_left, pairs_right, pairs_length, pairs_push}
+use Rattle.flu_grammar.proofs.Lists.{some_same, get_map, get_unmap, differ_none, met_at, pairs_left, pairs_right, pairs_length, pairs_push}
 use Rattle.flu_grammar.proofs.Looks.{ok_same, passed, Finds, found_each}
 use Rattle.flu_grammar.proofs.PlanMachine.{machine_faults}
 use Rattle.flu_grammar.proofs.PlanParts.{node_drawn, KidNamed, kids_named}
@@ -140,7 +146,8 @@ module _ (p : Program) (text : List ℕ) (written : List WrittenNode) where
   names_tree e h =
       let found = at_element (with_name text) [] written e h in
       faults_where IsTree (not (list_any (bytes_eq (name_of text (found.x).name)) found.state)) (f.NotATree (name_of text (found.x).name))
-      (Ok (found.state ++ name_of text (found.x).name ∷ [])) (λ fails. tt) (λ yes. no_fault IsTree (found.state ++ name_of text (found.x).name ∷ [])) e found.fault
+      (Ok (found.state ++ name_of text (found.x).name ∷ [])) (λ fails. tt)
+      (λ yes. no_fault IsTree (found.state ++ name_of text (found.x).name ∷ [])) e found.fault
 
   names_break : FaultsAre Plan (names_of text written)
   names_break (f.NotATree name) h = node_twice name (faults.node_twice text written name h)
@@ -205,7 +212,8 @@ module _ (p : Program) (text : List ℕ) (written : List WrittenNode) where
               first = position_or_len (λ u. v == u) children;
               second = length ns;
               apart = get_less ns (position_or_len (λ u. v == u) children) name there;
-              one = ap (λ l. slice_get l (position_or_len (λ u. v == u) children)) is ∙ get_before ns (name ∷ rest) (position_or_len (λ u. v == u) children) name there;
+              one = ap (λ l. slice_get l (position_or_len (λ u. v == u) children)) is
+                  ∙ get_before ns (name ∷ rest) (position_or_len (λ u. v == u) children) name there;
               other = ap (λ l. slice_get l (length ns)) is ∙ get_behind ns rest name;
             }))
 
@@ -307,13 +315,18 @@ module _ (p : Program) (text : List ℕ) (written : List WrittenNode) where
     keys_kept : (v : WrittenPred) (q : DraftPred) → pred_of p text v ≡ Ok q → v.keys ≡ q.keys
     unfolding pred_of
     keys_kept v q e =
-        let one = bind_ok (kind_of p text v.kind) (λ kind. source_of p text v.source >>= λ source. Ok (record { kind = kind; keys = v.keys; source = source })) q e in
+        let one = bind_ok (kind_of p text v.kind) (λ kind. source_of p text v.source >>= λ source. Ok (record {
+          kind = kind;
+          keys = v.keys;
+          source = source;
+        })) q e in
         let two = bind_ok (source_of p text v.source) (λ source. Ok (record { kind = one.0; keys = v.keys; source = source })) q one.2 in
         ap (λ (x : DraftPred). x.keys) (ok_same (record { kind = one.0; keys = v.keys; source = two.0 }) q two.2)
 
     -- a key that is too great
     abbrev IsGreat : WrittenKeys → PlanFault → Type 0
-    IsGreat written fault = (n : WrittenNumber) × IsWrittenKey written n × (key_count ≤ written_value n.value) × (fault ≡ f.OverLimit Key (written_value n.value))
+    IsGreat written fault = (n : WrittenNumber) × IsWrittenKey written n × (key_count ≤ written_value n.value)
+        × (fault ≡ f.OverLimit Key (written_value n.value))
 
     great_breaks : (written : WrittenKeys) → FaultsAre (IsGreat written) (small_keys written)
     great_breaks ks.Alone = no_fault (IsGreat ks.Alone) tt
@@ -364,7 +377,8 @@ module _ (p : Program) (text : List ℕ) (written : List WrittenNode) where
         faults_thens Plan (children_of text drafts) (all_below text order drafts >> (within_limits order drafts >> Ok (planned text order drafts)))
         (children_break written refl)
         (λ a one. faults_thens Plan (all_below text order drafts) (within_limits order drafts >> Ok (planned text order drafts)) below_breaks
-        (λ b two. faults_thens Plan (within_limits order drafts) (Ok (planned text order drafts)) limits_break (λ c three. no_fault Plan (planned text order drafts))))
+        (λ b two. faults_thens Plan (within_limits order drafts) (Ok (planned text order drafts)) limits_break
+        (λ c three. no_fault Plan (planned text order drafts))))
 
   resolved_breaks : FaultsAre Plan (resolved p text written)
   unfolding resolved
@@ -400,7 +414,8 @@ module _ (tokens : ReadingIsTokens) (place : ReadingIsBadPlace) (found : FoundIs
   rest_breaks_text : nat_le (length bytes) 1048576 ≡ true → is_utf8 bytes ≡ true
       → FaultsAre OfText (tokens_in bytes >>= λ ts. written_in (length bytes) ts >>= λ written. resolved p bytes written)
   rest_breaks_text few utf8 =
-      faults_found OfText (tokens_in bytes) (λ ts. written_in (length bytes) ts >>= λ written. resolved p bytes written) (tokens_break few utf8 (reading bytes) refl)
+      faults_found OfText (tokens_in bytes) (λ ts. written_in (length bytes) ts >>= λ written. resolved p bytes written)
+      (tokens_break few utf8 (reading bytes) refl)
       (λ ts read. faults_found OfText (written_in (length bytes) ts) (λ written. resolved p bytes written) (grammar_breaks few utf8 ts read)
       (λ written is. faults_weaker OfText (BreaksPlan p bytes written) (resolved p bytes written)
       (λ fault broken. of_nodes ts written fault (record { short = true_le (length bytes) 1048576 few; utf8 = IsUtf8-from_is_utf8 bytes utf8 })
@@ -415,7 +430,8 @@ module _ (tokens : ReadingIsTokens) (place : ReadingIsBadPlace) (found : FoundIs
       (λ fails. too_many_bytes (not_most (length bytes) 1048576 fails))
       (λ few. faults_found OfText (text_in bytes) (λ text. tokens_in text >>= λ ts. written_in (length text) ts >>= λ written. resolved p text written)
       (faults_where OfText (is_utf8 bytes) (f.BadToken (utf8_valid_len bytes)) (Ok bytes)
-      (λ fails. not_utf8 (true_le (length bytes) 1048576 few) (λ utf8. not_both (is_utf8 bytes) (is_utf8-from_IsUtf8 bytes utf8) fails)) (λ yes. no_fault OfText bytes))
+      (λ fails. not_utf8 (true_le (length bytes) 1048576 few) (λ utf8. not_both (is_utf8 bytes) (is_utf8-from_IsUtf8 bytes utf8) fails))
+      (λ yes. no_fault OfText bytes))
       (λ text is. (let one = passed (is_utf8 bytes) (f.BadToken (utf8_valid_len bytes)) (Ok bytes) text is in
       subst (λ (x : List ℕ). FaultsAre OfText (tokens_in x >>= λ ts. written_in (length x) ts >>= λ written. resolved p x written)) (ok_same bytes text one.1)
       (rest_breaks_text few one.0))))

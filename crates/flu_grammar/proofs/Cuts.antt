@@ -1,5 +1,6 @@
 -- The scan of a template finds the pieces into which its bytes are cut at their braces, and the other way round.
-use Rattle.std.proofs.Common.{◌≡◌, ℕ, suc, ◌+◌, Bool, true, false, List, [], ◌∷◌, ◌++◌, length, Option, Some, None, refl, sym, ap, subst, ◌∙◌, append_assoc, length-append, arith}
+use Rattle.std.proofs.Common.{◌≡◌, ℕ, suc, ◌+◌, Bool, true, false, List, [], ◌∷◌, ◌++◌, length, Option}
+use Rattle.std.proofs.Common.{Some, None, refl, sym, ap, subst, ◌∙◌, append_assoc, length-append, arith}
 use Rattle.std.specs.Prelude.{nat_lt, not, ◌==◌, if◌then◌else◌, IsTrue}
 use Rattle.std.specs.List.{list_all}
 use Rattle.std.proofs.lemmas.Grind.{common_steps}
@@ -10,7 +11,8 @@ use Rattle.flu_text.specs.declared.written.WrittenSpan.{WrittenSpan}
 use Rattle.flu_layout.specs.Spelling.{inside}
 use Rattle.flu_parse.specs.declared.pieces.WrittenPiece.{WrittenPiece}
 use Rattle.flu_parse.specs.declared.pieces.WrittenPiece.TheVariants as w
-use Rattle.flu_parse.specs.Templates.{open_brace, close_brace, span, braced, field_at, Scan, Template, with_plain, with_piece, scan_byte, continued, scan, scan_start, template_at}
+use Rattle.flu_parse.specs.Templates.{open_brace, close_brace, span, braced, field_at, Scan, Template, with_plain}
+use Rattle.flu_parse.specs.Templates.{with_piece, scan_byte, continued, scan, scan_start, template_at}
 use Rattle.flu_grammar.specs.Templates.{no_brace}
 
 -- these bytes are cut, where what stands between two braces is told by its places

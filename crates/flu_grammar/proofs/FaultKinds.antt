@@ -25,7 +25,8 @@ use Rattle.flu_syntax.specs.declared.tree.WrittenRef.{WrittenRef}
 use Rattle.flu_syntax.specs.declared.tree.WrittenTag.{WrittenTag}
 use Rattle.flu_syntax.specs.declared.tree.WrittenRelation.{WrittenRelation}
 use Rattle.flu_syntax.specs.declared.tree.WrittenRelation.TheVariants as r
-use Rattle.flu_syntax.specs.Tree.{Tree, NumberTree, ValueTree, KeyTree, TimeTree, ReadTree, HasTree, ParenTree, NegTree, NotTree, TwoTree, Deed, Writes, Clears, Emits, Flushes, Action, Declaration, Declarations, Job as WrittenJob}
+use Rattle.flu_syntax.specs.Tree.{Tree, NumberTree, ValueTree, KeyTree, TimeTree, ReadTree, HasTree, ParenTree, NegTree, NotTree}
+use Rattle.flu_syntax.specs.Tree.{TwoTree, Deed, Writes, Clears, Emits, Flushes, Action, Declaration, Declarations, Job as WrittenJob}
 use Rattle.flu_syntax.specs.Tree as d
 use Rattle.flu_layout.specs.Spelling.{name_of, inside, written_value}
 use Rattle.flu_parse.specs.declared.faults.JobFault.{JobFault}
@@ -34,13 +35,15 @@ use Rattle.flu_parse.specs.declared.names.KindHead.{KindHead}
 use Rattle.flu_parse.specs.declared.pieces.WrittenPiece.{WrittenPiece}
 use Rattle.flu_parse.specs.declared.pieces.WrittenPiece.TheVariants as w
 use Rattle.flu_parse.specs.Faults.{Found, unless, room}
-use Rattle.flu_parse.specs.Naming.{Naming, look_up, is_declared, known, fresh_name, with_family, with_kind, with_source, declare, no_names, naming_of, family_of, kind_of}
+use Rattle.flu_parse.specs.Naming.{Naming, look_up, is_declared, known, fresh_name, with_family, with_kind}
+use Rattle.flu_parse.specs.Naming.{with_source, declare, no_names, naming_of, family_of, kind_of}
 use Rattle.flu_parse.specs.Cells.{resolved_key, is_wanted, brackets_fit, family_for, at_of, resolved_cell}
 use Rattle.flu_parse.specs.Terms.{height, first_part, first_token, term_of, expression_of}
 use Rattle.flu_parse.specs.Templates.{template_at, known_name, known_names, piece_fits, piece_of, pieces_of, template_of}
 use Rattle.flu_parse.specs.Actions.{sort_for, act_with, resolved_act, guard_of, action_of, with_action, resolved_actions}
 use Rattle.flu_parse.specs.Listings.{are_bracketed, written_keys, keys_of, tag_count, Listed, with_tag, tags_of, rate_of, slack_of, file_of}
-use Rattle.flu_parse.specs.Resolving.{Drafted, same_of, with_depend, with_actions, with_on, with_source as with_source_of, with_declaration, first_draft, draft_of, version_of, job_with, resolved}
+use Rattle.flu_parse.specs.Resolving.{Drafted, same_of, with_depend, with_actions, with_on, with_source as with_source_of}
+use Rattle.flu_parse.specs.Resolving.{with_declaration, first_draft, draft_of, version_of, job_with, resolved}
 
 -- ---- looks of which each fault is so
 
@@ -171,7 +174,8 @@ module _ (P : JobFault → Type 0) (plain : Plain P) where
       name_faults place w.Time = no_fault P tt
       name_faults place w.CellValue = no_fault P tt
       name_faults place (w.Read r) =
-          faults_bind P (known place (look_up (name_of text r.family) n.families)) (λ _. Ok tt) (known_faults place (look_up (name_of text r.family) n.families))
+          faults_bind P (known place (look_up (name_of text r.family) n.families)) (λ _. Ok tt)
+          (known_faults place (look_up (name_of text r.family) n.families))
           (λ _. no_fault P tt)
       name_faults place w.Formless = no_fault P tt
 
@@ -209,14 +213,16 @@ module _ (P : JobFault → Type 0) (plain : Plain P) where
           (cell_faults (Some (sort_for verb)) r)
           (λ c. faults_bind P (expression_of text n under e) (λ t. Ok (act_with verb c t)) (expression_faults e) (λ t. no_fault P (act_with verb c t)))
       act_faults (Clears r) = faults_bind P (resolved_cell text n under None r) (λ c. Ok (Clearing c)) (cell_faults None r) (λ c. no_fault P (Clearing c))
-      act_faults (Emits s) = faults_bind P (template_of text n under false s) (λ ps. Ok (Emitting ps)) (template_faults false s) (λ ps. no_fault P (Emitting ps))
+      act_faults (Emits s) =
+          faults_bind P (template_of text n under false s) (λ ps. Ok (Emitting ps)) (template_faults false s) (λ ps. no_fault P (Emitting ps))
       act_faults (Flushes name s) =
           faults_bind P (family_of text n name) (λ h. unless h.keyed (f.WrongShape name.from) >> (template_of text n under true s >>= λ ps. Ok
           (Flushing h.number ps)))
           (known_faults name.from (look_up (name_of text name) n.families))
           (λ h. faults_then P (unless h.keyed (f.WrongShape name.from)) (template_of text n under true s >>= λ ps. Ok (Flushing h.number ps))
           (fault_unless P h.keyed (f.WrongShape name.from) (plain.shape name.from))
-          (faults_bind P (template_of text n under true s) (λ ps. Ok (Flushing h.number ps)) (template_faults true s) (λ ps. no_fault P (Flushing h.number ps))))
+          (faults_bind P (template_of text n under true s) (λ ps. Ok (Flushing h.number ps)) (template_faults true s)
+          (λ ps. no_fault P (Flushing h.number ps))))
 
       guard_faults : (g : Option Tree) → FaultsAre P (guard_of text n under g)
       unfolding guard_of
@@ -298,7 +304,8 @@ module _ (P : JobFault → Type 0) (plain : Plain P) where
           let third = λ (kind : KindHead). unless (not (list_any (share_tag (record { kind = kind.number; keys = written_keys v.keys })) done.tags))
           (f.TwiceNamed v.kind.from) >> last kind in
           let second = λ (kind : KindHead). unless (nat_le (done.itags + tag_count v.keys) 256) (f.OverLimit Itags 257) >> third kind in
-          faults_bind P (kind_of text n v.kind) (λ kind. unless (are_bracketed kind.keyed v.keys) (f.WrongShape v.kind.from) >> second kind) (kind_faults v.kind)
+          faults_bind P (kind_of text n v.kind) (λ kind. unless (are_bracketed kind.keyed v.keys) (f.WrongShape v.kind.from) >> second kind)
+          (kind_faults v.kind)
           (λ kind. faults_then P (unless (are_bracketed kind.keyed v.keys) (f.WrongShape v.kind.from)) (second kind)
           (fault_unless P (are_bracketed kind.keyed v.keys) (f.WrongShape v.kind.from) (plain.shape v.kind.from))
           (faults_then P (unless (nat_le (done.itags + tag_count v.keys) 256) (f.OverLimit Itags 257)) (third kind)
@@ -397,7 +404,8 @@ module _ (P : JobFault → Type 0) (plain : Plain P) where
     declare_faults n (d.Depends a b relation) = room_faults Depends 4096 n.depends (record n { depends = n.depends + 1 }) tt
     declare_faults n (d.On kind actions) = no_fault P n
     declare_faults n (d.Source s file rate slack tags) =
-        faults_bind P (fresh_name text n s) (λ name. room Sources 64 (length n.sources) >> Ok (record n { sources = n.sources ++ name ∷ [] })) (fresh_faults n s)
+        faults_bind P (fresh_name text n s) (λ name. room Sources 64 (length n.sources) >> Ok (record n { sources = n.sources ++ name ∷ [] }))
+        (fresh_faults n s)
         (λ name. room_faults Sources 64 (length n.sources) (record n { sources = n.sources ++ name ∷ [] }) tt)
 
     version_faults : (o : Option WrittenNumber) → FaultsAre P (version_of o)

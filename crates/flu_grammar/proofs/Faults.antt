@@ -1,11 +1,13 @@
 -- What the faults of the readers say.
-use Rattle.std.proofs.Common.{◌≡◌, ℕ, ◌+◌, Bool, true, false, List, [], ◌∷◌, ◌++◌, map, length, Option, Some, None, Ok, Err, refl, sym, ap, subst, ◌∙◌, append_assoc}
+use Rattle.std.proofs.Common.{◌≡◌, ℕ, ◌+◌, Bool, true, false, List, [], ◌∷◌, ◌++◌, map, length}
+use Rattle.std.proofs.Common.{Option, Some, None, Ok, Err, refl, sym, ap, subst, ◌∙◌, append_assoc}
 use Rattle.std.specs.Prelude.{not, nat_lt, slice_get, if◌then◌else◌}
 use Rattle.std.specs.List.{list_any, flat_map, position, position_or_len}
 use Rattle.std.specs.Str.{bytes_eq}
 use Rattle.std.proofs.lemmas.List.{map-append}
 use Rattle.flu_lemmas.proofs.Elements.{fails_at}
 use Rattle.flu_lemmas.proofs.Tests.{lt_true, not_both}
+use Rattle.flu_lemmas.proofs.Bytes.{bytes_itself, bytes_is}
 use Rattle.flu_model.specs.declared.limits.What.{What}
 use Rattle.flu_model.specs.declared.limits.What.TheVariants.{Families, Kinds, Sources, Depends}
 use Rattle.flu_model.specs.declared.jobs.Kind.{Kind}
@@ -26,8 +28,9 @@ use Rattle.flu_plan.specs.Resolving.{with_name, known as plan_known, kind_named,
 use Rattle.flu_grammar.specs.Means.{AllDiffer}
 use Rattle.flu_grammar.specs.Declared.{families_in, kinds_in}
 use Rattle.flu_grammar.specs.Laws.{JobsAreGrammar, PlansAreGrammar}
-use Rattle.flu_grammar.specs.Faults.{RefusedIsNoJob, RefusedIsNoPlan, FamilyIsUnknown, KindIsUnknown, PlanKindIsUnknown, PlanSourceIsUnknown, ChildIsUnknown, spans_in, IsDeclaredTwice, TwiceNamedIsDeclaredTwice, IsNodeTwice, NoTreeIsNodeTwice}
-use Rattle.flu_grammar.proofs.Lists.{bytes_itself, bytes_is, get_below, differ_none, differ_push, any_there, met_at}
+use Rattle.flu_grammar.specs.Faults.{RefusedIsNoJob, RefusedIsNoPlan, FamilyIsUnknown, KindIsUnknown, PlanKindIsUnknown, PlanSourceIsUnknown}
+use Rattle.flu_grammar.specs.Faults.{ChildIsUnknown, spans_in, IsDeclaredTwice, TwiceNamedIsDeclaredTwice, IsNodeTwice, NoTreeIsNodeTwice}
+use Rattle.flu_grammar.proofs.Lists.{get_below, differ_none, differ_push, any_there, met_at}
 use Rattle.flu_grammar.proofs.PlanRead.{written_name}
 use Rattle.flu_grammar.proofs.JobCells.{family_head, look_up_found}
 use Rattle.flu_grammar.proofs.JobNames.{all_names, Named, OwnNames, declare_is, named_next, own_next, none_named, none_own, naming_is}
@@ -249,7 +252,8 @@ module _ (text : List ℕ) where
       by false is e more =
           let new : AllDiffer (map (written_name text) done ++ written_name text v ∷ []) =
           differ_push (map (written_name text) done) (written_name text v) (λ i here. not_both (bytes_eq (written_name text v) (written_name text v))
-          (bytes_itself (written_name text v)) (fails_at (bytes_eq (written_name text v)) (map (written_name text) done) i (written_name text v) is here)) own in
+          (bytes_itself (written_name text v))
+          (fails_at (bytes_eq (written_name text v)) (map (written_name text) done) i (written_name text v) is here)) own in
           subst (λ (l : List WrittenNode). IsNodeTwice text l name) (append_assoc done (v ∷ []) ws)
           (more (subst (λ (l : List (List ℕ)). AllDiffer l) (sym longer) new)
           (ap (λ (l : List (List ℕ)). each (with_name text) l ws) longer ∙ e))

@@ -1,5 +1,6 @@
 -- The form of a field that is found is the one that it has, and the other way round.
-use Rattle.std.proofs.Common.{◌≡◌, ℕ, ◌+◌, ◌-◌, ◌<◌, ◌^◌, pos, Bool, true, false, List, [], ◌∷◌, ◌++◌, length, Option, Some, None, inl, inr, refl, sym, ap, subst, ◌∙◌}
+use Rattle.std.proofs.Common.{◌≡◌, ℕ, ◌+◌, ◌-◌, ◌<◌, ◌^◌, pos, Bool, true, false, List, [], ◌∷◌, ◌++◌}
+use Rattle.std.proofs.Common.{length, Option, Some, None, inl, inr, refl, sym, ap, subst, ◌∙◌}
 use Rattle.std.specs.Prelude.{nat_lt, nat_le, not, ◌&&◌, ◌||◌, if◌then◌else◌, option_map, codes, position, slice_get}
 use Rattle.std.specs.Char.{is_ascii_digit}
 use Rattle.std.specs.List.{list_all, list_any}
@@ -10,6 +11,8 @@ use Rattle.flu_lemmas.proofs.Elements.{fails_at, passes_at}
 use Rattle.flu_lemmas.proofs.Places.{position_passes}
 use Rattle.flu_lemmas.proofs.Prefixes.{chosen, mapped}
 use Rattle.flu_lemmas.proofs.Tests.{and_left, and_right, both, not_true, not_both, false_if_not, true_lt, lt_true, true_eq}
+use Rattle.flu_lemmas.proofs.Bytes.{bytes_itself, bytes_is}
+use Rattle.flu_lemmas.proofs.Booleans.{or_false_right}
 use Rattle.flu_names.specs.declared.reserved.Reserved.{Reserved}
 use Rattle.flu_names.specs.declared.reserved.Reserved.TheVariants as r
 use Rattle.flu_names.specs.Names.{is_name, is_name_byte, begins_as_name, is_reserved, reserved_spelling, reserved_words}
@@ -19,10 +22,10 @@ use Rattle.flu_syntax.specs.declared.tree.WrittenKey.TheVariants as k
 use Rattle.flu_parse.specs.declared.pieces.WrittenPiece.{WrittenPiece}
 use Rattle.flu_parse.specs.declared.pieces.WrittenPiece.TheVariants as w
 use Rattle.flu_parse.specs.Templates.{open_brace, close_brace, is_open_bracket, span, digits_at, key_at, ref_with, ref_at, field_at, braced}
-use Rattle.flu_grammar.specs.Templates.{IsField, field_value, field_key, field_time, field_cell, field_family, field_own, field_fixed, AreCut, cut_none, cut_plain, cut_field}
-use Rattle.flu_grammar.proofs.Lists.{bytes_itself, bytes_is, some_same}
-use Rattle.flu_grammar.proofs.Cuts.{field_between}
-use Rattle.flu_grammar.proofs.Cuts.{AreCut as IsCut, cut_none as is_none, cut_plain as is_plain, cut_field as is_field}
+use Rattle.flu_grammar.specs.Templates.{IsField, field_value, field_key, field_time, field_cell, field_family}
+use Rattle.flu_grammar.specs.Templates.{field_own, field_fixed, AreCut, cut_none, cut_plain, cut_field}
+use Rattle.flu_grammar.proofs.Lists.{some_same}
+use Rattle.flu_grammar.proofs.Cuts.{field_between, AreCut as IsCut, cut_none as is_none, cut_plain as is_plain, cut_field as is_field}
 
 -- ---- what is found has the form
 
@@ -105,7 +108,8 @@ module _ (text : List ℕ) (from to : ℕ) where
   by_tests false false true in_flush e q ea eb ec ee h =
       subst (λ (x : WrittenPiece). IsField text in_flush from to x) (some_same w.Time q h) (field_time (bytes_is (spelled text from to) (codes "time") ec))
   by_tests false false false true true q ea eb ec ee h =
-      subst (λ (x : WrittenPiece). IsField text true from to x) (some_same w.CellValue q h) (field_cell refl (bytes_is (spelled text from to) (codes "cell") ee))
+      subst (λ (x : WrittenPiece). IsField text true from to x) (some_same w.CellValue q h)
+      (field_cell refl (bytes_is (spelled text from to) (codes "cell") ee))
   by_tests false false false true false q ea eb ec ee h = absurd cc
   by_tests false false false false e q ea eb ec ee h = ref_means (position is_open_bracket (spelled text from to)) q refl h
 
@@ -186,7 +190,8 @@ keyed_found : (text : List ℕ) (from to i : ℕ) (key : WrittenKey) → positio
     → field_at text false from to ≡ Some (w.Read (record { family = span from (from + i); key = key }))
 unfolding ref_with
 keyed_found text from to i key place named closes is =
-    let made = option_map (λ key. w.Read (record { family = span from (from + i); key = key })) (key_at (spelled text (from + i + 1) (to - 1)) (from + i + 1)) in
+    let made =
+    option_map (λ key. w.Read (record { family = span from (from + i); key = key })) (key_at (spelled text (from + i + 1) (to - 1)) (from + i + 1)) in
     bracketed text from to i place
     ∙ ap (ref_with text from to) place
     ∙ ap (λ t. if t then made else None) (both (is_name (spelled text from (from + i))) (bytes_eq (spelled text (to - 1) to) (codes "]")) named
@@ -197,7 +202,8 @@ digits_found : (b at : ℕ) (bs : List ℕ) → list_all is_ascii_digit (b ∷ b
     → key_at (b ∷ bs) at ≡ Some (k.Fixed (record { value = pos (digits_value 10 (b ∷ bs)); at = at }))
 unfolding key_at digits_at number_of
 digits_found b at bs digits small =
-    let other : bytes_eq (b ∷ bs) (codes "key") ≡ false = false_if_not (bytes_eq (b ∷ bs) (codes "key")) (λ e. not_both (list_all is_ascii_digit (b ∷ bs)) digits
+    let other : bytes_eq (b ∷ bs) (codes "key") ≡ false =
+    false_if_not (bytes_eq (b ∷ bs) (codes "key")) (λ e. not_both (list_all is_ascii_digit (b ∷ bs)) digits
     (ap (list_all is_ascii_digit) (bytes_is (b ∷ bs) (codes "key") e))) in
     let read = option_map (λ n. k.Fixed (record { value = pos n; at = at })) (number_of (b ∷ bs)) in
     ap (λ t. if t then Some (k.OwnKey at) else if list_all is_ascii_digit (b ∷ bs) then read else None) other
@@ -246,10 +252,6 @@ is_formless w.CellValue = false
 is_formless (w.Read r) = false
 is_formless w.Formless = true
 
-or_behind : (a b : Bool) → (a || b) ≡ false → b ≡ false
-or_behind true b e = absurd cc
-or_behind false b e = e
-
 -- where no piece is formless, each field has a form
 pub formed : {text : List ℕ} {in_flush first : Bool} {at : ℕ} {bytes : List ℕ} {qs : List WrittenPiece} → IsCut (field_between text in_flush) first at bytes qs
     → list_any is_formless qs ≡ false → AreCut text in_flush first at bytes qs
@@ -258,7 +260,7 @@ formed (is_plain at b more rest qs plain cut) none = cut_plain at b more rest qs
 formed {text} {in_flush} (is_field first at word rest qs plain cut) none =
     cut_field first at word rest (field_between text in_flush (at + 1) (at + 1 + length word)) qs plain
     (by (field_at text in_flush (at + 1) (at + 1 + length word)) refl none)
-    (formed cut (or_behind (is_formless (field_between text in_flush (at + 1) (at + 1 + length word))) (list_any is_formless qs) none))
+    (formed cut (or_false_right (is_formless (field_between text in_flush (at + 1) (at + 1 + length word))) (list_any is_formless qs) none))
   where
     by : (o : Option WrittenPiece) → field_at text in_flush (at + 1) (at + 1 + length word) ≡ o → (is_formless (braced o) || list_any is_formless qs) ≡ false
         → IsField text in_flush (at + 1) (at + 1 + length word) (braced o)

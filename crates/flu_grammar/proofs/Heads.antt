@@ -4,9 +4,10 @@ use Rattle.std.specs.Prelude.{slice_get, is_some, if◌then◌else◌, ◌||◌}
 use Rattle.std.specs.List.{list_any}
 use Rattle.std.specs.Str.{bytes_eq}
 use Rattle.flu_lemmas.proofs.Tests.{false_if_not}
+use Rattle.flu_lemmas.proofs.Bytes.{bytes_itself, bytes_is}
 use Rattle.flu_parse.specs.Naming.{look_up}
 use Rattle.flu_grammar.specs.Means.{AllDiffer}
-use Rattle.flu_grammar.proofs.Lists.{bytes_itself, bytes_is, some_same, get_map, differ_tail, differ_head}
+use Rattle.flu_grammar.proofs.Lists.{some_same, get_map, differ_tail, differ_head}
 
 module _ {X H : Type 0} (name : X → List ℕ) (head : ℕ → X → H) where
   abbrev pub heads : ℕ → List X → List (List ℕ × H)

@@ -1,5 +1,6 @@
 -- Actions that are found are what they mean, and the other way round.
-use Rattle.std.proofs.Common.{◌≡◌, ℕ, ◌+◌, ◌≤◌, true, false, List, [], ◌∷◌, ◌++◌, length, Option, Some, None, Ok, refl, sym, ap, subst, ◌∙◌, append_assoc, arith}
+use Rattle.std.proofs.Common.{◌≡◌, ℕ, ◌+◌, ◌≤◌, true, false, List, [], ◌∷◌, ◌++◌, length, Option}
+use Rattle.std.proofs.Common.{Some, None, Ok, refl, sym, ap, subst, ◌∙◌, append_assoc, arith}
 use Rattle.std.specs.Prelude.{nat_lt, slice_get}
 use Rattle.std.proofs.lemmas.List.{append-nil, length_push}
 use Rattle.flu_lemmas.specs.Items.{Pairs}
@@ -50,7 +51,8 @@ module _ (text : List ℕ) (n : Naming) (families : List Family) (knows : KnowFa
       let one = bind_ok (resolved_cell text n under (Some Last) r) (λ c. expression_of text n under e >>= λ t. Ok (Setting c t)) a q in
       let two = bind_ok (expression_of text n under e) (λ t. Ok (Setting one.0 t)) a one.2 in
       subst (λ (x : PlainAct). Means (Writes verb.Set r e) x) (ok_same (Setting one.0 two.0) a two.2)
-      (means_set r e one.0 two.0 (cell_means text n families knows under (Some Last) r one.0 one.1) (expression_means text n families knows under e two.0 two.1))
+      (means_set r e one.0 two.0 (cell_means text n families knows under (Some Last) r one.0 one.1)
+      (expression_means text n families knows under e two.0 two.1))
   deed_means (Clears r) a q =
       let one = bind_ok (resolved_cell text n under None r) (λ c. Ok (Clearing c)) a q in
       subst (λ (x : PlainAct). Means (Clears r) x) (ok_same (Clearing one.0) a one.2) (means_clear r one.0
@@ -79,7 +81,8 @@ module _ (text : List ℕ) (n : Naming) (families : List Family) (knows : KnowFa
   unfolding resolved_act
   deed_found (means_add r e c t cell term) =
       binds (resolved_cell text n under (Some Sum) r) (λ c. expression_of text n under e >>= λ t. Ok (Adding c t)) c (Adding c t)
-      (cell_found text n families knows under (Some Sum) r c cell) (ap (λ x. x >>= λ t. Ok (Adding c t)) (expression_found text n families knows under e t term))
+      (cell_found text n families knows under (Some Sum) r c cell)
+      (ap (λ x. x >>= λ t. Ok (Adding c t)) (expression_found text n families knows under e t term))
   deed_found (means_raise r e c t cell term) =
       binds (resolved_cell text n under (Some Max) r) (λ c. expression_of text n under e >>= λ t. Ok (Raising c t)) c (Raising c t)
       (cell_found text n families knows under (Some Max) r c cell) (ap (λ x. x >>= λ t. Ok (Raising c t))

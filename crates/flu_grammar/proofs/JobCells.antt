@@ -119,7 +119,8 @@ module _ (text : List ℕ) (n : Naming) (families : List Family) (knows : KnowFa
       (λ j. look_up (sym named j) (knows.heads_are j)) ∙ looks_up family_name family_head 0 families i x knows.differ here
       ∙ ap (λ (m : ℕ). Some (family_head m x)) zero_more
 
-  pub family_found : (s : WrittenSpan) (i : ℕ) (x : Family) → slice_get families i ≡ Some x → x.name ≡ name_of text s → family_of text n s ≡ Ok (family_head i x)
+  pub family_found : (s : WrittenSpan) (i : ℕ) (x : Family) → slice_get families i ≡ Some x → x.name ≡ name_of text s
+      → family_of text n s ≡ Ok (family_head i x)
   family_found s i x here named = ap (known s.from) (look_up_found s i x here named)
 
   module _ (under : KindHead) where

@@ -1,5 +1,6 @@
 -- The declarations of a job, looked at in order: what is found of them is what they mean, and the other way round.
-use Rattle.std.proofs.Common.{◌≡◌, ℕ, zero, suc, ◌+◌, ◌≤◌, Bool, true, false, List, [], ◌∷◌, ◌++◌, map, length, Option, Some, Ok, refl, sym, ap, subst, ◌∙◌, append_assoc, arith}
+use Rattle.std.proofs.Common.{◌≡◌, ℕ, zero, suc, ◌+◌, ◌≤◌, Bool, true, false, List, [], ◌∷◌, ◌++◌, map}
+use Rattle.std.proofs.Common.{length, Option, Some, Ok, refl, sym, ap, subst, ◌∙◌, append_assoc, arith}
 use Rattle.std.specs.Prelude.{not, ◌==◌, slice_get, if◌then◌else◌}
 use Rattle.std.specs.List.{list_any, flat_map}
 use Rattle.std.specs.Str.{bytes_eq}
@@ -11,6 +12,7 @@ use Rattle.flu_lemmas.proofs.Loops.{bind_ok}
 use Rattle.flu_lemmas.proofs.Searches.{eq_true}
 use Rattle.flu_lemmas.proofs.Tests.{not_true, not_both, false_if_not}
 use Rattle.flu_lemmas.proofs.Totals.{total-append}
+use Rattle.flu_lemmas.proofs.Bytes.{bytes_itself, bytes_is}
 use Rattle.flu_model.specs.declared.jobs.Family.{Family}
 use Rattle.flu_model.specs.declared.jobs.Source.{Source}
 use Rattle.flu_model.specs.Erasure.{PlainAction, PlainKind}
@@ -33,7 +35,7 @@ use Rattle.flu_grammar.specs.Actions.{MeansAction}
 use Rattle.flu_grammar.specs.Declared.{DeclaredKind, WrittenDepend, WrittenSource, depends_in, ons_in, actions_in, sources_in}
 use Rattle.flu_grammar.specs.Sources.{MeansDepend, MeansSource}
 use Rattle.flu_grammar.specs.Jobs.{MeansDeclaredKind}
-use Rattle.flu_grammar.proofs.Lists.{bytes_itself, bytes_is, some_same, get_map, get_unmap, differ_none, differ_tail, differ_head, differ_push, pairs_left, pairs_push}
+use Rattle.flu_grammar.proofs.Lists.{some_same, get_map, get_unmap, differ_none, differ_tail, differ_head, differ_push, pairs_left, pairs_push}
 use Rattle.flu_grammar.proofs.Looks.{ok_same, passed}
 use Rattle.flu_grammar.proofs.Heads.{heads}
 use Rattle.flu_grammar.proofs.JobCells.{KnowFamilies}
@@ -116,7 +118,8 @@ module _ (text : List ℕ) (n : Naming) (families : List Family) (kinds : List D
   kind_on done kind actions k p acts named none is means few =
       let all : flat_map (actions_in text k.name) (done ++ d.On kind actions ∷ []) ≡ actions =
       grown text (actions_in text k.name) done (d.On kind actions) ∙ ap (λ l. l ++ actions_in text k.name (d.On kind actions)) none
-      ∙ chosen text true kind k.name actions (subst (λ (x : List ℕ). bytes_eq (name_of text kind) x ≡ true) named (bytes_itself (name_of text kind))) in record {
+      ∙ chosen text true kind k.name actions (subst (λ (x : List ℕ). bytes_eq (name_of text kind) x ≡ true) named (bytes_itself (name_of text kind))) in
+      record {
         name = is.name;
         keyed = is.keyed;
         has_value = is.has_value;
@@ -126,7 +129,8 @@ module _ (text : List ℕ) (n : Naming) (families : List Family) (kinds : List D
 
   kinds_on : (done : Declarations) (kind : WrittenSpan) (actions : List Action) (acts : List PlainAction) (ks : List DeclaredKind) (ps : List PlainKind)
       (number : ℕ)
-      (k : DeclaredKind) → AllDiffer (map kind_name ks) → slice_get ks number ≡ Some k → name_of text kind ≡ k.name → flat_map (actions_in text k.name) done ≡ []
+      (k : DeclaredKind) → AllDiffer (map kind_name ks) → slice_get ks number ≡ Some k → name_of text kind ≡ k.name
+      → flat_map (actions_in text k.name) done ≡ []
       → Pairs (MeansAction text families k.keyed k.has_value) actions acts → length acts ≤ 32 → Pairs (Kind done) ks ps
       → Pairs (Kind (done ++ d.On kind actions ∷ [])) ks (with_actions ps number acts)
   kinds_on done kind actions acts [] ps number k own here named none means few h = absurd cc
@@ -203,7 +207,8 @@ module _ (text : List ℕ) (n : Naming) (families : List Family) (kinds : List D
   -- ---- the others
 
   -- a declaration of a name
-  nothing_next : (done : Declarations) (x : Drafted) (y : Declaration) → ((name : List ℕ) → actions_in text name y ≡ []) → ons_in text y ≡ [] → depends_in y ≡ []
+  nothing_next : (done : Declarations) (x : Drafted) (y : Declaration) → ((name : List ℕ) → actions_in text name y ≡ []) → ons_in text y ≡ []
+      → depends_in y ≡ []
       → sources_in y ≡ [] → Drafts done x → Drafts (done ++ y ∷ []) x
   nothing_next done x y no_acts no_on no_depend no_source is = record {
     kinds_are = kinds_kept done y kinds x.kinds (λ i k at. no_acts k.name) is.kinds_are;

@@ -1,5 +1,6 @@
 -- A job that is written is found: each declaration passes, and what is found is the job.
-use Rattle.std.proofs.Common.{◌≡◌, ℕ, suc, ◌+◌, ◌≤◌, true, false, List, [], ◌∷◌, ◌++◌, map, length, Option, Some, None, Ok, refl, sym, ap, subst, ◌∙◌, append_assoc, arith}
+use Rattle.std.proofs.Common.{◌≡◌, ℕ, suc, ◌+◌, ◌≤◌, true, false, List, [], ◌∷◌, ◌++◌, map, length}
+use Rattle.std.proofs.Common.{Option, Some, None, Ok, refl, sym, ap, subst, ◌∙◌, append_assoc, arith}
 use Rattle.std.specs.Prelude.{not, ◌==◌, slice_get}
 use Rattle.std.specs.List.{list_any, flat_map}
 use Rattle.std.specs.Str.{bytes_eq}
@@ -9,6 +10,7 @@ use Rattle.flu_lemmas.specs.Totals.{total}
 use Rattle.flu_lemmas.proofs.Places.{slice_get-behind}
 use Rattle.flu_lemmas.proofs.Tests.{false_if_not, true_eq}
 use Rattle.flu_lemmas.proofs.Totals.{total-append}
+use Rattle.flu_lemmas.proofs.Bytes.{bytes_itself, bytes_is}
 use Rattle.flu_model.specs.declared.jobs.Family.{Family}
 use Rattle.flu_model.specs.declared.jobs.Depend.{Depend}
 use Rattle.flu_model.specs.declared.jobs.TagRef.{TagRef}
@@ -31,7 +33,7 @@ use Rattle.flu_grammar.specs.Actions.{MeansAction}
 use Rattle.flu_grammar.specs.Declared.{DeclaredKind, WrittenDepend, WrittenSource, depends_in, ons_in, actions_in, sources_in}
 use Rattle.flu_grammar.specs.Sources.{MeansKind, MeansDepend, MeansTag, MeansNumber, MeansSource}
 use Rattle.flu_grammar.specs.Jobs.{MeansDeclaredKind}
-use Rattle.flu_grammar.proofs.Lists.{bytes_itself, bytes_is, some_same, get_behind, get_front, get_below, get_map, any_none, pairs_left, pairs_right, pairs_split, pairs_same}
+use Rattle.flu_grammar.proofs.Lists.{some_same, get_behind, get_front, get_below, get_map, any_none, pairs_left, pairs_right, pairs_split, pairs_same}
 use Rattle.flu_grammar.proofs.Looks.{ok_same, passes, binds}
 use Rattle.flu_grammar.proofs.JobCells.{KnowFamilies}
 use Rattle.flu_grammar.proofs.JobActions.{actions_found}

@@ -1,5 +1,6 @@
 -- The names of a job: they are found where no two are the same and there are not too many, and are the declared ones.
-use Rattle.std.proofs.Common.{◌≡◌, ℕ, ◌+◌, ◌<◌, ◌≤◌, Bool, true, false, List, [], ◌∷◌, ◌++◌, map, length, Some, None, Ok, refl, sym, ap, subst, ◌∙◌, append_assoc, length-append, arith}
+use Rattle.std.proofs.Common.{◌≡◌, ℕ, ◌+◌, ◌<◌, ◌≤◌, Bool, true, false, List, [], ◌∷◌, ◌++◌, map, length}
+use Rattle.std.proofs.Common.{Some, None, Ok, refl, sym, ap, subst, ◌∙◌, append_assoc, length-append, arith}
 use Rattle.std.specs.Prelude.{not, ◌||◌, nat_lt, is_some, if◌then◌else◌}
 use Rattle.std.specs.List.{list_any, flat_map}
 use Rattle.std.specs.Str.{bytes_eq}
@@ -10,6 +11,7 @@ use Rattle.flu_lemmas.proofs.Elements.{fails_at}
 use Rattle.flu_lemmas.proofs.Loops.{bind_ok}
 use Rattle.flu_lemmas.proofs.Places.{slice_get-behind}
 use Rattle.flu_lemmas.proofs.Tests.{not_true, not_both, false_if_not, true_lt, lt_true}
+use Rattle.flu_lemmas.proofs.Bytes.{bytes_itself, bytes_is}
 use Rattle.flu_model.specs.declared.limits.What.TheVariants.{Families, Kinds, Sources, Depends}
 use Rattle.flu_model.specs.declared.jobs.Family.{Family}
 use Rattle.flu_text.specs.declared.written.WrittenSpan.{WrittenSpan}
@@ -22,7 +24,7 @@ use Rattle.flu_parse.specs.Faults.{◌>>◌, room, each}
 use Rattle.flu_parse.specs.Naming.{Naming, look_up, is_declared, fresh_name, with_family, with_kind, with_source, declare, no_names, naming_of}
 use Rattle.flu_grammar.specs.Means.{AllDiffer}
 use Rattle.flu_grammar.specs.Declared.{DeclaredKind, WrittenDepend, WrittenSource, names_in, families_in, kinds_in, depends_in, sources_in}
-use Rattle.flu_grammar.proofs.Lists.{bytes_itself, bytes_is, get_front, get_below, differ_none, differ_push, any_none}
+use Rattle.flu_grammar.proofs.Lists.{get_front, get_below, differ_none, differ_push, any_none}
 use Rattle.flu_grammar.proofs.Looks.{ok_same, passed, passes, binds}
 use Rattle.flu_grammar.proofs.Heads.{heads, heads_more}
 use Rattle.flu_grammar.proofs.JobCells.{family_name, family_head}

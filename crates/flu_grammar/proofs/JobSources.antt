@@ -1,5 +1,6 @@
 -- Dependencies and sources that are found are what they mean, and the other way round.
-use Rattle.std.proofs.Common.{◌≡◌, ◌≢◌, ◌⊎◌, inl, inr, ℕ, ◌+◌, ◌<◌, ◌≤◌, Bool, true, false, List, [], ◌∷◌, ◌++◌, map, length, Option, Some, None, Ok, refl, sym, ap, subst, ◌∙◌, append_assoc, arith}
+use Rattle.std.proofs.Common.{◌≡◌, ◌≢◌, ◌⊎◌, inl, inr, ℕ, ◌+◌, ◌<◌, ◌≤◌, Bool, true, false, List, [], ◌∷◌, ◌++◌}
+use Rattle.std.proofs.Common.{map, length, Option, Some, None, Ok, refl, sym, ap, subst, ◌∙◌, append_assoc, arith}
 use Rattle.std.specs.Prelude.{not, ◌&&◌, nat_lt, nat_le, slice_get}
 use Rattle.std.specs.List.{list_any}
 use Rattle.std.proofs.lemmas.List.{append-nil}
@@ -288,7 +289,8 @@ module _ (text : List ℕ) (n : Naming) (kinds : List DeclaredKind) (knows : Kno
       (with_one_tag done t) ks.0
       (passes (nat_le (done.itags + tag_count v.keys) 256) (f.OverLimit Itags 257) third (with_one_tag done t)
       (le_true (done.itags + tag_count v.keys) 256 (omega (arith, many, few)))
-      (passes (not (list_any (share_tag (record { kind = t.kind; keys = written_keys v.keys })) done.tags)) (f.TwiceNamed v.kind.from) last (with_one_tag done t)
+      (passes (not (list_any (share_tag (record { kind = t.kind; keys = written_keys v.keys })) done.tags)) (f.TwiceNamed v.kind.from) last
+      (with_one_tag done t)
       (ap (λ (x : Keys). not (list_any (share_tag (record { kind = t.kind; keys = x })) done.tags)) ks.2 ∙ ap not apart)
       (binds (keys_of v.keys) (λ k. Ok (record { tags = done.tags ++ record { kind = t.kind; keys = k } ∷ []; itags = done.itags + tag_count v.keys })) t.keys
       (with_one_tag done t) ks.1

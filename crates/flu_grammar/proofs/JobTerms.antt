@@ -13,7 +13,8 @@ use Rattle.flu_parse.specs.Faults.{◌>>=◌, ◌>>◌, unless}
 use Rattle.flu_parse.specs.Naming.{Naming}
 use Rattle.flu_parse.specs.Cells.{at_of, family_for, resolved_cell}
 use Rattle.flu_parse.specs.Terms.{height, first_part, first_token, term_of, expression_of}
-use Rattle.flu_grammar.specs.Terms.{MeansTerm, means_number, means_value, means_key, means_time, means_read, means_held, means_inside, means_negative, means_negation, means_operation, MeansExpression}
+use Rattle.flu_grammar.specs.Terms.{MeansTerm, means_number, means_value, means_key, means_time, means_read, means_held}
+use Rattle.flu_grammar.specs.Terms.{means_inside, means_negative, means_negation, means_operation, MeansExpression}
 use Rattle.flu_grammar.proofs.Looks.{ok_same, passed, passes, binds, thens}
 use Rattle.flu_grammar.proofs.JobCells.{KnowFamilies, cell_means, cell_found}
 

@@ -1,5 +1,6 @@
 -- The job of a text is read exactly where the text is that job's.
-use Rattle.std.proofs.Common.{◌≡◌, ◌⊎◌, inl, inr, ℕ, zero, suc, ◌+◌, ◌≤◌, List, [], ◌∷◌, ◌++◌, map, length, Option, Some, None, Ok, Err, refl, sym, ap, subst, ◌∙◌, length-append, arith}
+use Rattle.std.proofs.Common.{◌≡◌, ◌⊎◌, inl, inr, ℕ, zero, suc, ◌+◌, ◌≤◌, List, [], ◌∷◌, ◌++◌, map, length}
+use Rattle.std.proofs.Common.{Option, Some, None, Ok, Err, refl, sym, ap, subst, ◌∙◌, length-append, arith}
 use Rattle.std.specs.Prelude.{nat_le, slice_get}
 use Rattle.std.specs.List.{flat_map}
 use Rattle.std.specs.Str.{is_utf8}
@@ -84,7 +85,8 @@ module _ (text : List ℕ) {X : Type 0} (name : X → List ℕ) (g : Declaration
       → ((i : ℕ) (s : List ℕ) → slice_get (map name (flat_map g ds)) i ≡ Some s → Stands ds s) → AllDiffer (map name (flat_map g (y ∷ ds)))
   differ_in y ds (inl none) own rest stands = subst (λ (l : List X). AllDiffer (map name (l ++ flat_map g ds))) (sym none) rest
   differ_in y ds (inr one) own rest stands =
-      let whole : AllDiffer (name one.0 ∷ flat_map (names_in text) ds) = subst (λ (l : List (List ℕ)). AllDiffer (l ++ flat_map (names_in text) ds)) one.2 own in
+      let whole : AllDiffer (name one.0 ∷ flat_map (names_in text) ds) =
+      subst (λ (l : List (List ℕ)). AllDiffer (l ++ flat_map (names_in text) ds)) one.2 own in
       subst (λ (l : List X). AllDiffer (map name (l ++ flat_map g ds))) (sym one.1)
       (differ_cons (name one.0) (map name (flat_map g ds)) (λ i e. (
       let there = stands i (name one.0) e in differ_head (name one.0) (flat_map (names_in text) ds) whole there.0 there.1)) rest)
@@ -261,11 +263,11 @@ job_found text written job is =
 
 -- ---- the whole
 
-tokens_are : (r : TokenReading) (ts : List Token) → found_tokens r ≡ Ok ts → r ≡ Ok ts
+pub tokens_are : (r : TokenReading) (ts : List Token) → found_tokens r ≡ Ok ts → r ≡ Ok ts
 tokens_are (Ok x) ts e = ap (λ (l : List Token). let r : TokenReading = Ok l in r) (ok_same x ts e)
 tokens_are (Err at) ts e = absurd cc
 
-verdict_is : (v : Verdict WrittenJob) (written : WrittenJob) → found_job v ≡ Ok written → v ≡ IsVerdict written
+pub verdict_is : (v : Verdict WrittenJob) (written : WrittenJob) → found_job v ≡ Ok written → v ≡ IsVerdict written
 verdict_is (IsVerdict x) written e = ap IsVerdict (ok_same x written e)
 verdict_is (Unexpected at) written e = absurd cc
 verdict_is TooDeep written e = absurd cc

@@ -1,20 +1,13 @@
 -- Elements of lists by their places, lists whose elements all differ, and lists that go pair by pair.
-use Rattle.std.proofs.Common.{◌≡◌, ◌⊎◌, inl, inr, ℕ, zero, suc, ◌+◌, ◌<◌, Bool, true, false, cond, List, [], ◌∷◌, ◌++◌, map, length, Some, None, refl, sym, ap, subst, ◌∙◌, arith}
+use Rattle.std.proofs.Common.{◌≡◌, ◌⊎◌, inl, inr, ℕ, zero, suc, ◌+◌, ◌<◌, Bool, true, false, cond, List}
+use Rattle.std.proofs.Common.{[], ◌∷◌, ◌++◌, map, length, Some, None, refl, sym, ap, subst, ◌∙◌, arith}
 use Rattle.std.specs.Prelude.{slice_get, nat_lt, not, ◌||◌}
 use Rattle.std.specs.List.{list_any, position, position_or_len}
-use Rattle.std.specs.Str.{bytes_eq}
-use Rattle.std.proofs.lemmas.Slice.Eq.{bytes_eq-Decides}
 use Rattle.flu_lemmas.specs.Items.{Pairs}
 use Rattle.flu_lemmas.proofs.Booleans.{or_true}
 use Rattle.flu_lemmas.proofs.Places.{slice_get_push}
 use Rattle.flu_lemmas.proofs.Tests.{lt_true}
 use Rattle.flu_grammar.specs.Means.{AllDiffer}
-
-pub bytes_itself : (x : List ℕ) → bytes_eq x x ≡ true
-bytes_itself x = (bytes_eq-Decides x x).1 refl
-
-pub bytes_is : (x y : List ℕ) → bytes_eq x y ≡ true → x ≡ y
-bytes_is x y e = (bytes_eq-Decides x y).0 e
 
 module _ {X : Type 0} where
   pub some_same : (x y : X) → Some x ≡ Some y → x ≡ y

@@ -1,5 +1,6 @@
 -- What the written names of a plan mean is found.
-use Rattle.std.proofs.Common.{◌≡◌, ℕ, Bool, true, false, List, [], ◌∷◌, ◌++◌, map, length, Option, Some, None, Ok, refl, sym, ap, subst, ◌∙◌, append_assoc, arith}
+use Rattle.std.proofs.Common.{◌≡◌, ℕ, Bool, true, false, List, [], ◌∷◌, ◌++◌, map, length, Option}
+use Rattle.std.proofs.Common.{Some, None, Ok, refl, sym, ap, subst, ◌∙◌, append_assoc, arith}
 use Rattle.std.specs.Prelude.{not, nat_lt}
 use Rattle.std.specs.List.{list_any, list_all, position}
 use Rattle.std.specs.Str.{bytes_eq}
@@ -7,6 +8,7 @@ use Rattle.std.proofs.lemmas.List.{append-nil}
 use Rattle.flu_lemmas.specs.Items.{Pairs}
 use Rattle.flu_lemmas.proofs.Places.{slice_get-behind}
 use Rattle.flu_lemmas.proofs.Tests.{and_left, and_right, false_if_not}
+use Rattle.flu_lemmas.proofs.Bytes.{bytes_itself, bytes_is}
 use Rattle.flu_model.specs.declared.limits.What.TheVariants.{Key}
 use Rattle.flu_model.specs.declared.jobs.Family.{Family}
 use Rattle.flu_model.specs.declared.jobs.Kind.{Kind}
@@ -32,7 +34,7 @@ use Rattle.flu_plan.specs.Numbering.{planned_keys, planned_pred}
 use Rattle.flu_plan.specs.Limits.{small_key, small_keys, keys_of_pred}
 use Rattle.flu_grammar.specs.Means.{AllDiffer, IfWritten, IsNamed}
 use Rattle.flu_grammar.specs.Plans.{MeansKind, MeansSource, MeansKeys, MeansPred}
-use Rattle.flu_grammar.proofs.Lists.{bytes_itself, bytes_is, get_front, get_below, get_map, differ_none, differ_tail, differ_cons, differ_front, any_none, any_there, position_only}
+use Rattle.flu_grammar.proofs.Lists.{get_front, get_below, get_map, differ_none, differ_tail, differ_cons, differ_front, any_none, any_there, position_only}
 use Rattle.flu_grammar.proofs.Looks.{ok_ok, passes, binds, Finds}
 use Rattle.flu_grammar.proofs.PlanRead.{written_name}
 

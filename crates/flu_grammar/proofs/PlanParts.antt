@@ -6,6 +6,7 @@ use Rattle.std.specs.Str.{bytes_eq}
 use Rattle.flu_lemmas.specs.Items.{Pairs}
 use Rattle.flu_lemmas.proofs.Loops.{bind_ok}
 use Rattle.flu_lemmas.proofs.Places.{position_passes}
+use Rattle.flu_lemmas.proofs.Bytes.{bytes_is}
 use Rattle.flu_model.specs.declared.jobs.Kind.{Kind}
 use Rattle.flu_model.specs.declared.jobs.Source.{Source}
 use Rattle.flu_model.specs.declared.jobs.Program.{Program}
@@ -23,7 +24,6 @@ use Rattle.flu_plan.specs.Resolving.{known, kind_named, source_named, kind_of, s
 use Rattle.flu_plan.specs.Numbering.{planned_keys, planned_pred}
 use Rattle.flu_grammar.specs.Means.{IfWritten}
 use Rattle.flu_grammar.specs.Plans.{MeansKind, MeansSource, MeansKeys, MeansPred}
-use Rattle.flu_grammar.proofs.Lists.{bytes_is}
 use Rattle.flu_grammar.proofs.Looks.{ok_same, Finds, found_each}
 
 pub known_ok : (at : ℕ) (o : Option ℕ) (v : ℕ) → known at o ≡ Ok v → o ≡ Some v

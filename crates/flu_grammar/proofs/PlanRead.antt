@@ -1,5 +1,6 @@
 -- The plan that is read is what its text means.
-use Rattle.std.proofs.Common.{◌≡◌, ℕ, zero, suc, ◌+◌, ◌<◌, true, List, [], ◌∷◌, ◌++◌, map, length, Option, Some, None, Ok, refl, sym, ap, subst, ◌∙◌, append_assoc, arith}
+use Rattle.std.proofs.Common.{◌≡◌, ℕ, zero, suc, ◌+◌, ◌<◌, true, List, [], ◌∷◌, ◌++◌, map, length}
+use Rattle.std.proofs.Common.{Option, Some, None, Ok, refl, sym, ap, subst, ◌∙◌, append_assoc, arith}
 use Rattle.std.specs.Prelude.{not, ◌==◌, slice_get}
 use Rattle.std.specs.List.{list_any, flat_map, AllByRecursion}
 use Rattle.std.specs.Str.{bytes_eq}
@@ -9,6 +10,7 @@ use Rattle.flu_lemmas.proofs.Elements.{fails_at}
 use Rattle.flu_lemmas.proofs.Loops.{bind_ok, then_ok}
 use Rattle.flu_lemmas.proofs.Places.{slice_get-there}
 use Rattle.flu_lemmas.proofs.Tests.{not_true, not_both, true_eq}
+use Rattle.flu_lemmas.proofs.Bytes.{bytes_itself}
 use Rattle.flu_model.specs.declared.jobs.Program.{Program}
 use Rattle.flu_model.specs.declared.plans.Node.{Node}
 use Rattle.flu_text.specs.declared.written.WrittenSpan.{WrittenSpan}
@@ -26,7 +28,7 @@ use Rattle.flu_plan.specs.Reading.{tree_in, resolved}
 use Rattle.flu_plan.specs.Kept.{KeepsRules}
 use Rattle.flu_grammar.specs.Means.{AllDiffer, IfWritten}
 use Rattle.flu_grammar.specs.Plans.{MeansChild, MeansKids, MeansNode, HasSome, MeansPlan}
-use Rattle.flu_grammar.proofs.Lists.{bytes_itself, some_same, get_below, get_map, get_unmap, differ_none, differ_push, met_at, pairs_left, pairs_right, pairs_length}
+use Rattle.flu_grammar.proofs.Lists.{some_same, get_below, get_map, get_unmap, differ_none, differ_push, met_at, pairs_left, pairs_right, pairs_length}
 use Rattle.flu_grammar.proofs.Looks.{ok_same, passed, Finds, found_each}
 use Rattle.flu_grammar.proofs.PlanParts.{preds_mean, node_drawn, KidNamed, kids_named}
 

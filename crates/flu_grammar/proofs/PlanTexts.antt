@@ -66,7 +66,8 @@ is_read tokens found p bytes plan is =
     (passes (is_utf8 bytes) (f.BadToken (utf8_valid_len bytes)) (Ok bytes) bytes (is_utf8-from_IsUtf8 bytes is.text.utf8) refl)
     (binds (tokens_in bytes) (λ ts. written_in (length bytes) ts >>= λ written. resolved p bytes written) is.tokens plan
     (ap found_tokens ((tokens bytes is.tokens).1 is.cut))
-    (binds (written_in (length bytes) is.tokens) (λ written. resolved p bytes written) is.written plan ((found (length bytes) is.tokens is.written).1 is.grammar)
+    (binds (written_in (length bytes) is.tokens) (λ written. resolved p bytes written) is.written plan
+    ((found (length bytes) is.tokens is.written).1 is.grammar)
     (means_resolved p bytes is.written plan (some_nodes is.written is.grammar.some) is.means))))
 
 pub plans_are_grammar : ReadingIsTokens → FoundIsPlan → PlansKeepRules → PlansAreGrammar

@@ -1,5 +1,6 @@
 -- A plan that written nodes mean is the one that is read of them.
-use Rattle.std.proofs.Common.{◌≡◌, inl, inr, ℕ, suc, ◌+◌, ◌<◌, ◌≤◌, true, List, [], ◌∷◌, ◌++◌, map, length, Option, Some, None, Ok, refl, sym, ap, subst, ◌∙◌, arith}
+use Rattle.std.proofs.Common.{◌≡◌, inl, inr, ℕ, suc, ◌+◌, ◌<◌, ◌≤◌, true, List, [], ◌∷◌, ◌++◌, map}
+use Rattle.std.proofs.Common.{length, Option, Some, None, Ok, refl, sym, ap, subst, ◌∙◌, arith}
 use Rattle.std.specs.Prelude.{◌==◌, slice_get, nat_le}
 use Rattle.std.specs.List.{list_all, flat_map}
 use Rattle.std.proofs.lemmas.Bool.{cases_eq, cases_lt}
@@ -14,6 +15,7 @@ use Rattle.flu_lemmas.proofs.Places.{slice_get-there}
 use Rattle.flu_lemmas.proofs.Searches.{eq_true}
 use Rattle.flu_lemmas.proofs.Tests.{true_eq, le_true}
 use Rattle.flu_lemmas.proofs.Totals.{sum_by-total}
+use Rattle.flu_lemmas.proofs.NoTotal.{total_none}
 use Rattle.flu_model.specs.declared.limits.What.TheVariants.{Nodes, Predicates, Depth}
 use Rattle.flu_model.specs.declared.jobs.Program.{Program}
 use Rattle.flu_model.specs.declared.plans.Pred.{Pred}
@@ -35,12 +37,13 @@ use Rattle.flu_grammar.specs.Means.{AllDiffer, IfWritten}
 use Rattle.flu_grammar.specs.Plans.{MeansPlan}
 use Rattle.flu_grammar.proofs.Lists.{get_below, get_map, get_unmap, any_there, only_at, pairs_right, pairs_weaker}
 use Rattle.flu_grammar.proofs.Looks.{ok_ok, passes, binds, thens, Finds, finds_each}
-use Rattle.flu_grammar.proofs.Totals.{total_no_more, total_ones, total_none, times_in_each}
+use Rattle.flu_grammar.proofs.Totals.{total_no_more, total_ones, times_in_each}
 use Rattle.flu_grammar.proofs.PlanParts.{node_drawn}
 use Rattle.flu_grammar.proofs.PlanRead.{written_name}
 use Rattle.flu_grammar.proofs.PlanTrees.{kid_list, plan_kids, draft_kids, once_each, children_pass}
 use Rattle.flu_grammar.proofs.PlanFound.{differ_from, names_found, preds_small}
-use Rattle.flu_grammar.proofs.PlanWalks.{SameName, SameKids, Fits, FitsAt, drafts_found, AreFound, one_place, one_number, place_fits, draft_at, Follows, Walks, walks, followed, follower}
+use Rattle.flu_grammar.proofs.PlanWalks.{SameName, SameKids, Fits, FitsAt, drafts_found, AreFound, one_place}
+use Rattle.flu_grammar.proofs.PlanWalks.{one_number, place_fits, draft_at, Follows, Walks, walks, followed, follower}
 
 -- ---- counts over the nodes of the text are no greater than those over the plan
 

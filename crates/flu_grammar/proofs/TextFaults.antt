@@ -24,6 +24,7 @@ use Rattle.flu_parse.specs.Reading.{text_in, found_tokens, tokens_in, found_job,
 use Rattle.flu_grammar.specs.Texts.{IsShortText}
 use Rattle.flu_grammar.specs.Faults.{BytesAreTooMany, BytesAreNotUtf8, NoTokenBegins, IsNotContinued, UnexpectedIsNotContinued}
 use Rattle.flu_grammar.proofs.Looks.{ok_same, passes}
+use Rattle.flu_grammar.proofs.JobTexts.{tokens_are, verdict_is}
 use Rattle.flu_grammar.proofs.FaultKinds.{IsOfWritten, Plain, resolved_faults}
 
 -- ---- where a fault comes from
@@ -68,15 +69,6 @@ pub data ComesFrom (bytes : List ℕ) (e : JobFault) : Type 0 where
 tokens_fault : (r : TokenReading) (e : JobFault) → found_tokens r ≡ Err e → (at : ℕ) × (r ≡ Err at) × (f.BadToken at ≡ e)
 tokens_fault (Ok ts) e h = absurd cc
 tokens_fault (Err at) e h = (at, refl, cc)
-
-tokens_are : (r : TokenReading) (ts : List Token) → found_tokens r ≡ Ok ts → r ≡ Ok ts
-tokens_are (Ok x) ts e = ap (λ (l : List Token). let r : TokenReading = Ok l in r) (ok_same x ts e)
-tokens_are (Err at) ts e = absurd cc
-
-verdict_is : (v : Verdict WrittenJob) (written : WrittenJob) → found_job v ≡ Ok written → v ≡ IsVerdict written
-verdict_is (IsVerdict x) written e = ap (λ (z : WrittenJob). let v : Verdict WrittenJob = IsVerdict z in v) (ok_same x written e)
-verdict_is (Unexpected at) written e = absurd cc
-verdict_is TooDeep written e = absurd cc
 
 abbrev the_rest : List ℕ → Found Job
 the_rest text = tokens_in text >>= λ ts. written_in (length text) ts >>= λ written. resolved text written
@@ -148,7 +140,8 @@ bytes_fault bytes count (of_grammar ts short read fault) =
 
     nesting_not_bytes : Nesting ≡ Bytes → ⊥
     nesting_not_bytes e = cc
-bytes_fault bytes count (of_written ts written short read found is) = absurd (resolved_faults IsOfJob of_job bytes (λ at. tt) written (f.OverLimit Bytes count) is)
+bytes_fault bytes count (of_written ts written short read found is) =
+    absurd (resolved_faults IsOfJob of_job bytes (λ at. tt) written (f.OverLimit Bytes count) is)
 
 utf8_fault : (bytes : List ℕ) (at : ℕ) → ComesFrom bytes (f.BadUtf8 at) → (length bytes ≤ 1048576) × (IsUtf8 bytes → ⊥) × (at ≡ utf8_valid_len bytes)
 utf8_fault bytes at (of_bytes long is) = absurd cc
@@ -195,7 +188,8 @@ unexpected_fault tokens first bytes at (of_grammar ts short read fault) =
   where
     at_same : (n : ℕ) → f.Unexpected n ≡ f.Unexpected at → n ≡ at
     at_same n e = cc
-unexpected_fault tokens first bytes at (of_written ts written short read found is) = absurd (resolved_faults IsOfJob of_job bytes (λ at. tt) written (f.Unexpected at) is)
+unexpected_fault tokens first bytes at (of_written ts written short read found is) =
+    absurd (resolved_faults IsOfJob of_job bytes (λ at. tt) written (f.Unexpected at) is)
 
 -- ---- and where it is found
 

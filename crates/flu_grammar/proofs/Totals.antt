@@ -61,13 +61,6 @@ pub total_ones : {X : Type 0} (xs : List X) → total (λ x. 1) xs ≡ length xs
 total_ones [] = refl
 total_ones (x ∷ xs) = let more = total_ones xs in omega arith
 
-pub total_none : {X : Type 0} (f : X → ℕ) (xs : List X) → ((i : ℕ) (x : X) → slice_get xs i ≡ Some x → f x ≡ 0) → total f xs ≡ 0
-total_none f [] h = refl
-total_none f (x ∷ xs) h =
-    let more = total_none f xs (λ i y e. h (suc i) y e) in
-    let here : f x ≡ 0 = h 0 x refl in
-    omega (arith, more, here)
-
 -- how often a number stands in what a list is made of
 pub times_in_each : {X : Type 0} (n : ℕ) (f : X → List ℕ) (xs : List X) → times n (flat_map f xs) ≡ total (λ x. times n (f x)) xs
 times_in_each n f [] = refl

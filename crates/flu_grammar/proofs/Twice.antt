@@ -4,6 +4,7 @@ use Rattle.std.specs.Prelude.{not, ◌==◌, nat_lt, slice_get}
 use Rattle.std.specs.List.{list_any, flat_map, position_or_len}
 use Rattle.flu_lemmas.specs.Loops.{◌>>=◌, ◌>>◌}
 use Rattle.flu_lemmas.proofs.Tests.{true_eq}
+use Rattle.flu_lemmas.proofs.Bytes.{bytes_is}
 use Rattle.flu_model.specs.declared.jobs.Family.{Family}
 use Rattle.flu_model.specs.declared.jobs.Source.{Source}
 use Rattle.flu_model.specs.Rules.{is_same_text}
@@ -21,7 +22,7 @@ use Rattle.flu_parse.specs.Resolving.{Drafted, with_actions, with_on}
 use Rattle.flu_grammar.specs.Means.{IsNamed}
 use Rattle.flu_grammar.specs.Declared.{DeclaredKind, ons_in, sources_in}
 use Rattle.flu_grammar.specs.Faults.{IsOnTwice, IsFileTwice, TwiceNamedIsOnTwice, TwiceNamedIsFileTwice}
-use Rattle.flu_grammar.proofs.Lists.{bytes_is, some_same, met_at, pairs_right}
+use Rattle.flu_grammar.proofs.Lists.{some_same, met_at, pairs_right}
 use Rattle.flu_grammar.proofs.TextFaults.{fault_from, fault_then}
 use Rattle.flu_grammar.proofs.FaultKinds.{Plain, kind_faults, actions_faults}
 use Rattle.flu_grammar.proofs.JobCells.{KnowFamilies}

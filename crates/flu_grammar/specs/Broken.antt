@@ -11,7 +11,8 @@ use Rattle.flu_syntax.specs.declared.tokens.Verb.{Verb}
 use Rattle.flu_syntax.specs.declared.tree.WrittenKey.{WrittenKey}
 use Rattle.flu_syntax.specs.declared.tree.WrittenKey.TheVariants as k
 use Rattle.flu_syntax.specs.declared.tree.WrittenRef.{WrittenRef}
-use Rattle.flu_syntax.specs.Tree.{Tree, ValueTree, KeyTree, ReadTree, HasTree, ParenTree, NegTree, NotTree, TwoTree, Deed, Writes, Clears, Emits, Flushes, Action}
+use Rattle.flu_syntax.specs.Tree.{Tree, ValueTree, KeyTree, ReadTree, HasTree, ParenTree, NegTree}
+use Rattle.flu_syntax.specs.Tree.{NotTree, TwoTree, Deed, Writes, Clears, Emits, Flushes, Action}
 use Rattle.flu_layout.specs.Spelling.{name_of, inside, written_value}
 use Rattle.flu_parse.specs.declared.pieces.WrittenPiece.{WrittenPiece}
 use Rattle.flu_parse.specs.declared.pieces.WrittenPiece.TheVariants as w

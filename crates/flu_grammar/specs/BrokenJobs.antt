@@ -1,5 +1,6 @@
 -- What each fault of a job text says: which rule is broken, and where.
-use Rattle.std.specs.Prelude.{◌≡◌, ◌≢◌, ◌<◌, ◌≤◌, ◌+◌, ◌&&◌, ◌⊎◌, ℕ, Bool, true, false, List, [], ◌∷◌, ◌++◌, length, sum_by, Option, Some, Err, slice_get, IsTrue}
+use Rattle.std.specs.Prelude.{◌≡◌, ◌≢◌, ◌<◌, ◌≤◌, ◌+◌, ◌&&◌, ◌⊎◌, ℕ, Bool, true, false, List, []}
+use Rattle.std.specs.Prelude.{◌∷◌, ◌++◌, length, sum_by, Option, Some, Err, slice_get, IsTrue}
 use Rattle.std.specs.List.{flat_map}
 use Rattle.std.specs.Str.{IsUtf8}
 use Rattle.std.specs.Str.Lossy.{utf8_valid_len}
@@ -86,7 +87,8 @@ pub data BreaksDeclaration (text : List ℕ) (all before : Declarations) : Decla
   second_unknown : (a b : WrittenSpan) (relation : WrittenRelation) → NoneIsNamed declared_name (flat_map (kinds_in text) all) (name_of text b)
       → BreaksDeclaration text all before (Depends a b relation) (j.UnknownName b.from)
   -- `same` stands only between two keyed kinds
-  same_of_unkeyed : (a b : WrittenSpan) (at i k : ℕ) (x : MeansKind text (flat_map (kinds_in text) all) a i) (y : MeansKind text (flat_map (kinds_in text) all) b k)
+  same_of_unkeyed : (a b : WrittenSpan) (at i k : ℕ) (x : MeansKind text (flat_map (kinds_in text) all) a i)
+      (y : MeansKind text (flat_map (kinds_in text) all) b k)
       → (x.kind.keyed && y.kind.keyed) ≡ false → BreaksDeclaration text all before (Depends a b (r.Same at)) (j.WrongShape at)
   kind_unknown : (kind : WrittenSpan) (actions : List Action) → NoneIsNamed declared_name (flat_map (kinds_in text) all) (name_of text kind)
       → BreaksDeclaration text all before (On kind actions) (j.UnknownName kind.from)

@@ -23,7 +23,8 @@ use Rattle.flu_lemmas.proofs.Elements.{all_of_both, all_front, all_back, all_fil
 use Rattle.flu_laws.proofs.Laws.{no_conflict}
 use Rattle.flu_laws.proofs.InPlace.{in_place_law}
 use Rattle.flu_laws.proofs.Updating.{texts_are_local, updates_are_changes, unwritten_keeps}
-use Rattle.flu_laws.proofs.Histories.{AreRising, are_rising, places_before, places_behind, before_is, changed-append, changed-skip, changed-idle, independent_keeps, in_range}
+use Rattle.flu_laws.proofs.Histories.{AreRising, are_rising, places_before, places_behind, before_is}
+use Rattle.flu_laws.proofs.Histories.{changed-append, changed-skip, changed-idle, independent_keeps, in_range}
 
 module _ (p : Program) (opening : Contents) (xs : List Event) (before after : List Moment) (m : Moment) (is_base is_away : Cell → Bool) (s : Contents)
     (since upto more : List ℕ)

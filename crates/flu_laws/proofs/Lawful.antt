@@ -20,7 +20,8 @@ use Rattle.flu_laws.specs.Uses.{needs, writes, mixes, mode_at}
 use Rattle.flu_laws.specs.Changes.{applied, reach, level_reached, amount_added, change_by}
 use Rattle.flu_laws.specs.Lawful.{UsesAreDependent, AcceptanceByUses, amount_of, AcceptedIsLawful}
 use Rattle.flu_laws.specs.Updating.{ChangesKeepSorts, ChangesMix}
-use Rattle.flu_laws.proofs.Algebra.{joined-none, joined_sums-comm, joined_sums-assoc, joined_maxima-comm, joined_maxima-assoc, added-holds, added-mixes, raised-holds, raised-mixes, joined_family}
+use Rattle.flu_laws.proofs.Algebra.{joined-none, joined_sums-comm, joined_sums-assoc, joined_maxima-comm, joined_maxima-assoc}
+use Rattle.flu_laws.proofs.Algebra.{added-holds, added-mixes, raised-holds, raised-mixes, joined_family}
 use Rattle.flu_laws.proofs.Changing.{keeps}
 use Rattle.flu_laws.proofs.Keys.{key_in_range}
 use Rattle.flu_laws.proofs.Programs.{found_fits}

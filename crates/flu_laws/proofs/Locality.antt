@@ -53,7 +53,8 @@ changed-agree : (s t : Contents) (c d : Cell) (f g : Option Worth → Option Wor
     → with_worth s d (f (s d)) c ≡ with_worth t d (g (t d)) c
 changed-agree s t c d f g here same =
     elim (is_same_cell c d) as (λ b. is_same_cell c d ≡ b → cond b (f (s d)) (s c) ≡ cond b (g (t d)) (t c)) [
-      | true ↦ λ e. let is : c ≡ d = made_alike cell c.family c.key d.family d.key e in sym (ap (λ u. f (s u)) is) ∙ ap f here ∙ same (t c) ∙ ap (λ u. g (t u)) is
+      | true ↦ λ e. let is : c ≡ d = made_alike cell c.family c.key d.family d.key e in
+          sym (ap (λ u. f (s u)) is) ∙ ap f here ∙ same (t c) ∙ ap (λ u. g (t u)) is
       | false ↦ λ e. here
     ] refl
 

@@ -60,7 +60,8 @@ raises-sort families keyed has_value key c all fits any =
 -- such a cell is one of its family, for a key in range
 meant_is_there : (families : List Family) (keyed : Bool) (key : ℕ) (c : Cell) (r : CellRef) → nat_lt key key_count ≡ true
     → means key c r ≡ true → ref_fits families keyed r ≡ true → is_cell_of families c ≡ true
-meant_is_there families keyed key c r lt m e = ap (is_cell_of families) (sym (made_alike cell (cell_of r key).family (cell_of r key).key c.family c.key m)) ∙ cell_is_there families keyed r key lt e
+meant_is_there families keyed key c r lt m e = ap (is_cell_of families) (sym (made_alike cell (cell_of r key).family (cell_of r key).key c.family c.key m))
+    ∙ cell_is_there families keyed r key lt e
 
 act_adds-there : (families : List Family) (keyed has_value : Bool) (key : ℕ) (c : Cell) (a : Act) → nat_lt key key_count ≡ true
     → act_fits families keyed has_value a ≡ true → act_adds key c a ≡ true → is_cell_of families c ≡ true

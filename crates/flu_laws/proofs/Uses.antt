@@ -15,7 +15,8 @@ use Rattle.flu_model.specs.declared.modes.Mode.TheVariants.{None as NoMode, Add 
 use Rattle.flu_model.specs.Contents.{Contents}
 use Rattle.flu_model.specs.Itags.{tag_of_itag, ties_tags, is_dependent}
 use Rattle.flu_model.specs.Updates.{actions_of}
-use Rattle.flu_model.specs.Modes.{mode_in_version_1, mode_in_version_2, mode_among, modes_conflict, guard_reads, act_reads, action_reads, act_overwrites, act_adds, act_raises}
+use Rattle.flu_model.specs.Modes.{mode_in_version_1, mode_in_version_2, mode_among, modes_conflict}
+use Rattle.flu_model.specs.Modes.{guard_reads, act_reads, action_reads, act_overwrites, act_adds, act_raises}
 use Rattle.flu_laws.specs.Uses.{needs, writes, AgreeOnNeeds, NeedsByActions, WritesByActions}
 use Rattle.flu_lemmas.proofs.Booleans.{or_turns}
 use Rattle.flu_lemmas.proofs.Numbers.{same_turns}

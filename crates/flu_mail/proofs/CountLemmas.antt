@@ -32,8 +32,10 @@ set_turn xs k j d given old now new lt is there grown kept i =
     list_any_more (λ (q : Itag). q.0 == i) xs k d lt ∙ ap (λ (q : Itag). is_among (take k xs) i || (q.0 == i)) (sym is) in
     elim (cases_eq j.0 i) [
       | inl same ↦
-          (let listed : is_among (take (k + 1) xs) i ≡ true = more ∙ ap (λ b. is_among (take k xs) i || b) (eq_true j.0 i same) ∙ or_true (is_among (take k xs) i) in
-          ap (λ ns. slice_index ns i) grown ∙ ap (λ n. slice_index (set now j.0 (slice_index given j.0)) n) (sym same) ∙ get_or-set_same now j.0 (slice_index given j.0) 0 there
+          (let listed : is_among (take (k + 1) xs) i ≡ true = more ∙ ap (λ b. is_among (take k xs) i || b) (eq_true j.0 i same)
+          ∙ or_true (is_among (take k xs) i) in
+          ap (λ ns. slice_index ns i) grown ∙ ap (λ n. slice_index (set now j.0 (slice_index given j.0)) n) (sym same)
+          ∙ get_or-set_same now j.0 (slice_index given j.0) 0 there
           ∙ ap (slice_index given) same ∙ ap (λ b. if b then slice_index given i else slice_index old i) (sym listed))
       | inr other ↦
           (let listed : is_among (take (k + 1) xs) i ≡ is_among (take k xs) i =
@@ -55,7 +57,8 @@ among_told p test i lt = any_listed p (λ j. j.0 == i) test ∙ by_test (test (i
     by_test false e =
         false_if_not _ (λ h.
         let found = found_in_range here 0 (count_of_itags p) h in
-        not_both (test (itag i)) (ap (λ j. test (itag j)) (sym (true_eq found.number i (and_right (test (itag found.number)) _ found.passes))) ∙ and_left _ (found.number == i) found.passes) e)
+        not_both (test (itag i)) (ap (λ j. test (itag j)) (sym (true_eq found.number i (and_right (test (itag found.number)) _ found.passes)))
+        ∙ and_left _ (found.number == i) found.passes) e)
 
 either_way : (b : Bool) (x y : ℕ) → x ≡ 0 → y ≡ 0 → 0 ≡ (if b then x else y)
 either_way true x y ex ey = sym ex

@@ -1,5 +1,6 @@
 -- What stays of a mailbox when an entry changes, and what its entries tell.
-use Rattle.std.proofs.Common.{◌≡◌, ◌<◌, ◌≤◌, ◌+◌, ◌^◌, ℕ, zero, suc, Some, None, Option, List, [], ◌∷◌, Vec, Global, length, get_or, refl, sym, ap, subst, ◌∙◌, true, arith}
+use Rattle.std.proofs.Common.{◌≡◌, ◌<◌, ◌≤◌, ◌+◌, ◌^◌, ℕ, zero, suc, Some, None, Option, List, [], ◌∷◌}
+use Rattle.std.proofs.Common.{Vec, Global, length, get_or, refl, sym, ap, subst, ◌∙◌, true, arith}
 use Rattle.std.specs.Prelude.{map, IfSome, slice_get, slice_index, slice_index_or}
 use Rattle.std.proofs.Math.ListN.{set}
 use Rattle.std.proofs.lemmas.List.{length-set, length-map, get_or_past}
@@ -69,7 +70,9 @@ pub over_kept : (lists : List (List Item)) (m n : Mailbox) (i : ℕ) (e v : Entr
     → IsOver lists m → IsOver lists n
 over_kept lists m n i e v change here over = record {
   one_each = one_each_kept m n i e v change ∙ over.one_each;
-  over_items = λ j x found. each_set (λ k y. IsEntryOver (slice_index_or lists k []) y) m.entries.items i v over.over_items here j x (ap (λ ys. slice_get ys j) (sym change.items) ∙ found);
+  over_items =
+      λ j x found. each_set (λ k y. IsEntryOver (slice_index_or lists k []) y) m.entries.items i v over.over_items here j x
+      (ap (λ ys. slice_get ys j) (sym change.items) ∙ found);
 }
 
 -- ---- what is read
@@ -93,4 +96,5 @@ pub pending_itag : (lists : List (List Item)) (counts : List ℕ) (i : Itag) (o 
 pending_itag lists counts i o s lt pending =
     if_some o (λ x. x.itag ≡ i) (λ x e.
     let there : 0 + i.0 ≡ i.0 = omega arith in
-    ap (λ n. itag n) ((event_of_stream (0 + i.0) 0 (slice_index_or lists i.0 []) (slice_index counts i.0) x (stream_of 0 lists i.0 s lt) (pending x e)).1 ∙ there))
+    ap (λ n. itag n) ((event_of_stream (0 + i.0) 0 (slice_index_or lists i.0 []) (slice_index counts i.0) x (stream_of 0 lists i.0 s lt) (pending x e)).1
+    ∙ there))

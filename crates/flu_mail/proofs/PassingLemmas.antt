@@ -1,8 +1,10 @@
 -- What passing says of the events that are not counted.
-use Rattle.std.proofs.Common.{◌≡◌, ◌<◌, ◌≤◌, ◌+◌, ◌-◌, ℕ, zero, suc, true, false, Option, Some, None, List, [], ◌∷◌, length, take, refl, sym, ap, subst, ◌∙◌, inl, inr, arith}
+use Rattle.std.proofs.Common.{◌≡◌, ◌<◌, ◌≤◌, ◌+◌, ◌-◌, ℕ, zero, suc, true, false, Option, Some, None}
+use Rattle.std.proofs.Common.{List, [], ◌∷◌, length, take, refl, sym, ap, subst, ◌∙◌, inl, inr, arith}
 use Rattle.std.specs.Prelude.{◌⊎◌, ◌≢◌, slice_get, nat_le, ◌==◌, ◌&&◌}
 use Rattle.std.proofs.lemmas.Grind.{common_steps}
 use Rattle.flu_lemmas.proofs.Tests.{and_left, and_right, true_le, le_true, true_eq}
+use Rattle.flu_lemmas.proofs.InTime.{in_time}
 use Rattle.flu_model.specs.declared.events.Event.{Event}
 use Rattle.flu_model.specs.declared.events.Item.{Item}
 use Rattle.flu_model.specs.declared.events.Item.TheVariants.{Event as EventItem, Beat, End}
@@ -12,14 +14,8 @@ use Rattle.flu_mail.specs.Passing.{next_event, time_passes, last_passes, passes_
 
 -- ---- event order
 
-pub sooner : (x y : Event) → x.time < y.time → is_before x y ≡ true
-sooner x y lt = grind (arith, common_steps)
-
 pub before_in_time : (x y : Event) → is_before x y ≡ true → x.time ≤ y.time
 before_in_time x y e = grind (arith, common_steps)
-
-pub not_after : (x y : Event) → is_before x y ≡ true → is_before y x ≡ false
-not_after x y e = grind (arith, common_steps)
 
 pub before_or_after : (x y : Event) → x.itag.0 ≢ y.itag.0 → is_before y x ≡ false → is_before x y ≡ true
 before_or_after x y other e = grind (arith, common_steps)
@@ -79,19 +75,21 @@ passing_clears i low (EventItem z ∷ rest) (suc seen) zero x zero y s h le e = 
 passing_clears i low (EventItem z ∷ rest) (suc seen) zero x (suc k) y s h le e =
     let later = event_of_stream i (z.time + 1) rest k y (and_right (z.itag.0 == i && nat_le low z.time) _ s) e in
     let first = before_in_time x z h in
-    sooner x y (omega arith)
+    in_time x.time x.itag.0 y.time y.itag.0 (omega arith)
 passing_clears i low (EventItem z ∷ rest) (suc seen) (suc count) x zero y s h le e = absurd (omega arith)
 passing_clears i low (EventItem z ∷ rest) (suc seen) (suc count) x (suc k) y s h le e =
     let behind = and_right (z.itag.0 == i && nat_le low z.time) _ s in
     elim (without_first (EventItem z) (take seen rest) (next_event (take seen rest) count) x h) [
       | inl again ↦ passing_clears i (z.time + 1) rest seen count x k y behind again (omega arith) e
-      | inr last ↦ (let late = true_le x.time z.time last in let later = event_of_stream i (z.time + 1) rest k y behind e in sooner x y (omega arith))
+      | inr last ↦ (let late = true_le x.time z.time last in let later = event_of_stream i (z.time + 1) rest k y behind e in
+          in_time x.time x.itag.0 y.time y.itag.0 (omega arith))
     ]
 passing_clears i low (Beat t ∷ rest) (suc seen) count x k y s h le e =
     let behind = and_right (nat_le low t) _ s in
     elim (without_first (Beat t) (take seen rest) (next_event (take seen rest) count) x h) [
       | inl again ↦ passing_clears i (t + 1) rest seen count x k y behind again le e
-      | inr last ↦ (let late = true_le x.time t last in let later = event_of_stream i (t + 1) rest k y behind e in sooner x y (omega arith))
+      | inr last ↦ (let late = true_le x.time t last in let later = event_of_stream i (t + 1) rest k y behind e in
+          in_time x.time x.itag.0 y.time y.itag.0 (omega arith))
     ]
 passing_clears i low (End ∷ []) (suc seen) count x k y s h le e = cc
 passing_clears i low (End ∷ item ∷ rest) (suc seen) count x k y s h le e = cc
@@ -119,7 +117,8 @@ later_passes i low item items more count x s lt h = by_next (next_event (take mo
   where
     by_next : (next : Option Event) → next_event (take more items) count ≡ next → passes_with (item ∷ take more items) next x ≡ true
     by_next None e = last_of_later x.time i low item items more s (omega arith) h
-    by_next (Some y) e = let later = event_of_stream i low items count y s (still_there items more count y e) in sooner x y (omega arith)
+    by_next (Some y) e = let later = event_of_stream i low items count y s (still_there items more count y e) in
+        in_time x.time x.itag.0 y.time y.itag.0 (omega arith)
 
 pub passing_stays : (i low : ℕ) (items : List Item) (seen more count : ℕ) (x : Event) → is_stream_from i low items ≡ true → seen ≤ more
     → passes (take seen items) count x ≡ true → passes (take more items) count x ≡ true
@@ -130,13 +129,15 @@ passing_stays i low (EventItem z ∷ rest) (suc seen) (suc more) zero x s le h =
 passing_stays i low (EventItem z ∷ rest) (suc seen) (suc more) (suc count) x s le h =
     let behind = and_right (z.itag.0 == i && nat_le low z.time) _ s in
     elim (without_first (EventItem z) (take seen rest) (next_event (take seen rest) count) x h) [
-      | inl again ↦ with_first (EventItem z) (take more rest) (next_event (take more rest) count) x (passing_stays i (z.time + 1) rest seen more count x behind (omega arith) again)
+      | inl again ↦ with_first (EventItem z) (take more rest) (next_event (take more rest) count) x
+          (passing_stays i (z.time + 1) rest seen more count x behind (omega arith) again)
       | inr last ↦ (let late = true_le x.time z.time last in later_passes i (z.time + 1) (EventItem z) rest more count x behind (omega arith) last)
     ]
 passing_stays i low (Beat t ∷ rest) (suc seen) (suc more) count x s le h =
     let behind = and_right (nat_le low t) _ s in
     elim (without_first (Beat t) (take seen rest) (next_event (take seen rest) count) x h) [
-      | inl again ↦ with_first (Beat t) (take more rest) (next_event (take more rest) count) x (passing_stays i (t + 1) rest seen more count x behind (omega arith) again)
+      | inl again ↦ with_first (Beat t) (take more rest) (next_event (take more rest) count) x
+          (passing_stays i (t + 1) rest seen more count x behind (omega arith) again)
       | inr last ↦ (let late = true_le x.time t last in later_passes i (t + 1) (Beat t) rest more count x behind (omega arith) last)
     ]
 passing_stays i low (End ∷ []) (suc seen) (suc zero) count x s le h = refl

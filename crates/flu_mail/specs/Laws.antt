@@ -53,7 +53,8 @@ ReadyStays =
 abbrev pub ReadyToServeStays : Type 0
 ReadyToServeStays =
     (p : Program) (nodes : List Node) (lists : List (List Item)) (w : ℕ) (seen more counts : List ℕ) (y : Event)
-    → IsTrue (are_streams 0 lists) → SeesMore seen more → is_ready_to_serve p nodes lists w seen counts y ≡ true → is_ready_to_serve p nodes lists w more counts y ≡ true
+    → IsTrue (are_streams 0 lists) → SeesMore seen more → is_ready_to_serve p nodes lists w seen counts y ≡ true
+    → is_ready_to_serve p nodes lists w more counts y ≡ true
 
 -- READY CLEARS: where node w is ready for x, x is before each event that is not counted, seen or not, of an itag that it waits for
 abbrev pub ReadyClears : Type 0
@@ -80,7 +81,8 @@ abbrev pub ReadyWhenClear : Type 0
 ReadyWhenClear =
     (p : Program) (nodes : List Node) (lists : List (List Item)) (w : ℕ) (seen counts : List ℕ) (x : Event)
     → IsTrue (are_streams 0 lists) → length lists ≡ count_of_itags p → IsAllSeen lists seen
-    → ((j : ℕ) (y : Event) → j < count_of_itags p → waits_for p nodes w x.itag j ≡ true → IsUncounted (slice_index_or lists j []) (slice_index counts j) y → is_before y x ≡ false)
+    → ((j : ℕ) (y : Event) → j < count_of_itags p → waits_for p nodes w x.itag j ≡ true → IsUncounted (slice_index_or lists j []) (slice_index counts j) y
+    → is_before y x ≡ false)
     → is_ready p nodes lists w seen counts x ≡ true
 
 -- and the same of an event x of an itag that is not its own
@@ -88,5 +90,15 @@ abbrev pub ServingWhenClear : Type 0
 ServingWhenClear =
     (p : Program) (nodes : List Node) (lists : List (List Item)) (w : ℕ) (seen counts : List ℕ) (x : Event)
     → IsTrue (are_streams 0 lists) → length lists ≡ count_of_itags p → IsAllSeen lists seen → owns p nodes w x.itag ≡ false
-    → ((j : ℕ) (y : Event) → j < count_of_itags p → serving_waits_for p nodes w x.itag j ≡ true → IsUncounted (slice_index_or lists j []) (slice_index counts j) y → is_before y x ≡ false)
+    → ((j : ℕ) (y : Event) → j < count_of_itags p → serving_waits_for p nodes w x.itag j ≡ true
+    → IsUncounted (slice_index_or lists j []) (slice_index counts j) y → is_before y x ≡ false)
     → is_ready_to_serve p nodes lists w seen counts x ≡ true
+
+-- SEEN EVENTS STAND: an event among the seen items of an itag is the event at the same place among all of its items
+abbrev pub SeenEventsStand : Type 0
+SeenEventsStand =
+    (items : List Item) (seen k : ℕ) (y : Event) → slice_get (events_of (take seen items)) k ≡ Some y → slice_get (events_of items) k ≡ Some y
+
+-- and there are no more events than items
+abbrev pub EventsAreItems : Type 0
+EventsAreItems = (items : List Item) → length (events_of items) ≤ length items

@@ -1,6 +1,6 @@
 //! What holds of passing and waiting. Each law is the contract of a function that does nothing.
 
-ghost use Rattle.flu_mail.specs.Laws.{PassingClears, PassingStays, PassingIsExact, PassingOthersIsExact, ReadyStays, ReadyToServeStays, ReadyClears, ServingClears, ReadyWhenClear, ServingWhenClear};
+ghost use Rattle.flu_mail.specs.Laws.{PassingClears, PassingStays, PassingIsExact, PassingOthersIsExact, ReadyStays, ReadyToServeStays, ReadyClears, ServingClears, ReadyWhenClear, ServingWhenClear, SeenEventsStand, EventsAreItems};
 
 /// Where the seen items of an itag let an event pass, no event of the itag that is not counted, seen or not, is before it.
 pub fn passing_clears()
@@ -37,4 +37,11 @@ pub fn ready_clears()
 pub fn ready_when_clear()
     ensures ready { ReadyWhenClear }
     ensures serve { ServingWhenClear }
+{}
+
+/// An event among the seen items of an itag is the event at the same place among all of its items, and there are no more events
+/// than items.
+pub fn seen_events_stand()
+    ensures stand { SeenEventsStand }
+    ensures few { EventsAreItems }
 {}

@@ -1,5 +1,6 @@
 -- A greedy plan is valid for its job.
-use Rattle.std.proofs.Common.{◌≡◌, ◌<◌, ◌≤◌, ◌+◌, ℕ, zero, suc, true, false, cond, inl, inr, Option, Some, None, List, [], ◌++◌, refl, sym, ap, subst, ◌∙◌, arith}
+use Rattle.std.proofs.Common.{◌≡◌, ◌<◌, ◌≤◌, ◌+◌, ℕ, zero, suc, true, false, cond, inl, inr, Option}
+use Rattle.std.proofs.Common.{Some, None, List, [], ◌++◌, refl, sym, ap, subst, ◌∙◌, arith}
 use Rattle.std.specs.Prelude.{count_by, Contains}
 use Rattle.std.specs.List.{list_any}
 use Rattle.std.proofs.lemmas.Bool.{cases_lt, cases_eq, or_left, or_right, true≢false}
@@ -21,7 +22,8 @@ use Rattle.flu_lemmas.proofs.Counting.{times_if_contained, contained_if_times, t
 use Rattle.flu_planner.proofs.TreeParts.{parted_times, parted_apart}
 use Rattle.flu_planner.proofs.TreeItags.{owned_in, AreOnce, parts_once, owned_times, owned_is_given, all_once, all_within, all_have}
 use Rattle.flu_planner.proofs.PlanTags.{number}
-use Rattle.flu_planner.proofs.PlanNodes.{count_of_nodes, IsPlaced, root_is_placed, left_is_placed, right_is_placed, within_root, node_owns_is, owned_is_found, AreOfJob, found_is_owned, owned_by_node}
+use Rattle.flu_planner.proofs.PlanNodes.{count_of_nodes, IsPlaced, root_is_placed, left_is_placed, right_is_placed}
+use Rattle.flu_planner.proofs.PlanNodes.{within_root, node_owns_is, owned_is_found, AreOfJob, found_is_owned, owned_by_node}
 
 -- ---- each itag has one owner
 counted_root : (p : Program) (w : ℕ) (own : List ℕ) (kids : Option (ℕ × ℕ)) (i : ℕ) → i < count_of_itags p → AreOfJob p own → times i own ≤ 1

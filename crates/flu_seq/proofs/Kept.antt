@@ -11,6 +11,7 @@ use Rattle.flu_cells.specs.Holding.{held}
 use Rattle.flu_laws.specs.Updating.{FoldKeepsSorts}
 
 pub sorts_kept : {O E : Type 0} (p : Program) (opening : Contents) (lists : List (List Item)) (r : Result (State × O) E)
-    → IfOk r (λ done. held done.0 ≡ final_state p opening lists) → FoldKeepsSorts → IsStateOf p.families opening → IfOk r (λ done. IsStateOf p.families (held done.0))
+    → IfOk r (λ done. held done.0 ≡ final_state p opening lists) → FoldKeepsSorts → IsStateOf p.families opening
+    → IfOk r (λ done. IsStateOf p.families (held done.0))
 sorts_kept p opening lists (Ok done) e kept sorts = subst (IsStateOf p.families) (sym e) (kept p opening lists sorts)
 sorts_kept p opening lists (Err x) e kept sorts = tt

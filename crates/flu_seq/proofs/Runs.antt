@@ -19,11 +19,16 @@ pub run_of_stream : (i low from : ℕ) (items : List Item) → is_stream_from i 
 run_of_stream i low zero [] e = refl
 run_of_stream i low (suc from) [] e = refl
 run_of_stream i low zero (EventItem x ∷ items) e = both _ _ (and_left _ _ e) (run_of_stream i (x.time + 1) zero items (and_right _ _ e))
-run_of_stream i low zero (Beat t ∷ items) e = run-lower i low (t + 1) (events_of items) (let h : low ≤ t = true_le low t (and_left _ _ e) in omega (arith, h)) (run_of_stream i (t + 1) zero items (and_right _ _ e))
+run_of_stream i low zero (Beat t ∷ items) e = run-lower i low (t + 1) (events_of items) (let h : low ≤ t = true_le low t (and_left _ _ e) in
+    omega (arith, h)) (run_of_stream i (t + 1) zero items (and_right _ _ e))
 run_of_stream i low zero (End ∷ []) e = refl
 run_of_stream i low zero (End ∷ y ∷ items) e = cc
-run_of_stream i low (suc from) (EventItem x ∷ items) e = run-lower i low (x.time + 1) (events_of (drop from items)) (let h : low ≤ x.time = true_le low x.time (and_right _ _ (and_left _ _ e)) in omega (arith, h)) (run_of_stream i (x.time + 1) from items (and_right _ _ e))
-run_of_stream i low (suc from) (Beat t ∷ items) e = run-lower i low (t + 1) (events_of (drop from items)) (let h : low ≤ t = true_le low t (and_left _ _ e) in omega (arith, h)) (run_of_stream i (t + 1) from items (and_right _ _ e))
+run_of_stream i low (suc from) (EventItem x ∷ items) e =
+    run-lower i low (x.time + 1) (events_of (drop from items)) (let h : low ≤ x.time = true_le low x.time (and_right _ _ (and_left _ _ e)) in
+    omega (arith, h)) (run_of_stream i (x.time + 1) from items (and_right _ _ e))
+run_of_stream i low (suc from) (Beat t ∷ items) e =
+    run-lower i low (t + 1) (events_of (drop from items)) (let h : low ≤ t = true_le low t (and_left _ _ e) in
+    omega (arith, h)) (run_of_stream i (t + 1) from items (and_right _ _ e))
 run_of_stream i low (suc from) (End ∷ []) e = nothing from
   where
     nothing : (n : ℕ) → is_run i low (events_of (drop n [])) ≡ true
@@ -34,4 +39,5 @@ run_of_stream i low (suc from) (End ∷ y ∷ items) e = cc
 pub stream_at : (k i : ℕ) (lists : List (List Item)) → are_streams k lists ≡ true → i < length lists → is_stream_from (k + i) 0 (items_at lists i) ≡ true
 stream_at k i [] e lt = absurd (omega arith)
 stream_at k zero (items ∷ lists) e lt = let n : k ≡ k + 0 = omega arith in subst (λ m. is_stream_from m 0 items ≡ true) n (and_left _ _ e)
-stream_at k (suc i) (items ∷ lists) e lt = let n : (k + 1) + i ≡ k + suc i = omega arith in subst (λ m. is_stream_from m 0 (items_at lists i) ≡ true) n (stream_at (k + 1) i lists (and_right _ _ e) (omega arith))
+stream_at k (suc i) (items ∷ lists) e lt = let n : (k + 1) + i ≡ k + suc i = omega arith in
+    subst (λ m. is_stream_from m 0 (items_at lists i) ≡ true) n (stream_at (k + 1) i lists (and_right _ _ e) (omega arith))

@@ -1,5 +1,6 @@
 -- The turns of the merge.
-use Rattle.std.proofs.Common.{◌≡◌, ◌≤◌, ◌<◌, ◌+◌, ℕ, Bool, true, false, cond, List, [], ◌∷◌, ◌++◌, length, drop, refl, sym, ap, subst, ◌∙◌, arith, inl, inr, drop-cons, add-one}
+use Rattle.std.proofs.Common.{◌≡◌, ◌≤◌, ◌<◌, ◌+◌, ℕ, Bool, true, false, cond, List, [], ◌∷◌, ◌++◌, length}
+use Rattle.std.proofs.Common.{drop, refl, sym, ap, subst, ◌∙◌, arith, inl, inr, drop-cons, add-one}
 use Rattle.std.proofs.lemmas.List.{drop_all}
 use Rattle.std.specs.Prelude.{nat_le, nat_lt, ◌==◌}
 use Rattle.std.specs.List.{flat_map, AllByRecursion}
@@ -23,7 +24,8 @@ use Rattle.flu_seq.proofs.Runs.{run_of_stream, stream_at}
 use Rattle.flu_seq.proofs.Unique.{before_trans, Strict, strict-push, merged-IsMerged, only_merged}
 
 -- ---- the totals of what is to come
-pub pending-IsPermutation : (lists : List (List Item)) (f : Event → ℕ) (hs ks : List (Reverse Head)) → IsPermutation hs ks → total f (pending lists ks) ≡ total f (pending lists hs)
+pub pending-IsPermutation : (lists : List (List Item)) (f : Event → ℕ) (hs ks : List (Reverse Head)) → IsPermutation hs ks
+    → total f (pending lists ks) ≡ total f (pending lists hs)
 pending-IsPermutation lists f hs ks perm =
     total-flat_map f (λ (r : Reverse Head). rest_of lists r.0) ks
     ∙ total-IsPermutation (λ (r : Reverse Head). total f (rest_of lists r.0)) hs ks perm
@@ -31,22 +33,27 @@ pending-IsPermutation lists f hs ks perm =
 
 module _ (lists : List (List Item)) (good : are_streams 0 lists ≡ true) (i from : ℕ) (lt : i < length lists) (old new : List (Reverse Head)) where
   run_here : is_run i 0 (events_of (drop from (items_at lists i))) ≡ true
-  run_here = let n : 0 + i ≡ i = omega arith in run_of_stream i 0 from (items_at lists i) (subst (λ m. is_stream_from m 0 (items_at lists i) ≡ true) n (stream_at 0 i lists good lt))
+  run_here = let n : 0 + i ≡ i = omega arith in
+      run_of_stream i 0 from (items_at lists i) (subst (λ m. is_stream_from m 0 (items_at lists i) ≡ true) n (stream_at 0 i lists good lt))
 
   -- the head that joins is of this itag
   own_itag : (h : Head) → events_of (drop from (items_at lists i)) ≡ event_at h ∷ events_of (drop h.place (items_at lists i)) → h.itag ≡ i
   own_itag h e = true_eq h.itag i (and_left _ _ (and_left _ _ (sym (ap (is_run i 0) e) ∙ run_here)))
 
-  rest_is : (h : Head) → events_of (drop from (items_at lists i)) ≡ event_at h ∷ events_of (drop h.place (items_at lists i)) → rest_of lists h ≡ events_of (drop from (items_at lists i))
+  rest_is : (h : Head) → events_of (drop from (items_at lists i)) ≡ event_at h ∷ events_of (drop h.place (items_at lists i))
+      → rest_of lists h ≡ events_of (drop from (items_at lists i))
   rest_is h e = ap (λ n. event_at h ∷ events_of (drop h.place (items_at lists n))) (own_itag h e) ∙ sym e
 
-  head_good : (h : Head) → events_of (drop from (items_at lists i)) ≡ event_at h ∷ events_of (drop h.place (items_at lists i)) → h.place ≤ length (items_at lists i) → is_good lists (record { 0 = h }) ≡ true
+  head_good : (h : Head) → events_of (drop from (items_at lists i)) ≡ event_at h ∷ events_of (drop h.place (items_at lists i))
+      → h.place ≤ length (items_at lists i) → is_good lists (record { 0 = h }) ≡ true
   head_good h e le =
       let n : h.itag ≡ i = own_itag h e in
-      both _ _ (both (nat_lt h.itag (length lists)) _ (ap (λ m. nat_lt m (length lists)) n ∙ lt_true i (length lists) lt) (ap (λ m. nat_le h.place (length (items_at lists m))) n ∙ le_true h.place (length (items_at lists i)) le))
+      both _ _ (both (nat_lt h.itag (length lists)) _ (ap (λ m. nat_lt m (length lists)) n ∙ lt_true i (length lists) lt)
+      (ap (λ m. nat_le h.place (length (items_at lists m))) n ∙ le_true h.place (length (items_at lists i)) le))
       ((λ k. is_run (n k) 0 (rest_is h e k)) ∙ run_here)
 
-  pub added_total : Adds lists i from old new → (f : Event → ℕ) → total f (pending lists new) ≡ total f (events_of (drop from (items_at lists i))) + total f (pending lists old)
+  pub added_total : Adds lists i from old new → (f : Event → ℕ)
+      → total f (pending lists new) ≡ total f (events_of (drop from (items_at lists i))) + total f (pending lists old)
   added_total (inl a) f =
       let none : total f (events_of (drop from (items_at lists i))) ≡ 0 = ap (total f) a.0 in
       let same : total f (pending lists new) ≡ total f (pending lists old) = ap (λ hs. total f (pending lists hs)) a.1 in
@@ -59,7 +66,8 @@ module _ (lists : List (List Item)) (good : are_streams 0 lists ≡ true) (i fro
   pub added_heads : Adds lists i from old new → (j : ℕ) → heads_of j new ≤ cond (i == j) 1 0 + heads_of j old
   added_heads (inl a) j = let same : heads_of j new ≡ heads_of j old = ap (heads_of j) a.1 in omega (arith, same)
   added_heads (inr (h, a)) j =
-      let same : heads_of j new ≡ cond (h.itag == j) 1 0 + heads_of j old = total-IsPermutation (λ (r : Reverse Head). cond (r.0.itag == j) 1 0) (record { 0 = h } ∷ old) new a.2 in
+      let same : heads_of j new ≡ cond (h.itag == j) 1 0 + heads_of j old =
+      total-IsPermutation (λ (r : Reverse Head). cond (r.0.itag == j) 1 0) (record { 0 = h } ∷ old) new a.2 in
       let one : cond {A = ℕ} (h.itag == j) 1 0 ≡ cond (i == j) 1 0 = ap (λ n. cond (n == j) 1 0) (own_itag h a.0) in
       omega (arith, same, one)
 
@@ -105,7 +113,9 @@ none_of j (r ∷ hs) e = (by_test (r.0.itag == j) (omega arith), none_of j hs (o
     by_test true e = absurd (omega arith)
     by_test false e = refl
 
-all_least : (x : Reverse Head) (hs : List (Reverse Head)) → AllByRecursion (λ (r : Reverse Head). is_lt (head_cmp x r) ≡ false) hs → AllByRecursion (λ (r : Reverse Head). (r.0.itag == x.0.itag) ≡ false) hs → AllByRecursion (λ (r : Reverse Head). is_before (event_at x.0) (event_at r.0) ≡ true) hs
+all_least : (x : Reverse Head) (hs : List (Reverse Head)) → AllByRecursion (λ (r : Reverse Head). is_lt (head_cmp x r) ≡ false) hs
+    → AllByRecursion (λ (r : Reverse Head). (r.0.itag == x.0.itag) ≡ false) hs
+    → AllByRecursion (λ (r : Reverse Head). is_before (event_at x.0) (event_at r.0) ≡ true) hs
 all_least x [] a b = tt
 all_least x (r ∷ hs) a b = (least x r a.0 b.0, all_least x hs a.1 b.1)
 
@@ -143,7 +153,8 @@ pub record SoFar (lists : List (List Item)) (done : List Event) (hs : List (Reve
 later : (a b : Event) → nat_le (a.time + 1) b.time ≡ true → is_before a b ≡ true
 later a b e = grind (arith, common_steps)
 
-module _ (lists : List (List Item)) (good : are_streams 0 lists ≡ true) (done : List Event) (hs ks new : List (Reverse Head)) (x : Reverse Head) (so_far : SoFar lists done hs) (perm : IsPermutation hs (x ∷ ks)) where
+module _ (lists : List (List Item)) (good : are_streams 0 lists ≡ true) (done : List Event) (hs ks new : List (Reverse Head)) (x : Reverse Head)
+    (so_far : SoFar lists done hs) (perm : IsPermutation hs (x ∷ ks)) where
   x_good : is_good lists x ≡ true
   x_good = (popped_good lists hs ks x perm so_far.ready).0
 
@@ -154,44 +165,59 @@ module _ (lists : List (List Item)) (good : are_streams 0 lists ≡ true) (done 
   popped_within = true_le x.0.place (length (items_at lists x.0.itag)) (and_right _ _ (and_left _ _ x_good))
 
   -- the popped event is before the next one of its itag
-  before_next : (h : Head) → events_of (drop x.0.place (items_at lists x.0.itag)) ≡ event_at h ∷ events_of (drop h.place (items_at lists x.0.itag)) → is_before (event_at x.0) (event_at h) ≡ true
+  before_next : (h : Head) → events_of (drop x.0.place (items_at lists x.0.itag)) ≡ event_at h ∷ events_of (drop h.place (items_at lists x.0.itag))
+      → is_before (event_at x.0) (event_at h) ≡ true
   before_next h e =
       let run : is_run x.0.itag (x.0.time + 1) (events_of (drop x.0.place (items_at lists x.0.itag))) ≡ true = and_right _ _ (and_right _ _ x_good) in
-      let next : is_run x.0.itag (x.0.time + 1) (event_at h ∷ events_of (drop h.place (items_at lists x.0.itag))) ≡ true = sym (ap (is_run x.0.itag (x.0.time + 1)) e) ∙ run in
+      let next : is_run x.0.itag (x.0.time + 1) (event_at h ∷ events_of (drop h.place (items_at lists x.0.itag))) ≡ true =
+      sym (ap (is_run x.0.itag (x.0.time + 1)) e) ∙ run in
       later (event_at x.0) (event_at h) (and_right _ _ (and_left _ _ next))
 
   pub turn : IsHeap head_cmp ks → IsUpperBound head_cmp x ks → Adds lists x.0.itag x.0.place ks new → SoFar lists (done ++ event_at x.0 ∷ []) new
   turn heap bound adds = record {
-    ready = added_ready lists good x.0.itag x.0.place popped_in_range ks new adds (popped_ready lists hs ks x perm so_far.ready heap) (popped_alone lists hs ks x perm so_far.ready);
+    ready =
+        added_ready lists good x.0.itag x.0.place popped_in_range ks new adds (popped_ready lists hs ks x perm so_far.ready heap)
+        (popped_alone lists hs ks x perm so_far.ready);
     totals = λ f. (
         let a : total f (done ++ event_at x.0 ∷ []) ≡ total f done + (f (event_at x.0) + 0) = total-append f done (event_at x.0 ∷ []) in
-        let b : total f (pending lists new) ≡ total f (events_of (drop x.0.place (items_at lists x.0.itag))) + total f (pending lists ks) = added_total lists good x.0.itag x.0.place popped_in_range ks new adds f in
+        let b : total f (pending lists new) ≡ total f (events_of (drop x.0.place (items_at lists x.0.itag))) + total f (pending lists ks) =
+        added_total lists good x.0.itag x.0.place popped_in_range ks new adds f in
         let c : total f (pending lists (x ∷ ks)) ≡ total f (pending lists hs) = pending-IsPermutation lists f hs (x ∷ ks) perm in
-        let d : total f (pending lists (x ∷ ks)) ≡ (f (event_at x.0) + total f (events_of (drop x.0.place (items_at lists x.0.itag)))) + total f (pending lists ks) = total-append f (rest_of lists x.0) (pending lists ks) in
+        let d : total f (pending lists (x ∷ ks)) ≡ (f (event_at x.0) + total f (events_of (drop x.0.place (items_at lists x.0.itag)))) + total f
+        (pending lists ks) = total-append f (rest_of lists x.0) (pending lists ks) in
         let e : total f done + total f (pending lists hs) ≡ total f (all_events lists) = so_far.totals f in
         omega (arith, a, b, c, d, e)
         );
-    strict = strict-push done (event_at x.0) so_far.strict (all_map _ (λ (m : Event). is_before m (event_at x.0) ≡ true) done (λ m all. (moved m all).0) so_far.first);
+    strict =
+        strict-push done (event_at x.0) so_far.strict
+        (all_map _ (λ (m : Event). is_before m (event_at x.0) ≡ true) done (λ m all. (moved m all).0) so_far.first);
     first =
         all_push (λ (m : Event). AllByRecursion (λ (r : Reverse Head). is_before m (event_at r.0) ≡ true) new) done (event_at x.0)
-        (all_map _ (λ (m : Event). AllByRecursion (λ (r : Reverse Head). is_before m (event_at r.0) ≡ true) new) done (λ m all. added_first lists good x.0.itag x.0.place popped_in_range ks new m adds (moved m all).1 (λ h e. before_trans m (event_at x.0) (event_at h) (moved m all).0 (before_next h e))) so_far.first)
+        (all_map _ (λ (m : Event). AllByRecursion (λ (r : Reverse Head). is_before m (event_at r.0) ≡ true) new) done
+        (λ m all. added_first lists good x.0.itag x.0.place popped_in_range ks new m adds (moved m all).1
+        (λ h e. before_trans m (event_at x.0) (event_at h) (moved m all).0 (before_next h e))) so_far.first)
         (added_first lists good x.0.itag x.0.place popped_in_range ks new (event_at x.0) adds (popped_first lists hs ks x perm so_far.ready bound) before_next);
   }
     where
-      moved : (m : Event) → AllByRecursion (λ (r : Reverse Head). is_before m (event_at r.0) ≡ true) hs → AllByRecursion (λ (r : Reverse Head). is_before m (event_at r.0) ≡ true) (x ∷ ks)
+      moved : (m : Event) → AllByRecursion (λ (r : Reverse Head). is_before m (event_at r.0) ≡ true) hs
+          → AllByRecursion (λ (r : Reverse Head). is_before m (event_at r.0) ≡ true) (x ∷ ks)
       moved m all = all-IsPermutation (λ (r : Reverse Head). is_before m (event_at r.0)) hs (x ∷ ks) perm all
 
   pub falls : Adds lists x.0.itag x.0.place ks new → total (λ (e : Event). 1) (pending lists new) < total (λ (e : Event). 1) (pending lists hs)
   falls adds =
       let f : Event → ℕ = λ e. 1 in
-      let b : total f (pending lists new) ≡ total f (events_of (drop x.0.place (items_at lists x.0.itag))) + total f (pending lists ks) = added_total lists good x.0.itag x.0.place popped_in_range ks new adds f in
+      let b : total f (pending lists new) ≡ total f (events_of (drop x.0.place (items_at lists x.0.itag))) + total f (pending lists ks) =
+      added_total lists good x.0.itag x.0.place popped_in_range ks new adds f in
       let c : total f (pending lists (x ∷ ks)) ≡ total f (pending lists hs) = pending-IsPermutation lists f hs (x ∷ ks) perm in
-      let d : total f (pending lists (x ∷ ks)) ≡ (1 + total f (events_of (drop x.0.place (items_at lists x.0.itag)))) + total f (pending lists ks) = total-append f (rest_of lists x.0) (pending lists ks) in
+      let d : total f (pending lists (x ∷ ks)) ≡ (1 + total f (events_of (drop x.0.place (items_at lists x.0.itag)))) + total f (pending lists ks) =
+      total-append f (rest_of lists x.0) (pending lists ks) in
       omega (arith, b, c, d)
 
 -- at the end nothing is to come
-pub ended : (lists : List (List Item)) (done : List Event) (hs : List (Reverse Head)) → SoFar lists done hs → length hs ≡ 0 → (events : List Event) → IsMerged lists events → events ≡ done
-ended lists done [] so_far e = only_merged lists done so_far.strict (λ f. (let b : total f done + 0 ≡ total f (all_events lists) = so_far.totals f in omega (arith, b)))
+pub ended : (lists : List (List Item)) (done : List Event) (hs : List (Reverse Head)) → SoFar lists done hs → length hs ≡ 0 → (events : List Event)
+    → IsMerged lists events → events ≡ done
+ended lists done [] so_far e =
+    only_merged lists done so_far.strict (λ f. (let b : total f done + 0 ≡ total f (all_events lists) = so_far.totals f in omega (arith, b)))
 ended lists done (r ∷ hs) so_far e = absurd (omega arith)
 
 pub ended_same : (lists : List (List Item)) (done : List Event) (hs : List (Reverse Head)) → SoFar lists done hs → length hs ≡ 0 → merged lists ≡ done
@@ -214,13 +240,15 @@ begin lists hs e heap = record {
   none_yet = λ j le. ap (heads_of j) e;
 }
 
-pub begin_turn : (lists : List (List Item)) (good : are_streams 0 lists ≡ true) (i : ℕ) (hs new : List (Reverse Head)) → i < length lists → Begun lists i hs → Adds lists i 0 hs new → Begun lists (i + 1) new
+pub begin_turn : (lists : List (List Item)) (good : are_streams 0 lists ≡ true) (i : ℕ) (hs new : List (Reverse Head)) → i < length lists → Begun lists i hs
+    → Adds lists i 0 hs new → Begun lists (i + 1) new
 begin_turn lists good i hs new lt begun adds = record {
   ready = added_ready lists good i 0 lt hs new adds begun.ready (begun.none_yet i (omega arith));
   totals = λ f. (
       let a : total f (pending lists new) ≡ total f (events_of (items_at lists i)) + total f (pending lists hs) = added_total lists good i 0 lt hs new adds f in
       let split : drop i lists ≡ items_at lists i ∷ drop (i + 1) lists = drop-cons lists i [] lt ∙ simp add-one in
-      let b : total f (flat_map events_of (drop i lists)) ≡ total f (events_of (items_at lists i)) + total f (flat_map events_of (drop (i + 1) lists)) = ap (λ ls. total f (flat_map events_of ls)) split ∙ total-append f (events_of (items_at lists i)) (flat_map events_of (drop (i + 1) lists)) in
+      let b : total f (flat_map events_of (drop i lists)) ≡ total f (events_of (items_at lists i)) + total f (flat_map events_of (drop (i + 1) lists)) =
+      ap (λ ls. total f (flat_map events_of ls)) split ∙ total-append f (events_of (items_at lists i)) (flat_map events_of (drop (i + 1) lists)) in
       let c : total f (pending lists hs) + total f (flat_map events_of (drop i lists)) ≡ total f (all_events lists) = begun.totals f in
       omega (arith, a, b, c)
       );

@@ -1,35 +1,28 @@
 -- Events in strict order are the only merged list of these events.
 use Rattle.std.proofs.Common.{◌≡◌, ℕ, Bool, true, false, List, [], ◌∷◌, ◌++◌, refl, sym, ap, subst, ◌∙◌, arith}
 use Rattle.std.specs.Prelude.{◌==◌, ◌&&◌, ◌||◌, ⊤}
-use Rattle.std.specs.Cmp.{IsTotalOrder, IsStrictWeakOrder}
+use Rattle.std.specs.Cmp.{IsStrictWeakOrder}
 use Rattle.std.specs.Ordering.{int_eq, is_lt}
 use Rattle.std.specs.List.{list_any, AllByRecursion}
 use Rattle.std.specs.List.Sorted.{IsSortedBy}
-use Rattle.std.proofs.lemmas.Cmp.{nat_cmp_total, on_total, then_total}
 use Rattle.std.proofs.lemmas.Grind.{common_steps}
 use Rattle.std.proofs.lemmas.Int.{ints}
-use Rattle.std.proofs.lemmas.List.Sorted.{ranks_by}
 use Rattle.flu_lemmas.specs.Totals.{total}
 use Rattle.flu_lemmas.proofs.Elements.{all_map, all_push, found, found_itself}
 use Rattle.flu_lemmas.proofs.Sorting.{IsRising, rising_from_sorted, in_order-permutation, in_order-sorted_by, only_rising}
 use Rattle.flu_lemmas.proofs.Tests.{not_both}
 use Rattle.flu_lemmas.proofs.Totals.{sum_by-total, total-IsPermutation, all_from_total, total_from_all}
+use Rattle.flu_lemmas.proofs.InTime.{earlier-cmp, earlier-ranks}
 use Rattle.flu_model.specs.declared.events.Event.{Event}
 use Rattle.flu_model.specs.declared.events.Item.{Item}
 use Rattle.flu_model.specs.Merging.{is_before, event_cmp, all_events, merged, IsMerged}
 
 -- ---- the order of events
-event_cmp-total : IsTotalOrder event_cmp
-event_cmp-total = then_total (on_total (λ (x : Event). x.time) nat_cmp_total) (on_total (λ (x : Event). x.itag.0) nat_cmp_total)
-
-same_order : (x y : Event) → is_lt (event_cmp x y) ≡ is_before x y
-same_order x y = grind (arith, common_steps)
-
 is_before-cmp : (λ x y. is_lt (event_cmp x y)) ≡ is_before
-is_before-cmp = λ i x y. same_order x y i
+is_before-cmp = earlier-cmp (λ (x : Event). x.time) (λ x. x.itag.0)
 
 is_before-weak : IsStrictWeakOrder is_before
-is_before-weak = subst IsStrictWeakOrder is_before-cmp (ranks_by event_cmp-total (λ x. x))
+is_before-weak = earlier-ranks (λ (x : Event). x.time) (λ x. x.itag.0)
 
 pub before_trans : (x y z : Event) → is_before x y ≡ true → is_before y z ≡ true → is_before x z ≡ true
 before_trans x y z e f = grind (arith, common_steps)
@@ -72,7 +65,8 @@ unfolding is_listed
 no_ties [] s x y a b e f = cc
 no_ties (z ∷ ys) s x y a b e f = by_tests (same_event x z) (same_event y z) refl refl a b (λ here there. no_ties ys s.1 x y here there e f)
   where
-    by_tests : (p q : Bool) → same_event x z ≡ p → same_event y z ≡ q → (p || is_listed ys x) ≡ true → (q || is_listed ys y) ≡ true → (is_listed ys x ≡ true → is_listed ys y ≡ true → x ≡ y) → x ≡ y
+    by_tests : (p q : Bool) → same_event x z ≡ p → same_event y z ≡ q → (p || is_listed ys x) ≡ true → (q || is_listed ys y) ≡ true
+        → (is_listed ys x ≡ true → is_listed ys y ≡ true → x ≡ y) → x ≡ y
     by_tests true true here there a b rest = same_event-is x z here ∙ sym (same_event-is y z there)
     by_tests true false here there a b rest =
         let before : is_before z y ≡ true = found same_event same_event-is same_event-itself (λ w. is_before z w ≡ true) y ys b s.0 in
@@ -86,7 +80,8 @@ only_one : (done events : List Event) → Strict done → IsRising is_before eve
 unfolding is_listed
 only_one done events s up sums =
     let own : AllByRecursion (λ x. is_listed done x ≡ true) done = found_itself same_event same_event-is same_event-itself done in
-    let theirs : AllByRecursion (λ x. is_listed done x ≡ true) events = all_from_total (is_listed done) events (sums _ ∙ total_from_all (is_listed done) done own) in
+    let theirs : AllByRecursion (λ x. is_listed done x ≡ true) events =
+    all_from_total (is_listed done) events (sums _ ∙ total_from_all (is_listed done) done own) in
     only_rising is_before is_before-weak (λ x. is_listed done x ≡ true) (no_ties done s) events done theirs own up (strict-rising done s)
     (λ f. sum_by-total f events ∙ sums f ∙ sym (sum_by-total f done))
 
@@ -99,7 +94,8 @@ merged-IsMerged lists = record {
 }
 
 -- events in strict order with the totals of all events are the only merged list
-pub only_merged : (lists : List (List Item)) (done : List Event) → Strict done → ((f : Event → ℕ) → total f done ≡ total f (all_events lists)) → (events : List Event) → IsMerged lists events → events ≡ done
+pub only_merged : (lists : List (List Item)) (done : List Event) → Strict done → ((f : Event → ℕ) → total f done ≡ total f (all_events lists))
+    → (events : List Event) → IsMerged lists events → events ≡ done
 only_merged lists done s sums events m =
     only_one done events s (rising_from_sorted is_before is_before-weak events (subst (λ lt. IsSortedBy lt events) is_before-cmp m.sorted))
     (λ f. total-IsPermutation f (all_events lists) events m.all ∙ sym (sums f))

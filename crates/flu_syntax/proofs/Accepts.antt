@@ -15,7 +15,9 @@ use Rattle.flu_syntax.specs.declared.tree.WrittenKey.{WrittenKey}
 use Rattle.flu_syntax.specs.declared.tree.WrittenKey.TheVariants as key
 use Rattle.flu_syntax.specs.declared.tree.WrittenRef.{WrittenRef}
 use Rattle.flu_syntax.specs.Tree.{Tree, NumberTree, ValueTree, KeyTree, TimeTree, ReadTree, HasTree, ParenTree, NegTree, NotTree, TwoTree, Declarations}
-use Rattle.flu_syntax.specs.Machine.{cell_of, Context, Frame, NegFrame, NotFrame, ParenFrame, RightFrame, Want, Have, Done, Aim, ToRead, ToTest, Now, CellFamily, CellKeys, CellKey, CellClose, InExpression, Goes, start_of, done_step, expression_step, operator_of, level_behind, is_within, opens, named, step, run}
+use Rattle.flu_syntax.specs.Machine.{cell_of, Context, Frame, NegFrame, NotFrame, ParenFrame, RightFrame, Want, Have, Done, Aim}
+use Rattle.flu_syntax.specs.Machine.{ToRead, ToTest, Now, CellFamily, CellKeys, CellKey, CellClose, InExpression, Goes, start_of}
+use Rattle.flu_syntax.specs.Machine.{done_step, expression_step, operator_of, level_behind, is_within, opens, named, step, run}
 use Rattle.flu_text.specs.Signs.{Sign, Any, At, Spanned, IsSign, AreSigns}
 use Rattle.flu_syntax.specs.Grammar.{op_level, op_word, key_signs, cell_signs, spelled, left_level, Fits, nest}
 use Rattle.flu_syntax.specs.Reading.{NotFirst}
@@ -43,7 +45,8 @@ pub takes_sign : (end : ℕ) (job : Declarations) (now next : Now) (tokens : Lis
 takes_sign end job now next [] s more h takes = absurd h
 takes_sign end job now next (t ∷ rest) s more h takes = (rest, h.1, run-takes end job now next t rest (takes t h.0))
 
-pub on_to : (end : ℕ) (job next last : Declarations) (now other final : Now) (tokens : List Token) (middle more : List Sign) (a : LeadsTo end job now tokens next other middle) → LeadsTo end next other a.0 last final more → LeadsTo end job now tokens last final more
+pub on_to : (end : ℕ) (job next last : Declarations) (now other final : Now) (tokens : List Token) (middle more : List Sign)
+    (a : LeadsTo end job now tokens next other middle) → LeadsTo end next other a.0 last final more → LeadsTo end job now tokens last final more
 on_to end job next last now other final tokens middle more a b = (b.0, b.1, a.2 ∙ b.2)
 
 -- the sign behind a part: no bracket opens, and no operator above a level stands there

@@ -19,14 +19,22 @@ use Rattle.flu_syntax.specs.declared.tree.WrittenTag.{WrittenTag}
 use Rattle.flu_syntax.specs.declared.tree.WrittenRelation.{WrittenRelation}
 use Rattle.flu_syntax.specs.declared.tree.WrittenRelation.TheVariants as relation
 use Rattle.flu_syntax.specs.Tree.{Tree, Deed, Writes, Clears, Emits, Flushes, Action, Declaration, Cell, Tag, Depends, On, Source, Declarations}
-use Rattle.flu_syntax.specs.Machine.{tag_of, Actions, Tags, Context, Amount, Guard, Want, Done, ToWrite, ToClear, Now, Start, Declared, CellName, CellForm, CellSort, TagName, TagForm, TagValue, DependsFirst, DependsSecond, DependsHow, SourceName, SourceFile, SourceRate, RateNumber, SourceSlack, SlackNumber, SourceColon, TagKind, TagKeys, TagLow, TagMore, TagHigh, TagClose, TagEnd, OnKind, OnColon, ActionStart, DeedEnd, ActionEnd, EmitText, FlushFamily, FlushText, CellFamily, InExpression, Goes, acted, listed, source_of, deed_step, action_step, operator_of, doing_of, sort_of, value_of, heading_of, opening, step, Found, run}
-use Rattle.flu_text.specs.Signs.{Sign, Any, At, Spanned, IsSign, AreSigns}
-use Rattle.flu_text.specs.Signs.{keys_signs}
-use Rattle.flu_syntax.specs.Grammar.{sort_word, value_word, verb_word, cell_signs, spelled, IsExpression, deed_signs, IsDeed, guard_signs, IsGuard, action_signs, AreActions, tag_signs, keyed_signs, relation_signs, rate_signs, slack_signs, declaration_signs, IsDeclaration, declarations_signs, AreDeclarations}
+use Rattle.flu_syntax.specs.Machine.{tag_of, Actions, Tags, Context, Amount, Guard, Want, Done, ToWrite, ToClear, Now, Start, Declared, CellName, CellForm}
+use Rattle.flu_syntax.specs.Machine.{CellSort, TagName, TagForm, TagValue, DependsFirst, DependsSecond, DependsHow, SourceName, SourceFile, SourceRate}
+use Rattle.flu_syntax.specs.Machine.{RateNumber, SourceSlack, SlackNumber, SourceColon, TagKind, TagKeys, TagLow, TagMore, TagHigh, TagClose, TagEnd, OnKind}
+use Rattle.flu_syntax.specs.Machine.{OnColon, ActionStart, DeedEnd, ActionEnd, EmitText, FlushFamily, FlushText, CellFamily, InExpression, Goes, acted}
+use Rattle.flu_syntax.specs.Machine.{listed, source_of, deed_step, action_step, operator_of, doing_of, sort_of, value_of, heading_of, opening, step, Found}
+use Rattle.flu_syntax.specs.Machine.{run}
+use Rattle.flu_text.specs.Signs.{Sign, Any, At, Spanned, IsSign, AreSigns, keys_signs}
+use Rattle.flu_syntax.specs.Grammar.{sort_word, value_word, verb_word, cell_signs, spelled, IsExpression, deed_signs, IsDeed}
+use Rattle.flu_syntax.specs.Grammar.{guard_signs, IsGuard, action_signs, AreActions, tag_signs, keyed_signs, relation_signs}
+use Rattle.flu_syntax.specs.Grammar.{rate_signs, slack_signs, declaration_signs, IsDeclaration, declarations_signs, AreDeclarations}
 use Rattle.flu_syntax.specs.Reading.{no_actions}
 use Rattle.flu_syntax.proofs.Runs.{run-behind, begins, job_ends, opens-nil}
-use Rattle.flu_syntax.proofs.Parts.{run-passed, run-closed, run-declared, run-no_relation, deed_plain, source_plain, source_prompt, cell_plain, tag_plain, tag_alone, tags_end, actions_end}
-use Rattle.flu_syntax.proofs.Accepts.{word_of, LeadsTo, takes_sign, NoBracket, NotWord, not_first, bracket_word, Quiet, Quiet-follows, passes_quiet, high_of, top, accepts, accepts_cell, no_bracket}
+use Rattle.flu_syntax.proofs.Parts.{run-passed, run-closed, run-declared, run-no_relation, deed_plain, source_plain}
+use Rattle.flu_syntax.proofs.Parts.{source_prompt, cell_plain, tag_plain, tag_alone, tags_end, actions_end}
+use Rattle.flu_syntax.proofs.Accepts.{word_of, LeadsTo, takes_sign, NoBracket, NotWord, not_first, bracket_word, Quiet}
+use Rattle.flu_syntax.proofs.Accepts.{Quiet-follows, passes_quiet, high_of, top, accepts, accepts_cell, no_bracket}
 
 -- ---- what stands behind a declaration
 

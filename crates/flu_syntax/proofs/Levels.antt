@@ -22,9 +22,19 @@ use Rattle.flu_syntax.specs.declared.tree.WrittenRef.{WrittenRef}
 use Rattle.flu_text.specs.declared.written.WrittenKeys.TheVariants as keys
 use Rattle.flu_lemmas.proofs.Elements.{push_some}
 use Rattle.flu_lemmas.proofs.Tests.{true_lt, true_le}
-use Rattle.flu_syntax.specs.Tree.{Tree, NumberTree, ValueTree, KeyTree, TimeTree, ReadTree, HasTree, ParenTree, NegTree, NotTree, TwoTree, Deed, Writes, Clears, Emits, Flushes, Action, On, Declarations}
+use Rattle.flu_syntax.specs.Tree.{Tree, NumberTree, ValueTree, KeyTree, TimeTree, ReadTree, HasTree, ParenTree, NegTree}
+use Rattle.flu_syntax.specs.Tree.{NotTree, TwoTree, Deed, Writes, Clears, Emits, Flushes, Action, On, Declarations}
 use Rattle.flu_text.specs.Signs.{span_of}
-use Rattle.flu_syntax.specs.Machine.{cell_of, tag_of, Actions, Tags, Context, Amount, Guard, Frame, NegFrame, NotFrame, ParenFrame, RightFrame, Mode, Want, Have, Done, Aim, ToWrite, ToClear, ToRead, ToTest, Now, Start, Declared, CellName, CellForm, CellSort, TagName, TagForm, TagValue, DependsFirst, DependsSecond, DependsHow, SourceName, SourceFile, SourceRate, RateNumber, SourceSlack, SlackNumber, SourceColon, TagKind, TagKeys, TagLow, TagMore, TagHigh, TagClose, TagEnd, OnKind, OnColon, ActionStart, DeedEnd, ActionEnd, EmitText, FlushFamily, FlushText, CellFamily, CellKeys, CellKey, CellClose, InExpression, Next, Goes, Deep, Refused, begin, take_or, done_step, expression_step, behind_step, deed_step, action_step, acted, listed, named, named_step, keys_step, key_step, on_name, on_text, on_colon, on_bracket, on_number, sort_of, sort_step, cell_step, value_of, value_step, tag_step, how_step, rate_step, slack_step, source_of, tags_step, tag_keys_step, range_step, doing_of, act_step, start_of, operator_of, is_within, is_close, level_behind, opens, heading_of, opening, done_whole, behind_whole, named_whole, step, whole, Verdict, Found, goes_on, next_declaration, ended, run}
+use Rattle.flu_syntax.specs.Machine.{cell_of, tag_of, Actions, Tags, Context, Amount, Guard, Frame, NegFrame, NotFrame, ParenFrame, RightFrame, Mode, Want}
+use Rattle.flu_syntax.specs.Machine.{Have, Done, Aim, ToWrite, ToClear, ToRead, ToTest, Now, Start, Declared, CellName, CellForm, CellSort, TagName}
+use Rattle.flu_syntax.specs.Machine.{TagForm, TagValue, DependsFirst, DependsSecond, DependsHow, SourceName, SourceFile, SourceRate, RateNumber, SourceSlack}
+use Rattle.flu_syntax.specs.Machine.{SlackNumber, SourceColon, TagKind, TagKeys, TagLow, TagMore, TagHigh, TagClose, TagEnd, OnKind, OnColon, ActionStart}
+use Rattle.flu_syntax.specs.Machine.{DeedEnd, ActionEnd, EmitText, FlushFamily, FlushText, CellFamily, CellKeys, CellKey, CellClose, InExpression, Next}
+use Rattle.flu_syntax.specs.Machine.{Goes, Deep, Refused, begin, take_or, done_step, expression_step, behind_step, deed_step, action_step, acted, listed}
+use Rattle.flu_syntax.specs.Machine.{named, named_step, keys_step, key_step, on_name, on_text, on_colon, on_bracket, on_number, sort_of, sort_step}
+use Rattle.flu_syntax.specs.Machine.{cell_step, value_of, value_step, tag_step, how_step, rate_step, slack_step, source_of, tags_step, tag_keys_step}
+use Rattle.flu_syntax.specs.Machine.{range_step, doing_of, act_step, start_of, operator_of, is_within, is_close, level_behind, opens, heading_of, opening}
+use Rattle.flu_syntax.specs.Machine.{done_whole, behind_whole, named_whole, step, whole, Verdict, Found, goes_on, next_declaration, ended, run}
 use Rattle.flu_syntax.specs.Grammar.{op_level, left_level, Fits, nest, IsDeed, IsGuard, AreActions, IsDeclaration, AreDeclarations}
 use Rattle.flu_syntax.proofs.Accepts.{high_of, IsLevel, level_is}
 

@@ -22,7 +22,14 @@ use Rattle.flu_syntax.specs.declared.tokens.Doing.TheVariants as doing
 use Rattle.flu_syntax.specs.Tree.{Deed, Emits, Flushes, Declaration, Cell, Tag, Depends, On, Source, Declarations}
 use Rattle.flu_syntax.specs.Reading.{Tells, NotFirst, IsFirst, IsNumber, NotNumber, no_actions, TakesKeyed, ReadsWriting, ReadsDeed, ReadsDeclaration}
 use Rattle.flu_text.specs.Signs.{span_of, number_of}
-use Rattle.flu_syntax.specs.Machine.{cell_of, tag_of, Actions, Tags, Aim, ToWrite, ToClear, ToRead, ToTest, Guard, InExpression, Want, Now, Start, Declared, CellName, CellForm, CellSort, TagName, TagForm, TagValue, DependsFirst, DependsSecond, DependsHow, SourceName, SourceFile, SourceRate, RateNumber, SourceSlack, SlackNumber, SourceColon, TagKind, TagKeys, TagLow, TagMore, TagHigh, TagClose, TagEnd, OnKind, OnColon, ActionStart, DeedEnd, ActionEnd, EmitText, FlushFamily, FlushText, CellFamily, CellKeys, CellKey, CellClose, Goes, Refused, Verdict, Unexpected, acted, action_step, deed_step, named, named_step, keys_step, key_step, on_name, on_text, on_colon, on_bracket, on_number, sort_of, sort_step, cell_step, value_of, value_step, tag_step, how_step, source_of, rate_step, slack_step, listed, tags_step, tag_keys_step, range_step, doing_of, act_step, heading_of, opening, step, whole, run}
+use Rattle.flu_syntax.specs.Machine.{cell_of, tag_of, Actions, Tags, Aim, ToWrite, ToClear, ToRead, ToTest, Guard, InExpression, Want, Now, Start}
+use Rattle.flu_syntax.specs.Machine.{Declared, CellName, CellForm, CellSort, TagName, TagForm, TagValue, DependsFirst, DependsSecond, DependsHow}
+use Rattle.flu_syntax.specs.Machine.{SourceName, SourceFile, SourceRate, RateNumber, SourceSlack, SlackNumber, SourceColon, TagKind, TagKeys, TagLow}
+use Rattle.flu_syntax.specs.Machine.{TagMore, TagHigh, TagClose, TagEnd, OnKind, OnColon, ActionStart, DeedEnd, ActionEnd, EmitText, FlushFamily}
+use Rattle.flu_syntax.specs.Machine.{FlushText, CellFamily, CellKeys, CellKey, CellClose, Goes, Refused, Verdict, Unexpected, acted, action_step}
+use Rattle.flu_syntax.specs.Machine.{deed_step, named, named_step, keys_step, key_step, on_name, on_text, on_colon, on_bracket, on_number, sort_of}
+use Rattle.flu_syntax.specs.Machine.{sort_step, cell_step, value_of, value_step, tag_step, how_step, source_of, rate_step, slack_step, listed}
+use Rattle.flu_syntax.specs.Machine.{tags_step, tag_keys_step, range_step, doing_of, act_step, heading_of, opening, step, whole, run}
 use Rattle.flu_text.specs.Signs.{place_of}
 use Rattle.flu_syntax.proofs.Runs.{run-takes, run-misses, run-ends, run-same, run-same_empty, closes_empty, closes_token, begins, begins_none, Tells-through}
 

@@ -9,7 +9,10 @@ use Rattle.flu_syntax.specs.declared.tokens.Front.TheVariants as start
 use Rattle.flu_syntax.specs.declared.fault.SyntaxFault.{SyntaxFault}
 use Rattle.flu_syntax.specs.Reading.{Tells, Inside}
 use Rattle.flu_syntax.specs.Tree.{Tree, ParenTree, NegTree, NotTree, TwoTree, Declaration, Declarations}
-use Rattle.flu_syntax.specs.Machine.{Context, Amount, Guard, Frame, NegFrame, NotFrame, ParenFrame, RightFrame, Want, Have, Done, Now, Start, InExpression, Next, Goes, Deep, Refused, start_of, begin, deeper, done_step, behind, operator_of, is_within, is_close, level_behind, opens, opens_of, step, expression_step, behind_step, whole, done_whole, heading_of, opening, Verdict, Found, Unexpected, TooDeep, goes_on, next_declaration, run}
+use Rattle.flu_syntax.specs.Machine.{Context, Amount, Guard, Frame, NegFrame, NotFrame, ParenFrame, RightFrame, Want, Have, Done, Now}
+use Rattle.flu_syntax.specs.Machine.{Start, InExpression, Next, Goes, Deep, Refused, start_of, begin, deeper, done_step, behind, operator_of}
+use Rattle.flu_syntax.specs.Machine.{is_within, is_close, level_behind, opens, opens_of, step, expression_step, behind_step, whole, done_whole}
+use Rattle.flu_syntax.specs.Machine.{heading_of, opening, Verdict, Found, Unexpected, TooDeep, goes_on, next_declaration, run}
 use Rattle.flu_text.specs.Signs.{place_of}
 use Rattle.flu_syntax.specs.Grammar.{op_level}
 
@@ -94,7 +97,8 @@ pub step-front : (context : Context) (level : ℕ) (frames : List Frame) (t : To
 unfolding step expression_step
 step-front context level frames t s e = rw (sym e) refl
 
-pub run-front : (end level : ℕ) (job : Declarations) (context : Context) (frames : List Frame) (next : Now) (t : Token) (tokens more : List Token) (s : Front) → tokens ≡ t ∷ more → s ≡ start_of t.word
+pub run-front : (end level : ℕ) (job : Declarations) (context : Context) (frames : List Frame) (next : Now) (t : Token) (tokens more : List Token)
+    (s : Front) → tokens ≡ t ∷ more → s ≡ start_of t.word
     → begin context level frames t s ≡ Goes next → run end job (InExpression context (Want level) frames) tokens ≡ run end job next more
 run-front end level job context frames next t tokens more s here is e =
     rw here (run-takes end job (InExpression context (Want level) frames) next t more (step-front context level frames t s is ∙ e))
@@ -156,19 +160,22 @@ opens-nil = refl
 -- ---- an expression that no operator takes
 
 pub run-neg : (end level at : ℕ) (job : Declarations) (context : Context) (t : Tree) (frames : List Frame) (tokens : List Token)
-    → run end job (InExpression context (Done t) (NegFrame level at ∷ frames)) tokens ≡ run end job (InExpression context (Have level 6 (NegTree at t)) frames) tokens
+    → run end job (InExpression context (Done t) (NegFrame level at ∷ frames)) tokens ≡ run end job
+    (InExpression context (Have level 6 (NegTree at t)) frames) tokens
 unfolding run step expression_step done_step whole done_whole
 run-neg end level at job context t frames [] = refl
 run-neg end level at job context t frames (x ∷ tokens) = refl
 
 pub run-not : (end level at : ℕ) (job : Declarations) (context : Context) (t : Tree) (frames : List Frame) (tokens : List Token)
-    → run end job (InExpression context (Done t) (NotFrame level at ∷ frames)) tokens ≡ run end job (InExpression context (Have level 2 (NotTree at t)) frames) tokens
+    → run end job (InExpression context (Done t) (NotFrame level at ∷ frames)) tokens ≡ run end job
+    (InExpression context (Have level 2 (NotTree at t)) frames) tokens
 unfolding run step expression_step done_step whole done_whole
 run-not end level at job context t frames [] = refl
 run-not end level at job context t frames (x ∷ tokens) = refl
 
 pub run-right : (end level : ℕ) (job : Declarations) (context : Context) (o : Op) (left t : Tree) (frames : List Frame) (tokens : List Token)
-    → run end job (InExpression context (Done t) (RightFrame level o left ∷ frames)) tokens ≡ run end job (InExpression context (Have level (level_behind (op_level o)) (TwoTree o left t)) frames) tokens
+    → run end job (InExpression context (Done t) (RightFrame level o left ∷ frames)) tokens ≡ run end job
+    (InExpression context (Have level (level_behind (op_level o)) (TwoTree o left t)) frames) tokens
 unfolding run step expression_step done_step whole done_whole
 run-right end level job context o left t frames [] = refl
 run-right end level job context o left t frames (x ∷ tokens) = refl
@@ -197,7 +204,8 @@ unfolding whole done_whole
 paren_whole level at context t frames = refl
 
 paren_step : (level at : ℕ) (context : Context) (t : Tree) (frames : List Frame) (x : Token) (b : Bool) → is_close x.word ≡ b
-    → step (InExpression context (Done t) (ParenFrame level at ∷ frames)) x ≡ cond b (Goes (InExpression context (Have level 6 (ParenTree at t)) frames)) Refused
+    → step (InExpression context (Done t) (ParenFrame level at ∷ frames)) x ≡ cond b
+    (Goes (InExpression context (Have level 6 (ParenTree at t)) frames)) Refused
 unfolding step expression_step done_step
 paren_step level at context t frames x b e = rw e refl
 
@@ -208,7 +216,8 @@ run-paren_end end level at job context t frames tokens e =
 
 pub run-paren : (end level at : ℕ) (job : Declarations) (context : Context) (t : Tree) (frames : List Frame) (x : Token) (tokens more : List Token)
     → tokens ≡ x ∷ more → is_close x.word ≡ true
-    → run end job (InExpression context (Done t) (ParenFrame level at ∷ frames)) tokens ≡ run end job (InExpression context (Have level 6 (ParenTree at t)) frames) more
+    → run end job (InExpression context (Done t) (ParenFrame level at ∷ frames)) tokens ≡ run end job
+    (InExpression context (Have level 6 (ParenTree at t)) frames) more
 run-paren end level at job context t frames x tokens more here hit =
     rw here (run-takes end job (InExpression context (Done t) (ParenFrame level at ∷ frames)) (InExpression context (Have level 6 (ParenTree at t)) frames) x
     more (paren_step level at context t frames x true hit))
@@ -246,9 +255,11 @@ operator_step : (low high : ℕ) (context : Context) (t : Tree) (frames : List F
 unfolding step expression_step
 operator_step low high context t frames x o e hit = rw (sym e, hit) refl
 
-pub take_operator : (low high end : ℕ) (job : Declarations) (context : Context) (t : Tree) (frames : List Frame) (x : Token) (tokens more : List Token) (o : Op) → tokens ≡ x ∷ more → Some o ≡ operator_of x.word
+pub take_operator : (low high end : ℕ) (job : Declarations) (context : Context) (t : Tree) (frames : List Frame) (x : Token) (tokens more : List Token)
+    (o : Op) → tokens ≡ x ∷ more → Some o ≡ operator_of x.word
     → is_within low (op_level o) high ≡ true
-    → run end job (InExpression context (Have low high t) frames) tokens ≡ run end job (InExpression context (Want (op_level o + 1)) (RightFrame low o t ∷ frames)) more
+    → run end job (InExpression context (Have low high t) frames) tokens ≡ run end job
+    (InExpression context (Want (op_level o + 1)) (RightFrame low o t ∷ frames)) more
 take_operator low high end job context t frames x tokens more o here e hit =
     rw here (run-takes end job (InExpression context (Have low high t) frames) (InExpression context (Want (op_level o + 1)) (RightFrame low o t ∷ frames)) x
     more (operator_step low high context t frames x o e hit))

@@ -1,5 +1,6 @@
 -- What is found is spelled by the tokens.
-use Rattle.std.proofs.Common.{◌≡◌, ◌≢◌, ℕ, ◌+◌, Bool, true, false, cond, ltb, leb, List, [], ◌∷◌, ◌++◌, Option, Some, None, refl, sym, ap, subst, ◌∙◌, append_assoc}
+use Rattle.std.proofs.Common.{◌≡◌, ◌≢◌, ℕ, ◌+◌, Bool, true, false, cond, ltb, leb, List, [], ◌∷◌}
+use Rattle.std.proofs.Common.{◌++◌, Option, Some, None, refl, sym, ap, subst, ◌∙◌, append_assoc}
 use Rattle.std.specs.List.{flat_map}
 use Rattle.std.specs.Prelude.{IfSome}
 use Rattle.std.proofs.lemmas.List.{append-nil}
@@ -19,12 +20,23 @@ use Rattle.flu_text.specs.declared.written.WrittenKeys.{WrittenKeys}
 use Rattle.flu_text.specs.declared.written.WrittenKeys.TheVariants as keys
 use Rattle.flu_syntax.specs.declared.tree.WrittenTag.{WrittenTag}
 use Rattle.flu_lemmas.proofs.Elements.{push_some}
-use Rattle.flu_syntax.specs.Tree.{Tree, ReadTree, HasTree, ParenTree, NegTree, NotTree, TwoTree, Deed, Writes, Clears, Emits, Flushes, Action, On, Source, Declarations}
+use Rattle.flu_syntax.specs.Tree.{Tree, ReadTree, HasTree, ParenTree, NegTree, NotTree, TwoTree, Deed}
+use Rattle.flu_syntax.specs.Tree.{Writes, Clears, Emits, Flushes, Action, On, Source, Declarations}
 use Rattle.flu_text.specs.Signs.{span_of, number_of}
-use Rattle.flu_syntax.specs.Machine.{cell_of, tag_of, Actions, Tags, Context, Amount, Guard, Frame, NegFrame, NotFrame, ParenFrame, RightFrame, Mode, Want, Have, Done, Aim, ToWrite, ToClear, ToRead, ToTest, Now, Start, Declared, CellName, CellForm, CellSort, TagName, TagForm, TagValue, DependsFirst, DependsSecond, DependsHow, SourceName, SourceFile, SourceRate, RateNumber, SourceSlack, SlackNumber, SourceColon, TagKind, TagKeys, TagLow, TagMore, TagHigh, TagClose, TagEnd, OnKind, OnColon, ActionStart, DeedEnd, ActionEnd, EmitText, FlushFamily, FlushText, CellFamily, CellKeys, CellKey, CellClose, InExpression, Next, Goes, Deep, Refused, begin, atom, take_or, done_step, expression_step, behind_step, deed_step, action_step, acted, listed, source_of, named, named_step, keys_step, key_step, on_name, on_text, on_colon, on_bracket, on_number, sort_of, sort_step, cell_step, value_of, value_step, tag_step, how_step, rate_step, slack_step, source_line, tags_step, tag_keys_step, range_step, doing_of, act_step, start_of, operator_of, is_within, is_close, level_behind, opens, heading_of, opening, done_whole, behind_whole, named_whole, step, whole, Verdict, Found, goes_on, next_declaration, ended, run}
-use Rattle.flu_text.specs.Signs.{Sign, Any, At, Spanned, IsSign, AreSigns}
-use Rattle.flu_text.specs.Signs.{name, text, number, separated}
-use Rattle.flu_syntax.specs.Grammar.{op_level, op_word, verb_word, key_signs, cell_signs, spelled, deed_signs, guard_signs, action_signs, tag_signs, keyed_signs, rate_signs, slack_signs, declaration_signs, declarations_signs}
+use Rattle.flu_syntax.specs.Machine.{cell_of, tag_of, Actions, Tags, Context, Amount, Guard, Frame, NegFrame, NotFrame, ParenFrame, RightFrame, Mode, Want}
+use Rattle.flu_syntax.specs.Machine.{Have, Done, Aim, ToWrite, ToClear, ToRead, ToTest, Now, Start, Declared, CellName, CellForm, CellSort, TagName, TagForm}
+use Rattle.flu_syntax.specs.Machine.{TagValue, DependsFirst, DependsSecond, DependsHow, SourceName, SourceFile, SourceRate, RateNumber, SourceSlack}
+use Rattle.flu_syntax.specs.Machine.{SlackNumber, SourceColon, TagKind, TagKeys, TagLow, TagMore, TagHigh, TagClose, TagEnd, OnKind, OnColon, ActionStart}
+use Rattle.flu_syntax.specs.Machine.{DeedEnd, ActionEnd, EmitText, FlushFamily, FlushText, CellFamily, CellKeys, CellKey, CellClose, InExpression, Next}
+use Rattle.flu_syntax.specs.Machine.{Goes, Deep, Refused, begin, atom, take_or, done_step, expression_step, behind_step, deed_step, action_step, acted}
+use Rattle.flu_syntax.specs.Machine.{listed, source_of, named, named_step, keys_step, key_step, on_name, on_text, on_colon, on_bracket, on_number, sort_of}
+use Rattle.flu_syntax.specs.Machine.{sort_step, cell_step, value_of, value_step, tag_step, how_step, rate_step, slack_step, source_line, tags_step}
+use Rattle.flu_syntax.specs.Machine.{tag_keys_step, range_step, doing_of, act_step, start_of, operator_of, is_within, is_close, level_behind, opens}
+use Rattle.flu_syntax.specs.Machine.{heading_of, opening, done_whole, behind_whole, named_whole, step, whole, Verdict, Found, goes_on, next_declaration}
+use Rattle.flu_syntax.specs.Machine.{ended, run}
+use Rattle.flu_text.specs.Signs.{Sign, Any, At, Spanned, IsSign, AreSigns, name, text, number, separated}
+use Rattle.flu_syntax.specs.Grammar.{op_level, op_word, verb_word, key_signs, cell_signs, spelled, deed_signs, guard_signs, action_signs}
+use Rattle.flu_syntax.specs.Grammar.{tag_signs, keyed_signs, rate_signs, slack_signs, declaration_signs, declarations_signs}
 
 -- ---- what a turn has said
 
@@ -698,7 +710,8 @@ end_says end job found before (Some one) h e =
           ∙ ap (λ (z : List Sign). declarations_signs job ++ z) h ∙ sym (append-nil (declarations_signs job ++ before));
     }
 
-declares_says : (place : ℕ) (job found : Declarations) (before : List Sign) (t : Token) (tokens : List Token) (o : Option Declarations) (p : Option Now) (more : Declarations → Now → Verdict Declarations) → Spelt before o
+declares_says : (place : ℕ) (job found : Declarations) (before : List Sign) (t : Token) (tokens : List Token) (o : Option Declarations) (p : Option Now)
+    (more : Declarations → Now → Verdict Declarations) → Spelt before o
     → IfSome p (λ now. (s : Sign) × IsSign s t × Sound now × (said now ≡ s ∷ []))
     → ((next : Declarations) (now : Now) → Sound now → more next now ≡ Found found → Spells (declarations_signs next ++ said now) tokens found)
     → next_declaration place job o p more ≡ Found found → Spells (declarations_signs job ++ before) (t ∷ tokens) found

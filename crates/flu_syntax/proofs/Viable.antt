@@ -13,7 +13,14 @@ use Rattle.flu_text.specs.declared.written.WrittenKeys.{WrittenKeys}
 use Rattle.flu_text.specs.declared.written.WrittenKeys.TheVariants as keys
 use Rattle.flu_syntax.specs.Tree.{Tree, NumberTree, ParenTree, NegTree, NotTree, TwoTree, Deed, Emits, Flushes, Declarations}
 use Rattle.flu_text.specs.Signs.{span_of, number_of}
-use Rattle.flu_syntax.specs.Machine.{cell_of, tag_of, Actions, Tags, Context, Amount, Guard, Frame, NegFrame, NotFrame, ParenFrame, RightFrame, Mode, Want, Have, Done, Aim, ToWrite, ToClear, ToRead, ToTest, Now, Start, Declared, CellName, CellForm, CellSort, TagName, TagForm, TagValue, DependsFirst, DependsSecond, DependsHow, SourceName, SourceFile, SourceRate, RateNumber, SourceSlack, SlackNumber, SourceColon, TagKind, TagKeys, TagLow, TagMore, TagHigh, TagClose, TagEnd, OnKind, OnColon, ActionStart, DeedEnd, ActionEnd, EmitText, FlushFamily, FlushText, CellFamily, CellKeys, CellKey, CellClose, InExpression, Next, Goes, Deep, Refused, operator_of, start_of, doing_of, sort_of, value_of, level_behind, behind, named, source_of, listed, heading_of, opening, expression_step, step, whole, Verdict, Found, Unexpected, TooDeep, goes_on, next_declaration, ended, run}
+use Rattle.flu_syntax.specs.Machine.{cell_of, tag_of, Actions, Tags, Context, Amount, Guard, Frame, NegFrame, NotFrame, ParenFrame, RightFrame, Mode, Want}
+use Rattle.flu_syntax.specs.Machine.{Have, Done, Aim, ToWrite, ToClear, ToRead, ToTest, Now, Start, Declared, CellName, CellForm, CellSort, TagName, TagForm}
+use Rattle.flu_syntax.specs.Machine.{TagValue, DependsFirst, DependsSecond, DependsHow, SourceName, SourceFile, SourceRate, RateNumber, SourceSlack}
+use Rattle.flu_syntax.specs.Machine.{SlackNumber, SourceColon, TagKind, TagKeys, TagLow, TagMore, TagHigh, TagClose, TagEnd, OnKind, OnColon, ActionStart}
+use Rattle.flu_syntax.specs.Machine.{DeedEnd, ActionEnd, EmitText, FlushFamily, FlushText, CellFamily, CellKeys, CellKey, CellClose, InExpression, Next, Goes}
+use Rattle.flu_syntax.specs.Machine.{Deep, Refused, operator_of, start_of, doing_of, sort_of, value_of, level_behind, behind, named, source_of, listed}
+use Rattle.flu_syntax.specs.Machine.{heading_of, opening, expression_step, step, whole, Verdict, Found, Unexpected, TooDeep, goes_on, next_declaration, ended}
+use Rattle.flu_syntax.specs.Machine.{run}
 use Rattle.flu_text.specs.Signs.{place_of}
 use Rattle.flu_syntax.specs.Grammar.{op_level}
 use Rattle.flu_syntax.specs.Reading.{no_actions}

@@ -13,12 +13,14 @@ use Rattle.flu_syntax.specs.declared.tree.WrittenRef.{WrittenRef}
 use Rattle.flu_text.specs.declared.written.WrittenKeys.{WrittenKeys}
 use Rattle.flu_text.specs.declared.written.WrittenKeys.TheVariants as keys
 use Rattle.flu_syntax.specs.declared.tree.WrittenTag.{WrittenTag}
-use Rattle.flu_syntax.specs.Tree.{Tree, NumberTree, ValueTree, KeyTree, TimeTree, ReadTree, HasTree, ParenTree, NegTree, NotTree, TwoTree, Deed, Writes, Clears, Emits, Flushes, Action, Declaration, Cell, Tag, Depends, On, Source, Declarations, Job}
-use Rattle.flu_text.specs.Signs.{Sign, Any}
-use Rattle.flu_text.specs.Signs.{separated, keys_signs}
-use Rattle.flu_syntax.specs.Grammar.{key_signs, cell_signs, spelled, deed_signs, guard_signs, action_signs, tag_signs, rate_signs, slack_signs, version_signs, declaration_signs, declarations_signs, job_signs}
+use Rattle.flu_syntax.specs.Tree.{Tree, NumberTree, ValueTree, KeyTree, TimeTree, ReadTree, HasTree, ParenTree, NegTree, NotTree, TwoTree, Deed}
+use Rattle.flu_syntax.specs.Tree.{Writes, Clears, Emits, Flushes, Action, Declaration, Cell, Tag, Depends, On, Source, Declarations, Job}
+use Rattle.flu_text.specs.Signs.{Sign, Any, separated, keys_signs}
+use Rattle.flu_syntax.specs.Grammar.{key_signs, cell_signs, spelled, deed_signs, guard_signs, action_signs, tag_signs}
+use Rattle.flu_syntax.specs.Grammar.{rate_signs, slack_signs, version_signs, declaration_signs, declarations_signs, job_signs}
 use Rattle.flu_text.specs.Signs.{Stands}
-use Rattle.flu_syntax.specs.Words.{key_words, cell_words, tree_words, deed_words, guard_words, action_words, keys_words, tag_words, number_words, declaration_words, job_words}
+use Rattle.flu_syntax.specs.Words.{key_words, cell_words, tree_words, deed_words, guard_words, action_words}
+use Rattle.flu_syntax.specs.Words.{keys_words, tag_words, number_words, declaration_words, job_words}
 use Rattle.flu_text.specs.Laws.{SignsStand}
 use Rattle.flu_syntax.specs.Laws.{WordsStand}
 

@@ -1,5 +1,6 @@
 -- What the tables hold, of every node and of every number.
-use Rattle.std.proofs.Common.{◌≡◌, ◌<◌, ◌≤◌, ◌+◌, ℕ, zero, suc, min, Bool, true, false, cond, Option, Some, None, List, [], ◌∷◌, ◌++◌, length, map, inl, inr, refl, sym, ap, ◌∙◌, arith}
+use Rattle.std.proofs.Common.{◌≡◌, ◌<◌, ◌≤◌, ◌+◌, ℕ, zero, suc, min, Bool, true, false, cond, Option, Some}
+use Rattle.std.proofs.Common.{None, List, [], ◌∷◌, ◌++◌, length, map, inl, inr, refl, sym, ap, ◌∙◌, arith}
 use Rattle.std.specs.Prelude.{◌==◌, ◌&&◌, ◌||◌, not, slice_get, slice_index_or}
 use Rattle.std.specs.List.{filter, list_any, range_with_len}
 use Rattle.std.proofs.lemmas.Bool.{cases_lt, cases_eq, ne_eqb, or_cases}
@@ -69,7 +70,8 @@ owner_tells p nodes w v i owned is =
 -- ---- a number that is no node's
 
 -- it has no parent
-kid_there : (nodes : List Node) (u v : ℕ) → ChildrenAreLater → is_tree nodes ≡ true → (kids : Option (ℕ × ℕ)) → kids_at nodes u ≡ kids → is_kid v kids ≡ true → v < length nodes
+kid_there : (nodes : List Node) (u v : ℕ) → ChildrenAreLater → is_tree nodes ≡ true → (kids : Option (ℕ × ℕ)) → kids_at nodes u ≡ kids → is_kid v kids ≡ true
+    → v < length nodes
 kid_there nodes u v later tree None at is = cc
 kid_there nodes u v later tree (Some kids) at is =
     let both = later nodes u kids.0 kids.1 tree at in
@@ -88,10 +90,6 @@ no_parent nodes v later tree past = by_parent (parent_of nodes v) refl
         let there = kid_there nodes u v later tree found.0.kids (ap kids_of found.1) found.2 in
         absurd (omega arith)
 
-climb_none : (n : ℕ) (nodes : List Node) → climb n nodes None ≡ []
-climb_none zero nodes = refl
-climb_none (suc n) nodes = refl
-
 -- nothing but itself is on its path, so no proper ancestor owns anything
 apart_past : (nodes : List Node) (u v : ℕ) → parent_of nodes v ≡ None → (is_within nodes u v && not (u == v)) ≡ false
 apart_past nodes u v none = on_path (length nodes)
@@ -105,8 +103,8 @@ apart_past nodes u v none = on_path (length nodes)
 
     on_path : (n : ℕ) → (list_any (λ x. x == u) (climb n nodes (Some v)) && not (u == v)) ≡ false
     on_path zero = refl
-    on_path (suc n) =
-        ap (λ path. list_any (λ x. x == u) (v ∷ path) && not (u == v)) (ap (climb n nodes) none ∙ climb_none n nodes) ∙ alone (v == u) refl
+    on_path (suc zero) = alone (v == u) refl
+    on_path (suc (suc n)) = ap (λ path. list_any (λ x. x == u) (v ∷ path) && not (u == v)) (ap (climb (suc n) nodes) none) ∙ alone (v == u) refl
 
 none_above : (p : Program) (nodes : List Node) (w : ℕ) (i : Itag) → parent_of nodes w ≡ None → ancestors_own p nodes w i ≡ false
 none_above p nodes w i none = by_owner (owner_of p nodes i) refl
@@ -136,7 +134,8 @@ above_listed p nodes shares w later tree are =
       | inr le ↦
           (let each = are.one_each in
           ap above_of (slice_get_past shares w le)
-          ∙ sym (none_listed (ancestors_own p nodes w) (numbered (count_of_itags p)) (λ i. none_above p nodes w i (no_parent nodes w later tree (omega arith)))))
+          ∙ sym (none_listed (ancestors_own p nodes w) (numbered (count_of_itags p))
+          (λ i. none_above p nodes w i (no_parent nodes w later tree (omega arith)))))
     ]
 
 -- ---- dependence
@@ -153,7 +152,8 @@ at_place f x d n i past =
           ∙ get_or-map-range_with_len f 0 n i i d lt (omega arith))
       | inr le ↦
           (let here : min i n ≡ n = omega arith in
-          ap (λ k. slice_index_or (map f (range_with_len 0 n) ++ x ∷ []) k d) here ∙ get_or_push (map f (range_with_len 0 n)) x d n (length-map-range_with_len f 0 n)
+          ap (λ k. slice_index_or (map f (range_with_len 0 n) ++ x ∷ []) k d) here
+          ∙ get_or_push (map f (range_with_len 0 n)) x d n (length-map-range_with_len f 0 n)
           ∙ sym (past i le))
     ]
 

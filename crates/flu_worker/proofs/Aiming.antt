@@ -1,56 +1,35 @@
 -- When an event is one at which a worker may aim, by what it has seen, and what holds of a whole lot then.
-use Rattle.std.proofs.Common.{◌≡◌, ◌≢◌, ◌<◌, ◌≤◌, ℕ, zero, suc, true, false, cond, Option, Some, None, List, [], ◌∷◌, length, take, inl, inr, refl, sym, ap, subst, ◌∙◌, arith}
-use Rattle.std.specs.Prelude.{◌==◌, ◌||◌, not, slice_get, slice_index, slice_index_or, IsSome}
-use Rattle.std.proofs.lemmas.Bool.{cases_eq, cases_lt, ne_eqb, or_left, or_right}
+use Rattle.std.proofs.Common.{◌≡◌, ◌≢◌, ◌<◌, ◌≤◌, ℕ, true, false, cond, Option, Some, None}
+use Rattle.std.proofs.Common.{List, [], length, inl, inr, refl, sym, ap, subst, ◌∙◌, arith}
+use Rattle.std.specs.Prelude.{◌==◌, ◌||◌, not, slice_index, slice_index_or, IsSome}
+use Rattle.std.proofs.lemmas.Bool.{cases_eq, ne_eqb, or_left, or_right}
 use Rattle.flu_lemmas.proofs.Tests.{and_left, and_right, both, not_both, true_eq}
 use Rattle.flu_model.specs.declared.events.Event.{Event}
 use Rattle.flu_model.specs.declared.events.Itag.{Itag}
-use Rattle.flu_model.specs.declared.events.Item.{Item}
-use Rattle.flu_model.specs.declared.events.Item.TheVariants.{Event as EventItem, Beat, End}
 use Rattle.flu_model.specs.Itags.{count_of_itags}
 use Rattle.flu_model.specs.Listed.{listed}
-use Rattle.flu_model.specs.Merging.{events_of}
 use Rattle.flu_model.specs.Owners.{owns}
 use Rattle.flu_fork.specs.declared.content.Content.{Content}
 use Rattle.flu_fork.specs.declared.lots.Ask.{Ask}
 use Rattle.flu_fork.specs.declared.lots.Lot.{Lot}
 use Rattle.flu_fork.specs.Classes.{Itags, own, above}
-use Rattle.flu_fork.specs.Settings.{events_at}
 use Rattle.flu_fork.specs.Streams.{IsEventAt, IsClearOf}
 use Rattle.flu_fork.specs.Lots.{job, nodes, kids, setting_of, LotFits}
 use Rattle.flu_fork.specs.Serving.{LotCounts, Served, AsksAbove}
 use Rattle.flu_mail.specs.Waiting.{is_leaf}
 use Rattle.flu_worker.specs.Agreeing.{Agrees, IsFirstOf, IsTarget, IsExactFor}
-use Rattle.flu_worker.specs.Choosing.{Sight, own_itags, next_at, takes, if_ready, event_of, serves, least_next, least_ready, ask_for, if_serves, is_same_ask, first_some, new_target}
+use Rattle.flu_worker.specs.Choosing.{Sight, own_itags, next_at, takes, if_ready, event_of, serves, least_next}
+use Rattle.flu_worker.specs.Choosing.{least_ready, ask_for, if_serves, is_same_ask, first_some, new_target}
 use Rattle.flu_worker.specs.LawsBelow.{LawsBelow}
 use Rattle.flu_worker.proofs.Changing.{above_just_before}
-use Rattle.flu_worker.proofs.CountLemmas.{no_items, some_within}
 use Rattle.flu_worker.proofs.EarliestLemmas.{all_where, found_is}
 use Rattle.flu_worker.proofs.Nodes.{not_leaf, own_owner, own_below, above_not_below}
 use Rattle.flu_worker.proofs.Rising.{rises}
 
 -- ---- events that are there
--- what is among the seen items is among all
-pub still_there : (items : List Item) (seen k : ℕ) (y : Event) → slice_get (events_of (take seen items)) k ≡ Some y → slice_get (events_of items) k ≡ Some y
-still_there [] zero k y e = e
-still_there [] (suc seen) k y e = e
-still_there (item ∷ rest) zero k y e = cc
-still_there (EventItem x ∷ rest) (suc seen) zero y e = e
-still_there (EventItem x ∷ rest) (suc seen) (suc k) y e = still_there rest seen k y e
-still_there (Beat t ∷ rest) (suc seen) k y e = still_there rest seen k y e
-still_there (End ∷ rest) (suc seen) k y e = still_there rest seen k y e
-
 -- an itag with an event is known
-pub known_at : (k : Content) (i n : ℕ) (x : Event) → IsEventAt (setting_of k) i n x → i < count_of_itags (job k)
-known_at k i n x at =
-    elim (cases_lt i (count_of_itags (job k))) [
-      | inl lt ↦ lt
-      | inr ge ↦
-          (let one = k.one_each in
-          let none = ap (λ (items : List Item). length (events_of items)) (no_items (listed k.streams) i (omega arith)) in
-          let there = some_within (events_at (setting_of k) i) n x at in
-          absurd (omega arith))
-    ]
+pub known_at : LawsBelow → (k : Content) (i n : ℕ) (x : Event) → IsEventAt (setting_of k) i n x → i < count_of_itags (job k)
+known_at laws k i n x at = laws.known (setting_of k) i n x (laws.settings k) at
 
 pub some_event : {x y : Event} → Some x ≡ Some y → x ≡ y
 some_event e = cc
@@ -66,10 +45,12 @@ module _ (laws : LawsBelow) (s : Sight) where
   not_same : (x : Event) (j : ℕ) → j ≢ x.itag.0 → not (j == x.itag.0) ≡ true
   not_same x j other = ap not (ne_eqb j x.itag.0 other)
 
-  ready_clear : (set : Itags) (x : Event) → ((j : ℕ) → set j ≡ true → (own (job s.case) (nodes s.case) s.node j || above (job s.case) (nodes s.case) s.node j) ≡ true)
+  ready_clear : (set : Itags) (x : Event)
+      → ((j : ℕ) → set j ≡ true → (own (job s.case) (nodes s.case) s.node j || above (job s.case) (nodes s.case) s.node j) ≡ true)
       → takes s x ≡ true → IsClearOf (setting_of s.case) set s.counts x
   ready_clear set x within ready j n y inside other d le at =
-      (laws.ready (job s.case) (nodes s.case) (listed s.case.streams) s.node s.seen s.counts x j y (laws.settings s.case).streams ready (known_at s.case j n y at)
+      (laws.ready (job s.case) (nodes s.case) (listed s.case.streams) s.node s.seen s.counts x j y (laws.settings s.case).streams ready
+      (known_at laws s.case j n y at)
       (both _ _ (both _ _ (not_same x j other) (within j inside)) (or_right (not (is_leaf (nodes s.case) s.node)) _ d)) (n, le, at)).0
 
   pub ready_own : (x : Event) → takes s x ≡ true → IsClearOf (setting_of s.case) (own (job s.case) (nodes s.case) s.node) s.counts x
@@ -79,8 +60,10 @@ module _ (laws : LawsBelow) (s : Sight) where
   ready_above x = ready_clear (above (job s.case) (nodes s.case) s.node) x (λ j h. or_right (own (job s.case) (nodes s.case) s.node j) _ h)
 
   -- and at an inner worker no event of these itags that is not counted is before it
-  ready_first : (set : Itags) (x : Event) → ((j : ℕ) → set j ≡ true → (own (job s.case) (nodes s.case) s.node j || above (job s.case) (nodes s.case) s.node j) ≡ true)
-      → IsSome (kids s.case s.node) → takes s x ≡ true → IsEventAt (setting_of s.case) x.itag.0 (slice_index s.counts x.itag.0) x → IsFirstOf (setting_of s.case) set s.counts x
+  ready_first : (set : Itags) (x : Event)
+      → ((j : ℕ) → set j ≡ true → (own (job s.case) (nodes s.case) s.node j || above (job s.case) (nodes s.case) s.node j) ≡ true)
+      → IsSome (kids s.case s.node) → takes s x ≡ true → IsEventAt (setting_of s.case) x.itag.0 (slice_index s.counts x.itag.0) x
+      → IsFirstOf (setting_of s.case) set s.counts x
   ready_first set x within inner ready is j n y inside le at =
       elim (cases_eq j x.itag.0) [
         | inl same ↦
@@ -88,19 +71,23 @@ module _ (laws : LawsBelow) (s : Sight) where
             rises laws (setting_of s.case) (laws.settings s.case) x.itag.0 (slice_index s.counts x.itag.0) n x y is
             (subst (λ (u : ℕ). IsEventAt (setting_of s.case) u n y) same at) le_x)
         | inr other ↦
-            (laws.ready (job s.case) (nodes s.case) (listed s.case.streams) s.node s.seen s.counts x j y (laws.settings s.case).streams ready (known_at s.case j n y at)
+            (laws.ready (job s.case) (nodes s.case) (listed s.case.streams) s.node s.seen s.counts x j y (laws.settings s.case).streams ready
+            (known_at laws s.case j n y at)
             (both _ _ (both _ _ (not_same x j other) (within j inside)) (or_left _ _ (not_leaf (kids s.case s.node) inner))) (n, le, at)).1
       ]
 
   -- READY TO SERVE: the same of the node's own itags
   pub serving_own : (x : Event) → serves s (Some x) ≡ true → IsClearOf (setting_of s.case) (own (job s.case) (nodes s.case) s.node) s.counts x
   serving_own x ready j n y inside other d le at =
-      (laws.serving (job s.case) (nodes s.case) (listed s.case.streams) s.node s.seen s.counts x j y (laws.settings s.case).streams ready (known_at s.case j n y at)
+      (laws.serving (job s.case) (nodes s.case) (listed s.case.streams) s.node s.seen s.counts x j y (laws.settings s.case).streams ready
+      (known_at laws s.case j n y at)
       (both _ _ inside (or_right (not (is_leaf (nodes s.case) s.node)) _ d)) (n, le, at)).0
 
-  serving_first : (x : Event) → IsSome (kids s.case s.node) → serves s (Some x) ≡ true → IsFirstOf (setting_of s.case) (own (job s.case) (nodes s.case) s.node) s.counts x
+  serving_first : (x : Event) → IsSome (kids s.case s.node) → serves s (Some x) ≡ true
+      → IsFirstOf (setting_of s.case) (own (job s.case) (nodes s.case) s.node) s.counts x
   serving_first x inner ready j n y inside le at =
-      (laws.serving (job s.case) (nodes s.case) (listed s.case.streams) s.node s.seen s.counts x j y (laws.settings s.case).streams ready (known_at s.case j n y at)
+      (laws.serving (job s.case) (nodes s.case) (listed s.case.streams) s.node s.seen s.counts x j y (laws.settings s.case).streams ready
+      (known_at laws s.case j n y at)
       (both _ _ inside (or_left _ _ (not_leaf (kids s.case s.node) inner))) (n, le, at)).1
 
   -- ---- the events that are found
@@ -111,9 +98,11 @@ module _ (laws : LawsBelow) (s : Sight) where
     pub ready : takes s x ≡ true
 
   -- the next event of an own itag, where there is one that passes a test
-  next_own : (i : Itag) → i.0 < count_of_itags (job s.case) → owns (job s.case) (nodes s.case) s.node i ≡ true → (x : Event) → next_at s i ≡ Some x → takes s x ≡ true → IsReadyOwn x
+  next_own : (i : Itag) → i.0 < count_of_itags (job s.case) → owns (job s.case) (nodes s.case) s.node i ≡ true → (x : Event) → next_at s i ≡ Some x
+      → takes s x ≡ true → IsReadyOwn x
   next_own i lt mine x e ready =
-      let at : IsEventAt (setting_of s.case) i.0 (slice_index s.counts i.0) x = still_there (slice_index_or (listed s.case.streams) i.0 []) (slice_index s.seen i.0) (slice_index s.counts i.0) x e in
+      let at : IsEventAt (setting_of s.case) i.0 (slice_index s.counts i.0) x =
+      laws.seen_events (slice_index_or (listed s.case.streams) i.0 []) (slice_index s.seen i.0) (slice_index s.counts i.0) x e in
       let same : x.itag.0 ≡ i.0 = (laws.events (setting_of s.case) i.0 (slice_index s.counts i.0) x (laws.settings s.case) at).itag in
       record {
         known = subst (λ (u : ℕ). u < count_of_itags (job s.case)) (sym same) lt;
@@ -158,10 +147,13 @@ module _ (laws : LawsBelow) (s : Sight) where
       clear_own = ready_own x r.ready;
       clear_above = λ _. ready_above x r.ready;
       first_own = λ inner. ready_first (own (job s.case) (nodes s.case) s.node) x (λ j h. or_left _ _ h) inner r.ready r.is;
-      first_above = λ inner _. ready_first (above (job s.case) (nodes s.case) s.node) x (λ j h. or_right (own (job s.case) (nodes s.case) s.node j) _ h) inner r.ready r.is;
+      first_above =
+          λ inner _. ready_first (above (job s.case) (nodes s.case) s.node) x
+          (λ j h. or_right (own (job s.case) (nodes s.case) s.node j) _ h) inner r.ready r.is;
     }
 
-    pub serving_target : (y : Ask) → AsksAbove s.case s.node y → y.index ≡ slice_index held y.itag.0 → serves s (event_of s.case y) ≡ true → IsTarget s.case s.node s.counts upto y
+    pub serving_target : (y : Ask) → AsksAbove s.case s.node y → y.index ≡ slice_index held y.itag.0 → serves s (event_of s.case y) ≡ true
+        → IsTarget s.case s.node s.counts upto y
     serving_target y up next ready = by_event (event_of s.case y) refl ready
       where
         by_event : (o : Option Event) → event_of s.case y ≡ o → serves s o ≡ true → IsTarget s.case s.node s.counts upto y
@@ -180,20 +172,25 @@ module _ (laws : LawsBelow) (s : Sight) where
               first_above = λ inner mine. absurd (not_both _ (own_below laws s.case s.node y.itag.0 up.known mine) out);
             }
 
-    ask_target : (o : Option Event) → ((x : Event) → o ≡ Some x → IsReadyOwn x) → (y : Ask) → ask_for s o ≡ Some y → IsTarget s.case s.node s.counts upto y × (own (job s.case) (nodes s.case) s.node y.itag.0 ≡ true)
+    ask_target : (o : Option Event) → ((x : Event) → o ≡ Some x → IsReadyOwn x) → (y : Ask) → ask_for s o ≡ Some y
+        → IsTarget s.case s.node s.counts upto y × (own (job s.case) (nodes s.case) s.node y.itag.0 ≡ true)
     ask_target None found y e = cc
     ask_target (Some x) found y e =
         let r = found x refl in
-        subst (λ (z : Ask). IsTarget s.case s.node s.counts upto z × (own (job s.case) (nodes s.case) s.node z.itag.0 ≡ true)) (some_ask e) (ready_target x r, r.mine)
+        subst (λ (z : Ask). IsTarget s.case s.node s.counts upto z × (own (job s.case) (nodes s.case) s.node z.itag.0 ≡ true)) (some_ask e)
+        (ready_target x r, r.mine)
 
-    pub leaf_target : (y : Ask) → ask_for s (least_ready s) ≡ Some y → IsTarget s.case s.node s.counts upto y × (own (job s.case) (nodes s.case) s.node y.itag.0 ≡ true)
+    pub leaf_target : (y : Ask) → ask_for s (least_ready s) ≡ Some y
+        → IsTarget s.case s.node s.counts upto y × (own (job s.case) (nodes s.case) s.node y.itag.0 ≡ true)
     leaf_target = ask_target (least_ready s) ready_found
 
-    served_target : (o : Option Ask) → ((y : Ask) → o ≡ Some y → AsksAbove s.case s.node y × (y.index ≡ slice_index held y.itag.0)) → (y : Ask) → if_serves s o ≡ Some y
+    served_target : (o : Option Ask) → ((y : Ask) → o ≡ Some y → AsksAbove s.case s.node y × (y.index ≡ slice_index held y.itag.0)) → (y : Ask)
+        → if_serves s o ≡ Some y
         → IsTarget s.case s.node s.counts upto y
     served_target None asks y e = cc
     served_target (Some z) asks y e =
-        elim (serves s (event_of s.case z)) as (λ t. serves s (event_of s.case z) ≡ t → cond t (Some z) None ≡ Some y → IsTarget s.case s.node s.counts upto y) [
+        elim (serves s (event_of s.case z)) as (λ t. serves s (event_of s.case z) ≡ t → cond t (Some z) None ≡ Some y
+        → IsTarget s.case s.node s.counts upto y) [
           | true ↦ λ r f. subst (λ (u : Ask). IsTarget s.case s.node s.counts upto u) (some_ask f) (serving_target z (asks z refl).0 (asks z refl).1 r)
           | false ↦ λ r f. absurd (nothing f)
         ] refl e
@@ -206,17 +203,20 @@ module _ (laws : LawsBelow) (s : Sight) where
         → (y : Ask) → new_target s asked ≡ Some y → IsTarget s.case s.node s.counts upto y
     new_is_target asked asks y e = by_first (ask_for s (if_ready s (least_next s))) refl e
       where
-        by_first : (o : Option Ask) → ask_for s (if_ready s (least_next s)) ≡ o → first_some o (if_serves s asked) ≡ Some y → IsTarget s.case s.node s.counts upto y
+        by_first : (o : Option Ask) → ask_for s (if_ready s (least_next s)) ≡ o → first_some o (if_serves s asked) ≡ Some y
+            → IsTarget s.case s.node s.counts upto y
         by_first None is f = served_target asked asks y f
         by_first (Some z) is f = (ask_target (if_ready s (least_next s)) least_found y (is ∙ f)).0
 
 -- ---- a lot for which the worker has such a target
-module _ (laws : LawsBelow) (k : Content) (w : ℕ) (there : w < length (nodes k)) (counts : List ℕ) (held : LotCounts) (lot : Lot) (fits : LotFits k w lot) (since : lot.since ≡ held.since)
+module _ (laws : LawsBelow) (k : Content) (w : ℕ) (there : w < length (nodes k)) (counts : List ℕ) (held : LotCounts) (lot : Lot) (fits : LotFits k w lot)
+    (since : lot.since ≡ held.since)
     (agrees : Agrees k w counts held.upto lot.upto) (y : Ask) (target : IsTarget k w counts lot.upto y) where
   -- at a leaf it is served
   pub leaf_served : kids k w ≡ None → Served k w held y lot
   leaf_served leaf =
-      laws.leaves k w held y target.event lot leaf there fits (record { since = since; outside = agrees.outside; inside = agrees.inside }) (sym target.next) target.is
+      laws.leaves k w held y target.event lot leaf there fits (record { since = since; outside = agrees.outside; inside = agrees.inside })
+      (sym target.next) target.is
       (λ j n z inside other d le at. target.clear_own j n z inside other d (let e = agrees.mine j inside in omega arith) at)
 
   -- and where it is served, it is exact for the node's own event

@@ -2,7 +2,9 @@
 use Rattle.std.proofs.Common.{◌≡◌, ◌<◌, ◌≤◌, ◌+◌, ℕ, true, false, cond, Some, List, length, inl, inr, refl, sym, ap, ◌∙◌, arith}
 use Rattle.std.specs.Prelude.{◌==◌, slice_index}
 use Rattle.std.proofs.lemmas.Bool.{cases_Bool, cases_lt}
+use Rattle.std.proofs.lemmas.List.{get_or_past}
 use Rattle.flu_lemmas.proofs.Tests.{not_both}
+use Rattle.flu_lemmas.proofs.Listed.{taken_at}
 use Rattle.flu_model.specs.Itags.{count_of_itags}
 use Rattle.flu_laws.specs.Spans.{AreAtMost}
 use Rattle.flu_laws.specs.Lots.{CountsOneMore}
@@ -15,7 +17,7 @@ use Rattle.flu_fork.specs.Serving.{LotCounts, GrownFrom, IsForkedFrom, CountsJus
 use Rattle.flu_worker.specs.Agreeing.{Agrees, Grows, IsTarget, IsForkedAt, left_loan, right_loan}
 use Rattle.flu_worker.proofs.Mails.{CountsLike}
 use Rattle.flu_worker.specs.LawsBelow.{LawsBelow}
-use Rattle.flu_worker.proofs.CountLemmas.{alike_beyond, beyond, more_other, more_least, one_more_each, joined_at}
+use Rattle.flu_worker.proofs.CountLemmas.{alike_beyond, more_other, more_least, one_more_each}
 use Rattle.flu_worker.proofs.Nodes.{own_below, above_not_below, own_not_above, own_not_left, own_not_right, left_below, right_below}
 
 -- ---- one more event is counted
@@ -36,19 +38,22 @@ module _ (laws : LawsBelow) (k : Content) (w i : ℕ) (counts more_counts held u
   pub grows_more : (tl tr : List ℕ) → Grows k w tl tr upto → Grows k w tl tr more
   grows_more tl tr g = record {
     left = λ l r e. record {
-      inside = λ j h. more_other i upto more one j (λ same. not_both _ (ap (below (job k) (nodes k) l) (sym same) ∙ h) (own_not_left laws k w l r i e known mine))
+      inside =
+          λ j h. more_other i upto more one j (λ same. not_both _ (ap (below (job k) (nodes k) l) (sym same) ∙ h) (own_not_left laws k w l r i e known mine))
           ∙ (g.left l r e).inside j h;
       outside = λ j. (let b = (g.left l r e).outside j in let c = more_least i upto more one j in omega arith);
     };
     right = λ l r e. record {
-      inside = λ j h. more_other i upto more one j (λ same. not_both _ (ap (below (job k) (nodes k) r) (sym same) ∙ h) (own_not_right laws k w l r i e known mine))
+      inside =
+          λ j h. more_other i upto more one j (λ same. not_both _ (ap (below (job k) (nodes k) r) (sym same) ∙ h) (own_not_right laws k w l r i e known mine))
           ∙ (g.right l r e).inside j h;
       outside = λ j. (let b = (g.right l r e).outside j in let c = more_least i upto more one j in omega arith);
     };
   }
 
 -- ---- a lot comes down
-module _ (laws : LawsBelow) (k : Content) (w : ℕ) (counts new given upto tl tr : List ℕ) (long : length counts ≡ count_of_itags (job k)) (size : length upto ≡ count_of_itags (job k))
+module _ (laws : LawsBelow) (k : Content) (w : ℕ) (counts new given upto tl tr : List ℕ) (long : length counts ≡ count_of_itags (job k))
+    (size : length upto ≡ count_of_itags (job k))
     (mine : (i : ℕ) → own (job k) (nodes k) w i ≡ true → slice_index counts i ≡ slice_index given i) (most : AreAtMost counts given)
     (grown : GrownFrom k w given upto) (like : CountsLike (above (job k) (nodes k) w) upto counts new) where
   pub counts_rise : AreAtMost counts upto
@@ -92,7 +97,7 @@ module _ (laws : LawsBelow) (k : Content) (w : ℕ) (counts new given upto tl tr
   grown_inside v taken g i within h =
       elim (cases_lt i (count_of_itags (job k))) [
         | inl lt ↦ grown.inside i (within lt) ∙ g.inside i h
-        | inr ge ↦ (let a = beyond upto i (omega arith) in let b = g.outside i in let c = grown.outside i in omega arith)
+        | inr ge ↦ (let a = get_or_past upto i 0 (omega arith) in let b = g.outside i in let c = grown.outside i in omega arith)
       ]
 
   pub grows_held : Grows k w tl tr given → Grows k w tl tr upto
@@ -115,7 +120,8 @@ pub grown_itself : (k : Content) (v : ℕ) (u : List ℕ) → GrownFrom k v u u
 grown_itself k v u = record { inside = λ i h. refl; outside = λ i. omega arith }
 
 -- ---- a target's event is just behind what is counted
-module _ (laws : LawsBelow) (k : Content) (w : ℕ) (counts held upto : List ℕ) (agrees : Agrees k w counts held upto) (y : Ask) (target : IsTarget k w counts upto y)
+module _ (laws : LawsBelow) (k : Content) (w : ℕ) (counts held upto : List ℕ) (agrees : Agrees k w counts held upto) (y : Ask)
+    (target : IsTarget k w counts upto y)
     (prefix : Rattle.flu_fork.specs.Fitting.IsPrefix (job k) (Rattle.flu_fork.specs.Settings.moments (setting_of k)) upto) where
   pub own_just_before : CountsJustBefore k (own (job k) (nodes k) w) y upto
   own_just_before =
@@ -139,7 +145,8 @@ module _ (laws : LawsBelow) (k : Content) (w l r : ℕ) (e : kids k w ≡ Some (
   grows = laws.grows k w l r held.since fork left right lot e left_fits.upto_each right_fits.upto_each a.loan b.loan joined
 
   at : (i : ℕ) → slice_index lot.upto i ≡ cond (below (job k) (nodes k) r i) (slice_index right.upto i) (slice_index left.upto i)
-  at i = ap (λ u. slice_index u i) (joined.upto l r e) ∙ joined_at (job k) (nodes k) r left.upto right.upto left_fits.upto_each right_fits.upto_each i
+  at i = ap (λ u. slice_index u i) (joined.upto l r e)
+      ∙ taken_at (below (job k) (nodes k) r) (count_of_itags (job k)) right.upto left.upto right_fits.upto_each left_fits.upto_each i
 
   fork_least : (i : ℕ) → slice_index fork i ≤ slice_index lot.upto i
   fork_least i =
@@ -172,7 +179,8 @@ module _ (laws : LawsBelow) (k : Content) (w l r : ℕ) (e : kids k w ≡ Some (
           | inl h ↦ absurd (not_both _ (right_below laws k w l r y.itag.0 e target.known h) out)
           | inr not_r ↦ elim (cases_Bool (below (job k) (nodes k) l y.itag.0)) [
             | inl h ↦ absurd (not_both _ (left_below laws k w l r y.itag.0 e target.known h) out)
-            | inr not_l ↦ sym (a.loan.outside y.itag.0 not_l) ∙ sym (at y.itag.0 ∙ ap (λ t. cond t (slice_index right.upto y.itag.0) (slice_index left.upto y.itag.0)) not_r)
+            | inr not_l ↦ sym (a.loan.outside y.itag.0 not_l)
+                ∙ sym (at y.itag.0 ∙ ap (λ t. cond t (slice_index right.upto y.itag.0) (slice_index left.upto y.itag.0)) not_r)
           ]
         ])
   ]

@@ -46,7 +46,8 @@ module _ (laws : LawsBelow) (k : Content) (w : ℕ) (lot : Lot) (x : Ask) (event
 
   well : UpdatesWell (setting_of k) w s.moment (held lot.state) lot.since (slice_set lot.upto x.itag.0 (slice_index lot.upto x.itag.0 + 1))
   well =
-      laws.central (setting_of k) w s.front s.back s.moment (held lot.state) lot.since lot.upto (slice_set lot.upto x.itag.0 (slice_index lot.upto x.itag.0 + 1)) (laws.settings k)
+      laws.central (setting_of k) w s.front s.back s.moment (held lot.state) lot.since lot.upto
+      (slice_set lot.upto x.itag.0 (slice_index lot.upto x.itag.0 + 1)) (laws.settings k)
       (ap (owner_of (job k) (nodes k)) itag_is ∙ exact.owner) s.stands (exact.exact s.front s.back s.moment s.stands itag_is s.index)
       (length-set lot.upto x.itag.0 _ ∙ fits.upto_each) one fits
 

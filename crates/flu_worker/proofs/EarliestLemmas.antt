@@ -1,5 +1,6 @@
 -- The earliest of some events.
-use Rattle.std.proofs.Common.{◌≡◌, ◌<◌, ◌≤◌, ℕ, zero, suc, Bool, true, false, cond, Option, Some, None, List, [], ◌∷◌, length, ◌+◌, inl, inr, refl, sym, ap, subst, ◌∙◌, arith}
+use Rattle.std.proofs.Common.{◌≡◌, ◌<◌, ◌≤◌, ℕ, zero, suc, Bool, true, false, cond, Option, Some, None}
+use Rattle.std.proofs.Common.{List, [], ◌∷◌, length, ◌+◌, inl, inr, refl, sym, ap, subst, ◌∙◌, arith}
 use Rattle.std.specs.Prelude.{⊤, map, slice_index_or}
 use Rattle.std.specs.List.{fold, filter, range_with_len, AllByRecursion}
 use Rattle.flu_lemmas.proofs.Elements.{all_filter}
@@ -21,9 +22,6 @@ use Rattle.flu_worker.specs.Choosing.{Sight, own_itags, takes, if_ready, earlier
 -- ---- the order of events
 pub not_itself : (x : Event) → is_before x x ≡ false
 not_itself x = grind (arith, common_steps)
-
-pub not_after : (x y : Event) → is_before x y ≡ true → is_before y x ≡ false
-not_after x y e = grind (arith, common_steps)
 
 -- what is before x is before all that is not before x
 before_later : (v u w : Event) → is_before v u ≡ true → is_before w u ≡ false → is_before v w ≡ true
@@ -56,7 +54,10 @@ together_step t (Some u) (Some w) None h = h
 together_step t (Some u) None (Some v) h =
     elim (is_before v u) as (λ q. is_before v u ≡ q → Together t (cond q (Some v) (Some u)) (cond (t v) (Some v) None)) [
       | true ↦ λ e. (elim (t v) as (λ q. t v ≡ q → Together t (Some v) (cond q (Some v) None)) [ true ↦ λ f. (not_itself v, λ _. refl) | false ↦ λ f. f ] refl)
-      | false ↦ λ e. (elim (t v) as (λ q. t v ≡ q → Together t (Some u) (cond q (Some v) None)) [ true ↦ λ f. (e, λ g. absurd (not_both _ g h)) | false ↦ λ f. h ] refl)
+      | false ↦ λ e. (elim (t v) as (λ q. t v ≡ q → Together t (Some u) (cond q (Some v) None)) [
+        | true ↦ λ f. (e, λ g. absurd (not_both _ g h))
+        | false ↦ λ f. h
+      ] refl)
     ] refl
 together_step t (Some u) (Some w) (Some v) h =
     elim (is_before v u) as (λ q. is_before v u ≡ q → Together t (cond q (Some v) (Some u)) (earlier (Some w) (cond (t v) (Some v) None))) [
@@ -75,7 +76,8 @@ together_step t (Some u) (Some w) (Some v) h =
 
 together : (t : Event → Bool) (f : Itag → Option Event) (itags : List Itag) → Together t (earliest f itags) (earliest (λ i. pass t (f i)) itags)
 together t f itags =
-    fold_along (λ found i. earlier found (f i)) (λ found i. earlier found (pass t (f i))) (Together t) (λ b c i h. together_step t b c (f i) h) None None itags tt
+    fold_along (λ found i. earlier found (f i)) (λ found i. earlier found (pass t (f i))) (Together t)
+    (λ b c i h. together_step t b c (f i) h) None None itags tt
 
 none_with : (t : Event → Bool) (a b : Option Event) → Together t a b → a ≡ None → None ≡ b
 none_with t None None h e = refl
@@ -104,7 +106,8 @@ pub none_is_ready : (s : Sight) (f : Itag → Option Event) (itags : List Itag) 
 none_is_ready s f itags e =
     none_with (takes s) _ _ (together (takes s) f itags) e ∙ same_earliest (λ i. pass (takes s) (f i)) (λ i. if_ready s (f i)) (λ i. ready_is s (f i)) itags
 
-pub first_is_ready : (s : Sight) (f : Itag → Option Event) (itags : List Itag) (x : Event) → earliest f itags ≡ Some x → takes s x ≡ true → Some x ≡ earliest (λ i. if_ready s (f i)) itags
+pub first_is_ready : (s : Sight) (f : Itag → Option Event) (itags : List Itag) (x : Event) → earliest f itags ≡ Some x → takes s x ≡ true
+    → Some x ≡ earliest (λ i. if_ready s (f i)) itags
 first_is_ready s f itags x e p =
     some_with (takes s) _ _ x (together (takes s) f itags) e p ∙ same_earliest (λ i. pass (takes s) (f i)) (λ i. if_ready s (f i)) (λ i. ready_is s (f i)) itags
 
@@ -127,9 +130,13 @@ still_not x (Some u) (Some v) h =
 
 not_now : (x : Event) (a : Option Event) → NotBefore x (earlier a (Some x))
 not_now x None = not_itself x
-not_now x (Some u) = elim (is_before x u) as (λ q. is_before x u ≡ q → NotBefore x (cond q (Some x) (Some u))) [ true ↦ λ e. not_itself x | false ↦ λ e. e ] refl
+not_now x (Some u) = elim (is_before x u) as (λ q. is_before x u ≡ q → NotBefore x (cond q (Some x) (Some u))) [
+  | true ↦ λ e. not_itself x
+  | false ↦ λ e. e
+] refl
 
-not_from : (x : Event) (f : Itag → Option Event) (itags : List Itag) (found : Option Event) → NotBefore x found → NotBefore x (fold (λ o i. earlier o (f i)) found itags)
+not_from : (x : Event) (f : Itag → Option Event) (itags : List Itag) (found : Option Event) → NotBefore x found
+    → NotBefore x (fold (λ o i. earlier o (f i)) found itags)
 not_from x f [] found h = h
 not_from x f (i ∷ rest) found h = not_from x f rest (earlier found (f i)) (still_not x found (f i) h)
 
@@ -145,7 +152,8 @@ pub none_before : (f : Itag → Option Event) (itags : List Itag) → AllByRecur
 none_before f itags = none_from f itags None
 
 -- ---- listed itags
-pub all_where : (p : Program) (test : Itag → Bool) (Q : Itag → Type 0) → ((i : Itag) → i.0 < count_of_itags p → test i ≡ true → Q i) → AllByRecursion Q (itags_where p test)
+pub all_where : (p : Program) (test : Itag → Bool) (Q : Itag → Type 0) → ((i : Itag) → i.0 < count_of_itags p → test i ≡ true → Q i)
+    → AllByRecursion Q (itags_where p test)
 all_where p test Q each = all_filter Q test (map itag (range_with_len 0 (count_of_itags p))) (in_range 0 (count_of_itags p) (omega arith))
   where
     in_range : (lo n : ℕ) → lo + n ≤ count_of_itags p → AllByRecursion (λ (i : Itag). test i ≡ true → Q i) (map itag (range_with_len lo n))
@@ -163,12 +171,15 @@ all_indexed P (x ∷ xs) (suc i) d all lt = all_indexed P xs i d all.1 (omega ar
 own_known : (k : Content) (w i : ℕ) (d : Itag) → i < length (own_itags k w) → (slice_index_or (own_itags k w) i d).0 < count_of_itags (job k)
 own_known k w i d lt = all_indexed (λ (x : Itag). x.0 < count_of_itags (job k)) (own_itags k w) i d (all_known (job k) (owns (job k) (nodes k) w)) lt
 
-pub known_in : (k : Content) (w : ℕ) (xs : List Itag) (i : ℕ) (d : Itag) → xs ≡ own_itags k w → i < length xs → (slice_index_or xs i d).0 < count_of_itags (job k)
+pub known_in : (k : Content) (w : ℕ) (xs : List Itag) (i : ℕ) (d : Itag) → xs ≡ own_itags k w → i < length xs
+    → (slice_index_or xs i d).0 < count_of_itags (job k)
 known_in k w xs i d is lt =
-    subst (λ (ys : List Itag). (slice_index_or ys i d).0 < count_of_itags (job k)) (sym is) (own_known k w i d (subst (λ (ys : List Itag). i < length ys) is lt))
+    subst (λ (ys : List Itag). (slice_index_or ys i d).0 < count_of_itags (job k)) (sym is)
+    (own_known k w i d (subst (λ (ys : List Itag). i < length ys) is lt))
 
 -- ---- what is found is one of the events
-earlier_one : (P : Event → Type 0) (a b : Option Event) → ((x : Event) → a ≡ Some x → P x) → ((x : Event) → b ≡ Some x → P x) → (x : Event) → earlier a b ≡ Some x → P x
+earlier_one : (P : Event → Type 0) (a b : Option Event) → ((x : Event) → a ≡ Some x → P x) → ((x : Event) → b ≡ Some x → P x) → (x : Event)
+    → earlier a b ≡ Some x → P x
 earlier_one P None b pa pb x e = pb x e
 earlier_one P (Some u) None pa pb x e = pa x e
 earlier_one P (Some u) (Some v) pa pb x e =
@@ -187,15 +198,19 @@ found_is P f itags all x e = found_from P f itags None (λ y never. cc) all x e
 all_filtered : (test : Itag → Bool) (Q : Itag → Type 0) (xs : List Itag) → AllByRecursion Q (filter test xs) → AllByRecursion (λ i. test i ≡ true → Q i) xs
 all_filtered test Q [] all = tt
 all_filtered test Q (x ∷ xs) all =
-    elim (test x) as (λ t. test x ≡ t → AllByRecursion Q (cond t (x ∷ filter test xs) (filter test xs)) → (test x ≡ true → Q x) × AllByRecursion (λ i. test i ≡ true → Q i) xs) [
+    elim (test x) as (λ t. test x ≡ t → AllByRecursion Q (cond t (x ∷ filter test xs) (filter test xs))
+    → (test x ≡ true → Q x) × AllByRecursion (λ i. test i ≡ true → Q i) xs) [
       | true ↦ λ e h. (λ _. h.0, all_filtered test Q xs h.1)
       | false ↦ λ e h. (λ f. absurd (not_both _ f e), all_filtered test Q xs h)
     ] refl all
 
-pub where_all : (p : Program) (test : Itag → Bool) (Q : Itag → Type 0) → AllByRecursion Q (itags_where p test) → (i : Itag) → i.0 < count_of_itags p → test i ≡ true → Q i
-where_all p test Q all i lt is = in_range 0 (count_of_itags p) i.0 (all_filtered test Q (map itag (range_with_len 0 (count_of_itags p))) all) (omega arith) (omega arith) is
+pub where_all : (p : Program) (test : Itag → Bool) (Q : Itag → Type 0) → AllByRecursion Q (itags_where p test) → (i : Itag) → i.0 < count_of_itags p
+    → test i ≡ true → Q i
+where_all p test Q all i lt is =
+    in_range 0 (count_of_itags p) i.0 (all_filtered test Q (map itag (range_with_len 0 (count_of_itags p))) all) (omega arith) (omega arith) is
   where
-    in_range : (lo n j : ℕ) → AllByRecursion (λ (i : Itag). test i ≡ true → Q i) (map itag (range_with_len lo n)) → lo ≤ j → j < lo + n → test (itag j) ≡ true → Q (itag j)
+    in_range : (lo n j : ℕ) → AllByRecursion (λ (i : Itag). test i ≡ true → Q i) (map itag (range_with_len lo n)) → lo ≤ j → j < lo + n
+        → test (itag j) ≡ true → Q (itag j)
     in_range lo zero j all le less is = absurd (omega arith)
     in_range lo (suc n) j all le less is =
         elim (cases_eq j lo) [

@@ -3,6 +3,8 @@ use Rattle.std.proofs.Common.{◌≡◌, ◌<◌, ◌≤◌, ℕ, Bool, true, fa
 use Rattle.std.specs.Prelude.{◌==◌, ◌&&◌, ◌||◌, not, is_none, is_some, slice_index, slice_index_or, IsSome}
 use Rattle.std.specs.List.{list_all, AllByRecursion}
 use Rattle.std.proofs.lemmas.Bool.{cases_Bool, cases_lt}
+use Rattle.std.proofs.lemmas.Option.{slice_get_within}
+use Rattle.std.proofs.lemmas.List.{get_or_past}
 use Rattle.flu_lemmas.proofs.Searches.{eq_true}
 use Rattle.flu_lemmas.proofs.Tests.{and_left, and_right, both, true_eq}
 use Rattle.flu_model.specs.declared.events.Event.{Event}
@@ -26,7 +28,8 @@ use Rattle.flu_mail.specs.Passing.{pending_event}
 use Rattle.flu_worker.specs.declared.hand.Hand.{Hand}
 use Rattle.flu_worker.specs.declared.hand.Hand.TheVariants.{Empty, Whole, Lending, Down, Taking}
 use Rattle.flu_worker.specs.declared.holding.Holding.{Holding}
-use Rattle.flu_worker.specs.declared.holding.Holding.TheVariants.{Empty as NoLot, Whole as WholeLot, LendingBoth, LendingLeft, LendingRight, Down as BothOut, TakingLeft, TakingRight, Gone}
+use Rattle.flu_worker.specs.declared.holding.Holding.TheVariants.{Empty as NoLot, Whole as WholeLot, LendingBoth, LendingLeft}
+use Rattle.flu_worker.specs.declared.holding.Holding.TheVariants.{LendingRight, Down as BothOut, TakingLeft, TakingRight, Gone}
 use Rattle.flu_worker.specs.Agreeing.{Agrees, IsTarget}
 use Rattle.flu_worker.specs.Calls.{HasDoneAll, IsFinished}
 use Rattle.flu_worker.specs.Choosing.{sight, own_itags, above_itags}
@@ -36,7 +39,7 @@ use Rattle.flu_worker.specs.LawsBelow.{LawsBelow}
 use Rattle.flu_worker.specs.Notes.{WorkerNote, above_of, below_of}
 use Rattle.flu_worker.specs.Rule.{Rule, IsMailed, HoldsWhole, IsDown}
 use Rattle.flu_tables.specs.Lists.{itags_where}
-use Rattle.flu_worker.proofs.CountLemmas.{beyond, no_items, some_within, few_events}
+use Rattle.flu_worker.proofs.CountLemmas.{few_events}
 use Rattle.flu_worker.proofs.EarliestLemmas.{all_where, where_all}
 use Rattle.flu_worker.proofs.Nodes.{above_not_below}
 use Rattle.flu_worker.proofs.Steps.{counts_long, counted_within}
@@ -46,12 +49,15 @@ abbrev over_now : WorkerNote → Itag → Bool
 over_now n i = is_over (listed n.case.streams) n.seen n.counts i.0
 
 -- the test of one itag, by what the mailbox tells
-pub over_told : (lists : List (List Item)) (mail : Mailbox) (i : ℕ) → IsOver lists mail → i < length lists → (o : Option Event) → o ≡ pending_event lists (mails.counts_of mail) i
+pub over_told : (lists : List (List Item)) (mail : Mailbox) (i : ℕ) → IsOver lists mail → i < length lists → (o : Option Event)
+    → o ≡ pending_event lists (mails.counts_of mail) i
     → (none : Bool) → is_some o ≡ not none → (n : ℕ) → n ≡ slice_index (mails.seen_of mail) i → n ≡ length (slice_index_or lists i [])
     → none ≡ is_over lists (mails.seen_of mail) (mails.counts_of mail) i
 over_told lists mail i over lt o is none tells n seen all =
-    by_some o none tells ∙ ap is_none is ∙ few_events (events_of (slice_index_or lists i [])) (slice_index (mails.counts_of mail) i) (counted_within lists mail i over lt)
-    ∙ sym (ap (λ t. t && (slice_index (mails.counts_of mail) i == length (events_of (slice_index_or lists i [])))) (eq_true (slice_index (mails.seen_of mail) i) (length (slice_index_or lists i [])) (sym seen ∙ all)))
+    by_some o none tells ∙ ap is_none is
+    ∙ few_events (events_of (slice_index_or lists i [])) (slice_index (mails.counts_of mail) i) (counted_within lists mail i over lt)
+    ∙ sym (ap (λ t. t && (slice_index (mails.counts_of mail) i == length (events_of (slice_index_or lists i []))))
+    (eq_true (slice_index (mails.seen_of mail) i) (length (slice_index_or lists i [])) (sym seen ∙ all)))
   where
     by_some : (o : Option Event) (b : Bool) → is_some o ≡ not b → b ≡ is_none o
     by_some None true e = refl
@@ -93,24 +99,26 @@ module _ (n : WorkerNote) (mail : Mailbox) (mailed : IsMailed n mail) where
 
   -- beyond the itags there is nothing
   nothing_beyond : (i : ℕ) → count_of_itags (job n.case) ≤ i → slice_index_or (listed n.case.streams) i [] ≡ []
-  nothing_beyond i ge = let one = n.case.one_each in no_items (listed n.case.streams) i (omega arith)
+  nothing_beyond i ge = let one = n.case.one_each in get_or_past (listed n.case.streams) i [] (omega arith)
 
   seen_from : (set : Itag → Bool) → AllOver n set → (i : ℕ) → set (itag i) ≡ true → slice_index n.seen i ≡ length (slice_index_or (listed n.case.streams) i [])
   seen_from set all i h =
       elim (cases_lt i (count_of_itags (job n.case))) [
         | inl lt ↦ true_eq _ _ (and_left (slice_index n.seen i == length (slice_index_or (listed n.case.streams) i [])) _ (all (itag i) lt h))
-        | inr ge ↦ (let long = seen_long in beyond n.seen i (omega arith) ∙ sym (ap length (nothing_beyond i ge)))
+        | inr ge ↦ (let long = seen_long in get_or_past n.seen i 0 (omega arith) ∙ sym (ap length (nothing_beyond i ge)))
       ]
 
   counts_from : (set : Itag → Bool) → AllOver n set → (i : ℕ) → set (itag i) ≡ true → slice_index n.counts i ≡ length (events_at (setting_of n.case) i)
   counts_from set all i h =
       elim (cases_lt i (count_of_itags (job n.case))) [
         | inl lt ↦ true_eq _ _ (and_right (slice_index n.seen i == length (slice_index_or (listed n.case.streams) i [])) _ (all (itag i) lt h))
-        | inr ge ↦ (let long = counts_long n mail mailed in beyond n.counts i (omega arith) ∙ sym (ap (λ (items : List Item). length (events_of items)) (nothing_beyond i ge)))
+        | inr ge ↦ (let long = counts_long n mail mailed in
+            get_or_past n.counts i 0 (omega arith) ∙ sym (ap (λ (items : List Item). length (events_of items)) (nothing_beyond i ge)))
       ]
 
   -- the test tells it
-  pub done_all : (is_whole n.hand || is_down n.hand) ≡ true → list_all (over_now n) (own_itags n.case n.node) ≡ true → list_all (over_now n) (above_itags n.case n.node) ≡ true → HasDoneAll n
+  pub done_all : (is_whole n.hand || is_down n.hand) ≡ true → list_all (over_now n) (own_itags n.case n.node) ≡ true
+      → list_all (over_now n) (above_itags n.case n.node) ≡ true → HasDoneAll n
   done_all rest mine over =
       let a = all_over n (owns (job n.case) (nodes n.case) n.node) mine in
       let b = all_over n (ancestors_own (job n.case) (nodes n.case) n.node) over in
@@ -135,7 +143,8 @@ module _ (n : WorkerNote) (mail : Mailbox) (mailed : IsMailed n mail) where
   }
 
 -- both ways
-pub done_tells : (n : WorkerNote) (mail : Mailbox) → IsMailed n mail → (b : Bool) → b ≡ has_done_all (sight n) n.hand → (b ≡ true → HasDoneAll n) × (HasDoneAll n → b ≡ true)
+pub done_tells : (n : WorkerNote) (mail : Mailbox) → IsMailed n mail → (b : Bool) → b ≡ has_done_all (sight n) n.hand
+    → (b ≡ true → HasDoneAll n) × (HasDoneAll n → b ≡ true)
 done_tells n mail mailed b is = (
   (λ e. (let all = sym is ∙ e in
       let two = and_left ((is_whole n.hand || is_down n.hand) && list_all (over_now n) (own_itags n.case n.node)) _ all in
@@ -145,7 +154,8 @@ done_tells n mail mailed b is = (
 )
 
 -- ---- then it keeps no target, and a worker whose parts are lent has those of one fork
-module _ (laws : LawsBelow) (n : WorkerNote) (mail : Mailbox) (mailed : IsMailed n mail) (d : HasDoneAll n) (upto : List ℕ) (agrees : Agrees n.case n.node n.counts n.held.upto upto)
+module _ (laws : LawsBelow) (n : WorkerNote) (mail : Mailbox) (mailed : IsMailed n mail) (d : HasDoneAll n) (upto : List ℕ)
+    (agrees : Agrees n.case n.node n.counts n.held.upto upto)
     (there : (i : ℕ) → slice_index upto i ≤ length (events_at (setting_of n.case) i)) where
   held_least : (i : ℕ) → slice_index n.held.upto i ≤ slice_index upto i
   held_least i = elim (cases_Bool (below_of n i)) [ inl h ↦ agrees.inside i h | inr h ↦ (let e = agrees.outside i h in omega arith) ]
@@ -163,7 +173,7 @@ module _ (laws : LawsBelow) (n : WorkerNote) (mail : Mailbox) (mailed : IsMailed
 
   no_target : (y : Ask) → IsTarget n.case n.node n.counts upto y → ⊥
   no_target y t =
-      let less = some_within _ y.index t.event t.is in
+      let less = slice_get_within _ y.index t.event t.is in
       let next = t.next in
       elim t.place [
         | inl mine ↦ (let a = agrees.mine y.itag.0 mine in let b = d.own y.itag.0 mine in omega arith)

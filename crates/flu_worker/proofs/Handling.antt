@@ -1,6 +1,7 @@
 -- The rule after the lot was given, and after an event was handled.
 use Rattle.std.proofs.Common.{◌≡◌, ◌<◌, ◌+◌, ℕ, true, Some, None, List, length, refl, sym, ap, subst, ◌∙◌, arith}
 use Rattle.std.specs.Prelude.{slice_get, slice_index, slice_index_or, slice_set, []}
+use Rattle.std.proofs.lemmas.Option.{slice_get_within}
 use Rattle.flu_model.specs.declared.events.Event.{Event}
 use Rattle.flu_model.specs.declared.events.Out.{Out}
 use Rattle.flu_model.specs.Itags.{count_of_itags}
@@ -16,7 +17,8 @@ use Rattle.flu_mail.specs.declared.mailbox.Mailbox.{Mailbox}
 use Rattle.flu_mail.specs.Mailboxes.{counts_of}
 use Rattle.flu_worker.specs.declared.hand.Hand.TheVariants.{Empty}
 use Rattle.flu_worker.specs.declared.holding.Holding.{Holding}
-use Rattle.flu_worker.specs.declared.holding.Holding.TheVariants.{Empty as NoLot, Whole as WholeLot, LendingBoth, LendingLeft, LendingRight, Down as BothOut, TakingLeft, TakingRight, Gone}
+use Rattle.flu_worker.specs.declared.holding.Holding.TheVariants.{Empty as NoLot, Whole as WholeLot, LendingBoth, LendingLeft}
+use Rattle.flu_worker.specs.declared.holding.Holding.TheVariants.{LendingRight, Down as BothOut, TakingLeft, TakingRight, Gone}
 use Rattle.flu_worker.specs.Agreeing.{IsExactFor}
 use Rattle.flu_worker.specs.Calls.{GivesLot, HandlesEvent, CountsEvent, IsWholeLot}
 use Rattle.flu_worker.specs.Choosing.{may_give, next_of}
@@ -30,7 +32,7 @@ use Rattle.flu_worker.specs.Notes.{WorkerNote}
 use Rattle.flu_worker.specs.Rule.{Rule, HoldsWhole}
 use Rattle.flu_worker.proofs.Aiming.{some_event}
 use Rattle.flu_worker.proofs.Changing.{agrees_more, grows_more}
-use Rattle.flu_worker.proofs.CountLemmas.{set_here, set_there, set_one, some_within}
+use Rattle.flu_worker.proofs.CountLemmas.{set_here, set_there, set_one}
 use Rattle.flu_worker.proofs.Serving.{give_aims, give_hand, hand_whole, next_aims, next_exact, next_hand}
 use Rattle.flu_worker.proofs.Steps.{holds_anew, hand_anew, mailed_after, mailed_still, counts_long}
 
@@ -99,7 +101,8 @@ gives laws v mail h lot y rule is may =
     }
 
 -- ---- handle
-module _ (laws : LawsBelow) (v : WorkerNote) (old : Mailbox) (was : Holding) (rule : Rule v old was) (x : Ask) (next : next_of v ≡ Some x) (lot : Lot) (is_lot : IsWholeOf was lot) where
+module _ (laws : LawsBelow) (v : WorkerNote) (old : Mailbox) (was : Holding) (rule : Rule v old was) (x : Ask) (next : next_of v ≡ Some x) (lot : Lot)
+    (is_lot : IsWholeOf was lot) where
   abbrev whole : HoldsWhole v lot
   whole = holds_whole v old was lot rule is_lot
 
@@ -125,25 +128,30 @@ module _ (laws : LawsBelow) (v : WorkerNote) (old : Mailbox) (was : Holding) (ru
   handle_there =
       let same = ap (λ (c : List ℕ). slice_index c x.itag.0) rule.mailed.counts in
       let count = own_count in
-      let there = some_within (events_of (slice_index_or (listed v.case.streams) x.itag.0 [])) x.index event exact.is in
+      let there = slice_get_within (events_of (slice_index_or (listed v.case.streams) x.itag.0 [])) x.index event exact.is in
       omega arith
 
   -- the pending event is the one that x names
-  module _ (found : Event) (is : slice_get (events_of (slice_index_or (listed v.case.streams) x.itag.0 [])) (slice_index (counts_of old) x.itag.0) ≡ Some found) where
+  module _ (found : Event) (is : slice_get (events_of (slice_index_or (listed v.case.streams) x.itag.0 []))
+      (slice_index (counts_of old) x.itag.0) ≡ Some found) where
     found_at : slice_get (events_of (slice_index_or (listed v.case.streams) x.itag.0 [])) x.index ≡ Some found
-    found_at = ap (slice_get (events_of (slice_index_or (listed v.case.streams) x.itag.0 []))) (sym (ap (λ (c : List ℕ). slice_index c x.itag.0) rule.mailed.counts ∙ own_count)) ∙ is
+    found_at =
+        ap (slice_get (events_of (slice_index_or (listed v.case.streams) x.itag.0 [])))
+        (sym (ap (λ (c : List ℕ). slice_index c x.itag.0) rule.mailed.counts ∙ own_count)) ∙ is
 
     pub handle_exact : IsExactFor v.case v.node lot.upto x found
     handle_exact = subst (λ (z : Event). IsExactFor v.case v.node lot.upto x z) (some_event (sym exact.is ∙ found_at)) exact
 
   pub never_pending : slice_get (events_of (slice_index_or (listed v.case.streams) x.itag.0 [])) (slice_index (counts_of old) x.itag.0) ≡ None → ⊥
   never_pending none =
-      some_none (sym (ap (slice_get (events_of (slice_index_or (listed v.case.streams) x.itag.0 []))) (ap (λ (c : List ℕ). slice_index c x.itag.0) rule.mailed.counts ∙ own_count) ∙ exact.is) ∙ none)
+      some_none (sym (ap (slice_get (events_of (slice_index_or (listed v.case.streams) x.itag.0 [])))
+      (ap (λ (c : List ℕ). slice_index c x.itag.0) rule.mailed.counts ∙ own_count) ∙ exact.is) ∙ none)
     where
       some_none : {z : Event} → Some z ≡ None → ⊥
       some_none e = cc
 
-  module _ (more : Lot) (fits : LotFits v.case v.node more) (since : more.since ≡ lot.since) (upto : more.upto ≡ slice_set lot.upto x.itag.0 (slice_index lot.upto x.itag.0 + 1))
+  module _ (more : Lot) (fits : LotFits v.case v.node more) (since : more.since ≡ lot.since)
+      (upto : more.upto ≡ slice_set lot.upto x.itag.0 (slice_index lot.upto x.itag.0 + 1))
       (mail : Mailbox) (same : IsSameMail (listed v.case.streams) old mail) (counts : List ℕ) (is_counts : counts_of mail ≡ counts)
       (set : counts ≡ slice_set v.counts x.itag.0 (slice_index v.counts x.itag.0 + 1)) where
     in_range : x.itag.0 < length v.counts
@@ -159,7 +167,12 @@ module _ (laws : LawsBelow) (v : WorkerNote) (old : Mailbox) (was : Holding) (ru
 
     -- without memory for the parts
     pub gone_rule : Rule (record v { hand = hand_of Gone; kept = None; counts = counts }) mail Gone
-    gone_rule = record { mailed = mailed_after v old mail (record v { hand = hand_of Gone; kept = None; counts = counts }) rule.mailed same is_counts refl refl refl; hand = refl; holds = refl }
+    gone_rule =
+        record {
+          mailed = mailed_after v old mail (record v { hand = hand_of Gone; kept = None; counts = counts }) rule.mailed same is_counts refl refl refl;
+          hand = refl;
+          holds = refl;
+        }
 
     module _ (h : Holding) (is : IsHeldAs v.case v.node more h) where
       abbrev pub handled_note : WorkerNote
@@ -171,7 +184,8 @@ module _ (laws : LawsBelow) (v : WorkerNote) (old : Mailbox) (was : Holding) (ru
         hand = refl;
         holds = holds_anew handled_note more refl fits (since ∙ whole.since)
             (agrees_more laws v.case v.node x.itag.0 v.counts counts v.held.upto lot.upto more.upto exact.known mine counted one whole.agrees)
-            (grows_more laws v.case v.node x.itag.0 v.counts counts v.held.upto lot.upto more.upto exact.known mine counted one v.taken_left v.taken_right whole.grows) h is;
+            (grows_more laws v.case v.node x.itag.0 v.counts counts v.held.upto lot.upto more.upto exact.known mine counted one v.taken_left v.taken_right
+            whole.grows) h is;
       }
 
       pub handles : HandlesEvent x v handled_note
@@ -199,7 +213,8 @@ module _ (laws : LawsBelow) (v : WorkerNote) (old : Mailbox) (was : Holding) (ru
           index = m.index;
           next = own_count;
           counts = λ j. (
-            (λ e. ap (slice_index counts) e ∙ ap (λ (c : List ℕ). slice_index c x.itag.0) set ∙ set_here v.counts x.itag.0 _ in_range ∙ ap (λ (u : ℕ). u + 1) own_count),
+            (λ e. ap (slice_index counts) e ∙ ap (λ (c : List ℕ). slice_index c x.itag.0) set ∙ set_here v.counts x.itag.0 _ in_range
+                ∙ ap (λ (u : ℕ). u + 1) own_count),
             (λ other. ap (λ (c : List ℕ). slice_index c j) set ∙ set_there v.counts x.itag.0 _ j other),
           );
           outputs = puts m.front m.back m.moment m.stands itag_is m.index;

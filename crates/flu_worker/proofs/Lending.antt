@@ -1,6 +1,8 @@
 -- The rule after a part was lent or taken, and after the lot was given or an event handled.
 use Rattle.std.proofs.Common.{◌≡◌, ℕ, Option, Some, None, List, refl, sym, ap, subst, ◌∙◌}
 use Rattle.std.specs.Prelude.{is_some, slice_index, IsSome}
+use Rattle.std.proofs.lemmas.Option.{some_pair_parts}
+use Rattle.flu_lemmas.proofs.Options.{some_there, none_or_some}
 use Rattle.flu_fork.specs.declared.content.Content.{Content}
 use Rattle.flu_fork.specs.declared.lots.Ask.{Ask}
 use Rattle.flu_fork.specs.declared.lots.Lot.{Lot}
@@ -11,7 +13,8 @@ use Rattle.flu_worker.specs.declared.hand.Hand.TheVariants.{Whole}
 use Rattle.flu_worker.specs.declared.hand.Side.{Side}
 use Rattle.flu_worker.specs.declared.hand.Side.TheVariants.{Left, Right}
 use Rattle.flu_worker.specs.declared.holding.Holding.{Holding}
-use Rattle.flu_worker.specs.declared.holding.Holding.TheVariants.{Empty as NoLot, Whole as WholeLot, LendingBoth, LendingLeft, LendingRight, Down as BothOut, TakingLeft, TakingRight, Gone}
+use Rattle.flu_worker.specs.declared.holding.Holding.TheVariants.{Empty as NoLot, Whole as WholeLot, LendingBoth, LendingLeft}
+use Rattle.flu_worker.specs.declared.holding.Holding.TheVariants.{LendingRight, Down as BothOut, TakingLeft, TakingRight, Gone}
 use Rattle.flu_worker.specs.Agreeing.{IsTarget, IsForkedAt, left_loan, right_loan}
 use Rattle.flu_worker.specs.Calls.{LendsPart, IsFitPart, TakesPart}
 use Rattle.flu_worker.specs.Hands.{after_lend, after_take}
@@ -22,28 +25,15 @@ use Rattle.flu_worker.specs.Notes.{WorkerNote}
 use Rattle.flu_worker.specs.Rule.{Rule, IsMailed, HoldsWhole, IsPart, LendsBoth, LendsLeft, LendsRight, IsDown, TakesLeft, TakesRight}
 use Rattle.flu_worker.proofs.Aiming.{never_ask, some_ask}
 use Rattle.flu_worker.proofs.Changing.{joined_agrees, joined_target, joined_served, joined_left_grown, joined_right_grown}
-use Rattle.flu_worker.proofs.Steps.{some_not_none, mailed_still, counts_long}
+use Rattle.flu_worker.proofs.CountLemmas.{upto_of}
+use Rattle.flu_worker.proofs.Steps.{mailed_still, counts_long}
 
 pub the_kids : (o : Option (ℕ × ℕ)) → IsSome o → (l : ℕ) × (r : ℕ) × (o ≡ Some (l, r))
 the_kids None e = cc
 the_kids (Some p) e = (p.0, p.1, refl)
 
-abbrev left_of : Option (ℕ × ℕ) → ℕ
-left_of None = 0
-left_of (Some p) = p.0
-
-abbrev right_of : Option (ℕ × ℕ) → ℕ
-right_of None = 0
-right_of (Some p) = p.1
-
-same_kids : {l r l' r' : ℕ} (o : Option (ℕ × ℕ)) → o ≡ Some (l, r) → o ≡ Some (l', r') → (l ≡ l') × (r ≡ r')
-same_kids o a b = (ap left_of (sym a ∙ b), ap right_of (sym a ∙ b))
-
 same_kept : {a b : Ask} (o : Option Ask) → o ≡ Some a → o ≡ Some b → a ≡ b
 same_kept o e f = some_ask (sym e ∙ f)
-
-upto_of : (a b : LotCounts) → a ≡ b → a.upto ≡ b.upto
-upto_of a b e = ap (λ (m : LotCounts). m.upto) e
 
 -- ---- lend
 pub record Lent (s : Side) (v m : WorkerNote) (mail : Mailbox) (new : Holding) (lot : Lot) : Type 0 where
@@ -60,7 +50,8 @@ right_note v new lot = record v { hand = hand_of new; lent_right = counts_of lot
 part_grown : (k : Content) (v : ℕ) (loan : LotCounts) (taken : List ℕ) (lot : Lot) → IsPart k v loan taken lot → GrownFrom k v taken lot.upto
 part_grown k v loan taken lot p = subst (λ (u : List ℕ). GrownFrom k v taken u) (sym (upto_of (counts_of lot) loan p.loaned)) p.grown
 
-left_from_both : (v : WorkerNote) (mail : Mailbox) (a b : Lot) → Rule v mail (LendingBoth a b) → Lent Left v (left_note v (LendingRight b) a) mail (LendingRight b) a
+left_from_both : (v : WorkerNote) (mail : Mailbox) (a b : Lot) → Rule v mail (LendingBoth a b)
+    → Lent Left v (left_note v (LendingRight b) a) mail (LendingRight b) a
 left_from_both v mail a b rule =
     let h : LendsBoth v a b = rule.holds in
     let two = the_kids (kids v.case v.node) h.forked.inner in
@@ -121,7 +112,8 @@ left_from_one v mail a rule =
       part = record { fits = λ l r e. (h.left l r e).fits; grown = λ l r e. part_grown v.case l (left_loan v.held a.upto) v.taken_left a (h.left l r e) };
     }
 
-right_from_both : (v : WorkerNote) (mail : Mailbox) (a b : Lot) → Rule v mail (LendingBoth a b) → Lent Right v (right_note v (LendingLeft a) b) mail (LendingLeft a) b
+right_from_both : (v : WorkerNote) (mail : Mailbox) (a b : Lot) → Rule v mail (LendingBoth a b)
+    → Lent Right v (right_note v (LendingLeft a) b) mail (LendingLeft a) b
 right_from_both v mail a b rule =
     let h : LendsBoth v a b = rule.holds in
     let two = the_kids (kids v.case v.node) h.forked.inner in
@@ -182,10 +174,12 @@ lent_as : (s : Side) (v : WorkerNote) (mail : Mailbox) (new new' : Holding) (lot
 lent_as s v mail new new' lot lot' f en el h =
     subst (λ (x : Holding). Lent s v (f v x lot') mail x lot') (sym en) (subst (λ (x : Lot). Lent s v (f v new x) mail new x) (sym el) h)
 
-pub lends_left : (v : WorkerNote) (mail : Mailbox) (old new : Holding) (lot : Lot) → Rule v mail old → LeftLeaves old lot new → Lent Left v (left_note v new lot) mail new lot
+pub lends_left : (v : WorkerNote) (mail : Mailbox) (old new : Holding) (lot : Lot) → Rule v mail old → LeftLeaves old lot new
+    → Lent Left v (left_note v new lot) mail new lot
 lends_left v mail NoLot new lot rule is = absurd is
 lends_left v mail (WholeLot here) new lot rule is = absurd is
-lends_left v mail (LendingBoth a b) new lot rule is = lent_as Left v mail (LendingRight b) new a lot left_note is.rest_is is.lot_is (left_from_both v mail a b rule)
+lends_left v mail (LendingBoth a b) new lot rule is =
+    lent_as Left v mail (LendingRight b) new a lot left_note is.rest_is is.lot_is (left_from_both v mail a b rule)
 lends_left v mail (LendingLeft a) new lot rule is = lent_as Left v mail BothOut new a lot left_note is.rest_is is.lot_is (left_from_one v mail a rule)
 lends_left v mail (LendingRight b) new lot rule is = absurd is
 lends_left v mail BothOut new lot rule is = absurd is
@@ -193,10 +187,12 @@ lends_left v mail (TakingLeft a) new lot rule is = absurd is
 lends_left v mail (TakingRight b) new lot rule is = absurd is
 lends_left v mail Gone new lot rule is = absurd is
 
-pub lends_right : (v : WorkerNote) (mail : Mailbox) (old new : Holding) (lot : Lot) → Rule v mail old → RightLeaves old lot new → Lent Right v (right_note v new lot) mail new lot
+pub lends_right : (v : WorkerNote) (mail : Mailbox) (old new : Holding) (lot : Lot) → Rule v mail old → RightLeaves old lot new
+    → Lent Right v (right_note v new lot) mail new lot
 lends_right v mail NoLot new lot rule is = absurd is
 lends_right v mail (WholeLot here) new lot rule is = absurd is
-lends_right v mail (LendingBoth a b) new lot rule is = lent_as Right v mail (LendingLeft a) new b lot right_note is.rest_is is.lot_is (right_from_both v mail a b rule)
+lends_right v mail (LendingBoth a b) new lot rule is =
+    lent_as Right v mail (LendingLeft a) new b lot right_note is.rest_is is.lot_is (right_from_both v mail a b rule)
 lends_right v mail (LendingLeft a) new lot rule is = absurd is
 lends_right v mail (LendingRight b) new lot rule is = lent_as Right v mail BothOut new b lot right_note is.rest_is is.lot_is (right_from_one v mail b rule)
 lends_right v mail BothOut new lot rule is = absurd is
@@ -224,19 +220,23 @@ module _ (laws : LawsBelow) (n : WorkerNote) (mail : Mailbox) (mailed : IsMailed
         let k = n.case in
         let long = counts_long n mail mailed in
         let t = down.target y kept in
-        let served = joined_served laws k n.node l r e n.counts long n.held n.lent_left.upto down.forked y t left right lot a b left_fits right_fits fits joined in
-        let lefts = joined_left_grown laws k n.node l r e n.counts long n.held n.lent_left.upto down.forked y t left right lot a b left_fits right_fits fits joined in
-        let rights = joined_right_grown laws k n.node l r e n.counts long n.held n.lent_left.upto down.forked y t left right lot a b left_fits right_fits fits joined in
-        let target = joined_target laws k n.node l r e n.counts long n.held n.lent_left.upto down.forked y t left right lot a b left_fits right_fits fits joined in
+        let served =
+        joined_served laws k n.node l r e n.counts long n.held n.lent_left.upto down.forked y t left right lot a b left_fits right_fits fits joined in
+        let lefts =
+        joined_left_grown laws k n.node l r e n.counts long n.held n.lent_left.upto down.forked y t left right lot a b left_fits right_fits fits joined in
+        let rights =
+        joined_right_grown laws k n.node l r e n.counts long n.held n.lent_left.upto down.forked y t left right lot a b left_fits right_fits fits joined in
+        let target =
+        joined_target laws k n.node l r e n.counts long n.held n.lent_left.upto down.forked y t left right lot a b left_fits right_fits fits joined in
         record {
           fits = fits;
           since = served.loan.since;
           agrees = joined_agrees laws k n.node l r e n.counts long n.held n.lent_left.upto down.forked y t left right lot a b left_fits right_fits fits joined;
           grows = record {
-            left = λ l' r' e'. (let s = same_kids (kids k n.node) e e' in subst (λ (v : ℕ). GrownFrom k v left.upto lot.upto) s.0 lefts);
-            right = λ l' r' e'. (let s = same_kids (kids k n.node) e e' in subst (λ (v : ℕ). GrownFrom k v right.upto lot.upto) s.1 rights);
+            left = λ l' r' e'. (let s = some_pair_parts l l' r r' (sym e ∙ e') in subst (λ (v : ℕ). GrownFrom k v left.upto lot.upto) s.0 lefts);
+            right = λ l' r' e'. (let s = some_pair_parts l l' r r' (sym e ∙ e') in subst (λ (v : ℕ). GrownFrom k v right.upto lot.upto) s.1 rights);
           };
-          leaf = λ leaf. absurd (some_not_none (kids k n.node) leaf down.forked.inner);
+          leaf = λ leaf. absurd (none_or_some (kids k n.node) leaf down.forked.inner);
           inner = λ _. ap is_some kept;
           target = λ z f. subst (λ (x : Ask). IsTarget k n.node n.counts lot.upto x) (same_kept n.kept kept f) target;
           lent = λ z f. (let u = (down.target z f).next in (u, u ∙ sym (ap (λ (s : LotCounts). slice_index s.upto z.itag.0) down.right)));
@@ -252,10 +252,6 @@ taking_left v new lot = record v { hand = hand_of new; taken_left = lot.upto }
 
 abbrev pub taking_right : WorkerNote → Holding → Lot → WorkerNote
 taking_right v new lot = record v { hand = hand_of new; taken_right = lot.upto }
-
-the_ask : (o : Option Ask) → IsSome o → (y : Ask) × (o ≡ Some y)
-the_ask None e = cc
-the_ask (Some y) e = (y, refl)
 
 module _ (laws : LawsBelow) (v : WorkerNote) (mail : Mailbox) (lot : Lot) (kept : IsSome v.kept)
     (fits : (l r : ℕ) → kids v.case v.node ≡ Some (l, r) → LotFits v.case l lot)
@@ -293,7 +289,7 @@ module _ (laws : LawsBelow) (v : WorkerNote) (mail : Mailbox) (lot : Lot) (kept 
       → Took Left v (taking_left v (WholeLot whole) lot) mail (WholeLot whole) lot
   left_second b whole wfits counts rule =
       let h : TakesRight v b = rule.holds in
-      let y = the_ask v.kept kept in
+      let y = some_there v.kept kept in
       let two = the_kids (kids v.case v.node) h.down.forked.inner in
       record {
         rule = record {
@@ -325,7 +321,8 @@ module _ (laws : LawsBelow) (v : WorkerNote) (mail : Mailbox) (lot : Lot) (kept 
   takes_left (LendingRight b) new rule is = absurd is
   takes_left BothOut new rule is = subst (λ (x : Holding). Took Left v (taking_left v x lot) mail x lot) (sym is) (left_first rule)
   takes_left (TakingLeft a) new rule is = absurd is
-  takes_left (TakingRight b) new rule is = subst (λ (x : Holding). Took Left v (taking_left v x lot) mail x lot) (sym is.is) (left_second b is.lot is.fits is.counts rule)
+  takes_left (TakingRight b) new rule is =
+      subst (λ (x : Holding). Took Left v (taking_left v x lot) mail x lot) (sym is.is) (left_second b is.lot is.fits is.counts rule)
   takes_left Gone new rule is = absurd is
 
   -- what is asked of the join
@@ -339,11 +336,12 @@ module _ (laws : LawsBelow) (v : WorkerNote) (mail : Mailbox) (lot : Lot) (kept 
   awaits_left (TakingLeft a) rule = tt
   awaits_left (TakingRight b) rule =
       let h : TakesRight v b = rule.holds in
-      let y = the_ask v.kept kept in
+      let y = some_there v.kept kept in
       record {
         left = fits;
         right = h.fits;
-        paired = λ l r e. are_paired laws v mail rule.mailed h.down y.0 y.1 l r e lot b (fits l r e) (h.fits l r e) (served l r y.0 e y.1) (h.served y.0 l r y.1 e);
+        paired =
+            λ l r e. are_paired laws v mail rule.mailed h.down y.0 y.1 l r e lot b (fits l r e) (h.fits l r e) (served l r y.0 e y.1) (h.served y.0 l r y.1 e);
       }
   awaits_left Gone rule = tt
 
@@ -383,7 +381,7 @@ module _ (laws : LawsBelow) (v : WorkerNote) (mail : Mailbox) (lot : Lot) (kept 
       → Took Right v (taking_right v (WholeLot whole) lot) mail (WholeLot whole) lot
   right_second a whole wfits counts rule =
       let h : TakesLeft v a = rule.holds in
-      let y = the_ask v.kept kept in
+      let y = some_there v.kept kept in
       let two = the_kids (kids v.case v.node) h.down.forked.inner in
       record {
         rule = record {
@@ -414,7 +412,8 @@ module _ (laws : LawsBelow) (v : WorkerNote) (mail : Mailbox) (lot : Lot) (kept 
   takes_right (LendingLeft a) new rule is = absurd is
   takes_right (LendingRight b) new rule is = absurd is
   takes_right BothOut new rule is = subst (λ (x : Holding). Took Right v (taking_right v x lot) mail x lot) (sym is) (right_first rule)
-  takes_right (TakingLeft a) new rule is = subst (λ (x : Holding). Took Right v (taking_right v x lot) mail x lot) (sym is.is) (right_second a is.lot is.fits is.counts rule)
+  takes_right (TakingLeft a) new rule is =
+      subst (λ (x : Holding). Took Right v (taking_right v x lot) mail x lot) (sym is.is) (right_second a is.lot is.fits is.counts rule)
   takes_right (TakingRight b) new rule is = absurd is
   takes_right Gone new rule is = absurd is
 
@@ -427,11 +426,12 @@ module _ (laws : LawsBelow) (v : WorkerNote) (mail : Mailbox) (lot : Lot) (kept 
   awaits_right BothOut rule = tt
   awaits_right (TakingLeft a) rule =
       let h : TakesLeft v a = rule.holds in
-      let y = the_ask v.kept kept in
+      let y = some_there v.kept kept in
       record {
         left = h.fits;
         right = fits;
-        paired = λ l r e. are_paired laws v mail rule.mailed h.down y.0 y.1 l r e a lot (h.fits l r e) (fits l r e) (h.served y.0 l r y.1 e) (served l r y.0 e y.1);
+        paired =
+            λ l r e. are_paired laws v mail rule.mailed h.down y.0 y.1 l r e a lot (h.fits l r e) (fits l r e) (h.served y.0 l r y.1 e) (served l r y.0 e y.1);
       }
   awaits_right (TakingRight b) rule = tt
   awaits_right Gone rule = tt

@@ -16,4 +16,5 @@ pub mod Ending
 pub mod Methods
 pub mod OneTarget
 pub mod Telling
+pub mod Turning
 pub mod Waiting

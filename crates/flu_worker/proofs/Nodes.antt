@@ -35,20 +35,24 @@ module _ (laws : LawsBelow) (k : Content) where
   pub own_not_above : (w i : ℕ) → i < count_of_itags (job k) → own (job k) (nodes k) w i ≡ true → above (job k) (nodes k) w i ≡ false
   own_not_above w i lt mine = false_if_not _ (λ over. not_both _ (own_below w i lt mine) (above_not_below w i lt over))
 
-  pub own_not_left : (w l r i : ℕ) → kids k w ≡ Some (l, r) → i < count_of_itags (job k) → own (job k) (nodes k) w i ≡ true → below (job k) (nodes k) l i ≡ false
+  pub own_not_left : (w l r i : ℕ) → kids k w ≡ Some (l, r) → i < count_of_itags (job k) → own (job k) (nodes k) w i ≡ true
+      → below (job k) (nodes k) l i ≡ false
   own_not_left w l r i e lt mine = (of_kids w l r i e lt).not_left (or_left _ _ mine)
 
-  pub own_not_right : (w l r i : ℕ) → kids k w ≡ Some (l, r) → i < count_of_itags (job k) → own (job k) (nodes k) w i ≡ true → below (job k) (nodes k) r i ≡ false
+  pub own_not_right : (w l r i : ℕ) → kids k w ≡ Some (l, r) → i < count_of_itags (job k) → own (job k) (nodes k) w i ≡ true
+      → below (job k) (nodes k) r i ≡ false
   own_not_right w l r i e lt mine = (of_kids w l r i e lt).not_right (or_left _ _ mine)
 
   pub left_below : (w l r i : ℕ) → kids k w ≡ Some (l, r) → i < count_of_itags (job k) → below (job k) (nodes k) l i ≡ true → below (job k) (nodes k) w i ≡ true
   left_below w l r i e lt h = (of_kids w l r i e lt).below_left h
 
-  pub right_below : (w l r i : ℕ) → kids k w ≡ Some (l, r) → i < count_of_itags (job k) → below (job k) (nodes k) r i ≡ true → below (job k) (nodes k) w i ≡ true
+  pub right_below : (w l r i : ℕ) → kids k w ≡ Some (l, r) → i < count_of_itags (job k) → below (job k) (nodes k) r i ≡ true
+      → below (job k) (nodes k) w i ≡ true
   right_below w l r i e lt h = (of_kids w l r i e lt).below_right h
 
   -- an itag of a node or above it is above its children
-  pub above_kids : (w l r i : ℕ) → kids k w ≡ Some (l, r) → i < count_of_itags (job k) → (own (job k) (nodes k) w i ≡ true) ⊎ (above (job k) (nodes k) w i ≡ true)
+  pub above_kids : (w l r i : ℕ) → kids k w ≡ Some (l, r) → i < count_of_itags (job k)
+      → (own (job k) (nodes k) w i ≡ true) ⊎ (above (job k) (nodes k) w i ≡ true)
       → (above (job k) (nodes k) l i ≡ true) × (above (job k) (nodes k) r i ≡ true)
   above_kids w l r i e lt place =
       let o = of_kids w l r i e lt in

@@ -1,6 +1,6 @@
 -- An own event that an inner worker may take is before the next event of each itag above it, which is so held up.
-use Rattle.std.proofs.Common.{◌≡◌, ◌≢◌, ℕ, true, false, Option, Some, None, refl, sym, ap, ◌∙◌, arith}
-use Rattle.std.specs.Prelude.{not, is_none, slice_index, IsSome}
+use Rattle.std.proofs.Common.{◌≡◌, ◌≢◌, true, false, Some, sym, ap, ◌∙◌, arith}
+use Rattle.std.specs.Prelude.{not, slice_index, IsSome}
 use Rattle.std.proofs.lemmas.Bool.{ne_eqb, or_left, or_right}
 use Rattle.flu_lemmas.proofs.Places.{slice_get-there}
 use Rattle.flu_lemmas.proofs.Tests.{both, false_if_not, not_both}

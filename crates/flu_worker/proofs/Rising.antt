@@ -1,8 +1,9 @@
 -- The events of one itag are in event order.
-use Rattle.std.proofs.Common.{◌≡◌, ◌<◌, ◌≤◌, ℕ, true, false, Some, ◌∷◌, ◌++◌, inl, inr, sym, ap, subst, ◌∙◌, arith}
+use Rattle.std.proofs.Common.{◌≡◌, ◌<◌, ◌≤◌, ℕ, true, false, Some, ◌∷◌, inl, inr, sym, ap, subst, ◌∙◌, arith}
 use Rattle.std.proofs.lemmas.Bool.{cases_eq}
 use Rattle.std.specs.List.{AllByRecursion}
 use Rattle.flu_lemmas.proofs.Elements.{all_map, all_append, all_at_place}
+use Rattle.flu_lemmas.proofs.InTime.{not_back}
 use Rattle.flu_model.specs.declared.events.Event.{Event}
 use Rattle.flu_model.specs.Merging.{is_before, merged}
 use Rattle.flu_laws.specs.Spans.{Moment}
@@ -10,7 +11,7 @@ use Rattle.flu_fork.specs.Places.{HasMoment}
 use Rattle.flu_fork.specs.Settings.{Setting, IsSetting, events_at, moments}
 use Rattle.flu_fork.specs.Streams.{IsEventAt}
 use Rattle.flu_worker.specs.LawsBelow.{LawsBelow}
-use Rattle.flu_worker.proofs.EarliestLemmas.{not_after, not_itself}
+use Rattle.flu_worker.proofs.EarliestLemmas.{not_itself}
 
 module _ (laws : LawsBelow) (k : Setting) (ok : IsSetting k) (j n l : ℕ) (x y : Event) (ex : IsEventAt k j n x) (ey : IsEventAt k j l y) where
   a : HasMoment k j n x
@@ -36,7 +37,7 @@ module _ (laws : LawsBelow) (k : Setting) (ok : IsSetting k) (j n l : ℕ) (x y 
   here same lt = absurd (let at = a.index in omega arith)
 
   behind : AllByRecursion Behind a.back
-  behind = all_map (λ q. is_before x q.event ≡ true) Behind a.back (λ q h same lt. not_after x q.event h) a.later
+  behind = all_map (λ q. is_before x q.event ≡ true) Behind a.back (λ q h same lt. not_back x.time x.itag.0 q.event.time q.event.itag.0 h) a.later
 
   all_behind : AllByRecursion Behind (moments k)
   all_behind = subst (AllByRecursion Behind) (sym a.stands) (all_append Behind a.front (a.moment ∷ a.back) in_front (here, behind))

@@ -1,6 +1,7 @@
 -- The rule of a new worker, and after a lot came down.
-use Rattle.std.proofs.Common.{Result, Ok, Err, ◌≡◌, ◌<◌, ◌≤◌, ◌+◌, ℕ, zero, suc, false, cond, None, List, ◌∷◌, length, map, replicate, refl, sym, ap, subst, ◌∙◌, arith}
-use Rattle.std.specs.Prelude.{slice_index, IfOk}
+use Rattle.std.proofs.Common.{◌≡◌, ◌<◌, ◌≤◌, ◌+◌, ℕ, zero, suc, false, cond, None}
+use Rattle.std.proofs.Common.{List, ◌∷◌, length, map, replicate, refl, sym, ap, subst, ◌∙◌, arith}
+use Rattle.std.specs.Prelude.{slice_index}
 use Rattle.std.specs.List.{range_with_len}
 use Rattle.flu_model.specs.declared.streams.Streams.{Streams}
 use Rattle.flu_model.specs.declared.jobs.Program.{Program}
@@ -19,7 +20,7 @@ use Rattle.flu_fork.specs.declared.lots.Lot.{Lot}
 use Rattle.flu_fork.specs.Classes.{itag, above}
 use Rattle.flu_fork.specs.Laws.{no_counts}
 use Rattle.flu_fork.specs.Lots.{job, nodes, LotFits, CountsNothing}
-use Rattle.flu_fork.specs.Serving.{LotCounts, GrownFrom, none_counted}
+use Rattle.flu_fork.specs.Serving.{GrownFrom, none_counted}
 use Rattle.flu_fork.specs.Serving as lots
 use Rattle.flu_mail.specs.declared.mailbox.Mailbox.{Mailbox}
 use Rattle.flu_mail.specs.Mailboxes.{node_of, seen_of, counts_of, is_above, IsAt, IsOver}
@@ -62,7 +63,8 @@ new_note k w h = record {
 }
 
 -- what a new worker is made of, where each list of counts is that of nothing
-pub note_is : (k j : Content) (w : ℕ) (h : Holding) (seen counts none a b c d e f g x y : List ℕ) → j ≡ k → seen ≡ no_counts (job k) → counts ≡ no_counts (job k) → none ≡ no_counts (job k)
+pub note_is : (k j : Content) (w : ℕ) (h : Holding) (seen counts none a b c d e f g x y : List ℕ) → j ≡ k → seen ≡ no_counts (job k)
+    → counts ≡ no_counts (job k) → none ≡ no_counts (job k)
     → a ≡ none → b ≡ none → c ≡ none → d ≡ none → e ≡ none → f ≡ none → g ≡ none → x ≡ none → y ≡ none
     → record {
       case = j;
@@ -103,15 +105,16 @@ new_holds k zero h is =
     (subst (λ (u : List ℕ). Agrees k 0 (no_counts (job k)) (no_counts (job k)) u) (sym nothing) (agrees_itself k 0 (no_counts (job k))))
     (subst (λ (u : List ℕ). Grows k 0 (no_counts (job k)) (no_counts (job k)) u) (sym nothing) (new_grows k 0)) h is.is
 new_holds k (suc w) h is =
-    subst (λ (x : Holding). Holds (new_note k (suc w) h) x) (sym is) (record { kept = refl; mine = λ i e. refl; most = λ i. omega arith; grows = new_grows k (suc w) })
+    subst (λ (x : Holding). Holds (new_note k (suc w) h) x) (sym is) (record {
+      kept = refl;
+      mine = λ i e. refl;
+      most = λ i. omega arith;
+      grows = new_grows k (suc w);
+    })
 
 new_hand : (k : Content) (w : ℕ) (h : Holding) → IsFirst k w h → hand_of h ≡ start_hand k w
 new_hand k zero h is = hand_anew k 0 is.opening h is.is
 new_hand k (suc w) h is = ap hand_of is
-
-pub if_ok : {T E : Type 0} (r : Result T E) (P Q : T → Type 0) → ((x : T) → P x → Q x) → IfOk r P → IfOk r Q
-if_ok (Ok x) P Q f h = f x h
-if_ok (Err e) P Q f h = h
 
 pub first_is : (k : Content) (w : ℕ) (h : Holding) (lot : Lot) → w ≡ 0 → LotFits k 0 lot → CountsNothing k lot → IsHeldAs k w lot h → IsFirst k w h
 first_is k zero h lot e fits nothing is = record { opening = lot; fits = fits; nothing = nothing; is = is }
@@ -126,7 +129,8 @@ pub record IsNewMail (k : Content) (w : ℕ) (mail : Mailbox) : Type 0 where
 
 -- by what making it tells
 pub new_mail : (k : Content) (w : ℕ) (mail : Mailbox) (c : Checked) (v : Valid) (s : Streams) → c ≡ k.checked → v ≡ k.valid → s ≡ k.streams
-    → IsAt (program_of c) (plan_of v).nodes mail → IsOver (listed s) mail → node_of mail ≡ w → seen_of mail ≡ replicate {A = ℕ} (count_of_itags (program_of c)) 0
+    → IsAt (program_of c) (plan_of v).nodes mail → IsOver (listed s) mail → node_of mail ≡ w
+    → seen_of mail ≡ replicate {A = ℕ} (count_of_itags (program_of c)) 0
     → counts_of mail ≡ replicate {A = ℕ} (count_of_itags (program_of c)) 0 → IsNewMail k w mail
 new_mail k w mail c v s ec ev es at over node seen counts = record {
   at_node = subst (λ (x : Valid). IsAt (job k) (plan_of x).nodes mail) ev (subst (λ (x : Checked). IsAt (program_of x) (plan_of v).nodes mail) ec at);
@@ -136,7 +140,8 @@ new_mail k w mail c v s ec ev es at over node seen counts = record {
   counts = counts ∙ ap (λ (x : Checked). replicate {A = ℕ} (count_of_itags (program_of x)) 0) ec ∙ nothing_counted k;
 }
 
-pub new_rule : (k : Content) (w : ℕ) (mail : Mailbox) (h : Holding) (n : WorkerNote) → n ≡ new_note k w h → w < length (nodes k) → IsNewMail k w mail → IsFirst k w h → Rule n mail h
+pub new_rule : (k : Content) (w : ℕ) (mail : Mailbox) (h : Holding) (n : WorkerNote) → n ≡ new_note k w h → w < length (nodes k) → IsNewMail k w mail
+    → IsFirst k w h → Rule n mail h
 new_rule k w mail h n e there is_new is =
     subst (λ (m : WorkerNote). Rule m mail h) (sym e) (record {
       mailed = record { there = there; node = is_new.node; seen = is_new.seen; counts = is_new.counts; at_node = is_new.at_node; over = is_new.over };
@@ -165,7 +170,8 @@ is_new k w h n e is =
 pub held_none : (n : WorkerNote) (old : Mailbox) (was : Holding) → Rule n old was → is_open n.hand ≡ false → HoldsNone n
 held_none n old was rule shut = has_none n was rule.holds (sym (ap is_open rule.hand) ∙ shut)
 
-pub hold_rises : (n : WorkerNote) (old : Mailbox) (was : Holding) (lot : Lot) → Rule n old was → is_open n.hand ≡ false → GrownFrom n.case n.node n.given lot.upto
+pub hold_rises : (n : WorkerNote) (old : Mailbox) (was : Holding) (lot : Lot) → Rule n old was → is_open n.hand ≡ false
+    → GrownFrom n.case n.node n.given lot.upto
     → (i : ℕ) → slice_index n.counts i ≤ slice_index lot.upto i
 hold_rises n old was lot rule shut grown i =
     let none = held_none n old was rule shut in
@@ -173,8 +179,10 @@ hold_rises n old was lot rule shut grown i =
     let b = grown.outside i in
     omega arith
 
-module _ (laws : LawsBelow) (n : WorkerNote) (old : Mailbox) (was : Holding) (rule : Rule n old was) (shut : is_open n.hand ≡ false) (lot : Lot) (fits : LotFits n.case n.node lot)
-    (grown : GrownFrom n.case n.node n.given lot.upto) (mail : Mailbox) (same : IsSameMail (listed n.case.streams) old mail) (counts : List ℕ) (is_counts : counts_of mail ≡ counts)
+module _ (laws : LawsBelow) (n : WorkerNote) (old : Mailbox) (was : Holding) (rule : Rule n old was) (shut : is_open n.hand ≡ false) (lot : Lot)
+    (fits : LotFits n.case n.node lot)
+    (grown : GrownFrom n.case n.node n.given lot.upto) (mail : Mailbox) (same : IsSameMail (listed n.case.streams) old mail) (counts : List ℕ)
+    (is_counts : counts_of mail ≡ counts)
     (like : CountsLike (above (job n.case) (nodes n.case) n.node) lot.upto n.counts counts) where
   none : HoldsNone n
   none = held_none n old was rule shut
@@ -195,8 +203,10 @@ module _ (laws : LawsBelow) (n : WorkerNote) (old : Mailbox) (was : Holding) (ru
       mailed = mailed_after n old mail held_note rule.mailed same is_counts refl refl refl;
       hand = refl;
       holds = holds_anew held_note lot none.kept fits refl
-          (agrees_held laws n.case n.node n.counts counts n.given lot.upto n.taken_left n.taken_right (counts_long n old rule.mailed) fits.upto_each none.mine none.most grown like)
-          (grows_held laws n.case n.node n.counts counts n.given lot.upto n.taken_left n.taken_right (counts_long n old rule.mailed) fits.upto_each none.mine none.most grown like none.grows) h is;
+          (agrees_held laws n.case n.node n.counts counts n.given lot.upto n.taken_left n.taken_right
+          (counts_long n old rule.mailed) fits.upto_each none.mine none.most grown like)
+          (grows_held laws n.case n.node n.counts counts n.given lot.upto n.taken_left n.taken_right
+          (counts_long n old rule.mailed) fits.upto_each none.mine none.most grown like none.grows) h is;
     }
 
     pub holds_lot : HoldsLot lot n held_note
@@ -207,20 +217,28 @@ module _ (laws : LawsBelow) (n : WorkerNote) (old : Mailbox) (was : Holding) (ru
       kept = none.kept;
       held = refl;
       given = refl;
-      counts_above = like_above laws n.case n.node n.counts counts n.given lot.upto n.taken_left n.taken_right (counts_long n old rule.mailed) fits.upto_each none.mine none.most grown like;
-      counts_rest = like_rest laws n.case n.node n.counts counts n.given lot.upto n.taken_left n.taken_right (counts_long n old rule.mailed) fits.upto_each none.mine none.most grown like;
-      counts_own = like_own laws n.case n.node n.counts counts n.given lot.upto n.taken_left n.taken_right (counts_long n old rule.mailed) fits.upto_each none.mine none.most grown like;
+      counts_above =
+          like_above laws n.case n.node n.counts counts n.given lot.upto n.taken_left n.taken_right
+          (counts_long n old rule.mailed) fits.upto_each none.mine none.most grown like;
+      counts_rest =
+          like_rest laws n.case n.node n.counts counts n.given lot.upto n.taken_left n.taken_right
+          (counts_long n old rule.mailed) fits.upto_each none.mine none.most grown like;
+      counts_own =
+          like_own laws n.case n.node n.counts counts n.given lot.upto n.taken_left n.taken_right
+          (counts_long n old rule.mailed) fits.upto_each none.mine none.most grown like;
     }
 
 -- the counts after those above were set, by what setting them tells
-pub like_told : (n : WorkerNote) (old new : Mailbox) (t : Tables) (k : Content) (items upto : List ℕ) → IsMailed n old → k ≡ n.case → AreTablesOf (job k) (nodes k) t → items ≡ upto
+pub like_told : (n : WorkerNote) (old new : Mailbox) (t : Tables) (k : Content) (items upto : List ℕ) → IsMailed n old → k ≡ n.case
+    → AreTablesOf (job k) (nodes k) t → items ≡ upto
     → (IsAt (job n.case) (nodes n.case) old → IsAt (job n.case) (nodes n.case) new)
     → ((i : ℕ) → slice_index (counts_of new) i ≡ cond (is_above t old i) (slice_index items i) (slice_index (counts_of old) i))
     → CountsLike (above (job n.case) (nodes n.case) n.node) upto n.counts (counts_of new)
 like_told n old new t k items upto mailed ek tables ei at told = record {
   long = mail_long (job n.case) (nodes n.case) new (at mailed.at_node) ∙ sym (counts_long n old mailed);
   counts_are = λ i. told i
-      ∙ λ j. cond (ancestors_own ((tables.of_job ∙ ap job ek) j) ((tables.of_plan ∙ ap nodes ek) j) (mailed.node j) (itag i)) (slice_index (ei j) i) (slice_index (mailed.counts j) i);
+      ∙ λ j. cond (ancestors_own ((tables.of_job ∙ ap job ek) j) ((tables.of_plan ∙ ap nodes ek) j) (mailed.node j) (itag i)) (slice_index (ei j) i)
+      (slice_index (mailed.counts j) i);
 }
 
 pub same_told : (n : WorkerNote) (old new : Mailbox) (s : Streams) → s ≡ n.case.streams → seen_of new ≡ seen_of old → node_of new ≡ node_of old

@@ -2,6 +2,7 @@
 use Rattle.std.proofs.Common.{◌≡◌, ◌<◌, ℕ, Bool, true, false, cond, Option, Some, None, length, inl, inr, refl, sym, ap, ◌∙◌}
 use Rattle.std.specs.Prelude.{◌==◌, ◌&&◌, is_none, slice_index}
 use Rattle.std.proofs.lemmas.Bool.{cases_Bool}
+use Rattle.std.proofs.lemmas.Option.{slice_get_within}
 use Rattle.flu_lemmas.proofs.Tests.{and_left, and_right, true_eq}
 use Rattle.flu_model.specs.Owners.{owns}
 use Rattle.flu_fork.specs.declared.lots.Ask.{Ask}
@@ -17,7 +18,6 @@ use Rattle.flu_worker.specs.LawsBelow.{LawsBelow}
 use Rattle.flu_worker.specs.Notes.{WorkerNote, own_of, above_of}
 use Rattle.flu_worker.specs.Rule.{HoldsWhole}
 use Rattle.flu_worker.proofs.Aiming.{known_at, leaf_served, leaf_target, same_ask, serving_target, some_ask, target_exact}
-use Rattle.flu_worker.proofs.CountLemmas.{some_within}
 
 pub hand_whole : (h : Hand) → is_whole h ≡ true → h ≡ Whole
 hand_whole Empty e = cc
@@ -78,9 +78,10 @@ module _ (laws : LawsBelow) (n : WorkerNote) (there : n.node < length (nodes n.c
     asks_above : serves (sight n) (event_of n.case y) ≡ true → AsksAbove n.case n.node y
     asks_above ready = by_event (event_of n.case y) refl ready
       where
-        by_event : (o : Option Rattle.flu_model.specs.declared.events.Event.Event) → event_of n.case y ≡ o → serves (sight n) o ≡ true → AsksAbove n.case n.node y
+        by_event : (o : Option Rattle.flu_model.specs.declared.events.Event.Event) → event_of n.case y ≡ o → serves (sight n) o ≡ true
+            → AsksAbove n.case n.node y
         by_event None e f = cc
-        by_event (Some x) e f = record { known = known_at n.case y.itag.0 y.index x e; above = give_above; there = some_within _ y.index x e }
+        by_event (Some x) e f = record { known = known_at laws n.case y.itag.0 y.index x e; above = give_above; there = slice_get_within _ y.index x e }
 
     pub give_aims : Aims n lot y
     give_aims = elim (cases_Bool (is_none (kids n.case n.node))) [
@@ -88,7 +89,8 @@ module _ (laws : LawsBelow) (n : WorkerNote) (there : n.node < length (nodes n.c
           (let ready = sym (cond_true (is_none (kids n.case n.node)) (serves (sight n) (event_of n.case y)) (is_same_ask y n.kept) leaf) ∙ give_last in
           aims_at_leaf (no_kids _ leaf) y (serving_target laws (sight n) n.held.upto lot.upto h.agrees y (asks_above ready) give_index ready))
       | inr inner ↦
-          aims_at_kept y (same_ask y n.kept (sym (cond_false (is_none (kids n.case n.node)) (serves (sight n) (event_of n.case y)) (is_same_ask y n.kept) inner) ∙ give_last))
+          aims_at_kept y (same_ask y n.kept
+          (sym (cond_false (is_none (kids n.case n.node)) (serves (sight n) (event_of n.case y)) (is_same_ask y n.kept) inner) ∙ give_last))
     ]
 
   -- ---- handle
@@ -103,7 +105,8 @@ module _ (laws : LawsBelow) (n : WorkerNote) (there : n.node < length (nodes n.c
     own_some : (o : Option Ask) → if_own (sight n) o ≡ Some y → (o ≡ Some y) × (own_of n y.itag.0 ≡ true)
     own_some None e = cc
     own_some (Some x) e =
-        elim (owns (job n.case) (nodes n.case) n.node x.itag) as (λ t. owns (job n.case) (nodes n.case) n.node x.itag ≡ t → cond t (Some x) None ≡ Some y → (Some x ≡ Some y) × (own_of n y.itag.0 ≡ true)) [
+        elim (owns (job n.case) (nodes n.case) n.node x.itag) as (λ t. owns (job n.case) (nodes n.case) n.node x.itag ≡ t → cond t (Some x) None ≡ Some y
+        → (Some x ≡ Some y) × (own_of n y.itag.0 ≡ true)) [
           | true ↦ λ mine f. (f, ap (λ (a : Ask). own_of n a.itag.0) (sym (some_ask f)) ∙ mine)
           | false ↦ λ mine f. absurd (nothing f)
         ] refl e
@@ -113,7 +116,8 @@ module _ (laws : LawsBelow) (n : WorkerNote) (there : n.node < length (nodes n.c
 
     pub next_aims : Aims n lot y × (own_of n y.itag.0 ≡ true)
     next_aims =
-        elim (is_none (kids n.case n.node)) as (λ t. is_none (kids n.case n.node) ≡ t → cond t (ask_for (sight n) (least_ready (sight n))) (if_own (sight n) n.kept) ≡ Some y → Aims n lot y × (own_of n y.itag.0 ≡ true)) [
+        elim (is_none (kids n.case n.node)) as (λ t. is_none (kids n.case n.node) ≡ t
+        → cond t (ask_for (sight n) (least_ready (sight n))) (if_own (sight n) n.kept) ≡ Some y → Aims n lot y × (own_of n y.itag.0 ≡ true)) [
           | true ↦ λ leaf e. (let t = leaf_target laws (sight n) n.held.upto lot.upto h.agrees y e in (aims_at_leaf (no_kids _ leaf) y t.0, t.1))
           | false ↦ λ inner e. (let o = own_some n.kept e in (aims_at_kept y o.0, o.1))
         ] refl (both_parts (is_whole n.hand) _ next).1

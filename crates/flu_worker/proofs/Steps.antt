@@ -1,8 +1,9 @@
 -- What a lot that is whole anew keeps of the rule.
 use Rattle.std.proofs.Common.{◌≡◌, ◌<◌, ◌≤◌, ℕ, true, false, Option, Some, None, List, [], length, refl, sym, ap, subst, ◌∙◌, arith}
-use Rattle.std.specs.Prelude.{is_some, slice_index, slice_index_or, IsSome}
+use Rattle.std.specs.Prelude.{slice_index, slice_index_or, IsSome}
 use Rattle.std.proofs.lemmas.List.{length-map}
 use Rattle.flu_lemmas.proofs.Places.{slice_get-there, slice_index-map}
+use Rattle.flu_lemmas.proofs.Options.{none_or_some}
 use Rattle.flu_model.specs.declared.events.Item.{Item}
 use Rattle.flu_model.specs.Merging.{events_of}
 use Rattle.flu_model.specs.declared.jobs.Program.{Program}
@@ -18,7 +19,8 @@ use Rattle.flu_mail.specs.declared.entries.Entry.{Entry}
 use Rattle.flu_mail.specs.Mailboxes.{node_of, seen_of, counts_of, IsAt, IsOver}
 use Rattle.flu_worker.specs.declared.hand.Hand.TheVariants.{Lending}
 use Rattle.flu_worker.specs.declared.holding.Holding.{Holding}
-use Rattle.flu_worker.specs.declared.holding.Holding.TheVariants.{Empty as NoLot, Whole as WholeLot, LendingBoth, LendingLeft, LendingRight, Down as BothOut, TakingLeft, TakingRight, Gone}
+use Rattle.flu_worker.specs.declared.holding.Holding.TheVariants.{Empty as NoLot, Whole as WholeLot, LendingBoth, LendingLeft}
+use Rattle.flu_worker.specs.declared.holding.Holding.TheVariants.{LendingRight, Down as BothOut, TakingLeft, TakingRight, Gone}
 use Rattle.flu_worker.specs.Agreeing.{Agrees, Grows}
 use Rattle.flu_worker.proofs.Mails.{IsSameMail}
 use Rattle.flu_worker.specs.Hands.{is_open, first_hand}
@@ -34,7 +36,17 @@ down_seen n seen h = record { forked = h.forked; left = h.left; right = h.right;
 pub holds_seen : (n : WorkerNote) (seen : List ℕ) (h : Holding) → Holds n h → Holds (record n { seen = seen }) h
 holds_seen n seen NoLot h = record { kept = h.kept; mine = h.mine; most = h.most; grows = h.grows }
 holds_seen n seen (WholeLot lot) h =
-    record { fits = h.fits; since = h.since; agrees = h.agrees; grows = h.grows; leaf = h.leaf; inner = h.inner; target = h.target; lent = h.lent; served = h.served }
+    record {
+      fits = h.fits;
+      since = h.since;
+      agrees = h.agrees;
+      grows = h.grows;
+      leaf = h.leaf;
+      inner = h.inner;
+      target = h.target;
+      lent = h.lent;
+      served = h.served;
+    }
 holds_seen n seen (LendingBoth a b) h = record { kept = h.kept; forked = h.forked; left = h.left; right = h.right }
 holds_seen n seen (LendingLeft a) h = record { kept = h.kept; forked = h.forked; left = h.left; right = h.right }
 holds_seen n seen (LendingRight b) h = record { kept = h.kept; forked = h.forked; left = h.left; right = h.right }
@@ -42,9 +54,6 @@ holds_seen n seen BothOut h = down_seen n seen h
 holds_seen n seen (TakingLeft a) h = record { down = down_seen n seen h.down; kept = h.kept; fits = h.fits; taken = h.taken; served = h.served }
 holds_seen n seen (TakingRight b) h = record { down = down_seen n seen h.down; kept = h.kept; fits = h.fits; taken = h.taken; served = h.served }
 holds_seen n seen Gone h = h
-
-pub some_not_none : {A : Type 0} (o : Option A) → o ≡ None → is_some o ≡ true → ⊥
-some_not_none o a b = cc
 
 -- what is not open has no lot
 pub has_none : (n : WorkerNote) (h : Holding) → Holds n h → is_open (hand_of h) ≡ false → HoldsNone n
@@ -68,19 +77,21 @@ module _ (n : WorkerNote) (lot : Lot) (kept : n.kept ≡ None) (fits : LotFits n
     agrees = agrees;
     grows = grows;
     leaf = λ _. kept;
-    inner = λ some. absurd (some_not_none (kids n.case n.node) leaf some);
+    inner = λ some. absurd (none_or_some (kids n.case n.node) leaf some);
     target = λ y e. never_ask n.kept kept e;
     lent = λ y e. never_ask n.kept kept e;
     served = λ y e. never_ask n.kept kept e;
   }
 
-  forked : (a b : Lot) → IsSome (kids n.case n.node) → HasCounts lot (a, b) → ((l r : ℕ) → kids n.case n.node ≡ Some (l, r) → PartsFitKids n.case l r (a, b)) → LendsBoth n a b
+  forked : (a b : Lot) → IsSome (kids n.case n.node) → HasCounts lot (a, b) → ((l r : ℕ) → kids n.case n.node ≡ Some (l, r) → PartsFitKids n.case l r (a, b))
+      → LendsBoth n a b
   forked a b inner counts parts = record {
     kept = kept;
     forked = record {
       inner = inner;
       agrees = subst (λ (u : List ℕ). Agrees n.case n.node n.counts n.held.upto u) (sym counts.left_upto) agrees;
-      since = λ i. (let h = fits.since_first i in let s = ap (λ (u : List ℕ). slice_index u i) since in let t = ap (λ (u : List ℕ). slice_index u i) counts.left_upto in omega arith);
+      since = λ i. (let h = fits.since_first i in let s = ap (λ (u : List ℕ). slice_index u i) since in
+          let t = ap (λ (u : List ℕ). slice_index u i) counts.left_upto in omega arith);
       there = λ i. (let h = fits.there i in let t = ap (λ (u : List ℕ). slice_index u i) counts.left_upto in omega arith);
     };
     left = λ l r e. record {
@@ -129,7 +140,8 @@ pub counts_long : (n : WorkerNote) (mail : Mailbox) → IsMailed n mail → leng
 counts_long n mail h = sym (ap length h.counts) ∙ mail_long (job n.case) (nodes n.case) mail h.at_node
 
 -- another mailbox of the worker, after its counts changed
-pub mailed_after : (n : WorkerNote) (old new : Mailbox) (m : WorkerNote) → IsMailed n old → IsSameMail (listed n.case.streams) old new → counts_of new ≡ m.counts
+pub mailed_after : (n : WorkerNote) (old new : Mailbox) (m : WorkerNote) → IsMailed n old → IsSameMail (listed n.case.streams) old new
+    → counts_of new ≡ m.counts
     → m.case ≡ n.case → m.node ≡ n.node → m.seen ≡ n.seen → IsMailed m new
 mailed_after n old new m h same counts ec ew es = record {
   there = subst (λ (k : Content). m.node < length (nodes k)) (sym ec) (subst (λ (w : ℕ). w < length (nodes n.case)) (sym ew) h.there);
@@ -141,13 +153,17 @@ mailed_after n old new m h same counts ec ew es = record {
 }
 
 -- the same one
-pub mailed_still : (n : WorkerNote) (mail : Mailbox) (m : WorkerNote) → IsMailed n mail → m.case ≡ n.case → m.node ≡ n.node → m.seen ≡ n.seen → m.counts ≡ n.counts → IsMailed m mail
+pub mailed_still : (n : WorkerNote) (mail : Mailbox) (m : WorkerNote) → IsMailed n mail → m.case ≡ n.case → m.node ≡ n.node → m.seen ≡ n.seen
+    → m.counts ≡ n.counts → IsMailed m mail
 mailed_still n mail m h ec ew es eu =
     mailed_after n mail mail m h (record { seen = refl; node = refl; at_node = λ p ns a. a; over = h.over }) (h.counts ∙ sym eu) ec ew es
 
 -- ---- more is seen
 pub see_rule : (n : WorkerNote) (old mail : Mailbox) (h : Holding) → Rule n old h → counts_of mail ≡ counts_of old → node_of mail ≡ node_of old
-    → ((p : Program) (ns : List Node) → IsAt p ns old → IsAt p ns mail) → IsOver (listed n.case.streams) mail → Rule (record n { seen = seen_of mail; counts = counts_of mail }) mail h
+    → ((p : Program) (ns : List Node) → IsAt p ns old → IsAt p ns mail) → IsOver (listed n.case.streams) mail → Rule (record n {
+      seen = seen_of mail;
+      counts = counts_of mail;
+    }) mail h
 see_rule n old mail h rule ec en at over =
     let m = rule.mailed in
     let same : counts_of mail ≡ n.counts = ec ∙ m.counts in
@@ -158,7 +174,8 @@ see_rule n old mail h rule ec en at over =
     })
 
 -- no more is counted than there is
-pub counted_within : (lists : List (List Item)) (mail : Mailbox) (i : ℕ) → IsOver lists mail → i < length lists → slice_index (counts_of mail) i ≤ length (events_of (slice_index_or lists i []))
+pub counted_within : (lists : List (List Item)) (mail : Mailbox) (i : ℕ) → IsOver lists mail → i < length lists
+    → slice_index (counts_of mail) i ≤ length (events_of (slice_index_or lists i []))
 counted_within lists mail i over lt =
     let long = sym (length-map mail.entries.items (λ (e : Entry). e.seen)) ∙ over.one_each in
     let there = slice_get-there mail.entries.items i (omega arith) in

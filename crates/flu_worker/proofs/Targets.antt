@@ -1,6 +1,7 @@
 -- The target that a worker asks for.
 use Rattle.std.proofs.Common.{◌≡◌, ◌<◌, ℕ, true, cond, Option, Some, None, List, length, ◌⊎◌, refl, sym, ap, subst, ◌∙◌}
 use Rattle.std.specs.Prelude.{slice_index, IfSome}
+use Rattle.std.proofs.lemmas.Option.{slice_get_within}
 use Rattle.flu_model.specs.Itags.{count_of_itags}
 use Rattle.flu_fork.specs.declared.content.Content.{Content}
 use Rattle.flu_fork.specs.declared.lots.Ask.{Ask}
@@ -11,7 +12,8 @@ use Rattle.flu_mail.specs.declared.mailbox.Mailbox.{Mailbox}
 use Rattle.flu_worker.specs.declared.hand.Hand.{Hand}
 use Rattle.flu_worker.specs.declared.hand.Side.TheVariants.{Left, Right}
 use Rattle.flu_worker.specs.declared.holding.Holding.{Holding}
-use Rattle.flu_worker.specs.declared.holding.Holding.TheVariants.{Empty as NoLot, Whole as WholeLot, LendingBoth, LendingLeft, LendingRight, Down as BothOut, TakingLeft, TakingRight, Gone}
+use Rattle.flu_worker.specs.declared.holding.Holding.TheVariants.{Empty as NoLot, Whole as WholeLot, LendingBoth, LendingLeft}
+use Rattle.flu_worker.specs.declared.holding.Holding.TheVariants.{LendingRight, Down as BothOut, TakingLeft, TakingRight, Gone}
 use Rattle.flu_worker.specs.Agreeing.{Agrees, IsTarget}
 use Rattle.flu_worker.specs.Calls.{IsAskable}
 use Rattle.flu_worker.specs.Choosing.{sight, first_some, new_target, target_of}
@@ -21,7 +23,6 @@ use Rattle.flu_worker.specs.LawsBelow.{LawsBelow}
 use Rattle.flu_worker.specs.Notes.{WorkerNote, own_of, above_of}
 use Rattle.flu_worker.specs.Rule.{Rule, Holds, IsDown}
 use Rattle.flu_worker.proofs.Aiming.{never_ask, new_is_target, some_ask}
-use Rattle.flu_worker.proofs.CountLemmas.{some_within}
 use Rattle.flu_worker.proofs.Nodes.{above_kids, above_not_below}
 use Rattle.flu_worker.proofs.Steps.{mailed_still}
 
@@ -94,7 +95,7 @@ down_asks : (n : WorkerNote) → IsDown n → (y : Ask) → IsTarget n.case n.no
 down_asks n h y t = record {
   known = t.known;
   place = t.place;
-  there = some_within _ y.index t.event t.is;
+  there = slice_get_within _ y.index t.event t.is;
   left = t.next;
   right = t.next ∙ sym (ap (λ (m : LotCounts). slice_index m.upto y.itag.0) h.right);
 }
@@ -104,7 +105,7 @@ kept_asks : (n : WorkerNote) (h : Holding) → Holds n h → (y : Ask) → n.kep
 kept_asks n NoLot h y e = never_ask n.kept h.kept e
 kept_asks n (WholeLot lot) h y e =
     let t = h.target y e in
-    record { known = t.known; place = t.place; there = some_within _ y.index t.event t.is; left = (h.lent y e).0; right = (h.lent y e).1 }
+    record { known = t.known; place = t.place; there = slice_get_within _ y.index t.event t.is; left = (h.lent y e).0; right = (h.lent y e).1 }
 kept_asks n (LendingBoth a b) h y e = never_ask n.kept h.kept e
 kept_asks n (LendingLeft a) h y e = never_ask n.kept h.kept e
 kept_asks n (LendingRight b) h y e = never_ask n.kept h.kept e

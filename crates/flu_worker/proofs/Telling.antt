@@ -1,14 +1,12 @@
 -- What the rule of a worker says of what contracts see of it.
-use Rattle.std.proofs.Common.{◌≡◌, ◌⊎◌, ◌<◌, ◌≤◌, ℕ, true, false, Option, Some, None, List, length, inl, inr, refl, sym, ap, subst, ◌∙◌, arith}
-use Rattle.std.specs.Prelude.{slice_index, slice_index_or}
+use Rattle.std.proofs.Common.{◌≡◌, ◌⊎◌, ◌<◌, ◌≤◌, ℕ, true, false, Some, List, length, inl, inr, refl, sym, ap, subst, ◌∙◌, arith}
+use Rattle.std.specs.Prelude.{slice_index}
 use Rattle.std.proofs.lemmas.Bool.{cases_lt}
-use Rattle.flu_model.specs.declared.events.Item.{Item}
+use Rattle.std.proofs.lemmas.List.{get_or_past}
 use Rattle.flu_model.specs.Itags.{count_of_itags}
 use Rattle.flu_model.specs.Listed.{listed}
-use Rattle.flu_model.specs.Merging.{events_of}
-use Rattle.flu_fork.specs.declared.content.Content.{Content}
 use Rattle.flu_fork.specs.declared.lots.Ask.{Ask}
-use Rattle.flu_fork.specs.Lots.{job, nodes, setting_of}
+use Rattle.flu_fork.specs.Lots.{job, setting_of}
 use Rattle.flu_fork.specs.Serving.{LotCounts}
 use Rattle.flu_fork.specs.Settings.{events_at}
 use Rattle.flu_mail.specs.declared.mailbox.Mailbox.{Mailbox}
@@ -16,7 +14,8 @@ use Rattle.flu_worker.specs.declared.hand.Hand.{Hand}
 use Rattle.flu_worker.specs.declared.hand.Side.{Side}
 use Rattle.flu_worker.specs.declared.hand.Side.TheVariants.{Left, Right}
 use Rattle.flu_worker.specs.declared.holding.Holding.{Holding}
-use Rattle.flu_worker.specs.declared.holding.Holding.TheVariants.{Empty as NoLot, Whole as WholeLot, LendingBoth, LendingLeft, LendingRight, Down as BothOut, TakingLeft, TakingRight, Gone}
+use Rattle.flu_worker.specs.declared.holding.Holding.TheVariants.{Empty as NoLot, Whole as WholeLot, LendingBoth, LendingLeft}
+use Rattle.flu_worker.specs.declared.holding.Holding.TheVariants.{LendingRight, Down as BothOut, TakingLeft, TakingRight, Gone}
 use Rattle.flu_worker.specs.Agreeing.{Agrees, IsTarget}
 use Rattle.flu_worker.specs.Hands.{is_lost, is_open, is_out}
 use Rattle.flu_worker.specs.Holding.{hand_of}
@@ -24,16 +23,17 @@ use Rattle.flu_worker.specs.Keeping.{HasRule, KeepsIn}
 use Rattle.flu_worker.specs.LawsBelow.{LawsBelow}
 use Rattle.flu_worker.specs.Notes.{WorkerNote, lent_to, own_of, above_of}
 use Rattle.flu_worker.specs.Rule.{Rule, Holds, IsMailed}
+use Rattle.flu_worker.proofs.CountLemmas.{upto_of}
 use Rattle.flu_worker.proofs.Aiming.{never_ask}
-use Rattle.flu_worker.proofs.CountLemmas.{beyond, no_items}
 use Rattle.flu_worker.proofs.Nodes.{above_not_below}
 use Rattle.flu_worker.proofs.Steps.{counts_long, counted_within}
 
 counted : (n : WorkerNote) (mail : Mailbox) → IsMailed n mail → (i : ℕ) → slice_index n.counts i ≤ length (events_at (setting_of n.case) i)
 counted n mail m i =
     elim (cases_lt i (length (listed n.case.streams))) [
-      | inl lt ↦ subst (λ (c : List ℕ). slice_index c i ≤ length (events_at (setting_of n.case) i)) m.counts (counted_within (listed n.case.streams) mail i m.over lt)
-      | inr ge ↦ (let long = counts_long n mail m in let one = n.case.one_each in let none = beyond n.counts i (omega arith) in omega arith)
+      | inl lt ↦ subst (λ (c : List ℕ). slice_index c i ≤ length (events_at (setting_of n.case) i)) m.counts
+          (counted_within (listed n.case.streams) mail i m.over lt)
+      | inr ge ↦ (let long = counts_long n mail m in let one = n.case.one_each in let none = get_or_past n.counts i 0 (omega arith) in omega arith)
     ]
 
 keeps : (n : WorkerNote) (h : Holding) → Holds n h → KeepsIn (hand_of h) n
@@ -48,11 +48,13 @@ keeps n (TakingRight b) h = λ _. record { inner = h.down.forked.inner; kept = h
 keeps n Gone h = λ e. cc
 
 -- ---- counts
-over_held : (laws : LawsBelow) (n : WorkerNote) (upto : List ℕ) → Agrees n.case n.node n.counts n.held.upto upto → (i : ℕ) → i < count_of_itags (job n.case) → above_of n i ≡ true
+over_held : (laws : LawsBelow) (n : WorkerNote) (upto : List ℕ) → Agrees n.case n.node n.counts n.held.upto upto → (i : ℕ) → i < count_of_itags (job n.case)
+    → above_of n i ≡ true
     → slice_index n.counts i ≡ slice_index n.held.upto i
 over_held laws n upto a i lt over = a.over i over ∙ a.outside i (above_not_below laws n.case n.node i lt over)
 
-held : (laws : LawsBelow) (n : WorkerNote) (h : Holding) → Holds n h → (i : ℕ) → is_open (hand_of h) ≡ true → is_lost (hand_of h) ≡ false → i < count_of_itags (job n.case)
+held : (laws : LawsBelow) (n : WorkerNote) (h : Holding) → Holds n h → (i : ℕ) → is_open (hand_of h) ≡ true → is_lost (hand_of h) ≡ false
+    → i < count_of_itags (job n.case)
     → above_of n i ≡ true → slice_index n.counts i ≡ slice_index n.held.upto i
 held laws n NoLot h i opened lost lt over = cc
 held laws n (WholeLot lot) h i opened lost lt over = over_held laws n lot.upto h.agrees i lt over
@@ -69,9 +71,6 @@ at_loan : (n : WorkerNote) (upto : List ℕ) (loan : LotCounts) → Agrees n.cas
 at_loan n upto loan a is i place =
     let same : slice_index upto i ≡ slice_index loan.upto i = ap (λ (c : List ℕ). slice_index c i) (sym is) in
     elim place [ inl mine ↦ a.mine i mine ∙ same | inr over ↦ a.over i over ∙ same ]
-
-upto_of : (a b : LotCounts) → a ≡ b → a.upto ≡ b.upto
-upto_of a b e = ap (λ (c : LotCounts). c.upto) e
 
 lent : (n : WorkerNote) (h : Holding) → Holds n h → (s : Side) (i : ℕ) → is_out s (hand_of h) ≡ true → (own_of n i ≡ true) ⊎ (above_of n i ≡ true)
     → slice_index n.counts i ≡ slice_index (lent_to s n).upto i

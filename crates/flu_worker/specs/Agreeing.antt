@@ -33,8 +33,8 @@ abbrev pub IsFirstOf : Setting → Itags → List ℕ → Event → Type 0
 IsFirstOf k set upto x = (j l : ℕ) (y : Event) → set j ≡ true → slice_index upto j ≤ l → IsEventAt k j l y → is_before y x ≡ false
 
 -- A TARGET: the next event by these counts, of an itag of the node or of one above it. It is before each event that is not counted and on which it depends, of
--- the node's other itags, and if it is the node's own, of those above it. An inner worker aims at events in event order: no event of these itags that is not counted
--- is before its target
+-- the node's other itags, and if it is the node's own, of those above it. An inner worker aims at events in event order: no event of these itags that is
+-- not counted is before its target
 pub record IsTarget (k : Content) (w : ℕ) (counts upto : List ℕ) (y : Ask) : Type 0 where
   pub known : y.itag.0 < count_of_itags (job k)
   pub next : y.index ≡ slice_index upto y.itag.0

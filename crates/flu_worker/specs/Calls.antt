@@ -1,5 +1,6 @@
 -- What the calls of a worker do.
-use Rattle.std.specs.Prelude.{◌≡◌, ◌≢◌, ◌⊎◌, ℕ, zero, suc, ◌+◌, ◌≤◌, true, false, Option, Some, None, List, ◌∷◌, ◌++◌, length, slice_index, slice_index_or, [], IsSome}
+use Rattle.std.specs.Prelude.{◌≡◌, ◌≢◌, ◌⊎◌, ℕ, zero, suc, ◌+◌, ◌≤◌, true, false, Option, Some, None}
+use Rattle.std.specs.Prelude.{List, ◌∷◌, ◌++◌, length, slice_index, slice_index_or, [], IsSome}
 use Rattle.flu_model.specs.declared.events.Out.{Out}
 use Rattle.flu_model.specs.Listed.{listed}
 use Rattle.flu_cells.specs.Holding.{held}
@@ -136,7 +137,8 @@ pub record KeepsTarget (found : Option Ask) (old new : WorkerNote) : Type 0 wher
 
 -- the target names an event that is above each child, by the counts of the part lent to it last
 abbrev pub IsAskable : WorkerNote → Ask → Type 0
-IsAskable n a = (l r : ℕ) → kids n.case n.node ≡ Some (l, r) → (s : Side) → AsksAbove n.case (at_side s l r) a × (a.index ≡ slice_index (lent_to s n).upto a.itag.0)
+IsAskable n a = (l r : ℕ) → kids n.case n.node ≡ Some (l, r) → (s : Side)
+    → AsksAbove n.case (at_side s l r) a × (a.index ≡ slice_index (lent_to s n).upto a.itag.0)
 
 -- ---- finished
 

@@ -41,7 +41,9 @@ pub record HasRule (n : WorkerNote) : Type 0 where
   pub keeps : KeepsIn n.hand n
   -- while the lot is here or parts of it are out, the events of the itags above are counted as in the lot that was held, and in a part that is out those of the
   -- node's own itags and of the itags above are counted as the worker counts them
-  pub held : (i : ℕ) → is_open n.hand ≡ true → is_lost n.hand ≡ false → i < count_of_itags (job n.case) → above_of n i ≡ true → slice_index n.counts i ≡ slice_index n.held.upto i
-  pub lent : (s : Side) (i : ℕ) → is_out s n.hand ≡ true → (own_of n i ≡ true) ⊎ (above_of n i ≡ true) → slice_index n.counts i ≡ slice_index (lent_to s n).upto i
+  pub held : (i : ℕ) → is_open n.hand ≡ true → is_lost n.hand ≡ false → i < count_of_itags (job n.case) → above_of n i ≡ true
+      → slice_index n.counts i ≡ slice_index n.held.upto i
+  pub lent : (s : Side) (i : ℕ) → is_out s n.hand ≡ true → (own_of n i ≡ true) ⊎ (above_of n i ≡ true)
+      → slice_index n.counts i ≡ slice_index (lent_to s n).upto i
   -- a kept target is one by what is counted
   pub target : (y : Ask) → n.kept ≡ Some y → IsTarget n.case n.node n.counts n.counts y

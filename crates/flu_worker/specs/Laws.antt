@@ -21,7 +21,8 @@ TargetsAreOne =
 
 -- A NEW TARGET is of an own itag, or it is what is asked
 abbrev pub NewTargets : Type 0
-NewTargets = (s : Sight) (asked : Option Ask) (y : Ask) → new_target s asked ≡ Some y → (own (job s.case) (nodes s.case) s.node y.itag.0 ≡ true) ⊎ (asked ≡ Some y)
+NewTargets = (s : Sight) (asked : Option Ask) (y : Ask) → new_target s asked ≡ Some y
+    → (own (job s.case) (nodes s.case) s.node y.itag.0 ≡ true) ⊎ (asked ≡ Some y)
 
 -- ---- when all is seen
 
@@ -41,8 +42,8 @@ pub record HasReady (s : Sight) : Type 0 where
   pub ready : takes s least ≡ true
   pub found : least_ready s ≡ Some least
 
--- ASKED WORKERS GO ON: where an event of an itag above is asked for, and no event of these itags that is not counted is before it, the worker may take its least next
--- event, or serve what is asked
+-- ASKED WORKERS GO ON: where an event of an itag above is asked for, and no event of these itags that is not counted is before it, the worker may take its
+-- least next event, or serve what is asked
 abbrev pub AskedGoOn : Type 0
 AskedGoOn =
     (s : Sight) (y : Ask) (x : Event) → AllSeen s → AsksAbove s.case s.node y → IsEventAt (setting_of s.case) y.itag.0 y.index x

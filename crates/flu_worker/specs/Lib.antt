@@ -9,6 +9,7 @@ pub mod Choosing
 pub mod Sights
 pub mod Moving
 pub mod Starting
+pub mod Turning
 pub mod Doing
 pub mod Finishing
 pub mod LawsBelow

@@ -3,6 +3,7 @@
 
 ghost use Rattle.flu_worker.specs.Laws.{TargetsAreOne, NewTargets, AskedGoOn, OwnGoOn, NothingIsNext};
 ghost use Rattle.flu_worker.specs.LawsBelow.{LawsBelow};
+ghost use Rattle.flu_worker.specs.Turning.{LendTurns, TakeTurns, FirstIsHere, StartIsHere, StartIsShut};
 
 /// Of an inner worker's two possible targets only one is there: where it may take its least next event, it may not serve the next
 /// event of an itag above it, since its own one is before that and holds it up.
@@ -30,6 +31,16 @@ pub fn waiting_ends()
     laws_below();
 }
 
+/// What a step does to the shape of a hand: a part that is lent was here and is out, one that is taken was out and is here, and the
+/// other side stays as it was. At the start no part is out, and only the root has a lot.
+pub fn hands_turn()
+    ensures lend { LendTurns }
+    ensures take { TakeTurns }
+    ensures first { FirstIsHere }
+    ensures start { StartIsHere }
+    ensures shut { StartIsShut }
+{}
+
 /// The laws of lots, of whose itags are whose, and of waiting.
 pub(crate) fn laws_below()
     ensures { LawsBelow }
@@ -45,4 +56,5 @@ pub(crate) fn laws_below()
     flu_laws::moments_are_in_order();
     flu_mail::laws::ready_clears();
     flu_mail::laws::ready_when_clear();
+    flu_mail::laws::seen_events_stand();
 }

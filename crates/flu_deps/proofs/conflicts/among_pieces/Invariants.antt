@@ -5,4 +5,5 @@ use Rattle.flu_deps.proofs.conflicts.among_pieces.Given as goal
 
 abbrev pub invariant-loop-piece : goal.invariant-loop-piece
 invariant-loop-piece l =
-    best_among (conflicts_on l.p l.pair.a l.pair.b) l.best (pieces_cells l.key (drop l.piece-index l.pieces)) ≡ best_among (conflicts_on l.p l.pair.a l.pair.b) l.fn.best (pieces_cells l.key l.pieces)
+    best_among (conflicts_on l.p l.pair.a l.pair.b) l.best (pieces_cells l.key (drop l.piece-index l.pieces)) ≡ best_among
+    (conflicts_on l.p l.pair.a l.pair.b) l.fn.best (pieces_cells l.key l.pieces)

@@ -25,4 +25,5 @@ pub returns-clause-declared : goal.returns-clause-declared
 returns-clause-declared c = λ fits.
     let p = c.args.p.now in
     subst (λ o. IfSome o (λ (d : Cell). IsTrue (is_cell_of p.families d))) (sym (is c))
-    (best_is_one (λ d. IsTrue (is_cell_of p.families d)) (conflicts_on p c.args.a c.args.b) (is_cell_of p.families) (λ d e h. e) None (named p c.args.a c.args.b) tt (named_in p c.args.a c.args.b fits))
+    (best_is_one (λ d. IsTrue (is_cell_of p.families d)) (conflicts_on p c.args.a c.args.b) (is_cell_of p.families) (λ d e h. e) None
+    (named p c.args.a c.args.b) tt (named_in p c.args.a c.args.b fits))

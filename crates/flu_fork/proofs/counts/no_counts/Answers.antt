@@ -1,5 +1,5 @@
 use Rattle.std.proofs.Common.{ℕ, refl}
-use Rattle.flu_fork.proofs.Turns.{list_turn}
+use Rattle.flu_lemmas.proofs.Listed.{list_turn}
 use Rattle.flu_fork.proofs.counts.no_counts.Goals as goal
 
 pub loop-itag-preserved : goal.loop-itag-preserved

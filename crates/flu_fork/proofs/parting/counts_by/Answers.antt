@@ -1,5 +1,5 @@
+use Rattle.flu_lemmas.proofs.Listed.{list_turn}
 use Rattle.flu_fork.specs.Tables.{count_by}
-use Rattle.flu_fork.proofs.Turns.{list_turn}
 use Rattle.flu_fork.proofs.parting.counts_by.Goals as goal
 
 pub loop-i-preserved : goal.loop-i-preserved

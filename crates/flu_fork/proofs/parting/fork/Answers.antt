@@ -1,9 +1,9 @@
 use Rattle.std.proofs.Common.{◌≡◌, ℕ, Some, ◌∙◌}
+use Rattle.flu_lemmas.proofs.Options.{IfOk-both}
 use Rattle.flu_model.specs.Contents.{join}
 use Rattle.flu_cells.specs.Holding.{held}
 use Rattle.flu_cells.specs.Sets.{within, outside}
 use Rattle.flu_fork.specs.Lots.{job, nodes, kids, setting_of, HasParts, HasCounts, PartsFitKids}
-use Rattle.flu_fork.proofs.Turns.{IfOk-both}
 use Rattle.flu_fork.proofs.LotLemmas.{setting_holds, left_is, right_is, fits_as, paired_as}
 use Rattle.flu_fork.proofs.parting.fork.Goals as goal
 

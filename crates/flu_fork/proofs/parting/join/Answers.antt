@@ -1,12 +1,13 @@
 use Rattle.std.proofs.Common.{◌≡◌, ℕ, Some, ◌∙◌}
+use Rattle.std.proofs.lemmas.Result.{IfOk-weaker}
+use Rattle.flu_lemmas.proofs.Options.{pair_there, IfOk-both}
 use Rattle.flu_model.specs.Contents as contents
 use Rattle.flu_cells.specs.Holding.{held}
 use Rattle.flu_cells.specs.Sets.{outside}
 use Rattle.flu_fork.specs.declared.lots.Lot.{Lot}
 use Rattle.flu_fork.specs.Lots.{job, nodes, kids, setting_of, LotFits, IsJoined, HasJoinedCounts}
 use Rattle.flu_fork.specs.Tables.{counts_by}
-use Rattle.flu_fork.proofs.Turns.{IfOk-both, IfOk-map}
-use Rattle.flu_fork.proofs.LotLemmas.{setting_holds, joined_is, counts_are, fits_as, some_kids}
+use Rattle.flu_fork.proofs.LotLemmas.{setting_holds, joined_is, counts_are, fits_as}
 use Rattle.flu_fork.proofs.parting.join.Goals as goal
 
 pub returns-clause-state : goal.returns-clause-state
@@ -15,7 +16,7 @@ returns-clause-state c =
     let table = c.right.result.now in
     let left = c.args.left in
     let right = c.args.right in
-    IfOk-map c.merge.result
+    IfOk-weaker c.merge.result
     (λ (lot : Lot). held lot.state ≡ contents.join (held left.state) (outside table.copied (held right.state)))
     (λ (lot : Lot). (l r : ℕ) → kids k c.args.node ≡ Some (l, r) → IsJoined k r left right lot)
     (λ lot is l r e. is ∙ joined_is (job k) (nodes k) r table (held left.state) (held right.state) (c.right.ensures l r e))
@@ -37,7 +38,7 @@ returns-clause-counts c =
 pub returns-clause-fits : goal.returns-clause-fits
 returns-clause-fits c =
     let k = c.args.case.now in
-    let both = some_kids (kids k c.args.node) c.requires.inner in
+    let both = pair_there (kids k c.args.node) c.requires.inner in
     let l = both.0 in
     let r = both.1 in
     let e = both.2 in

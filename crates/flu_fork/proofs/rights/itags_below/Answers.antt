@@ -1,6 +1,6 @@
+use Rattle.flu_lemmas.proofs.Listed.{list_turn}
 use Rattle.flu_deps.specs.Validated.{plan_of}
 use Rattle.flu_fork.specs.Classes.{below}
-use Rattle.flu_fork.proofs.Turns.{list_turn}
 use Rattle.flu_fork.proofs.rights.itags_below.Goals as goal
 
 pub loop-i-preserved : goal.loop-i-preserved

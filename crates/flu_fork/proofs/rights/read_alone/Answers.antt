@@ -1,9 +1,9 @@
 use Rattle.std.proofs.Common.{◌∙◌}
+use Rattle.std.proofs.lemmas.Result.{IfOk-weaker}
 use Rattle.flu_cells.specs.Sets.{is_in}
 use Rattle.flu_deps.specs.Validated.{plan_of}
 use Rattle.flu_fork.specs.Classes.{below}
 use Rattle.flu_fork.proofs.GatheringLemmas.{copied_are_read}
-use Rattle.flu_fork.proofs.Turns.{IfOk-map}
 use Rattle.flu_fork.proofs.rights.read_alone.Goals as goal
 
 pub returns : goal.returns
@@ -11,7 +11,7 @@ returns c =
     let p = c.args.p.now in
     let law = c.modes_are_of_actions.ensures in
     let written = c.in_ok-written.written in
-    IfOk-map c.read_below.result _ _
+    IfOk-weaker c.read_below.result _ _
     (λ set is d. is d ∙ copied_are_read law.needs law.writes p c.requires.version (below p (plan_of c.args.v.now).nodes c.args.w) d (is_in written d)
     (c.in_ok-written.ensures d))
     c.read_below.ensures

@@ -1,9 +1,9 @@
 use Rattle.std.specs.Prelude.{◌&&◌, not}
+use Rattle.flu_lemmas.proofs.Listed.{test_turn}
 use Rattle.flu_cells.specs.Sets.{is_in}
 use Rattle.flu_deps.specs.Validated.{plan_of}
 use Rattle.flu_fork.specs.Classes.{below}
 use Rattle.flu_fork.specs.Gathering.{reads_by}
-use Rattle.flu_fork.proofs.Turns.{test_turn}
 use Rattle.flu_fork.proofs.rights.read_below.Goals as goal
 
 pub loop-i-preserved : goal.loop-i-preserved

@@ -1,8 +1,8 @@
 use Rattle.std.specs.Prelude.{◌&&◌}
+use Rattle.flu_lemmas.proofs.Listed.{test_turn}
 use Rattle.flu_deps.specs.Validated.{plan_of}
 use Rattle.flu_laws.specs.Uses.{writes}
 use Rattle.flu_fork.specs.Classes.{below, mode_by}
-use Rattle.flu_fork.proofs.Turns.{test_turn}
 use Rattle.flu_fork.proofs.rights.written_below.Goals as goal
 
 pub loop-i-preserved : goal.loop-i-preserved

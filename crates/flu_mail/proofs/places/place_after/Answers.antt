@@ -15,4 +15,6 @@ first_event-place-requires c =
     omega arith
 
 pub loop-counted-preserved : goal.loop-counted-preserved
-loop-counted-preserved c = place_after_one c.args.items.now c.loop-counted._counted c.loop-counted.place c.first_event-place.result (omega arith) c.loop-counted.invariant c.first_event-place.ensures
+loop-counted-preserved c =
+    place_after_one c.args.items.now c.loop-counted._counted c.loop-counted.place c.first_event-place.result
+    (omega arith) c.loop-counted.invariant c.first_event-place.ensures

@@ -23,7 +23,8 @@ remaining-preserved c =
     let found = c.in_ok-found.found in
     let reached : IsReached g rest found.connected.items found.rest.items = rw c.deref.ensures.value at c.in_ok-found.ensures in
     rw (c.in_ok-add_component.ensures, c.of.ensures, c.in_ok-component.ensures, c.deref-in-remaining.ensures.value)
-    (one_more_found g (graph_turns table) c.args.rates.now c.args.itags.now c.remaining.components.items rest c.remaining.invariant found.connected.items found.rest.items reached)
+    (one_more_found g (graph_turns table) c.args.rates.now c.args.itags.now c.remaining.components.items rest c.remaining.invariant found.connected.items
+    found.rest.items reached)
 
 pub remaining-smaller : goal.remaining-smaller
 remaining-smaller c = (rw c.deref.ensures.value at c.in_ok-found.ensures).fewer

@@ -15,4 +15,5 @@ returns c =
     let table = c.args.table.now in
     let found = c.in_ok-found.found in
     let empty : c.is_empty-2.result ≡ (length found.rest.items == 0) = grind (arith, common_steps) in
-    rest_tells (graph_of table) (graph_turns table) c.args.itags.now c.requires found.connected.items found.rest.items c.in_ok-found.ensures c.is_empty-2.result empty
+    rest_tells (graph_of table)
+    (graph_turns table) c.args.itags.now c.requires found.connected.items found.rest.items c.in_ok-found.ensures c.is_empty-2.result empty

@@ -5,7 +5,8 @@ use Rattle.flu_syntax.specs.Tree.{deed_of}
 use Rattle.flu_text.specs.Signs.{span_of}
 use Rattle.flu_syntax.specs.Machine.{CellFamily, ToClear, EmitText, FlushFamily}
 use Rattle.flu_syntax.proofs.Runs.{Tells-through}
-use Rattle.flu_syntax.proofs.Parts.{tells, run-expected, run-unexpected, run-doing, run-no_doing, run-doing_end, through_write, emit_text, flush_family, flush_text}
+use Rattle.flu_syntax.proofs.Parts.{tells, run-expected, run-unexpected, run-doing, run-no_doing}
+use Rattle.flu_syntax.proofs.Parts.{run-doing_end, through_write, emit_text, flush_family, flush_text}
 use Rattle.flu_syntax.proofs.declarations.act.Goals as goal
 
 pub returns-in_default-clause-run : goal.returns-in_default-clause-run

@@ -8,7 +8,8 @@ use Rattle.flu_syntax.proofs.declarations.actions.Given as goal
 abbrev pub invariant-each : goal.invariant-each
 invariant-each l = record {
   run : (here : Declarations × WrittenSpan)
-      → run l.end here.0 (ActionStart (no_actions here.1)) l.fn.tokens ≡ run l.end here.0 (ActionStart (record { kind = here.1; all = map action_of l.all.items })) l.rest;
+      → run l.end here.0 (ActionStart (no_actions here.1)) l.fn.tokens ≡ run l.end here.0
+      (ActionStart (record { kind = here.1; all = map action_of l.all.items })) l.rest;
   shorter : length l.rest ≤ length l.fn.tokens;
 }
 

@@ -4,7 +4,8 @@ use Rattle.flu_text.specs.declared.words.Word.TheVariants as w
 use Rattle.flu_text.specs.declared.words.Mark.TheVariants as m
 use Rattle.flu_syntax.specs.Machine.{TagKeys, TagLow}
 use Rattle.flu_syntax.proofs.Runs.{Tells-through}
-use Rattle.flu_syntax.proofs.Parts.{tells, run-word, run-passed, run-number, run-no_number, run-expected, run-unexpected, tag_bracket, tag_alone, tag_low, tag_close}
+use Rattle.flu_syntax.proofs.Parts.{tells, run-word, run-passed, run-number, run-no_number, run-expected}
+use Rattle.flu_syntax.proofs.Parts.{run-unexpected, tag_bracket, tag_alone, tag_low, tag_close}
 use Rattle.flu_syntax.proofs.declarations.keys.Goals as goal
 
 pub returns-in_default-clause-run : goal.returns-in_default-clause-run

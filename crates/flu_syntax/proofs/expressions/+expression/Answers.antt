@@ -4,7 +4,8 @@ use Rattle.flu_syntax.specs.declared.tokens.Front.TheVariants as start
 use Rattle.flu_syntax.specs.Tree.{view, NumberTree}
 use Rattle.flu_text.specs.Signs.{span_of, number_of}
 use Rattle.flu_syntax.specs.Machine.{ToRead, ToTest, NegFrame, NotFrame, ParenFrame, RightFrame}
-use Rattle.flu_syntax.proofs.Runs.{run-front, run-front_deep, run-front_misses, run-front_end, run-neg, run-not, run-right, not_starts, not_misses, opens_more, opens_none, deeper_in, same_in, Tells-through}
+use Rattle.flu_syntax.proofs.Runs.{run-front, run-front_deep, run-front_misses, run-front_end, run-neg, run-not, run-right}
+use Rattle.flu_syntax.proofs.Runs.{not_starts, not_misses, opens_more, opens_none, deeper_in, same_in, Tells-through}
 use Rattle.flu_syntax.proofs.expressions.+expression.Goals as goal
 
 pub first-returns-in_default-clause-run : goal.first-returns-in_default-clause-run

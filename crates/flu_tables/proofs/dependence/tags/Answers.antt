@@ -8,4 +8,5 @@ use Rattle.flu_tables.proofs.dependence.tags.Goals as goal
 pub loop-i-preserved : goal.loop-i-preserved
 loop-i-preserved c =
     let f : ℕ → Tag = λ i. tag_of_itag c.args.p.now (itag i) in
-    c.in_ok-push.ensures.items ∙ (λ k. c.loop-i.invariant k ++ c.tag_of.ensures.tag k ∷ []) ∙ sym (map-range_with_len_more f 0 c.loop-i.i c.loop-i.i (omega arith))
+    c.in_ok-push.ensures.items ∙ (λ k. c.loop-i.invariant k ++ c.tag_of.ensures.tag k ∷ [])
+    ∙ sym (map-range_with_len_more f 0 c.loop-i.i c.loop-i.i (omega arith))

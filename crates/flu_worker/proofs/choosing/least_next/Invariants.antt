@@ -6,4 +6,5 @@ use Rattle.flu_worker.proofs.choosing.least_next.Given as goal
 abbrev pub invariant-loop-i : goal.invariant-loop-i
 invariant-loop-i l =
     (l.i-items ≡ own_itags l.case l.node)
-    × (fold (λ found i. earlier found (next_at (sight_at l.case l.node l.mail) i)) l.found (drop l.i-index l.i-items) ≡ least_next (sight_at l.case l.node l.mail))
+    × (fold (λ found i. earlier found (next_at (sight_at l.case l.node l.mail) i)) l.found (drop l.i-index l.i-items) ≡ least_next
+    (sight_at l.case l.node l.mail))

@@ -12,8 +12,11 @@ use Rattle.flu_worker.proofs.choosing.own_itags.Goals as goal
 pub returns : goal.returns
 returns c =
     let k = c.args.case.now in
-    let is : c.own.result.now ≡ own_itags k c.args.node = c.own.ensures ∙ λ i. itags_where (c.tables.ensures.of_job i) (owns (c.tables.ensures.of_job i) (c.tables.ensures.of_plan i) c.args.node) in
+    let is : c.own.result.now ≡ own_itags k c.args.node = c.own.ensures
+    ∙ λ i. itags_where (c.tables.ensures.of_job i) (owns (c.tables.ensures.of_job i) (c.tables.ensures.of_plan i) c.args.node) in
     record {
       listed = is;
-      known = subst (λ (xs : List Itag). AllByRecursion (λ (i : Itag). i.0 < count_of_itags (job k)) xs) (sym is) (all_known (job k) (owns (job k) (nodes k) c.args.node));
+      known =
+          subst (λ (xs : List Itag). AllByRecursion (λ (i : Itag). i.0 < count_of_itags (job k)) xs) (sym is)
+          (all_known (job k) (owns (job k) (nodes k) c.args.node));
     }

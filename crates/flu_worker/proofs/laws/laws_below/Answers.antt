@@ -6,6 +6,7 @@ returns c = record {
   of_nodes = c.itags_are_of_nodes.ensures.nodes;
   of_kids = c.itags_are_of_nodes.ensures.kids;
   events = c.events_have_moments.ensures.moments;
+  known = c.events_have_moments.ensures.known;
   central = c.updates_fit.ensures;
   paired = c.loans_are_paired.ensures.paired;
   joins = c.served_lots_join.ensures.serves;
@@ -17,5 +18,7 @@ returns c = record {
   serving = c.ready_clears.ensures.serve;
   seen_ready = c.ready_when_clear.ensures.ready;
   seen_serving = c.ready_when_clear.ensures.serve;
+  seen_events = c.seen_events_stand.ensures.stand;
+  few_events = c.seen_events_stand.ensures.few;
   rising = c.moments_are_in_order.ensures.places;
 }

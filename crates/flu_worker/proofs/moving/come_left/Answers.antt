@@ -7,4 +7,9 @@ use Rattle.flu_worker.proofs.moving.come_left.Goals as goal
 pub returns-in_ok-join-in-TakingRight : goal.returns-in_ok-join-in-TakingRight
 returns-in_ok-join-in-TakingRight c =
     let j = c.in_ok-join-in-TakingRight in
-    subst (λ (h : Holding). LeftComes c.args.case.now c.args.node h c.args.lot (Whole j.field-0)) (sym c.in-TakingRight.is) (record { lot = j.field-0; is = refl; fits = j.ensures.fits; counts = j.ensures.counts })
+    subst (λ (h : Holding). LeftComes c.args.case.now c.args.node h c.args.lot (Whole j.field-0)) (sym c.in-TakingRight.is) (record {
+      lot = j.field-0;
+      is = refl;
+      fits = j.ensures.fits;
+      counts = j.ensures.counts;
+    })

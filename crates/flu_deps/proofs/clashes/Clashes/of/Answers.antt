@@ -12,7 +12,8 @@ returns c =
     let last = c.note-4.ensures.kept in
     let two_last = kept_through two three four c.note-3.ensures.kept last in
     record {
-      needs_writes = λ a b la lb. done_kept p Needs Writes a b one four (kept_through one two four c.note-2.ensures.kept two_last) (c.note.ensures.done a b la lb);
+      needs_writes =
+          λ a b la lb. done_kept p Needs Writes a b one four (kept_through one two four c.note-2.ensures.kept two_last) (c.note.ensures.done a b la lb);
       writes_needs = λ a b la lb. done_kept p Writes Needs a b two four two_last (c.note-2.ensures.done a b la lb);
       adds_raises = λ a b la lb. done_kept p Adds Raises a b three four last (c.note-3.ensures.done a b la lb);
       raises_adds = c.note-4.ensures.done;

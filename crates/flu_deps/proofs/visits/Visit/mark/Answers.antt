@@ -7,4 +7,5 @@ pub returns-clause-marked : goal.returns-clause-marked
 returns-clause-marked c =
     let v = c.actions.new.self in
     let follows = c.actions.ensures.follows in
-    marked_told v c.args.class follows.class follows.marking (λ test. list_all (action_all test) c.args.actions.now) (c.actions.ensures.told v (follows_itself v))
+    marked_told v c.args.class follows.class follows.marking (λ test. list_all (action_all test) c.args.actions.now)
+    (c.actions.ensures.told v (follows_itself v))

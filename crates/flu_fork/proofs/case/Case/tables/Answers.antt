@@ -8,4 +8,5 @@ use Rattle.flu_fork.proofs.case.Case.tables.Goals as goal
 pub returns : goal.returns
 returns c =
     let k = c.args.self.now in
-    ∥∥₁_elim (subst (λ q. ∥ AreTablesOf (job q) (nodes q) c.self.inside.tables ∥₁) c.self.view_is c.self.inside.tables_are) (AreTablesOf-prop (job k) (nodes k) c.self.inside.tables) (λ are. are)
+    ∥∥₁_elim (subst (λ q. ∥ AreTablesOf (job q) (nodes q) c.self.inside.tables ∥₁) c.self.view_is c.self.inside.tables_are)
+    (AreTablesOf-prop (job k) (nodes k) c.self.inside.tables) (λ are. are)

@@ -13,7 +13,9 @@ use Rattle.flu_mail.proofs.mailbox.Mailbox.count_above.Goals as goal
 pub bounds-counts-i : goal.bounds-counts-i
 bounds-counts-i c =
     let p = program_in c.args.t.now in
-    let at = listed_at p (ancestors_own p (nodes_in c.args.t.now) c.args.self.now.node) c.above-above.result.now c.loop-i.i-index (record { 0 = 0 }) c.above-above.ensures c.loop-i-test.true in
+    let at =
+    listed_at p (ancestors_own p (nodes_in c.args.t.now) c.args.self.now.node) c.above-above.result.now c.loop-i.i-index
+    (record { 0 = 0 }) c.above-above.ensures c.loop-i-test.true in
     let here = at.1 in
     let size = length-counts c.args.self.now in
     let one_each = c.requires.one_each in
@@ -23,7 +25,9 @@ bounds-counts-i c =
 pub set_count-requires-clause-in_range : goal.set_count-requires-clause-in_range
 set_count-requires-clause-in_range c =
     let p = program_in c.args.t.now in
-    let at = listed_at p (ancestors_own p (nodes_in c.args.t.now) c.args.self.now.node) c.above-above.result.now c.loop-i.i-index (record { 0 = 0 }) c.above-above.ensures c.loop-i-test.true in
+    let at =
+    listed_at p (ancestors_own p (nodes_in c.args.t.now) c.args.self.now.node) c.above-above.result.now c.loop-i.i-index
+    (record { 0 = 0 }) c.above-above.ensures c.loop-i-test.true in
     let here = at.1 in
     let all = c.requires.at.one_each in
     let over = c.requires.over.one_each in

@@ -43,7 +43,8 @@ returns-clause-at c =
     let count = c.itag_count-i-end.ensures ∙ ap count_of_itags c.program.ensures in
     let size = old.size in
     record {
-      one_each = length-seen (record { node = c.args.node; leaf = c.is_none-leaf.result; entries = c.loop-i.entries }) ∙ (let all : length c.loop-i.entries.items ≡ count_of_itags (program_of c.args.c.now) = omega arith in all);
+      one_each = length-seen (record { node = c.args.node; leaf = c.is_none-leaf.result; entries = c.loop-i.entries })
+          ∙ (let all : length c.loop-i.entries.items ≡ count_of_itags (program_of c.args.c.now) = omega arith in all);
       leaf = turned (is_some c.kids.result) c.is_none-leaf.result c.is_none-leaf.ensures ∙ ap is_none c.kids.ensures.kids;
       at_node = old.at_node;
     }
@@ -55,7 +56,8 @@ returns-clause-over c =
     let size = old.size in
     let each = c.requires.one_each in
     record {
-      one_each = length-seen (record { node = c.args.node; leaf = c.is_none-leaf.result; entries = c.loop-i.entries }) ∙ (let all : length c.loop-i.entries.items ≡ length (listed c.args.s.now) = omega arith in all);
+      one_each = length-seen (record { node = c.args.node; leaf = c.is_none-leaf.result; entries = c.loop-i.entries })
+          ∙ (let all : length c.loop-i.entries.items ≡ length (listed c.args.s.now) = omega arith in all);
       over_items = old.over_items;
     }
 

@@ -29,7 +29,8 @@ returns-clause-event c =
     ∙ ap (next_event items) (sym count)
 
 -- what is seen is there
-is_pending : (c : goal.After-event_at) (x : Event) → c.event_at.result ≡ Some x → pending_event (listed c.args.s.now) (counts_of c.args.self.now) c.args.i.0 ≡ Some x
+is_pending : (c : goal.After-event_at) (x : Event) → c.event_at.result ≡ Some x
+    → pending_event (listed c.args.s.now) (counts_of c.args.self.now) c.args.i.0 ≡ Some x
 is_pending c x is =
     let lists = listed c.args.s.now in
     let m = c.args.self.now in

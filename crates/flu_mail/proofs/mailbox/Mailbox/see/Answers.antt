@@ -30,4 +30,8 @@ returns-clause-over c =
     let there = entry_read m (length (seen_of m)) c.args.i.0 e refl c.requires.in_range c.index_mut.ensures.value in
     λ lists within over.
     let old = over.over_items c.args.i.0 e there in
-    over_kept lists m _ c.args.i.0 e (record e { seen = c.args.count }) (record { node = refl; leaf = refl; items = refl; there = there }) (record { seen = within; count = old.count; place = old.place }) over
+    over_kept lists m _ c.args.i.0 e (record e { seen = c.args.count }) (record { node = refl; leaf = refl; items = refl; there = there }) (record {
+      seen = within;
+      count = old.count;
+      place = old.place;
+    }) over

@@ -22,5 +22,6 @@ returns c =
       node = refl;
       at = λ p nodes at. at_kept p nodes m _ i e v (record { node = refl; leaf = refl; items = refl; there = there }) refl at;
       over = over_kept lists m _ i e v (record { node = refl; leaf = refl; items = refl; there = there })
-          (record { seen = old.seen; count = c.requires.there; place = c.place_after-place.ensures ∙ ap (λ is. place_of is c.args.n) c.items.ensures }) c.requires.over;
+          (record { seen = old.seen; count = c.requires.there; place = c.place_after-place.ensures ∙ ap (λ is. place_of is c.args.n) c.items.ensures })
+          c.requires.over;
     }

@@ -5,4 +5,5 @@ use Rattle.flu_seq.proofs.engines.FoldEngineEngine.batch.Goals as goal
 
 pub returns-clause-sorts : goal.returns-clause-sorts
 returns-clause-sorts g c =
-    sorts_kept c.args.self.now.program (held c.args.opening) (listed c.args.s.now) c.fold.result c.fold.ensures.state c.updates_are_changes.ensures.fold c.requires.sorts
+    sorts_kept c.args.self.now.program (held c.args.opening)
+    (listed c.args.s.now) c.fold.result c.fold.ensures.state c.updates_are_changes.ensures.fold c.requires.sorts

@@ -6,7 +6,8 @@ use Rattle.flu_worker.proofs.worker.Worker.can_handle.Goals as goal
 
 pub next_ask-requires-clause-mail : goal.next_ask-requires-clause-mail
 next_ask-requires-clause-mail c =
-    mail_for _ c.self.inside.mail c.args.case.now c.self.inside.node (c.requires ∙ sym (ap (λ (x : WorkerNote). x.case) c.self.view_is)) refl c.self.invariant.mailed
+    mail_for _ c.self.inside.mail c.args.case.now c.self.inside.node
+    (c.requires ∙ sym (ap (λ (x : WorkerNote). x.case) c.self.view_is)) refl c.self.invariant.mailed
 
 pub next_ask-requires-clause-known : goal.next_ask-requires-clause-known
 next_ask-requires-clause-known c =

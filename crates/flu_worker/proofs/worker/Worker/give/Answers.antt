@@ -15,7 +15,8 @@ use Rattle.flu_worker.proofs.worker.Worker.give.Goals as goal
 pub whole_of-lot-requires : goal.whole_of-lot-requires
 whole_of-lot-requires c =
     let v = c.args.self.now in
-    let rule : Rule v c.self.inside.mail c.self.inside.holding = subst (λ (x : WorkerNote). Rule x c.self.inside.mail c.self.inside.holding) c.self.view_is c.self.invariant in
+    let rule : Rule v c.self.inside.mail c.self.inside.holding =
+    subst (λ (x : WorkerNote). Rule x c.self.inside.mail c.self.inside.holding) c.self.view_is c.self.invariant in
     ap (λ (h : Holding). is_whole (hand_of h)) c.taken.ensures.was ∙ sym (ap is_whole rule.hand) ∙ may_hand v c.args.y c.requires.may
 
 abbrev after : WorkerNote → List ℕ → WorkerNote
@@ -24,7 +25,8 @@ after x u = record x { hand = Empty; kept = None; given = u }
 given : (c : goal.Joined-self) → Given c.args.self.now (after c.args.self.now c.whole_of-lot.result.upto) c.self.inside.mail c.args.y c.whole_of-lot.result
 given c =
     let v = c.args.self.now in
-    let rule : Rule v c.self.inside.mail c.self.inside.holding = subst (λ (x : WorkerNote). Rule x c.self.inside.mail c.self.inside.holding) c.self.view_is c.self.invariant in
+    let rule : Rule v c.self.inside.mail c.self.inside.holding =
+    subst (λ (x : WorkerNote). Rule x c.self.inside.mail c.self.inside.holding) c.self.view_is c.self.invariant in
     gives c.laws_below.ensures v c.self.inside.mail c.self.inside.holding c.whole_of-lot.result c.args.y rule
     (subst (λ (h : Holding). IsWholeOf h c.whole_of-lot.result) c.taken.ensures.was c.whole_of-lot.ensures) c.requires.may
 

@@ -30,7 +30,8 @@ pending-requires-clause-in_range c =
     let rule : Rule v old was = subst (λ (x : WorkerNote). Rule x old was) c.self.view_is c.self.invariant in
     let w = whole_there v old was rule (whole_next v c.args.x c.requires.next) in
     let known : c.args.x.itag.0 < count_of_itags (job c.args.case.now) =
-    subst (λ (k : Content). c.args.x.itag.0 < count_of_itags (job k)) (sym c.requires.case) (handle_known c.laws_below.ensures v old was rule c.args.x c.requires.next w.0 w.1) in
+    subst (λ (k : Content). c.args.x.itag.0 < count_of_itags (job k)) (sym c.requires.case)
+    (handle_known c.laws_below.ensures v old was rule c.args.x c.requires.next w.0 w.1) in
     let one = c.args.case.now.one_each in
     subst (λ (s : Streams). c.args.x.itag.0 < length (listed s)) (sym c.streams.ensures) (omega arith)
 
@@ -76,7 +77,8 @@ done-requires-clause-fits c =
     let lot = c.whole_of-lot.result in
     let is = subst (λ (h : Holding). IsWholeOf h lot) c.taken.ensures.was c.whole_of-lot.ensures in
     subst (λ (k : Content). LotFits k c.self.inside.node lot) (sym c.requires.case)
-    (subst (λ (w : ℕ). LotFits v.case w lot) (sym (ap (λ (x : WorkerNote). x.node) c.self.view_is)) (handle_fits c.laws_below.ensures v old was rule c.args.x c.requires.next lot is))
+    (subst (λ (w : ℕ). LotFits v.case w lot) (sym (ap (λ (x : WorkerNote). x.node) c.self.view_is))
+    (handle_fits c.laws_below.ensures v old was rule c.args.x c.requires.next lot is))
 
 pub count_one-requires-clause-there : goal.count_one-requires-clause-there
 count_one-requires-clause-there c =
@@ -87,7 +89,8 @@ count_one-requires-clause-there c =
     let lot = c.whole_of-lot.result in
     let is = subst (λ (h : Holding). IsWholeOf h lot) c.taken.ensures.was c.whole_of-lot.ensures in
     subst (λ (s : Streams). slice_index (counts_of old) c.args.x.itag.0 < length (events_of (slice_index_or (listed s) c.args.x.itag.0 [])))
-    (sym (c.streams-2.ensures ∙ ap (λ (k : Content). k.streams) c.requires.case)) (handle_there c.laws_below.ensures v old was rule c.args.x c.requires.next lot is)
+    (sym (c.streams-2.ensures ∙ ap (λ (k : Content). k.streams) c.requires.case))
+    (handle_there c.laws_below.ensures v old was rule c.args.x c.requires.next lot is)
 
 pub invariant_of-self-2 : goal.invariant_of-self-2
 invariant_of-self-2 c =
@@ -103,13 +106,17 @@ invariant_of-self-2 c =
     let more = c.in_ok-more.more in
     let fits : LotFits v.case v.node more =
     subst (λ (k : Content). LotFits k v.node more) c.requires.case (subst (λ (w : ℕ). LotFits c.args.case.now w more) node c.in_ok-more.ensures.fits) in
-    let same = same_told v old new c.streams-2.result.now (c.streams-2.ensures ∙ ap (λ (k : Content). k.streams) c.requires.case) c.count_one.ensures.seen c.count_one.ensures.node
+    let same =
+    same_told v old new c.streams-2.result.now (c.streams-2.ensures
+    ∙ ap (λ (k : Content). k.streams) c.requires.case) c.count_one.ensures.seen c.count_one.ensures.node
     c.count_one.ensures.at c.count_one.ensures.over in
     let set = c.count_one.ensures.counts ∙ ap (λ (u : List ℕ). slice_set u c.args.x.itag.0 (slice_index u c.args.x.itag.0 + 1)) rule.mailed.counts in
     let held = held_at c.args.case.now c.self.inside.node v more h (record { case = c.requires.case; node = node }) c.in_ok-self-inside.ensures in
     subst (λ (x : WorkerNote). Rule (record x { hand = hand_of h; kept = None; seen = seen_of new; counts = counts_of new }) new h) (sym c.self.view_is)
-    (subst (λ (u : List ℕ). Rule (record v { hand = hand_of h; kept = None; seen = u; counts = counts_of new }) new h) (sym (c.count_one.ensures.seen ∙ rule.mailed.seen))
-    (handled_rule c.laws_below.ensures v old was rule c.args.x c.requires.next lot is more fits c.in_ok-more.ensures.since c.in_ok-more.ensures.upto new same (counts_of new) refl set h held))
+    (subst (λ (u : List ℕ). Rule (record v { hand = hand_of h; kept = None; seen = u; counts = counts_of new }) new h)
+    (sym (c.count_one.ensures.seen ∙ rule.mailed.seen))
+    (handled_rule c.laws_below.ensures v old was rule c.args.x c.requires.next lot is more fits c.in_ok-more.ensures.since c.in_ok-more.ensures.upto new same
+    (counts_of new) refl set h held))
 
 pub returns-clause-note : goal.returns-clause-note
 returns-clause-note c =
@@ -125,13 +132,18 @@ returns-clause-note c =
     let more = c.in_ok-more.more in
     let fits : LotFits v.case v.node more =
     subst (λ (k : Content). LotFits k v.node more) c.requires.case (subst (λ (w : ℕ). LotFits c.args.case.now w more) node c.in_ok-more.ensures.fits) in
-    let same = same_told v old new c.streams-2.result.now (c.streams-2.ensures ∙ ap (λ (k : Content). k.streams) c.requires.case) c.count_one.ensures.seen c.count_one.ensures.node
+    let same =
+    same_told v old new c.streams-2.result.now (c.streams-2.ensures
+    ∙ ap (λ (k : Content). k.streams) c.requires.case) c.count_one.ensures.seen c.count_one.ensures.node
     c.count_one.ensures.at c.count_one.ensures.over in
     let set = c.count_one.ensures.counts ∙ ap (λ (u : List ℕ). slice_set u c.args.x.itag.0 (slice_index u c.args.x.itag.0 + 1)) rule.mailed.counts in
     let held = held_at c.args.case.now c.self.inside.node v more h (record { case = c.requires.case; node = node }) c.in_ok-self-inside.ensures in
-    subst (λ (x : WorkerNote). HandlesEvent c.args.x v (record x { hand = hand_of h; kept = None; seen = seen_of new; counts = counts_of new })) (sym c.self.view_is)
-    (subst (λ (u : List ℕ). HandlesEvent c.args.x v (record v { hand = hand_of h; kept = None; seen = u; counts = counts_of new })) (sym (c.count_one.ensures.seen ∙ rule.mailed.seen))
-    (handles c.laws_below.ensures v old was rule c.args.x c.requires.next lot is more fits c.in_ok-more.ensures.since c.in_ok-more.ensures.upto new same (counts_of new) refl set h held))
+    subst (λ (x : WorkerNote). HandlesEvent c.args.x v (record x { hand = hand_of h; kept = None; seen = seen_of new; counts = counts_of new }))
+    (sym c.self.view_is)
+    (subst (λ (u : List ℕ). HandlesEvent c.args.x v (record v { hand = hand_of h; kept = None; seen = u; counts = counts_of new }))
+    (sym (c.count_one.ensures.seen ∙ rule.mailed.seen))
+    (handles c.laws_below.ensures v old was rule c.args.x c.requires.next lot is more fits c.in_ok-more.ensures.since c.in_ok-more.ensures.upto new same
+    (counts_of new) refl set h held))
 
 pub returns-clause-texts : goal.returns-clause-texts
 returns-clause-texts c =
@@ -147,9 +159,12 @@ returns-clause-texts c =
     let more = c.in_ok-more.more in
     let fits : LotFits v.case v.node more =
     subst (λ (k : Content). LotFits k v.node more) c.requires.case (subst (λ (w : ℕ). LotFits c.args.case.now w more) node c.in_ok-more.ensures.fits) in
-    let same = same_told v old new c.streams-2.result.now (c.streams-2.ensures ∙ ap (λ (k : Content). k.streams) c.requires.case) c.count_one.ensures.seen c.count_one.ensures.node
+    let same =
+    same_told v old new c.streams-2.result.now (c.streams-2.ensures
+    ∙ ap (λ (k : Content). k.streams) c.requires.case) c.count_one.ensures.seen c.count_one.ensures.node
     c.count_one.ensures.at c.count_one.ensures.over in
     let set = c.count_one.ensures.counts ∙ ap (λ (u : List ℕ). slice_set u c.args.x.itag.0 (slice_index u c.args.x.itag.0 + 1)) rule.mailed.counts in
     let held = held_at c.args.case.now c.self.inside.node v more h (record { case = c.requires.case; node = node }) c.in_ok-self-inside.ensures in
-    counts_event c.laws_below.ensures v old was rule c.args.x c.requires.next lot is more fits c.in_ok-more.ensures.since c.in_ok-more.ensures.upto new same (counts_of new) refl set
+    counts_event c.laws_below.ensures v old was rule c.args.x c.requires.next lot is more fits c.in_ok-more.ensures.since c.in_ok-more.ensures.upto new same
+    (counts_of new) refl set
     c.args.outs.now c.done.new.outs (subst (λ (k : Content). PutsOut k c.args.x c.args.outs.now c.done.new.outs) c.requires.case c.in_ok-more.ensures.outs)

@@ -8,4 +8,5 @@ use Rattle.flu_worker.proofs.worker.Worker.see.Goals as goal
 pub invariant_of-self : goal.invariant_of-self
 invariant_of-self c =
     see_rule _ c.self.inside.mail c.see.new.self c.self.inside.holding c.self.invariant c.see.ensures.counts c.see.ensures.node c.see.ensures.at
-    (c.see.ensures.over _ (subst (λ (x : WorkerNote). c.args.count ≤ length (slice_index_or (listed x.case.streams) c.args.i.0 [])) (sym c.self.view_is) c.requires.there) c.self.invariant.mailed.over)
+    (c.see.ensures.over _ (subst (λ (x : WorkerNote). c.args.count ≤ length (slice_index_or (listed x.case.streams) c.args.i.0 []))
+    (sym c.self.view_is) c.requires.there) c.self.invariant.mailed.over)

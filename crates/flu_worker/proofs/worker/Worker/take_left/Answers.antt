@@ -13,7 +13,8 @@ use Rattle.flu_worker.proofs.worker.Worker.take_left.Goals as goal
 pub come_left-requires-clause-awaits : goal.come_left-requires-clause-awaits
 come_left-requires-clause-awaits c =
     let v = c.args.self.now in
-    let rule : Rule v c.self.inside.mail c.self.inside.holding = subst (λ (x : WorkerNote). Rule x c.self.inside.mail c.self.inside.holding) c.self.view_is c.self.invariant in
+    let rule : Rule v c.self.inside.mail c.self.inside.holding =
+    subst (λ (x : WorkerNote). Rule x c.self.inside.mail c.self.inside.holding) c.self.view_is c.self.invariant in
     subst (λ (k : Content). AwaitsLeft k c.self.inside.node c.taken-holding.result c.args.lot) (sym c.requires.case)
     (subst (λ (w : ℕ). AwaitsLeft v.case w c.taken-holding.result c.args.lot) (sym (ap (λ (x : WorkerNote). x.node) c.self.view_is))
     (subst (λ (h : Holding). AwaitsLeft v.case v.node h c.args.lot) (sym c.taken-holding.ensures.was)
@@ -22,14 +23,19 @@ come_left-requires-clause-awaits c =
 abbrev after : goal.After-drop-self-inside-5 → WorkerNote → List ℕ → WorkerNote
 after c x u = record x { hand = hand_of c.in_ok-self-inside.field-0; taken_left = u }
 
-took : (c : goal.After-drop-self-inside-5) → Took Left c.args.self.now (after c c.args.self.now c.args.lot.upto) c.self.inside.mail c.in_ok-self-inside.field-0 c.args.lot
+took : (c : goal.After-drop-self-inside-5)
+    → Took Left c.args.self.now (after c c.args.self.now c.args.lot.upto) c.self.inside.mail c.in_ok-self-inside.field-0 c.args.lot
 took c =
     let v = c.args.self.now in
-    let rule : Rule v c.self.inside.mail c.self.inside.holding = subst (λ (x : WorkerNote). Rule x c.self.inside.mail c.self.inside.holding) c.self.view_is c.self.invariant in
-    takes_left c.laws_below.ensures v c.self.inside.mail c.args.lot c.requires.kept c.requires.fits c.requires.served c.self.inside.holding c.in_ok-self-inside.field-0 rule
+    let rule : Rule v c.self.inside.mail c.self.inside.holding =
+    subst (λ (x : WorkerNote). Rule x c.self.inside.mail c.self.inside.holding) c.self.view_is c.self.invariant in
+    takes_left c.laws_below.ensures v c.self.inside.mail c.args.lot c.requires.kept c.requires.fits c.requires.served c.self.inside.holding
+    c.in_ok-self-inside.field-0 rule
     (subst (λ (k : Content). LeftComes k v.node c.self.inside.holding c.args.lot c.in_ok-self-inside.field-0) c.requires.case
-    (subst (λ (w : ℕ). LeftComes c.args.case.now w c.self.inside.holding c.args.lot c.in_ok-self-inside.field-0) (ap (λ (x : WorkerNote). x.node) c.self.view_is)
-    (subst (λ (h : Holding). LeftComes c.args.case.now c.self.inside.node h c.args.lot c.in_ok-self-inside.field-0) c.taken-holding.ensures.was c.in_ok-self-inside.ensures)))
+    (subst (λ (w : ℕ). LeftComes c.args.case.now w c.self.inside.holding c.args.lot c.in_ok-self-inside.field-0)
+    (ap (λ (x : WorkerNote). x.node) c.self.view_is)
+    (subst (λ (h : Holding). LeftComes c.args.case.now c.self.inside.node h c.args.lot c.in_ok-self-inside.field-0) c.taken-holding.ensures.was
+    c.in_ok-self-inside.ensures)))
 
 pub invariant_of-self-2 : goal.invariant_of-self-2
 invariant_of-self-2 c =
