@@ -7,7 +7,7 @@ use Rattle.flu_model.specs.declared.jobs.Program.{Program}
 use Rattle.flu_lemmas.proofs.Told.{told_weaker}
 use Rattle.flu_top.specs.declared.refusals.Refusal.{Refusal}
 use Rattle.flu_top.specs.declared.refusals.Refusal.TheVariants as refusals
-use Rattle.flu_top.specs.Words.{Command, Check}
+use Rattle.flu_words.specs.Words.{Command, Check}
 use Rattle.flu_top.specs.Wants.{job_named, asks_accepted}
 use Rattle.flu_top.specs.Done.{IsWritten}
 use Rattle.flu_top.specs.Causes.{IsJobRead}

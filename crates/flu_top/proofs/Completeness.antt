@@ -19,7 +19,7 @@ use Rattle.flu_streams.specs.declared.faults.SourceFault.{SourceFault}
 use Rattle.flu_lemmas.proofs.Told.{of_told}
 use Rattle.flu_top.specs.declared.refusals.PlanDefect.{PlanDefect}
 use Rattle.flu_top.specs.declared.refusals.PlanDefect.TheVariants as defects
-use Rattle.flu_top.specs.Words.{Command, command_in}
+use Rattle.flu_words.specs.Words.{Command, command_in}
 use Rattle.flu_top.specs.Behind.{HasJob, HasPlan, fault_behind, plan_behind}
 use Rattle.flu_top.specs.Wants.{job_named, plan_named, asks_accepted, reads_sources, texts_named}
 use Rattle.flu_top.specs.Done.{HasValidPlan, HasPlanAsked, IsGood, IsDone, IsReadName}

@@ -7,7 +7,7 @@ use Rattle.flu_lemmas.proofs.Told.{told_weaker}
 use Rattle.flu_outside.specs.Outside.{Contents}
 use Rattle.flu_top.specs.declared.refusals.Refusal.{Refusal}
 use Rattle.flu_top.specs.declared.refusals.Refusal.TheVariants as refusals
-use Rattle.flu_top.specs.Words.{Command, command_in}
+use Rattle.flu_words.specs.Words.{Command, command_in}
 use Rattle.flu_top.specs.Taking.{TookOnly}
 use Rattle.flu_top.specs.Done.{IsWritten, IsDone, IsPartlyDone, IsReadName, IsReadBy}
 use Rattle.flu_top.specs.Refusing.{IsRefusal}

@@ -3,7 +3,7 @@ use Rattle.std.proofs.Common.{◌≡◌, refl, ap, subst, ℕ, List, Option, Res
 use Rattle.std.specs.Prelude.{IfErr, OnOk}
 use Rattle.flu_top.specs.declared.refusals.Refusal.{Refusal}
 use Rattle.flu_top.specs.declared.refusals.Refusal.TheVariants as refusals
-use Rattle.flu_top.specs.Words.{Command, command_in}
+use Rattle.flu_words.specs.Words.{Command, command_in}
 use Rattle.flu_top.specs.Jobs.{program_read}
 use Rattle.flu_top.specs.Refusing.{IsRefusal}
 use Rattle.flu_top.specs.Lines.{IsSaid}

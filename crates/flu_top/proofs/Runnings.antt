@@ -20,7 +20,7 @@ use Rattle.flu_streams.specs.Files.{files_of}
 use Rattle.flu_top.specs.declared.refusals.PlanDefect.TheVariants as defects
 use Rattle.flu_top.specs.declared.refusals.Refusal.{Refusal}
 use Rattle.flu_top.specs.declared.refusals.Refusal.TheVariants as refusals
-use Rattle.flu_top.specs.Words.{Valid, Run}
+use Rattle.flu_words.specs.Words.{Valid, Run}
 use Rattle.flu_top.specs.Taking.{TookOnly}
 use Rattle.flu_top.specs.Done.{IsReadName}
 use Rattle.flu_top.specs.Ready.{IsReady}

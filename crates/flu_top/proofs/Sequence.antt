@@ -20,7 +20,7 @@ use Rattle.flu_streams.specs.Good.{first_fault, lists_of, AreGood}
 use Rattle.flu_top.specs.declared.refusals.Refusal.{Refusal}
 use Rattle.flu_top.specs.declared.refusals.Refusal.TheVariants as refusals
 use Rattle.flu_model.specs.Modes.{IsAccepted}
-use Rattle.flu_top.specs.Words.{Command}
+use Rattle.flu_words.specs.Words.{Command}
 use Rattle.flu_top.specs.Taking.{TookOnly}
 use Rattle.flu_top.specs.Behind.{HasJob, emptied, fault_behind, report_behind}
 use Rattle.flu_top.specs.Wants.{job_named, plan_named, asks_accepted, reads_sources, plan_files, texts_named, files_read, Writes}

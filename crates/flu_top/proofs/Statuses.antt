@@ -7,7 +7,7 @@ use Rattle.flu_parse.specs.declared.faults.JobFault.{JobFault}
 use Rattle.flu_check.specs.declared.CheckFault.{CheckFault}
 use Rattle.flu_streams.specs.declared.faults.SourceFault.{SourceFault}
 use Rattle.flu_top.specs.declared.refusals.PlanDefect.{PlanDefect}
-use Rattle.flu_top.specs.Words.{Command, command_in}
+use Rattle.flu_words.specs.Words.{Command, command_in}
 use Rattle.flu_top.specs.Wants.{job_named}
 use Rattle.flu_top.specs.Done.{IsDone, IsPartlyDone}
 use Rattle.flu_top.specs.Causes.{HasJobFault, HasConflict, HasPlanDefect, HasSourceFault}

@@ -18,7 +18,7 @@ use Rattle.flu_grammar.specs.Plans.{IsPlanText}
 use Rattle.flu_top.specs.declared.refusals.PlanDefect.TheVariants as defects
 use Rattle.flu_top.specs.declared.refusals.Refusal.{Refusal}
 use Rattle.flu_top.specs.declared.refusals.Refusal.TheVariants as refusals
-use Rattle.flu_top.specs.Words.{Valid}
+use Rattle.flu_words.specs.Words.{Valid}
 use Rattle.flu_top.specs.Taking.{TookOnly}
 use Rattle.flu_top.specs.Behind.{HasJob, HasPlan, plan_behind}
 use Rattle.flu_top.specs.Done.{IsReadName, IsWritten}

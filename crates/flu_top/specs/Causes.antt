@@ -18,7 +18,7 @@ use Rattle.flu_valid.specs.Faults.{IsFirstPlanFault}
 use Rattle.flu_streams.specs.declared.faults.SourceFault.{SourceFault}
 use Rattle.flu_top.specs.declared.refusals.PlanDefect.{PlanDefect}
 use Rattle.flu_top.specs.declared.refusals.PlanDefect.TheVariants as defects
-use Rattle.flu_top.specs.Words.{Command}
+use Rattle.flu_words.specs.Words.{Command}
 use Rattle.flu_top.specs.Behind.{HasJob, HasPlan, fault_behind, plan_behind}
 use Rattle.flu_top.specs.TextFaults.{IsFirstJobFault, IsFirstTextFault}
 use Rattle.flu_top.specs.Wants.{job_named, plan_named, asks_accepted, reads_sources, texts_named}

@@ -1,5 +1,3 @@
-pub mod Depths
-pub mod Words
 pub mod Taking
 pub mod Behind
 pub mod TextFaults

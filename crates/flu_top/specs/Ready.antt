@@ -4,7 +4,7 @@ use Rattle.flu_outside.specs.Outside.{Contents}
 use Rattle.flu_model.specs.declared.jobs.Program.{Program}
 use Rattle.flu_model.specs.declared.plans.Node.{Node}
 use Rattle.flu_streams.specs.Files.{LeavesOthers}
-use Rattle.flu_top.specs.Words.{Command}
+use Rattle.flu_words.specs.Words.{Command}
 use Rattle.flu_top.specs.Behind.{HasJob, HasPlan, emptied_each}
 use Rattle.flu_top.specs.Wants.{job_named, texts_named}
 use Rattle.flu_top.specs.Done.{HasPlanAsked}

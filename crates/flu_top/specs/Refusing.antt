@@ -3,7 +3,7 @@ use Rattle.std.specs.Prelude.{ℕ, List, Option, ⊤}
 use Rattle.flu_outside.specs.Outside.{Contents, Rose}
 use Rattle.flu_top.specs.declared.refusals.Refusal.{Refusal}
 use Rattle.flu_top.specs.declared.refusals.Refusal.TheVariants as refusals
-use Rattle.flu_top.specs.Words.{Command}
+use Rattle.flu_words.specs.Words.{Command}
 use Rattle.flu_top.specs.Wants.{job_named}
 use Rattle.flu_top.specs.Done.{IsReadName}
 use Rattle.flu_top.specs.Jobs.{program_read}

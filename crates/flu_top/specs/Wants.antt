@@ -8,7 +8,7 @@ use Rattle.flu_parse.specs.Printing.{normal_form}
 use Rattle.flu_plan.specs.Printing.{printed}
 use Rattle.flu_planner.specs.Plans.{IsGreedyPlan}
 use Rattle.flu_streams.specs.Files.{files_of}
-use Rattle.flu_top.specs.Words.{Command, Fold, Check, Valid, Plan, Run}
+use Rattle.flu_words.specs.Words.{Command, Fold, Check, Valid, Plan, Run}
 use Rattle.flu_top.specs.Behind.{HasPlan, report_behind}
 use Rattle.flu_top.specs.Rates.{source_rates}
 

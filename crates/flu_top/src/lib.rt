@@ -4,7 +4,6 @@
 mod backup;
 mod checking;
 mod commands;
-mod depths;
 mod folding;
 pub mod laws;
 mod lines;
@@ -21,6 +20,5 @@ mod running;
 mod sharing;
 mod top;
 mod validating;
-mod words;
 
 pub use top::flumina;

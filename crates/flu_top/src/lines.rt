@@ -11,13 +11,13 @@ use crate::names::{source_name, write_cell, write_tag};
 use crate::pieces::{digits_of, write_pieces};
 use crate::plan_lines::write_plan_defect;
 use crate::refusals::Refusal;
-use crate::words::BadWords;
 use flu_check::CheckFault;
 use flu_model::What;
 use flu_outside::{Failed, Sink};
 use flu_parse::JobFault;
 use flu_report::write_all;
 use flu_streams::{SourceFault, Why};
+use flu_words::BadWords;
 use itoa::Buffer;
 
 // What a line of a fault in a job text begins with.

@@ -3,20 +3,20 @@
 ghost use Rattle.std.specs.Prelude.{IfOk, IfErr};
 ghost use Rattle.flu_outside.specs.Outside.{WhereTold};
 ghost use Rattle.flu_outside.specs.Taking.{TookFronts};
-ghost use Rattle.flu_top.specs.Words.{Plan};
+ghost use Rattle.flu_words.specs.Words.{Plan};
 ghost use Rattle.flu_top.specs.Taking.{TookOnly};
 ghost use Rattle.flu_top.specs.Done.{IsReadName, IsWritten};
 ghost use Rattle.flu_top.specs.Checking.{IsCheckRefusal};
 ghost use Rattle.flu_top.specs.Planning.{IsPlanned};
 ghost use Rattle.flu_top.specs.Refusing.{IsRefusal};
 
-use crate::depths::Depth;
 use crate::planned::planned_greedily;
 use crate::programs::program_of;
 use crate::refusals::Refusal;
 use flu_model::{Program, Text};
 use flu_outside::Files;
 use flu_plan::print_plan;
+use flu_words::Depth;
 use std::alloc::Global;
 
 /// The text of the greedy plan of the job that a file holds.

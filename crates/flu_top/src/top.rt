@@ -13,11 +13,11 @@ ghost use Rattle.flu_top.specs.Outcome.{outside, Outcome, ReadOnly, FaultsFirst,
 use crate::commands::run;
 use crate::lines::say;
 use crate::refusals::{Refusal, status};
-use crate::words::read_words;
 use flu_grammar::laws::{jobs_are_grammar, plans_are_grammar};
 use flu_outside::{Files, Sink};
 use flu_report::write_all;
 use flu_seq::Gate;
+use flu_words::read_words;
 use std::alloc::Global;
 use std::sync::Wait;
 use std::thread::Threads;

@@ -2,7 +2,7 @@ use Rattle.std.proofs.Common.{refl}
 use Rattle.std.proofs.lemmas.Bool.{false≢true}
 use Rattle.std.proofs.lemmas.Result.{IfOk-weaker, IfErr-weaker}
 use Rattle.flu_lemmas.proofs.Named.{fronts_at, fronts_then}
-use Rattle.flu_top.specs.Words.{Fold}
+use Rattle.flu_words.specs.Words.{Fold}
 use Rattle.flu_top.proofs.Sequence.{ready_alone, is_reported_behind, job_refusal, report_refusal, only_job, only_ready}
 use Rattle.flu_top.proofs.folding.fold_job.Goals as goal
 

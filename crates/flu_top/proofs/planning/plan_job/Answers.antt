@@ -1,7 +1,7 @@
 use Rattle.std.proofs.Common.{refl}
 use Rattle.std.proofs.lemmas.Result.{IfOk-weaker, IfErr-weaker}
 use Rattle.flu_lemmas.proofs.Named.{fronts_at}
-use Rattle.flu_top.specs.Words.{Plan}
+use Rattle.flu_words.specs.Words.{Plan}
 use Rattle.flu_top.proofs.Sequence.{job_refusal, only_job}
 use Rattle.flu_top.proofs.Checks.{check_refusal}
 use Rattle.flu_top.proofs.Plannings.{is_planned}

@@ -4,7 +4,7 @@ use Rattle.std.proofs.lemmas.Result.{IfOk-weaker, IfErr-weaker}
 use Rattle.flu_outside.specs.Outside.{WhereTold}
 use Rattle.flu_deps.specs.Checking.{program_of}
 use Rattle.flu_lemmas.proofs.Named.{fronts_at, fronts_then}
-use Rattle.flu_top.specs.Words.{Run}
+use Rattle.flu_words.specs.Words.{Run}
 use Rattle.flu_top.specs.Ready.{IsReady}
 use Rattle.flu_top.proofs.Sequence.{ready_alone, job_refusal, only_job, is_reported_behind, report_refusal, only_ready}
 use Rattle.flu_top.proofs.Checks.{check_refusal}

@@ -3,7 +3,7 @@ use Rattle.std.specs.Prelude.{Some}
 use Rattle.std.proofs.lemmas.Result.{IfOk-weaker, IfErr-weaker}
 use Rattle.flu_deps.specs.Checking.{program_of}
 use Rattle.flu_lemmas.proofs.Named.{fronts_then}
-use Rattle.flu_top.specs.Words.{Run}
+use Rattle.flu_words.specs.Words.{Run}
 use Rattle.flu_top.proofs.Sequence.{is_reported_behind, report_refusal, only_ready}
 use Rattle.flu_top.proofs.Runnings.{ready_to_run, only_to_run, refusal_of_run}
 use Rattle.flu_top.proofs.running.run_planned.Goals as goal

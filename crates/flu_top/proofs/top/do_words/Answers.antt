@@ -1,5 +1,5 @@
 use Rattle.std.proofs.Common.{map, string_bytes, refl, ◌∙◌}
-use Rattle.flu_top.specs.Words.{plain_command}
+use Rattle.flu_words.specs.Words.{plain_command}
 use Rattle.flu_top.proofs.Endings.{ends_refused, ends_done, ends_write_fault, only_wider}
 use Rattle.flu_top.proofs.top.do_words.Goals as goal
 
