@@ -13,11 +13,14 @@ mod plan_lines;
 mod planned;
 mod planning;
 mod plans;
+mod products;
 mod programs;
 mod rates;
 mod refusals;
 mod running;
 mod sharing;
+mod simulating;
+mod sources;
 mod top;
 mod validating;
 

@@ -1,6 +1,6 @@
 //! `plan JOB`: the greedy plan of a job.
 
-ghost use Rattle.std.specs.Prelude.{IfOk, IfErr};
+ghost use Rattle.std.specs.Prelude.{[], IfOk, IfErr};
 ghost use Rattle.flu_outside.specs.Outside.{WhereTold};
 ghost use Rattle.flu_outside.specs.Taking.{TookFronts};
 ghost use Rattle.flu_words.specs.Words.{Plan};
@@ -26,7 +26,7 @@ pub fn plan_job<F: Files>(
     job: &str,
     depth: Depth,
 ) -> Result<Text, Refusal>
-    ensures written { IfOk result (λ text. WhereTold (F.left files.old) (F.left files.new) (IsWritten (Plan job.now depth.levels) text)) }
+    ensures written { IfOk result (λ text. WhereTold (F.left files.old) (F.left files.new) (IsWritten (Plan job.now depth.levels) text [])) }
     ensures refused { IfErr result (IsRefusal (Plan job.now depth.levels) (F.left files.old) (F.left files.new) (F.faults files.old) (F.faults files.new)) }
     ensures fronts { WhereTold (F.left files.old) (F.left files.new) TookFronts }
     ensures only { WhereTold (F.left files.old) (F.left files.new) (TookOnly (IsReadName (F.left files.old) (Plan job.now depth.levels))) }
