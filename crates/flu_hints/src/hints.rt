@@ -13,6 +13,7 @@ const USAGE: &str = "  flumina fold JOB
   flumina valid JOB PLAN
   flumina plan JOB [--depth D]
   flumina run JOB [PLAN]
+  flumina simulate JOB PLAN SEED
   flumina --help
 ";
 

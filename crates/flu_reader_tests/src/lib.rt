@@ -13,3 +13,5 @@ mod syntax;
 mod texts;
 #[cfg(test)]
 mod whole_jobs;
+#[cfg(test)]
+mod words;

@@ -19,10 +19,10 @@ use Rattle.flu_streams.specs.declared.faults.SourceFault.{SourceFault}
 use Rattle.flu_lemmas.proofs.Told.{of_told}
 use Rattle.flu_top.specs.declared.refusals.PlanDefect.{PlanDefect}
 use Rattle.flu_top.specs.declared.refusals.PlanDefect.TheVariants as defects
-use Rattle.flu_top.specs.Words.{Command, command_in}
-use Rattle.flu_top.specs.Behind.{HasJob, HasPlan, fault_behind, plan_behind}
-use Rattle.flu_top.specs.Wants.{job_named, plan_named, asks_accepted, reads_sources, texts_named}
-use Rattle.flu_top.specs.Done.{HasValidPlan, HasPlanAsked, IsGood, IsDone, IsReadName}
+use Rattle.flu_words.specs.Words.{Command, command_in}
+use Rattle.flu_top.specs.Behind.{WantedJob, Named, Fixed, HasJob, HasPlan, fault_behind, plan_behind}
+use Rattle.flu_top.specs.Wants.{job_wanted, plan_named, asks_accepted, reads_sources, texts_named}
+use Rattle.flu_top.specs.Done.{HasValidPlan, HasPlanAsked, IsGood, IsDone, WhereKnown, IsReadName}
 use Rattle.flu_top.specs.Causes.{IsJobRead, HasJobFault, HasConflict, HasPlanDefect, HasSourceFault}
 use Rattle.flu_top.specs.Outcome.{Outside, Outcome, FaultsFirst, CallsFor, NothingFailed, Completes}
 use Rattle.flu_top.specs.Outcome as cases
@@ -43,10 +43,10 @@ IsStatus wanted status = (status ≡ wanted) ⊎ (status ≡ 9)
 -- what each outcome would show of the files goes with the status that is wanted
 record Leads (wanted : ℕ) (command : Command) (left : Contents) : Type 0 where
   done : (p : Program) → IsGood command left p → IsStatus wanted 0
-  job : (fault : JobFault) → job_in (bytes_left left (job_named command)) ≡ Err fault → IsStatus wanted 3
-  conflict : (p : Program) → IsTrue (asks_accepted command) → ¬ IsAccepted p → HasJob (job_named command) left p → IsStatus wanted 4
-  plan : (plan : List ℕ) (p : Program) → plan_named command ≡ Some plan → IsAccepted p → HasJob (job_named command) left p → ¬ HasValidPlan (job_named command) plan left p → IsStatus wanted 5
-  source : (p : Program) (fault : SourceFault) → IsTrue (reads_sources command) → (IsTrue (asks_accepted command) → IsAccepted p) → HasJob (job_named command) left p
+  job : (name : List ℕ) (fault : JobFault) → job_wanted command ≡ Named name → job_in (bytes_left left name) ≡ Err fault → IsStatus wanted 3
+  conflict : (p : Program) → IsTrue (asks_accepted command) → ¬ IsAccepted p → HasJob (job_wanted command) left p → IsStatus wanted 4
+  plan : (plan : List ℕ) (p : Program) → plan_named command ≡ Some plan → IsAccepted p → HasJob (job_wanted command) left p → ¬ HasValidPlan (job_wanted command) plan left p → IsStatus wanted 5
+  source : (p : Program) (fault : SourceFault) → IsTrue (reads_sources command) → (IsTrue (asks_accepted command) → IsAccepted p) → HasJob (job_wanted command) left p
       → HasPlanAsked command left p → fault_behind (texts_named command) left p ≡ Some fault → IsStatus wanted 6
 
 -- a status that is wanted and is not that of want of memory
@@ -61,38 +61,45 @@ same_command words a b first second = let e = sym first ∙ second in cc
 no_command : (words : List (List ℕ)) (command : Command) (at : ℕ) → command_in words ≡ Ok command → command_in words ≡ Err at → ⊥
 no_command words command at is bad = let e = sym is ∙ bad in cc
 
+-- what is known of the files is true of what they hold where they tell it
+known_at : (job : WantedJob) (P : Contents → Contents → Type 0) (x : Contents) (a b : Option Contents) → a ≡ Some x → WhereKnown job a b P → (y : Contents) × P x y
+known_at (Named name) P x a b told known = of_told P x a b told known
+known_at (Fixed job) P x a b told known = (x, known x)
+
 module _ (grammar : ByGrammar) where
   -- ---- two programs of one text
-  same_job : (job : List ℕ) (left : Contents) (p q : Program) → HasJob job left p → HasJob job left q → IsSameJob p q
-  same_job job left p q first second =
-      let e = sym ((grammar.jobs (bytes_left left job) (job_of p)).1 first) ∙ (grammar.jobs (bytes_left left job) (job_of q)).1 second in cc
+  same_job : (job : WantedJob) (left : Contents) (p q : Program) → HasJob job left p → HasJob job left q → IsSameJob p q
+  same_job (Named name) left p q first second =
+      let e = sym ((grammar.jobs (bytes_left left name) (job_of p)).1 first) ∙ (grammar.jobs (bytes_left left name) (job_of q)).1 second in cc
+  same_job (Fixed job) left p q first second = first ∙ sym second
 
-  not_both : (job : List ℕ) (left : Contents) (p : Program) (fault : JobFault) → HasJob job left p → job_in (bytes_left left job) ≡ Err fault → ⊥
-  not_both job left p fault has bad = let e = sym ((grammar.jobs (bytes_left left job) (job_of p)).1 has) ∙ bad in cc
+  not_both : (job : WantedJob) (name : List ℕ) (left : Contents) (p : Program) (fault : JobFault) → job ≡ Named name → HasJob job left p → job_in (bytes_left left name) ≡ Err fault → ⊥
+  not_both job name left p fault named has bad =
+      let e = sym ((grammar.jobs (bytes_left left name) (job_of p)).1 (subst (λ (wanted : WantedJob). HasJob wanted left p) named has)) ∙ bad in cc
 
-  same_fault_of_text : (command : Command) (left : Contents) (p q : Program) → HasJob (job_named command) left p → HasJob (job_named command) left q
+  same_fault_of_text : (command : Command) (left : Contents) (p q : Program) → HasJob (job_wanted command) left p → HasJob (job_wanted command) left q
       → fault_behind (texts_named command) left p ≡ fault_behind (texts_named command) left q
-  same_fault_of_text command left p q first second = same_fault (texts_named command) left p q (same_job (job_named command) left p q first second)
+  same_fault_of_text command left p q first second = same_fault (texts_named command) left p q (same_job (job_wanted command) left p q first second)
 
-  accepted_of_text : (job : List ℕ) (left : Contents) (p q : Program) → HasJob job left p → HasJob job left q → IsAccepted p → IsAccepted q
+  accepted_of_text : (job : WantedJob) (left : Contents) (p q : Program) → HasJob job left p → HasJob job left q → IsAccepted p → IsAccepted q
   accepted_of_text job left p q first second = same_accepted p q (same_job job left p q first second)
 
   -- a plan's text for a program is one for another that is the same job
   same_plan_text : (p q : Program) (bytes : List ℕ) (nodes : List Node) → IsSameJob p q → IsPlanText p bytes nodes → IsPlanText q bytes nodes
   same_plan_text p q bytes nodes same is = (grammar.plans q bytes nodes).0 (sym (same_plan p q bytes same) ∙ (grammar.plans p bytes nodes).1 is)
 
-  valid_of_text : (job plan : List ℕ) (left : Contents) (p q : Program) → HasJob job left p → HasJob job left q → HasValidPlan job plan left p
+  valid_of_text : (job : WantedJob) (plan : List ℕ) (left : Contents) (p q : Program) → HasJob job left p → HasJob job left q → HasValidPlan job plan left p
       → HasValidPlan job plan left q
   valid_of_text job plan left p q first second found =
       let same = same_job job left p q first second in
       (found.0, same_plan_text p q (plan_behind job plan left) found.0 same found.1, same_valid p q found.0 same found.2)
 
   -- ---- plans with a defect
-  faulty_text : (job plan : List ℕ) (left : Contents) (p : Program) (fault : PlanFault) → plan_in p (plan_behind job plan left) ≡ Err fault
+  faulty_text : (job : WantedJob) (plan : List ℕ) (left : Contents) (p : Program) (fault : PlanFault) → plan_in p (plan_behind job plan left) ≡ Err fault
       → HasValidPlan job plan left p → ⊥
   faulty_text job plan left p fault is found = let e = sym is ∙ (grammar.plans p (plan_behind job plan left) found.0).1 found.1 in cc
 
-  invalid_plan : (job plan : List ℕ) (left : Contents) (p : Program) (nodes : List Node) → ¬ IsValid p nodes → HasPlan job plan left p nodes
+  invalid_plan : (job : WantedJob) (plan : List ℕ) (left : Contents) (p : Program) (nodes : List Node) → ¬ IsValid p nodes → HasPlan job plan left p nodes
       → HasValidPlan job plan left p → ⊥
   invalid_plan job plan left p nodes refused is found =
       let bytes = plan_behind job plan left in
@@ -104,57 +111,57 @@ module _ (grammar : ByGrammar) where
   leads_done : (command : Command) (left : Contents) (p : Program) → IsGood command left p → Leads 0 command left
   leads_done command left p good = record {
     done = λ q other. inl refl;
-    job = λ fault bad. absurd (not_both (job_named command) left p fault good.has bad);
-    conflict = λ q asked refused has. absurd (refused (accepted_of_text (job_named command) left p q good.has has (good.accepted asked)));
-    plan = λ plan q named accepted has bad. absurd (bad (valid_of_text (job_named command) plan left p q good.has has (good.plan plan named)));
+    job = λ name fault named bad. absurd (not_both (job_wanted command) name left p fault named good.has bad);
+    conflict = λ q asked refused has. absurd (refused (accepted_of_text (job_wanted command) left p q good.has has (good.accepted asked)));
+    plan = λ plan q named accepted has bad. absurd (bad (valid_of_text (job_wanted command) plan left p q good.has has (good.plan plan named)));
     source = λ q fault asked accepted has plan bad. absurd (no_fault q fault has (good.sources asked) bad);
   }
     where
-      no_fault : (q : Program) (fault : SourceFault) → HasJob (job_named command) left q → fault_behind (texts_named command) left p ≡ None → fault_behind (texts_named command) left q ≡ Some fault → ⊥
+      no_fault : (q : Program) (fault : SourceFault) → HasJob (job_wanted command) left q → fault_behind (texts_named command) left p ≡ None → fault_behind (texts_named command) left q ≡ Some fault → ⊥
       no_fault q fault has none bad = let e = sym none ∙ (same_fault_of_text command left p q good.has has ∙ bad) in cc
 
-  leads_job : (command : Command) (left : Contents) (fault : JobFault) → job_in (bytes_left left (job_named command)) ≡ Err fault → Leads 3 command left
-  leads_job command left fault bad = record {
-    done = λ q good. absurd (not_both (job_named command) left q fault good.has bad);
-    job = λ other found. inl refl;
-    conflict = λ q asked refused has. absurd (not_both (job_named command) left q fault has bad);
-    plan = λ plan q named accepted has other. absurd (not_both (job_named command) left q fault has bad);
-    source = λ q other asked accepted has plan found. absurd (not_both (job_named command) left q fault has bad);
+  leads_job : (command : Command) (name : List ℕ) (left : Contents) (fault : JobFault) → job_wanted command ≡ Named name → job_in (bytes_left left name) ≡ Err fault → Leads 3 command left
+  leads_job command name left fault named bad = record {
+    done = λ q good. absurd (not_both (job_wanted command) name left q fault named good.has bad);
+    job = λ another other also found. inl refl;
+    conflict = λ q asked refused has. absurd (not_both (job_wanted command) name left q fault named has bad);
+    plan = λ plan q asked accepted has other. absurd (not_both (job_wanted command) name left q fault named has bad);
+    source = λ q other asked accepted has plan found. absurd (not_both (job_wanted command) name left q fault named has bad);
   }
 
-  leads_conflict : (command : Command) (left : Contents) (p : Program) → IsTrue (asks_accepted command) → HasJob (job_named command) left p → ¬ IsAccepted p → Leads 4 command left
+  leads_conflict : (command : Command) (left : Contents) (p : Program) → IsTrue (asks_accepted command) → HasJob (job_wanted command) left p → ¬ IsAccepted p → Leads 4 command left
   leads_conflict command left p asked has refused = record {
-    done = λ q good. absurd (refused (accepted_of_text (job_named command) left q p good.has has (good.accepted asked)));
-    job = λ fault bad. absurd (not_both (job_named command) left p fault has bad);
+    done = λ q good. absurd (refused (accepted_of_text (job_wanted command) left q p good.has has (good.accepted asked)));
+    job = λ name fault named bad. absurd (not_both (job_wanted command) name left p fault named has bad);
     conflict = λ q asked none found. inl refl;
-    plan = λ plan q named accepted found bad. absurd (refused (accepted_of_text (job_named command) left q p found has accepted));
-    source = λ q fault reads accepted found plan bad. absurd (refused (accepted_of_text (job_named command) left q p found has (accepted asked)));
+    plan = λ plan q named accepted found bad. absurd (refused (accepted_of_text (job_wanted command) left q p found has accepted));
+    source = λ q fault reads accepted found plan bad. absurd (refused (accepted_of_text (job_wanted command) left q p found has (accepted asked)));
   }
 
-  leads_plan : (command : Command) (left : Contents) (p : Program) (plan : List ℕ) → plan_named command ≡ Some plan → HasJob (job_named command) left p → IsAccepted p → ¬ HasValidPlan (job_named command) plan left p → Leads 5 command left
+  leads_plan : (command : Command) (left : Contents) (p : Program) (plan : List ℕ) → plan_named command ≡ Some plan → HasJob (job_wanted command) left p → IsAccepted p → ¬ HasValidPlan (job_wanted command) plan left p → Leads 5 command left
   leads_plan command left p plan named has accepted bad = record {
-    done = λ q good. absurd (bad (valid_of_text (job_named command) plan left q p good.has has (good.plan plan named)));
-    job = λ fault found. absurd (not_both (job_named command) left p fault has found);
-    conflict = λ q asked refused found. absurd (refused (accepted_of_text (job_named command) left p q has found accepted));
+    done = λ q good. absurd (bad (valid_of_text (job_wanted command) plan left q p good.has has (good.plan plan named)));
+    job = λ name fault named found. absurd (not_both (job_wanted command) name left p fault named has found);
+    conflict = λ q asked refused found. absurd (refused (accepted_of_text (job_wanted command) left p q has found accepted));
     plan = λ name q also found others worse. inl refl;
-    source = λ q fault reads also found valid others. absurd (bad (valid_of_text (job_named command) plan left q p found has (valid plan named)));
+    source = λ q fault reads also found valid others. absurd (bad (valid_of_text (job_wanted command) plan left q p found has (valid plan named)));
   }
 
-  leads_source : (command : Command) (left : Contents) (p : Program) (fault : SourceFault) → IsTrue (reads_sources command) → HasJob (job_named command) left p → (IsTrue (asks_accepted command) → IsAccepted p) → HasPlanAsked command left p → fault_behind (texts_named command) left p ≡ Some fault → Leads 6 command left
+  leads_source : (command : Command) (left : Contents) (p : Program) (fault : SourceFault) → IsTrue (reads_sources command) → HasJob (job_wanted command) left p → (IsTrue (asks_accepted command) → IsAccepted p) → HasPlanAsked command left p → fault_behind (texts_named command) left p ≡ Some fault → Leads 6 command left
   leads_source command left p fault reads has accepted valid bad = record {
     done = λ q good. absurd (no_fault q good.has (good.sources reads));
-    job = λ other found. absurd (not_both (job_named command) left p other has found);
-    conflict = λ q asked refused found. absurd (refused (accepted_of_text (job_named command) left p q has found (accepted asked)));
-    plan = λ plan q named also found other. absurd (other (valid_of_text (job_named command) plan left p q has found (valid plan named)));
+    job = λ name other named found. absurd (not_both (job_wanted command) name left p other named has found);
+    conflict = λ q asked refused found. absurd (refused (accepted_of_text (job_wanted command) left p q has found (accepted asked)));
+    plan = λ plan q named also found other. absurd (other (valid_of_text (job_wanted command) plan left p q has found (valid plan named)));
     source = λ q other asked also found plan others. inl refl;
   }
     where
-      no_fault : (q : Program) → HasJob (job_named command) left q → fault_behind (texts_named command) left q ≡ None → ⊥
+      no_fault : (q : Program) → HasJob (job_wanted command) left q → fault_behind (texts_named command) left q ≡ None → ⊥
       no_fault q found none = let e = sym none ∙ (same_fault_of_text command left q p found has ∙ bad) in cc
 
   leads : (command : Command) (left : Contents) (wanted : ℕ) → CallsFor command left wanted → Leads wanted command left
   leads command left wanted (cases.Good is p good) = subst (λ n. Leads n command left) (sym is) (leads_done command left p good)
-  leads command left wanted (cases.FaultyJob is fault bad) = subst (λ n. Leads n command left) (sym is) (leads_job command left fault bad)
+  leads command left wanted (cases.FaultyJob is name fault named bad) = subst (λ n. Leads n command left) (sym is) (leads_job command name left fault named bad)
   leads command left wanted (cases.NotAccepted is p asked has refused) = subst (λ n. Leads n command left) (sym is) (leads_conflict command left p asked has refused)
   leads command left wanted (cases.NoValidPlan is p plan named has accepted bad) = subst (λ n. Leads n command left) (sym is) (leads_plan command left p plan named has accepted bad)
   leads command left wanted (cases.FaultySource is p fault reads has accepted valid bad) =
@@ -163,7 +170,7 @@ module _ (grammar : ByGrammar) where
   -- a command and the files call for one status
   pub one_status : (command : Command) (left : Contents) (a b : ℕ) → CallsFor command left a → CallsFor command left b → a ≡ b
   one_status command left a b first (cases.Good is p good) = settled a 0 ((leads command left a first).done p good) (λ e. omega (arith, e)) ∙ sym is
-  one_status command left a b first (cases.FaultyJob is fault bad) = settled a 3 ((leads command left a first).job fault bad) (λ e. omega (arith, e)) ∙ sym is
+  one_status command left a b first (cases.FaultyJob is name fault named bad) = settled a 3 ((leads command left a first).job name fault named bad) (λ e. omega (arith, e)) ∙ sym is
   one_status command left a b first (cases.NotAccepted is p asked has refused) =
       settled a 4 ((leads command left a first).conflict p asked refused has) (λ e. omega (arith, e)) ∙ sym is
   one_status command left a b first (cases.NoValidPlan is p plan named has accepted bad) =
@@ -175,26 +182,28 @@ module _ (grammar : ByGrammar) where
   -- what each outcome shows of the files
   by_defect : (wanted : ℕ) (command : Command) (left : Contents) (old new : Option Contents) (defect : PlanDefect) → old ≡ Some left → Leads wanted command left → HasPlanDefect command old new defect → IsStatus wanted 5
   by_defect wanted command left old new (defects.Text fault) told leads why =
-      let found = of_told (λ old _. HasJob (job_named command) old why.program × (plan_in why.program (plan_behind (job_named command) why.plan old) ≡ Err fault)) left old new told why.first in
-      leads.plan why.plan why.program why.asked why.accepted found.1.0 (faulty_text (job_named command) why.plan left why.program fault found.1.1)
+      let found = of_told (λ old _. HasJob (job_wanted command) old why.program × (plan_in why.program (plan_behind (job_wanted command) why.plan old) ≡ Err fault)) left old new told why.first in
+      leads.plan why.plan why.program why.asked why.accepted found.1.0 (faulty_text (job_wanted command) why.plan left why.program fault found.1.1)
   by_defect wanted command left old new (defects.Invalid checked fault) told leads why =
-      let found = of_told (λ old _. HasJob (job_named command) old (program_of checked) × HasPlan (job_named command) why.plan old (program_of checked) fault.plan.nodes) left old new told why.text in
-      leads.plan why.plan (program_of checked) why.asked why.accepted found.1.0 (invalid_plan (job_named command) why.plan left (program_of checked) fault.plan.nodes why.invalid.refused found.1.1)
+      let found = of_told (λ old _. HasJob (job_wanted command) old (program_of checked) × HasPlan (job_wanted command) why.plan old (program_of checked) fault.plan.nodes) left old new told why.text in
+      leads.plan why.plan (program_of checked) why.asked why.accepted found.1.0 (invalid_plan (job_wanted command) why.plan left (program_of checked) fault.plan.nodes why.invalid.refused found.1.1)
 
   by_case : (words : List (List ℕ)) (old new : Outside) (before now : List ℕ → ℕ) (out_before out_now status wanted : ℕ) (command : Command) (left : Contents) → Outcome words old new status → FaultsFirst words old.left before now out_before out_now status → command_in words ≡ Ok command → old.left ≡ Some left → NothingFailed command old.left before now out_before out_now → Leads wanted command left → IsStatus wanted status
-  by_case words old new before now out_before out_now status wanted command left (cases.Done is other also done quiet) faults word told nothing leads =
+  by_case words old new before now out_before out_now status wanted command left (cases.Done is other also line done heard) faults word told nothing leads =
       let same = same_command words other command also word in
-      let found = of_told (IsDone command old.out new.out) left old.left new.left told (subst (λ (d : Command). WhereTold old.left new.left (IsDone d old.out new.out)) same done) in
+      let known = subst (λ (d : Command). WhereKnown (job_wanted d) old.left new.left (IsDone d old.out new.out line)) same done in
+      let found = known_at (job_wanted command) (IsDone command old.out new.out line) left old.left new.left told known in
       subst (IsStatus wanted) (sym is) (leads.done found.1.0 found.1.2.good)
   by_case words old new before now out_before out_now status wanted command left (cases.BadWords is at bad files refused) faults word told nothing leads = absurd (no_command words command at word bad)
   by_case words old new before now out_before out_now status wanted command left (cases.BadJob is other also fault why refused) faults word told nothing leads =
       let same = same_command words other command also word in
-      let has = subst (λ (d : Command). HasJobFault (job_named d) old.left new.left fault) same why in
-      subst (IsStatus wanted) (sym is) (leads.job fault (of_told (λ old _. job_in (bytes_left old (job_named command)) ≡ Err fault) left old.left new.left told has.first).1)
+      let has = subst (λ (d : Command). HasJobFault (job_wanted d) old.left new.left fault) same why in
+      subst (IsStatus wanted) (sym is) (leads.job has.name fault has.named (of_told (λ old _. job_in (bytes_left old has.name) ≡ Err fault) left old.left new.left told has.first).1)
   by_case words old new before now out_before out_now status wanted command left (cases.Conflicts is other also fault why refused) faults word told nothing leads =
       let same = same_command words other command also word in
       let has = subst (λ (d : Command). HasConflict d old.left new.left fault) same why in
-      subst (IsStatus wanted) (sym is) (leads.conflict fault.program has.asked has.conflict.refused (of_told (IsJobRead (job_named command) fault.program) left old.left new.left told has.job).1.has)
+      let read = of_told (IsJobRead has.name fault.program) left old.left new.left told has.job in
+      subst (IsStatus wanted) (sym is) (leads.conflict fault.program has.asked has.conflict.refused (subst (λ (job : WantedJob). HasJob job left fault.program) (sym has.named) read.1.has))
   by_case words old new before now out_before out_now status wanted command left (cases.BadPlan is other also defect why refused) faults word told nothing leads =
       let same = same_command words other command also word in
       let has = subst (λ (d : Command). HasPlanDefect d old.left new.left defect) same why in
@@ -202,7 +211,7 @@ module _ (grammar : ByGrammar) where
   by_case words old new before now out_before out_now status wanted command left (cases.BadSource is other also p fault why refused) faults word told nothing leads =
       let same = same_command words other command also word in
       let has = subst (λ (d : Command). HasSourceFault d old.left new.left p fault) same why in
-      let found = of_told (λ old _. HasJob (job_named command) old p × HasPlanAsked command old p × (fault_behind (texts_named command) old p ≡ Some fault)) left old.left new.left told has.first in
+      let found = of_told (λ old _. HasJob (job_wanted command) old p × HasPlanAsked command old p × (fault_behind (texts_named command) old p ≡ Some fault)) left old.left new.left told has.first in
       subst (IsStatus wanted) (sym is) (leads.source p fault has.asked has.accepted found.1.0 found.1.1 found.1.2)
   by_case words old new before now out_before out_now status wanted command left (cases.ReadFailed is other also refused) faults word told nothing leads =
       let rose = faults.read is in

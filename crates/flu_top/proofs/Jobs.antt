@@ -14,6 +14,7 @@ use Rattle.flu_parse.specs.Faults.{Fails}
 use Rattle.flu_parse.specs.Reading.{job_in}
 use Rattle.flu_outside.specs.Taking.{TookWhole}
 use Rattle.flu_grammar.specs.Laws.{JobsAreGrammar}
+use Rattle.flu_top.specs.Behind.{Named}
 use Rattle.flu_top.specs.Jobs.{IsJobRefusal}
 use Rattle.flu_top.specs.Causes.{IsJobRead, HasJobFault}
 use Rattle.flu_top.specs.Answer.{refusal_of_job}
@@ -50,8 +51,10 @@ job_is_read grammar job bytes p a b whole is =
     told_weaker (TookWhole job 1048576 bytes) (IsJobRead job p) a b
     (λ x y w. record { has = (grammar (bytes_left x job) (job_of p)).0 (job_of_whole job bytes x y w ∙ is); end = w.end (short_job bytes (job_of p) is) }) whole
 
-has_job_fault : (job bytes : List ℕ) (fault : JobFault) (a b : Option Contents) → fault ≢ f.NoMemory → WhereTold a b (TookWhole job 1048576 bytes) → job_in bytes ≡ Err fault → HasJobFault job a b fault
+has_job_fault : (job bytes : List ℕ) (fault : JobFault) (a b : Option Contents) → fault ≢ f.NoMemory → WhereTold a b (TookWhole job 1048576 bytes) → job_in bytes ≡ Err fault → HasJobFault (Named job) a b fault
 has_job_fault job bytes fault a b other whole is = record {
+  name = job;
+  named = refl;
   is_fault = other;
   first = told_weaker (TookWhole job 1048576 bytes) (λ left _. job_in (bytes_left left job) ≡ Err fault) a b (λ x y w. job_of_whole job bytes x y w ∙ is) whole;
 }

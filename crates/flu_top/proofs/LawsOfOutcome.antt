@@ -1,8 +1,8 @@
 -- The laws of outcomes.
 use Rattle.std.proofs.Common.{refl}
 use Rattle.flu_top.specs.Outcome as cases
-use Rattle.flu_top.specs.Laws.{KnownStatuses, DoneIsDone, DoneIsQuiet, BadWordsExactly, BadWordsLine, BadWordsTouchNothing, JobFaultIsFirst, ConflictIsFirst, PlanDefectIsFirst, SourceFaultIsFirst, ReadFaultRose, ReadFaultLine, WriteFaultRose, WriteFaultIsPart, WriteFaultLine, NoMemoryLine, NothingIsWritten, FrontsAreTaken, NoOtherIsRead, GoodIsDone, JobFaultIsRefused, ConflictIsRefused, PlanDefectIsRefused, SourceFaultIsRefused, CompletesByFaults, CallsForOneStatus}
-use Rattle.flu_top.proofs.Statuses.{at_0, at_2, at_3, at_4, at_5, at_6, at_7, at_8, at_9, known_status, nothing_written, of_no_command, bad_words_exactly}
+use Rattle.flu_top.specs.Laws.{KnownStatuses, DoneIsDone, DoneIsQuiet, SimulationIsHeard, BadWordsExactly, BadWordsLine, BadWordsTouchNothing, JobFaultIsFirst, ConflictIsFirst, PlanDefectIsFirst, SourceFaultIsFirst, ReadFaultRose, ReadFaultLine, WriteFaultRose, WriteFaultIsPart, WriteFaultLine, NoMemoryLine, NothingIsWritten, FrontsAreTaken, NoOtherIsRead, GoodIsDone, JobFaultIsRefused, ConflictIsRefused, PlanDefectIsRefused, SourceFaultIsRefused, CompletesByFaults, CallsForOneStatus}
+use Rattle.flu_top.proofs.Statuses.{at_0, at_2, at_3, at_4, at_5, at_6, at_7, at_8, at_9, quiet_at_0, heard_at_0, known_status, nothing_written, of_no_command, bad_words_exactly}
 use Rattle.flu_top.proofs.Completeness.{ByGrammar, completes_of, one_status}
 
 -- ---- the statuses
@@ -13,10 +13,13 @@ pub nothing_law : NothingIsWritten
 nothing_law words old new status outcome some other = nothing_written words old new status outcome some other
 
 pub done_law : DoneIsDone
-done_law words old new status outcome is = let found = at_0 words old new status outcome is in (found.0, found.1, found.2)
+done_law words old new status outcome is = at_0 words old new status outcome is
 
 pub quiet_law : DoneIsQuiet
-quiet_law words old new status outcome is = (at_0 words old new status outcome is).3
+quiet_law words old new status outcome is command word nothing = quiet_at_0 words old new status outcome is command word nothing
+
+pub simulation_law : SimulationIsHeard
+simulation_law words old new status outcome is job plan seed word = heard_at_0 words old new status outcome is job plan seed word
 
 pub bad_words_law : BadWordsExactly
 bad_words_law words old new status outcome = bad_words_exactly words old new status outcome
@@ -73,8 +76,8 @@ pub good_law : GoodIsDone
 good_law words told before now out_before out_now status complete command left p word is nothing good = complete command left 0 word is nothing (cases.Good refl p good)
 
 pub refused_job_law : JobFaultIsRefused
-refused_job_law words told before now out_before out_now status complete command left fault word is nothing bad =
-    complete command left 3 word is nothing (cases.FaultyJob refl fault bad)
+refused_job_law words told before now out_before out_now status complete command left name fault word is nothing named bad =
+    complete command left 3 word is nothing (cases.FaultyJob refl name fault named bad)
 
 pub refused_conflict_law : ConflictIsRefused
 refused_conflict_law words told before now out_before out_now status complete command left p word is nothing asked has refused =

@@ -1,6 +1,7 @@
 pub mod Written
 pub mod WrittenConflicts
 pub mod WrittenPlans
+pub mod WrittenSteps
 pub mod Jobs
 pub mod PlanTexts
 pub mod Sequence
@@ -8,6 +9,7 @@ pub mod Checks
 pub mod Validations
 pub mod Plannings
 pub mod Runnings
+pub mod Simulations
 pub mod SharedCases
 pub mod RateLemmas
 pub mod SameJob

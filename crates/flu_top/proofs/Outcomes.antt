@@ -1,15 +1,17 @@
 -- The outcome of a call, by how the doing of its words ended and by what was said.
-use Rattle.std.proofs.Common.{◌≡◌, refl, ap, subst, ℕ, List, Option, Result, Ok, Err, inl, inr}
-use Rattle.std.specs.Prelude.{IfErr, OnOk}
+use Rattle.std.proofs.Common.{◌≡◌, refl, ap, subst, ℕ, List, Option, Some, None, Result, Ok, Err, inl, inr}
 use Rattle.flu_top.specs.declared.refusals.Refusal.{Refusal}
 use Rattle.flu_top.specs.declared.refusals.Refusal.TheVariants as refusals
-use Rattle.flu_top.specs.Words.{Command, command_in}
+use Rattle.flu_words.specs.Words.{Command, command_in}
+use Rattle.flu_top.specs.declared.products.DrawnSteps.{DrawnSteps}
+use Rattle.flu_top.specs.Wants.{Saying, Nothing, Line, want}
+use Rattle.flu_top.specs.Products.{line_said, MaySay}
 use Rattle.flu_top.specs.Jobs.{program_read}
 use Rattle.flu_top.specs.Refusing.{IsRefusal}
 use Rattle.flu_top.specs.Lines.{IsSaid}
-use Rattle.flu_top.specs.Answer.{status_of, status_after, line_of}
+use Rattle.flu_top.specs.Answer.{status_of, status_after, line_of, IsHeard}
 use Rattle.flu_top.specs.Ending.{Call, WroteNothing, IsEnding, IsRefused, Ends}
-use Rattle.flu_top.specs.Outcome.{Outside, outside, Outcome, FaultsFirst}
+use Rattle.flu_top.specs.Outcome.{Outside, outside, Hears, Outcome, FaultsFirst}
 use Rattle.flu_top.specs.Outcome as cases
 use Rattle.flu_top.proofs.Endings.{said_of, read_fault_at, write_fault_at}
 
@@ -20,15 +22,22 @@ before c err count = outside c.left c.taken err count
 abbrev pub behind : Call → Option (List ℕ) → ℕ → Outside
 behind c err count = outside c.left_after c.taken_after err count
 
-pub outcome_of : (c : Call) (err err_after : Option (List ℕ)) (count count_after : ℕ) (ended : Result (Unit {0}) Refusal) → Ends c ended → OnOk ended (err_after ≡ err) → IfErr ended (λ refusal. IsSaid (line_of refusal) err err_after count count_after) → Outcome c.words (before c err count) (behind c err_after count_after) (status_after ended)
-outcome_of c err err_after count count_after ended ends quiet said = elim ends.how [
-  | inl ending ↦ by_ended ending.0 ending.1 ended ending.2 quiet said
+-- what is heard of the steps of a command that is done
+hears : (says : Saying) (steps : Option DrawnSteps) (old new : Outside) → MaySay says steps → IsHeard (Ok steps) old.err new.err old.err_faults new.err_faults → Hears says old new (line_said steps)
+hears Nothing None old new may_say heard = heard
+hears Nothing (Some steps) old new may_say heard = absurd (cc)
+hears (Line Is IsForm) None old new may_say heard = absurd may_say
+hears (Line Is IsForm) (Some steps) old new may_say heard = (may_say, heard)
+
+pub outcome_of : (c : Call) (err err_after : Option (List ℕ)) (count count_after : ℕ) (ended : Result (Option DrawnSteps) Refusal) → Ends c ended → IsHeard ended err err_after count count_after → Outcome c.words (before c err count) (behind c err_after count_after) (status_after ended)
+outcome_of c err err_after count count_after ended ends heard = elim ends.how [
+  | inl ending ↦ by_ended ending.0 ending.1 ended ending.2 heard
   | inr refused ↦ by_words refused.0 refused.1 refused.2
 ]
   where
     by_words : (at : ℕ) → command_in c.words ≡ Err at → IsRefused c at ended → Outcome c.words (before c err count) (behind c err_after count_after) (status_after ended)
     by_words at word refused =
-        let line = said_of (λ l. IsSaid l err err_after count count_after) ended (refusals.BadWords (record { at = at })) said refused.words in
+        let line = said_of ended (refusals.BadWords (record { at = at })) err err_after count count_after heard refused.words in
         cases.BadWords (ap status_after refused.words) at word refused.files (record { nothing = refused.nothing; said = line })
 
     by_refusal : (command : Command) → command_in c.words ≡ Ok command → (refusal : Refusal) → IsRefusal command c.left c.left_after c.counts c.counts_after refusal → WroteNothing c → IsSaid (line_of refusal) err err_after count count_after → Outcome c.words (before c err count) (behind c err_after count_after) (status_of refusal)
@@ -41,11 +50,12 @@ outcome_of c err err_after count count_after ended ends quiet said = elim ends.h
     by_refusal command word refusals.WriteFault why nothing line = absurd why
     by_refusal command word refusals.NoMemory why nothing line = cases.NoMemory refl command word (record { nothing = nothing; said = line })
 
-    by_ended : (command : Command) → command_in c.words ≡ Ok command → (ended : Result (Unit {0}) Refusal) → IsEnding c command ended → OnOk ended (err_after ≡ err) → IfErr ended (λ refusal. IsSaid (line_of refusal) err err_after count count_after) → Outcome c.words (before c err count) (behind c err_after count_after) (status_after ended)
-    by_ended command word (Ok u) ending same line = cases.Done refl command word ending same
-    by_ended command word (Err refusal) (inl ending) same line = by_refusal command word refusal ending.why ending.nothing line
-    by_ended command word (Err refusal) (inr ending) same line =
-        cases.WriteFailed (ap status_of ending.0) command word ending.1.partly (subst (λ r. IsSaid (line_of r) err err_after count count_after) ending.0 line)
+    by_ended : (command : Command) → command_in c.words ≡ Ok command → (ended : Result (Option DrawnSteps) Refusal) → IsEnding c command ended → IsHeard ended err err_after count count_after → Outcome c.words (before c err count) (behind c err_after count_after) (status_after ended)
+    by_ended command word (Ok steps) ending heard =
+        cases.Done refl command word (line_said steps) ending.done (hears (want command).says steps (before c err count) (behind c err_after count_after) ending.may_say heard)
+    by_ended command word (Err refusal) (inl ending) heard = by_refusal command word refusal ending.why ending.nothing heard
+    by_ended command word (Err refusal) (inr ending) heard =
+        cases.WriteFailed (ap status_of ending.0) command word ending.1.partly (subst (λ r. IsSaid (line_of r) err err_after count count_after) ending.0 heard)
 
-pub faults_of : (c : Call) (ended : Result (Unit {0}) Refusal) → Ends c ended → FaultsFirst c.words c.left c.counts c.counts_after c.count c.count_after (status_after ended)
+pub faults_of : (c : Call) (ended : Result (Option DrawnSteps) Refusal) → Ends c ended → FaultsFirst c.words c.left c.counts c.counts_after c.count c.count_after (status_after ended)
 faults_of c ended ends = record { read = λ is. read_fault_at c ended ends is; write = λ is. (write_fault_at c ended ends is).2.rose }

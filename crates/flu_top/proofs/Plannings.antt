@@ -1,22 +1,23 @@
 -- A job's text is read, and the job is planned.
-use Rattle.std.proofs.Common.{ℕ, List, Option, arith}
+use Rattle.std.proofs.Common.{refl, sym, ap, ◌∙◌, ℕ, List, [], Option}
 use Rattle.std.proofs.lemmas.Bool.{false≢true}
 use Rattle.flu_outside.specs.Outside.{WhereTold, Contents}
 use Rattle.flu_model.specs.declared.jobs.Program.{Program}
 use Rattle.flu_lemmas.proofs.Told.{told_weaker}
-use Rattle.flu_top.specs.Words.{Plan}
+use Rattle.flu_words.specs.Words.{Plan}
 use Rattle.flu_top.specs.Done.{IsWritten}
 use Rattle.flu_top.specs.Causes.{IsJobRead}
 use Rattle.flu_top.specs.Planning.{IsPlanned}
+use Rattle.flu_top.proofs.Sequence.{only_one}
 
-pub is_planned : (job : List ℕ) (depth : ℕ) (p : Program) (text : List ℕ) (a b : Option Contents) → WhereTold a b (IsJobRead job p) → IsPlanned p depth text → WhereTold a b (IsWritten (Plan job depth) text)
+pub is_planned : (job : List ℕ) (depth : ℕ) (p : Program) (text : List ℕ) (a b : Option Contents) → WhereTold a b (IsJobRead job p) → IsPlanned p depth text → WhereTold a b (IsWritten (Plan job depth) text [])
 is_planned job depth p text a b read planned =
-    told_weaker (IsJobRead job p) (IsWritten (Plan job depth) text) a b (λ x y whole. (
+    told_weaker (IsJobRead job p) (IsWritten (Plan job depth) text []) a b (λ x y whole. (
       p,
       record {
         good = record { has = whole.has; accepted = λ asked. planned.accepted; plan = λ plan named. absurd (cc); sources = λ asked. absurd (false≢true asked) };
-        job_end = whole.end;
-        other_ends = λ name found. absurd (omega (arith, found.1));
+        ends = λ name found. ap y (sym (only_one job name found)) ∙ whole.end;
       },
       planned.plan,
+      refl,
     )) read

@@ -20,14 +20,14 @@ use Rattle.flu_streams.specs.Good.{first_fault, lists_of, AreGood}
 use Rattle.flu_top.specs.declared.refusals.Refusal.{Refusal}
 use Rattle.flu_top.specs.declared.refusals.Refusal.TheVariants as refusals
 use Rattle.flu_model.specs.Modes.{IsAccepted}
-use Rattle.flu_top.specs.Words.{Command}
+use Rattle.flu_words.specs.Words.{Command}
 use Rattle.flu_top.specs.Taking.{TookOnly}
-use Rattle.flu_top.specs.Behind.{HasJob, emptied, fault_behind, report_behind}
-use Rattle.flu_top.specs.Wants.{job_named, plan_named, asks_accepted, reads_sources, plan_files, texts_named, files_read, Writes}
-use Rattle.flu_top.specs.Done.{HasPlanAsked, MayHaveJob, IsReadName, IsWritten}
+use Rattle.flu_top.specs.Behind.{WantedJob, Named, Fixed, HasJob, job_files, emptied, fault_behind, report_behind}
+use Rattle.flu_top.specs.Wants.{job_wanted, plan_named, asks_accepted, reads_sources, plan_files, texts_named, sources_read, files_read, Writes}
+use Rattle.flu_top.specs.Done.{HasPlanAsked, IsRead, Says, MayHaveJob, IsReadName, IsWritten}
 use Rattle.flu_top.specs.Ready.{AreTextsRead, IsReady}
 use Rattle.flu_top.specs.Jobs.{IsJobRefusal}
-use Rattle.flu_top.specs.Causes.{IsJobRead, HasSourceFault}
+use Rattle.flu_top.specs.Causes.{IsJobRead, HasJobFault, HasSourceFault}
 use Rattle.flu_top.specs.Folding.{IsReported, IsReportRefusal}
 use Rattle.flu_top.specs.Refusing.{IsRefusal}
 
@@ -58,7 +58,12 @@ same_or_apart a b = by_test (bytes_eq a b) refl
     by_test false f = inr (λ same. false≢true (sym f ∙ (bytes_eq-Decides a b).1 same))
 
 -- ---- the names that are read
-pub may_have_ready : (command : Command) (p : Program) (a b : Option Contents) → WhereTold a b (IsReady command p) → MayHaveJob a (job_named command) p
+-- the file of a job is that of its name
+job_file : (job : WantedJob) (name : List ℕ) → Contains (job_files job) name → job ≡ Named name
+job_file (Named one) name found = ap Named (only_one one name found)
+job_file (Fixed job) name found = absurd (omega (arith, found.1))
+
+pub may_have_ready : (command : Command) (p : Program) (a b : Option Contents) → WhereTold a b (IsReady command p) → MayHaveJob a (job_wanted command) p
 may_have_ready command p None b ready = tt
 may_have_ready command p (Some x) None ready = absurd ready
 may_have_ready command p (Some x) (Some y) ready = ready.has
@@ -68,14 +73,14 @@ source_is_read command p name reads found =
     subst (λ (b : Bool). Contains (plan_files (plan_named command) ++ (if b then files_of p.sources else [])) name) (sym reads)
     (Contains-append_right (plan_files (plan_named command)) (files_of p.sources) name found)
 
-pub may_have : (job : List ℕ) (p : Program) (a b : Option Contents) → WhereTold a b (IsJobRead job p) → MayHaveJob a job p
+pub may_have : (job : List ℕ) (p : Program) (a b : Option Contents) → WhereTold a b (IsJobRead job p) → MayHaveJob a (Named job) p
 may_have job p None b read = tt
 may_have job p (Some x) None read = absurd read
 may_have job p (Some x) (Some y) read = read.has
 
-pub only_job : (command : Command) (a b : Option Contents) → WhereTold a b (TakesFrom (job_named command)) → WhereTold a b (TookOnly (IsReadName a command))
-only_job command a b taken =
-    told_weaker (TakesFrom (job_named command)) (TookOnly (IsReadName a command)) a b (λ x y took name unread. took.others name (λ same. unread (inl same))) taken
+pub only_job : (command : Command) (job : List ℕ) (a b : Option Contents) → job_wanted command ≡ Named job → WhereTold a b (TakesFrom job) → WhereTold a b (TookOnly (IsReadName a command))
+only_job command job a b named taken =
+    told_weaker (TakesFrom job) (TookOnly (IsReadName a command)) a b (λ x y took name unread. took.others name (λ same. unread (inl (named ∙ ap Named (sym same))))) taken
 
 pub only_ready : (command : Command) (p : Program) (a b c : Option Contents) → IsTrue (reads_sources command) → (IsTrue (asks_accepted command) → IsAccepted p)
     → WhereTold a b (IsReady command p) → WhereTold b c (LeavesOthers (files_of p.sources)) → WhereTold a c (TookOnly (IsReadName a command))
@@ -87,9 +92,9 @@ only_ready command p a b c reads accepted ready others =
     of_source name found = inr (p, may_have_ready command p a b ready, accepted, source_is_read command p name reads found)
 
     of_text : (name : List ℕ) → Contains (texts_named command) name → IsReadName a command name
-    of_text name found = elim (Contains-append_cases (job_named command ∷ []) (plan_files (plan_named command)) name found) [
-      | inl job ↦ inl (sym (only_one (job_named command) name job))
-      | inr plan ↦ inr (p, may_have_ready command p a b ready, accepted, Contains-append_left (plan_files (plan_named command)) (if reads_sources command then files_of p.sources else []) name plan)
+    of_text name found = elim (Contains-append_cases (job_files (job_wanted command)) (plan_files (plan_named command)) name found) [
+      | inl job ↦ inl (job_file (job_wanted command) name job)
+      | inr plan ↦ inr (p, may_have_ready command p a b ready, accepted, Contains-append_left (plan_files (plan_named command)) (sources_read command p) name plan)
     ]
 
 -- ---- the report of a job
@@ -137,60 +142,72 @@ two_texts first second x y z read end taken = record {
     by_name name (inr found) (inr apart) = absurd (apart (sym (only_one second name found)))
 
 -- the job's text alone was read, for a command that names no plan
-pub ready_alone : (command : Command) (p : Program) (a b : Option Contents) → texts_named command ≡ job_named command ∷ [] → ((left : Contents) → HasPlanAsked command left p)
-    → WhereTold a b (IsJobRead (job_named command) p) → WhereTold a b (TakesFrom (job_named command)) → WhereTold a b (IsReady command p)
-ready_alone command p a b alone asked read taken =
-    told_weaker (λ x y. IsJobRead (job_named command) p x y × TakesFrom (job_named command) x y) (IsReady command p) a b
+pub ready_alone : (command : Command) (job : List ℕ) (p : Program) (a b : Option Contents) → job_wanted command ≡ Named job → texts_named command ≡ job ∷ []
+    → ((left : Contents) → HasPlanAsked command left p) → WhereTold a b (IsJobRead job p) → WhereTold a b (TakesFrom job) → WhereTold a b (IsReady command p)
+ready_alone command job p a b named alone asked read taken =
+    told_weaker (λ x y. IsJobRead job p x y × TakesFrom job x y) (IsReady command p) a b
     (λ x y first. record {
-      has = first.0.has;
+      has = subst (λ wanted. HasJob wanted x p) (sym named) first.0.has;
       plan = asked x;
-      texts = subst (λ texts. AreTextsRead texts x y) (sym alone) (one_text (job_named command) x y first.0.end first.1);
+      texts = subst (λ texts. AreTextsRead texts x y) (sym alone) (one_text job x y first.0.end first.1);
     })
-    (told_both (IsJobRead (job_named command) p) (TakesFrom (job_named command)) a b read taken)
+    (told_both (IsJobRead job p) (TakesFrom job) a b read taken)
 
 -- ---- the report of a command's job
--- what the command writes is the report of its job
-abbrev pub WritesReport : Command → Type 0
-WritesReport command = (left : Contents) (p : Program) (text : List ℕ) → text ≡ report_behind (texts_named command) left p → Writes command left p text
-
-reported_at : (command : Command) (p : Program) (report : List ℕ) (x y z : Contents) → IsTrue (reads_sources command) → (IsTrue (asks_accepted command) → IsAccepted p)
-    → WritesReport command → IsReady command p x y → IsReported p report y z × LeavesOthers (files_of p.sources) y z → IsWritten command report x z
-unfolding fault_behind report_behind
-reported_at command p report x y z reads accepted writes first second = (
-  p,
-  record {
-    good = record { has = first.has; accepted = accepted; plan = first.plan; sources = λ asked. ap (first_fault p) first.texts.behind ∙ second.0.good };
-    job_end = text_end (job_named command) (0, omega arith, refl);
-    other_ends = λ name found. by_name name (Contains-append_cases (plan_files (plan_named command)) (if reads_sources command then files_of p.sources else []) name found);
-  },
-  writes x p report (second.0.is ∙ ap (λ left. reports.report p (final_outputs p nothing_held (lists_of p left))) (sym first.texts.behind)),
-)
+read_at : (command : Command) (p : Program) (report : List ℕ) (x y z : Contents) → IsTrue (reads_sources command) → (IsTrue (asks_accepted command) → IsAccepted p)
+    → IsReady command p x y → IsReported p report y z × LeavesOthers (files_of p.sources) y z → IsRead command p x z
+unfolding fault_behind
+read_at command p report x y z reads accepted first second = record {
+  good = record { has = first.has; accepted = accepted; plan = first.plan; sources = λ asked. ap (first_fault p) first.texts.behind ∙ second.0.good };
+  ends = λ name found. by_name name (Contains-append_cases (texts_named command) (sources_read command p) name found);
+}
   where
     text_end : (name : List ℕ) → Contains (texts_named command) name → z name ≡ Some []
     text_end name text =
         elim (among (files_of p.sources) name) [ inl found ↦ second.0.ends name found | inr missing ↦ second.1 name missing ∙ first.texts.ends name text ]
 
-    by_name : (name : List ℕ) → Contains (plan_files (plan_named command)) name ⊎ Contains (if reads_sources command then files_of p.sources else []) name → z name ≡ Some []
-    by_name name (inl plan) = text_end name (Contains-append_right (job_named command ∷ []) (plan_files (plan_named command)) name plan)
+    by_name : (name : List ℕ) → Contains (texts_named command) name ⊎ Contains (sources_read command p) name → z name ≡ Some []
+    by_name name (inl text) = text_end name text
     by_name name (inr found) = second.0.ends name (subst (λ (b : Bool). Contains (if b then files_of p.sources else []) name) reads found)
 
-pub is_reported_behind : (command : Command) (p : Program) (report : List ℕ) (a b c : Option Contents) → IsTrue (reads_sources command) → (IsTrue (asks_accepted command) → IsAccepted p)
-    → WritesReport command → WhereTold a b (IsReady command p) → WhereTold b c (LeavesOthers (files_of p.sources)) → WhereTold b c (IsReported p report) → WhereTold a c (IsWritten command report)
-is_reported_behind command p report a b c reads accepted writes ready others reported =
-    told_then (IsReady command p) (λ y z. IsReported p report y z × LeavesOthers (files_of p.sources) y z) (IsWritten command report) a b c
-    (λ x y z first second. reported_at command p report x y z reads accepted writes first second)
+-- the report of a job whose texts were read before its sources
+report_at : (command : Command) (p : Program) (report : List ℕ) (x y z : Contents) → IsReady command p x y → IsReported p report y z → report ≡ report_behind (texts_named command) x p
+unfolding report_behind
+report_at command p report x y z first second = second.is ∙ ap (λ left. reports.report p (final_outputs p nothing_held (lists_of p left))) (sym first.texts.behind)
+
+-- all was read, and this is the report of the command's job
+pub record HasReport (command : Command) (p : Program) (report : List ℕ) (x z : Contents) : Type 0 where
+  pub read : IsRead command p x z
+  pub is : report ≡ report_behind (texts_named command) x p
+
+pub has_report : (command : Command) (p : Program) (report : List ℕ) (a b c : Option Contents) → IsTrue (reads_sources command) → (IsTrue (asks_accepted command) → IsAccepted p)
+    → WhereTold a b (IsReady command p) → WhereTold b c (LeavesOthers (files_of p.sources)) → WhereTold b c (IsReported p report) → WhereTold a c (HasReport command p report)
+has_report command p report a b c reads accepted ready others reported =
+    told_then (IsReady command p) (λ y z. IsReported p report y z × LeavesOthers (files_of p.sources) y z) (HasReport command p report) a b c
+    (λ x y z first second. record { read = read_at command p report x y z reads accepted first second; is = report_at command p report x y z first second.0 })
     ready (told_both (IsReported p report) (LeavesOthers (files_of p.sources)) b c reported others)
 
+-- the command writes the report of its job, and says nothing
+abbrev pub WritesReport : Command → Type 0
+WritesReport command =
+    (left : Contents) (p : Program) (text : List ℕ) → text ≡ report_behind (texts_named command) left p → Writes command left p text × Says command left p []
+
+pub is_reported_behind : (command : Command) (p : Program) (report : List ℕ) (a b c : Option Contents) → IsTrue (reads_sources command) → (IsTrue (asks_accepted command) → IsAccepted p)
+    → WritesReport command → WhereTold a b (IsReady command p) → WhereTold b c (LeavesOthers (files_of p.sources)) → WhereTold b c (IsReported p report) → WhereTold a c (IsWritten command report [])
+is_reported_behind command p report a b c reads accepted writes ready others reported =
+    told_weaker (HasReport command p report) (IsWritten command report []) a c
+    (λ x z has. let both = writes x p report has.is in (p, has.read, both.0, both.1)) (has_report command p report a b c reads accepted ready others reported)
+
 -- ---- what refuses a job
-pub job_refusal : (command : Command) (a b : Option Contents) (before now : List ℕ → ℕ) (refusal : Refusal) → IsJobRefusal (job_named command) a b before now refusal → IsRefusal command a b before now refusal
-job_refusal command a b before now (refusals.BadWords bad) is = is
-job_refusal command a b before now (refusals.JobFault fault) is = is
-job_refusal command a b before now (refusals.Conflict fault) is = absurd is
-job_refusal command a b before now (refusals.PlanDefect defect) is = absurd is
-job_refusal command a b before now (refusals.SourceFault p fault) is = absurd is
-job_refusal command a b before now refusals.ReadFault is = (job_named command, inl refl, is)
-job_refusal command a b before now refusals.WriteFault is = is
-job_refusal command a b before now refusals.NoMemory is = is
+pub job_refusal : (command : Command) (job : List ℕ) (a b : Option Contents) (before now : List ℕ → ℕ) (refusal : Refusal) → job_wanted command ≡ Named job → IsJobRefusal job a b before now refusal → IsRefusal command a b before now refusal
+job_refusal command job a b before now (refusals.BadWords bad) named is = is
+job_refusal command job a b before now (refusals.JobFault fault) named is = subst (λ (wanted : WantedJob). HasJobFault wanted a b fault) (sym named) is
+job_refusal command job a b before now (refusals.Conflict fault) named is = absurd is
+job_refusal command job a b before now (refusals.PlanDefect defect) named is = absurd is
+job_refusal command job a b before now (refusals.SourceFault p fault) named is = absurd is
+job_refusal command job a b before now refusals.ReadFault named is = (job, inl named, is)
+job_refusal command job a b before now refusals.WriteFault named is = is
+job_refusal command job a b before now refusals.NoMemory named is = is
 
 fault_at : (command : Command) (p : Program) (x y : Contents) → IsReady command p x y → fault_behind (texts_named command) x p ≡ first_fault p y
 unfolding fault_behind
@@ -209,7 +226,7 @@ report_refusal command p a b c k l m (refusals.SourceFault q fault) reads accept
       accepted = accepted;
       source = is.source;
       first = told_then (IsReady command p) (λ left _. first_fault p left ≡ Some fault)
-          (λ left _. HasJob (job_named command) left p × HasPlanAsked command left p × (fault_behind (texts_named command) left p ≡ Some fault)) a b c
+          (λ left _. HasJob (job_wanted command) left p × HasPlanAsked command left p × (fault_behind (texts_named command) left p ≡ Some fault)) a b c
           (λ x y z first e. (first.has, first.plan, fault_at command p x y first ∙ e)) ready is.first;
     }
 report_refusal command p a b c k l m refusals.ReadFault reads accepted ready rise is =

@@ -1,23 +1,28 @@
 -- What an outcome says at each status.
 use Rattle.std.proofs.Common.{◌≡◌, ◌≢◌, sym, ◌∙◌, subst, ℕ, List, [], ◌∷◌, Ok, Err, arith}
-use Rattle.std.specs.Prelude.{Contains, ◌↔◌}
-use Rattle.flu_outside.specs.Outside.{WhereTold}
+use Rattle.std.specs.Prelude.{Contains, IsTrue, ◌↔◌}
+use Rattle.std.proofs.lemmas.Bool.{false≢true}
 use Rattle.flu_model.specs.declared.jobs.Program.{Program}
 use Rattle.flu_parse.specs.declared.faults.JobFault.{JobFault}
 use Rattle.flu_check.specs.declared.CheckFault.{CheckFault}
 use Rattle.flu_streams.specs.declared.faults.SourceFault.{SourceFault}
 use Rattle.flu_top.specs.declared.refusals.PlanDefect.{PlanDefect}
-use Rattle.flu_top.specs.Words.{Command, command_in}
-use Rattle.flu_top.specs.Wants.{job_named}
-use Rattle.flu_top.specs.Done.{IsDone, IsPartlyDone}
+use Rattle.flu_words.specs.Words.{Command, Simulate, command_in}
+use Rattle.flu_top.specs.Wants.{Saying, Nothing, Line, want, job_wanted, says_nothing, is_nothing}
+use Rattle.flu_top.specs.Done.{IsDone, IsPartlyDone, WhereKnown}
 use Rattle.flu_top.specs.Causes.{HasJobFault, HasConflict, HasPlanDefect, HasSourceFault}
 use Rattle.flu_top.specs.Names.{source_name}
+use Rattle.flu_top.specs.Simulating.{IsLineOfRun, IsStepLine}
+use Rattle.flu_top.specs.Behind.{Named, HasJob}
+use Rattle.flu_outside.specs.Outside.{WhereTold}
+use Rattle.flu_lemmas.proofs.Told.{told_weaker}
 use Rattle.flu_top.specs.Lines.{bad_words_line, job_fault_line, conflict_line, plan_defect_line, source_fault_line, read_fault_line, write_fault_line, no_memory_line}
-use Rattle.flu_top.specs.Outcome.{Outside, Said, Refused, Outcome}
+use Rattle.flu_top.specs.Outcome.{Outside, Said, Hears, Refused, Outcome}
 use Rattle.flu_top.specs.Outcome as cases
 
-pub at_0 : (words : List (List ℕ)) (old new : Outside) (status : ℕ) → Outcome words old new status → status ≡ 0 → (command : Command) × (command_in words ≡ Ok command) × WhereTold old.left new.left (IsDone command old.out new.out) × (new.err ≡ old.err)
-at_0 words old new status (cases.Done is command word done quiet) e = (command, word, done, quiet)
+pub at_0 : (words : List (List ℕ)) (old new : Outside) (status : ℕ) → Outcome words old new status → status ≡ 0
+    → (command : Command) × (line : List ℕ) × (command_in words ≡ Ok command) × WhereKnown (job_wanted command) old.left new.left (IsDone command old.out new.out line) × Hears (want command).says old new line
+at_0 words old new status (cases.Done is command word line done heard) e = (command, line, word, done, heard)
 at_0 words old new status (cases.BadWords is at word files refused) e = absurd (omega (arith, is, e))
 at_0 words old new status (cases.BadJob is command word fault has refused) e = absurd (omega (arith, is, e))
 at_0 words old new status (cases.Conflicts is command word fault has refused) e = absurd (omega (arith, is, e))
@@ -28,7 +33,7 @@ at_0 words old new status (cases.WriteFailed is command word partly said) e = ab
 at_0 words old new status (cases.NoMemory is command word refused) e = absurd (omega (arith, is, e))
 
 pub at_2 : (words : List (List ℕ)) (old new : Outside) (status : ℕ) → Outcome words old new status → status ≡ 2 → (at : ℕ) × (command_in words ≡ Err at) × (new.left ≡ old.left) × Refused old new (bad_words_line at)
-at_2 words old new status (cases.Done is command word done quiet) e = absurd (omega (arith, is, e))
+at_2 words old new status (cases.Done is command word line done heard) e = absurd (omega (arith, is, e))
 at_2 words old new status (cases.BadWords is at word files refused) e = (at, word, files, refused)
 at_2 words old new status (cases.BadJob is command word fault has refused) e = absurd (omega (arith, is, e))
 at_2 words old new status (cases.Conflicts is command word fault has refused) e = absurd (omega (arith, is, e))
@@ -38,8 +43,8 @@ at_2 words old new status (cases.ReadFailed is command word refused) e = absurd 
 at_2 words old new status (cases.WriteFailed is command word partly said) e = absurd (omega (arith, is, e))
 at_2 words old new status (cases.NoMemory is command word refused) e = absurd (omega (arith, is, e))
 
-pub at_3 : (words : List (List ℕ)) (old new : Outside) (status : ℕ) → Outcome words old new status → status ≡ 3 → (command : Command) × (fault : JobFault) × (command_in words ≡ Ok command) × HasJobFault (job_named command) old.left new.left fault × Refused old new (job_fault_line fault)
-at_3 words old new status (cases.Done is command word done quiet) e = absurd (omega (arith, is, e))
+pub at_3 : (words : List (List ℕ)) (old new : Outside) (status : ℕ) → Outcome words old new status → status ≡ 3 → (command : Command) × (fault : JobFault) × (command_in words ≡ Ok command) × HasJobFault (job_wanted command) old.left new.left fault × Refused old new (job_fault_line fault)
+at_3 words old new status (cases.Done is command word line done heard) e = absurd (omega (arith, is, e))
 at_3 words old new status (cases.BadWords is at word files refused) e = absurd (omega (arith, is, e))
 at_3 words old new status (cases.BadJob is command word fault has refused) e = (command, fault, word, has, refused)
 at_3 words old new status (cases.Conflicts is command word fault has refused) e = absurd (omega (arith, is, e))
@@ -50,7 +55,7 @@ at_3 words old new status (cases.WriteFailed is command word partly said) e = ab
 at_3 words old new status (cases.NoMemory is command word refused) e = absurd (omega (arith, is, e))
 
 pub at_4 : (words : List (List ℕ)) (old new : Outside) (status : ℕ) → Outcome words old new status → status ≡ 4 → (command : Command) × (fault : CheckFault) × (command_in words ≡ Ok command) × HasConflict command old.left new.left fault × Refused old new (conflict_line fault)
-at_4 words old new status (cases.Done is command word done quiet) e = absurd (omega (arith, is, e))
+at_4 words old new status (cases.Done is command word line done heard) e = absurd (omega (arith, is, e))
 at_4 words old new status (cases.BadWords is at word files refused) e = absurd (omega (arith, is, e))
 at_4 words old new status (cases.BadJob is command word fault has refused) e = absurd (omega (arith, is, e))
 at_4 words old new status (cases.Conflicts is command word fault has refused) e = (command, fault, word, has, refused)
@@ -61,7 +66,7 @@ at_4 words old new status (cases.WriteFailed is command word partly said) e = ab
 at_4 words old new status (cases.NoMemory is command word refused) e = absurd (omega (arith, is, e))
 
 pub at_5 : (words : List (List ℕ)) (old new : Outside) (status : ℕ) → Outcome words old new status → status ≡ 5 → (command : Command) × (defect : PlanDefect) × (command_in words ≡ Ok command) × HasPlanDefect command old.left new.left defect × Refused old new (plan_defect_line defect)
-at_5 words old new status (cases.Done is command word done quiet) e = absurd (omega (arith, is, e))
+at_5 words old new status (cases.Done is command word line done heard) e = absurd (omega (arith, is, e))
 at_5 words old new status (cases.BadWords is at word files refused) e = absurd (omega (arith, is, e))
 at_5 words old new status (cases.BadJob is command word fault has refused) e = absurd (omega (arith, is, e))
 at_5 words old new status (cases.Conflicts is command word fault has refused) e = absurd (omega (arith, is, e))
@@ -72,7 +77,7 @@ at_5 words old new status (cases.WriteFailed is command word partly said) e = ab
 at_5 words old new status (cases.NoMemory is command word refused) e = absurd (omega (arith, is, e))
 
 pub at_6 : (words : List (List ℕ)) (old new : Outside) (status : ℕ) → Outcome words old new status → status ≡ 6 → (command : Command) × (p : Program) × (fault : SourceFault) × (command_in words ≡ Ok command) × HasSourceFault command old.left new.left p fault × Refused old new (source_fault_line (source_name p fault.source) fault.row fault.why)
-at_6 words old new status (cases.Done is command word done quiet) e = absurd (omega (arith, is, e))
+at_6 words old new status (cases.Done is command word line done heard) e = absurd (omega (arith, is, e))
 at_6 words old new status (cases.BadWords is at word files refused) e = absurd (omega (arith, is, e))
 at_6 words old new status (cases.BadJob is command word fault has refused) e = absurd (omega (arith, is, e))
 at_6 words old new status (cases.Conflicts is command word fault has refused) e = absurd (omega (arith, is, e))
@@ -83,7 +88,7 @@ at_6 words old new status (cases.WriteFailed is command word partly said) e = ab
 at_6 words old new status (cases.NoMemory is command word refused) e = absurd (omega (arith, is, e))
 
 pub at_7 : (words : List (List ℕ)) (old new : Outside) (status : ℕ) → Outcome words old new status → status ≡ 7 → (command : Command) × (command_in words ≡ Ok command) × Refused old new read_fault_line
-at_7 words old new status (cases.Done is command word done quiet) e = absurd (omega (arith, is, e))
+at_7 words old new status (cases.Done is command word line done heard) e = absurd (omega (arith, is, e))
 at_7 words old new status (cases.BadWords is at word files refused) e = absurd (omega (arith, is, e))
 at_7 words old new status (cases.BadJob is command word fault has refused) e = absurd (omega (arith, is, e))
 at_7 words old new status (cases.Conflicts is command word fault has refused) e = absurd (omega (arith, is, e))
@@ -93,8 +98,8 @@ at_7 words old new status (cases.ReadFailed is command word refused) e = (comman
 at_7 words old new status (cases.WriteFailed is command word partly said) e = absurd (omega (arith, is, e))
 at_7 words old new status (cases.NoMemory is command word refused) e = absurd (omega (arith, is, e))
 
-pub at_8 : (words : List (List ℕ)) (old new : Outside) (status : ℕ) → Outcome words old new status → status ≡ 8 → (command : Command) × (command_in words ≡ Ok command) × WhereTold old.left new.left (IsPartlyDone command old.out new.out) × Said old new write_fault_line
-at_8 words old new status (cases.Done is command word done quiet) e = absurd (omega (arith, is, e))
+pub at_8 : (words : List (List ℕ)) (old new : Outside) (status : ℕ) → Outcome words old new status → status ≡ 8 → (command : Command) × (command_in words ≡ Ok command) × WhereKnown (job_wanted command) old.left new.left (IsPartlyDone command old.out new.out) × Said old new write_fault_line
+at_8 words old new status (cases.Done is command word line done heard) e = absurd (omega (arith, is, e))
 at_8 words old new status (cases.BadWords is at word files refused) e = absurd (omega (arith, is, e))
 at_8 words old new status (cases.BadJob is command word fault has refused) e = absurd (omega (arith, is, e))
 at_8 words old new status (cases.Conflicts is command word fault has refused) e = absurd (omega (arith, is, e))
@@ -105,7 +110,7 @@ at_8 words old new status (cases.WriteFailed is command word partly said) e = (c
 at_8 words old new status (cases.NoMemory is command word refused) e = absurd (omega (arith, is, e))
 
 pub at_9 : (words : List (List ℕ)) (old new : Outside) (status : ℕ) → Outcome words old new status → status ≡ 9 → (command : Command) × (command_in words ≡ Ok command) × Refused old new no_memory_line
-at_9 words old new status (cases.Done is command word done quiet) e = absurd (omega (arith, is, e))
+at_9 words old new status (cases.Done is command word line done heard) e = absurd (omega (arith, is, e))
 at_9 words old new status (cases.BadWords is at word files refused) e = absurd (omega (arith, is, e))
 at_9 words old new status (cases.BadJob is command word fault has refused) e = absurd (omega (arith, is, e))
 at_9 words old new status (cases.Conflicts is command word fault has refused) e = absurd (omega (arith, is, e))
@@ -117,7 +122,7 @@ at_9 words old new status (cases.NoMemory is command word refused) e = (command,
 
 -- ---- what holds at more than one status
 pub known_status : (words : List (List ℕ)) (old new : Outside) (status : ℕ) → Outcome words old new status → Contains (0 ∷ 2 ∷ 3 ∷ 4 ∷ 5 ∷ 6 ∷ 7 ∷ 8 ∷ 9 ∷ []) status
-known_status words old new status (cases.Done is command word done quiet) = (0, omega arith, sym is)
+known_status words old new status (cases.Done is command word line done heard) = (0, omega arith, sym is)
 known_status words old new status (cases.BadWords is at word files refused) = (1, omega arith, sym is)
 known_status words old new status (cases.BadJob is command word fault has refused) = (2, omega arith, sym is)
 known_status words old new status (cases.Conflicts is command word fault has refused) = (3, omega arith, sym is)
@@ -128,7 +133,7 @@ known_status words old new status (cases.WriteFailed is command word partly said
 known_status words old new status (cases.NoMemory is command word refused) = (8, omega arith, sym is)
 
 pub nothing_written : (words : List (List ℕ)) (old new : Outside) (status : ℕ) → Outcome words old new status → status ≢ 0 → status ≢ 8 → new.out ≡ old.out
-nothing_written words old new status (cases.Done is command word done quiet) some other = absurd (some is)
+nothing_written words old new status (cases.Done is command word line done heard) some other = absurd (some is)
 nothing_written words old new status (cases.BadWords is at word files refused) some other = refused.nothing
 nothing_written words old new status (cases.BadJob is command word fault has refused) some other = refused.nothing
 nothing_written words old new status (cases.Conflicts is command word fault has refused) some other = refused.nothing
@@ -146,7 +151,7 @@ same_place : (words : List (List ℕ)) (a b : ℕ) → command_in words ≡ Err 
 same_place words a b first second = let e = sym first ∙ second in cc
 
 pub of_no_command : (words : List (List ℕ)) (old new : Outside) (status : ℕ) → Outcome words old new status → (at : ℕ) → command_in words ≡ Err at → (status ≡ 2) × Said old new (bad_words_line at)
-of_no_command words old new status (cases.Done is command word done quiet) place bad = absurd (no_command words command place word bad)
+of_no_command words old new status (cases.Done is command word line done heard) place bad = absurd (no_command words command place word bad)
 of_no_command words old new status (cases.BadWords is at word files refused) place bad = (is, subst (λ n. Said old new (bad_words_line n)) (same_place words at place word bad) refused.said)
 of_no_command words old new status (cases.BadJob is command word fault has refused) place bad = absurd (no_command words command place word bad)
 of_no_command words old new status (cases.Conflicts is command word fault has refused) place bad = absurd (no_command words command place word bad)
@@ -159,3 +164,30 @@ of_no_command words old new status (cases.NoMemory is command word refused) plac
 pub bad_words_exactly : (words : List (List ℕ)) (old new : Outside) (status : ℕ) → Outcome words old new status → (status ≡ 2) ↔ ((at : ℕ) × (command_in words ≡ Err at))
 bad_words_exactly words old new status outcome =
     (λ is. let found = at_2 words old new status outcome is in (found.0, found.1), λ bad. (of_no_command words old new status outcome bad.0 bad.1).0)
+
+-- ---- what is said where a command is done
+same_command : (words : List (List ℕ)) (a b : Command) → command_in words ≡ Ok a → command_in words ≡ Ok b → a ≡ b
+same_command words a b first second = let e = sym first ∙ second in cc
+
+heard_nothing : (says : Saying) (old new : Outside) (line : List ℕ) → IsTrue (is_nothing says) → Hears says old new line → new.err ≡ old.err
+heard_nothing Nothing old new line nothing heard = heard
+heard_nothing (Line Is IsForm) old new line nothing heard = absurd (false≢true nothing)
+
+pub quiet_at_0 : (words : List (List ℕ)) (old new : Outside) (status : ℕ) → Outcome words old new status → status ≡ 0
+    → (command : Command) → command_in words ≡ Ok command → IsTrue (says_nothing command) → new.err ≡ old.err
+quiet_at_0 words old new status outcome is command word nothing =
+    let found = at_0 words old new status outcome is in
+    let same = same_command words command found.0 word found.2 in
+    heard_nothing (want found.0).says old new found.1 (subst (λ (d : Command). IsTrue (says_nothing d)) same nothing) found.4
+
+pub heard_at_0 : (words : List (List ℕ)) (old new : Outside) (status : ℕ) → Outcome words old new status → status ≡ 0 → (job plan : List ℕ) (seed : ℕ) → command_in words ≡ Ok (Simulate job plan seed)
+    → (line : List ℕ) × IsStepLine line × Said old new line × WhereTold old.left new.left (λ left _. (p : Program) × HasJob (Named job) left p × IsLineOfRun job plan seed left p line)
+heard_at_0 words old new status outcome is job plan seed word =
+    let found = at_0 words old new status outcome is in
+    let line = found.1 in
+    let same = same_command words found.0 (Simulate job plan seed) found.2 word in
+    let done = subst (λ (d : Command). WhereKnown (job_wanted d) old.left new.left (IsDone d old.out new.out line)) same found.3 in
+    let heard = subst (λ (d : Command). Hears (want d).says old new line) same found.4 in
+    let told = told_weaker (IsDone (Simulate job plan seed) old.out new.out line) (λ left _. (p : Program) × HasJob (Named job) left p × IsLineOfRun job plan seed left p line) old.left new.left
+    (λ x y d. (d.0, d.2.good.has, d.4)) done in
+    (line, heard.0, heard.1, told)

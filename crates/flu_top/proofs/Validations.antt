@@ -1,7 +1,6 @@
 -- A job's text is read, then a plan's, and the plan is looked at for the job.
 use Rattle.std.proofs.Common.{◌≡◌, refl, sym, ap, ◌∙◌, subst, ℕ, ◌≤◌, List, [], ◌∷◌, Option, Some, Err, inl, inr, arith}
 use Rattle.std.proofs.lemmas.Bool.{false≢true}
-use Rattle.std.proofs.lemmas.List.Elements.{Contains-append_right}
 use Rattle.flu_outside.specs.Outside.{WhereTold, Contents}
 use Rattle.flu_model.specs.declared.jobs.Program.{Program}
 use Rattle.flu_model.specs.declared.plans.Node.{Node}
@@ -18,9 +17,9 @@ use Rattle.flu_grammar.specs.Plans.{IsPlanText}
 use Rattle.flu_top.specs.declared.refusals.PlanDefect.TheVariants as defects
 use Rattle.flu_top.specs.declared.refusals.Refusal.{Refusal}
 use Rattle.flu_top.specs.declared.refusals.Refusal.TheVariants as refusals
-use Rattle.flu_top.specs.Words.{Valid}
+use Rattle.flu_words.specs.Words.{Valid}
 use Rattle.flu_top.specs.Taking.{TookOnly}
-use Rattle.flu_top.specs.Behind.{HasJob, HasPlan, plan_behind}
+use Rattle.flu_top.specs.Behind.{Named, HasJob, HasPlan, plan_behind}
 use Rattle.flu_top.specs.Done.{IsReadName, IsWritten}
 use Rattle.flu_top.specs.Causes.{IsJobRead, HasInvalidPlan}
 use Rattle.flu_top.specs.Ready.{HasNodes, IsReady}
@@ -29,12 +28,12 @@ use Rattle.flu_top.specs.Refusing.{IsRefusal}
 use Rattle.flu_top.proofs.Sequence.{may_have, emptied_is, one_text, two_texts}
 
 -- ---- the plan behind the job
-plan_at : (job plan : List ℕ) (p : Program) (x y : Contents) → IsJobRead job p x y × TakesFrom job x y → plan_behind job plan x ≡ bytes_left y plan
+plan_at : (job plan : List ℕ) (p : Program) (x y : Contents) → IsJobRead job p x y × TakesFrom job x y → plan_behind (Named job) plan x ≡ bytes_left y plan
 unfolding plan_behind
 plan_at job plan p x y first = ap (λ left. bytes_left left plan) (emptied_is job x y first.0.end first.1)
 
 has_plan_at : (job plan : List ℕ) (p : Program) (nodes : List Node) (x y : Contents) → IsJobRead job p x y × TakesFrom job x y
-    → IsPlanText p (bytes_left y plan) nodes → HasPlan job plan x p nodes
+    → IsPlanText p (bytes_left y plan) nodes → HasPlan (Named job) plan x p nodes
 has_plan_at job plan p nodes x y first is = subst (λ bytes. IsPlanText p bytes nodes) (sym (plan_at job plan p x y first)) is
 
 ready_at : (job plan : List ℕ) (p : Program) (nodes : List Node) (x y z : Contents) → IsValid p nodes → IsJobRead job p x y × TakesFrom job x y
@@ -45,8 +44,8 @@ ready_at job plan p nodes x y z valid first second = record {
   texts = two_texts job plan x y z (one_text job x y first.0.end first.1) second.0.end second.1;
 }
   where
-    by_name : (name : List ℕ) → Some plan ≡ Some name → HasPlan job plan x p nodes → HasPlan job name x p nodes
-    by_name name named is = let same : plan ≡ name = cc in subst (λ n. HasPlan job n x p nodes) same is
+    by_name : (name : List ℕ) → Some plan ≡ Some name → HasPlan (Named job) plan x p nodes → HasPlan (Named job) name x p nodes
+    by_name name named is = let same : plan ≡ name = cc in subst (λ n. HasPlan (Named job) n x p nodes) same is
 
 pub is_ready : (job plan : List ℕ) (p : Program) (nodes : List Node) (a b c : Option Contents) → WhereTold a b (IsJobRead job p) → WhereTold a b (TakesFrom job)
     → WhereTold b c (IsPlanRead p plan nodes) → WhereTold b c (TakesFrom plan) → IsValid p nodes → WhereTold a c (IsReady (Valid job plan) p)
@@ -63,28 +62,28 @@ has_nodes job plan p nodes a b c read taken found =
 
 -- ---- the normal form of a valid plan
 validated_at : (job plan : List ℕ) (p : Program) (nodes : List Node) (text : List ℕ) (x z : Contents) → IsAccepted p → text ≡ printed p nodes
-    → IsReady (Valid job plan) p x z × HasNodes job plan p nodes x z → IsWritten (Valid job plan) text x z
+    → IsReady (Valid job plan) p x z × HasNodes job plan p nodes x z → IsWritten (Valid job plan) text [] x z
 validated_at job plan p nodes text x z accepted is both = (
   p,
   record {
     good = record { has = both.0.has; accepted = λ asked. accepted; plan = both.0.plan; sources = λ asked. absurd (false≢true asked) };
-    job_end = both.0.texts.ends job (0, omega arith, refl);
-    other_ends = λ name found. both.0.texts.ends name (Contains-append_right (job ∷ []) (plan ∷ []) name found);
+    ends = both.0.texts.ends;
   },
   record { nodes = nodes; has = both.1; is = is },
+  refl,
 )
 
 pub is_validated : (job plan : List ℕ) (p : Program) (nodes : List Node) (text : List ℕ) (a c : Option Contents) → IsAccepted p → WhereTold a c (IsReady (Valid job plan) p)
-    → WhereTold a c (HasNodes job plan p nodes) → text ≡ printed p nodes → WhereTold a c (IsWritten (Valid job plan) text)
+    → WhereTold a c (HasNodes job plan p nodes) → text ≡ printed p nodes → WhereTold a c (IsWritten (Valid job plan) text [])
 is_validated job plan p nodes text a c accepted ready found is =
-    told_weaker (λ x z. IsReady (Valid job plan) p x z × HasNodes job plan p nodes x z) (IsWritten (Valid job plan) text) a c
+    told_weaker (λ x z. IsReady (Valid job plan) p x z × HasNodes job plan p nodes x z) (IsWritten (Valid job plan) text []) a c
     (λ x z both. validated_at job plan p nodes text x z accepted is both) (told_both (IsReady (Valid job plan) p) (HasNodes job plan p nodes) a c ready found)
 
 pub only_with_plan : (job plan : List ℕ) (p : Program) (a b c : Option Contents) → WhereTold a b (IsJobRead job p) → WhereTold a b (TakesFrom job) → IsAccepted p → WhereTold b c (TakesFrom plan) → WhereTold a c (TookOnly (IsReadName a (Valid job plan)))
 only_with_plan job plan p a b c read taken accepted also =
     let may = may_have job p a b read in
     told_then (TakesFrom job) (TakesFrom plan) (TookOnly (IsReadName a (Valid job plan))) a b c
-    (λ x y z took more name unread. more.others name (λ same. unread (inr (p, may, λ asked. accepted, (0, omega arith, sym same)))) ∙ took.others name (λ same. unread (inl same))) taken also
+    (λ x y z took more name unread. more.others name (λ same. unread (inr (p, may, λ asked. accepted, (0, omega arith, sym same)))) ∙ took.others name (λ same. unread (inl (ap Named (sym same))))) taken also
 
 -- ---- what refuses a plan
 pub text_refusal : (job plan : List ℕ) (p : Program) (a b c : Option Contents) (k l m : List ℕ → ℕ) (refusal : Refusal) → WhereTold a b (IsJobRead job p) → WhereTold a b (TakesFrom job) → ((n : List ℕ) → k n ≤ l n) → IsAccepted p → IsTextRefusal p plan b c l m refusal → IsRefusal (Valid job plan) a c k m refusal
@@ -97,7 +96,7 @@ text_refusal job plan p a b c k l m (refusals.PlanDefect (defects.Text fault)) r
   asked = refl;
   accepted = accepted;
   is_fault = is.is_fault;
-  first = told_then (λ x y. IsJobRead job p x y × TakesFrom job x y) (λ left _. plan_in p (bytes_left left plan) ≡ Err fault) (λ left _. HasJob job left p × (plan_in p (plan_behind job plan left) ≡ Err fault)) a b c
+  first = told_then (λ x y. IsJobRead job p x y × TakesFrom job x y) (λ left _. plan_in p (bytes_left left plan) ≡ Err fault) (λ left _. HasJob (Named job) left p × (plan_in p (plan_behind (Named job) plan left) ≡ Err fault)) a b c
       (λ x y z first e. (first.0.has, ap (plan_in p) (plan_at job plan p x y first) ∙ e)) (told_both (IsJobRead job p) (TakesFrom job) a b read taken) is.first;
 }
 text_refusal job plan p a b c k l m (refusals.PlanDefect (defects.Invalid checked fault)) read taken rise accepted is = absurd is
@@ -120,7 +119,7 @@ valid_refusal job plan checked nodes a b c k m (refusals.PlanDefect (defects.Inv
       asked = refl;
       accepted = accepted;
       invalid = is.2;
-      text = told_then (λ x y. IsJobRead job (program_of checked) x y × TakesFrom job x y) (IsPlanRead (program_of checked) plan nodes) (λ left _. HasJob job left (program_of checked) × HasPlan job plan left (program_of checked) nodes) a b c
+      text = told_then (λ x y. IsJobRead job (program_of checked) x y × TakesFrom job x y) (IsPlanRead (program_of checked) plan nodes) (λ left _. HasJob (Named job) left (program_of checked) × HasPlan (Named job) plan left (program_of checked) nodes) a b c
           (λ x y z first second. (first.0.has, has_plan_at job plan (program_of checked) nodes x y first second.has)) (told_both (IsJobRead job (program_of checked)) (TakesFrom job) a b read taken) found;
     })
 valid_refusal job plan checked nodes a b c k m (refusals.SourceFault q fault) read taken accepted found is = absurd is

@@ -1,7 +1,6 @@
 -- Bytes that are written one after another.
 use Rattle.std.proofs.Common.{◌≡◌, sym, ap, ◌∙◌, ℕ, ◌+◌, ◌-◌, ◌≤◌, List, [], ◌∷◌, ◌++◌, length, get_or, map, take, drop, Option, Result, Ok, Err, subst, arith, append-nil, append_assoc, length-append, refl}
 use Rattle.std.proofs.Math.Seq.{take-append-add}
-use denote.Bor.{Bor}
 use Rattle.std.specs.List.{concat}
 use Rattle.std.proofs.lemmas.List.{take_all, take-append-le}
 use Rattle.std.specs.Prelude.{IsErr, codes}
@@ -64,10 +63,14 @@ writes_more a b x y z k l m (Err f) w v = record {
   counts = omega (arith, w.counts, v.counts);
 }
 
--- the first of some pieces, and the others
-pub pieces_split : (ps : List (Bor (List ℕ))) (d : Bor (List ℕ)) → 1 ≤ length ps → (get_or ps 0 d).now ++ concat (map (λ p. p.now) (take (length ps - 1) (drop 1 ps))) ≡ concat (map (λ p. p.now) ps)
-pieces_split [] d some = absurd (omega arith)
-pieces_split (p ∷ ps) d some = ap (λ (l : List (Bor (List ℕ))). p.now ++ concat (map (λ p. p.now) l)) (take_all (length (p ∷ ps) - 1) ps (omega arith))
+-- the bytes of the first of some pieces, and those of the others
+pub pieces_split : {T : Type 0} (bytes : T → List ℕ) (ps : List T) (d : T) → 1 ≤ length ps → bytes (get_or ps 0 d) ++ concat (map bytes (take (length ps - 1) (drop 1 ps))) ≡ concat (map bytes ps)
+pieces_split bytes [] d some = absurd (omega arith)
+pieces_split {T} bytes (p ∷ ps) d some = ap (λ (l : List T). bytes p ++ concat (map bytes l)) (take_all (length (p ∷ ps) - 1) ps (omega arith))
+
+-- a word and the digits of a number behind it
+pub counted_pieces : (word digits text : List ℕ) (n : ℕ) → word ≡ text → digits ≡ decimal n → word ++ (digits ++ []) ≡ text ++ decimal n
+counted_pieces word digits text n is are = (λ i. is i ++ (are i ++ [])) ∙ ap (λ l. text ++ l) (append-nil (decimal n))
 
 -- pieces that make up a line
 pub writes_as : (pieces line : List ℕ) (x y : Option (List ℕ)) (k l : ℕ) (r : Result (Unit {0}) Failed) → pieces ≡ line → Writes pieces x y k l r → Writes line x y k l r

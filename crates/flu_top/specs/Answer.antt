@@ -1,17 +1,18 @@
 -- The status and the line of each refusal.
-use Rattle.std.specs.Prelude.{ℕ, List, Result, Ok, Err}
+use Rattle.std.specs.Prelude.{◌≡◌, ℕ, List, Option, Some, None, Result, Ok, Err}
 use Rattle.flu_parse.specs.declared.faults.JobFault.{JobFault}
 use Rattle.flu_parse.specs.declared.faults.JobFault.TheVariants as faults
 use Rattle.flu_plan.specs.declared.fault.PlanFault.{PlanFault}
 use Rattle.flu_plan.specs.declared.fault.PlanFault.TheVariants as plans
 use Rattle.flu_outside.specs.declared.files.TakeFault.{TakeFault}
 use Rattle.flu_outside.specs.declared.files.TakeFault.TheVariants as takes
+use Rattle.flu_top.specs.declared.products.DrawnSteps.{DrawnSteps}
 use Rattle.flu_top.specs.declared.refusals.PlanDefect.TheVariants as defects
 use Rattle.flu_top.specs.declared.refusals.Refusal.{Refusal}
 use Rattle.flu_top.specs.declared.refusals.Refusal.TheVariants as refusals
 use Rattle.flu_top.specs.Jobs.{program_read}
 use Rattle.flu_top.specs.Names.{source_name}
-use Rattle.flu_top.specs.Lines.{bad_words_line, job_fault_line, conflict_line, plan_defect_line, source_fault_line, read_fault_line, write_fault_line, no_memory_line}
+use Rattle.flu_top.specs.Lines.{bad_words_line, job_fault_line, conflict_line, plan_defect_line, source_fault_line, read_fault_line, write_fault_line, no_memory_line, step_line, IsSaid}
 
 abbrev pub status_of : Refusal → ℕ
 status_of (refusals.BadWords bad) = 2
@@ -34,9 +35,15 @@ line_of refusals.WriteFault = write_fault_line
 line_of refusals.NoMemory = no_memory_line
 
 -- the status of a call that was done or refused
-abbrev pub status_after : Result (Unit {0}) Refusal → ℕ
-status_after (Ok u) = 0
+abbrev pub status_after : Result (Option DrawnSteps) Refusal → ℕ
+status_after (Ok steps) = 0
 status_after (Err refusal) = status_of refusal
+
+-- what err got of a call that was done or refused: nothing, the line of its steps, or that of the refusal
+abbrev pub IsHeard : Result (Option DrawnSteps) Refusal → Option (List ℕ) → Option (List ℕ) → ℕ → ℕ → Type 0
+IsHeard (Ok None) old new before now = new ≡ old
+IsHeard (Ok (Some steps)) old new before now = IsSaid (step_line steps) old new before now
+IsHeard (Err refusal) old new before now = IsSaid (line_of refusal) old new before now
 
 -- the refusal for a fault in a job text
 abbrev pub refusal_of_job : JobFault → Refusal

@@ -1,10 +1,11 @@
 -- What a job's text, a plan's and the sources are, where the files tell what they have left when a call begins.
-use Rattle.std.specs.Prelude.{ℕ, List, [], ◌∷◌, option_map, Option, if◌then◌else◌}
+use Rattle.std.specs.Prelude.{◌≡◌, ℕ, List, [], ◌∷◌, option_map, Option, if◌then◌else◌}
 use Rattle.std.specs.Str.{bytes_eq}
 use Rattle.flu_outside.specs.Outside.{Contents}
+use Rattle.flu_model.specs.declared.events.Item.{Item}
 use Rattle.flu_model.specs.declared.jobs.Program.{Program}
 use Rattle.flu_model.specs.Contents.{nothing_held}
-use Rattle.flu_model.specs.Erasure.{job_of}
+use Rattle.flu_model.specs.Erasure.{Job, job_of}
 use Rattle.flu_model.specs.Folding.{final_outputs}
 use Rattle.flu_model.specs.Reports as reports
 use Rattle.flu_outside.specs.Taking.{bytes_left}
@@ -14,9 +15,20 @@ use Rattle.flu_grammar.specs.Plans.{IsPlanText}
 use Rattle.flu_streams.specs.declared.faults.SourceFault.{SourceFault}
 use Rattle.flu_streams.specs.Good.{first_fault, lists_of}
 
--- the bytes under the job's name are the text of this program
-abbrev pub HasJob : List ℕ → Contents → Program → Type 0
-HasJob job left p = IsJobText (bytes_left left job) (job_of p)
+-- the job that is wanted: the one whose text is under a name, or a fixed one, for which no file is read
+pub data WantedJob : Type 0 where
+  Named : (name : List ℕ) → WantedJob
+  Fixed : (job : Job) → WantedJob
+
+-- the program is the job that is wanted
+abbrev pub HasJob : WantedJob → Contents → Program → Type 0
+HasJob (Named name) left p = IsJobText (bytes_left left name) (job_of p)
+HasJob (Fixed job) left p = job_of p ≡ job
+
+-- the file of the job, if its text is under a name
+abbrev pub job_files : WantedJob → List (List ℕ)
+job_files (Named name) = name ∷ []
+job_files (Fixed job) = []
 
 -- what is left behind a text, which was read to its end: another file with its name is empty
 unfoldable pub emptied : List ℕ → Contents → Contents
@@ -31,14 +43,18 @@ emptied_each (text ∷ texts) left = emptied_each texts (emptied text left)
 unfoldable pub fault_behind : List (List ℕ) → Contents → Program → Option SourceFault
 fault_behind texts left p = first_fault p (emptied_each texts left)
 
+-- for each itag of the program the items of its source, which is read behind some texts
+unfoldable pub lists_behind : List (List ℕ) → Contents → Program → List (List Item)
+lists_behind texts left p = lists_of p (emptied_each texts left)
+
 -- the report of the fold of all events of the program's sources, which are read behind some texts, from the empty state
 unfoldable pub report_behind : List (List ℕ) → Contents → Program → List ℕ
 report_behind texts left p = reports.report p (final_outputs p nothing_held (lists_of p (emptied_each texts left)))
 
 -- the bytes under a plan's name, which are read behind the job's
-unfoldable pub plan_behind : List ℕ → List ℕ → Contents → List ℕ
-plan_behind job plan left = bytes_left (emptied job left) plan
+unfoldable pub plan_behind : WantedJob → List ℕ → Contents → List ℕ
+plan_behind job plan left = bytes_left (emptied_each (job_files job) left) plan
 
 -- those are the text of these nodes, as a plan of the program
-abbrev pub HasPlan : List ℕ → List ℕ → Contents → Program → List Node → Type 0
+abbrev pub HasPlan : WantedJob → List ℕ → Contents → Program → List Node → Type 0
 HasPlan job plan left p nodes = IsPlanText p (plan_behind job plan left) nodes

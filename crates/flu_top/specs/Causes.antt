@@ -18,22 +18,24 @@ use Rattle.flu_valid.specs.Faults.{IsFirstPlanFault}
 use Rattle.flu_streams.specs.declared.faults.SourceFault.{SourceFault}
 use Rattle.flu_top.specs.declared.refusals.PlanDefect.{PlanDefect}
 use Rattle.flu_top.specs.declared.refusals.PlanDefect.TheVariants as defects
-use Rattle.flu_top.specs.Words.{Command}
-use Rattle.flu_top.specs.Behind.{HasJob, HasPlan, fault_behind, plan_behind}
+use Rattle.flu_words.specs.Words.{Command}
+use Rattle.flu_top.specs.Behind.{WantedJob, Named, HasJob, HasPlan, fault_behind, plan_behind}
 use Rattle.flu_top.specs.TextFaults.{IsFirstJobFault, IsFirstTextFault}
-use Rattle.flu_top.specs.Wants.{job_named, plan_named, asks_accepted, reads_sources, texts_named}
+use Rattle.flu_top.specs.Wants.{job_wanted, plan_named, asks_accepted, reads_sources, texts_named}
 use Rattle.flu_top.specs.Done.{HasPlanAsked}
 
 -- the bytes under the job's name are the text of this program, and were read to their end
 pub record IsJobRead (job : List ℕ) (p : Program) (old new : Contents) : Type 0 where
-  pub has : HasJob job old p
+  pub has : HasJob (Named job) old p
   pub end : new job ≡ Some []
 
 -- ---- the job's text
--- the bytes under the job's name have this fault
-pub record HasJobFault (job : List ℕ) (old new : Option Contents) (fault : JobFault) : Type 0 where
+-- the job's text is under a name, and the bytes there have this first fault
+pub record HasJobFault (job : WantedJob) (old new : Option Contents) (fault : JobFault) : Type 0 where
+  pub name : List ℕ
+  pub named : job ≡ Named name
   pub is_fault : fault ≢ jobs.NoMemory
-  pub first : WhereTold old new (λ left _. IsFirstJobFault (bytes_left left job) fault)
+  pub first : WhereTold old new (λ left _. IsFirstJobFault (bytes_left left name) fault)
 
 -- ---- the job
 -- the fault's job is not accepted, and the fault is its first conflict of independent tags
@@ -41,37 +43,38 @@ pub record IsConflict (fault : CheckFault) : Type 0 where
   pub refused : ¬ IsAccepted fault.program
   pub first : IsFirstCheckFault fault.program fault.a fault.b fault.cell
 
--- the command asks for an accepted job, the bytes under the job's name are the text of the fault's job, which is not accepted,
--- and the fault is its first conflict
+-- the command asks for an accepted job, whose text is under a name, the bytes there are the text of the fault's job, which is not
+-- accepted, and the fault is its first conflict
 pub record HasConflict (command : Command) (old new : Option Contents) (fault : CheckFault) : Type 0 where
   pub asked : IsTrue (asks_accepted command)
+  pub name : List ℕ
+  pub named : job_wanted command ≡ Named name
   pub conflict : IsConflict fault
-  pub job : WhereTold old new (IsJobRead (job_named command) fault.program)
+  pub job : WhereTold old new (IsJobRead name fault.program)
 
 -- ---- the plan
--- the command names a plan, the bytes under the job's name are the text of this program, which is accepted, and the plan's text
--- has this first fault for it
+-- the command names a plan, its job is this program, which is accepted, and the plan's text has this first fault for it
 pub record HasPlanFault (command : Command) (old new : Option Contents) (fault : PlanFault) : Type 0 where
   pub plan : List ℕ
   pub program : Program
   pub asked : plan_named command ≡ Some plan
   pub accepted : IsAccepted program
   pub is_fault : fault ≢ plans.NoMemory
-  pub first : WhereTold old new (λ left _. HasJob (job_named command) left program × IsFirstTextFault program (plan_behind (job_named command) plan left) fault)
+  pub first : WhereTold old new (λ left _. HasJob (job_wanted command) left program × IsFirstTextFault program (plan_behind (job_wanted command) plan left) fault)
 
 -- the plan is not valid for the job, and this is the first thing that keeps it from that
 pub record IsInvalid (p : Program) (nodes : List Node) (why : Invalid) : Type 0 where
   pub refused : ¬ IsValid p nodes
   pub first : IsFirstPlanFault p nodes why
 
--- the command names a plan, the bytes under the job's name are the text of this program, which is accepted, and those under the
--- plan's name are the text of these nodes, which are not valid for it: this is the first thing that keeps them from that
+-- the command names a plan, its job is this program, which is accepted, and the bytes under the plan's name are the text of these
+-- nodes, which are not valid for it: this is the first thing that keeps them from that
 pub record HasInvalidPlan (command : Command) (old new : Option Contents) (p : Program) (nodes : List Node) (why : Invalid) : Type 0 where
   pub plan : List ℕ
   pub asked : plan_named command ≡ Some plan
   pub accepted : IsAccepted p
   pub invalid : IsInvalid p nodes why
-  pub text : WhereTold old new (λ left _. HasJob (job_named command) left p × HasPlan (job_named command) plan left p nodes)
+  pub text : WhereTold old new (λ left _. HasJob (job_wanted command) left p × HasPlan (job_wanted command) plan left p nodes)
 
 -- what is wrong with the command's plan
 abbrev pub HasPlanDefect : Command → Option Contents → Option Contents → PlanDefect → Type 0
@@ -79,10 +82,9 @@ HasPlanDefect command old new (defects.Text fault) = HasPlanFault command old ne
 HasPlanDefect command old new (defects.Invalid checked fault) = HasInvalidPlan command old new (program_of checked) fault.plan.nodes fault.why
 
 -- ---- the sources
--- the command reads sources, the bytes under the job's name are the text of this program, which is accepted where the command
--- asks for that, a plan that the command names is valid for it, and this is the first fault of its sources
+-- the command reads sources, its job is this program, which is accepted where the command asks for that, a plan that the command names is valid for it, and this is the first fault of its sources
 pub record HasSourceFault (command : Command) (old new : Option Contents) (p : Program) (fault : SourceFault) : Type 0 where
   pub asked : IsTrue (reads_sources command)
   pub accepted : IsTrue (asks_accepted command) → IsAccepted p
   pub source : fault.source < length p.sources
-  pub first : WhereTold old new (λ left _. HasJob (job_named command) left p × HasPlanAsked command left p × (fault_behind (texts_named command) left p ≡ Some fault))
+  pub first : WhereTold old new (λ left _. HasJob (job_wanted command) left p × HasPlanAsked command left p × (fault_behind (texts_named command) left p ≡ Some fault))

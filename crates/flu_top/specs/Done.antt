@@ -1,53 +1,67 @@
 -- What a call that does its command has done, and which names it reads.
-use Rattle.std.specs.Prelude.{◌≡◌, ℕ, List, [], Option, Some, None, Contains, ⊤, ◌⊎◌, Ok, IsTrue}
+use Rattle.std.specs.Prelude.{◌≡◌, ℕ, List, [], ◌++◌, Option, Some, None, Contains, ⊤, ◌⊎◌, Ok, IsTrue}
 use Rattle.flu_outside.specs.Outside.{Contents, WhereTold}
 use Rattle.flu_model.specs.declared.jobs.Program.{Program}
 use Rattle.flu_model.specs.declared.plans.Node.{Node}
 use Rattle.flu_model.specs.Modes.{IsAccepted}
 use Rattle.flu_model.specs.Validity.{IsValid}
 use Rattle.flu_outside.specs.Writing.{AppendsAll, AppendsPart}
-use Rattle.flu_top.specs.Words.{Command, command_in}
-use Rattle.flu_top.specs.Behind.{HasJob, HasPlan, fault_behind}
-use Rattle.flu_top.specs.Wants.{job_named, plan_named, asks_accepted, reads_sources, texts_named, files_read, Writes}
+use Rattle.flu_words.specs.Words.{Command, command_in}
+use Rattle.flu_top.specs.Behind.{WantedJob, Named, Fixed, HasJob, HasPlan, fault_behind}
+use Rattle.flu_top.specs.Wants.{Saying, Nothing, Line, want, job_wanted, plan_named, asks_accepted, reads_sources, texts_named, sources_read, files_read, Writes}
 
 -- the text under a name, which is read behind the job's, is a plan that is valid for the job
-abbrev pub HasValidPlan : List ℕ → List ℕ → Contents → Program → Type 0
+abbrev pub HasValidPlan : WantedJob → List ℕ → Contents → Program → Type 0
 HasValidPlan job plan left p = (nodes : List Node) × HasPlan job plan left p nodes × IsValid p nodes
 
 -- the plan that the command names, if it names one, is valid for the job
 abbrev pub HasPlanAsked : Command → Contents → Program → Type 0
-HasPlanAsked command left p = (plan : List ℕ) → plan_named command ≡ Some plan → HasValidPlan (job_named command) plan left p
+HasPlanAsked command left p = (plan : List ℕ) → plan_named command ≡ Some plan → HasValidPlan (job_wanted command) plan left p
 
 -- the program is the command's job, which is accepted where the command asks for that, the plan that the command names is valid
 -- for it, and its sources have no defect where the command reads them
 pub record IsGood (command : Command) (left : Contents) (p : Program) : Type 0 where
-  pub has : HasJob (job_named command) left p
+  pub has : HasJob (job_wanted command) left p
   pub accepted : IsTrue (asks_accepted command) → IsAccepted p
   pub plan : HasPlanAsked command left p
   pub sources : IsTrue (reads_sources command) → fault_behind (texts_named command) left p ≡ None
 
--- nothing refuses the command, and its job and all else that it reads were read to their end
+-- nothing refuses the command, and all that it reads was read to its end
 pub record IsRead (command : Command) (p : Program) (old new : Contents) : Type 0 where
   pub good : IsGood command old p
-  pub job_end : new (job_named command) ≡ Some []
-  pub other_ends : (name : List ℕ) → Contains (files_read command p) name → new name ≡ Some []
+  pub ends : (name : List ℕ) → Contains (texts_named command ++ sources_read command p) name → new name ≡ Some []
 
--- all was read, and this is what the command writes
-abbrev pub IsWritten : Command → List ℕ → Contents → Contents → Type 0
-IsWritten command text old new = (p : Program) × IsRead command p old new × Writes command old p text
+-- this is the line that is said, and the empty one where nothing is
+abbrev pub IsLine : Saying → Contents → Program → List ℕ → Type 0
+IsLine Nothing left p line = line ≡ []
+IsLine (Line Is IsForm) left p line = Is left p line
 
--- DONE: all was read, and what the command writes stands behind what was in out
-abbrev pub IsDone : Command → Option (List ℕ) → Option (List ℕ) → Contents → Contents → Type 0
-IsDone command had has old new =
-    (p : Program) × (text : List ℕ) × IsRead command p old new × Writes command old p text × WhereTold had has (AppendsAll text)
+-- the line that a command says on err, and the empty one where it says nothing
+abbrev pub Says : Command → Contents → Program → List ℕ → Type 0
+Says command left p line = IsLine (want command).says left p line
+
+-- all was read, and this is what the command writes and what it says
+abbrev pub IsWritten : Command → List ℕ → List ℕ → Contents → Contents → Type 0
+IsWritten command text line old new = (p : Program) × IsRead command p old new × Writes command old p text × Says command old p line
+
+-- DONE: all was read, what the command writes stands behind what was in out, and this is what it says on err
+abbrev pub IsDone : Command → Option (List ℕ) → Option (List ℕ) → List ℕ → Contents → Contents → Type 0
+IsDone command had has line old new =
+    (p : Program) × (text : List ℕ) × IsRead command p old new × Writes command old p text × Says command old p line
+    × WhereTold had has (AppendsAll text)
+
+-- what is true of what the files hold, where they tell it; where the job is a fixed one and no file is read, it is true whatever they hold
+abbrev pub WhereKnown : WantedJob → Option Contents → Option Contents → (Contents → Contents → Type 0) → Type 0
+WhereKnown (Named name) old new Holds = WhereTold old new Holds
+WhereKnown (Fixed job) old new Holds = (left : Contents) → Holds left left
 
 -- all was read, and fewer than all bytes of what the command writes, from its front, stand behind what was in out
 abbrev pub IsPartlyDone : Command → Option (List ℕ) → Option (List ℕ) → Contents → Contents → Type 0
 IsPartlyDone command had has old new =
     (p : Program) × (text : List ℕ) × IsRead command p old new × Writes command old p text × WhereTold had has (AppendsPart text)
 
--- the bytes under the job's name are the text of this program, or the files do not tell them
-abbrev pub MayHaveJob : Option Contents → List ℕ → Program → Type 0
+-- the program is the job that is wanted, or the files do not tell it
+abbrev pub MayHaveJob : Option Contents → WantedJob → Program → Type 0
 MayHaveJob None job p = ⊤
 MayHaveJob (Some left) job p = HasJob job left p
 
@@ -55,7 +69,7 @@ MayHaveJob (Some left) job p = HasJob job left p
 -- command asks for that
 abbrev pub IsReadName : Option Contents → Command → List ℕ → Type 0
 IsReadName left command name =
-    (name ≡ job_named command) ⊎ ((p : Program) × MayHaveJob left (job_named command) p × (IsTrue (asks_accepted command) → IsAccepted p) × Contains (files_read command p) name)
+    (job_wanted command ≡ Named name) ⊎ ((p : Program) × MayHaveJob left (job_wanted command) p × (IsTrue (asks_accepted command) → IsAccepted p) × Contains (files_read command p) name)
 
 -- a name that a call with some words reads
 abbrev pub IsReadBy : List (List ℕ) → Option Contents → List ℕ → Type 0

@@ -7,6 +7,7 @@ use Rattle.flu_top.specs.declared.refusals.JobRead.{JobRead}
 use Rattle.flu_top.specs.declared.refusals.JobRead.TheVariants as read
 use Rattle.flu_top.specs.declared.refusals.Refusal.{Refusal}
 use Rattle.flu_top.specs.declared.refusals.Refusal.TheVariants as refusals
+use Rattle.flu_top.specs.Behind.{Named}
 use Rattle.flu_top.specs.Causes.{HasJobFault}
 
 -- the program of a job that was read
@@ -17,7 +18,7 @@ program_read (read.Accepted checked) = program_of checked
 -- why a job was not read
 abbrev pub IsJobRefusal : List ℕ → Option Contents → Option Contents → (List ℕ → ℕ) → (List ℕ → ℕ) → Refusal → Type 0
 IsJobRefusal job old new before now (refusals.BadWords bad) = ⊥
-IsJobRefusal job old new before now (refusals.JobFault fault) = HasJobFault job old new fault
+IsJobRefusal job old new before now (refusals.JobFault fault) = HasJobFault (Named job) old new fault
 IsJobRefusal job old new before now (refusals.Conflict fault) = ⊥
 IsJobRefusal job old new before now (refusals.PlanDefect defect) = ⊥
 IsJobRefusal job old new before now (refusals.SourceFault other fault) = ⊥

@@ -8,16 +8,17 @@ use Rattle.flu_parse.specs.declared.faults.JobFault.{JobFault}
 use Rattle.flu_check.specs.declared.CheckFault.{CheckFault}
 use Rattle.flu_streams.specs.declared.faults.SourceFault.{SourceFault}
 use Rattle.flu_top.specs.declared.refusals.PlanDefect.{PlanDefect}
-use Rattle.flu_top.specs.Words.{Command, command_in}
+use Rattle.flu_words.specs.Words.{Command, Simulate, command_in}
 use Rattle.flu_top.specs.Taking.{TookOnly}
-use Rattle.flu_top.specs.Behind.{HasJob, fault_behind}
+use Rattle.flu_top.specs.Behind.{Named, HasJob, fault_behind}
 use Rattle.flu_top.specs.TextFaults.{IsFirstJobFault}
-use Rattle.flu_top.specs.Wants.{job_named, plan_named, asks_accepted, reads_sources, texts_named}
-use Rattle.flu_top.specs.Done.{HasValidPlan, HasPlanAsked, IsGood, IsDone, IsPartlyDone, IsReadBy}
+use Rattle.flu_top.specs.Wants.{want, job_wanted, plan_named, asks_accepted, reads_sources, says_nothing, texts_named}
+use Rattle.flu_top.specs.Done.{HasValidPlan, HasPlanAsked, IsGood, IsDone, IsPartlyDone, WhereKnown, IsReadBy}
 use Rattle.flu_top.specs.Causes.{HasJobFault, HasConflict, HasPlanDefect, HasSourceFault}
 use Rattle.flu_top.specs.Names.{source_name}
+use Rattle.flu_top.specs.Simulating.{IsLineOfRun, IsStepLine}
 use Rattle.flu_top.specs.Lines.{bad_words_line, job_fault_line, conflict_line, plan_defect_line, source_fault_line, read_fault_line, write_fault_line, no_memory_line}
-use Rattle.flu_top.specs.Outcome.{Outside, Said, Outcome, ReadOnly, FaultsFirst, CallsFor, NothingFailed, Completes}
+use Rattle.flu_top.specs.Outcome.{Outside, Said, Hears, Outcome, ReadOnly, FaultsFirst, CallsFor, NothingFailed, Completes}
 
 -- ---- the statuses
 -- the status is one of these
@@ -25,16 +26,27 @@ abbrev pub KnownStatuses : Type 0
 KnownStatuses =
     (words : List (List ℕ)) (old new : Outside) (status : ℕ) → Outcome words old new status → Contains (0 ∷ 2 ∷ 3 ∷ 4 ∷ 5 ∷ 6 ∷ 7 ∷ 8 ∷ 9 ∷ []) status
 
--- status 0: all that the command reads was read to its end, and out got what it writes
+-- status 0: all that the command reads was read to its end, out got what it writes, and err what it says
 abbrev pub DoneIsDone : Type 0
 DoneIsDone =
     (words : List (List ℕ)) (old new : Outside) (status : ℕ) → Outcome words old new status → status ≡ 0
-    → (command : Command) × (command_in words ≡ Ok command) × WhereTold old.left new.left (IsDone command old.out new.out)
+    → (command : Command) × (line : List ℕ) × (command_in words ≡ Ok command)
+    × WhereKnown (job_wanted command) old.left new.left (IsDone command old.out new.out line) × Hears (want command).says old new line
 
--- status 0: err is untouched
+-- status 0 of a command that says nothing: err is untouched
 abbrev pub DoneIsQuiet : Type 0
 DoneIsQuiet =
-    (words : List (List ℕ)) (old new : Outside) (status : ℕ) → Outcome words old new status → status ≡ 0 → new.err ≡ old.err
+    (words : List (List ℕ)) (old new : Outside) (status : ℕ) → Outcome words old new status → status ≡ 0
+    → (command : Command) → command_in words ≡ Ok command → IsTrue (says_nothing command) → new.err ≡ old.err
+
+-- status 0 of `simulate`: err gets the line of some steps, and where the files tell what they hold, these are the steps that the seed
+-- draws on the net of the plan
+abbrev pub SimulationIsHeard : Type 0
+SimulationIsHeard =
+    (words : List (List ℕ)) (old new : Outside) (status : ℕ) → Outcome words old new status → status ≡ 0
+    → (job plan : List ℕ) (seed : ℕ) → command_in words ≡ Ok (Simulate job plan seed)
+    → (line : List ℕ) × IsStepLine line × Said old new line
+    × WhereTold old.left new.left (λ left _. (p : Program) × HasJob (Named job) left p × IsLineOfRun job plan seed left p line)
 
 -- status 2 comes exactly where the words are no command
 abbrev pub BadWordsExactly : Type 0
@@ -57,7 +69,7 @@ abbrev pub JobFaultIsFirst : Type 0
 JobFaultIsFirst =
     (words : List (List ℕ)) (old new : Outside) (status : ℕ) → Outcome words old new status → status ≡ 3
     → (command : Command) × (fault : JobFault) × (command_in words ≡ Ok command)
-    × HasJobFault (job_named command) old.left new.left fault × Said old new (job_fault_line fault)
+    × HasJobFault (job_wanted command) old.left new.left fault × Said old new (job_fault_line fault)
 
 -- status 4: the command asks for an accepted job and its job is none, and err gets the line of its first conflict
 abbrev pub ConflictIsFirst : Type 0
@@ -102,7 +114,8 @@ WriteFaultRose =
 abbrev pub WriteFaultIsPart : Type 0
 WriteFaultIsPart =
     (words : List (List ℕ)) (old new : Outside) (status : ℕ) → Outcome words old new status → status ≡ 8
-    → (command : Command) × (command_in words ≡ Ok command) × WhereTold old.left new.left (IsPartlyDone command old.out new.out)
+    → (command : Command) × (command_in words ≡ Ok command)
+    × WhereKnown (job_wanted command) old.left new.left (IsPartlyDone command old.out new.out)
 
 -- status 8: err gets the line of a write fault
 abbrev pub WriteFaultLine : Type 0
@@ -146,9 +159,9 @@ abbrev pub JobFaultIsRefused : Type 0
 JobFaultIsRefused =
     (words : List (List ℕ)) (told : Option Contents) (before now : List ℕ → ℕ) (out_before out_now status : ℕ)
     → Completes words told before now out_before out_now status
-    → (command : Command) (left : Contents) (fault : JobFault) → command_in words ≡ Ok command → told ≡ Some left
+    → (command : Command) (left : Contents) (name : List ℕ) (fault : JobFault) → command_in words ≡ Ok command → told ≡ Some left
     → NothingFailed command told before now out_before out_now
-    → IsFirstJobFault (bytes_left left (job_named command)) fault
+    → job_wanted command ≡ Named name → IsFirstJobFault (bytes_left left name) fault
     → (status ≡ 3) ⊎ (status ≡ 9)
 
 -- a job that is not accepted, where the command asks for that, has status 4, or 9
@@ -158,7 +171,7 @@ ConflictIsRefused =
     → Completes words told before now out_before out_now status
     → (command : Command) (left : Contents) (p : Program) → command_in words ≡ Ok command → told ≡ Some left
     → NothingFailed command told before now out_before out_now
-    → IsTrue (asks_accepted command) → HasJob (job_named command) left p → ¬ IsAccepted p
+    → IsTrue (asks_accepted command) → HasJob (job_wanted command) left p → ¬ IsAccepted p
     → (status ≡ 4) ⊎ (status ≡ 9)
 
 -- a plan that is not valid for an accepted job has status 5, or 9
@@ -168,7 +181,7 @@ PlanDefectIsRefused =
     → Completes words told before now out_before out_now status
     → (command : Command) (left : Contents) (p : Program) (plan : List ℕ) → command_in words ≡ Ok command → told ≡ Some left
     → NothingFailed command told before now out_before out_now
-    → plan_named command ≡ Some plan → HasJob (job_named command) left p → IsAccepted p → ¬ HasValidPlan (job_named command) plan left p
+    → plan_named command ≡ Some plan → HasJob (job_wanted command) left p → IsAccepted p → ¬ HasValidPlan (job_wanted command) plan left p
     → (status ≡ 5) ⊎ (status ≡ 9)
 
 -- a source with a defect, where the command reads sources and a plan that it names is valid, has status 6, or 9
@@ -178,7 +191,7 @@ SourceFaultIsRefused =
     → Completes words told before now out_before out_now status
     → (command : Command) (left : Contents) (p : Program) (fault : SourceFault) → command_in words ≡ Ok command → told ≡ Some left
     → NothingFailed command told before now out_before out_now
-    → IsTrue (reads_sources command) → HasJob (job_named command) left p → (IsTrue (asks_accepted command) → IsAccepted p)
+    → IsTrue (reads_sources command) → HasJob (job_wanted command) left p → (IsTrue (asks_accepted command) → IsAccepted p)
     → HasPlanAsked command left p → fault_behind (texts_named command) left p ≡ Some fault
     → (status ≡ 6) ⊎ (status ≡ 9)
 

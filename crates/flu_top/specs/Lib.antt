@@ -1,10 +1,10 @@
-pub mod Depths
-pub mod Words
 pub mod Taking
 pub mod Behind
 pub mod TextFaults
 pub mod Rates
+pub mod Simulating
 pub mod Wants
+pub mod Products
 pub mod Done
 pub mod Causes
 pub mod Ready

@@ -21,6 +21,7 @@ use Rattle.flu_streams.specs.declared.faults.Why.{Why}
 use Rattle.flu_streams.specs.declared.faults.Why.TheVariants as whys
 use Rattle.flu_top.specs.declared.refusals.PlanDefect.{PlanDefect}
 use Rattle.flu_top.specs.declared.refusals.PlanDefect.TheVariants as defects
+use Rattle.flu_top.specs.declared.products.DrawnSteps.{DrawnSteps}
 use Rattle.flu_top.specs.Names.{node_name, itag_text}
 
 -- the word for what has a limit
@@ -128,6 +129,14 @@ write_fault_line = codes "flumina: write fault\n"
 
 abbrev pub no_memory_line : List ℕ
 no_memory_line = codes "flumina: no memory\n"
+
+-- the line of the steps of a run that a seed drew: how many of each kind, and the mark of their places
+abbrev pub step_line : DrawnSteps → List ℕ
+step_line steps =
+    codes "steps arrive " ++ decimal steps.counts.arrive ++ codes " handle " ++ decimal steps.counts.handle
+    ++ codes " ask " ++ decimal steps.counts.ask ++ codes " take " ++ decimal steps.counts.take
+    ++ codes " give " ++ decimal steps.counts.give ++ codes " hold " ++ decimal steps.counts.hold
+    ++ codes " lend " ++ decimal steps.counts.lend ++ codes " mark " ++ decimal steps.mark ++ codes "\n"
 
 -- a line stands behind what was there, or the sink failed and has fewer than all of the line's bytes, from their front
 abbrev pub IsSaid : List ℕ → Option (List ℕ) → Option (List ℕ) → ℕ → ℕ → Type 0

@@ -9,12 +9,12 @@ use Rattle.flu_parse.specs.declared.faults.JobFault.{JobFault}
 use Rattle.flu_check.specs.declared.CheckFault.{CheckFault}
 use Rattle.flu_streams.specs.declared.faults.SourceFault.{SourceFault}
 use Rattle.flu_top.specs.declared.refusals.PlanDefect.{PlanDefect}
-use Rattle.flu_top.specs.Words.{Command, command_in}
+use Rattle.flu_words.specs.Words.{Command, command_in}
 use Rattle.flu_top.specs.Taking.{TookOnly}
-use Rattle.flu_top.specs.Behind.{HasJob, fault_behind}
+use Rattle.flu_top.specs.Behind.{Named, HasJob, fault_behind}
 use Rattle.flu_top.specs.TextFaults.{IsFirstJobFault}
-use Rattle.flu_top.specs.Wants.{want, texts_named}
-use Rattle.flu_top.specs.Done.{HasValidPlan, HasPlanAsked, IsGood, IsDone, IsPartlyDone, IsReadName, IsReadBy}
+use Rattle.flu_top.specs.Wants.{Saying, Nothing, Line, want, texts_named}
+use Rattle.flu_top.specs.Done.{HasValidPlan, HasPlanAsked, IsGood, IsDone, IsPartlyDone, WhereKnown, IsReadName, IsReadBy}
 use Rattle.flu_top.specs.Causes.{HasJobFault, HasConflict, HasPlanDefect, HasSourceFault}
 use Rattle.flu_top.specs.Names.{source_name}
 use Rattle.flu_top.specs.Lines.{IsSaid, bad_words_line, job_fault_line, conflict_line, plan_defect_line, source_fault_line}
@@ -34,6 +34,11 @@ outside left out err err_faults = record { left = left; out = out; err = err; er
 abbrev pub Said : Outside → Outside → List ℕ → Type 0
 Said old new line = IsSaid line old.err new.err old.err_faults new.err_faults
 
+-- err is untouched where a command says nothing; else it got the line that the command says, or failed and has a front of it
+abbrev pub Hears : Saying → Outside → Outside → List ℕ → Type 0
+Hears Nothing old new line = new.err ≡ old.err
+Hears (Line Is IsForm) old new line = IsForm line × Said old new line
+
 -- out got nothing, and err this line
 pub record Refused (old new : Outside) (line : List ℕ) : Type 0 where
   pub nothing : new.out ≡ old.out
@@ -41,9 +46,10 @@ pub record Refused (old new : Outside) (line : List ℕ) : Type 0 where
 
 -- ---- the cases, one for each status: `old` is the outside before the call, and `new` behind it
 pub data Outcome (words : List (List ℕ)) (old new : Outside) (status : ℕ) : Type 0 where
-  -- nothing refuses the command, all that it reads was read to its end, and out got all that it writes
-  Done : status ≡ 0 → (command : Command) → command_in words ≡ Ok command
-      → WhereTold old.left new.left (IsDone command old.out new.out) → new.err ≡ old.err → Outcome words old new status
+  -- nothing refuses the command, all that it reads was read to its end, out got all that it writes, and err what it says
+  Done : status ≡ 0 → (command : Command) → command_in words ≡ Ok command → (line : List ℕ)
+      → WhereKnown (want command).job old.left new.left (IsDone command old.out new.out line)
+      → Hears (want command).says old new line → Outcome words old new status
   -- the words are no command: the one at this place does not fit; no file was read
   BadWords : status ≡ 2 → (at : ℕ) → command_in words ≡ Err at
       → new.left ≡ old.left → Refused old new (bad_words_line at) → Outcome words old new status
@@ -70,7 +76,7 @@ pub data Outcome (words : List (List ℕ)) (old new : Outside) (status : ℕ) : 
   -- nothing refuses the command, and all that it reads was read; out failed, and got fewer bytes than the command
   -- writes, from their front
   WriteFailed : status ≡ 8 → (command : Command) → command_in words ≡ Ok command
-      → WhereTold old.left new.left (IsPartlyDone command old.out new.out)
+      → WhereKnown (want command).job old.left new.left (IsPartlyDone command old.out new.out)
       → Said old new write_fault_line → Outcome words old new status
   -- there was no memory
   NoMemory : status ≡ 9 → (command : Command) → command_in words ≡ Ok command
@@ -93,8 +99,8 @@ pub record FaultsFirst (words : List (List ℕ)) (left : Option Contents) (befor
 -- the status that a command and the files call for where nothing fails
 pub data CallsFor (command : Command) (left : Contents) (status : ℕ) : Type 0 where
   Good : status ≡ 0 → (p : Program) → IsGood command left p → CallsFor command left status
-  FaultyJob : status ≡ 3 → (fault : JobFault) → IsFirstJobFault (bytes_left left (want command).job) fault
-      → CallsFor command left status
+  FaultyJob : status ≡ 3 → (name : List ℕ) (fault : JobFault) → (want command).job ≡ Named name
+      → IsFirstJobFault (bytes_left left name) fault → CallsFor command left status
   NotAccepted : status ≡ 4 → (p : Program) → IsTrue (want command).accepted → HasJob (want command).job left p
       → ¬ IsAccepted p → CallsFor command left status
   NoValidPlan : status ≡ 5 → (p : Program) (plan : List ℕ) → (want command).plan ≡ Some plan

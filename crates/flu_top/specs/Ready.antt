@@ -4,14 +4,14 @@ use Rattle.flu_outside.specs.Outside.{Contents}
 use Rattle.flu_model.specs.declared.jobs.Program.{Program}
 use Rattle.flu_model.specs.declared.plans.Node.{Node}
 use Rattle.flu_streams.specs.Files.{LeavesOthers}
-use Rattle.flu_top.specs.Words.{Command}
-use Rattle.flu_top.specs.Behind.{HasJob, HasPlan, emptied_each}
-use Rattle.flu_top.specs.Wants.{job_named, texts_named}
+use Rattle.flu_words.specs.Words.{Command}
+use Rattle.flu_top.specs.Behind.{Named, HasJob, HasPlan, emptied_each}
+use Rattle.flu_top.specs.Wants.{job_wanted, texts_named}
 use Rattle.flu_top.specs.Done.{HasPlanAsked}
 
 -- the text under the plan's name, which is read behind the job's, is the plan of these nodes
 abbrev pub HasNodes : List ℕ → List ℕ → Program → List Node → Contents → Contents → Type 0
-HasNodes job plan p nodes old new = HasPlan job plan old p nodes
+HasNodes job plan p nodes old new = HasPlan (Named job) plan old p nodes
 
 -- some texts, and nothing else, were read to their ends
 pub record AreTextsRead (texts : List (List ℕ)) (old new : Contents) : Type 0 where
@@ -19,9 +19,9 @@ pub record AreTextsRead (texts : List (List ℕ)) (old new : Contents) : Type 0 
   pub ends : (name : List ℕ) → Contains texts name → new name ≡ Some []
   pub others : LeavesOthers texts old new
 
--- the bytes under the job's name are the text of this program, those under the plan's name, if the command reads a plan, are a
--- valid plan for it, and these texts alone were read
+-- the program is the command's job, the bytes under the plan's name, if the command reads a plan, are a valid plan
+-- for it, and these texts alone were read
 pub record IsReady (command : Command) (p : Program) (old new : Contents) : Type 0 where
-  pub has : HasJob (job_named command) old p
+  pub has : HasJob (job_wanted command) old p
   pub plan : HasPlanAsked command old p
   pub texts : AreTextsRead (texts_named command) old new

@@ -3,8 +3,8 @@ use Rattle.std.specs.Prelude.{ℕ, List, Option, ⊤}
 use Rattle.flu_outside.specs.Outside.{Contents, Rose}
 use Rattle.flu_top.specs.declared.refusals.Refusal.{Refusal}
 use Rattle.flu_top.specs.declared.refusals.Refusal.TheVariants as refusals
-use Rattle.flu_top.specs.Words.{Command}
-use Rattle.flu_top.specs.Wants.{job_named}
+use Rattle.flu_words.specs.Words.{Command}
+use Rattle.flu_top.specs.Wants.{job_wanted}
 use Rattle.flu_top.specs.Done.{IsReadName}
 use Rattle.flu_top.specs.Jobs.{program_read}
 use Rattle.flu_top.specs.Causes.{HasJobFault, HasConflict, HasPlanDefect, HasSourceFault}
@@ -16,7 +16,7 @@ HasReadFault command left before now = (name : List ℕ) × IsReadName left comm
 -- why a command has nothing to write
 abbrev pub IsRefusal : Command → Option Contents → Option Contents → (List ℕ → ℕ) → (List ℕ → ℕ) → Refusal → Type 0
 IsRefusal command old new before now (refusals.BadWords bad) = ⊥
-IsRefusal command old new before now (refusals.JobFault fault) = HasJobFault (job_named command) old new fault
+IsRefusal command old new before now (refusals.JobFault fault) = HasJobFault (job_wanted command) old new fault
 IsRefusal command old new before now (refusals.Conflict fault) = HasConflict command old new fault
 IsRefusal command old new before now (refusals.PlanDefect defect) = HasPlanDefect command old new defect
 IsRefusal command old new before now (refusals.SourceFault job fault) = HasSourceFault command old new (program_read job) fault

@@ -1,4 +1,4 @@
--- What each command wants: the files that it reads, what it asks of them, and what it writes.
+-- What each command wants: the files that it reads, what it asks of them, what it writes, and what it says on err.
 use Rattle.std.specs.Prelude.{◌≡◌, ℕ, List, [], ◌∷◌, ◌++◌, Bool, true, false, if◌then◌else◌, Option, Some, None}
 use Rattle.flu_outside.specs.Outside.{Contents}
 use Rattle.flu_model.specs.declared.jobs.Program.{Program}
@@ -8,9 +8,10 @@ use Rattle.flu_parse.specs.Printing.{normal_form}
 use Rattle.flu_plan.specs.Printing.{printed}
 use Rattle.flu_planner.specs.Plans.{IsGreedyPlan}
 use Rattle.flu_streams.specs.Files.{files_of}
-use Rattle.flu_top.specs.Words.{Command, Fold, Check, Valid, Plan, Run}
-use Rattle.flu_top.specs.Behind.{HasPlan, report_behind}
+use Rattle.flu_words.specs.Words.{Command, Fold, Check, Valid, Plan, Run, Simulate, Demo}
+use Rattle.flu_top.specs.Behind.{WantedJob, Named, HasPlan, job_files, report_behind}
 use Rattle.flu_top.specs.Rates.{source_rates}
+use Rattle.flu_top.specs.Simulating.{IsLineOfRun, IsStepLine}
 
 -- this is the text of the greedy plan of all itags of a job at a depth, where an itag has its source's rate
 pub record IsGreedyText (p : Program) (depth : ℕ) (text : List ℕ) : Type 0 where
@@ -21,7 +22,7 @@ pub record IsGreedyText (p : Program) (depth : ℕ) (text : List ℕ) : Type 0 w
 -- this is the normal form of the plan under a name
 pub record IsPlanPrinted (job plan : List ℕ) (left : Contents) (p : Program) (text : List ℕ) : Type 0 where
   pub nodes : List Node
-  pub has : HasPlan job plan left p nodes
+  pub has : HasPlan (Named job) plan left p nodes
   pub is : text ≡ printed p nodes
 
 -- the file of a plan, if there is one
@@ -29,10 +30,16 @@ abbrev pub plan_files : Option (List ℕ) → List (List ℕ)
 plan_files None = []
 plan_files (Some plan) = plan ∷ []
 
+-- what a command says on err where it is done: nothing; or a line, of which the one is true by what its files have left and by the
+-- job's program, and the other whatever they have left
+pub data Saying : Type 1 where
+  Nothing : Saying
+  Line : (Is : Contents → Program → List ℕ → Type 0) → (IsForm : List ℕ → Type 0) → Saying
+
 -- what a command wants
 pub record Want : Type 1 where
-  -- the name of the job that it reads, and whether that has to be accepted
-  pub job : List ℕ
+  -- its job, and whether that has to be accepted
+  pub job : WantedJob
   pub accepted : Bool
   -- the name of the plan that it reads, if it reads one, which has to be valid for the job
   pub plan : Option (List ℕ)
@@ -40,50 +47,73 @@ pub record Want : Type 1 where
   pub sources : Bool
   -- the text that it writes, by what its files have left and by the job's program
   pub writes : Contents → Program → List ℕ → Type 0
+  -- what it says on err where it is done
+  pub says : Saying
 
 -- the report of the fold; the normal form of the job; the normal form of the plan; the text of a greedy plan; the report of
--- the fold again, which a run on the tree of threads gives too
+-- the fold again, which a run on the tree of threads gives too, and so does a run on the net, whose steps are said on err
 abbrev pub want : Command → Want
 want (Fold job) = record {
-  job = job;
+  job = Named job;
   accepted = false;
   plan = None;
   sources = true;
   writes = λ left p text. text ≡ report_behind (job ∷ []) left p;
+  says = Nothing;
 }
 want (Check job) = record {
-  job = job;
+  job = Named job;
   accepted = true;
   plan = None;
   sources = false;
   writes = λ left p text. text ≡ normal_form (job_of p);
+  says = Nothing;
 }
 want (Valid job plan) = record {
-  job = job;
+  job = Named job;
   accepted = true;
   plan = Some plan;
   sources = false;
   writes = λ left p text. IsPlanPrinted job plan left p text;
+  says = Nothing;
 }
 want (Plan job depth) = record {
-  job = job;
+  job = Named job;
   accepted = true;
   plan = None;
   sources = false;
   writes = λ left p text. IsGreedyText p depth text;
+  says = Nothing;
 }
 want (Run job plan) = record {
-  job = job;
+  job = Named job;
   accepted = true;
   plan = plan;
   sources = true;
   writes = λ left p text. text ≡ report_behind (job ∷ plan_files plan) left p;
+  says = Nothing;
+}
+want (Simulate job plan seed) = record {
+  job = Named job;
+  accepted = true;
+  plan = Some plan;
+  sources = true;
+  writes = λ left p text. text ≡ report_behind (job ∷ plan ∷ []) left p;
+  says = Line (IsLineOfRun job plan seed) IsStepLine;
+}
+want (Demo n seed) = record {
+  job = Named [];
+  accepted = true;
+  plan = None;
+  sources = false;
+  writes = λ left p text. ⊥;
+  says = Nothing;
 }
 
 -- ---- the same, each by its own name
--- the name of the job that a command reads
-abbrev pub job_named : Command → List ℕ
-job_named command = (want command).job
+-- the job that a command wants
+abbrev pub job_wanted : Command → WantedJob
+job_wanted command = (want command).job
 
 -- the name of the plan that a command reads, if it reads one
 abbrev pub plan_named : Command → Option (List ℕ)
@@ -97,14 +127,27 @@ asks_accepted command = (want command).accepted
 abbrev pub reads_sources : Command → Bool
 reads_sources command = (want command).sources
 
--- the names of the texts that a command reads, one after another: its job's, and its plan's, if it reads one
+-- whether this is no line at all
+abbrev pub is_nothing : Saying → Bool
+is_nothing Nothing = true
+is_nothing (Line Is IsForm) = false
+
+-- whether a command says nothing on err where it is done
+abbrev pub says_nothing : Command → Bool
+says_nothing command = is_nothing (want command).says
+
+-- the names of the texts that a command reads, one after another: its job's, and its plan's, if it reads them
 abbrev pub texts_named : Command → List (List ℕ)
-texts_named command = job_named command ∷ plan_files (plan_named command)
+texts_named command = job_files (job_wanted command) ++ plan_files (plan_named command)
 
 -- this text is what a command writes
 abbrev pub Writes : Command → Contents → Program → List ℕ → Type 0
 Writes command = (want command).writes
 
+-- the files of its job's sources, if a command reads them
+abbrev pub sources_read : Command → Program → List (List ℕ)
+sources_read command p = if reads_sources command then files_of p.sources else []
+
 -- the files that a command reads besides its job
 abbrev pub files_read : Command → Program → List (List ℕ)
-files_read command p = plan_files (plan_named command) ++ (if reads_sources command then files_of p.sources else [])
+files_read command p = plan_files (plan_named command) ++ sources_read command p

@@ -1,11 +1,11 @@
 //! `check JOB`: the normal form of a job that is accepted.
 
-ghost use Rattle.std.specs.Prelude.{◌≡◌, IfOk, IfErr};
+ghost use Rattle.std.specs.Prelude.{◌≡◌, [], IfOk, IfErr};
 ghost use Rattle.flu_outside.specs.Outside.{WhereTold};
 ghost use Rattle.flu_model.specs.Modes.{IsAccepted};
 ghost use Rattle.flu_deps.specs.Checking.{program_of};
 ghost use Rattle.flu_outside.specs.Taking.{TookFronts};
-ghost use Rattle.flu_top.specs.Words.{Check};
+ghost use Rattle.flu_words.specs.Words.{Check};
 ghost use Rattle.flu_top.specs.Taking.{TookOnly};
 ghost use Rattle.flu_top.specs.Done.{IsReadName, IsWritten};
 ghost use Rattle.flu_top.specs.Checking.{IsChecked, IsCheckRefusal};
@@ -22,7 +22,7 @@ use std::alloc::Global;
 
 /// The normal form of the job that a file holds.
 pub fn check_job<F: Files>(alloc: Global, files: &mut F, job: &str) -> Result<Text, Refusal>
-    ensures written { IfOk result (λ text. WhereTold (F.left files.old) (F.left files.new) (IsWritten (Check job.now) text)) }
+    ensures written { IfOk result (λ text. WhereTold (F.left files.old) (F.left files.new) (IsWritten (Check job.now) text [])) }
     ensures refused { IfErr result (IsRefusal (Check job.now) (F.left files.old) (F.left files.new) (F.faults files.old) (F.faults files.new)) }
     ensures fronts { WhereTold (F.left files.old) (F.left files.new) TookFronts }
     ensures only { WhereTold (F.left files.old) (F.left files.new) (TookOnly (IsReadName (F.left files.old) (Check job.now))) }

@@ -1,6 +1,6 @@
 //! `fold JOB`: the report of the sequential fold of a job's events.
 
-ghost use Rattle.std.specs.Prelude.{◌≡◌, length, IfOk, IfErr};
+ghost use Rattle.std.specs.Prelude.{◌≡◌, [], length, IfOk, IfErr};
 ghost use Rattle.flu_outside.specs.Outside.{WhereTold};
 ghost use Rattle.flu_model.specs.Contents.{nothing_held};
 ghost use Rattle.flu_model.specs.Folding.{final_outputs};
@@ -9,7 +9,7 @@ ghost use Rattle.flu_model.specs.Listed.{listed};
 ghost use Rattle.flu_model.specs.Reports.{report};
 ghost use Rattle.flu_outside.specs.Taking.{TookFronts};
 ghost use Rattle.flu_streams.specs.Files.{files_of, LeavesOthers};
-ghost use Rattle.flu_top.specs.Words.{Fold};
+ghost use Rattle.flu_words.specs.Words.{Fold};
 ghost use Rattle.flu_top.specs.Taking.{TookOnly};
 ghost use Rattle.flu_top.specs.Done.{IsReadName, IsWritten};
 ghost use Rattle.flu_top.specs.Folding.{IsReported, IsReportRefusal};
@@ -27,7 +27,7 @@ use std::alloc::{AllocError, Global};
 
 /// The report of the job that a file holds.
 pub fn fold_job<F: Files>(alloc: Global, files: &mut F, job: &str) -> Result<Text, Refusal>
-    ensures written { IfOk result (λ text. WhereTold (F.left files.old) (F.left files.new) (IsWritten (Fold job.now) text)) }
+    ensures written { IfOk result (λ text. WhereTold (F.left files.old) (F.left files.new) (IsWritten (Fold job.now) text [])) }
     ensures refused { IfErr result (IsRefusal (Fold job.now) (F.left files.old) (F.left files.new) (F.faults files.old) (F.faults files.new)) }
     ensures fronts { WhereTold (F.left files.old) (F.left files.new) TookFronts }
     ensures only { WhereTold (F.left files.old) (F.left files.new) (TookOnly (IsReadName (F.left files.old) (Fold job.now))) }

@@ -1,7 +1,7 @@
 //! What follows from the outcome of a call of `flumina`: what each status says by itself, what was read, and what comes where nothing
 //! failed. Each law is the contract of a function that does nothing.
 
-ghost use Rattle.flu_top.specs.Laws.{KnownStatuses, DoneIsDone, DoneIsQuiet, BadWordsExactly, BadWordsLine, BadWordsTouchNothing, JobFaultIsFirst, ConflictIsFirst, PlanDefectIsFirst, SourceFaultIsFirst, ReadFaultRose, ReadFaultLine, WriteFaultRose, WriteFaultIsPart, WriteFaultLine, NoMemoryLine, NothingIsWritten, FrontsAreTaken, NoOtherIsRead, GoodIsDone, JobFaultIsRefused, ConflictIsRefused, PlanDefectIsRefused, SourceFaultIsRefused, CompletesByFaults, CallsForOneStatus};
+ghost use Rattle.flu_top.specs.Laws.{KnownStatuses, DoneIsDone, DoneIsQuiet, SimulationIsHeard, BadWordsExactly, BadWordsLine, BadWordsTouchNothing, JobFaultIsFirst, ConflictIsFirst, PlanDefectIsFirst, SourceFaultIsFirst, ReadFaultRose, ReadFaultLine, WriteFaultRose, WriteFaultIsPart, WriteFaultLine, NoMemoryLine, NothingIsWritten, FrontsAreTaken, NoOtherIsRead, GoodIsDone, JobFaultIsRefused, ConflictIsRefused, PlanDefectIsRefused, SourceFaultIsRefused, CompletesByFaults, CallsForOneStatus};
 
 use flu_grammar::laws::{jobs_are_grammar, plans_are_grammar};
 
@@ -11,10 +11,12 @@ pub fn of_statuses()
     ensures nothing { NothingIsWritten }
 {}
 
-/// Status 0: all that the command reads was read to its end, what it writes stands in out, and err is untouched.
+/// Status 0: all that the command reads was read to its end, what it writes stands in out, and err is untouched, but by `simulate`,
+/// which says the line of its steps.
 pub fn of_done()
     ensures done { DoneIsDone }
     ensures quiet { DoneIsQuiet }
+    ensures steps { SimulationIsHeard }
 {}
 
 /// Status 2 comes exactly where the words are no command, with its line, and then no file is read.

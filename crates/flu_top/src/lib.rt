@@ -4,7 +4,6 @@
 mod backup;
 mod checking;
 mod commands;
-mod depths;
 mod folding;
 pub mod laws;
 mod lines;
@@ -14,13 +13,15 @@ mod plan_lines;
 mod planned;
 mod planning;
 mod plans;
+mod products;
 mod programs;
 mod rates;
 mod refusals;
 mod running;
 mod sharing;
+mod simulating;
+mod sources;
 mod top;
 mod validating;
-mod words;
 
 pub use top::flumina;

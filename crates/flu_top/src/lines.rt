@@ -3,21 +3,22 @@
 ghost use Rattle.std.specs.Prelude.{◌≡◌, ◌++◌, OnOk, OnErr};
 ghost use Rattle.std.specs.Fmt.{decimal};
 ghost use Rattle.flu_outside.specs.Writing.{Writes};
-ghost use Rattle.flu_top.specs.Lines.{what_word, limit_text, bad_words_line, fault_line, job_fault_line, conflict_line, row_line, source_fault_line, IsSaid};
+ghost use Rattle.flu_top.specs.Lines.{what_word, limit_text, bad_words_line, fault_line, job_fault_line, conflict_line, row_line, source_fault_line, step_line, IsSaid};
 ghost use Rattle.flu_streams.specs.declared.faults.Why.{Why};
 ghost use Rattle.flu_top.specs.Answer.{line_of};
 
 use crate::names::{source_name, write_cell, write_tag};
-use crate::pieces::{digits_of, write_pieces};
+use crate::pieces::{digits_of, write_counts, write_pieces};
 use crate::plan_lines::write_plan_defect;
+use crate::products::DrawnSteps;
 use crate::refusals::Refusal;
-use crate::words::BadWords;
 use flu_check::CheckFault;
 use flu_model::What;
 use flu_outside::{Failed, Sink};
 use flu_parse::JobFault;
 use flu_report::write_all;
 use flu_streams::{SourceFault, Why};
+use flu_words::BadWords;
 use itoa::Buffer;
 
 // What a line of a fault in a job text begins with.
@@ -31,6 +32,37 @@ pub fn say<E: Sink>(err: &mut E, refusal: &Refusal)
         Ok(()) => (),
         Err(_) => (),
     }
+}
+
+/// Says the steps of a run that a seed drew on err, in a line that takes no memory.
+pub fn say_steps<E: Sink>(err: &mut E, steps: DrawnSteps)
+    ensures { IsSaid (step_line steps) (E.taken err.old) (E.taken err.new) (E.faults err.old) (E.faults err.new) }
+{
+    match write_steps(err, steps) {
+        Ok(()) => (),
+        Err(_) => (),
+    }
+}
+
+// Writes the line of the steps of a run.
+fn write_steps<E: Sink>(err: &mut E, steps: DrawnSteps) -> Result<(), Failed>
+    ensures { Writes (step_line steps) (E.taken err.old) (E.taken err.new) (E.faults err.old) (E.faults err.new) result }
+{
+    let counts = steps.counts;
+    write_counts(
+        err,
+        &[
+            ("steps arrive ", counts.arrive),
+            (" handle ", counts.handle),
+            (" ask ", counts.ask),
+            (" take ", counts.take),
+            (" give ", counts.give),
+            (" hold ", counts.hold),
+            (" lend ", counts.lend),
+            (" mark ", u128::from(steps.mark)),
+        ],
+    )?;
+    write_all(err, b"\n")
 }
 
 // Writes the line of a refusal.

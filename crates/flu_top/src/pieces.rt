@@ -1,6 +1,6 @@
 //! Bytes that are written piece by piece, so that a line with values takes no memory.
 
-ghost use Rattle.std.specs.Prelude.{◌≡◌, ◌≤◌, map, OnOk, OnErr};
+ghost use Rattle.std.specs.Prelude.{◌≡◌, ◌≤◌, ◌++◌, map, OnOk, OnErr};
 ghost use Rattle.std.specs.Fmt.{decimal};
 ghost use Rattle.std.specs.List.{concat};
 ghost use Rattle.flu_outside.specs.Writing.{Writes};
@@ -20,6 +20,22 @@ pub fn write_pieces<K: Sink>(out: &mut K, pieces: &[&[u8]]) -> Result<(), Failed
     };
     write_all(out, first)?;
     write_pieces(out, others)
+}
+
+/// Writes some words, each with the digits of a number behind it, one after another.
+///
+/// Where the sink fails, it has taken fewer than all of their bytes, from their front.
+pub fn write_counts<K: Sink>(out: &mut K, counts: &[(&str, u128)]) -> Result<(), Failed>
+    ensures { Writes (concat (map (λ c. c.0.now ++ decimal c.1) counts.now)) (K.taken out.old) (K.taken out.new) (K.faults out.old) (K.faults out.new) result }
+{
+    let [first, others @ ..] = counts else {
+        return Ok(());
+    };
+    let mut buffer = Buffer::new();
+    let word = first.0.as_bytes();
+    let digits = buffer.format(first.1).as_bytes();
+    write_pieces(out, &[word, digits])?;
+    write_counts(out, others)
 }
 
 /// The digits of a number, which stand in a buffer.

@@ -7,7 +7,7 @@ ghost use Rattle.flu_deps.specs.Checking.{program_of};
 ghost use Rattle.flu_deps.specs.Validated.{plan_of, IsValidFor};
 ghost use Rattle.flu_outside.specs.Taking.{TookFronts};
 ghost use Rattle.flu_planner.specs.Plans.{IsGreedyPlan};
-ghost use Rattle.flu_top.specs.Words.{Valid as ValidCommand};
+ghost use Rattle.flu_words.specs.Words.{Valid as ValidCommand};
 ghost use Rattle.flu_top.specs.Taking.{TookOnly};
 ghost use Rattle.flu_top.specs.Rates.{source_rates};
 ghost use Rattle.flu_top.specs.Done.{IsReadName};
@@ -16,7 +16,6 @@ ghost use Rattle.flu_top.specs.Checking.{IsCheckRefusal};
 ghost use Rattle.flu_top.specs.Refusing.{IsRefusal};
 
 use crate::checking::accepted;
-use crate::depths::Depth;
 use crate::plans::plan_of;
 use crate::programs::program_of;
 use crate::rates::source_rates;
@@ -26,6 +25,7 @@ use flu_model::Program;
 use flu_outside::Files;
 use flu_planner::plan;
 use flu_valid::validate;
+use flu_words::Depth;
 use std::alloc::Global;
 
 /// An accepted job, and a plan that is valid for it.

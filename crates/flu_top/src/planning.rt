@@ -1,22 +1,22 @@
 //! `plan JOB`: the greedy plan of a job.
 
-ghost use Rattle.std.specs.Prelude.{IfOk, IfErr};
+ghost use Rattle.std.specs.Prelude.{[], IfOk, IfErr};
 ghost use Rattle.flu_outside.specs.Outside.{WhereTold};
 ghost use Rattle.flu_outside.specs.Taking.{TookFronts};
-ghost use Rattle.flu_top.specs.Words.{Plan};
+ghost use Rattle.flu_words.specs.Words.{Plan};
 ghost use Rattle.flu_top.specs.Taking.{TookOnly};
 ghost use Rattle.flu_top.specs.Done.{IsReadName, IsWritten};
 ghost use Rattle.flu_top.specs.Checking.{IsCheckRefusal};
 ghost use Rattle.flu_top.specs.Planning.{IsPlanned};
 ghost use Rattle.flu_top.specs.Refusing.{IsRefusal};
 
-use crate::depths::Depth;
 use crate::planned::planned_greedily;
 use crate::programs::program_of;
 use crate::refusals::Refusal;
 use flu_model::{Program, Text};
 use flu_outside::Files;
 use flu_plan::print_plan;
+use flu_words::Depth;
 use std::alloc::Global;
 
 /// The text of the greedy plan of the job that a file holds.
@@ -26,7 +26,7 @@ pub fn plan_job<F: Files>(
     job: &str,
     depth: Depth,
 ) -> Result<Text, Refusal>
-    ensures written { IfOk result (λ text. WhereTold (F.left files.old) (F.left files.new) (IsWritten (Plan job.now depth.levels) text)) }
+    ensures written { IfOk result (λ text. WhereTold (F.left files.old) (F.left files.new) (IsWritten (Plan job.now depth.levels) text [])) }
     ensures refused { IfErr result (IsRefusal (Plan job.now depth.levels) (F.left files.old) (F.left files.new) (F.faults files.old) (F.faults files.new)) }
     ensures fronts { WhereTold (F.left files.old) (F.left files.new) TookFronts }
     ensures only { WhereTold (F.left files.old) (F.left files.new) (TookOnly (IsReadName (F.left files.old) (Plan job.now depth.levels))) }

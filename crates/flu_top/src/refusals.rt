@@ -3,7 +3,6 @@
 ghost use Rattle.std.specs.Prelude.{◌≡◌};
 ghost use Rattle.flu_top.specs.Answer.{status_of};
 
-use crate::words::BadWords;
 use flu_check::CheckFault;
 use flu_deps::Checked;
 use flu_model::Program;
@@ -12,6 +11,7 @@ use flu_parse::JobFault;
 use flu_plan::PlanFault;
 use flu_streams::SourceFault;
 use flu_valid::ValidFault;
+use flu_words::BadWords;
 use std::alloc::AllocError;
 
 /// A job that was read.

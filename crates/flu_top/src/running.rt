@@ -1,6 +1,6 @@
 //! `run JOB [PLAN]`: the report of a run of a job's events on the tree of threads.
 
-ghost use Rattle.std.specs.Prelude.{◌≡◌, length, Some, None, IfOk, IfErr, OnOk, IsErrOf};
+ghost use Rattle.std.specs.Prelude.{◌≡◌, [], length, Some, None, IfOk, IfErr};
 ghost use Rattle.flu_outside.specs.Outside.{WhereTold};
 ghost use Rattle.flu_model.specs.Contents.{nothing_held};
 ghost use Rattle.flu_model.specs.Folding.{final_outputs};
@@ -10,31 +10,28 @@ ghost use Rattle.flu_model.specs.Reports.{report};
 ghost use Rattle.flu_deps.specs.Checking.{program_of};
 ghost use Rattle.flu_deps.specs.Validated.{IsValidFor};
 ghost use Rattle.flu_outside.specs.Taking.{TookFronts};
-ghost use Rattle.flu_streams.specs.declared.faults.GatherFault.{GatherFault};
-ghost use Rattle.flu_streams.specs.Faults.{IsFirstFault};
-ghost use Rattle.flu_streams.specs.Files.{files_of, LeavesOthers, AreReadOut, OneRose};
-ghost use Rattle.flu_streams.specs.Good.{AreGood, lists_of};
-ghost use Rattle.flu_top.specs.Words.{Run};
+ghost use Rattle.flu_streams.specs.Files.{files_of, LeavesOthers};
+ghost use Rattle.flu_words.specs.Words.{Run};
 ghost use Rattle.flu_top.specs.Taking.{TookOnly};
 ghost use Rattle.flu_top.specs.Done.{IsReadName, IsWritten};
 ghost use Rattle.flu_top.specs.Folding.{IsReported, IsReportRefusal};
 ghost use Rattle.flu_top.specs.Refusing.{IsRefusal};
 
 use crate::backup::Backup;
-use crate::depths::USUAL_DEPTH;
 use crate::planned::{Planned, planned_by, planned_greedily};
 use crate::programs::program_of;
 use crate::refusals::{JobRead, Refusal};
 use crate::sharing::{jobs_are_shared, plans_are_shared, streams_are_shared};
+use crate::sources::streams_of;
 use flu_cells::State;
-use flu_deps::Checked;
 use flu_fork::Case;
 use flu_model::{Streams, Text};
 use flu_outside::Files;
 use flu_report::report_text;
 use flu_run::run_tree;
 use flu_seq::Gate;
-use flu_streams::{GatherFault, gather};
+use flu_streams::GatherFault;
+use flu_words::USUAL_DEPTH;
 use std::alloc::{AllocError, Global};
 use std::sync::Wait;
 use std::thread::Threads;
@@ -48,7 +45,7 @@ pub fn run_planned<F: Files, G: Gate, R: Threads + Wait + Sync>(
     plan: &str,
     gate: &G,
 ) -> Result<Text, Refusal>
-    ensures written { IfOk result (λ text. WhereTold (F.left files.old) (F.left files.new) (IsWritten (Run job.now (Some plan.now)) text)) }
+    ensures written { IfOk result (λ text. WhereTold (F.left files.old) (F.left files.new) (IsWritten (Run job.now (Some plan.now)) text [])) }
     ensures refused { IfErr result (IsRefusal (Run job.now (Some plan.now)) (F.left files.old) (F.left files.new) (F.faults files.old) (F.faults files.new)) }
     ensures fronts { WhereTold (F.left files.old) (F.left files.new) TookFronts }
     ensures only { WhereTold (F.left files.old) (F.left files.new) (TookOnly (IsReadName (F.left files.old) (Run job.now (Some plan.now)))) }
@@ -67,7 +64,7 @@ pub fn run_greedily<F: Files, G: Gate, R: Threads + Wait + Sync>(
     job: &str,
     gate: &G,
 ) -> Result<Text, Refusal>
-    ensures written { IfOk result (λ text. WhereTold (F.left files.old) (F.left files.new) (IsWritten (Run job.now None) text)) }
+    ensures written { IfOk result (λ text. WhereTold (F.left files.old) (F.left files.new) (IsWritten (Run job.now None) text [])) }
     ensures refused { IfErr result (IsRefusal (Run job.now None) (F.left files.old) (F.left files.new) (F.faults files.old) (F.faults files.new)) }
     ensures fronts { WhereTold (F.left files.old) (F.left files.new) TookFronts }
     ensures only { WhereTold (F.left files.old) (F.left files.new) (TookOnly (IsReadName (F.left files.old) (Run job.now None))) }
@@ -107,24 +104,6 @@ fn report_of<F: Files, G: Gate, R: Threads + Wait + Sync>(
     };
     let report = tree_report(rt, alloc, &planned, &streams, gate)?;
     Ok(report)
-}
-
-// The streams of an accepted job's sources.
-fn streams_of<F: Files>(
-    alloc: Global,
-    files: &mut F,
-    checked: &Checked,
-) -> Result<Streams, GatherFault>
-    ensures good { OnOk result (WhereTold (F.left files.old) (F.left files.new) (λ old new. AreGood (program_of checked.now) old)) }
-    ensures lists { IfOk result (λ streams. WhereTold (F.left files.old) (F.left files.new) (λ old new. listed streams ≡ lists_of (program_of checked.now) old)) }
-    ensures itags { IfOk result (λ streams. length (listed streams) ≡ count_of_itags (program_of checked.now)) }
-    ensures read_out { OnOk result (AreReadOut (files_of (program_of checked.now).sources) (F.left files.new)) }
-    ensures fault { IfErr result (IsFirstFault (program_of checked.now) (F.left files.old) (F.left files.new)) }
-    ensures fronts { WhereTold (F.left files.old) (F.left files.new) TookFronts }
-    ensures others { WhereTold (F.left files.old) (F.left files.new) (LeavesOthers (files_of (program_of checked.now).sources)) }
-    ensures cause { IsErrOf result GatherFault.ReadFault → OneRose (files_of (program_of checked.now).sources) (F.faults files.old) (F.faults files.new) }
-{
-    gather(alloc, checked.program(), files)
 }
 
 // The report of a run of some streams from the empty state on the tree of threads.

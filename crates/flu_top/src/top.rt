@@ -1,23 +1,23 @@
 //! The top call.
 
-ghost use Rattle.std.specs.Prelude.{◌≡◌, IfErr, OnOk, map, string_bytes};
+ghost use Rattle.std.specs.Prelude.{◌≡◌, map, string_bytes};
 ghost use Rattle.flu_outside.specs.Outside.{WhereTold};
 ghost use Rattle.flu_outside.specs.Taking.{TookFronts};
 ghost use Rattle.flu_top.specs.Taking.{TookOnly};
 ghost use Rattle.flu_top.specs.Done.{IsReadBy};
-ghost use Rattle.flu_top.specs.Lines.{IsSaid};
-ghost use Rattle.flu_top.specs.Answer.{status_after, line_of};
+ghost use Rattle.flu_top.specs.Answer.{status_after, IsHeard};
 ghost use Rattle.flu_top.specs.Ending.{Ends};
 ghost use Rattle.flu_top.specs.Outcome.{outside, Outcome, ReadOnly, FaultsFirst, Completes};
 
 use crate::commands::run;
-use crate::lines::say;
+use crate::lines::{say, say_steps};
+use crate::products::DrawnSteps;
 use crate::refusals::{Refusal, status};
-use crate::words::read_words;
 use flu_grammar::laws::{jobs_are_grammar, plans_are_grammar};
 use flu_outside::{Files, Sink};
 use flu_report::write_all;
 use flu_seq::Gate;
+use flu_words::read_words;
 use std::alloc::Global;
 use std::sync::Wait;
 use std::thread::Threads;
@@ -28,13 +28,16 @@ use std::thread::Threads;
 /// report to `out`. `check JOB` reads the job alone, which has to be accepted, and writes it in normal form. `valid JOB
 /// PLAN` reads such a job and then a plan, which has to be valid for it, and writes the plan in normal form. `plan JOB
 /// [--depth D]` reads such a job alone and writes the greedy plan of all its itags, by the rates of its sources, with
-/// at most D levels below the root: 0 to 6, and 3 where no depth is given. `run JOB [PLAN]` reads such a job, a plan that
-/// is valid for it, or takes its greedy plan of depth 3, reads the sources, runs the events on a thread for each node of
-/// the plan and writes the report of the fold. Status 0: all was written. Else the line of the answer goes to `err`, and
-/// a failure of `err` changes no status: 2 for words that are no command, 3 for a job text with a fault, 4 for a job that
-/// is not accepted, 5 for a plan text with a fault or a plan that is not valid, 6 for a source with a defect, 7 where a
-/// file that was read failed, 8 where `out` failed, 9 where there was no memory. `docs/LANGUAGE.md` has the forms and the
-/// lines, and `docs/TRUST.md` what is to be believed.
+/// at most D levels below the root: 0 to 6, and 3 where no depth is given. `run JOB [PLAN]` reads such a job, a plan
+/// that is valid for it, or takes its greedy plan of depth 3, reads the sources, runs the events on a thread for each
+/// node of the plan and writes the report of the fold. `simulate JOB PLAN SEED` reads such a job, a plan that is valid
+/// for it and the sources, runs the events on the net of the plan by the steps that the seed draws, writes the report
+/// of the fold, and then says on `err` how many steps of each kind there were, with their mark. Status 0: all was
+/// written. Else the line of the answer goes to `err`, and a failure of `err` changes no status: 2 for words that are
+/// no command, 3 for a job text with a fault, 4 for a job that is not accepted, 5 for a plan text with a fault or a
+/// plan that is not valid, 6 for a source with a defect, 7 where a file that was read failed, 8 where `out` failed, 9
+/// where there was no memory. `docs/LANGUAGE.md` has the forms and the lines, and `docs/TRUST.md` what is to be
+/// believed.
 ///
 /// Each worker of a run passes the gate before and after each of its updates. `run` alone starts threads, and waits for
 /// them: what is said here holds where the call returns.
@@ -77,7 +80,7 @@ fn do_words<F: Files, K: Sink, G: Gate, R: Threads + Wait + Sync>(
     files: &mut F,
     out: &mut K,
     gate: &G,
-) -> Result<(), Refusal>
+) -> Result<Option<DrawnSteps>, Refusal>
     ensures ends { Ends (record { words = map string_bytes words.now; left = F.left files.old; left_after = F.left files.new; counts = F.faults files.old; counts_after = F.faults files.new; taken = K.taken out.old; taken_after = K.taken out.new; count = K.faults out.old; count_after = K.faults out.new }) result }
     ensures fronts { WhereTold (F.left files.old) (F.left files.new) TookFronts }
     ensures only { WhereTold (F.left files.old) (F.left files.new) (TookOnly (IsReadBy (map string_bytes words.now) (F.left files.old))) }
@@ -86,24 +89,27 @@ fn do_words<F: Files, K: Sink, G: Gate, R: Threads + Wait + Sync>(
         Ok(command) => command,
         Err(bad) => return Err(Refusal::BadWords(bad)),
     };
-    let text = match run(rt, alloc, files, command, gate) {
-        Ok(text) => text,
+    let product = match run(rt, alloc, files, command, gate) {
+        Ok(product) => product,
         Err(refusal) => return Err(refusal),
     };
-    match write_all(out, text.as_str().as_bytes()) {
-        Ok(()) => Ok(()),
+    match write_all(out, product.text.as_str().as_bytes()) {
+        Ok(()) => Ok(product.steps),
         Err(_) => Err(Refusal::WriteFault),
     }
 }
 
-// The status of what was done or refused; a refusal's line is said on err.
-fn answer<E: Sink>(err: &mut E, ended: Result<(), Refusal>) -> u8
+// The status of what was done or refused; the line of its steps, or of the refusal, is said on err.
+fn answer<E: Sink>(err: &mut E, ended: Result<Option<DrawnSteps>, Refusal>) -> u8
     ensures status { result ≡ status_after ended }
-    ensures quiet { OnOk ended (E.taken err.new ≡ E.taken err.old) }
-    ensures said { IfErr ended (λ refusal. IsSaid (line_of refusal) (E.taken err.old) (E.taken err.new) (E.faults err.old) (E.faults err.new)) }
+    ensures heard { IsHeard ended (E.taken err.old) (E.taken err.new) (E.faults err.old) (E.faults err.new) }
 {
     match ended {
-        Ok(()) => 0,
+        Ok(None) => 0,
+        Ok(Some(steps)) => {
+            say_steps(err, steps);
+            0
+        }
         Err(refusal) => {
             say(err, &refusal);
             status(&refusal)

@@ -1,12 +1,12 @@
 //! `valid JOB PLAN`: the normal form of a plan that is valid for a job.
 
-ghost use Rattle.std.specs.Prelude.{◌≡◌, IfOk, IfErr};
+ghost use Rattle.std.specs.Prelude.{◌≡◌, [], IfOk, IfErr};
 ghost use Rattle.flu_outside.specs.Outside.{WhereTold};
 ghost use Rattle.flu_deps.specs.Checking.{program_of};
 ghost use Rattle.flu_deps.specs.Validated.{plan_of};
 ghost use Rattle.flu_plan.specs.Printing.{printed};
 ghost use Rattle.flu_outside.specs.Taking.{TookFronts};
-ghost use Rattle.flu_top.specs.Words.{Valid};
+ghost use Rattle.flu_words.specs.Words.{Valid};
 ghost use Rattle.flu_top.specs.Taking.{TookOnly};
 ghost use Rattle.flu_top.specs.Done.{IsReadName, IsWritten};
 ghost use Rattle.flu_top.specs.declared.refusals.Refusal.{Refusal};
@@ -26,7 +26,7 @@ pub fn valid_plan<F: Files>(
     job: &str,
     plan: &str,
 ) -> Result<Text, Refusal>
-    ensures written { IfOk result (λ text. WhereTold (F.left files.old) (F.left files.new) (IsWritten (Valid job.now plan.now) text)) }
+    ensures written { IfOk result (λ text. WhereTold (F.left files.old) (F.left files.new) (IsWritten (Valid job.now plan.now) text [])) }
     ensures refused { IfErr result (IsRefusal (Valid job.now plan.now) (F.left files.old) (F.left files.new) (F.faults files.old) (F.faults files.new)) }
     ensures fronts { WhereTold (F.left files.old) (F.left files.new) TookFronts }
     ensures only { WhereTold (F.left files.old) (F.left files.new) (TookOnly (IsReadName (F.left files.old) (Valid job.now plan.now))) }

@@ -8,5 +8,5 @@ returns g t c =
     let pieces = c.args.pieces.now in
     let first = (get_or pieces 0 (record { ref_ptr = (0, 0); now = [] })).now in
     let others = concat (map (λ p. p.now) (take (length pieces - 1) (drop 1 pieces))) in
-    writes_as _ _ _ _ _ _ c.write_pieces.result (pieces_split pieces _ c.in-len1-up.len_at_least)
+    writes_as _ _ _ _ _ _ c.write_pieces.result (pieces_split (λ p. p.now) pieces _ c.in-len1-up.len_at_least)
     (writes_more first others _ _ _ _ _ _ c.write_pieces.result c.in_ok-write_all.ensures c.write_pieces.ensures)

@@ -1,7 +1,7 @@
 use Rattle.std.proofs.Common.{refl}
 use Rattle.std.proofs.lemmas.Result.{IfOk-weaker, IfErr-weaker}
 use Rattle.flu_lemmas.proofs.Named.{fronts_at}
-use Rattle.flu_top.specs.Words.{Plan}
+use Rattle.flu_words.specs.Words.{Plan}
 use Rattle.flu_top.proofs.Sequence.{job_refusal, only_job}
 use Rattle.flu_top.proofs.Checks.{check_refusal}
 use Rattle.flu_top.proofs.Plannings.{is_planned}
@@ -13,19 +13,19 @@ returns-in-Ok-clause-written g c =
 
 pub returns-in-Ok-clause-refused : goal.returns-in-Ok-clause-refused
 returns-in-Ok-clause-refused g c =
-    IfErr-weaker c.plan_text.result _ _ (λ refusal refused. check_refusal (Plan c.args.job.now c.args.depth.levels) c.in-Ok.program _ _ _ _ refusal refl c.in-Ok.ensures.read refused) c.plan_text.ensures.refused
+    IfErr-weaker c.plan_text.result _ _ (λ refusal refused. check_refusal (Plan c.args.job.now c.args.depth.levels) c.args.job.now c.in-Ok.program _ _ _ _ refusal refl refl c.in-Ok.ensures.read refused) c.plan_text.ensures.refused
 
 pub returns-in-Ok-clause-fronts : goal.returns-in-Ok-clause-fronts
 returns-in-Ok-clause-fronts g c = fronts_at c.args.job.now _ _ c.in-Ok.ensures.taken
 
 pub returns-in-Ok-clause-only : goal.returns-in-Ok-clause-only
-returns-in-Ok-clause-only g c = only_job (Plan c.args.job.now c.args.depth.levels) _ _ c.in-Ok.ensures.taken
+returns-in-Ok-clause-only g c = only_job (Plan c.args.job.now c.args.depth.levels) c.args.job.now _ _ refl c.in-Ok.ensures.taken
 
 pub returns-in-Err-clause-refused : goal.returns-in-Err-clause-refused
-returns-in-Err-clause-refused g c = job_refusal (Plan c.args.job.now c.args.depth.levels) _ _ _ _ c.in-Err.refusal c.in-Err.ensures.refused
+returns-in-Err-clause-refused g c = job_refusal (Plan c.args.job.now c.args.depth.levels) c.args.job.now _ _ _ _ c.in-Err.refusal refl c.in-Err.ensures.refused
 
 pub returns-in-Err-clause-fronts : goal.returns-in-Err-clause-fronts
 returns-in-Err-clause-fronts g c = fronts_at c.args.job.now _ _ c.in-Err.ensures.taken
 
 pub returns-in-Err-clause-only : goal.returns-in-Err-clause-only
-returns-in-Err-clause-only g c = only_job (Plan c.args.job.now c.args.depth.levels) _ _ c.in-Err.ensures.taken
+returns-in-Err-clause-only g c = only_job (Plan c.args.job.now c.args.depth.levels) c.args.job.now _ _ refl c.in-Err.ensures.taken

@@ -7,7 +7,7 @@ use Rattle.flu_top.proofs.top.flumina.Goals as goal
 pub returns-clause-outcome : goal.returns-clause-outcome
 returns-clause-outcome g c =
     subst (Outcome (map string_bytes c.args.words.now) _ _) (sym c.answer.ensures.status)
-    (outcome_of _ _ _ _ _ c.do_words-ended.result c.do_words-ended.ensures.ends c.answer.ensures.quiet c.answer.ensures.said)
+    (outcome_of _ _ _ _ _ c.do_words-ended.result c.do_words-ended.ensures.ends c.answer.ensures.heard)
 
 pub returns-clause-read : goal.returns-clause-read
 returns-clause-read g c = record { fronts = c.do_words-ended.ensures.fronts; only = c.do_words-ended.ensures.only }

@@ -2,7 +2,7 @@ use Rattle.std.proofs.Common.{sym, subst}
 use Rattle.std.proofs.lemmas.Result.{IfOk-weaker, IfErr-weaker}
 use Rattle.flu_deps.specs.Checking.{program_of}
 use Rattle.flu_deps.specs.Validated.{plan_of}
-use Rattle.flu_top.specs.Words.{Valid}
+use Rattle.flu_words.specs.Words.{Valid}
 use Rattle.flu_top.specs.Refusing.{IsRefusal}
 use Rattle.flu_top.proofs.Validations.{is_validated}
 use Rattle.flu_top.proofs.validating.valid_plan.Goals as goal

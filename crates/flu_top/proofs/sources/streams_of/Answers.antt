@@ -8,7 +8,7 @@ use Rattle.flu_streams.specs.declared.faults.GatherFault.{GatherFault}
 use Rattle.flu_streams.specs.Faults.{IsFirstFault}
 use Rattle.flu_streams.specs.Files.{files_of, LeavesOthers, AreReadOut, OneRose}
 use Rattle.flu_streams.specs.Good.{AreGood, lists_of}
-use Rattle.flu_top.proofs.running.streams_of.Goals as goal
+use Rattle.flu_top.proofs.sources.streams_of.Goals as goal
 
 pub returns-clause-good : goal.returns-clause-good
 returns-clause-good g c = subst (λ (q : Program). OnOk c.gather.result (WhereTold (g.F.Files.left c.args.files.now) (g.F.Files.left c.gather.new.files) (λ old new. AreGood q old))) c.program.ensures c.gather.ensures.good

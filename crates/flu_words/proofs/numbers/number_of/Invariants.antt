@@ -2,10 +2,10 @@ use Rattle.std.proofs.Common.{◌≡◌, ◌-◌, ◌^◌, min, take, true}
 use Rattle.std.specs.Char.{is_ascii_digit}
 use Rattle.std.specs.List.{list_all}
 use Rattle.std.specs.Str.Parse.{digits_value}
-use Rattle.flu_top.proofs.depths.depth_of.Given as goal
+use Rattle.flu_words.proofs.numbers.number_of.Given as goal
 
 abbrev pub invariant-loop-digit : goal.invariant-loop-digit
 invariant-loop-digit l = record {
-  value : l.levels ≡ min (digits_value 10 (take l.digit-index l.digits)) (2 ^ 32 - 1);
+  value : l.number ≡ min (digits_value 10 (take l.digit-index l.digits)) (2 ^ 32 - 1);
   digits : list_all is_ascii_digit (take l.digit-index l.digits) ≡ true;
 }

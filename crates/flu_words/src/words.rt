@@ -1,9 +1,9 @@
 //! The words of a command.
 
-ghost use Rattle.std.specs.Prelude.{◌≡◌, MatchResult, Ok, Err, map, option_map, string_bytes};
-ghost use Rattle.flu_top.specs.Words.{command_in, plain_command, job_alone, job_and_plan, job_and_depth, job_and_any_plan, depth_after, is_file_name};
+ghost use Rattle.std.specs.Prelude.{◌≡◌, ◌<◌, MatchResult, Ok, Err, map, option_map, string_bytes};
+ghost use Rattle.flu_words.specs.Words.{command_in, plain_command, job_alone, job_and_plan, job_and_depth, job_and_any_plan, depth_after, seed_alone, simulation, demo, is_file_name};
 
-use crate::depths::{Depth, USUAL_DEPTH, depth_of};
+use crate::numbers::{Depth, Draws, Seed, USUAL_DEPTH, depth_of, draws_of, seed_of};
 
 /// The words are no command: the place from 0 of the first word that does not fit, or the number of words where one is missing.
 #[derive(Clone, Copy, Debug, PartialEq, Eq)]
@@ -15,18 +15,46 @@ pub struct BadWords {
 #[derive(Clone, Copy)]
 pub enum Command<'a> {
     /// `fold JOB`: the report of the sequential fold.
-    Fold { job: &'a str },
+    Fold {
+        job: &'a str,
+    },
     /// `check JOB`: the job in normal form, where it is accepted.
-    Check { job: &'a str },
+    Check {
+        job: &'a str,
+    },
     /// `valid JOB PLAN`: the plan in normal form, where it is valid for the job.
-    Valid { job: &'a str, plan: &'a str },
+    Valid {
+        job: &'a str,
+        plan: &'a str,
+    },
     /// `plan JOB [--depth D]`: the greedy plan of the job, where it is accepted.
-    Plan { job: &'a str, depth: Depth },
+    Plan {
+        job: &'a str,
+        depth: Depth,
+    },
     /// `run JOB [PLAN]`: the report of a run on the tree of threads, by the plan, or by the greedy plan where none is named.
-    Run { job: &'a str, plan: Option<&'a str> },
+    Run {
+        job: &'a str,
+        plan: Option<&'a str>,
+    },
+    /// `simulate JOB PLAN SEED`: the report of the run that the seed draws on the net of the plan.
+    Simulate {
+        job: &'a str,
+        plan: &'a str,
+        seed: Seed,
+    },
+    /// `demo N SEED`: a summary of a run on the tree of threads over N events that the seed draws.
+    Demo {
+        n: Draws,
+        seed: Seed,
+    },
 }
 
-/// The command that words are.
+/// The command that words are, exactly: those that stand behind the program's name.
+///
+/// # Errors
+///
+/// The words are in none of the forms of `docs/LANGUAGE.md`, "Words"; the place is the first word's that does not fit.
 pub fn read_words(words: &[String]) -> Result<Command<'_>, BadWords>
     ensures { MatchResult result
         (λ command. command_in (map string_bytes words.now) ≡ Ok (plain_command command))
@@ -54,6 +82,8 @@ pub fn read_words(words: &[String]) -> Result<Command<'_>, BadWords>
             let (job, plan) = job_and_any_plan(operands)?;
             Ok(Command::Run { job, plan })
         }
+        "simulate" => simulation(operands),
+        "demo" => demo(operands),
         _ => Err(BadWords { at: 0 }),
     }
 }
@@ -162,6 +192,67 @@ fn depth_after(options: &[String]) -> Result<Depth, BadWords>
         return Err(BadWords { at: 4 });
     }
     Ok(depth)
+}
+
+// The job, the plan and the seed in the words behind `simulate`.
+fn simulation(operands: &[String]) -> Result<Command<'_>, BadWords>
+    ensures { MatchResult result
+        (λ command. simulation (map string_bytes operands.now) ≡ Ok (plain_command command))
+        (λ bad. simulation (map string_bytes operands.now) ≡ Err bad.at) }
+{
+    let [job, behind @ ..] = operands else {
+        return Err(BadWords { at: 1 });
+    };
+    if !is_file_name(job.as_str()) {
+        return Err(BadWords { at: 1 });
+    }
+    let [plan, others @ ..] = behind else {
+        return Err(BadWords { at: 2 });
+    };
+    if !is_file_name(plan.as_str()) {
+        return Err(BadWords { at: 2 });
+    }
+    let seed = seed_alone(3, others)?;
+    Ok(Command::Simulate {
+        job: job.as_str(),
+        plan: plan.as_str(),
+        seed,
+    })
+}
+
+// The number of events and the seed in the words behind `demo`.
+fn demo(operands: &[String]) -> Result<Command<'_>, BadWords>
+    ensures { MatchResult result
+        (λ command. demo (map string_bytes operands.now) ≡ Ok (plain_command command))
+        (λ bad. demo (map string_bytes operands.now) ≡ Err bad.at) }
+{
+    let [count, others @ ..] = operands else {
+        return Err(BadWords { at: 1 });
+    };
+    let Some(n) = draws_of(count.as_str().as_bytes()) else {
+        return Err(BadWords { at: 1 });
+    };
+    let seed = seed_alone(2, others)?;
+    Ok(Command::Demo { n, seed })
+}
+
+// The seed in the words from a place on, which have no others.
+fn seed_alone(at: usize, words: &[String]) -> Result<Seed, BadWords>
+    requires { at < 4 }
+    ensures { MatchResult result
+        (λ seed. seed_alone at (map string_bytes words.now) ≡ Ok seed.number)
+        (λ bad. seed_alone at (map string_bytes words.now) ≡ Err bad.at) }
+{
+    let [value, others @ ..] = words else {
+        return Err(BadWords { at });
+    };
+    let Some(seed) = seed_of(value.as_str().as_bytes()) else {
+        return Err(BadWords { at });
+    };
+    if !others.is_empty() {
+        return Err(BadWords { at: at + 1 });
+    }
+    Ok(seed)
 }
 
 // A word that can name a file: it is not empty and does not begin with a dash.

@@ -1,0 +1,20 @@
+//! What a command produces that nothing refuses.
+
+use flu_live::StepCounts;
+use flu_model::Text;
+
+/// The steps of a run that a seed drew: how many of each kind there were, and the mark of their places.
+#[derive(Clone, Copy, Debug)]
+pub struct DrawnSteps {
+    pub counts: StepCounts,
+    pub mark: u32,
+}
+
+/// What a command produces that nothing refuses.
+#[derive(Drop)]
+pub struct Product {
+    /// The text for out.
+    pub text: Text,
+    /// The steps whose line err gets once the text is written; none where the command says nothing.
+    pub steps: Option<DrawnSteps>,
+}
