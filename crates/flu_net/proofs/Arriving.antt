@@ -21,13 +21,11 @@ use Rattle.flu_net.specs.Enabled.{may_arrive}
 use Rattle.flu_net.specs.Notes.{NetNote}
 use Rattle.flu_net.specs.Rule.{Hangs, Lets, IsPlaced, IsSeen, Rule, Stands, Ties}
 use Rattle.flu_net.specs.Showing.{AllMaySee}
+use Rattle.flu_net.proofs.Lists.{same_some}
 
 mapped_from : {X : Type 0} (f : X → X) (xs : List X) (w : ℕ) (y : X) → slice_get (map f xs) w ≡ Some y → (x : X) × (slice_get xs w ≡ Some x) × (f x ≡ y)
 mapped_from f [] w y e = cc
-mapped_from f (x ∷ xs) zero y e = (x, refl, one (f x) y e)
-  where
-    one : {X : Type 0} (a b : X) → Some a ≡ Some b → a ≡ b
-    one a b e = cc
+mapped_from f (x ∷ xs) zero y e = (x, refl, same_some (f x) y e)
 mapped_from f (x ∷ xs) (suc w) y e = mapped_from f xs w y e
 
 hangs_seen : (i count : ℕ) (n : WorkerNote) (e : Edge) → Hangs n e → Hangs (seeing i count n) e

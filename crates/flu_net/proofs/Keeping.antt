@@ -30,7 +30,8 @@ use Rattle.flu_net.specs.LawsBelow.{LawsBelow}
 use Rattle.flu_net.specs.Notes.{NetNote}
 use Rattle.flu_net.specs.Rule.{AllStand, IsSeen, Rule, Tells, Ties}
 use Rattle.flu_net.proofs.Framing.{under}
-use Rattle.flu_net.proofs.Lists.{set_here, set_there, same_some}
+use Rattle.flu_net.proofs.Lists.{set_is, set_there, same_some}
+use Rattle.flu_net.proofs.Placed.{known_at}
 use Rattle.flu_net.proofs.Readying.{kid_pair, lend_was, take_may}
 use Rattle.flu_net.proofs.Standing.{stands_ask, stands_give, stands_handle, stands_hold, stands_lend, stands_take}
 use Rattle.flu_net.proofs.Stepping.{below_top, ties_ask, ties_give, ties_handle, ties_hold, ties_lend, ties_take}
@@ -54,9 +55,6 @@ module _ (laws : LawsBelow) (k : Content) (ws : List WorkerNote) (outs : List Ou
   within : w < length ws
   within = slice_get_within ws w n at
 
-  here : (p : WorkerNote) → slice_get (set ws w m) w ≡ Some p → m ≡ p
-  here p e = same_some m p (sym (set_here ws w m within) ∙ e)
-
   -- nothing is counted
   pub tells_same : ((i : ℕ) → own (job k) (nodes k) w i ≡ true → slice_index m.counts i ≡ slice_index n.counts i) → Tells k (set ws w m) outs
   tells_same same = record {
@@ -65,7 +63,7 @@ module _ (laws : LawsBelow) (k : Content) (ws : List WorkerNote) (outs : List Ou
     counted = λ j p i up mine. elim (cases_eq j w) as (λ _. slice_index p.counts i ≡ slice_index t.done i) [
       | inl is ↦
           let mine_w : own (job k) (nodes k) w i ≡ true = sym (ap (λ x. own (job k) (nodes k) x i) is) ∙ mine in
-          ap (λ (q : WorkerNote). slice_index q.counts i) (sym (here p (sym (ap (slice_get (set ws w m)) is) ∙ up))) ∙ same i mine_w ∙ t.counted w n i at mine_w
+          ap (λ (q : WorkerNote). slice_index q.counts i) (sym (set_is ws w m p within (sym (ap (slice_get (set ws w m)) is) ∙ up))) ∙ same i mine_w ∙ t.counted w n i at mine_w
       | inr apart ↦ t.counted j p i (sym (set_there ws w j m apart) ∙ up) mine
     ];
     texts = t.texts;
@@ -79,16 +77,9 @@ module _ (laws : LawsBelow) (k : Content) (ws : List WorkerNote) (outs : List Ou
     pub known : x.itag.0 < count_of_itags (job k)
     known =
         let is = laws.events (setting_of k) c.front c.back c.moment (laws.settings k) c.stands in
-        elim (cases_lt x.itag.0 (count_of_itags (job k))) [
-          | inl lt ↦ lt
-          | inr ge ↦
-              let one = k.one_each in
-              let nothing : slice_index_or (listed k.streams) c.moment.event.itag.0 [] ≡ [] = get_or_past (listed k.streams) c.moment.event.itag.0 [] (let q = at_itag in omega arith) in
-              absurd (no_event c.moment.index c.moment.event (sym (ap (λ (items : List Item). slice_get (events_of items) c.moment.index) nothing) ∙ is))
-        ]
-      where
-        no_event : (i : ℕ) (e : Event) → slice_get (events_of []) i ≡ Some e → ⊥
-        no_event i e f = cc
+        let lt = known_at k c.moment.event.itag.0 c.moment.index c.moment.event is in
+        let same = at_itag in
+        omega arith
 
     more : List ℕ
     more = set t.done x.itag.0 (x.index + 1)
@@ -112,7 +103,7 @@ module _ (laws : LawsBelow) (k : Content) (ws : List WorkerNote) (outs : List Ou
     counted_more j p i up mine = elim (cases_eq j w) as (λ _. slice_index p.counts i ≡ slice_index more i) [
       | inl is ↦
           let mine_w : own (job k) (nodes k) w i ≡ true = sym (ap (λ x. own (job k) (nodes k) x i) is) ∙ mine in
-          ap (λ (q : WorkerNote). slice_index q.counts i) (sym (here p (sym (ap (slice_get (set ws w m)) is) ∙ up))) ∙
+          ap (λ (q : WorkerNote). slice_index q.counts i) (sym (set_is ws w m p within (sym (ap (slice_get (set ws w m)) is) ∙ up))) ∙
           (elim (cases_eq i x.itag.0) as (λ _. slice_index m.counts i ≡ slice_index more i) [
             | inl same ↦ (c.counts i).0 same ∙ sym more_here ∙ ap (slice_index more) (sym same)
             | inr differs ↦ (c.counts i).1 differs ∙ t.counted w n i at mine_w ∙ sym (more_there i differs)

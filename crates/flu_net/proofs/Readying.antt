@@ -2,6 +2,7 @@
 use Rattle.std.proofs.Common.{◌≡◌, ◌≢◌, ◌⊎◌, ◌<◌, ◌≤◌, ℕ, zero, suc, Bool, Option, Some, None, List, length, get_or, true, false, inl, inr, refl, sym, ap, subst, ◌∙◌, arith}
 use Rattle.std.specs.Prelude.{slice_get, slice_index, is_some, IfSome, IsSome}
 use Rattle.std.proofs.lemmas.Option.{slice_get_read, slice_get_within}
+use Rattle.flu_lemmas.proofs.Places.{slice_get-there}
 use Rattle.flu_lemmas.proofs.Tests.{not_both}
 use Rattle.flu_model.specs.declared.plans.Node.{Node}
 use Rattle.flu_deps.specs.Owned.{kids_of}
@@ -23,7 +24,7 @@ use Rattle.flu_net.specs.Notes.{NetNote, side_of, kid_of, edge_at, asked_of, ask
 use Rattle.flu_net.specs.Rule.{Hangs, Lets, Rule}
 use Rattle.flu_net.proofs.Framing.{under}
 use Rattle.flu_net.proofs.Hands.{lend_home}
-use Rattle.flu_net.proofs.Lists.{get_there, same_some}
+use Rattle.flu_net.proofs.Lists.{same_some}
 use Rattle.flu_net.proofs.Stepping.{hangs_now, below_top}
 use Rattle.flu_net.proofs.Touching.{home_edge}
 
@@ -121,7 +122,7 @@ module _ (laws : LawsBelow) (old : NetNote) (rule : Rule old) (w : ℕ) (n : Wor
         omega arith
 
     child : (c : WorkerNote) × (slice_get old.workers v ≡ Some c)
-    child = get_there old.workers v (let a = kid_there in let b = rule.ties.edges_each in let d = rule.ties.workers_each in omega arith)
+    child = slice_get-there old.workers v (let a = kid_there in let b = rule.ties.edges_each in let d = rule.ties.workers_each in omega arith)
 
     over : (e : Edge) → slice_get old.edges v ≡ Some e → Lets s n e child.0
     over e is =
@@ -136,7 +137,7 @@ module _ (laws : LawsBelow) (old : NetNote) (rule : Rule old) (w : ℕ) (n : Wor
     -- a part to lend has its edge at home
     pub lend_was : may_lend s n.hand ≡ true → slice_get old.edges v ≡ Some Home
     lend_was may =
-        let e = get_there old.edges v kid_there in
+        let e = slice_get-there old.edges v kid_there in
         e.1 ∙ ap Some (home_edge s n e.0 child.0 (lend_home s n.hand may) (over e.0 e.1))
 
     -- take

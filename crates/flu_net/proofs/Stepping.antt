@@ -22,7 +22,7 @@ use Rattle.flu_net.specs.Rule.{Hangs, Lets, Ties}
 use Rattle.flu_net.specs.Stays.{IsKid, StaysAt, other}
 use Rattle.flu_net.proofs.Framing.{Changes, frame, under, kids_differ}
 use Rattle.flu_net.proofs.Hands.{first_home, first_open, shut_home, sides, lend_open, lend_home, lend_out, take_open, take_out, take_home}
-use Rattle.flu_net.proofs.Lists.{get_there, set_here, set_there, set_long, same_some}
+use Rattle.flu_net.proofs.Lists.{set_here, set_there, set_long, same_some}
 use Rattle.flu_net.proofs.Touching.{lent_here, lets_home, lets_stays, stays_ask, stays_lend, stays_take, taken_here, taken_same, lent_same, hangs_under, lets_under, at_place, home_edge}
 
 lent_away : (lot : Lot) → Lent lot ≡ Home → ⊥
