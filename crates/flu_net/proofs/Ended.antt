@@ -1,5 +1,5 @@
 -- Where the net is final, no step is enabled.
-use Rattle.std.proofs.Common.{◌≡◌, ◌<◌, ◌≤◌, ◌+◌, ℕ, zero, suc, Bool, true, false, cond, Option, Some, None, length, inl, inr, refl, sym, ap, ◌∙◌, arith}
+use Rattle.std.proofs.Common.{◌≡◌, ◌<◌, ℕ, Bool, true, false, cond, Option, Some, None, length, inl, inr, refl, sym, ap, ◌∙◌, arith}
 use Rattle.std.specs.Prelude.{◌&&◌, is_none, is_some, slice_get}
 use Rattle.std.proofs.lemmas.Option.{slice_get_within}
 use Rattle.flu_lemmas.proofs.Places.{slice_get-within}
@@ -8,11 +8,9 @@ use Rattle.flu_model.specs.declared.events.Event.{Event}
 use Rattle.flu_fork.specs.declared.lots.Ask.{Ask}
 use Rattle.flu_fork.specs.Lots.{nodes, kids, setting_of}
 use Rattle.flu_fork.specs.Settings.{events_at}
-use Rattle.flu_worker.specs.declared.hand.Hand.{Hand}
 use Rattle.flu_worker.specs.declared.hand.Side.{Side}
-use Rattle.flu_worker.specs.declared.hand.Side.TheVariants.{Left}
 use Rattle.flu_worker.specs.Choosing.{sight, ask_for, first_some, if_own, if_ready, if_serves, least_ready, new_target, next_of, target_of}
-use Rattle.flu_worker.specs.Hands.{at_side, is_down, is_open, is_out, is_whole, may_lend, may_take}
+use Rattle.flu_worker.specs.Hands.{at_side, is_down, is_whole, may_lend, may_take}
 use Rattle.flu_worker.specs.Laws.{HasNoNext}
 use Rattle.flu_worker.specs.Notes.{WorkerNote}
 use Rattle.flu_net.specs.declared.edges.Edge.{Edge}
@@ -24,7 +22,7 @@ use Rattle.flu_net.specs.Enabled.{by_step, gives_for, if_there, is_given, is_len
 use Rattle.flu_net.specs.Final.{IsFinal}
 use Rattle.flu_net.specs.LawsBelow.{LawsBelow}
 use Rattle.flu_net.specs.Notes.{NetNote, asked_of, asked_over, edge_at, side_of}
-use Rattle.flu_net.specs.Rule.{Hangs, IsUnderAsk, Lets, Rule}
+use Rattle.flu_net.specs.Rule.{IsUnderAsk, Rule}
 use Rattle.flu_net.proofs.Framing.{under}
 use Rattle.flu_net.proofs.Finals.{all_open, part_out}
 use Rattle.flu_net.proofs.Hands.{lend_home}

@@ -1,6 +1,6 @@
 -- A net in which nothing is left to do: each worker is open, and has done all.
-use Rattle.std.proofs.Common.{◌≡◌, ◌⊎◌, ◌<◌, ◌≤◌, ◌+◌, ℕ, zero, suc, Bool, true, false, Option, Some, None, List, [], length, inl, inr, refl, sym, ap, subst, ◌∙◌, arith}
-use Rattle.std.specs.Prelude.{◌&&◌, ◌||◌, not, slice_get, slice_index, slice_index_or, is_some}
+use Rattle.std.proofs.Common.{◌≡◌, ◌⊎◌, ◌<◌, ◌≤◌, ◌+◌, ℕ, zero, suc, Bool, true, false, Some, None, [], length, inl, inr, refl, sym, ap, subst, ◌∙◌, arith}
+use Rattle.std.specs.Prelude.{◌&&◌, ◌||◌, not, slice_get, slice_index, slice_index_or}
 use Rattle.std.specs.List.Sorted.{IsPermutation}
 use Rattle.std.proofs.lemmas.Bool.{cases_Bool, cases_lt}
 use Rattle.std.proofs.lemmas.List.{get_or_past}
@@ -22,7 +22,7 @@ use Rattle.flu_worker.specs.declared.hand.Hand.TheVariants.{Empty, Whole, Lendin
 use Rattle.flu_worker.specs.declared.hand.Side.{Side}
 use Rattle.flu_worker.specs.declared.hand.Side.TheVariants.{Left, Right}
 use Rattle.flu_worker.specs.Calls.{HasDoneAll}
-use Rattle.flu_worker.specs.Hands.{at_side, is_lost, is_open, is_out}
+use Rattle.flu_worker.specs.Hands.{at_side, is_open, is_out}
 use Rattle.flu_worker.specs.Keeping.{HasRule, KeepsIn}
 use Rattle.flu_worker.specs.Notes.{WorkerNote, lent_to, own_of, above_of}
 use Rattle.flu_net.specs.declared.edges.Edge.{Edge}

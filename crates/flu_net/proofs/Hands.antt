@@ -1,5 +1,5 @@
 -- The steps change the shape of a hand so.
-use Rattle.std.proofs.Common.{◌≡◌, ◌⊎◌, ℕ, Bool, true, false, Option, Some, None, inl, inr, refl}
+use Rattle.std.proofs.Common.{◌≡◌, ◌⊎◌, ℕ, true, false, Option, Some, None, inl, inr, refl}
 use Rattle.flu_worker.specs.declared.hand.Hand.{Hand}
 use Rattle.flu_worker.specs.declared.hand.Hand.TheVariants.{Empty, Whole, Lending, Down, Taking}
 use Rattle.flu_worker.specs.declared.hand.Side.{Side}

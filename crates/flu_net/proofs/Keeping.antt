@@ -1,26 +1,20 @@
 -- Each step keeps the rule of the net.
-use Rattle.std.proofs.Common.{◌≡◌, ◌≢◌, ◌⊎◌, ◌<◌, ◌≤◌, ◌+◌, ℕ, zero, suc, Option, Some, None, List, [], ◌∷◌, ◌++◌, length, map, set, true, false, inl, inr, refl, sym, ap, subst, ◌∙◌, arith}
-use Rattle.std.specs.Prelude.{slice_get, slice_index, slice_index_or, nat_lt}
-use Rattle.std.proofs.lemmas.Bool.{cases_eq, cases_lt}
-use Rattle.std.proofs.lemmas.List.{get_or-set_same, get_or-set_other, get_or_past, length-set}
+use Rattle.std.proofs.Common.{◌≡◌, ◌≢◌, ◌<◌, ◌+◌, ℕ, Option, Some, List, length, set, true, inl, inr, refl, sym, ap, subst, ◌∙◌, arith}
+use Rattle.std.specs.Prelude.{slice_get, slice_index}
+use Rattle.std.proofs.lemmas.Bool.{cases_eq}
+use Rattle.std.proofs.lemmas.List.{get_or-set_same, get_or-set_other, length-set}
 use Rattle.std.proofs.lemmas.Option.{slice_get_within}
-use Rattle.flu_lemmas.proofs.Tests.{not_both, true_lt}
-use Rattle.flu_model.specs.declared.events.Event.{Event}
-use Rattle.flu_model.specs.declared.events.Item.{Item}
 use Rattle.flu_model.specs.declared.events.Itag.{Itag}
 use Rattle.flu_model.specs.declared.events.Out.{Out}
 use Rattle.flu_model.specs.Itags.{count_of_itags}
-use Rattle.flu_model.specs.Listed.{listed}
-use Rattle.flu_model.specs.Merging.{events_of}
 use Rattle.flu_fork.specs.declared.content.Content.{Content}
 use Rattle.flu_fork.specs.declared.lots.Ask.{Ask}
-use Rattle.flu_fork.specs.Classes.{itag, own, below}
+use Rattle.flu_fork.specs.Classes.{own, below}
 use Rattle.flu_fork.specs.Lots.{job, nodes, kids, setting_of, LotFits}
 use Rattle.flu_fork.specs.Serving.{Served}
-use Rattle.flu_fork.specs.Settings.{events_at}
-use Rattle.flu_fork.specs.Texts.{HasTexts, outputs_then}
+use Rattle.flu_fork.specs.Texts.{HasTexts}
 use Rattle.flu_worker.specs.declared.hand.Side.{Side}
-use Rattle.flu_worker.specs.Calls.{HandlesEvent, CountsEvent, IsAskable, IsFitPart, KeepsTarget}
+use Rattle.flu_worker.specs.Calls.{CountsEvent, IsAskable, IsFitPart, KeepsTarget}
 use Rattle.flu_worker.specs.Hands.{at_side, may_lend, may_take}
 use Rattle.flu_worker.specs.Notes.{WorkerNote, own_of}
 use Rattle.flu_net.specs.declared.edges.Edge.{Edge}

@@ -1,17 +1,15 @@
 -- The net at the start keeps the rule.
-use Rattle.std.proofs.Common.{◌≡◌, ◌⊎◌, ◌<◌, ◌≤◌, ◌+◌, ℕ, zero, suc, Option, Some, None, List, [], ◌∷◌, ◌++◌, length, map, false, true, inl, inr, refl, sym, ap, subst, ◌∙◌, arith}
-use Rattle.std.specs.Prelude.{slice_get, slice_index, slice_index_or}
+use Rattle.std.proofs.Common.{◌≡◌, ◌<◌, ◌+◌, ℕ, zero, suc, Some, List, [], ◌∷◌, ◌++◌, false, inl, inr, refl, sym, ap, subst, ◌∙◌, arith}
+use Rattle.std.specs.Prelude.{slice_get, slice_index}
 use Rattle.std.specs.List.{range_with_len}
 use Rattle.std.proofs.lemmas.List.{length-append}
 use Rattle.std.proofs.lemmas.List.FromFn.{length-map-range_with_len}
 use Rattle.flu_lemmas.proofs.Places.{slice_get-there, slice_get_push}
 use Rattle.flu_model.specs.Itags.{count_of_itags}
-use Rattle.flu_model.specs.Listed.{listed}
 use Rattle.flu_fork.specs.declared.content.Content.{Content}
-use Rattle.flu_fork.specs.Classes.{own, below}
+use Rattle.flu_fork.specs.Classes.{below}
 use Rattle.flu_fork.specs.Laws.{no_counts}
 use Rattle.flu_fork.specs.Lots.{job, nodes, kids, setting_of}
-use Rattle.flu_worker.specs.declared.hand.Hand.TheVariants.{Empty}
 use Rattle.flu_worker.specs.declared.hand.Side.{Side}
 use Rattle.flu_worker.specs.declared.hand.Side.TheVariants.{Left, Right}
 use Rattle.flu_worker.specs.Calls.{IsNew, start_hand}
@@ -25,7 +23,7 @@ use Rattle.flu_fork.specs.Texts.{HasTexts}
 use Rattle.flu_net.specs.Rule.{Hangs, Lets, IsSeen, Rule}
 use Rattle.flu_net.specs.Starting.{AreNew, AreHome, IsStart}
 use Rattle.flu_net.proofs.Hands.{first_home, first_open}
-use Rattle.flu_net.proofs.Lists.{same_some, zeros_at}
+use Rattle.flu_net.proofs.Lists.{zeros_at}
 use Rattle.flu_net.proofs.Standing.{first_sound, never}
 
 -- ---- one more
