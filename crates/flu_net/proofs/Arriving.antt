@@ -1,15 +1,13 @@
 -- An arrival keeps the rule of the net.
-use Rattle.std.proofs.Common.{◌≡◌, ◌≢◌, ◌⊎◌, ◌<◌, ◌≤◌, ◌+◌, ℕ, zero, suc, Option, Some, None, List, [], ◌∷◌, length, map, set, true, false, inl, inr, refl, sym, ap, subst, ◌∙◌, arith}
-use Rattle.std.specs.Prelude.{slice_get, slice_index, slice_index_or, nat_lt}
+use Rattle.std.proofs.Common.{◌≡◌, ◌<◌, ◌≤◌, ◌+◌, ℕ, zero, suc, Some, List, [], ◌∷◌, length, map, set, true, inl, inr, refl, sym, ap, subst, ◌∙◌, arith}
+use Rattle.std.specs.Prelude.{slice_get, slice_index, slice_index_or}
 use Rattle.std.proofs.lemmas.Bool.{cases_eq, cases_lt}
 use Rattle.std.proofs.lemmas.List.{get_or-set_same, get_or-set_other, get_or_past, length-set, length-map}
 use Rattle.flu_lemmas.proofs.Tests.{true_lt}
 use Rattle.flu_model.specs.declared.events.Item.{Item}
 use Rattle.flu_model.specs.declared.events.Itag.{Itag}
-use Rattle.flu_model.specs.Itags.{count_of_itags}
 use Rattle.flu_model.specs.Listed.{listed}
 use Rattle.flu_fork.specs.declared.content.Content.{Content}
-use Rattle.flu_fork.specs.Lots.{job}
 use Rattle.flu_worker.specs.declared.hand.Side.{Side}
 use Rattle.flu_worker.specs.declared.hand.Side.TheVariants.{Left, Right}
 use Rattle.flu_worker.specs.Hands.{at_side}
@@ -21,13 +19,11 @@ use Rattle.flu_net.specs.Enabled.{may_arrive}
 use Rattle.flu_net.specs.Notes.{NetNote}
 use Rattle.flu_net.specs.Rule.{Hangs, Lets, IsPlaced, IsSeen, Rule, Stands, Ties}
 use Rattle.flu_net.specs.Showing.{AllMaySee}
+use Rattle.flu_net.proofs.Lists.{same_some}
 
 mapped_from : {X : Type 0} (f : X → X) (xs : List X) (w : ℕ) (y : X) → slice_get (map f xs) w ≡ Some y → (x : X) × (slice_get xs w ≡ Some x) × (f x ≡ y)
 mapped_from f [] w y e = cc
-mapped_from f (x ∷ xs) zero y e = (x, refl, one (f x) y e)
-  where
-    one : {X : Type 0} (a b : X) → Some a ≡ Some b → a ≡ b
-    one a b e = cc
+mapped_from f (x ∷ xs) zero y e = (x, refl, same_some (f x) y e)
 mapped_from f (x ∷ xs) (suc w) y e = mapped_from f xs w y e
 
 hangs_seen : (i count : ℕ) (n : WorkerNote) (e : Edge) → Hangs n e → Hangs (seeing i count n) e

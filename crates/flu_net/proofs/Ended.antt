@@ -1,5 +1,5 @@
 -- Where the net is final, no step is enabled.
-use Rattle.std.proofs.Common.{◌≡◌, ◌<◌, ◌≤◌, ◌+◌, ℕ, zero, suc, Bool, true, false, cond, Option, Some, None, length, inl, inr, refl, sym, ap, ◌∙◌, arith}
+use Rattle.std.proofs.Common.{◌≡◌, ◌<◌, ℕ, Bool, true, false, cond, Option, Some, None, length, inl, inr, refl, sym, ap, ◌∙◌, arith}
 use Rattle.std.specs.Prelude.{◌&&◌, is_none, is_some, slice_get}
 use Rattle.std.proofs.lemmas.Option.{slice_get_within}
 use Rattle.flu_lemmas.proofs.Places.{slice_get-within}
@@ -8,11 +8,9 @@ use Rattle.flu_model.specs.declared.events.Event.{Event}
 use Rattle.flu_fork.specs.declared.lots.Ask.{Ask}
 use Rattle.flu_fork.specs.Lots.{nodes, kids, setting_of}
 use Rattle.flu_fork.specs.Settings.{events_at}
-use Rattle.flu_worker.specs.declared.hand.Hand.{Hand}
 use Rattle.flu_worker.specs.declared.hand.Side.{Side}
-use Rattle.flu_worker.specs.declared.hand.Side.TheVariants.{Left}
 use Rattle.flu_worker.specs.Choosing.{sight, ask_for, first_some, if_own, if_ready, if_serves, least_ready, new_target, next_of, target_of}
-use Rattle.flu_worker.specs.Hands.{at_side, is_down, is_open, is_out, is_whole, may_lend, may_take}
+use Rattle.flu_worker.specs.Hands.{at_side, is_down, is_whole, may_lend, may_take}
 use Rattle.flu_worker.specs.Laws.{HasNoNext}
 use Rattle.flu_worker.specs.Notes.{WorkerNote}
 use Rattle.flu_net.specs.declared.edges.Edge.{Edge}
@@ -24,10 +22,12 @@ use Rattle.flu_net.specs.Enabled.{by_step, gives_for, if_there, is_given, is_len
 use Rattle.flu_net.specs.Final.{IsFinal}
 use Rattle.flu_net.specs.LawsBelow.{LawsBelow}
 use Rattle.flu_net.specs.Notes.{NetNote, asked_of, asked_over, edge_at, side_of}
-use Rattle.flu_net.specs.Rule.{Hangs, IsUnderAsk, Lets, Rule}
+use Rattle.flu_net.specs.Rule.{IsUnderAsk, Rule}
 use Rattle.flu_net.proofs.Framing.{under}
-use Rattle.flu_net.proofs.Hands.{lend_home, shut_home, take_out}
-use Rattle.flu_net.proofs.Placed.{placed_at, edge_there, in_tree, sound_at, worker_at}
+use Rattle.flu_net.proofs.Finals.{all_open, part_out}
+use Rattle.flu_net.proofs.Hands.{lend_home}
+use Rattle.flu_net.proofs.Placed.{placed_at, sound_at, worker_at}
+use Rattle.flu_net.proofs.Readying.{no_some}
 use Rattle.flu_net.proofs.Stepping.{hangs_now}
 
 -- nothing is chosen
@@ -39,24 +39,6 @@ none_of false b x y ex ey = refl
 none_new : (a : Bool) (x : Option Ask) → x ≡ None → cond a x None ≡ None
 none_new true x e = e
 none_new false x e = refl
-
-no_some : {A : Type 0} (o : Option A) → o ≡ None → is_some o ≡ true → ⊥
-no_some o a b = cc
-
-out_open : (s : Side) (h : Hand) → is_out s h ≡ true → is_open h ≡ true
-out_open s h e = by_open (is_open h) refl
-  where
-    by_open : (b : Bool) → is_open h ≡ b → b ≡ true
-    by_open true is = refl
-    by_open false is = absurd (not_both _ e (shut_home s h is))
-
--- the part of a worker that is open is out
-out_if_open : (s : Side) (n : WorkerNote) (e : Edge) (c : WorkerNote) → is_open c.hand ≡ true → Hangs c e → Lets s n e c → is_out s n.hand ≡ true
-out_if_open s n Home c opened hung over = absurd (not_both _ opened hung)
-out_if_open s n (Lent lot) c opened hung over = absurd (not_both _ opened hung.shut)
-out_if_open s n Held c opened hung over = over.out
-out_if_open s n (Asked y) c opened hung over = take_out s n.hand over.take
-out_if_open s n (Given lot) c opened hung over = absurd (not_both _ opened hung.shut)
 
 module _ (laws : LawsBelow) (n : NetNote) (rule : Rule n) (keep : AllKeep n.workers) (final : IsFinal n) where
   -- ---- one worker
@@ -114,40 +96,6 @@ module _ (laws : LawsBelow) (n : NetNote) (rule : Rule n) (keep : AllKeep n.work
         ap (λ o. first_some o (cond (is_down u.hand) (new_target (sight v) (asked_of n w)) None)) kept_none
         ∙ none_new (is_down u.hand) (new_target (sight v) (asked_of n w))
         (ap (λ (o : Option Event). first_some (ask_for (sight v) (if_ready (sight v) o)) (if_serves (sight v) (asked_of n w))) nothing.next ∙ ap (if_serves (sight v)) none_asked)
-
-  -- ---- all workers have their lots, or parts of them are out
-  open_if : (w : ℕ) (u : WorkerNote) → slice_get n.workers w ≡ Some (placed_at n.case w u) → (o : Option (ℕ × ℕ)) → kids n.case w ≡ o
-      → ((p : ℕ × ℕ) (c : WorkerNote) → kids n.case w ≡ Some p → slice_get n.workers p.0 ≡ Some (placed_at n.case p.0 c) → is_open c.hand ≡ true) → is_open u.hand ≡ true
-  open_if w u at None leaf below = ap is_open (final.leaves w (placed_at n.case w u) at leaf)
-  open_if w u at (Some p) are below =
-      let kid = under laws n.case Left w p.0 p.1 are in
-      let later = kid.earlier in
-      let some : 0 < p.0 = omega arith in
-      let c = worker_at laws n rule p.0 kid.there in
-      let e = edge_there laws n rule p.0 kid.there in
-      out_open Left u.hand
-      (out_if_open Left (placed_at n.case w u) e.0 (placed_at n.case p.0 c.0) (below p c.0 are c.1)
-      (rule.ties.hangs p.0 (placed_at n.case p.0 c.0) e.0 some c.1 e.1)
-      (rule.ties.lets Left w p.0 p.1 (placed_at n.case w u) (placed_at n.case p.0 c.0) e.0 are at e.1 c.1))
-
-  open_from : (fuel w : ℕ) → length (nodes n.case) ≤ w + fuel → (u : WorkerNote) → slice_get n.workers w ≡ Some (placed_at n.case w u) → is_open u.hand ≡ true
-  open_from zero w le u at = absurd (let lt = in_tree laws n rule w (placed_at n.case w u) at in omega arith)
-  open_from (suc fuel) w le u at =
-      open_if w u at (kids n.case w) refl (λ p c are down. (let later = (under laws n.case Left w p.0 p.1 are).earlier in open_from fuel p.0 (omega arith) c down))
-
-  all_open : (w : ℕ) (u : WorkerNote) → slice_get n.workers w ≡ Some (placed_at n.case w u) → is_open u.hand ≡ true
-  all_open w u at = open_from (length (nodes n.case)) w (omega arith) u at
-
-  all_out : (s : Side) (w l r : ℕ) (u : WorkerNote) → kids n.case w ≡ Some (l, r) → slice_get n.workers w ≡ Some (placed_at n.case w u) → is_out s u.hand ≡ true
-  all_out s w l r u are at =
-      let below = under laws n.case s w l r are in
-      let later = below.earlier in
-      let some : 0 < at_side s l r = omega arith in
-      let c = worker_at laws n rule (at_side s l r) below.there in
-      let e = edge_there laws n rule (at_side s l r) below.there in
-      out_if_open s (placed_at n.case w u) e.0 (placed_at n.case (at_side s l r) c.0) (all_open (at_side s l r) c.0 c.1)
-      (rule.ties.hangs (at_side s l r) (placed_at n.case (at_side s l r) c.0) e.0 some c.1 e.1)
-      (rule.ties.lets s w l r (placed_at n.case w u) (placed_at n.case (at_side s l r) c.0) e.0 are at e.1 c.1)
 
   -- ---- the steps
   -- a worker that passes a test is there
@@ -210,7 +158,7 @@ module _ (laws : LawsBelow) (n : NetNote) (rule : Rule n) (keep : AllKeep n.work
       by_edge (Some (Lent lot)) is f =
           let u = worker_at laws n rule w (edge_within w (Lent lot) is) in
           let v = placed_at n.case w u.0 in
-          not_both _ (all_open w u.0 u.1) (hangs_now laws n.case n.seen n.workers n.edges rule.ties w v v u.1 (Lent lot) is (λ x. cc)).shut
+          not_both _ (all_open laws n rule final w v u.1) (hangs_now laws n.case n.seen n.workers n.edges rule.ties w v v u.1 (Lent lot) is (λ x. cc)).shut
       by_edge (Some Held) is f = cc
       by_edge (Some (Asked y)) is f = cc
       by_edge (Some (Given lot)) is f = cc
@@ -223,7 +171,7 @@ module _ (laws : LawsBelow) (n : NetNote) (rule : Rule n) (keep : AllKeep n.work
       by_kids (Some p) are f =
           let may = and_right (is_some (side_of s (kids n.case w))) _ e in
           let u = worker_at laws n rule w (there (λ v. may_lend s v.hand) w may) in
-          not_both _ (all_out s w p.0 p.1 u.0 are u.1) (lend_home s u.0.hand (sym (ap (if_there (λ v. may_lend s v.hand)) u.1) ∙ may))
+          not_both _ (part_out laws n rule final s w p.0 p.1 (placed_at n.case w u.0) are u.1) (lend_home s u.0.hand (sym (ap (if_there (λ v. may_lend s v.hand)) u.1) ∙ may))
 
   none : (s : Step) → by_step n s ≡ true → ⊥
   none (Arrive i) e = let lt = true_lt _ _ e in let all = final.seen i.0 in omega arith

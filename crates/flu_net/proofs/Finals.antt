@@ -1,10 +1,11 @@
 -- A net in which nothing is left to do: each worker is open, and has done all.
-use Rattle.std.proofs.Common.{◌≡◌, ◌⊎◌, ◌<◌, ◌≤◌, ◌+◌, ℕ, zero, suc, Bool, true, false, Option, Some, None, List, [], length, inl, inr, refl, sym, ap, subst, ◌∙◌, arith}
-use Rattle.std.specs.Prelude.{◌&&◌, ◌||◌, not, slice_get, slice_index, slice_index_or, is_some}
+use Rattle.std.proofs.Common.{◌≡◌, ◌⊎◌, ◌<◌, ◌≤◌, ◌+◌, ℕ, zero, suc, Bool, true, false, Some, None, [], length, inl, inr, refl, sym, ap, subst, ◌∙◌, arith}
+use Rattle.std.specs.Prelude.{◌&&◌, ◌||◌, not, slice_get, slice_index, slice_index_or}
 use Rattle.std.specs.List.Sorted.{IsPermutation}
 use Rattle.std.proofs.lemmas.Bool.{cases_Bool, cases_lt}
 use Rattle.std.proofs.lemmas.List.{get_or_past}
 use Rattle.std.proofs.lemmas.Option.{slice_get_within}
+use Rattle.flu_lemmas.proofs.Places.{slice_get-there}
 use Rattle.flu_lemmas.proofs.Tests.{not_both}
 use Rattle.flu_model.specs.Folding.{final_outputs}
 use Rattle.flu_model.specs.Itags.{count_of_itags}
@@ -21,7 +22,7 @@ use Rattle.flu_worker.specs.declared.hand.Hand.TheVariants.{Empty, Whole, Lendin
 use Rattle.flu_worker.specs.declared.hand.Side.{Side}
 use Rattle.flu_worker.specs.declared.hand.Side.TheVariants.{Left, Right}
 use Rattle.flu_worker.specs.Calls.{HasDoneAll}
-use Rattle.flu_worker.specs.Hands.{at_side, is_lost, is_open, is_out}
+use Rattle.flu_worker.specs.Hands.{at_side, is_open, is_out}
 use Rattle.flu_worker.specs.Keeping.{HasRule, KeepsIn}
 use Rattle.flu_worker.specs.Notes.{WorkerNote, lent_to, own_of, above_of}
 use Rattle.flu_net.specs.declared.edges.Edge.{Edge}
@@ -32,14 +33,10 @@ use Rattle.flu_net.specs.LawsBelow.{LawsBelow}
 use Rattle.flu_net.specs.Notes.{NetNote}
 use Rattle.flu_net.specs.Rule.{Hangs, Lets, Rule}
 use Rattle.flu_net.proofs.Framing.{under}
-use Rattle.flu_net.proofs.Hands.{shut_home, take_out}
-use Rattle.flu_net.proofs.Lists.{get_there}
+use Rattle.flu_net.proofs.Hands.{out_open, take_out}
 use Rattle.flu_net.proofs.Readying.{no_some}
 
 -- ---- hands
-out_open : (s : Side) (h : Hand) → is_out s h ≡ true → is_open h ≡ true
-out_open s h out = elim (cases_Bool (is_open h)) [ inl opened ↦ opened | inr shut ↦ absurd (not_both _ out (shut_home s h shut)) ]
-
 neither : (l r : Bool) → not l ≡ true → not r ≡ true → (l || r) ≡ true → ⊥
 neither true r a b c = cc
 neither false true a b c = cc
@@ -67,7 +64,7 @@ pub record HasPart (s : Side) (v c : WorkerNote) : Type 0 where
 
 module _ (laws : LawsBelow) (n : NetNote) (rule : Rule n) where
   worker_at : (w : ℕ) → w < length (nodes n.case) → (v : WorkerNote) × (slice_get n.workers w ≡ Some v)
-  worker_at w lt = let each = rule.ties.workers_each in get_there n.workers w (omega arith)
+  worker_at w lt = let each = rule.ties.workers_each in slice_get-there n.workers w (omega arith)
 
   kid_has : (s : Side) (w l r : ℕ) (v c : WorkerNote) → kids n.case w ≡ Some (l, r) → slice_get n.workers w ≡ Some v
       → slice_get n.workers (at_side s l r) ≡ Some c → is_open c.hand ≡ true → HasPart s v c
@@ -75,7 +72,7 @@ module _ (laws : LawsBelow) (n : NetNote) (rule : Rule n) where
       let later = (under laws n.case s w l r are).earlier in
       let there = (under laws n.case s w l r are).there in
       let each = rule.ties.edges_each in
-      let edge = get_there n.edges (at_side s l r) (omega arith) in
+      let edge = slice_get-there n.edges (at_side s l r) (omega arith) in
       over edge.0 (rule.ties.hangs (at_side s l r) c edge.0 (omega arith) at_c edge.1) (rule.ties.lets s w l r v c edge.0 are at_v edge.1 at_c)
     where
       over : (e : Edge) → Hangs c e → Lets s v e c → HasPart s v c
@@ -114,12 +111,15 @@ module _ (laws : LawsBelow) (n : NetNote) (rule : Rule n) where
               out_open Left v.hand (kid_has Left w both.0 both.1 v c.0 are at c.1 (opened fuel both.0 c.0 (omega arith) c.1)).out
         ] refl
 
+    pub all_open : (w : ℕ) (v : WorkerNote) → slice_get n.workers w ≡ Some v → is_open v.hand ≡ true
+    all_open w v at = opened (length (nodes n.case)) w v (omega arith) at
+
     has_part : (s : Side) (w l r : ℕ) (v c : WorkerNote) → kids n.case w ≡ Some (l, r) → slice_get n.workers w ≡ Some v
         → slice_get n.workers (at_side s l r) ≡ Some c → HasPart s v c
     has_part s w l r v c are at_v at_c =
-        kid_has s w l r v c are at_v at_c (opened (length (nodes n.case)) (at_side s l r) c (omega arith) at_c)
+        kid_has s w l r v c are at_v at_c (all_open (at_side s l r) c at_c)
 
-    part_out : (s : Side) (w l r : ℕ) (v : WorkerNote) → kids n.case w ≡ Some (l, r) → slice_get n.workers w ≡ Some v → is_out s v.hand ≡ true
+    pub part_out : (s : Side) (w l r : ℕ) (v : WorkerNote) → kids n.case w ≡ Some (l, r) → slice_get n.workers w ≡ Some v → is_out s v.hand ≡ true
     part_out s w l r v are at =
         let c = worker_at (at_side s l r) (under laws n.case s w l r are).there in
         (has_part s w l r v c.0 are at c.1).out

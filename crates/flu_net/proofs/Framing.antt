@@ -1,12 +1,12 @@
 -- One worker and the edges that it touches become others: the rule holds of the rest as before.
-use Rattle.std.proofs.Common.{◌≡◌, ◌≢◌, ◌⊎◌, ◌<◌, ℕ, Option, Some, None, List, length, set, inl, inr, refl, sym, ap, subst, ◌∙◌, arith}
+use Rattle.std.proofs.Common.{◌≡◌, ◌≢◌, ◌⊎◌, ◌<◌, ℕ, Some, List, length, set, inl, inr, sym, ap, subst, ◌∙◌, arith}
 use Rattle.std.specs.Prelude.{slice_get}
 use Rattle.std.proofs.lemmas.Bool.{cases_eq}
 use Rattle.std.proofs.lemmas.Option.{slice_get_within}
 use Rattle.flu_model.specs.Owners.{parent_of}
 use Rattle.flu_deps.specs.Trees.{IsUnder, AreKids}
 use Rattle.flu_fork.specs.declared.content.Content.{Content}
-use Rattle.flu_fork.specs.Lots.{nodes, kids, setting_of}
+use Rattle.flu_fork.specs.Lots.{nodes, kids}
 use Rattle.flu_fork.specs.Serving.{none_counted}
 use Rattle.flu_worker.specs.declared.hand.Side.{Side}
 use Rattle.flu_worker.specs.declared.hand.Side.TheVariants.{Left, Right}
@@ -18,7 +18,7 @@ use Rattle.flu_net.specs.declared.edges.Edge.TheVariants.{Home}
 use Rattle.flu_net.specs.LawsBelow.{LawsBelow}
 use Rattle.flu_net.specs.Rule.{Hangs, Lets, IsPlaced, Ties}
 use Rattle.flu_net.specs.Stays.{IsKid, other}
-use Rattle.flu_net.proofs.Lists.{set_here, set_there, set_long, same_some}
+use Rattle.flu_net.proofs.Lists.{set_is, set_there, set_long, same_some}
 
 module _ (laws : LawsBelow) (k : Content) where
   -- ---- children
@@ -57,9 +57,6 @@ module _ (laws : LawsBelow) (k : Content) where
       within : w < length ws
       within = slice_get_within ws w n x.at
 
-      here : (p : WorkerNote) → slice_get (set ws w m) w ≡ Some p → m ≡ p
-      here p e = same_some m p (sym (set_here ws w m within) ∙ e)
-
       there : (j : ℕ) (p : WorkerNote) → j ≢ w → slice_get (set ws w m) j ≡ Some p → slice_get ws j ≡ Some p
       there j p apart e = sym (set_there ws w j m apart) ∙ e
 
@@ -67,7 +64,7 @@ module _ (laws : LawsBelow) (k : Content) where
       placed j p e = elim (cases_eq j w) as (λ _. IsPlaced k seen j p) [
         | inl same ↦
             let was = ties.placed w n x.at in
-            subst (IsPlaced k seen j) (here p (sym (ap (slice_get (set ws w m)) same) ∙ e)) (record {
+            subst (IsPlaced k seen j) (set_is ws w m p within (sym (ap (slice_get (set ws w m)) same) ∙ e)) (record {
               case = x.place.case ∙ was.case;
               node = x.place.node ∙ was.node ∙ sym same;
               sees = x.place.seen ∙ was.sees;
@@ -78,7 +75,7 @@ module _ (laws : LawsBelow) (k : Content) where
       rooted : (p : WorkerNote) → slice_get (set ws w m) 0 ≡ Some p → p.held ≡ none_counted k
       rooted p e = elim (cases_eq 0 w) as (λ _. p.held ≡ none_counted k) [
         | inl same ↦
-            ap (λ (q : WorkerNote). q.held) (sym (here p (sym (ap (slice_get (set ws w m)) same) ∙ e))) ∙ x.root (sym same)
+            ap (λ (q : WorkerNote). q.held) (sym (set_is ws w m p within (sym (ap (slice_get (set ws w m)) same) ∙ e))) ∙ x.root (sym same)
             ∙ ties.root n (ap (slice_get ws) same ∙ x.at)
         | inr apart ↦ ties.root p (there 0 p apart e)
       ]
@@ -86,7 +83,7 @@ module _ (laws : LawsBelow) (k : Content) where
       hang : (j : ℕ) (p : WorkerNote) (e : Edge) → 0 < j → slice_get (set ws w m) j ≡ Some p → slice_get es' j ≡ Some e → Hangs p e
       hang j p e some a b = elim (cases_eq j w) as (λ _. Hangs p e) [
         | inl same ↦
-            subst (λ (q : WorkerNote). Hangs q e) (here p (sym (ap (slice_get (set ws w m)) same) ∙ a))
+            subst (λ (q : WorkerNote). Hangs q e) (set_is ws w m p within (sym (ap (slice_get (set ws w m)) same) ∙ a))
             (x.hangs e (subst (λ i. 0 < i) same some) (sym (ap (slice_get es') same) ∙ b))
         | inr apart ↦ elim (cases_eq j v) as (λ _. Hangs p e) [
           | inl changed ↦ elim x.near as (λ _. Hangs p e) [
@@ -106,11 +103,11 @@ module _ (laws : LawsBelow) (k : Content) where
           elim (cases_eq u w) as (λ _. Lets s p e c) [
             | inl same ↦
                 let apart : at_side s l r ≢ w = λ (t : at_side s l r ≡ w). omega arith in
-                subst (λ (q : WorkerNote). Lets s q e c) (here p (sym (ap (slice_get (set ws w m)) same) ∙ a))
+                subst (λ (q : WorkerNote). Lets s q e c) (set_is ws w m p within (sym (ap (slice_get (set ws w m)) same) ∙ a))
                 (x.below s l r c e (sym (ap (kids k) same) ∙ are) (there (at_side s l r) c apart d) b).1
             | inr apart ↦ elim (cases_eq (at_side s l r) w) as (λ _. Lets s p e c) [
               | inl same ↦
-                  subst (Lets s p e) (here c (sym (ap (slice_get (set ws w m)) same) ∙ d))
+                  subst (Lets s p e) (set_is ws w m c within (sym (ap (slice_get (set ws w m)) same) ∙ d))
                   (x.above s u l r p e are same (there u p apart a) (sym (ap (slice_get es') same) ∙ b))
               | inr off ↦ elim (cases_eq (at_side s l r) v) as (λ _. Lets s p e c) [
                 | inl changed ↦ elim x.near as (λ _. Lets s p e c) [

@@ -1,5 +1,5 @@
 -- The steps change the shape of a hand so.
-use Rattle.std.proofs.Common.{◌≡◌, ◌⊎◌, ℕ, Bool, true, false, Option, Some, None, inl, inr, refl}
+use Rattle.std.proofs.Common.{◌≡◌, ◌⊎◌, ℕ, true, false, Option, Some, None, inl, inr, refl}
 use Rattle.flu_worker.specs.declared.hand.Hand.{Hand}
 use Rattle.flu_worker.specs.declared.hand.Hand.TheVariants.{Empty, Whole, Lending, Down, Taking}
 use Rattle.flu_worker.specs.declared.hand.Side.{Side}
@@ -110,6 +110,13 @@ shut_home s Whole e = cc
 shut_home s (Lending l r) e = cc
 shut_home s Down e = cc
 shut_home s (Taking l r) e = cc
+
+pub out_open : (s : Side) (h : Hand) → is_out s h ≡ true → is_open h ≡ true
+out_open s Empty e = cc
+out_open s Whole e = cc
+out_open s (Lending l r) e = refl
+out_open s Down e = refl
+out_open s (Taking l r) e = refl
 
 pub sides : (s t : Side) → (t ≡ s) ⊎ (t ≡ other s)
 sides Left Left = inl refl

@@ -1,26 +1,20 @@
 -- Each step keeps the rule of the net.
-use Rattle.std.proofs.Common.{◌≡◌, ◌≢◌, ◌⊎◌, ◌<◌, ◌≤◌, ◌+◌, ℕ, zero, suc, Option, Some, None, List, [], ◌∷◌, ◌++◌, length, map, set, true, false, inl, inr, refl, sym, ap, subst, ◌∙◌, arith}
-use Rattle.std.specs.Prelude.{slice_get, slice_index, slice_index_or, nat_lt}
-use Rattle.std.proofs.lemmas.Bool.{cases_eq, cases_lt}
-use Rattle.std.proofs.lemmas.List.{get_or-set_same, get_or-set_other, get_or_past, length-set}
+use Rattle.std.proofs.Common.{◌≡◌, ◌≢◌, ◌<◌, ◌+◌, ℕ, Option, Some, List, length, set, true, inl, inr, refl, sym, ap, subst, ◌∙◌, arith}
+use Rattle.std.specs.Prelude.{slice_get, slice_index}
+use Rattle.std.proofs.lemmas.Bool.{cases_eq}
+use Rattle.std.proofs.lemmas.List.{get_or-set_same, get_or-set_other, length-set}
 use Rattle.std.proofs.lemmas.Option.{slice_get_within}
-use Rattle.flu_lemmas.proofs.Tests.{not_both, true_lt}
-use Rattle.flu_model.specs.declared.events.Event.{Event}
-use Rattle.flu_model.specs.declared.events.Item.{Item}
 use Rattle.flu_model.specs.declared.events.Itag.{Itag}
 use Rattle.flu_model.specs.declared.events.Out.{Out}
 use Rattle.flu_model.specs.Itags.{count_of_itags}
-use Rattle.flu_model.specs.Listed.{listed}
-use Rattle.flu_model.specs.Merging.{events_of}
 use Rattle.flu_fork.specs.declared.content.Content.{Content}
 use Rattle.flu_fork.specs.declared.lots.Ask.{Ask}
-use Rattle.flu_fork.specs.Classes.{itag, own, below}
+use Rattle.flu_fork.specs.Classes.{own, below}
 use Rattle.flu_fork.specs.Lots.{job, nodes, kids, setting_of, LotFits}
 use Rattle.flu_fork.specs.Serving.{Served}
-use Rattle.flu_fork.specs.Settings.{events_at}
-use Rattle.flu_fork.specs.Texts.{HasTexts, outputs_then}
+use Rattle.flu_fork.specs.Texts.{HasTexts}
 use Rattle.flu_worker.specs.declared.hand.Side.{Side}
-use Rattle.flu_worker.specs.Calls.{HandlesEvent, CountsEvent, IsAskable, IsFitPart, KeepsTarget}
+use Rattle.flu_worker.specs.Calls.{CountsEvent, IsAskable, IsFitPart, KeepsTarget}
 use Rattle.flu_worker.specs.Hands.{at_side, may_lend, may_take}
 use Rattle.flu_worker.specs.Notes.{WorkerNote, own_of}
 use Rattle.flu_net.specs.declared.edges.Edge.{Edge}
@@ -30,7 +24,8 @@ use Rattle.flu_net.specs.LawsBelow.{LawsBelow}
 use Rattle.flu_net.specs.Notes.{NetNote}
 use Rattle.flu_net.specs.Rule.{AllStand, IsSeen, Rule, Tells, Ties}
 use Rattle.flu_net.proofs.Framing.{under}
-use Rattle.flu_net.proofs.Lists.{set_here, set_there, same_some}
+use Rattle.flu_net.proofs.Lists.{set_is, set_there, same_some}
+use Rattle.flu_net.proofs.Placed.{known_at}
 use Rattle.flu_net.proofs.Readying.{kid_pair, lend_was, take_may}
 use Rattle.flu_net.proofs.Standing.{stands_ask, stands_give, stands_handle, stands_hold, stands_lend, stands_take}
 use Rattle.flu_net.proofs.Stepping.{below_top, ties_ask, ties_give, ties_handle, ties_hold, ties_lend, ties_take}
@@ -54,9 +49,6 @@ module _ (laws : LawsBelow) (k : Content) (ws : List WorkerNote) (outs : List Ou
   within : w < length ws
   within = slice_get_within ws w n at
 
-  here : (p : WorkerNote) → slice_get (set ws w m) w ≡ Some p → m ≡ p
-  here p e = same_some m p (sym (set_here ws w m within) ∙ e)
-
   -- nothing is counted
   pub tells_same : ((i : ℕ) → own (job k) (nodes k) w i ≡ true → slice_index m.counts i ≡ slice_index n.counts i) → Tells k (set ws w m) outs
   tells_same same = record {
@@ -65,7 +57,7 @@ module _ (laws : LawsBelow) (k : Content) (ws : List WorkerNote) (outs : List Ou
     counted = λ j p i up mine. elim (cases_eq j w) as (λ _. slice_index p.counts i ≡ slice_index t.done i) [
       | inl is ↦
           let mine_w : own (job k) (nodes k) w i ≡ true = sym (ap (λ x. own (job k) (nodes k) x i) is) ∙ mine in
-          ap (λ (q : WorkerNote). slice_index q.counts i) (sym (here p (sym (ap (slice_get (set ws w m)) is) ∙ up))) ∙ same i mine_w ∙ t.counted w n i at mine_w
+          ap (λ (q : WorkerNote). slice_index q.counts i) (sym (set_is ws w m p within (sym (ap (slice_get (set ws w m)) is) ∙ up))) ∙ same i mine_w ∙ t.counted w n i at mine_w
       | inr apart ↦ t.counted j p i (sym (set_there ws w j m apart) ∙ up) mine
     ];
     texts = t.texts;
@@ -79,16 +71,9 @@ module _ (laws : LawsBelow) (k : Content) (ws : List WorkerNote) (outs : List Ou
     pub known : x.itag.0 < count_of_itags (job k)
     known =
         let is = laws.events (setting_of k) c.front c.back c.moment (laws.settings k) c.stands in
-        elim (cases_lt x.itag.0 (count_of_itags (job k))) [
-          | inl lt ↦ lt
-          | inr ge ↦
-              let one = k.one_each in
-              let nothing : slice_index_or (listed k.streams) c.moment.event.itag.0 [] ≡ [] = get_or_past (listed k.streams) c.moment.event.itag.0 [] (let q = at_itag in omega arith) in
-              absurd (no_event c.moment.index c.moment.event (sym (ap (λ (items : List Item). slice_get (events_of items) c.moment.index) nothing) ∙ is))
-        ]
-      where
-        no_event : (i : ℕ) (e : Event) → slice_get (events_of []) i ≡ Some e → ⊥
-        no_event i e f = cc
+        let lt = known_at k c.moment.event.itag.0 c.moment.index c.moment.event is in
+        let same = at_itag in
+        omega arith
 
     more : List ℕ
     more = set t.done x.itag.0 (x.index + 1)
@@ -112,7 +97,7 @@ module _ (laws : LawsBelow) (k : Content) (ws : List WorkerNote) (outs : List Ou
     counted_more j p i up mine = elim (cases_eq j w) as (λ _. slice_index p.counts i ≡ slice_index more i) [
       | inl is ↦
           let mine_w : own (job k) (nodes k) w i ≡ true = sym (ap (λ x. own (job k) (nodes k) x i) is) ∙ mine in
-          ap (λ (q : WorkerNote). slice_index q.counts i) (sym (here p (sym (ap (slice_get (set ws w m)) is) ∙ up))) ∙
+          ap (λ (q : WorkerNote). slice_index q.counts i) (sym (set_is ws w m p within (sym (ap (slice_get (set ws w m)) is) ∙ up))) ∙
           (elim (cases_eq i x.itag.0) as (λ _. slice_index m.counts i ≡ slice_index more i) [
             | inl same ↦ (c.counts i).0 same ∙ sym more_here ∙ ap (slice_index more) (sym same)
             | inr differs ↦ (c.counts i).1 differs ∙ t.counted w n i at mine_w ∙ sym (more_there i differs)

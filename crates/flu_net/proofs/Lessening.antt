@@ -1,36 +1,32 @@
 -- Each step lowers the number of steps that are left.
-use Rattle.std.proofs.Common.{◌≡◌, ◌≢◌, ◌<◌, ◌≤◌, ◌+◌, ◌*◌, ℕ, zero, suc, true, false, Option, Some, None, List, [], ◌∷◌, length, map, set, refl, sym, ap, subst, ◌∙◌, arith}
+use Rattle.std.proofs.Common.{◌≡◌, ◌<◌, ◌≤◌, ◌+◌, ◌*◌, ℕ, true, Option, Some, None, List, [], ◌∷◌, length, map, set, refl, sym, ap, subst, ◌∙◌, arith}
 use Rattle.std.specs.Prelude.{◌-◌, is_some, not, slice_get, slice_index, option_map}
 use Rattle.std.proofs.Math.Nat.{mul-add, mul-one}
-use Rattle.std.proofs.lemmas.List.{get_or-set_same, get_or-set_other, get_or_past}
-use Rattle.std.proofs.lemmas.Bool.{cases_lt}
+use Rattle.std.proofs.lemmas.List.{get_or-set_same, get_or-set_other}
 use Rattle.std.proofs.lemmas.Option.{slice_get_within, slice_get-map}
 use Rattle.flu_lemmas.proofs.Tests.{and_left, and_right, not_true}
-use Rattle.flu_model.specs.declared.events.Event.{Event}
 use Rattle.flu_model.specs.declared.events.Itag.{Itag}
 use Rattle.flu_model.specs.Itags.{count_of_itags}
-use Rattle.flu_model.specs.Listed.{listed}
 use Rattle.flu_deps.specs.Validated.{owner_in}
 use Rattle.flu_fork.specs.declared.content.Content.{Content}
-use Rattle.flu_fork.specs.declared.lots.Lot.{Lot}
 use Rattle.flu_fork.specs.Classes.{itag, own}
 use Rattle.flu_fork.specs.Lots.{job, nodes, kids, setting_of}
 use Rattle.flu_fork.specs.Settings.{events_at}
 use Rattle.flu_worker.specs.declared.hand.Side.{Side}
-use Rattle.flu_worker.specs.Hands.{at_side, is_open, may_lend, first_hand, after_lend}
-use Rattle.flu_worker.specs.Notes.{WorkerNote, own_of}
+use Rattle.flu_worker.specs.Hands.{at_side, may_lend, first_hand, after_lend}
+use Rattle.flu_worker.specs.Notes.{WorkerNote}
 use Rattle.flu_net.specs.declared.edges.Edge.{Edge}
 use Rattle.flu_net.specs.declared.edges.Edge.TheVariants.{Home, Lent, Held, Asked, Given}
 use Rattle.flu_net.specs.declared.steps.Step.{Step}
 use Rattle.flu_net.specs.declared.steps.Step.TheVariants.{Arrive, Handle, Ask, Take, Give, Hold, Lend}
 use Rattle.flu_net.specs.Effects.{IsStepOf, Asks, Gives, Handles, Holds, Lends, Takes, Makes, arrived, seeing}
-use Rattle.flu_net.specs.Enabled.{by_step, if_there, is_held, may_arrive, may_ask, may_lend_part}
+use Rattle.flu_net.specs.Enabled.{by_step, if_there, is_held, may_arrive, may_lend_part}
 use Rattle.flu_net.specs.LawsBelow.{LawsBelow}
-use Rattle.flu_net.specs.Measure.{counted_in, events_of, items_of, on_edges, size, steps_left, steps_on, to_be_lent, uncounted, unseen}
+use Rattle.flu_net.specs.Measure.{counted_in, events_of, items_of, steps_left, steps_on, to_be_lent, uncounted, unseen}
 use Rattle.flu_net.specs.Notes.{NetNote, kid_of, edge_below}
 use Rattle.flu_net.specs.Rule.{Rule}
 use Rattle.flu_net.specs.Runs.{Runs, StepsLower}
-use Rattle.flu_net.proofs.Arriving.{fewer, in_range, in_seen}
+use Rattle.flu_net.proofs.Arriving.{fewer, in_seen}
 use Rattle.flu_net.proofs.Framing.{under}
 use Rattle.flu_net.proofs.Keeping.{known, own_at, own_to}
 use Rattle.flu_net.proofs.Measures.{counts_rise, counts_stay, edge_changes, first_lends, left_of, lend_lends, lends, lends_by, lends_is, most_nodes, one_node, shut_lends, take_lends, worker_changes}

@@ -1,5 +1,5 @@
 -- Lists in which one item is set.
-use Rattle.std.proofs.Common.{◌≡◌, ◌≢◌, ◌<◌, ◌≤◌, ◌+◌, ℕ, zero, suc, Option, Some, None, List, [], ◌∷◌, ◌++◌, length, map, take, drop, set, refl, sym, ap, ◌∙◌, arith}
+use Rattle.std.proofs.Common.{◌≡◌, ◌≢◌, ◌<◌, ◌≤◌, ◌+◌, ℕ, zero, suc, Some, List, [], ◌∷◌, ◌++◌, length, map, take, drop, set, refl, sym, ap, ◌∙◌, arith}
 use Rattle.std.specs.Prelude.{slice_get, slice_index}
 use Rattle.std.specs.List.{range_with_len}
 
@@ -23,10 +23,9 @@ set_long (y ∷ ys) (suc i) x = ap suc (set_long ys i x)
 pub same_some : {X : Type 0} (x y : X) → Some x ≡ Some y → x ≡ y
 same_some x y e = cc
 
-pub get_there : {X : Type 0} (xs : List X) (i : ℕ) → i < length xs → (x : X) × (slice_get xs i ≡ Some x)
-get_there [] i lt = absurd (omega arith)
-get_there (y ∷ ys) zero lt = (y, refl)
-get_there (y ∷ ys) (suc i) lt = get_there ys i (omega arith)
+-- what stands where one item was set is that item
+pub set_is : {X : Type 0} (xs : List X) (i : ℕ) (x y : X) → i < length xs → slice_get (set xs i x) i ≡ Some y → x ≡ y
+set_is xs i x y lt e = same_some x y (sym (set_here xs i x lt) ∙ e)
 
 -- the first items are changed, and then one more
 pub map_one_more : {X : Type 0} (f : X → X) (xs : List X) (i : ℕ) (x : X) → slice_get xs i ≡ Some x

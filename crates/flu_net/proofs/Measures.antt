@@ -1,7 +1,6 @@
 -- How the number of steps that are left changes with one worker and one edge.
-use Rattle.std.proofs.Common.{◌≡◌, ◌≢◌, ◌<◌, ◌≤◌, ◌+◌, ◌*◌, ℕ, zero, suc, Bool, true, false, Option, Some, None, List, length, set, inl, inr, refl, sym, ap, subst, ◌∙◌, arith}
+use Rattle.std.proofs.Common.{◌≡◌, ◌≢◌, ◌<◌, ◌≤◌, ◌+◌, ◌*◌, ℕ, true, false, Option, Some, None, List, length, set, inl, inr, refl, sym, ap, ◌∙◌, arith}
 use Rattle.std.specs.Prelude.{◌-◌, slice_get, slice_index, if◌then◌else◌}
-use Rattle.std.specs.List.{range_with_len}
 use Rattle.std.proofs.lemmas.Bool.{cases_eq}
 use Rattle.std.proofs.lemmas.Option.{slice_get_within}
 use Rattle.flu_model.specs.Itags.{count_of_itags}
@@ -19,7 +18,7 @@ use Rattle.flu_worker.specs.Notes.{WorkerNote}
 use Rattle.flu_net.specs.declared.edges.Edge.{Edge}
 use Rattle.flu_net.specs.LawsBelow.{LawsBelow}
 use Rattle.flu_net.specs.Measure.{size, events_of, counted_in, uncounted, rounds_below, to_lend, to_be_lent, steps_on, on_edges, unseen}
-use Rattle.flu_net.specs.Notes.{side_of, kid_of}
+use Rattle.flu_net.specs.Notes.{side_of}
 use Rattle.flu_net.proofs.Lists.{set_here, set_there}
 use Rattle.flu_net.proofs.Sizes.{TreesBelow, size_most, size_some, size_kids}
 use Rattle.flu_net.proofs.Sums.{total_change, total_same, total_set}

@@ -4,6 +4,7 @@ use Rattle.std.specs.Prelude.{◌&&◌, ◌||◌, not, is_some, slice_get, slice
 use Rattle.std.proofs.lemmas.Bool.{cases_lt, or_cases, or_left, or_right}
 use Rattle.std.proofs.lemmas.List.{get_or_past}
 use Rattle.std.proofs.lemmas.Option.{slice_get_within}
+use Rattle.flu_lemmas.proofs.Places.{slice_get-there}
 use Rattle.flu_lemmas.proofs.Tests.{both, lt_true, not_both}
 use Rattle.flu_model.specs.declared.events.Event.{Event}
 use Rattle.flu_model.specs.declared.events.Item.{Item}
@@ -32,7 +33,6 @@ use Rattle.flu_net.specs.Enabled.{aims, by_step, gives_for, if_there, is_given, 
 use Rattle.flu_net.specs.LawsBelow.{LawsBelow}
 use Rattle.flu_net.specs.Notes.{NetNote, asked_of, edge_at, side_of}
 use Rattle.flu_net.specs.Rule.{Rule}
-use Rattle.flu_net.proofs.Lists.{get_there}
 
 -- a worker at a node of the case
 abbrev pub placed_at : Content → ℕ → WorkerNote → WorkerNote
@@ -70,11 +70,11 @@ module _ (laws : LawsBelow) (n : NetNote) (rule : Rule n) where
   pub worker_at : (w : ℕ) → w < length (nodes n.case) → (u : WorkerNote) × (slice_get n.workers w ≡ Some (placed_at n.case w u))
   worker_at w lt =
       let long = rule.ties.workers_each in
-      let found = get_there n.workers w (omega arith) in
+      let found = slice_get-there n.workers w (omega arith) in
       (found.0, found.1 ∙ ap Some (as_placed w found.0 found.1))
 
   pub edge_there : (w : ℕ) → w < length (nodes n.case) → (e : Edge) × (slice_get n.edges w ≡ Some e)
-  edge_there w lt = let long = rule.ties.edges_each in get_there n.edges w (omega arith)
+  edge_there w lt = let long = rule.ties.edges_each in slice_get-there n.edges w (omega arith)
 
   pub in_tree : (w : ℕ) (v : WorkerNote) → slice_get n.workers w ≡ Some v → w < length (nodes n.case)
   in_tree w v at = let lt = slice_get_within n.workers w v at in let long = rule.ties.workers_each in omega arith

@@ -1,7 +1,8 @@
 -- What a step that is enabled may rely on.
-use Rattle.std.proofs.Common.{◌≡◌, ◌≢◌, ◌⊎◌, ◌<◌, ◌≤◌, ℕ, zero, suc, Bool, Option, Some, None, List, length, get_or, true, false, inl, inr, refl, sym, ap, subst, ◌∙◌, arith}
+use Rattle.std.proofs.Common.{◌≡◌, ◌<◌, ℕ, Bool, Option, Some, None, List, length, get_or, true, false, refl, sym, ap, subst, ◌∙◌, arith}
 use Rattle.std.specs.Prelude.{slice_get, slice_index, is_some, IfSome, IsSome}
 use Rattle.std.proofs.lemmas.Option.{slice_get_read, slice_get_within}
+use Rattle.flu_lemmas.proofs.Places.{slice_get-there}
 use Rattle.flu_lemmas.proofs.Tests.{not_both}
 use Rattle.flu_model.specs.declared.plans.Node.{Node}
 use Rattle.flu_deps.specs.Owned.{kids_of}
@@ -11,20 +12,19 @@ use Rattle.flu_fork.specs.declared.lots.Lot.{Lot}
 use Rattle.flu_fork.specs.Lots.{nodes, kids, LotFits}
 use Rattle.flu_fork.specs.Serving.{AsksAbove, GrownFrom, Served}
 use Rattle.flu_worker.specs.declared.hand.Side.{Side}
-use Rattle.flu_worker.specs.declared.hand.Side.TheVariants.{Left, Right}
 use Rattle.flu_worker.specs.Choosing.{may_give}
-use Rattle.flu_worker.specs.Hands.{at_side, is_open, is_out, may_lend, may_take}
+use Rattle.flu_worker.specs.Hands.{at_side, is_open, may_lend, may_take}
 use Rattle.flu_worker.specs.Notes.{WorkerNote, lent_to}
 use Rattle.flu_net.specs.declared.edges.Edge.{Edge}
 use Rattle.flu_net.specs.declared.edges.Edge.TheVariants.{Home, Lent, Held, Asked, Given}
-use Rattle.flu_net.specs.Enabled.{gives_for, if_there, is_held, is_given, is_lent, may_give_up}
+use Rattle.flu_net.specs.Enabled.{gives_for, if_there, is_held, may_give_up}
 use Rattle.flu_net.specs.LawsBelow.{LawsBelow}
 use Rattle.flu_net.specs.Notes.{NetNote, side_of, kid_of, edge_at, asked_of, asked_over}
 use Rattle.flu_net.specs.Rule.{Hangs, Lets, Rule}
 use Rattle.flu_net.proofs.Framing.{under}
 use Rattle.flu_net.proofs.Hands.{lend_home}
-use Rattle.flu_net.proofs.Lists.{get_there, same_some}
-use Rattle.flu_net.proofs.Stepping.{hangs_now, below_top}
+use Rattle.flu_net.proofs.Lists.{same_some}
+use Rattle.flu_net.proofs.Stepping.{hangs_now}
 use Rattle.flu_net.proofs.Touching.{home_edge}
 
 -- ---- what is on an edge
@@ -121,7 +121,7 @@ module _ (laws : LawsBelow) (old : NetNote) (rule : Rule old) (w : ℕ) (n : Wor
         omega arith
 
     child : (c : WorkerNote) × (slice_get old.workers v ≡ Some c)
-    child = get_there old.workers v (let a = kid_there in let b = rule.ties.edges_each in let d = rule.ties.workers_each in omega arith)
+    child = slice_get-there old.workers v (let a = kid_there in let b = rule.ties.edges_each in let d = rule.ties.workers_each in omega arith)
 
     over : (e : Edge) → slice_get old.edges v ≡ Some e → Lets s n e child.0
     over e is =
@@ -136,7 +136,7 @@ module _ (laws : LawsBelow) (old : NetNote) (rule : Rule old) (w : ℕ) (n : Wor
     -- a part to lend has its edge at home
     pub lend_was : may_lend s n.hand ≡ true → slice_get old.edges v ≡ Some Home
     lend_was may =
-        let e = get_there old.edges v kid_there in
+        let e = slice_get-there old.edges v kid_there in
         e.1 ∙ ap Some (home_edge s n e.0 child.0 (lend_home s n.hand may) (over e.0 e.1))
 
     -- take

@@ -1,5 +1,5 @@
 -- An arrival is shown to one worker after another.
-use Rattle.std.proofs.Common.{◌≡◌, ◌++◌, ◌+◌, ◌<◌, suc, Some, List, ℕ, length, map, take, drop, set, get_or, refl, sym, ap, subst, ◌∙◌, arith}
+use Rattle.std.proofs.Common.{◌≡◌, ◌++◌, ◌+◌, ◌<◌, suc, Some, List, ℕ, length, map, take, drop, set, get_or, sym, ap, ◌∙◌, arith}
 use Rattle.std.specs.Prelude.{slice_get}
 use Rattle.std.proofs.lemmas.Option.{slice_get-get_or}
 use Rattle.flu_net.proofs.Lists.{map_one_more, mapped_here, mapped_long}

@@ -1,17 +1,15 @@
 -- The net at the start keeps the rule.
-use Rattle.std.proofs.Common.{◌≡◌, ◌⊎◌, ◌<◌, ◌≤◌, ◌+◌, ℕ, zero, suc, Option, Some, None, List, [], ◌∷◌, ◌++◌, length, map, false, true, inl, inr, refl, sym, ap, subst, ◌∙◌, arith}
-use Rattle.std.specs.Prelude.{slice_get, slice_index, slice_index_or}
+use Rattle.std.proofs.Common.{◌≡◌, ◌<◌, ◌+◌, ℕ, zero, suc, Some, List, [], ◌∷◌, ◌++◌, false, inl, inr, refl, sym, ap, subst, ◌∙◌, arith}
+use Rattle.std.specs.Prelude.{slice_get, slice_index}
 use Rattle.std.specs.List.{range_with_len}
 use Rattle.std.proofs.lemmas.List.{length-append}
 use Rattle.std.proofs.lemmas.List.FromFn.{length-map-range_with_len}
-use Rattle.flu_lemmas.proofs.Places.{slice_get_push}
+use Rattle.flu_lemmas.proofs.Places.{slice_get-there, slice_get_push}
 use Rattle.flu_model.specs.Itags.{count_of_itags}
-use Rattle.flu_model.specs.Listed.{listed}
 use Rattle.flu_fork.specs.declared.content.Content.{Content}
-use Rattle.flu_fork.specs.Classes.{own, below}
+use Rattle.flu_fork.specs.Classes.{below}
 use Rattle.flu_fork.specs.Laws.{no_counts}
 use Rattle.flu_fork.specs.Lots.{job, nodes, kids, setting_of}
-use Rattle.flu_worker.specs.declared.hand.Hand.TheVariants.{Empty}
 use Rattle.flu_worker.specs.declared.hand.Side.{Side}
 use Rattle.flu_worker.specs.declared.hand.Side.TheVariants.{Left, Right}
 use Rattle.flu_worker.specs.Calls.{IsNew, start_hand}
@@ -25,7 +23,7 @@ use Rattle.flu_fork.specs.Texts.{HasTexts}
 use Rattle.flu_net.specs.Rule.{Hangs, Lets, IsSeen, Rule}
 use Rattle.flu_net.specs.Starting.{AreNew, AreHome, IsStart}
 use Rattle.flu_net.proofs.Hands.{first_home, first_open}
-use Rattle.flu_net.proofs.Lists.{get_there, same_some, zeros_at}
+use Rattle.flu_net.proofs.Lists.{zeros_at}
 use Rattle.flu_net.proofs.Standing.{first_sound, never}
 
 -- ---- one more
@@ -97,7 +95,7 @@ start_rule laws k n start = subst (λ (j : Content). Rule (record n { case = j }
         placed = λ w m e. (let is = start.workers.new w m e in record { case = is.case; node = is.node; sees = is.seen ∙ sym start.seen });
         top = (let root = (laws.parents (nodes k) (laws.settings k).one_tree).root in
             let one = start.edges.each in
-            let found = get_there n.edges 0 (omega arith) in found.1 ∙ ap Some (start.edges.home 0 found.0 found.1));
+            let found = slice_get-there n.edges 0 (omega arith) in found.1 ∙ ap Some (start.edges.home 0 found.0 found.1));
         root = λ m e. (start.workers.new 0 m e).held;
         hangs = λ w m e some a b. subst (Hangs m) (sym (start.edges.home w e b)) (ap is_open (start.workers.new w m a).hand ∙ start_shut k w some);
         lets = λ s w l r m c e are a b d. subst (λ (x : Edge). Lets s m x c) (sym (start.edges.home (at_side s l r) e b)) (record {

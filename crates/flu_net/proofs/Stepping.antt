@@ -1,29 +1,26 @@
 -- Each step keeps the ties between the workers and the edges.
-use Rattle.std.proofs.Common.{◌≡◌, ◌≢◌, ◌⊎◌, ◌<◌, ℕ, zero, suc, Option, Some, None, List, length, set, true, false, inl, inr, refl, sym, ap, subst, ◌∙◌, arith}
+use Rattle.std.proofs.Common.{◌≡◌, ◌≢◌, ◌⊎◌, ◌<◌, ℕ, Some, List, length, set, true, false, inl, inr, refl, sym, ap, subst, ◌∙◌, arith}
 use Rattle.std.specs.Prelude.{slice_get, slice_index}
 use Rattle.std.proofs.lemmas.Bool.{cases_eq}
 use Rattle.std.proofs.lemmas.Option.{slice_get_within}
-use Rattle.flu_lemmas.proofs.Tests.{not_both}
-use Rattle.flu_deps.specs.Trees.{IsUnder}
 use Rattle.flu_fork.specs.declared.content.Content.{Content}
 use Rattle.flu_fork.specs.declared.lots.Ask.{Ask}
 use Rattle.flu_fork.specs.declared.lots.Lot.{Lot}
-use Rattle.flu_fork.specs.Lots.{nodes, kids, LotFits}
+use Rattle.flu_fork.specs.Lots.{kids, LotFits}
 use Rattle.flu_fork.specs.Serving.{LotCounts, AsksAbove, GrownFrom, Served}
-use Rattle.flu_worker.specs.declared.hand.Hand.TheVariants.{Empty, Whole}
 use Rattle.flu_worker.specs.declared.hand.Side.{Side}
 use Rattle.flu_worker.specs.Calls.{IsSamePlace, IsSameBelow, HandlesEvent, HoldsLot, GivesLot, LendsPart, IsFitPart, TakesPart, KeepsTarget, IsAskable}
 use Rattle.flu_worker.specs.Hands.{at_side, is_open, is_out, may_lend, may_take}
-use Rattle.flu_worker.specs.Notes.{WorkerNote, lent_to, taken_from}
+use Rattle.flu_worker.specs.Notes.{WorkerNote, lent_to}
 use Rattle.flu_net.specs.declared.edges.Edge.{Edge}
 use Rattle.flu_net.specs.declared.edges.Edge.TheVariants.{Home, Lent, Held, Asked, Given}
 use Rattle.flu_net.specs.LawsBelow.{LawsBelow}
 use Rattle.flu_net.specs.Rule.{Hangs, Lets, Ties}
-use Rattle.flu_net.specs.Stays.{IsKid, StaysAt, other}
-use Rattle.flu_net.proofs.Framing.{Changes, frame, under, kids_differ}
-use Rattle.flu_net.proofs.Hands.{first_home, first_open, shut_home, sides, lend_open, lend_home, lend_out, take_open, take_out, take_home}
-use Rattle.flu_net.proofs.Lists.{get_there, set_here, set_there, set_long, same_some}
-use Rattle.flu_net.proofs.Touching.{lent_here, lets_home, lets_stays, stays_ask, stays_lend, stays_take, taken_here, taken_same, lent_same, hangs_under, lets_under, at_place, home_edge}
+use Rattle.flu_net.specs.Stays.{StaysAt, other}
+use Rattle.flu_net.proofs.Framing.{frame, under, kids_differ}
+use Rattle.flu_net.proofs.Hands.{first_home, first_open, shut_home, sides, lend_open, lend_out, take_open, take_home}
+use Rattle.flu_net.proofs.Lists.{set_here, set_there, set_long, same_some}
+use Rattle.flu_net.proofs.Touching.{lent_here, lets_home, lets_stays, stays_ask, stays_lend, stays_take, taken_here, taken_same, hangs_under, lets_under, at_place}
 
 lent_away : (lot : Lot) → Lent lot ≡ Home → ⊥
 lent_away lot e = cc

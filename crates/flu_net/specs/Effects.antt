@@ -1,5 +1,5 @@
 -- What the steps do.
-use Rattle.std.specs.Prelude.{◌≡◌, ℕ, ◌+◌, false, Option, Some, None, List, map, slice_get, slice_index, slice_set}
+use Rattle.std.specs.Prelude.{◌≡◌, ℕ, ◌+◌, false, Some, map, slice_get, slice_index, slice_set}
 use Rattle.flu_model.specs.declared.events.Itag.{Itag}
 use Rattle.flu_fork.specs.declared.lots.Ask.{Ask as AskNote}
 use Rattle.flu_fork.specs.declared.lots.Lot.{Lot}
@@ -7,7 +7,6 @@ use Rattle.flu_worker.specs.declared.hand.Side.{Side}
 use Rattle.flu_worker.specs.Calls.{HoldsLot, GivesLot, HandlesEvent, CountsEvent, LendsPart, TakesPart, KeepsTarget}
 use Rattle.flu_worker.specs.Choosing.{next_of, target_of}
 use Rattle.flu_worker.specs.Notes.{WorkerNote}
-use Rattle.flu_net.specs.declared.edges.Edge.{Edge}
 use Rattle.flu_net.specs.declared.edges.Edge.TheVariants.{Home, Lent, Held, Asked, Given}
 use Rattle.flu_net.specs.declared.steps.Step.{Step}
 use Rattle.flu_net.specs.declared.steps.Step.TheVariants.{Arrive, Handle, Ask, Take, Give, Hold, Lend}

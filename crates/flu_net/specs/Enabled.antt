@@ -1,5 +1,5 @@
 -- Which steps are enabled.
-use Rattle.std.specs.Prelude.{ℕ, Bool, true, false, not, ◌&&◌, Option, Some, None, List, [], length, nat_lt, is_some, slice_get, slice_index, slice_index_or}
+use Rattle.std.specs.Prelude.{ℕ, Bool, true, false, not, ◌&&◌, Option, Some, None, [], length, nat_lt, is_some, slice_get, slice_index, slice_index_or}
 use Rattle.flu_model.specs.declared.events.Itag.{Itag}
 use Rattle.flu_model.specs.Listed.{listed}
 use Rattle.flu_worker.specs.declared.hand.Side.{Side}

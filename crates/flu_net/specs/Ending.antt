@@ -14,7 +14,6 @@ use Rattle.flu_worker.specs.Keeping.{HasRule}
 use Rattle.flu_worker.specs.Notes.{WorkerNote, lent_to}
 use Rattle.flu_net.specs.declared.edges.Edge.{Edge}
 use Rattle.flu_net.specs.declared.edges.Edge.TheVariants.{Given}
-use Rattle.flu_net.specs.Rule.{IsPlaced}
 
 -- ---- is_final
 

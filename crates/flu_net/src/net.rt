@@ -148,6 +148,8 @@ impl Net {
         ensures same { is_enabled self.old s ≡ false → self.new ≡ self.old }
         ensures made { OnOk result (Makes s self.old self.new) }
         ensures left { OnOk result (steps_left self.new < steps_left self.old) }
+        ensures case { OnOk result (self.new.case ≡ self.old.case) }
+        ensures stays { OnOk result (self.new.gone ≡ false) }
         ensures gone { IsErrOf result StepFault.NoMemory → self.new.gone ≡ true }
     {
         steps_are_bounded();

@@ -1,4 +1,3 @@
-use Rattle.flu_lemmas.proofs.Tests.{not_both}
 use Rattle.flu_net.proofs.Bringing.{are_paired, joined_all, ok_from}
 use Rattle.flu_net.proofs.joining.inner_lot.Goals as goal
 

@@ -1,12 +1,7 @@
-use Rattle.std.proofs.Common.{◌≡◌, ◌-◌, ◌+◌, ℕ, List, length, set, take, sym, ap, subst, ◌∙◌, arith}
+use Rattle.std.proofs.Common.{◌≡◌, ◌-◌, ℕ, length, take, sym, ap, subst, ◌∙◌, arith}
 use Rattle.flu_deps.specs.declared.valid.Valid.{Valid}
 use Rattle.flu_deps.specs.Validated.{plan_of}
-use Rattle.flu_fork.specs.declared.lots.Lot.{Lot}
 use Rattle.flu_fork.specs.Completing.{BringsAll}
-use Rattle.flu_fork.specs.Lots.{nodes}
-use Rattle.flu_fork.specs.Serving.{LotCounts}
-use Rattle.flu_worker.specs.Notes.{WorkerNote}
-use Rattle.flu_net.specs.declared.edges.Edge.{Edge}
 use Rattle.flu_net.specs.Ending.{AreBrought}
 use Rattle.flu_net.proofs.Bringing.{brought_first, brought_more, parts_there, popped, ok_as}
 use Rattle.flu_net.proofs.joining.whole_lot.Goals as goal

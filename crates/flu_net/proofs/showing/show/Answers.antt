@@ -1,4 +1,4 @@
-use Rattle.std.proofs.Common.{◌≡◌, Some, sym, ap, ◌∙◌}
+use Rattle.std.proofs.Common.{Some, sym, ap, ◌∙◌}
 use Rattle.flu_net.specs.Effects.{seeing}
 use Rattle.flu_net.specs.Showing.{MaySee}
 use Rattle.flu_net.proofs.Shown.{less, shown_at, shown_more}

@@ -1,4 +1,3 @@
-use Rattle.std.proofs.Common.{◌≡◌, ℕ, ◌++◌, [], ◌∷◌, map, sym, ap, ◌∙◌}
 use Rattle.flu_net.proofs.Lists.{one_zero_more}
 use Rattle.flu_net.proofs.starting.no_counts.Goals as goal
 

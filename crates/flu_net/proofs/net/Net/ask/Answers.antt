@@ -9,7 +9,7 @@ use Rattle.flu_worker.specs.Hands.{may_take}
 use Rattle.flu_worker.specs.Notes.{WorkerNote}
 use Rattle.flu_net.specs.declared.edges.Edge.{Edge}
 use Rattle.flu_net.specs.Effects.{Asks}
-use Rattle.flu_net.specs.Enabled.{aims, may_ask}
+use Rattle.flu_net.specs.Enabled.{may_ask}
 use Rattle.flu_net.specs.Notes.{NetNote, asked_of, asked_over, kid_of}
 use Rattle.flu_net.specs.Rule.{Rule}
 use Rattle.flu_net.proofs.Keeping.{rule_asks}

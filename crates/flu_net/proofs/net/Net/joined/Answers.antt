@@ -1,6 +1,5 @@
-use Rattle.std.proofs.Common.{◌≡◌, List, sym, ap, subst, ◌∙◌}
+use Rattle.std.proofs.Common.{◌≡◌, sym, ap, subst}
 use Rattle.std.specs.List.Sorted.{IsPermutation}
-use Rattle.flu_model.specs.declared.events.Out.{Out}
 use Rattle.flu_model.specs.Folding.{final_state, final_outputs}
 use Rattle.flu_model.specs.Listed.{listed}
 use Rattle.flu_model.specs.Sorts.{IsStateOf}
@@ -8,7 +7,6 @@ use Rattle.flu_cells.specs.Holding.{held}
 use Rattle.flu_fork.specs.declared.content.Content.{Content}
 use Rattle.flu_fork.specs.Lots.{job}
 use Rattle.flu_fork.specs.Serving.{none_counted}
-use Rattle.flu_worker.specs.Notes.{WorkerNote}
 use Rattle.flu_net.specs.Ending.{AreAtEnd}
 use Rattle.flu_net.specs.Notes.{NetNote}
 use Rattle.flu_net.specs.Rule.{IsWell, Rule}

@@ -1,8 +1,7 @@
-use Rattle.std.proofs.Common.{◌≡◌, [], refl, ap, ◌∙◌, map}
+use Rattle.std.proofs.Common.{refl, ap, ◌∙◌, map}
 use Rattle.std.specs.List.{range_with_len}
 use Rattle.flu_model.specs.Itags.{count_of_itags}
 use Rattle.flu_deps.specs.Checking.{program_of}
-use Rattle.flu_net.specs.Starting.{IsStart}
 use Rattle.flu_net.proofs.Starts.{start_rule}
 use Rattle.flu_net.proofs.net.Net.new.Goals as goal
 

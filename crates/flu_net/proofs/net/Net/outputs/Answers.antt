@@ -1,5 +1,4 @@
-use Rattle.std.proofs.Common.{◌≡◌, subst}
-use Rattle.flu_net.specs.Notes.{NetNote}
+use Rattle.std.proofs.Common.{subst}
 use Rattle.flu_net.specs.Rule.{IsWell}
 use Rattle.flu_net.proofs.net.Net.outputs.Goals as goal
 
