@@ -1,7 +1,10 @@
 -- What the case of the tests gives, by the laws of lots.
-use Rattle.std.proofs.Common.{◌≡◌, ◌≢◌, ℕ, zero, suc, ◌<◌, ◌≤◌, Bool, true, false, ◌||◌, ◌==◌, pos, List, [], ◌∷◌, map, length, sym, refl, ap, ◌∙◌, subst, ne_eqb, arith, Some, None}
-use Rattle.std.specs.Prelude.{slice_get, slice_index, slice_index_or}
+use Rattle.std.proofs.Common.{◌≡◌, ◌≢◌, ℕ, zero, suc, ◌+◌, ◌^◌, ◌<◌, ◌≤◌, Bool, true, false, cond, ◌||◌, ◌==◌, ℤ, pos, inl, inr, List, [], ◌∷◌, map, length, sym, refl, ap, ◌∙◌, subst, ne_eqb, arith, Some, None}
+use Rattle.std.specs.Prelude.{◌↔◌, slice_get, slice_index, slice_index_or, slice_set}
 use Rattle.std.specs.List.{range_with_len}
+use Rattle.std.proofs.lemmas.Bool.{cases_eq}
+use Rattle.std.proofs.lemmas.List.{get_or-set_same, get_or-set_other, length-set}
+use Rattle.flu_lemmas.proofs.Searches.{eq_true}
 use Rattle.flu_model.specs.declared.events.Event.{Event}
 use Rattle.flu_model.specs.declared.events.Item.{Item}
 use Rattle.flu_model.specs.Contents.{Contents}
@@ -10,34 +13,49 @@ use Rattle.flu_model.specs.Merging.{is_before, events_of}
 use Rattle.flu_model.specs.Owners.{owner_of}
 use Rattle.flu_model.specs.Updates.{effect_of}
 use Rattle.flu_cells.specs.Holding.{held}
+use Rattle.flu_deps.specs.Dependencies.{itags_depend}
 use Rattle.flu_laws.specs.Lots.{CountsOneMore}
 use Rattle.flu_fork.specs.declared.content.Content.{Content}
 use Rattle.flu_fork.specs.declared.lots.Lot.{Lot}
-use Rattle.flu_fork.specs.Classes.{own, below}
+use Rattle.flu_fork.specs.Classes.{itag, own, below}
 use Rattle.flu_fork.specs.Fitting.{Fits}
-use Rattle.flu_fork.specs.Kin.{own_at, above_at, ItagsAreOfNodes, ItagsAreOfKids}
+use Rattle.flu_fork.specs.Kin.{own_at, above_at, IsOfKids, ItagsAreOfNodes, ItagsAreOfKids}
 use Rattle.flu_fork.specs.Laws.{no_counts, CentralLaw}
-use Rattle.flu_fork.specs.Lots.{job, nodes, setting_of, LotFits}
+use Rattle.flu_fork.specs.Lots.{job, nodes, kids, setting_of, LotFits, LotsPaired, HasJoinedCounts}
+use Rattle.flu_fork.specs.Parts.{joined_counts, ArePaired}
 use Rattle.flu_fork.specs.Places.{HasMoment, EventsHaveMoments}
 use Rattle.flu_fork.specs.Serving.{AsksAbove, IsOnLoan, LeavesServe, ContentsAreSettings}
-use Rattle.flu_fork.specs.Settings.{IsSetting, events_at}
+use Rattle.flu_fork.specs.Settings.{events_at}
 use Rattle.flu_fork.specs.Streams.{IsEventAt, IsStreamExact, IsClearOf, ExactnessAgrees}
 use Rattle.flu_thread_tests.specs.Rows.{event, row, HasShape, IsRow, first_read, no_events, IsUnused, IsServed}
+use Rattle.flu_thread_tests.specs.Walks.{HasRow, ComesNext, FitsOwner}
 
-abbrev none : List ℕ
+abbrev pub none : List ℕ
 none = 0 ∷ 0 ∷ 0 ∷ []
 
-abbrev one : List ℕ
+abbrev pub one : List ℕ
 one = 1 ∷ 0 ∷ 0 ∷ []
 
-abbrev first : Event
+abbrev pub first : Event
 first = event 1 0 (pos 5)
 
-abbrev read : Event
+abbrev pub second : Event
+second = event 2 1 (pos 7)
+
+abbrev pub read : Event
 read = event 3 2 (pos 0)
+
+abbrev pub fourth : Event
+fourth = event 4 0 (pos 2)
+
+abbrev pub last : Event
+last = event 5 2 (pos 0)
 
 abbrev row_events : ℕ → List Event
 row_events i = events_of (slice_index_or row i [])
+
+one_owner : (v w : ℕ) → Some v ≡ Some w → v ≡ w
+one_owner v w same = cc
 
 none_there : (y : Event) → None ≡ Some y → ⊥
 none_there y is = cc
@@ -88,44 +106,187 @@ asks k r settings of_nodes of_kids =
       there = subst (λ (es : List Event). 0 < length es) (sym (events k r 2)) (omega arith);
     }
 
--- ---- the first event
+-- ---- an event that comes next
 
-exact : (k : Content) → IsRow k → IsStreamExact (setting_of k) 0 0 first none
-exact k r = record {
-  next = refl;
-  others = λ j l y at dep. (
-    (λ less. absurd (let z = nothing j in omega arith)),
-    λ earlier. absurd (let later : is_before y first ≡ false = each (λ j l y. is_before y first ≡ false) refl refl refl refl refl j l y
-        (known k r j l y at) in cc),
-  );
+-- one more is counted
+one_more : (us : List ℕ) (i : ℕ) → i < length us → CountsOneMore i us (slice_set us i (slice_index us i + 1))
+one_more us i lt j =
+    elim (cases_eq j i) [
+      | inl same ↦
+          ap (slice_index (slice_set us i (slice_index us i + 1))) same ∙ get_or-set_same us i _ 0 lt
+          ∙ (let there : (j == i) ≡ true = eq_true j i same in rw there (ap (λ (n : ℕ). slice_index us n + 1) (sym same)))
+      | inr other ↦ get_or-set_other us i j _ 0 other ∙ (let there : (j == i) ≡ false = ne_eqb j i other in rw there refl)
+    ]
+
+module _ (k : Content) (old : Lot) (x : Event) (next : ComesNext k old x) (h : HasMoment (setting_of k) x.itag.0 (slice_index old.upto x.itag.0) x) where
+  abbrev counted : List ℕ
+  counted = slice_set old.upto x.itag.0 (slice_index old.upto x.itag.0 + 1)
+
+  well : ContentsAreSettings → ExactnessAgrees → CentralLaw → (w : ℕ) → owner_of (job k) (nodes k) x.itag ≡ Some w → LotFits k w old
+      → Fits (setting_of k) w (effect_of (job k) (held old.state) x).cells old.since counted
+  well settings agrees central w owner fits =
+      let lt : x.itag.0 < length old.upto = (let each = next.each in let known = next.known in omega arith) in
+      let at : (x, slice_index old.upto x.itag.0) ≡ ((h.moment).event, (h.moment).index) = λ j. (sym h.event j, sym h.index j) in
+      let good = (agrees (setting_of k) h.front h.back h.moment old.upto (settings k) h.stands).1
+      (subst (λ (z : Event × ℕ). IsStreamExact (setting_of k) z.0.itag.0 z.1 z.0 old.upto) at next.exact) in
+      let owned = subst (λ (e : Event). owner_of (job k) (nodes k) e.itag ≡ Some w) (sym h.event) owner in
+      let more = subst (λ (e : Event). CountsOneMore e.itag.0 old.upto counted) (sym h.event) (one_more old.upto x.itag.0 lt) in
+      let told = central (setting_of k) w h.front h.back h.moment (held old.state) old.since old.upto counted (settings k) owned h.stands good
+      (length-set old.upto x.itag.0 _ ∙ next.each) more fits in
+      subst (λ (e : Event). Fits (setting_of k) w (effect_of (job k) (held old.state) e).cells old.since counted) h.event told.fits
+
+pub takes_fit : (k : Content) (old new : Lot) (x : Event) → ContentsAreSettings → EventsHaveMoments → ExactnessAgrees → CentralLaw → ComesNext k old x
+    → FitsOwner k x old → held new.state ≡ (effect_of (job k) (held old.state) x).cells → new.since ≡ old.since
+    → new.upto ≡ slice_set old.upto x.itag.0 (slice_index old.upto x.itag.0 + 1) → FitsOwner k x new
+takes_fit k old new x settings moments agrees central next fits cells since upto w owner =
+    let h = moments (setting_of k) x.itag.0 (slice_index old.upto x.itag.0) x (settings k) next.there in
+    subst (λ (z : Contents × List ℕ × List ℕ). Fits (setting_of k) w z.0 z.1 z.2) (λ j. (sym cells j, sym since j, sym upto j))
+    (well k old x next h settings agrees central w owner (fits w owner))
+
+-- ---- the events of the walk
+
+-- what exactness for an event asks of each event
+abbrev AsksOf : Content → ℕ → Event → List ℕ → ℕ → ℕ → Event → Type 0
+AsksOf k i x upto j l y = itags_depend (job k) (itag i) (itag j) ≡ true → (l < slice_index upto j) ↔ (is_before y x ≡ true)
+
+module _ (k : Content) (i : ℕ) (x : Event) (upto : List ℕ) (j l : ℕ) (y : Event) where
+  before : l < slice_index upto j → is_before y x ≡ true → AsksOf k i x upto j l y
+  before lt earlier dep = ((λ less. earlier), (λ told. lt))
+
+  behind : slice_index upto j ≤ l → is_before y x ≡ false → AsksOf k i x upto j l y
+  behind le later dep = ((λ less. absurd (omega arith)), (λ earlier. absurd cc))
+
+comes : (k : Content) → IsRow k → (t i : ℕ) (v : ℤ) (upto : List ℕ) (lot : Lot) → lot.upto ≡ upto → length upto ≡ 3 → i < 3
+    → slice_get (row_events i) (slice_index upto i) ≡ Some (event t i v) → slice_index upto i + 1 < 2 ^ 64
+    → ((j l : ℕ) (y : Event) → slice_get (row_events j) l ≡ Some y → AsksOf k i (event t i v) upto j l y) → ComesNext k lot (event t i v)
+comes k r t i v upto lot are long small at room exact = record {
+  each = ap (λ (us : List ℕ). length us) are ∙ long ∙ sym r.shape.itags;
+  known = subst (λ (n : ℕ). i < n) (sym r.shape.itags) small;
+  there = subst (λ (us : List ℕ). IsEventAt (setting_of k) i (slice_index us i) (event t i v)) (sym are) (there k r i (slice_index upto i) (event t i v) at);
+  exact = subst (λ (us : List ℕ). IsStreamExact (setting_of k) i (slice_index us i) (event t i v) us) (sym are)
+      (record { next = refl; others = λ j l y is. exact j l y (known k r j l y is) });
+  room = subst (λ (us : List ℕ). slice_index us i + 1 < 2 ^ 64) (sym are) room;
 }
 
-one_more : CountsOneMore 0 none one
-one_more zero = refl
-one_more (suc zero) = refl
-one_more (suc (suc zero)) = refl
-one_more (suc (suc (suc j))) = let other : (suc (suc (suc j)) == 0) ≡ false = ne_eqb (suc (suc (suc j))) 0 (λ z. omega arith) in rw other refl
+-- the itags of the two leaves are independent
+apart : (k : Content) → IsRow k → ContentsAreSettings → ItagsAreOfNodes → itags_depend (job k) (itag 1) (itag 0) ≡ false
+apart k r settings of_nodes =
+    let shape = r.shape in
+    let one : 1 < count_of_itags (job k) = (let c = shape.itags in omega arith) in
+    let zero : 0 < count_of_itags (job k) = (let c = shape.itags in omega arith) in
+    let right = ((of_nodes (setting_of k) 2 1 (settings k) one).owner).1 shape.right in
+    let left = ((of_nodes (setting_of k) 1 0 (settings k) zero).owner).1 shape.left in
+    ((settings k).valid).independent 2 1 (itag 1) (itag 0) one zero right left shape.apart
 
-fits_again : (k : Content) → IsRow k → IsSetting (setting_of k) → ExactnessAgrees → CentralLaw → HasMoment (setting_of k) 0 0 first → (lot : Lot)
-    → IsUnused k lot
-    → Fits (setting_of k) 1 (effect_of (job k) (held lot.state) first).cells none one
-fits_again k r is agrees central h lot u =
-    let at : (first, 0) ≡ ((h.moment).event, (h.moment).index) = λ j. (sym h.event j, sym h.index j) in
-    let good = (agrees (setting_of k) h.front h.back h.moment none is h.stands).1
-    (subst (λ (z : Event × ℕ). IsStreamExact (setting_of k) z.0.itag.0 z.1 z.0 none) at (exact k r)) in
-    let owner = subst (λ (x : Event). owner_of (job k) (nodes k) x.itag ≡ Some 1) (sym h.event) r.shape.left in
-    let more = subst (λ (x : Event). CountsOneMore x.itag.0 none one) (sym h.event) one_more in
-    let fits : Fits (setting_of k) 1 (held lot.state) none none = subst (λ (z : List ℕ × List ℕ). Fits (setting_of k) 1 (held lot.state) z.0 z.1)
-    (λ j. (u.since j, u.upto j)) u.fits in
-    let told = central (setting_of k) 1 h.front h.back h.moment (held lot.state) none none one is owner h.stands good (sym r.shape.itags) more fits in
-    subst (λ (x : Event). Fits (setting_of k) 1 (effect_of (job k) (held lot.state) x).cells none one) h.event told.fits
+pub first_comes : (k : Content) → IsRow k → (lot : Lot) → lot.upto ≡ none → ComesNext k lot first
+first_comes k r lot are =
+    comes k r 1 0 (pos 5) none lot are refl (omega arith) refl (omega arith)
+    (let x = first in
+    each (AsksOf k 0 x none) (behind k 0 x none 0 0 first (omega arith) refl) (behind k 0 x none 0 1 fourth (omega arith) refl)
+    (behind k 0 x none 1 0 second (omega arith) refl) (behind k 0 x none 2 0 read (omega arith) refl) (behind k 0 x none 2 1 last (omega arith) refl))
 
-pub updated : (k : Content) → IsRow k → ContentsAreSettings → EventsHaveMoments → ExactnessAgrees → CentralLaw → (old new : Lot) → IsUnused k old
-    → held new.state ≡ (effect_of (job k) (held old.state) first).cells → new.since ≡ none → new.upto ≡ one → LotFits k 1 new
-updated k r settings moments agrees central old new u cells since upto =
-    let h = moments (setting_of k) 0 0 first (settings k) (there k r 0 0 first refl) in
-    subst (λ (z : Contents × List ℕ × List ℕ). Fits (setting_of k) 1 z.0 z.1 z.2) (λ j. (sym cells j, sym since j, sym upto j))
-    (fits_again k r (settings k) agrees central h old u)
+pub second_comes : (k : Content) → IsRow k → ContentsAreSettings → ItagsAreOfNodes → (lot : Lot) → lot.upto ≡ none → ComesNext k lot second
+second_comes k r settings of_nodes lot are =
+    comes k r 2 1 (pos 7) none lot are refl (omega arith) refl (omega arith)
+    (let x = second in
+    each (AsksOf k 1 x none) (λ dep. absurd (let no = apart k r settings of_nodes in cc)) (behind k 1 x none 0 1 fourth (omega arith) refl)
+    (behind k 1 x none 1 0 second (omega arith) refl) (behind k 1 x none 2 0 read (omega arith) refl) (behind k 1 x none 2 1 last (omega arith) refl))
+
+pub read_comes : (k : Content) → IsRow k → (lot : Lot) → lot.upto ≡ 1 ∷ 1 ∷ 0 ∷ [] → ComesNext k lot read
+read_comes k r lot are =
+    comes k r 3 2 (pos 0) (1 ∷ 1 ∷ 0 ∷ []) lot are refl (omega arith) refl (omega arith)
+    (let us = 1 ∷ 1 ∷ 0 ∷ [] in
+    each (AsksOf k 2 read us) (before k 2 read us 0 0 first (omega arith) refl) (behind k 2 read us 0 1 fourth (omega arith) refl)
+    (before k 2 read us 1 0 second (omega arith) refl) (behind k 2 read us 2 0 read (omega arith) refl) (behind k 2 read us 2 1 last (omega arith) refl))
+
+pub fourth_comes : (k : Content) → IsRow k → (lot : Lot) → lot.upto ≡ 1 ∷ 1 ∷ 1 ∷ [] → ComesNext k lot fourth
+fourth_comes k r lot are =
+    comes k r 4 0 (pos 2) (1 ∷ 1 ∷ 1 ∷ []) lot are refl (omega arith) refl (omega arith)
+    (let x = fourth in
+    let us = 1 ∷ 1 ∷ 1 ∷ [] in
+    each (AsksOf k 0 x us) (before k 0 x us 0 0 first (omega arith) refl) (behind k 0 x us 0 1 fourth (omega arith) refl)
+    (before k 0 x us 1 0 second (omega arith) refl) (before k 0 x us 2 0 read (omega arith) refl) (behind k 0 x us 2 1 last (omega arith) refl))
+
+pub fits_owner : (k : Content) (v : ℕ) (x : Event) (lot : Lot) → owner_of (job k) (nodes k) x.itag ≡ Some v → LotFits k v lot → FitsOwner k x lot
+fits_owner k v x lot owner fits w other = subst (λ (u : ℕ). LotFits k u lot) (one_owner v w (sym owner ∙ other)) fits
+
+-- a row after an event of its node
+pub row_after : (k : Content) (w : ℕ) (since upto : List ℕ) (old new : Lot) (x : Event) → owner_of (job k) (nodes k) x.itag ≡ Some w
+    → HasRow k w since upto old → FitsOwner k x new → new.since ≡ old.since → new.upto ≡ slice_set old.upto x.itag.0 (slice_index old.upto x.itag.0 + 1)
+    → HasRow k w since (slice_set upto x.itag.0 (slice_index upto x.itag.0 + 1)) new
+row_after k w since upto old new x owner h fits same more = record {
+  fits = fits w owner;
+  since = same ∙ h.since;
+  upto = more ∙ ap (λ (us : List ℕ). slice_set us x.itag.0 (slice_index us x.itag.0 + 1)) h.upto;
+}
+
+-- the same row, by equal counts
+pub row_as : (k : Content) (w : ℕ) (from from' to to' : List ℕ) (lot : Lot) → from ≡ from' → to ≡ to' → HasRow k w from to lot → HasRow k w from' to' lot
+row_as k w from from' to to' lot since upto h = record { fits = h.fits; since = h.since ∙ since; upto = h.upto ∙ upto }
+
+-- ---- the join of the walk
+
+-- the root's children are these two
+pub of_root : (k : Content) → HasShape k → (P : ℕ → ℕ → Type 0) → P 1 2 → (l r : ℕ) → kids k 0 ≡ Some (l, r) → P l r
+of_root k shape P p l r are =
+    let same : (1, 2) ≡ (l, r) = (let both : Some (1, 2) ≡ Some (l, r) = sym shape.root ∙ are in cc) in
+    subst (λ (z : ℕ × ℕ). P z.0 z.1) same p
+
+module _ (k : Content) (r : IsRow k) (settings : ContentsAreSettings) (of_nodes : ItagsAreOfNodes) (of_kids : ItagsAreOfKids) where
+  small : (i : ℕ) → i < 3 → i < count_of_itags (job k)
+  small i lt = subst (λ (n : ℕ). i < n) (sym r.shape.itags) lt
+
+  is_below : (w i : ℕ) → i < 3 → owner_of (job k) (nodes k) (itag i) ≡ Some w → below (job k) (nodes k) w i ≡ true
+  is_below w i lt owner = let n = of_nodes (setting_of k) w i (settings k) (small i lt) in n.own ((n.owner).1 owner)
+
+  kin : (i : ℕ) → i < 3 → IsOfKids (setting_of k) 0 1 2 i
+  kin i lt = of_kids (setting_of k) 0 1 2 i (settings k) r.shape.root (small i lt)
+
+  read_not_right : below (job k) (nodes k) 2 2 ≡ false
+  read_not_right =
+      let mine : own_at (setting_of k) 0 2 ≡ true = ((of_nodes (setting_of k) 0 2 (settings k) (small 2 (omega arith))).owner).1 r.shape.reads in
+      (kin 2 (omega arith)).not_right (ap (λ (b : Bool). b || above_at (setting_of k) 0 2) mine)
+
+  pub joined_are : joined_counts (job k) (nodes k) 2 one (0 ∷ 1 ∷ 0 ∷ []) ≡ 1 ∷ 1 ∷ 0 ∷ []
+  joined_are =
+      ap (λ (n : ℕ). map (λ (i : ℕ). cond (below (job k) (nodes k) 2 i) (slice_index (0 ∷ 1 ∷ 0 ∷ []) i) (slice_index one i)) (range_with_len 0 n)) r.shape.itags
+      ∙ (λ t. cond {A = ℕ} ((kin 0 (omega arith)).apart (is_below 1 0 (omega arith) r.shape.left) t) 0 1
+      ∷ cond {A = ℕ} (is_below 2 1 (omega arith) r.shape.right t) 1 0 ∷ cond {A = ℕ} (read_not_right t) 0 0 ∷ [])
+
+  paired : ArePaired (job k) (nodes k) 1 2 none one none (0 ∷ 1 ∷ 0 ∷ [])
+  paired = record {
+    left_first = λ i. let z = nothing i in omega arith;
+    left_outside = left_out;
+    left_inside = λ i within. let z = nothing i in omega arith;
+    right_outside = right_out;
+    right_inside = λ i within. let z = nothing i in omega arith;
+  }
+    where
+      left_out : (i : ℕ) → below (job k) (nodes k) 1 i ≡ false → slice_index one i ≡ slice_index none i
+      left_out zero away = absurd (let within = is_below 1 0 (omega arith) r.shape.left in cc)
+      left_out (suc zero) away = refl
+      left_out (suc (suc zero)) away = refl
+      left_out (suc (suc (suc i))) away = refl
+
+      right_out : (i : ℕ) → below (job k) (nodes k) 2 i ≡ false → slice_index (0 ∷ 1 ∷ 0 ∷ []) i ≡ slice_index none i
+      right_out zero away = refl
+      right_out (suc zero) away = absurd (let within = is_below 2 1 (omega arith) r.shape.right in cc)
+      right_out (suc (suc zero)) away = refl
+      right_out (suc (suc (suc i))) away = refl
+
+  pub lots_paired : (left right : Lot) → HasRow k 1 none one left → HasRow k 2 none (0 ∷ 1 ∷ 0 ∷ []) right → LotsPaired k 1 2 left right
+  lots_paired left right l r =
+      subst (λ (z : List ℕ × List ℕ × List ℕ × List ℕ). ArePaired (job k) (nodes k) 1 2 z.0 z.1 z.2 z.3)
+      (λ j. (sym l.since j, sym l.upto j, sym r.since j, sym r.upto j)) paired
+
+  pub joined_row : (left right lot : Lot) → HasRow k 1 none one left → HasRow k 2 none (0 ∷ 1 ∷ 0 ∷ []) right → LotFits k 0 lot
+      → HasJoinedCounts k 0 left right lot → HasRow k 0 none (1 ∷ 1 ∷ 0 ∷ []) lot
+  joined_row left right lot at_left at_right fits counts = record {
+    fits = fits;
+    since = counts.since ∙ at_left.since;
+    upto = counts.upto 1 2 r.shape.root
+        ∙ ap (λ (z : List ℕ × List ℕ). joined_counts (job k) (nodes k) 2 z.0 z.1) (λ j. (at_left.upto j, at_right.upto j)) ∙ joined_are;
+  }
 
 -- ---- and the first read, for which the leaf gives its lot
 
@@ -148,9 +309,6 @@ on_loan k r settings of_nodes lot since upto = record {
 -- whether an event is one that the leaf has counted, or after the read, or not the leaf's
 abbrev Clear : Content → ℕ → ℕ → Event → Type 0
 Clear k j l y = own (job k) (nodes k) 1 j ≡ true → j ≢ 2 → slice_index one j ≤ l → is_before read y ≡ true
-
-one_owner : (v w : ℕ) → Some v ≡ Some w → v ≡ w
-one_owner v w same = cc
 
 clear : (k : Content) → IsRow k → ContentsAreSettings → ItagsAreOfNodes → IsClearOf (setting_of k) (own (job k) (nodes k) 1) one read
 clear k r settings of_nodes j l y mine other dep least at =

@@ -1,11 +1,11 @@
 -- The case of the tests: two sources that add and one that reads, at the leaves and at the root of a plan.
-use Rattle.std.specs.Prelude.{◌≡◌, ℕ, ℤ, pos, true, List, [], ◌∷◌, length, Some, None}
+use Rattle.std.specs.Prelude.{◌≡◌, ℕ, ℤ, pos, true, false, List, [], ◌∷◌, length, Some, None}
 use Rattle.flu_model.specs.declared.events.Event.{Event}
 use Rattle.flu_model.specs.declared.events.Item.{Item}
 use Rattle.flu_model.specs.declared.events.Item.TheVariants.{Event as ItemEvent, End}
 use Rattle.flu_model.specs.Itags.{count_of_itags}
 use Rattle.flu_model.specs.Listed.{listed}
-use Rattle.flu_model.specs.Owners.{owner_of}
+use Rattle.flu_model.specs.Owners.{owner_of, are_related}
 use Rattle.flu_fork.specs.declared.content.Content.{Content}
 use Rattle.flu_fork.specs.declared.lots.Lot.{Lot}
 use Rattle.flu_fork.specs.declared.lots.Ask.{Ask}
@@ -34,6 +34,7 @@ pub record HasShape (k : Content) : Type 0 where
   pub left : owner_of (job k) (nodes k) (itag 0) ≡ Some 1
   pub right : owner_of (job k) (nodes k) (itag 1) ≡ Some 2
   pub reads : owner_of (job k) (nodes k) (itag 2) ≡ Some 0
+  pub apart : are_related (nodes k) 2 1 ≡ false
 
 -- one node has all
 pub record IsAlone (k : Content) : Type 0 where

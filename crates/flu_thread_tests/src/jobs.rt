@@ -167,6 +167,7 @@ pub fn has_shape(case: &Case) -> bool
         && v.owner(Itag(0)) == 1
         && v.owner(Itag(1)) == 2
         && v.owner(Itag(2)) == 0
+        && !v.related(2, 1)
 }
 
 /// Whether the plan has one node.

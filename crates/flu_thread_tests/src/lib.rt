@@ -1,4 +1,4 @@
-//! Tests of the links between workers, of the arrival words and of workers, in one thread. It has no code of its own.
+//! Tests of lots, of the links between workers, of the arrival words and of workers, in one thread. It has no code of its own.
 #![tactic(auto)]
 
 #[cfg(test)]
@@ -13,5 +13,7 @@ mod links;
 mod lots;
 #[cfg(test)]
 mod steps;
+#[cfg(test)]
+mod walks;
 #[cfg(test)]
 mod workers;
