@@ -1,5 +1,6 @@
 -- The steps of the lower end keep the rule.
-use Rattle.std.proofs.Common.{◌≡◌, ◌≢◌, ℕ, ◌+◌, ◌<◌, ◌≤◌, ◌^◌, Bool, true, false, ◌||◌, if◌then◌else◌, List, [], ◌∷◌, get_or, set, sym, refl, ap, ◌∙◌, subst, ⊎_elim, arith, Option, Some, None, IfSome}
+use Rattle.std.proofs.Common.{◌≡◌, ◌≢◌, ℕ, ◌+◌, ◌<◌, ◌≤◌, ◌^◌, Bool, true, false, ◌||◌, if◌then◌else◌, List, [], ◌∷◌}
+use Rattle.std.proofs.Common.{get_or, set, sym, refl, ap, ◌∙◌, subst, ⊎_elim, arith, Option, Some, None, IfSome}
 use mathlib.Core.Logic.{dite}
 use mathlib.Core.Option as maybe
 use native.Mathlib.Decide.{ℕ_discrete}
@@ -16,7 +17,8 @@ use Rattle.flu_link.specs.declared.notes.View.TheVariants.{Bottom}
 use Rattle.flu_link.specs.Seats.{Sat, ask, loan, lent_counts}
 use Rattle.flu_link.specs.Rule.{Follows, Agrees, Linked, Kept}
 use Rattle.flu_link.specs.Steps.{peeked_low, Holds, Replies, looks_low, holds, replies, stores_held, gives_lot, sees_itag, sees_index, stops_low, sees_stop_low}
-use Rattle.flu_link.proofs.Stepping.{Homes, LowerGoes, lower_steps, low_shows, low_agrees, loaded, found, Bottom-is, bool_cases, or_true, stop_small, looked_low, stored, same_lot}
+use Rattle.flu_link.proofs.Stepping.{Homes, LowerGoes, lower_steps, low_shows, low_agrees, loaded, found}
+use Rattle.flu_link.proofs.Stepping.{Bottom-is, bool_cases, or_true, stop_small, looked_low, stored, same_lot}
 
 -- the parts of the ask that were noted stay right where the phase is found
 noted : (part : Option ℕ) (was now p x : ℕ) → now ≡ p → (was ≡ 2 → IfSome part (λ i. i ≡ x)) → (was ≢ 2 → part ≡ None) → now ≡ 2 → IfSome part (λ i. i ≡ x)

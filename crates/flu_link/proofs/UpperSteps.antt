@@ -1,5 +1,6 @@
 -- The steps of the upper end keep the rule.
-use Rattle.std.proofs.Common.{◌≡◌, ℕ, ◌+◌, ◌<◌, ◌≤◌, ◌^◌, ◌⊎◌, Bool, true, false, ◌||◌, if◌then◌else◌, List, [], ◌∷◌, get_or, set, sym, refl, ap, ◌∙◌, subst, ⊎_elim, arith, Option, Some, None}
+use Rattle.std.proofs.Common.{◌≡◌, ℕ, ◌+◌, ◌<◌, ◌≤◌, ◌^◌, ◌⊎◌, Bool, true, false, ◌||◌, if◌then◌else◌, List, []}
+use Rattle.std.proofs.Common.{◌∷◌, get_or, set, sym, refl, ap, ◌∙◌, subst, ⊎_elim, arith, Option, Some, None}
 use mathlib.Core.Logic.{dite}
 use mathlib.Core.Option as maybe
 use native.Mathlib.Decide.{ℕ_discrete}
@@ -14,7 +15,8 @@ use Rattle.flu_link.specs.declared.notes.View.TheVariants.{Top}
 use Rattle.flu_link.specs.Seats.{Sat, ask, loan}
 use Rattle.flu_link.specs.Rule.{Follows, Agrees, Linked, Kept}
 use Rattle.flu_link.specs.Steps.{peeked_up, Fetches, looks_up, fetches, stores_itag, stores_index, asks, lends, stops_up, sees_stop_up}
-use Rattle.flu_link.proofs.Stepping.{Homes, UpperGoes, upper_steps, aside_agrees, aside_shows, loaded, found, Top-is, bool_cases, stop_small, looked_up, stored, same_lot}
+use Rattle.flu_link.proofs.Stepping.{Homes, UpperGoes, upper_steps, aside_agrees, aside_shows, loaded}
+use Rattle.flu_link.proofs.Stepping.{found, Top-is, bool_cases, stop_small, looked_up, stored, same_lot}
 
 -- one more look of the upper end, which leaves the slot where it is
 look : (u : UpperSeat) (low : LowerSeat) (words : List ℕ) (homes : Homes) → Linked u low words homes

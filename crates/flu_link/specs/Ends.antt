@@ -64,8 +64,8 @@ pub record IsLower (d : LowerSeat) (table mine : TableId) (me : Sat) : Type 0 wh
   pub inside : (lower_or d me.0).out ≡ false
   pub bare : me.1 ≡ []
 
--- A CLOSED LINK: the phase that was read, and what was found in the slot: a lot that was lent and not taken, nothing while a lot is held or asked for, and a lot
--- that was given and not taken
+-- A CLOSED LINK: the phase that was read, and what was found in the slot: a lot that was lent and not taken, nothing while a lot is held or asked for, and
+-- a lot that was given and not taken
 pub record Closes (up : UpperNote) (low : LowerNote) (phase : ℕ) (found : Option Lot) : Type 0 where
   pub follows : Follows up.phase low.phase phase
   pub lent : phase ≡ phase_lent → (lot : Lot) × (found ≡ Some lot) × LotFits up.case up.lower lot × (counts_of lot ≡ up.lent)

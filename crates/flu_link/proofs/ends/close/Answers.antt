@@ -31,12 +31,14 @@ load-requires c =
 pub exchange-requires : goal.exchange-requires
 exchange-requires c =
     let here = c.upper.invariant.here ∙ ap (λ t. t.shared.table_id) (sym c.deref-3.ensures) in
-    let e = c.load.ensures.2 _ _ (joined c.upper.inside.place.me _ c.lower.inside.place.me _ _ c.upper.invariant.top c.lower.invariant.bottom c.join_seat.ensures.2) in
+    let e =
+    c.load.ensures.2 _ _ (joined c.upper.inside.place.me _ c.lower.inside.place.me _ _ c.upper.invariant.top c.lower.invariant.bottom c.join_seat.ensures.2) in
     (c.load.ensures.0 ∙ (c.join_seat.ensures.0 ∙ here), (e.0, e.1 ∙ ap (λ (cs : List (ℕ × Option Lot)). (0, e.0) ∷ rest cs) (sym e.1)))
 
 pub returns-clause-found : goal.returns-clause-found
 returns-clause-found c =
-    let e = c.load.ensures.2 _ _ (joined c.upper.inside.place.me _ c.lower.inside.place.me _ _ c.upper.invariant.top c.lower.invariant.bottom c.join_seat.ensures.2) in
+    let e =
+    c.load.ensures.2 _ _ (joined c.upper.inside.place.me _ c.lower.inside.place.me _ _ c.upper.invariant.top c.lower.invariant.bottom c.join_seat.ensures.2) in
     let t = last _ _ _ _ _ _ e.1 c.exchange.ensures.2 e.2 in (
       c.load.result,
       subst (λ (z : UpperNote × LowerNote). Closes z.0 z.1 c.load.result c.exchange.result) (λ j. (c.upper.view_is j, c.lower.view_is j))
@@ -45,7 +47,8 @@ returns-clause-found c =
 
 pub returns-clause-agree : goal.returns-clause-agree
 returns-clause-agree c =
-    let e = c.load.ensures.2 _ _ (joined c.upper.inside.place.me _ c.lower.inside.place.me _ _ c.upper.invariant.top c.lower.invariant.bottom c.join_seat.ensures.2) in
+    let e =
+    c.load.ensures.2 _ _ (joined c.upper.inside.place.me _ c.lower.inside.place.me _ _ c.upper.invariant.top c.lower.invariant.bottom c.join_seat.ensures.2) in
     let t = last _ _ _ _ _ _ e.1 c.exchange.ensures.2 e.2 in
     subst (λ (z : UpperNote × LowerNote). z.0.phase ≤ 1 → z.1.phase ≡ 1 → (c.exchange.result ≡ None) × (z.1.held ≡ z.0.lent))
     (λ j. (c.upper.view_is j, c.lower.view_is j)) (agreed _ _ _ _ t)
