@@ -18,24 +18,6 @@ use Rattle.flu_live.specs.Possible.{all_steps, enabled_steps}
 use Rattle.flu_live.specs.declared.simulating.Drawing.{Drawing}
 use Rattle.flu_net.specs.Starting.{IsStart}
 
-pub kept_case : (s : Step) (old new : NetNote) → Makes s old new → new.case ≡ old.case
-kept_case (Arrive i) old new does = ap (λ (n : NetNote). n.case) does
-kept_case (Handle w) old new does = does.step.case
-kept_case (Ask w side) old new does = does.step.case
-kept_case (Take w side) old new does = does.step.case
-kept_case (Give w) old new does = does.step.case
-kept_case (Hold w) old new does = does.step.case
-kept_case (Lend w side) old new does = does.step.case
-
-pub still_there : (s : Step) (old new : NetNote) → old.gone ≡ false → Makes s old new → new.gone ≡ false
-still_there (Arrive i) old new there does = ap (λ (n : NetNote). n.gone) does ∙ there
-still_there (Handle w) old new there does = does.step.gone
-still_there (Ask w side) old new there does = does.step.gone
-still_there (Take w side) old new there does = does.step.gone
-still_there (Give w) old new there does = does.step.gone
-still_there (Hold w) old new there does = does.step.gone
-still_there (Lend w side) old new there does = does.step.gone
-
 pub one_more : (s : Step) (c : StepCounts) → steps_in (counting s c) ≡ steps_in c + 1
 one_more (Arrive i) c = omega arith
 one_more (Handle w) c = omega arith
@@ -77,13 +59,13 @@ begun_run k d start last small steps mark most few =
     }
 
 pub made_one : (k : Content) (old new : Drawing) (place : ℕ) (s : Step) → IsOnItsWay k old → new.seed ≡ old.seed → new.last ≡ next_draw old.last → new.last < 2 ^ 31
-    → IsDrawn old.net new.last place s → Makes s old.net new.net → steps_left new.net < steps_left old.net → new.steps ≡ counting s old.steps → new.mark ≡ marked old.mark place
+    → IsDrawn old.net new.last place s → Makes s old.net new.net → new.net.case ≡ old.net.case → new.net.gone ≡ false → steps_left new.net < steps_left old.net → new.steps ≡ counting s old.steps → new.mark ≡ marked old.mark place
     → IsOnItsWay k new
-made_one k old new place s way seed last small drawn does left steps mark =
+made_one k old new place s way seed last small drawn does case stays left steps mark =
     let more : steps_in new.steps ≡ steps_in old.steps + 1 = ap steps_in steps ∙ one_more s old.steps in
     record {
-      case = kept_case s old.net new.net does ∙ way.case;
-      gone = still_there s old.net new.net way.gone does;
+      case = case ∙ way.case;
+      gone = stays;
       run = as_is k old.seed new.seed new.net (next_draw old.last) new.last (counting s old.steps) new.steps (marked old.mark place) new.mark (sym seed) (sym last) (sym steps) (sym mark)
           (made way.run (subst (λ x. IsDrawn old.net x place s) last drawn) does);
       small = small;
