@@ -17,7 +17,7 @@ use flu_outside::MemFiles;
 use flu_parse::read_job;
 use flu_plan::read_plan;
 use flu_report::report_text;
-use flu_seq::Engine;
+use flu_seq::{Engine, fold};
 use flu_streams::gather;
 use flu_valid::validate;
 use std::alloc::{AllocError, Global};
@@ -26,19 +26,21 @@ use std::test::Fail;
 /// The files of a job's sources, each with its name.
 pub type Sources = &'static [(&'static str, &'static str)];
 
-/// The reports of a run and of a batch with the same seed, how many steps of each kind the run had, its mark, the bound on its steps, and
+/// The reports of a run, of a batch with the same seed and of the fold, how many steps of each kind the run had, its mark, the bound on its steps, and
 /// whether a step is enabled at the start.
 #[derive(Drop)]
 pub struct Heard {
     pub report: String,
     pub batch: String,
+    pub folded: String,
     pub steps: StepCounts,
     pub mark: u32,
     pub most: u128,
     pub begins: bool,
 }
 
-fn opened<'a>(
+/// A case that opens with the empty state.
+pub fn opened<'a>(
     alloc: Global,
     checked: &'a Checked,
     valid: &'a Valid,
@@ -50,8 +52,20 @@ fn opened<'a>(
     Case::new(alloc, checked, valid, streams, State::new(alloc))
 }
 
-/// What a batch of the engine puts out.
-fn batched(
+/// What a batch of an engine puts out, from the empty state.
+fn batched<E: Engine<()>>(
+    alloc: Global,
+    engine: &mut E,
+    streams: &Streams,
+) -> Result<Outs, AllocError>
+    requires { length (listed streams.now) ≡ count_of_itags (E.program_of engine.old) }
+{
+    let (_state, outs) = engine.batch(&(), alloc, State::new(alloc), streams)?;
+    Ok(outs)
+}
+
+/// What the engine of the net puts out.
+fn on_net(
     alloc: Global,
     checked: &Checked,
     valid: &Valid,
@@ -67,12 +81,19 @@ fn batched(
         valid,
         seed,
     };
-    let (_state, outs) = engine.batch(&(), alloc, State::new(alloc), streams)?;
+    batched(alloc, &mut engine, streams)
+}
+
+/// What the fold puts out.
+fn folded(alloc: Global, checked: &Checked, streams: &Streams) -> Result<Outs, AllocError>
+    requires { length (listed streams.now) ≡ count_of_itags (program_of checked.now) }
+{
+    let (_state, outs) = fold(alloc, checked.program(), State::new(alloc), streams)?;
     Ok(outs)
 }
 
 /// A job that is accepted, and a plan that is valid for it; none where one of the two is not.
-fn judged(alloc: Global, job: &str, plan: &str) -> Result<Option<(Checked, Valid)>, Fail>
+pub fn judged(alloc: Global, job: &str, plan: &str) -> Result<Option<(Checked, Valid)>, Fail>
     ensures { IfOk result (λ both. IfSome both (λ b. IsValidFor (program_of b.0) b.1)) }
 {
     let Ok(checked) = check(read_job(alloc, job.as_bytes())?) else {
@@ -88,7 +109,7 @@ fn judged(alloc: Global, job: &str, plan: &str) -> Result<Option<(Checked, Valid
 }
 
 /// The streams of a job's sources.
-fn gathered(alloc: Global, checked: &Checked, files: Sources) -> Result<Streams, Fail>
+pub fn gathered(alloc: Global, checked: &Checked, files: Sources) -> Result<Streams, Fail>
     ensures { IfOk result (λ s. length (listed s) ≡ count_of_itags (program_of checked.now)) }
 {
     let mut sources = MemFiles::new(alloc);
@@ -105,13 +126,19 @@ fn begins(alloc: Global, case: &Case) -> Result<bool, AllocError> {
 }
 
 /// The report of some outputs.
-fn reported(alloc: Global, checked: &Checked, outs: Outs) -> Result<String, AllocError> {
+pub fn reported(alloc: Global, checked: &Checked, outs: Outs) -> Result<String, AllocError> {
     let text = report_text(alloc, checked.program(), outs)?;
     String::from_str(alloc, text.as_str())
 }
 
-/// What a run of the case came to, with the report of a batch.
-fn told(alloc: Global, case: &Case, batch: String, seed: u32) -> Result<Heard, AllocError>
+/// What a run of the case came to, beside the reports of a batch and of the fold.
+fn told(
+    alloc: Global,
+    case: &Case,
+    batch: String,
+    folded: String,
+    seed: u32,
+) -> Result<Heard, AllocError>
     requires { seed < 2 ^ 31 }
 {
     let begins = begins(alloc, case)?;
@@ -125,6 +152,7 @@ fn told(alloc: Global, case: &Case, batch: String, seed: u32) -> Result<Heard, A
     Ok(Heard {
         report,
         batch,
+        folded,
         steps,
         mark,
         most: bound(case),
@@ -146,8 +174,10 @@ pub fn ran(
         return Ok(None);
     };
     let streams = gathered(alloc, &checked, files)?;
-    let outs = batched(alloc, &checked, &valid, &streams, seed)?;
+    let outs = on_net(alloc, &checked, &valid, &streams, seed)?;
     let batch = reported(alloc, &checked, outs)?;
+    let outs = folded(alloc, &checked, &streams)?;
+    let folded = reported(alloc, &checked, outs)?;
     let case = opened(alloc, &checked, &valid, &streams)?;
-    Ok(Some(told(alloc, &case, batch, seed)?))
+    Ok(Some(told(alloc, &case, batch, folded, seed)?))
 }
