@@ -87,6 +87,66 @@ cp out.txt folded.txt
 measure '1,000,000 rows late by less than 1,000: flumina fold' "$program" fold late.job
 cmp out.txt folded.txt
 
+# ---- 1,000,000 page views of 50 pages and of 100, put out 1,000 times
+gawk 'BEGIN { for (t = 1; t <= 1000; t++) print 1000 * t ",tick"; print "end" }' > ticks.csv
+views() {
+    cat > "views$1.job" <<JOB
+cell views keyed sum
+tag view keyed int
+tag tick none
+depends view tick
+depends tick tick
+on view: add views[key] value
+on tick: flush views "page {key} views {cell}"
+source web "views$1.csv": view[0..$(($1 - 1))]
+source clock "ticks.csv": tick
+JOB
+    gawk -v pages="$1" 'BEGIN {
+        srand(1)
+        for (t = 1; t <= 1000000; t++) print t ",view[" int(rand() * pages) "]," t % 100
+        print "end"
+    }' > "views$1.csv"
+}
+for pages in 50 100; do
+    views $pages
+    measure "1,000,000 page views of $pages pages: flumina fold" "$program" fold views$pages.job
+done
+
+# ---- 300,000 events that do 32 actions each on 50 cells: 50 keys of three families, or 50 families
+updates() {
+    gawk -v form="$1" 'BEGIN {
+        split("sum max last", sorts, " ")
+        split("add raise set", acts, " ")
+        if (form == "families") for (c = 0; c < 50; c++) print "cell f" c " " sorts[c % 3 + 1]
+        else for (s = 0; s < 3; s++) print "cell f" s " keyed " sorts[s + 1]
+        for (c = 0; c < 50; c++) cell[c] = form == "families" ? "f" c : "f" c % 3 "[" c "]"
+        print "tag u int\ntag v int\ntag w none"
+        for (k = 0; k < 2; k++) {
+            printf "on %s:", k ? "v" : "u"
+            for (a = 0; a < 32; a++) {
+                c = (a + k * 18) % 50
+                print " " acts[c % 3 + 1] " " cell[c] " value + " a (a < 31 ? ";" : "")
+            }
+        }
+        printf "on w:"
+        for (c = 0; c < 50; c++) {
+            printf "%s{%s} ", c % 10 ? "" : " emit \"", cell[c]
+            if (c % 10 == 9) printf "\"%s", c < 49 ? ";" : "\n"
+        }
+        print "source a \"updates.csv\": u, v\nsource b \"once.csv\": w"
+    }' > "updates_$1.job"
+}
+gawk 'BEGIN {
+    srand(1)
+    for (t = 1; t <= 300000; t++) print t "," (t % 2 ? "u" : "v") "," int(rand() * 10000)
+    print "end"
+}' > updates.csv
+printf '300001,w\nend\n' > once.csv
+for form in keys families; do
+    updates $form
+    measure "300,000 events of 32 actions on 50 $form: flumina fold" "$program" fold updates_$form.job
+done
+
 # ---- a job text of about 1,048,576 bytes: 64 kinds of 32 long actions, comments, 4,096 dependencies
 gawk 'BEGIN {
     for (i = 0; i < 64; i++) print "cell c" i " sum # the cell of kind " i
