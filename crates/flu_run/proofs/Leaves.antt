@@ -1,7 +1,5 @@
 -- A leaf that has no event left keeps its promise.
-use Rattle.std.proofs.Common.{◌≡◌, ◌<◌, ℕ, Bool, true, false, None, List, [], ◌++◌, append-nil, length, inl, inr, refl, sym, ap, subst, ◌∙◌}
-use Rattle.std.specs.Prelude.{slice_index}
-use Rattle.std.proofs.lemmas.Bool.{cases_lt}
+use Rattle.std.proofs.Common.{◌≡◌, ◌<◌, ℕ, Bool, true, false, None, List, [], ◌++◌, append-nil, inl, inr, refl, sym, ap, subst, ◌∙◌}
 use Rattle.flu_model.specs.declared.events.Out.{Out}
 use Rattle.flu_model.specs.Itags.{count_of_itags}
 use Rattle.flu_fork.specs.declared.content.Content.{Content}
@@ -9,7 +7,6 @@ use Rattle.flu_fork.specs.declared.lots.Lot.{Lot}
 use Rattle.flu_fork.specs.Classes.{Itags}
 use Rattle.flu_fork.specs.Lots.{job, kids, setting_of}
 use Rattle.flu_fork.specs.Serving.{LotCounts}
-use Rattle.flu_fork.specs.Settings.{events_at}
 use Rattle.flu_fork.specs.Texts.{HasTexts, InOneOf, InNone, InFirst}
 use Rattle.flu_worker.specs.Hands.{is_open}
 use Rattle.flu_worker.specs.Notes.{WorkerNote, own_of, below_of}
@@ -18,7 +15,6 @@ use Rattle.flu_link.specs.Notes.{LowerNote}
 use Rattle.flu_run.specs.LawsBelow.{LawsBelow}
 use Rattle.flu_run.specs.Ties.{Hangs, Tells}
 use Rattle.flu_run.specs.Final.{IsFinal, IsDone}
-use Rattle.flu_run.proofs.Joined.{none_there}
 
 -- two sets with the same itags of the job have the same outputs
 one_alone : (whole a : Bool) → whole ≡ a → InOneOf whole a false false
@@ -41,21 +37,9 @@ module _ (laws : LawsBelow) (n : WorkerNote) (lot : Lot) (outs : List Out) (done
   leaf_owns : (i : ℕ) → i < count_of_itags (job n.case) → below_of n i ≡ own_of n i
   leaf_owns i lt = (laws.of_nodes (setting_of n.case) n.node i (laws.settings n.case) lt).leaf leaf
 
-  complete : (i : ℕ) → below_of n i ≡ true → slice_index lot.upto i ≡ length (events_at (setting_of n.case) i)
-  complete i inside =
-      elim (cases_lt i (count_of_itags (job n.case))) [
-        | inl lt ↦
-            let mine : own_of n i ≡ true = sym (leaf_owns i lt) ∙ inside in
-            whole.own i mine ∙ done.own i mine
-        | inr ge ↦ none_there n.case lot.upto i whole.fits.upto_each ge
-      ]
-
   leaf_final : IsFinal n.case n.node n.held lot outs
   leaf_final = record {
-    fits = whole.fits;
-    since = whole.since;
-    inside = complete;
-    outside = whole.outside;
+    brings = laws.at_leaf n.case n.node n.held lot leaf whole.fits whole.since (λ i mine. whole.own i mine ∙ done.own i mine) whole.outside;
     texts = texts_alike laws n.case (own_of n) (below_of n) lot.upto outs leaf_owns (laws.same_texts (setting_of n.case) (own_of n) n.counts lot.upto outs whole.own tells);
   }
 

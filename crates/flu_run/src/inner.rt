@@ -18,11 +18,11 @@ use crate::ends::End;
 use crate::handed::{Done, Ended, Why};
 use crate::holder::HasCase;
 use crate::laws::laws_below;
-use crate::leaf::{turn, wait};
+use crate::leaf::turn;
 use crate::shapes::any;
-use crate::sight::observe;
+use crate::sight::observe_idle;
 use crate::up::look;
-use crossbeam_utils::Backoff;
+use crate::waiting::{Parkers, Pause};
 use flu_arrive::Watch;
 use flu_fork::{Ask, Case, Lot, join};
 use flu_link::{Upper, close};
@@ -109,6 +109,7 @@ fn turn_inner<G: Gate>(
     alloc: Global,
     case: &Case,
     gate: &G,
+    parkers: &Parkers,
     node: u32,
     worker: &mut Worker,
     end: &mut End,
@@ -136,8 +137,11 @@ fn turn_inner<G: Gate>(
     ensures right_end { OnOk result (IsSameUpper right.old right.new) }
 {
     let reached = reach(alloc, case, worker, left, right, end, asked)?;
-    let turned = turn(alloc, case, gate, node, worker, end, outs, asked)?;
+    let turned = turn(alloc, case, gate, parkers, node, worker, end, outs, asked)?;
     let lent = hand_down(worker, left, right);
+    if any(reached, lent, false) {
+        parkers.wake_below(node);
+    }
     Ok(any(reached, turned, lent))
 }
 
@@ -184,6 +188,7 @@ fn take_turns<G: Gate, R: Wait>(
     alloc: Global,
     case: &Case,
     gate: &G,
+    parkers: &Parkers,
     node: u32,
     worker: &mut Worker,
     watch: &mut Watch,
@@ -201,24 +206,26 @@ fn take_turns<G: Gate, R: Wait>(
     requires right { Lets Right worker.old right.old }
     ensures { OnOk result (Rests worker.old (end_note end.old) left.old right.old worker.new (end_note end.new) left.new right.new outs.new) }
 {
-    let backoff = Backoff::new();
+    let mut pause = Pause::new();
+    let mut idle = true;
     for _ in rt.forever() {
         if are_stopped(worker, end, left, right) {
             stop_all(end, left, right);
             return Err(Why::Stopped);
         }
-        observe(case, node, worker, watch);
+        observe_idle(idle, case, node, worker, watch);
         let asked = look(worker, end);
-        if asked.is_none() && worker.finished(case) {
+        if idle && asked.is_none() && worker.finished(case) {
             return Ok(());
         }
         let Ok(moved) = turn_inner(
-            alloc, case, gate, node, worker, end, left, right, outs, asked,
+            alloc, case, gate, parkers, node, worker, end, left, right, outs, asked,
         ) else {
             stop_all(end, left, right);
             return Err(Why::NoMemory);
         };
-        wait(&backoff, moved);
+        parkers.wait(rt, node, &mut pause, moved);
+        idle = !moved;
     }
     unreachable!()
 }
@@ -239,6 +246,7 @@ pub fn work<G: Gate, R: Wait>(
     alloc: Global,
     case: &Case,
     gate: &G,
+    parkers: &Parkers,
     worker: Worker,
     watch: Watch,
     end: End,
@@ -266,6 +274,7 @@ pub fn work<G: Gate, R: Wait>(
         alloc,
         case,
         gate,
+        parkers,
         node,
         &mut worker,
         &mut watch,

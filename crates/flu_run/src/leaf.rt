@@ -17,9 +17,9 @@ use crate::handed::{Done, Ended, Why};
 use crate::holder::HasCase;
 use crate::laws::laws_below;
 use crate::shapes::any;
-use crate::sight::observe;
+use crate::sight::observe_idle;
 use crate::up::{act, look, receive, reply};
-use crossbeam_utils::Backoff;
+use crate::waiting::{Parkers, Pause};
 use flu_arrive::Watch;
 use flu_fork::{Ask, Case};
 use flu_model::Outs;
@@ -33,6 +33,7 @@ pub fn turn<G: Gate>(
     alloc: Global,
     case: &Case,
     gate: &G,
+    parkers: &Parkers,
     node: u32,
     worker: &mut Worker,
     end: &mut End,
@@ -49,18 +50,12 @@ pub fn turn<G: Gate>(
     ensures home { OnOk result (StaysHome worker.old worker.new) }
 {
     let gave = reply(case, worker, end, asked, outs);
+    if gave {
+        parkers.wake_above(node);
+    }
     let received = receive(alloc, case, worker, end, outs)?;
     let acted = act(alloc, case, gate, node, worker, end, outs)?;
     Ok(any(gave, received, acted))
-}
-
-/// Waits a little longer each time, until something moves again.
-pub fn wait(backoff: &Backoff, moved: bool) {
-    if moved {
-        backoff.reset();
-    } else {
-        backoff.snooze();
-    }
 }
 
 /// The worker of a node of what has the case.
@@ -94,6 +89,7 @@ fn take_turns<G: Gate, R: Wait>(
     alloc: Global,
     case: &Case,
     gate: &G,
+    parkers: &Parkers,
     node: u32,
     worker: &mut Worker,
     end: &mut End,
@@ -112,21 +108,23 @@ fn take_turns<G: Gate, R: Wait>(
     ensures tells { OnOk result (Tells worker.new outs.new) }
     ensures finished { OnOk result (IsFinished worker.new) }
 {
-    let backoff = Backoff::new();
+    let mut pause = Pause::new();
+    let mut idle = true;
     for _ in rt.forever() {
         if end.stopped() {
             return Err(Why::Stopped);
         }
-        observe(case, node, worker, watch);
+        observe_idle(idle, case, node, worker, watch);
         let asked = look(worker, end);
-        if asked.is_none() && worker.finished(case) {
+        if idle && asked.is_none() && worker.finished(case) {
             return Ok(());
         }
-        let Ok(moved) = turn(alloc, case, gate, node, worker, end, outs, asked) else {
+        let Ok(moved) = turn(alloc, case, gate, parkers, node, worker, end, outs, asked) else {
             end.stop();
             return Err(Why::NoMemory);
         };
-        wait(&backoff, moved);
+        parkers.wait(rt, node, &mut pause, moved);
+        idle = !moved;
     }
     unreachable!()
 }
@@ -153,6 +151,7 @@ fn work<G: Gate, R: Wait>(
     alloc: Global,
     case: &Case,
     gate: &G,
+    parkers: &Parkers,
     node: u32,
     worker: Worker,
     end: End,
@@ -174,6 +173,7 @@ fn work<G: Gate, R: Wait>(
         alloc,
         case,
         gate,
+        parkers,
         node,
         &mut worker,
         &mut end,
@@ -199,6 +199,7 @@ pub fn leaf<H: HasCase, G: Gate, R: Wait>(
     alloc: Global,
     holder: &H,
     gate: &G,
+    parkers: &Parkers,
     node: u32,
     end: End,
     watch: Watch,
@@ -210,7 +211,17 @@ pub fn leaf<H: HasCase, G: Gate, R: Wait>(
 {
     laws_below();
     match new_worker(alloc, holder, node) {
-        Ok(worker) => work(rt, alloc, holder.case(), gate, node, worker, end, watch),
+        Ok(worker) => work(
+            rt,
+            alloc,
+            holder.case(),
+            gate,
+            parkers,
+            node,
+            worker,
+            end,
+            watch,
+        ),
         Err(_) => give_up(end, watch),
     }
 }

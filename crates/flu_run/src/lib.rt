@@ -14,6 +14,7 @@ mod shapes;
 mod sight;
 mod tree;
 mod up;
+mod waiting;
 
 pub use holder::HasCase;
 pub use root::run_tree;

@@ -20,6 +20,7 @@ use crate::handed::{Done, Ended, FromEnd, Why};
 use crate::holder::HasCase;
 use crate::laws::laws_below;
 use crate::tree::subtree;
+use crate::waiting::Parkers;
 use flu_arrive::{Feeder, Watch};
 use flu_cells::State;
 use flu_fork::Lot;
@@ -35,7 +36,7 @@ use std::thread::Threads;
 /// (`docs/TREE.md`). The state is the fold's, which holds values of the job's sorts, and the outputs are the fold's in some order.
 ///
 /// Each worker passes the gate before and after each of its updates. It waits for lots, asks and items by looking again, a little
-/// later each time.
+/// later each time, and sleeps at last until a worker beside it wakes it, or for a moment.
 ///
 /// Where a thread is refused, all workers stop, and the backup, an engine of the same job, runs the batch from a copy of the opening
 /// state.
@@ -81,6 +82,9 @@ fn run_all<H: HasCase + Sync, G: Gate, R: Threads + Wait + Sync>(
     let Ok((feeder, watch)) = words(alloc, limits.as_slice()) else {
         return Ended::Cut(Why::NoMemory);
     };
+    let Ok(parkers) = Parkers::new(alloc, case.valid()) else {
+        return Ended::Cut(Why::NoMemory);
+    };
     let top = End::Top(case.note());
     let from = FromEnd(Snapshot::of(&top));
     started(
@@ -88,6 +92,7 @@ fn run_all<H: HasCase + Sync, G: Gate, R: Threads + Wait + Sync>(
         alloc,
         holder,
         gate,
+        &parkers,
         (feeder, limits, itags),
         top,
         watch,
@@ -101,6 +106,7 @@ fn started<H: HasCase + Sync, G: Gate, R: Threads + Wait + Sync>(
     alloc: Global,
     holder: &H,
     gate: &G,
+    parkers: &Parkers,
     feed: (Feeder, Vec<u64>, u32),
     top: End,
     watch: Watch,
@@ -127,11 +133,12 @@ fn started<H: HasCase + Sync, G: Gate, R: Threads + Wait + Sync>(
                 move || -> Ended
                     requires { IsSync R.row × IsSync H.row × IsSync G.row × StartsAt (H.content holder.now) 0 (end_note top) × WatchesFrom (H.content holder.now) watch }
                     ensures { Keeps (end_note top) result }
-                { subtree(rt, alloc, holder, gate, 0, top, watch) },
+                { subtree(rt, alloc, holder, gate, parkers, 0, top, watch) },
             ) else {
                 return Ended::Cut(Why::Refused);
             };
             feed_all(&mut feeder, left, itags);
+            parkers.wake_all();
             root.join(rt)
         },
     )

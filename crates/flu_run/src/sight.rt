@@ -10,8 +10,20 @@ use flu_fork::Case;
 use flu_model::Itag;
 use flu_worker::Worker;
 
-/// Looks once at the word of each itag that the node or a node above it owns.
-pub fn observe(case: &Case, node: u32, worker: &mut Worker, watch: &mut Watch)
+/// Looks at the arrival words where the worker is idle: what it has seen is enough for as long as something moves.
+pub fn observe_idle(idle: bool, case: &Case, node: u32, worker: &mut Worker, watch: &mut Watch)
+    requires case { case.now ≡ worker.old.case }
+    requires sees { Sees worker.old watch.old }
+    ensures sees { Sees worker.new watch.new }
+    ensures more { SeesMore worker.old worker.new }
+{
+    if idle {
+        observe(case, node, worker, watch);
+    }
+}
+
+// Looks once at the word of each itag that the node or a node above it owns.
+fn observe(case: &Case, node: u32, worker: &mut Worker, watch: &mut Watch)
     requires case { case.now ≡ worker.old.case }
     requires sees { Sees worker.old watch.old }
     ensures sees { Sees worker.new watch.new }

@@ -19,6 +19,7 @@ use crate::holder::HasCase;
 use crate::inner::{Rest, gather, work};
 use crate::laws::laws_below;
 use crate::leaf::{leaf, new_worker};
+use crate::waiting::Parkers;
 use flu_arrive::Watch;
 use flu_link::{Upper, link};
 use flu_seq::Gate;
@@ -124,6 +125,7 @@ fn manage<H: HasCase + Sync, G: Gate, R: Threads + Wait + Sync>(
     alloc: Global,
     holder: &H,
     gate: &G,
+    parkers: &Parkers,
     node: u32,
     given: (Snapshot<End>, Snapshot<End>, Snapshot<End>),
     mine: (Worker, Watch, End, Upper, Upper),
@@ -156,6 +158,7 @@ fn manage<H: HasCase + Sync, G: Gate, R: Threads + Wait + Sync>(
         alloc,
         holder.case(),
         gate,
+        parkers,
         worker,
         watch,
         end,
@@ -264,6 +267,7 @@ pub fn subtree<H: HasCase + Sync, G: Gate, R: Threads + Wait + Sync>(
     alloc: Global,
     holder: &H,
     gate: &G,
+    parkers: &Parkers,
     node: u32,
     end: End,
     watch: Watch,
@@ -273,7 +277,7 @@ pub fn subtree<H: HasCase + Sync, G: Gate, R: Threads + Wait + Sync>(
     ensures { Keeps (end_note end) result }
 {
     let Some((left, right)) = holder.case().valid().kids(node) else {
-        return leaf(rt, alloc, holder, gate, node, end, watch);
+        return leaf(rt, alloc, holder, gate, parkers, node, end, watch);
     };
     let Some(prepared) = prepare(alloc, holder, (node, left, right), end, watch) else {
         return Ended::Cut(Why::NoMemory);
@@ -304,7 +308,7 @@ pub fn subtree<H: HasCase + Sync, G: Gate, R: Threads + Wait + Sync>(
                 move || -> Ended
                     requires { IsSync R.row × IsSync H.row × IsSync G.row × StartsAt (H.content holder.now) left (end_note left_end) × WatchesFrom (H.content holder.now) left_watch }
                     ensures { Keeps (end_note left_end) result }
-                { subtree(rt, alloc, holder, gate, left, left_end, left_watch) },
+                { subtree(rt, alloc, holder, gate, parkers, left, left_end, left_watch) },
             ) else {
                 end.stop();
                 return Ended::Cut(Why::Refused);
@@ -314,7 +318,18 @@ pub fn subtree<H: HasCase + Sync, G: Gate, R: Threads + Wait + Sync>(
                 move || -> Ended
                     requires { IsSync R.row × IsSync H.row × IsSync G.row × StartsAt (H.content holder.now) right (end_note right_end) × WatchesFrom (H.content holder.now) right_watch }
                     ensures { Keeps (end_note right_end) result }
-                { subtree(rt, alloc, holder, gate, right, right_end, right_watch) },
+                {
+                    subtree(
+                        rt,
+                        alloc,
+                        holder,
+                        gate,
+                        parkers,
+                        right,
+                        right_end,
+                        right_watch,
+                    )
+                },
             ) else {
                 left_upper.stop();
                 end.stop();
@@ -325,6 +340,7 @@ pub fn subtree<H: HasCase + Sync, G: Gate, R: Threads + Wait + Sync>(
                 alloc,
                 holder,
                 gate,
+                parkers,
                 node,
                 given,
                 (worker, watch, end, left_upper, right_upper),
