@@ -1,0 +1,162 @@
+//! A run with a gate that notes which worker handles which event, and what the states of the leaves hold.
+
+use super::runs::ran;
+use super::{files_of, pages, words_of};
+use flu_cells::State;
+use flu_model::{Cell, Itag};
+use flu_outside::MemSink;
+use flu_seq::Gate;
+use flu_top::flumina;
+use std::alloc::{AllocError, Global};
+use std::sync::atomic::{AtomicU64, Ordering};
+use std::test::Fail;
+
+/// The views of ten pages and the ticks that put them out, which the command plans by itself.
+const FILES: &[(&str, &str)] = &[
+    ("J", pages::JOB),
+    ("web.csv", pages::WEB),
+    ("app.csv", pages::APP),
+    ("clock.csv", pages::CLOCK),
+];
+
+/// The node that owns each itag in the greedy plan: the views of ten pages by the first source, those by the second one, the updates of
+/// ten pages, and the tick.
+const OWNERS: [u32; 31] = [
+    3, 6, 4, 7, 3, 6, 4, 7, 3, 6, // views by the web
+    4, 7, 4, 7, 3, 6, 4, 7, 3, 6, // views by the app
+    10, 13, 11, 14, 10, 13, 11, 14, 10, 13, // updates
+    1,
+];
+
+/// The node of the ticks, the only one with children that owns an itag.
+const TICKING: u32 = 1;
+
+/// How many events of one itag there are at most.
+const MOST: usize = 3;
+
+/// How many events an itag has: an update is there of page 3 alone.
+fn events_of(itag: usize) -> usize {
+    match itag {
+        23 => 1,
+        20..=29 => 0,
+        _ => MOST,
+    }
+}
+
+/// Whether the node owns the itag.
+fn owns(node: u32, itag: usize) -> bool {
+    OWNERS.get(itag) == Some(&node)
+}
+
+/// Whether an own tag of the leaf touches a cell: views add to the sum of their page, and updates set its zip code.
+fn touches(leaf: u32, cell: Cell) -> bool {
+    let page = (cell.key as usize).min(10);
+    if cell.family == 0 {
+        owns(leaf, page) || owns(leaf, page.saturating_add(10))
+    } else {
+        owns(leaf, page.saturating_add(20))
+    }
+}
+
+/// Whether a state holds no cell of the ten pages but those that the leaf's own tags touch.
+fn holds_own_alone(state: &State, leaf: u32) -> bool {
+    for key in 0..10u32 {
+        for family in 0..2u32 {
+            let cell = Cell { family, key };
+            if !touches(leaf, cell) && state.get(cell).is_some() {
+                return false;
+            }
+        }
+    }
+    true
+}
+
+/// How often each event was passed before its update and after it, by its owner, with a state that a leaf may hold; and whether there
+/// was another pass.
+#[derive(Drop)]
+struct Passes {
+    before: Vec<AtomicU64>,
+    after: Vec<AtomicU64>,
+    strangers: AtomicU64,
+}
+
+fn zeros(alloc: Global) -> Result<Vec<AtomicU64>, AllocError> {
+    let mut numbers = Vec::new(alloc);
+    for _ in 0..OWNERS.len() * MOST {
+        numbers.push(AtomicU64::new(0))?;
+    }
+    Ok(numbers)
+}
+
+impl Passes {
+    fn new(alloc: Global) -> Result<Passes, AllocError> {
+        Ok(Passes {
+            before: zeros(alloc)?,
+            after: zeros(alloc)?,
+            strangers: AtomicU64::new(0),
+        })
+    }
+}
+
+/// Whether a node may have this in its hand: a leaf what its own tags touch, and the other node nothing once its lot is forked again.
+fn may_hold(node: u32, point: u32, held: Option<&State>) -> bool {
+    match held {
+        Some(state) => (node == TICKING && point == 1) || holds_own_alone(state, node),
+        None => node == TICKING && point == 2,
+    }
+}
+
+/// The place of an event among those of all itags.
+fn place_of(itag: usize, index: u64) -> usize {
+    itag.saturating_mul(MOST)
+        .saturating_add(index.min(MOST as u64 - 1) as usize)
+}
+
+impl Gate for Passes {
+    fn pass(&self, node: u32, point: u32, itag: Itag, index: u64, held: Option<&State>) {
+        let itag = itag.0 as usize;
+        let is_known = owns(node, itag) && index < events_of(itag) as u64;
+        if !is_known || !may_hold(node, point, held) {
+            self.strangers.store(1, Ordering::SeqCst);
+            return;
+        }
+        let passes = if point == 1 {
+            &self.before
+        } else {
+            &self.after
+        };
+        if let Some(pass) = passes.get(place_of(itag, index)) {
+            pass.fetch_add(1, Ordering::SeqCst);
+        }
+    }
+}
+
+/// Whether each event was passed once.
+fn are_once(passes: &[AtomicU64]) -> bool {
+    for (place, pass) in passes.iter().enumerate() {
+        let wanted = u64::from(place % MOST < events_of(place / MOST));
+        if pass.load(Ordering::SeqCst) != wanted {
+            return false;
+        }
+    }
+    true
+}
+
+#[test]
+fn each_event_is_handled_by_its_owner(rt: HostRuntime) -> Result<(), Fail> {
+    let mut case = ran(FILES, pages::REPORT);
+    case.words = &["run", "J"];
+    let alloc = rt.alloc();
+    let words = words_of(alloc, case.words)?;
+    let mut files = files_of(alloc, &case)?;
+    let mut out = MemSink::with_room(alloc, 5000)?;
+    let mut err = MemSink::with_room(alloc, 100)?;
+    let passes = Passes::new(alloc)?;
+    let status = flumina(&rt, alloc, &words, &mut files, &mut out, &mut err, &passes);
+    assert_eq!(rt; status, 0);
+    assert_eq!(rt; out.bytes(), pages::REPORT.as_bytes());
+    assert_eq!(rt; passes.strangers.load(Ordering::SeqCst), 0);
+    assert!(rt; are_once(passes.before.as_slice()));
+    assert!(rt; are_once(passes.after.as_slice()));
+    Ok(())
+}
