@@ -39,11 +39,7 @@ compare() {
     }'
 }
 
-<<<<<<< HEAD
-# ---- windows: four sources of two keys each have 1,000,000 values in all, and a barrier comes after every so many
-=======
 # ---- windows: four sources of two keys each have 1,000,000 samples in all, and a barrier comes after every so many
->>>>>>> in3_run
 {
     echo 'cell total sum'
     echo 'cell most max'
@@ -96,11 +92,7 @@ PLAN
 for every in 10000 1000 100; do
     awk -v every=$every 'BEGIN { for (n = every; n <= 1000000; n += every) printf "%d,barrier\n", n; print "end" }' > clock.csv
     for nodes in 1 3 7 15; do
-<<<<<<< HEAD
-        compare "windows of $every values, $nodes nodes" windows.job windows$nodes.plan
-=======
         compare "windows of $every samples, $nodes nodes" windows.job windows$nodes.plan
->>>>>>> in3_run
     done
 done
 
