@@ -1,4 +1,4 @@
-//! The jobs of the folder `examples`, under `fold`, `check`, `valid` and `run`.
+//! The jobs of the folder `examples`, under `fold`, `check`, `valid`, `run` and `simulate`.
 
 mod fraud;
 mod rides;
@@ -6,6 +6,7 @@ mod trades;
 mod views;
 
 use super::runs::{ran, ran_alone};
+use super::simulations::check_seed;
 use super::{check_all, checked, folded, valid};
 use std::alloc::Global;
 use std::process::Abort;
@@ -13,13 +14,15 @@ use std::sync::Wait;
 use std::test::Fail;
 use std::thread::Threads;
 
-/// An example: its files, with its job as `J` and its plan as `P`, and what the commands write.
+/// An example: its files, with its job as `J` and its plan as `P`, what the commands write, and how many steps of each kind
+/// its plan takes, which no seed changes.
 #[derive(Drop)]
 struct Example {
     files: &'static [(&'static str, &'static str)],
     report: &'static str,
     normal_form: &'static str,
     plan: &'static str,
+    steps: &'static str,
 }
 
 fn check_example<R: Abort + Threads + Wait + Sync>(
@@ -34,7 +37,8 @@ fn check_example<R: Abort + Threads + Wait + Sync>(
         ran(example.files, example.report),
         ran_alone(example.files, example.report),
     ];
-    check_all(rt, alloc, &cases)
+    check_all(rt, alloc, &cases)?;
+    check_seed(rt, alloc, example.files, "1", example.report, example.steps)
 }
 
 #[test]
@@ -50,6 +54,7 @@ fn rides_of_a_bicycle_hire(rt: HostRuntime) -> Result<(), Fail> {
         report: rides::REPORT,
         normal_form: rides::NORMAL_FORM,
         plan: rides::PLAN,
+        steps: "steps arrive 10 handle 6 ask 2 take 2 give 2 hold 4 lend 4 mark ",
     };
     check_example(&rt, rt.alloc(), &example)
 }
@@ -68,6 +73,7 @@ fn views_that_read_the_fee_of_their_page(rt: HostRuntime) -> Result<(), Fail> {
         report: views::REPORT,
         normal_form: views::NORMAL_FORM,
         plan: views::PLAN,
+        steps: "steps arrive 22 handle 12 ask 10 take 10 give 10 hold 12 lend 12 mark ",
     };
     check_example(&rt, rt.alloc(), &example)
 }
@@ -85,6 +91,7 @@ fn payments_beside_the_window_before(rt: HostRuntime) -> Result<(), Fail> {
         report: fraud::REPORT,
         normal_form: fraud::NORMAL_FORM,
         plan: fraud::PLAN,
+        steps: "steps arrive 15 handle 12 ask 6 take 6 give 6 hold 8 lend 8 mark ",
     };
     check_example(&rt, rt.alloc(), &example)
 }
@@ -103,6 +110,7 @@ fn trades_at_the_last_quote(rt: HostRuntime) -> Result<(), Fail> {
         report: trades::REPORT,
         normal_form: trades::NORMAL_FORM,
         plan: trades::PLAN,
+        steps: "steps arrive 17 handle 13 ask 10 take 10 give 10 hold 12 lend 12 mark ",
     };
     check_example(&rt, rt.alloc(), &example)
 }

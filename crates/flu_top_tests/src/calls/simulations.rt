@@ -16,7 +16,7 @@ use std::test::Fail;
 use std::thread::Threads;
 
 /// The files of a job and its plan, each with its name.
-type Named = &'static [(&'static str, &'static str)];
+pub type Named = &'static [(&'static str, &'static str)];
 
 /// A call of `simulate J P 1` that is refused.
 fn not_simulated(files: Named, status: u8, err: &'static str) -> Case {
@@ -26,7 +26,7 @@ fn not_simulated(files: Named, status: u8, err: &'static str) -> Case {
 }
 
 /// Makes a call of `simulate J P SEED` that writes a report and says a line of steps, which begins with this.
-fn check_seed<R: Abort + Threads + Wait + Sync>(
+pub fn check_seed<R: Abort + Threads + Wait + Sync>(
     rt: &R,
     alloc: Global,
     files: Named,
