@@ -24,16 +24,16 @@ use Rattle.flu_fork.specs.Settings.{IsSetting, events_at}
 use Rattle.flu_fork.specs.Streams.{IsEventAt, IsStreamExact, IsClearOf, ExactnessAgrees}
 use Rattle.flu_thread_tests.specs.Rows.{event, row, HasShape, IsRow, first_read, no_events, IsUnused, IsServed}
 
-abbrev none : List ℕ
+abbrev pub none : List ℕ
 none = 0 ∷ 0 ∷ 0 ∷ []
 
-abbrev one : List ℕ
+abbrev pub one : List ℕ
 one = 1 ∷ 0 ∷ 0 ∷ []
 
 abbrev first : Event
 first = event 1 0 (pos 5)
 
-abbrev read : Event
+abbrev pub read : Event
 read = event 3 2 (pos 0)
 
 abbrev row_events : ℕ → List Event
@@ -62,7 +62,7 @@ events k r i = ap (λ (lists : List (List Item)). events_of (slice_index_or list
 known : (k : Content) → IsRow k → (i l : ℕ) (y : Event) → IsEventAt (setting_of k) i l y → slice_get (row_events i) l ≡ Some y
 known k r i l y at = subst (λ (es : List Event). slice_get es l ≡ Some y) (events k r i) at
 
-there : (k : Content) → IsRow k → (i l : ℕ) (y : Event) → slice_get (row_events i) l ≡ Some y → IsEventAt (setting_of k) i l y
+pub there : (k : Content) → IsRow k → (i l : ℕ) (y : Event) → slice_get (row_events i) l ≡ Some y → IsEventAt (setting_of k) i l y
 there k r i l y at = subst (λ (es : List Event). slice_get es l ≡ Some y) (sym (events k r i)) at
 
 pub zeros : (k : Content) → HasShape k → no_counts (job k) ≡ none
@@ -152,7 +152,7 @@ Clear k j l y = own (job k) (nodes k) 1 j ≡ true → j ≢ 2 → slice_index o
 one_owner : (v w : ℕ) → Some v ≡ Some w → v ≡ w
 one_owner v w same = cc
 
-clear : (k : Content) → IsRow k → ContentsAreSettings → ItagsAreOfNodes → IsClearOf (setting_of k) (own (job k) (nodes k) 1) one read
+pub clear : (k : Content) → IsRow k → ContentsAreSettings → ItagsAreOfNodes → IsClearOf (setting_of k) (own (job k) (nodes k) 1) one read
 clear k r settings of_nodes j l y mine other dep least at =
     each (Clear k)
     (λ mine other least. absurd (omega arith))
