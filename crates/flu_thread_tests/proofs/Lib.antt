@@ -1,2 +1,3 @@
+pub mod PassLemmas
 pub mod RowLemmas
 pub mod StepLemmas

@@ -80,7 +80,7 @@ events k r i = ap (λ (lists : List (List Item)). events_of (slice_index_or list
 known : (k : Content) → IsRow k → (i l : ℕ) (y : Event) → IsEventAt (setting_of k) i l y → slice_get (row_events i) l ≡ Some y
 known k r i l y at = subst (λ (es : List Event). slice_get es l ≡ Some y) (events k r i) at
 
-there : (k : Content) → IsRow k → (i l : ℕ) (y : Event) → slice_get (row_events i) l ≡ Some y → IsEventAt (setting_of k) i l y
+pub there : (k : Content) → IsRow k → (i l : ℕ) (y : Event) → slice_get (row_events i) l ≡ Some y → IsEventAt (setting_of k) i l y
 there k r i l y at = subst (λ (es : List Event). slice_get es l ≡ Some y) (sym (events k r i)) at
 
 pub zeros : (k : Content) → HasShape k → no_counts (job k) ≡ none
@@ -310,7 +310,7 @@ on_loan k r settings of_nodes lot since upto = record {
 abbrev Clear : Content → ℕ → ℕ → Event → Type 0
 Clear k j l y = own (job k) (nodes k) 1 j ≡ true → j ≢ 2 → slice_index one j ≤ l → is_before read y ≡ true
 
-clear : (k : Content) → IsRow k → ContentsAreSettings → ItagsAreOfNodes → IsClearOf (setting_of k) (own (job k) (nodes k) 1) one read
+pub clear : (k : Content) → IsRow k → ContentsAreSettings → ItagsAreOfNodes → IsClearOf (setting_of k) (own (job k) (nodes k) 1) one read
 clear k r settings of_nodes j l y mine other dep least at =
     each (Clear k)
     (λ mine other least. absurd (omega arith))

@@ -18,7 +18,7 @@ use Rattle.flu_worker.specs.declared.hand.Side.TheVariants.{Left, Right}
 use Rattle.flu_worker.specs.Calls.{HoldsLot, GivesLot, HandlesEvent, LendsPart, IsFitPart, TakesPart, KeepsTarget, IsAskable}
 use Rattle.flu_worker.specs.Hands.{at_side, is_open, may_lend, may_take, after_lend, after_take, first_hand}
 use Rattle.flu_worker.specs.Notes.{WorkerNote, lent_to, taken_from}
-use Rattle.flu_thread_tests.specs.Rows.{row, IsRow}
+use Rattle.flu_thread_tests.specs.Rows.{row, values, IsTriple, AreThere}
 use Rattle.flu_thread_tests.specs.Steps.{IsBegun, Works, AreAt, IsBack, IsLent, Lends, Takes, AreBack, AreLent}
 
 -- ---- at the start
@@ -68,8 +68,8 @@ begin k a b c root left right p l r =
       };
     }
 
-pub begin_hand : (k : Content) (a : List ℕ) (root : WorkerNote) → IsRow k → IsBegun k 0 a root → root.hand ≡ Lending true true
-begin_hand k a root r p = ap (λ (m : WorkerNote). m.hand) p.is ∙ (p.new.hand ∙ ap first_hand r.shape.root)
+pub begin_hand : (k : Content) (a : List ℕ) (root : WorkerNote) → IsTriple k → IsBegun k 0 a root → root.hand ≡ Lending true true
+begin_hand k a root r p = ap (λ (m : WorkerNote). m.hand) p.is ∙ (p.new.hand ∙ ap first_hand r.root)
 
 -- ---- events
 
@@ -96,6 +96,28 @@ works_more a b c x w h = record {
 
 pub works_case : (k : Content) (a b : WorkerNote) → k ≡ a.case → Works a b → k ≡ b.case
 works_case k a b is w = is ∙ sym w.place.case
+
+-- ---- how many items there are
+
+pub row_there : (k : Content) (c : ℕ) → listed k.streams ≡ row → c ≤ 3 → AreThere k 3 2 c
+row_there k c is most =
+    let lengths : (i : ℕ) → length (slice_index_or (listed k.streams) i []) ≡ length (slice_index_or row i []) =
+    λ i. ap (λ (lists : List (List Item)). length (slice_index_or lists i [])) is in
+    record {
+      first = (let l = lengths 0 in omega arith);
+      second = (let l = lengths 1 in omega arith);
+      third = (let l = lengths 2 in omega arith);
+    }
+
+pub values_there : (k : Content) → listed k.streams ≡ values → AreThere k 2 2 2
+values_there k is =
+    let lengths : (i : ℕ) → length (slice_index_or (listed k.streams) i []) ≡ length (slice_index_or values i []) =
+    λ i. ap (λ (lists : List (List Item)). length (slice_index_or lists i [])) is in
+    record {
+      first = (let l = lengths 0 in omega arith);
+      second = (let l = lengths 1 in omega arith);
+      third = (let l = lengths 2 in omega arith);
+    }
 
 -- ---- the worker that has all, with two items of the last itag seen
 
@@ -125,8 +147,8 @@ seen_case k a b s is more = is ∙ sym (ap (λ (m : WorkerNote). m.case) more)
 kids_of : (k : Content) (n : WorkerNote) → n.case ≡ k → n.node ≡ 0 → kids k 0 ≡ Some (1, 2) → kids n.case n.node ≡ Some (1, 2)
 kids_of k n case node shape = subst (λ (z : Content × ℕ). kids z.0 z.1 ≡ Some (1, 2)) (λ j. (sym case j, sym node j)) shape
 
-root_kids : (k : Content) (s : Side) (root leaf : WorkerNote) → IsRow k → AreAt k s root leaf → kids root.case root.node ≡ Some (1, 2)
-root_kids k s root leaf r at = kids_of k root at.root_case at.root_node r.shape.root
+root_kids : (k : Content) (s : Side) (root leaf : WorkerNote) → IsTriple k → AreAt k s root leaf → kids root.case root.node ≡ Some (1, 2)
+root_kids k s root leaf r at = kids_of k root at.root_case at.root_node r.root
 
 one_pair : (a b : ℕ × ℕ) → Some a ≡ Some b → a ≡ b
 one_pair a b same = cc
@@ -157,14 +179,14 @@ back_at k root left right b = sym b.at_left.at.root_case
 
 -- ---- one part goes down
 
-pub fit_of : (k : Content) (s : Side) (root leaf : WorkerNote) (part : Lot) → IsRow k → IsBack k s root leaf → IsFitPart s part root
+pub fit_of : (k : Content) (s : Side) (root leaf : WorkerNote) (part : Lot) → IsTriple k → IsBack k s root leaf → IsFitPart s part root
     → LotFits leaf.case leaf.node part
 fit_of k s root leaf part r b f =
     let at = b.at in
     subst (λ (z : Content × ℕ). LotFits z.0 z.1 part) (λ j. ((at.root_case ∙ sym at.leaf_case) j, sym at.leaf_node j))
     (f.fits 1 2 (root_kids k s root leaf r at))
 
-pub grown_of : (k : Content) (s : Side) (root leaf : WorkerNote) (part : Lot) → IsRow k → IsBack k s root leaf → IsFitPart s part root
+pub grown_of : (k : Content) (s : Side) (root leaf : WorkerNote) (part : Lot) → IsTriple k → IsBack k s root leaf → IsFitPart s part root
     → GrownFrom leaf.case leaf.node leaf.given part.upto
 grown_of k s root leaf part r b f =
     let at = b.at in
@@ -196,18 +218,18 @@ lent_now k s root new leaf held part b l h = record {
 
 -- ---- one part comes back
 
-pub asked_above : (k : Content) (s : Side) (root leaf : WorkerNote) (y : Ask) → IsRow k → IsLent k s root leaf → IsAskable root y
+pub asked_above : (k : Content) (s : Side) (root leaf : WorkerNote) (y : Ask) → IsTriple k → IsLent k s root leaf → IsAskable root y
     → AsksAbove leaf.case leaf.node y
 asked_above k s root leaf y r b f =
     let at = b.at in
     subst (λ (z : Content × ℕ). AsksAbove z.0 z.1 y) (λ j. ((at.root_case ∙ sym at.leaf_case) j, sym at.leaf_node j))
     ((f 1 2 (root_kids k s root leaf r at) s).0)
 
-pub asked_next : (k : Content) (s : Side) (root leaf : WorkerNote) (y : Ask) → IsRow k → IsLent k s root leaf → IsAskable root y
+pub asked_next : (k : Content) (s : Side) (root leaf : WorkerNote) (y : Ask) → IsTriple k → IsLent k s root leaf → IsAskable root y
     → y.index ≡ slice_index leaf.held.upto y.itag.0
 asked_next k s root leaf y r b f = subst (λ (h : LotCounts). y.index ≡ slice_index h.upto y.itag.0) (sym b.held) ((f 1 2 (root_kids k s root leaf r b.at) s).1)
 
-pub take_fits : (k : Content) (s : Side) (root leaf : WorkerNote) (lot : Lot) → IsRow k → IsLent k s root leaf → LotFits leaf.case leaf.node lot
+pub take_fits : (k : Content) (s : Side) (root leaf : WorkerNote) (lot : Lot) → IsTriple k → IsLent k s root leaf → LotFits leaf.case leaf.node lot
     → (l r : ℕ) → kids root.case root.node ≡ Some (l, r) → LotFits root.case (at_side s l r) lot
 take_fits k s root leaf lot row b f l r is =
     let at = b.at in
@@ -216,7 +238,7 @@ take_fits k s root leaf lot row b f l r is =
     (λ j. ((at.leaf_case ∙ sym at.root_case) j, at.leaf_node j)) f in
     subst (λ (z : ℕ × ℕ). LotFits root.case (at_side s z.0 z.1) lot) pair here
 
-pub take_served : (k : Content) (s : Side) (root leaf : WorkerNote) (lot : Lot) (y : Ask) → IsRow k → IsLent k s root leaf → root.kept ≡ Some y
+pub take_served : (k : Content) (s : Side) (root leaf : WorkerNote) (lot : Lot) (y : Ask) → IsTriple k → IsLent k s root leaf → root.kept ≡ Some y
     → Served leaf.case leaf.node leaf.held y lot
     → (l r : ℕ) (x : Ask) → kids root.case root.node ≡ Some (l, r) → root.kept ≡ Some x → Served root.case (at_side s l r) (lent_to s root) x lot
 take_served k s root leaf lot y row b kept f l r x is other =
@@ -400,6 +422,6 @@ back_handled k root new left right x b h =
       };
     }
 
-pub hand_again : (k : Content) (root new left right : WorkerNote) (x : Ask) → IsRow k → AreBack k root left right → HandlesEvent x root new
+pub hand_again : (k : Content) (root new left right : WorkerNote) (x : Ask) → IsTriple k → AreBack k root left right → HandlesEvent x root new
     → new.hand ≡ Lending true true
 hand_again k root new left right x r b h = h.hand ∙ ap first_hand (root_kids k Left root left r b.at_left.at)

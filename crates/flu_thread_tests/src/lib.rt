@@ -1,4 +1,4 @@
-//! Tests of lots, of the links between workers, of the arrival words and of workers, in one thread. It has no code of its own.
+//! Tests of lots, of the links between workers, of the arrival words and of workers, in one thread and in several. It has no code of its own.
 #![tactic(auto)]
 
 #[cfg(test)]
@@ -12,7 +12,15 @@ mod links;
 #[cfg(test)]
 mod lots;
 #[cfg(test)]
+mod passing;
+#[cfg(test)]
+mod rounds;
+#[cfg(test)]
 mod steps;
+#[cfg(test)]
+mod stopping;
+#[cfg(test)]
+mod values;
 #[cfg(test)]
 mod walks;
 #[cfg(test)]

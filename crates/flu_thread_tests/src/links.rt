@@ -15,7 +15,7 @@ use flu_model::Itag;
 use std::alloc::{AllocError, Global};
 use std::test::Fail;
 
-const READ: Ask = Ask {
+pub const READ: Ask = Ask {
     itag: Itag(2),
     index: 0,
 };
@@ -38,7 +38,7 @@ fn is_too_early(up: &mut Upper, case: &Case) -> bool
     }
 }
 
-/// Whether one lot can be lent, and a second one then not.
+/// Whether one lot can be lent, and a second one then comes back as it was.
 fn lends_one(up: &mut Upper, case: &Case, left: Lot, other: Lot) -> bool
     requires row { IsRow case.now }
     requires idle { IsIdle case.now up.old }
@@ -51,7 +51,7 @@ fn lends_one(up: &mut Upper, case: &Case, left: Lot, other: Lot) -> bool
         return false;
     }
     match up.try_lend(other) {
-        Err(_) => true,
+        Err(back) => counts_are(&back, &[0, 0, 0], &[0, 0, 0]),
         Ok(()) => false,
     }
 }
@@ -93,7 +93,7 @@ fn asks_once(up: &mut Upper, case: &Case) -> bool
     !up.try_ask(READ)
 }
 
-fn is_first_read(y: Ask) -> bool
+pub fn is_first_read(y: Ask) -> bool
     ensures { result ≡ true → y ≡ first_read }
 {
     y.itag.0 == 2 && y.index == 0

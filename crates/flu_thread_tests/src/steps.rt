@@ -1,12 +1,11 @@
 //! What workers do alone and with each other.
 
-ghost use Rattle.std.specs.Prelude.{◌≡◌, ◌<◌, ◌≤◌, [], ◌∷◌, true, length, Some, IfOk};
+ghost use Rattle.std.specs.Prelude.{◌≡◌, ◌<◌, [], ◌∷◌, true, length, Some, IfOk};
 ghost use Rattle.flu_model.specs.Itags.{count_of_itags};
-ghost use Rattle.flu_model.specs.Listed.{listed};
 ghost use Rattle.flu_fork.specs.Lots.{job, nodes};
 ghost use Rattle.flu_worker.specs.Calls.{IsAskable};
 ghost use Rattle.flu_worker.specs.Hands.{may_lend, may_take};
-ghost use Rattle.flu_thread_tests.specs.Rows.{row, IsRow};
+ghost use Rattle.flu_thread_tests.specs.Rows.{IsTriple, AreThere};
 ghost use Rattle.flu_thread_tests.specs.Steps.{IsBegun, Works, IsBack, IsLent, Lends, Takes};
 
 use crate::lots::counts_are;
@@ -27,20 +26,17 @@ pub fn begun(
     alloc: Global,
     case: &Case,
     node: u32,
-    a: u64,
-    b: u64,
-    c: u64,
+    seen: (u64, u64, u64),
 ) -> Result<Worker, AllocError>
     requires itags { count_of_itags (job case.now) ≡ 3 }
-    requires row { listed case.now.streams ≡ row }
     requires node { node < length (nodes case.now) }
-    requires there { (a ≤ 3) × (b ≤ 2) × (c ≤ 3) }
-    ensures { IfOk result (IsBegun case.now node (a ∷ b ∷ c ∷ [])) }
+    requires there { AreThere case.now seen.0 seen.1 seen.2 }
+    ensures { IfOk result (IsBegun case.now node (seen.0 ∷ seen.1 ∷ seen.2 ∷ [])) }
 {
     let mut worker = Worker::new(alloc, case, node)?;
-    worker.see(case, Itag(0), a);
-    worker.see(case, Itag(1), b);
-    worker.see(case, Itag(2), c);
+    worker.see(case, Itag(0), seen.0);
+    worker.see(case, Itag(1), seen.1);
+    worker.see(case, Itag(2), seen.2);
     Ok(worker)
 }
 
@@ -95,7 +91,7 @@ pub fn lends(
     leaf: &mut Worker,
     told: &Told,
 ) -> Result<bool, AllocError>
-    requires row { IsRow case.now }
+    requires three { IsTriple case.now }
     requires back { IsBack case.now side root.old leaf.old }
     requires may { may_lend side root.old.hand ≡ true }
     ensures root { IfOk result (λ good. good ≡ true → Lends side root.old root.new) }
@@ -120,7 +116,7 @@ pub fn gives(
     y: Ask,
     told: &Told,
 ) -> Result<bool, AllocError>
-    requires row { IsRow case.now }
+    requires three { IsTriple case.now }
     requires lent { IsLent case.now side root.old leaf.old }
     requires may { may_take side root.old.hand ≡ true }
     requires kept { root.old.kept ≡ Some y }

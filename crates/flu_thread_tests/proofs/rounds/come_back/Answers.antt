@@ -1,5 +1,5 @@
 use Rattle.flu_thread_tests.proofs.StepLemmas.{askable_still}
-use Rattle.flu_thread_tests.proofs.workers.come_back.Goals as goal
+use Rattle.flu_thread_tests.proofs.rounds.come_back.Goals as goal
 
 pub gives-requires-2-clause-askable : goal.gives-requires-2-clause-askable
 gives-requires-2-clause-askable c =
