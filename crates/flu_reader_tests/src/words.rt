@@ -71,7 +71,10 @@ fn commands_are_read(rt: HostRuntime) -> Result<(), Fail> {
         (&["run", "J"], "run J"),
         (&["run", "J", "P"], "run J P"),
         (&["simulate", "J", "P", "0"], "simulate J P 0"),
-        (&["simulate", "J", "P", "2147483647"], "simulate J P 2147483647"),
+        (
+            &["simulate", "J", "P", "2147483647"],
+            "simulate J P 2147483647",
+        ),
         (&["demo", "0", "1"], "demo 0 1"),
         (&["demo", "1000000", "0000000007"], "demo 1000000 7"),
         (&["fold", "fold"], "fold fold"),

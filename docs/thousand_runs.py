@@ -1,0 +1,228 @@
+#!/usr/bin/env python3
+"""Compares the ways to run a job, over random small jobs, plans and sources: the bytes of `fold` with those of `run` and `simulate`.
+
+Usage: docs/thousand_runs.py PROGRAM [--times N] [--at-once K] [--seed S] [--keep FOLDER]
+
+PROGRAM is the built program. N jobs are made (1000 where no number is given), K of them are run side by side (8), so that threads get
+on at different moments, and the seed S (1) settles all that is made. Each job is made acceptable by the `depends` that `check` asks for.
+It is run by `fold`, by `run` with the program's own plan, with a plan of `plan --depth D` and with one that is made here, and by
+`simulate` with the last two and a random seed, where the program has that command. A job whose runs differ is kept in FOLDER
+(`thousand_runs` where none is named). The last line is a row for a table; the status is 1 where any run differed.
+"""
+import argparse
+import concurrent.futures
+import pathlib
+import random
+import re
+import shutil
+import subprocess
+import sys
+import tempfile
+import time
+
+CONFLICT = re.compile(r"flumina: conflict: (\w+)(?:\[\d+\])? and (\w+)(?:\[\d+\])? on ")
+KEYS = 4
+
+
+class Job:
+    """A random job: its cells, its kinds with their actions, the dependencies between them, and what its sources list."""
+
+    def __init__(self, rng):
+        self.rng = rng
+        self.version = rng.choice([1, 1, 2])
+        self.cells = [(f"c{i}", rng.random() < 0.5, rng.choice(["sum", "max", "last"])) for i in range(rng.randint(1, 3))]
+        self.kinds = [(f"k{i}", rng.random() < 0.5, rng.random() < 0.7) for i in range(rng.randint(1, 4))]
+        self.depends = set()
+        self.actions = [[self.action(keyed, valued) for _ in range(rng.randint(1, 3))] for _, keyed, valued in self.kinds]
+        for actions, kind in zip(self.actions, self.kinds):
+            if rng.random() < 0.4:
+                actions.append(self.emit(kind[1]))
+        self.sources = [(f"s{i}", rng.randint(1, 50), self.listed()) for i in range(rng.randint(1, 3))]
+
+    def listed(self):
+        """What a source lists: kinds, the keyed ones with a range of keys."""
+        tags = []
+        for kind in sorted(self.rng.sample(range(len(self.kinds)), self.rng.randint(1, len(self.kinds)))):
+            low = self.rng.randrange(KEYS) if self.kinds[kind][1] else 0
+            tags.append((kind, low, self.rng.randrange(low, KEYS) if self.kinds[kind][1] else 0))
+        return tags
+
+    def cell(self, keyed):
+        """A cell of some family, as an action of a kind names it, with the family's sort."""
+        name, many, sort = self.rng.choice(self.cells)
+        if not many:
+            return name, sort
+        return f"{name}[{'key' if keyed and self.rng.random() < 0.7 else self.rng.randrange(KEYS)}]", sort
+
+    def number(self, keyed, valued):
+        """An expression of one or two parts."""
+        atoms = ["time", str(self.rng.randint(0, 9)), self.cell(keyed)[0]] + ["value"] * (3 * valued) + ["key"] * keyed
+        if self.rng.random() < 0.6:
+            return self.rng.choice(atoms)
+        return f"({self.rng.choice(atoms)} {self.rng.choice(['+', '-', '*', '<', '=='])} {self.rng.choice(atoms)})"
+
+    def emit(self, keyed):
+        """An action that tells a cell."""
+        cell = self.cell(keyed)[0]
+        return f'emit "{cell} {{{cell}}} at {{time}}"'
+
+    def action(self, keyed, valued):
+        """An action that fits its kind."""
+        cell, sort = self.cell(keyed)
+        verb = {"sum": "add", "max": "raise", "last": "set"}[sort]
+        many = [name for name, keyed_cells, _ in self.cells if keyed_cells]
+        value = self.rng.choice(["value"] * 3 * valued + ["1", "2"])
+        forms = [f"{verb} {cell} {value}"] * 4 + [f"{verb} {cell} {self.number(keyed, valued)}", f"clear {cell}", self.emit(keyed)]
+        forms += [f'flush {name} "{name} {{key}} {{cell}}"' for name in many]
+        when = f" when {self.number(keyed, valued)}" if self.rng.random() < 0.2 else ""
+        return self.rng.choice(forms) + when
+
+    def text(self):
+        """The job's text."""
+        lines = [f"version {self.version}"] if self.version > 1 else []
+        lines += [f"cell {name} {'keyed ' if keyed else ''}{sort}" for name, keyed, sort in self.cells]
+        lines += [f"tag {name} {'keyed ' if keyed else ''}{'int' if valued else 'none'}" for name, keyed, valued in self.kinds]
+        lines += [f"depends {self.kinds[a][0]} {self.kinds[b][0]}{' same' if same else ''}" for a, b, same in sorted(self.depends)]
+        lines += [f"on {kind[0]}: {'; '.join(actions)}" for kind, actions in zip(self.kinds, self.actions)]
+        for name, rate, tags in self.sources:
+            listed = ", ".join(self.kinds[k][0] + (f"[{low}..{high}]" if self.kinds[k][1] else "") for k, low, high in tags)
+            lines.append(f'source {name} "{name}.csv" rate {rate}: {listed}')
+        return "\n".join(lines) + "\n"
+
+    def accept(self, program, folder):
+        """Adds what the program's `check` asks for, `same` first where both kinds are keyed, until the job is accepted."""
+        while True:
+            (folder / "job").write_text(self.text())
+            _, err, status = call(program, folder, "check", "job")
+            if status == 0:
+                return
+            asked = CONFLICT.match(err)
+            if status != 4 or not asked:
+                raise RuntimeError(f"check: {status} {err}")
+            a, b = sorted(next(i for i, kind in enumerate(self.kinds) if kind[0] == name) for name in asked.groups())
+            same = self.kinds[a][1] and self.kinds[b][1] and (a, b, True) not in self.depends
+            self.depends.add((a, b, same))
+
+    def itags(self):
+        """Each itag as its kind, its key and its source."""
+        return [(kind, key, name) for name, _, tags in self.sources for kind, low, high in tags for key in range(low, high + 1)]
+
+    def dependent(self, i, j):
+        """Whether two itags depend on each other."""
+        pair = tuple(sorted((i[0], j[0])))
+        return (*pair, False) in self.depends or ((*pair, True) in self.depends and i[1] == j[1])
+
+    def plan(self):
+        """A valid plan: each node owns some itags, and what is left parts into two groups that do not depend on each other."""
+        lines = []
+
+        def grow(mine, depth):
+            name = f"n{len(lines)}"
+            lines.append("")
+            groups = self.components(mine) if depth < 6 and self.rng.random() < 0.85 else []
+            own = mine
+            kids = ""
+            if groups:
+                own = [i for i in mine if self.rng.random() < 0.3]
+                left, right = [], []
+                for group in self.components([i for i in mine if i not in own]):
+                    self.rng.choice([left, right]).extend(group)
+                kids = f" -> {grow(left, depth + 1)}"
+                kids += f" {grow(right, depth + 1)}"
+            preds = ", ".join(f"{self.kinds[k][0]}{f'[{key}]' if self.kinds[k][1] else ''}@{source}" for k, key, source in own)
+            lines[int(name[1:])] = f"node {name}:{' ' if preds else ''}{preds}{kids}"
+            return name
+
+        grow(self.itags(), 0)
+        return "\n".join(lines) + "\n"
+
+    def components(self, mine):
+        """Groups of itags of which none depends on one of another group."""
+        left, groups = list(mine), []
+        while left:
+            group = [left.pop()]
+            for i in group:
+                near = [j for j in left if self.dependent(i, j)]
+                left = [j for j in left if j not in near]
+                group.extend(near)
+            groups.append(group)
+        return groups
+
+    def rows(self, tags):
+        """The rows of a source: rising times, some of them heartbeats, and the end."""
+        time_now, lines = 0, []
+        for _ in range(self.rng.choice([0, 2, 10, 30, 60])):
+            time_now += self.rng.choice([1, 1, 1, 2, 5])
+            kind, low, high = self.rng.choice(tags)
+            name, keyed, valued = self.kinds[kind]
+            tag = f"{name}[{self.rng.randint(low, high)}]" if keyed else name
+            value = f",{self.rng.randint(-9, 9)}" if valued else ""
+            lines.append(f"{time_now},beat" if self.rng.random() < 0.15 else f"{time_now},{tag}{value}")
+        return "\n".join(lines + ["end"]) + "\n"
+
+
+def call(program, folder, *words):
+    """What the program writes to its two streams, and its status."""
+    done = subprocess.run([program, *words], cwd=folder, capture_output=True, timeout=120, check=False)
+    return done.stdout, done.stderr.decode(errors="replace"), done.returncode
+
+
+def compared(program, seed, simulates, keep):
+    """Makes and runs one job: how many runs were compared, how many differed, how many nodes, events and lines there were."""
+    rng = random.Random(seed)
+    folder = pathlib.Path(tempfile.mkdtemp(prefix="thousand_runs_"))
+    job = Job(rng)
+    job.accept(program, folder)
+    events = 0
+    for name, _, tags in job.sources:
+        text = job.rows(tags)
+        events += sum(1 for line in text.split("\n") if "," in line and not line.endswith(",beat"))
+        (folder / f"{name}.csv").write_text(text)
+    greedy, err, status = call(program, folder, "plan", "job", "--depth", str(rng.randint(0, 6)))
+    if status:
+        raise RuntimeError(f"plan: {status} {err}")
+    (folder / "greedy").write_bytes(greedy)
+    (folder / "shaped").write_text(job.plan())
+    wanted, err, status = call(program, folder, "fold", "job")
+    if status:
+        raise RuntimeError(f"fold: {status} {err}")
+    ways = [("run", "job"), ("run", "job", "greedy"), ("run", "job", "shaped")]
+    if simulates:
+        ways += [("simulate", "job", plan, str(rng.randrange(2**31))) for plan in ("greedy", "shaped")]
+    bad = 0
+    for words in ways:
+        out, err, status = call(program, folder, *words)
+        if (out, status) != (wanted, 0):
+            bad += 1
+            print(f"seed {seed}: {' '.join(words)}: status {status} {err.strip()}", file=sys.stderr)
+    nodes = greedy.count(b"node ") + (folder / "shaped").read_text().count("node ")
+    if bad:
+        shutil.copytree(folder, keep / str(seed), dirs_exist_ok=True)
+    shutil.rmtree(folder)
+    return len(ways), bad, nodes, events, wanted.count(b"\n")
+
+
+def main():
+    words = argparse.ArgumentParser(description=__doc__.split("\n", maxsplit=1)[0])
+    words.add_argument("program")
+    words.add_argument("--times", type=int, default=1000)
+    words.add_argument("--at-once", type=int, default=8)
+    words.add_argument("--seed", type=int, default=1)
+    words.add_argument("--keep", type=pathlib.Path, default=pathlib.Path("thousand_runs"))
+    asked = words.parse_args()
+    program = str(pathlib.Path(asked.program).resolve())
+    # Words that are no command give 2; of a command that is there a missing file gives 7.
+    simulates = call(program, ".", "simulate", "no such file", "no such file", "0")[2] == 7
+    begin = time.time()
+    with concurrent.futures.ThreadPoolExecutor(asked.at_once) as pool:
+        made = [pool.submit(compared, program, seed, simulates, asked.keep) for seed in range(asked.seed, asked.seed + asked.times)]
+        runs, bad, nodes, events, lines = (sum(column) for column in zip(*(m.result() for m in made)))
+    took = time.time() - begin
+    print("| jobs | runs compared with fold | differ | nodes of plans | events | lines of reports | at once | simulate | seconds |")
+    print("|---|---|---|---|---|---|---|---|---|")
+    print(f"| {asked.times} | {runs} | {bad} | {nodes} | {events} | {lines} | {asked.at_once} | {'yes' if simulates else 'no'} | {took:.0f} |")
+    sys.exit(1 if bad else 0)
+
+
+if __name__ == "__main__":
+    main()
