@@ -38,9 +38,7 @@ fn check_seed<R: Abort + Threads + Wait + Sync>(
     let words = words_of(alloc, &["simulate", "J", "P", seed])?;
     let mut out = MemSink::with_room(alloc, 5000)?;
     let mut err = MemSink::with_room(alloc, 100)?;
-    let status = flumina(
-        rt, alloc, &words, &mut files, &mut out, &mut err, &OpenGate,
-    );
+    let status = flumina(rt, alloc, &words, &mut files, &mut out, &mut err, &OpenGate);
     assert_eq!(rt; status, 0);
     assert_eq!(rt; out.bytes(), report.as_bytes());
     assert!(rt; err.bytes().starts_with(steps.as_bytes()));
@@ -112,22 +110,8 @@ fn simulations_in_declared_order(rt: HostRuntime) -> Result<(), Fail> {
     ];
     let steps = "steps arrive 5 handle 2 ask 2 take 2 give 2 hold 4 lend 4 mark ";
     for seed in ["0", "1", "2147483647"] {
-        check_seed(
-            &rt,
-            rt.alloc(),
-            one_each,
-            seed,
-            "3,read,count 1\n",
-            steps,
-        )?;
-        check_seed(
-            &rt,
-            rt.alloc(),
-            read_first,
-            seed,
-            "3,read,count 0\n",
-            steps,
-        )?;
+        check_seed(&rt, rt.alloc(), one_each, seed, "3,read,count 1\n", steps)?;
+        check_seed(&rt, rt.alloc(), read_first, seed, "3,read,count 0\n", steps)?;
     }
     Ok(())
 }
