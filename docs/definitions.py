@@ -5,8 +5,9 @@ Usage: docs/definitions.py [--files]
 
 These are the files in `specs/` that declare a name of the contract, all files in `specs/` that those import, and so on; no proof is among
 them. The types of the code that they speak of are declared in `src/`, and those files are counted apart. Lines are counted without empty
-ones, comments and imports. The table has a row for each crate; with `--files` a line for each file is printed in its place. The last line says
-how many of these only the first faults of texts need: what is not cited any more where `flu_top/specs/TextFaults.antt` is left out.
+ones, comments and imports. The table has a row for each crate; with `--files` a line for each file is printed in its place. The last lines say
+how many of these only the first faults of texts and the step line of `simulate` need: what is not cited any more where
+`flu_top/specs/TextFaults.antt` or `Simulating.antt` is left out.
 """
 import re
 import sys
@@ -14,7 +15,10 @@ from pathlib import Path
 
 CRATES = Path(__file__).resolve().parent.parent / "crates"
 CALL = CRATES / "flu_top" / "src" / "top.rt"
-FAULTS = CRATES / "flu_top" / "specs" / "TextFaults.antt"
+PARTS = {
+    "the first faults of texts": CRATES / "flu_top" / "specs" / "TextFaults.antt",
+    "the step line of `simulate`": CRATES / "flu_top" / "specs" / "Simulating.antt",
+}
 NAMES = re.compile(r"^\s*(?:ghost |pub )*use Rattle\.([\w.]+)\.\{([^}]*)\}", re.M)
 WHOLE = re.compile(r"^\s*(?:ghost |pub )*use Rattle\.([\w.]+)(?: as \w+)?;?$", re.M)
 
@@ -69,9 +73,11 @@ def main():
             own = [path for path in definitions if path.relative_to(CRATES).parts[0] == crate]
             print(f"| `{crate}` | {', '.join(f'{path.stem} {lines_of(path)}' for path in own)} | {sum(map(lines_of, own))} |")
     code = len(files) - len(definitions)
-    faults = [path for path in definitions if path not in cited(without=FAULTS)]
     print(f"\n{len(definitions)} files of definitions, {sum(map(lines_of, definitions))} lines; types that {code} files of code declare")
-    print(f"for the first faults of texts alone: {len(faults)} files of definitions, {sum(map(lines_of, faults))} lines")
+    for part, file in PARTS.items():
+        left = cited(without=file)
+        alone = [path for path in definitions if path not in left]
+        print(f"for {part} alone: {len(alone)} files of definitions, {sum(map(lines_of, alone))} lines")
 
 
 main()
