@@ -1,5 +1,5 @@
 -- Counts of nothing.
-use Rattle.std.proofs.Common.{◌≡◌, ℕ, zero, suc, List, [], ◌∷◌, length, refl, ap, arith}
+use Rattle.std.proofs.Common.{◌≡◌, ℕ, List, [], ◌∷◌, length, refl, ap, arith}
 use Rattle.flu_arrive.specs.Notes.{zeros}
 
 pub same_zeros : (xs ys : List ℕ) → length xs ≡ length ys → zeros xs ≡ zeros ys

@@ -1,5 +1,5 @@
 -- What a worker's thread keeps over its steps.
-use Rattle.std.proofs.Common.{◌≡◌, ◌≢◌, ◌≤◌, ◌+◌, ℕ, zero, suc, true, false, Option, Some, None}
+use Rattle.std.proofs.Common.{◌≡◌, ◌≢◌, ◌≤◌, ◌+◌, ℕ, true, false, Option, Some, None}
 use Rattle.std.proofs.Common.{List, [], length, ◌⊎◌, inl, inr, refl, sym, ap, subst, ◌∙◌, arith}
 use Rattle.std.specs.Prelude.{slice_index, IsSome, IfSome, IfNone}
 use Rattle.std.specs.List.{range_with_len}
