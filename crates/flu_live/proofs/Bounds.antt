@@ -11,11 +11,13 @@ use Rattle.flu_model.specs.Merging.{events_of}
 
 events_append : (xs ys : List Item) → length (events_of (xs ++ ys)) ≡ length (events_of xs) + length (events_of ys)
 events_append [] ys = omega arith
-events_append (EventItem x ∷ xs) ys = let rest : length (events_of (xs ++ ys)) ≡ length (events_of xs) + length (events_of ys) = events_append xs ys in omega (arith, rest)
+events_append (EventItem x ∷ xs) ys = let rest : length (events_of (xs ++ ys)) ≡ length (events_of xs) + length (events_of ys) = events_append xs ys in
+    omega (arith, rest)
 events_append (Beat t ∷ xs) ys = events_append xs ys
 events_append (End ∷ xs) ys = events_append xs ys
 
-pub one_event_more : (items : List Item) (i : ℕ) (d : Item) (was here : ℕ) → i < length items → was ≡ length (events_of (take i items)) → here ≡ length (events_of (get_or items i d ∷ []))
+pub one_event_more : (items : List Item) (i : ℕ) (d : Item) (was here : ℕ) → i < length items → was ≡ length (events_of (take i items))
+    → here ≡ length (events_of (get_or items i d ∷ []))
     → was + here ≡ length (events_of (take (i + 1) items))
 one_event_more items i d was here there e f =
     let more : length (events_of (take (i + 1) items)) ≡ length (events_of (take i items)) + length (events_of (get_or items i d ∷ [])) =

@@ -32,7 +32,8 @@ pub one_more_of : (n : NetNote) (steps : List Step) (i : ℕ) (d : Step) (old ne
     → new ≡ old ++ enabled_among n (get_or steps i d ∷ []) → new ≡ enabled_among n (take (i + 1) steps)
 one_more_of n steps i d old new there was is = is ∙ ap (λ l. l ++ enabled_among n (get_or steps i d ∷ [])) was ∙ sym (among_more n steps i d there)
 
-pub none_more : (n : NetNote) (steps : List Step) (i : ℕ) (d : Step) → i < length steps → enabled_among n (take i steps) ≡ [] → enabled_among n (get_or steps i d ∷ []) ≡ []
+pub none_more : (n : NetNote) (steps : List Step) (i : ℕ) (d : Step) → i < length steps → enabled_among n (take i steps) ≡ []
+    → enabled_among n (get_or steps i d ∷ []) ≡ []
     → enabled_among n (take (i + 1) steps) ≡ []
 none_more n steps i d there was off = among_more n steps i d there ∙ ap (λ l. l ++ enabled_among n (get_or steps i d ∷ [])) was ∙ off
 

@@ -52,7 +52,8 @@ on_step n s on = and_right (not n.gone) (by_step n s) on
 
 itag_there : (n : NetNote) (i : Itag) → by_step n (Arrive i) ≡ true → i.0 < length (listed n.case.streams)
 itag_there n i on =
-    let more : slice_index n.seen i.0 < length (slice_index_or (listed n.case.streams) i.0 []) = true_lt (slice_index n.seen i.0) (length (slice_index_or (listed n.case.streams) i.0 [])) on in
+    let more : slice_index n.seen i.0 < length (slice_index_or (listed n.case.streams) i.0 []) =
+    true_lt (slice_index n.seen i.0) (length (slice_index_or (listed n.case.streams) i.0 [])) on in
     unseen (listed n.case.streams) i.0 (slice_index n.seen i.0) more
   where
     unseen : (lists : List (List Item)) (i seen : ℕ) → seen < length (slice_index_or lists i []) → i < length lists
@@ -103,11 +104,13 @@ none_enabled n rule none s = by_kind s
 
     asks : (w : ℕ) (side : Side) → is_enabled n (Ask w side) ≡ true → Off n w
     asks w side on =
-        at_worker w (slice_get-within (aims n w side) refl n.workers w (and_right (is_held (edge_below n w side)) (aims n w side (slice_get n.workers w)) (on_step n (Ask w side) on)))
+        at_worker w (slice_get-within (aims n w side) refl n.workers w
+        (and_right (is_held (edge_below n w side)) (aims n w side (slice_get n.workers w)) (on_step n (Ask w side) on)))
 
     takes : (w : ℕ) (side : Side) → is_enabled n (Take w side) ≡ true → Off n w
     takes w side on =
-        workers_off n w later (slice_get-within (λ here. is_given (edge_at n.edges (side_of side (kids_of here)))) refl (nodes n.case) w (on_step n (Take w side) on))
+        workers_off n w later (slice_get-within (λ here. is_given (edge_at n.edges (side_of side (kids_of here)))) refl (nodes n.case) w
+        (on_step n (Take w side) on))
 
     lends : (w : ℕ) (side : Side) → is_enabled n (Lend w side) ≡ true → Off n w
     lends w side on =
@@ -116,9 +119,11 @@ none_enabled n rule none s = by_kind s
 
     by_kind : (s : Step) → is_enabled n s ≡ false
     by_kind (Arrive i) =
-        off_if_on (is_enabled n (Arrive i)) (λ on. arrivals_off n i.0 first (subst (λ (m : ℕ). i.0 < m) n.case.one_each (itag_there n i (on_step n (Arrive i) on))))
+        off_if_on (is_enabled n (Arrive i))
+        (λ on. arrivals_off n i.0 first (subst (λ (m : ℕ). i.0 < m) n.case.one_each (itag_there n i (on_step n (Arrive i) on))))
     by_kind (Handle w) =
-        off_if_on (is_enabled n (Handle w)) (λ on. (at_worker w (slice_get-within (if_there (λ v. is_some (next_of v))) refl n.workers w (on_step n (Handle w) on))).0)
+        off_if_on (is_enabled n (Handle w))
+        (λ on. (at_worker w (slice_get-within (if_there (λ v. is_some (next_of v))) refl n.workers w (on_step n (Handle w) on))).0)
     by_kind (Ask w Left) = off_if_on (is_enabled n (Ask w Left)) (λ on. (asks w Left on).1.0)
     by_kind (Ask w Right) = off_if_on (is_enabled n (Ask w Right)) (λ on. (asks w Right on).1.1.0)
     by_kind (Take w Left) = off_if_on (is_enabled n (Take w Left)) (λ on. (takes w Left on).1.1.1.0)

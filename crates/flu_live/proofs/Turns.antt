@@ -30,11 +30,13 @@ one_more (Lend w side) c = omega arith
 
 -- ---- a run on its way
 
-as_is : (k : Content) (seed seed' : ℕ) (net : NetNote) (x x' : ℕ) (steps steps' : StepCounts) (mark mark' : ℕ) → seed ≡ seed' → x ≡ x' → steps ≡ steps' → mark ≡ mark'
+as_is : (k : Content) (seed seed' : ℕ) (net : NetNote) (x x' : ℕ) (steps steps' : StepCounts) (mark mark' : ℕ) → seed ≡ seed' → x ≡ x' → steps ≡ steps'
+    → mark ≡ mark'
     → Reaches k seed net x steps mark → Reaches k seed' net x' steps' mark'
 as_is k seed seed' net x x' steps steps' mark mark' a b c d run =
     subst (λ m. Reaches k seed' net x' steps' m) d
-    (subst (λ (t : StepCounts). Reaches k seed' net x' t mark) c (subst (λ y. Reaches k seed' net y steps mark) b (subst (λ r. Reaches k r net x steps mark) a run)))
+    (subst (λ (t : StepCounts). Reaches k seed' net x' t mark) c
+    (subst (λ y. Reaches k seed' net y steps mark) b (subst (λ r. Reaches k r net x steps mark) a run)))
 
 -- the room for steps to come, as numbers
 room_begun : (a l m : ℕ) → a ≡ 0 → l ≤ m → a + l ≤ m
@@ -46,7 +48,8 @@ room_made a b l l' m more room left = omega arith
 room_for : (a l l' m n : ℕ) → a + l ≤ m → m < n → l' < l → a + 1 < n
 room_for a l l' m n room few left = omega arith
 
-pub begun_run : (k : Content) (d : Drawing) → IsStart k d.net → d.last ≡ d.seed → d.seed < 2 ^ 31 → d.steps ≡ no_steps → d.mark ≡ 0 → steps_left d.net ≤ most_steps k → most_steps k < 2 ^ 128
+pub begun_run : (k : Content) (d : Drawing) → IsStart k d.net → d.last ≡ d.seed → d.seed < 2 ^ 31 → d.steps ≡ no_steps → d.mark ≡ 0
+    → steps_left d.net ≤ most_steps k → most_steps k < 2 ^ 128
     → IsOnItsWay k d
 begun_run k d start last small steps mark most few =
     let none : steps_in d.steps ≡ 0 = ap steps_in steps in
@@ -59,15 +62,19 @@ begun_run k d start last small steps mark most few =
       few = few;
     }
 
-pub made_one : (k : Content) (old new : Drawing) (place : ℕ) (s : Step) → IsOnItsWay k old → new.seed ≡ old.seed → new.last ≡ next_draw old.last → new.last < 2 ^ 31
-    → IsDrawn old.net new.last place s → Makes s old.net new.net → new.net.case ≡ old.net.case → new.net.gone ≡ false → steps_left new.net < steps_left old.net → new.steps ≡ counting s old.steps → new.mark ≡ marked old.mark place
+pub made_one : (k : Content) (old new : Drawing) (place : ℕ) (s : Step) → IsOnItsWay k old → new.seed ≡ old.seed → new.last ≡ next_draw old.last
+    → new.last < 2 ^ 31
+    → IsDrawn old.net new.last place s → Makes s old.net new.net → new.net.case ≡ old.net.case → new.net.gone ≡ false
+    → steps_left new.net < steps_left old.net → new.steps ≡ counting s old.steps → new.mark ≡ marked old.mark place
     → IsOnItsWay k new
 made_one k old new place s way seed last small drawn does case stays left steps mark =
     let more : steps_in new.steps ≡ steps_in old.steps + 1 = ap steps_in steps ∙ one_more s old.steps in
     record {
       case = case ∙ way.case;
       gone = stays;
-      run = as_is k old.seed new.seed new.net (next_draw old.last) new.last (counting s old.steps) new.steps (marked old.mark place) new.mark (sym seed) (sym last) (sym steps) (sym mark)
+      run =
+          as_is k old.seed new.seed new.net (next_draw old.last) new.last (counting s old.steps) new.steps (marked old.mark place) new.mark (sym seed)
+          (sym last) (sym steps) (sym mark)
           (made way.run (subst (λ x. IsDrawn old.net x place s) last drawn) does);
       small = small;
       room = room_made (steps_in old.steps) (steps_in new.steps) (steps_left old.net) (steps_left new.net) (most_steps k) more way.room left;
@@ -79,6 +86,7 @@ pub has_room : (k : Content) (old : Drawing) (new : NetNote) → IsOnItsWay k ol
 has_room k old new way left = room_for (steps_in old.steps) (steps_left old.net) (steps_left new) (most_steps k) (2 ^ 128) way.room way.few left
 
 -- what is drawn is enabled
-pub drawn_on : (n : NetNote) (enabled : List Step) (place : ℕ) (d : Step) → enabled ≡ enabled_steps n → place < length enabled → is_enabled n (get_or enabled place d) ≡ true
+pub drawn_on : (n : NetNote) (enabled : List Step) (place : ℕ) (d : Step) → enabled ≡ enabled_steps n → place < length enabled
+    → is_enabled n (get_or enabled place d) ≡ true
 drawn_on n enabled place d are there =
     is_on n (all_steps n.case) place (get_or enabled place d) (sym (ap (λ l. slice_get l place) are) ∙ slice_get-get_or enabled place d there)

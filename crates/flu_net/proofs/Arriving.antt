@@ -3,6 +3,7 @@ use Rattle.std.proofs.Common.{◌≡◌, ◌<◌, ◌≤◌, ◌+◌, ℕ, zero,
 use Rattle.std.specs.Prelude.{slice_get, slice_index, slice_index_or}
 use Rattle.std.proofs.lemmas.Bool.{cases_eq, cases_lt}
 use Rattle.std.proofs.lemmas.List.{get_or-set_same, get_or-set_other, get_or_past, length-set, length-map}
+use Rattle.std.proofs.lemmas.Option.{same_Some}
 use Rattle.flu_lemmas.proofs.Tests.{true_lt}
 use Rattle.flu_model.specs.declared.events.Item.{Item}
 use Rattle.flu_model.specs.declared.events.Itag.{Itag}
@@ -19,11 +20,10 @@ use Rattle.flu_net.specs.Enabled.{may_arrive}
 use Rattle.flu_net.specs.Notes.{NetNote}
 use Rattle.flu_net.specs.Rule.{Hangs, Lets, IsPlaced, IsSeen, Rule, Stands, Ties}
 use Rattle.flu_net.specs.Showing.{AllMaySee}
-use Rattle.flu_net.proofs.Lists.{same_some}
 
 mapped_from : {X : Type 0} (f : X → X) (xs : List X) (w : ℕ) (y : X) → slice_get (map f xs) w ≡ Some y → (x : X) × (slice_get xs w ≡ Some x) × (f x ≡ y)
 mapped_from f [] w y e = cc
-mapped_from f (x ∷ xs) zero y e = (x, refl, same_some (f x) y e)
+mapped_from f (x ∷ xs) zero y e = (x, refl, same_Some (f x) y e)
 mapped_from f (x ∷ xs) (suc w) y e = mapped_from f xs w y e
 
 hangs_seen : (i count : ℕ) (n : WorkerNote) (e : Edge) → Hangs n e → Hangs (seeing i count n) e

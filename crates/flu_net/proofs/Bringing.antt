@@ -1,8 +1,12 @@
 -- From the last node to the root each lot goes up with all events of its subtree.
-use Rattle.std.proofs.Common.{◌≡◌, ◌<◌, ◌≤◌, ◌+◌, ◌-◌, ℕ, true, Some, None, List, [], ◌∷◌, ◌++◌, length, set, take, get_or, inl, inr, refl, sym, ap, subst, ◌∙◌, arith}
+use Rattle.std.proofs.Common.{◌≡◌, ◌<◌, ◌≤◌, ◌+◌, ◌-◌, ℕ, true, Some, None, List, [], ◌∷◌, ◌++◌}
+use Rattle.std.proofs.Common.{length, set, take, get_or, inl, inr, refl, sym, ap, subst, ◌∙◌, arith}
 use Rattle.std.specs.Prelude.{slice_get, IsSome, Result, Ok, Err, IfOk, OnOk}
 use Rattle.std.proofs.lemmas.Bool.{cases_eq}
-use Rattle.std.proofs.lemmas.List.{get_or-take, length-append, length-take-le, take-take, take_all}
+use Rattle.std.proofs.lemmas.List.{get_or-take, length-append, length-take-le, take-take, take_all, length-set}
+use Rattle.std.proofs.lemmas.Option.{same_Some, some_pair_parts}
+use Rattle.flu_lemmas.proofs.Replaced.{slice_get-set_same, slice_get-set_other}
+use Rattle.flu_lemmas.proofs.Options.{none_or_some}
 use Rattle.flu_model.specs.Folding.{final_state}
 use Rattle.flu_model.specs.Listed.{listed}
 use Rattle.flu_model.specs.Owners.{parent_of}
@@ -26,11 +30,11 @@ use Rattle.flu_net.specs.Enabled.{is_given}
 use Rattle.flu_net.specs.Ending.{IsAtEnd, AreAtEnd, AreBrought, IsBrought}
 use Rattle.flu_net.specs.LawsBelow.{LawsBelow}
 use Rattle.flu_net.proofs.Framing.{under, kids_differ}
-use Rattle.flu_net.proofs.Lists.{set_here, set_there, set_long, same_some}
-use Rattle.flu_net.proofs.Readying.{at_index, no_some}
+use Rattle.flu_net.proofs.Readying.{at_index}
 
 -- ---- the root's lot is the fold's
-pub the_state : (laws : LawsBelow) (k : Content) (lent : LotCounts) (lot : Lot) → BringsAll k 0 lent lot → held lot.state ≡ final_state (job k) (held k.opening) (listed k.streams)
+pub the_state : (laws : LawsBelow) (k : Content) (lent : LotCounts) (lot : Lot) → BringsAll k 0 lent lot
+    → held lot.state ≡ final_state (job k) (held k.opening) (listed k.streams)
 the_state laws k lent lot all = laws.states_end (setting_of k) (held lot.state) lot.since lot.upto (laws.settings k) all.fits all.inside
 
 pub the_sorts : (laws : LawsBelow) (k : Content) (lent : LotCounts) (lot : Lot) → BringsAll k 0 lent lot → IsStateOf (job k).families (held lot.state)
@@ -38,7 +42,8 @@ the_sorts laws k lent lot all =
     laws.sorts (setting_of k) 0 (held lot.state) lot.since lot.upto (laws.settings k) (laws.parents (nodes k) (laws.settings k).one_tree).root all.fits
 
 -- ---- a leaf
-pub leaf_all : (laws : LawsBelow) (v : WorkerNote) (lot : Lot) → IsAtEnd v.case v.node v → HasRule v → kids v.case v.node ≡ None → IsWholeLot v lot → BringsAll v.case v.node v.held lot
+pub leaf_all : (laws : LawsBelow) (v : WorkerNote) (lot : Lot) → IsAtEnd v.case v.node v → HasRule v → kids v.case v.node ≡ None → IsWholeLot v lot
+    → BringsAll v.case v.node v.held lot
 leaf_all laws v lot end rule leaf whole =
     laws.at_leaf v.case v.node v.held lot leaf whole.fits whole.since (λ i mine. whole.own i mine ∙ (end.done rule).own i mine) whole.outside
 
@@ -46,7 +51,7 @@ leaf_all laws v lot end rule leaf whole =
 module _ (k : Content) (w : ℕ) (v : WorkerNote) (end : IsAtEnd k w v) (done : IsFinished v) (inner : IsSome (kids k w)) where
   down : v.hand ≡ Down
   down = elim done.hand [
-    | inl whole ↦ absurd (no_some (kids k w) ((λ i. kids (sym end.case i) (sym end.node i)) ∙ done.leaf whole) inner)
+    | inl whole ↦ absurd (none_or_some (kids k w) ((λ i. kids (sym end.case i) (sym end.node i)) ∙ done.leaf whole) inner)
     | inr is ↦ is
   ]
 
@@ -67,21 +72,19 @@ module _ (k : Content) (w : ℕ) (v : WorkerNote) (end : IsAtEnd k w v) (done : 
         outside = forked.outside;
       }))
 
-  pub are_paired : (laws : LawsBelow) (l r : ℕ) (left right : Lot) → BringsAll k l v.lent_left left → BringsAll k r v.lent_right right → LotsPaired k l r left right
+  pub are_paired : (laws : LawsBelow) (l r : ℕ) (left right : Lot) → BringsAll k l v.lent_left left → BringsAll k r v.lent_right right
+      → LotsPaired k l r left right
   are_paired laws l r left right = laws.last_paired k w l r v.held v.lent_left v.lent_right left right last
 
   pub joined_all : (laws : LawsBelow) (left right lot : Lot) → ((l r : ℕ) → kids k w ≡ Some (l, r) → BringsAll k l v.lent_left left)
-      → ((l r : ℕ) → kids k w ≡ Some (l, r) → BringsAll k r v.lent_right right) → LotFits k w lot → HasJoinedCounts k w left right lot → BringsAll k w v.held lot
+      → ((l r : ℕ) → kids k w ≡ Some (l, r) → BringsAll k r v.lent_right right) → LotFits k w lot → HasJoinedCounts k w left right lot
+      → BringsAll k w v.held lot
   joined_all laws left right lot fl fr fits counts =
       elim (kids k w) as (λ o. kids k w ≡ o → BringsAll k w v.held lot) [
-        | None ↦ λ e. absurd (no_some (kids k w) e inner)
+        | None ↦ λ e. absurd (none_or_some (kids k w) e inner)
         | Some both ↦ λ e.
             (laws.last_joined k w both.0 both.1 v.held v.lent_left v.lent_right left right lot e last (fl both.0 both.1 e) (fr both.0 both.1 e) fits counts).all
       ] refl
-
-pub ok_from : {T E : Type 0} (r : Result T E) (P Q R : T → Type 0) → ((x : T) → P x → Q x → R x) → IfOk r P → IfOk r Q → IfOk r R
-ok_from (Ok x) P Q R f p q = f x p q
-ok_from (Err e) P Q R f p q = tt
 
 -- ---- as its node sees it
 pub end_there : (k : Content) (w : ℕ) (v : WorkerNote) → IsAtEnd k w v → IsAtEnd v.case v.node v
@@ -98,7 +101,7 @@ module _ (laws : LawsBelow) (k : Content) (w l r : ℕ) (are : kids k w ≡ Some
 
   right_on : (more : List Edge) (e : Edge) → more ≡ set es l Home → slice_get more r ≡ Some e → Some e ≡ Some (Given (parts Right l r are).lot)
   right_on more e is was =
-      sym was ∙ ap (λ (x : List Edge). slice_get x r) is ∙ set_there es l r Home (kids_differ laws k Left w l r are) ∙ (parts Right l r are).on
+      sym was ∙ ap (λ (x : List Edge). slice_get x r) is ∙ slice_get-set_other es l r Home (kids_differ laws k Left w l r are) ∙ (parts Right l r are).on
 
   pub right_given : (more : List Edge) (e : Edge) → more ≡ set es l Home → slice_get more r ≡ Some e → is_given (Some e) ≡ true
   right_given more e is was = ap is_given (right_on more e is was)
@@ -107,11 +110,7 @@ module _ (laws : LawsBelow) (k : Content) (w l r : ℕ) (are : kids k w ≡ Some
   same_lot e a b p q = cc
 
   same_pair : (a b : ℕ) → kids k w ≡ Some (a, b) → (l ≡ a) × (r ≡ b)
-  same_pair a b again =
-      let here : ℕ × ℕ = (l, r) in
-      let there : ℕ × ℕ = (a, b) in
-      let same = same_some here there (sym are ∙ again) in
-      (ap (λ (p : ℕ × ℕ). p.0) same, ap (λ (p : ℕ × ℕ). p.1) same)
+  same_pair a b again = some_pair_parts l a r b (sym are ∙ again)
 
   pub left_all : (e : Edge) (lot : Lot) → slice_get es l ≡ Some e → e ≡ Given lot → (a b : ℕ) → kids k w ≡ Some (a, b) → BringsAll k a v.lent_left lot
   left_all e lot was is a b again =
@@ -128,9 +127,9 @@ module _ (laws : LawsBelow) (k : Content) (w l r : ℕ) (are : kids k w ≡ Some
       → slice_get most u ≡ slice_get es u
   others_same more most is also u no_kid =
       ap (λ (x : List Edge). slice_get x u) also
-      ∙ set_there more r u Home (λ e. no_kid (ap (parent_of (nodes k)) e ∙ (under laws k Right w l r are).parent))
+      ∙ slice_get-set_other more r u Home (λ e. no_kid (ap (parent_of (nodes k)) e ∙ (under laws k Right w l r are).parent))
       ∙ ap (λ (x : List Edge). slice_get x u) is
-      ∙ set_there es l u Home (λ e. no_kid (ap (parent_of (nodes k)) e ∙ (under laws k Left w l r are).parent))
+      ∙ slice_get-set_other es l u Home (λ e. no_kid (ap (parent_of (nodes k)) e ∙ (under laws k Left w l r are).parent))
 
 pub on_ok : {T E : Type 0} (r : Result T E) (P : Type 0) → P → OnOk r P
 on_ok (Ok x) P p = p
@@ -140,7 +139,8 @@ pub ok_as : {T E A : Type 0} (r : Result T E) (P : A → T → Type 0) (a b : A)
 ok_as r P a b e = subst (λ x. IfOk r (P x)) e
 
 -- ---- before any lot went up
-pub brought_first : (laws : LawsBelow) (k : Content) (ws : List WorkerNote) (es : List Edge) → AreAtEnd k ws → length es ≡ length (nodes k) → (m : ℕ) → m ≡ length (nodes k)
+pub brought_first : (laws : LawsBelow) (k : Content) (ws : List WorkerNote) (es : List Edge) → AreAtEnd k ws → length es ≡ length (nodes k) → (m : ℕ)
+    → m ≡ length (nodes k)
     → (1 ≤ m) × (m ≤ length (nodes k)) × (ws ≡ take m ws) × AreBrought k m ws es
 brought_first laws k ws es end each m is =
     let root = (laws.parents (nodes k) (laws.settings k).one_tree).root in
@@ -163,13 +163,13 @@ module _ (laws : LawsBelow) (k : Content) (ws : List WorkerNote) (end : AreAtEnd
   pub brought_more : (lot : Lot) (more : List Edge) → w < length (nodes k) → BringsAll k w x.held lot → length more ≡ length es
       → ((v : ℕ) → (parent_of (nodes k) v ≡ Some w → ⊥) → slice_get more v ≡ slice_get es v) → AreBrought k w ws (set more w (Given lot))
   brought_more lot more there all long others = record {
-    each = set_long more w (Given lot) ∙ long ∙ was.each;
+    each = length-set more w (Given lot) ∙ long ∙ was.each;
     brought = λ s u l r v lt up are le. elim (cases_eq (at_side s l r) w) as (λ _. IsBrought k (at_side s l r) (lent_to s v) (set more w (Given lot))) [
       | inl same ↦
           let each = was.each in
           record {
             lot = lot;
-            on = ap (slice_get (set more w (Given lot))) same ∙ set_here more w (Given lot) (omega arith);
+            on = ap (slice_get (set more w (Given lot))) same ∙ slice_get-set_same more w (Given lot) (omega arith);
             all = subst (λ (m : LotCounts). BringsAll k (at_side s l r) m lot) (end.lent s u l r v x are up (ap (slice_get ws) same ∙ at))
                 (subst (λ (j : ℕ). BringsAll k j x.held lot) (sym same) all);
           }
@@ -178,8 +178,8 @@ module _ (laws : LawsBelow) (k : Content) (ws : List WorkerNote) (end : AreAtEnd
           let parent = (under laws k s u l r are).parent in
           record {
             lot = old.lot;
-            on = set_there more w (at_side s l r) (Given lot) apart ∙ others (at_side s l r) (λ (e : parent_of (nodes k) (at_side s l r) ≡ Some w).
-                (let same : u ≡ w = same_some u w (sym parent ∙ e) in omega arith)) ∙ old.on;
+            on = slice_get-set_other more w (at_side s l r) (Given lot) apart ∙ others (at_side s l r) (λ (e : parent_of (nodes k) (at_side s l r) ≡ Some w).
+                (let same : u ≡ w = same_Some u w (sym parent ∙ e) in omega arith)) ∙ old.on;
             all = old.all;
           }
     ];
@@ -202,7 +202,8 @@ popped ws old new m x was some le is =
     let size = ap (λ (l : List WorkerNote). length l) all in
     let both = length-append new (x ∷ []) in
     let long : length new ≡ m - 1 = omega arith in (
-      sym (front_of new x) ∙ ap (λ (j : ℕ). take j (new ++ x ∷ [])) long ∙ ap (λ (l : List WorkerNote). take (m - 1) l) (sym all) ∙ take-take (m - 1) m ws (omega arith),
+      sym (front_of new x) ∙ ap (λ (j : ℕ). take j (new ++ x ∷ [])) long ∙ ap (λ (l : List WorkerNote). take (m - 1) l) (sym all)
+          ∙ take-take (m - 1) m ws (omega arith),
       at_index ws (m - 1) x (omega arith)
           (sym (last_or new x) ∙ ap (λ (j : ℕ). get_or (new ++ x ∷ []) j x) long ∙ ap (λ (l : List WorkerNote). get_or l (m - 1) x) (sym all)
           ∙ get_or-take m ws (m - 1) x (omega arith)),

@@ -4,6 +4,7 @@ use Rattle.std.specs.Prelude.{◌&&◌, is_none, is_some, slice_get}
 use Rattle.std.proofs.lemmas.Option.{slice_get_within}
 use Rattle.flu_lemmas.proofs.Places.{slice_get-within}
 use Rattle.flu_lemmas.proofs.Tests.{and_left, and_right, false_if_not, not_both, true_lt}
+use Rattle.flu_lemmas.proofs.Options.{none_or_some}
 use Rattle.flu_model.specs.declared.events.Event.{Event}
 use Rattle.flu_fork.specs.declared.lots.Ask.{Ask}
 use Rattle.flu_fork.specs.Lots.{nodes, kids, setting_of}
@@ -25,9 +26,7 @@ use Rattle.flu_net.specs.Notes.{NetNote, asked_of, asked_over, edge_at, side_of}
 use Rattle.flu_net.specs.Rule.{IsUnderAsk, Rule}
 use Rattle.flu_net.proofs.Framing.{under}
 use Rattle.flu_net.proofs.Finals.{all_open, part_out}
-use Rattle.flu_net.proofs.Hands.{lend_home}
 use Rattle.flu_net.proofs.Placed.{placed_at, sound_at, worker_at}
-use Rattle.flu_net.proofs.Readying.{no_some}
 use Rattle.flu_net.proofs.Stepping.{hangs_now}
 
 -- nothing is chosen
@@ -95,7 +94,8 @@ module _ (laws : LawsBelow) (n : NetNote) (rule : Rule n) (keep : AllKeep n.work
     none_aimed =
         ap (λ o. first_some o (cond (is_down u.hand) (new_target (sight v) (asked_of n w)) None)) kept_none
         ∙ none_new (is_down u.hand) (new_target (sight v) (asked_of n w))
-        (ap (λ (o : Option Event). first_some (ask_for (sight v) (if_ready (sight v) o)) (if_serves (sight v) (asked_of n w))) nothing.next ∙ ap (if_serves (sight v)) none_asked)
+        (ap (λ (o : Option Event). first_some (ask_for (sight v) (if_ready (sight v) o)) (if_serves (sight v) (asked_of n w))) nothing.next
+        ∙ ap (if_serves (sight v)) none_asked)
 
   -- ---- the steps
   -- a worker that passes a test is there
@@ -105,12 +105,12 @@ module _ (laws : LawsBelow) (n : NetNote) (rule : Rule n) (keep : AllKeep n.work
   no_handle : (w : ℕ) → by_step n (Handle w) ≡ true → ⊥
   no_handle w e =
       let u = worker_at laws n rule w (there (λ v. is_some (next_of v)) w e) in
-      no_some (next_of (placed_at n.case w u.0)) (none_next w u.0 u.1) (sym (ap (if_there (λ v. is_some (next_of v))) u.1) ∙ e)
+      none_or_some (next_of (placed_at n.case w u.0)) (none_next w u.0 u.1) (sym (ap (if_there (λ v. is_some (next_of v))) u.1) ∙ e)
 
   no_ask : (w : ℕ) (s : Side) → by_step n (AskStep w s) ≡ true → ⊥
   no_ask w s e =
       let u = worker_at laws n rule w (there (λ v. may_take s v.hand && is_some (target_of v (asked_of n w))) w (and_right _ _ e)) in
-      no_some (target_of (placed_at n.case w u.0) (asked_of n w)) (none_aimed w u.0 u.1)
+      none_or_some (target_of (placed_at n.case w u.0) (asked_of n w)) (none_aimed w u.0 u.1)
       (and_right (may_take s u.0.hand) _ (sym (ap (if_there (λ v. may_take s v.hand && is_some (target_of v (asked_of n w)))) u.1) ∙ and_right _ _ e))
 
   no_take : (w : ℕ) (s : Side) → by_step n (Take w s) ≡ true → ⊥
@@ -171,7 +171,8 @@ module _ (laws : LawsBelow) (n : NetNote) (rule : Rule n) (keep : AllKeep n.work
       by_kids (Some p) are f =
           let may = and_right (is_some (side_of s (kids n.case w))) _ e in
           let u = worker_at laws n rule w (there (λ v. may_lend s v.hand) w may) in
-          not_both _ (part_out laws n rule final s w p.0 p.1 (placed_at n.case w u.0) are u.1) (lend_home s u.0.hand (sym (ap (if_there (λ v. may_lend s v.hand)) u.1) ∙ may))
+          not_both _ (part_out laws n rule final s w p.0 p.1 (placed_at n.case w u.0) are u.1)
+          (laws.lend_turns s u.0.hand (sym (ap (if_there (λ v. may_lend s v.hand)) u.1) ∙ may)).here
 
   none : (s : Step) → by_step n s ≡ true → ⊥
   none (Arrive i) e = let lt = true_lt _ _ e in let all = final.seen i.0 in omega arith

@@ -7,6 +7,7 @@ use Rattle.std.proofs.lemmas.List.{get_or_past}
 use Rattle.std.proofs.lemmas.Option.{slice_get_within}
 use Rattle.flu_lemmas.proofs.Places.{slice_get-there}
 use Rattle.flu_lemmas.proofs.Tests.{not_both}
+use Rattle.flu_lemmas.proofs.Options.{none_or_some}
 use Rattle.flu_model.specs.Folding.{final_outputs}
 use Rattle.flu_model.specs.Itags.{count_of_itags}
 use Rattle.flu_model.specs.Listed.{listed}
@@ -33,8 +34,7 @@ use Rattle.flu_net.specs.LawsBelow.{LawsBelow}
 use Rattle.flu_net.specs.Notes.{NetNote}
 use Rattle.flu_net.specs.Rule.{Hangs, Lets, Rule}
 use Rattle.flu_net.proofs.Framing.{under}
-use Rattle.flu_net.proofs.Hands.{out_open, take_out}
-use Rattle.flu_net.proofs.Readying.{no_some}
+use Rattle.flu_net.proofs.Hands.{out_open}
 
 -- ---- hands
 neither : (l r : Bool) → not l ≡ true → not r ≡ true → (l || r) ≡ true → ⊥
@@ -79,7 +79,7 @@ module _ (laws : LawsBelow) (n : NetNote) (rule : Rule n) where
       over Home h t = absurd (not_both _ opened h)
       over (Lent lot) h t = absurd (not_both _ opened h.shut)
       over Held h t = record { held = t.held; out = t.out }
-      over (Asked y) h t = record { held = t.held; out = take_out s v.hand t.take }
+      over (Asked y) h t = record { held = t.held; out = (laws.take_turns s v.hand t.take).out }
       over (Given lot) h t = absurd (not_both _ opened h.shut)
 
   pub is_over : SeesAllItems n.case n.seen → AreOver n.workers → IsFinal n
@@ -91,7 +91,7 @@ module _ (laws : LawsBelow) (n : NetNote) (rule : Rule n) where
       | inl whole ↦ whole
       | inr down ↦
           let placed = rule.ties.placed w v at in
-          absurd (no_some (kids v.case v.node) ((λ i. kids (placed.case i) (placed.node i)) ∙ leaf) ((over w v at).finished.inner down))
+          absurd (none_or_some (kids v.case v.node) ((λ i. kids (placed.case i) (placed.node i)) ∙ leaf) ((over w v at).finished.inner down))
     ];
   }
 

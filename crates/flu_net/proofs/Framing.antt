@@ -2,7 +2,9 @@
 use Rattle.std.proofs.Common.{◌≡◌, ◌≢◌, ◌⊎◌, ◌<◌, ℕ, Some, List, length, set, inl, inr, sym, ap, subst, ◌∙◌, arith}
 use Rattle.std.specs.Prelude.{slice_get}
 use Rattle.std.proofs.lemmas.Bool.{cases_eq}
-use Rattle.std.proofs.lemmas.Option.{slice_get_within}
+use Rattle.std.proofs.lemmas.Option.{slice_get_within, same_Some}
+use Rattle.std.proofs.lemmas.List.{length-set}
+use Rattle.flu_lemmas.proofs.Replaced.{slice_get-set_other}
 use Rattle.flu_model.specs.Owners.{parent_of}
 use Rattle.flu_deps.specs.Trees.{IsUnder, AreKids}
 use Rattle.flu_fork.specs.declared.content.Content.{Content}
@@ -13,12 +15,13 @@ use Rattle.flu_worker.specs.declared.hand.Side.TheVariants.{Left, Right}
 use Rattle.flu_worker.specs.Calls.{IsSamePlace}
 use Rattle.flu_worker.specs.Hands.{at_side}
 use Rattle.flu_worker.specs.Notes.{WorkerNote}
+use Rattle.flu_worker.specs.Turning.{other}
 use Rattle.flu_net.specs.declared.edges.Edge.{Edge}
 use Rattle.flu_net.specs.declared.edges.Edge.TheVariants.{Home}
 use Rattle.flu_net.specs.LawsBelow.{LawsBelow}
 use Rattle.flu_net.specs.Rule.{Hangs, Lets, IsPlaced, Ties}
-use Rattle.flu_net.specs.Stays.{IsKid, other}
-use Rattle.flu_net.proofs.Lists.{set_is, set_there, set_long, same_some}
+use Rattle.flu_net.specs.Stays.{IsKid}
+use Rattle.flu_net.proofs.Lists.{set_is}
 
 module _ (laws : LawsBelow) (k : Content) where
   -- ---- children
@@ -32,7 +35,7 @@ module _ (laws : LawsBelow) (k : Content) where
   pub one_parent : (s t : Side) (u w l r a b : ℕ) → kids k u ≡ Some (l, r) → kids k w ≡ Some (a, b) → at_side s l r ≡ at_side t a b → u ≡ w
   one_parent s t u w l r a b e f same =
       let p : Some u ≡ Some w = sym (under s u l r e).parent ∙ ap (λ v. parent_of (nodes k) v) same ∙ (under t w a b f).parent in
-      same_some u w p
+      same_Some u w p
 
   pub kids_differ : (s : Side) (w l r : ℕ) → kids k w ≡ Some (l, r) → at_side (other s) l r ≢ at_side s l r
   kids_differ Left w l r e = let lt = (are_kids w l r e).in_order in λ same. omega arith
@@ -49,8 +52,10 @@ module _ (laws : LawsBelow) (k : Content) where
       pub top : slice_get es' 0 ≡ Some Home
       pub root : w ≡ 0 → m.held ≡ n.held
       pub hangs : (e : Edge) → 0 < w → slice_get es' w ≡ Some e → Hangs m e
-      pub above : (s : Side) (u l r : ℕ) (p : WorkerNote) (e : Edge) → kids k u ≡ Some (l, r) → at_side s l r ≡ w → slice_get ws u ≡ Some p → slice_get es' w ≡ Some e → Lets s p e m
-      pub below : (s : Side) (l r : ℕ) (c : WorkerNote) (e : Edge) → kids k w ≡ Some (l, r) → slice_get ws (at_side s l r) ≡ Some c → slice_get es' (at_side s l r) ≡ Some e
+      pub above : (s : Side) (u l r : ℕ) (p : WorkerNote) (e : Edge) → kids k u ≡ Some (l, r) → at_side s l r ≡ w → slice_get ws u ≡ Some p
+          → slice_get es' w ≡ Some e → Lets s p e m
+      pub below : (s : Side) (l r : ℕ) (c : WorkerNote) (e : Edge) → kids k w ≡ Some (l, r) → slice_get ws (at_side s l r) ≡ Some c
+          → slice_get es' (at_side s l r) ≡ Some e
           → Hangs c e × Lets s m e c
 
     module _ (x : Changes) where
@@ -58,7 +63,7 @@ module _ (laws : LawsBelow) (k : Content) where
       within = slice_get_within ws w n x.at
 
       there : (j : ℕ) (p : WorkerNote) → j ≢ w → slice_get (set ws w m) j ≡ Some p → slice_get ws j ≡ Some p
-      there j p apart e = sym (set_there ws w j m apart) ∙ e
+      there j p apart e = sym (slice_get-set_other ws w j m apart) ∙ e
 
       placed : (j : ℕ) (p : WorkerNote) → slice_get (set ws w m) j ≡ Some p → IsPlaced k seen j p
       placed j p e = elim (cases_eq j w) as (λ _. IsPlaced k seen j p) [
@@ -96,7 +101,8 @@ module _ (laws : LawsBelow) (k : Content) where
         ]
       ]
 
-      lends : (s : Side) (u l r : ℕ) (p c : WorkerNote) (e : Edge) → kids k u ≡ Some (l, r) → slice_get (set ws w m) u ≡ Some p → slice_get es' (at_side s l r) ≡ Some e
+      lends : (s : Side) (u l r : ℕ) (p c : WorkerNote) (e : Edge) → kids k u ≡ Some (l, r) → slice_get (set ws w m) u ≡ Some p
+          → slice_get es' (at_side s l r) ≡ Some e
           → slice_get (set ws w m) (at_side s l r) ≡ Some c → Lets s p e c
       lends s u l r p c e are a b d =
           let later = (under s u l r are).earlier in
@@ -121,7 +127,7 @@ module _ (laws : LawsBelow) (k : Content) where
 
       pub frame : Ties k seen (set ws w m) es'
       frame = record {
-        workers_each = set_long ws w m ∙ ties.workers_each;
+        workers_each = length-set ws w m ∙ ties.workers_each;
         edges_each = x.long ∙ ties.edges_each;
         placed = placed;
         top = x.top;

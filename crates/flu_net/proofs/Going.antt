@@ -1,9 +1,11 @@
 -- Where no step is enabled, nothing is asked: else the worker that is asked, or one below it, could go on.
-use Rattle.std.proofs.Common.{◌≡◌, ◌⊎◌, ◌<◌, ◌≤◌, ◌+◌, ℕ, zero, suc, Bool, true, false, cond, Option, Some, None, [], length, inl, inr, refl, sym, ap, subst, ◌∙◌, arith}
+use Rattle.std.proofs.Common.{◌≡◌, ◌⊎◌, ◌<◌, ◌≤◌, ◌+◌, ℕ, zero, suc, Bool, true, false, cond, Option}
+use Rattle.std.proofs.Common.{Some, None, [], length, inl, inr, refl, sym, ap, subst, ◌∙◌, arith}
 use Rattle.std.specs.Prelude.{◌||◌, is_none, is_some, slice_get, slice_index, slice_index_or, IsSome}
 use Rattle.flu_lemmas.proofs.Places.{slice_get-there}
 use Rattle.flu_lemmas.proofs.Searches.{eq_true}
 use Rattle.flu_lemmas.proofs.Tests.{both, not_both}
+use Rattle.flu_lemmas.proofs.Options.{some_there}
 use Rattle.flu_model.specs.declared.events.Event.{Event}
 use Rattle.flu_model.specs.Listed.{listed}
 use Rattle.flu_fork.specs.declared.lots.Ask.{Ask}
@@ -13,7 +15,8 @@ use Rattle.flu_worker.specs.declared.hand.Hand.{Hand}
 use Rattle.flu_worker.specs.declared.hand.Hand.TheVariants.{Empty, Whole, Lending, Down, Taking}
 use Rattle.flu_worker.specs.declared.hand.Side.{Side}
 use Rattle.flu_worker.specs.declared.hand.Side.TheVariants.{Left, Right}
-use Rattle.flu_worker.specs.Choosing.{sight, ask_for, event_of, first_some, gives_by, if_own, if_ready, if_serves, is_same_ask, least_next, least_ready, may_give, new_target, next_of, serves, target_of}
+use Rattle.flu_worker.specs.Choosing.{sight, ask_for, event_of, first_some, gives_by, if_own, if_ready, if_serves, is_same_ask}
+use Rattle.flu_worker.specs.Choosing.{least_next, least_ready, may_give, new_target, next_of, serves, target_of}
 use Rattle.flu_worker.specs.Hands.{at_side, is_down, is_lost, is_open, is_whole, may_lend, may_take}
 use Rattle.flu_worker.specs.Keeping.{KeepsIn}
 use Rattle.flu_worker.specs.Laws.{AllSeen, HasReady}
@@ -26,7 +29,6 @@ use Rattle.flu_net.specs.Notes.{NetNote, asked_of, asked_over}
 use Rattle.flu_net.specs.Rule.{IsUnderAsk, Rule}
 use Rattle.flu_net.proofs.Asking.{first_above}
 use Rattle.flu_net.proofs.Framing.{under}
-use Rattle.flu_net.proofs.Hands.{take_out}
 use Rattle.flu_net.proofs.Placed.{placed_at, all_seen, edge_there, in_tree, no_ask, no_give, no_handle, no_hold, no_lend, no_take, sound_at, worker_at}
 use Rattle.flu_net.proofs.Stepping.{hangs_now}
 
@@ -50,24 +52,29 @@ module _ (v : WorkerNote) where
   pub ready_target : (asked : Option Ask) → v.hand ≡ Down → HasReady (sight v) → is_some (target_of v asked) ≡ true
   ready_target asked down r =
       down_target asked down
-      (some_first _ _ (ap (λ (o : Option Event). is_some (ask_for (sight v) (if_ready (sight v) o))) r.next ∙ ap (λ t. is_some (ask_for (sight v) (cond t (Some r.least) None))) r.ready))
+      (some_first _ _ (ap (λ (o : Option Event). is_some (ask_for (sight v) (if_ready (sight v) o))) r.next
+      ∙ ap (λ t. is_some (ask_for (sight v) (cond t (Some r.least) None))) r.ready))
 
   asked_target : (y : Ask) → v.hand ≡ Down → serves (sight v) (event_of v.case y) ≡ true → is_some (target_of v (Some y)) ≡ true
   asked_target y down serving =
       down_target (Some y) down
-      (some_second (ask_for (sight v) (if_ready (sight v) (least_next (sight v)))) (if_serves (sight v) (Some y)) (ap (λ t. is_some (cond t (Some y) None)) serving))
+      (some_second (ask_for (sight v) (if_ready (sight v) (least_next (sight v)))) (if_serves (sight v) (Some y))
+      (ap (λ t. is_some (cond t (Some y) None)) serving))
 
   next_at_leaf : v.hand ≡ Whole → kids v.case v.node ≡ None → next_of v ≡ ask_for (sight v) (least_ready (sight v))
   next_at_leaf whole leaf =
-      ap (λ (h : Hand). cond (is_whole h) (cond (is_none (kids v.case v.node)) (ask_for (sight v) (least_ready (sight v))) (if_own (sight v) v.kept)) None) whole
+      ap (λ (h : Hand). cond (is_whole h) (cond (is_none (kids v.case v.node)) (ask_for (sight v) (least_ready (sight v))) (if_own (sight v) v.kept)) None)
+      whole
       ∙ ap (λ o. cond (is_none o) (ask_for (sight v) (least_ready (sight v))) (if_own (sight v) v.kept)) leaf
 
   pub handles_leaf : v.hand ≡ Whole → kids v.case v.node ≡ None → HasReady (sight v) → is_some (next_of v) ≡ true
   handles_leaf whole leaf r = ap is_some (next_at_leaf whole leaf) ∙ ap (λ (o : Option Event). is_some (ask_for (sight v) o)) r.found
 
-  pub handles_inner : (pair : ℕ × ℕ) (z : Ask) → v.hand ≡ Whole → kids v.case v.node ≡ Some pair → v.kept ≡ Some z → own_of v z.itag.0 ≡ true → is_some (next_of v) ≡ true
+  pub handles_inner : (pair : ℕ × ℕ) (z : Ask) → v.hand ≡ Whole → kids v.case v.node ≡ Some pair → v.kept ≡ Some z → own_of v z.itag.0 ≡ true
+      → is_some (next_of v) ≡ true
   handles_inner pair z whole inner kept mine =
-      ap (λ (h : Hand). is_some (cond (is_whole h) (cond (is_none (kids v.case v.node)) (ask_for (sight v) (least_ready (sight v))) (if_own (sight v) v.kept)) None)) whole
+      ap (λ (h : Hand). is_some
+      (cond (is_whole h) (cond (is_none (kids v.case v.node)) (ask_for (sight v) (least_ready (sight v))) (if_own (sight v) v.kept)) None)) whole
       ∙ ap (λ o. is_some (cond (is_none o) (ask_for (sight v) (least_ready (sight v))) (if_own (sight v) v.kept))) inner
       ∙ ap (λ o. is_some (if_own (sight v) o)) kept
       ∙ ap (λ t. is_some (cond t (Some z) None)) mine
@@ -85,17 +92,14 @@ module _ (v : WorkerNote) where
         (ap (λ o. cond (is_none o) (serves (sight v) (event_of v.case y)) (is_same_ask y v.kept)) inner
         ∙ ap (is_same_ask y) kept ∙ both _ _ (eq_true y.itag.0 y.itag.0 refl) (eq_true y.index y.index refl))
 
-pub the_ask : (o : Option Ask) → IsSome o → (y : Ask) × (o ≡ Some y)
-the_ask None e = cc
-the_ask (Some y) e = (y, refl)
-
 same_asked : {y z : Ask} → Asked y ≡ Asked z → y ≡ z
 same_asked e = cc
 
 -- ---- the net
 module _ (laws : LawsBelow) (n : NetNote) (rule : Rule n) (keep : AllKeep n.workers) (gone : n.gone ≡ false) (quiet : IsQuiet n) where
   -- a worker that has a target can go on at a side whose part is out, where nothing is asked there
-  pub goes_on : (w l r : ℕ) (s : Side) (u : WorkerNote) → kids n.case w ≡ Some (l, r) → slice_get n.workers w ≡ Some (placed_at n.case w u) → may_take s u.hand ≡ true
+  pub goes_on : (w l r : ℕ) (s : Side) (u : WorkerNote) → kids n.case w ≡ Some (l, r) → slice_get n.workers w ≡ Some (placed_at n.case w u)
+      → may_take s u.hand ≡ true
       → is_some (target_of (placed_at n.case w u) (asked_of n w)) ≡ true → ((y : Ask) → slice_get n.edges (at_side s l r) ≡ Some (Asked y) → ⊥) → ⊥
   goes_on w l r s u are at may target free =
       let within = (under laws n.case s w l r are).there in
@@ -103,9 +107,10 @@ module _ (laws : LawsBelow) (n : NetNote) (rule : Rule n) (keep : AllKeep n.work
       let e = edge_there laws n rule (at_side s l r) within in
       by_edge c.0 c.1 e.0 e.1
     where
-      by_edge : (c : WorkerNote) → slice_get n.workers (at_side s l r) ≡ Some (placed_at n.case (at_side s l r) c) → (e : Edge) → slice_get n.edges (at_side s l r) ≡ Some e → ⊥
+      by_edge : (c : WorkerNote) → slice_get n.workers (at_side s l r) ≡ Some (placed_at n.case (at_side s l r) c) → (e : Edge)
+          → slice_get n.edges (at_side s l r) ≡ Some e → ⊥
       by_edge c down Home is =
-          not_both _ (take_out s u.hand may)
+          not_both _ (laws.take_turns s u.hand may).out
           (rule.ties.lets s w l r (placed_at n.case w u) (placed_at n.case (at_side s l r) c) Home are at is down).home
       by_edge c down (Lent lot) is = no_hold laws n rule gone quiet (at_side s l r) lot is
       by_edge c down Held is = no_ask laws n rule gone quiet s w l r are (placed_at n.case w u) at is may target
@@ -114,7 +119,8 @@ module _ (laws : LawsBelow) (n : NetNote) (rule : Rule n) (keep : AllKeep n.work
 
   pub sees_all : (w : ℕ) (u : WorkerNote) → slice_get n.workers w ≡ Some (placed_at n.case w u) → AllSeen (sight (placed_at n.case w u))
   sees_all w u at j =
-      subst (λ seen. length (slice_index_or (listed n.case.streams) j []) ≤ slice_index seen j) (sym (rule.ties.placed w (placed_at n.case w u) at).sees) (all_seen laws n rule gone quiet j)
+      subst (λ seen. length (slice_index_or (listed n.case.streams) j []) ≤ slice_index seen j) (sym (rule.ties.placed w (placed_at n.case w u) at).sees)
+      (all_seen laws n rule gone quiet j)
 
   -- no part can be lent, and none is to be taken but by an open worker with a target
   pub none_lending : (w : ℕ) (u : WorkerNote) (a b : Bool) → slice_get n.workers w ≡ Some (placed_at n.case w u) → u.hand ≡ Lending a b → ⊥
@@ -165,7 +171,7 @@ module _ (laws : LawsBelow) (n : NetNote) (rule : Rule n) (keep : AllKeep n.work
       | inr serving ↦ no_give laws n rule gone quiet w v y at edge (gives_leaf v y hung.above.above hung.next whole leaf serving)
     ]
     at_whole (Some p) inner whole kept =
-        let z = the_ask u.kept (kept refl) in
+        let z = some_there u.kept (kept refl) in
         elim ((keep w v at).target z.0 z.1).place [
           | inl mine ↦ no_handle laws n rule gone quiet w v at (handles_inner v p z.0 whole inner z.1 mine)
           | inr over ↦

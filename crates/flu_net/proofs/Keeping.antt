@@ -3,7 +3,8 @@ use Rattle.std.proofs.Common.{◌≡◌, ◌≢◌, ◌<◌, ◌+◌, ℕ, Optio
 use Rattle.std.specs.Prelude.{slice_get, slice_index}
 use Rattle.std.proofs.lemmas.Bool.{cases_eq}
 use Rattle.std.proofs.lemmas.List.{get_or-set_same, get_or-set_other, length-set}
-use Rattle.std.proofs.lemmas.Option.{slice_get_within}
+use Rattle.std.proofs.lemmas.Option.{slice_get_within, same_Some}
+use Rattle.flu_lemmas.proofs.Replaced.{slice_get-set_other}
 use Rattle.flu_model.specs.declared.events.Itag.{Itag}
 use Rattle.flu_model.specs.declared.events.Out.{Out}
 use Rattle.flu_model.specs.Itags.{count_of_itags}
@@ -24,8 +25,7 @@ use Rattle.flu_net.specs.LawsBelow.{LawsBelow}
 use Rattle.flu_net.specs.Notes.{NetNote}
 use Rattle.flu_net.specs.Rule.{AllStand, IsSeen, Rule, Tells, Ties}
 use Rattle.flu_net.proofs.Framing.{under}
-use Rattle.flu_net.proofs.Lists.{set_is, set_there, same_some}
-use Rattle.flu_net.proofs.Placed.{known_at}
+use Rattle.flu_net.proofs.Lists.{set_is}
 use Rattle.flu_net.proofs.Readying.{kid_pair, lend_was, take_may}
 use Rattle.flu_net.proofs.Standing.{stands_ask, stands_give, stands_handle, stands_hold, stands_lend, stands_take}
 use Rattle.flu_net.proofs.Stepping.{below_top, ties_ask, ties_give, ties_handle, ties_hold, ties_lend, ties_take}
@@ -45,7 +45,8 @@ seen_as : (k j : Content) (a b : List ℕ) → j ≡ k → b ≡ a → IsSeen k 
 seen_as k j a b ek ea s = subst (λ x. IsSeen x b) (sym ek) (subst (λ x. IsSeen k x) (sym ea) s)
 
 -- ---- the outputs
-module _ (laws : LawsBelow) (k : Content) (ws : List WorkerNote) (outs : List Out) (t : Tells k ws outs) (w : ℕ) (n m : WorkerNote) (at : slice_get ws w ≡ Some n) where
+module _ (laws : LawsBelow) (k : Content) (ws : List WorkerNote) (outs : List Out) (t : Tells k ws outs) (w : ℕ) (n m : WorkerNote)
+    (at : slice_get ws w ≡ Some n) where
   within : w < length ws
   within = slice_get_within ws w n at
 
@@ -57,8 +58,9 @@ module _ (laws : LawsBelow) (k : Content) (ws : List WorkerNote) (outs : List Ou
     counted = λ j p i up mine. elim (cases_eq j w) as (λ _. slice_index p.counts i ≡ slice_index t.done i) [
       | inl is ↦
           let mine_w : own (job k) (nodes k) w i ≡ true = sym (ap (λ x. own (job k) (nodes k) x i) is) ∙ mine in
-          ap (λ (q : WorkerNote). slice_index q.counts i) (sym (set_is ws w m p within (sym (ap (slice_get (set ws w m)) is) ∙ up))) ∙ same i mine_w ∙ t.counted w n i at mine_w
-      | inr apart ↦ t.counted j p i (sym (set_there ws w j m apart) ∙ up) mine
+          ap (λ (q : WorkerNote). slice_index q.counts i) (sym (set_is ws w m p within (sym (ap (slice_get (set ws w m)) is) ∙ up))) ∙ same i mine_w
+          ∙ t.counted w n i at mine_w
+      | inr apart ↦ t.counted j p i (sym (slice_get-set_other ws w j m apart) ∙ up) mine
     ];
     texts = t.texts;
   }
@@ -71,7 +73,8 @@ module _ (laws : LawsBelow) (k : Content) (ws : List WorkerNote) (outs : List Ou
     pub known : x.itag.0 < count_of_itags (job k)
     known =
         let is = laws.events (setting_of k) c.front c.back c.moment (laws.settings k) c.stands in
-        let lt = known_at k c.moment.event.itag.0 c.moment.index c.moment.event is in
+        let lt : c.moment.event.itag.0 < count_of_itags (job k) =
+        laws.known (setting_of k) c.moment.event.itag.0 c.moment.index c.moment.event (laws.settings k) is in
         let same = at_itag in
         omega arith
 
@@ -91,9 +94,10 @@ module _ (laws : LawsBelow) (k : Content) (ws : List WorkerNote) (outs : List Ou
         let mine_x : own (job k) (nodes k) j x.itag.0 ≡ true = sym (ap (own (job k) (nodes k) j) same) ∙ mine in
         let a = (laws.of_nodes (setting_of k) j x.itag.0 (laws.settings k) known).owner.0 mine_x in
         let b = (laws.of_nodes (setting_of k) w x.itag.0 (laws.settings k) known).owner.0 owned in
-        apart (same_some j w (sym a ∙ b))
+        apart (same_Some j w (sym a ∙ b))
 
-    counted_more : (j : ℕ) (p : WorkerNote) (i : ℕ) → slice_get (set ws w m) j ≡ Some p → own (job k) (nodes k) j i ≡ true → slice_index p.counts i ≡ slice_index more i
+    counted_more : (j : ℕ) (p : WorkerNote) (i : ℕ) → slice_get (set ws w m) j ≡ Some p → own (job k) (nodes k) j i ≡ true
+        → slice_index p.counts i ≡ slice_index more i
     counted_more j p i up mine = elim (cases_eq j w) as (λ _. slice_index p.counts i ≡ slice_index more i) [
       | inl is ↦
           let mine_w : own (job k) (nodes k) w i ≡ true = sym (ap (λ x. own (job k) (nodes k) x i) is) ∙ mine in
@@ -103,7 +107,7 @@ module _ (laws : LawsBelow) (k : Content) (ws : List WorkerNote) (outs : List Ou
             | inr differs ↦ (c.counts i).1 differs ∙ t.counted w n i at mine_w ∙ sym (more_there i differs)
           ])
       | inr apart ↦
-          t.counted j p i (sym (set_there ws w j m apart) ∙ up) mine ∙ sym (more_there i (λ same. others_own j i apart mine same))
+          t.counted j p i (sym (slice_get-set_other ws w j m apart) ∙ up) mine ∙ sym (more_there i (λ same. others_own j i apart mine same))
     ]
 
     pub tells_event : Tells k (set ws w m) after
@@ -145,7 +149,9 @@ rule_handles laws w old new rule h =
       seen = seen_as old.case new.case old.seen new.seen s.case s.seen rule.seen;
       ties = ties_as old.case new.case old.seen new.seen (set old.workers w s.is) new.workers old.edges new.edges s.case s.seen s.workers h.edges
           (ties_handle laws old.case old.seen old.workers old.edges rule.ties w s.was s.is s.at h.event h.does);
-      stands = stands_as (set old.workers w s.is) new.workers old.edges new.edges s.workers h.edges (stands_handle old.workers old.edges rule.stands w s.was s.is s.at h.event h.does);
+      stands =
+          stands_as (set old.workers w s.is) new.workers old.edges new.edges s.workers h.edges
+          (stands_handle old.workers old.edges rule.stands w s.was s.is s.at h.event h.does);
       tells = tells_as old.case new.case (set old.workers w s.is) new.workers new.outs new.outs s.case s.workers refl
           (tells_event laws old.case old.workers old.outs rule.tells w s.was s.is s.at h.event new.outs h.counts
           (own_at old.case w s.was h.event.itag.0 placed.case placed.node h.does.owned));
@@ -156,7 +162,8 @@ apart : (laws : LawsBelow) (k : Content) (w : ℕ) (s : Side) (l r : ℕ) → ki
 apart laws k w s l r are same = let later = (under laws k s w l r are).earlier in omega arith
 
 -- what a worker asks its children for is of an itag of the job
-known_ask : (n m : WorkerNote) (y : Ask) (found : Option Ask) → KeepsTarget found n m → IsAskable m y → (k : Content) (w : ℕ) (s : Side) (l r : ℕ) → n.case ≡ k → n.node ≡ w
+known_ask : (n m : WorkerNote) (y : Ask) (found : Option Ask) → KeepsTarget found n m → IsAskable m y → (k : Content) (w : ℕ) (s : Side) (l r : ℕ)
+    → n.case ≡ k → n.node ≡ w
     → kids k w ≡ Some (l, r) → y.itag.0 < count_of_itags (job n.case)
 known_ask n m y found h askable k w s l r ek ew are =
     let case : m.case ≡ n.case = ap (λ (x : WorkerNote). x.case) h.rest in
@@ -195,8 +202,9 @@ rule_lends laws w side old new rule h may fit =
     rule_same w old new laws rule s (set old.edges (at_side side pair.0 pair.1) (Lent h.lot)) (h.edges ∙ ap (λ v. set old.edges v (Lent h.lot)) same) h.outs
     (ties_lend laws old.case old.seen old.workers old.edges rule.ties w s.was s.is s.at side pair.0 pair.1 pair.2 h.lot
     (sym (ap (slice_get old.edges) same) ∙ lend_was laws old rule w s.was s.at h.kid side h.is_kid may) may h.does fit)
-    (stands_lend old.workers old.edges rule.stands w s.was s.is s.at side h.lot h.lot (at_side side pair.0 pair.1)
-    (sym (ap (slice_get old.edges) same) ∙ lend_was laws old rule w s.was s.at h.kid side h.is_kid may) (apart laws old.case w side pair.0 pair.1 pair.2) may h.does)
+    (stands_lend old.workers old.edges rule.stands w s.was s.is s.at laws side h.lot h.lot (at_side side pair.0 pair.1)
+    (sym (ap (slice_get old.edges) same) ∙ lend_was laws old rule w s.was s.at h.kid side h.is_kid may)
+    (apart laws old.case w side pair.0 pair.1 pair.2) may h.does)
     (λ i mine. ap (λ c. slice_index c i) h.does.counts)
 
 pub rule_asks : LawsBelow → (w : ℕ) (side : Side) (old new : NetNote) → Rule old → (h : Asks w side old new)
@@ -206,7 +214,8 @@ rule_asks laws w side old new rule h held may askable =
     let placed = rule.ties.placed w s.was s.at in
     let pair = kid_pair old.case w h.kid side h.is_kid in
     let same : h.kid ≡ at_side side pair.0 pair.1 = pair.3 in
-    rule_same w old new laws rule s (set old.edges (at_side side pair.0 pair.1) (Asked h.target)) (h.edges ∙ ap (λ v. set old.edges v (Asked h.target)) same) h.outs
+    rule_same w old new laws rule s (set old.edges (at_side side pair.0 pair.1) (Asked h.target))
+    (h.edges ∙ ap (λ v. set old.edges v (Asked h.target)) same) h.outs
     (ties_ask laws old.case old.seen old.workers old.edges rule.ties w s.was s.is s.at side pair.0 pair.1 pair.2 h.target
     (sym (ap (slice_get old.edges) same) ∙ held) may h.does askable)
     (stands_ask old.workers old.edges rule.stands w s.was s.is s.at laws (at_side side pair.0 pair.1) h.target
@@ -222,6 +231,7 @@ rule_takes laws w side old new rule h =
     rule_same w old new laws rule s (set old.edges (at_side side pair.0 pair.1) Home) (h.edges ∙ ap (λ v. set old.edges v Home) same) h.outs
     (ties_take laws old.case old.seen old.workers old.edges rule.ties w s.was s.is s.at side pair.0 pair.1 pair.2 h.lot
     (sym (ap (slice_get old.edges) same) ∙ h.given) (take_may laws old rule w s.was s.at h.kid side h.is_kid h.lot h.given) h.does)
-    (stands_take old.workers old.edges rule.stands w s.was s.is s.at side h.lot h.lot (at_side side pair.0 pair.1) (sym (ap (slice_get old.edges) same) ∙ h.given)
+    (stands_take old.workers old.edges rule.stands w s.was s.is s.at laws side h.lot h.lot (at_side side pair.0 pair.1)
+    (sym (ap (slice_get old.edges) same) ∙ h.given)
     (apart laws old.case w side pair.0 pair.1 pair.2) (take_may laws old rule w s.was s.at h.kid side h.is_kid h.lot h.given) h.does)
     (λ i mine. ap (λ c. slice_index c i) h.does.counts)

@@ -29,12 +29,14 @@ use Rattle.flu_net.specs.Runs.{Runs, StepsLower}
 use Rattle.flu_net.proofs.Arriving.{fewer, in_seen}
 use Rattle.flu_net.proofs.Framing.{under}
 use Rattle.flu_net.proofs.Keeping.{known, own_at, own_to}
-use Rattle.flu_net.proofs.Measures.{counts_rise, counts_stay, edge_changes, first_lends, left_of, lend_lends, lends, lends_by, lends_is, most_nodes, one_node, shut_lends, take_lends, worker_changes}
+use Rattle.flu_net.proofs.Measures.{counts_rise, counts_stay, edge_changes, first_lends, left_of, lend_lends, lends}
+use Rattle.flu_net.proofs.Measures.{lends_by, lends_is, most_nodes, one_node, shut_lends, take_lends, worker_changes}
 use Rattle.flu_net.proofs.Readying.{held_edge, kid_pair, lend_was, ready_shut, there_test}
 use Rattle.flu_net.proofs.Sizes.{TreesBelow}
 use Rattle.flu_net.proofs.Sums.{total_change, total_map, total_same}
 
-left_after : (w : ℕ) (old new : NetNote) (s : IsStepOf w old new) (es : List Edge) → new.edges ≡ es → steps_left new ≡ left_of old.case old.seen (set old.workers w s.is) es
+left_after : (w : ℕ) (old new : NetNote) (s : IsStepOf w old new) (es : List Edge) → new.edges ≡ es
+    → steps_left new ≡ left_of old.case old.seen (set old.workers w s.is) es
 left_after w old new s es edges = λ i. left_of (s.case i) (s.seen i) (s.workers i) (edges i)
 
 module _ (laws : LawsBelow) (trees : TreesBelow) (old : NetNote) (rule : Rule old) where
@@ -75,9 +77,11 @@ module _ (laws : LawsBelow) (trees : TreesBelow) (old : NetNote) (rule : Rule ol
       let shut = ready_shut laws old rule w s.was s.at h.lot h.lent in
       let none : lends s.was ≡ 0 = lends_was new w s ∙ shut_lends k (kids k w) s.was.hand shut in
       let now : lends s.is ≡ lends_by k (kids k w) (first_hand (kids k w)) =
-      lends_is k w s.is (h.does.place.case ∙ was_case new w s) (h.does.place.node ∙ was_node new w s) ∙ ap (lends_by k (kids k w)) (h.does.hand ∙ first_was new w s) in
+      lends_is k w s.is (h.does.place.case ∙ was_case new w s) (h.does.place.node ∙ was_node new w s)
+      ∙ ap (lends_by k (kids k w)) (h.does.hand ∙ first_was new w s) in
       let most = first_lends laws trees k w (in_tree new w s) in
-      fewer_left new w s w (Lent h.lot) Held h.lent h.edges (λ i mine. h.does.counts_own i (own_to k w s.was i (was_case new w s) (was_node new w s) mine)) (omega arith)
+      fewer_left new w s w (Lent h.lot) Held h.lent h.edges (λ i mine. h.does.counts_own i (own_to k w s.was i (was_case new w s) (was_node new w s) mine))
+      (omega arith)
 
   less_give : (new : NetNote) (w : ℕ) → Gives w old new → steps_left new < steps_left old
   less_give new w h =
@@ -115,7 +119,8 @@ module _ (laws : LawsBelow) (trees : TreesBelow) (old : NetNote) (rule : Rule ol
       let now : lends s.is ≡ lends_by k (Some (pair.0, pair.1)) (after_lend side s.was.hand) =
       lends_is k w s.is (h.does.place.case ∙ was_case new w s) (h.does.place.node ∙ was_node new w s) ∙ (λ i. lends_by k (pair.2 i) (h.does.hand i)) in
       let part = lend_lends k pair.0 pair.1 h.kid side s.was.hand lending (ap Some (sym same)) in
-      fewer_left new w s h.kid Home (Lent h.lot) (lend_was laws old rule w s.was s.at h.kid side h.is_kid lending) h.edges (λ i mine. ap (λ c. slice_index c i) h.does.counts) (omega arith)
+      fewer_left new w s h.kid Home (Lent h.lot) (lend_was laws old rule w s.was s.at h.kid side h.is_kid lending) h.edges
+      (λ i mine. ap (λ c. slice_index c i) h.does.counts) (omega arith)
 
   -- ---- an event is handled
   less_handle : (new : NetNote) (w : ℕ) → Handles w old new → steps_left new < steps_left old
@@ -123,7 +128,8 @@ module _ (laws : LawsBelow) (trees : TreesBelow) (old : NetNote) (rule : Rule ol
       let s = h.step in
       let none : lends s.was ≡ 0 = lends_was new w s ∙ ap (lends_by k (kids k w)) h.does.hand_was in
       let now : lends s.is ≡ lends_by k (kids k w) (first_hand (kids k w)) =
-      lends_is k w s.is (h.does.place.case ∙ was_case new w s) (h.does.place.node ∙ was_node new w s) ∙ ap (lends_by k (kids k w)) (h.does.hand ∙ first_was new w s) in
+      lends_is k w s.is (h.does.place.case ∙ was_case new w s) (h.does.place.node ∙ was_node new w s)
+      ∙ ap (lends_by k (kids k w)) (h.does.hand ∙ first_was new w s) in
       let first = first_lends laws trees k w (in_tree new w s) in
       let most = most_nodes laws trees k w in
       let worker = worker_changes laws trees k old.workers w s.was s.is s.at in
@@ -161,7 +167,8 @@ module _ (laws : LawsBelow) (trees : TreesBelow) (old : NetNote) (rule : Rule ol
         let long = rule.seen.one_each in
         let within = in_seen old rule i may in
         let some = fewer old rule i may in
-        let change = total_change (λ j. items_of k j - slice_index (set old.seen i.0 one_more) j) (λ j. items_of k j - slice_index old.seen j) 0 (count_of_itags (job k)) i.0
+        let change =
+        total_change (λ j. items_of k j - slice_index (set old.seen i.0 one_more) j) (λ j. items_of k j - slice_index old.seen j) 0 (count_of_itags (job k)) i.0
         (omega arith) (omega arith) (λ j high apart. ap (λ c. items_of k j - c) (get_or-set_other old.seen i.0 j one_more 0 apart)) in
         let here = get_or-set_same old.seen i.0 one_more 0 within in
         omega arith
@@ -175,7 +182,8 @@ module _ (laws : LawsBelow) (trees : TreesBelow) (old : NetNote) (rule : Rule ol
         (λ j. events_of k j - counted_in (slice_get (map (seeing i.0 one_more) old.workers) (owner_in k.valid (itag j))) j)
         (λ j. events_of k j - counted_in (slice_get old.workers (owner_in k.valid (itag j))) j) 0 (count_of_itags (job k))
         (λ j low high. ap (λ c. events_of k j - c)
-        (ap (λ o. counted_in o j) (slice_get-map (seeing i.0 one_more) old.workers (owner_in k.valid (itag j))) ∙ counted_seen j (slice_get old.workers (owner_in k.valid (itag j)))))
+        (ap (λ o. counted_in o j) (slice_get-map (seeing i.0 one_more) old.workers (owner_in k.valid (itag j)))
+        ∙ counted_seen j (slice_get old.workers (owner_in k.valid (itag j)))))
 
     lent_seen : to_be_lent (map (seeing i.0 one_more) old.workers) ≡ to_be_lent old.workers
     lent_seen = total_map lends (seeing i.0 one_more) old.workers

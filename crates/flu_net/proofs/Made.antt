@@ -1,7 +1,7 @@
 -- A step that is made leaves a net of the same case, which is not to be given up.
-use Rattle.std.proofs.Common.{◌≡◌, Bool, true, false, refl, ap, ◌∙◌}
+use Rattle.std.proofs.Common.{◌≡◌, true, false, ap, ◌∙◌}
 use Rattle.std.specs.Prelude.{not}
-use Rattle.flu_lemmas.proofs.Tests.{and_left}
+use Rattle.flu_lemmas.proofs.Tests.{and_left, not_true}
 use Rattle.flu_net.specs.declared.steps.Step.{Step}
 use Rattle.flu_net.specs.declared.steps.Step.TheVariants.{Arrive, Handle, Ask, Take, Give, Hold, Lend}
 use Rattle.flu_net.specs.Effects.{Makes}
@@ -28,8 +28,4 @@ still_there (Lend w side) old new there does = does.step.gone
 
 -- where a step is enabled, the net is not to be given up
 pub there_if_enabled : (n : NetNote) (s : Step) → is_enabled n s ≡ true → n.gone ≡ false
-there_if_enabled n s e = by_gone n.gone (and_left (not n.gone) (by_step n s) e)
-  where
-    by_gone : (b : Bool) → not b ≡ true → b ≡ false
-    by_gone true f = cc
-    by_gone false f = refl
+there_if_enabled n s e = not_true n.gone (and_left (not n.gone) (by_step n s) e)

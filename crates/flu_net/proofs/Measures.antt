@@ -3,6 +3,7 @@ use Rattle.std.proofs.Common.{◌≡◌, ◌≢◌, ◌<◌, ◌≤◌, ◌+◌,
 use Rattle.std.specs.Prelude.{◌-◌, slice_get, slice_index, if◌then◌else◌}
 use Rattle.std.proofs.lemmas.Bool.{cases_eq}
 use Rattle.std.proofs.lemmas.Option.{slice_get_within}
+use Rattle.flu_lemmas.proofs.Replaced.{slice_get-set_same, slice_get-set_other}
 use Rattle.flu_model.specs.Itags.{count_of_itags}
 use Rattle.flu_model.specs.Owners.{owner_of}
 use Rattle.flu_deps.specs.Validated.{owner_in}
@@ -19,7 +20,6 @@ use Rattle.flu_net.specs.declared.edges.Edge.{Edge}
 use Rattle.flu_net.specs.LawsBelow.{LawsBelow}
 use Rattle.flu_net.specs.Measure.{size, events_of, counted_in, uncounted, rounds_below, to_lend, to_be_lent, steps_on, on_edges, unseen}
 use Rattle.flu_net.specs.Notes.{side_of}
-use Rattle.flu_net.proofs.Lists.{set_here, set_there}
 use Rattle.flu_net.proofs.Sizes.{TreesBelow, size_most, size_some, size_kids}
 use Rattle.flu_net.proofs.Sums.{total_change, total_same, total_set}
 
@@ -87,7 +87,9 @@ module _ (laws : LawsBelow) (trees : TreesBelow) (k : Content) where
       at None e = let some = one_node w lt in omega arith
       at (Some both) e =
           let tree = (laws.settings k).one_tree in
-          let more = size_kids (nodes k) (trees.order (nodes k) tree) (trees.subtrees (nodes k) tree) w both.0 both.1 (laws.children (nodes k) w both.0 both.1 tree e) e lt in
+          let more =
+          size_kids (nodes k) (trees.order (nodes k) tree) (trees.subtrees (nodes k) tree) w both.0 both.1
+          (laws.children (nodes k) w both.0 both.1 tree e) e lt in
           omega arith
 
   -- ---- one edge becomes another
@@ -95,10 +97,11 @@ module _ (laws : LawsBelow) (trees : TreesBelow) (k : Content) where
       → on_edges k (set es v new) + steps_on k v (Some old) ≡ on_edges k es + steps_on k v (Some new)
   edge_changes es v old new long was =
       let lt = slice_get_within es v old was in
-      let change = total_change (λ u. steps_on k u (slice_get (set es v new) u)) (λ u. steps_on k u (slice_get es u)) 0 (length (nodes k)) v (omega arith) (omega arith)
-      (λ u high apart. ap (steps_on k u) (set_there es v u new apart)) in
+      let change =
+      total_change (λ u. steps_on k u (slice_get (set es v new) u)) (λ u. steps_on k u (slice_get es u)) 0 (length (nodes k)) v (omega arith) (omega arith)
+      (λ u high apart. ap (steps_on k u) (slice_get-set_other es v u new apart)) in
       let before : steps_on k v (slice_get es v) ≡ steps_on k v (Some old) = ap (steps_on k v) was in
-      let after : steps_on k v (slice_get (set es v new) v) ≡ steps_on k v (Some new) = ap (steps_on k v) (set_here es v new lt) in
+      let after : steps_on k v (slice_get (set es v new) v) ≡ steps_on k v (Some new) = ap (steps_on k v) (slice_get-set_same es v new lt) in
       omega arith
 
   -- ---- one worker becomes another
@@ -117,13 +120,13 @@ module _ (laws : LawsBelow) (trees : TreesBelow) (k : Content) where
     before i = counted_in (slice_get ws (owner_in k.valid (itag i))) i
 
     now_here : (i : ℕ) → owner_in k.valid (itag i) ≡ w → now i ≡ slice_index m.counts i
-    now_here i is = ap (λ o. counted_in o i) (ap (slice_get (set ws w m)) is ∙ set_here ws w m within)
+    now_here i is = ap (λ o. counted_in o i) (ap (slice_get (set ws w m)) is ∙ slice_get-set_same ws w m within)
 
     before_here : (i : ℕ) → owner_in k.valid (itag i) ≡ w → before i ≡ slice_index n.counts i
     before_here i is = ap (λ o. counted_in o i) (ap (slice_get ws) is ∙ at)
 
     elsewhere : (i : ℕ) → owner_in k.valid (itag i) ≢ w → now i ≡ before i
-    elsewhere i apart = ap (λ o. counted_in o i) (set_there ws w (owner_in k.valid (itag i)) m apart)
+    elsewhere i apart = ap (λ o. counted_in o i) (slice_get-set_other ws w (owner_in k.valid (itag i)) m apart)
 
     owns_it : (i : ℕ) → i < count_of_itags (job k) → owner_in k.valid (itag i) ≡ w → own (job k) (nodes k) w i ≡ true
     owns_it i lt is = (laws.of_nodes (setting_of k) w i (laws.settings k) lt).owner.1 (k.of_job.owner (itag i) lt ∙ ap Some is)
@@ -147,7 +150,8 @@ module _ (laws : LawsBelow) (trees : TreesBelow) (k : Content) where
         → ((j : ℕ) → (j ≡ x → slice_index m.counts j ≡ index + 1) × (j ≢ x → slice_index m.counts j ≡ slice_index n.counts j))
         → uncounted k (set ws w m) + 1 ≡ uncounted k ws
     counts_rise x index known mine was there counts =
-        let change = total_change (λ i. events_of k i - now i) (λ i. events_of k i - before i) 0 (count_of_itags (job k)) x (omega arith) (omega arith) (λ i high apart.
+        let change =
+        total_change (λ i. events_of k i - now i) (λ i. events_of k i - before i) 0 (count_of_itags (job k)) x (omega arith) (omega arith) (λ i high apart.
         ap (λ c. events_of k i - c) (elim (cases_eq (owner_in k.valid (itag i)) w) as (λ _. now i ≡ before i) [
           | inl is ↦ now_here i is ∙ (counts i).1 apart ∙ sym (before_here i is)
           | inr other ↦ elsewhere i other

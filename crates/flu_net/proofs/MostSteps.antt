@@ -3,6 +3,7 @@ use Rattle.std.proofs.Common.{◌≡◌, ◌≤◌, ◌*◌, ℕ, suc, Option, S
 use Rattle.std.specs.Prelude.{◌-◌, slice_get, slice_index}
 use Rattle.std.proofs.Math.Nat.{mul-add, mul-one, mul-le-mul_left, mul-le-mul_right}
 use Rattle.flu_lemmas.specs.Totals.{total}
+use Rattle.flu_lemmas.proofs.NoTotal.{total_none}
 use Rattle.flu_model.specs.Itags.{count_of_itags}
 use Rattle.flu_deps.specs.Validated.{owner_in}
 use Rattle.flu_fork.specs.declared.content.Content.{Content}
@@ -20,7 +21,7 @@ use Rattle.flu_net.specs.Starting.{AreHome, AreNew, IsStart}
 use Rattle.flu_net.proofs.Lessening.{run_lowers}
 use Rattle.flu_net.proofs.Measures.{first_lends, left_of, lends, lends_by, lends_is, most_nodes}
 use Rattle.flu_net.proofs.Sizes.{TreesBelow}
-use Rattle.flu_net.proofs.Sums.{total_le, total_none, total_same, total_zero}
+use Rattle.flu_net.proofs.Sums.{total_le, total_same, total_zero}
 
 module _ (laws : LawsBelow) (trees : TreesBelow) (k : Content) where
   -- only the root has something to lend
@@ -53,7 +54,8 @@ module _ (laws : LawsBelow) (trees : TreesBelow) (k : Content) where
       let items : unseen k n.seen ≤ total (items_of k) (itags k) =
       total_le (λ i. items_of k i - slice_index n.seen i) (items_of k) 0 (count_of_itags (job k)) (λ i high. omega arith) in
       let events : uncounted k n.workers ≤ total (events_of k) (itags k) =
-      total_le (λ i. events_of k i - counted_in (slice_get n.workers (owner_in k.valid (itag i))) i) (events_of k) 0 (count_of_itags (job k)) (λ i high. omega arith) in
+      total_le (λ i. events_of k i - counted_in (slice_get n.workers (owner_in k.valid (itag i))) i) (events_of k) 0 (count_of_itags (job k))
+      (λ i high. omega arith) in
       let lent = lent_first n.workers start.workers in
       let edges = none_on_edges n.edges start.edges in
       let counted = mul-le-mul_left (5 * length (nodes k)) events in

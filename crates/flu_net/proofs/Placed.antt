@@ -1,16 +1,12 @@
 -- The workers and edges of a net by their nodes, and what it means that no step is enabled.
-use Rattle.std.proofs.Common.{◌≡◌, ◌⊎◌, ◌<◌, ◌≤◌, ℕ, true, false, Some, List, [], length, inl, inr, sym, ap, ◌∙◌, arith}
+use Rattle.std.proofs.Common.{◌≡◌, ◌⊎◌, ◌<◌, ◌≤◌, ℕ, true, false, Some, [], length, inl, inr, sym, ap, ◌∙◌, arith}
 use Rattle.std.specs.Prelude.{◌&&◌, ◌||◌, not, is_some, slice_get, slice_index, slice_index_or}
 use Rattle.std.proofs.lemmas.Bool.{cases_lt, or_cases, or_left, or_right}
-use Rattle.std.proofs.lemmas.List.{get_or_past}
 use Rattle.std.proofs.lemmas.Option.{slice_get_within}
 use Rattle.flu_lemmas.proofs.Places.{slice_get-there}
 use Rattle.flu_lemmas.proofs.Tests.{both, lt_true, not_both}
-use Rattle.flu_model.specs.declared.events.Event.{Event}
-use Rattle.flu_model.specs.declared.events.Item.{Item}
 use Rattle.flu_model.specs.Itags.{count_of_itags}
 use Rattle.flu_model.specs.Listed.{listed}
-use Rattle.flu_model.specs.Merging.{events_of}
 use Rattle.flu_fork.specs.declared.content.Content.{Content}
 use Rattle.flu_fork.specs.declared.lots.Ask.{Ask}
 use Rattle.flu_fork.specs.declared.lots.Lot.{Lot}
@@ -18,7 +14,6 @@ use Rattle.flu_fork.specs.Classes.{own, above}
 use Rattle.flu_fork.specs.Kin.{IsOfKids}
 use Rattle.flu_fork.specs.Lots.{job, nodes, kids, setting_of}
 use Rattle.flu_fork.specs.Serving.{LotCounts}
-use Rattle.flu_fork.specs.Streams.{IsEventAt}
 use Rattle.flu_worker.specs.declared.hand.Side.{Side}
 use Rattle.flu_worker.specs.declared.hand.Side.TheVariants.{Left, Right}
 use Rattle.flu_worker.specs.Choosing.{may_give, next_of, target_of}
@@ -48,20 +43,6 @@ pub record Child (k : Content) (v : ℕ) : Type 0 where
   pub is : v ≡ at_side side left right
   pub earlier : up < v
   pub there : up < length (nodes k)
-
--- an itag with an event is one of the job
-pub known_at : (k : Content) (j l : ℕ) (y : Event) → IsEventAt (setting_of k) j l y → j < count_of_itags (job k)
-known_at k j l y at =
-    elim (cases_lt j (count_of_itags (job k))) [
-      | inl lt ↦ lt
-      | inr ge ↦
-          let one = k.one_each in
-          let nothing : slice_index_or (listed k.streams) j [] ≡ [] = get_or_past (listed k.streams) j [] (omega arith) in
-          absurd (no_event l y (sym (ap (λ (items : List Item). slice_get (events_of items) l) nothing) ∙ at))
-    ]
-  where
-    no_event : (i : ℕ) (e : Event) → slice_get (events_of []) i ≡ Some e → ⊥
-    no_event i e f = cc
 
 module _ (laws : LawsBelow) (n : NetNote) (rule : Rule n) where
   pub as_placed : (w : ℕ) (v : WorkerNote) → slice_get n.workers w ≡ Some v → v ≡ placed_at n.case w v
@@ -118,12 +99,14 @@ module _ (laws : LawsBelow) (n : NetNote) (rule : Rule n) where
   above_is Left w l r j are lt = (of_kids w l r j are lt).above_left
   above_is Right w l r j are lt = (of_kids w l r j are lt).above_right
 
-  pub from_child : (s : Side) (w l r j : ℕ) → kids n.case w ≡ Some (l, r) → j < count_of_itags (job n.case) → above (job n.case) (nodes n.case) (at_side s l r) j ≡ true
+  pub from_child : (s : Side) (w l r j : ℕ) → kids n.case w ≡ Some (l, r) → j < count_of_itags (job n.case)
+      → above (job n.case) (nodes n.case) (at_side s l r) j ≡ true
       → (own (job n.case) (nodes n.case) w j ≡ true) ⊎ (above (job n.case) (nodes n.case) w j ≡ true)
   from_child s w l r j are lt over = or_cases _ _ (sym (above_is s w l r j are lt) ∙ over)
 
   pub to_child : (s : Side) (w l r j : ℕ) → kids n.case w ≡ Some (l, r) → j < count_of_itags (job n.case)
-      → (own (job n.case) (nodes n.case) w j ≡ true) ⊎ (above (job n.case) (nodes n.case) w j ≡ true) → above (job n.case) (nodes n.case) (at_side s l r) j ≡ true
+      → (own (job n.case) (nodes n.case) w j ≡ true) ⊎ (above (job n.case) (nodes n.case) w j ≡ true)
+      → above (job n.case) (nodes n.case) (at_side s l r) j ≡ true
   to_child s w l r j are lt place = above_is s w l r j are lt ∙ elim place [
     | inl mine ↦ or_left _ _ mine
     | inr over ↦ or_right (own (job n.case) (nodes n.case) w j) _ over
@@ -132,11 +115,13 @@ module _ (laws : LawsBelow) (n : NetNote) (rule : Rule n) where
   -- ---- what a child has counted of the itags above it, while it has its part, the worker above has counted too
   module _ (keep : AllKeep n.workers) where
     pub child_counts : (s : Side) (w l r : ℕ) (u c : WorkerNote) → kids n.case w ≡ Some (l, r) → slice_get n.workers w ≡ Some (placed_at n.case w u)
-        → slice_get n.workers (at_side s l r) ≡ Some (placed_at n.case (at_side s l r) c) → is_out s u.hand ≡ true → is_open c.hand ≡ true → c.held ≡ lent_to s (placed_at n.case w u)
+        → slice_get n.workers (at_side s l r) ≡ Some (placed_at n.case (at_side s l r) c) → is_out s u.hand ≡ true → is_open c.hand ≡ true
+        → c.held ≡ lent_to s (placed_at n.case w u)
         → (j : ℕ) → j < count_of_itags (job n.case) → (own (job n.case) (nodes n.case) w j ≡ true) ⊎ (above (job n.case) (nodes n.case) w j ≡ true)
         → slice_index c.counts j ≡ slice_index u.counts j
     child_counts s w l r u c are up down out opened held j lt place =
-        (keep (at_side s l r) (placed_at n.case (at_side s l r) c) down).held j opened (sound_at (at_side s l r) (placed_at n.case (at_side s l r) c) down) lt (to_child s w l r j are lt place)
+        (keep (at_side s l r) (placed_at n.case (at_side s l r) c) down).held j opened
+        (sound_at (at_side s l r) (placed_at n.case (at_side s l r) c) down) lt (to_child s w l r j are lt place)
         ∙ ap (λ (x : LotCounts). slice_index x.upto j) held
         ∙ sym ((keep w (placed_at n.case w u) up).lent s j out place)
 

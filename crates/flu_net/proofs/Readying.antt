@@ -1,7 +1,7 @@
 -- What a step that is enabled may rely on.
 use Rattle.std.proofs.Common.{◌≡◌, ◌<◌, ℕ, Bool, Option, Some, None, List, length, get_or, true, false, refl, sym, ap, subst, ◌∙◌, arith}
 use Rattle.std.specs.Prelude.{slice_get, slice_index, is_some, IfSome, IsSome}
-use Rattle.std.proofs.lemmas.Option.{slice_get_read, slice_get_within}
+use Rattle.std.proofs.lemmas.Option.{slice_get_read, slice_get_within, same_Some}
 use Rattle.flu_lemmas.proofs.Places.{slice_get-there}
 use Rattle.flu_lemmas.proofs.Tests.{not_both}
 use Rattle.flu_model.specs.declared.plans.Node.{Node}
@@ -22,8 +22,6 @@ use Rattle.flu_net.specs.LawsBelow.{LawsBelow}
 use Rattle.flu_net.specs.Notes.{NetNote, side_of, kid_of, edge_at, asked_of, asked_over}
 use Rattle.flu_net.specs.Rule.{Hangs, Lets, Rule}
 use Rattle.flu_net.proofs.Framing.{under}
-use Rattle.flu_net.proofs.Hands.{lend_home}
-use Rattle.flu_net.proofs.Lists.{same_some}
 use Rattle.flu_net.proofs.Stepping.{hangs_now}
 use Rattle.flu_net.proofs.Touching.{home_edge}
 
@@ -33,7 +31,7 @@ asked_edge None y e = cc
 asked_edge (Some Home) y e = cc
 asked_edge (Some (Lent lot)) y e = cc
 asked_edge (Some Held) y e = cc
-asked_edge (Some (Asked x)) y e = ap (λ z. Some (Asked z)) (same_some x y e)
+asked_edge (Some (Asked x)) y e = ap (λ z. Some (Asked z)) (same_Some x y e)
 asked_edge (Some (Given lot)) y e = cc
 
 pub held_edge : (es : List Edge) (o : Option ℕ) (v : ℕ) → o ≡ Some v → is_held (edge_at es o) ≡ true → slice_get es v ≡ Some Held
@@ -57,7 +55,7 @@ kid_pair k w v s e = pair (kids k w) refl e
   where
     pair : (o : Option (ℕ × ℕ)) → kids k w ≡ o → side_of s o ≡ Some v → (l : ℕ) × (r : ℕ) × (kids k w ≡ Some (l, r)) × (v ≡ at_side s l r)
     pair None is e = cc
-    pair (Some both) is e = (both.0, both.1, is, sym (same_some (at_side s both.0 both.1) v e))
+    pair (Some both) is e = (both.0, both.1, is, sym (same_Some (at_side s both.0 both.1) v e))
 
 pub kid_above : (k : Content) (w v : ℕ) (s : Side) → kid_of k w s ≡ Some v → w < length (nodes k)
 kid_above k w v s e = let p = kid_pair k w v s e in some_node (slice_get (nodes k) w) refl p.2
@@ -137,7 +135,7 @@ module _ (laws : LawsBelow) (old : NetNote) (rule : Rule old) (w : ℕ) (n : Wor
     pub lend_was : may_lend s n.hand ≡ true → slice_get old.edges v ≡ Some Home
     lend_was may =
         let e = slice_get-there old.edges v kid_there in
-        e.1 ∙ ap Some (home_edge s n e.0 child.0 (lend_home s n.hand may) (over e.0 e.1))
+        e.1 ∙ ap Some (home_edge laws s n e.0 child.0 (laws.lend_turns s n.hand may).here (over e.0 e.1))
 
     -- take
     module _ (lot : Lot) (given : slice_get old.edges v ≡ Some (Given lot)) where
@@ -152,7 +150,7 @@ module _ (laws : LawsBelow) (old : NetNote) (rule : Rule old) (w : ℕ) (n : Wor
 
       same_kid : (l r : ℕ) → kids n.case n.node ≡ Some (l, r) → v ≡ at_side s l r
       same_kid l r e =
-          let pair : (left, right) ≡ (l, r) = same_some (left, right) (l, r) (sym are ∙ kids_here l r e) in
+          let pair : (left, right) ≡ (l, r) = same_Some (left, right) (l, r) (sym are ∙ kids_here l r e) in
           is_kid ∙ λ i. at_side s (pair i).0 (pair i).1
 
       at_child : (P : Content → ℕ → Type 0) (l r : ℕ) → kids n.case n.node ≡ Some (l, r) → P child.0.case child.0.node → P n.case (at_side s l r)
@@ -167,7 +165,7 @@ module _ (laws : LawsBelow) (old : NetNote) (rule : Rule old) (w : ℕ) (n : Wor
       take_served l r y e kept =
           let o = over (Given lot) given in
           at_child (λ j x. Served j x (lent_to s n) y lot) l r e
-          (subst (λ (z : Ask). Served child.0.case child.0.node (lent_to s n) z lot) (same_some o.target y (sym o.kept ∙ kept)) o.served)
+          (subst (λ (z : Ask). Served child.0.case child.0.node (lent_to s n) z lot) (same_Some o.target y (sym o.kept ∙ kept)) o.served)
 
 -- ---- who is there
 pub at_index : (ws : List WorkerNote) (w : ℕ) (n : WorkerNote) → w < length ws → n ≡ get_or ws w n → slice_get ws w ≡ Some n
@@ -193,7 +191,8 @@ there_lt test ws w may = found (slice_get ws w) refl may
 pub there_test : (test : WorkerNote → Bool) (o : Option WorkerNote) (n : WorkerNote) → o ≡ Some n → if_there test o ≡ true → test n ≡ true
 there_test test o n at may = sym (ap (if_there test) at) ∙ may
 
-pub give_may : (v : NetNote) (w : ℕ) (y : Ask) (n : WorkerNote) → slice_get v.edges w ≡ Some (Asked y) → slice_get v.workers w ≡ Some n → may_give_up v w ≡ true → may_give n y ≡ true
+pub give_may : (v : NetNote) (w : ℕ) (y : Ask) (n : WorkerNote) → slice_get v.edges w ≡ Some (Asked y) → slice_get v.workers w ≡ Some n
+    → may_give_up v w ≡ true → may_give n y ≡ true
 give_may v w y n asked at may =
     there_test (λ x. may_give x y) (slice_get v.workers w) n at (sym (ap (gives_for v w) asked) ∙ may)
 
@@ -210,6 +209,3 @@ gives_none v w none = go (slice_get v.edges w) none
     go (Some Held) e = refl
     go (Some (Asked y)) e = cc
     go (Some (Given lot)) e = refl
-
-pub no_some : {X : Type 0} (o : Option X) → o ≡ None → is_some o ≡ true → ⊥
-no_some o e f = cc

@@ -2,8 +2,10 @@
 use Rattle.std.proofs.Common.{◌≡◌, ◌<◌, ◌≤◌, ℕ, zero, suc, true, false, Option, Some, None, length, inl, inr, refl, sym, ap, subst, ◌∙◌, arith}
 use Rattle.std.specs.Prelude.{is_some, slice_get, slice_index, IsSome}
 use Rattle.std.proofs.lemmas.Bool.{cases_eq, cases_lt}
+use Rattle.std.proofs.lemmas.Option.{none-some}
 use Rattle.flu_lemmas.proofs.Places.{slice_get-there}
 use Rattle.flu_lemmas.proofs.Tests.{not_both}
+use Rattle.flu_lemmas.proofs.Options.{some_there, none_or_some}
 use Rattle.flu_model.specs.Itags.{count_of_itags}
 use Rattle.flu_fork.specs.declared.content.Content.{Content}
 use Rattle.flu_fork.specs.declared.lots.Ask.{Ask}
@@ -28,9 +30,9 @@ use Rattle.flu_net.specs.LawsBelow.{LawsBelow}
 use Rattle.flu_net.specs.Notes.{NetNote, asked_of}
 use Rattle.flu_net.specs.Rule.{Rule}
 use Rattle.flu_net.proofs.Framing.{under}
-use Rattle.flu_net.proofs.Going.{goes_on, handles_inner, handles_leaf, none_asked, none_lending, none_taking, ready_target, sees_all, the_ask}
-use Rattle.flu_net.proofs.Hands.{take_out}
-use Rattle.flu_net.proofs.Placed.{placed_at, all_seen, as_placed, child_counts, child_of, edge_there, from_child, in_tree, known_at, no_handle, no_hold, no_take, worker_at}
+use Rattle.flu_net.proofs.Going.{goes_on, handles_inner, handles_leaf, none_asked, none_lending, none_taking, ready_target, sees_all}
+use Rattle.flu_net.proofs.Placed.{placed_at, all_seen, as_placed, child_counts, child_of, edge_there}
+use Rattle.flu_net.proofs.Placed.{from_child, in_tree, no_handle, no_hold, no_take, worker_at}
 
 abbrev own_itags : Content → ℕ → Itags
 own_itags k w = own (job k) (nodes k) w
@@ -64,13 +66,10 @@ module _ (laws : LawsBelow) (n : NetNote) (rule : Rule n) (keep : AllKeep n.work
     at_whole None leaf whole kept = record {
       own = own_complete (λ ready. no_handle laws n rule gone quiet w v at (handles_leaf v whole leaf ready));
       leaf = λ _. whole;
-      inner = λ some. absurd (no_kids (kids n.case w) leaf some);
+      inner = λ some. absurd (none_or_some (kids n.case w) leaf some);
     }
-      where
-        no_kids : (o : Option (ℕ × ℕ)) → o ≡ None → IsSome o → ⊥
-        no_kids o a b = cc
     at_whole (Some p) inner whole kept =
-        let z = the_ask u.kept (kept refl) in
+        let z = some_there u.kept (kept refl) in
         absurd (elim ((keep w v at).target z.0 z.1).place [
           | inl mine ↦ no_handle laws n rule gone quiet w v at (handles_inner v p z.0 whole inner z.1 mine)
           | inr higher ↦
@@ -81,13 +80,12 @@ module _ (laws : LawsBelow) (n : NetNote) (rule : Rule n) (keep : AllKeep n.work
     at_down : (o : Option (ℕ × ℕ)) → kids n.case w ≡ o → IsSome o → u.hand ≡ Down → Rests
     at_down None e some down = cc
     at_down (Some p) e some down = record {
-      own = own_complete (λ ready. goes_on laws n rule keep gone quiet w p.0 p.1 Left u e at (ap (may_take Left) down) (ready_target v (asked_of n w) down ready) (λ y. free Left p.0 p.1 y e));
-      leaf = λ none. absurd (no_leaf (kids n.case w) none e);
+      own =
+          own_complete (λ ready. goes_on laws n rule keep gone quiet w p.0 p.1 Left u e at (ap (may_take Left) down)
+          (ready_target v (asked_of n w) down ready) (λ y. free Left p.0 p.1 y e));
+      leaf = λ none. absurd (none-some p (sym none ∙ e));
       inner = λ _. down;
     }
-      where
-        no_leaf : (o : Option (ℕ × ℕ)) {p : ℕ × ℕ} → o ≡ None → o ≡ Some p → ⊥
-        no_leaf o a b = cc
 
     by_hand : (h : Hand) → u.hand ≡ h → KeepsIn h v → Rests
     by_hand Empty is keeps = absurd (not_both _ opened (ap is_open is))
@@ -112,7 +110,7 @@ module _ (laws : LawsBelow) (n : NetNote) (rule : Rule n) (keep : AllKeep n.work
       elim (cases_lt (slice_index u.counts i) (length (events_at (setting_of n.case) i))) [
         | inl lt ↦
             let x = slice_get-there (events_at (setting_of n.case) i) (slice_index u.counts i) lt in
-            let known = known_at n.case i (slice_index u.counts i) x.0 x.1 in
+            let known : i < count_of_itags (job n.case) = laws.known (setting_of n.case) i (slice_index u.counts i) x.0 (laws.settings n.case) x.1 in
             absurd (omega arith)
         | inr all ↦ omega arith
       ]
@@ -134,7 +132,7 @@ module _ (laws : LawsBelow) (n : NetNote) (rule : Rule n) (keep : AllKeep n.work
     hand = rest.inner (ap is_some are)
 
     out : is_out s u.hand ≡ true
-    out = take_out s u.hand (ap (may_take s) hand)
+    out = (laws.take_turns s u.hand (ap (may_take s) hand)).out
 
     reached_held : slice_get n.edges (at_side s l r) ≡ Some Held → IsReached (at_side s l r) c
     reached_held edge =
@@ -147,7 +145,10 @@ module _ (laws : LawsBelow) (n : NetNote) (rule : Rule n) (keep : AllKeep n.work
           over = λ i higher. elim (cases_lt i (count_of_itags (job n.case))) [
             | inl lt ↦
                 let place = from_child laws n rule s w l r i are lt higher in
-                child_counts laws n rule keep s w l r u c are up down out open_c held i lt place ∙ elim place [ inl mine ↦ rest.own i mine | inr over ↦ reached.over i over ]
+                child_counts laws n rule keep s w l r u c are up down out open_c held i lt place ∙ elim place [
+                  | inl mine ↦ rest.own i mine
+                  | inr over ↦ reached.over i over
+                ]
             | inr ge ↦ unknown (at_side s l r) c down i ge
           ];
         }
@@ -188,7 +189,8 @@ module _ (laws : LawsBelow) (n : NetNote) (rule : Rule n) (keep : AllKeep n.work
   all_rest w v at = rests w v (placed w v at) (all_reached w v at).opened (all_reached w v at).over
 
   -- what is said of a node is said of its worker's
-  of_worker : (v : WorkerNote) (w : ℕ) → v ≡ placed_at n.case w v → (i : ℕ) → (own_of v i ≡ own (job n.case) (nodes n.case) w i) × (above_of v i ≡ above (job n.case) (nodes n.case) w i)
+  of_worker : (v : WorkerNote) (w : ℕ) → v ≡ placed_at n.case w v → (i : ℕ)
+      → (own_of v i ≡ own (job n.case) (nodes n.case) w i) × (above_of v i ≡ above (job n.case) (nodes n.case) w i)
   of_worker v w e i = (ap (λ (x : WorkerNote). own_of x i) e, ap (λ (x : WorkerNote). above_of x i) e)
 
   pub final_if_quiet : IsFinal n

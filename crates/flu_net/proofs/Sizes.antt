@@ -58,7 +58,8 @@ module _ (nodes : List Node) (order : IsOrdered nodes) where
           subst (λ x. 1 ≤ cond {A = ℕ} x 1 0) (sym here) (omega arith)
 
   -- a node with children has them and what is below them in its subtree, and itself
-  pub size_kids : HasSubtrees nodes → (w l r : ℕ) → AreKids nodes w l r → kids_at nodes w ≡ Some (l, r) → w < length nodes → 1 + (size nodes l + size nodes r) ≤ size nodes w
+  pub size_kids : HasSubtrees nodes → (w l r : ℕ) → AreKids nodes w l r → kids_at nodes w ≡ Some (l, r) → w < length nodes
+      → 1 + (size nodes l + size nodes r) ≤ size nodes w
   unfolding is_in
   size_kids trees w l r under are lt =
       let once = once_in_run (length nodes) w lt in

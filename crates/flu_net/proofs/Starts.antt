@@ -1,9 +1,11 @@
 -- The net at the start keeps the rule.
-use Rattle.std.proofs.Common.{◌≡◌, ◌<◌, ◌+◌, ℕ, zero, suc, Some, List, [], ◌∷◌, ◌++◌, false, inl, inr, refl, sym, ap, subst, ◌∙◌, arith}
+use Rattle.std.proofs.Common.{◌≡◌, ◌+◌, ℕ, zero, suc, Some, List, [], ◌∷◌, ◌++◌, false, inl, inr, refl, sym, ap, subst, ◌∙◌, arith}
 use Rattle.std.specs.Prelude.{slice_get, slice_index}
 use Rattle.std.specs.List.{range_with_len}
 use Rattle.std.proofs.lemmas.List.{length-append}
 use Rattle.std.proofs.lemmas.List.FromFn.{length-map-range_with_len}
+use Rattle.std.proofs.lemmas.Option.{none-some}
+use Rattle.std.proofs.Math.ListN.{get_or-map}
 use Rattle.flu_lemmas.proofs.Places.{slice_get-there, slice_get_push}
 use Rattle.flu_model.specs.Itags.{count_of_itags}
 use Rattle.flu_fork.specs.declared.content.Content.{Content}
@@ -22,9 +24,8 @@ use Rattle.flu_net.specs.Notes.{NetNote}
 use Rattle.flu_fork.specs.Texts.{HasTexts}
 use Rattle.flu_net.specs.Rule.{Hangs, Lets, IsSeen, Rule}
 use Rattle.flu_net.specs.Starting.{AreNew, AreHome, IsStart}
-use Rattle.flu_net.proofs.Hands.{first_home, first_open}
-use Rattle.flu_net.proofs.Lists.{zeros_at}
-use Rattle.flu_net.proofs.Standing.{first_sound, never}
+use Rattle.flu_net.proofs.Hands.{first_open}
+use Rattle.flu_net.proofs.Standing.{first_sound}
 
 -- ---- one more
 pub new_more : (k : Content) (w : ℕ) (old new : List WorkerNote) (n : WorkerNote) → new ≡ old ++ n ∷ [] → IsNew k w n → AreNew k w old → AreNew k (w + 1) new
@@ -58,14 +59,6 @@ none_home = record { each = refl; home = λ v m e. none v m e }
     none v m e = cc
 
 -- ---- the rule
-start_shut : (k : Content) (w : ℕ) → 0 < w → is_open (start_hand k w) ≡ false
-start_shut k zero some = absurd (omega arith)
-start_shut k (suc w) some = refl
-
-start_home : (s : Side) (k : Content) (w : ℕ) → is_out s (start_hand k w) ≡ false
-start_home s k zero = first_home (kids k 0) s
-start_home s k (suc w) = refl
-
 start_sound : (k : Content) (w : ℕ) → is_lost (start_hand k w) ≡ false
 start_sound k zero = first_sound (kids k 0)
 start_sound k (suc w) = refl
@@ -81,7 +74,7 @@ start_rule laws k n start = subst (λ (j : Content). Rule (record n { case = j }
     nil = no_counts (job k)
 
     none_counted_at : (i : ℕ) → slice_index nil i ≡ 0
-    none_counted_at i = zeros_at (range_with_len 0 (count_of_itags (job k))) i
+    none_counted_at i = get_or-map (λ (n : ℕ). 0) (range_with_len 0 (count_of_itags (job k))) i 0
 
     at_k : Rule (record n { case = k })
     at_k = record {
@@ -97,14 +90,14 @@ start_rule laws k n start = subst (λ (j : Content). Rule (record n { case = j }
             let one = start.edges.each in
             let found = slice_get-there n.edges 0 (omega arith) in found.1 ∙ ap Some (start.edges.home 0 found.0 found.1));
         root = λ m e. (start.workers.new 0 m e).held;
-        hangs = λ w m e some a b. subst (Hangs m) (sym (start.edges.home w e b)) (ap is_open (start.workers.new w m a).hand ∙ start_shut k w some);
+        hangs = λ w m e some a b. subst (Hangs m) (sym (start.edges.home w e b)) (ap is_open (start.workers.new w m a).hand ∙ laws.start_shut k w some);
         lets = λ s w l r m c e are a b d. subst (λ (x : Edge). Lets s m x c) (sym (start.edges.home (at_side s l r) e b)) (record {
-          home = ap (is_out s) (start.workers.new w m a).hand ∙ start_home s k w;
+          home = ap (is_out s) (start.workers.new w m a).hand ∙ laws.start_here k w s;
           given = (start.workers.new (at_side s l r) c d).given ∙ sym (none_taken s k w m (start.workers.new w m a));
         });
       };
       stands = λ w m e a b. (let is = start.workers.new w m a in record {
-        asked = λ y kept over. absurd (never m.kept is.kept kept);
+        asked = λ y kept over. absurd (none-some y (sym is.kept ∙ kept));
         sound = ap is_lost is.hand ∙ start_sound k w;
         root = λ top. ap is_open is.hand ∙ ap (λ v. is_open (start_hand k v)) top ∙ first_open (kids k 0);
       });

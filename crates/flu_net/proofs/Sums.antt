@@ -3,14 +3,14 @@ use Rattle.std.proofs.Common.{◌≡◌, ◌≢◌, ◌<◌, ◌≤◌, ◌+◌,
 use Rattle.std.specs.Prelude.{slice_get, ◌==◌}
 use Rattle.std.specs.List.{range_with_len}
 use Rattle.std.proofs.lemmas.Bool.{cases_eq, ne_eqb}
+use Rattle.std.proofs.lemmas.Option.{same_Some}
 use Rattle.flu_lemmas.proofs.Numbers.{same_number}
 use Rattle.flu_lemmas.specs.Totals.{total}
-use Rattle.flu_net.proofs.Lists.{same_some}
 
 -- ---- over a list
 pub total_set : {X : Type 0} (f : X → ℕ) (xs : List X) (i : ℕ) (x y : X) → slice_get xs i ≡ Some x → total f (set xs i y) + f x ≡ total f xs + f y
 total_set f [] i x y e = cc
-total_set f (z ∷ xs) zero x y e = let same : f z ≡ f x = ap f (same_some z x e) in omega arith
+total_set f (z ∷ xs) zero x y e = let same : f z ≡ f x = ap f (same_Some z x e) in omega arith
 total_set f (z ∷ xs) (suc i) x y e = let rest = total_set f xs i x y e in omega arith
 
 pub total_map : {X Y : Type 0} (f : Y → ℕ) (g : X → Y) (xs : List X) → total f (map g xs) ≡ total (λ x. f (g x)) xs
@@ -20,13 +20,6 @@ total_map f g (x ∷ xs) = ap (λ n. f (g x) + n) (total_map f g xs)
 pub total_plus : {X : Type 0} (f g : X → ℕ) (xs : List X) → total (λ x. f x + g x) xs ≡ total f xs + total g xs
 total_plus f g [] = omega arith
 total_plus f g (x ∷ xs) = let rest = total_plus f g xs in omega arith
-
-pub total_none : {X : Type 0} (f : X → ℕ) (xs : List X) → ((i : ℕ) (x : X) → slice_get xs i ≡ Some x → f x ≡ 0) → total f xs ≡ 0
-total_none f [] none = refl
-total_none f (x ∷ xs) none =
-    let here : f x ≡ 0 = none 0 x refl in
-    let rest : total f xs ≡ 0 = total_none f xs (λ i. none (suc i)) in
-    omega arith
 
 -- ---- over a run of numbers
 pub total_le : (f g : ℕ → ℕ) (lo n : ℕ) → ((i : ℕ) → i < lo + n → f i ≤ g i) → total f (range_with_len lo n) ≤ total g (range_with_len lo n)
@@ -47,17 +40,18 @@ total_same f g lo (suc n) same =
 pub total_change : (f g : ℕ → ℕ) (lo n i : ℕ) → lo ≤ i → i < lo + n → ((j : ℕ) → j < lo + n → j ≢ i → f j ≡ g j)
     → total f (range_with_len lo n) + g i ≡ total g (range_with_len lo n) + f i
 total_change f g lo zero i low high same = absurd (omega arith)
-total_change f g lo (suc n) i low high same = elim (cases_eq lo i) as (λ _. total f (range_with_len lo (suc n)) + g i ≡ total g (range_with_len lo (suc n)) + f i) [
-  | inl is ↦
-      let rest = total_same f g (lo + 1) n (λ j low_j high_j. same j (omega arith) (λ e. omega arith)) in
-      let here : f lo ≡ f i = ap f is in
-      let there : g lo ≡ g i = ap g is in
-      omega arith
-  | inr apart ↦
-      let rest = total_change f g (lo + 1) n i (omega arith) (omega arith) (λ j lt. same j (omega arith)) in
-      let here : f lo ≡ g lo = same lo (omega arith) apart in
-      omega arith
-]
+total_change f g lo (suc n) i low high same =
+    elim (cases_eq lo i) as (λ _. total f (range_with_len lo (suc n)) + g i ≡ total g (range_with_len lo (suc n)) + f i) [
+      | inl is ↦
+          let rest = total_same f g (lo + 1) n (λ j low_j high_j. same j (omega arith) (λ e. omega arith)) in
+          let here : f lo ≡ f i = ap f is in
+          let there : g lo ≡ g i = ap g is in
+          omega arith
+      | inr apart ↦
+          let rest = total_change f g (lo + 1) n i (omega arith) (omega arith) (λ j lt. same j (omega arith)) in
+          let here : f lo ≡ g lo = same lo (omega arith) apart in
+          omega arith
+    ]
 
 pub total_zero : (lo n : ℕ) → total (λ i. 0) (range_with_len lo n) ≡ 0
 total_zero lo zero = refl

@@ -12,11 +12,13 @@ use Rattle.flu_worker.specs.declared.hand.Side.TheVariants.{Left, Right}
 use Rattle.flu_worker.specs.Calls.{IsSamePlace, IsSameBelow, LendsPart, TakesPart, KeepsTarget}
 use Rattle.flu_worker.specs.Hands.{is_open, is_out, may_lend, may_take}
 use Rattle.flu_worker.specs.Notes.{WorkerNote, lent_to, taken_from}
+use Rattle.flu_worker.specs.Turning.{other}
 use Rattle.flu_net.specs.declared.edges.Edge.{Edge}
 use Rattle.flu_net.specs.declared.edges.Edge.TheVariants.{Home, Lent, Held, Asked, Given}
+use Rattle.flu_net.specs.LawsBelow.{LawsBelow}
 use Rattle.flu_net.specs.Rule.{Hangs, Lets}
-use Rattle.flu_net.specs.Stays.{StaysAt, other}
-use Rattle.flu_net.proofs.Hands.{lend_other, take_other, take_out, lending_takes_none}
+use Rattle.flu_net.specs.Stays.{StaysAt}
+use Rattle.flu_net.proofs.Hands.{lending_takes_none}
 
 pub lent_same : (s : Side) (n m : WorkerNote) → m.lent_left ≡ n.lent_left → m.lent_right ≡ n.lent_right → lent_to s m ≡ lent_to s n
 lent_same Left n m a b = a
@@ -27,18 +29,24 @@ taken_same Left n m a b = a
 taken_same Right n m a b = b
 
 -- a part is out where its edge is not at home
-pub lets_home : (s : Side) (n m : WorkerNote) (e : Edge) (c : WorkerNote) → IsSameBelow n m → is_out s n.hand ≡ false → is_out s m.hand ≡ false → Lets s n e c → Lets s m e c
-lets_home s n m Home c same was is t = record { home = is; given = t.given ∙ sym (taken_same s n m same.taken_left same.taken_right) }
-lets_home s n m (Lent lot) c same was is t = absurd (not_both _ t.out was)
-lets_home s n m Held c same was is t = absurd (not_both _ t.out was)
-lets_home s n m (Asked y) c same was is t = absurd (not_both _ (take_out s n.hand t.take) was)
-lets_home s n m (Given lot) c same was is t = absurd (not_both _ (take_out s n.hand t.take) was)
+pub lets_home : LawsBelow → (s : Side) (n m : WorkerNote) (e : Edge) (c : WorkerNote) → IsSameBelow n m → is_out s n.hand ≡ false → is_out s m.hand ≡ false
+    → Lets s n e c → Lets s m e c
+lets_home laws s n m Home c same was is t = record { home = is; given = t.given ∙ sym (taken_same s n m same.taken_left same.taken_right) }
+lets_home laws s n m (Lent lot) c same was is t = absurd (not_both _ t.out was)
+lets_home laws s n m Held c same was is t = absurd (not_both _ t.out was)
+lets_home laws s n m (Asked y) c same was is t = absurd (not_both _ (laws.take_turns s n.hand t.take).out was)
+lets_home laws s n m (Given lot) c same was is t = absurd (not_both _ (laws.take_turns s n.hand t.take).out was)
 
 pub lets_stays : (s : Side) (n m : WorkerNote) (e : Edge) (c : WorkerNote) → StaysAt s n m → Lets s n e c → Lets s m e c
 lets_stays s n m Home c same t = record { home = same.out ∙ t.home; given = t.given ∙ sym same.taken }
 lets_stays s n m (Lent lot) c same t = record { out = same.out ∙ t.out; lent = t.lent ∙ sym same.lent; given = t.given ∙ sym same.taken }
 lets_stays s n m Held c same t = record { out = same.out ∙ t.out; held = t.held ∙ sym same.lent; given = t.given ∙ sym same.taken }
-lets_stays s n m (Asked y) c same t = record { take = same.take t.take; held = t.held ∙ sym same.lent; given = t.given ∙ sym same.taken; kept = same.kept y t.kept }
+lets_stays s n m (Asked y) c same t = record {
+  take = same.take t.take;
+  held = t.held ∙ sym same.lent;
+  given = t.given ∙ sym same.taken;
+  kept = same.kept y t.kept;
+}
 lets_stays s n m (Given lot) c same t = record {
   take = same.take t.take;
   target = t.target;
@@ -47,18 +55,19 @@ lets_stays s n m (Given lot) c same t = record {
 }
 
 -- a part that is not out has its edge at home
-pub home_edge : (s : Side) (n : WorkerNote) (e : Edge) (c : WorkerNote) → is_out s n.hand ≡ false → Lets s n e c → e ≡ Home
-home_edge s n Home c was t = refl
-home_edge s n (Lent lot) c was t = absurd (not_both _ t.out was)
-home_edge s n Held c was t = absurd (not_both _ t.out was)
-home_edge s n (Asked y) c was t = absurd (not_both _ (take_out s n.hand t.take) was)
-home_edge s n (Given lot) c was t = absurd (not_both _ (take_out s n.hand t.take) was)
+pub home_edge : LawsBelow → (s : Side) (n : WorkerNote) (e : Edge) (c : WorkerNote) → is_out s n.hand ≡ false → Lets s n e c → e ≡ Home
+home_edge laws s n Home c was t = refl
+home_edge laws s n (Lent lot) c was t = absurd (not_both _ t.out was)
+home_edge laws s n Held c was t = absurd (not_both _ t.out was)
+home_edge laws s n (Asked y) c was t = absurd (not_both _ (laws.take_turns s n.hand t.take).out was)
+home_edge laws s n (Given lot) c was t = absurd (not_both _ (laws.take_turns s n.hand t.take).out was)
 
 -- ---- the edge above
 pub at_place : (P : Content → ℕ → Type 0) (n m : WorkerNote) → IsSamePlace n m → P n.case n.node → P m.case m.node
 at_place P n m place p = subst (λ (v : ℕ). P m.case v) (sym place.node) (subst (λ (j : Content). P j n.node) (sym place.case) p)
 
-pub hangs_under : (n m : WorkerNote) (e : Edge) → IsSamePlace n m → m.held ≡ n.held → m.given ≡ n.given → is_open m.hand ≡ is_open n.hand → Hangs n e → Hangs m e
+pub hangs_under : (n m : WorkerNote) (e : Edge) → IsSamePlace n m → m.held ≡ n.held → m.given ≡ n.given → is_open m.hand ≡ is_open n.hand → Hangs n e
+    → Hangs m e
 hangs_under n m Home place held given opens h = opens ∙ h
 hangs_under n m (Lent lot) place held given opens h = record {
   shut = opens ∙ h.shut;
@@ -107,22 +116,22 @@ taken_there : (s : Side) (n m : WorkerNote) (part : Lot) → TakesPart s part n 
 taken_there Left n m part h = h.taken_right
 taken_there Right n m part h = h.taken_left
 
-pub stays_lend : (s : Side) (n m : WorkerNote) (part : Lot) → may_lend s n.hand ≡ true → LendsPart s part n m → StaysAt (other s) n m
-stays_lend s n m part may h = record {
+pub stays_lend : LawsBelow → (s : Side) (n m : WorkerNote) (part : Lot) → may_lend s n.hand ≡ true → LendsPart s part n m → StaysAt (other s) n m
+stays_lend laws s n m part may h = record {
   lent = lent_there s n m part h;
   taken = taken_same (other s) n m h.taken_left h.taken_right;
-  out = ap (is_out (other s)) h.hand ∙ lend_other s n.hand may;
+  out = ap (is_out (other s)) h.hand ∙ (laws.lend_turns s n.hand may).rest;
   take = λ e. absurd (not_both _ e (lending_takes_none s (other s) n.hand may));
   kept = λ a e. h.kept ∙ e;
 }
 
-pub stays_take : (s : Side) (n m : WorkerNote) (part : Lot) → may_take s n.hand ≡ true → TakesPart s part n m → StaysAt (other s) n m
-stays_take s n m part may h =
-    let same = take_other s n.hand may in record {
+pub stays_take : LawsBelow → (s : Side) (n m : WorkerNote) (part : Lot) → may_take s n.hand ≡ true → TakesPart s part n m → StaysAt (other s) n m
+stays_take laws s n m part may h =
+    let turned = laws.take_turns s n.hand may in record {
       lent = lent_same (other s) n m h.lent_left h.lent_right;
       taken = taken_there s n m part h;
-      out = ap (is_out (other s)) h.hand ∙ same.0;
-      take = λ e. ap (may_take (other s)) h.hand ∙ same.1 ∙ e;
+      out = ap (is_out (other s)) h.hand ∙ turned.rest;
+      take = λ e. ap (may_take (other s)) h.hand ∙ turned.rest_to_take ∙ e;
       kept = λ a e. h.kept ∙ e;
     }
 

@@ -1,13 +1,14 @@
--- The laws of plans, of lots and of texts on which the rule of the net rests.
+-- The laws of plans, of lots, of texts and of hands on which the rule of the net rests.
 use Rattle.flu_deps.specs.Owners.{ItagsAreOwned}
 use Rattle.flu_deps.specs.Trees.{ChildrenAreLater, TreesAreRooted}
 use Rattle.flu_fork.specs.Completing.{LeavesBringAll, LastOnesArePaired, JoinsBringAll}
 use Rattle.flu_fork.specs.Kin.{ItagsAreOfNodes, ItagsAreOfKids, ItagsAreOfTheRoot}
 use Rattle.flu_fork.specs.Laws.{FittingHasSorts}
-use Rattle.flu_fork.specs.Places.{MomentsAreEvents}
+use Rattle.flu_fork.specs.Places.{MomentsAreEvents, EventsAreKnown}
 use Rattle.flu_fork.specs.Serving.{ContentsAreSettings, LoansArePaired}
 use Rattle.flu_fork.specs.Texts.{NoTexts, TextsAreOfTheSet, TextsGrow, TextsEnd, StatesEnd}
 use Rattle.flu_worker.specs.Laws.{NewTargets, AskedGoOn, OwnGoOn, NothingIsNext}
+use Rattle.flu_worker.specs.Turning.{LendTurns, TakeTurns, FirstIsHere, StartIsHere, StartIsShut}
 
 pub record LawsBelow : Type 0 where
   pub children : ChildrenAreLater
@@ -19,6 +20,7 @@ pub record LawsBelow : Type 0 where
   pub of_kids : ItagsAreOfKids
   pub of_root : ItagsAreOfTheRoot
   pub events : MomentsAreEvents
+  pub known : EventsAreKnown
   pub paired : LoansArePaired
   pub at_leaf : LeavesBringAll
   pub last_paired : LastOnesArePaired
@@ -32,3 +34,8 @@ pub record LawsBelow : Type 0 where
   pub asked_go_on : AskedGoOn
   pub own_go_on : OwnGoOn
   pub nothing_next : NothingIsNext
+  pub lend_turns : LendTurns
+  pub take_turns : TakeTurns
+  pub first_here : FirstIsHere
+  pub start_here : StartIsHere
+  pub start_shut : StartIsShut

@@ -4,13 +4,8 @@ use Rattle.flu_fork.specs.declared.content.Content.{Content}
 use Rattle.flu_fork.specs.declared.lots.Ask.{Ask}
 use Rattle.flu_fork.specs.Lots.{kids}
 use Rattle.flu_worker.specs.declared.hand.Side.{Side}
-use Rattle.flu_worker.specs.declared.hand.Side.TheVariants.{Left, Right}
 use Rattle.flu_worker.specs.Hands.{at_side, is_out, may_take}
 use Rattle.flu_worker.specs.Notes.{WorkerNote, lent_to, taken_from}
-
-abbrev pub other : Side → Side
-other Left = Right
-other Right = Left
 
 -- v is a child of w
 pub record IsKid (k : Content) (w v : ℕ) : Type 0 where

@@ -14,7 +14,7 @@ pub fn steps_are_bounded()
     flu_deps::laws::plans_are_trees();
 }
 
-/// The laws of plans, of lots, of texts and of targets.
+/// The laws of plans, of lots, of texts, of hands and of targets.
 pub(crate) fn laws_below()
     ensures { LawsBelow }
 {
@@ -28,6 +28,7 @@ pub(crate) fn laws_below()
     flu_fork::laws::loans_are_paired();
     flu_fork::laws::texts_are_counted();
     flu_fork::laws::texts_end();
+    flu_worker::laws::hands_turn();
     flu_worker::laws::targets_are_own_or_asked();
     flu_worker::laws::waiting_ends();
 }

@@ -43,7 +43,9 @@ module _ (laws : LawsBelow) (n : WorkerNote) (l r : ℕ) (e : kids n.case n.node
     pub joined_final : IsFinal n.case n.node n.held lot ((outs ++ lefts) ++ rights)
     joined_final = record {
       brings = joins.all;
-      texts = laws.three_texts (setting_of n.case) (below_of n) (own_of n) (below (job n.case) (nodes n.case) l) (below (job n.case) (nodes n.case) r) lot.upto outs lefts rights
+      texts =
+          laws.three_texts (setting_of n.case) (below_of n) (own_of n) (below (job n.case) (nodes n.case) l)
+          (below (job n.case) (nodes n.case) r) lot.upto outs lefts rights
           (laws.settings n.case) (λ i lt. own_or_kids laws n.case n.node l r i e lt)
           (laws.same_texts (setting_of n.case) (own_of n) n.counts lot.upto outs (λ i mine. joins.own i mine ∙ sym (done.own i mine)) tells)
           (laws.same_texts (setting_of n.case) (below (job n.case) (nodes n.case) l) left.upto lot.upto lefts joins.at_left fl.texts)

@@ -33,22 +33,28 @@ texts_alike laws k a b upto outs same has =
     (laws.three_texts (setting_of k) b a never never upto outs [] [] (laws.settings k) (λ i lt. one_alone (b i) (a i) (same i lt)) has
     (laws.no_texts (setting_of k) never upto (λ i e. cc)) (laws.no_texts (setting_of k) never upto (λ i e. cc)))
 
-module _ (laws : LawsBelow) (n : WorkerNote) (lot : Lot) (outs : List Out) (done : IsFinished n) (leaf : kids n.case n.node ≡ None) (whole : IsWholeLot n lot) (tells : Tells n outs) where
+module _ (laws : LawsBelow) (n : WorkerNote) (lot : Lot) (outs : List Out) (done : IsFinished n) (leaf : kids n.case n.node ≡ None)
+    (whole : IsWholeLot n lot) (tells : Tells n outs) where
   leaf_owns : (i : ℕ) → i < count_of_itags (job n.case) → below_of n i ≡ own_of n i
   leaf_owns i lt = (laws.of_nodes (setting_of n.case) n.node i (laws.settings n.case) lt).leaf leaf
 
   leaf_final : IsFinal n.case n.node n.held lot outs
   leaf_final = record {
     brings = laws.at_leaf n.case n.node n.held lot leaf whole.fits whole.since (λ i mine. whole.own i mine ∙ done.own i mine) whole.outside;
-    texts = texts_alike laws n.case (own_of n) (below_of n) lot.upto outs leaf_owns (laws.same_texts (setting_of n.case) (own_of n) n.counts lot.upto outs whole.own tells);
+    texts =
+        texts_alike laws n.case (own_of n) (below_of n) lot.upto outs leaf_owns
+        (laws.same_texts (setting_of n.case) (own_of n) n.counts lot.upto outs whole.own tells);
   }
 
 -- as its end sees it
-pub final_as : (k k' : Content) (w w' : ℕ) (a b : LotCounts) (lot : Lot) (outs : List Out) → k' ≡ k → w' ≡ w → b ≡ a → IsFinal k w a lot outs → IsFinal k' w' b lot outs
+pub final_as : (k k' : Content) (w w' : ℕ) (a b : LotCounts) (lot : Lot) (outs : List Out) → k' ≡ k → w' ≡ w → b ≡ a → IsFinal k w a lot outs
+    → IsFinal k' w' b lot outs
 final_as k k' w w' a b lot outs ek ew em h =
-    subst (λ (j : Content). IsFinal j w' b lot outs) (sym ek) (subst (λ (v : ℕ). IsFinal k v b lot outs) (sym ew) (subst (λ (m : LotCounts). IsFinal k w m lot outs) (sym em) h))
+    subst (λ (j : Content). IsFinal j w' b lot outs) (sym ek)
+    (subst (λ (v : ℕ). IsFinal k v b lot outs) (sym ew) (subst (λ (m : LotCounts). IsFinal k w m lot outs) (sym em) h))
 
-pub done_at : (n : WorkerNote) (l : LowerNote) (lot : Lot) (outs : List Out) → Hangs n l → is_open n.hand ≡ true → l.phase ≡ 1 → IsFinal n.case n.node n.held lot outs → IsDone l l lot outs
+pub done_at : (n : WorkerNote) (l : LowerNote) (lot : Lot) (outs : List Out) → Hangs n l → is_open n.hand ≡ true → l.phase ≡ 1
+    → IsFinal n.case n.node n.held lot outs → IsDone l l lot outs
 done_at n l lot outs hangs opened phase final = record {
   same = record { link = refl; case = refl; lower = refl };
   phase = phase;
@@ -58,7 +64,8 @@ done_at n l lot outs hangs opened phase final = record {
 pub finished_open : (n : WorkerNote) → IsFinished n → is_open n.hand ≡ true
 finished_open n done = elim done.hand [ inl e ↦ ap is_open e | inr e ↦ ap is_open e ]
 
-pub leaf_done : (laws : LawsBelow) (n : WorkerNote) (l : LowerNote) (lot : Lot) (outs : List Out) → Hangs n l → l.phase ≡ 1 → IsFinished n → kids n.case n.node ≡ None
+pub leaf_done : (laws : LawsBelow) (n : WorkerNote) (l : LowerNote) (lot : Lot) (outs : List Out) → Hangs n l → l.phase ≡ 1 → IsFinished n
+    → kids n.case n.node ≡ None
     → IsWholeLot n lot → Tells n outs → IsDone l l lot outs
 leaf_done laws n l lot outs hangs phase done leaf whole tells =
     done_at n l lot outs hangs (finished_open n done) phase (leaf_final laws n lot outs done leaf whole tells)

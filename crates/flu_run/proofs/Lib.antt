@@ -1,5 +1,4 @@
 pub mod Counts
-pub mod Hands
 pub mod Tying
 pub mod Sights
 pub mod Joined

@@ -19,16 +19,19 @@ use Rattle.flu_run.specs.LawsBelow.{LawsBelow}
 root_there : (laws : LawsBelow) (k : Content) → 0 < length (nodes k)
 root_there laws k = (laws.rooted (nodes k) (laws.settings k).one_tree).root
 
-pub the_state : (laws : LawsBelow) (k : Content) (lot : Lot) (outs : List Out) → IsWhole k lot outs → held lot.state ≡ final_state (job k) (held k.opening) (listed k.streams)
+pub the_state : (laws : LawsBelow) (k : Content) (lot : Lot) (outs : List Out) → IsWhole k lot outs
+    → held lot.state ≡ final_state (job k) (held k.opening) (listed k.streams)
 the_state laws k lot outs w = laws.states_end (setting_of k) (held lot.state) lot.since lot.upto (laws.settings k) w.fits w.all
 
 pub the_sorts : (laws : LawsBelow) (k : Content) (lot : Lot) (outs : List Out) → IsWhole k lot outs → IsStateOf (job k).families (held lot.state)
 the_sorts laws k lot outs w = laws.sorts (setting_of k) 0 (held lot.state) lot.since lot.upto (laws.settings k) (root_there laws k) w.fits
 
-pub the_outputs : (laws : LawsBelow) (k : Content) (lot : Lot) (outs : List Out) → IsWhole k lot outs → IsPermutation (final_outputs (job k) (held k.opening) (listed k.streams)) outs
+pub the_outputs : (laws : LawsBelow) (k : Content) (lot : Lot) (outs : List Out) → IsWhole k lot outs
+    → IsPermutation (final_outputs (job k) (held k.opening) (listed k.streams)) outs
 the_outputs laws k lot outs w = laws.texts_end (setting_of k) lot.upto outs (laws.settings k) w.all w.texts
 
-pub batch_as : {T E : Type 0} (r : Result T E) (P : Program → Contents → List (List Item) → T → Type 0) (p p' : Program) (o o' : Contents) (l l' : List (List Item))
+pub batch_as : {T E : Type 0} (r : Result T E) (P : Program → Contents → List (List Item) → T → Type 0) (p p' : Program) (o o' : Contents)
+    (l l' : List (List Item))
     → p ≡ p' → o ≡ o' → l ≡ l' → IfOk r (P p o l) → IfOk r (P p' o' l')
 batch_as r P p p' o o' l l' ep eo el h = subst (λ x. IfOk r (P x o' l')) ep (subst (λ x. IfOk r (P p x l')) eo (subst (λ x. IfOk r (P p o x)) el h))
 

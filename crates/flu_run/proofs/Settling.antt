@@ -24,7 +24,8 @@ use Rattle.flu_run.proofs.Leaves.{final_as, finished_open}
 use Rattle.flu_run.proofs.Tying.{tells_seen, lets_seen}
 
 -- nothing is asked of a worker that is open: its lot is held
-held_now : (found : Option Ask) (n : WorkerNote) (l : LowerNote) → is_none found ≡ true → IfNone found (is_open n.hand ≡ true → l.phase ≡ 1) → IsFinished n → l.phase ≡ 1
+held_now : (found : Option Ask) (n : WorkerNote) (l : LowerNote) → is_none found ≡ true → IfNone found (is_open n.hand ≡ true → l.phase ≡ 1) → IsFinished n
+    → l.phase ≡ 1
 held_now None n l e none done = none (finished_open n done)
 held_now (Some y) n l e none done = cc
 
@@ -54,7 +55,8 @@ rests_now n0 n1 n l0 l1 l2 l u0 u1 u v0 v1 v outs found case node a b c p q r s 
   finished = done;
 }
 
-pub settled : (k : Content) (w : ℕ) (given a b : LowerNote) (n0 : WorkerNote) (l0 : LowerNote) (u0 v0 : UpperNote) (n : WorkerNote) (l : LowerNote) (u v : UpperNote) (outs : List Out)
+pub settled : (k : Content) (w : ℕ) (given a b : LowerNote) (n0 : WorkerNote) (l0 : LowerNote) (u0 v0 : UpperNote) (n : WorkerNote) (l : LowerNote)
+    (u v : UpperNote) (outs : List Out)
     → n0.case ≡ k → n0.node ≡ w → given ≡ l0 → Lets Left n0 u0 → Lets Right n0 v0 → EndStarts u0 a → EndStarts v0 b
     → Rests n0 l0 u0 v0 n l u v outs → Settles k w given a b n l u v outs
 settled k w given a b n0 l0 u0 v0 n l u v outs ek ew eg lu lv sa sb r = record {
@@ -75,12 +77,12 @@ settled k w given a b n0 l0 u0 v0 n l u v outs ek ew eg lu lv sa sb r = record {
     finished = r.finished;
   };
   left = record { link = sa.link ∙ sym r.left_end.link; case = sa.case ∙ (lu.case ∙ sym r.case) ∙ sym r.left.case; lower = sa.lower ∙ sym r.left_end.lower };
-  right = record { link = sb.link ∙ sym r.right_end.link; case = sb.case ∙ (lv.case ∙ sym r.case) ∙ sym r.right.case; lower = sb.lower ∙ sym r.right_end.lower };
+  right = record {
+    link = sb.link ∙ sym r.right_end.link;
+    case = sb.case ∙ (lv.case ∙ sym r.case) ∙ sym r.right.case;
+    lower = sb.lower ∙ sym r.right_end.lower;
+  };
 }
-
-pub if_ok : {T E : Type 0} (r : Result T E) (P Q : T → Type 0) → ((x : T) → P x → Q x) → IfOk r P → IfOk r Q
-if_ok (Ok x) P Q f p = f x p
-if_ok (Err e) P Q f p = tt
 
 -- two results, each with what holds of its value
 pub if_both : {T U E F : Type 0} (a : Result T E) (b : Result U F) (P Q : T → Type 0) (R : U → Type 0) (S : T → U → Type 0)
@@ -90,13 +92,15 @@ if_both (Ok x) (Err e) P Q R S f p q r = tt
 if_both (Err e) b P Q R S f p q r = tt
 
 -- what is handed on only where the turns ended well
-pub if_turned : {T U E F : Type 0} (turned : Result T E) (r : Result U F) (x : U) (P : U → Type 0) → OnOk turned (P x) → IfOk r (λ y. (y ≡ x) × IsOk turned) → IfOk r P
+pub if_turned : {T U E F : Type 0} (turned : Result T E) (r : Result U F) (x : U) (P : U → Type 0) → OnOk turned (P x) → IfOk r (λ y. (y ≡ x) × IsOk turned)
+    → IfOk r P
 if_turned (Ok t) (Ok y) x P p q = subst P (sym q.0) p
 if_turned (Err e) (Ok y) x P p q = absurd (not_both false q.1 refl)
 if_turned turned (Err e) x P p q = tt
 
 -- what keeps the promise for the end after the turns keeps it for the end before them
-pub keeps_turned : {T : Type 0} (turned : Result T Why) (l m : LowerNote) (r : Ended) → OnOk turned (IsSameEnd l m) → IfErr turned (λ why. r ≡ Cut why) → Keeps m r → Keeps l r
+pub keeps_turned : {T : Type 0} (turned : Result T Why) (l m : LowerNote) (r : Ended) → OnOk turned (IsSameEnd l m) → IfErr turned (λ why. r ≡ Cut why)
+    → Keeps m r → Keeps l r
 keeps_turned (Err why) l m r same cut kept = subst (Keeps l) (sym cut) tt
 keeps_turned (Ok t) l m (Cut why) same cut kept = tt
 keeps_turned (Ok t) l m (Done d) same cut kept = record {

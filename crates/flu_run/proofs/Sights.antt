@@ -17,4 +17,5 @@ all_known p test =
 
 pub known_as : (p p' : Program) (xs : List Itag) (test : Itag → Bool) → p' ≡ p → xs ≡ itags_where p' test → All (λ (i : Itag). i.0 < count_of_itags p) xs
 known_as p p' xs test e is =
-    subst (All (λ (i : Itag). i.0 < count_of_itags p)) (sym is) (subst (λ (q : Program). All (λ (i : Itag). i.0 < count_of_itags q) (itags_where p' test)) e (all_known p' test))
+    subst (All (λ (i : Itag). i.0 < count_of_itags p)) (sym is)
+    (subst (λ (q : Program). All (λ (i : Itag). i.0 < count_of_itags q) (itags_where p' test)) e (all_known p' test))

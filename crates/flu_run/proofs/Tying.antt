@@ -1,11 +1,14 @@
 -- What a worker's thread keeps over its steps.
-use Rattle.std.proofs.Common.{◌≡◌, ◌≢◌, ◌<◌, ◌≤◌, ◌+◌, ℕ, zero, suc, true, false, Option, Some, None, List, [], length, ◌⊎◌, inl, inr, refl, sym, ap, subst, ◌∙◌, arith}
+use Rattle.std.proofs.Common.{◌≡◌, ◌≢◌, ◌≤◌, ◌+◌, ℕ, true, false, Option, Some, None}
+use Rattle.std.proofs.Common.{List, [], length, ◌⊎◌, inl, inr, refl, sym, ap, subst, ◌∙◌, arith}
 use Rattle.std.specs.Prelude.{slice_index, IsSome, IfSome, IfNone}
 use Rattle.std.specs.List.{range_with_len}
 use Rattle.std.proofs.lemmas.Bool.{cases_eq}
 use Rattle.std.proofs.lemmas.List.{length-map}
 use Rattle.std.proofs.lemmas.List.FromFn.{length-range_with_len}
+use Rattle.std.proofs.Math.ListN.{get_or-map}
 use Rattle.flu_lemmas.proofs.Tests.{not_both}
+use Rattle.flu_lemmas.proofs.Options.{pair_there}
 use Rattle.flu_model.specs.declared.events.Item.{Item}
 use Rattle.flu_model.specs.declared.events.Out.{Out}
 use Rattle.flu_model.specs.Itags.{count_of_itags}
@@ -22,17 +25,17 @@ use Rattle.flu_worker.specs.declared.hand.Side.{Side}
 use Rattle.flu_worker.specs.declared.hand.Side.TheVariants.{Left, Right}
 use Rattle.flu_worker.specs.Hands.{at_side, is_open, is_out, may_lend, may_take}
 use Rattle.flu_worker.specs.Notes.{WorkerNote, lent_to, taken_from, own_of}
-use Rattle.flu_worker.specs.Calls.{IsNew, IsAskable, start_hand, IsSamePlace, HandlesEvent, CountsEvent, LendsPart, IsFitPart, TakesPart}
+use Rattle.flu_worker.specs.Calls.{IsNew, IsAskable, IsSamePlace, HandlesEvent, CountsEvent, LendsPart, IsFitPart, TakesPart}
+use Rattle.flu_worker.specs.Turning.{other, LendTurns, TakeTurns, StartIsShut}
 use Rattle.flu_link.specs.Notes.{UpperNote, LowerNote, after_lend, after_asked}
 use Rattle.flu_run.specs.EndNotes.{LooksUp}
 use Rattle.flu_run.specs.LawsBelow.{LawsBelow}
 use Rattle.flu_run.specs.Ties.{IsAskedFor, Hangs, Lets, Tells}
 use Rattle.flu_run.specs.Seeing.{Sees, SeesMore, WatchesFrom, limits_of}
 use Rattle.flu_run.specs.Starts.{StartsAt}
-use Rattle.flu_run.specs.Stays.{StaysHome, StaysThere, StaysUnder, other}
+use Rattle.flu_run.specs.Stays.{StaysHome, StaysThere, StaysUnder}
 use Rattle.flu_arrive.specs.Notes.{WatchNote}
-use Rattle.flu_run.proofs.Counts.{zeros_at, same_zeros, some_kids}
-use Rattle.flu_run.proofs.Hands.{first_home, lend_home, lend_out, take_open, take_other}
+use Rattle.flu_run.proofs.Counts.{same_zeros}
 
 -- ---- the texts
 tells_at : (k k' : Content) (w w' : ℕ) (counts : List ℕ) (outs : List Out) → k' ≡ k → w' ≡ w
@@ -41,7 +44,8 @@ tells_at k k' w w' counts outs ek ew h =
     subst (λ (v : ℕ). HasTexts (setting_of k') (own (job k') (nodes k') v) counts outs) (sym ew)
     (subst (λ (j : Content). HasTexts (setting_of j) (own (job j) (nodes j) w) counts outs) (sym ek) h)
 
-counts_moment : (n n' : WorkerNote) (x : Ask) (before after : List Out) → (c : CountsEvent n.case x n.counts n'.counts before after) → CountsMoment c.moment n.counts n'.counts
+counts_moment : (n n' : WorkerNote) (x : Ask) (before after : List Out) → (c : CountsEvent n.case x n.counts n'.counts before after)
+    → CountsMoment c.moment n.counts n'.counts
 counts_moment n n' x before after c =
     let at : c.moment.event.itag.0 ≡ x.itag.0 = ap (λ i. i.0) c.itag in record {
       was = ap (slice_index n.counts) at ∙ c.next ∙ sym c.index;
@@ -49,26 +53,25 @@ counts_moment n n' x before after c =
       rest = λ j other. (c.counts j).1 (λ e. other (e ∙ sym at));
     }
 
-pub tells_event : (laws : LawsBelow) (n n' : WorkerNote) (x : Ask) (before after : List Out) → HandlesEvent x n n' → CountsEvent n.case x n.counts n'.counts before after
+pub tells_event : (laws : LawsBelow) (n n' : WorkerNote) (x : Ask) (before after : List Out) → HandlesEvent x n n'
+    → CountsEvent n.case x n.counts n'.counts before after
     → Tells n before → Tells n' after
 tells_event laws n n' x before after h c tells =
     let at : c.moment.event.itag.0 ≡ x.itag.0 = ap (λ i. i.0) c.itag in
     tells_at n.case n'.case n.node n'.node n'.counts after h.place.case h.place.node
     (subst (HasTexts (setting_of n.case) (own_of n) n'.counts) (sym c.outputs)
-    (laws.more_texts (setting_of n.case) (own_of n) c.front c.back c.moment n.counts n'.counts before (laws.settings n.case) c.stands (ap (own_of n) at ∙ h.owned)
+    (laws.more_texts (setting_of n.case) (own_of n) c.front c.back c.moment n.counts n'.counts before (laws.settings n.case) c.stands
+    (ap (own_of n) at ∙ h.owned)
     (counts_moment n n' x before after c) tells))
 
 -- ---- the end above
+one_or_two : (q : ℕ) → 1 ≤ q → q ≤ 2 → q ≢ 2 → q ≡ 1
+one_or_two q a b o = elim (cases_eq q 2) [ inl t ↦ absurd (o t) | inr f ↦ omega arith ]
+
 -- nothing is asked: it is held
 still_held : (p q : ℕ) → (1 ≤ p → p ≤ 2 → (1 ≤ q) × (q ≤ 2)) → (p ≡ 1) ⊎ (p ≡ 2) → q ≢ 2 → q ≡ 1
 still_held p q still (inl e) other = let s = still (omega arith) (omega arith) in one_or_two q s.0 s.1 other
-  where
-    one_or_two : (q : ℕ) → 1 ≤ q → q ≤ 2 → q ≢ 2 → q ≡ 1
-    one_or_two q a b o = elim (cases_eq q 2) [ inl t ↦ absurd (o t) | inr f ↦ omega arith ]
 still_held p q still (inr e) other = let s = still (omega arith) (omega arith) in one_or_two q s.0 s.1 other
-  where
-    one_or_two : (q : ℕ) → 1 ≤ q → q ≤ 2 → q ≢ 2 → q ≡ 1
-    one_or_two q a b o = elim (cases_eq q 2) [ inl t ↦ absurd (o t) | inr f ↦ omega arith ]
 
 phases : (l : LowerNote) → (l.phase ≡ 1) ⊎ IsAskedFor l → (l.phase ≡ 1) ⊎ (l.phase ≡ 2)
 phases l (inl e) = inl e
@@ -87,7 +90,8 @@ hangs_none n l l' hangs looks opened not_two =
       phase = λ _. inl one;
     }
 
-pub hangs_asked : (n : WorkerNote) (l l' : LowerNote) (y : Ask) → Hangs n l → l' ≡ after_asked l y → AsksAbove l.case l.lower y → y.index ≡ slice_index l.held.upto y.itag.0 → Hangs n l'
+pub hangs_asked : (n : WorkerNote) (l l' : LowerNote) (y : Ask) → Hangs n l → l' ≡ after_asked l y → AsksAbove l.case l.lower y
+    → y.index ≡ slice_index l.held.upto y.itag.0 → Hangs n l'
 hangs_asked n l l' y hangs e above next = subst (λ (m : LowerNote). Hangs n m) (sym e) record {
   case = hangs.case;
   lower = hangs.lower;
@@ -105,7 +109,8 @@ taken_same : (s : Side) (n n' : WorkerNote) → n'.taken_left ≡ n.taken_left �
 taken_same Left n n' a b = a
 taken_same Right n n' a b = b
 
-lower_as : (s : Side) (n n' : WorkerNote) (u : UpperNote) → IsSamePlace n n' → Lets s n u → (l r : ℕ) → kids n'.case n'.node ≡ Some (l, r) → u.lower ≡ at_side s l r
+lower_as : (s : Side) (n n' : WorkerNote) (u : UpperNote) → IsSamePlace n n' → Lets s n u → (l r : ℕ) → kids n'.case n'.node ≡ Some (l, r)
+    → u.lower ≡ at_side s l r
 lower_as s n n' u place lets l r e = lets.lower l r ((λ i. kids (sym place.case i) (sym place.node i)) ∙ e)
 
 -- ---- a part is lent
@@ -117,10 +122,12 @@ taken_there : (s : Side) (n n' : WorkerNote) (part : Lot) → TakesPart s part n
 taken_there Left n n' part h = h.taken_right
 taken_there Right n n' part h = h.taken_left
 
-pub lets_lend : (s : Side) (n n' : WorkerNote) (u u' : UpperNote) (part : Lot) → Lets s n u → may_lend s n.hand ≡ true → LendsPart s part n n' → u' ≡ after_lend u part → Lets s n' u'
-lets_lend s n n' u u' part lets may h e =
-    let out : is_out s n'.hand ≡ true = ap (is_out s) h.hand ∙ lend_out s n.hand may in
-    let free = lets.home (lend_home s n.hand may) in
+pub lets_lend : LendTurns → (s : Side) (n n' : WorkerNote) (u u' : UpperNote) (part : Lot) → Lets s n u → may_lend s n.hand ≡ true → LendsPart s part n n'
+    → u' ≡ after_lend u part → Lets s n' u'
+lets_lend turns s n n' u u' part lets may h e =
+    let turned = turns s n.hand may in
+    let out : is_out s n'.hand ≡ true = ap (is_out s) h.hand ∙ turned.out in
+    let free = lets.home turned.here in
     subst (λ (m : UpperNote). Lets s n' m) (sym e) record {
       case = lets.case ∙ sym h.place.case;
       lower = lower_as s n n' u h.place lets;
@@ -131,19 +138,18 @@ lets_lend s n n' u u' part lets may h e =
     }
 
 -- ---- a part is asked for, and taken
-pub there_take : (s : Side) (n n' : WorkerNote) (part : Lot) → may_take s n.hand ≡ true → TakesPart s part n n' → StaysThere s n n'
-there_take s n n' part may h =
-    let opens = take_open s n.hand may in
-    let same = take_other s n.hand may in record {
+pub there_take : TakeTurns → (s : Side) (n n' : WorkerNote) (part : Lot) → may_take s n.hand ≡ true → TakesPart s part n n' → StaysThere s n n'
+there_take turns s n n' part may h =
+    let turned = turns s n.hand may in record {
       place = h.place;
       held = h.held;
       given = h.given;
       counts = h.counts;
-      opens = inr (opens.0, ap is_open h.hand ∙ opens.1);
+      opens = inr (turned.open_before, ap is_open h.hand ∙ turned.open_after);
       lent = lent_same (other s) n n' h.lent_left h.lent_right;
       taken = taken_there s n n' part h;
-      out = ap (is_out (other s)) h.hand ∙ same.0;
-      take = λ e. ap (may_take (other s)) h.hand ∙ same.1 ∙ e;
+      out = ap (is_out (other s)) h.hand ∙ turned.rest;
+      take = λ e. ap (may_take (other s)) h.hand ∙ turned.rest_to_take ∙ e;
       kept = λ a e. h.kept ∙ e;
     }
 
@@ -192,47 +198,40 @@ hangs_look n l l' (Some y) hangs o note above next looks not_two = hangs_asked n
 pub fits_below : (s : Side) (n : WorkerNote) (u : UpperNote) (part : Lot) → IsSome (kids n.case n.node) → Lets s n u
     → IsFitPart s part n → LotFits u.case u.lower part
 fits_below s n u part inner lets fit =
-    let k = some_kids (kids n.case n.node) inner in
+    let k = pair_there (kids n.case n.node) inner in
     subst (λ (j : Content). LotFits j u.lower part) (sym lets.case)
     (subst (λ (v : ℕ). LotFits n.case v part) (sym (lets.lower k.0 k.1 k.2)) (fit.fits k.0 k.1 k.2))
 
 pub grown_below : (s : Side) (n : WorkerNote) (u : UpperNote) (part : Lot) → IsSome (kids n.case n.node) → Lets s n u → IsFitPart s part n
     → GrownFrom u.case u.lower u.received part.upto
 grown_below s n u part inner lets fit =
-    let k = some_kids (kids n.case n.node) inner in
+    let k = pair_there (kids n.case n.node) inner in
     subst (λ (j : Content). GrownFrom j u.lower u.received part.upto) (sym lets.case)
     (subst (λ (v : ℕ). GrownFrom n.case v u.received part.upto) (sym (lets.lower k.0 k.1 k.2))
     (subst (λ (c : List ℕ). GrownFrom n.case (at_side s k.0 k.1) c part.upto) (sym lets.received) (fit.grown k.0 k.1 k.2)))
 
 pub ask_above : (s : Side) (n : WorkerNote) (u : UpperNote) (a : Ask) → IsSome (kids n.case n.node) → Lets s n u → IsAskable n a → AsksAbove u.case u.lower a
 ask_above s n u a inner lets askable =
-    let k = some_kids (kids n.case n.node) inner in
+    let k = pair_there (kids n.case n.node) inner in
     subst (λ (j : Content). AsksAbove j u.lower a) (sym lets.case)
     (subst (λ (v : ℕ). AsksAbove n.case v a) (sym (lets.lower k.0 k.1 k.2)) (askable k.0 k.1 k.2 s).0)
 
-pub ask_next : (s : Side) (n : WorkerNote) (u : UpperNote) (a : Ask) → IsSome (kids n.case n.node) → Lets s n u → IsAskable n a → a.index ≡ slice_index u.lent.upto a.itag.0
+pub ask_next : (s : Side) (n : WorkerNote) (u : UpperNote) (a : Ask) → IsSome (kids n.case n.node) → Lets s n u → IsAskable n a
+    → a.index ≡ slice_index u.lent.upto a.itag.0
 ask_next s n u a inner lets askable =
-    let k = some_kids (kids n.case n.node) inner in
+    let k = pair_there (kids n.case n.node) inner in
     (askable k.0 k.1 k.2 s).1 ∙ ap (λ (m : LotCounts). slice_index m.upto a.itag.0) (sym lets.lent)
 
 -- ---- the start
 pub tells_new : (laws : LawsBelow) (k : Content) (w : ℕ) (n : WorkerNote) → IsNew k w n → Tells n []
 tells_new laws k w n new =
     laws.no_texts (setting_of n.case) (own_of n) n.counts
-    (λ i _. ap (λ c. slice_index c i) new.counts ∙ zeros_at (range_with_len 0 (count_of_itags (job k))) i)
+    (λ i _. ap (λ c. slice_index c i) new.counts ∙ get_or-map (λ (n : ℕ). 0) (range_with_len 0 (count_of_itags (job k))) i 0)
 
-pub start_home : (s : Side) (k : Content) (w : ℕ) → is_out s (start_hand k w) ≡ false
-start_home s k zero = first_home (kids k 0) s
-start_home s k (suc w) = refl
-
-start_shut : (k : Content) (w : ℕ) → 0 < w → is_open (start_hand k w) ≡ false
-start_shut k zero some = absurd (omega arith)
-start_shut k (suc w) some = refl
-
-pub hangs_new : (k : Content) (w : ℕ) (n : WorkerNote) (l : LowerNote) → IsNew k w n → StartsAt k w l → Hangs n l
-hangs_new k w n l new starts = elim starts.is [
+pub hangs_new : StartIsShut → (k : Content) (w : ℕ) (n : WorkerNote) (l : LowerNote) → IsNew k w n → StartsAt k w l → Hangs n l
+hangs_new shut_first k w n l new starts = elim starts.is [
   | inl child ↦
-      let shut : is_open n.hand ≡ false = ap is_open new.hand ∙ start_shut k w child.0 in
+      let shut : is_open n.hand ≡ false = ap is_open new.hand ∙ shut_first k w child.0 in
       subst (λ (m : LowerNote). Hangs n m) (sym child.1) record {
         case = sym new.case;
         lower = sym new.node;
@@ -255,17 +254,33 @@ tells_none laws k w n outs new e = subst (Tells n) (sym e) (tells_new laws k w n
 -- ---- what is seen
 pub sees_from : (k : Content) (n : WorkerNote) (v : WatchNote) → n.case ≡ k → n.seen ≡ no_counts (job k) → WatchesFrom k v → Sees n v
 sees_from k n v case seen from =
-    let long : length v.limits ≡ count_of_itags (job k) = ap length from.limits ∙ length-map (listed k.streams) (λ (items : List Item). length items) ∙ k.one_each in record {
-      seen = seen ∙ same_zeros (range_with_len 0 (count_of_itags (job k))) v.limits (length-range_with_len 0 (count_of_itags (job k)) ∙ sym long) ∙ sym from.noted;
+    let long : length v.limits ≡ count_of_itags (job k) = ap length from.limits ∙ length-map (listed k.streams) (λ (items : List Item). length items)
+    ∙ k.one_each in record {
+      seen = seen ∙ same_zeros (range_with_len 0 (count_of_itags (job k))) v.limits (length-range_with_len 0 (count_of_itags (job k)) ∙ sym long)
+          ∙ sym from.noted;
       one_each = ap length from.noted ∙ length-map v.limits (λ (n : ℕ). 0);
       limits = from.limits ∙ ap limits_of (sym case);
     }
 
 pub lets_seen : (s : Side) (n n' : WorkerNote) (u : UpperNote) → Lets s n u → SeesMore n n' → Lets s n' u
 lets_seen Left n n' u h more =
-    subst (λ (m : WorkerNote). Lets Left m u) (sym more.rest) record { case = h.case; lower = h.lower; lent = h.lent; received = h.received; home = h.home; out = h.out }
+    subst (λ (m : WorkerNote). Lets Left m u) (sym more.rest) record {
+      case = h.case;
+      lower = h.lower;
+      lent = h.lent;
+      received = h.received;
+      home = h.home;
+      out = h.out;
+    }
 lets_seen Right n n' u h more =
-    subst (λ (m : WorkerNote). Lets Right m u) (sym more.rest) record { case = h.case; lower = h.lower; lent = h.lent; received = h.received; home = h.home; out = h.out }
+    subst (λ (m : WorkerNote). Lets Right m u) (sym more.rest) record {
+      case = h.case;
+      lower = h.lower;
+      lent = h.lent;
+      received = h.received;
+      home = h.home;
+      out = h.out;
+    }
 
 pub tells_seen : (n n' : WorkerNote) (outs : List Out) → Tells n outs → SeesMore n n' → Tells n' outs
 tells_seen n n' outs h more = subst (λ (m : WorkerNote). Tells m outs) (sym more.rest) h

@@ -2,10 +2,10 @@
 use Rattle.std.specs.Prelude.{◌≡◌, ◌⊎◌, true, false, Some}
 use Rattle.flu_fork.specs.declared.lots.Ask.{Ask}
 use Rattle.flu_worker.specs.declared.hand.Side.{Side}
-use Rattle.flu_worker.specs.declared.hand.Side.TheVariants.{Left, Right}
 use Rattle.flu_worker.specs.Hands.{is_open, is_out, may_take}
 use Rattle.flu_worker.specs.Notes.{WorkerNote, lent_to, taken_from}
 use Rattle.flu_worker.specs.Calls.{IsSamePlace, IsSameBelow}
+use Rattle.flu_worker.specs.Turning.{other}
 use Rattle.flu_link.specs.Notes.{UpperNote}
 
 -- a step at the end above: the worker is the same, or both parts are here before and after
@@ -13,10 +13,6 @@ pub record StaysHome (old new : WorkerNote) : Type 0 where
   pub place : IsSamePlace old new
   pub same : IsSameBelow old new
   pub home : ((new.hand ≡ old.hand) × (new.kept ≡ old.kept)) ⊎ ((s : Side) → (is_out s old.hand ≡ false) × (is_out s new.hand ≡ false))
-
-abbrev pub other : Side → Side
-other Left = Right
-other Right = Left
 
 -- a step at the end below of a side
 pub record StaysThere (s : Side) (old new : WorkerNote) : Type 0 where

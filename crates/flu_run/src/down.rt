@@ -9,6 +9,7 @@ ghost use Rattle.flu_run.specs.Ties.{Lets};
 use crate::shapes::{may_lend, may_take};
 use flu_fork::{Ask, Case};
 use flu_link::Upper;
+use flu_worker::laws::hands_turn;
 use flu_worker::{Side, Worker};
 use std::alloc::{AllocError, Global};
 
@@ -20,6 +21,7 @@ pub fn lend(worker: &mut Worker, upper: &mut Upper, side: Side) -> bool
     ensures there { StaysThere side worker.old worker.new }
     ensures same { IsSameUpper upper.old upper.new }
 {
+    hands_turn();
     if !may_lend(side, worker.hand()) {
         return false;
     }
@@ -60,6 +62,7 @@ pub fn take(
     ensures there { OnOk result (StaysThere side worker.old worker.new) }
     ensures same { OnOk result (IsSameUpper upper.old upper.new) }
 {
+    hands_turn();
     if !may_take(side, worker.hand()) {
         return Ok(false);
     }

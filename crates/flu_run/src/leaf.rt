@@ -25,6 +25,7 @@ use flu_fork::{Ask, Case};
 use flu_model::Outs;
 use flu_seq::Gate;
 use flu_worker::Worker;
+use flu_worker::laws::hands_turn;
 use std::alloc::{AllocError, Global};
 use std::sync::Wait;
 
@@ -210,6 +211,7 @@ pub fn leaf<H: HasCase, G: Gate, R: Wait>(
     ensures { Keeps (end_note end) result }
 {
     laws_below();
+    hands_turn();
     match new_worker(alloc, holder, node) {
         Ok(worker) => work(
             rt,

@@ -24,6 +24,7 @@ use flu_arrive::Watch;
 use flu_link::{Upper, link};
 use flu_seq::Gate;
 use flu_worker::Worker;
+use flu_worker::laws::hands_turn;
 use std::alloc::{AllocError, Global};
 use std::snapshot::Snapshot;
 use std::sync::Wait;
@@ -225,6 +226,7 @@ fn prepare<H: HasCase>(
     ensures right_from { IfSome result (λ r. r.right_from.0.value ≡ r.right_end) }
 {
     laws_below();
+    hands_turn();
     let mut end = end;
     let mut watch = watch;
     let (node, left, right) = at;

@@ -14,7 +14,9 @@ loop-i-preserved c =
     record {
       end = c.loop-i.invariant.end;
       items = total_more (items_of k) c.loop-i.i c.loop-i.items (length c.items-stream.result.now) c.loop-i.invariant.items (ap length stream);
-      events = total_more (events_of k) c.loop-i.i c.loop-i.events c.count_events.result c.loop-i.invariant.events (c.count_events.ensures ∙ ap (λ l. length (events_among l)) stream);
+      events =
+          total_more (events_of k) c.loop-i.i c.loop-i.events c.count_events.result c.loop-i.invariant.events
+          (c.count_events.ensures ∙ ap (λ l. length (events_among l)) stream);
       few_items = omega (arith, c.loop-i.invariant.few_items);
       few_events = omega (arith, c.loop-i.invariant.few_events);
     }

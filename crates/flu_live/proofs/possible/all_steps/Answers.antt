@@ -10,7 +10,8 @@ pub loop-w-preserved : goal.loop-w-preserved
 loop-w-preserved c = (
   c.loop-w.invariant.0,
   c.in_ok-push_each.ensures ∙ ap (λ l. l ++ c.steps_of.result) c.loop-w.invariant.1
-      ∙ ap (λ l. (map arrival (range_with_len 0 (count_of_itags (job c.args.case.now))) ++ flat_map steps_of (range_with_len 0 c.loop-w.w)) ++ l) c.steps_of.ensures
+      ∙ ap (λ l. (map arrival (range_with_len 0 (count_of_itags (job c.args.case.now))) ++ flat_map steps_of (range_with_len 0 c.loop-w.w))
+      ++ l) c.steps_of.ensures
       ∙ each_more (map arrival (range_with_len 0 (count_of_itags (job c.args.case.now)))) steps_of c.loop-w.w,
 )
 

@@ -6,4 +6,5 @@ returns-clause-enabled c = found_on c.args.net.now c.first_possible-found.result
 
 pub returns-clause-none : goal.returns-clause-none
 returns-clause-none c =
-    none_final c.args.net.now c.first_possible-found.result c.rule.ensures c.never_blocks.ensures c.first_possible-found.ensures.some c.first_possible-found.ensures.none
+    none_final c.args.net.now c.first_possible-found.result c.rule.ensures c.never_blocks.ensures c.first_possible-found.ensures.some
+    c.first_possible-found.ensures.none

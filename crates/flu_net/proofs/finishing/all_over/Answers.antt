@@ -1,10 +1,9 @@
 use Rattle.std.proofs.Common.{◌≡◌, inl, inr, sym, ap, subst, ◌∙◌, arith}
 use Rattle.std.specs.Prelude.{slice_get}
 use Rattle.std.proofs.lemmas.Bool.{cases_lt}
-use Rattle.std.proofs.lemmas.Option.{slice_get_within}
+use Rattle.std.proofs.lemmas.Option.{slice_get_within, same_Some}
 use Rattle.flu_lemmas.proofs.Tests.{not_both}
 use Rattle.flu_net.specs.Ending.{IsOver}
-use Rattle.flu_net.proofs.Lists.{same_some}
 use Rattle.flu_net.proofs.Readying.{at_index}
 use Rattle.flu_net.proofs.finishing.all_over.Goals as goal
 
@@ -23,7 +22,7 @@ loop-worker-preserved c = λ w v lt up. elim (cases_lt w c.loop-worker.worker-in
   | inr ge ↦
       let here : w ≡ c.loop-worker.worker-index = omega arith in
       let at = at_index c.args.workers.now c.loop-worker.worker-index c.worker-item.result c.loop-worker-test.true c.worker-item.is in
-      subst IsOver (same_some c.worker-item.result v (sym at ∙ ap (slice_get c.args.workers.now) (sym here) ∙ up))
+      subst IsOver (same_Some c.worker-item.result v (sym at ∙ ap (slice_get c.args.workers.now) (sym here) ∙ up))
       (record { all = c.finished.ensures.exact.0 c.if-not-finished.false; finished = c.finished.ensures.end c.if-not-finished.false })
 ]
 

@@ -11,6 +11,7 @@ returns c = record {
   of_kids = c.itags_are_of_nodes.ensures.kids;
   of_root = c.itags_are_of_nodes.ensures.root;
   events = c.events_have_moments.ensures.events;
+  known = c.events_have_moments.ensures.known;
   paired = c.loans_are_paired.ensures.paired;
   at_leaf = c.last_lots_join.ensures.leaf;
   last_paired = c.last_lots_join.ensures.paired;
@@ -24,4 +25,9 @@ returns c = record {
   asked_go_on = c.waiting_ends.ensures.asked;
   own_go_on = c.waiting_ends.ensures.own;
   nothing_next = c.waiting_ends.ensures.nothing;
+  lend_turns = c.hands_turn.ensures.lend;
+  take_turns = c.hands_turn.ensures.take;
+  first_here = c.hands_turn.ensures.first;
+  start_here = c.hands_turn.ensures.start;
+  start_shut = c.hands_turn.ensures.shut;
 }

@@ -8,7 +8,8 @@ may : (c : goal.After-index_mut) → MaySee c.args.case.now c.args.i.0 c.args.co
 may c =
     c.requires c.loop-w.w c.index_mut.result.now
     (shown_at (seeing c.args.i.0 c.args.count) c.args.workers.now.items c.loop-w.workers.items c.loop-w.w c.index_mut.result.now c.loop-w.invariant.1
-    (less (seeing c.args.i.0 c.args.count) c.args.workers.now.items c.loop-w.w _ c.loop-w-test.true c.loop-w.invariant.0) ∙ ap Some (sym c.index_mut.ensures.value))
+    (less (seeing c.args.i.0 c.args.count) c.args.workers.now.items c.loop-w.w _ c.loop-w-test.true c.loop-w.invariant.0)
+    ∙ ap Some (sym c.index_mut.ensures.value))
 
 pub see-requires-clause-case : goal.see-requires-clause-case
 see-requires-clause-case c = (may c).case
@@ -26,5 +27,6 @@ pub loop-w-preserved : goal.loop-w-preserved
 loop-w-preserved c = (
   c.loop-w.invariant.0,
   shown_more (seeing c.args.i.0 c.args.count) c.args.workers.now.items c.loop-w.workers.items c.loop-w.w c.index_mut.result.now c.loop-w.invariant.1
-      (less (seeing c.args.i.0 c.args.count) c.args.workers.now.items c.loop-w.w _ c.loop-w-test.true c.loop-w.invariant.0) c.see.new.self (c.see.ensures ∙ ap (seeing c.args.i.0 c.args.count) c.index_mut.ensures.value),
+      (less (seeing c.args.i.0 c.args.count) c.args.workers.now.items c.loop-w.w _ c.loop-w-test.true c.loop-w.invariant.0) c.see.new.self
+      (c.see.ensures ∙ ap (seeing c.args.i.0 c.args.count) c.index_mut.ensures.value),
 )

@@ -9,4 +9,5 @@ pub try_lend-requires-clause-grown : goal.try_lend-requires-clause-grown
 try_lend-requires-clause-grown c = grown_below c.args.side _ _ c.lend-part.result c.requires.inner c.requires.lets c.lend-part.ensures.part
 
 pub returns-clause-lets : goal.returns-clause-lets
-returns-clause-lets c = lets_lend c.args.side _ _ _ _ c.lend-part.result c.requires.lets (search rules) c.lend-part.ensures.note c.in-Ok.ensures.lent
+returns-clause-lets c =
+    lets_lend c.hands_turn.ensures.lend c.args.side _ _ _ _ c.lend-part.result c.requires.lets (search rules) c.lend-part.ensures.note c.in-Ok.ensures.lent

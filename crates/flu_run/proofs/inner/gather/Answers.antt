@@ -28,6 +28,8 @@ ended-requires g c =
     let r = c.requires in
     let inner = subst (λ (k : Content). IsSome (kids k c.args.node)) (sym c.case.ensures) r.inner in
     if_both c.join-lot.result c.in_turn.result _ _ _ _
-    (λ lot all fits counts e. gathered_done c.laws_below.ensures c.case.result.now c.args.node _ _ _ _ c.args.rest.outs r.rests (r.case ∙ sym c.case.ensures) r.node.0 inner
-    r.left.0 _ r.right.0 _ c.args.left.lot c.args.right.lot c.args.left.outs c.args.right.outs r.left.1 r.left.2 r.right.1 r.right.2 c.close_link.ensures c.close_link-2.ensures lot all fits counts e)
+    (λ lot all fits counts e. gathered_done c.laws_below.ensures c.case.result.now c.args.node _ _ _ _ c.args.rest.outs r.rests
+    (r.case ∙ sym c.case.ensures) r.node.0 inner
+    r.left.0 _ r.right.0 _ c.args.left.lot c.args.right.lot c.args.left.outs c.args.right.outs r.left.1 r.left.2 r.right.1 r.right.2 c.close_link.ensures
+    c.close_link-2.ensures lot all fits counts e)
     c.join-lot.ensures.fits c.join-lot.ensures.counts c.in_turn.ensures

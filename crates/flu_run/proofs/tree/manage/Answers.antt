@@ -1,4 +1,5 @@
-use Rattle.flu_run.proofs.Settling.{settled, if_ok}
+use Rattle.std.proofs.lemmas.Result.{IfOk-weaker}
+use Rattle.flu_run.proofs.Settling.{settled}
 use Rattle.flu_run.proofs.Tying.{sees_from}
 use Rattle.flu_run.proofs.tree.manage.Goals as goal
 
@@ -8,4 +9,5 @@ work-rest-requires-clause-sees g c = λ κs within. sees_from _ _ _ c.requires.c
 pub settle-requires-clause-rest : goal.settle-requires-clause-rest
 settle-requires-clause-rest g c =
     let r = c.requires in
-    if_ok c.work-rest.result _ _ (λ x rests. settled _ _ _ _ _ _ _ _ _ _ _ _ _ _ r.case r.node r.given r.left r.right r.left_end r.right_end rests) c.work-rest.ensures
+    IfOk-weaker c.work-rest.result _ _
+    (λ x rests. settled _ _ _ _ _ _ _ _ _ _ _ _ _ _ r.case r.node r.given r.left r.right r.left_end r.right_end rests) c.work-rest.ensures

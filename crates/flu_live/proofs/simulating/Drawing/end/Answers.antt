@@ -19,7 +19,8 @@ joined-requires-clause-is_final c =
     (c.never_blocks.ensures c.requires.way.gone).0 (none_enabled c.args.self.net (c.rule.ensures c.requires.way.gone) c.requires.ended)
 
 pub returns-clause-state : goal.returns-clause-state
-returns-clause-state c = subst (λ k. held c.in_ok-state.state ≡ final_state (job k) (held k.opening) (listed k.streams)) c.requires.way.case c.in_ok-state.ensures.state
+returns-clause-state c =
+    subst (λ k. held c.in_ok-state.state ≡ final_state (job k) (held k.opening) (listed k.streams)) c.requires.way.case c.in_ok-state.ensures.state
 
 pub returns-clause-sorts : goal.returns-clause-sorts
 returns-clause-sorts c = subst (λ k. IsStateOf (job k).families (held c.in_ok-state.state)) c.requires.way.case c.in_ok-state.ensures.sorts

@@ -25,6 +25,7 @@ returns-clause-way c =
     made_one c.args.case.now c.args.self.now _ c.place_of-place.result _ c.requires.way refl c.next_draw-self.ensures.value c.next_draw-self.ensures.small
     (record {
       at = c.place_of-place.ensures.value ∙ ap (λ l. place_of c.next_draw-self.result (length l)) c.requires.enabled;
-      is = sym (ap (λ l. slice_get l c.place_of-place.result) c.requires.enabled) ∙ slice_get-get_or c.args.enabled.now c.place_of-place.result _ c.place_of-place.ensures.there;
+      is = sym (ap (λ l. slice_get l c.place_of-place.result) c.requires.enabled)
+          ∙ slice_get-get_or c.args.enabled.now c.place_of-place.result _ c.place_of-place.ensures.there;
     })
     c.in-Ok.ensures.made c.in-Ok.ensures.case c.in-Ok.ensures.stays c.in-Ok.ensures.left c.count.ensures c.marked-self.ensures

@@ -12,14 +12,22 @@ use Rattle.flu_net.proofs.net.Net.give.Goals as goal
 
 pub give-lot-requires-clause-case : goal.give-lot-requires-clause-case
 give-lot-requires-clause-case c =
-    let v : NetNote = record { case = c.self.inside.case; gone = c.self.inside.gone; seen = c.self.inside.seen; workers = c.self.inside.workers.items; edges = c.self.inside.edges.items; outs = c.self.inside.outs } in
+    let v : NetNote = record {
+      case = c.self.inside.case;
+      gone = c.self.inside.gone;
+      seen = c.self.inside.seen;
+      workers = c.self.inside.workers.items;
+      edges = c.self.inside.edges.items;
+      outs = c.self.inside.outs;
+    } in
     let gone_in : c.self.inside.gone ≡ false = ap (λ (x : NetNote). x.gone) c.self.view_is ∙ c.requires.gone in
     let rule : Rule v = c.self.invariant gone_in in
     let same : c.args.case.now ≡ v.case = c.requires.case ∙ sym (ap (λ (x : NetNote). x.case) c.self.view_is) in
     let may : may_give_up v c.args.w ≡ true = subst (λ x. may_give_up x c.args.w ≡ true) (sym c.self.view_is) c.requires.may in
     let n = c.index_mut.result.now in
     let y = c.in-Some.y in
-    let asked : c.ask_at.result ≡ asked_of v c.args.w = c.ask_at.ensures ∙ ap (λ (es : List Edge). asked_over (slice_get es c.args.w)) c.as_slice.ensures.value in
+    let asked : c.ask_at.result ≡ asked_of v c.args.w = c.ask_at.ensures
+    ∙ ap (λ (es : List Edge). asked_over (slice_get es c.args.w)) c.as_slice.ensures.value in
     let over : slice_get v.edges c.args.w ≡ Some (edge.Asked y) = asked_edge (slice_get v.edges c.args.w) y (sym asked ∙ c.in-Some.is) in
     let lt = edge_lt v rule c.args.w (edge.Asked y) over in
     let at : slice_get v.workers c.args.w ≡ Some n = at_index v.workers c.args.w n lt c.index_mut.ensures.value in
@@ -27,14 +35,22 @@ give-lot-requires-clause-case c =
 
 pub give-lot-requires-clause-may : goal.give-lot-requires-clause-may
 give-lot-requires-clause-may c =
-    let v : NetNote = record { case = c.self.inside.case; gone = c.self.inside.gone; seen = c.self.inside.seen; workers = c.self.inside.workers.items; edges = c.self.inside.edges.items; outs = c.self.inside.outs } in
+    let v : NetNote = record {
+      case = c.self.inside.case;
+      gone = c.self.inside.gone;
+      seen = c.self.inside.seen;
+      workers = c.self.inside.workers.items;
+      edges = c.self.inside.edges.items;
+      outs = c.self.inside.outs;
+    } in
     let gone_in : c.self.inside.gone ≡ false = ap (λ (x : NetNote). x.gone) c.self.view_is ∙ c.requires.gone in
     let rule : Rule v = c.self.invariant gone_in in
     let same : c.args.case.now ≡ v.case = c.requires.case ∙ sym (ap (λ (x : NetNote). x.case) c.self.view_is) in
     let may : may_give_up v c.args.w ≡ true = subst (λ x. may_give_up x c.args.w ≡ true) (sym c.self.view_is) c.requires.may in
     let n = c.index_mut.result.now in
     let y = c.in-Some.y in
-    let asked : c.ask_at.result ≡ asked_of v c.args.w = c.ask_at.ensures ∙ ap (λ (es : List Edge). asked_over (slice_get es c.args.w)) c.as_slice.ensures.value in
+    let asked : c.ask_at.result ≡ asked_of v c.args.w = c.ask_at.ensures
+    ∙ ap (λ (es : List Edge). asked_over (slice_get es c.args.w)) c.as_slice.ensures.value in
     let over : slice_get v.edges c.args.w ≡ Some (edge.Asked y) = asked_edge (slice_get v.edges c.args.w) y (sym asked ∙ c.in-Some.is) in
     let lt = edge_lt v rule c.args.w (edge.Asked y) over in
     let at : slice_get v.workers c.args.w ≡ Some n = at_index v.workers c.args.w n lt c.index_mut.ensures.value in
@@ -42,14 +58,22 @@ give-lot-requires-clause-may c =
 
 pub put-requires : goal.put-requires
 put-requires c =
-    let v : NetNote = record { case = c.self.inside.case; gone = c.self.inside.gone; seen = c.self.inside.seen; workers = c.self.inside.workers.items; edges = c.self.inside.edges.items; outs = c.self.inside.outs } in
+    let v : NetNote = record {
+      case = c.self.inside.case;
+      gone = c.self.inside.gone;
+      seen = c.self.inside.seen;
+      workers = c.self.inside.workers.items;
+      edges = c.self.inside.edges.items;
+      outs = c.self.inside.outs;
+    } in
     let gone_in : c.self.inside.gone ≡ false = ap (λ (x : NetNote). x.gone) c.self.view_is ∙ c.requires.gone in
     let rule : Rule v = c.self.invariant gone_in in
     let same : c.args.case.now ≡ v.case = c.requires.case ∙ sym (ap (λ (x : NetNote). x.case) c.self.view_is) in
     let may : may_give_up v c.args.w ≡ true = subst (λ x. may_give_up x c.args.w ≡ true) (sym c.self.view_is) c.requires.may in
     let n = c.index_mut.result.now in
     let y = c.in-Some.y in
-    let asked : c.ask_at.result ≡ asked_of v c.args.w = c.ask_at.ensures ∙ ap (λ (es : List Edge). asked_over (slice_get es c.args.w)) c.as_slice.ensures.value in
+    let asked : c.ask_at.result ≡ asked_of v c.args.w = c.ask_at.ensures
+    ∙ ap (λ (es : List Edge). asked_over (slice_get es c.args.w)) c.as_slice.ensures.value in
     let over : slice_get v.edges c.args.w ≡ Some (edge.Asked y) = asked_edge (slice_get v.edges c.args.w) y (sym asked ∙ c.in-Some.is) in
     let lt = edge_lt v rule c.args.w (edge.Asked y) over in
     let at : slice_get v.workers c.args.w ≡ Some n = at_index v.workers c.args.w n lt c.index_mut.ensures.value in
@@ -57,18 +81,33 @@ put-requires c =
 
 pub invariant_of-self : goal.invariant_of-self
 invariant_of-self c =
-    let v : NetNote = record { case = c.self.inside.case; gone = c.self.inside.gone; seen = c.self.inside.seen; workers = c.self.inside.workers.items; edges = c.self.inside.edges.items; outs = c.self.inside.outs } in
+    let v : NetNote = record {
+      case = c.self.inside.case;
+      gone = c.self.inside.gone;
+      seen = c.self.inside.seen;
+      workers = c.self.inside.workers.items;
+      edges = c.self.inside.edges.items;
+      outs = c.self.inside.outs;
+    } in
     let gone_in : c.self.inside.gone ≡ false = ap (λ (x : NetNote). x.gone) c.self.view_is ∙ c.requires.gone in
     let rule : Rule v = c.self.invariant gone_in in
     let same : c.args.case.now ≡ v.case = c.requires.case ∙ sym (ap (λ (x : NetNote). x.case) c.self.view_is) in
     let may : may_give_up v c.args.w ≡ true = subst (λ x. may_give_up x c.args.w ≡ true) (sym c.self.view_is) c.requires.may in
     let n = c.index_mut.result.now in
     let y = c.in-Some.y in
-    let asked : c.ask_at.result ≡ asked_of v c.args.w = c.ask_at.ensures ∙ ap (λ (es : List Edge). asked_over (slice_get es c.args.w)) c.as_slice.ensures.value in
+    let asked : c.ask_at.result ≡ asked_of v c.args.w = c.ask_at.ensures
+    ∙ ap (λ (es : List Edge). asked_over (slice_get es c.args.w)) c.as_slice.ensures.value in
     let over : slice_get v.edges c.args.w ≡ Some (edge.Asked y) = asked_edge (slice_get v.edges c.args.w) y (sym asked ∙ c.in-Some.is) in
     let lt = edge_lt v rule c.args.w (edge.Asked y) over in
     let at : slice_get v.workers c.args.w ≡ Some n = at_index v.workers c.args.w n lt c.index_mut.ensures.value in
-    let u : NetNote = record { case = c.self.inside.case; gone = c.self.inside.gone; seen = c.self.inside.seen; workers = set c.self.inside.workers.items c.args.w c.give-lot.new.self; edges = c.put.new.edges.items; outs = c.self.inside.outs } in
+    let u : NetNote = record {
+      case = c.self.inside.case;
+      gone = c.self.inside.gone;
+      seen = c.self.inside.seen;
+      workers = set c.self.inside.workers.items c.args.w c.give-lot.new.self;
+      edges = c.put.new.edges.items;
+      outs = c.self.inside.outs;
+    } in
     let h : Gives c.args.w v u = record {
       step = record { was = n; is = c.give-lot.new.self; at = at; case = refl; gone = gone_in; seen = refl; workers = refl };
       ask = y;
@@ -82,18 +121,33 @@ invariant_of-self c =
 
 pub returns : goal.returns
 returns c =
-    let v : NetNote = record { case = c.self.inside.case; gone = c.self.inside.gone; seen = c.self.inside.seen; workers = c.self.inside.workers.items; edges = c.self.inside.edges.items; outs = c.self.inside.outs } in
+    let v : NetNote = record {
+      case = c.self.inside.case;
+      gone = c.self.inside.gone;
+      seen = c.self.inside.seen;
+      workers = c.self.inside.workers.items;
+      edges = c.self.inside.edges.items;
+      outs = c.self.inside.outs;
+    } in
     let gone_in : c.self.inside.gone ≡ false = ap (λ (x : NetNote). x.gone) c.self.view_is ∙ c.requires.gone in
     let rule : Rule v = c.self.invariant gone_in in
     let same : c.args.case.now ≡ v.case = c.requires.case ∙ sym (ap (λ (x : NetNote). x.case) c.self.view_is) in
     let may : may_give_up v c.args.w ≡ true = subst (λ x. may_give_up x c.args.w ≡ true) (sym c.self.view_is) c.requires.may in
     let n = c.index_mut.result.now in
     let y = c.in-Some.y in
-    let asked : c.ask_at.result ≡ asked_of v c.args.w = c.ask_at.ensures ∙ ap (λ (es : List Edge). asked_over (slice_get es c.args.w)) c.as_slice.ensures.value in
+    let asked : c.ask_at.result ≡ asked_of v c.args.w = c.ask_at.ensures
+    ∙ ap (λ (es : List Edge). asked_over (slice_get es c.args.w)) c.as_slice.ensures.value in
     let over : slice_get v.edges c.args.w ≡ Some (edge.Asked y) = asked_edge (slice_get v.edges c.args.w) y (sym asked ∙ c.in-Some.is) in
     let lt = edge_lt v rule c.args.w (edge.Asked y) over in
     let at : slice_get v.workers c.args.w ≡ Some n = at_index v.workers c.args.w n lt c.index_mut.ensures.value in
-    let u : NetNote = record { case = c.self.inside.case; gone = c.self.inside.gone; seen = c.self.inside.seen; workers = set c.self.inside.workers.items c.args.w c.give-lot.new.self; edges = c.put.new.edges.items; outs = c.self.inside.outs } in
+    let u : NetNote = record {
+      case = c.self.inside.case;
+      gone = c.self.inside.gone;
+      seen = c.self.inside.seen;
+      workers = set c.self.inside.workers.items c.args.w c.give-lot.new.self;
+      edges = c.put.new.edges.items;
+      outs = c.self.inside.outs;
+    } in
     let h : Gives c.args.w v u = record {
       step = record { was = n; is = c.give-lot.new.self; at = at; case = refl; gone = gone_in; seen = refl; workers = refl };
       ask = y;

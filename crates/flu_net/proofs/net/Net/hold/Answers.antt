@@ -10,7 +10,14 @@ use Rattle.flu_net.proofs.net.Net.hold.Goals as goal
 
 pub hold-requires-clause-case : goal.hold-requires-clause-case
 hold-requires-clause-case c =
-    let v : NetNote = record { case = c.self.inside.case; gone = c.self.inside.gone; seen = c.self.inside.seen; workers = c.self.inside.workers.items; edges = c.self.inside.edges.items; outs = c.self.inside.outs } in
+    let v : NetNote = record {
+      case = c.self.inside.case;
+      gone = c.self.inside.gone;
+      seen = c.self.inside.seen;
+      workers = c.self.inside.workers.items;
+      edges = c.self.inside.edges.items;
+      outs = c.self.inside.outs;
+    } in
     let gone_in : c.self.inside.gone ≡ false = ap (λ (x : NetNote). x.gone) c.self.view_is ∙ c.requires.gone in
     let rule : Rule v = c.self.invariant gone_in in
     let same : c.args.case.now ≡ v.case = c.requires.case ∙ sym (ap (λ (x : NetNote). x.case) c.self.view_is) in
@@ -23,7 +30,14 @@ hold-requires-clause-case c =
 
 pub hold-requires-clause-empty : goal.hold-requires-clause-empty
 hold-requires-clause-empty c =
-    let v : NetNote = record { case = c.self.inside.case; gone = c.self.inside.gone; seen = c.self.inside.seen; workers = c.self.inside.workers.items; edges = c.self.inside.edges.items; outs = c.self.inside.outs } in
+    let v : NetNote = record {
+      case = c.self.inside.case;
+      gone = c.self.inside.gone;
+      seen = c.self.inside.seen;
+      workers = c.self.inside.workers.items;
+      edges = c.self.inside.edges.items;
+      outs = c.self.inside.outs;
+    } in
     let gone_in : c.self.inside.gone ≡ false = ap (λ (x : NetNote). x.gone) c.self.view_is ∙ c.requires.gone in
     let rule : Rule v = c.self.invariant gone_in in
     let same : c.args.case.now ≡ v.case = c.requires.case ∙ sym (ap (λ (x : NetNote). x.case) c.self.view_is) in
@@ -36,7 +50,14 @@ hold-requires-clause-empty c =
 
 pub hold-requires-clause-fits : goal.hold-requires-clause-fits
 hold-requires-clause-fits c =
-    let v : NetNote = record { case = c.self.inside.case; gone = c.self.inside.gone; seen = c.self.inside.seen; workers = c.self.inside.workers.items; edges = c.self.inside.edges.items; outs = c.self.inside.outs } in
+    let v : NetNote = record {
+      case = c.self.inside.case;
+      gone = c.self.inside.gone;
+      seen = c.self.inside.seen;
+      workers = c.self.inside.workers.items;
+      edges = c.self.inside.edges.items;
+      outs = c.self.inside.outs;
+    } in
     let gone_in : c.self.inside.gone ≡ false = ap (λ (x : NetNote). x.gone) c.self.view_is ∙ c.requires.gone in
     let rule : Rule v = c.self.invariant gone_in in
     let same : c.args.case.now ≡ v.case = c.requires.case ∙ sym (ap (λ (x : NetNote). x.case) c.self.view_is) in
@@ -49,7 +70,14 @@ hold-requires-clause-fits c =
 
 pub hold-requires-clause-grown : goal.hold-requires-clause-grown
 hold-requires-clause-grown c =
-    let v : NetNote = record { case = c.self.inside.case; gone = c.self.inside.gone; seen = c.self.inside.seen; workers = c.self.inside.workers.items; edges = c.self.inside.edges.items; outs = c.self.inside.outs } in
+    let v : NetNote = record {
+      case = c.self.inside.case;
+      gone = c.self.inside.gone;
+      seen = c.self.inside.seen;
+      workers = c.self.inside.workers.items;
+      edges = c.self.inside.edges.items;
+      outs = c.self.inside.outs;
+    } in
     let gone_in : c.self.inside.gone ≡ false = ap (λ (x : NetNote). x.gone) c.self.view_is ∙ c.requires.gone in
     let rule : Rule v = c.self.invariant gone_in in
     let same : c.args.case.now ≡ v.case = c.requires.case ∙ sym (ap (λ (x : NetNote). x.case) c.self.view_is) in
@@ -62,7 +90,14 @@ hold-requires-clause-grown c =
 
 pub invariant_of-self-2 : goal.invariant_of-self-2
 invariant_of-self-2 c =
-    let v : NetNote = record { case = c.self.inside.case; gone = c.self.inside.gone; seen = c.self.inside.seen; workers = c.self.inside.workers.items; edges = c.self.inside.edges.items; outs = c.self.inside.outs } in
+    let v : NetNote = record {
+      case = c.self.inside.case;
+      gone = c.self.inside.gone;
+      seen = c.self.inside.seen;
+      workers = c.self.inside.workers.items;
+      edges = c.self.inside.edges.items;
+      outs = c.self.inside.outs;
+    } in
     let gone_in : c.self.inside.gone ≡ false = ap (λ (x : NetNote). x.gone) c.self.view_is ∙ c.requires.gone in
     let rule : Rule v = c.self.invariant gone_in in
     let same : c.args.case.now ≡ v.case = c.requires.case ∙ sym (ap (λ (x : NetNote). x.case) c.self.view_is) in
@@ -71,7 +106,14 @@ invariant_of-self-2 c =
     let lent : slice_get v.edges c.args.w ≡ Some (edge.Lent lot) = c.put.ensures.was ∙ ap Some c.lent_lot-lot.ensures in
     let lt = edge_lt v rule c.args.w (edge.Lent lot) lent in
     let at : slice_get v.workers c.args.w ≡ Some n = at_index v.workers c.args.w n lt c.index_mut.ensures.value in
-    let u : NetNote = record { case = c.self.inside.case; gone = false; seen = c.self.inside.seen; workers = set c.self.inside.workers.items c.args.w c.hold.new.self; edges = c.put.new.edges.items; outs = c.self.inside.outs } in
+    let u : NetNote = record {
+      case = c.self.inside.case;
+      gone = false;
+      seen = c.self.inside.seen;
+      workers = set c.self.inside.workers.items c.args.w c.hold.new.self;
+      edges = c.put.new.edges.items;
+      outs = c.self.inside.outs;
+    } in
     let h : Holds c.args.w v u = record {
       step = record { was = n; is = c.hold.new.self; at = at; case = refl; gone = refl; seen = refl; workers = refl };
       lot = lot;
@@ -84,7 +126,14 @@ invariant_of-self-2 c =
 
 pub returns-clause-made : goal.returns-clause-made
 returns-clause-made c =
-    let v : NetNote = record { case = c.self.inside.case; gone = c.self.inside.gone; seen = c.self.inside.seen; workers = c.self.inside.workers.items; edges = c.self.inside.edges.items; outs = c.self.inside.outs } in
+    let v : NetNote = record {
+      case = c.self.inside.case;
+      gone = c.self.inside.gone;
+      seen = c.self.inside.seen;
+      workers = c.self.inside.workers.items;
+      edges = c.self.inside.edges.items;
+      outs = c.self.inside.outs;
+    } in
     let gone_in : c.self.inside.gone ≡ false = ap (λ (x : NetNote). x.gone) c.self.view_is ∙ c.requires.gone in
     let rule : Rule v = c.self.invariant gone_in in
     let same : c.args.case.now ≡ v.case = c.requires.case ∙ sym (ap (λ (x : NetNote). x.case) c.self.view_is) in
@@ -93,7 +142,14 @@ returns-clause-made c =
     let lent : slice_get v.edges c.args.w ≡ Some (edge.Lent lot) = c.put.ensures.was ∙ ap Some c.lent_lot-lot.ensures in
     let lt = edge_lt v rule c.args.w (edge.Lent lot) lent in
     let at : slice_get v.workers c.args.w ≡ Some n = at_index v.workers c.args.w n lt c.index_mut.ensures.value in
-    let u : NetNote = record { case = c.self.inside.case; gone = false; seen = c.self.inside.seen; workers = set c.self.inside.workers.items c.args.w c.hold.new.self; edges = c.put.new.edges.items; outs = c.self.inside.outs } in
+    let u : NetNote = record {
+      case = c.self.inside.case;
+      gone = false;
+      seen = c.self.inside.seen;
+      workers = set c.self.inside.workers.items c.args.w c.hold.new.self;
+      edges = c.put.new.edges.items;
+      outs = c.self.inside.outs;
+    } in
     let h : Holds c.args.w v u = record {
       step = record { was = n; is = c.hold.new.self; at = at; case = refl; gone = refl; seen = refl; workers = refl };
       lot = lot;

@@ -9,7 +9,8 @@ pub invariant_of-result : goal.invariant_of-result
 invariant_of-result c = λ _. start_rule c.laws_below.ensures c.args.case.now _ (record {
   case = c.note.ensures;
   gone = refl;
-  seen = c.in_ok-seen.ensures ∙ ap (λ n. map (λ i. 0) (range_with_len 0 n)) (c.itag_count.ensures ∙ ap count_of_itags (c.program.ensures ∙ ap program_of c.checked.ensures));
+  seen = c.in_ok-seen.ensures
+      ∙ ap (λ n. map (λ i. 0) (range_with_len 0 n)) (c.itag_count.ensures ∙ ap count_of_itags (c.program.ensures ∙ ap program_of c.checked.ensures));
   workers = c.in_ok-workers.ensures;
   edges = c.in_ok-edges.ensures;
   outs = c.of.ensures ∙ c.new.ensures.items;
@@ -19,7 +20,8 @@ pub returns-clause-most : goal.returns-clause-most
 returns-clause-most c = c.steps_are_bounded.ensures.start c.args.case.now _ (record {
   case = c.note.ensures;
   gone = refl;
-  seen = c.in_ok-seen.ensures ∙ ap (λ n. map (λ i. 0) (range_with_len 0 n)) (c.itag_count.ensures ∙ ap count_of_itags (c.program.ensures ∙ ap program_of c.checked.ensures));
+  seen = c.in_ok-seen.ensures
+      ∙ ap (λ n. map (λ i. 0) (range_with_len 0 n)) (c.itag_count.ensures ∙ ap count_of_itags (c.program.ensures ∙ ap program_of c.checked.ensures));
   workers = c.in_ok-workers.ensures;
   edges = c.in_ok-edges.ensures;
   outs = c.of.ensures ∙ c.new.ensures.items;

@@ -13,4 +13,5 @@ returns-in-Ok-clause-case c = kept_case c.args.s c.args.self.now c.make.new.self
 
 pub returns-in-Ok-clause-stays : goal.returns-in-Ok-clause-stays
 returns-in-Ok-clause-stays c =
-    still_there c.args.s c.args.self.now c.make.new.self (there_if_enabled c.args.self.now c.args.s (sym c.enabled.ensures ∙ c.if-not-enabled.false)) c.in-Ok.ensures.made
+    still_there c.args.s c.args.self.now c.make.new.self
+    (there_if_enabled c.args.self.now c.args.s (sym c.enabled.ensures ∙ c.if-not-enabled.false)) c.in-Ok.ensures.made
