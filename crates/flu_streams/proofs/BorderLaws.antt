@@ -1,8 +1,8 @@
 -- What is cut at a time is folded in turn.
-use Rattle.std.proofs.Common.{◌≡◌, ◌<◌, ◌≤◌, ℕ, Bool, true, false, cond, List, [], ◌∷◌, ◌++◌, map, ltb, leb, refl, sym, ap, ◌∙◌, append_assoc, arith}
-use Rattle.std.specs.Prelude.{not, nat_lt, nat_le, ◌==◌, ◌&&◌, ◌||◌}
+use Rattle.std.proofs.Common.{◌≡◌, ℕ, Bool, true, false, cond, List, [], ◌∷◌, ◌++◌, map, refl, sym, ap, ◌∙◌, append_assoc, arith}
+use Rattle.std.specs.Prelude.{not, nat_lt, nat_le, ◌==◌, ◌&&◌}
 use Rattle.std.specs.List.{filter, flat_map, list_all}
-use Rattle.std.specs.Ordering.{nat_cmp, is_lt, ordering_then}
+use Rattle.std.specs.Ordering.{is_lt}
 use Rattle.std.proofs.lemmas.Bool.Decides.{nat_tests}
 use Rattle.std.proofs.lemmas.Grind.{flat_map-append}
 use Rattle.std.proofs.lemmas.List.{append-nil, map-append}
@@ -22,7 +22,7 @@ use Rattle.flu_model.specs.Merging.{is_before, events_of, all_events, merged}
 use Rattle.flu_model.specs.Reports.{Line, line_of, line_cmp, line_bytes, report}
 use Rattle.flu_model.specs.Updates.{effect_of}
 use Rattle.flu_streams.specs.Lists.{item_time}
-use Rattle.flu_streams.specs.Borders.{up_to, beyond, AreCutAt, FoldsInTurn, LawOfBorders, ItemsAreCut}
+use Rattle.flu_streams.specs.Borders.{AreCutAt, LawOfBorders, ItemsAreCut}
 use Rattle.flu_streams.proofs.Cutting.{in_order-cut, all_early, all_late, kept_all, kept_none}
 
 later : (t n : ℕ) → nat_lt t n ≡ not (nat_le n t)

@@ -1,7 +1,7 @@
 -- Behind the last round all rows of the sources were run.
-use Rattle.std.proofs.Common.{◌≡◌, inl, inr, ◌⊎◌, ℕ, Bool, true, false, ◌||◌, List, [], ◌∷◌, ◌++◌, map, length, take, Option, Some, None, refl, sym, ap, ◌∙◌, append_assoc, subst}
-use Rattle.std.specs.Prelude.{option_map, slice_get, sum_by}
-use Rattle.std.specs.List.{filter, filter_map, flat_map, range_with_len}
+use Rattle.std.proofs.Common.{◌≡◌, inl, inr, ◌⊎◌, ℕ, true, false, ◌||◌, List, [], ◌∷◌, ◌++◌, map, length, Option, None, refl, sym, ap, ◌∙◌, append_assoc, subst}
+use Rattle.std.specs.Prelude.{sum_by}
+use Rattle.std.specs.List.{range_with_len}
 use Rattle.std.proofs.lemmas.Bool.{false≢true}
 use Rattle.std.proofs.lemmas.List.{append-nil}
 use Rattle.std.proofs.lemmas.List.Elements.{filter-append, filter_map-append}
@@ -9,26 +9,23 @@ use Rattle.std.proofs.lemmas.List.Folds.{list_any-append}
 use Rattle.flu_lemmas.specs.Elements.{AtEach}
 use Rattle.flu_lemmas.proofs.Booleans.{or_true}
 use Rattle.flu_lemmas.proofs.Elements.{all_map}
-use Rattle.flu_model.specs.declared.events.Item.{Item}
 use Rattle.flu_model.specs.declared.jobs.Kind.{Kind}
 use Rattle.flu_model.specs.declared.jobs.Source.{Source}
 use Rattle.flu_model.specs.declared.jobs.Program.{Program}
 use Rattle.flu_outside.specs.Outside.{Contents}
-use Rattle.flu_outside.specs.Taking.{bytes_left}
 use Rattle.flu_rows.specs.declared.row.Row.{Row}
 use Rattle.flu_rows.specs.declared.row.Row.TheVariants.{Event, Beat, End}
 use Rattle.flu_rows.specs.declared.rows.Next.{Next}
 use Rattle.flu_rows.specs.declared.rows.Next.TheVariants.{Row as RowNext, Bad, TooManyLines, Done}
-use Rattle.flu_rows.specs.Reading.{read_file}
 use Rattle.flu_streams.specs.declared.border.Border.TheVariants.{Closed}
 use Rattle.flu_streams.specs.declared.faults.Why.{Why}
 use Rattle.flu_streams.specs.declared.faults.Why.TheVariants.{AfterEnd}
-use Rattle.flu_streams.specs.Before.{each_with_before, or_else}
-use Rattle.flu_streams.specs.Good.{items_at, lists_of_rows, lists_of, rows_in}
-use Rattle.flu_streams.specs.Rounds.{row_fault, line_defect, defect_in, is_between, rows_between, Reads, Shut, IsRound, lists_between, LinesIn, LawOfLastRound}
+use Rattle.flu_streams.specs.Before.{each_with_before}
+use Rattle.flu_streams.specs.Good.{lists_of_rows, rows_in}
+use Rattle.flu_streams.specs.Rounds.{line_defect, defect_in, is_between, rows_between, IsRound, LinesIn, LawOfLastRound}
 use Rattle.flu_streams.specs.Tags.{width}
-use Rattle.flu_streams.specs.Tests.{row_in, rows_of, is_end, has_ended, where_true}
-use Rattle.flu_streams.proofs.RoundLaws.{or_else-none, no_option, sound_front, defect_in-more, each_source, flat_same}
+use Rattle.flu_streams.specs.Tests.{row_in, rows_of, is_end, has_ended}
+use Rattle.flu_streams.proofs.RoundLaws.{no_option, sound_front, defect_in-more, each_source, flat_same}
 use Rattle.flu_streams.proofs.Taken.{rows_more, ended_more, items_at-end, goes_on}
 
 -- ---- the end comes last

@@ -1,5 +1,5 @@
 -- What rounds take: the rows up to a border come all before the later ones, and none of them is read later.
-use Rattle.std.proofs.Common.{◌≡◌, inl, inr, ◌⊎◌, ◌<◌, ◌≤◌, ◌+◌, ◌-◌, ℕ, zero, suc, max, Bool, true, false, cond, List, [], ◌∷◌, ◌++◌, map, length, Option, Some, None, ltb, leb, refl, sym, ap, ◌∙◌, append_assoc, length-append, arith, subst}
+use Rattle.std.proofs.Common.{◌≡◌, inl, inr, ◌⊎◌, ◌<◌, ◌≤◌, ◌+◌, ◌-◌, ℕ, suc, max, Bool, true, false, cond, List, [], ◌∷◌, ◌++◌, map, length, Option, Some, None, refl, sym, ap, ◌∙◌, append_assoc, length-append, arith, subst}
 use Rattle.std.specs.Prelude.{pos, not, nat_lt, nat_le, ◌==◌, ◌&&◌, ◌||◌, option_map, unwrap_or, slice_get, sum_by, if◌then◌else◌}
 use Rattle.std.specs.List.{filter, filter_map, flat_map, list_all, cons_option, range_with_len, AllByRecursion}
 use Rattle.std.specs.Option.{option_to_list, option_map_or}
@@ -10,7 +10,6 @@ use Rattle.std.proofs.lemmas.List.Elements.{filter-append, filter_map-append}
 use Rattle.std.proofs.lemmas.Grind.{flat_map-append}
 use Rattle.flu_lemmas.specs.Elements.{AtEach}
 use Rattle.flu_lemmas.specs.Late.{is_less}
-use Rattle.flu_lemmas.specs.Sorting.{in_order}
 use Rattle.flu_lemmas.proofs.Booleans.{and_false}
 use Rattle.flu_lemmas.proofs.Elements.{all_map}
 use Rattle.flu_lemmas.proofs.Tests.{and_left, and_right, both}
@@ -34,9 +33,9 @@ use Rattle.flu_streams.specs.declared.faults.Why.{Why}
 use Rattle.flu_streams.specs.Before.{with_before, each_with_before, first_some, or_else}
 use Rattle.flu_streams.specs.Borders.{AreCutAt, FoldsInTurn}
 use Rattle.flu_streams.specs.Good.{time_at, item_in, in_time_order, items_at, lists_of_rows}
-use Rattle.flu_streams.specs.Rounds.{row_tests, row_fault, line_defect, defect_in, settled, settled_time, is_above, is_up_to, is_between, rows_between, count_settled, is_enough, Turn, Open, Shut, Meets, StopsAt, Reads, IsWithin, IsRoundAt, IsRound, lists_between, ComesTo, Starts, GoesOn, state_in_turn, outputs_in_turn, reports_in_turn, GiveTheFold, LawOfRounds}
+use Rattle.flu_streams.specs.Rounds.{row_fault, line_defect, defect_in, settled, settled_time, is_above, is_up_to, is_between, rows_between, is_enough, Turn, Open, Shut, Meets, StopsAt, Reads, IsWithin, IsRoundAt, IsRound, lists_between, Starts, GoesOn, state_in_turn, outputs_in_turn, reports_in_turn, GiveTheFold, LawOfRounds}
 use Rattle.flu_streams.specs.Tags.{place_named, width}
-use Rattle.flu_streams.specs.Tests.{row_in, rows_of, time_in, times_of, greatest, has_ended, where_true, test_behind, test_times, test_time, test_tag, test_value}
+use Rattle.flu_streams.specs.Tests.{row_in, rows_of, time_in, times_of, greatest, where_true, test_behind, test_times, test_time, test_tag, test_value}
 use Rattle.flu_streams.proofs.Befores.{with_before-append, first_some-append}
 use Rattle.flu_streams.proofs.BorderLaws.{folds_in_turn}
 use Rattle.flu_streams.proofs.Cutting.{in_order-cut, all_early, all_late, kept_all, kept_none}

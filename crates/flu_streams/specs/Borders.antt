@@ -1,5 +1,5 @@
 -- Borders: times at which a run is cut.
-use Rattle.std.specs.Prelude.{◌≡◌, ℕ, not, nat_lt, nat_le, List, ◌++◌, map}
+use Rattle.std.specs.Prelude.{◌≡◌, ℕ, nat_lt, nat_le, List, ◌++◌, map}
 use Rattle.std.specs.List.{filter}
 use Rattle.flu_model.specs.declared.events.Item.{Item}
 use Rattle.flu_model.specs.declared.jobs.Program.{Program}
