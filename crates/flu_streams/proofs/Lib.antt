@@ -6,3 +6,7 @@ pub mod Gatherings
 pub mod Streamings
 pub mod Turns
 pub mod Placing
+pub mod Cutting
+pub mod BorderLaws
+pub mod RoundLaws
+pub mod RoundEnds

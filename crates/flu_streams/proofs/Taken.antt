@@ -56,7 +56,7 @@ or-false : (b : Bool) → (b || false) ≡ b
 or-false true = refl
 or-false false = refl
 
-times_more : (rows : List Row) (row : Row) → times_of (rows ++ (row ∷ [])) ≡ times_of rows ++ option_to_list (time_in row)
+pub times_more : (rows : List Row) (row : Row) → times_of (rows ++ (row ∷ [])) ≡ times_of rows ++ option_to_list (time_in row)
 times_more rows row = filter_more time_in rows row
 
 pub ended_more : (rows : List Row) (row : Row) → has_ended (rows ++ (row ∷ [])) ≡ (has_ended rows || is_end row)
@@ -66,7 +66,7 @@ items_more : (itags : ℕ) (rows : List Row) (row : Row) → items_of itags (row
 items_more itags rows row = sum_by-append (items_in itags) rows (row ∷ []) ∙ omega arith
 
 -- ---- the times
-greatest-push : (ts : List ℕ) (t : ℕ) → greatest (ts ++ (t ∷ [])) ≡ Some (max (unwrap_or (greatest ts) 0) t)
+pub greatest-push : (ts : List ℕ) (t : ℕ) → greatest (ts ++ (t ∷ [])) ≡ Some (max (unwrap_or (greatest ts) 0) t)
 greatest-push [] t = ap Some (omega arith)
 greatest-push (x ∷ ts) t = rw (greatest-push ts t) (ap Some (omega arith))
 
@@ -151,7 +151,7 @@ for_itags kinds s first place [] lt = refl
 for_itags kinds s first place (row ∷ rows) lt = λ i. cons_option (for_itag kinds s first place row lt i) (for_itags kinds s first place rows lt i)
 
 -- the end of a source stands in no list's order
-items_at-end : (kinds : List Kind) (s : Source) (first place : ℕ) (rows : List Row) → items_at kinds s first (rows ++ (End ∷ [])) place ≡ filter_map (item_in kinds s first place) (in_time_order rows) ++ (EndItem ∷ [])
+pub items_at-end : (kinds : List Kind) (s : Source) (first place : ℕ) (rows : List Row) → items_at kinds s first (rows ++ (End ∷ [])) place ≡ filter_map (item_in kinds s first place) (in_time_order rows) ++ (EndItem ∷ [])
 items_at-end kinds s first place rows =
     ap (λ l. filter_map (item_in kinds s first place) l ++ (EndItem ∷ [])) (ordered_more rows End ∙ put_late-zero time_at End (in_time_order rows) refl)
 
@@ -194,7 +194,7 @@ holds_none kinds s number before intake empty = record {
 }
 
 -- ---- one row more
-goes_on : (ended : Bool) (why : Why) (rest : Option Why) → or_else (where_true ended why) rest ≡ None → ended ≡ false
+pub goes_on : (ended : Bool) (why : Why) (rest : Option Why) → or_else (where_true ended why) rest ≡ None → ended ≡ false
 goes_on true why rest e = absurd cc
 goes_on false why rest e = refl
 

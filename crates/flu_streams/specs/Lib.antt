@@ -8,3 +8,5 @@ pub mod Lists
 pub mod LoopIntake
 pub mod LoopSource
 pub mod LoopGathering
+pub mod Borders
+pub mod Rounds

@@ -1,13 +1,17 @@
 //! The streams of a job's sources, or the first fault of their rows (`docs/LANGUAGE.md`, "Rows").
 #![tactic(auto)]
 
+mod border;
 mod faults;
 mod gathered;
 mod intake;
 mod items;
+mod laws;
 mod reading;
 mod source;
 mod tags;
 
+pub use border::Border;
 pub use faults::{GatherFault, SourceFault, Why};
+pub use laws::{borders_cut_a_fold, last_round_has_all_rows, rounds_are_folded_in_turn};
 pub use reading::gather;

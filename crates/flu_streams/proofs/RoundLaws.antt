@@ -1,0 +1,526 @@
+-- What rounds take: the rows up to a border come all before the later ones, and none of them is read later.
+use Rattle.std.proofs.Common.{◌≡◌, inl, inr, ◌⊎◌, ◌<◌, ◌≤◌, ◌+◌, ◌-◌, ℕ, suc, max, Bool, true, false, cond, List, [], ◌∷◌, ◌++◌, map, length, Option, Some, None, refl, sym, ap, ◌∙◌, append_assoc, length-append, arith, subst}
+use Rattle.std.specs.Prelude.{pos, not, nat_lt, nat_le, ◌==◌, ◌&&◌, ◌||◌, option_map, unwrap_or, slice_get, sum_by, if◌then◌else◌}
+use Rattle.std.specs.List.{filter, filter_map, flat_map, list_all, cons_option, range_with_len, AllByRecursion}
+use Rattle.std.specs.Option.{option_to_list, option_map_or}
+use Rattle.std.proofs.lemmas.Bool.{cases_lt}
+use Rattle.std.proofs.lemmas.Bool.Decides.{nat_tests}
+use Rattle.std.proofs.lemmas.List.{append-nil}
+use Rattle.std.proofs.lemmas.List.Elements.{filter-append, filter_map-append}
+use Rattle.std.proofs.lemmas.Grind.{flat_map-append}
+use Rattle.flu_lemmas.specs.Elements.{AtEach}
+use Rattle.flu_lemmas.specs.Late.{is_less}
+use Rattle.flu_lemmas.proofs.Booleans.{and_false}
+use Rattle.flu_lemmas.proofs.Elements.{all_map}
+use Rattle.flu_lemmas.proofs.Tests.{and_left, and_right, both}
+use Rattle.flu_model.specs.declared.events.Event.{Event}
+use Rattle.flu_model.specs.declared.events.Item.{Item}
+use Rattle.flu_model.specs.declared.events.Item.TheVariants.{Event as EventItem, Beat as BeatItem, End as EndItem}
+use Rattle.flu_model.specs.declared.jobs.Kind.{Kind}
+use Rattle.flu_model.specs.declared.jobs.Source.{Source}
+use Rattle.flu_model.specs.declared.jobs.Program.{Program}
+use Rattle.flu_model.specs.Contents.{Contents}
+use Rattle.flu_model.specs.Folding.{final_state, final_outputs}
+use Rattle.flu_model.specs.Merging.{events_of, all_events}
+use Rattle.flu_model.specs.Reports.{report}
+use Rattle.flu_rows.specs.declared.row.Row.{Row}
+use Rattle.flu_rows.specs.declared.row.Row.TheVariants.{Event as EventRow, Beat as BeatRow, End as EndRow}
+use Rattle.flu_rows.specs.declared.rows.Next.{Next}
+use Rattle.flu_rows.specs.declared.rows.Next.TheVariants.{Row as RowNext, Bad, TooManyLines, Done}
+use Rattle.flu_streams.specs.declared.border.Border.{Border}
+use Rattle.flu_streams.specs.declared.border.Border.TheVariants.{At, Closed}
+use Rattle.flu_streams.specs.declared.faults.Why.{Why}
+use Rattle.flu_streams.specs.Before.{with_before, each_with_before, first_some, or_else}
+use Rattle.flu_streams.specs.Borders.{AreCutAt, FoldsInTurn}
+use Rattle.flu_streams.specs.Good.{time_at, item_in, in_time_order, items_at, lists_of_rows}
+use Rattle.flu_streams.specs.Rounds.{row_fault, line_defect, defect_in, settled, settled_time, is_above, is_up_to, is_between, rows_between, is_enough, Turn, Open, Shut, Meets, StopsAt, Reads, IsWithin, IsRoundAt, IsRound, lists_between, Starts, GoesOn, state_in_turn, outputs_in_turn, reports_in_turn, GiveTheFold, LawOfRounds}
+use Rattle.flu_streams.specs.Tags.{place_named, width}
+use Rattle.flu_streams.specs.Tests.{row_in, rows_of, time_in, times_of, greatest, where_true, test_behind, test_times, test_time, test_tag, test_value}
+use Rattle.flu_streams.proofs.Befores.{with_before-append, first_some-append}
+use Rattle.flu_streams.proofs.BorderLaws.{folds_in_turn}
+use Rattle.flu_streams.proofs.Cutting.{in_order-cut, all_early, all_late, kept_all, kept_none}
+use Rattle.flu_streams.proofs.Taken.{filter_more, times_more, greatest-push, rows_more}
+
+-- ---- lines without a defect
+pub or_else-none : {X : Type 0} (a b : Option X) → or_else a b ≡ None → (a ≡ None) × (b ≡ None)
+or_else-none None b e = (refl, e)
+or_else-none (Some x) b e = absurd cc
+
+pub defect_in-append : (kinds : List Kind) (s : Source) (read more : List Next)
+    → defect_in kinds s (read ++ more) ≡ or_else (defect_in kinds s read) (first_some (λ (e : List Next × Next). line_defect kinds s e.0 e.1) (with_before read more))
+defect_in-append kinds s read more =
+    let f = λ (e : List Next × Next). line_defect kinds s e.0 e.1 in
+    ap (first_some f) (with_before-append [] read more) ∙ first_some-append f (with_before [] read) (with_before read more)
+
+pub sound_front : (kinds : List Kind) (s : Source) (read more : List Next) → defect_in kinds s (read ++ more) ≡ None → defect_in kinds s read ≡ None
+sound_front kinds s read more e = (or_else-none (defect_in kinds s read) _ (sym (defect_in-append kinds s read more) ∙ e)).0
+
+or_none : {X : Type 0} (a : Option X) → or_else a None ≡ a
+or_none None = refl
+or_none (Some x) = refl
+
+-- one line more
+pub defect_in-more : (kinds : List Kind) (s : Source) (read : List Next) (next : Next) → defect_in kinds s read ≡ None
+    → defect_in kinds s (read ++ next ∷ []) ≡ line_defect kinds s read next
+defect_in-more kinds s read next e =
+    defect_in-append kinds s read (next ∷ []) ∙ ap (λ o. or_else o (or_else (line_defect kinds s read next) None)) e ∙ or_none (line_defect kinds s read next)
+
+-- ---- a row that passes is later than what was settled
+pub no_option : {X Y : Type 0} (f : X → Y) (o : Option X) → option_map f o ≡ None → o ≡ None
+no_option f None e = refl
+no_option f (Some x) e = absurd cc
+
+pub passes_time : (kinds : List Kind) (s : Source) (ended : Bool) (earlier : List ℕ) (row : Row) → row_fault kinds s ended earlier row ≡ None
+    → test_time s.slack earlier row ≡ None
+passes_time kinds s ended earlier row e =
+    let one = (or_else-none (where_true ended _) _ e).1 in
+    let two = (or_else-none (test_tag kinds s row) _ one).1 in
+    let three = (or_else-none (test_value kinds row) _ two).1 in
+    (or_else-none (test_time s.slack earlier row) None three).0
+
+pub not_late : (slack time last : ℕ) (b : Bool) (why : Why) → where_true (b || nat_le (time + slack) last) why ≡ None → last < time + slack
+not_late slack time last true why e = absurd cc
+not_late slack time last false why e = by_test (nat_le (time + slack) last) refl e
+  where
+    by_test : (c : Bool) → nat_le (time + slack) last ≡ c → where_true c why ≡ None → last < time + slack
+    by_test true le e = absurd cc
+    by_test false gt e = grind (arith, nat_tests)
+
+-- the settled time of a greatest time
+pub settled_is : (slack last u : ℕ) → settled slack (Some last) ≡ Some u → (slack ≤ last) × (u ≡ last - slack)
+settled_is slack last u e = by_test (nat_le slack last) refl e
+  where
+    by_test : (b : Bool) → nat_le slack last ≡ b → (if b then Some (last - slack) else None) ≡ Some u → (slack ≤ last) × (u ≡ last - slack)
+    by_test true le e = (grind (arith, nat_tests), cc)
+    by_test false gt e = absurd cc
+
+settled_some : (slack last : ℕ) → slack ≤ last → settled slack (Some last) ≡ Some (last - slack)
+settled_some slack last le = let e : nat_le slack last ≡ true = grind (arith, nat_tests) in rw e refl
+
+-- a time that passes is later than what was settled, and what is settled behind it is not earlier
+pub time_settles : (slack u time : ℕ) (earlier : List ℕ) → settled slack (greatest earlier) ≡ Some u → test_times slack earlier (Some time) ≡ None
+    → (u < time) × ((v : ℕ) × (settled slack (greatest (earlier ++ time ∷ [])) ≡ Some v) × (u ≤ v))
+time_settles slack u time earlier was passes = by_top (greatest earlier) refl was passes
+  where
+    by_top : (top : Option ℕ) → greatest earlier ≡ top → settled slack top ≡ Some u → test_behind slack earlier top time ≡ None
+        → (u < time) × ((v : ℕ) × (settled slack (greatest (earlier ++ time ∷ [])) ≡ Some v) × (u ≤ v))
+    by_top None top was passes = absurd cc
+    by_top (Some last) top was passes =
+        let is = settled_is slack last u was in
+        let late = not_late slack time last _ _ passes in
+        let more : greatest (earlier ++ time ∷ []) ≡ Some (max last time) = greatest-push earlier time ∙ ap (λ o. Some (max (unwrap_or o 0) time)) top in
+        (omega (arith, late, is.0, is.1), (max last time - slack, rw more (settled_some slack (max last time) (omega (arith, is.0))), omega (arith, is.0, is.1)))
+
+pub times_with : (read : List Next) (line : ℕ) (row : Row) (time : ℕ) → time_in row ≡ Some time
+    → times_of (rows_of (read ++ RowNext line row ∷ [])) ≡ times_of (rows_of read) ++ time ∷ []
+times_with read line row time at = ap times_of (rows_more read line row) ∙ times_more (rows_of read) row
+    ∙ ap (λ o. times_of (rows_of read) ++ option_to_list o) at
+
+pub times_without : (read : List Next) (next : Next) → ((row : Row) → row_in next ≡ Some row → time_in row ≡ None)
+    → times_of (rows_of (read ++ next ∷ [])) ≡ times_of (rows_of read)
+times_without read next none = ap times_of (filter_more row_in read next) ∙ by_row (row_in next) refl
+  where
+    by_row : (o : Option Row) → row_in next ≡ o → times_of (rows_of read ++ option_to_list o) ≡ times_of (rows_of read)
+    by_row None e = ap times_of (append-nil (rows_of read))
+    by_row (Some row) e = times_more (rows_of read) row ∙ ap (λ o. times_of (rows_of read) ++ option_to_list o) (none row e)
+        ∙ append-nil (times_of (rows_of read))
+
+-- a line that passes: its row is later than what was settled, and what is settled behind it is not earlier
+abbrev Settles : Source → List Next → Next → ℕ → Type 0
+Settles s read next u = ((row : Row) (time : ℕ) → row_in next ≡ Some row → time_in row ≡ Some time → u < time)
+    × ((v : ℕ) × (settled_time s (read ++ next ∷ []) ≡ Some v) × (u ≤ v))
+
+settles_still : (s : Source) (read : List Next) (next : Next) (u : ℕ) → settled_time s read ≡ Some u
+    → ((row : Row) → row_in next ≡ Some row → time_in row ≡ None) → Settles s read next u
+settles_still s read next u was none = (
+  λ row time is at. absurd (some_none time (sym at ∙ none row is)),
+  (u, ap (λ ts. settled s.slack (greatest ts)) (times_without read next none) ∙ was, omega arith),
+)
+  where
+    some_none : (time : ℕ) → Some time ≡ None → ⊥
+    some_none time e = cc
+
+settles_row : (s : Source) (read : List Next) (line : ℕ) (row : Row) (time u : ℕ) → settled_time s read ≡ Some u → time_in row ≡ Some time
+    → test_times s.slack (times_of (rows_of read)) (Some time) ≡ None
+    → Settles s read (RowNext line row) u
+settles_row s read line row time u was at passes =
+    let h = time_settles s.slack u time (times_of (rows_of read)) was passes in (
+      λ r t is here. let same : row ≡ r = cc in let when : Some time ≡ Some t = sym at ∙ ap time_in same ∙ here in
+          let eq : time ≡ t = cc in omega (arith, eq, h.0),
+      (h.1.0, ap (λ ts. settled s.slack (greatest ts)) (times_with read line row time at) ∙ h.1.1, h.1.2),
+    )
+
+line_settles : (kinds : List Kind) (s : Source) (read : List Next) (next : Next) (u : ℕ) → settled_time s read ≡ Some u
+    → line_defect kinds s read next ≡ None → Settles s read next u
+line_settles kinds s read (RowNext line (EventRow time name key value)) u was e =
+    settles_row s read line (EventRow time name key value) time u was refl (passes_time kinds s _ _ (EventRow time name key value) (no_option (λ (why : Why). (line, why)) _ e))
+line_settles kinds s read (RowNext line (BeatRow time)) u was e =
+    settles_row s read line (BeatRow time) time u was refl (passes_time kinds s _ _ (BeatRow time) (no_option (λ (why : Why). (line, why)) _ e))
+line_settles kinds s read (RowNext line EndRow) u was e = settles_still s read (RowNext line EndRow) u was (λ row is. let same : EndRow ≡ row = cc in ap time_in (sym same))
+line_settles kinds s read (Bad line) u was e = absurd cc
+line_settles kinds s read TooManyLines u was e = absurd cc
+line_settles kinds s read (Done lines) u was e = settles_still s read (Done lines) u was (λ row is. absurd cc)
+
+-- ---- none of the rows up to a border is read later
+later_none : (above : Option ℕ) (t time : ℕ) → t < time → (is_above above time && nat_le time t) ≡ false
+later_none above t time lt = let e : nat_le time t ≡ false = grind (arith, nat_tests) in rw e (and_false (is_above above time))
+
+one_none : (above : Option ℕ) (t : ℕ) (next : Next) → ((row : Row) (time : ℕ) → row_in next ≡ Some row → time_in row ≡ Some time → t < time)
+    → rows_between above (At t) (rows_of (next ∷ [])) ≡ []
+one_none above t (RowNext line (EventRow time name key value)) later = rw (later_none above t time (later (EventRow time name key value) time refl refl)) refl
+one_none above t (RowNext line (BeatRow time)) later = rw (later_none above t time (later (BeatRow time) time refl refl)) refl
+one_none above t (RowNext line EndRow) later = refl
+one_none above t (Bad line) later = refl
+one_none above t TooManyLines later = refl
+one_none above t (Done lines) later = refl
+
+pub nothing_later : (kinds : List Kind) (s : Source) (above : Option ℕ) (t : ℕ) (read more : List Next) (u : ℕ) → defect_in kinds s (read ++ more) ≡ None
+    → settled_time s read ≡ Some u → t ≤ u
+    → rows_between above (At t) (rows_of (read ++ more)) ≡ rows_between above (At t) (rows_of read)
+nothing_later kinds s above t read [] u sound was le = ap (λ l. rows_between above (At t) (rows_of l)) (append-nil read)
+nothing_later kinds s above t read (next ∷ more) u sound was le =
+    let regroup : read ++ (next ∷ more) ≡ (read ++ next ∷ []) ++ more = sym (append_assoc read (next ∷ []) more) in
+    let sound' : defect_in kinds s ((read ++ next ∷ []) ++ more) ≡ None = ap (defect_in kinds s) (sym regroup) ∙ sound in
+    let front = sound_front kinds s (read ++ next ∷ []) more sound' in
+    let here : line_defect kinds s read next ≡ None = sym (defect_in-more kinds s read next (sound_front kinds s read (next ∷ []) front)) ∙ front in
+    let h = line_settles kinds s read next u was here in
+    ap (λ l. rows_between above (At t) (rows_of l)) regroup
+    ∙ nothing_later kinds s above t (read ++ next ∷ []) more h.1.0 sound' h.1.1 (omega (arith, le, h.1.2))
+    ∙ ap (rows_between above (At t)) (filter_map-append row_in read (next ∷ []))
+    ∙ filter-append (is_between above (At t)) (rows_of read) (rows_of (next ∷ []))
+    ∙ ap (λ l. rows_between above (At t) (rows_of read) ++ l) (one_none above t next (λ row time is at. let k = h.0 row time is at in omega (arith, k, le)))
+    ∙ append-nil (rows_between above (At t) (rows_of read))
+
+-- ---- what one round leaves to the next
+nothing_more : {X : Type 0} (xs more rest : List X) → xs ≡ (xs ++ more) ++ rest → more ≡ []
+nothing_more xs [] rest e = refl
+nothing_more xs (x ∷ more) rest e =
+    let len : length xs ≡ length ((xs ++ (x ∷ more)) ++ rest) = ap length e in
+    absurd (omega (arith, len, length-append (xs ++ (x ∷ more)) rest, length-append xs (x ∷ more)))
+
+front_of_whole : (kinds : List Kind) (s : Source) (rows : ℕ) (above : Option ℕ) (whole now : List Next) (turn : Turn)
+    → StopsAt kinds s rows above whole now turn → (rest : List Next) × (whole ≡ now ++ rest)
+front_of_whole kinds s rows above whole now (Open u) h = h.0
+front_of_whole kinds s rows above whole now Shut h = ([], h.0 ∙ sym (append-nil now))
+front_of_whole kinds s rows above whole now (Meets row why) h = (h.0.0 ∷ h.0.1, h.0.2)
+
+-- the rows up to the border of one round are those that are read up to it in the next
+round_keeps : (kinds : List Kind) (s : Source) (rows b : ℕ) (above : Option ℕ) (whole before mid now : List Next) (turn next : Turn)
+    → Reads kinds s rows above whole before mid turn → IsWithin b turn
+    → Reads kinds s rows (Some b) whole mid now next → rows_between None (At b) (rows_of now) ≡ rows_between None (At b) (rows_of mid)
+round_keeps kinds s rows b above whole before mid now (Open u) next was within reads =
+    ap (λ l. rows_between None (At b) (rows_of l)) reads.further
+    ∙ nothing_later kinds s None b mid reads.more u (ap (defect_in kinds s) (sym reads.further) ∙ reads.sound) was.stops.2 within
+round_keeps kinds s rows b above whole before mid now Shut next was within reads =
+    let front = front_of_whole kinds s rows (Some b) whole now next reads.stops in
+    let none = nothing_more mid reads.more front.0 (sym was.stops.0 ∙ front.1 ∙ ap (λ l. l ++ front.0) reads.further) in
+    ap (λ l. rows_between None (At b) (rows_of l)) (reads.further ∙ ap (λ l. mid ++ l) none ∙ append-nil mid)
+round_keeps kinds s rows b above whole before mid now (Meets row why) next was within reads = absurd within
+
+-- ---- each source, behind those before it
+each_before : (P : ℕ → Source → Type 0) (pre xs : List Source) → ((j : ℕ) (x : Source) → slice_get xs j ≡ Some x → P (length pre + j) x)
+    → AllByRecursion (λ (e : List Source × Source). P (length e.0) e.1) (with_before pre xs)
+each_before P pre [] h = tt
+each_before P pre (x ∷ xs) h = (
+  subst (λ n. P n x) (omega arith) (h 0 x refl),
+  each_before P (pre ++ x ∷ []) xs (λ j y e. subst (λ n. P n y) (omega (arith, length-append pre (x ∷ []))) (h (suc j) y e)),
+)
+
+pub each_source : (P : ℕ → Source → Type 0) (xs : List Source) → AtEach P xs
+    → AllByRecursion (λ (e : List Source × Source). P (length e.0) e.1) (each_with_before xs)
+each_source P xs h = each_before P [] xs (λ j x e. subst (λ n. P n x) (omega arith) (h j x e))
+
+pub flat_same : {X Y : Type 0} (f g : X → List Y) (xs : List X) → AllByRecursion (λ x. f x ≡ g x) xs → flat_map f xs ≡ flat_map g xs
+flat_same f g [] all = refl
+flat_same f g (x ∷ xs) all = λ i. all.0 i ++ flat_same f g xs all.1 i
+
+-- ---- the events of a round's rows
+events_of-append : (xs ys : List Item) → events_of (xs ++ ys) ≡ events_of xs ++ events_of ys
+events_of-append [] ys = refl
+events_of-append (EventItem x ∷ xs) ys = ap (λ l. x ∷ l) (events_of-append xs ys)
+events_of-append (BeatItem t ∷ xs) ys = events_of-append xs ys
+events_of-append (EndItem ∷ xs) ys = events_of-append xs ys
+
+events_timed : (g : ℕ → Bool) (kinds : List Kind) (s : Source) (first place : ℕ) (rows : List Row) → list_all (λ (row : Row). g (time_at row)) rows ≡ true
+    → list_all (λ (x : Event). g x.time) (events_of (filter_map (item_in kinds s first place) rows)) ≡ true
+events_timed g kinds s first place [] all = refl
+events_timed g kinds s first place (EventRow time name key value ∷ rows) all =
+    let rest = events_timed g kinds s first place rows (and_right (g time) _ all) in
+    elim (unwrap_or (option_map (λ n. n == place) (place_named kinds s name key)) false)
+    as (λ b. list_all (λ (x : Event). g x.time) (events_of (cons_option (if b then Some (EventItem (record { time = time; itag = record { 0 = first + place }; value = unwrap_or value (pos 0) })) else None) (filter_map (item_in kinds s first place) rows))) ≡ true) [
+      | true ↦ both (g time) _ (and_left (g time) _ all) rest
+      | false ↦ rest
+    ]
+events_timed g kinds s first place (BeatRow time ∷ rows) all = events_timed g kinds s first place rows (and_right (g time) _ all)
+events_timed g kinds s first place (EndRow ∷ rows) all = events_timed g kinds s first place rows (and_right (g 0) _ all)
+
+filter_twice : {X : Type 0} (p q : X → Bool) (xs : List X) → filter p (filter q xs) ≡ filter (λ x. q x && p x) xs
+filter_twice p q [] = refl
+filter_twice p q (x ∷ xs) =
+    elim (q x) as (λ b. filter p (cond b (x ∷ filter q xs) (filter q xs)) ≡ cond (b && p x) (x ∷ filter (λ y. q y && p y) xs) (filter (λ y. q y && p y) xs)) [
+      | true ↦ ap (λ l. cond (p x) (x ∷ l) l) (filter_twice p q xs)
+      | false ↦ filter_twice p q xs
+    ]
+
+filter_alike : {X : Type 0} (p q : X → Bool) → ((x : X) → p x ≡ q x) → (xs : List X) → filter p xs ≡ filter q xs
+filter_alike p q same xs = λ i. filter (λ x. same x i) xs
+
+-- the times up to b are among those up to the end
+abbrev pub Covers : ℕ → Border → Type 0
+Covers b end = (t : ℕ) → nat_le t b ≡ true → is_up_to end t ≡ true
+
+-- what is above b is above the border before
+abbrev pub Exceeds : ℕ → Option ℕ → Type 0
+Exceeds b above = (t : ℕ) → nat_lt b t ≡ true → is_above above t ≡ true
+
+early_timed : (a : Bool) (b : ℕ) (end : Border) (time : ℕ) → Covers b end → ((a && is_up_to end time) && nat_le time b) ≡ (a && nat_le time b)
+early_timed false b end time covers = refl
+early_timed true b end time covers = by_test (nat_le time b) refl
+  where
+    by_test : (c : Bool) → nat_le time b ≡ c → (is_up_to end time && nat_le time b) ≡ nat_le time b
+    by_test true e = rw (e, covers time e) refl
+    by_test false e = rw e (and_false (is_up_to end time))
+
+early_row : (above : Option ℕ) (b : ℕ) (end : Border) → Covers b end → (row : Row)
+    → (is_between above end row && nat_le (time_at row) b) ≡ is_between above (At b) row
+early_row above b end covers (EventRow time name key value) = early_timed (is_above above time) b end time covers
+early_row above b end covers (BeatRow time) = early_timed (is_above above time) b end time covers
+early_row above b end covers EndRow = refl
+
+late_timed : (a c e : Bool) → (c ≡ true → a ≡ true) → ((a && e) && c) ≡ (c && e)
+late_timed true true true h = refl
+late_timed true true false h = refl
+late_timed true false true h = refl
+late_timed true false false h = refl
+late_timed false true e h = let no : false ≡ true = h refl in absurd cc
+late_timed false false e h = refl
+
+late_row : (above : Option ℕ) (b : ℕ) (end : Border) → Exceeds b above → (row : Row)
+    → (is_between above end row && not (nat_le (time_at row) b)) ≡ is_between (Some b) end row
+late_row above b end exceeds (EventRow time name key value) =
+    let e : not (nat_le time b) ≡ nat_lt b time = grind (arith, nat_tests) in rw e (late_timed (is_above above time) (nat_lt b time) (is_up_to end time) (exceeds time))
+late_row above b end exceeds (BeatRow time) =
+    let e : not (nat_le time b) ≡ nat_lt b time = grind (arith, nat_tests) in rw e (late_timed (is_above above time) (nat_lt b time) (is_up_to end time) (exceeds time))
+late_row above b end exceeds EndRow = refl
+
+-- among the rows of a round those up to a border, and the later ones
+pub early_between : (above : Option ℕ) (b : ℕ) (end : Border) (rows : List Row) → Covers b end
+    → filter (λ (row : Row). nat_le (time_at row) b) (rows_between above end rows) ≡ rows_between above (At b) rows
+early_between above b end rows covers = filter_twice (λ (row : Row). nat_le (time_at row) b) (is_between above end) rows
+    ∙ filter_alike _ _ (early_row above b end covers) rows
+
+pub late_between : (above : Option ℕ) (b : ℕ) (end : Border) (rows : List Row) → Exceeds b above
+    → filter (λ (row : Row). not (nat_le (time_at row) b)) (rows_between above end rows) ≡ rows_between (Some b) end rows
+late_between above b end rows exceeds = filter_twice (λ (row : Row). not (nat_le (time_at row) b)) (is_between above end) rows
+    ∙ filter_alike _ _ (late_row above b end exceeds) rows
+
+row_first : (b : ℕ) (x y : Row) → nat_le (time_at x) b ≡ true → nat_le (time_at y) b ≡ false → nat_lt (time_at x) (time_at y) ≡ true
+row_first b x y e f = grind (arith, nat_tests)
+
+row_last : (b : ℕ) (x y : Row) → nat_le (time_at x) b ≡ false → nat_le (time_at y) b ≡ true → nat_lt (time_at x) (time_at y) ≡ false
+row_last b x y e f = grind (arith, nat_tests)
+
+-- rows in order of time: those up to a border, and then the later ones
+pub record PartsAt (b : ℕ) (rows first second : List Row) : Type 0 where
+  pub order : in_time_order rows ≡ in_time_order first ++ in_time_order second
+  pub early : list_all (λ (row : Row). nat_le (time_at row) b) (in_time_order first) ≡ true
+  pub late : list_all (λ (row : Row). not (nat_le (time_at row) b)) (in_time_order second) ≡ true
+
+pub parts_at : (b : ℕ) (rows : List Row) → PartsAt b rows (filter (λ (row : Row). nat_le (time_at row) b) rows) (filter (λ (row : Row). not (nat_le (time_at row) b)) rows)
+parts_at b rows = record {
+  order = in_order-cut (is_less time_at) (λ (row : Row). nat_le (time_at row) b) (row_first b) (row_last b) rows;
+  early = all_early (is_less time_at) (λ (row : Row). nat_le (time_at row) b) (row_first b) (row_last b) rows;
+  late = all_late (is_less time_at) (λ (row : Row). nat_le (time_at row) b) (row_first b) (row_last b) rows;
+}
+
+pub parts_between : (above : Option ℕ) (b : ℕ) (end : Border) (rows : List Row) → Covers b end → Exceeds b above
+    → PartsAt b (rows_between above end rows) (rows_between above (At b) rows) (rows_between (Some b) end rows)
+parts_between above b end rows covers exceeds =
+    subst (λ first. PartsAt b (rows_between above end rows) first (rows_between (Some b) end rows)) (early_between above b end rows covers)
+    (subst (λ second. PartsAt b (rows_between above end rows) (filter (λ (row : Row). nat_le (time_at row) b) (rows_between above end rows)) second) (late_between above b end rows exceeds) (parts_at b (rows_between above end rows)))
+
+-- ---- the events of an itag
+pub kept_first : {X : Type 0} (g : X → Bool) (xs ys : List X) → list_all g xs ≡ true → list_all (λ x. not (g x)) ys ≡ true → filter g (xs ++ ys) ≡ xs
+kept_first g xs ys all none = filter-append g xs ys ∙ ap (λ l. l ++ filter g ys) (kept_all g xs all) ∙ ap (λ l. xs ++ l) (kept_none g ys none) ∙ append-nil xs
+
+pub kept_second : {X : Type 0} (g : X → Bool) (xs ys : List X) → list_all (λ x. not (g x)) xs ≡ true → list_all g ys ≡ true → filter g (xs ++ ys) ≡ ys
+kept_second g xs ys none all = filter-append g xs ys ∙ ap (λ l. l ++ filter g ys) (kept_none g xs none) ∙ kept_all g ys all
+
+list_all_alike : {X : Type 0} (p q : X → Bool) → ((x : X) → p x ≡ q x) → (xs : List X) → list_all p xs ≡ list_all q xs
+list_all_alike p q same xs = λ i. list_all (λ x. same x i) xs
+
+-- the events of an itag among the rows up to an end are those up to a border, and then the later ones
+pub record PlaceCut (b : ℕ) (whole first second : List Item) : Type 0 where
+  pub early : events_of first ≡ filter (λ (x : Event). nat_le x.time b) (events_of whole)
+  pub late : events_of second ≡ filter (λ (x : Event). nat_lt b x.time) (events_of whole)
+
+place_cut : (kinds : List Kind) (s : Source) (first : ℕ) (b : ℕ) (end : Border) (rows : List Row) (place : ℕ) → Covers b end
+    → PlaceCut b (items_at kinds s first (rows_between None end rows) place) (items_at kinds s first (rows_between None (At b) rows) place) (items_at kinds s first (rows_between (Some b) end rows) place)
+place_cut kinds s first b end rows place covers =
+    let f = item_in kinds s first place in
+    let q = rows_between None end rows in
+    let front = in_time_order (rows_between None (At b) rows) in
+    let back = in_time_order (rows_between (Some b) end rows) in
+    let before = events_of (filter_map f front) in
+    let behind = events_of (filter_map f back) in
+    let parts = parts_between None b end rows covers (λ t e. refl) in
+    let before_early = events_timed (λ n. nat_le n b) kinds s first place front parts.early in
+    let behind_late = events_timed (λ n. not (nat_le n b)) kinds s first place back parts.late in
+    let before_not : list_all (λ (x : Event). not (nat_lt b x.time)) before ≡ true = list_all_alike _ _ (λ (x : Event). not_later b x.time) before
+    ∙ before_early in
+    let behind_later : list_all (λ (x : Event). nat_lt b x.time) behind ≡ true = list_all_alike _ _ (λ (x : Event). later_is b x.time) behind ∙ behind_late in
+    let whole : events_of (items_at kinds s first q place) ≡ before ++ behind =
+    events_of-end (filter_map f (in_time_order q)) ∙ ap (λ l. events_of (filter_map f l)) parts.order
+    ∙ ap events_of (filter_map-append f front back) ∙ events_of-append (filter_map f front) (filter_map f back) in
+    record {
+      early = events_of-end (filter_map f front)
+          ∙ sym (ap (filter (λ (x : Event). nat_le x.time b)) whole ∙ kept_first (λ (x : Event). nat_le x.time b) before behind before_early behind_late);
+      late = events_of-end (filter_map f back) ∙ sym (ap (filter (λ (x : Event). nat_lt b x.time)) whole
+          ∙ kept_second (λ (x : Event). nat_lt b x.time) before behind before_not behind_later);
+    }
+  where
+    events_of-end : (xs : List Item) → events_of (xs ++ EndItem ∷ []) ≡ events_of xs
+    events_of-end xs = events_of-append xs (EndItem ∷ []) ∙ append-nil (events_of xs)
+
+    not_later : (b n : ℕ) → not (nat_lt b n) ≡ nat_le n b
+    not_later b n = grind (arith, nat_tests)
+
+    later_is : (b n : ℕ) → nat_lt b n ≡ not (nat_le n b)
+    later_is b n = grind (arith, nat_tests)
+
+-- ---- the events of all itags
+maps_cut : (g : Event → Bool) (these those : ℕ → List Item) → ((i : ℕ) → events_of (these i) ≡ filter g (events_of (those i))) → (range : List ℕ)
+    → all_events (map these range) ≡ filter g (all_events (map those range))
+maps_cut g these those same [] = refl
+maps_cut g these those same (i ∷ range) =
+    ap (λ l. l ++ all_events (map these range)) (same i) ∙ ap (λ l. filter g (events_of (those i)) ++ l) (maps_cut g these those same range)
+    ∙ sym (filter-append g (events_of (those i)) (all_events (map those range)))
+
+sources_cut : (g : Event → Bool) (these those : List Source × Source → List (List Item))
+    → ((e : List Source × Source) → all_events (these e) ≡ filter g (all_events (those e))) → (es : List (List Source × Source))
+    → all_events (flat_map these es) ≡ filter g (all_events (flat_map those es))
+sources_cut g these those same [] = refl
+sources_cut g these those same (e ∷ es) =
+    flat_map-append events_of (these e) (flat_map these es) ∙ ap (λ l. l ++ all_events (flat_map these es)) (same e)
+    ∙ ap (λ l. filter g (all_events (those e)) ++ l) (sources_cut g these those same es)
+    ∙ sym (ap (filter g) (flat_map-append events_of (those e) (flat_map those es)) ∙ filter-append g (all_events (those e)) (all_events (flat_map those es)))
+
+-- the items of an itag, and the lists of a source, by the sources before it
+abbrev items_in_round : Program → (ℕ → List Next) → Option ℕ → Border → List Source × Source → ℕ → List Item
+items_in_round p reads above end e = items_at p.kinds e.1 (sum_by width e.0) (rows_between above end (rows_of (reads (length e.0))))
+
+abbrev lists_in_round : Program → (ℕ → List Next) → Option ℕ → Border → List Source × Source → List (List Item)
+lists_in_round p reads above end e = lists_of_rows p.kinds e.1 (sum_by width e.0) (rows_between above end (rows_of (reads (length e.0))))
+
+place_cut_of : (p : Program) (b : ℕ) (end : Border) (reads : ℕ → List Next) → Covers b end → (e : List Source × Source) (i : ℕ)
+    → PlaceCut b (items_in_round p reads None end e i) (items_in_round p reads None (At b) e i) (items_in_round p reads (Some b) end e i)
+place_cut_of p b end reads covers e i = place_cut p.kinds e.1 (sum_by width e.0) b end (rows_of (reads (length e.0))) i covers
+
+-- the rows that are read, cut at a border
+pub between_cut : (p : Program) (b : ℕ) (end : Border) (reads : ℕ → List Next) → Covers b end
+    → AreCutAt b (lists_between p None end reads) (lists_between p None (At b) reads) (lists_between p (Some b) end reads)
+between_cut p b end reads covers = record {
+  early = sources_cut (λ (x : Event). nat_le x.time b) (lists_in_round p reads None (At b)) (lists_in_round p reads None end)
+      (λ e. maps_cut (λ (x : Event). nat_le x.time b) (items_in_round p reads None (At b) e) (items_in_round p reads None end e) (λ i. (place_cut_of p b end reads covers e i).early) (range_with_len 0 (width e.1)))
+      (each_with_before p.sources);
+  late = sources_cut (λ (x : Event). nat_lt b x.time) (lists_in_round p reads (Some b) end) (lists_in_round p reads None end)
+      (λ e. maps_cut (λ (x : Event). nat_lt b x.time) (items_in_round p reads (Some b) end e) (items_in_round p reads None end e) (λ i. (place_cut_of p b end reads covers e i).late) (range_with_len 0 (width e.1)))
+      (each_with_before p.sources);
+}
+
+-- ---- the border of a round is later than the one before it
+list_all_true : {X : Type 0} (p : X → Bool) → ((x : X) → p x ≡ true) → (xs : List X) → list_all p xs ≡ true
+list_all_true p h [] = refl
+list_all_true p h (x ∷ xs) = both (p x) _ (h x) (list_all_true p h xs)
+
+none_between : (b t : ℕ) (rows : List Row) → t ≤ b → rows_between (Some b) (At t) rows ≡ []
+none_between b t rows le = kept_none (is_between (Some b) (At t)) rows (list_all_true _ apart rows)
+  where
+    apart_at : (time : ℕ) → not (nat_lt b time && nat_le time t) ≡ true
+    apart_at time = by_test (nat_lt b time) refl
+      where
+        by_test : (c : Bool) → nat_lt b time ≡ c → not (c && nat_le time t) ≡ true
+        by_test true e = let f : nat_le time t ≡ false = grind (arith, nat_tests) in rw f refl
+        by_test false e = refl
+
+    apart : (row : Row) → not (is_between (Some b) (At t) row) ≡ true
+    apart (EventRow time name key value) = apart_at time
+    apart (BeatRow time) = apart_at time
+    apart EndRow = refl
+
+pub later_border : (s : Source) (rows b t : ℕ) (lines : List Next) → 1 ≤ rows → is_enough rows (Some b) s lines ≡ true → settled_time s lines ≡ Some t → b < t
+later_border s rows b t lines one enough at = by_order (cases_lt b t)
+  where
+    few : nat_le rows (length (rows_between (Some b) (At t) (rows_of lines))) ≡ true
+    few = sym (ap (λ o. nat_le rows (option_map_or (λ u. length (rows_between (Some b) (At u) (rows_of lines))) o 0)) at) ∙ enough
+
+    by_order : (b < t) ⊎ (t ≤ b) → b < t
+    by_order (inl lt) = lt
+    by_order (inr ge) = let none : length (rows_between (Some b) (At t) (rows_of lines)) ≡ 0 = ap length (none_between b t (rows_of lines) ge) in absurd (grind (arith, nat_tests))
+
+covers_end : (p : Program) (rows b : ℕ) (whole before now : ℕ → List Next) (end : Border) → 1 ≤ rows → IsRound p rows (Some b) whole before now end
+    → Covers b end
+covers_end p rows b whole before now Closed one round = λ t e. refl
+covers_end p rows b whole before now (At t) one round = λ n e.
+    let reads = round.least.3 in
+    let later = later_border round.least.1 rows b t (now round.least.0) one reads.stops.1 reads.stops.2 in
+    grind (arith, nat_tests)
+
+-- ---- what was read up to the border of a round is what is read up to it in the next
+some_reads : (p : Program) (rows : ℕ) (above : Option ℕ) (whole before now : ℕ → List Next) (end : Border) → IsRound p rows above whole before now end
+    → AtEach (λ i s. (turn : Turn) × Reads p.kinds s rows above (whole i) (before i) (now i) turn) p.sources
+some_reads p rows above whole before now Closed round = λ i s e. (Shut, round i s e)
+some_reads p rows above whole before now (At t) round = λ i s e. let h = round.each i s e in (h.0, h.1)
+
+lists_keep : (p : Program) (rows b : ℕ) (above : Option ℕ) (whole before mid now : ℕ → List Next) (end : Border)
+    → IsRoundAt p rows above whole before mid b → IsRound p rows (Some b) whole mid now end
+    → lists_between p None (At b) now ≡ lists_between p None (At b) mid
+lists_keep p rows b above whole before mid now end was round =
+    flat_same _ _ (each_with_before p.sources)
+    (all_map (λ (e : List Source × Source). rows_between None (At b) (rows_of (now (length e.0))) ≡ rows_between None (At b) (rows_of (mid (length e.0)))) _ (each_with_before p.sources)
+    (λ e same. ap (lists_of_rows p.kinds e.1 (sum_by width e.0)) same)
+    (each_source (λ i s. rows_between None (At b) (rows_of (now i)) ≡ rows_between None (At b) (rows_of (mid i))) p.sources
+    (λ i s e. let h = was.each i s e in let k = some_reads p rows (Some b) whole mid now end round i s e in
+    round_keeps p.kinds s rows b above (whole i) (before i) (mid i) (now i) h.0 k.0 h.1 h.2 k.1)))
+
+-- ---- rounds in turn
+state_push : (p : Program) (s : Contents) (done : List (List (List Item))) (lists : List (List Item))
+    → state_in_turn p s (done ++ lists ∷ []) ≡ final_state p (state_in_turn p s done) lists
+state_push p s [] lists = refl
+state_push p s (l ∷ done) lists = state_push p (final_state p s l) done lists
+
+outputs_push : (p : Program) (s : Contents) (done : List (List (List Item))) (lists : List (List Item))
+    → outputs_in_turn p s (done ++ lists ∷ []) ≡ outputs_in_turn p s done ++ final_outputs p (state_in_turn p s done) lists
+outputs_push p s [] lists = append-nil (final_outputs p s lists)
+outputs_push p s (l ∷ done) lists =
+    ap (λ rest. final_outputs p s l ++ rest) (outputs_push p (final_state p s l) done lists)
+    ∙ sym (append_assoc (final_outputs p s l) (outputs_in_turn p (final_state p s l) done) (final_outputs p (state_in_turn p (final_state p s l) done) lists))
+
+reports_push : (p : Program) (s : Contents) (done : List (List (List Item))) (lists : List (List Item))
+    → reports_in_turn p s (done ++ lists ∷ []) ≡ reports_in_turn p s done ++ report p (final_outputs p (state_in_turn p s done) lists)
+reports_push p s [] lists = append-nil (report p (final_outputs p s lists))
+reports_push p s (l ∷ done) lists =
+    ap (λ rest. report p (final_outputs p s l) ++ rest) (reports_push p (final_state p s l) done lists)
+    ∙ sym (append_assoc (report p (final_outputs p s l)) (reports_in_turn p (final_state p s l) done) (report p (final_outputs p (state_in_turn p (final_state p s l) done) lists)))
+
+one_more : (p : Program) (opening : Contents) (done : List (List (List Item))) (first second whole : List (List Item)) → GiveTheFold p opening done first
+    → FoldsInTurn p opening whole first second → GiveTheFold p opening (done ++ second ∷ []) whole
+one_more p opening done first second whole h cut = record {
+  state = state_push p opening done second ∙ ap (λ s. final_state p s second) h.state ∙ sym cut.state;
+  outputs = outputs_push p opening done second ∙ ap (λ outs. outs ++ final_outputs p (state_in_turn p opening done) second) h.outputs
+      ∙ ap (λ s. final_outputs p opening first ++ final_outputs p s second) h.state ∙ sym cut.outputs;
+  reports = reports_push p opening done second ∙ ap (λ bytes. bytes ++ report p (final_outputs p (state_in_turn p opening done) second)) h.reports
+      ∙ ap (λ s. report p (final_outputs p opening first) ++ report p (final_outputs p s second)) h.state ∙ sym cut.lines;
+}
+
+pub law_of_rounds : LawOfRounds
+law_of_rounds p opening rows whole done above before now end one (Starts reads none) round = record {
+  state = refl;
+  outputs = append-nil (final_outputs p opening (lists_between p None end now));
+  reports = append-nil (report p (final_outputs p opening (lists_between p None end now)));
+}
+law_of_rounds p opening rows whole done above before now end one (GoesOn done' above' before' mid b came was) round =
+    let so_far = law_of_rounds p opening rows whole done' above' before' mid (At b) one came was in
+    let same = lists_keep p rows b above' whole before' mid now end was round in
+    let cut = folds_in_turn p opening b (lists_between p None end now) (lists_between p None (At b) now) (lists_between p (Some b) end now) (between_cut p b end now (covers_end p rows b whole mid now end one round)) in
+    one_more p opening _ (lists_between p None (At b) mid) (lists_between p (Some b) end now) (lists_between p None end now) so_far (subst (λ l. FoldsInTurn p opening (lists_between p None end now) l (lists_between p (Some b) end now)) same cut)

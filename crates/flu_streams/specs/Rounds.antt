@@ -1,0 +1,197 @@
+-- Rounds: what is read of each source before some of its rows are run, and up to which time these are (`docs/MODEL.md`).
+use Rattle.std.specs.Prelude.{◌≡◌, ℕ, ◌-◌, ◌<◌, ◌≤◌, Bool, true, false, ◌&&◌, nat_lt, nat_le, Option, Some, None, option_map, unwrap_or, List, [], ◌∷◌, ◌++◌, length, take, slice_get, sum_by, if◌then◌else◌, ⊤}
+use Rattle.std.specs.List.{filter, flat_map}
+use Rattle.std.specs.Option.{option_map_or}
+use Rattle.flu_lemmas.specs.Elements.{AtEach}
+use Rattle.flu_model.specs.declared.events.Item.{Item}
+use Rattle.flu_model.specs.declared.events.Out.{Out}
+use Rattle.flu_model.specs.declared.jobs.Kind.{Kind}
+use Rattle.flu_model.specs.declared.jobs.Source.{Source}
+use Rattle.flu_model.specs.declared.jobs.Program.{Program}
+use Rattle.flu_model.specs.Contents.{Contents}
+use Rattle.flu_model.specs.Folding.{final_state, final_outputs}
+use Rattle.flu_model.specs.Reports.{report}
+use Rattle.flu_outside.specs.Outside.{Contents as Files}
+use Rattle.flu_outside.specs.Taking.{bytes_left}
+use Rattle.flu_rows.specs.declared.row.Row.{Row}
+use Rattle.flu_rows.specs.declared.rows.Next.{Next}
+use Rattle.flu_rows.specs.declared.rows.Next.TheVariants.{Row as RowNext, Bad, TooManyLines, Done}
+use Rattle.flu_rows.specs.Reading.{read_file}
+use Rattle.flu_streams.specs.declared.border.Border.{Border}
+use Rattle.flu_streams.specs.declared.border.Border.TheVariants.{At, Closed}
+use Rattle.flu_streams.specs.declared.faults.SourceFault.{SourceFault}
+use Rattle.flu_streams.specs.declared.faults.Why.{Why}
+use Rattle.flu_streams.specs.declared.faults.Why.TheVariants.{AfterEnd}
+use Rattle.flu_streams.specs.Before.{each_with_before, first_some}
+use Rattle.flu_streams.specs.Good.{lists_of_rows, lists_of}
+use Rattle.flu_streams.specs.Tags.{width}
+use Rattle.flu_streams.specs.Tests.{rows_of, time_in, times_of, greatest, has_ended, where_true, test_tag, test_value, test_time, defect_of}
+
+-- ---- defects
+-- the tests of a row but the one on how many items are held: a round holds few
+abbrev pub row_tests : List Kind → Source → Bool → List ℕ → Row → List (Option Why)
+row_tests kinds s ended earlier row = where_true ended AfterEnd ∷ test_tag kinds s row ∷ test_value kinds row ∷ test_time s.slack earlier row ∷ []
+
+-- what a row breaks, where the source has ended or not and had these times
+abbrev pub row_fault : List Kind → Source → Bool → List ℕ → Row → Option Why
+row_fault kinds s ended earlier row = first_some (λ test. test) (row_tests kinds s ended earlier row)
+
+-- the defect of a line, or of the file's end, behind these lines
+abbrev pub line_defect : List Kind → Source → List Next → Next → Option (ℕ × Why)
+line_defect kinds s read (RowNext line row) = option_map (λ why. (line, why)) (row_fault kinds s (has_ended (rows_of read)) (times_of (rows_of read)) row)
+line_defect kinds s read (Bad line) = defect_of kinds s 0 read (Bad line)
+line_defect kinds s read TooManyLines = defect_of kinds s 0 read TooManyLines
+line_defect kinds s read (Done lines) = defect_of kinds s 0 read (Done lines)
+
+-- the first defect of some lines
+abbrev pub defect_in : List Kind → Source → List Next → Option (ℕ × Why)
+defect_in kinds s lines = first_some (λ e. line_defect kinds s e.0 e.1) (each_with_before lines)
+
+-- ---- times
+-- THE SETTLED TIME: the greatest time less the slack; none where that is below 0 or there is no time
+abbrev pub settled : ℕ → Option ℕ → Option ℕ
+settled slack None = None
+settled slack (Some last) = if nat_le slack last then Some (last - slack) else None
+
+abbrev pub settled_time : Source → List Next → Option ℕ
+settled_time s lines = settled s.slack (greatest (times_of (rows_of lines)))
+
+-- a time above a border, which may be none
+abbrev pub is_above : Option ℕ → ℕ → Bool
+is_above None t = true
+is_above (Some border) t = nat_lt border t
+
+-- a time that a round takes
+abbrev pub is_up_to : Border → ℕ → Bool
+is_up_to (At border) t = nat_le t border
+is_up_to Closed t = true
+
+-- the rows with a time above one border and up to another
+abbrev pub is_between : Option ℕ → Border → Row → Bool
+is_between above end row = unwrap_or (option_map (λ t. is_above above t && is_up_to end t) (time_in row)) false
+
+abbrev pub rows_between : Option ℕ → Border → List Row → List Row
+rows_between above end rows = filter (is_between above end) rows
+
+-- how many rows have a time above the border and at most the settled time
+abbrev pub count_settled : Option ℕ → Source → List Next → ℕ
+count_settled above s lines = option_map_or (λ u. length (rows_between above (At u) (rows_of lines))) (settled_time s lines) 0
+
+-- at least so many have
+abbrev pub is_enough : ℕ → Option ℕ → Source → List Next → Bool
+is_enough rows above s lines = nat_le rows (count_settled above s lines)
+
+-- ---- one source in a round
+-- what comes of a source in a round: it is open and settled up to this time; or closed; or its defect is met
+pub data Turn : Type 0 where
+  Open : (u : ℕ) → Turn
+  Shut : Turn
+  Meets : (row : ℕ) (why : Why) → Turn
+
+-- where the reading stops: behind enough rows; or behind all lines, or before a line with a defect, where they are not enough
+abbrev pub StopsAt : List Kind → Source → ℕ → Option ℕ → List Next → List Next → Turn → Type 0
+StopsAt kinds s rows above whole now (Open u) =
+    ((rest : List Next) × (whole ≡ now ++ rest)) × (is_enough rows above s now ≡ true) × (settled_time s now ≡ Some u)
+StopsAt kinds s rows above whole now Shut = (whole ≡ now) × (is_enough rows above s now ≡ false)
+StopsAt kinds s rows above whole now (Meets row why) =
+    ((next : Next) × (rest : List Next) × (whole ≡ now ++ next ∷ rest) × (line_defect kinds s now next ≡ Some (row, why)))
+    × (is_enough rows above s now ≡ false)
+
+-- WHAT A ROUND READS of a source, of which there are these lines in all and were read before: the shortest list of its first
+-- lines before any defect, not shorter than before, that is enough; and where there is none, all of them
+pub record Reads (kinds : List Kind) (s : Source) (rows : ℕ) (above : Option ℕ) (whole before now : List Next) (turn : Turn) : Type 0 where
+  pub more : List Next
+  pub further : now ≡ before ++ more
+  pub sound : defect_in kinds s now ≡ None
+  pub shortest : (k : ℕ) → k < length more → is_enough rows above s (before ++ take k more) ≡ false
+  pub stops : StopsAt kinds s rows above whole now turn
+
+-- ---- a round
+-- a border is not above what is settled of an open source, and no defect is met
+abbrev pub IsWithin : ℕ → Turn → Type 0
+IsWithin t (Open u) = t ≤ u
+IsWithin t Shut = ⊤
+IsWithin t (Meets row why) = ⊥
+
+-- a round with a new border: no defect is met, and the border is the least of what is settled of the open sources
+pub record IsRoundAt (p : Program) (rows : ℕ) (above : Option ℕ) (whole before now : ℕ → List Next) (t : ℕ) : Type 0 where
+  pub each : AtEach (λ i s. (turn : Turn) × Reads p.kinds s rows above (whole i) (before i) (now i) turn × IsWithin t turn) p.sources
+  pub least : (i : ℕ) × (s : Source) × (slice_get p.sources i ≡ Some s)
+      × Reads p.kinds s rows above (whole i) (before i) (now i) (Open t)
+
+-- A ROUND above a border, of sources of which there are these lines in all, by the source's number; these were read before it,
+-- and these are in it. The last round is the one in which all sources are closed.
+abbrev pub IsRound : Program → ℕ → Option ℕ → (ℕ → List Next) → (ℕ → List Next) → (ℕ → List Next) → Border → Type 0
+IsRound p rows above whole before now (At t) = IsRoundAt p rows above whole before now t
+IsRound p rows above whole before now Closed = AtEach (λ i s. Reads p.kinds s rows above (whole i) (before i) (now i) Shut) p.sources
+
+-- no defect is met
+abbrev pub IsPassed : Turn → Type 0
+IsPassed (Open u) = ⊤
+IsPassed Shut = ⊤
+IsPassed (Meets row why) = ⊥
+
+-- THE DEFECT OF A ROUND: that of the first source, as declared, whose defect is met
+pub record IsRoundFault (p : Program) (rows : ℕ) (above : Option ℕ) (whole before : ℕ → List Next) (f : SourceFault) : Type 0 where
+  pub now : ℕ → List Next
+  pub earlier : AtEach (λ i s. i < f.source
+      → (turn : Turn) × Reads p.kinds s rows above (whole i) (before i) (now i) turn × IsPassed turn) p.sources
+  pub source : (s : Source) × (slice_get p.sources f.source ≡ Some s)
+      × Reads p.kinds s rows above (whole f.source) (before f.source) (now f.source) (Meets f.row f.why)
+
+-- ---- the rows of a round
+-- the lists of the rows above one border and up to another, among these lines of each source: for each itag its events and the
+-- heartbeats of its source, sorted by time, and the end
+abbrev pub lists_between : Program → Option ℕ → Border → (ℕ → List Next) → List (List Item)
+lists_between p above end reads =
+    flat_map (λ e. lists_of_rows p.kinds e.1 (sum_by width e.0) (rows_between above end (rows_of (reads (length e.0))))) (each_with_before p.sources)
+
+-- ROUNDS ONE AFTER ANOTHER, from the first on, each with a new border: the lists of each, the border that they come to, and what
+-- is read by then
+pub data ComesTo (p : Program) (rows : ℕ) (whole : ℕ → List Next) : List (List (List Item)) → Option ℕ → (ℕ → List Next) → Type 0 where
+  Starts : (reads : ℕ → List Next) → ((i : ℕ) → reads i ≡ []) → ComesTo p rows whole [] None reads
+  GoesOn : (done : List (List (List Item))) (above : Option ℕ) (before now : ℕ → List Next) (t : ℕ)
+      → ComesTo p rows whole done above before
+      → IsRoundAt p rows above whole before now t → ComesTo p rows whole (done ++ lists_between p above (At t) now ∷ []) (Some t) now
+
+-- ---- the fold of rounds
+-- the state behind the folds of some lists, each from the state behind the one before it
+abbrev pub state_in_turn : Program → Contents → List (List (List Item)) → Contents
+state_in_turn p s [] = s
+state_in_turn p s (lists ∷ rest) = state_in_turn p (final_state p s lists) rest
+
+-- their outputs, one after another
+abbrev pub outputs_in_turn : Program → Contents → List (List (List Item)) → List Out
+outputs_in_turn p s [] = []
+outputs_in_turn p s (lists ∷ rest) = final_outputs p s lists ++ outputs_in_turn p (final_state p s lists) rest
+
+-- their reports, one after another
+abbrev pub reports_in_turn : Program → Contents → List (List (List Item)) → List ℕ
+reports_in_turn p s [] = []
+reports_in_turn p s (lists ∷ rest) = report p (final_outputs p s lists) ++ reports_in_turn p (final_state p s lists) rest
+
+-- some lists, folded in turn, give what one fold of other lists gives
+pub record GiveTheFold (p : Program) (opening : Contents) (done : List (List (List Item))) (lists : List (List Item)) : Type 0 where
+  pub state : state_in_turn p opening done ≡ final_state p opening lists
+  pub outputs : outputs_in_turn p opening done ≡ final_outputs p opening lists
+  pub reports : reports_in_turn p opening done ≡ report p (final_outputs p opening lists)
+
+-- LAW OF ROUNDS: the rounds up to any one, folded in turn, give the fold of all rows that were read up to the new border; behind
+-- the last round these are all rows
+abbrev pub LawOfRounds : Type 0
+LawOfRounds =
+    (p : Program) (opening : Contents) (rows : ℕ) (whole : ℕ
+    → List Next) (done : List (List (List Item))) (above : Option ℕ) (before now : ℕ → List Next) (end : Border)
+    → 1 ≤ rows → ComesTo p rows whole done above before → IsRound p rows above whole before now end
+    → GiveTheFold p opening (done ++ lists_between p above end now ∷ []) (lists_between p None end now)
+
+-- these are the lines of the files of all sources
+abbrev pub LinesIn : Program → Files → (ℕ → List Next) → Type 0
+LinesIn p left whole = AtEach (λ i s. whole i ≡ read_file (bytes_left left s.file)) p.sources
+
+-- THE LAST ROUND: behind it the rows that were read are all rows of the sources' files, and their lists are those of a whole reading
+abbrev pub LawOfLastRound : Type 0
+LawOfLastRound =
+    (p : Program) (rows : ℕ) (above : Option ℕ) (whole before now : ℕ → List Next) (left : Files) → LinesIn p left whole
+    → IsRound p rows above whole before now Closed
+    → lists_between p None Closed now ≡ lists_of p left
