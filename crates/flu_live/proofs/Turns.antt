@@ -1,5 +1,6 @@
 -- What a step keeps of a net, and what it adds to the counts.
 use Rattle.std.proofs.Common.{◌≡◌, ◌+◌, ◌^◌, ◌<◌, ◌≤◌, ℕ, true, false, List, length, get_or, refl, sym, ap, subst, ◌∙◌, arith}
+use Rattle.flu_draw.specs.Draws.{next_draw}
 use Rattle.flu_fork.specs.declared.content.Content.{Content}
 use Rattle.flu_net.specs.declared.steps.Step.{Step}
 use Rattle.flu_net.specs.declared.steps.Step.TheVariants.{Arrive, Handle, Ask, Take, Give, Hold, Lend}
@@ -13,7 +14,7 @@ use Rattle.flu_live.specs.declared.counts.StepCounts.{StepCounts}
 use Rattle.flu_live.specs.Counting.{steps_in}
 use Rattle.flu_live.specs.Drawing.{IsOnItsWay}
 use Rattle.flu_net.specs.Measure.{most_steps, steps_left}
-use Rattle.flu_live.specs.Seeded.{IsDrawn, Reaches, begun, counting, made, marked, next_draw, no_steps}
+use Rattle.flu_live.specs.Seeded.{IsDrawn, Reaches, begun, counting, made, marked, no_steps}
 use Rattle.flu_live.specs.Possible.{all_steps, enabled_steps}
 use Rattle.flu_live.specs.declared.simulating.Drawing.{Drawing}
 use Rattle.flu_net.specs.Starting.{IsStart}

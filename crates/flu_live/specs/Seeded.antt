@@ -1,5 +1,6 @@
 -- THE SEEDED SCHEDULE: which step a seed draws at each moment, and what the run of these steps counts.
-use Rattle.std.specs.Prelude.{◌≡◌, ℕ, ◌+◌, ◌*◌, ◌/◌, ◌%◌, ◌^◌, Some, [], length, slice_get}
+use Rattle.std.specs.Prelude.{◌≡◌, ℕ, ◌+◌, ◌*◌, ◌%◌, ◌^◌, Some, [], length, slice_get}
+use Rattle.flu_draw.specs.Draws.{next_draw, draw_of}
 use Rattle.flu_fork.specs.declared.content.Content.{Content}
 use Rattle.flu_net.specs.declared.steps.Step.{Step}
 use Rattle.flu_net.specs.declared.steps.Step.TheVariants.{Arrive, Handle, Ask, Take, Give, Hold, Lend}
@@ -11,13 +12,9 @@ use Rattle.flu_live.specs.Possible.{enabled_steps}
 
 -- ---- numbers
 
--- the number that is drawn after x; the first one is drawn after the seed
-unfoldable pub next_draw : ℕ → ℕ
-next_draw x = (x * 1103515245 + 12345) % 2 ^ 31
-
 -- the place, from 0, that a drawn number gives among so many steps
 unfoldable pub place_of : ℕ → ℕ → ℕ
-place_of x count = x / 65536 % count
+place_of x count = draw_of x % count
 
 -- the mark, once the step at a place was made
 unfoldable pub marked : ℕ → ℕ → ℕ

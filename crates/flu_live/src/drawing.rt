@@ -1,25 +1,20 @@
-//! The numbers that a seed draws.
+//! Places and marks of drawn steps.
 
 ghost use Rattle.std.specs.Prelude.{◌≡◌, ◌^◌, ◌<◌};
-ghost use Rattle.flu_live.specs.Seeded.{next_draw, place_of, marked};
+ghost use Rattle.flu_live.specs.Seeded.{place_of, marked};
 
-/// The number that is drawn after x; the first one is drawn after the seed.
-pub fn next_draw(x: u32) -> u32
-    requires { x < 2 ^ 31 }
-    ensures value { result ≡ next_draw x }
-    ensures small { result < 2 ^ 31 }
-{
-    ((u64::from(x) * 1_103_515_245 + 12_345) % 2_147_483_648) as u32
-}
+use flu_draw::draw_of;
 
 /// The place, from 0, that a drawn number gives among so many steps.
+#[tactic(auto, unfolding(crate::specs::Seeded::place_of))]
 pub fn place_of(x: u32, count: usize) -> usize
-    requires { 0 < count }
+    requires some { 0 < count }
+    requires small { x < 2 ^ 31 }
     ensures value { result ≡ place_of x count }
     ensures there { result < count }
     ensures small { result < 65536 }
 {
-    (x / 65_536) as usize % count
+    draw_of(x) as usize % count
 }
 
 /// The mark, once the step at a place was made.

@@ -14,9 +14,10 @@ ghost use Rattle.flu_live.specs.Seeded.{IsSeeded};
 
 use crate::bounding::bound;
 use crate::counts::StepCounts;
-use crate::drawing::{marked, next_draw, place_of};
+use crate::drawing::{marked, place_of};
 use crate::possible::{all_steps, put_enabled};
 use flu_cells::State;
+use flu_draw::next_draw;
 use flu_fork::Case;
 use flu_model::Outs;
 use flu_net::{Net, Step, StepFault};

@@ -1,6 +1,6 @@
 use Rattle.std.proofs.Common.{◌≡◌, ◌+◌, ◌*◌, ◌%◌, ap}
-use Rattle.flu_live.specs.Seeded.{next_draw}
-use Rattle.flu_live.proofs.drawing.next_draw.Goals as goal
+use Rattle.flu_draw.specs.Draws.{next_draw}
+use Rattle.flu_draw.proofs.next_draw.Goals as goal
 
 pub returns-clause-value : goal.returns-clause-value
 unfolding next_draw

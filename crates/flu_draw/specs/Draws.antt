@@ -1,0 +1,10 @@
+-- DRAWS: the run of numbers that a seed determines.
+use Rattle.std.specs.Prelude.{ℕ, ◌+◌, ◌*◌, ◌/◌, ◌%◌, ◌^◌}
+
+-- the number behind x; the first one is behind the seed
+unfoldable pub next_draw : ℕ → ℕ
+next_draw x = (x * 1103515245 + 12345) % 2 ^ 31
+
+-- what a number of the run draws: its upper bits, of which the lower ones repeat too soon
+unfoldable pub draw_of : ℕ → ℕ
+draw_of x = x / 65536

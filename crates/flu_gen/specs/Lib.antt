@@ -1,0 +1,3 @@
+pub mod DemoJob
+pub mod DemoStreams
+pub mod Laws
