@@ -23,8 +23,8 @@ lines_in bytes = count_by (λ c. c == 10) bytes
 -- the summary of the report of so many events: how many lines and bytes it has
 abbrev pub summary : ℕ → List ℕ → List ℕ
 summary events report =
-    codes "demo events " ++ decimal events ++ codes " lines " ++ decimal (lines_in report) ++ codes " bytes " ++ decimal (length report)
-    ++ codes "\n"
+    codes "demo events " ++ (decimal events ++ (codes " lines " ++ (decimal (lines_in report)
+    ++ (codes " bytes " ++ (decimal (length report) ++ codes "\n")))))
 
 -- the summary of the report of the fold of all events that a seed draws, n of them and the ticks, from the empty state
 unfoldable pub demo_summary : ℕ → ℕ → Program → List ℕ

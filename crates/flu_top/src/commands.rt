@@ -53,7 +53,7 @@ pub fn run<F: Files, G: Gate, R: Threads + Wait + Sync>(
         Command::Simulate { job, plan, seed } => {
             return simulate_planned(alloc, files, job, plan, seed);
         }
-        Command::Demo { n, seed } => demo(rt, alloc, n, seed, gate),
+        Command::Demo { n, seed } => return demo(rt, alloc, n, seed, gate),
     };
     match text {
         Ok(text) => Ok(Product { text, steps: None }),

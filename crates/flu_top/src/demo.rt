@@ -1,13 +1,16 @@
 //! `demo N SEED`: the summary of a run over events that a seed draws.
 
-ghost use Rattle.std.specs.Prelude.{◌≡◌, ◌==◌, [], count_by, length, IfOk, IfErr};
+ghost use Rattle.std.specs.Prelude.{◌≡◌, ◌==◌, count_by, length, IfOk, IfErr};
 ghost use Rattle.flu_outside.specs.Outside.{Contents};
 ghost use Rattle.flu_words.specs.Words.{Demo};
 ghost use Rattle.flu_top.specs.declared.refusals.Refusal.{Refusal};
 ghost use Rattle.flu_top.specs.Demos.{summary, lines_in};
+ghost use Rattle.flu_top.specs.Wants.{want};
 ghost use Rattle.flu_top.specs.Done.{IsWritten};
+ghost use Rattle.flu_top.specs.Products.{line_said, MaySay};
 
 use crate::planned::planned_greedily;
+use crate::products::Product;
 use crate::refusals::Refusal;
 use crate::running::tree_report;
 use flu_gen::{demo_job, demo_streams};
@@ -25,8 +28,9 @@ pub fn demo<G: Gate, R: Threads + Wait + Sync>(
     draws: Draws,
     seed: Seed,
     gate: &G,
-) -> Result<Text, Refusal>
-    ensures written { IfOk result (λ text. (left : Contents) → IsWritten (Demo draws.count seed.number) text [] left left) }
+) -> Result<Product, Refusal>
+    ensures written { IfOk result (λ product. (left : Contents) → IsWritten (Demo draws.count seed.number) product.text (line_said product.steps) left left) }
+    ensures says { IfOk result (λ product. MaySay (want (Demo draws.count seed.number)).says product.steps) }
     ensures refused { IfErr result (λ refusal. refusal ≡ Refusal.NoMemory) }
 {
     let program = demo_job(alloc)?;
@@ -38,7 +42,7 @@ pub fn demo<G: Gate, R: Threads + Wait + Sync>(
     let report = tree_report(rt, alloc, &planned, &streams, gate)?;
     let n = u64::from(draws.count);
     let text = summary(alloc, n + n / 1000 + 1, report.as_str())?;
-    Ok(text)
+    Ok(Product { text, steps: None })
 }
 
 // The summary of the report of so many events.

@@ -13,9 +13,6 @@ returns-in-Err-clause-refused g c = only_memory c.in_ok-program.program c.in-Err
 pub demo_streams-requires-clause-job : goal.demo_streams-requires-clause-job
 demo_streams-requires-clause-job g c = subst IsDemoJob (sym (c.program.ensures ∙ c.in-Ok.ensures.same)) c.in_ok-program.ensures
 
-pub tree_report-requires-clause-lists : goal.tree_report-requires-clause-lists
-tree_report-requires-clause-lists g c = c.in_ok-streams.ensures.one_each ∙ ap count_of_itags c.program.ensures
-
 pub returns-clause-written : goal.returns-clause-written
 returns-clause-written g c =
     let n = c.args.draws.count in
@@ -23,4 +20,4 @@ returns-clause-written g c =
     let demo = subst IsDemoJob (sym c.in-Ok.ensures.same) c.in_ok-program.ensures in
     λ left. is_shown n c.args.seed.number p c.in_ok-text.text left demo c.in-Ok.ensures.accepted
     (is_summary n c.args.seed.number _ p (listed c.in_ok-streams.streams) c.as_str.result.now c.in_ok-text.text c.in_ok-streams.ensures.lists
-    (c.in_ok-streams.ensures.events ∙ ap (λ m. m + m / 1000 + 1) (sym c.from.ensures)) (c.as_str.ensures ∙ c.in_ok-report.ensures) c.in_ok-text.ensures)
+    (c.in_ok-streams.ensures.events ∙ ap (λ m. m + m / 1000 + 1) (sym c.from-n.ensures)) (c.as_str.ensures ∙ c.in_ok-report.ensures) c.in_ok-text.ensures)
