@@ -6,8 +6,8 @@ Usage: docs/definitions.py [--files]
 These are the files in `specs/` that declare a name of the contract, all files in `specs/` that those import, and so on; no proof is among
 them. The types of the code that they speak of are declared in `src/`, and those files are counted apart. Lines are counted without empty
 ones, comments and imports. The table has a row for each crate; with `--files` a line for each file is printed in its place. The last lines say
-how many of these only the first faults of texts and the step line of `simulate` need: what is not cited any more where
-`flu_top/specs/TextFaults.antt` or `Simulating.antt` is left out.
+how many of these only the first faults of texts, the step line of `simulate` and the demo need: what is not cited any more where
+`flu_top/specs/TextFaults.antt`, `Simulating.antt` or `Demos.antt` is left out.
 """
 import re
 import sys
@@ -18,6 +18,7 @@ CALL = CRATES / "flu_top" / "src" / "top.rt"
 PARTS = {
     "the first faults of texts": CRATES / "flu_top" / "specs" / "TextFaults.antt",
     "the step line of `simulate`": CRATES / "flu_top" / "specs" / "Simulating.antt",
+    "`demo`": CRATES / "flu_top" / "specs" / "Demos.antt",
 }
 NAMES = re.compile(r"^\s*(?:ghost |pub )*use Rattle\.([\w.]+)\.\{([^}]*)\}", re.M)
 WHOLE = re.compile(r"^\s*(?:ghost |pub )*use Rattle\.([\w.]+)(?: as \w+)?;?$", re.M)

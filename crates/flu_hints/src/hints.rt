@@ -14,6 +14,7 @@ const USAGE: &str = "  flumina fold JOB
   flumina plan JOB [--depth D]
   flumina run JOB [PLAN]
   flumina simulate JOB PLAN SEED
+  flumina demo N SEED
   flumina --help
 ";
 

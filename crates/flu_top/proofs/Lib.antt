@@ -10,6 +10,8 @@ pub mod Validations
 pub mod Plannings
 pub mod Runnings
 pub mod Simulations
+pub mod DemoAccepted
+pub mod Demos
 pub mod SharedCases
 pub mod RateLemmas
 pub mod SameJob
@@ -20,3 +22,4 @@ pub mod Completeness
 pub mod Outcomes
 pub mod Statuses
 pub mod LawsOfOutcome
+pub mod LawsOfDemos

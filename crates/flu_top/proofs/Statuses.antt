@@ -144,7 +144,7 @@ nothing_written words old new status (cases.WriteFailed is command word partly s
 nothing_written words old new status (cases.NoMemory is command word refused) some other = refused.nothing
 
 -- words that are no command have status 2, and no others
-no_command : (words : List (List ℕ)) (command : Command) (at : ℕ) → command_in words ≡ Ok command → command_in words ≡ Err at → ⊥
+pub no_command : (words : List (List ℕ)) (command : Command) (at : ℕ) → command_in words ≡ Ok command → command_in words ≡ Err at → ⊥
 no_command words command at is bad = let e = sym is ∙ bad in cc
 
 same_place : (words : List (List ℕ)) (a b : ℕ) → command_in words ≡ Err a → command_in words ≡ Err b → a ≡ b
@@ -166,7 +166,7 @@ bad_words_exactly words old new status outcome =
     (λ is. let found = at_2 words old new status outcome is in (found.0, found.1), λ bad. (of_no_command words old new status outcome bad.0 bad.1).0)
 
 -- ---- what is said where a command is done
-same_command : (words : List (List ℕ)) (a b : Command) → command_in words ≡ Ok a → command_in words ≡ Ok b → a ≡ b
+pub same_command : (words : List (List ℕ)) (a b : Command) → command_in words ≡ Ok a → command_in words ≡ Ok b → a ≡ b
 same_command words a b first second = let e = sym first ∙ second in cc
 
 heard_nothing : (says : Saying) (old new : Outside) (line : List ℕ) → IsTrue (is_nothing says) → Hears says old new line → new.err ≡ old.err

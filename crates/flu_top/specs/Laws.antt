@@ -2,13 +2,15 @@
 use Rattle.std.specs.Prelude.{◌≡◌, ◌≢◌, ◌↔◌, ◌⊎◌, ℕ, List, [], ◌∷◌, Contains, IsTrue, Option, Some, Ok, Err}
 use Rattle.flu_outside.specs.Outside.{Contents, WhereTold, Rose}
 use Rattle.flu_outside.specs.Taking.{bytes_left, TookFronts}
+use Rattle.flu_outside.specs.Writing.{AppendsAll}
+use Rattle.flu_model.specs.Erasure.{job_of}
 use Rattle.flu_model.specs.declared.jobs.Program.{Program}
 use Rattle.flu_model.specs.Modes.{IsAccepted}
 use Rattle.flu_parse.specs.declared.faults.JobFault.{JobFault}
 use Rattle.flu_check.specs.declared.CheckFault.{CheckFault}
 use Rattle.flu_streams.specs.declared.faults.SourceFault.{SourceFault}
 use Rattle.flu_top.specs.declared.refusals.PlanDefect.{PlanDefect}
-use Rattle.flu_words.specs.Words.{Command, Simulate, command_in}
+use Rattle.flu_words.specs.Words.{Command, Simulate, Demo, command_in}
 use Rattle.flu_top.specs.Taking.{TookOnly}
 use Rattle.flu_top.specs.Behind.{Named, HasJob, fault_behind}
 use Rattle.flu_top.specs.TextFaults.{IsFirstJobFault}
@@ -17,6 +19,7 @@ use Rattle.flu_top.specs.Done.{HasValidPlan, HasPlanAsked, IsGood, IsDone, IsPar
 use Rattle.flu_top.specs.Causes.{HasJobFault, HasConflict, HasPlanDefect, HasSourceFault}
 use Rattle.flu_top.specs.Names.{source_name}
 use Rattle.flu_top.specs.Simulating.{IsLineOfRun, IsStepLine}
+use Rattle.flu_top.specs.Demos.{demo_job, demo_summary}
 use Rattle.flu_top.specs.Lines.{bad_words_line, job_fault_line, conflict_line, plan_defect_line, source_fault_line, read_fault_line, write_fault_line, no_memory_line}
 use Rattle.flu_top.specs.Outcome.{Outside, Said, Hears, Outcome, ReadOnly, FaultsFirst, CallsFor, NothingFailed, Completes}
 
@@ -131,6 +134,27 @@ NoMemoryLine =
 abbrev pub NothingIsWritten : Type 0
 NothingIsWritten =
     (words : List (List ℕ)) (old new : Outside) (status : ℕ) → Outcome words old new status → status ≢ 0 → status ≢ 8 → new.out ≡ old.out
+
+-- ---- demo
+-- `demo` reads no file
+abbrev pub DemoReadsNothing : Type 0
+DemoReadsNothing =
+    (words : List (List ℕ)) (n seed : ℕ) → command_in words ≡ Ok (Demo n seed)
+    → (left : Option Contents) (name : List ℕ) → ¬ IsReadBy words left name
+
+-- `demo` has status 0, 8 or 9
+abbrev pub DemoStatuses : Type 0
+DemoStatuses =
+    (words : List (List ℕ)) (old new : Outside) (status : ℕ) (before now : List ℕ → ℕ) (out_before out_now : ℕ)
+    → Outcome words old new status → FaultsFirst words old.left before now out_before out_now status
+    → (n seed : ℕ) → command_in words ≡ Ok (Demo n seed) → Contains (0 ∷ 8 ∷ 9 ∷ []) status
+
+-- status 0 of `demo`: out gets the summary of the report of what the seed draws, whatever the files hold and tell
+abbrev pub DemoIsDone : Type 0
+DemoIsDone =
+    (words : List (List ℕ)) (old new : Outside) (status : ℕ) → Outcome words old new status → status ≡ 0
+    → (n seed : ℕ) → command_in words ≡ Ok (Demo n seed)
+    → (p : Program) × (job_of p ≡ demo_job) × WhereTold old.out new.out (AppendsAll (demo_summary n seed p))
 
 -- ---- what was read
 -- bytes are taken from the front of names

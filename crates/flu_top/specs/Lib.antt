@@ -3,6 +3,7 @@ pub mod Behind
 pub mod TextFaults
 pub mod Rates
 pub mod Simulating
+pub mod Demos
 pub mod Wants
 pub mod Products
 pub mod Done

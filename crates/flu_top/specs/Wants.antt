@@ -9,9 +9,10 @@ use Rattle.flu_plan.specs.Printing.{printed}
 use Rattle.flu_planner.specs.Plans.{IsGreedyPlan}
 use Rattle.flu_streams.specs.Files.{files_of}
 use Rattle.flu_words.specs.Words.{Command, Fold, Check, Valid, Plan, Run, Simulate, Demo}
-use Rattle.flu_top.specs.Behind.{WantedJob, Named, HasPlan, job_files, report_behind}
+use Rattle.flu_top.specs.Behind.{WantedJob, Named, Fixed, HasPlan, job_files, report_behind}
 use Rattle.flu_top.specs.Rates.{source_rates}
 use Rattle.flu_top.specs.Simulating.{IsLineOfRun, IsStepLine}
+use Rattle.flu_top.specs.Demos.{demo_job, demo_summary}
 
 -- this is the text of the greedy plan of all itags of a job at a depth, where an itag has its source's rate
 pub record IsGreedyText (p : Program) (depth : ℕ) (text : List ℕ) : Type 0 where
@@ -51,7 +52,8 @@ pub record Want : Type 1 where
   pub says : Saying
 
 -- the report of the fold; the normal form of the job; the normal form of the plan; the text of a greedy plan; the report of
--- the fold again, which a run on the tree of threads gives too, and so does a run on the net, whose steps are said on err
+-- the fold again, which a run on the tree of threads gives too, and so does a run on the net, whose steps are said on err;
+-- the summary of the report of what a seed draws, for which no file is read
 abbrev pub want : Command → Want
 want (Fold job) = record {
   job = Named job;
@@ -102,11 +104,11 @@ want (Simulate job plan seed) = record {
   says = Line (IsLineOfRun job plan seed) IsStepLine;
 }
 want (Demo n seed) = record {
-  job = Named [];
+  job = Fixed demo_job;
   accepted = true;
   plan = None;
   sources = false;
-  writes = λ left p text. ⊥;
+  writes = λ left p text. text ≡ demo_summary n seed p;
   says = Nothing;
 }
 

@@ -11,6 +11,7 @@ ghost use Rattle.flu_top.specs.Done.{IsReadName, IsWritten, WhereKnown};
 ghost use Rattle.flu_top.specs.Refusing.{IsRefusal};
 
 use crate::checking::check_job;
+use crate::demo::demo;
 use crate::folding::fold_job;
 use crate::planning::plan_job;
 use crate::products::Product;
@@ -52,7 +53,7 @@ pub fn run<F: Files, G: Gate, R: Threads + Wait + Sync>(
         Command::Simulate { job, plan, seed } => {
             return simulate_planned(alloc, files, job, plan, seed);
         }
-        Command::Demo { .. } => Err(Refusal::NoMemory),
+        Command::Demo { n, seed } => return demo(rt, alloc, n, seed, gate),
     };
     match text {
         Ok(text) => Ok(Product { text, steps: None }),

@@ -1,7 +1,7 @@
 //! What follows from the outcome of a call of `flumina`: what each status says by itself, what was read, and what comes where nothing
 //! failed. Each law is the contract of a function that does nothing.
 
-ghost use Rattle.flu_top.specs.Laws.{KnownStatuses, DoneIsDone, DoneIsQuiet, SimulationIsHeard, BadWordsExactly, BadWordsLine, BadWordsTouchNothing, JobFaultIsFirst, ConflictIsFirst, PlanDefectIsFirst, SourceFaultIsFirst, ReadFaultRose, ReadFaultLine, WriteFaultRose, WriteFaultIsPart, WriteFaultLine, NoMemoryLine, NothingIsWritten, FrontsAreTaken, NoOtherIsRead, GoodIsDone, JobFaultIsRefused, ConflictIsRefused, PlanDefectIsRefused, SourceFaultIsRefused, CompletesByFaults, CallsForOneStatus};
+ghost use Rattle.flu_top.specs.Laws.{KnownStatuses, DoneIsDone, DoneIsQuiet, SimulationIsHeard, DemoReadsNothing, DemoStatuses, DemoIsDone, BadWordsExactly, BadWordsLine, BadWordsTouchNothing, JobFaultIsFirst, ConflictIsFirst, PlanDefectIsFirst, SourceFaultIsFirst, ReadFaultRose, ReadFaultLine, WriteFaultRose, WriteFaultIsPart, WriteFaultLine, NoMemoryLine, NothingIsWritten, FrontsAreTaken, NoOtherIsRead, GoodIsDone, JobFaultIsRefused, ConflictIsRefused, PlanDefectIsRefused, SourceFaultIsRefused, CompletesByFaults, CallsForOneStatus};
 
 use flu_grammar::laws::{jobs_are_grammar, plans_are_grammar};
 
@@ -17,6 +17,14 @@ pub fn of_done()
     ensures done { DoneIsDone }
     ensures quiet { DoneIsQuiet }
     ensures steps { SimulationIsHeard }
+{}
+
+/// `demo` reads no file, so that no file can refuse it: its status is 0, 8 or 9. At status 0 the summary of the report of what the seed
+/// draws stands in out, whatever the files hold and tell.
+pub fn of_demos()
+    ensures reads { DemoReadsNothing }
+    ensures statuses { DemoStatuses }
+    ensures done { DemoIsDone }
 {}
 
 /// Status 2 comes exactly where the words are no command, with its line, and then no file is read.

@@ -4,6 +4,7 @@
 mod backup;
 mod checking;
 mod commands;
+mod demo;
 mod folding;
 pub mod laws;
 mod lines;

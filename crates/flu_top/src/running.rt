@@ -106,8 +106,8 @@ fn report_of<F: Files, G: Gate, R: Threads + Wait + Sync>(
     Ok(report)
 }
 
-// The report of a run of some streams from the empty state on the tree of threads.
-fn tree_report<G: Gate, R: Threads + Wait + Sync>(
+/// The report of a run of some streams from the empty state on the tree of threads.
+pub fn tree_report<G: Gate, R: Threads + Wait + Sync>(
     rt: &R,
     alloc: Global,
     planned: &Planned,

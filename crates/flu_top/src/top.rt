@@ -32,15 +32,16 @@ use std::thread::Threads;
 /// that is valid for it, or takes its greedy plan of depth 3, reads the sources, runs the events on a thread for each
 /// node of the plan and writes the report of the fold. `simulate JOB PLAN SEED` reads such a job, a plan that is valid
 /// for it and the sources, runs the events on the net of the plan by the steps that the seed draws, writes the report
-/// of the fold, and then says on `err` how many steps of each kind there were, with their mark. Status 0: all was
-/// written. Else the line of the answer goes to `err`, and a failure of `err` changes no status: 2 for words that are
-/// no command, 3 for a job text with a fault, 4 for a job that is not accepted, 5 for a plan text with a fault or a
-/// plan that is not valid, 6 for a source with a defect, 7 where a file that was read failed, 8 where `out` failed, 9
-/// where there was no memory. `docs/LANGUAGE.md` has the forms and the lines, and `docs/TRUST.md` what is to be
-/// believed.
+/// of the fold, and then says on `err` how many steps of each kind there were, with their mark. `demo N SEED` reads no
+/// file: it runs the job of a demo, as `run` does, over N events that the seed draws and the ticks of a clock, and
+/// writes how many events there were and how many lines and bytes their report has. Status 0: all was written. Else the
+/// line of the answer goes to `err`, and a failure of `err` changes no status: 2 for words that are no command, 3 for a
+/// job text with a fault, 4 for a job that is not accepted, 5 for a plan text with a fault or a plan that is not valid,
+/// 6 for a source with a defect, 7 where a file that was read failed, 8 where `out` failed, 9 where there was no
+/// memory. `docs/LANGUAGE.md` has the forms and the lines, and `docs/TRUST.md` what is to be believed.
 ///
-/// Each worker of a run passes the gate before and after each of its updates. `run` alone starts threads, and waits for
-/// them: what is said here holds where the call returns.
+/// Each worker of a run passes the gate before and after each of its updates. `run` and `demo` alone start threads, and
+/// wait for them: what is said here holds where the call returns.
 pub fn flumina<F: Files, K: Sink, E: Sink, G: Gate, R: Threads + Wait + Sync>(
     rt: &R,
     alloc: Global,

@@ -15,11 +15,12 @@ pub const HELP: &str =
   flumina plan JOB [--depth D]   write a plan, with at most D levels below its root: 0 to 6, or 3
   flumina run JOB [PLAN]         run the job on a thread for each node of the plan, or of a made one, write the report
   flumina simulate JOB PLAN SEED run the job by the steps that a seed draws, write the report, then count the steps
+  flumina demo N SEED            run a job of page views over N events that a seed draws, write one line that sums up
   flumina --help                 write this
   flumina --version              write the version and the toolchain that proves it
 
-JOB and PLAN are names of files, and SEED is a number from 0 to 2147483647. Names in a job, as that of a file, are
-looked up in the working folder.
+JOB and PLAN are names of files, SEED is a number from 0 to 2147483647, and N one from 0 to 1000000. Names in a job,
+as that of a file, are looked up in the working folder.
 
 Status 0: written. Each other one has a line on standard error: 2 the words are no command, 3 the job's text has a
 fault, 4 tags conflict that are not declared dependent, 5 the plan has a fault or is not valid, 6 a source has a

@@ -1,0 +1,62 @@
+-- The laws of demos: no file is read, and so no file refuses them.
+use Rattle.std.proofs.Common.{◌≡◌, refl, sym, ◌∙◌, subst, ℕ, List, Option, Some, None, inl, inr, arith}
+use Rattle.std.proofs.lemmas.Bool.{false≢true}
+use Rattle.flu_outside.specs.Outside.{Contents, WhereTold}
+use Rattle.flu_outside.specs.Writing.{AppendsAll}
+use Rattle.flu_model.specs.Erasure.{Job}
+use Rattle.flu_words.specs.Words.{Command, Demo}
+use Rattle.flu_top.specs.declared.refusals.PlanDefect.{PlanDefect}
+use Rattle.flu_top.specs.declared.refusals.PlanDefect.TheVariants as defects
+use Rattle.flu_top.specs.Behind.{Named, Fixed}
+use Rattle.flu_top.specs.Causes.{HasJobFault, HasConflict, HasPlanDefect, HasSourceFault}
+use Rattle.flu_top.specs.Demos.{demo_job}
+use Rattle.flu_top.specs.Done.{IsDone, WhereKnown, IsReadName}
+use Rattle.flu_top.specs.Laws.{DemoReadsNothing, DemoStatuses, DemoIsDone}
+use Rattle.flu_top.specs.Outcome as cases
+use Rattle.flu_top.specs.Wants.{job_wanted}
+use Rattle.flu_top.proofs.Statuses.{same_command, no_command, at_0}
+
+fixed_has_no_name : (job : Job) (name : List ℕ) → Fixed job ≡ Named name → ⊥
+fixed_has_no_name job name e = cc
+
+no_plan : (o : Option (List ℕ)) (plan : List ℕ) → o ≡ None → o ≡ Some plan → ⊥
+no_plan o plan none some = let e = sym none ∙ some in cc
+
+no_defect : (n seed : ℕ) (old new : Option Contents) (defect : PlanDefect) → HasPlanDefect (Demo n seed) old new defect → ⊥
+no_defect n seed old new (defects.Text fault) why = no_plan None why.plan refl why.asked
+no_defect n seed old new (defects.Invalid checked fault) why = no_plan None why.plan refl why.asked
+
+not_read : (n seed : ℕ) (left : Option Contents) (name : List ℕ) → IsReadName left (Demo n seed) name → ⊥
+not_read n seed left name (inl named) = fixed_has_no_name demo_job name named
+not_read n seed left name (inr found) = absurd (omega (arith, found.3.1))
+
+pub reads_law : DemoReadsNothing
+reads_law words n seed word left name read =
+    not_read n seed left name (subst (λ (d : Command). IsReadName left d name) (same_command words read.0 (Demo n seed) read.1 word) read.2)
+
+pub statuses_law : DemoStatuses
+statuses_law words old new status before now out_before out_now (cases.Done is command also line done heard) faults n seed word = (0, omega arith, sym is)
+statuses_law words old new status before now out_before out_now (cases.BadWords is at bad files refused) faults n seed word = absurd (no_command words (Demo n seed) at word bad)
+statuses_law words old new status before now out_before out_now (cases.BadJob is command also fault has refused) faults n seed word =
+    let why = subst (λ (d : Command). HasJobFault (job_wanted d) old.left new.left fault) (same_command words command (Demo n seed) also word) has in
+    absurd (fixed_has_no_name demo_job why.name why.named)
+statuses_law words old new status before now out_before out_now (cases.Conflicts is command also fault has refused) faults n seed word =
+    let why = subst (λ (d : Command). HasConflict d old.left new.left fault) (same_command words command (Demo n seed) also word) has in
+    absurd (fixed_has_no_name demo_job why.name why.named)
+statuses_law words old new status before now out_before out_now (cases.BadPlan is command also defect has refused) faults n seed word =
+    absurd (no_defect n seed old.left new.left defect (subst (λ (d : Command). HasPlanDefect d old.left new.left defect) (same_command words command (Demo n seed) also word) has))
+statuses_law words old new status before now out_before out_now (cases.BadSource is command also p fault has refused) faults n seed word =
+    let why = subst (λ (d : Command). HasSourceFault d old.left new.left p fault) (same_command words command (Demo n seed) also word) has in
+    absurd (false≢true why.asked)
+statuses_law words old new status before now out_before out_now (cases.ReadFailed is command also refused) faults n seed word =
+    let rose = faults.read is in absurd (reads_law words n seed word old.left rose.0 rose.1)
+statuses_law words old new status before now out_before out_now (cases.WriteFailed is command also partly said) faults n seed word = (1, omega arith, sym is)
+statuses_law words old new status before now out_before out_now (cases.NoMemory is command also refused) faults n seed word = (2, omega arith, sym is)
+
+pub done_law : DemoIsDone
+done_law words old new status outcome is n seed word =
+    let found = at_0 words old new status outcome is in
+    let same = same_command words found.0 (Demo n seed) found.2 word in
+    let known = subst (λ (d : Command). WhereKnown (job_wanted d) old.left new.left (IsDone d old.out new.out found.1)) same found.3 in
+    let done = known (λ name. None) in
+    (done.0, done.2.good.has, subst (λ (text : List ℕ). WhereTold old.out new.out (AppendsAll text)) done.3 done.5)
