@@ -19,6 +19,8 @@ import tempfile
 import threading
 import time
 
+from demo_sources import JOB as VIEWS
+
 LINES = {
     2: "flumina: bad words at ", 3: "flumina: job: ", 4: "flumina: conflict: ", 5: "flumina: plan: ",
     6: "flumina: source ", 7: "flumina: read fault", 8: "flumina: write fault", 9: "flumina: no memory",
@@ -35,21 +37,6 @@ source b "b.csv" rate 1000: inc
 source c "c.csv" rate 1: read
 """
 COUNTS_PLAN = "node root: read -> l r\nnode l: inc@a\nnode r: inc@b\n"
-VIEWS = """cell views keyed sum
-cell zip keyed last
-tag view keyed int
-tag update keyed int
-tag tick none
-depends update update same
-depends view tick
-depends tick tick
-on view: add views[key] value
-on update: emit "was {zip[key]}"; set zip[key] value
-on tick: flush views "page {key} views {cell}"
-source web "web.csv" rate 1000: view[0..9]
-source app "app.csv" rate 500: view[0..9], update[0..9]
-source clock "clock.csv" rate 1: tick
-"""
 
 
 class Case:
