@@ -28,7 +28,8 @@ def contract():
     """The words of the clauses of `flumina`: what stands between its head and its body."""
     text = CALL.read_text()
     start = text.index("pub fn flumina")
-    return set(re.findall(r"\w+", text[text.index("    ensures", start) : text.index("\n{\n", start)]))
+    clauses = text[text.index("    ensures", start) : text.index("\n{\n", start)]
+    return set(re.findall(r"\w+", re.sub(r"//.*", "", clauses)))
 
 
 def file_of(module):

@@ -42,6 +42,11 @@ for name in plain plain_crlf quoted quoted_crlf; do
     measure "1,000,000 rows, $name: gawk in C" sum_of_column "$name" C
 done
 
+# Rows whose last field opens a quote that nothing closes.
+gawk 'BEGIN { srand(1); for (t = 1; t <= 1000000; t++) printf "%d,inc,\"%d\n", t, int(rand() * 10000); print "end" }' > unclosed.csv
+sed 's/plain.csv/unclosed.csv/' plain.job > unclosed.job
+measure '1,000,000 rows, unclosed quotes: flumina fold' "$program" fold unclosed.job
+
 # ---- a run over three sources of 1,000,000 rows in all
 # A job that counts the values of `inc` and puts the count out at each `read`, over the sources given.
 count_over() {
@@ -146,6 +151,25 @@ for form in keys families; do
     updates $form
     measure "300,000 events of 32 actions on 50 $form: flumina fold" "$program" fold updates_$form.job
 done
+
+# ---- 400,000 events that do 32 actions of 19 operators and operands each
+gawk 'BEGIN {
+    for (i = 0; i < 32; i++) print "cell c" i " sum"
+    print "tag u int"
+    printf "on u:"
+    for (j = 0; j < 32; j++) {
+        printf " add c%d ", j
+        for (m = 0; m < 2; m++) {
+            printf "%s(value", m ? " + " : ""
+            for (f = 1; f < 5; f++) printf " * %d", 100 + f + j
+            printf ")"
+        }
+        print j < 31 ? ";" : ""
+    }
+    print "source a \"deep.csv\": u"
+}' > deep.job
+gawk 'BEGIN { srand(1); for (t = 1; t <= 400000; t++) print t ",u," int(rand() * 10000); print "end" }' > deep.csv
+measure '400,000 events of 32 actions of 19 operators and operands: flumina fold' "$program" fold deep.job
 
 # ---- a job text of about 1,048,576 bytes: 64 kinds of 32 long actions, comments, 4,096 dependencies
 gawk 'BEGIN {

@@ -177,3 +177,30 @@ node w2: work[2]
 node w3: work[3]
 PLAN
 compare 'events of 32 long actions, 7 nodes' long.job long7.plan
+
+# ---- the same updates by four plain folds side by side, one for each source, which exchange nothing. What is compared is the work
+# behind the reading: of each the wall time of the same with the actions left out is taken off.
+awk '/^on work:/ { print "on work: add c0 value"; left = 1; next } /^on barrier:/ { left = 0 } !left' long.job > read.job
+for s in 0 1 2 3; do
+    for name in long read; do
+        grep -v '^source' $name.job > $name$s.job
+        echo "source w$s \"w$s.csv\" rate 1000: work[$s]" >> $name$s.job
+        echo 'source clock "ends.csv": barrier' >> $name$s.job
+    done
+done
+cat > side_by_side.sh <<'SIDE'
+program=$1
+shift
+for job in "$@"; do "$program" fold $job > $job.txt & done
+wait
+SIDE
+rm -f ./*.wall
+for _ in $(seq "$rounds"); do
+    measure run "$program" run long.job long7.plan
+    measure read "$program" fold read.job
+    measure four bash side_by_side.sh "$program" long0.job long1.job long2.job long3.job
+    measure four_read bash side_by_side.sh "$program" read0.job read1.job read2.job read3.job
+done
+awk -v run="$(least run.wall)" -v reading="$(least read.wall)" -v four="$(least four.wall)" -v four_read="$(least four_read.wall)" 'BEGIN {
+    printf "behind the reading: run %.2f - %.2f, four folds side by side %.2f - %.2f, %.2f times\n", run, reading, four, four_read, (run - reading) / (four - four_read)
+}'

@@ -6,9 +6,19 @@ ghost use Rattle.flu_outside.specs.Outside.{Rose};
 ghost use Rattle.std.specs.Io.KnownBytes.{ReadConsumes};
 
 use flu_outside::{Files, TakeFault};
+use std::alloc::Global;
 use std::collections::BTreeMap;
 use std::io::Read;
-use std::{fs, rt};
+use std::{fs, io, rt};
+
+/// The failure of a name, as the system tells it.
+#[derive(Drop)]
+pub struct FileFailure {
+    /// The name that was to be opened or read.
+    pub name: String,
+    /// Why it was not.
+    pub error: io::Error,
+}
 
 /// Files of the system, each opened when it is first taken from, and kept open. They tell nothing of what they hold.
 ///
@@ -18,6 +28,7 @@ pub struct HostFiles<R: rt::Files + AllocGlobal> {
     rt: R,
     opened: BTreeMap<String, R::File>,
     faults: u64,
+    last: Option<FileFailure>,
 }
 
 impl<R: rt::Files + AllocGlobal> HostFiles<R> {
@@ -32,7 +43,13 @@ impl<R: rt::Files + AllocGlobal> HostFiles<R> {
             rt,
             opened,
             faults: 0,
+            last: None,
         }
+    }
+
+    /// The last failure of a name. None where no name has failed, and where no memory was left to keep the name.
+    pub fn last_failure(&self) -> Option<&FileFailure> {
+        self.last.as_ref()
     }
 
     // Opens a name, and keeps it open.
@@ -46,8 +63,12 @@ impl<R: rt::Files + AllocGlobal> HostFiles<R> {
         let Ok(kept) = String::from_str(self.rt.alloc(), name) else {
             return Err(TakeFault::NoMemory);
         };
-        let Ok(file) = fs::open(&self.rt, name) else {
-            return Err(counted(&mut self.faults));
+        let file = match fs::open(&self.rt, name) {
+            Ok(file) => file,
+            Err(error) => {
+                self.last = Some(FileFailure { name: kept, error });
+                return Err(counted(&mut self.faults));
+            }
         };
         match self.opened.insert(kept, file) {
             Ok(_) => Ok(()),
@@ -78,17 +99,34 @@ impl<R: rt::Files + AllocGlobal> Files for HostFiles<R> {
         if !self.opened.contains_key(name) {
             self.open(name)?;
         }
-        match self.opened.get_mut(name) {
-            Some(file) => read_some(file, buf, &mut self.faults),
+        let alloc = self.rt.alloc();
+        let mut error = None;
+        let taken = match self.opened.get_mut(name) {
+            Some(file) => read_some(file, buf, &mut self.faults, &mut error),
             None => unreachable!(),
+        };
+        if let Some(error) = error {
+            self.last = failure_of(alloc, name, error);
         }
+        taken
     }
 
     ghost shared = { λ f a b no_a no_b. refl };
 }
 
-// Takes some bytes of a file, none only at its end, and counts a failure.
-fn read_some<F: Read>(file: &mut F, buf: &mut [u8], faults: &mut u64) -> Result<usize, TakeFault>
+// A failure with its name, where there is memory for the name.
+fn failure_of(alloc: Global, name: &str, error: io::Error) -> Option<FileFailure> {
+    let name = String::from_str(alloc, name).ok()?;
+    Some(FileFailure { name, error })
+}
+
+// Takes some bytes of a file, none only at its end; counts a failure, and keeps its error.
+fn read_some<F: Read>(
+    file: &mut F,
+    buf: &mut [u8],
+    faults: &mut u64,
+    failed: &mut Option<io::Error>,
+) -> Result<usize, TakeFault>
     ensures bytes { ReadConsumes (F.remaining file.old) (F.remaining file.new) result buf.new }
     ensures bound { IfOk result (λ n. n ≤ length buf.old) }
     ensures quiet { OnOk result (faults.new ≡ faults.old) }
@@ -98,7 +136,10 @@ fn read_some<F: Read>(file: &mut F, buf: &mut [u8], faults: &mut u64) -> Result<
 {
     match file.read(buf) {
         Ok(n) => Ok(n),
-        Err(_) => Err(counted(faults)),
+        Err(error) => {
+            *failed = Some(error);
+            Err(counted(faults))
+        }
     }
 }
 

@@ -5,6 +5,7 @@ ghost use Rattle.std.specs.Prelude.{◌≡◌, ◌<◌, ◌≤◌, ◌+◌, ◌-
 ghost use Rattle.flu_outside.specs.Outside.{Rose};
 
 use flu_outside::{Failed, Sink};
+use std::io;
 use std::io::Write;
 
 /// A writer of the system, as standard output. It tells nothing of what it took.
@@ -14,6 +15,7 @@ use std::io::Write;
 pub struct HostSink<W: Write> {
     writer: W,
     faults: u64,
+    last: Option<io::Error>,
 }
 
 impl<W: Write> HostSink<W> {
@@ -24,7 +26,16 @@ impl<W: Write> HostSink<W> {
         ensures writer { writer_of result ≡ writer }
         ensures count { count_of result ≡ 0 }
     {
-        HostSink { writer, faults: 0 }
+        HostSink {
+            writer,
+            faults: 0,
+            last: None,
+        }
+    }
+
+    /// What the writer said when it last failed. None where it has not, and where it took no byte without a reason.
+    pub fn last_failure(&self) -> Option<io::Error> {
+        self.last
     }
 }
 
@@ -52,7 +63,8 @@ impl<W: Write> Sink for HostSink<W> {
     {
         match self.writer.write(bytes) {
             Ok(n) if n > 0 => Ok(n),
-            _ => {
+            failed => {
+                self.last = failed.err();
                 self.faults = self.faults.saturating_add(1);
                 Err(Failed)
             }

@@ -6,5 +6,5 @@ mod host_sink;
 #[cfg(test)]
 mod tests;
 
-pub use host_files::HostFiles;
+pub use host_files::{FileFailure, HostFiles};
 pub use host_sink::HostSink;

@@ -1,5 +1,6 @@
 use crate::{HostFiles, HostSink};
 use flu_outside::{Failed, Files, Sink, TakeFault};
+use std::rt;
 use std::test::Fail;
 
 #[test]
@@ -22,10 +23,19 @@ fn takes_from_files(rt: HostRuntime) -> Result<(), Fail> {
             Err(fault) => {
                 assert_eq!(rt; fault, TakeFault::Failed);
                 assert_eq!(rt; None, wanted, "{name}");
+                assert!(rt; has_last(&files, name), "{name}");
             }
         }
     }
     Ok(())
+}
+
+// Whether the failure that is kept is that of a name, with a reason of the system.
+fn has_last<R: rt::Files + AllocGlobal>(files: &HostFiles<R>, name: &str) -> bool {
+    match files.last_failure() {
+        Some(failure) => failure.name.as_str() == name && failure.error.raw_os_error().is_some(),
+        None => false,
+    }
 }
 
 #[test]
@@ -42,5 +52,8 @@ fn writes_to_a_writer(rt: HostRuntime) -> Result<(), Fail> {
     assert_eq!(rt; sink.write(b"3,read,"), Ok(4));
     assert_eq!(rt; sink.write(b"d,"), Err(Failed));
     assert_eq!(rt; sink.write(b"d,"), Err(Failed));
+
+    // without an error
+    assert!(rt; sink.last_failure().is_none());
     Ok(())
 }

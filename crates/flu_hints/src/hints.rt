@@ -1,8 +1,8 @@
 //! Which hint belongs to which status.
 
 use crate::conflicts::conflict_hint;
-use crate::names::names_hint;
 use crate::places::place_hint;
+use crate::reasons::{Failure, reason_hint};
 use crate::rows::row_hint;
 use std::alloc::AllocError;
 use std::{fs, rt};
@@ -23,20 +23,22 @@ const LONGEST_READ: u64 = 67_108_864;
 
 /// What helps a person who sees the line of an answer with this status; empty where nothing is known.
 ///
-/// Files are read again by their names, so what a hint shows may have changed since. Only regular files are, and no long ones.
+/// `failure` is what failed at 7 or 8. At 3 to 6 files are read again by their names, so what a hint shows may have changed
+/// since. Only regular files are, and no long ones.
 pub fn hint<R: rt::Files + AllocGlobal>(
     rt: &R,
     words: &[String],
     status: u8,
     line: &str,
+    failure: Option<Failure>,
 ) -> Result<String, AllocError> {
     match status {
         2 => String::from_str(rt.alloc(), USAGE),
         3 => place_hint(rt, words.get(1), line),
-        4 => conflict_hint(rt.alloc(), line),
+        4 => conflict_hint(rt, words.get(1), line),
         5 => place_hint(rt, words.get(2), line),
         6 => row_hint(rt, words.get(1), line),
-        7 => names_hint(rt, words),
+        7 | 8 => reason_hint(rt.alloc(), failure),
         _ => Ok(String::new(rt.alloc())),
     }
 }

@@ -3,8 +3,14 @@
 
 mod conflicts;
 mod hints;
-mod names;
+mod jobs;
+mod limits;
 mod places;
+mod plans;
+mod reasons;
 mod rows;
+#[cfg(test)]
+mod tests;
 
 pub use hints::hint;
+pub use reasons::Failure;

@@ -1,28 +1,29 @@
 //! The place of a fault in a text: its line and column, the line itself, and a mark below.
 
 use crate::hints::text_of;
+use crate::limits::limit_place;
 use std::alloc::{AllocError, Global};
 use std::{rt, str};
 
 /// A longer line is not shown.
 const LONGEST_LINE: usize = 200;
 
-/// The line, column and text of a place that the line of an answer names, in the file of that name.
+/// The line, column and text of the place that the line of an answer names, or at which the limit is passed that it names, in the
+/// file of that name.
 pub fn place_hint<R: rt::Files + AllocGlobal>(
     rt: &R,
     name: Option<&String>,
     line: &str,
 ) -> Result<String, AllocError> {
-    let (Some(name), Some(at)) = (name, place_of(line)) else {
+    let Some(name) = name else {
         return Ok(String::new(rt.alloc()));
     };
-    match text_of(rt, name.as_str()) {
-        Some(bytes) if at <= bytes.len() => shown_place(
-            rt.alloc(),
-            name.as_str(),
-            bytes.as_slice(),
-            at,
-        ),
+    let Some(bytes) = text_of(rt, name.as_str()) else {
+        return Ok(String::new(rt.alloc()));
+    };
+    let bytes = bytes.as_slice();
+    match place_of(line).or_else(|| limit_place(rt.alloc(), line, bytes)) {
+        Some(at) if at <= bytes.len() => shown_place(rt.alloc(), name.as_str(), bytes, at),
         _ => Ok(String::new(rt.alloc())),
     }
 }

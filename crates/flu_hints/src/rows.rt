@@ -36,8 +36,8 @@ fn row_of(line: &str) -> Option<(&str, u64)> {
     Some((source, row))
 }
 
-/// The job in a file, where it can be read again.
-pub fn program_of<R: rt::Files + AllocGlobal>(rt: &R, job: &str) -> Option<Program> {
+// The job in a file, where it can be read again.
+fn program_of<R: rt::Files + AllocGlobal>(rt: &R, job: &str) -> Option<Program> {
     let bytes = text_of(rt, job)?;
     read_job(rt.alloc(), bytes.as_slice()).ok()
 }

@@ -1,5 +1,5 @@
 -- The steps that a net may have, in the order of the seeded schedule, and those of them that are enabled.
-use Rattle.std.specs.Prelude.{ℕ, List, [], ◌∷◌, ◌++◌, map, filter, length}
+use Rattle.std.specs.Prelude.{ℕ, ◌<◌, List, [], ◌∷◌, ◌++◌, map, filter, length}
 use Rattle.std.specs.List.{flat_map, range_with_len}
 use Rattle.flu_model.specs.Itags.{count_of_itags}
 use Rattle.flu_fork.specs.declared.content.Content.{Content}
@@ -20,6 +20,16 @@ steps_of w = Handle w ∷ Ask w Left ∷ Ask w Right ∷ Take w Left ∷ Take w 
 -- the arrivals by itag, and then what the workers may do, by their number
 unfoldable pub all_steps : Content → List Step
 all_steps k = map arrival (range_with_len 0 (count_of_itags (job k))) ++ flat_map steps_of (range_with_len 0 (length (nodes k)))
+
+-- one of them: there is such an itag, or such a worker
+abbrev pub IsPossible : Content → Step → Type 0
+IsPossible k (Arrive i) = i.0 < count_of_itags (job k)
+IsPossible k (Handle w) = w < length (nodes k)
+IsPossible k (Ask w s) = w < length (nodes k)
+IsPossible k (Take w s) = w < length (nodes k)
+IsPossible k (Give w) = w < length (nodes k)
+IsPossible k (Hold w) = w < length (nodes k)
+IsPossible k (Lend w s) = w < length (nodes k)
 
 -- the enabled ones among some steps
 unfoldable pub enabled_among : NetNote → List Step → List Step

@@ -1,5 +1,5 @@
 -- THE SEEDED SCHEDULE: which step a seed draws at each moment, and what the run of these steps counts.
-use Rattle.std.specs.Prelude.{◌≡◌, ℕ, ◌+◌, ◌*◌, ◌%◌, ◌^◌, Some, [], length, slice_get}
+use Rattle.std.specs.Prelude.{◌≡◌, ℕ, ◌+◌, ◌*◌, ◌%◌, ◌^◌, Some, List, [], ◌∷◌, ◌++◌, length, slice_get}
 use Rattle.flu_draw.specs.Draws.{next_draw, draw_of}
 use Rattle.flu_fork.specs.declared.content.Content.{Content}
 use Rattle.flu_net.specs.declared.steps.Step.{Step}
@@ -41,15 +41,26 @@ pub record IsDrawn (n : NetNote) (x place : ℕ) (s : Step) : Type 0 where
   pub at : place ≡ place_of x (length (enabled_steps n))
   pub is : slice_get (enabled_steps n) place ≡ Some s
 
--- the nets that a seed comes to, each with the number drawn last, the steps made and the mark
-pub data Reaches (k : Content) (seed : ℕ) : NetNote → ℕ → StepCounts → ℕ → Type 0 where
-  begun : {n : NetNote} → IsStart k n → Reaches k seed n seed no_steps 0
-  made : {old new : NetNote} {x place : ℕ} {s : Step} {steps : StepCounts} {mark : ℕ} → Reaches k seed old x steps mark
-      → IsDrawn old (next_draw x) place s → Makes s old new → Reaches k seed new (next_draw x) (counting s steps) (marked mark place)
+-- the nets that a seed comes to, each with the steps that were made, the number drawn last, how many steps these are and the mark
+pub data Reaches (k : Content) (seed : ℕ) : NetNote → List Step → ℕ → StepCounts → ℕ → Type 0 where
+  begun : {n : NetNote} → IsStart k n → Reaches k seed n [] seed no_steps 0
+  made : {old new : NetNote} {done : List Step} {x place : ℕ} {s : Step} {steps : StepCounts} {mark : ℕ} → Reaches k seed old done x steps mark
+      → IsDrawn old (next_draw x) place s → Makes s old new → Reaches k seed new (done ++ s ∷ []) (next_draw x) (counting s steps) (marked mark place)
 
--- these are the steps and the mark of a whole run: no step is enabled in the end
-pub record IsSeeded (k : Content) (seed : ℕ) (steps : StepCounts) (mark : ℕ) : Type 0 where
+-- these are the steps of a whole run, how many of each kind they are and the mark: no step is enabled in the end
+pub record IsWholeRun (k : Content) (seed : ℕ) (done : List Step) (steps : StepCounts) (mark : ℕ) : Type 0 where
   pub net : NetNote
   pub last : ℕ
-  pub run : Reaches k seed net last steps mark
+  pub run : Reaches k seed net done last steps mark
   pub ended : enabled_steps net ≡ []
+
+-- so many steps of each kind has a whole run, and this mark
+pub record IsSeeded (k : Content) (seed : ℕ) (steps : StepCounts) (mark : ℕ) : Type 0 where
+  pub done : List Step
+  pub run : IsWholeRun k seed done steps mark
+
+-- these are the steps of a whole run, in their order
+pub record IsTrace (k : Content) (seed : ℕ) (done : List Step) : Type 0 where
+  pub steps : StepCounts
+  pub mark : ℕ
+  pub run : IsWholeRun k seed done steps mark

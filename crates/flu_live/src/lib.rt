@@ -1,4 +1,4 @@
-//! Runs of the net: which step may be made, how many steps a run may have at most, and the run that a seed draws (`docs/TREE.md`).
+//! Runs of the net: which step may be made, how many steps a run may have at most, and the run that a seed draws, with its steps (`docs/TREE.md`).
 #![tactic(auto)]
 
 mod bounding;
@@ -12,4 +12,4 @@ pub use bounding::bound;
 pub use counts::StepCounts;
 pub use engines::NetEngine;
 pub use possible::some_enabled;
-pub use simulating::{Run, simulate};
+pub use simulating::{Run, simulate, trace};

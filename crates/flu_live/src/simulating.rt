@@ -1,6 +1,7 @@
 //! The run that a seed draws.
 
-ghost use Rattle.std.specs.Prelude.{◌≡◌, ◌^◌, ◌<◌, [], length, IfOk, OnOk};
+ghost use Rattle.std.specs.Prelude.{◌≡◌, ◌^◌, ◌<◌, [], ◌∷◌, ◌++◌, length, IfOk, OnOk, IfSome, is_some, option_map};
+ghost use Rattle.std.specs.List.{AllByRecursion};
 ghost use Rattle.std.specs.List.Sorted.{IsPermutation};
 ghost use Rattle.flu_model.specs.Folding.{final_state, final_outputs};
 ghost use Rattle.flu_model.specs.Listed.{listed};
@@ -8,9 +9,9 @@ ghost use Rattle.flu_model.specs.Sorts.{IsStateOf};
 ghost use Rattle.flu_cells.specs.Holding.{held};
 ghost use Rattle.flu_fork.specs.Lots.{job};
 ghost use Rattle.flu_net.specs.Measure.{steps_left};
-ghost use Rattle.flu_live.specs.Drawing.{IsOnItsWay};
-ghost use Rattle.flu_live.specs.Possible.{enabled_steps};
-ghost use Rattle.flu_live.specs.Seeded.{IsSeeded};
+ghost use Rattle.flu_live.specs.Drawing.{IsOnItsWay, kept_in};
+ghost use Rattle.flu_live.specs.Possible.{IsPossible, enabled_steps};
+ghost use Rattle.flu_live.specs.Seeded.{IsSeeded, IsTrace};
 
 use crate::bounding::bound;
 use crate::counts::StepCounts;
@@ -33,12 +34,13 @@ pub struct Run {
     pub mark: u32,
 }
 
-// A run on its way: the net, and the number that was drawn last.
+// A run on its way: the net, the number that was drawn last, and the steps that were made, where they are kept.
 #[derive(Drop)]
 struct Drawing {
     seed: u32,
     last: u32,
     net: Net,
+    kept: Option<Vec<Step>>,
     steps: StepCounts,
     mark: u32,
 }
@@ -56,23 +58,77 @@ pub fn simulate(alloc: Global, case: &Case, seed: u32) -> Result<Run, AllocError
     ensures outputs { IfOk result (λ r. IsPermutation (final_outputs (job case.now) (held case.now.opening) (listed case.now.streams)) r.outs) }
     ensures drawn { IfOk result (λ r. IsSeeded case.now seed r.steps r.mark) }
 {
+    let run = drawn_run(alloc, case, seed, None)?;
+    run.end(alloc, case)
+}
+
+/// The steps of the run that a seed draws, in their order (`docs/TREE.md`). Each of them names an itag or a worker that is there.
+///
+/// # Errors
+///
+/// Only where memory is wanting.
+pub fn trace(alloc: Global, case: &Case, seed: u32) -> Result<Vec<Step>, AllocError>
+    requires { seed < 2 ^ 31 }
+    ensures drawn { IfOk result (λ steps. IsTrace case.now seed steps.items) }
+    ensures possible { IfOk result (λ steps. AllByRecursion (IsPossible case.now) steps.items) }
+{
+    let run = drawn_run(alloc, case, seed, Some(Vec::new(alloc)))?;
+    let Drawing { kept, .. } = run;
+    let Some(steps) = kept else {
+        unreachable!();
+    };
+    Ok(steps)
+}
+
+// The whole run that a seed draws, which puts its steps at the end of a list, where one is handed in.
+fn drawn_run(
+    alloc: Global,
+    case: &Case,
+    seed: u32,
+    kept: Option<Vec<Step>>,
+) -> Result<Drawing, AllocError>
+    requires seed { seed < 2 ^ 31 }
+    requires empty { IfSome (kept_in kept) (λ steps. steps ≡ []) }
+    ensures way { IfOk result (IsOnItsWay case.now) }
+    ensures seed { IfOk result (λ d. d.seed ≡ seed) }
+    ensures kept { IfOk result (λ d. is_some (kept_in d.kept) ≡ is_some (kept_in kept)) }
+    ensures ended { IfOk result (λ d. enabled_steps d.net ≡ []) }
+{
     let steps = all_steps(alloc, case)?;
-    let mut run = Drawing::begin(alloc, case, seed)?;
+    let mut run = Drawing::begin(alloc, case, seed, kept)?;
     let mut enabled = Vec::new(alloc);
     put_enabled(&mut enabled, &run.net, case, steps.as_slice())?;
-    while !enabled.is_empty() {
+    'steps: while !enabled.is_empty() {
         run.turn(alloc, case, enabled.as_slice())?;
         put_enabled(&mut enabled, &run.net, case, steps.as_slice())?;
     }
-    run.end(alloc, case)
+    Ok(run)
+}
+
+// Puts a step at the end of a list, where there is one.
+fn keep(kept: &mut Option<Vec<Step>>, s: Step) -> Result<(), AllocError>
+    ensures { OnOk result (kept_in kept.new ≡ option_map (λ steps. steps ++ s ∷ []) (kept_in kept.old)) }
+{
+    let Some(steps) = kept else {
+        return Ok(());
+    };
+    steps.push(s)?;
+    Ok(())
 }
 
 impl Drawing {
     // The run before its first step.
-    fn begin(alloc: Global, case: &Case, seed: u32) -> Result<Drawing, AllocError>
-        requires { seed < 2 ^ 31 }
+    fn begin(
+        alloc: Global,
+        case: &Case,
+        seed: u32,
+        kept: Option<Vec<Step>>,
+    ) -> Result<Drawing, AllocError>
+        requires seed { seed < 2 ^ 31 }
+        requires empty { IfSome (kept_in kept) (λ steps. steps ≡ []) }
         ensures way { IfOk result (IsOnItsWay case.now) }
         ensures seed { IfOk result (λ d. d.seed ≡ seed) }
+        ensures kept { IfOk result (λ d. d.kept ≡ kept) }
     {
         // The bound fits its type, and so does each count of steps.
         let _most = bound(case);
@@ -81,6 +137,7 @@ impl Drawing {
             seed,
             last: seed,
             net,
+            kept,
             steps: StepCounts::none(),
             mark: 0,
         })
@@ -94,6 +151,7 @@ impl Drawing {
         ensures way { OnOk result (IsOnItsWay case.now self.new) }
         ensures left { OnOk result (steps_left self.new.net < steps_left self.old.net) }
         ensures seed { self.new.seed ≡ self.old.seed }
+        ensures kept { OnOk result (is_some (kept_in self.new.kept) ≡ is_some (kept_in self.old.kept)) }
     {
         self.last = next_draw(self.last);
         let place = place_of(self.last, enabled.len());
@@ -103,6 +161,7 @@ impl Drawing {
             Err(StepFault::NotEnabled) => unreachable!(),
             Err(StepFault::NoMemory) => return Err(AllocError),
         }
+        keep(&mut self.kept, drawn)?;
         self.steps.count(drawn);
         self.mark = marked(self.mark, place);
         Ok(())

@@ -6,7 +6,7 @@ ghost use Rattle.std.specs.Prelude.{◌≡◌};
 ghost use Rattle.std.specs.List.{list_all, list_any};
 ghost use Rattle.std.specs.Str.{bytes_eq};
 ghost use Rattle.flu_names.specs.Names.{is_name_start, is_name_byte, is_text_byte, begins_as_name, is_reserved, is_name, reserved_spelling, reserved_words, reserved_of};
-ghost use Rattle.flu_names.specs.LoopReserved.{may_be_reserved, begins_reserved};
+ghost use Rattle.flu_names.specs.LoopReserved.{may_be_reserved, is_pair, is_triple, begins_longer};
 
 mod reserved;
 
@@ -83,46 +83,73 @@ pub fn reserved_of(bytes: &[u8]) -> Option<Reserved>
         .find(|word| word.spelling() == bytes)
 }
 
-// The first two letters settle it for nearly all names, so that they are not compared with each word.
+// The first four letters settle it for nearly all names, so that they are not compared with each word.
 fn is_reserved(bytes: &[u8]) -> bool
     ensures { result ≡ is_reserved bytes.now }
 {
     may_be_reserved(bytes) && reserved::WORDS.iter().any(|word| word.spelling() == bytes)
 }
 
-// Whether a reserved word begins with the first two of some bytes.
+// Whether some bytes are a reserved word of two or three letters, or a longer one begins with their first four.
 fn may_be_reserved(bytes: &[u8]) -> bool
     ensures { result ≡ may_be_reserved bytes.now }
 {
     match bytes {
-        [first, second, ..] => begins_reserved(*first, *second),
+        [first, second] => is_pair(*first, *second),
+        [first, second, third] => is_triple(*first, *second, *third),
+        [first, second, third, fourth, ..] => begins_longer(*first, *second, *third, *fourth),
         _ => false,
     }
 }
 
-fn begins_reserved(first: u8, second: u8) -> bool
-    ensures { result ≡ begins_reserved first second }
+fn is_pair(first: u8, second: u8) -> bool
+    ensures { result ≡ is_pair first second }
+{
+    first == b'o' && (second == b'n' || second == b'r')
+}
+
+fn is_triple(first: u8, second: u8, third: u8) -> bool
+    ensures { result ≡ is_triple first second third }
 {
     match first {
-        b'a' => second == b'd' || second == b'l' || second == b'n',
-        b'b' | b'd' | b'k' => second == b'e',
-        b'c' => second == b'e' || second == b'l',
-        b'e' => second == b'm' || second == b'n',
-        b'f' => second == b'l',
-        b'h' | b'm' => second == b'a',
-        b'i' => second == b'n',
-        b'l' => second == b'a',
-        b'n' => second == b'o',
-        b'o' => second == b'n' || second == b'r',
-        b'r' => second == b'a',
-        b's' => second == b'a'
-            || second == b'e'
-            || second == b'l'
-            || second == b'o'
-            || second == b'u',
-        b't' => second == b'a' || second == b'i',
-        b'v' => second == b'a' || second == b'e',
-        b'w' => second == b'h',
+        b'a' => (second == b'l' && third == b'l')
+            || (second == b'd' && third == b'd')
+            || (second == b'n' && third == b'd'),
+        b'e' => second == b'n' && third == b'd',
+        b'h' => second == b'a' && third == b's',
+        b'i' => second == b'n' && third == b't',
+        b'k' => second == b'e' && third == b'y',
+        b'm' => second == b'a' && third == b'x',
+        b'n' => second == b'o' && third == b't',
+        b's' => (second == b'u' && third == b'm') || (second == b'e' && third == b't'),
+        b't' => second == b'a' && third == b'g',
+        _ => false,
+    }
+}
+
+fn begins_longer(first: u8, second: u8, third: u8, fourth: u8) -> bool
+    ensures { result ≡ begins_longer first second third fourth }
+{
+    match first {
+        b'b' => second == b'e' && third == b'a' && fourth == b't',
+        b'c' => (second == b'e' && third == b'l' && fourth == b'l')
+            || (second == b'l' && third == b'e' && fourth == b'a'),
+        b'd' => second == b'e' && third == b'p' && fourth == b'e',
+        b'e' => second == b'm' && third == b'i' && fourth == b't',
+        b'f' => second == b'l' && third == b'u' && fourth == b's',
+        b'k' => second == b'e' && third == b'y' && fourth == b'e',
+        b'l' => second == b'a' && third == b's' && fourth == b't',
+        b'n' => (second == b'o' && third == b'n' && fourth == b'e')
+            || (second == b'o' && third == b'd' && fourth == b'e'),
+        b'r' => (second == b'a' && third == b't' && fourth == b'e')
+            || (second == b'a' && third == b'i' && fourth == b's'),
+        b's' => (second == b'o' && third == b'u' && fourth == b'r')
+            || (second == b'a' && third == b'm' && fourth == b'e')
+            || (second == b'l' && third == b'a' && fourth == b'c'),
+        b't' => second == b'i' && third == b'm' && fourth == b'e',
+        b'v' => (second == b'a' && third == b'l' && fourth == b'u')
+            || (second == b'e' && third == b'r' && fourth == b's'),
+        b'w' => second == b'h' && third == b'e' && fourth == b'n',
         _ => false,
     }
 }

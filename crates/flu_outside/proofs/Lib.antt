@@ -1,2 +1,5 @@
 mod Takes
 mod Parts
+mod Played
+mod PlayedTakes
+mod PlayedWrites

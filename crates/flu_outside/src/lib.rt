@@ -7,6 +7,7 @@
 
 mod files;
 mod honest_files;
+mod laws;
 mod mem_files;
 mod mem_sink;
 mod rest;
@@ -17,6 +18,7 @@ mod writing;
 
 pub use files::{Files, TakeFault};
 pub use honest_files::HonestFiles;
+pub use laws::{takes_can_be_played, writes_can_be_played};
 pub use mem_files::MemFiles;
 pub use mem_sink::MemSink;
 pub use sink::{Failed, Sink};

@@ -27,7 +27,7 @@ pub struct MemFiles {
 impl MemFiles {
     ghost use Rattle.std.specs.Prelude.{◌≡◌, ◌≢◌, ◌<◌, ◌≤◌, List, ℕ, None, Some, OnOk, OnErr};
     ghost use Rattle.flu_outside.specs.Outside.{SameLeft, SameCounts};
-    ghost use Rattle.flu_outside.specs.Calls.{as_made, with_failing, with_piece};
+    ghost use Rattle.flu_outside.specs.Calls.{as_made, with_failing, with_piece, with_later};
     ghost use Rattle.flu_outside.specs.MemFiles.{left_of, counts_of, calls_of};
 
     /// No name is there, no call fails, and a take gives all that it can.
@@ -85,6 +85,19 @@ impl MemFiles {
     {
         self.schedule.set_piece(most);
     }
+
+    /// Lets one more take, behind those that have a piece, and all later ones give at most so many bytes.
+    ///
+    /// The first take has the piece that `piece` sets. An error leaves all unchanged.
+    pub fn add_piece(&mut self, most: usize) -> Result<(), AllocError>
+        requires { 0 < most }
+        ensures set { OnOk result (calls_of self.new ≡ with_later most (calls_of self.old)) }
+        ensures refused { OnErr result (calls_of self.new ≡ calls_of self.old) }
+        ensures left { SameLeft (left_of self.old) (left_of self.new) }
+        ensures counts { SameCounts (counts_of self.old) (counts_of self.new) }
+    {
+        self.schedule.add_piece(most)
+    }
 }
 
 impl Files for MemFiles {
@@ -92,6 +105,7 @@ impl Files for MemFiles {
     ghost use Rattle.flu_outside.specs.Outside.{Rose, Takes, SameLeft, SameCounts, CountApart};
     ghost use Rattle.std.specs.BTreeMap.{get_by_text};
     ghost use Rattle.flu_outside.specs.Shared.{share_one_count};
+    ghost use Rattle.flu_outside.specs.Answers.{IsTaken, answer_of};
     ghost use Rattle.flu_outside.specs.Calls.{next_fails, after_call};
     ghost use Rattle.flu_outside.specs.MemFiles.{left_of, counts_of, calls_of};
 
@@ -122,9 +136,12 @@ impl Files for MemFiles {
         ensures amount { IfOk result (λ n. n ≡ min (min (length buf.old) (calls_of self.old).piece) (length (unwrap_or (left_of self.old name.now) []))) }
         ensures raised { OnErr result (counts_of self.new name.now ≡ min (counts_of self.old name.now + 1) (2 ^ 64 - 1)) }
         ensures calls { calls_of self.new ≡ after_call (calls_of self.old) }
+
+        // The same, as one definition: that of `takes_can_be_played`.
+        ensures answer { IsTaken (calls_of self.old) (left_of self.old) (left_of self.new) name.now (length buf.old) (answer_of result buf.new) }
     {
-        let fails = self.schedule.count();
         let most = self.schedule.piece().min(buf.len());
+        let fails = self.schedule.count();
         let Some(file) = self.files.get_mut(name) else {
             self.missing = self.missing.saturating_add(1);
             return Err(TakeFault::Failed);

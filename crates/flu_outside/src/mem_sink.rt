@@ -23,7 +23,7 @@ pub struct MemSink {
 
 impl MemSink {
     ghost use Rattle.std.specs.Prelude.{◌≡◌, ◌<◌, [], IfOk, OnOk, OnErr};
-    ghost use Rattle.flu_outside.specs.Calls.{as_made, with_failing, with_piece};
+    ghost use Rattle.flu_outside.specs.Calls.{as_made, with_failing, with_piece, with_later};
     ghost use Rattle.flu_outside.specs.MemSink.{taken_of, room_of, count_of, calls_of};
 
     /// Has taken nothing, no call fails, and a write takes all that it can.
@@ -64,6 +64,20 @@ impl MemSink {
         self.schedule.set_piece(most);
     }
 
+    /// Lets one more write, behind those that have a piece, and all later ones take at most so many bytes.
+    ///
+    /// The first write has the piece that `piece` sets. An error leaves all unchanged.
+    pub fn add_piece(&mut self, most: usize) -> Result<(), AllocError>
+        requires { 0 < most }
+        ensures set { OnOk result (calls_of self.new ≡ with_later most (calls_of self.old)) }
+        ensures refused { OnErr result (calls_of self.new ≡ calls_of self.old) }
+        ensures taken { taken_of self.new ≡ taken_of self.old }
+        ensures room { room_of self.new ≡ room_of self.old }
+        ensures count { count_of self.new ≡ count_of self.old }
+    {
+        self.schedule.add_piece(most)
+    }
+
     /// What was taken.
     pub fn bytes(&self) -> &[u8]
         ensures { result.now ≡ taken_of self.now }
@@ -75,6 +89,7 @@ impl MemSink {
 impl Sink for MemSink {
     ghost use Rattle.std.specs.Prelude.{◌≡◌, ◌<◌, ◌≤◌, ◌+◌, ◌-◌, ◌^◌, length, min, Some, IfOk, OnOk, OnErr, is_ok, not, ◌&&◌, nat_le};
     ghost use Rattle.flu_outside.specs.Outside.{Rose, Appends};
+    ghost use Rattle.flu_outside.specs.Answers.{IsWritten, count_of_write};
     ghost use Rattle.flu_outside.specs.Calls.{next_fails, after_call};
     ghost use Rattle.flu_outside.specs.MemSink.{taken_of, room_of, count_of, calls_of};
 
@@ -100,9 +115,12 @@ impl Sink for MemSink {
         ensures raised { OnErr result (count_of self.new ≡ min (count_of self.old + 1) (2 ^ 64 - 1)) }
         ensures room { room_of self.new ≡ room_of self.old }
         ensures calls { calls_of self.new ≡ after_call (calls_of self.old) }
+
+        // The same, as one definition: that of `writes_can_be_played`.
+        ensures answer { IsWritten (calls_of self.old) (room_of self.old) (length (taken_of self.old)) (length bytes.now) (count_of_write result) }
     {
-        let fails = self.schedule.count();
         let n = self.schedule.piece().min(bytes.len());
+        let fails = self.schedule.count();
         if fails || n > self.room - self.taken.len() {
             self.faults = self.faults.saturating_add(1);
             return Err(Failed);

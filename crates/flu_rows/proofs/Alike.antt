@@ -1,38 +1,24 @@
 -- Bytes that read the same, whatever stands before and behind them.
-use Rattle.std.proofs.Common.{◌≡◌, ◌⊎◌, inl, inr, ℕ, ◌+◌, ◌<◌, ◌^◌, Bool, true, false, not, ◌&&◌, if◌then◌else◌, eqb, ltb, List, [], ◌∷◌, ◌++◌, length, take, drop, ◌-◌, refl, sym, ap, ◌∙◌, append_assoc, Some, None, arith}
+use Rattle.std.proofs.Common.{◌≡◌, ◌⊎◌, inl, inr, ℕ, ◌+◌, ◌<◌, ◌^◌, Bool, true, false, not, if◌then◌else◌, eqb, List, [], ◌∷◌, ◌++◌, length, take, drop, ◌-◌, refl, sym, ap, ◌∙◌, append_assoc, arith}
 use Rattle.std.proofs.lemmas.Bool.Decides.{nat_tests}
 use Rattle.std.proofs.lemmas.List.{append-nil}
 use Rattle.csv.specs.Machine.{next_record}
-use Rattle.csv.specs.Reading.{default_config, strip_bom}
+use Rattle.csv.specs.Reading.{strip_bom}
 use Rattle.flu_rows.specs.declared.rows.Next.{Next}
 use Rattle.flu_rows.specs.declared.rows.Next.TheVariants.{TooManyLines}
 use Rattle.flu_rows.specs.declared.line.Line.TheVariants.{Blank}
 use Rattle.flu_rows.specs.Lines.{line_len, line_of, line_of_fields}
-use Rattle.flu_rows.specs.Records.{first_record}
 use Rattle.flu_rows.specs.Row.{filled_len}
 use Rattle.flu_rows.specs.Reading.{read_line, read_lines, read_bytes}
-use Rattle.flu_rows.specs.LoopRuns.{IsAlike, AreAlike, joined, IsRun, ReadAlike, state_after, quotes_after}
+use Rattle.flu_rows.specs.LoopRuns.{IsAlike, IsOpen, AreAlike, joined, IsRun, ReadAlike, quotes_after}
 use Rattle.std.proofs.lemmas.Grind.{common_steps}
 use Rattle.flu_rows.proofs.Cuts.{lines_of-cut, take_line, split_line, one_line}
+use Rattle.flu_rows.proofs.Alone.{and-false, line_of-alone}
 use Rattle.flu_rows.proofs.Scanning.{alike}
-
-and-false : (x : Bool) → (x && false) ≡ false
-and-false true = refl
-and-false false = refl
-
-no_more : (cr : Bool) → next_record default_config (state_after cr) [] [] [] ≡ None
-unfolding next_record
-no_more false = refl
-no_more true = refl
 
 -- ---- what the lines of a run are
 pub line_of-alike : (number : ℕ) (line : List ℕ) (is : IsAlike line) → line_of number line ≡ line_of_fields is.fields
-unfolding line_of
-line_of-alike number line is =
-    let short : ltb 4096 (length line) ≡ false = let h = is.short in grind (arith, nat_tests) in
-    let bare : strip_bom line ≡ line = rw append-nil at (is.bare []) in
-    let first : first_record line ≡ Some (is.fields, state_after is.cr, []) = rw bare is.alone in
-    rw (short, is.unmarked, and-false (not (eqb number 1)), first, no_more is.cr) refl
+line_of-alike number line is = line_of-alone number line is.fields is.cr is.short is.unmarked (rw append-nil at (is.bare [])) is.alone
 
 line_of-empty : (number : ℕ) → line_of number [] ≡ Blank
 unfolding line_of next_record strip_bom
@@ -77,12 +63,12 @@ pub alike_behind : (text a b : List ℕ) → IsRun text → ReadAlike a b → Re
 alike_behind text a b run same = λ before behind.
     rw (append_assoc text a behind, append_assoc text b behind, run.1) (behind_lines run.0 (a ++ behind) (b ++ behind) before run.2 (λ n. same n behind))
 
--- two blank lines
-blank_lines : (line other rest : List ℕ) (before : ℕ) → line_len line ≡ length line → line_len other ≡ length other → ((n : ℕ) → line_of n line ≡ Blank) → ((n : ℕ) → line_of n other ≡ Blank)
+-- two lines that are the same
+same_lines : (line other rest : List ℕ) (before : ℕ) → line_len line ≡ length line → line_len other ≡ length other → ((n : ℕ) → line_of n line ≡ line_of n other)
     → read_bytes before (line ++ (10 ∷ rest)) ≡ read_bytes before (other ++ (10 ∷ rest))
 unfolding read_lines
-blank_lines line other rest before one also p q =
-    rw (lines_of-cut line rest one, lines_of-cut other rest also, p (before + 1), q (before + 1)) refl
+same_lines line other rest before one also same =
+    rw (lines_of-cut line rest one, lines_of-cut other rest also, same (before + 1)) refl
 
 is_blank : (line : List ℕ) → (line ≡ []) ⊎ (line ≡ 13 ∷ []) → (n : ℕ) → line_of n line ≡ Blank
 is_blank line (inl is) n = rw is (line_of-empty n)
@@ -91,7 +77,12 @@ is_blank line (inr is) n = rw is (line_of-return n)
 pub alike_comma : (line rest : List ℕ) → line_len line ≡ length line → (line ≡ []) ⊎ (line ≡ 13 ∷ []) → ReadAlike (line ++ (10 ∷ rest)) (44 ∷ 10 ∷ rest)
 alike_comma line rest one empty = λ before behind.
     rw (append_assoc line (10 ∷ rest) behind)
-    (blank_lines line (44 ∷ []) (rest ++ behind) before one refl (is_blank line empty) line_of-comma)
+    (same_lines line (44 ∷ []) (rest ++ behind) before one refl (λ n. is_blank line empty n ∙ sym (line_of-comma n)))
+
+alike_quote : (line rest : List ℕ) → line_len line ≡ length line → IsOpen line → ReadAlike (line ++ (10 ∷ rest)) ((line ++ (34 ∷ [])) ++ (10 ∷ rest))
+alike_quote line rest one is = λ before behind.
+    rw (append_assoc line (10 ∷ rest) behind, append_assoc (line ++ (34 ∷ [])) (10 ∷ rest) behind)
+    (same_lines line (line ++ (34 ∷ [])) (rest ++ behind) before one is.closed.one (λ n. is.same n ∙ sym (line_of-alike n (line ++ (34 ∷ [])) is.closed)))
 
 -- ---- runs
 pub no_run : IsRun []
@@ -138,6 +129,26 @@ copied_empty end len bytes lines e lt empty run same =
     let behind : ReadAlike (lines ++ rest) (lines ++ (44 ∷ 10 ∷ drop (len + 1) rest)) = alike_behind lines rest (44 ∷ 10 ∷ drop (len + 1) rest) run front in (
       run_more lines (44 ∷ []) run comma_alike,
       rw (more, append_assoc lines (44 ∷ 10 ∷ []) (drop (len + 1) rest)) (alike_then bytes (lines ++ rest) (lines ++ (44 ∷ 10 ∷ drop (len + 1) rest)) same behind),
+    )
+
+-- a line whose quotes are open
+both_ends : (lines line : List ℕ) → (lines ++ line) ++ (34 ∷ 10 ∷ []) ≡ lines ++ ((line ++ (34 ∷ [])) ++ (10 ∷ []))
+both_ends lines line = rw (append_assoc lines line (34 ∷ 10 ∷ []), append_assoc line (34 ∷ []) (10 ∷ [])) refl
+
+pub copied_open : (end len : ℕ) (bytes lines : List ℕ) → len ≡ line_len (drop end bytes) → len < length (drop end bytes) → IsOpen (take len (drop end bytes)) → IsRun lines → ReadAlike bytes (lines ++ drop end bytes)
+    → IsRun ((lines ++ take len (drop end bytes)) ++ (34 ∷ 10 ∷ [])) × ReadAlike bytes (((lines ++ take len (drop end bytes)) ++ (34 ∷ 10 ∷ [])) ++ drop (end + (len + 1)) bytes)
+copied_open end len bytes lines e lt is run same =
+    let rest = drop end bytes in
+    let line = take len rest in
+    let quoted = line ++ (34 ∷ []) in
+    let more : drop (end + (len + 1)) bytes ≡ drop (len + 1) rest = grind (arith, common_steps) in
+    let split : rest ≡ line ++ (10 ∷ drop (len + 1) rest) = rw e (split_line rest (rw (← e) lt)) in
+    let one : line_len line ≡ length line = rw e (one_line rest) in
+    let front : ReadAlike rest (quoted ++ (10 ∷ drop (len + 1) rest)) = alike_then rest (line ++ (10 ∷ drop (len + 1) rest)) (quoted ++ (10 ∷ drop (len + 1) rest)) (alike_same rest (line ++ (10 ∷ drop (len + 1) rest)) split) (alike_quote line (drop (len + 1) rest) one is) in
+    let behind : ReadAlike (lines ++ rest) (lines ++ (quoted ++ (10 ∷ drop (len + 1) rest))) = alike_behind lines rest (quoted ++ (10 ∷ drop (len + 1) rest)) run front in
+    let ends : (lines ++ (quoted ++ (10 ∷ []))) ++ drop (len + 1) rest ≡ lines ++ (quoted ++ (10 ∷ drop (len + 1) rest)) = rw (append_assoc lines (quoted ++ (10 ∷ [])) (drop (len + 1) rest), append_assoc quoted (10 ∷ []) (drop (len + 1) rest)) refl in (
+      rw (both_ends lines line) (run_more lines quoted run is.closed),
+      rw (more, both_ends lines line, ends) (alike_then bytes (lines ++ rest) (lines ++ (quoted ++ (10 ∷ drop (len + 1) rest))) same behind),
     )
 
 pub whole_rest : (end : ℕ) (bytes : List ℕ) → take (length bytes - end) (drop end bytes) ≡ drop end bytes

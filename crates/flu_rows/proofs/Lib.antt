@@ -1,7 +1,9 @@
 pub mod NameBytes
 pub mod RecordFields
 pub mod Cuts
+pub mod Alone
 pub mod Scanning
+pub mod FieldCuts
 pub mod Alike
 pub mod Runs
 pub mod StepLemmas

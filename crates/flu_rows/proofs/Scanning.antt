@@ -1,16 +1,17 @@
 -- A line whose quotes close, as csv reads it alone and before other lines.
-use Rattle.std.proofs.Common.{◌≡◌, ◌≢◌, inl, inr, ℕ, ◌<◌, ◌≤◌, true, false, eqb, List, [], ◌∷◌, ◌++◌, length, refl, ◌∙◌, append_assoc, get_or, Some, arith}
+use Rattle.std.proofs.Common.{◌≡◌, ◌≢◌, inl, inr, ℕ, ◌<◌, ◌≤◌, true, false, eqb, List, [], ◌∷◌, ◌++◌, length, length-append, refl, sym, ◌∙◌, append_assoc, get_or, Some, arith}
 use Rattle.std.proofs.lemmas.Bool.{cases_Bool}
 use Rattle.std.proofs.lemmas.List.{append-nil}
 use Rattle.std.specs.List.{list_any}
 use Rattle.csv.specs.Machine.{next_record}
 use Rattle.csv.specs.Reading.{default_config, strip_bom}
-use Rattle.csv.specs.declared.parser.State.{State}
 use Rattle.csv.specs.declared.parser.State.TheVariants as state
 use Rattle.flu_rows.specs.declared.scan.Quotes.{Quotes}
 use Rattle.flu_rows.specs.declared.scan.Quotes.TheVariants.{FieldStart, Bare, Quoted, Closed}
 use Rattle.flu_rows.specs.Lines.{line_len, begins_with_mark}
-use Rattle.flu_rows.specs.LoopRuns.{next_quotes, quotes_after, Closes, IsTextOf, IsAlike}
+use Rattle.flu_rows.specs.LoopRuns.{next_quotes, csv_state, quotes_after, Closes, Opens, IsTextOf, IsAlike, IsOpen}
+use Rattle.flu_rows.proofs.Alone.{line_of-alone}
+use Rattle.flu_rows.proofs.Cuts.{line_len-more}
 
 -- no byte ends a record
 unfoldable NoEnds : List ℕ → Type 0
@@ -31,13 +32,6 @@ no_ends (b ∷ bytes) one none =
         | inr plain ↦ (miss, plain, no_ends bytes (omega (arith, rw miss at one)) (rw plain at none))
       ]
     ]
-
--- the state of csv within a record
-abbrev csv_state : Quotes → State
-csv_state FieldStart = state.StartField
-csv_state Bare = state.InField
-csv_state Quoted = state.InQuoted
-csv_state Closed = state.AfterQuote
 
 -- one byte more, whatever stands behind it
 one_byte : (q : Quotes) (fields : List (List ℕ)) (field : List ℕ) (b : ℕ) → eqb b 10 ≡ false → eqb b 13 ≡ false
@@ -81,7 +75,7 @@ fed q fields field (b ∷ bytes) none =
     (more.0, more.1, λ rest. first.2 (bytes ++ rest) ∙ more.2 rest)
 
 -- where no quotes are open, the end of the bytes and each byte of a line's end end the record
-at_end : (q : Quotes) (fields : List (List ℕ)) (field : List ℕ) → q ≢ Quoted → next_record default_config (csv_state q) fields field [] ≡ Some (fields ++ (field ∷ []), state.StartRecord, [])
+pub at_end : (q : Quotes) (fields : List (List ℕ)) (field : List ℕ) → q ≢ Quoted → next_record default_config (csv_state q) fields field [] ≡ Some (fields ++ (field ∷ []), state.StartRecord, [])
 unfolding next_record
 at_end FieldStart fields field ne = refl
 at_end Bare fields field ne = refl
@@ -95,7 +89,7 @@ at_feed Bare fields field rest ne = refl
 at_feed Quoted fields field rest ne = absurd (ne refl)
 at_feed Closed fields field rest ne = refl
 
-at_return : (q : Quotes) (fields : List (List ℕ)) (field rest : List ℕ) → q ≢ Quoted → next_record default_config (csv_state q) fields field (13 ∷ rest) ≡ Some (fields ++ (field ∷ []), state.AfterCr, rest)
+pub at_return : (q : Quotes) (fields : List (List ℕ)) (field rest : List ℕ) → q ≢ Quoted → next_record default_config (csv_state q) fields field (13 ∷ rest) ≡ Some (fields ++ (field ∷ []), state.AfterCr, rest)
 unfolding next_record
 at_return FieldStart fields field rest ne = refl
 at_return Bare fields field rest ne = refl
@@ -103,12 +97,12 @@ at_return Quoted fields field rest ne = absurd (ne refl)
 at_return Closed fields field rest ne = refl
 
 -- a record begins as a field does
-begins : (b : ℕ) (rest : List ℕ) → eqb b 10 ≡ false → eqb b 13 ≡ false → next_record default_config state.StartRecord [] [] (b ∷ rest) ≡ next_record default_config state.StartField [] [] (b ∷ rest)
+pub begins : (b : ℕ) (rest : List ℕ) → eqb b 10 ≡ false → eqb b 13 ≡ false → next_record default_config state.StartRecord [] [] (b ∷ rest) ≡ next_record default_config state.StartField [] [] (b ∷ rest)
 unfolding next_record
 begins b rest lf cr = rw (cr, lf) refl
 
 -- a text that does not begin with the first byte of a byte order mark
-bare_front : (b : ℕ) (rest : List ℕ) → eqb b 0xEF ≡ false → strip_bom (b ∷ rest) ≡ b ∷ rest
+pub bare_front : (b : ℕ) (rest : List ℕ) → eqb b 0xEF ≡ false → strip_bom (b ∷ rest) ≡ b ∷ rest
 unfolding strip_bom
 bare_front b [] ne = refl
 bare_front b (c ∷ []) ne = refl
@@ -168,3 +162,45 @@ pub alike : (text line : List ℕ) → IsTextOf text line → line_len line ≡ 
 alike [] line is one short some ne closes = absurd (omega arith)
 alike (b ∷ text) line is one short some ne closes =
     alike_text b text line is short one ne (no_ends (b ∷ text) (one_text (b ∷ text) line is one) closes.unbroken) closes.closed
+
+-- ---- a line whose quotes are open
+quoted_end : (fields : List (List ℕ)) (field rest : List ℕ) → next_record default_config state.InQuoted fields field (34 ∷ 10 ∷ rest) ≡ Some (fields ++ (field ∷ []), state.StartRecord, rest)
+unfolding next_record
+quoted_end fields field rest = refl
+
+quoted_last : (fields : List (List ℕ)) (field : List ℕ) → next_record default_config state.InQuoted fields field (34 ∷ []) ≡ Some (fields ++ (field ∷ []), state.StartRecord, [])
+unfolding next_record
+quoted_last fields field = refl
+
+quoted_open : (fields : List (List ℕ)) (field : List ℕ) → next_record default_config state.InQuoted fields field [] ≡ Some (fields ++ (field ∷ []), state.StartRecord, [])
+unfolding next_record
+quoted_open fields field = refl
+
+open_text : (b : ℕ) (text : List ℕ) → length (b ∷ text) < 4096 → line_len (b ∷ text) ≡ length (b ∷ text) → eqb b 0xEF ≡ false → NoEnds (b ∷ text) → quotes_after FieldStart (b ∷ text) ≡ Quoted → IsOpen (b ∷ text)
+unfolding NoEnds
+open_text b text short one ne none unshut =
+    let f = fed FieldStart [] [] (b ∷ text) none in
+    let quoted : (rest : List ℕ) → next_record default_config state.StartRecord [] [] ((b ∷ text) ++ rest) ≡ next_record default_config state.InQuoted f.0 f.1 rest = λ rest. begins b (text ++ rest) none.0 none.1 ∙ (rw unshut at (f.2 rest)) in
+    let alone : next_record default_config state.StartRecord [] [] (b ∷ text) ≡ Some (f.0 ++ (f.1 ∷ []), state.StartRecord, []) = (rw append-nil at (quoted [])) ∙ quoted_open f.0 f.1 in
+    record {
+      closed = record {
+        fields = f.0 ++ (f.1 ∷ []);
+        cr = false;
+        short = omega (arith, short, length-append (b ∷ text) (34 ∷ []));
+        one = line_len-more (b ∷ text) (34 ∷ []) one ∙ sym (length-append (b ∷ text) (34 ∷ []));
+        unmarked = unmarked_text b (text ++ (34 ∷ [])) ((b ∷ text) ++ (34 ∷ [])) (inl refl) ne;
+        bare = bare_text b (text ++ (34 ∷ [])) ((b ∷ text) ++ (34 ∷ [])) (inl refl) ne;
+        alone = quoted (34 ∷ []) ∙ quoted_last f.0 f.1;
+        before = λ behind. rw (append_assoc (b ∷ text) (34 ∷ []) (10 ∷ behind)) (quoted (34 ∷ 10 ∷ behind) ∙ quoted_end f.0 f.1 behind);
+      };
+      same = λ number. line_of-alone number (b ∷ text) (f.0 ++ (f.1 ∷ [])) false (omega arith) (unmarked_text b text (b ∷ text) (inl refl) ne) (rw append-nil at (bare_text b text (b ∷ text) (inl refl) ne [])) alone;
+    }
+
+-- a line whose quotes are open
+pub open_alike : (line : List ℕ) → line_len line ≡ length line → length line < 4096 → 0 < length line → eqb (get_or line 0 0) 0xEF ≡ false → Opens line → IsOpen line
+open_alike [] one short some ne opens = absurd (omega arith)
+open_alike (b ∷ text) one short some ne opens = open_text b text short one ne (no_ends (b ∷ text) one opens.unbroken) opens.unshut
+
+pub some_line : (text line : List ℕ) → IsTextOf text line → 0 < length text → 0 < length line
+some_line text line (inl is) some = rw is some
+some_line text line (inr is) some = rw is (omega (arith, some, length-append text (13 ∷ [])))

@@ -10,12 +10,14 @@ use Rattle.flu_rows.specs.declared.held.Found.TheVariants.{Line as LineFound, La
 use Rattle.flu_rows.specs.declared.line.Line.{Line}
 use Rattle.flu_rows.specs.declared.line.Line.TheVariants.{Blank, Bad as BadLine, Row as RowLine}
 use Rattle.flu_rows.specs.declared.rows.Next.{Next}
-use Rattle.flu_rows.specs.declared.rows.Next.TheVariants.{Row, TooManyLines, Done}
+use Rattle.flu_rows.specs.declared.rows.Next.TheVariants.{Row as RowNext, TooManyLines, Done}
 use Rattle.flu_rows.specs.declared.rows.Step.{Step}
 use Rattle.flu_rows.specs.declared.rows.Step.TheVariants.{Skip, Give}
 use Rattle.flu_rows.specs.LoopFilling.{IsFound, IsLast}
 use Rattle.flu_rows.specs.Lines.{line_len, lines_of, line_of, line_of_fields}
 use Rattle.flu_rows.specs.Reading.{read_line, read_lines, read_bytes}
+use Rattle.flu_rows.specs.declared.row.Row.{Row}
+use Rattle.flu_rows.specs.LoopFields.{StartsWithRow}
 use Rattle.flu_rows.specs.LoopRuns.{GivesLine}
 use Rattle.flu_rows.specs.LoopSteps.{step_of, row_step, step_behind, BeginsWith, ReadsStep}
 use Rattle.flu_outside.specs.Taking.{KeepsBytes, bytes_left, IsReadOut}
@@ -38,7 +40,7 @@ at_limit n now coming found h ne last e = let k = some_line now coming found h n
 by_line : (line : Line) (number : ℕ) (others more : List Next) → (line ≢ BadLine → others ≡ more) → read_line line number others ≡ step_behind (step_of line number) more
 by_line Blank number others more h = h (λ e. cc)
 by_line BadLine number others more h = refl
-by_line (RowLine row) number others more h = ap (λ (ns : List Next). Row number row ∷ ns) (h (λ e. cc))
+by_line (RowLine row) number others more h = ap (λ (ns : List Next). RowNext number row ∷ ns) (h (λ e. cc))
 
 pub at_line : (n : ℕ) (now after coming : List ℕ) (line : Line) → n + 1 ≢ 2 ^ 32 → BeginsWith (n + 1) line now after coming
     → read_bytes n (now ++ coming) ≡ step_behind (step_of line (n + 1)) (read_bytes (n + 1) (after ++ coming))
@@ -72,6 +74,26 @@ at_held_row n n' old new held coming fields g counts =
 pub at_run : (name : List ℕ) (a : Option Contents) (n n' : ℕ) (old new held : List ℕ) (fields : List (List ℕ)) → GivesLine old new fields → (n + 1 ≢ 2 ^ 32 → n' ≡ n + 1)
     → WhereTold a a (ReadsStep name n (old ++ held) n' (new ++ held) (row_step n fields))
 at_run name a n n' old new held fields g counts = told_same (ReadsStep name n (old ++ held) n' (new ++ held) (row_step n fields)) a (λ x. at_held_row n n' old new held (bytes_left x name) fields g counts)
+
+-- a row that stands at the front
+at_front_line : (held coming : List ℕ) (row : Row) (size : ℕ) (s : StartsWithRow held row size) → lines_of (held ++ coming) ≡ s.line ∷ lines_of (drop size held ++ coming)
+at_front_line held coming row size s =
+    let front : held ++ coming ≡ s.line ++ (10 ∷ (drop size held ++ coming)) = ap (λ (x : List ℕ). x ++ coming) s.whole ∙ append_assoc s.line (10 ∷ drop size held) coming in
+    ap lines_of front ∙ lines_of-cut s.line (drop size held ++ coming) s.one
+
+pub at_front_limit : (n : ℕ) (held coming : List ℕ) (row : Row) (size : ℕ) → StartsWithRow held row size → n + 1 ≡ 2 ^ 32 → read_bytes n (held ++ coming) ≡ TooManyLines ∷ []
+unfolding read_lines
+at_front_limit n held coming row size s e = rw (at_front_line held coming row size s, e) refl
+
+pub at_front : (n : ℕ) (held rest coming : List ℕ) (row : Row) (size : ℕ) → StartsWithRow held row size → rest ≡ drop size held → n + 1 ≢ 2 ^ 32
+    → read_bytes n (held ++ coming) ≡ RowNext (n + 1) row ∷ read_bytes (n + 1) (rest ++ coming)
+at_front n held rest coming row size s is ne =
+    let behind : lines_of (held ++ coming) ≡ s.line ∷ lines_of (rest ++ coming) = rw is (at_front_line held coming row size s) in
+    at_line n held rest coming (RowLine row) ne (s.line, lines_of (rest ++ coming), behind, s.is (n + 1), λ good. refl)
+
+pub at_front_run : (name : List ℕ) (a : Option Contents) (n n' : ℕ) (run held now : List ℕ) (step : Step) → run ≡ [] → ((coming : List ℕ) → read_bytes n (held ++ coming) ≡ step_behind step (read_bytes n' (now ++ coming)))
+    → WhereTold a a (ReadsStep name n (run ++ held) n' now step)
+at_front_run name a n n' run held now step none reads = rw none (told_same (ReadsStep name n held n' now step) a (λ x. reads (bytes_left x name)))
 
 -- a line that was found, at the files
 pub at_found : (name : List ℕ) (a b : Option Contents) (n n' : ℕ) (held now rest : List ℕ) (found : Found) (step : Step) → WhereTold a b (KeepsBytes name held now) → (IsLast found → IsReadOut name b)

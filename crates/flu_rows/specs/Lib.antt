@@ -5,4 +5,5 @@ pub mod Lines
 pub mod Reading
 pub mod LoopFilling
 pub mod LoopRuns
+pub mod LoopFields
 pub mod LoopSteps

@@ -13,8 +13,8 @@ use Rattle.csv.specs.declared.parser.State.TheVariants as state
 use Rattle.flu_rows.specs.declared.scan.Quotes.{Quotes}
 use Rattle.flu_rows.specs.declared.scan.Quotes.TheVariants.{FieldStart, Bare, Quoted, Closed}
 use Rattle.flu_rows.specs.declared.scan.Kind.{Kind}
-use Rattle.flu_rows.specs.declared.scan.Kind.TheVariants.{Empty, Alike, Other}
-use Rattle.flu_rows.specs.Lines.{begins_with_mark, line_len}
+use Rattle.flu_rows.specs.declared.scan.Kind.TheVariants.{Empty, Alike, Open, Other}
+use Rattle.flu_rows.specs.Lines.{begins_with_mark, line_len, line_of, line_of_fields}
 use Rattle.flu_rows.specs.Reading.{read_bytes}
 
 -- ---- where the quotes of a line stand
@@ -28,6 +28,13 @@ unfoldable pub quotes_after : Quotes → List ℕ → Quotes
 quotes_after quotes [] = quotes
 quotes_after quotes (b ∷ bytes) = quotes_after (next_quotes quotes b) bytes
 
+-- the state of csv within a record
+abbrev pub csv_state : Quotes → State
+csv_state FieldStart = state.StartField
+csv_state Bare = state.InField
+csv_state Quoted = state.InQuoted
+csv_state Closed = state.AfterQuote
+
 -- a line's text: the line but for a carriage return at its end
 abbrev pub IsTextOf : List ℕ → List ℕ → Type 0
 IsTextOf text line = (line ≡ text) ⊎ (line ≡ text ++ (13 ∷ []))
@@ -36,6 +43,11 @@ IsTextOf text line = (line ≡ text) ⊎ (line ≡ text ++ (13 ∷ []))
 pub record Closes (text : List ℕ) : Type 0 where
   pub unbroken : list_any (λ b. b == 13) text ≡ false
   pub closed : quotes_after FieldStart text ≢ Quoted
+
+-- no carriage return stands in a line, and its quotes are open at its end
+pub record Opens (line : List ℕ) : Type 0 where
+  pub unbroken : list_any (λ b. b == 13) line ≡ false
+  pub unshut : quotes_after FieldStart line ≡ Quoted
 
 -- ---- lines of a run
 -- csv's state behind a line, and the byte of the line's end that it then still has before it
@@ -64,10 +76,16 @@ pub record IsAlike (line : List ℕ) : Type 0 where
   pub alone : next_record default_config state.StartRecord [] [] line ≡ Some (fields, state_after cr, [])
   pub before : (behind : List ℕ) → next_record default_config state.StartRecord [] [] (line ++ (10 ∷ behind)) ≡ Some (fields, state_after cr, lead (state_after cr) ++ behind)
 
--- a line is empty, perhaps but for a carriage return; or it is alike
+-- a line is what the same line is with one more quote, which is alike
+pub record IsOpen (line : List ℕ) : Type 0 where
+  pub closed : IsAlike (line ++ (34 ∷ []))
+  pub same : (number : ℕ) → line_of number line ≡ line_of_fields closed.fields
+
+-- a line is empty, perhaps but for a carriage return; or it is alike; or it is alike with one more quote
 abbrev pub HasKind : List ℕ → Kind → Type 0
 HasKind line Empty = (line ≡ []) ⊎ (line ≡ 13 ∷ [])
 HasKind line Alike = IsAlike line
+HasKind line Open = IsOpen line
 HasKind line Other = ⊤
 
 unfoldable pub AreAlike : List (List ℕ) → Type 0

@@ -2,6 +2,7 @@
 #![tactic(auto)]
 
 mod fields;
+mod front;
 mod held;
 mod line;
 mod names;
@@ -10,7 +11,9 @@ mod row;
 mod rows;
 mod run;
 mod scan;
+mod short_name;
 
 pub use held::RowsFault;
 pub use row::Row;
 pub use rows::{Next, Rows};
+pub use short_name::ShortName;

@@ -4,11 +4,14 @@ ghost use Rattle.std.specs.Prelude.{◌≡◌, ◌≢◌, ◌+◌, ◌^◌, ◌+
 ghost use Rattle.csv.specs.Records.{fields_of};
 ghost use Rattle.flu_outside.specs.Outside.{WhereTold, Rose, SameCounts};
 ghost use Rattle.flu_outside.specs.Taking.{TakesFrom, CountsOf, IsReadOut};
+ghost use Rattle.flu_rows.specs.LoopFields.{StartsWithRow};
 ghost use Rattle.flu_rows.specs.LoopFilling.{IsFound};
 ghost use Rattle.flu_rows.specs.Lines.{IsUndecided, LineInRange};
+ghost use Rattle.flu_rows.specs.Row.{IsInRange};
 ghost use Rattle.flu_rows.specs.Reading.{ahead, front_of, then_behind, read_bytes, NextInRange, CountsLines, OnDone};
 ghost use Rattle.flu_rows.specs.LoopSteps.{step_of, row_step, step_behind, BeginsWith, StepInRange, StepCounts, StepOnDone, ReadsStep};
 
+use crate::front::row_at_front;
 use crate::held::{Found, Held, RowsFault};
 use crate::line::{Line, line_of, line_of_record};
 use crate::row::Row;
@@ -137,13 +140,37 @@ impl Hold {
             return Err(RowsFault::NoMemory);
         };
         if found {
-            return step_of_row(self.alloc, &self.row, &mut self.lines);
+            return Ok(step_of_row(&self.row, &mut self.lines));
+        }
+        if let Some((row, size)) = row_at_front(self.held.bytes()) {
+            return Ok(self.take_row(row, size));
         }
         let found = self.held.fill(file, files)?;
         if let Found::End = found {
             return Ok(Step::Give(Next::Done { lines: self.lines }));
         }
         self.read_held(found)
+    }
+
+    // Takes the row that was found at the front of the bytes that are held, and so many bytes with it.
+    fn take_row(&mut self, row: Row, size: usize) -> Step
+        requires found { StartsWithRow self.old.held row size }
+        requires range { IsInRange row }
+        requires none { self.old.run ≡ [] }
+        ensures told { (coming : List ℕ) → read_bytes self.old.lines (self.old.held ++ coming) ≡ step_behind result (read_bytes self.new.lines (self.new.run ++ self.new.held ++ coming)) }
+        ensures end { StepOnDone result ⊥ }
+        ensures range { StepInRange result }
+        ensures lines { StepCounts self.old.lines self.new.lines result }
+    {
+        if self.lines == u32::MAX {
+            return Step::Give(Next::TooManyLines);
+        }
+        self.lines += 1;
+        self.held.drop_front(size);
+        Step::Give(Next::Row {
+            line: self.lines,
+            row,
+        })
     }
 
     // Reads the line at the front of the bytes that are held.
@@ -158,6 +185,9 @@ impl Hold {
         ensures lines { IfOk result (StepCounts self.old.lines self.new.lines) }
         ensures cause { result ≢ Err RowsFault.ReadFault }
     {
+        if let Some((row, size)) = row_at_front(self.held.bytes()) {
+            return Ok(self.take_row(row, size));
+        }
         let Ok(run) = Run::take(self.alloc, &mut self.held) else {
             return Err(RowsFault::NoMemory);
         };
@@ -166,7 +196,7 @@ impl Hold {
             return Err(RowsFault::NoMemory);
         };
         if again {
-            return step_of_row(self.alloc, &self.row, &mut self.lines);
+            return Ok(step_of_row(&self.row, &mut self.lines));
         }
         if self.lines == u32::MAX {
             return Ok(Step::Give(Next::TooManyLines));
@@ -204,22 +234,18 @@ fn take_line(alloc: Global, number: u32, found: Found, held: &mut Held) -> Resul
 }
 
 // What a line with this record gives, which is one more.
-fn step_of_row(alloc: Global, row: &ByteRecord, lines: &mut u32) -> Result<Step, RowsFault>
-    ensures value { IfOk result (λ step. step ≡ row_step lines.old (fields_of row.now)) }
-    ensures range { IfOk result StepInRange }
-    ensures lines { IfOk result (StepCounts lines.old lines.new) }
+fn step_of_row(row: &ByteRecord, lines: &mut u32) -> Step
+    ensures value { result ≡ row_step lines.old (fields_of row.now) }
+    ensures range { StepInRange result }
+    ensures lines { StepCounts lines.old lines.new result }
     ensures counts { lines.old + 1 ≢ 2 ^ 32 → lines.new ≡ lines.old + 1 }
-    ensures end { IfOk result (λ step. StepOnDone step ⊥) }
-    ensures cause { result ≢ Err RowsFault.ReadFault }
+    ensures end { StepOnDone result ⊥ }
 {
     if *lines == u32::MAX {
-        return Ok(Step::Give(Next::TooManyLines));
+        return Step::Give(Next::TooManyLines);
     }
     *lines += 1;
-    let Ok(line) = line_of_record(alloc, row) else {
-        return Err(RowsFault::NoMemory);
-    };
-    Ok(step_of(line, *lines))
+    step_of(line_of_record(row), *lines)
 }
 
 // What the line of this number gives.

@@ -14,6 +14,9 @@ use std::marker::Model;
 /// A line that is blank, as an empty one is, and of which csv gives a record.
 const BLANK_LINE: [u8; 2] = [b',', b'\n'];
 
+/// The end of a line whose quotes are open.
+const QUOTED_END: [u8; 2] = [b'"', b'\n'];
+
 /// Whole lines that are still to be read, which contracts see as their bytes.
 ///
 /// The reader stands in a box, so that a run is small to move.
@@ -92,7 +95,7 @@ impl Run {
 }
 
 // Copies the lines at the front that one reader may read, with a blank line of which csv gives a record for each that is
-// empty, and says how many bytes they are.
+// empty and with a quote that closes what is open, and says how many bytes they are.
 fn copy_lines(bytes: &[u8], lines: &mut Vec<u8>) -> Result<usize, AllocError>
     requires { lines.old.items ≡ [] }
     ensures within { IfOk result (λ end. end ≤ length bytes.now) }
@@ -110,6 +113,10 @@ fn copy_lines(bytes: &[u8], lines: &mut Vec<u8>) -> Result<usize, AllocError>
         match kind_of(&rest[..len]) {
             Kind::Empty => lines.extend_from_slice(&BLANK_LINE)?,
             Kind::Alike => lines.extend_from_slice(&rest[..len + 1])?,
+            Kind::Open => {
+                lines.extend_from_slice(&rest[..len])?;
+                lines.extend_from_slice(&QUOTED_END)?;
+            }
             Kind::Other => return Ok(end),
         }
         end += len + 1;

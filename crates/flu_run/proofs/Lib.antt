@@ -7,3 +7,4 @@ pub mod Gathering
 pub mod Settling
 pub mod Readying
 pub mod Rooted
+pub mod SharedCases

@@ -14,6 +14,7 @@ ghost use Rattle.flu_run.specs.Ended.{Keeps, EndsWhole, IsWhole};
 ghost use Rattle.flu_run.specs.Seeing.{WatchesFrom};
 ghost use Rattle.flu_run.specs.Starts.{StartsAt};
 
+use crate::backup::fall_back;
 use crate::ends::End;
 use crate::feeding::{feed_all, limits, words};
 use crate::handed::{Done, Ended, FromEnd, Why};
@@ -59,7 +60,7 @@ pub fn run_tree<H: HasCase + Sync, G: Gate, B: Engine<R>, R: Threads + Wait + Sy
 {
     match run_all(rt, alloc, case, gate) {
         Ended::Done(done) => Ok(taken(case, done)),
-        Ended::Cut(Why::Refused) => fall_back(rt, alloc, case, backup),
+        Ended::Cut(Why::Refused) => backed_up(rt, alloc, case, backup),
         Ended::Cut(Why::NoMemory | Why::Stopped) => Err(AllocError),
     }
 }
@@ -159,7 +160,7 @@ fn taken<H: HasCase>(holder: &H, done: Done) -> (State, Outs)
 }
 
 // The run of the backup, from a copy of the opening state.
-fn fall_back<H: HasCase, B: Engine<R>, R>(
+fn backed_up<H: HasCase, B: Engine<R>, R>(
     rt: &R,
     alloc: Global,
     holder: &H,
@@ -174,5 +175,5 @@ fn fall_back<H: HasCase, B: Engine<R>, R>(
     laws_below();
     let case = holder.case();
     let start = case.opening().copy()?;
-    backup.batch(rt, alloc, start, case.streams())
+    fall_back(rt, alloc, start, case.streams(), backup)
 }

@@ -1,7 +1,8 @@
 //! The values of expressions: signed numbers of 64 bits, where each result is clamped to that range (`docs/LANGUAGE.md`).
 
-ghost use Rattle.std.specs.Prelude.{◌≡◌, pos};
+ghost use Rattle.std.specs.Prelude.{◌≡◌, ℕ, pos, IfSome};
 ghost use Rattle.flu_model.specs.Contents as contents;
+ghost use Rattle.flu_model.specs.Contents.{Contents};
 ghost use Rattle.flu_model.specs.Expressions as meaning;
 ghost use Rattle.flu_cells.specs.Holding.{held};
 
@@ -24,7 +25,40 @@ pub fn value_of(e: &Expr, s: &State, x: &Event, key: u32) -> i64
         Expr::Has(r) => as_number(s.get(cell_of(*r, key)).is_some()),
         Expr::Neg(e) => value_of(e, s, x, key).saturating_neg(),
         Expr::Not(e) => as_number(!is_true(value_of(e, s, x, key))),
-        Expr::Two(op, a, b) => result_of(*op, value_of(a, s, x, key), value_of(b, s, x, key)),
+        Expr::Two(op, a, b) => {
+            let right = match known(b, x) {
+                Some(n) => n,
+                None => value_of(b, s, x, key),
+            };
+            // A chain of operators leans to the left, so an operator there is done without a call too.
+            if let Expr::Two(inner, c, d) = &**a {
+                let second = match known(d, x) {
+                    Some(n) => n,
+                    None => value_of(d, s, x, key),
+                };
+                let first = match known(c, x) {
+                    Some(n) => n,
+                    None => value_of(c, s, x, key),
+                };
+                return result_of(*op, result_of(*inner, first, second), right);
+            }
+            let left = match known(a, x) {
+                Some(n) => n,
+                None => value_of(a, s, x, key),
+            };
+            result_of(*op, left, right)
+        }
+    }
+}
+
+// The value of an operand that is read off without a call: most are numbers of the job or the event's value.
+fn known(e: &Expr, x: &Event) -> Option<i64>
+    ensures { IfSome result (λ n. (s : Contents) (key : ℕ) → n ≡ meaning.value_of_expr e.now s x.now key) }
+{
+    match e {
+        Expr::Lit(n) => Some(*n),
+        Expr::Value => Some(x.value),
+        _ => None,
     }
 }
 

@@ -23,10 +23,7 @@ use Rattle.flu_model.specs.Reports.{Line, line_of, line_cmp, line_bytes, report}
 use Rattle.flu_model.specs.Updates.{effect_of}
 use Rattle.flu_streams.specs.Lists.{item_time}
 use Rattle.flu_streams.specs.Borders.{AreCutAt, LawOfBorders, ItemsAreCut}
-use Rattle.flu_streams.proofs.Cutting.{in_order-cut, all_early, all_late, kept_all, kept_none}
-
-later : (t n : ℕ) → nat_lt t n ≡ not (nat_le n t)
-later t n = grind (arith, nat_tests)
+use Rattle.flu_streams.proofs.Cutting.{in_order-cut, all_early, all_late, kept_all, kept_none, not_not, later_is}
 
 -- ---- the merged list
 early_first : (t : ℕ) (x y : Event) → nat_le x.time t ≡ true → nat_le y.time t ≡ false → is_before x y ≡ true
@@ -45,7 +42,7 @@ merged_cut t whole first second cut =
     ∙ ap (λ (xs : List Event). in_order is_before xs ++ merged second) (sym cut.early)
   where
     late : all_events second ≡ filter (λ (x : Event). not (nat_le x.time t)) (all_events whole)
-    late = cut.late ∙ (λ i. filter (λ (x : Event). later t x.time i) (all_events whole))
+    late = cut.late ∙ (λ i. filter (λ (x : Event). later_is t x.time i) (all_events whole))
 
 -- ---- the fold
 pub state_after-append : (p : Program) (s : Contents) (xs ys : List Event) → state_after p s (xs ++ ys) ≡ state_after p (state_after p s xs) ys
@@ -88,10 +85,6 @@ lines_all : (f : ℕ → Bool) (p : Program) (outs : List Out) → list_all (λ 
 lines_all f p [] = refl
 lines_all f p (o ∷ outs) = ap (λ b. f o.time && b) (lines_all f p outs)
 
-not_not : (b : Bool) → not (not b) ≡ b
-not_not true = refl
-not_not false = refl
-
 report_cut : (p : Program) (t : ℕ) (us vs : List Out) → list_all (λ (o : Out). nat_le o.time t) us ≡ true
     → list_all (λ (o : Out). not (nat_le o.time t)) vs ≡ true
     → report p (us ++ vs) ≡ report p us ++ report p vs
@@ -130,7 +123,7 @@ folds_in_turn p opening t whole first second cut =
     early = rw cut.early (all_early is_before (λ (x : Event). nat_le x.time t) (early_first t) (late_last t) (all_events whole))
 
     late : list_all (λ (x : Event). not (nat_le x.time t)) (merged second) ≡ true
-    late = rw (cut.late ∙ (λ i. filter (λ (x : Event). later t x.time i) (all_events whole))) (all_late is_before (λ (x : Event). nat_le x.time t) (early_first t) (late_last t) (all_events whole))
+    late = rw (cut.late ∙ (λ i. filter (λ (x : Event). later_is t x.time i) (all_events whole))) (all_late is_before (λ (x : Event). nat_le x.time t) (early_first t) (late_last t) (all_events whole))
 
 -- ---- items up to a time and later ones
 kept_events : (f : ℕ → Bool) (items : List Item)

@@ -1,6 +1,7 @@
 -- A list that is put in order is cut where all elements that pass a test come before all others.
-use Rattle.std.proofs.Common.{◌≡◌, Bool, true, false, cond, List, [], ◌∷◌, ◌++◌, refl, sym, ap, ◌∙◌}
-use Rattle.std.specs.Prelude.{not, ◌&&◌}
+use Rattle.std.proofs.Common.{◌≡◌, ℕ, arith, Bool, true, false, cond, List, [], ◌∷◌, ◌++◌, refl, sym, ap, ◌∙◌}
+use Rattle.std.specs.Prelude.{not, nat_lt, nat_le, ◌&&◌}
+use Rattle.std.proofs.lemmas.Bool.Decides.{nat_tests}
 use Rattle.std.specs.List.{filter, list_all}
 use Rattle.flu_lemmas.specs.Sorting.{put_in_order, in_order}
 use Rattle.flu_lemmas.proofs.Elements.{list_all-IsPermutation}
@@ -62,3 +63,12 @@ module _ {X : Type 0} (before : X → X → Bool) (early : X → Bool)
         | true ↦ λ e. ap (put_in_order before x) (in_order-cut xs) ∙ put_first x (in_order before us) (in_order before vs) e (all_late xs)
         | false ↦ λ e. ap (put_in_order before x) (in_order-cut xs) ∙ put_last x (in_order before us) (in_order before vs) e (all_early xs)
       ] refl
+
+-- ---- times
+pub not_not : (b : Bool) → not (not b) ≡ b
+not_not true = refl
+not_not false = refl
+
+-- a time is later exactly where it is not at most the other
+pub later_is : (t n : ℕ) → nat_lt t n ≡ not (nat_le n t)
+later_is t n = grind (arith, nat_tests)

@@ -1,6 +1,6 @@
 -- The lists of the sources that were read, and what reading them did to the files.
 use Rattle.std.proofs.Common.{◌≡◌, ◌≢◌, inl, inr, ℕ, zero, suc, ◌+◌, ◌<◌, Bool, true, false, not, List, [], ◌∷◌, ◌++◌, length, map, get_or, take, drop, vec_len, Option, Some, None, refl, sym, ap, ◌∙◌, append_assoc, length-append, subst, arith}
-use Rattle.std.specs.Prelude.{IsSome, is_some, unwrap_or, sum_by}
+use Rattle.std.specs.Prelude.{Result, Err, IsErrOf, IsSome, is_some, unwrap_or, sum_by}
 use Rattle.std.specs.List.{flat_map, list_any, Contains}
 use Rattle.std.specs.Cmp.Lexicographic.{bytes_decides}
 use Rattle.std.proofs.lemmas.Bool.{cases_Bool}
@@ -86,11 +86,11 @@ pub apart_from_earlier : (earlier later : List Source) (s : Source) → are_dist
 apart_from_earlier earlier later s apart among = not_among (files_of earlier) s.file (files_of later) (rw map-append at apart) among
 
 -- ---- what is left of the files
-leaves_more : (names : List (List ℕ)) (file : List ℕ) (x y z : Contents) → LeavesOthers names x y → TakesFrom file y z → LeavesOthers (names ++ (file ∷ [])) x z
+pub leaves_more : (names : List (List ℕ)) (file : List ℕ) (x y z : Contents) → LeavesOthers names x y → TakesFrom file y z → LeavesOthers (names ++ (file ∷ [])) x z
 leaves_more names file x y z p q = λ other apart.
     q.others other (λ e. apart (Contains-append_right names (file ∷ []) other (one_contains file other e))) ∙ p other (λ among. apart (Contains-append_left names (file ∷ []) other among))
 
-leaves_wider : (names more : List (List ℕ)) (x y : Contents) → LeavesOthers names x y → LeavesOthers (names ++ more) x y
+pub leaves_wider : (names more : List (List ℕ)) (x y : Contents) → LeavesOthers names x y → LeavesOthers (names ++ more) x y
 leaves_wider names more x y p = λ other apart. p other (λ among. apart (Contains-append_left names more other among))
 
 stays_there : (file n : List ℕ) (y z : Contents) → TakesFrom file y z → IsSome (y n) → IsSome (z n)
@@ -109,7 +109,7 @@ there_more file a (Some y) None t before n there = absurd t
 there_more file a (Some y) (Some z) t before n there = stays_there file n y z t (before n there)
 
 -- ---- the counts
-counts_wider : (a : Option Contents) (names more : List (List ℕ)) (f g : List ℕ → ℕ) → CountsOfNames a names f g → CountsOfNames a (names ++ more) f g
+pub counts_wider : (a : Option Contents) (names more : List (List ℕ)) (f g : List ℕ → ℕ) → CountsOfNames a names f g → CountsOfNames a (names ++ more) f g
 counts_wider a names more f g p = record { rise = p.rise; apart = λ n apart. p.apart n (λ name among. apart name (Contains-append_left names more name among)) }
 
 apart_there : (a b : Option Contents) (name n : List ℕ) → ((m : List ℕ) → IsThere a m → IsThere b m) → CountApart a name n → CountApart b name n
@@ -123,7 +123,7 @@ counts_more a b names file f g h there p q = record {
 }
 
 -- ---- files that were read out
-still_out : (file name : List ℕ) (b c : Option Contents) → WhereTold b c (TakesFrom file) → name ≢ file → IsReadOut name b → IsReadOut name c
+pub still_out : (file name : List ℕ) (b c : Option Contents) → WhereTold b c (TakesFrom file) → name ≢ file → IsReadOut name b → IsReadOut name c
 still_out file name None None t ne out = tt
 still_out file name None (Some z) t ne out = absurd t
 still_out file name (Some y) None t ne out = absurd t
@@ -237,3 +237,7 @@ hides_behind p earlier later s gathered a b c split apart told h = record {
   told = told_then (IsGathered p.kinds earlier gathered) (λ was now. WasRead s h.read (ahead h.place now) was) (λ was now. StopsWithout p.kinds earlier s h.read (ahead h.place now) was) a b c
       (λ x y z g was. hides_join p.kinds earlier s gathered h.read (ahead h.place z) x y h.passes apart g was) told h.told;
 }
+
+-- ---- an answer
+pub err_same : {T E : Type 0} (r : Result T E) (x y : E) → r ≡ Err x → IsErrOf r y → x ≡ y
+err_same r x y is e = let same : Err x ≡ Err y = sym is ∙ e in cc

@@ -10,3 +10,12 @@ pub mod Cutting
 pub mod BorderLaws
 pub mod RoundLaws
 pub mod RoundEnds
+pub mod Counting
+pub mod HeldRows
+pub mod Refilling
+pub mod Starts
+pub mod Rounding
+pub mod RoundOf
+pub mod RefillEnds
+pub mod Cuts
+pub mod Fronts

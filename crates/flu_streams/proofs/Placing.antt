@@ -1,5 +1,5 @@
 -- The place of a time among items in order of time.
-use Rattle.std.proofs.Common.{◌≡◌, ◌≢◌, inl, inr, ℕ, zero, suc, ◌+◌, ◌-◌, ◌<◌, ◌≤◌, true, false, eqb, leb, List, [], ◌∷◌, length, get_or, Some, None, refl, sym, ◌∙◌, arith}
+use Rattle.std.proofs.Common.{◌≡◌, ◌≢◌, inl, inr, ℕ, zero, suc, ◌+◌, ◌-◌, ◌<◌, ◌≤◌, true, false, eqb, leb, List, [], ◌∷◌, length, get_or, Option, Some, None, refl, sym, ◌∙◌, arith}
 use Rattle.std.specs.List.{list_any, insert}
 use Rattle.std.proofs.lemmas.Bool.{cases_Bool, cases_lt}
 use Rattle.std.proofs.lemmas.Bool.Decides.{nat_tests}
@@ -43,11 +43,11 @@ not_at items n time below above =
     stands_nowhere items time (λ i lt same. elim (cases_lt i n) [ inl before ↦ let k = below i before in absurd (omega (arith, k, same)) | inr behind ↦ let k = above i (omega arith) lt in absurd (omega (arith, k, same)) ])
 
 -- ---- the test of a time
-pub at_equal : (slack : ℕ) (earlier : List ℕ) (last time : ℕ) → greatest earlier ≡ Some last → list_any (λ t. eqb t time) earlier ≡ true → test_behind slack earlier (greatest earlier) time ≡ Some (Disordered last time)
-at_equal slack earlier last time top there = rw (top, there) refl
+pub at_equal : (slack : ℕ) (earlier : List ℕ) (greatest : Option ℕ) (last time : ℕ) → greatest ≡ Some last → list_any (λ t. eqb t time) earlier ≡ true → test_behind slack earlier greatest time ≡ Some (Disordered last time)
+at_equal slack earlier greatest last time top there = rw (top, there) refl
 
-pub in_time : (slack : ℕ) (earlier : List ℕ) (last time : ℕ) → greatest earlier ≡ Some last → list_any (λ t. eqb t time) earlier ≡ false → last < time + slack → test_behind slack earlier (greatest earlier) time ≡ None
-in_time slack earlier last time top apart later = let miss : leb (time + slack) last ≡ false = grind (arith, nat_tests) in rw (top, apart, miss) refl
+pub in_time : (slack : ℕ) (earlier : List ℕ) (greatest : Option ℕ) (last time : ℕ) → greatest ≡ Some last → list_any (λ t. eqb t time) earlier ≡ false → last < time + slack → test_behind slack earlier greatest time ≡ None
+in_time slack earlier greatest last time top apart later = let miss : leb (time + slack) last ≡ false = grind (arith, nat_tests) in rw (top, apart, miss) refl
 
 -- ---- an item that is put there
 pub put_at : (items : List Item) (item : Item) (n : ℕ) → n ≤ length items → ((i : ℕ) → i < n → item_time (get_or items i End) < item_time item) → ((i : ℕ) → n ≤ i → i < length items → item_time item < item_time (get_or items i End)) → insert items n item ≡ put_late item_time item items
@@ -56,3 +56,8 @@ put_at items item n few below above = sym (put_late-at item_time item End items 
 pub still_rising : (items : List Item) (item : Item) → rises_from item_time 0 items ≡ true → list_any (λ t. eqb t (item_time item)) (times_in items) ≡ false → rises_from item_time 0 (put_late item_time item items) ≡ true
 still_rising items item up apart =
     is_rising item_time 0 (put_late item_time item items) (rises_late item_time 0 item items (omega arith) (sym (any_time (item_time item) items) ∙ apart) (rising item_time 0 items up))
+
+-- ---- no item
+pub none_held : (items : List Item) → greatest (times_in items) ≡ None → items ≡ []
+none_held [] e = refl
+none_held (z ∷ zs) e = absurd cc

@@ -21,8 +21,8 @@ use Rattle.flu_streams.specs.declared.border.Border.TheVariants.{Closed}
 use Rattle.flu_streams.specs.declared.faults.Why.{Why}
 use Rattle.flu_streams.specs.declared.faults.Why.TheVariants.{AfterEnd}
 use Rattle.flu_streams.specs.Before.{each_with_before}
-use Rattle.flu_streams.specs.Good.{lists_of_rows, rows_in}
-use Rattle.flu_streams.specs.Rounds.{line_defect, defect_in, is_between, rows_between, IsRound, LinesIn, LawOfLastRound}
+use Rattle.flu_streams.specs.Good.{lists_of_rows, lists_of, rows_in}
+use Rattle.flu_streams.specs.Rounds.{line_defect, defect_in, is_between, rows_between, lists_between, IsRound, LinesIn, LawOfLastRound}
 use Rattle.flu_streams.specs.Tags.{width}
 use Rattle.flu_streams.specs.Tests.{row_in, rows_of, is_end, has_ended}
 use Rattle.flu_streams.proofs.RoundLaws.{no_option, sound_front, defect_in-more, each_source, flat_same}
@@ -117,6 +117,24 @@ timed_lists kinds s first rows (inr (front, is, goes)) =
     ap (lists_of_rows kinds s first) timed ∙ (λ i. map (λ place. sym (items_at-end kinds s first place front) i) (range_with_len 0 (width s)))
     ∙ ap (lists_of_rows kinds s first) (sym is)
 
+-- ---- all lines of the sources
+sound_rows : (p : Program) (whole : ℕ → List Next) (left : Contents) → LinesIn p left whole → AtEach (λ i s. defect_in p.kinds s (whole i) ≡ None) p.sources
+    → AtEach (λ i s. (rows_of (whole i) ≡ rows_in left s) × EndsLast (rows_of (whole i))) p.sources
+sound_rows p whole left lines sound = λ i s e. (ap rows_of (lines i s e), ends_last p.kinds s [] (whole i) refl (sound i s e))
+
+lists_are : (p : Program) (now : ℕ → List Next) (left : Contents) → AtEach (λ i s. (rows_of (now i) ≡ rows_in left s) × EndsLast (rows_of (now i))) p.sources
+    → lists_between p None Closed now ≡ lists_of p left
+lists_are p now left rows =
+    flat_same _ _ (each_with_before p.sources)
+    (all_map (λ (e : List Source × Source). (rows_of (now (length e.0)) ≡ rows_in left e.1)
+    × EndsLast (rows_of (now (length e.0)))) _ (each_with_before p.sources)
+    (λ e h. timed_lists p.kinds e.1 (sum_by width e.0) (rows_of (now (length e.0))) h.1 ∙ ap (lists_of_rows p.kinds e.1 (sum_by width e.0)) h.0)
+    (each_source (λ i s. (rows_of (now i) ≡ rows_in left s) × EndsLast (rows_of (now i))) p.sources rows))
+
+pub whole_lists : (p : Program) (whole : ℕ → List Next) (left : Contents) → LinesIn p left whole → AtEach (λ i s. defect_in p.kinds s (whole i) ≡ None) p.sources
+    → lists_between p None Closed whole ≡ lists_of p left
+whole_lists p whole left lines sound = lists_are p whole left (sound_rows p whole left lines sound)
+
 -- ---- the last round
 last_rows : (p : Program) (rows : ℕ) (above : Option ℕ) (whole before now : ℕ → List Next) (left : Contents) → LinesIn p left whole
     → IsRound p rows above whole before now Closed
@@ -126,9 +144,4 @@ last_rows p rows above whole before now left lines round = λ i s e.
     (ap rows_of (sym reads.stops.0 ∙ lines i s e), ends_last p.kinds s [] (now i) refl reads.sound)
 
 pub law_of_last_round : LawOfLastRound
-law_of_last_round p rows above whole before now left lines round =
-    flat_same _ _ (each_with_before p.sources)
-    (all_map (λ (e : List Source × Source). (rows_of (now (length e.0)) ≡ rows_in left e.1)
-    × EndsLast (rows_of (now (length e.0)))) _ (each_with_before p.sources)
-    (λ e h. timed_lists p.kinds e.1 (sum_by width e.0) (rows_of (now (length e.0))) h.1 ∙ ap (lists_of_rows p.kinds e.1 (sum_by width e.0)) h.0)
-    (each_source (λ i s. (rows_of (now i) ≡ rows_in left s) × EndsLast (rows_of (now i))) p.sources (last_rows p rows above whole before now left lines round)))
+law_of_last_round p rows above whole before now left lines round = lists_are p now left (last_rows p rows above whole before now left lines round)

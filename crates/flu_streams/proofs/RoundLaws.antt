@@ -38,7 +38,7 @@ use Rattle.flu_streams.specs.Tags.{place_named, width}
 use Rattle.flu_streams.specs.Tests.{row_in, rows_of, time_in, times_of, greatest, where_true, test_behind, test_times, test_time, test_tag, test_value}
 use Rattle.flu_streams.proofs.Befores.{with_before-append, first_some-append}
 use Rattle.flu_streams.proofs.BorderLaws.{folds_in_turn}
-use Rattle.flu_streams.proofs.Cutting.{in_order-cut, all_early, all_late, kept_all, kept_none}
+use Rattle.flu_streams.proofs.Cutting.{in_order-cut, all_early, all_late, kept_all, kept_none, later_is}
 use Rattle.flu_streams.proofs.Taken.{filter_more, times_more, greatest-push, rows_more}
 
 -- ---- lines without a defect
@@ -94,7 +94,7 @@ settled_is slack last u e = by_test (nat_le slack last) refl e
     by_test true le e = (grind (arith, nat_tests), cc)
     by_test false gt e = absurd cc
 
-settled_some : (slack last : ℕ) → slack ≤ last → settled slack (Some last) ≡ Some (last - slack)
+pub settled_some : (slack last : ℕ) → slack ≤ last → settled slack (Some last) ≡ Some (last - slack)
 settled_some slack last le = let e : nat_le slack last ≡ true = grind (arith, nat_tests) in rw e refl
 
 -- a time that passes is later than what was settled, and what is settled behind it is not earlier
@@ -150,7 +150,7 @@ settles_row s read line row time u was at passes =
       (h.1.0, ap (λ ts. settled s.slack (greatest ts)) (times_with read line row time at) ∙ h.1.1, h.1.2),
     )
 
-line_settles : (kinds : List Kind) (s : Source) (read : List Next) (next : Next) (u : ℕ) → settled_time s read ≡ Some u
+pub line_settles : (kinds : List Kind) (s : Source) (read : List Next) (next : Next) (u : ℕ) → settled_time s read ≡ Some u
     → line_defect kinds s read next ≡ None → Settles s read next u
 line_settles kinds s read (RowNext line (EventRow time name key value)) u was e =
     settles_row s read line (EventRow time name key value) time u was refl (passes_time kinds s _ _ (EventRow time name key value) (no_option (λ (why : Why). (line, why)) _ e))
@@ -385,9 +385,6 @@ place_cut kinds s first b end rows place covers =
     not_later : (b n : ℕ) → not (nat_lt b n) ≡ nat_le n b
     not_later b n = grind (arith, nat_tests)
 
-    later_is : (b n : ℕ) → nat_lt b n ≡ not (nat_le n b)
-    later_is b n = grind (arith, nat_tests)
-
 -- ---- the events of all itags
 maps_cut : (g : Event → Bool) (these those : ℕ → List Item) → ((i : ℕ) → events_of (these i) ≡ filter g (events_of (those i))) → (range : List ℕ)
     → all_events (map these range) ≡ filter g (all_events (map those range))
@@ -429,7 +426,7 @@ between_cut p b end reads covers = record {
 }
 
 -- ---- the border of a round is later than the one before it
-list_all_true : {X : Type 0} (p : X → Bool) → ((x : X) → p x ≡ true) → (xs : List X) → list_all p xs ≡ true
+pub list_all_true : {X : Type 0} (p : X → Bool) → ((x : X) → p x ≡ true) → (xs : List X) → list_all p xs ≡ true
 list_all_true p h [] = refl
 list_all_true p h (x ∷ xs) = both (p x) _ (h x) (list_all_true p h xs)
 

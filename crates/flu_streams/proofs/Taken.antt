@@ -113,12 +113,12 @@ same_test slack these those (Some time) same = by_top (greatest those) (greatest
 pub ordered_more : (rows : List Row) (row : Row) → in_time_order (rows ++ (row ∷ [])) ≡ put_late time_at row (in_time_order rows)
 ordered_more rows row = in_order-late time_at rows row
 
-item_time-of : (kinds : List Kind) (s : Source) (first : ℕ) (row : Row) → item_time (item_of kinds s first row) ≡ time_at row
+pub item_time-of : (kinds : List Kind) (s : Source) (first : ℕ) (row : Row) → item_time (item_of kinds s first row) ≡ time_at row
 item_time-of kinds s first (Event time name key value) = refl
 item_time-of kinds s first (Beat time) = refl
 item_time-of kinds s first End = refl
 
-items_late : (kinds : List Kind) (s : Source) (first : ℕ) (rows : List Row) (row : Row) → map (item_of kinds s first) (in_time_order (rows ++ (row ∷ []))) ≡ put_late item_time (item_of kinds s first row) (map (item_of kinds s first) (in_time_order rows))
+pub items_late : (kinds : List Kind) (s : Source) (first : ℕ) (rows : List Row) (row : Row) → map (item_of kinds s first) (in_time_order (rows ++ (row ∷ []))) ≡ put_late item_time (item_of kinds s first row) (map (item_of kinds s first) (in_time_order rows))
 items_late kinds s first rows row = ap (map (item_of kinds s first)) (ordered_more rows row) ∙ put_late-map (item_of kinds s first) time_at item_time (item_time-of kinds s first) row (in_time_order rows)
 
 -- ---- the list of each itag
@@ -146,7 +146,7 @@ for_itag kinds s first place (Event time name key value) lt = by_place (place_na
 for_itag kinds s first place (Beat time) lt = refl
 for_itag kinds s first place End lt = refl
 
-for_itags : (kinds : List Kind) (s : Source) (first place : ℕ) (rows : List Row) → place < width s → filter_map (item_for (first + place)) (map (item_of kinds s first) rows) ≡ filter_map (item_in kinds s first place) rows
+pub for_itags : (kinds : List Kind) (s : Source) (first place : ℕ) (rows : List Row) → place < width s → filter_map (item_for (first + place)) (map (item_of kinds s first) rows) ≡ filter_map (item_in kinds s first place) rows
 for_itags kinds s first place [] lt = refl
 for_itags kinds s first place (row ∷ rows) lt = λ i. cons_option (for_itag kinds s first place row lt i) (for_itags kinds s first place rows lt i)
 
@@ -321,7 +321,7 @@ refused kinds s number before intake place place' a b c line row (Fault why) rea
 abbrev pub IsNoRow : Next → Type 0
 IsNoRow next = (line : ℕ) (row : Row) → next ≡ RowNext line row → ⊥
 
-then_last : (next : Next) (behind : List Next) → IsNoRow next → then_behind next behind ≡ next ∷ []
+pub then_last : (next : Next) (behind : List Next) → IsNoRow next → then_behind next behind ≡ next ∷ []
 then_last (RowNext line row) behind other = absurd (other line row refl)
 then_last (Bad line) behind other = refl
 then_last TooManyLines behind other = refl

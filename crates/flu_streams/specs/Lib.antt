@@ -10,3 +10,6 @@ pub mod LoopSource
 pub mod LoopGathering
 pub mod Borders
 pub mod Rounds
+pub mod Holding
+pub mod LoopHeld
+pub mod Fronts

@@ -1,12 +1,12 @@
 //! What was read of a source.
 
-ghost use Rattle.std.specs.Prelude.{◌≡◌, ℕ, ◌≤◌, ◌<◌, ◌+◌, length, slice_index_or, vec_len, IsTrue, None, Some, OnOk, IfOk, IfErr};
+ghost use Rattle.std.specs.Prelude.{◌≡◌, ℕ, ◌≤◌, ◌<◌, ◌+◌, length, vec_len, IsTrue, None, OnOk, IfOk, IfErr};
 ghost use Rattle.flu_lemmas.specs.Late.{rises_from};
 ghost use Rattle.flu_streams.specs.Lists.{item_time, times_in};
 ghost use Rattle.flu_streams.specs.Tests.{greatest};
 
 use crate::faults::Why;
-use crate::items::{count_until, empty_lists, push_items, time_of};
+use crate::items::{empty_lists, place_of, push_items, time_of};
 use crate::tags::place_of_event;
 use flu_model::{Event, Itag, Item, Kind, Source};
 use flu_rows::Row;
@@ -40,7 +40,7 @@ pub(crate) struct Intake {
 
 impl Intake {
     ghost use Rattle.flu_streams.specs.Tags.{width};
-    ghost use Rattle.flu_streams.specs.Tests.{fault_of, test_times};
+    ghost use Rattle.flu_streams.specs.Tests.{fault_of};
     ghost use Rattle.flu_streams.specs.LoopIntake.{IsEmpty, TakesIn, Inserts, TakesEnd, IsRefusal, fault_at};
 
     /// Nothing of a source with so many itags, where so many items of other sources are held.
@@ -127,7 +127,7 @@ impl Intake {
         ensures refused { IfErr result (IsRefusal (fault_at slack (times_in self.old.items.items) self.old.held (item_time item) count)) }
     {
         let time = time_of(&item);
-        let at = match self.place_of(slack, time) {
+        let at = match place_of(self.items.as_slice(), self.last, slack, time) {
             Ok(at) => at,
             Err(why) => return Err(RowRefusal::Fault(why)),
         };
@@ -142,28 +142,6 @@ impl Intake {
         self.last = Some(self.last.unwrap_or(0).max(time));
         self.held += count;
         Ok(())
-    }
-
-    // The place of a time among the items, where the time passes its test.
-    fn place_of(&self, slack: u64, time: u64) -> Result<usize, Why>
-        ensures passes { OnOk result (test_times slack (times_in self.now.items.items) (Some time) ≡ None) }
-        ensures fault { IfErr result (λ why. test_times slack (times_in self.now.items.items) (Some time) ≡ Some why) }
-        ensures within { IfOk result (λ at. at ≤ vec_len self.now.items) }
-        ensures earlier { IfOk result (λ at. (i : ℕ) → i < at → item_time (slice_index_or self.now.items.items i Item.End) < time) }
-        ensures later { IfOk result (λ at. (i : ℕ) → at ≤ i → i < vec_len self.now.items → time < item_time (slice_index_or self.now.items.items i Item.End)) }
-    {
-        let Some(last) = self.last else {
-            return Ok(0);
-        };
-        let late = Why::Disordered { last, got: time };
-        if time <= last && last - time >= slack {
-            return Err(late);
-        }
-        let at = count_until(self.items.as_slice(), time);
-        if at > 0 && time_of(&self.items[at - 1]) == time {
-            return Err(late);
-        }
-        Ok(at)
     }
 
     // Takes the end in.

@@ -1,10 +1,12 @@
 //! Items in order of time, and lists of items that grow.
 
-ghost use Rattle.std.specs.Prelude.{◌≡◌, ◌≢◌, ℕ, ◌+◌, ◌<◌, ◌≤◌, ◌++◌, [], ◌∷◌, length, slice_index_or, vec_len, IsTrue, IfOk, OnOk};
+ghost use Rattle.std.specs.Prelude.{◌≡◌, ◌≢◌, ℕ, ◌+◌, ◌<◌, ◌≤◌, ◌++◌, [], ◌∷◌, None, Some, length, slice_index_or, vec_len, IsTrue, IfOk, IfErr, OnOk};
 ghost use Rattle.std.specs.List.{filter_map};
 ghost use Rattle.flu_lemmas.specs.Late.{rises_from};
-ghost use Rattle.flu_streams.specs.Lists.{items_of_list, item_time, item_for};
+ghost use Rattle.flu_streams.specs.Lists.{items_of_list, item_time, item_for, times_in};
+ghost use Rattle.flu_streams.specs.Tests.{test_behind};
 
+use crate::faults::Why;
 use flu_model::Item;
 use std::alloc::{AllocError, Global};
 
@@ -31,6 +33,36 @@ pub(crate) fn count_until(items: &[Item], time: u64) -> usize
         count -= 1;
     }
     count
+}
+
+/// The place of a time among some items in order of time, where the time passes its test: none of them has it, and it is above the
+/// greatest one that was read, `last`, less the slack.
+pub(crate) fn place_of(
+    items: &[Item],
+    last: Option<u64>,
+    slack: u64,
+    time: u64,
+) -> Result<usize, Why>
+    requires rising { IsTrue (rises_from item_time 0 items.now) }
+    requires none { last ≡ None → items.now ≡ [] }
+    ensures passes { OnOk result (test_behind slack (times_in items.now) last time ≡ None) }
+    ensures fault { IfErr result (λ why. test_behind slack (times_in items.now) last time ≡ Some why) }
+    ensures within { IfOk result (λ at. at ≤ length items.now) }
+    ensures earlier { IfOk result (λ at. (i : ℕ) → i < at → item_time (slice_index_or items.now i Item.End) < time) }
+    ensures later { IfOk result (λ at. (i : ℕ) → at ≤ i → i < length items.now → time < item_time (slice_index_or items.now i Item.End)) }
+{
+    let Some(last) = last else {
+        return Ok(0);
+    };
+    let late = Why::Disordered { last, got: time };
+    if time <= last && last - time >= slack {
+        return Err(late);
+    }
+    let at = count_until(items, time);
+    if at > 0 && time_of(&items[at - 1]) == time {
+        return Err(late);
+    }
+    Ok(at)
 }
 
 /// So many empty lists.

@@ -1,6 +1,8 @@
 //! Laws of borders and rounds, each the contract of a function that does nothing.
 
 ghost use Rattle.flu_streams.specs.Borders.{LawOfBorders, ItemsAreCut};
+ghost use Rattle.flu_streams.specs.Holding.{LawOfStart, LawOfEnds};
+ghost use Rattle.flu_streams.specs.Fronts.{LawOfFronts, LawOfMeeting};
 ghost use Rattle.flu_streams.specs.Rounds.{LawOfRounds, LawOfLastRound};
 
 /// The law of borders: what is cut at a time is folded in turn. The fold of the events up to the time, and then, from its state,
@@ -21,4 +23,19 @@ pub fn rounds_are_folded_in_turn()
 /// gives of good sources.
 pub fn last_round_has_all_rows()
     ensures { LawOfLastRound }
+{}
+
+/// The law of the start: before the first round nothing is read, so all lines are still to be read. And behind the last round,
+/// where all files were read to their ends, nothing is left of any of them.
+pub fn rounds_begin_and_end()
+    ensures start { LawOfStart }
+    ensures ends { LawOfEnds }
+{}
+
+/// The law of fronts: where no source has a defect, the fold of all rows is that of the rows of the rounds up to a border, and then,
+/// from its state, that of the later ones; and its report is the two reports, one behind the other.
+/// And the law of meeting: a defect that a round meets is the first one of its source.
+pub fn rounds_meet_what_is_there()
+    ensures fronts { LawOfFronts }
+    ensures meeting { LawOfMeeting }
 {}

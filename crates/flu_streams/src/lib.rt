@@ -4,6 +4,8 @@
 mod border;
 mod faults;
 mod gathered;
+mod held;
+mod inlet;
 mod intake;
 mod items;
 mod laws;
@@ -13,5 +15,9 @@ mod tags;
 
 pub use border::Border;
 pub use faults::{GatherFault, SourceFault, Why};
-pub use laws::{borders_cut_a_fold, last_round_has_all_rows, rounds_are_folded_in_turn};
+pub use held::{Held, Stage};
+pub use laws::{
+    borders_cut_a_fold, last_round_has_all_rows, rounds_are_folded_in_turn, rounds_begin_and_end,
+    rounds_meet_what_is_there,
+};
 pub use reading::gather;

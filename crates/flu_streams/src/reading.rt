@@ -91,8 +91,8 @@ fn add_source<F: Files>(
     Ok(())
 }
 
-// The fault of the source with this number.
-fn fault_of(number: u32, stop: Stop) -> GatherFault
+/// The fault of the source with this number.
+pub(crate) fn fault_of(number: u32, stop: Stop) -> GatherFault
     ensures { result ≡ fault_of_stop number stop }
 {
     match stop {

@@ -72,7 +72,8 @@ pub(crate) fn read_source<F: Files>(
     }
 }
 
-fn stop_of(fault: RowsFault) -> Stop
+/// The stop of a read that fails.
+pub(crate) fn stop_of(fault: RowsFault) -> Stop
     ensures { result ≡ stop_of fault }
 {
     match fault {
@@ -81,8 +82,8 @@ fn stop_of(fault: RowsFault) -> Stop
     }
 }
 
-// The stop at a row that is refused.
-fn stop_at(line: u32, refusal: RowRefusal) -> Stop
+/// The stop at a row that is refused.
+pub(crate) fn stop_at(line: u32, refusal: RowRefusal) -> Stop
     ensures { result ≡ stop_at line refusal }
 {
     match refusal {
@@ -94,8 +95,8 @@ fn stop_at(line: u32, refusal: RowRefusal) -> Stop
     }
 }
 
-// The defect of what is no row.
-fn defect_behind(ended: bool, next: &Next) -> Option<(u64, Why)>
+/// The defect of what is no row.
+pub(crate) fn defect_behind(ended: bool, next: &Next) -> Option<(u64, Why)>
     ensures { result ≡ defect_behind ended next.now }
 {
     match next {

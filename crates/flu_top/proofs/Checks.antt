@@ -1,7 +1,6 @@
 -- A job's text is read, and the job is checked.
 use Rattle.std.proofs.Common.{◌≡◌, refl, sym, ap, ◌∙◌, subst, ℕ, List, [], Option}
 use Rattle.std.specs.Prelude.{IsTrue}
-use Rattle.std.proofs.lemmas.Bool.{false≢true}
 use Rattle.flu_outside.specs.Outside.{WhereTold, Contents}
 use Rattle.flu_model.specs.declared.jobs.Program.{Program}
 use Rattle.flu_lemmas.proofs.Told.{told_weaker}
@@ -21,7 +20,7 @@ is_checked job p text a b read checked =
     told_weaker (IsJobRead job p) (IsWritten (Check job) text []) a b (λ x y whole. (
       p,
       record {
-        good = record { has = whole.has; accepted = λ asked. checked.accepted; plan = λ plan named. absurd (cc); sources = λ asked. absurd (false≢true asked) };
+        good = record { has = whole.has; accepted = λ asked. checked.accepted; plan = λ plan named. absurd (cc); sources = tt };
         ends = λ name found. ap y (sym (only_one job name found)) ∙ whole.end;
       },
       checked.is,

@@ -1,7 +1,7 @@
 -- Where nothing failed, a call's status is the one that the command, its job's text, its plan and its sources call for, or that of want of memory.
-use Rattle.std.proofs.Common.{◌≡◌, ◌≢◌, arith, sym, ◌∙◌, refl, subst, ℕ, Option, Some, None, Ok, Err, inl, inr, ◌⊎◌}
+use Rattle.std.proofs.Common.{◌≡◌, ◌≢◌, arith, sym, ◌∙◌, refl, subst, ℕ, Option, Some, Ok, Err, inl, inr, ◌⊎◌}
 use Rattle.std.specs.Prelude.{List, IsTrue}
-use Rattle.flu_outside.specs.Outside.{WhereTold, Contents}
+use Rattle.flu_outside.specs.Outside.{Contents}
 use Rattle.flu_model.specs.declared.jobs.Program.{Program}
 use Rattle.flu_model.specs.Erasure.{IsSameJob, job_of}
 use Rattle.flu_model.specs.declared.plans.Node.{Node}
@@ -15,25 +15,28 @@ use Rattle.flu_grammar.specs.Plans.{IsPlanText}
 use Rattle.flu_grammar.specs.Laws.{JobsAreGrammar, PlansAreGrammar}
 use Rattle.flu_plan.specs.declared.fault.PlanFault.{PlanFault}
 use Rattle.flu_outside.specs.Taking.{bytes_left}
-use Rattle.flu_streams.specs.declared.faults.SourceFault.{SourceFault}
+use Rattle.flu_streams.specs.Fronts.{LawOfMeeting}
 use Rattle.flu_lemmas.proofs.Told.{of_told}
 use Rattle.flu_top.specs.declared.refusals.PlanDefect.{PlanDefect}
 use Rattle.flu_top.specs.declared.refusals.PlanDefect.TheVariants as defects
 use Rattle.flu_words.specs.Words.{Command, command_in}
-use Rattle.flu_top.specs.Behind.{WantedJob, Named, Fixed, HasJob, HasPlan, fault_behind, plan_behind}
-use Rattle.flu_top.specs.Wants.{job_wanted, plan_named, asks_accepted, reads_sources, texts_named}
+use Rattle.flu_top.specs.Behind.{WantedJob, Named, Fixed, HasJob, HasPlan, plan_behind}
+use Rattle.flu_top.specs.Reading.{AreSourcesGood, HasDefect}
+use Rattle.flu_top.specs.Wants.{job_wanted, plan_named, asks_accepted, how_read, texts_named}
 use Rattle.flu_top.specs.Done.{HasValidPlan, HasPlanAsked, IsGood, IsDone, WhereKnown, IsReadName}
-use Rattle.flu_top.specs.Causes.{IsJobRead, HasJobFault, HasConflict, HasPlanDefect, HasSourceFault}
+use Rattle.flu_top.specs.Causes.{IsJobRead, HasJobFault, HasConflict, HasPlanDefect, IsMet, HasSourceFault}
 use Rattle.flu_top.specs.Outcome.{Outside, Outcome, FaultsFirst, CallsFor, NothingFailed, Completes}
 use Rattle.flu_top.specs.Outcome as cases
-use Rattle.flu_top.proofs.SameJob.{same_fault}
+use Rattle.flu_top.proofs.Defects.{good_or_bad, met_defect}
+use Rattle.flu_top.proofs.SameJob.{same_good}
 use Rattle.flu_top.proofs.SameAcceptance.{same_accepted}
 use Rattle.flu_top.proofs.SamePlans.{same_plan, same_valid}
 
--- texts are read by their grammar
-pub record ByGrammar : Type 0 where
+-- texts are read by their grammar, and a defect that a round meets is the first of its source
+pub record LawsBelow : Type 0 where
   pub jobs : JobsAreGrammar
   pub plans : PlansAreGrammar
+  pub meeting : LawOfMeeting
 
 -- ---- each outcome of a call in which nothing failed
 -- the status that is wanted, or that of want of memory
@@ -46,8 +49,8 @@ record Leads (wanted : ℕ) (command : Command) (left : Contents) : Type 0 where
   job : (name : List ℕ) (fault : JobFault) → job_wanted command ≡ Named name → job_in (bytes_left left name) ≡ Err fault → IsStatus wanted 3
   conflict : (p : Program) → IsTrue (asks_accepted command) → ¬ IsAccepted p → HasJob (job_wanted command) left p → IsStatus wanted 4
   plan : (plan : List ℕ) (p : Program) → plan_named command ≡ Some plan → IsAccepted p → HasJob (job_wanted command) left p → ¬ HasValidPlan (job_wanted command) plan left p → IsStatus wanted 5
-  source : (p : Program) (fault : SourceFault) → IsTrue (reads_sources command) → (IsTrue (asks_accepted command) → IsAccepted p) → HasJob (job_wanted command) left p
-      → HasPlanAsked command left p → fault_behind (texts_named command) left p ≡ Some fault → IsStatus wanted 6
+  source : (p : Program) → (IsTrue (asks_accepted command) → IsAccepted p) → HasJob (job_wanted command) left p
+      → HasPlanAsked command left p → HasDefect (how_read command) (texts_named command) left p → IsStatus wanted 6
 
 -- a status that is wanted and is not that of want of memory
 settled : (wanted status : ℕ) → IsStatus wanted status → status ≢ 9 → wanted ≡ status
@@ -66,27 +69,29 @@ known_at : (job : WantedJob) (P : Contents → Contents → Type 0) (x : Content
 known_at (Named name) P x a b told known = of_told P x a b told known
 known_at (Fixed job) P x a b told known = (x, known x)
 
-module _ (grammar : ByGrammar) where
+module _ (laws : LawsBelow) where
   -- ---- two programs of one text
-  same_job : (job : WantedJob) (left : Contents) (p q : Program) → HasJob job left p → HasJob job left q → IsSameJob p q
+  pub same_job : (job : WantedJob) (left : Contents) (p q : Program) → HasJob job left p → HasJob job left q → IsSameJob p q
   same_job (Named name) left p q first second =
-      let e = sym ((grammar.jobs (bytes_left left name) (job_of p)).1 first) ∙ (grammar.jobs (bytes_left left name) (job_of q)).1 second in cc
+      let e = sym ((laws.jobs (bytes_left left name) (job_of p)).1 first) ∙ (laws.jobs (bytes_left left name) (job_of q)).1 second in cc
   same_job (Fixed job) left p q first second = first ∙ sym second
 
   not_both : (job : WantedJob) (name : List ℕ) (left : Contents) (p : Program) (fault : JobFault) → job ≡ Named name → HasJob job left p → job_in (bytes_left left name) ≡ Err fault → ⊥
   not_both job name left p fault named has bad =
-      let e = sym ((grammar.jobs (bytes_left left name) (job_of p)).1 (subst (λ (wanted : WantedJob). HasJob wanted left p) named has)) ∙ bad in cc
+      let e = sym ((laws.jobs (bytes_left left name) (job_of p)).1 (subst (λ (wanted : WantedJob). HasJob wanted left p) named has)) ∙ bad in cc
 
-  same_fault_of_text : (command : Command) (left : Contents) (p q : Program) → HasJob (job_wanted command) left p → HasJob (job_wanted command) left q
-      → fault_behind (texts_named command) left p ≡ fault_behind (texts_named command) left q
-  same_fault_of_text command left p q first second = same_fault (texts_named command) left p q (same_job (job_wanted command) left p q first second)
+  -- good sources have no defect, whichever program of the text is looked at
+  no_defect : (command : Command) (left : Contents) (p q : Program) → HasJob (job_wanted command) left p → HasJob (job_wanted command) left q
+      → AreSourcesGood (how_read command) (texts_named command) left p → HasDefect (how_read command) (texts_named command) left q → ⊥
+  no_defect command left p q first second good bad =
+      good_or_bad (how_read command) (texts_named command) left q (same_good (how_read command) (texts_named command) left p q (same_job (job_wanted command) left p q first second) good) bad
 
   accepted_of_text : (job : WantedJob) (left : Contents) (p q : Program) → HasJob job left p → HasJob job left q → IsAccepted p → IsAccepted q
   accepted_of_text job left p q first second = same_accepted p q (same_job job left p q first second)
 
   -- a plan's text for a program is one for another that is the same job
   same_plan_text : (p q : Program) (bytes : List ℕ) (nodes : List Node) → IsSameJob p q → IsPlanText p bytes nodes → IsPlanText q bytes nodes
-  same_plan_text p q bytes nodes same is = (grammar.plans q bytes nodes).0 (sym (same_plan p q bytes same) ∙ (grammar.plans p bytes nodes).1 is)
+  same_plan_text p q bytes nodes same is = (laws.plans q bytes nodes).0 (sym (same_plan p q bytes same) ∙ (laws.plans p bytes nodes).1 is)
 
   valid_of_text : (job : WantedJob) (plan : List ℕ) (left : Contents) (p q : Program) → HasJob job left p → HasJob job left q → HasValidPlan job plan left p
       → HasValidPlan job plan left q
@@ -97,13 +102,13 @@ module _ (grammar : ByGrammar) where
   -- ---- plans with a defect
   faulty_text : (job : WantedJob) (plan : List ℕ) (left : Contents) (p : Program) (fault : PlanFault) → plan_in p (plan_behind job plan left) ≡ Err fault
       → HasValidPlan job plan left p → ⊥
-  faulty_text job plan left p fault is found = let e = sym is ∙ (grammar.plans p (plan_behind job plan left) found.0).1 found.1 in cc
+  faulty_text job plan left p fault is found = let e = sym is ∙ (laws.plans p (plan_behind job plan left) found.0).1 found.1 in cc
 
   invalid_plan : (job : WantedJob) (plan : List ℕ) (left : Contents) (p : Program) (nodes : List Node) → ¬ IsValid p nodes → HasPlan job plan left p nodes
       → HasValidPlan job plan left p → ⊥
   invalid_plan job plan left p nodes refused is found =
       let bytes = plan_behind job plan left in
-      let e = sym ((grammar.plans p bytes found.0).1 found.1) ∙ (grammar.plans p bytes nodes).1 is in
+      let e = sym ((laws.plans p bytes found.0).1 found.1) ∙ (laws.plans p bytes nodes).1 is in
       let same : found.0 ≡ nodes = cc in
       refused (subst (IsValid p) same found.2)
 
@@ -114,11 +119,8 @@ module _ (grammar : ByGrammar) where
     job = λ name fault named bad. absurd (not_both (job_wanted command) name left p fault named good.has bad);
     conflict = λ q asked refused has. absurd (refused (accepted_of_text (job_wanted command) left p q good.has has (good.accepted asked)));
     plan = λ plan q named accepted has bad. absurd (bad (valid_of_text (job_wanted command) plan left p q good.has has (good.plan plan named)));
-    source = λ q fault asked accepted has plan bad. absurd (no_fault q fault has (good.sources asked) bad);
+    source = λ q accepted has plan bad. absurd (no_defect command left p q good.has has good.sources bad);
   }
-    where
-      no_fault : (q : Program) (fault : SourceFault) → HasJob (job_wanted command) left q → fault_behind (texts_named command) left p ≡ None → fault_behind (texts_named command) left q ≡ Some fault → ⊥
-      no_fault q fault has none bad = let e = sym none ∙ (same_fault_of_text command left p q good.has has ∙ bad) in cc
 
   leads_job : (command : Command) (name : List ℕ) (left : Contents) (fault : JobFault) → job_wanted command ≡ Named name → job_in (bytes_left left name) ≡ Err fault → Leads 3 command left
   leads_job command name left fault named bad = record {
@@ -126,7 +128,7 @@ module _ (grammar : ByGrammar) where
     job = λ another other also found. inl refl;
     conflict = λ q asked refused has. absurd (not_both (job_wanted command) name left q fault named has bad);
     plan = λ plan q asked accepted has other. absurd (not_both (job_wanted command) name left q fault named has bad);
-    source = λ q other asked accepted has plan found. absurd (not_both (job_wanted command) name left q fault named has bad);
+    source = λ q accepted has plan found. absurd (not_both (job_wanted command) name left q fault named has bad);
   }
 
   leads_conflict : (command : Command) (left : Contents) (p : Program) → IsTrue (asks_accepted command) → HasJob (job_wanted command) left p → ¬ IsAccepted p → Leads 4 command left
@@ -135,7 +137,7 @@ module _ (grammar : ByGrammar) where
     job = λ name fault named bad. absurd (not_both (job_wanted command) name left p fault named has bad);
     conflict = λ q asked none found. inl refl;
     plan = λ plan q named accepted found bad. absurd (refused (accepted_of_text (job_wanted command) left q p found has accepted));
-    source = λ q fault reads accepted found plan bad. absurd (refused (accepted_of_text (job_wanted command) left q p found has (accepted asked)));
+    source = λ q accepted found plan bad. absurd (refused (accepted_of_text (job_wanted command) left q p found has (accepted asked)));
   }
 
   leads_plan : (command : Command) (left : Contents) (p : Program) (plan : List ℕ) → plan_named command ≡ Some plan → HasJob (job_wanted command) left p → IsAccepted p → ¬ HasValidPlan (job_wanted command) plan left p → Leads 5 command left
@@ -144,28 +146,25 @@ module _ (grammar : ByGrammar) where
     job = λ name fault named found. absurd (not_both (job_wanted command) name left p fault named has found);
     conflict = λ q asked refused found. absurd (refused (accepted_of_text (job_wanted command) left p q has found accepted));
     plan = λ name q also found others worse. inl refl;
-    source = λ q fault reads also found valid others. absurd (bad (valid_of_text (job_wanted command) plan left q p found has (valid plan named)));
+    source = λ q also found valid others. absurd (bad (valid_of_text (job_wanted command) plan left q p found has (valid plan named)));
   }
 
-  leads_source : (command : Command) (left : Contents) (p : Program) (fault : SourceFault) → IsTrue (reads_sources command) → HasJob (job_wanted command) left p → (IsTrue (asks_accepted command) → IsAccepted p) → HasPlanAsked command left p → fault_behind (texts_named command) left p ≡ Some fault → Leads 6 command left
-  leads_source command left p fault reads has accepted valid bad = record {
-    done = λ q good. absurd (no_fault q good.has (good.sources reads));
+  leads_source : (command : Command) (left : Contents) (p : Program) → HasJob (job_wanted command) left p → (IsTrue (asks_accepted command) → IsAccepted p) → HasPlanAsked command left p → HasDefect (how_read command) (texts_named command) left p → Leads 6 command left
+  leads_source command left p has accepted valid bad = record {
+    done = λ q good. absurd (no_defect command left q p good.has has good.sources bad);
     job = λ name other named found. absurd (not_both (job_wanted command) name left p other named has found);
     conflict = λ q asked refused found. absurd (refused (accepted_of_text (job_wanted command) left p q has found (accepted asked)));
     plan = λ plan q named also found other. absurd (other (valid_of_text (job_wanted command) plan left p q has found (valid plan named)));
-    source = λ q other asked also found plan others. inl refl;
+    source = λ q also found plan others. inl refl;
   }
-    where
-      no_fault : (q : Program) → HasJob (job_wanted command) left q → fault_behind (texts_named command) left q ≡ None → ⊥
-      no_fault q found none = let e = sym none ∙ (same_fault_of_text command left q p found has ∙ bad) in cc
 
   leads : (command : Command) (left : Contents) (wanted : ℕ) → CallsFor command left wanted → Leads wanted command left
   leads command left wanted (cases.Good is p good) = subst (λ n. Leads n command left) (sym is) (leads_done command left p good)
   leads command left wanted (cases.FaultyJob is name fault named bad) = subst (λ n. Leads n command left) (sym is) (leads_job command name left fault named bad)
   leads command left wanted (cases.NotAccepted is p asked has refused) = subst (λ n. Leads n command left) (sym is) (leads_conflict command left p asked has refused)
   leads command left wanted (cases.NoValidPlan is p plan named has accepted bad) = subst (λ n. Leads n command left) (sym is) (leads_plan command left p plan named has accepted bad)
-  leads command left wanted (cases.FaultySource is p fault reads has accepted valid bad) =
-      subst (λ n. Leads n command left) (sym is) (leads_source command left p fault reads has accepted valid bad)
+  leads command left wanted (cases.FaultySource is p has accepted valid bad) =
+      subst (λ n. Leads n command left) (sym is) (leads_source command left p has accepted valid bad)
 
   -- a command and the files call for one status
   pub one_status : (command : Command) (left : Contents) (a b : ℕ) → CallsFor command left a → CallsFor command left b → a ≡ b
@@ -175,8 +174,8 @@ module _ (grammar : ByGrammar) where
       settled a 4 ((leads command left a first).conflict p asked refused has) (λ e. omega (arith, e)) ∙ sym is
   one_status command left a b first (cases.NoValidPlan is p plan named has accepted bad) =
       settled a 5 ((leads command left a first).plan plan p named accepted has bad) (λ e. omega (arith, e)) ∙ sym is
-  one_status command left a b first (cases.FaultySource is p fault reads has accepted valid bad) =
-      settled a 6 ((leads command left a first).source p fault reads accepted has valid bad) (λ e. omega (arith, e)) ∙ sym is
+  one_status command left a b first (cases.FaultySource is p has accepted valid bad) =
+      settled a 6 ((leads command left a first).source p accepted has valid bad) (λ e. omega (arith, e)) ∙ sym is
 
   -- ---- the outcome
   -- what each outcome shows of the files
@@ -208,17 +207,17 @@ module _ (grammar : ByGrammar) where
       let same = same_command words other command also word in
       let has = subst (λ (d : Command). HasPlanDefect d old.left new.left defect) same why in
       subst (IsStatus wanted) (sym is) (by_defect wanted command left old.left new.left defect told leads has)
-  by_case words old new before now out_before out_now status wanted command left (cases.BadSource is other also p fault why refused) faults word told nothing leads =
+  by_case words old new before now out_before out_now status wanted command left (cases.BadSource is other also p fault text why wrote said) faults word told nothing leads =
       let same = same_command words other command also word in
-      let has = subst (λ (d : Command). HasSourceFault d old.left new.left p fault) same why in
-      let found = of_told (λ old _. HasJob (job_wanted command) old p × HasPlanAsked command old p × (fault_behind (texts_named command) old p ≡ Some fault)) left old.left new.left told has.first in
-      subst (IsStatus wanted) (sym is) (leads.source p fault has.asked has.accepted found.1.0 found.1.1 found.1.2)
-  by_case words old new before now out_before out_now status wanted command left (cases.ReadFailed is other also refused) faults word told nothing leads =
+      let has = subst (λ (d : Command). HasSourceFault d old.left new.left p fault text) same why in
+      let found = of_told (λ old _. HasJob (job_wanted command) old p × HasPlanAsked command old p × IsMet (how_read command) (texts_named command) old p text fault) left old.left new.left told has.first in
+      subst (IsStatus wanted) (sym is) (leads.source p has.accepted found.1.0 found.1.1 (met_defect laws.meeting (how_read command) (texts_named command) left p text fault found.1.2))
+  by_case words old new before now out_before out_now status wanted command left (cases.ReadFailed is other also some said) faults word told nothing leads =
       let rose = faults.read is in
       let same = same_command words rose.1.0 command rose.1.1 word in
       absurd (nothing.files rose.0 (subst (λ (d : Command). IsReadName old.left d rose.0) same rose.1.2) rose.2)
   by_case words old new before now out_before out_now status wanted command left (cases.WriteFailed is other also partly said) faults word told nothing leads = absurd (nothing.out (faults.write is))
-  by_case words old new before now out_before out_now status wanted command left (cases.NoMemory is other also refused) faults word told nothing leads = inr is
+  by_case words old new before now out_before out_now status wanted command left (cases.NoMemory is other also some said) faults word told nothing leads = inr is
 
   -- completeness follows from the outcome, where a fault of the outside comes first
   pub completes_of : (words : List (List ℕ)) (old new : Outside) (before now : List ℕ → ℕ) (out_before out_now status : ℕ) → Outcome words old new status → FaultsFirst words old.left before now out_before out_now status → Completes words old.left before now out_before out_now status

@@ -10,7 +10,7 @@ use Rattle.flu_model.specs.declared.events.Tag.{Tag}
 use Rattle.flu_model.specs.declared.jobs.Program.{Program}
 use Rattle.flu_model.specs.declared.modes.Mode.{Mode}
 use Rattle.flu_model.specs.declared.modes.Mode.TheVariants.{None as NoMode, Add as AddMode, Own}
-use Rattle.flu_model.specs.Itags.{itags, is_dependent, ties_tags}
+use Rattle.flu_model.specs.Itags.{is_dependent, ties_tags}
 use Rattle.flu_model.specs.Listing.{itags_of_sources, tag}
 use Rattle.flu_model.specs.Modes.{mode_of, mode_among, modes_conflict, means, IsInUniverse, IsAccepted}
 use Rattle.flu_model.specs.Updates.{actions_of}

@@ -1,7 +1,6 @@
 -- The demo job is run over the events that a seed draws.
 use Rattle.std.proofs.Common.{◌≡◌, refl, sym, ap, ◌∙◌, subst, ℕ, List, [], length, map, arith}
-use Rattle.std.specs.Prelude.{IsTrue, Result, Option, IfOk}
-use Rattle.std.proofs.lemmas.Bool.{false≢true}
+use Rattle.std.specs.Prelude.{Result, Ok, Err, Option, IfErr}
 use Rattle.flu_outside.specs.Outside.{Contents}
 use Rattle.flu_model.specs.declared.events.Item.{Item}
 use Rattle.flu_model.specs.declared.jobs.Program.{Program}
@@ -13,15 +12,14 @@ use Rattle.flu_model.specs.Modes.{IsAccepted}
 use Rattle.flu_model.specs.Reports as reports
 use Rattle.flu_gen.specs.DemoJob.{IsDemoJob}
 use Rattle.flu_gen.specs.DemoStreams.{demo_lists}
-use Rattle.flu_words.specs.Words.{Command, Demo}
+use Rattle.flu_words.specs.Words.{Demo}
 use Rattle.flu_top.specs.declared.products.Product.{Product}
 use Rattle.flu_top.specs.declared.refusals.Refusal.{Refusal}
 use Rattle.flu_top.specs.declared.refusals.Refusal.TheVariants as refusals
 use Rattle.flu_top.specs.Checking.{IsCheckRefusal}
 use Rattle.flu_top.specs.Demos.{demo_job, summary, demo_summary}
-use Rattle.flu_top.specs.Wants.{job_wanted}
-use Rattle.flu_top.specs.Products.{line_said}
-use Rattle.flu_top.specs.Done.{IsWritten, WhereKnown}
+use Rattle.flu_top.specs.Done.{IsWritten}
+use Rattle.flu_top.specs.Refusing.{IsRefusal}
 
 pub is_demo_job : (p : Program) → IsDemoJob p → job_of p ≡ demo_job
 is_demo_job p demo =
@@ -41,7 +39,7 @@ pub is_shown : (n seed : ℕ) (p : Program) (text : List ℕ) (left : Contents) 
 is_shown n seed p text left demo accepted is = (
   p,
   record {
-    good = record { has = is_demo_job p demo; accepted = λ asked. accepted; plan = λ plan named. absurd (cc); sources = λ asked. absurd (false≢true asked) };
+    good = record { has = is_demo_job p demo; accepted = λ asked. accepted; plan = λ plan named. absurd (cc); sources = tt };
     ends = λ name found. absurd (omega (arith, found.1));
   },
   is,
@@ -59,11 +57,8 @@ only_memory p refusals.ReadFault accepted is = absurd is
 only_memory p refusals.WriteFault accepted is = absurd is
 only_memory p refusals.NoMemory accepted is = refl
 
--- what a demo writes it writes whatever the files hold
-pub written_anyhow : (n seed : ℕ) (command : Command) (result : Result Product Refusal) (old new : Option Contents) → command ≡ Demo n seed
-    → IfOk result (λ (product : Product). (left : Contents) → IsWritten (Demo n seed) product.text (line_said product.steps) left left)
-    → IfOk result (λ (product : Product). WhereKnown (job_wanted command) old new (IsWritten command product.text (line_said product.steps)))
-written_anyhow n seed command result old new is written =
-    subst
-    (λ (other : Command). IfOk result (λ (product : Product). WhereKnown (job_wanted other) old new (IsWritten other product.text (line_said product.steps))))
-    (sym is) written
+-- what refuses a demo refuses it whatever the files hold
+pub refused_anyhow : (n seed : ℕ) (result : Result Product Refusal) (old new : Option Contents) (before now : List ℕ → ℕ) → IfErr result (λ refusal. refusal ≡ refusals.NoMemory)
+    → IfErr result (IsRefusal (Demo n seed) old new before now)
+refused_anyhow n seed (Ok product) old new before now refused = tt
+refused_anyhow n seed (Err refusal) old new before now refused = subst (IsRefusal (Demo n seed) old new before now) (sym refused) tt

@@ -1,44 +1,109 @@
 -- What an ending says of the status, of out and of err.
-use Rattle.std.proofs.Common.{◌≡◌, ◌≢◌, refl, sym, ap, ◌∙◌, subst, ℕ, List, Option, Result, Ok, Err, inl, inr, arith}
+use Rattle.std.proofs.Common.{◌≡◌, ◌≢◌, refl, sym, ap, subst, ℕ, List, [], Option, None, Result, Ok, Err, inl, inr, arith}
+use Rattle.std.specs.Prelude.{IfOk, IfErr}
+use Rattle.std.proofs.lemmas.List.{append-nil}
 use Rattle.flu_outside.specs.Outside.{WhereTold, Rose}
-use Rattle.flu_outside.specs.Writing.{AppendsAll, AppendsPart}
-use Rattle.flu_lemmas.proofs.Told.{told_weaker}
+use Rattle.flu_outside.specs.Writing.{AppendsAll}
+use Rattle.flu_lemmas.proofs.Told.{told_same, told_weaker}
 use Rattle.flu_outside.specs.Outside.{Contents}
 use Rattle.flu_top.specs.declared.refusals.Refusal.{Refusal}
 use Rattle.flu_top.specs.declared.refusals.Refusal.TheVariants as refusals
 use Rattle.flu_words.specs.Words.{Command, command_in}
 use Rattle.flu_top.specs.Taking.{TookOnly}
 use Rattle.flu_top.specs.Behind.{WantedJob, Named, Fixed}
+use Rattle.flu_top.specs.Reading.{Reading, Unread, Whole, InRounds}
 use Rattle.flu_top.specs.declared.products.DrawnSteps.{DrawnSteps}
-use Rattle.flu_top.specs.Wants.{want, job_wanted}
-use Rattle.flu_top.specs.Done.{IsWritten, IsDone, IsPartlyDone, WhereKnown, IsReadName, IsReadBy}
+use Rattle.flu_top.specs.declared.products.Product.{Product}
+use Rattle.flu_top.specs.Wants.{want, job_wanted, how_read}
+use Rattle.flu_top.specs.Done.{IsWritten, IsDone, IsPartlyDone, WhereKnown, Wrote, WroteSome, WrotePart, IsReadName, IsReadBy}
 use Rattle.flu_top.specs.Refusing.{IsRefusal}
 use Rattle.flu_top.specs.Products.{line_said, MaySay}
 use Rattle.flu_top.specs.Lines.{IsSaid}
-use Rattle.flu_top.specs.Answer.{status_of, status_after, line_of, IsHeard}
-use Rattle.flu_top.specs.Ending.{Call, WroteNothing, HasWriteFault, IsEnding, Ends}
+use Rattle.flu_top.specs.Answer.{status_after, line_of, IsHeard}
+use Rattle.flu_top.specs.Ending.{Call, WroteNothing, HasAll, IsStopped, IsEnding, Ends}
+use Rattle.flu_top.specs.Writing.{IsPutAll, IsPutPart, IsPut, as_product}
 
 -- ---- what is known of the files
 pub known_weaker : (job : WantedJob) (P Q : Contents → Contents → Type 0) (a b : Option Contents) → ((x y : Contents) → P x y → Q x y) → WhereKnown job a b P → WhereKnown job a b Q
 known_weaker (Named name) P Q a b weaken known = told_weaker P Q a b weaken known
 known_weaker (Fixed job) P Q a b weaken known = λ left. weaken left left (known left)
 
+-- ---- what was written where nothing was
+wrote_none : (reading : Reading) (had has : Option (List ℕ)) → has ≡ had → Wrote reading [] had has
+wrote_none Unread had has same = same
+wrote_none Whole had has same = same
+wrote_none InRounds had has same = subst (λ (o : Option (List ℕ)). WhereTold had o (AppendsAll [])) (sym same) (told_same (AppendsAll []) had (λ bytes. sym (append-nil bytes)))
+
+pub some_none : (reading : Reading) (command : Command) (a b : Option Contents) (had has : Option (List ℕ)) → has ≡ had → WroteSome reading command a b had has
+some_none Unread command a b had has same = same
+some_none Whole command a b had has same = same
+some_none InRounds command a b had has same = inl same
+
+part_of_all : (reading : Reading) (command : Command) (a b : Option Contents) (had has : Option (List ℕ)) → reading ≢ InRounds → WhereKnown (job_wanted command) a b (IsPartlyDone command had has) → WrotePart reading command a b had has
+part_of_all Unread command a b had has other partly = partly
+part_of_all Whole command a b had has other partly = partly
+part_of_all InRounds command a b had has other partly = absurd (other refl)
+
 -- ---- the making of an ending
-pub ends_refused : (c : Call) (command : Command) (refusal : Refusal) → command_in c.words ≡ Ok command → IsRefusal command c.left c.left_after c.counts c.counts_after refusal → WroteNothing c → Ends c (Err refusal)
-ends_refused c command refusal word is nothing = record { how = inl (command, word, inl (record { why = is; nothing = nothing })) }
+-- a command that was refused before it wrote anything
+pub stopped : (c : Call) (command : Command) (refusal : Refusal) → IsRefusal command c.left c.left_after c.counts c.counts_after refusal → WroteNothing c → IsStopped c command refusal
+stopped c command (refusals.BadWords bad) why nothing = why
+stopped c command (refusals.JobFault fault) why nothing = (why, nothing)
+stopped c command (refusals.Conflict fault) why nothing = (why, nothing)
+stopped c command (refusals.PlanDefect defect) why nothing = (why, nothing)
+stopped c command (refusals.SourceFault job fault) why nothing = record { text = []; why = why; wrote = wrote_none (how_read command) c.taken c.taken_after nothing }
+stopped c command refusals.ReadFault why nothing = record { why = why; wrote = some_none (how_read command) command c.left c.left_after c.taken c.taken_after nothing }
+stopped c command refusals.WriteFault why nothing = absurd why
+stopped c command refusals.NoMemory why nothing = some_none (how_read command) command c.left c.left_after c.taken c.taken_after nothing
 
-pub ends_done : (c : Call) (command : Command) (text bytes : List ℕ) (steps : Option DrawnSteps) → command_in c.words ≡ Ok command → WhereKnown (job_wanted command) c.left c.left_after (IsWritten command text (line_said steps))
-    → MaySay (want command).says steps → bytes ≡ text → WhereTold c.taken c.taken_after (AppendsAll bytes) → Ends c (Ok steps)
-ends_done c command text bytes steps word written may_say same all =
-    let done = known_weaker (job_wanted command) (IsWritten command text (line_said steps)) (IsDone command c.taken c.taken_after (line_said steps)) c.left c.left_after
-    (λ x y w. (w.0, text, w.1, w.2, w.3, subst (λ l. WhereTold c.taken c.taken_after (AppendsAll l)) same all)) written in
-    record { how = inl (command, word, record { done = done; may_say = may_say }) }
+put_all : (c : Call) (command : Command) (product : Product) (steps : Option DrawnSteps) → WhereKnown (job_wanted command) c.left c.left_after (IsWritten command product.text (line_said product.steps))
+    → MaySay (want command).says product.steps → IsPutAll product c.taken c.taken_after steps → HasAll c command steps
+put_all c command product steps written may_say is = subst (λ (s : Option DrawnSteps). HasAll c command s) (sym is.steps') (record {
+  done = known_weaker (job_wanted command) (IsWritten command product.text (line_said product.steps)) (IsDone command c.taken c.taken_after (line_said product.steps)) c.left c.left_after
+      (λ x y w. (w.0, product.text, w.1, w.2, w.3, is.all)) written;
+  may_say = may_say;
+})
 
-pub ends_write_fault : (c : Call) (command : Command) (text bytes line : List ℕ) → command_in c.words ≡ Ok command → WhereKnown (job_wanted command) c.left c.left_after (IsWritten command text line) → bytes ≡ text → WhereTold c.taken c.taken_after (AppendsPart bytes) → Rose c.count c.count_after → Ends c (Err refusals.WriteFault)
-ends_write_fault c command text bytes line word written same part rose =
-    let partly = known_weaker (job_wanted command) (IsWritten command text line) (IsPartlyDone command c.taken c.taken_after) c.left c.left_after
-    (λ x y w. (w.0, text, w.1, w.2, subst (λ l. WhereTold c.taken c.taken_after (AppendsPart l)) same part)) written in
-    record { how = inl (command, word, inr (refl, record { rose = rose; partly = partly })) }
+put_part : (c : Call) (command : Command) (product : Product) (refusal : Refusal) → how_read command ≢ InRounds → WhereKnown (job_wanted command) c.left c.left_after (IsWritten command product.text (line_said product.steps))
+    → IsPutPart product c.taken c.taken_after c.count c.count_after refusal → IsStopped c command refusal
+put_part c command product refusal other written is = subst (IsStopped c command) (sym is.is) (record {
+  rose = is.rose;
+  partly = part_of_all (how_read command) command c.left c.left_after c.taken c.taken_after other
+      (known_weaker (job_wanted command) (IsWritten command product.text (line_said product.steps)) (IsPartlyDone command c.taken c.taken_after) c.left c.left_after
+      (λ x y w. (w.0, product.text, w.1, w.2, is.part)) written);
+})
+
+-- a command that does not read in rounds: what it produced was put out
+put_out : (c : Call) (command : Command) (produced : Result Product Refusal) (result : Result (Option DrawnSteps) Refusal) → how_read command ≢ InRounds
+    → IfOk produced (λ (product : Product). WhereKnown (job_wanted command) c.left c.left_after (IsWritten command product.text (line_said product.steps)))
+    → IfOk produced (λ (product : Product). MaySay (want command).says product.steps)
+    → IfErr produced (IsRefusal command c.left c.left_after c.counts c.counts_after)
+    → IsPut produced c.taken c.taken_after c.count c.count_after result → IsEnding c command result
+put_out c command (Ok product) (Ok steps) other written says refused put = put_all c command product steps written says put
+put_out c command (Ok product) (Err refusal) other written says refused put = put_part c command product refusal other written put
+put_out c command (Err why) (Ok steps) other written says refused put = absurd put
+put_out c command (Err why) (Err refusal) other written says refused put = subst (IsStopped c command) (sym put.is) (stopped c command why refused put.nothing)
+
+pub ends_product : (c : Call) (whole command : Command) (produced : Result Product Refusal) (result : Result (Option DrawnSteps) Refusal) → whole ≡ command → how_read command ≢ InRounds
+    → IfOk produced (λ (product : Product). WhereKnown (job_wanted command) c.left c.left_after (IsWritten command product.text (line_said product.steps)))
+    → IfOk produced (λ (product : Product). MaySay (want command).says product.steps)
+    → IfErr produced (IsRefusal command c.left c.left_after c.counts c.counts_after)
+    → IsPut produced c.taken c.taken_after c.count c.count_after result → IsEnding c whole result
+ends_product c whole command produced result same other written says refused put =
+    subst (λ (d : Command). IsEnding c d result) (sym same) (put_out c command produced result other written says refused put)
+
+-- the same of a text without steps
+pub ends_text : (c : Call) (whole command : Command) (text : Result (List ℕ) Refusal) (result : Result (Option DrawnSteps) Refusal) → whole ≡ command → how_read command ≢ InRounds
+    → MaySay (want command).says None
+    → IfOk text (λ (bytes : List ℕ). WhereKnown (job_wanted command) c.left c.left_after (IsWritten command bytes []))
+    → IfErr text (IsRefusal command c.left c.left_after c.counts c.counts_after)
+    → IsPut (as_product text) c.taken c.taken_after c.count c.count_after result → IsEnding c whole result
+ends_text c whole command (Ok bytes) result same other quiet written refused put =
+    ends_product c whole command (Ok (record { text = bytes; steps = None })) result same other written quiet tt put
+ends_text c whole command (Err why) result same other quiet written refused put = ends_product c whole command (Err why) result same other tt tt refused put
+
+pub ends_command : (words : List (List ℕ)) (c : Call) (command : Command) (ended : Result (Option DrawnSteps) Refusal) → command_in words ≡ Ok command → IsEnding c command ended → Ends words c ended
+ends_command words c command ended word ending = record { how = inl (command, word, ending) }
 
 -- ---- the names that a call reads
 pub only_wider : (words : List (List ℕ)) (command : Command) (a b : Option Contents) → command_in words ≡ Ok command → WhereTold a b (TookOnly (IsReadName a command)) → WhereTold a b (TookOnly (IsReadBy words a))
@@ -55,33 +120,19 @@ of_write_fault (Err refusals.WriteFault) is = refl
 of_write_fault ended is = absurd (omega arith)
 
 -- the ending of a call whose status is not that of bad words
-ending_at : (c : Call) (ended : Result (Option DrawnSteps) Refusal) → Ends c ended → status_after ended ≢ 2 → (command : Command) × (command_in c.words ≡ Ok command) × IsEnding c command ended
-ending_at c ended ends apart = elim ends.how [ inl ending ↦ ending | inr refused ↦ absurd (apart (ap status_after refused.2.words)) ]
+ending_at : (words : List (List ℕ)) (c : Call) (ended : Result (Option DrawnSteps) Refusal) → Ends words c ended → status_after ended ≢ 2 → (command : Command) × (command_in words ≡ Ok command) × IsEnding c command ended
+ending_at words c ended ends apart = elim ends.how [ inl ending ↦ ending | inr refused ↦ absurd (apart (ap status_after refused.2.words)) ]
 
--- what refused a call that had nothing to write
-why_at : (c : Call) (command : Command) (refusal : Refusal) → IsEnding c command (Err refusal) → refusal ≢ refusals.WriteFault → IsRefusal command c.left c.left_after c.counts c.counts_after refusal
-why_at c command refusal (inl ending) other = ending.why
-why_at c command refusal (inr ending) other = absurd (other ending.0)
+pub read_fault_at : (words : List (List ℕ)) (c : Call) (ended : Result (Option DrawnSteps) Refusal) → Ends words c ended → status_after ended ≡ 7 → (name : List ℕ) × IsReadBy words c.left name × Rose (c.counts name) (c.counts_after name)
+read_fault_at words c ended ends is =
+    let ending = ending_at words c ended ends (λ e. omega arith) in
+    let found = (subst (IsEnding c ending.0) (of_read_fault ended is) ending.2).why in
+    (found.0, (ending.0, ending.1, found.1), found.2)
 
--- what is true of a call that was refused with this refusal
-refused_at : (c : Call) (ended : Result (Option DrawnSteps) Refusal) (refusal : Refusal) → Ends c ended → ended ≡ Err refusal → status_of refusal ≢ 2 → refusal ≢ refusals.WriteFault → (command : Command) × (command_in c.words ≡ Ok command) × IsRefusal command c.left c.left_after c.counts c.counts_after refusal
-refused_at c ended refusal ends is apart other =
-    let ending = ending_at c ended ends (λ e. apart (sym (ap status_after is) ∙ e)) in
-    (ending.0, ending.1, why_at c ending.0 refusal (subst (IsEnding c ending.0) is ending.2) other)
-
-pub read_fault_at : (c : Call) (ended : Result (Option DrawnSteps) Refusal) → Ends c ended → status_after ended ≡ 7 → (name : List ℕ) × IsReadBy c.words c.left name × Rose (c.counts name) (c.counts_after name)
-read_fault_at c ended ends is =
-    let found = refused_at c ended refusals.ReadFault ends (of_read_fault ended is) (λ e. omega arith) (λ e. cc) in
-    (found.2.0, (found.0, found.1, found.2.1), found.2.2)
-
-pub write_fault_at : (c : Call) (ended : Result (Option DrawnSteps) Refusal) → Ends c ended → status_after ended ≡ 8 → (command : Command) × (command_in c.words ≡ Ok command) × HasWriteFault c command
-write_fault_at c ended ends is =
-    let ending = ending_at c ended ends (λ e. omega arith) in
-    (ending.0, ending.1, by_ending ending.0 (subst (IsEnding c ending.0) (of_write_fault ended is) ending.2))
-  where
-    by_ending : (command : Command) → IsEnding c command (Err refusals.WriteFault) → HasWriteFault c command
-    by_ending command (inl ending) = absurd ending.why
-    by_ending command (inr ending) = ending.1
+pub write_fault_at : (words : List (List ℕ)) (c : Call) (ended : Result (Option DrawnSteps) Refusal) → Ends words c ended → status_after ended ≡ 8 → Rose c.count c.count_after
+write_fault_at words c ended ends is =
+    let ending = ending_at words c ended ends (λ e. omega arith) in
+    (subst (IsEnding c ending.0) (of_write_fault ended is) ending.2).rose
 
 -- the line that is said of what refused
 pub said_of : (ended : Result (Option DrawnSteps) Refusal) (refusal : Refusal) (old new : Option (List ℕ)) (before now : ℕ) → IsHeard ended old new before now → ended ≡ Err refusal → IsSaid (line_of refusal) old new before now

@@ -45,13 +45,13 @@ statuses_law words old new status before now out_before out_now (cases.Conflicts
     absurd (fixed_has_no_name demo_job why.name why.named)
 statuses_law words old new status before now out_before out_now (cases.BadPlan is command also defect has refused) faults n seed word =
     absurd (no_defect n seed old.left new.left defect (subst (λ (d : Command). HasPlanDefect d old.left new.left defect) (same_command words command (Demo n seed) also word) has))
-statuses_law words old new status before now out_before out_now (cases.BadSource is command also p fault has refused) faults n seed word =
-    let why = subst (λ (d : Command). HasSourceFault d old.left new.left p fault) (same_command words command (Demo n seed) also word) has in
+statuses_law words old new status before now out_before out_now (cases.BadSource is command also p fault text has wrote said) faults n seed word =
+    let why = subst (λ (d : Command). HasSourceFault d old.left new.left p fault text) (same_command words command (Demo n seed) also word) has in
     absurd (false≢true why.asked)
-statuses_law words old new status before now out_before out_now (cases.ReadFailed is command also refused) faults n seed word =
+statuses_law words old new status before now out_before out_now (cases.ReadFailed is command also some said) faults n seed word =
     let rose = faults.read is in absurd (reads_law words n seed word old.left rose.0 rose.1)
 statuses_law words old new status before now out_before out_now (cases.WriteFailed is command also partly said) faults n seed word = (1, omega arith, sym is)
-statuses_law words old new status before now out_before out_now (cases.NoMemory is command also refused) faults n seed word = (2, omega arith, sym is)
+statuses_law words old new status before now out_before out_now (cases.NoMemory is command also some said) faults n seed word = (2, omega arith, sym is)
 
 pub done_law : DemoIsDone
 done_law words old new status outcome is n seed word =

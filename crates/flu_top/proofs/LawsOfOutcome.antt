@@ -1,16 +1,23 @@
 -- The laws of outcomes.
-use Rattle.std.proofs.Common.{refl}
+use Rattle.std.proofs.Common.{refl, inl, inr}
 use Rattle.flu_top.specs.Outcome as cases
-use Rattle.flu_top.specs.Laws.{KnownStatuses, DoneIsDone, DoneIsQuiet, SimulationIsHeard, BadWordsExactly, BadWordsLine, BadWordsTouchNothing, JobFaultIsFirst, ConflictIsFirst, PlanDefectIsFirst, SourceFaultIsFirst, ReadFaultRose, ReadFaultLine, WriteFaultRose, WriteFaultIsPart, WriteFaultLine, NoMemoryLine, NothingIsWritten, FrontsAreTaken, NoOtherIsRead, GoodIsDone, JobFaultIsRefused, ConflictIsRefused, PlanDefectIsRefused, SourceFaultIsRefused, CompletesByFaults, CallsForOneStatus}
-use Rattle.flu_top.proofs.Statuses.{at_0, at_2, at_3, at_4, at_5, at_6, at_7, at_8, at_9, quiet_at_0, heard_at_0, known_status, nothing_written, of_no_command, bad_words_exactly}
-use Rattle.flu_top.proofs.Completeness.{ByGrammar, completes_of, one_status}
+use Rattle.flu_top.specs.Laws.{KnownStatuses, DoneIsDone, DoneIsQuiet, SimulationIsHeard, BadWordsExactly, BadWordsLine, BadWordsTouchNothing, JobFaultIsFirst, ConflictIsFirst, PlanDefectIsFirst, SourceFaultIsFirst, ReadFaultRose, ReadFaultLine, WriteFaultRose, WriteFaultIsPart, WriteFaultLine, NoMemoryLine, NothingIsWritten, RefusalsWriteNothing, SomeIsWritten, FrontsAreTaken, NoOtherIsRead, GoodIsDone, JobFaultIsRefused, ConflictIsRefused, PlanDefectIsRefused, SourceFaultIsRefused, CompletesByFaults, CallsForOneStatus}
+use Rattle.flu_top.proofs.Statuses.{at_0, at_2, at_3, at_4, at_5, at_6, at_7, at_8, at_9, quiet_at_0, heard_at_0, known_status, nothing_written, refused_unwritten, of_no_command, bad_words_exactly}
+use Rattle.flu_top.proofs.Completeness.{LawsBelow, completes_of, one_status}
 
 -- ---- the statuses
 pub known_law : KnownStatuses
 known_law words old new status outcome = known_status words old new status outcome
 
 pub nothing_law : NothingIsWritten
-nothing_law words old new status outcome some other = nothing_written words old new status outcome some other
+nothing_law words old new status outcome some other apart = nothing_written words old new status outcome some other apart
+
+pub unwritten_law : RefusalsWriteNothing
+unwritten_law words old new status outcome some low = refused_unwritten words old new status outcome some low
+
+pub some_law : SomeIsWritten
+some_law words old new status outcome (inl is) = let found = at_7 words old new status outcome is in (found.0, found.1, found.2)
+some_law words old new status outcome (inr is) = let found = at_9 words old new status outcome is in (found.0, found.1, found.2)
 
 pub done_law : DoneIsDone
 done_law words old new status outcome is = at_0 words old new status outcome is
@@ -44,13 +51,13 @@ plan_defect_law words old new status outcome is =
 
 pub source_fault_law : SourceFaultIsFirst
 source_fault_law words old new status outcome is =
-    let found = at_6 words old new status outcome is in (found.0, found.1, found.2, found.3, found.4, found.5.said)
+    at_6 words old new status outcome is
 
 pub read_fault_law : ReadFaultRose
 read_fault_law words left before now out_before out_now status faults is = faults.read is
 
 pub read_fault_line_law : ReadFaultLine
-read_fault_line_law words old new status outcome is = (at_7 words old new status outcome is).2.said
+read_fault_line_law words old new status outcome is = (at_7 words old new status outcome is).3
 
 pub write_fault_law : WriteFaultRose
 write_fault_law words left before now out_before out_now status faults is = faults.write is
@@ -62,7 +69,7 @@ pub write_fault_line_law : WriteFaultLine
 write_fault_line_law words old new status outcome is = (at_8 words old new status outcome is).3
 
 pub no_memory_line_law : NoMemoryLine
-no_memory_line_law words old new status outcome is = (at_9 words old new status outcome is).2.said
+no_memory_line_law words old new status outcome is = (at_9 words old new status outcome is).3
 
 -- ---- what was read
 pub fronts_law : FrontsAreTaken
@@ -88,12 +95,12 @@ refused_plan_law words told before now out_before out_now status complete comman
     complete command left 5 word is nothing (cases.NoValidPlan refl p plan named has accepted bad)
 
 pub refused_source_law : SourceFaultIsRefused
-refused_source_law words told before now out_before out_now status complete command left p fault word is nothing reads has accepted valid bad =
-    complete command left 6 word is nothing (cases.FaultySource refl p fault reads has accepted valid bad)
+refused_source_law words told before now out_before out_now status complete command left p word is nothing has accepted valid bad =
+    complete command left 6 word is nothing (cases.FaultySource refl p has accepted valid bad)
 
-pub completes_law : ByGrammar → CompletesByFaults
-completes_law grammar words old new status before now out_before out_now outcome faults =
-    completes_of grammar words old new before now out_before out_now status outcome faults
+pub completes_law : LawsBelow → CompletesByFaults
+completes_law laws words old new status before now out_before out_now outcome faults =
+    completes_of laws words old new before now out_before out_now status outcome faults
 
-pub one_status_law : ByGrammar → CallsForOneStatus
-one_status_law grammar command left a b first second = one_status grammar command left a b first second
+pub one_status_law : LawsBelow → CallsForOneStatus
+one_status_law laws command left a b first second = one_status laws command left a b first second

@@ -8,13 +8,14 @@ pub mod Sequence
 pub mod Checks
 pub mod Validations
 pub mod Plannings
+pub mod Roundings
 pub mod Runnings
 pub mod Simulations
 pub mod DemoAccepted
 pub mod Demos
-pub mod SharedCases
 pub mod RateLemmas
 pub mod SameJob
+pub mod Defects
 pub mod SameAcceptance
 pub mod SamePlans
 pub mod Endings
@@ -22,4 +23,5 @@ pub mod Completeness
 pub mod Outcomes
 pub mod Statuses
 pub mod LawsOfOutcome
+pub mod RunFronts
 pub mod LawsOfDemos

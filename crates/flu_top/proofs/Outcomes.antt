@@ -1,5 +1,5 @@
 -- The outcome of a call, by how the doing of its words ended and by what was said.
-use Rattle.std.proofs.Common.{◌≡◌, refl, ap, subst, ℕ, List, Option, Some, None, Result, Ok, Err, inl, inr}
+use Rattle.std.proofs.Common.{◌≡◌, refl, ap, ℕ, List, Option, Some, None, Result, Ok, Err, inl, inr}
 use Rattle.flu_top.specs.declared.refusals.Refusal.{Refusal}
 use Rattle.flu_top.specs.declared.refusals.Refusal.TheVariants as refusals
 use Rattle.flu_words.specs.Words.{Command, command_in}
@@ -7,10 +7,9 @@ use Rattle.flu_top.specs.declared.products.DrawnSteps.{DrawnSteps}
 use Rattle.flu_top.specs.Wants.{Saying, Nothing, Line, want}
 use Rattle.flu_top.specs.Products.{line_said, MaySay}
 use Rattle.flu_top.specs.Jobs.{program_read}
-use Rattle.flu_top.specs.Refusing.{IsRefusal}
 use Rattle.flu_top.specs.Lines.{IsSaid}
 use Rattle.flu_top.specs.Answer.{status_of, status_after, line_of, IsHeard}
-use Rattle.flu_top.specs.Ending.{Call, WroteNothing, IsEnding, IsRefused, Ends}
+use Rattle.flu_top.specs.Ending.{Call, IsStopped, IsEnding, IsRefused, Ends}
 use Rattle.flu_top.specs.Outcome.{Outside, outside, Hears, Outcome, FaultsFirst}
 use Rattle.flu_top.specs.Outcome as cases
 use Rattle.flu_top.proofs.Endings.{said_of, read_fault_at, write_fault_at}
@@ -29,33 +28,31 @@ hears Nothing (Some steps) old new may_say heard = absurd (cc)
 hears (Line Is IsForm) None old new may_say heard = absurd may_say
 hears (Line Is IsForm) (Some steps) old new may_say heard = (may_say, heard)
 
-pub outcome_of : (c : Call) (err err_after : Option (List ℕ)) (count count_after : ℕ) (ended : Result (Option DrawnSteps) Refusal) → Ends c ended → IsHeard ended err err_after count count_after → Outcome c.words (before c err count) (behind c err_after count_after) (status_after ended)
-outcome_of c err err_after count count_after ended ends heard = elim ends.how [
+pub outcome_of : (words : List (List ℕ)) (c : Call) (err err_after : Option (List ℕ)) (count count_after : ℕ) (ended : Result (Option DrawnSteps) Refusal) → Ends words c ended → IsHeard ended err err_after count count_after → Outcome words (before c err count) (behind c err_after count_after) (status_after ended)
+outcome_of words c err err_after count count_after ended ends heard = elim ends.how [
   | inl ending ↦ by_ended ending.0 ending.1 ended ending.2 heard
   | inr refused ↦ by_words refused.0 refused.1 refused.2
 ]
   where
-    by_words : (at : ℕ) → command_in c.words ≡ Err at → IsRefused c at ended → Outcome c.words (before c err count) (behind c err_after count_after) (status_after ended)
+    by_words : (at : ℕ) → command_in words ≡ Err at → IsRefused c at ended → Outcome words (before c err count) (behind c err_after count_after) (status_after ended)
     by_words at word refused =
         let line = said_of ended (refusals.BadWords (record { at = at })) err err_after count count_after heard refused.words in
         cases.BadWords (ap status_after refused.words) at word refused.files (record { nothing = refused.nothing; said = line })
 
-    by_refusal : (command : Command) → command_in c.words ≡ Ok command → (refusal : Refusal) → IsRefusal command c.left c.left_after c.counts c.counts_after refusal → WroteNothing c → IsSaid (line_of refusal) err err_after count count_after → Outcome c.words (before c err count) (behind c err_after count_after) (status_of refusal)
-    by_refusal command word (refusals.BadWords bad) why nothing line = absurd why
-    by_refusal command word (refusals.JobFault fault) why nothing line = cases.BadJob refl command word fault why (record { nothing = nothing; said = line })
-    by_refusal command word (refusals.Conflict fault) why nothing line = cases.Conflicts refl command word fault why (record { nothing = nothing; said = line })
-    by_refusal command word (refusals.PlanDefect defect) why nothing line = cases.BadPlan refl command word defect why (record { nothing = nothing; said = line })
-    by_refusal command word (refusals.SourceFault job fault) why nothing line = cases.BadSource refl command word (program_read job) fault why (record { nothing = nothing; said = line })
-    by_refusal command word refusals.ReadFault why nothing line = cases.ReadFailed refl command word (record { nothing = nothing; said = line })
-    by_refusal command word refusals.WriteFault why nothing line = absurd why
-    by_refusal command word refusals.NoMemory why nothing line = cases.NoMemory refl command word (record { nothing = nothing; said = line })
+    by_refusal : (command : Command) → command_in words ≡ Ok command → (refusal : Refusal) → IsStopped c command refusal → IsSaid (line_of refusal) err err_after count count_after → Outcome words (before c err count) (behind c err_after count_after) (status_of refusal)
+    by_refusal command word (refusals.BadWords bad) stop line = absurd stop
+    by_refusal command word (refusals.JobFault fault) stop line = cases.BadJob refl command word fault stop.0 (record { nothing = stop.1; said = line })
+    by_refusal command word (refusals.Conflict fault) stop line = cases.Conflicts refl command word fault stop.0 (record { nothing = stop.1; said = line })
+    by_refusal command word (refusals.PlanDefect defect) stop line = cases.BadPlan refl command word defect stop.0 (record { nothing = stop.1; said = line })
+    by_refusal command word (refusals.SourceFault job fault) stop line = cases.BadSource refl command word (program_read job) fault stop.text stop.why stop.wrote line
+    by_refusal command word refusals.ReadFault stop line = cases.ReadFailed refl command word stop.wrote line
+    by_refusal command word refusals.WriteFault stop line = cases.WriteFailed refl command word stop.partly line
+    by_refusal command word refusals.NoMemory stop line = cases.NoMemory refl command word stop line
 
-    by_ended : (command : Command) → command_in c.words ≡ Ok command → (ended : Result (Option DrawnSteps) Refusal) → IsEnding c command ended → IsHeard ended err err_after count count_after → Outcome c.words (before c err count) (behind c err_after count_after) (status_after ended)
+    by_ended : (command : Command) → command_in words ≡ Ok command → (ended : Result (Option DrawnSteps) Refusal) → IsEnding c command ended → IsHeard ended err err_after count count_after → Outcome words (before c err count) (behind c err_after count_after) (status_after ended)
     by_ended command word (Ok steps) ending heard =
         cases.Done refl command word (line_said steps) ending.done (hears (want command).says steps (before c err count) (behind c err_after count_after) ending.may_say heard)
-    by_ended command word (Err refusal) (inl ending) heard = by_refusal command word refusal ending.why ending.nothing heard
-    by_ended command word (Err refusal) (inr ending) heard =
-        cases.WriteFailed (ap status_of ending.0) command word ending.1.partly (subst (λ r. IsSaid (line_of r) err err_after count count_after) ending.0 heard)
+    by_ended command word (Err refusal) ending heard = by_refusal command word refusal ending heard
 
-pub faults_of : (c : Call) (ended : Result (Option DrawnSteps) Refusal) → Ends c ended → FaultsFirst c.words c.left c.counts c.counts_after c.count c.count_after (status_after ended)
-faults_of c ended ends = record { read = λ is. read_fault_at c ended ends is; write = λ is. (write_fault_at c ended ends is).2.rose }
+pub faults_of : (words : List (List ℕ)) (c : Call) (ended : Result (Option DrawnSteps) Refusal) → Ends words c ended → FaultsFirst words c.left c.counts c.counts_after c.count c.count_after (status_after ended)
+faults_of words c ended ends = record { read = λ is. read_fault_at words c ended ends is; write = λ is. write_fault_at words c ended ends is }

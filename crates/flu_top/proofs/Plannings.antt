@@ -1,6 +1,5 @@
 -- A job's text is read, and the job is planned.
 use Rattle.std.proofs.Common.{refl, sym, ap, ◌∙◌, ℕ, List, [], Option}
-use Rattle.std.proofs.lemmas.Bool.{false≢true}
 use Rattle.flu_outside.specs.Outside.{WhereTold, Contents}
 use Rattle.flu_model.specs.declared.jobs.Program.{Program}
 use Rattle.flu_lemmas.proofs.Told.{told_weaker}
@@ -15,7 +14,7 @@ is_planned job depth p text a b read planned =
     told_weaker (IsJobRead job p) (IsWritten (Plan job depth) text []) a b (λ x y whole. (
       p,
       record {
-        good = record { has = whole.has; accepted = λ asked. planned.accepted; plan = λ plan named. absurd (cc); sources = λ asked. absurd (false≢true asked) };
+        good = record { has = whole.has; accepted = λ asked. planned.accepted; plan = λ plan named. absurd (cc); sources = tt };
         ends = λ name found. ap y (sym (only_one job name found)) ∙ whole.end;
       },
       planned.plan,

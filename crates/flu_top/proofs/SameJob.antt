@@ -1,7 +1,8 @@
--- Programs that are the same job have the same first fault of their sources.
+-- Programs that are the same job have the same faults of their sources.
 use Rattle.std.proofs.Common.{◌≡◌, refl, sym, ap, ◌∙◌, ℕ, ◌+◌, ℤ, List, [], ◌∷◌, length, Bool, false, map, Option, Some, None}
 use Rattle.std.specs.Prelude.{option_map, option_and_then, is_none, is_some, not, slice_get, if◌then◌else◌}
 use Rattle.std.specs.List.{position}
+use Rattle.std.specs.Option.{option_map_or}
 use Rattle.std.proofs.Math.Path.{fun_ext}
 use Rattle.std.proofs.lemmas.Option.{slice_get-map}
 use Rattle.flu_model.specs.declared.jobs.Kind.{Kind}
@@ -25,7 +26,10 @@ use Rattle.flu_streams.specs.Tags.{kind_named, key_named, tag_named, place_named
 use Rattle.flu_streams.specs.Tests.{where_true, test_tag, test_value, test_time, test_items, tests, defect_of, first_defect, has_ended, times_of, items_of, rows_of}
 use Rattle.flu_streams.specs.Good.{fault_of_source, items_held, first_fault}
 use Rattle.flu_lemmas.proofs.Places.{position-map}
+use Rattle.flu_streams.specs.Rounds.{row_fault, line_defect, defect_in}
+use Rattle.flu_rounds.specs.Written.{AreSound}
 use Rattle.flu_top.specs.Behind.{emptied_each, fault_behind}
+use Rattle.flu_top.specs.Reading.{Reading, Unread, Whole, InRounds, AreSourcesGood, lines_behind}
 
 -- ---- what a row's tag and value are tested by depends on the kinds without their actions
 kind_of_plain : List PlainKind → List ℕ → Option ℕ
@@ -113,6 +117,40 @@ same_first_fault p q left same =
     ap (λ (ss : List Source). first_some (λ e. fault_of_source p.kinds left e.0 e.1) (each_with_before ss)) (ap (λ j. j.sources) same)
     ∙ ap (λ f. first_some f (each_with_before q.sources)) (fun_ext (λ (e : List Source × Source). same_source_fault p.kinds q.kinds left e.0 e.1 (ap (λ j. j.kinds) same)))
 
-pub same_fault : (texts : List (List ℕ)) (left : Contents) (p q : Program) → IsSameJob p q → fault_behind texts left p ≡ fault_behind texts left q
+same_fault : (texts : List (List ℕ)) (left : Contents) (p q : Program) → IsSameJob p q → fault_behind texts left p ≡ fault_behind texts left q
 unfolding fault_behind
 same_fault texts left p q same = same_first_fault p q (emptied_each texts left) same
+
+-- ---- and the same defects in rounds
+same_row_fault : (kinds others : List Kind) (s : Source) (ended : Bool) (earlier : List ℕ) (row : Row) → map plain_kind kinds ≡ map plain_kind others → row_fault kinds s ended earlier row ≡ row_fault others s ended earlier row
+same_row_fault kinds others s ended earlier (Event time name key value) alike =
+    ap (λ o. first_some (λ (test : Option Why). test) (where_true ended AfterEnd ∷ where_true (is_none o) UnknownTag ∷ test_value kinds (Event time name key value) ∷ test_time s.slack earlier (Event time name key value) ∷ [])) (same_place kinds others s name key alike)
+    ∙ ap (λ b. first_some (λ (test : Option Why). test) (where_true ended AfterEnd ∷ test_tag others s (Event time name key value) ∷ where_true (not b) BadRow ∷ test_time s.slack earlier (Event time name key value) ∷ [])) (same_fits kinds others name value alike)
+same_row_fault kinds others s ended earlier (Beat time) alike = refl
+same_row_fault kinds others s ended earlier End alike = refl
+
+same_line_defect : (kinds others : List Kind) (s : Source) (read : List Next) (next : Next) → map plain_kind kinds ≡ map plain_kind others → line_defect kinds s read next ≡ line_defect others s read next
+same_line_defect kinds others s read (RowNext line row) alike =
+    ap (option_map (λ (why : Why). (line, why))) (same_row_fault kinds others s (has_ended (rows_of read)) (times_of (rows_of read)) row alike)
+same_line_defect kinds others s read (Bad line) alike = refl
+same_line_defect kinds others s read TooManyLines alike = refl
+same_line_defect kinds others s read (Done lines) alike = refl
+
+same_defect_in : (kinds others : List Kind) (s : Source) (lines : List Next) → map plain_kind kinds ≡ map plain_kind others → defect_in kinds s lines ≡ defect_in others s lines
+same_defect_in kinds others s lines alike = ap (λ f. first_some f (each_with_before lines)) (fun_ext (λ (e : List Next × Next). same_line_defect kinds others s e.0 e.1 alike))
+
+same_lines : (texts : List (List ℕ)) (left : Contents) (p q : Program) (i : ℕ) → IsSameJob p q → lines_behind texts left q i ≡ lines_behind texts left p i
+same_lines texts left p q i same =
+    ap (λ (ss : List Source). option_map_or (λ (s : Source). read_file (bytes_left (emptied_each texts left) s.file)) (slice_get ss i) []) (sym (ap (λ j. j.sources) same))
+
+same_sound : (texts : List (List ℕ)) (left : Contents) (p q : Program) → IsSameJob p q → AreSound p (lines_behind texts left p) → AreSound q (lines_behind texts left q)
+same_sound texts left p q same sound = λ i s e.
+    ap (defect_in q.kinds s) (same_lines texts left p q i same)
+    ∙ (same_defect_in q.kinds p.kinds s (lines_behind texts left p i) (sym (ap (λ j. j.kinds) same))
+    ∙ sound i s (ap (λ (ss : List Source). slice_get ss i) (ap (λ j. j.sources) same) ∙ e))
+
+-- good sources of one are good sources of the other
+pub same_good : (reading : Reading) (texts : List (List ℕ)) (left : Contents) (p q : Program) → IsSameJob p q → AreSourcesGood reading texts left p → AreSourcesGood reading texts left q
+same_good Unread texts left p q same good = good
+same_good Whole texts left p q same good = sym (same_fault texts left p q same) ∙ good
+same_good InRounds texts left p q same good = same_sound texts left p q same good

@@ -23,11 +23,12 @@ use Rattle.flu_model.specs.Modes.{IsAccepted}
 use Rattle.flu_words.specs.Words.{Command}
 use Rattle.flu_top.specs.Taking.{TookOnly}
 use Rattle.flu_top.specs.Behind.{WantedJob, Named, Fixed, HasJob, job_files, emptied, fault_behind, report_behind}
-use Rattle.flu_top.specs.Wants.{job_wanted, plan_named, asks_accepted, reads_sources, plan_files, texts_named, sources_read, files_read, Writes}
+use Rattle.flu_top.specs.Reading.{Reading, Whole, is_read, AreSourcesGood}
+use Rattle.flu_top.specs.Wants.{job_wanted, plan_named, asks_accepted, how_read, reads_sources, plan_files, texts_named, sources_read, files_read, Writes}
 use Rattle.flu_top.specs.Done.{HasPlanAsked, IsRead, Says, MayHaveJob, IsReadName, IsWritten}
 use Rattle.flu_top.specs.Ready.{AreTextsRead, IsReady}
 use Rattle.flu_top.specs.Jobs.{IsJobRefusal}
-use Rattle.flu_top.specs.Causes.{IsJobRead, HasJobFault, HasSourceFault}
+use Rattle.flu_top.specs.Causes.{IsJobRead, HasJobFault, IsMet, HasSourceFault}
 use Rattle.flu_top.specs.Folding.{IsReported, IsReportRefusal}
 use Rattle.flu_top.specs.Refusing.{IsRefusal}
 
@@ -68,7 +69,7 @@ may_have_ready command p None b ready = tt
 may_have_ready command p (Some x) None ready = absurd ready
 may_have_ready command p (Some x) (Some y) ready = ready.has
 
-source_is_read : (command : Command) (p : Program) (name : List ℕ) → IsTrue (reads_sources command) → Contains (files_of p.sources) name → Contains (files_read command p) name
+pub source_is_read : (command : Command) (p : Program) (name : List ℕ) → IsTrue (reads_sources command) → Contains (files_of p.sources) name → Contains (files_read command p) name
 source_is_read command p name reads found =
     subst (λ (b : Bool). Contains (plan_files (plan_named command) ++ (if b then files_of p.sources else [])) name) (sym reads)
     (Contains-append_right (plan_files (plan_named command)) (files_of p.sources) name found)
@@ -154,21 +155,35 @@ ready_alone command job p a b named alone asked read taken =
     (told_both (IsJobRead job p) (TakesFrom job) a b read taken)
 
 -- ---- the report of a command's job
-read_at : (command : Command) (p : Program) (report : List ℕ) (x y z : Contents) → IsTrue (reads_sources command) → (IsTrue (asks_accepted command) → IsAccepted p)
-    → IsReady command p x y → IsReported p report y z × LeavesOthers (files_of p.sources) y z → IsRead command p x z
+none_behind : (command : Command) (p : Program) (x y : Contents) → IsReady command p x y → fault_behind (texts_named command) x p ≡ first_fault p y
 unfolding fault_behind
-read_at command p report x y z reads accepted first second = record {
-  good = record { has = first.has; accepted = accepted; plan = first.plan; sources = λ asked. ap (first_fault p) first.texts.behind ∙ second.0.good };
-  ends = λ name found. by_name name (Contains-append_cases (texts_named command) (sources_read command p) name found);
-}
+none_behind command p x y ready = ap (first_fault p) ready.texts.behind
+
+-- the texts of a command and its sources were read to their ends
+pub ends_at : (command : Command) (p : Program) (x y z : Contents) → IsTrue (reads_sources command) → IsReady command p x y
+    → ((name : List ℕ) → Contains (files_of p.sources) name → z name ≡ Some []) → LeavesOthers (files_of p.sources) y z
+    → (name : List ℕ) → Contains (texts_named command ++ sources_read command p) name → z name ≡ Some []
+ends_at command p x y z reads first sources others name found = by_name name (Contains-append_cases (texts_named command) (sources_read command p) name found)
   where
     text_end : (name : List ℕ) → Contains (texts_named command) name → z name ≡ Some []
     text_end name text =
-        elim (among (files_of p.sources) name) [ inl found ↦ second.0.ends name found | inr missing ↦ second.1 name missing ∙ first.texts.ends name text ]
+        elim (among (files_of p.sources) name) [ inl found ↦ sources name found | inr missing ↦ others name missing ∙ first.texts.ends name text ]
 
     by_name : (name : List ℕ) → Contains (texts_named command) name ⊎ Contains (sources_read command p) name → z name ≡ Some []
     by_name name (inl text) = text_end name text
-    by_name name (inr found) = second.0.ends name (subst (λ (b : Bool). Contains (if b then files_of p.sources else []) name) reads found)
+    by_name name (inr found) = sources name (subst (λ (b : Bool). Contains (if b then files_of p.sources else []) name) reads found)
+
+read_at : (command : Command) (p : Program) (report : List ℕ) (x y z : Contents) → how_read command ≡ Whole → (IsTrue (asks_accepted command) → IsAccepted p)
+    → IsReady command p x y → IsReported p report y z × LeavesOthers (files_of p.sources) y z → IsRead command p x z
+read_at command p report x y z whole accepted first second = record {
+  good = record {
+    has = first.has;
+    accepted = accepted;
+    plan = first.plan;
+    sources = subst (λ (r : Reading). AreSourcesGood r (texts_named command) x p) (sym whole) (none_behind command p x y first ∙ second.0.good);
+  };
+  ends = ends_at command p x y z (ap is_read whole) first second.0.ends second.1;
+}
 
 -- the report of a job whose texts were read before its sources
 report_at : (command : Command) (p : Program) (report : List ℕ) (x y z : Contents) → IsReady command p x y → IsReported p report y z → report ≡ report_behind (texts_named command) x p
@@ -180,11 +195,11 @@ pub record HasReport (command : Command) (p : Program) (report : List ℕ) (x z 
   pub read : IsRead command p x z
   pub is : report ≡ report_behind (texts_named command) x p
 
-pub has_report : (command : Command) (p : Program) (report : List ℕ) (a b c : Option Contents) → IsTrue (reads_sources command) → (IsTrue (asks_accepted command) → IsAccepted p)
+pub has_report : (command : Command) (p : Program) (report : List ℕ) (a b c : Option Contents) → how_read command ≡ Whole → (IsTrue (asks_accepted command) → IsAccepted p)
     → WhereTold a b (IsReady command p) → WhereTold b c (LeavesOthers (files_of p.sources)) → WhereTold b c (IsReported p report) → WhereTold a c (HasReport command p report)
-has_report command p report a b c reads accepted ready others reported =
+has_report command p report a b c whole accepted ready others reported =
     told_then (IsReady command p) (λ y z. IsReported p report y z × LeavesOthers (files_of p.sources) y z) (HasReport command p report) a b c
-    (λ x y z first second. record { read = read_at command p report x y z reads accepted first second; is = report_at command p report x y z first second.0 })
+    (λ x y z first second. record { read = read_at command p report x y z whole accepted first second; is = report_at command p report x y z first second.0 })
     ready (told_both (IsReported p report) (LeavesOthers (files_of p.sources)) b c reported others)
 
 -- the command writes the report of its job, and says nothing
@@ -192,11 +207,11 @@ abbrev pub WritesReport : Command → Type 0
 WritesReport command =
     (left : Contents) (p : Program) (text : List ℕ) → text ≡ report_behind (texts_named command) left p → Writes command left p text × Says command left p []
 
-pub is_reported_behind : (command : Command) (p : Program) (report : List ℕ) (a b c : Option Contents) → IsTrue (reads_sources command) → (IsTrue (asks_accepted command) → IsAccepted p)
+pub is_reported_behind : (command : Command) (p : Program) (report : List ℕ) (a b c : Option Contents) → how_read command ≡ Whole → (IsTrue (asks_accepted command) → IsAccepted p)
     → WritesReport command → WhereTold a b (IsReady command p) → WhereTold b c (LeavesOthers (files_of p.sources)) → WhereTold b c (IsReported p report) → WhereTold a c (IsWritten command report [])
-is_reported_behind command p report a b c reads accepted writes ready others reported =
+is_reported_behind command p report a b c whole accepted writes ready others reported =
     told_weaker (HasReport command p report) (IsWritten command report []) a c
-    (λ x z has. let both = writes x p report has.is in (p, has.read, both.0, both.1)) (has_report command p report a b c reads accepted ready others reported)
+    (λ x z has. let both = writes x p report has.is in (p, has.read, both.0, both.1)) (has_report command p report a b c whole accepted ready others reported)
 
 -- ---- what refuses a job
 pub job_refusal : (command : Command) (job : List ℕ) (a b : Option Contents) (before now : List ℕ → ℕ) (refusal : Refusal) → job_wanted command ≡ Named job → IsJobRefusal job a b before now refusal → IsRefusal command a b before now refusal
@@ -209,27 +224,23 @@ job_refusal command job a b before now refusals.ReadFault named is = (job, inl n
 job_refusal command job a b before now refusals.WriteFault named is = is
 job_refusal command job a b before now refusals.NoMemory named is = is
 
-fault_at : (command : Command) (p : Program) (x y : Contents) → IsReady command p x y → fault_behind (texts_named command) x p ≡ first_fault p y
-unfolding fault_behind
-fault_at command p x y ready = ap (first_fault p) ready.texts.behind
-
-pub report_refusal : (command : Command) (p : Program) (a b c : Option Contents) (k l m : List ℕ → ℕ) (refusal : Refusal) → IsTrue (reads_sources command)
+pub report_refusal : (command : Command) (p : Program) (a b c : Option Contents) (k l m : List ℕ → ℕ) (refusal : Refusal) → how_read command ≡ Whole
     → (IsTrue (asks_accepted command) → IsAccepted p) → WhereTold a b (IsReady command p) → ((n : List ℕ) → k n ≤ l n) → IsReportRefusal p b c l m refusal → IsRefusal command a c k m refusal
 report_refusal command p a b c k l m (refusals.BadWords bad) reads accepted ready rise is = is
 report_refusal command p a b c k l m (refusals.JobFault fault) reads accepted ready rise is = absurd is
 report_refusal command p a b c k l m (refusals.Conflict fault) reads accepted ready rise is = absurd is
 report_refusal command p a b c k l m (refusals.PlanDefect defect) reads accepted ready rise is = absurd is
-report_refusal command p a b c k l m (refusals.SourceFault q fault) reads accepted ready rise is =
-    subst (λ (r : Program). HasSourceFault command a c r fault) (sym is.program)
+report_refusal command p a b c k l m (refusals.SourceFault q fault) whole accepted ready rise is =
+    subst (λ (r : Program). HasSourceFault command a c r fault []) (sym is.program)
     record {
-      asked = reads;
+      asked = ap is_read whole;
       accepted = accepted;
       source = is.source;
       first = told_then (IsReady command p) (λ left _. first_fault p left ≡ Some fault)
-          (λ left _. HasJob (job_wanted command) left p × HasPlanAsked command left p × (fault_behind (texts_named command) left p ≡ Some fault)) a b c
-          (λ x y z first e. (first.has, first.plan, fault_at command p x y first ∙ e)) ready is.first;
+          (λ left _. HasJob (job_wanted command) left p × HasPlanAsked command left p × IsMet (how_read command) (texts_named command) left p [] fault) a b c
+          (λ x y z first e. (first.has, first.plan, subst (λ (r : Reading). IsMet r (texts_named command) x p [] fault) (sym whole) (none_behind command p x y first ∙ e))) ready is.first;
     }
-report_refusal command p a b c k l m refusals.ReadFault reads accepted ready rise is =
-    (is.0, inr (p, may_have_ready command p a b ready, accepted, source_is_read command p is.0 reads is.1), rose_behind (k is.0) (l is.0) (m is.0) (rise is.0) is.2)
+report_refusal command p a b c k l m refusals.ReadFault whole accepted ready rise is =
+    (is.0, inr (p, may_have_ready command p a b ready, accepted, source_is_read command p is.0 (ap is_read whole) is.1), rose_behind (k is.0) (l is.0) (m is.0) (rise is.0) is.2)
 report_refusal command p a b c k l m refusals.WriteFault reads accepted ready rise is = is
 report_refusal command p a b c k l m refusals.NoMemory reads accepted ready rise is = tt

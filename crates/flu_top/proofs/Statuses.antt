@@ -1,5 +1,5 @@
 -- What an outcome says at each status.
-use Rattle.std.proofs.Common.{◌≡◌, ◌≢◌, sym, ◌∙◌, subst, ℕ, List, [], ◌∷◌, Ok, Err, arith}
+use Rattle.std.proofs.Common.{◌≡◌, ◌≢◌, ◌<◌, refl, sym, ◌∙◌, subst, ℕ, List, [], ◌∷◌, Option, Ok, Err, arith}
 use Rattle.std.specs.Prelude.{Contains, IsTrue, ◌↔◌}
 use Rattle.std.proofs.lemmas.Bool.{false≢true}
 use Rattle.flu_model.specs.declared.jobs.Program.{Program}
@@ -8,13 +8,14 @@ use Rattle.flu_check.specs.declared.CheckFault.{CheckFault}
 use Rattle.flu_streams.specs.declared.faults.SourceFault.{SourceFault}
 use Rattle.flu_top.specs.declared.refusals.PlanDefect.{PlanDefect}
 use Rattle.flu_words.specs.Words.{Command, Simulate, command_in}
-use Rattle.flu_top.specs.Wants.{Saying, Nothing, Line, want, job_wanted, says_nothing, is_nothing}
-use Rattle.flu_top.specs.Done.{IsDone, IsPartlyDone, WhereKnown}
+use Rattle.flu_top.specs.Reading.{Reading, Unread, Whole, InRounds}
+use Rattle.flu_top.specs.Wants.{Saying, Nothing, Line, want, job_wanted, how_read, says_nothing, is_nothing}
+use Rattle.flu_top.specs.Done.{IsDone, WhereKnown, Wrote, WroteSome, WrotePart}
 use Rattle.flu_top.specs.Causes.{HasJobFault, HasConflict, HasPlanDefect, HasSourceFault}
 use Rattle.flu_top.specs.Names.{source_name}
 use Rattle.flu_top.specs.Simulating.{IsLineOfRun, IsStepLine}
 use Rattle.flu_top.specs.Behind.{Named, HasJob}
-use Rattle.flu_outside.specs.Outside.{WhereTold}
+use Rattle.flu_outside.specs.Outside.{Contents, WhereTold}
 use Rattle.flu_lemmas.proofs.Told.{told_weaker}
 use Rattle.flu_top.specs.Lines.{bad_words_line, job_fault_line, conflict_line, plan_defect_line, source_fault_line, read_fault_line, write_fault_line, no_memory_line}
 use Rattle.flu_top.specs.Outcome.{Outside, Said, Hears, Refused, Outcome}
@@ -27,10 +28,10 @@ at_0 words old new status (cases.BadWords is at word files refused) e = absurd (
 at_0 words old new status (cases.BadJob is command word fault has refused) e = absurd (omega (arith, is, e))
 at_0 words old new status (cases.Conflicts is command word fault has refused) e = absurd (omega (arith, is, e))
 at_0 words old new status (cases.BadPlan is command word defect has refused) e = absurd (omega (arith, is, e))
-at_0 words old new status (cases.BadSource is command word p fault has refused) e = absurd (omega (arith, is, e))
-at_0 words old new status (cases.ReadFailed is command word refused) e = absurd (omega (arith, is, e))
+at_0 words old new status (cases.BadSource is command word p fault text has wrote said) e = absurd (omega (arith, is, e))
+at_0 words old new status (cases.ReadFailed is command word some said) e = absurd (omega (arith, is, e))
 at_0 words old new status (cases.WriteFailed is command word partly said) e = absurd (omega (arith, is, e))
-at_0 words old new status (cases.NoMemory is command word refused) e = absurd (omega (arith, is, e))
+at_0 words old new status (cases.NoMemory is command word some said) e = absurd (omega (arith, is, e))
 
 pub at_2 : (words : List (List ℕ)) (old new : Outside) (status : ℕ) → Outcome words old new status → status ≡ 2 → (at : ℕ) × (command_in words ≡ Err at) × (new.left ≡ old.left) × Refused old new (bad_words_line at)
 at_2 words old new status (cases.Done is command word line done heard) e = absurd (omega (arith, is, e))
@@ -38,10 +39,10 @@ at_2 words old new status (cases.BadWords is at word files refused) e = (at, wor
 at_2 words old new status (cases.BadJob is command word fault has refused) e = absurd (omega (arith, is, e))
 at_2 words old new status (cases.Conflicts is command word fault has refused) e = absurd (omega (arith, is, e))
 at_2 words old new status (cases.BadPlan is command word defect has refused) e = absurd (omega (arith, is, e))
-at_2 words old new status (cases.BadSource is command word p fault has refused) e = absurd (omega (arith, is, e))
-at_2 words old new status (cases.ReadFailed is command word refused) e = absurd (omega (arith, is, e))
+at_2 words old new status (cases.BadSource is command word p fault text has wrote said) e = absurd (omega (arith, is, e))
+at_2 words old new status (cases.ReadFailed is command word some said) e = absurd (omega (arith, is, e))
 at_2 words old new status (cases.WriteFailed is command word partly said) e = absurd (omega (arith, is, e))
-at_2 words old new status (cases.NoMemory is command word refused) e = absurd (omega (arith, is, e))
+at_2 words old new status (cases.NoMemory is command word some said) e = absurd (omega (arith, is, e))
 
 pub at_3 : (words : List (List ℕ)) (old new : Outside) (status : ℕ) → Outcome words old new status → status ≡ 3 → (command : Command) × (fault : JobFault) × (command_in words ≡ Ok command) × HasJobFault (job_wanted command) old.left new.left fault × Refused old new (job_fault_line fault)
 at_3 words old new status (cases.Done is command word line done heard) e = absurd (omega (arith, is, e))
@@ -49,10 +50,10 @@ at_3 words old new status (cases.BadWords is at word files refused) e = absurd (
 at_3 words old new status (cases.BadJob is command word fault has refused) e = (command, fault, word, has, refused)
 at_3 words old new status (cases.Conflicts is command word fault has refused) e = absurd (omega (arith, is, e))
 at_3 words old new status (cases.BadPlan is command word defect has refused) e = absurd (omega (arith, is, e))
-at_3 words old new status (cases.BadSource is command word p fault has refused) e = absurd (omega (arith, is, e))
-at_3 words old new status (cases.ReadFailed is command word refused) e = absurd (omega (arith, is, e))
+at_3 words old new status (cases.BadSource is command word p fault text has wrote said) e = absurd (omega (arith, is, e))
+at_3 words old new status (cases.ReadFailed is command word some said) e = absurd (omega (arith, is, e))
 at_3 words old new status (cases.WriteFailed is command word partly said) e = absurd (omega (arith, is, e))
-at_3 words old new status (cases.NoMemory is command word refused) e = absurd (omega (arith, is, e))
+at_3 words old new status (cases.NoMemory is command word some said) e = absurd (omega (arith, is, e))
 
 pub at_4 : (words : List (List ℕ)) (old new : Outside) (status : ℕ) → Outcome words old new status → status ≡ 4 → (command : Command) × (fault : CheckFault) × (command_in words ≡ Ok command) × HasConflict command old.left new.left fault × Refused old new (conflict_line fault)
 at_4 words old new status (cases.Done is command word line done heard) e = absurd (omega (arith, is, e))
@@ -60,10 +61,10 @@ at_4 words old new status (cases.BadWords is at word files refused) e = absurd (
 at_4 words old new status (cases.BadJob is command word fault has refused) e = absurd (omega (arith, is, e))
 at_4 words old new status (cases.Conflicts is command word fault has refused) e = (command, fault, word, has, refused)
 at_4 words old new status (cases.BadPlan is command word defect has refused) e = absurd (omega (arith, is, e))
-at_4 words old new status (cases.BadSource is command word p fault has refused) e = absurd (omega (arith, is, e))
-at_4 words old new status (cases.ReadFailed is command word refused) e = absurd (omega (arith, is, e))
+at_4 words old new status (cases.BadSource is command word p fault text has wrote said) e = absurd (omega (arith, is, e))
+at_4 words old new status (cases.ReadFailed is command word some said) e = absurd (omega (arith, is, e))
 at_4 words old new status (cases.WriteFailed is command word partly said) e = absurd (omega (arith, is, e))
-at_4 words old new status (cases.NoMemory is command word refused) e = absurd (omega (arith, is, e))
+at_4 words old new status (cases.NoMemory is command word some said) e = absurd (omega (arith, is, e))
 
 pub at_5 : (words : List (List ℕ)) (old new : Outside) (status : ℕ) → Outcome words old new status → status ≡ 5 → (command : Command) × (defect : PlanDefect) × (command_in words ≡ Ok command) × HasPlanDefect command old.left new.left defect × Refused old new (plan_defect_line defect)
 at_5 words old new status (cases.Done is command word line done heard) e = absurd (omega (arith, is, e))
@@ -71,54 +72,54 @@ at_5 words old new status (cases.BadWords is at word files refused) e = absurd (
 at_5 words old new status (cases.BadJob is command word fault has refused) e = absurd (omega (arith, is, e))
 at_5 words old new status (cases.Conflicts is command word fault has refused) e = absurd (omega (arith, is, e))
 at_5 words old new status (cases.BadPlan is command word defect has refused) e = (command, defect, word, has, refused)
-at_5 words old new status (cases.BadSource is command word p fault has refused) e = absurd (omega (arith, is, e))
-at_5 words old new status (cases.ReadFailed is command word refused) e = absurd (omega (arith, is, e))
+at_5 words old new status (cases.BadSource is command word p fault text has wrote said) e = absurd (omega (arith, is, e))
+at_5 words old new status (cases.ReadFailed is command word some said) e = absurd (omega (arith, is, e))
 at_5 words old new status (cases.WriteFailed is command word partly said) e = absurd (omega (arith, is, e))
-at_5 words old new status (cases.NoMemory is command word refused) e = absurd (omega (arith, is, e))
+at_5 words old new status (cases.NoMemory is command word some said) e = absurd (omega (arith, is, e))
 
-pub at_6 : (words : List (List ℕ)) (old new : Outside) (status : ℕ) → Outcome words old new status → status ≡ 6 → (command : Command) × (p : Program) × (fault : SourceFault) × (command_in words ≡ Ok command) × HasSourceFault command old.left new.left p fault × Refused old new (source_fault_line (source_name p fault.source) fault.row fault.why)
+pub at_6 : (words : List (List ℕ)) (old new : Outside) (status : ℕ) → Outcome words old new status → status ≡ 6 → (command : Command) × (p : Program) × (fault : SourceFault) × (text : List ℕ) × (command_in words ≡ Ok command) × HasSourceFault command old.left new.left p fault text × Wrote (how_read command) text old.out new.out × Said old new (source_fault_line (source_name p fault.source) fault.row fault.why)
 at_6 words old new status (cases.Done is command word line done heard) e = absurd (omega (arith, is, e))
 at_6 words old new status (cases.BadWords is at word files refused) e = absurd (omega (arith, is, e))
 at_6 words old new status (cases.BadJob is command word fault has refused) e = absurd (omega (arith, is, e))
 at_6 words old new status (cases.Conflicts is command word fault has refused) e = absurd (omega (arith, is, e))
 at_6 words old new status (cases.BadPlan is command word defect has refused) e = absurd (omega (arith, is, e))
-at_6 words old new status (cases.BadSource is command word p fault has refused) e = (command, p, fault, word, has, refused)
-at_6 words old new status (cases.ReadFailed is command word refused) e = absurd (omega (arith, is, e))
+at_6 words old new status (cases.BadSource is command word p fault text has wrote said) e = (command, p, fault, text, word, has, wrote, said)
+at_6 words old new status (cases.ReadFailed is command word some said) e = absurd (omega (arith, is, e))
 at_6 words old new status (cases.WriteFailed is command word partly said) e = absurd (omega (arith, is, e))
-at_6 words old new status (cases.NoMemory is command word refused) e = absurd (omega (arith, is, e))
+at_6 words old new status (cases.NoMemory is command word some said) e = absurd (omega (arith, is, e))
 
-pub at_7 : (words : List (List ℕ)) (old new : Outside) (status : ℕ) → Outcome words old new status → status ≡ 7 → (command : Command) × (command_in words ≡ Ok command) × Refused old new read_fault_line
+pub at_7 : (words : List (List ℕ)) (old new : Outside) (status : ℕ) → Outcome words old new status → status ≡ 7 → (command : Command) × (command_in words ≡ Ok command) × WroteSome (how_read command) command old.left new.left old.out new.out × Said old new read_fault_line
 at_7 words old new status (cases.Done is command word line done heard) e = absurd (omega (arith, is, e))
 at_7 words old new status (cases.BadWords is at word files refused) e = absurd (omega (arith, is, e))
 at_7 words old new status (cases.BadJob is command word fault has refused) e = absurd (omega (arith, is, e))
 at_7 words old new status (cases.Conflicts is command word fault has refused) e = absurd (omega (arith, is, e))
 at_7 words old new status (cases.BadPlan is command word defect has refused) e = absurd (omega (arith, is, e))
-at_7 words old new status (cases.BadSource is command word p fault has refused) e = absurd (omega (arith, is, e))
-at_7 words old new status (cases.ReadFailed is command word refused) e = (command, word, refused)
+at_7 words old new status (cases.BadSource is command word p fault text has wrote said) e = absurd (omega (arith, is, e))
+at_7 words old new status (cases.ReadFailed is command word some said) e = (command, word, some, said)
 at_7 words old new status (cases.WriteFailed is command word partly said) e = absurd (omega (arith, is, e))
-at_7 words old new status (cases.NoMemory is command word refused) e = absurd (omega (arith, is, e))
+at_7 words old new status (cases.NoMemory is command word some said) e = absurd (omega (arith, is, e))
 
-pub at_8 : (words : List (List ℕ)) (old new : Outside) (status : ℕ) → Outcome words old new status → status ≡ 8 → (command : Command) × (command_in words ≡ Ok command) × WhereKnown (job_wanted command) old.left new.left (IsPartlyDone command old.out new.out) × Said old new write_fault_line
+pub at_8 : (words : List (List ℕ)) (old new : Outside) (status : ℕ) → Outcome words old new status → status ≡ 8 → (command : Command) × (command_in words ≡ Ok command) × WrotePart (how_read command) command old.left new.left old.out new.out × Said old new write_fault_line
 at_8 words old new status (cases.Done is command word line done heard) e = absurd (omega (arith, is, e))
 at_8 words old new status (cases.BadWords is at word files refused) e = absurd (omega (arith, is, e))
 at_8 words old new status (cases.BadJob is command word fault has refused) e = absurd (omega (arith, is, e))
 at_8 words old new status (cases.Conflicts is command word fault has refused) e = absurd (omega (arith, is, e))
 at_8 words old new status (cases.BadPlan is command word defect has refused) e = absurd (omega (arith, is, e))
-at_8 words old new status (cases.BadSource is command word p fault has refused) e = absurd (omega (arith, is, e))
-at_8 words old new status (cases.ReadFailed is command word refused) e = absurd (omega (arith, is, e))
+at_8 words old new status (cases.BadSource is command word p fault text has wrote said) e = absurd (omega (arith, is, e))
+at_8 words old new status (cases.ReadFailed is command word some said) e = absurd (omega (arith, is, e))
 at_8 words old new status (cases.WriteFailed is command word partly said) e = (command, word, partly, said)
-at_8 words old new status (cases.NoMemory is command word refused) e = absurd (omega (arith, is, e))
+at_8 words old new status (cases.NoMemory is command word some said) e = absurd (omega (arith, is, e))
 
-pub at_9 : (words : List (List ℕ)) (old new : Outside) (status : ℕ) → Outcome words old new status → status ≡ 9 → (command : Command) × (command_in words ≡ Ok command) × Refused old new no_memory_line
+pub at_9 : (words : List (List ℕ)) (old new : Outside) (status : ℕ) → Outcome words old new status → status ≡ 9 → (command : Command) × (command_in words ≡ Ok command) × WroteSome (how_read command) command old.left new.left old.out new.out × Said old new no_memory_line
 at_9 words old new status (cases.Done is command word line done heard) e = absurd (omega (arith, is, e))
 at_9 words old new status (cases.BadWords is at word files refused) e = absurd (omega (arith, is, e))
 at_9 words old new status (cases.BadJob is command word fault has refused) e = absurd (omega (arith, is, e))
 at_9 words old new status (cases.Conflicts is command word fault has refused) e = absurd (omega (arith, is, e))
 at_9 words old new status (cases.BadPlan is command word defect has refused) e = absurd (omega (arith, is, e))
-at_9 words old new status (cases.BadSource is command word p fault has refused) e = absurd (omega (arith, is, e))
-at_9 words old new status (cases.ReadFailed is command word refused) e = absurd (omega (arith, is, e))
+at_9 words old new status (cases.BadSource is command word p fault text has wrote said) e = absurd (omega (arith, is, e))
+at_9 words old new status (cases.ReadFailed is command word some said) e = absurd (omega (arith, is, e))
 at_9 words old new status (cases.WriteFailed is command word partly said) e = absurd (omega (arith, is, e))
-at_9 words old new status (cases.NoMemory is command word refused) e = (command, word, refused)
+at_9 words old new status (cases.NoMemory is command word some said) e = (command, word, some, said)
 
 -- ---- what holds at more than one status
 pub known_status : (words : List (List ℕ)) (old new : Outside) (status : ℕ) → Outcome words old new status → Contains (0 ∷ 2 ∷ 3 ∷ 4 ∷ 5 ∷ 6 ∷ 7 ∷ 8 ∷ 9 ∷ []) status
@@ -127,21 +128,44 @@ known_status words old new status (cases.BadWords is at word files refused) = (1
 known_status words old new status (cases.BadJob is command word fault has refused) = (2, omega arith, sym is)
 known_status words old new status (cases.Conflicts is command word fault has refused) = (3, omega arith, sym is)
 known_status words old new status (cases.BadPlan is command word defect has refused) = (4, omega arith, sym is)
-known_status words old new status (cases.BadSource is command word p fault has refused) = (5, omega arith, sym is)
-known_status words old new status (cases.ReadFailed is command word refused) = (6, omega arith, sym is)
+known_status words old new status (cases.BadSource is command word p fault text has wrote said) = (5, omega arith, sym is)
+known_status words old new status (cases.ReadFailed is command word some said) = (6, omega arith, sym is)
 known_status words old new status (cases.WriteFailed is command word partly said) = (7, omega arith, sym is)
-known_status words old new status (cases.NoMemory is command word refused) = (8, omega arith, sym is)
+known_status words old new status (cases.NoMemory is command word some said) = (8, omega arith, sym is)
 
-pub nothing_written : (words : List (List ℕ)) (old new : Outside) (status : ℕ) → Outcome words old new status → status ≢ 0 → status ≢ 8 → new.out ≡ old.out
-nothing_written words old new status (cases.Done is command word line done heard) some other = absurd (some is)
-nothing_written words old new status (cases.BadWords is at word files refused) some other = refused.nothing
-nothing_written words old new status (cases.BadJob is command word fault has refused) some other = refused.nothing
-nothing_written words old new status (cases.Conflicts is command word fault has refused) some other = refused.nothing
-nothing_written words old new status (cases.BadPlan is command word defect has refused) some other = refused.nothing
-nothing_written words old new status (cases.BadSource is command word p fault has refused) some other = refused.nothing
-nothing_written words old new status (cases.ReadFailed is command word refused) some other = refused.nothing
-nothing_written words old new status (cases.WriteFailed is command word partly said) some other = absurd (other is)
-nothing_written words old new status (cases.NoMemory is command word refused) some other = refused.nothing
+-- where nothing is read in rounds nothing was written
+wrote_unread : (reading : Reading) (text : List ℕ) (had has : Option (List ℕ)) → reading ≢ InRounds → Wrote reading text had has → has ≡ had
+wrote_unread Unread text had has other wrote = wrote
+wrote_unread Whole text had has other wrote = wrote
+wrote_unread InRounds text had has other wrote = absurd (other refl)
+
+some_unread : (reading : Reading) (command : Command) (a b : Option Contents) (had has : Option (List ℕ)) → reading ≢ InRounds → WroteSome reading command a b had has → has ≡ had
+some_unread Unread command a b had has other some = some
+some_unread Whole command a b had has other some = some
+some_unread InRounds command a b had has other some = absurd (other refl)
+
+pub nothing_written : (words : List (List ℕ)) (old new : Outside) (status : ℕ) → Outcome words old new status → status ≢ 0 → status ≢ 8
+    → ((command : Command) → command_in words ≡ Ok command → how_read command ≢ InRounds) → new.out ≡ old.out
+nothing_written words old new status (cases.Done is command word line done heard) done' other apart = absurd (done' is)
+nothing_written words old new status (cases.BadWords is at word files refused) done' other apart = refused.nothing
+nothing_written words old new status (cases.BadJob is command word fault has refused) done' other apart = refused.nothing
+nothing_written words old new status (cases.Conflicts is command word fault has refused) done' other apart = refused.nothing
+nothing_written words old new status (cases.BadPlan is command word defect has refused) done' other apart = refused.nothing
+nothing_written words old new status (cases.BadSource is command word p fault text has wrote said) done' other apart = wrote_unread (how_read command) text old.out new.out (apart command word) wrote
+nothing_written words old new status (cases.ReadFailed is command word some said) done' other apart = some_unread (how_read command) command old.left new.left old.out new.out (apart command word) some
+nothing_written words old new status (cases.WriteFailed is command word partly said) done' other apart = absurd (other is)
+nothing_written words old new status (cases.NoMemory is command word some said) done' other apart = some_unread (how_read command) command old.left new.left old.out new.out (apart command word) some
+
+pub refused_unwritten : (words : List (List ℕ)) (old new : Outside) (status : ℕ) → Outcome words old new status → status ≢ 0 → status < 6 → new.out ≡ old.out
+refused_unwritten words old new status (cases.Done is command word line done heard) done' low = absurd (done' is)
+refused_unwritten words old new status (cases.BadWords is at word files refused) done' low = refused.nothing
+refused_unwritten words old new status (cases.BadJob is command word fault has refused) done' low = refused.nothing
+refused_unwritten words old new status (cases.Conflicts is command word fault has refused) done' low = refused.nothing
+refused_unwritten words old new status (cases.BadPlan is command word defect has refused) done' low = refused.nothing
+refused_unwritten words old new status (cases.BadSource is command word p fault text has wrote said) done' low = absurd (omega (arith, is, low))
+refused_unwritten words old new status (cases.ReadFailed is command word some said) done' low = absurd (omega (arith, is, low))
+refused_unwritten words old new status (cases.WriteFailed is command word partly said) done' low = absurd (omega (arith, is, low))
+refused_unwritten words old new status (cases.NoMemory is command word some said) done' low = absurd (omega (arith, is, low))
 
 -- words that are no command have status 2, and no others
 pub no_command : (words : List (List ℕ)) (command : Command) (at : ℕ) → command_in words ≡ Ok command → command_in words ≡ Err at → ⊥
@@ -156,10 +180,10 @@ of_no_command words old new status (cases.BadWords is at word files refused) pla
 of_no_command words old new status (cases.BadJob is command word fault has refused) place bad = absurd (no_command words command place word bad)
 of_no_command words old new status (cases.Conflicts is command word fault has refused) place bad = absurd (no_command words command place word bad)
 of_no_command words old new status (cases.BadPlan is command word defect has refused) place bad = absurd (no_command words command place word bad)
-of_no_command words old new status (cases.BadSource is command word p fault has refused) place bad = absurd (no_command words command place word bad)
-of_no_command words old new status (cases.ReadFailed is command word refused) place bad = absurd (no_command words command place word bad)
+of_no_command words old new status (cases.BadSource is command word p fault text has wrote said) place bad = absurd (no_command words command place word bad)
+of_no_command words old new status (cases.ReadFailed is command word some said) place bad = absurd (no_command words command place word bad)
 of_no_command words old new status (cases.WriteFailed is command word partly said) place bad = absurd (no_command words command place word bad)
-of_no_command words old new status (cases.NoMemory is command word refused) place bad = absurd (no_command words command place word bad)
+of_no_command words old new status (cases.NoMemory is command word some said) place bad = absurd (no_command words command place word bad)
 
 pub bad_words_exactly : (words : List (List ℕ)) (old new : Outside) (status : ℕ) → Outcome words old new status → (status ≡ 2) ↔ ((at : ℕ) × (command_in words ≡ Err at))
 bad_words_exactly words old new status outcome =

@@ -1,6 +1,5 @@
 -- A job's text is read, then a plan's, and the plan is looked at for the job.
-use Rattle.std.proofs.Common.{◌≡◌, refl, sym, ap, ◌∙◌, subst, ℕ, ◌≤◌, List, [], ◌∷◌, Option, Some, Err, inl, inr, arith}
-use Rattle.std.proofs.lemmas.Bool.{false≢true}
+use Rattle.std.proofs.Common.{◌≡◌, refl, sym, ap, ◌∙◌, subst, ℕ, ◌≤◌, List, [], Option, Some, Err, inl, inr, arith}
 use Rattle.flu_outside.specs.Outside.{WhereTold, Contents}
 use Rattle.flu_model.specs.declared.jobs.Program.{Program}
 use Rattle.flu_model.specs.declared.plans.Node.{Node}
@@ -66,7 +65,7 @@ validated_at : (job plan : List ℕ) (p : Program) (nodes : List Node) (text : L
 validated_at job plan p nodes text x z accepted is both = (
   p,
   record {
-    good = record { has = both.0.has; accepted = λ asked. accepted; plan = both.0.plan; sources = λ asked. absurd (false≢true asked) };
+    good = record { has = both.0.has; accepted = λ asked. accepted; plan = both.0.plan; sources = tt };
     ends = both.0.texts.ends;
   },
   record { nodes = nodes; has = both.1; is = is },

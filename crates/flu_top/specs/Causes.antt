@@ -21,7 +21,8 @@ use Rattle.flu_top.specs.declared.refusals.PlanDefect.TheVariants as defects
 use Rattle.flu_words.specs.Words.{Command}
 use Rattle.flu_top.specs.Behind.{WantedJob, Named, HasJob, HasPlan, fault_behind, plan_behind}
 use Rattle.flu_top.specs.TextFaults.{IsFirstJobFault, IsFirstTextFault}
-use Rattle.flu_top.specs.Wants.{job_wanted, plan_named, asks_accepted, reads_sources, texts_named}
+use Rattle.flu_top.specs.Reading.{Reading, Unread, Whole, InRounds, MeetsDefect, lines_behind}
+use Rattle.flu_top.specs.Wants.{job_wanted, plan_named, asks_accepted, how_read, reads_sources, texts_named}
 use Rattle.flu_top.specs.Done.{HasPlanAsked}
 
 -- the bytes under the job's name are the text of this program, and were read to their end
@@ -82,9 +83,16 @@ HasPlanDefect command old new (defects.Text fault) = HasPlanFault command old ne
 HasPlanDefect command old new (defects.Invalid checked fault) = HasInvalidPlan command old new (program_of checked) fault.plan.nodes fault.why
 
 -- ---- the sources
--- the command reads sources, its job is this program, which is accepted where the command asks for that, a plan that the command names is valid for it, and this is the first fault of its sources
-pub record HasSourceFault (command : Command) (old new : Option Contents) (p : Program) (fault : SourceFault) : Type 0 where
+-- a defect refuses the sources that are read behind some texts, once this was written: of all sources it is the first one, and in
+-- rounds that of the earliest round that meets any
+abbrev pub IsMet : Reading → List (List ℕ) → Contents → Program → List ℕ → SourceFault → Type 0
+IsMet Unread texts left p text fault = ⊥
+IsMet Whole texts left p text fault = fault_behind texts left p ≡ Some fault
+IsMet InRounds texts left p text fault = MeetsDefect p (lines_behind texts left p) text fault
+
+-- the command reads sources, its job is this program, which is accepted where the command asks for that, a plan that the command names is valid for it, and this defect of its sources refuses it, once this was written
+pub record HasSourceFault (command : Command) (old new : Option Contents) (p : Program) (fault : SourceFault) (text : List ℕ) : Type 0 where
   pub asked : IsTrue (reads_sources command)
   pub accepted : IsTrue (asks_accepted command) → IsAccepted p
   pub source : fault.source < length p.sources
-  pub first : WhereTold old new (λ left _. HasJob (job_wanted command) left p × HasPlanAsked command left p × (fault_behind (texts_named command) left p ≡ Some fault))
+  pub first : WhereTold old new (λ left _. HasJob (job_wanted command) left p × HasPlanAsked command left p × IsMet (how_read command) (texts_named command) left p text fault)

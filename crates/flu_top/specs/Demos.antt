@@ -1,7 +1,6 @@
 -- The demo: its job, and the summary of the report of its streams.
 use Rattle.std.specs.Prelude.{ℕ, ◌==◌, List, ◌++◌, codes, count_by, length, map}
 use Rattle.std.specs.Fmt.{decimal}
-use Rattle.flu_model.specs.declared.events.Item.{Item}
 use Rattle.flu_model.specs.declared.jobs.Program.{Program}
 use Rattle.flu_model.specs.Contents.{nothing_held}
 use Rattle.flu_model.specs.Erasure.{Job, plain_kind}

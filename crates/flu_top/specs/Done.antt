@@ -7,8 +7,9 @@ use Rattle.flu_model.specs.Modes.{IsAccepted}
 use Rattle.flu_model.specs.Validity.{IsValid}
 use Rattle.flu_outside.specs.Writing.{AppendsAll, AppendsPart}
 use Rattle.flu_words.specs.Words.{Command, command_in}
-use Rattle.flu_top.specs.Behind.{WantedJob, Named, Fixed, HasJob, HasPlan, fault_behind}
-use Rattle.flu_top.specs.Wants.{Saying, Nothing, Line, want, job_wanted, plan_named, asks_accepted, reads_sources, texts_named, sources_read, files_read, Writes}
+use Rattle.flu_top.specs.Behind.{WantedJob, Named, Fixed, HasJob, HasPlan}
+use Rattle.flu_top.specs.Reading.{Reading, Unread, Whole, InRounds, AreSourcesGood, HaveWritten, ReportsNext, lines_behind}
+use Rattle.flu_top.specs.Wants.{Saying, Nothing, Line, want, job_wanted, plan_named, asks_accepted, how_read, texts_named, sources_read, files_read, Writes}
 
 -- the text under a name, which is read behind the job's, is a plan that is valid for the job
 abbrev pub HasValidPlan : WantedJob → List ℕ → Contents → Program → Type 0
@@ -24,7 +25,7 @@ pub record IsGood (command : Command) (left : Contents) (p : Program) : Type 0 w
   pub has : HasJob (job_wanted command) left p
   pub accepted : IsTrue (asks_accepted command) → IsAccepted p
   pub plan : HasPlanAsked command left p
-  pub sources : IsTrue (reads_sources command) → fault_behind (texts_named command) left p ≡ None
+  pub sources : AreSourcesGood (how_read command) (texts_named command) left p
 
 -- nothing refuses the command, and all that it reads was read to its end
 pub record IsRead (command : Command) (p : Program) (old new : Contents) : Type 0 where
@@ -60,6 +61,49 @@ abbrev pub IsPartlyDone : Command → Option (List ℕ) → Option (List ℕ) �
 IsPartlyDone command had has old new =
     (p : Program) × (text : List ℕ) × IsRead command p old new × Writes command old p text × WhereTold had has (AppendsPart text)
 
+-- ---- of a command that is stopped
+-- what it wrote before a defect of a source: nothing, where it reads them whole
+abbrev pub Wrote : Reading → List ℕ → Option (List ℕ) → Option (List ℕ) → Type 0
+Wrote Unread text had has = has ≡ had
+Wrote Whole text had has = has ≡ had
+Wrote InRounds text had has = WhereTold had has (AppendsAll text)
+
+-- THE ROUNDS UP TO SOME ONE were run: nothing refuses the command before its sources, and what they wrote stands behind what was in out
+pub record WroteRounds (command : Command) (old new : Option Contents) (had has : Option (List ℕ)) : Type 0 where
+  pub p : Program
+  pub text : List ℕ
+  pub accepted : IsTrue (asks_accepted command) → IsAccepted p
+  pub wrote : WhereTold had has (AppendsAll text)
+  pub rounds : WhereTold old new (λ left _. HasJob (job_wanted command) left p × HasPlanAsked command left p × HaveWritten p (lines_behind (texts_named command) left p) text)
+
+-- it wrote nothing; or what the rounds up to some one wrote, where it reads in rounds
+abbrev pub WroteSome : Reading → Command → Option Contents → Option Contents → Option (List ℕ) → Option (List ℕ) → Type 0
+WroteSome Unread command old new had has = has ≡ had
+WroteSome Whole command old new had has = has ≡ had
+WroteSome InRounds command old new had has = (has ≡ had) ⊎ WroteRounds command old new had has
+
+-- ---- of a command where out failed
+-- a text stands behind what was there, and then fewer than all bytes of another, from its front
+abbrev pub AppendsInto : List ℕ → List ℕ → List ℕ → List ℕ → Type 0
+AppendsInto text more old new = AppendsPart more (old ++ text) new
+
+-- A ROUND WAS BEGUN to be written: nothing refuses the command before its sources, and behind what the rounds before it wrote stand
+-- fewer than all bytes of its report
+pub record WroteIntoRound (command : Command) (old new : Option Contents) (had has : Option (List ℕ)) : Type 0 where
+  pub p : Program
+  pub text : List ℕ
+  pub more : List ℕ
+  pub accepted : IsTrue (asks_accepted command) → IsAccepted p
+  pub wrote : WhereTold had has (AppendsInto text more)
+  pub round : WhereTold old new (λ left _. HasJob (job_wanted command) left p × HasPlanAsked command left p × ReportsNext p (lines_behind (texts_named command) left p) text more)
+
+-- what stands in out: a front of what the command writes, all being read; or, in rounds, a front of what the rounds up to some one write
+abbrev pub WrotePart : Reading → Command → Option Contents → Option Contents → Option (List ℕ) → Option (List ℕ) → Type 0
+WrotePart Unread command old new had has = WhereKnown (job_wanted command) old new (IsPartlyDone command had has)
+WrotePart Whole command old new had has = WhereKnown (job_wanted command) old new (IsPartlyDone command had has)
+WrotePart InRounds command old new had has = WroteIntoRound command old new had has
+
+-- ---- names
 -- the program is the job that is wanted, or the files do not tell it
 abbrev pub MayHaveJob : Option Contents → WantedJob → Program → Type 0
 MayHaveJob None job p = ⊤

@@ -1,18 +1,21 @@
 -- How the doing of a command ends.
 use Rattle.std.specs.Prelude.{◌≡◌, ℕ, List, Option, Result, Ok, Err, ◌⊎◌}
 use Rattle.flu_outside.specs.Outside.{Contents, Rose}
+use Rattle.flu_streams.specs.declared.faults.SourceFault.{SourceFault}
+use Rattle.flu_top.specs.declared.refusals.JobRead.{JobRead}
 use Rattle.flu_top.specs.declared.refusals.Refusal.{Refusal}
 use Rattle.flu_top.specs.declared.refusals.Refusal.TheVariants as refusals
 use Rattle.flu_words.specs.Words.{Command, command_in}
 use Rattle.flu_top.specs.declared.products.DrawnSteps.{DrawnSteps}
-use Rattle.flu_top.specs.Wants.{want, job_wanted}
+use Rattle.flu_top.specs.Wants.{want, job_wanted, how_read}
 use Rattle.flu_top.specs.Products.{line_said, MaySay}
-use Rattle.flu_top.specs.Done.{IsDone, IsPartlyDone, WhereKnown}
-use Rattle.flu_top.specs.Refusing.{IsRefusal}
+use Rattle.flu_top.specs.Causes.{HasJobFault, HasConflict, HasPlanDefect, HasSourceFault}
+use Rattle.flu_top.specs.Done.{IsDone, WhereKnown, Wrote, WroteSome, WrotePart}
+use Rattle.flu_top.specs.Jobs.{program_read}
+use Rattle.flu_top.specs.Refusing.{HasReadFault}
 
--- what a call finds, and what it leaves: its words, the files with their counts, and out with its count
+-- what a call finds, and what it leaves: the files with their counts, and out with its count
 pub record Call : Type 0 where
-  pub words : List (List ℕ)
   pub left : Option Contents
   pub left_after : Option Contents
   pub counts : List ℕ → ℕ
@@ -22,29 +25,50 @@ pub record Call : Type 0 where
   pub count : ℕ
   pub count_after : ℕ
 
+abbrev pub call : Option Contents → Option Contents → (List ℕ → ℕ) → (List ℕ → ℕ) → Option (List ℕ) → Option (List ℕ) → ℕ → ℕ → Call
+call left left_after counts counts_after taken taken_after count count_after =
+    record { left = left; left_after = left_after; counts = counts; counts_after = counts_after; taken = taken; taken_after = taken_after; count = count; count_after = count_after }
+
 -- nothing was written to out
 abbrev pub WroteNothing : Call → Type 0
 WroteNothing c = c.taken_after ≡ c.taken
 
+-- a defect of a source refused it, once this was written
+pub record HasDefectMet (c : Call) (command : Command) (job : JobRead) (fault : SourceFault) : Type 0 where
+  pub text : List ℕ
+  pub why : HasSourceFault command c.left c.left_after (program_read job) fault text
+  pub wrote : Wrote (how_read command) text c.taken c.taken_after
+
+-- a file failed
+pub record HasReadFailure (c : Call) (command : Command) : Type 0 where
+  pub why : HasReadFault command c.left c.counts c.counts_after
+  pub wrote : WroteSome (how_read command) command c.left c.left_after c.taken c.taken_after
+
 -- there was something to write, and out failed
 pub record HasWriteFault (c : Call) (command : Command) : Type 0 where
   pub rose : Rose c.count c.count_after
-  pub partly : WhereKnown (job_wanted command) c.left c.left_after (IsPartlyDone command c.taken c.taken_after)
-
--- there was nothing to write
-pub record HasNothing (c : Call) (command : Command) (refusal : Refusal) : Type 0 where
-  pub why : IsRefusal command c.left c.left_after c.counts c.counts_after refusal
-  pub nothing : WroteNothing c
+  pub partly : WrotePart (how_read command) command c.left c.left_after c.taken c.taken_after
 
 -- all was written, and these are the steps to be said
 pub record HasAll (c : Call) (command : Command) (steps : Option DrawnSteps) : Type 0 where
   pub done : WhereKnown (job_wanted command) c.left c.left_after (IsDone command c.taken c.taken_after (line_said steps))
   pub may_say : MaySay (want command).says steps
 
+-- what is true of a call of a command that was refused
+abbrev pub IsStopped : Call → Command → Refusal → Type 0
+IsStopped c command (refusals.BadWords bad) = ⊥
+IsStopped c command (refusals.JobFault fault) = HasJobFault (job_wanted command) c.left c.left_after fault × WroteNothing c
+IsStopped c command (refusals.Conflict fault) = HasConflict command c.left c.left_after fault × WroteNothing c
+IsStopped c command (refusals.PlanDefect defect) = HasPlanDefect command c.left c.left_after defect × WroteNothing c
+IsStopped c command (refusals.SourceFault job fault) = HasDefectMet c command job fault
+IsStopped c command refusals.ReadFault = HasReadFailure c command
+IsStopped c command refusals.WriteFault = HasWriteFault c command
+IsStopped c command refusals.NoMemory = WroteSome (how_read command) command c.left c.left_after c.taken c.taken_after
+
 -- what is true of a call of a command that was done or refused
 abbrev pub IsEnding : Call → Command → Result (Option DrawnSteps) Refusal → Type 0
 IsEnding c command (Ok steps) = HasAll c command steps
-IsEnding c command (Err refusal) = HasNothing c command refusal ⊎ ((refusal ≡ refusals.WriteFault) × HasWriteFault c command)
+IsEnding c command (Err refusal) = IsStopped c command refusal
 
 -- a call was refused for its words, before anything was done
 pub record IsRefused (c : Call) (at : ℕ) (ended : Result (Option DrawnSteps) Refusal) : Type 0 where
@@ -52,6 +76,6 @@ pub record IsRefused (c : Call) (at : ℕ) (ended : Result (Option DrawnSteps) R
   pub files : c.left_after ≡ c.left
   pub nothing : WroteNothing c
 
--- how a call ended: its words are a command, or are none
-pub record Ends (c : Call) (ended : Result (Option DrawnSteps) Refusal) : Type 0 where
-  pub how : ((command : Command) × (command_in c.words ≡ Ok command) × IsEnding c command ended) ⊎ ((at : ℕ) × (command_in c.words ≡ Err at) × IsRefused c at ended)
+-- how a call with some words ended: they are a command, or are none
+pub record Ends (words : List (List ℕ)) (c : Call) (ended : Result (Option DrawnSteps) Refusal) : Type 0 where
+  pub how : ((command : Command) × (command_in words ≡ Ok command) × IsEnding c command ended) ⊎ ((at : ℕ) × (command_in words ≡ Err at) × IsRefused c at ended)

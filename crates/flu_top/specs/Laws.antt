@@ -1,6 +1,6 @@
 -- What follows from the outcome of a call: each status by itself, what was read, and what comes where nothing failed.
-use Rattle.std.specs.Prelude.{◌≡◌, ◌≢◌, ◌↔◌, ◌⊎◌, ℕ, List, [], ◌∷◌, Contains, IsTrue, Option, Some, Ok, Err}
-use Rattle.flu_outside.specs.Outside.{Contents, WhereTold, Rose}
+use Rattle.std.specs.Prelude.{◌≡◌, ◌≢◌, ◌↔◌, ◌⊎◌, ◌<◌, ℕ, List, [], ◌∷◌, Contains, IsTrue, Option, Some, Ok, Err}
+use Rattle.flu_outside.specs.Outside.{Contents, WhereTold, Rose, Appends}
 use Rattle.flu_outside.specs.Taking.{bytes_left, TookFronts}
 use Rattle.flu_outside.specs.Writing.{AppendsAll}
 use Rattle.flu_model.specs.Erasure.{job_of}
@@ -10,12 +10,13 @@ use Rattle.flu_parse.specs.declared.faults.JobFault.{JobFault}
 use Rattle.flu_check.specs.declared.CheckFault.{CheckFault}
 use Rattle.flu_streams.specs.declared.faults.SourceFault.{SourceFault}
 use Rattle.flu_top.specs.declared.refusals.PlanDefect.{PlanDefect}
-use Rattle.flu_words.specs.Words.{Command, Simulate, Demo, command_in}
+use Rattle.flu_words.specs.Words.{Command, Run, Simulate, Demo, command_in}
 use Rattle.flu_top.specs.Taking.{TookOnly}
-use Rattle.flu_top.specs.Behind.{Named, HasJob, fault_behind}
+use Rattle.flu_top.specs.Behind.{Named, HasJob, report_behind}
+use Rattle.flu_top.specs.Reading.{InRounds, HasDefect}
 use Rattle.flu_top.specs.TextFaults.{IsFirstJobFault}
-use Rattle.flu_top.specs.Wants.{want, job_wanted, plan_named, asks_accepted, reads_sources, says_nothing, texts_named}
-use Rattle.flu_top.specs.Done.{HasValidPlan, HasPlanAsked, IsGood, IsDone, IsPartlyDone, WhereKnown, IsReadBy}
+use Rattle.flu_top.specs.Wants.{want, job_wanted, plan_named, plan_files, asks_accepted, how_read, says_nothing, texts_named}
+use Rattle.flu_top.specs.Done.{HasValidPlan, HasPlanAsked, IsGood, IsDone, WhereKnown, Wrote, WroteSome, WrotePart, IsReadBy}
 use Rattle.flu_top.specs.Causes.{HasJobFault, HasConflict, HasPlanDefect, HasSourceFault}
 use Rattle.flu_top.specs.Names.{source_name}
 use Rattle.flu_top.specs.Simulating.{IsLineOfRun, IsStepLine}
@@ -89,12 +90,13 @@ PlanDefectIsFirst =
     → (command : Command) × (defect : PlanDefect) × (command_in words ≡ Ok command)
     × HasPlanDefect command old.left new.left defect × Said old new (plan_defect_line defect)
 
--- status 6: the command reads sources and one of its job's has a defect, and err gets the line of the first one
+-- status 6: the command reads sources and one of its job's has a defect, and err gets the line of the first one; where it reads them in
+-- rounds, that is the one of the earliest round that meets any, and out gets what the rounds before that wrote
 abbrev pub SourceFaultIsFirst : Type 0
 SourceFaultIsFirst =
     (words : List (List ℕ)) (old new : Outside) (status : ℕ) → Outcome words old new status → status ≡ 6
-    → (command : Command) × (p : Program) × (fault : SourceFault) × (command_in words ≡ Ok command)
-    × HasSourceFault command old.left new.left p fault
+    → (command : Command) × (p : Program) × (fault : SourceFault) × (text : List ℕ) × (command_in words ≡ Ok command)
+    × HasSourceFault command old.left new.left p fault text × Wrote (how_read command) text old.out new.out
     × Said old new (source_fault_line (source_name p fault.source) fault.row fault.why)
 
 -- status 7: the count of a name that the call reads rose
@@ -113,12 +115,13 @@ abbrev pub WriteFaultRose : Type 0
 WriteFaultRose =
     (words : List (List ℕ)) (left : Option Contents) (before now : List ℕ → ℕ) (out_before out_now status : ℕ) → FaultsFirst words left before now out_before out_now status → status ≡ 8 → Rose out_before out_now
 
--- status 8: all was read, and out got fewer bytes than the command writes, from their front
+-- status 8: out got a front of what the command writes, which is not all of it. All was read; or, in rounds, what those up to some one
+-- wrote stands there, and fewer than all bytes of the next one's report
 abbrev pub WriteFaultIsPart : Type 0
 WriteFaultIsPart =
     (words : List (List ℕ)) (old new : Outside) (status : ℕ) → Outcome words old new status → status ≡ 8
     → (command : Command) × (command_in words ≡ Ok command)
-    × WhereKnown (job_wanted command) old.left new.left (IsPartlyDone command old.out new.out)
+    × WrotePart (how_read command) command old.left new.left old.out new.out
 
 -- status 8: err gets the line of a write fault
 abbrev pub WriteFaultLine : Type 0
@@ -130,10 +133,31 @@ abbrev pub NoMemoryLine : Type 0
 NoMemoryLine =
     (words : List (List ℕ)) (old new : Outside) (status : ℕ) → Outcome words old new status → status ≡ 9 → Said old new no_memory_line
 
--- at every status but 0 and 8 out gets nothing
+-- at every status but 0 and 8 out gets nothing, where the command does not read in rounds
 abbrev pub NothingIsWritten : Type 0
 NothingIsWritten =
-    (words : List (List ℕ)) (old new : Outside) (status : ℕ) → Outcome words old new status → status ≢ 0 → status ≢ 8 → new.out ≡ old.out
+    (words : List (List ℕ)) (old new : Outside) (status : ℕ) → Outcome words old new status → status ≢ 0 → status ≢ 8
+    → ((command : Command) → command_in words ≡ Ok command → how_read command ≢ InRounds) → new.out ≡ old.out
+
+-- at the statuses below 6 but 0 it gets nothing
+abbrev pub RefusalsWriteNothing : Type 0
+RefusalsWriteNothing =
+    (words : List (List ℕ)) (old new : Outside) (status : ℕ) → Outcome words old new status → status ≢ 0 → status < 6 → new.out ≡ old.out
+
+-- status 7 or 9: out gets nothing; or, where the command reads in rounds, what those up to some one wrote
+abbrev pub SomeIsWritten : Type 0
+SomeIsWritten =
+    (words : List (List ℕ)) (old new : Outside) (status : ℕ) → Outcome words old new status → (status ≡ 7) ⊎ (status ≡ 9)
+    → (command : Command) × (command_in words ≡ Ok command) × WroteSome (how_read command) command old.left new.left old.out new.out
+
+-- ---- run
+-- what a run of good sources wrote is a front of the report, whatever its status: so it is at 7 to 9 too
+abbrev pub RunsWriteFronts : Type 0
+RunsWriteFronts =
+    (words : List (List ℕ)) (old new : Outside) (status : ℕ) → Outcome words old new status
+    → (job : List ℕ) (plan : Option (List ℕ)) (left : Contents) (p : Program) → command_in words ≡ Ok (Run job plan)
+    → old.left ≡ Some left → IsGood (Run job plan) left p
+    → (q : Program) × HasJob (Named job) left q × WhereTold old.out new.out (λ had has. (n : ℕ) × Appends n (report_behind (job ∷ plan_files plan) left q) had has)
 
 -- ---- demo
 -- `demo` reads no file
@@ -213,10 +237,10 @@ abbrev pub SourceFaultIsRefused : Type 0
 SourceFaultIsRefused =
     (words : List (List ℕ)) (told : Option Contents) (before now : List ℕ → ℕ) (out_before out_now status : ℕ)
     → Completes words told before now out_before out_now status
-    → (command : Command) (left : Contents) (p : Program) (fault : SourceFault) → command_in words ≡ Ok command → told ≡ Some left
+    → (command : Command) (left : Contents) (p : Program) → command_in words ≡ Ok command → told ≡ Some left
     → NothingFailed command told before now out_before out_now
-    → IsTrue (reads_sources command) → HasJob (job_wanted command) left p → (IsTrue (asks_accepted command) → IsAccepted p)
-    → HasPlanAsked command left p → fault_behind (texts_named command) left p ≡ Some fault
+    → HasJob (job_wanted command) left p → (IsTrue (asks_accepted command) → IsAccepted p)
+    → HasPlanAsked command left p → HasDefect (how_read command) (texts_named command) left p
     → (status ≡ 6) ⊎ (status ≡ 9)
 
 -- completeness follows from the outcome, where 7 and 8 come only from faults of the outside

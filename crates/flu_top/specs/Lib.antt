@@ -2,6 +2,7 @@ pub mod Taking
 pub mod Behind
 pub mod TextFaults
 pub mod Rates
+pub mod Reading
 pub mod Simulating
 pub mod Demos
 pub mod Wants
@@ -21,3 +22,5 @@ pub mod Plans
 pub mod Planning
 pub mod Refusing
 pub mod Ending
+pub mod Running
+pub mod Writing

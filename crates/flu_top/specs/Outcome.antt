@@ -11,10 +11,11 @@ use Rattle.flu_streams.specs.declared.faults.SourceFault.{SourceFault}
 use Rattle.flu_top.specs.declared.refusals.PlanDefect.{PlanDefect}
 use Rattle.flu_words.specs.Words.{Command, command_in}
 use Rattle.flu_top.specs.Taking.{TookOnly}
-use Rattle.flu_top.specs.Behind.{Named, HasJob, fault_behind}
+use Rattle.flu_top.specs.Behind.{Named, HasJob}
+use Rattle.flu_top.specs.Reading.{HasDefect}
 use Rattle.flu_top.specs.TextFaults.{IsFirstJobFault}
 use Rattle.flu_top.specs.Wants.{Saying, Nothing, Line, want, texts_named}
-use Rattle.flu_top.specs.Done.{HasValidPlan, HasPlanAsked, IsGood, IsDone, IsPartlyDone, WhereKnown, IsReadName, IsReadBy}
+use Rattle.flu_top.specs.Done.{HasValidPlan, HasPlanAsked, IsGood, IsDone, WhereKnown, Wrote, WroteSome, WrotePart, IsReadName, IsReadBy}
 use Rattle.flu_top.specs.Causes.{HasJobFault, HasConflict, HasPlanDefect, HasSourceFault}
 use Rattle.flu_top.specs.Names.{source_name}
 use Rattle.flu_top.specs.Lines.{IsSaid, bad_words_line, job_fault_line, conflict_line, plan_defect_line, source_fault_line}
@@ -65,22 +66,25 @@ pub data Outcome (words : List (List ℕ)) (old new : Outside) (status : ℕ) : 
   BadPlan : status ≡ 5 → (command : Command) → command_in words ≡ Ok command → (defect : PlanDefect)
       → HasPlanDefect command old.left new.left defect
       → Refused old new (plan_defect_line defect) → Outcome words old new status
-  -- the command reads the sources of its job, and this is the first defect of the first one that has any
-  BadSource : status ≡ 6 → (command : Command) → command_in words ≡ Ok command → (p : Program) (fault : SourceFault)
-      → HasSourceFault command old.left new.left p fault
-      → Refused old new (source_fault_line (source_name p fault.source) fault.row fault.why)
+  -- the command reads the sources of its job, and this is the first defect of the first one that has any; where it reads them in
+  -- rounds, it is that of the earliest round that meets one, and out got what the rounds before that wrote
+  BadSource : status ≡ 6 → (command : Command) → command_in words ≡ Ok command → (p : Program) (fault : SourceFault) (text : List ℕ)
+      → HasSourceFault command old.left new.left p fault text → Wrote (want command).sources text old.out new.out
+      → Said old new (source_fault_line (source_name p fault.source) fault.row fault.why)
       → Outcome words old new status
-  -- a file that the command reads failed
+  -- a file that the command reads failed; where it reads in rounds, out may have what those up to some one wrote
   ReadFailed : status ≡ 7 → (command : Command) → command_in words ≡ Ok command
-      → Refused old new read_fault_line → Outcome words old new status
+      → WroteSome (want command).sources command old.left new.left old.out new.out
+      → Said old new read_fault_line → Outcome words old new status
   -- nothing refuses the command, and all that it reads was read; out failed, and got fewer bytes than the command
-  -- writes, from their front
+  -- writes, from their front; where it reads in rounds, it has what those up to some one wrote, and a front of the next one's report
   WriteFailed : status ≡ 8 → (command : Command) → command_in words ≡ Ok command
-      → WhereKnown (want command).job old.left new.left (IsPartlyDone command old.out new.out)
+      → WrotePart (want command).sources command old.left new.left old.out new.out
       → Said old new write_fault_line → Outcome words old new status
-  -- there was no memory
+  -- there was no memory; where the command reads in rounds, out may have what those up to some one wrote
   NoMemory : status ≡ 9 → (command : Command) → command_in words ≡ Ok command
-      → Refused old new no_memory_line → Outcome words old new status
+      → WroteSome (want command).sources command old.left new.left old.out new.out
+      → Said old new no_memory_line → Outcome words old new status
 
 -- ---- what was read
 -- bytes were taken from the front of names, and of no name that the call does not read
@@ -106,9 +110,8 @@ pub data CallsFor (command : Command) (left : Contents) (status : ℕ) : Type 0 
   NoValidPlan : status ≡ 5 → (p : Program) (plan : List ℕ) → (want command).plan ≡ Some plan
       → HasJob (want command).job left p → IsAccepted p
       → ¬ HasValidPlan (want command).job plan left p → CallsFor command left status
-  FaultySource : status ≡ 6 → (p : Program) (fault : SourceFault) → IsTrue (want command).sources
-      → HasJob (want command).job left p → (IsTrue (want command).accepted → IsAccepted p)
-      → HasPlanAsked command left p → fault_behind (texts_named command) left p ≡ Some fault → CallsFor command left status
+  FaultySource : status ≡ 6 → (p : Program) → HasJob (want command).job left p → (IsTrue (want command).accepted → IsAccepted p)
+      → HasPlanAsked command left p → HasDefect (want command).sources (texts_named command) left p → CallsFor command left status
 
 -- no name that the command reads failed, and out did not
 pub record NothingFailed (command : Command) (left : Option Contents) (before now : List ℕ → ℕ)

@@ -1,5 +1,5 @@
 -- Why a command has nothing to write.
-use Rattle.std.specs.Prelude.{ℕ, List, Option, ⊤}
+use Rattle.std.specs.Prelude.{ℕ, List, [], Option, ⊤}
 use Rattle.flu_outside.specs.Outside.{Contents, Rose}
 use Rattle.flu_top.specs.declared.refusals.Refusal.{Refusal}
 use Rattle.flu_top.specs.declared.refusals.Refusal.TheVariants as refusals
@@ -13,13 +13,13 @@ use Rattle.flu_top.specs.Causes.{HasJobFault, HasConflict, HasPlanDefect, HasSou
 abbrev pub HasReadFault : Command → Option Contents → (List ℕ → ℕ) → (List ℕ → ℕ) → Type 0
 HasReadFault command left before now = (name : List ℕ) × IsReadName left command name × Rose (before name) (now name)
 
--- why a command has nothing to write
+-- why a command has nothing to write, and wrote nothing
 abbrev pub IsRefusal : Command → Option Contents → Option Contents → (List ℕ → ℕ) → (List ℕ → ℕ) → Refusal → Type 0
 IsRefusal command old new before now (refusals.BadWords bad) = ⊥
 IsRefusal command old new before now (refusals.JobFault fault) = HasJobFault (job_wanted command) old new fault
 IsRefusal command old new before now (refusals.Conflict fault) = HasConflict command old new fault
 IsRefusal command old new before now (refusals.PlanDefect defect) = HasPlanDefect command old new defect
-IsRefusal command old new before now (refusals.SourceFault job fault) = HasSourceFault command old new (program_read job) fault
+IsRefusal command old new before now (refusals.SourceFault job fault) = HasSourceFault command old new (program_read job) fault []
 IsRefusal command old new before now refusals.ReadFault = HasReadFault command old before now
 IsRefusal command old new before now refusals.WriteFault = ⊥
 IsRefusal command old new before now refusals.NoMemory = ⊤

@@ -11,6 +11,7 @@ use Rattle.flu_streams.specs.Files.{files_of}
 use Rattle.flu_words.specs.Words.{Command, Fold, Check, Valid, Plan, Run, Simulate, Demo}
 use Rattle.flu_top.specs.Behind.{WantedJob, Named, Fixed, HasPlan, job_files, report_behind}
 use Rattle.flu_top.specs.Rates.{source_rates}
+use Rattle.flu_top.specs.Reading.{Reading, Unread, Whole, InRounds, is_read}
 use Rattle.flu_top.specs.Simulating.{IsLineOfRun, IsStepLine}
 use Rattle.flu_top.specs.Demos.{demo_job, demo_summary}
 
@@ -44,8 +45,8 @@ pub record Want : Type 1 where
   pub accepted : Bool
   -- the name of the plan that it reads, if it reads one, which has to be valid for the job
   pub plan : Option (List ℕ)
-  -- whether it reads the job's sources, which must have no defect
-  pub sources : Bool
+  -- how it reads the job's sources, which must have no defect
+  pub sources : Reading
   -- the text that it writes, by what its files have left and by the job's program
   pub writes : Contents → Program → List ℕ → Type 0
   -- what it says on err where it is done
@@ -59,7 +60,7 @@ want (Fold job) = record {
   job = Named job;
   accepted = false;
   plan = None;
-  sources = true;
+  sources = Whole;
   writes = λ left p text. text ≡ report_behind (job ∷ []) left p;
   says = Nothing;
 }
@@ -67,7 +68,7 @@ want (Check job) = record {
   job = Named job;
   accepted = true;
   plan = None;
-  sources = false;
+  sources = Unread;
   writes = λ left p text. text ≡ normal_form (job_of p);
   says = Nothing;
 }
@@ -75,7 +76,7 @@ want (Valid job plan) = record {
   job = Named job;
   accepted = true;
   plan = Some plan;
-  sources = false;
+  sources = Unread;
   writes = λ left p text. IsPlanPrinted job plan left p text;
   says = Nothing;
 }
@@ -83,7 +84,7 @@ want (Plan job depth) = record {
   job = Named job;
   accepted = true;
   plan = None;
-  sources = false;
+  sources = Unread;
   writes = λ left p text. IsGreedyText p depth text;
   says = Nothing;
 }
@@ -91,7 +92,7 @@ want (Run job plan) = record {
   job = Named job;
   accepted = true;
   plan = plan;
-  sources = true;
+  sources = InRounds;
   writes = λ left p text. text ≡ report_behind (job ∷ plan_files plan) left p;
   says = Nothing;
 }
@@ -99,7 +100,7 @@ want (Simulate job plan seed) = record {
   job = Named job;
   accepted = true;
   plan = Some plan;
-  sources = true;
+  sources = Whole;
   writes = λ left p text. text ≡ report_behind (job ∷ plan ∷ []) left p;
   says = Line (IsLineOfRun job plan seed) IsStepLine;
 }
@@ -107,7 +108,7 @@ want (Demo n seed) = record {
   job = Fixed demo_job;
   accepted = true;
   plan = None;
-  sources = false;
+  sources = Unread;
   writes = λ left p text. text ≡ demo_summary n seed p;
   says = Nothing;
 }
@@ -125,9 +126,12 @@ plan_named command = (want command).plan
 abbrev pub asks_accepted : Command → Bool
 asks_accepted command = (want command).accepted
 
--- whether a command reads its job's sources
+-- how a command reads its job's sources, and whether it does
+abbrev pub how_read : Command → Reading
+how_read command = (want command).sources
+
 abbrev pub reads_sources : Command → Bool
-reads_sources command = (want command).sources
+reads_sources command = is_read (how_read command)
 
 -- whether this is no line at all
 abbrev pub is_nothing : Saying → Bool

@@ -1,62 +1,87 @@
 //! The doing of commands.
 
-ghost use Rattle.std.specs.Prelude.{IfOk, IfErr};
 ghost use Rattle.flu_outside.specs.Outside.{WhereTold};
 ghost use Rattle.flu_outside.specs.Taking.{TookFronts};
 ghost use Rattle.flu_words.specs.Words.{plain_command};
 ghost use Rattle.flu_top.specs.Taking.{TookOnly};
-ghost use Rattle.flu_top.specs.Wants.{want, job_wanted};
-ghost use Rattle.flu_top.specs.Products.{line_said, MaySay};
-ghost use Rattle.flu_top.specs.Done.{IsReadName, IsWritten, WhereKnown};
-ghost use Rattle.flu_top.specs.Refusing.{IsRefusal};
+ghost use Rattle.flu_top.specs.Done.{IsReadName};
+ghost use Rattle.flu_top.specs.Ending.{call, IsEnding};
+ghost use Rattle.flu_top.specs.Writing.{IsPut, as_product};
 
 use crate::checking::check_job;
 use crate::demo::demo;
 use crate::folding::fold_job;
 use crate::planning::plan_job;
-use crate::products::Product;
+use crate::products::{DrawnSteps, Product};
 use crate::refusals::Refusal;
 use crate::running::{run_greedily, run_planned};
 use crate::simulating::simulate_planned;
 use crate::validating::valid_plan;
-use flu_outside::Files;
+use flu_model::Text;
+use flu_outside::{Files, Sink};
+use flu_report::write_all;
 use flu_seq::Gate;
 use flu_words::Command;
 use std::alloc::Global;
 use std::sync::Wait;
 use std::thread::Threads;
 
-/// What a command produces, or why it produces nothing.
-pub fn run<F: Files, G: Gate, R: Threads + Wait + Sync>(
+/// Does a command: writes what it produces to `out`, and answers the steps that are to be said on err, if there are any.
+pub fn run<F: Files, K: Sink, G: Gate, R: Threads + Wait + Sync>(
     rt: &R,
     alloc: Global,
     files: &mut F,
+    out: &mut K,
     command: Command,
     gate: &G,
-) -> Result<Product, Refusal>
-    ensures written { IfOk result (λ product. WhereKnown (job_wanted (plain_command command.entry)) (F.left files.old) (F.left files.new) (IsWritten (plain_command command.entry) product.text (line_said product.steps))) }
-    ensures says { IfOk result (λ product. MaySay (want (plain_command command.entry)).says product.steps) }
-    ensures refused { IfErr result (IsRefusal (plain_command command.entry) (F.left files.old) (F.left files.new) (F.faults files.old) (F.faults files.new)) }
+) -> Result<Option<DrawnSteps>, Refusal>
+    ensures ends { IsEnding (call (F.left files.old) (F.left files.new) (F.faults files.old) (F.faults files.new) (K.taken out.old) (K.taken out.new) (K.faults out.old) (K.faults out.new)) (plain_command command.entry) result }
     ensures fronts { WhereTold (F.left files.old) (F.left files.new) TookFronts }
     ensures only { WhereTold (F.left files.old) (F.left files.new) (TookOnly (IsReadName (F.left files.old) (plain_command command.entry))) }
 {
-    let text = match command {
-        Command::Fold { job } => fold_job(alloc, files, job),
-        Command::Check { job } => check_job(alloc, files, job),
-        Command::Valid { job, plan } => valid_plan(alloc, files, job, plan),
-        Command::Plan { job, depth } => plan_job(alloc, files, job, depth),
+    match command {
+        Command::Fold { job } => put_text(out, fold_job(alloc, files, job)),
+        Command::Check { job } => put_text(out, check_job(alloc, files, job)),
+        Command::Valid { job, plan } => put_text(out, valid_plan(alloc, files, job, plan)),
+        Command::Plan { job, depth } => put_text(out, plan_job(alloc, files, job, depth)),
         Command::Run {
             job,
             plan: Some(plan),
-        } => run_planned(rt, alloc, files, job, plan, gate),
-        Command::Run { job, plan: None } => run_greedily(rt, alloc, files, job, gate),
+        } => run_planned(rt, alloc, files, out, job, plan, gate),
+        Command::Run { job, plan: None } => run_greedily(rt, alloc, files, out, job, gate),
         Command::Simulate { job, plan, seed } => {
-            return simulate_planned(alloc, files, job, plan, seed);
+            put(out, simulate_planned(alloc, files, job, plan, seed))
         }
-        Command::Demo { n, seed } => return demo(rt, alloc, n, seed, gate),
-    };
+        Command::Demo { n, seed } => put(out, demo(rt, alloc, n, seed, gate)),
+    }
+}
+
+// Writes a text, where nothing refused it.
+fn put_text<K: Sink>(
+    out: &mut K,
+    text: Result<Text, Refusal>,
+) -> Result<Option<DrawnSteps>, Refusal>
+    ensures { IsPut (as_product text) (K.taken out.old) (K.taken out.new) (K.faults out.old) (K.faults out.new) result }
+{
     match text {
-        Ok(text) => Ok(Product { text, steps: None }),
+        Ok(text) => put(out, Ok(Product { text, steps: None })),
         Err(refusal) => Err(refusal),
+    }
+}
+
+// Writes the text of what a command produced, where nothing refused it.
+fn put<K: Sink>(
+    out: &mut K,
+    produced: Result<Product, Refusal>,
+) -> Result<Option<DrawnSteps>, Refusal>
+    ensures { IsPut produced (K.taken out.old) (K.taken out.new) (K.faults out.old) (K.faults out.new) result }
+{
+    let product = match produced {
+        Ok(product) => product,
+        Err(refusal) => return Err(refusal),
+    };
+    match write_all(out, product.text.as_str().as_bytes()) {
+        Ok(()) => Ok(product.steps),
+        Err(_) => Err(Refusal::WriteFault),
     }
 }

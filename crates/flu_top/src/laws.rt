@@ -1,14 +1,18 @@
 //! What follows from the outcome of a call of `flumina`: what each status says by itself, what was read, and what comes where nothing
 //! failed. Each law is the contract of a function that does nothing.
 
-ghost use Rattle.flu_top.specs.Laws.{KnownStatuses, DoneIsDone, DoneIsQuiet, SimulationIsHeard, DemoReadsNothing, DemoStatuses, DemoIsDone, BadWordsExactly, BadWordsLine, BadWordsTouchNothing, JobFaultIsFirst, ConflictIsFirst, PlanDefectIsFirst, SourceFaultIsFirst, ReadFaultRose, ReadFaultLine, WriteFaultRose, WriteFaultIsPart, WriteFaultLine, NoMemoryLine, NothingIsWritten, FrontsAreTaken, NoOtherIsRead, GoodIsDone, JobFaultIsRefused, ConflictIsRefused, PlanDefectIsRefused, SourceFaultIsRefused, CompletesByFaults, CallsForOneStatus};
+ghost use Rattle.flu_top.specs.Laws.{KnownStatuses, DoneIsDone, DoneIsQuiet, SimulationIsHeard, DemoReadsNothing, DemoStatuses, DemoIsDone, BadWordsExactly, BadWordsLine, BadWordsTouchNothing, JobFaultIsFirst, ConflictIsFirst, PlanDefectIsFirst, SourceFaultIsFirst, ReadFaultRose, ReadFaultLine, WriteFaultRose, WriteFaultIsPart, WriteFaultLine, NoMemoryLine, NothingIsWritten, RefusalsWriteNothing, SomeIsWritten, RunsWriteFronts, FrontsAreTaken, NoOtherIsRead, GoodIsDone, JobFaultIsRefused, ConflictIsRefused, PlanDefectIsRefused, SourceFaultIsRefused, CompletesByFaults, CallsForOneStatus};
 
 use flu_grammar::laws::{jobs_are_grammar, plans_are_grammar};
+use flu_streams::{last_round_has_all_rows, rounds_meet_what_is_there};
 
-/// The statuses, and which of them write to out.
+/// The statuses, and which of them write to out: 0 and 8; and 6, 7 and 9 of a command that reads in rounds, which may leave there what
+/// the rounds up to some one wrote.
 pub fn of_statuses()
     ensures known { KnownStatuses }
     ensures nothing { NothingIsWritten }
+    ensures refused { RefusalsWriteNothing }
+    ensures some { SomeIsWritten }
 {}
 
 /// Status 0: all that the command reads was read to its end, what it writes stands in out, and err is untouched, but by `simulate`,
@@ -54,6 +58,16 @@ pub fn of_faults()
     ensures no_memory_line { NoMemoryLine }
 {}
 
+/// Where the sources of a `run` are good, what it wrote is a front of its report, whatever its status.
+pub fn of_runs()
+    ensures { RunsWriteFronts }
+{
+    jobs_are_grammar();
+    plans_are_grammar();
+    last_round_has_all_rows();
+    rounds_meet_what_is_there();
+}
+
 /// Bytes are taken from the front of names, and of no name that the call does not read.
 pub fn of_reading()
     ensures fronts { FrontsAreTaken }
@@ -75,6 +89,7 @@ pub fn completes_by_faults()
 {
     jobs_are_grammar();
     plans_are_grammar();
+    rounds_meet_what_is_there();
 }
 
 /// A command and its files call for one status at most, so that the refusals come in an order.
@@ -83,4 +98,5 @@ pub fn calls_for_one_status()
 {
     jobs_are_grammar();
     plans_are_grammar();
+    rounds_meet_what_is_there();
 }

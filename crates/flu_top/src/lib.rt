@@ -19,7 +19,6 @@ mod programs;
 mod rates;
 mod refusals;
 mod running;
-mod sharing;
 mod simulating;
 mod sources;
 mod top;

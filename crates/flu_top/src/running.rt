@@ -1,7 +1,9 @@
-//! `run JOB [PLAN]`: the report of a run of a job's events on the tree of threads.
+//! `run JOB [PLAN]`: the report of a run of a job's events on the tree of threads, in rounds.
 
-ghost use Rattle.std.specs.Prelude.{◌≡◌, [], length, Some, None, IfOk, IfErr};
-ghost use Rattle.flu_outside.specs.Outside.{WhereTold};
+ghost use Rattle.std.specs.Prelude.{◌≡◌, ◌≢◌, ◌≤◌, ℕ, length, List, Some, None, Ok, Err, IfOk, IfErr, OnOk, IsErrOf};
+ghost use Rattle.flu_outside.specs.Outside.{WhereTold, Rose};
+ghost use Rattle.flu_outside.specs.Taking.{TookFronts};
+ghost use Rattle.flu_outside.specs.Writing.{AppendsAll, AppendsPart};
 ghost use Rattle.flu_model.specs.Contents.{nothing_held};
 ghost use Rattle.flu_model.specs.Folding.{final_outputs};
 ghost use Rattle.flu_model.specs.Itags.{count_of_itags};
@@ -9,63 +11,71 @@ ghost use Rattle.flu_model.specs.Listed.{listed};
 ghost use Rattle.flu_model.specs.Reports.{report};
 ghost use Rattle.flu_deps.specs.Checking.{program_of};
 ghost use Rattle.flu_deps.specs.Validated.{IsValidFor};
-ghost use Rattle.flu_outside.specs.Taking.{TookFronts};
-ghost use Rattle.flu_streams.specs.Files.{files_of, LeavesOthers};
+ghost use Rattle.flu_rows.specs.declared.rows.Next.{Next};
+ghost use Rattle.flu_streams.specs.declared.border.Border.{Border};
+ghost use Rattle.flu_streams.specs.declared.held.Stage.{Stage};
+ghost use Rattle.flu_streams.specs.Files.{files_of, LeavesOthers, OneRose};
+ghost use Rattle.flu_streams.specs.Holding.{AreHeldBehind, ClosedAreReadOut, AreClosed, IsNewBorder};
+ghost use Rattle.flu_rounds.specs.declared.faults.RoundsFault.{RoundsFault};
+ghost use Rattle.flu_rounds.specs.Standing.{round_report, Runs, IsRoundOf, IsSourceFault, StandsBehind};
 ghost use Rattle.flu_words.specs.Words.{Run};
 ghost use Rattle.flu_top.specs.Taking.{TookOnly};
-ghost use Rattle.flu_top.specs.Done.{IsReadName, IsWritten};
-ghost use Rattle.flu_top.specs.Folding.{IsReported, IsReportRefusal};
-ghost use Rattle.flu_top.specs.Refusing.{IsRefusal};
+ghost use Rattle.flu_top.specs.Done.{IsReadName};
+ghost use Rattle.flu_top.specs.Ending.{call, IsEnding};
+ghost use Rattle.flu_top.specs.Running.{EndsRounds, EndsRun};
 
 use crate::backup::Backup;
 use crate::planned::{Planned, planned_by, planned_greedily};
+use crate::products::DrawnSteps;
 use crate::programs::program_of;
 use crate::refusals::{JobRead, Refusal};
-use crate::sharing::{jobs_are_shared, plans_are_shared, streams_are_shared};
-use crate::sources::streams_of;
 use flu_cells::State;
-use flu_fork::Case;
 use flu_model::{Streams, Text};
-use flu_outside::Files;
+use flu_outside::{Files, Sink};
 use flu_report::report_text;
-use flu_run::run_tree;
-use flu_seq::Gate;
-use flu_streams::GatherFault;
+use flu_rounds::{
+    Begun, Border, Rounds, RoundsFault, halves_make_a_round, runs_go_on, runs_write_the_fold,
+};
+use flu_run::TreeEngine;
+use flu_seq::{Engine, Gate};
 use flu_words::USUAL_DEPTH;
 use std::alloc::{AllocError, Global};
 use std::sync::Wait;
 use std::thread::Threads;
 
-/// The report of the job that a file holds, which is run by the plan that another file holds.
-pub fn run_planned<F: Files, G: Gate, R: Threads + Wait + Sync>(
+// A round is to be had as soon as each source has so many rows that are settled.
+const ROWS_IN_ROUND: u32 = 4096;
+
+/// Writes the report of the job that a file holds, which is run by the plan that another file holds.
+pub fn run_planned<F: Files, K: Sink, G: Gate, R: Threads + Wait + Sync>(
     rt: &R,
     alloc: Global,
     files: &mut F,
+    out: &mut K,
     job: &str,
     plan: &str,
     gate: &G,
-) -> Result<Text, Refusal>
-    ensures written { IfOk result (λ text. WhereTold (F.left files.old) (F.left files.new) (IsWritten (Run job.now (Some plan.now)) text [])) }
-    ensures refused { IfErr result (IsRefusal (Run job.now (Some plan.now)) (F.left files.old) (F.left files.new) (F.faults files.old) (F.faults files.new)) }
+) -> Result<Option<DrawnSteps>, Refusal>
+    ensures ends { IsEnding (call (F.left files.old) (F.left files.new) (F.faults files.old) (F.faults files.new) (K.taken out.old) (K.taken out.new) (K.faults out.old) (K.faults out.new)) (Run job.now (Some plan.now)) result }
     ensures fronts { WhereTold (F.left files.old) (F.left files.new) TookFronts }
     ensures only { WhereTold (F.left files.old) (F.left files.new) (TookOnly (IsReadName (F.left files.old) (Run job.now (Some plan.now)))) }
 {
     match planned_by(alloc, files, job, plan) {
-        Ok(planned) => report_of(rt, alloc, files, planned, gate),
+        Ok(planned) => run_in_rounds(rt, alloc, files, out, planned, gate),
         Err(refusal) => Err(refusal),
     }
 }
 
-/// The report of the job that a file holds, which is run by its greedy plan.
-pub fn run_greedily<F: Files, G: Gate, R: Threads + Wait + Sync>(
+/// Writes the report of the job that a file holds, which is run by its greedy plan.
+pub fn run_greedily<F: Files, K: Sink, G: Gate, R: Threads + Wait + Sync>(
     rt: &R,
     alloc: Global,
     files: &mut F,
+    out: &mut K,
     job: &str,
     gate: &G,
-) -> Result<Text, Refusal>
-    ensures written { IfOk result (λ text. WhereTold (F.left files.old) (F.left files.new) (IsWritten (Run job.now None) text [])) }
-    ensures refused { IfErr result (IsRefusal (Run job.now None) (F.left files.old) (F.left files.new) (F.faults files.old) (F.faults files.new)) }
+) -> Result<Option<DrawnSteps>, Refusal>
+    ensures ends { IsEnding (call (F.left files.old) (F.left files.new) (F.faults files.old) (F.faults files.new) (K.taken out.old) (K.taken out.new) (K.faults out.old) (K.faults out.new)) (Run job.now None) result }
     ensures fronts { WhereTold (F.left files.old) (F.left files.new) TookFronts }
     ensures only { WhereTold (F.left files.old) (F.left files.new) (TookOnly (IsReadName (F.left files.old) (Run job.now None))) }
 {
@@ -77,33 +87,121 @@ pub fn run_greedily<F: Files, G: Gate, R: Threads + Wait + Sync>(
         Ok(planned) => planned,
         Err(refusal) => return Err(refusal),
     };
-    report_of(rt, alloc, files, planned, gate)
+    run_in_rounds(rt, alloc, files, out, planned, gate)
 }
 
-// The report of a job by a plan over its sources' files.
-fn report_of<F: Files, G: Gate, R: Threads + Wait + Sync>(
+// Writes the report of a job by a plan over its sources' files.
+fn run_in_rounds<F: Files, K: Sink, G: Gate, R: Threads + Wait + Sync>(
     rt: &R,
     alloc: Global,
     files: &mut F,
+    out: &mut K,
     planned: Planned,
     gate: &G,
-) -> Result<Text, Refusal>
+) -> Result<Option<DrawnSteps>, Refusal>
     requires { IsValidFor (program_of planned.checked) planned.valid }
-    ensures reported { IfOk result (λ report. WhereTold (F.left files.old) (F.left files.new) (IsReported (program_of planned.checked) report)) }
-    ensures refused { IfErr result (IsReportRefusal (program_of planned.checked) (F.left files.old) (F.left files.new) (F.faults files.old) (F.faults files.new)) }
+    ensures ends { EndsRun (program_of planned.checked) (call (F.left files.old) (F.left files.new) (F.faults files.old) (F.faults files.new) (K.taken out.old) (K.taken out.new) (K.faults out.old) (K.faults out.new)) result }
     ensures fronts { WhereTold (F.left files.old) (F.left files.new) TookFronts }
     ensures others { WhereTold (F.left files.old) (F.left files.new) (LeavesOthers (files_of (program_of planned.checked).sources)) }
+    ensures rise { (n : List ℕ) → F.faults files.old n ≤ F.faults files.new n }
 {
-    let streams = match streams_of(alloc, files, &planned.checked) {
-        Ok(streams) => streams,
-        Err(GatherFault::Source(fault)) => {
-            return Err(Refusal::SourceFault(JobRead::Accepted(planned.checked), fault));
+    match rounds(rt, alloc, files, out, &planned, gate) {
+        Ok(()) => Ok(None),
+        Err(RoundsFault::Source(fault)) => {
+            Err(Refusal::SourceFault(JobRead::Accepted(planned.checked), fault))
         }
-        Err(GatherFault::ReadFault) => return Err(Refusal::ReadFault),
-        Err(GatherFault::NoMemory) => return Err(Refusal::NoMemory),
+        Err(RoundsFault::ReadFault) => Err(Refusal::ReadFault),
+        Err(RoundsFault::WriteFault) => Err(Refusal::WriteFault),
+        Err(RoundsFault::NoMemory) => Err(Refusal::NoMemory),
+    }
+}
+
+// Runs all rounds of a job's sources, each of which writes its report.
+fn rounds<F: Files, K: Sink, G: Gate, R: Threads + Wait + Sync>(
+    rt: &R,
+    alloc: Global,
+    files: &mut F,
+    out: &mut K,
+    planned: &Planned,
+    gate: &G,
+) -> Result<(), RoundsFault>
+    requires { IsValidFor (program_of planned.now.checked) planned.now.valid }
+    ensures ends { EndsRounds (program_of planned.now.checked) (call (F.left files.old) (F.left files.new) (F.faults files.old) (F.faults files.new) (K.taken out.old) (K.taken out.new) (K.faults out.old) (K.faults out.new)) result }
+    ensures fronts { WhereTold (F.left files.old) (F.left files.new) TookFronts }
+    ensures others { WhereTold (F.left files.old) (F.left files.new) (LeavesOthers (files_of (program_of planned.now.checked).sources)) }
+    ensures rise { (n : List ℕ) → F.faults files.old n ≤ F.faults files.new n }
+{
+    runs_go_on();
+    runs_write_the_fold();
+    let mut engine = engine_of(planned, gate);
+    let mut rounds = Rounds::new(alloc, planned.checked.program(), ROWS_IN_ROUND)?;
+    while let Border::At(_) = round(rt, alloc, files, out, &mut rounds, &mut engine)? {}
+    Ok(())
+}
+
+// The tree of threads of a job by a plan. Where a thread is refused the job is folded.
+fn engine_of<'a, G: Gate, R: Threads + Wait + Sync>(
+    planned: &'a Planned,
+    gate: &'a G,
+) -> TreeEngine<'a, G, R, Backup<'a>>
+    requires { IsValidFor (program_of planned.now.checked) planned.now.valid }
+    ensures { program_of result.checked.now ≡ program_of planned.now.checked }
+{
+    let backup = Backup {
+        program: planned.checked.program(),
     };
-    let report = tree_report(rt, alloc, &planned, &streams, gate)?;
-    Ok(report)
+    TreeEngine::new(&planned.checked, &planned.valid, gate, backup)
+}
+
+// Runs one round on the tree of threads, as `Rounds::round` does on an engine.
+fn round<F: Files, K: Sink, G: Gate, R: Threads + Wait + Sync, B: Engine<R>>(
+    rt: &R,
+    alloc: Global,
+    files: &mut F,
+    out: &mut K,
+    rounds: &mut Rounds,
+    engine: &mut TreeEngine<G, R, B>,
+) -> Result<Border, RoundsFault>
+    requires program { program_of engine.old.checked.now ≡ rounds.old.held.program }
+    requires stage { rounds.old.held.stage ≡ Stage.Filling }
+
+    ensures written { IfOk result (λ end. (before : ℕ → List Next) → AreHeldBehind rounds.old.held before
+        → (runs : Runs rounds.old rounds.new (F.left files.old) (F.left files.new) end before)
+        × WhereTold (K.taken out.old) (K.taken out.new) (AppendsAll (round_report rounds.old end runs.fills.now))) }
+    ensures border { IfOk result (IsNewBorder rounds.old.held.border) }
+    ensures stands { IfOk result (StandsBehind rounds.old.held rounds.new.held) }
+    ensures read_out { OnOk result (ClosedAreReadOut rounds.old.held (F.left files.old) → ClosedAreReadOut rounds.new.held (F.left files.new)) }
+    ensures closed { result ≡ Ok Border.Closed → AreClosed rounds.new.held }
+    ensures engine { program_of engine.new.checked.now ≡ program_of engine.old.checked.now }
+
+    // A source fault is the defect that the round meets; out got nothing.
+    ensures fault { IfErr result (λ f. IsSourceFault rounds.old.held (F.left files.old) (F.left files.new) f) }
+    ensures nothing { IfErr result (λ f. f ≢ RoundsFault.WriteFault → K.taken out.new ≡ K.taken out.old) }
+
+    // Where out failed it has a front of the round's report.
+    ensures part { IsErrOf result RoundsFault.WriteFault → (before : ℕ → List Next) → AreHeldBehind rounds.old.held before
+        → (end : Border) × (now : ℕ → List Next) × IsRoundOf rounds.old (F.left files.old) (F.left files.new) end before now
+        × WhereTold (K.taken out.old) (K.taken out.new) (AppendsPart (round_report rounds.old end now)) }
+    ensures failed { IsErrOf result RoundsFault.WriteFault → Rose (K.faults out.old) (K.faults out.new) }
+    ensures written_quiet { result ≢ Err RoundsFault.WriteFault → K.faults out.new ≡ K.faults out.old }
+
+    // Bytes are taken from the front of the sources' files alone, and a read fault has its cause there.
+    ensures fronts { WhereTold (F.left files.old) (F.left files.new) TookFronts }
+    ensures others { WhereTold (F.left files.old) (F.left files.new) (LeavesOthers (files_of rounds.old.held.program.sources)) }
+    ensures rise { (n : List ℕ) → F.faults files.old n ≤ F.faults files.new n }
+    ensures cause { IsErrOf result RoundsFault.ReadFault → OneRose (files_of rounds.old.held.program.sources) (F.faults files.old) (F.faults files.new) }
+{
+    halves_make_a_round();
+    let checked = engine.checked;
+    let program = checked.program();
+    let Begun {
+        border,
+        opening,
+        rows,
+    } = rounds.begin(alloc, program, files)?;
+    let (state, outs) = engine.batch(rt, alloc, opening, &rows)?;
+    rounds.finish(alloc, program, out, state, outs)?;
+    Ok(border)
 }
 
 /// The report of a run of some streams from the empty state on the tree of threads.
@@ -118,18 +216,7 @@ pub fn tree_report<G: Gate, R: Threads + Wait + Sync>(
     requires lists { length (listed streams.now) ≡ count_of_itags (program_of planned.now.checked) }
     ensures { IfOk result (λ t. t ≡ report (program_of planned.now.checked) (final_outputs (program_of planned.now.checked) nothing_held (listed streams.now))) }
 {
-    let program = planned.checked.program();
-    jobs_are_shared(&planned.checked);
-    plans_are_shared(&planned.valid);
-    streams_are_shared(streams);
-    let case = Case::new(
-        alloc,
-        &planned.checked,
-        &planned.valid,
-        streams,
-        State::new(alloc),
-    )?;
-    let mut backup = Backup { program };
-    let (_, outs) = run_tree(rt, alloc, &case, gate, &mut backup)?;
-    report_text(alloc, program, outs)
+    let mut engine = engine_of(planned, gate);
+    let (_, outs) = engine.batch(rt, alloc, State::new(alloc), streams)?;
+    report_text(alloc, planned.checked.program(), outs)
 }

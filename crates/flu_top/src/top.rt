@@ -6,7 +6,7 @@ ghost use Rattle.flu_outside.specs.Taking.{TookFronts};
 ghost use Rattle.flu_top.specs.Taking.{TookOnly};
 ghost use Rattle.flu_top.specs.Done.{IsReadBy};
 ghost use Rattle.flu_top.specs.Answer.{status_after, IsHeard};
-ghost use Rattle.flu_top.specs.Ending.{Ends};
+ghost use Rattle.flu_top.specs.Ending.{call, Ends};
 ghost use Rattle.flu_top.specs.Outcome.{outside, Outcome, ReadOnly, FaultsFirst, Completes};
 
 use crate::commands::run;
@@ -15,8 +15,8 @@ use crate::products::DrawnSteps;
 use crate::refusals::{Refusal, status};
 use flu_grammar::laws::{jobs_are_grammar, plans_are_grammar};
 use flu_outside::{Files, Sink};
-use flu_report::write_all;
 use flu_seq::Gate;
+use flu_streams::rounds_meet_what_is_there;
 use flu_words::read_words;
 use std::alloc::Global;
 use std::sync::Wait;
@@ -28,17 +28,19 @@ use std::thread::Threads;
 /// report to `out`. `check JOB` reads the job alone, which has to be accepted, and writes it in normal form. `valid JOB
 /// PLAN` reads such a job and then a plan, which has to be valid for it, and writes the plan in normal form. `plan JOB
 /// [--depth D]` reads such a job alone and writes the greedy plan of all its itags, by the rates of its sources, with
-/// at most D levels below the root: 0 to 6, and 3 where no depth is given. `run JOB [PLAN]` reads such a job, a plan
-/// that is valid for it, or takes its greedy plan of depth 3, reads the sources, runs the events on a thread for each
-/// node of the plan and writes the report of the fold. `simulate JOB PLAN SEED` reads such a job, a plan that is valid
-/// for it and the sources, runs the events on the net of the plan by the steps that the seed draws, writes the report
-/// of the fold, and then says on `err` how many steps of each kind there were, with their mark. `demo N SEED` reads no
-/// file: it runs the job of a demo, as `run` does, over N events that the seed draws and the ticks of a clock, and
-/// writes how many events there were and how many lines and bytes their report has. Status 0: all was written. Else the
-/// line of the answer goes to `err`, and a failure of `err` changes no status: 2 for words that are no command, 3 for a
-/// job text with a fault, 4 for a job that is not accepted, 5 for a plan text with a fault or a plan that is not valid,
-/// 6 for a source with a defect, 7 where a file that was read failed, 8 where `out` failed, 9 where there was no
-/// memory. `docs/LANGUAGE.md` has the forms and the lines, and `docs/TRUST.md` what is to be believed.
+/// at most D levels below the root: 0 to 6, and 3 where no depth is given. `run JOB [PLAN]` reads such a job and a plan
+/// that is valid for it, or takes its greedy plan of depth 3. It reads the sources in rounds, of 4,096 rows of each
+/// source or more, runs the events of each round on a thread for each node of the plan, and writes the report of the
+/// fold, round by round. `simulate JOB PLAN SEED` reads such a job, a plan that is valid for it and the sources, runs
+/// the events on the net of the plan by the steps that the seed draws, writes the report of the fold, and then says on
+/// `err` how many steps of each kind there were, with their mark. `demo N SEED` reads no file: it runs the job of a
+/// demo, as `run` does, over N events that the seed draws and the ticks of a clock, and writes how many events there
+/// were and how many lines and bytes their report has. Status 0: all was written. Else the line of the answer goes to
+/// `err`, and a failure of `err` changes no status: 2 for words that are no command, 3 for a job text with a fault, 4
+/// for a job that is not accepted, 5 for a plan text with a fault or a plan that is not valid, 6 for a source with a
+/// defect, 7 where a file that was read failed, 8 where `out` failed, 9 where there was no memory. Where `run` is
+/// stopped, at 6 to 9, `out` may have what the rounds until then wrote. `docs/LANGUAGE.md` has the forms and the lines,
+/// and `docs/TRUST.md` what is to be believed.
 ///
 /// Each worker of a run passes the gate before and after each of its updates. `run` and `demo` alone start threads, and
 /// wait for them: what is said here holds where the call returns.
@@ -69,6 +71,7 @@ pub fn flumina<F: Files, K: Sink, E: Sink, G: Gate, R: Threads + Wait + Sync>(
 {
     jobs_are_grammar();
     plans_are_grammar();
+    rounds_meet_what_is_there();
     let ended = do_words(rt, alloc, words, files, out, gate);
     answer(err, ended)
 }
@@ -82,21 +85,13 @@ fn do_words<F: Files, K: Sink, G: Gate, R: Threads + Wait + Sync>(
     out: &mut K,
     gate: &G,
 ) -> Result<Option<DrawnSteps>, Refusal>
-    ensures ends { Ends (record { words = map string_bytes words.now; left = F.left files.old; left_after = F.left files.new; counts = F.faults files.old; counts_after = F.faults files.new; taken = K.taken out.old; taken_after = K.taken out.new; count = K.faults out.old; count_after = K.faults out.new }) result }
+    ensures ends { Ends (map string_bytes words.now) (call (F.left files.old) (F.left files.new) (F.faults files.old) (F.faults files.new) (K.taken out.old) (K.taken out.new) (K.faults out.old) (K.faults out.new)) result }
     ensures fronts { WhereTold (F.left files.old) (F.left files.new) TookFronts }
     ensures only { WhereTold (F.left files.old) (F.left files.new) (TookOnly (IsReadBy (map string_bytes words.now) (F.left files.old))) }
 {
-    let command = match read_words(words) {
-        Ok(command) => command,
-        Err(bad) => return Err(Refusal::BadWords(bad)),
-    };
-    let product = match run(rt, alloc, files, command, gate) {
-        Ok(product) => product,
-        Err(refusal) => return Err(refusal),
-    };
-    match write_all(out, product.text.as_str().as_bytes()) {
-        Ok(()) => Ok(product.steps),
-        Err(_) => Err(Refusal::WriteFault),
+    match read_words(words) {
+        Ok(command) => run(rt, alloc, files, out, command, gate),
+        Err(bad) => Err(Refusal::BadWords(bad)),
     }
 }
 

@@ -1,6 +1,6 @@
 -- An update with an event that is exact for a lot.
-use Rattle.std.proofs.Common.{◌≡◌, ◌<◌, ◌+◌, ℕ, List, ◌++◌, refl, sym, ap, subst, ◌∙◌, arith}
-use Rattle.std.specs.Prelude.{slice_index, slice_set}
+use Rattle.std.proofs.Common.{◌≡◌, ◌<◌, ◌+◌, ℕ, None, List, ◌++◌, refl, sym, ap, subst, ◌∙◌, arith}
+use Rattle.std.specs.Prelude.{Result, Ok, Err, OnOk, slice_index, slice_set}
 use Rattle.std.proofs.lemmas.List.{length-set}
 use Rattle.flu_model.specs.declared.events.Event.{Event}
 use Rattle.flu_model.specs.declared.events.Itag.{Itag}
@@ -19,10 +19,13 @@ use Rattle.flu_fork.specs.declared.lots.Lot.{Lot}
 use Rattle.flu_fork.specs.Fitting.{Fits}
 use Rattle.flu_fork.specs.Laws.{UpdatesWell}
 use Rattle.flu_fork.specs.Places.{HasMoment}
-use Rattle.flu_fork.specs.Lots.{job, nodes, setting_of, LotFits}
+use Rattle.flu_fork.specs.Lots.{job, nodes, kids, setting_of, LotFits}
 use Rattle.flu_fork.specs.Texts.{outputs_then}
 use Rattle.flu_worker.specs.Agreeing.{IsExactFor}
-use Rattle.flu_worker.specs.Doing.{PutsOut}
+use Rattle.flu_worker.specs.declared.holding.Holding.{Holding}
+use Rattle.flu_worker.specs.declared.holding.Holding.TheVariants.{Whole as WholeLot}
+use Rattle.flu_worker.specs.Doing.{PutsOut, DoneIn}
+use Rattle.flu_worker.specs.Moving.{IsWholeOf}
 use Rattle.flu_worker.specs.LawsBelow.{LawsBelow}
 use Rattle.flu_worker.proofs.CountLemmas.{set_one}
 
@@ -63,3 +66,18 @@ module _ (laws : LawsBelow) (k : Content) (w : ℕ) (lot : Lot) (x : Ask) (event
       put ∙ ap (λ (e : Event). old ++ outputs_with (job k) e (effect_of (job k) (held lot.state) e).texts) (sym s.event)
       ∙ ap (λ t. old ++ outputs_with (job k) s.moment.event t) well.texts
       ∙ ap (λ (q : Moment). old ++ outputs_then (job k) q) (sym same.1.0)
+
+-- a leaf's lot, where it stays
+pub done_here : {T E : Type 0} (k : Content) (w : ℕ) (x : Ask) (was : Holding) (lot more : Lot) (told : Result T E) → was ≡ WholeLot lot → kids k w ≡ None
+    → OnOk told (LotFits k w more) → OnOk told (more.since ≡ lot.since)
+    → OnOk told (more.upto ≡ slice_set lot.upto x.itag.0 (slice_index lot.upto x.itag.0 + 1)) → OnOk told (DoneIn k w x was (WholeLot more))
+done_here k w x was lot more (Ok t) is leaf fits since counted = record {
+  lot = lot;
+  was = subst (λ (h : Holding). IsWholeOf h lot) (sym is) refl;
+  more = more;
+  fits = fits;
+  since = since;
+  upto = counted;
+  held = record { leaf = leaf; same = refl };
+}
+done_here k w x was lot more (Err e) is leaf fits since counted = tt

@@ -101,6 +101,15 @@ gives laws v mail h lot y rule is may =
     }
 
 -- ---- handle
+
+-- memory was wanting
+pub lost_rule : (v : WorkerNote) (mail : Mailbox) (was h : Holding) → Rule v mail was → h ≡ Gone → Rule (record v { hand = hand_of h; kept = None }) mail h
+lost_rule v mail was h rule gone = subst (λ (x : Holding). Rule (record v { hand = hand_of x; kept = None }) mail x) (sym gone) (record {
+  mailed = mailed_still v mail (record v { hand = hand_of Gone; kept = None }) rule.mailed refl refl refl refl;
+  hand = refl;
+  holds = refl;
+})
+
 module _ (laws : LawsBelow) (v : WorkerNote) (old : Mailbox) (was : Holding) (rule : Rule v old was) (x : Ask) (next : next_of v ≡ Some x) (lot : Lot)
     (is_lot : IsWholeOf was lot) where
   abbrev whole : HoldsWhole v lot
@@ -164,15 +173,6 @@ module _ (laws : LawsBelow) (v : WorkerNote) (old : Mailbox) (was : Holding) (ru
     one =
         subst (λ (c : List ℕ). CountsOneMore x.itag.0 lot.upto c) (sym upto)
         (set_one lot.upto x.itag.0 _ (let long = whole.fits.upto_each in let known = exact.known in omega arith) refl)
-
-    -- without memory for the parts
-    pub gone_rule : Rule (record v { hand = hand_of Gone; kept = None; counts = counts }) mail Gone
-    gone_rule =
-        record {
-          mailed = mailed_after v old mail (record v { hand = hand_of Gone; kept = None; counts = counts }) rule.mailed same is_counts refl refl refl;
-          hand = refl;
-          holds = refl;
-        }
 
     module _ (h : Holding) (is : IsHeldAs v.case v.node more h) where
       abbrev pub handled_note : WorkerNote

@@ -1,13 +1,11 @@
 -- What the steps do to the shape of a hand.
-use Rattle.std.proofs.Common.{◌≡◌, ℕ, zero, suc, true, false, Option, Some, None, refl, arith}
-use Rattle.flu_fork.specs.declared.content.Content.{Content}
+use Rattle.std.proofs.Common.{◌≡◌, zero, suc, true, false, Some, None, refl, arith}
 use Rattle.flu_fork.specs.Lots.{kids}
 use Rattle.flu_worker.specs.declared.hand.Hand.{Hand}
 use Rattle.flu_worker.specs.declared.hand.Hand.TheVariants.{Empty, Whole, Lending, Down, Taking}
 use Rattle.flu_worker.specs.declared.hand.Side.{Side}
 use Rattle.flu_worker.specs.declared.hand.Side.TheVariants.{Left, Right}
-use Rattle.flu_worker.specs.Calls.{start_hand}
-use Rattle.flu_worker.specs.Hands.{is_out, may_lend, may_take, first_hand}
+use Rattle.flu_worker.specs.Hands.{may_lend, may_take}
 use Rattle.flu_worker.specs.Turning.{TurnsAtLend, TurnsAtTake, LendTurns, TakeTurns, FirstIsHere, StartIsHere, StartIsShut}
 
 lend_turns : (s : Side) (h : Hand) → may_lend s h ≡ true → TurnsAtLend s h

@@ -8,8 +8,8 @@ ghost use Rattle.flu_model.specs.Owners.{owns};
 ghost use Rattle.flu_fork.specs.Lots.{job, nodes};
 ghost use Rattle.flu_mail.specs.Mailboxes.{counts_of};
 ghost use Rattle.flu_worker.specs.Hands.{is_whole, is_down};
-ghost use Rattle.flu_worker.specs.Choosing.{sight_at, own_itags, above_itags, next_at, takes, if_ready, event_of, serves, earlier, earliest, least_next, least_ready, ask_for, if_own, if_serves, is_same_ask, first_some, new_target, next_by, target_by, gives_by};
-ghost use Rattle.flu_worker.specs.Sights.{IsMailFor, comes_first};
+ghost use Rattle.flu_worker.specs.Choosing.{sight_at, own_itags, above_itags, next_at, takes, if_ready, event_of, serves, earlier, least_next, least_ready, ask_for, if_own, if_serves, is_same_ask, first_some, new_target, next_by, target_by, gives_by};
+ghost use Rattle.flu_worker.specs.Sights.{IsMailFor, comes_first, comes_before, due_of, earlier_due, first_due};
 
 use crate::hand::Hand;
 use crate::laws::laws_below;
@@ -50,16 +50,61 @@ fn takes(case: &Case, node: u32, mail: &Mailbox, x: &Event) -> bool
     mail.ready(case.tables(), case.streams(), x)
 }
 
-fn earlier(a: Option<Event>, b: Option<Event>) -> Option<Event>
-    ensures { result ≡ earlier a b }
+/// The time and the itag of an event, by which events are ordered.
+#[derive(Clone, Copy)]
+pub struct Due {
+    pub time: u64,
+    pub itag: Itag,
+}
+
+// Whether an event comes before what was found so far.
+fn comes_before(y: &Event, found: Due) -> bool
+    ensures { result ≡ comes_before y.now found }
 {
-    match a {
-        Some(x) => match b {
-            Some(y) => { if before(&y, &x) { Some(y) } else { Some(x) } }
+    y.time < found.time || (y.time == found.time && y.itag.0 < found.itag.0)
+}
+
+fn due_of(next: Option<Event>) -> Option<Due>
+    ensures { result ≡ due_of next }
+{
+    match next {
+        Some(y) => Some(Due {
+            time: y.time,
+            itag: y.itag,
+        }),
+        None => None,
+    }
+}
+
+// What was found so far, or the time and the itag of a next event, where this one is earlier.
+fn earlier_due(found: Option<Due>, next: Option<Event>) -> Option<Due>
+    ensures { result ≡ earlier_due found next }
+{
+    match found {
+        Some(x) => match next {
+            Some(y) => {
+                if comes_before(&y, x) {
+                    due_of(Some(y))
+                } else {
+                    Some(x)
+                }
+            }
             None => Some(x),
         },
-        None => b,
+        None => due_of(next),
     }
+}
+
+// The time and the itag of the least next event of the node's own itags. Whole events would go through memory at each step.
+fn first_due(case: &Case, node: u32, mail: &Mailbox) -> Option<Due>
+    requires mail { IsMailFor case.now node mail.now }
+    ensures { result ≡ first_due (sight_at case.now node mail.now) }
+{
+    let mut found = None;
+    for i in own_itags(case, node) {
+        found = earlier_due(found, next_at(case, node, mail, *i));
+    }
+    found
 }
 
 // The least next event of the node's own itags.
@@ -67,11 +112,11 @@ fn least_next(case: &Case, node: u32, mail: &Mailbox) -> Option<Event>
     requires mail { IsMailFor case.now node mail.now }
     ensures { result ≡ least_next (sight_at case.now node mail.now) }
 {
-    let mut found = None;
-    for i in own_itags(case, node) {
-        found = earlier(found, next_at(case, node, mail, *i));
+    laws_below();
+    match first_due(case, node, mail) {
+        Some(due) => next_at(case, node, mail, due.itag),
+        None => None,
     }
-    found
 }
 
 fn if_ready(case: &Case, node: u32, mail: &Mailbox, next: Option<Event>) -> Option<Event>

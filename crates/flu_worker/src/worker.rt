@@ -15,7 +15,7 @@ ghost use Rattle.flu_worker.specs.Starting.{IsFirst};
 
 use crate::choosing::{gives, next_ask, target};
 use crate::counting::no_counts;
-use crate::done::done;
+use crate::done::done_in;
 use crate::finishing::has_done_all;
 use crate::hand::{Hand, Side};
 use crate::holding::{Holding, hand_of, held_as, taken};
@@ -218,10 +218,8 @@ impl Worker {
             unreachable!();
         };
         self.kept = None;
-        let lot = whole_of(taken(&mut self.holding));
-        let more = done(alloc, case, self.node, lot, x, &event, outs)?;
+        done_in(alloc, case, self.node, &mut self.holding, x, &event, outs)?;
         self.mail.count_one(case.streams(), x.itag);
-        self.holding = held_as(alloc, case, self.node, more)?;
         Ok(())
     }
 

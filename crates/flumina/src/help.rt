@@ -3,7 +3,7 @@
 use flu_outside::{Failed, Sink, write_all};
 
 /// The status where standard output failed, as the proved call has it.
-const WRITE_FAULT: u8 = 8;
+pub const WRITE_FAULT: u8 = 8;
 
 /// The answer to `--help`.
 pub const HELP: &str =
@@ -29,9 +29,10 @@ defect, 7 a file is missing or failed, 8 standard output failed, 9 memory was wa
 docs/LANGUAGE.md describes jobs, rows and lines, docs/TREE.md plans, docs/GUIDE.md the way from a log to a report.
 ";
 
-/// The answer to `--version`: the version, and the line of `rt version`.
+/// The answer to `--version`: the version, and the line that `rt version` writes for the kit that proves this text. README and
+/// `docs/TRUST.md` have the same line, and `docs/DECISIONS.md` says how they are compared.
 pub const VERSION: &str = "flumina 0.1.0
-rattle-kit-13f logic dac8208d650f15bf
+rattle-kit-13b logic dac8208d650f15bf
 ";
 
 /// What is to be written where `--help` or `--version` is the only word.

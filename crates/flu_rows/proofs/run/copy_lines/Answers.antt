@@ -2,10 +2,10 @@ use Rattle.std.proofs.Common.{◌≡◌, ◌<◌, ◌+◌, ◌-◌, ◌++◌, []
 use Rattle.std.proofs.lemmas.Grind.{common_steps}
 use Rattle.flu_rows.specs.Lines.{line_len}
 use Rattle.flu_rows.specs.LoopRuns.{HasKind}
-use Rattle.flu_rows.proofs.Alike.{no_run, copied_alike, copied_empty, alike_same, whole_rest}
+use Rattle.flu_rows.proofs.Alike.{no_run, copied_alike, copied_empty, copied_open, alike_same, whole_rest}
 use Rattle.flu_rows.proofs.Cuts.{one_line}
 use Rattle.flu_rows.proofs.run.copy_lines.Goals as goal
-use Rattle.flu_rows.proofs.run.copy_lines.Goals.{in-Empty+in_ok-extend_from_slice-in-Empty, in-Alike+in_ok-extend_from_slice-in-Alike}
+use Rattle.flu_rows.proofs.run.copy_lines.Goals.{in-Empty+in_ok-extend_from_slice-in-Empty, in-Alike+in_ok-extend_from_slice-in-Alike, in-Open+in_ok-extend_from_slice-in-Open+in_ok-extend_from_slice-in-Open-2}
 
 pub loop-end-init : goal.loop-end-init
 loop-end-init c = record {
@@ -41,4 +41,8 @@ loop-end-preserved c =
           let k = copied_alike end len bytes lines value lt (rw w.in-Alike.is at kind) c.loop-end.invariant.run c.loop-end.invariant.alike in
           let n : length (take (len + 1) (drop end bytes)) ≡ len + 1 = grind (arith, common_steps) in
           record { within = omega arith; run = rw e k.0; alike = rw e k.1; some = λ z. omega (arith, ap length e, length-append lines (take (len + 1) (drop end bytes))) }
+      | in-Open+in_ok-extend_from_slice-in-Open+in_ok-extend_from_slice-in-Open-2 w ↦
+          let e : c.match-kind_of.lines.items ≡ (lines ++ take len (drop end bytes)) ++ (34 ∷ 10 ∷ []) = grind (arith, common_steps) in
+          let k = copied_open end len bytes lines value lt (rw w.in-Open.is at kind) c.loop-end.invariant.run c.loop-end.invariant.alike in
+          record { within = omega arith; run = rw e k.0; alike = rw e k.1; some = λ z. omega (arith, ap length e, length-append (lines ++ take len (drop end bytes)) (34 ∷ 10 ∷ [])) }
     ]

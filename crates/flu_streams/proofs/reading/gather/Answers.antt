@@ -1,5 +1,5 @@
-use Rattle.std.proofs.Common.{◌≡◌, ◌+◌, ◌++◌, ◌∷◌, [], length, take, drop, Result, Err, refl, sym, ap, ◌∙◌, rules, arith}
-use Rattle.std.specs.Prelude.{sum_by, IsErrOf}
+use Rattle.std.proofs.Common.{◌≡◌, ◌+◌, ◌++◌, ◌∷◌, [], length, take, drop, Err, refl, ap, ◌∙◌, rules, arith}
+use Rattle.std.specs.Prelude.{sum_by}
 use Rattle.std.proofs.lemmas.List.{take_all, length-map}
 use Rattle.std.proofs.lemmas.List.Sums.{sum_by-append}
 use Rattle.flu_model.specs.Listed.{listed}
@@ -11,12 +11,9 @@ use Rattle.flu_streams.specs.LoopGathering.{IsGathered}
 use Rattle.flu_streams.specs.Good.{AreGood, lists_of}
 use Rattle.flu_streams.specs.Lists.{lists_in}
 use Rattle.flu_streams.specs.Tags.{width}
-use Rattle.flu_streams.proofs.Gatherings.{total_width, gathered_more, gathered_fault, streams_more, others_at, counts_at, there_more, counts_more, out_more, files_more, among_sources, hides_behind}
+use Rattle.flu_streams.proofs.Gatherings.{err_same, total_width, gathered_more, gathered_fault, streams_more, others_at, counts_at, there_more, counts_more, out_more, files_more, among_sources, hides_behind}
 use Rattle.flu_streams.proofs.Turns.{turn}
 use Rattle.flu_streams.proofs.reading.gather.Goals as goal
-
-err_same : {T E : Type 0} (r : Result T E) (x y : E) → r ≡ Err x → IsErrOf r y → x ≡ y
-err_same r x y is e = let same : Err x ≡ Err y = sym is ∙ e in cc
 
 pub add_source-requires-clause-numbered : goal.add_source-requires-clause-numbered
 add_source-requires-clause-numbered g c =

@@ -1,8 +1,38 @@
-use Rattle.std.proofs.Common.{ap}
-use Rattle.flu_words.specs.Words.{plain_command}
-use Rattle.flu_top.proofs.Demos.{written_anyhow}
+use Rattle.std.proofs.Common.{refl, ap}
+use Rattle.flu_words.specs.Words.{Fold, Check, Valid, Plan, Simulate, Demo, plain_command}
+use Rattle.flu_top.specs.Ending.{call}
+use Rattle.flu_top.proofs.Demos.{refused_anyhow}
+use Rattle.flu_top.proofs.Endings.{ends_text, ends_product}
 use Rattle.flu_top.proofs.commands.run.Goals as goal
 
-pub returns-in-Demo-clause-written : goal.returns-in-Demo-clause-written
-returns-in-Demo-clause-written g c =
-    written_anyhow c.in-Demo.n.count c.in-Demo.seed.number (plain_command c.args.command) c.demo.result _ _ (ap plain_command c.in-Demo.is) c.demo.ensures.written
+pub returns-in-Fold-clause-ends : goal.returns-in-Fold-clause-ends
+returns-in-Fold-clause-ends g c =
+    ends_text (call (g.F.Files.left c.args.files.now) (g.F.Files.left c.fold_job.new.files) (g.F.Files.faults c.args.files.now) (g.F.Files.faults c.fold_job.new.files) (g.K.Sink.taken c.args.out.now) (g.K.Sink.taken c.put_text.new.out) (g.K.Sink.faults c.args.out.now) (g.K.Sink.faults c.put_text.new.out))
+    (plain_command c.args.command) (Fold c.in-Fold.job.now) c.fold_job.result c.put_text.result (ap plain_command c.in-Fold.is) (λ e. cc) refl c.fold_job.ensures.written c.fold_job.ensures.refused c.put_text.ensures
+
+pub returns-in-Check-clause-ends : goal.returns-in-Check-clause-ends
+returns-in-Check-clause-ends g c =
+    ends_text (call (g.F.Files.left c.args.files.now) (g.F.Files.left c.check_job.new.files) (g.F.Files.faults c.args.files.now) (g.F.Files.faults c.check_job.new.files) (g.K.Sink.taken c.args.out.now) (g.K.Sink.taken c.put_text-in-Check.new.out) (g.K.Sink.faults c.args.out.now) (g.K.Sink.faults c.put_text-in-Check.new.out))
+    (plain_command c.args.command) (Check c.in-Check.job.now) c.check_job.result c.put_text-in-Check.result (ap plain_command c.in-Check.is) (λ e. cc) refl c.check_job.ensures.written c.check_job.ensures.refused c.put_text-in-Check.ensures
+
+pub returns-in-Valid-clause-ends : goal.returns-in-Valid-clause-ends
+returns-in-Valid-clause-ends g c =
+    ends_text (call (g.F.Files.left c.args.files.now) (g.F.Files.left c.valid_plan.new.files) (g.F.Files.faults c.args.files.now) (g.F.Files.faults c.valid_plan.new.files) (g.K.Sink.taken c.args.out.now) (g.K.Sink.taken c.put_text-in-Valid.new.out) (g.K.Sink.faults c.args.out.now) (g.K.Sink.faults c.put_text-in-Valid.new.out))
+    (plain_command c.args.command) (Valid c.in-Valid.job.now c.in-Valid.plan.now) c.valid_plan.result c.put_text-in-Valid.result (ap plain_command c.in-Valid.is) (λ e. cc) refl c.valid_plan.ensures.written c.valid_plan.ensures.refused c.put_text-in-Valid.ensures
+
+pub returns-in-Plan-clause-ends : goal.returns-in-Plan-clause-ends
+returns-in-Plan-clause-ends g c =
+    ends_text (call (g.F.Files.left c.args.files.now) (g.F.Files.left c.plan_job.new.files) (g.F.Files.faults c.args.files.now) (g.F.Files.faults c.plan_job.new.files) (g.K.Sink.taken c.args.out.now) (g.K.Sink.taken c.put_text-in-Plan.new.out) (g.K.Sink.faults c.args.out.now) (g.K.Sink.faults c.put_text-in-Plan.new.out))
+    (plain_command c.args.command) (Plan c.in-Plan.job.now c.in-Plan.depth.levels) c.plan_job.result c.put_text-in-Plan.result (ap plain_command c.in-Plan.is) (λ e. cc) refl c.plan_job.ensures.written c.plan_job.ensures.refused c.put_text-in-Plan.ensures
+
+pub returns-in-Simulate-clause-ends : goal.returns-in-Simulate-clause-ends
+returns-in-Simulate-clause-ends g c =
+    ends_product (call (g.F.Files.left c.args.files.now) (g.F.Files.left c.simulate_planned.new.files) (g.F.Files.faults c.args.files.now) (g.F.Files.faults c.simulate_planned.new.files) (g.K.Sink.taken c.args.out.now) (g.K.Sink.taken c.put.new.out) (g.K.Sink.faults c.args.out.now) (g.K.Sink.faults c.put.new.out))
+    (plain_command c.args.command) (Simulate c.in-Simulate.job.now c.in-Simulate.plan.now c.in-Simulate.seed.number) c.simulate_planned.result c.put.result (ap plain_command c.in-Simulate.is) (λ e. cc)
+    c.simulate_planned.ensures.written c.simulate_planned.ensures.says c.simulate_planned.ensures.refused c.put.ensures
+
+pub returns-in-Demo-clause-ends : goal.returns-in-Demo-clause-ends
+returns-in-Demo-clause-ends g c =
+    ends_product (call (g.F.Files.left c.args.files.now) (g.F.Files.left c.args.files.now) (g.F.Files.faults c.args.files.now) (g.F.Files.faults c.args.files.now) (g.K.Sink.taken c.args.out.now) (g.K.Sink.taken c.put-in-Demo.new.out) (g.K.Sink.faults c.args.out.now) (g.K.Sink.faults c.put-in-Demo.new.out))
+    (plain_command c.args.command) (Demo c.in-Demo.n.count c.in-Demo.seed.number) c.demo.result c.put-in-Demo.result (ap plain_command c.in-Demo.is) (λ e. cc) c.demo.ensures.written c.demo.ensures.says
+    (refused_anyhow c.in-Demo.n.count c.in-Demo.seed.number c.demo.result _ _ _ _ c.demo.ensures.refused) c.put-in-Demo.ensures

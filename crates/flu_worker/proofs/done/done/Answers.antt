@@ -28,19 +28,19 @@ unreachable-requires c =
 pub update-requires : goal.update-requires
 update-requires c =
     subst (λ (p : Program). c.args.event.now.itag.0 < count_of_itags p) (sym (c.program.ensures ∙ ap program_of c.checked.ensures))
-    (event_known c.laws_below.ensures c.args.case.now c.args.node c.args.lot c.args.x c.args.event.now c.requires.exact c.requires.fits)
+    (event_known c.laws_below.ensures c.args.case.now c.args.node c.args.lot.now c.args.x c.args.event.now c.requires.exact c.requires.fits)
 
 pub returns-clause-fits : goal.returns-clause-fits
 returns-clause-fits c =
-    subst (λ (u : List ℕ). Fits (setting_of c.args.case.now) c.args.node (held c.update.new.s) c.args.lot.since u) (sym c.count_one.ensures)
-    (done_fits c.laws_below.ensures c.args.case.now c.args.node c.args.lot c.args.x c.args.event.now c.requires.exact c.requires.fits (held c.update.new.s)
+    subst (λ (u : List ℕ). Fits (setting_of c.args.case.now) c.args.node (held c.update.new.s) c.args.lot.now.since u) (sym c.count_one.ensures)
+    (done_fits c.laws_below.ensures c.args.case.now c.args.node c.args.lot.now c.args.x c.args.event.now c.requires.exact c.requires.fits (held c.update.new.s)
     (c.in_ok-update.ensures.cells
-    ∙ ap (λ (p : Program). (effect_of p (held c.args.lot.state) c.args.event.now).cells) (c.program.ensures ∙ ap program_of c.checked.ensures)))
+    ∙ ap (λ (p : Program). (effect_of p (held c.args.lot.now.state) c.args.event.now).cells) (c.program.ensures ∙ ap program_of c.checked.ensures)))
 
 pub returns-clause-outs : goal.returns-clause-outs
 returns-clause-outs c =
-    done_puts c.laws_below.ensures c.args.case.now c.args.node c.args.lot c.args.x c.args.event.now c.requires.exact c.requires.fits c.args.outs.now
+    done_puts c.laws_below.ensures c.args.case.now c.args.node c.args.lot.now c.args.x c.args.event.now c.requires.exact c.requires.fits c.args.outs.now
     c.update.new.outs
     (c.in_ok-update.ensures.outputs
-    ∙ ap (λ (p : Program). c.args.outs.now ++ outputs_with p c.args.event.now (effect_of p (held c.args.lot.state) c.args.event.now).texts)
+    ∙ ap (λ (p : Program). c.args.outs.now ++ outputs_with p c.args.event.now (effect_of p (held c.args.lot.now.state) c.args.event.now).texts)
     (c.program.ensures ∙ ap program_of c.checked.ensures))

@@ -30,4 +30,7 @@ returns-clause-outputs c =
     subst (λ k. IsPermutation (final_outputs (job k) (held k.opening) (listed k.streams)) c.in_ok-state.outs) c.requires.way.case c.in_ok-state.ensures.outputs
 
 pub returns-clause-drawn : goal.returns-clause-drawn
-returns-clause-drawn c = record { net = c.args.self.net; last = c.args.self.last; run = c.requires.way.run; ended = c.requires.ended }
+returns-clause-drawn c = record {
+  done = c.requires.way.done;
+  run = record { net = c.args.self.net; last = c.args.self.last; run = c.requires.way.run; ended = c.requires.ended };
+}

@@ -28,4 +28,4 @@ returns-clause-way c =
       is = sym (ap (λ l. slice_get l c.place_of-place.result) c.requires.enabled)
           ∙ slice_get-get_or c.args.enabled.now c.place_of-place.result _ c.place_of-place.ensures.there;
     })
-    c.in-Ok.ensures.made c.in-Ok.ensures.case c.in-Ok.ensures.stays c.in-Ok.ensures.left c.count.ensures c.marked-self.ensures
+    c.in-Ok.ensures.made c.in-Ok.ensures.case c.in-Ok.ensures.stays c.in-Ok.ensures.left c.in_ok-keep.ensures c.count.ensures c.marked-self.ensures

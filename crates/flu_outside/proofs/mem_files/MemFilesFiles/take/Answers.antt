@@ -1,4 +1,5 @@
-use Rattle.std.proofs.Common.{arith}
+use Rattle.std.proofs.Common.{◌≡◌, length, take, ◌∙◌, arith}
+use Rattle.std.proofs.lemmas.List.{take_all}
 use Rattle.std.proofs.lemmas.Map.Text.{text_keys}
 use Rattle.std.proofs.lemmas.Grind.{common_steps}
 use Rattle.flu_outside.proofs.mem_files.MemFilesFiles.take.Goals as goal
@@ -31,3 +32,24 @@ returns-clause-counts c = λ n. grind (arith, text_keys)
 
 pub returns-clause-others : goal.returns-clause-others
 returns-clause-others c = λ n apart. grind (arith, text_keys)
+
+pub returns-then-fails-clause-answer : goal.returns-then-fails-clause-answer
+returns-then-fails-clause-answer c = (grind (arith, common_steps), λ n. grind (arith, text_keys))
+
+pub returns-clause-answer : goal.returns-clause-answer
+returns-clause-answer c =
+    let n = c.take_into.result in
+    let buffer = c.take_into.new.buf in
+    let size : length (take n buffer) ≡ n = grind (arith, common_steps) in (
+      grind (arith, text_keys),
+      grind (arith, text_keys, size),
+      record {
+        bytes = c.in-Some.file.now.rest;
+        were = grind (arith, text_keys);
+        enough = grind (arith, common_steps, size);
+        given = rw size (take_all n (take n buffer) (omega (arith, size)) ∙ c.take_into.ensures.given);
+        left = grind (arith, text_keys, size);
+        end = λ none. grind (arith, common_steps);
+        others = λ other apart. grind (arith, text_keys);
+      },
+    )

@@ -1,17 +1,16 @@
 use Rattle.std.proofs.Common.{◌≡◌, ◌∙◌, arith}
-use Rattle.std.proofs.lemmas.Result.{IfOk-weaker}
 use Rattle.csv.specs.Records.{fields_of}
-use Rattle.flu_rows.specs.LoopSteps.{row_step}
 use Rattle.flu_rows.proofs.StepLemmas.{at_limit, at_line, at_held_row}
 use Rattle.flu_rows.proofs.rows.Hold.read_held.Goals as goal
+
+pub returns-in-Some-clause-told : goal.returns-in-Some-clause-told
+returns-in-Some-clause-told c = λ coming last. c.take_row.ensures.told coming
 
 pub returns-then-again-clause-told : goal.returns-then-again-clause-told
 returns-then-again-clause-told c =
     let gives = rw c.if-again.true at c.in-Ok-next.ensures in
     let n = c.args.self.now.lines in
-    IfOk-weaker c.step_of_row.result (λ step. step ≡ row_step n (fields_of c.next.new.row)) _
-    (λ step e coming last. c.in-Ok.ensures.alike n coming ∙ rw e (at_held_row n c.step_of_row.new.lines c.in-Ok.run' c.next.new.self c.take.new.held coming (fields_of c.next.new.row) gives c.step_of_row.ensures.counts))
-    c.step_of_row.ensures.value
+    λ coming last. c.in-Ok.ensures.alike n coming ∙ rw c.step_of_row.ensures.value (at_held_row n c.step_of_row.new.lines c.in-Ok.run' c.next.new.self c.take.new.held coming (fields_of c.next.new.row) gives c.step_of_row.ensures.counts)
 
 pub returns-then-self-clause-told : goal.returns-then-self-clause-told
 returns-then-self-clause-told c = λ coming last.

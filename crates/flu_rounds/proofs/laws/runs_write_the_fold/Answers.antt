@@ -1,0 +1,7 @@
+use Rattle.flu_rounds.proofs.Comings.{law_of_text, law_of_next_text, law_of_last, law_of_defect}
+use Rattle.flu_rounds.proofs.laws.runs_write_the_fold.Goals as goal
+
+pub returns : goal.returns
+returns c =
+    let rounds = c.rounds_are_folded_in_turn.ensures in
+    record { text = law_of_text rounds; next = law_of_next_text rounds; last = law_of_last rounds c.last_round_has_all_rows.ensures c.rounds_begin_and_end.ensures.ends; defect = law_of_defect rounds }

@@ -1,0 +1,5 @@
+pub mod Coming
+pub mod Faults
+pub mod Halves
+pub mod Standing
+pub mod Written

@@ -1,0 +1,47 @@
+-- What a run in rounds has written, by the lines of its sources' files (`docs/MODEL.md`, "Rounds").
+use Rattle.std.specs.Prelude.{◌≡◌, ℕ, Option, Some, None, List, [], slice_get}
+use Rattle.std.specs.Option.{option_map_or}
+use Rattle.flu_lemmas.specs.Elements.{AtEach}
+use Rattle.flu_model.specs.declared.events.Item.{Item}
+use Rattle.flu_model.specs.declared.jobs.Source.{Source}
+use Rattle.flu_model.specs.declared.jobs.Program.{Program}
+use Rattle.flu_model.specs.Contents.{nothing_held}
+use Rattle.flu_model.specs.Folding.{final_outputs}
+use Rattle.flu_model.specs.Reports.{report}
+use Rattle.flu_outside.specs.Outside.{Contents as Files}
+use Rattle.flu_outside.specs.Taking.{bytes_left}
+use Rattle.flu_rows.specs.declared.rows.Next.{Next}
+use Rattle.flu_rows.specs.Reading.{read_file}
+use Rattle.flu_streams.specs.declared.border.Border.{Border}
+use Rattle.flu_streams.specs.declared.border.Border.TheVariants.{At}
+use Rattle.flu_streams.specs.Rounds.{ComesTo, IsRound, defect_in, lists_between}
+
+-- ---- lines and texts
+-- the lines of the file of each source, by the source's number
+abbrev pub lines_in : Program → Files → ℕ → List Next
+lines_in p left i = option_map_or (λ (s : Source). read_file (bytes_left left s.file)) (slice_get p.sources i) []
+
+-- the report of the fold, from the empty state, of the rows up to an end among these lines
+abbrev pub text_until : Program → Border → (ℕ → List Next) → List ℕ
+text_until p end lines = report p (final_outputs p nothing_held (lists_between p None end lines))
+
+-- the same up to a border, where there is one
+abbrev pub text_up_to : Program → Option ℕ → (ℕ → List Next) → List ℕ
+text_up_to p None lines = []
+text_up_to p (Some t) lines = text_until p (At t) lines
+
+-- THE RUN OF THESE LINES COMES TO A BORDER, by rounds one after another, and this is written by then
+pub record RanTo (p : Program) (rows : ℕ) (whole : ℕ → List Next) (above : Option ℕ) (written : List ℕ) : Type 0 where
+  pub done : List (List (List Item))
+  pub before : ℕ → List Next
+  pub comes : ComesTo p rows whole done above before
+  pub text : written ≡ text_up_to p above before
+
+-- A ROUND MORE of the lines, behind which this is written
+pub record WouldWrite (p : Program) (rows : ℕ) (whole : ℕ → List Next) (above : Option ℕ) (before now : ℕ → List Next) (end : Border) (written : List ℕ) : Type 0 where
+  pub round : IsRound p rows above whole before now end
+  pub text : written ≡ text_until p end now
+
+-- NO DEFECT in these lines of each source
+abbrev pub AreSound : Program → (ℕ → List Next) → Type 0
+AreSound p whole = AtEach (λ i s. defect_in p.kinds s (whole i) ≡ None) p.sources

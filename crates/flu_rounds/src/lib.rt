@@ -1,0 +1,12 @@
+//! A run in rounds: each reads of every source what it needs, folds its rows from the state behind the round before it, and
+//! writes their report (`docs/MODEL.md`, "Rounds").
+#![tactic(auto)]
+
+mod faults;
+mod laws;
+mod rounds;
+
+pub use faults::RoundsFault;
+pub use flu_streams::{Border, SourceFault};
+pub use laws::{halves_make_a_round, runs_go_on, runs_write_the_fold};
+pub use rounds::{Begun, Rounds};

@@ -1,0 +1,4 @@
+use Rattle.flu_run.proofs.sharing.streams_are_shared.Goals as goal
+
+pub returns : goal.returns
+returns c = record { shared = c.shared.ensures.shared }

@@ -1,0 +1,169 @@
+-- How many items come no later than a time.
+use Rattle.std.proofs.Common.{◌≡◌, inl, inr, ℕ, zero, suc, ◌+◌, ◌-◌, ◌<◌, ◌≤◌, Bool, true, false, cond, List, [], ◌∷◌, length, get_or, take, drop, Option, Some, None, refl, sym, ap, ◌∙◌, arith}
+use Rattle.std.specs.Prelude.{nat_lt, nat_le, option_and_then, if◌then◌else◌}
+use Rattle.std.specs.List.{filter, list_all}
+use Rattle.std.proofs.lemmas.Bool.{cases_Bool}
+use Rattle.std.proofs.lemmas.Bool.Decides.{nat_tests}
+use Rattle.flu_lemmas.specs.Late.{put_late, rises_from}
+use Rattle.flu_lemmas.proofs.Late.{RisesFrom, rising, is_rising, rises_lower, rises_at}
+use Rattle.flu_lemmas.proofs.Tests.{and_left, and_right, both}
+use Rattle.flu_model.specs.declared.events.Item.{Item}
+use Rattle.flu_model.specs.declared.events.Item.TheVariants.{End}
+use Rattle.flu_streams.specs.Lists.{item_time}
+use Rattle.flu_streams.specs.LoopHeld.{count_to, enough_of}
+use Rattle.flu_streams.specs.Rounds.{is_above, settled}
+
+-- ---- the front and the back of a list by a test
+pub take_passing : {X : Type 0} (f : X → Bool) (d : X) (xs : List X) (n : ℕ) → n ≤ length xs → ((i : ℕ) → i < n → f (get_or xs i d) ≡ true)
+    → ((i : ℕ) → n ≤ i → i < length xs → f (get_or xs i d) ≡ false) → take n xs ≡ filter f xs
+take_passing f d [] zero few passes fails = refl
+take_passing f d [] (suc n) few passes fails = absurd (omega (arith, few))
+take_passing f d (x ∷ xs) zero few passes fails =
+    let miss : f x ≡ false = fails 0 (omega arith) (omega arith) in
+    rw miss (take_passing f d xs zero (omega arith) (λ i lt. absurd (omega (arith, lt))) (λ i le lt. fails (suc i) (omega arith) (omega (arith, lt))))
+take_passing f d (x ∷ xs) (suc n) few passes fails =
+    let hit : f x ≡ true = passes 0 (omega arith) in
+    rw hit (ap (λ l. x ∷ l) (take_passing f d xs n (omega (arith, few)) (λ i lt. passes (suc i) (omega (arith, lt))) (λ i le lt. fails (suc i) (omega (arith, le)) (omega (arith, lt)))))
+
+pub drop_failing : {X : Type 0} (f : X → Bool) (d : X) (xs : List X) (n : ℕ) → n ≤ length xs → ((i : ℕ) → i < n → f (get_or xs i d) ≡ false)
+    → ((i : ℕ) → n ≤ i → i < length xs → f (get_or xs i d) ≡ true) → drop n xs ≡ filter f xs
+drop_failing f d [] zero few fails passes = refl
+drop_failing f d [] (suc n) few fails passes = absurd (omega (arith, few))
+drop_failing f d (x ∷ xs) zero few fails passes =
+    let hit : f x ≡ true = passes 0 (omega arith) (omega arith) in
+    rw hit (ap (λ l. x ∷ l) (drop_failing f d xs zero (omega arith) (λ i lt. absurd (omega (arith, lt))) (λ i le lt. passes (suc i) (omega arith) (omega (arith, lt)))))
+drop_failing f d (x ∷ xs) (suc n) few fails passes =
+    let miss : f x ≡ false = fails 0 (omega arith) in
+    rw miss (drop_failing f d xs n (omega (arith, few)) (λ i lt. fails (suc i) (omega (arith, lt))) (λ i le lt. passes (suc i) (omega (arith, le)) (omega (arith, lt))))
+
+rises_passing : {X : Type 0} (number : X → ℕ) (f : X → Bool) (low : ℕ) (xs : List X) → RisesFrom number low xs → RisesFrom number low (filter f xs)
+rises_passing number f low [] up = tt
+rises_passing number f low (x ∷ xs) up =
+    let rest = rises_passing number f (number x + 1) xs up.1 in
+    elim (f x) as (λ b. RisesFrom number low (cond b (x ∷ filter f xs) (filter f xs))) [
+      | true ↦ (up.0, rest)
+      | false ↦ rises_lower number (number x + 1) low (filter f xs) (omega (arith, up.0)) rest
+    ]
+
+pub still_rises : (f : Item → Bool) (items : List Item) → rises_from item_time 0 items ≡ true → rises_from item_time 0 (filter f items) ≡ true
+still_rises f items up = is_rising item_time 0 (filter f items) (rises_passing item_time f 0 items (rising item_time 0 items up))
+
+pub all_late : {X : Type 0} (p : X → Bool) (number : X → ℕ) (x : X) (ys : List X) → p x ≡ true → list_all p ys ≡ true → list_all p (put_late number x ys) ≡ true
+all_late p number x [] one all = both (p x) true one refl
+all_late p number x (y ∷ ys) one all =
+    elim (nat_lt (number y) (number x)) as (λ b. list_all p (if b then y ∷ put_late number x ys else x ∷ y ∷ ys) ≡ true) [
+      | true ↦ both (p y) _ (and_left (p y) _ all) (all_late p number x ys one (and_right (p y) _ all))
+      | false ↦ both (p x) _ one all
+    ]
+
+-- ---- counts
+count_step : (u : ℕ) (x : Item) (xs : List Item) → item_time x ≤ u → count_to u (x ∷ xs) ≡ suc (count_to u xs)
+count_step u x xs le = let e : nat_le (item_time x) u ≡ true = grind (arith, nat_tests) in rw e refl
+
+count_skip : (u : ℕ) (x : Item) (xs : List Item) → u < item_time x → count_to u (x ∷ xs) ≡ count_to u xs
+count_skip u x xs lt = let e : nat_le (item_time x) u ≡ false = grind (arith, nat_tests) in rw e refl
+
+count_within : (u : ℕ) (items : List Item) → count_to u items ≤ length items
+count_within u [] = omega arith
+count_within u (x ∷ xs) =
+    elim (nat_le (item_time x) u) as (λ b. length (cond b (x ∷ filter (λ (item : Item). nat_le (item_time item) u) xs) (filter (λ (item : Item). nat_le (item_time item) u) xs)) ≤ suc (length xs)) [
+      | true ↦ omega (arith, count_within u xs)
+      | false ↦ omega (arith, count_within u xs)
+    ]
+
+count_none : (u low : ℕ) (items : List Item) → RisesFrom item_time low items → u < low → count_to u items ≡ 0
+count_none u low [] up lt = refl
+count_none u low (x ∷ xs) up lt = count_skip u x xs (omega (arith, lt, up.0)) ∙ count_none u (item_time x + 1) xs up.1 (omega (arith, lt, up.0))
+
+count_late : (u low : ℕ) (items : List Item) (n : ℕ) → RisesFrom item_time low items → n < length items → u < item_time (get_or items n End)
+    → count_to u items ≤ n
+count_late u low [] n up lt late = absurd (omega (arith, lt))
+count_late u low (x ∷ xs) zero up lt late =
+    let e = count_skip u x xs late ∙ count_none u (item_time x + 1) xs up.1 (omega (arith, late)) in omega (arith, e)
+count_late u low (x ∷ xs) (suc n) up lt late =
+    let rest = count_late u (item_time x + 1) xs n up.1 (omega (arith, lt)) late in
+    elim (nat_le (item_time x) u) as (λ b. length (cond b (x ∷ filter (λ (item : Item). nat_le (item_time item) u) xs) (filter (λ (item : Item). nat_le (item_time item) u) xs)) ≤ suc n) [
+      | true ↦ omega (arith, rest)
+      | false ↦ omega (arith, rest)
+    ]
+
+count_enough : (u low : ℕ) (items : List Item) (n : ℕ) → RisesFrom item_time low items → n < length items → item_time (get_or items n End) ≤ u
+    → n < count_to u items
+count_enough u low [] n up lt in_time = absurd (omega (arith, lt))
+count_enough u low (x ∷ xs) zero up lt in_time = let e = count_step u x xs in_time in omega (arith, e)
+count_enough u low (x ∷ xs) (suc n) up lt in_time =
+    let before = rises_at item_time low End (x ∷ xs) 0 (suc n) up (omega arith) lt in
+    let e = count_step u x xs (omega (arith, before, in_time)) in
+    let rest = count_enough u (item_time x + 1) xs n up.1 (omega (arith, lt)) in_time in
+    omega (arith, e, rest)
+
+-- ---- whether so many items are settled
+pub not_settled : (rows slack last : ℕ) (items : List Item) → last < slack → enough_of rows slack (Some last) items ≡ None
+not_settled rows slack last items lt = let e : nat_le slack last ≡ false = grind (arith, nat_tests) in rw e refl
+
+few_settled : (rows slack last : ℕ) (items : List Item) → slack ≤ last → count_to (last - slack) items < rows → enough_of rows slack (Some last) items ≡ None
+few_settled rows slack last items le few =
+    let e : nat_le slack last ≡ true = grind (arith, nat_tests) in
+    let f : nat_le rows (count_to (last - slack) items) ≡ false = grind (arith, nat_tests) in
+    rw (e, f) refl
+
+pub not_enough : (rows slack last : ℕ) (items : List Item) → slack ≤ last → length items < rows → enough_of rows slack (Some last) items ≡ None
+not_enough rows slack last items le few = few_settled rows slack last items le (omega (arith, few, count_within (last - slack) items))
+
+pub too_late : (rows slack last : ℕ) (items : List Item) → rises_from item_time 0 items ≡ true → slack ≤ last → 1 ≤ rows → rows ≤ length items
+    → last - slack < item_time (get_or items (rows - 1) End) → enough_of rows slack (Some last) items ≡ None
+too_late rows slack last items up le one few late =
+    let k = count_late (last - slack) 0 items (rows - 1) (rising item_time 0 items up) (omega (arith, one, few)) late in
+    few_settled rows slack last items le (omega (arith, k, one))
+
+pub enough_at : (rows slack last : ℕ) (items : List Item) → rises_from item_time 0 items ≡ true → slack ≤ last → 1 ≤ rows → rows ≤ length items
+    → item_time (get_or items (rows - 1) End) ≤ last - slack → enough_of rows slack (Some last) items ≡ Some (last - slack)
+enough_at rows slack last items up le one few in_time =
+    let k = count_enough (last - slack) 0 items (rows - 1) (rising item_time 0 items up) (omega (arith, one, few)) in_time in
+    let e : nat_le slack last ≡ true = grind (arith, nat_tests) in
+    let f : nat_le rows (count_to (last - slack) items) ≡ true = grind (arith, nat_tests) in
+    rw (e, f) refl
+
+-- what comes of it
+pub record IsEnough (rows slack u : ℕ) (last : Option ℕ) (items : List Item) : Type 0 where
+  pub settles : settled slack last ≡ Some u
+  pub count : rows ≤ count_to u items
+
+pub enough_is : (rows slack u : ℕ) (last : Option ℕ) (items : List Item) → enough_of rows slack last items ≡ Some u → IsEnough rows slack u last items
+enough_is rows slack u last items e = by_time (settled slack last) refl e
+  where
+    by_count : (v : ℕ) (b : Bool) → settled slack last ≡ Some v → nat_le rows (count_to v items) ≡ b → (if b then Some v else None) ≡ Some u → IsEnough rows slack u last items
+    by_count v true at c e =
+        let same : v ≡ u = cc in
+        let le : rows ≤ count_to v items = grind (arith, nat_tests) in
+        record { settles = at ∙ e; count = rw (← same) le }
+    by_count v false at c e = absurd cc
+
+    by_time : (o : Option ℕ) → settled slack last ≡ o → option_and_then (λ v. if nat_le rows (count_to v items) then Some v else None) o ≡ Some u → IsEnough rows slack u last items
+    by_time None at e = absurd cc
+    by_time (Some v) at e = by_count v (nat_le rows (count_to v items)) at refl e
+
+pub none_enough : (rows slack u : ℕ) (last : Option ℕ) (items : List Item) → enough_of rows slack last items ≡ None → settled slack last ≡ Some u
+    → count_to u items < rows
+none_enough rows slack u last items e at =
+    by_count (nat_le rows (count_to u items)) refl (ap (option_and_then (λ v. if nat_le rows (count_to v items) then Some v else None)) (sym at) ∙ e)
+  where
+    by_count : (b : Bool) → nat_le rows (count_to u items) ≡ b → (if b then Some u else None) ≡ None → count_to u items < rows
+    by_count true c e = absurd cc
+    by_count false c e = grind (arith, nat_tests)
+
+above_more : (above : Option ℕ) (t u : ℕ) → is_above above t ≡ true → t ≤ u → is_above above u ≡ true
+above_more None t u a le = refl
+above_more (Some b) t u a le = grind (arith, nat_tests)
+
+-- a time up to which one of some items comes is above all that these are above
+pub above_at : (above : Option ℕ) (u : ℕ) (items : List Item) → list_all (λ (item : Item). is_above above (item_time item)) items ≡ true → 1 ≤ count_to u items
+    → is_above above u ≡ true
+above_at above u [] all one = absurd (omega (arith, one))
+above_at above u (x ∷ xs) all one =
+    elim (cases_Bool (nat_le (item_time x) u)) [
+      | inl early ↦ let le : item_time x ≤ u = grind (arith, nat_tests) in above_more above (item_time x) u (and_left (is_above above (item_time x)) _ all) le
+      | inr late ↦
+          let lt : u < item_time x = grind (arith, nat_tests) in
+          above_at above u xs (and_right (is_above above (item_time x)) _ all) (omega (arith, one, count_skip u x xs lt))
+    ]

@@ -1,0 +1,216 @@
+-- What a cut takes out, and what it leaves.
+use Rattle.std.proofs.Common.{◌≡◌, inl, inr, ℕ, ◌+◌, ◌<◌, true, List, [], ◌∷◌, ◌++◌, length, map, set, vec_len, Vec, Option, Some, None, refl, sym, ap, subst, ◌∙◌, arith}
+use Rattle.std.specs.Global.{Global}
+use Rattle.std.specs.Prelude.{slice_get, nat_lt, sum_by}
+use Rattle.std.specs.List.{flat_map, filter_map, range_with_len}
+use Rattle.std.proofs.lemmas.Bool.{cases_lt}
+use Rattle.std.proofs.lemmas.Bool.Decides.{nat_tests}
+use Rattle.std.proofs.lemmas.Grind.{flat_map-append}
+use Rattle.std.proofs.lemmas.List.{append-nil, ext_get_or, length-map}
+use Rattle.std.proofs.lemmas.List.FromFn.{length-map-range_with_len, get_or-map-range_with_len}
+use Rattle.std.proofs.lemmas.Option.{slice_get_within}
+use Rattle.flu_lemmas.specs.Late.{rises_from}
+use Rattle.flu_lemmas.proofs.Late.{rising}
+use Rattle.flu_lemmas.proofs.Places.{slice_get-there}
+use Rattle.flu_lemmas.proofs.Replaced.{slice_get-set_other}
+use Rattle.flu_model.specs.declared.events.Item.{Item}
+use Rattle.flu_model.specs.declared.events.Item.TheVariants.{End as EndItem}
+use Rattle.flu_model.specs.declared.jobs.Kind.{Kind}
+use Rattle.flu_model.specs.declared.jobs.Source.{Source}
+use Rattle.flu_model.specs.declared.jobs.Program.{Program}
+use Rattle.flu_model.specs.Streaming.{are_streams}
+use Rattle.flu_outside.specs.Outside.{Contents}
+use Rattle.flu_outside.specs.Taking.{IsReadOut}
+use Rattle.flu_rows.specs.declared.rows.Next.{Next}
+use Rattle.flu_streams.specs.declared.border.Border.{Border}
+use Rattle.flu_streams.specs.declared.border.Border.TheVariants.{At, Closed}
+use Rattle.flu_streams.specs.declared.held.Stage.{Stage}
+use Rattle.flu_streams.specs.declared.held.Stage.TheVariants.{Filling, Filled, Over}
+use Rattle.flu_streams.specs.declared.inlet.Inlet.{Inlet}
+use Rattle.flu_streams.specs.Before.{each_with_before}
+use Rattle.flu_streams.specs.Good.{in_time_order, items_at, lists_of_rows}
+use Rattle.flu_streams.specs.Holding.{HeldSource, Holding, IsHeldBehind, AreHeldBehind, Cuts, first_itag, still}
+use Rattle.flu_streams.specs.Lists.{lists_in, items_of_list, item_time, item_for}
+use Rattle.flu_streams.specs.LoopHeld.{source_of, taken_by, DropsTo, AreDropped, IsSettledAt, IsSettledBy, AreWell, IsWell, AreBehind}
+use Rattle.flu_streams.specs.Rounds.{rows_between, is_above, is_up_to, settled, lists_between}
+use Rattle.flu_streams.specs.Tags.{width}
+use Rattle.flu_streams.specs.Tests.{rows_of}
+use Rattle.flu_streams.proofs.Befores.{with_before-append}
+use Rattle.flu_streams.proofs.Counting.{still_rises}
+use Rattle.flu_streams.proofs.Cutting.{all_kept}
+use Rattle.flu_streams.proofs.HeldRows.{taken_items, left_items}
+use Rattle.flu_streams.proofs.RoundLaws.{Exceeds}
+use Rattle.flu_streams.proofs.RoundOf.{holding, behind_at, behind_of}
+use Rattle.flu_streams.proofs.Rounding.{set_here}
+use Rattle.flu_streams.proofs.Starts.{from_mapped, to_mapped, one_there}
+use Rattle.flu_streams.proofs.Streamings.{streams_of_range, are_streams-append}
+use Rattle.flu_streams.proofs.Taken.{for_itags, stream_of}
+
+-- ---- the lists of one source
+lists_are : (lists : Vec (Vec Item Global) Global) (n : ℕ) (f : ℕ → List Item) → vec_len lists ≡ n → ((i : ℕ) → i < n → items_of_list lists i ≡ f i)
+    → lists_in lists ≡ map f (range_with_len 0 n)
+lists_are lists n f len each =
+    let size : length (lists_in lists) ≡ n = simp length-map (omega (arith, lists.ok.0, len)) in
+    ext_get_or [] (lists_in lists) (map f (range_with_len 0 n)) (size ∙ sym (length-map-range_with_len f 0 n))
+    (λ i lt. each i (rw size at lt) ∙ sym (get_or-map-range_with_len f 0 n i i [] (rw size at lt) (omega arith)))
+
+-- the items of an itag up to a border, and the end
+abbrev pub own_items : ℕ → Border → List Item → ℕ → List Item
+own_items first end items i = filter_map (item_for (first + i)) (taken_by end items) ++ EndItem ∷ []
+
+pub own_streams : (lists : Vec (Vec Item Global) Global) (first n : ℕ) (end : Border) (items : List Item) → vec_len lists ≡ n
+    → ((i : ℕ) → i < n → items_of_list lists i ≡ own_items first end items i)
+    → rises_from item_time 0 items ≡ true → are_streams first (lists_in lists) ≡ true
+own_streams lists first n end items len each up =
+    ap (are_streams first) (lists_are lists n (own_items first end items) len each)
+    ∙ streams_of_range first n (own_items first end items)
+    (λ i lt. stream_of (first + i) 0 (taken_by end items) (rising item_time 0 (taken_by end items) (still_rises (λ (item : Item). is_up_to end (item_time item)) items up)))
+
+pub own_lists : (lists : Vec (Vec Item Global) Global) (kinds : List Kind) (s : Source) (first : ℕ) (border : Option ℕ) (end : Border)
+    (lines : List Next) (h : Inlet) → vec_len lists ≡ width s
+    → ((i : ℕ) → i < width s → items_of_list lists i ≡ own_items first end h.items.items i) → IsHeldBehind kinds first s border lines (source_of h)
+    → lists_in lists ≡ lists_of_rows kinds s first (rows_between border end (rows_of lines))
+own_lists lists kinds s first border end lines h len each is =
+    let rows = rows_between border end (rows_of lines) in
+    lists_are lists (width s) (items_at kinds s first rows) len
+    (λ i lt. each i lt ∙ ap (λ l. filter_map (item_for (first + i)) l ++ (EndItem ∷ [])) (taken_items kinds s first border end (rows_of lines) h.items.items is.items)
+    ∙ ap (λ l. l ++ (EndItem ∷ [])) (for_itags kinds s first i (in_time_order rows) lt))
+
+-- ---- the lists of all sources
+-- those of the first sources
+abbrev pub lists_first : Program → Option ℕ → Border → (ℕ → List Next) → List Source → List (List Item)
+lists_first p border end lines sources =
+    flat_map (λ e. lists_of_rows p.kinds e.1 (sum_by width e.0) (rows_between border end (rows_of (lines (length e.0))))) (each_with_before sources)
+
+pub lists_more : (p : Program) (border : Option ℕ) (end : Border) (lines : ℕ → List Next) (earlier : List Source) (s : Source) (i : ℕ)
+    (these own : List (List Item)) → length earlier ≡ i
+    → these ≡ lists_first p border end lines earlier → own ≡ lists_of_rows p.kinds s (sum_by width earlier) (rows_between border end (rows_of (lines i)))
+    → these ++ own ≡ lists_first p border end lines (earlier ++ s ∷ [])
+lists_more p border end lines earlier s i these own size is more =
+    let g = λ (e : List Source × Source). lists_of_rows p.kinds e.1 (sum_by width e.0) (rows_between border end (rows_of (lines (length e.0)))) in
+    ap (λ l. l ++ own) is ∙ ap (λ l. lists_first p border end lines earlier ++ l)
+    (more ∙ ap (λ (n : ℕ). lists_of_rows p.kinds s (sum_by width earlier) (rows_between border end (rows_of (lines n)))) (sym size))
+    ∙ sym (ap (flat_map g) (with_before-append [] earlier (s ∷ [])) ∙ flat_map-append g (each_with_before earlier) ((earlier, s) ∷ []) ∙ ap (λ l. lists_first p border end lines earlier ++ l) (append-nil (g (earlier, s))))
+
+pub streams_both : (these own : List (List Item)) (first : ℕ) → length these ≡ first → are_streams 0 these ≡ true → are_streams first own ≡ true
+    → are_streams 0 (these ++ own) ≡ true
+streams_both these own first size one two =
+    let at : 0 + length these ≡ first = omega (arith, size) in are_streams-append 0 these own one (subst (λ n. are_streams n own ≡ true) (sym at) two)
+
+-- ---- what is left
+exceeds : (border : Option ℕ) (t : ℕ) → is_above border t ≡ true → Exceeds t border
+exceeds None t up u e = refl
+exceeds (Some b) t up u e = grind (arith, nat_tests)
+
+cut_one : (kinds : List Kind) (s : Source) (first t : ℕ) (border : Option ℕ) (lines : List Next) (old new : Inlet) → is_above border t ≡ true
+    → IsSettledAt s (Some t) old → DropsTo t old new
+    → IsHeldBehind kinds first s border lines (source_of old) → IsHeldBehind kinds first s (Some t) lines (source_of new)
+cut_one kinds s first t border lines old new up at d is = record {
+  file = ap (λ place. place.file) d.rows ∙ is.file;
+  sound = is.sound;
+  items = d.items ∙ left_items kinds s first border t (rows_of lines) old.items.items (exceeds border t up) is.items;
+  last = d.last ∙ is.last;
+  ended = d.ended ∙ is.ended;
+  settled = λ goes v e. let k = at (sym d.closed ∙ goes) v e in (k.0, ap (settled s.slack) (sym is.last) ∙ k.1, k.2);
+}
+
+pub cuts_at : (p : Program) (rows t : ℕ) (border : Option ℕ) (stage : Stage) (olds news : List Inlet) → AreWell p rows border olds
+    → IsSettledBy p border (At t) olds → AreDropped t olds news
+    → Cuts (holding p rows border stage olds) (holding p rows (Some t) Filling news) (At t)
+cuts_at p rows t border stage olds news well settles dropped =
+    let count : length news ≡ length p.sources = dropped.size ∙ well.count in
+    record {
+      program = refl;
+      rows = refl;
+      border = refl;
+      stage = refl;
+      behind = λ lines is. behind_of p rows (Some t) Filling news lines count (λ i s at h f.
+          let old = slice_get-there olds i (rw well.count (slice_get_within p.sources i s at)) in
+          cut_one p.kinds s (first_itag p i) t border (lines i) old.0 h settles.0 (settles.1 i s at old.0 old.1) (dropped.each i old.0 h old.1 f)
+          (behind_at p rows border stage olds lines is i s at old.0 old.1));
+      still' = λ lines whole left all i source f.
+          let k = from_mapped source_of news i source f in
+          let old = slice_get-there olds i (rw (← dropped.size) (slice_get_within news i k.0 k.1)) in
+          let d = dropped.each i old.0 k.0 old.1 k.1 in
+          all i (source_of old.0) (to_mapped source_of olds i old.0 old.1)
+          ∙ ap (λ l. lines i ++ l) (same_still old.0 k.0 left d ∙ ap (λ (h : HeldSource). still h left) (sym k.2));
+      ended = λ left was i source f closed.
+          let k = from_mapped source_of news i source f in
+          let old = slice_get-there olds i (rw (← dropped.size) (slice_get_within news i k.0 k.1)) in
+          let d = dropped.each i old.0 k.0 old.1 k.1 in
+          subst (λ n. IsReadOut n left) (sym (ap (λ (h : HeldSource). h.place.file) k.2 ∙ ap (λ place. place.file) d.rows))
+          (was i (source_of old.0) (to_mapped source_of olds i old.0 old.1) (sym d.closed ∙ ap (λ (h : HeldSource). h.closed) (sym k.2) ∙ closed));
+      closed = λ was i source f.
+          let k = from_mapped source_of news i source f in
+          let old = slice_get-there olds i (rw (← dropped.size) (slice_get_within news i k.0 k.1)) in
+          let d = dropped.each i old.0 k.0 old.1 k.1 in
+          ap (λ (h : HeldSource). h.closed) k.2 ∙ d.closed ∙ was i (source_of old.0) (to_mapped source_of olds i old.0 old.1);
+    }
+  where
+    same_still : (old new : Inlet) (left : Contents) → DropsTo t old new → still (source_of old) left ≡ still (source_of new) left
+    same_still old new left d = sym (rw (d.rows, d.closed) refl)
+
+pub cuts_closed : (p : Program) (rows : ℕ) (border : Option ℕ) (stage : Stage) (inlets : List Inlet) → AreWell p rows border inlets
+    → Cuts (holding p rows border stage inlets) (holding p rows border Over inlets) Closed
+cuts_closed p rows border stage inlets well = record {
+  program = refl;
+  rows = refl;
+  border = refl;
+  stage = refl;
+  behind = λ lines is. behind_of p rows border Over inlets lines well.count (behind_at p rows border stage inlets lines is);
+  still' = λ lines whole left all. all;
+  ended = λ left was. was;
+  closed = λ was. was;
+}
+
+pub dropped_well : (p : Program) (rows t : ℕ) (border : Option ℕ) (olds news : List Inlet) → AreWell p rows border olds
+    → IsSettledBy p border (At t) olds → AreDropped t olds news → AreWell p rows (Some t) news
+dropped_well p rows t border olds news well settles dropped = record {
+  some = well.some;
+  count = dropped.size ∙ well.count;
+  each = λ i s at h f.
+      let old = slice_get-there olds i (rw well.count (slice_get_within p.sources i s at)) in
+      let d = dropped.each i old.0 h old.1 f in
+      record {
+        file = ap (λ place. place.file) d.rows ∙ (well.each i s at old.0 old.1).file;
+        above = rw d.items (all_kept (λ (item : Item). nat_lt t (item_time item)) old.0.items.items);
+        settled = λ goes v e. let k = settles.1 i s at old.0 old.1 (sym d.closed ∙ goes) v e in (k.0, ap (settled s.slack) d.last ∙ k.1, k.2);
+      };
+}
+
+-- one source more is dropped
+pub dropped_more : (t n : ℕ) (olds news : List Inlet) (mid new : Inlet) → slice_get news n ≡ Some mid → slice_get news n ≡ slice_get olds n → DropsTo t mid new
+    → ((i : ℕ) (o m : Inlet) → i < n → slice_get olds i ≡ Some o → slice_get news i ≡ Some m → DropsTo t o m)
+    → (i : ℕ) (o m : Inlet) → i < n + 1 → slice_get olds i ≡ Some o → slice_get (set news n new) i ≡ Some m → DropsTo t o m
+dropped_more t n olds news mid new at same drops done i o m lt was is =
+    elim (cases_lt i n) [
+      | inl before ↦ done i o m before was (sym (slice_get-set_other news n i new (λ e. omega (arith, before, e))) ∙ is)
+      | inr behind ↦
+          let here : i ≡ n = omega (arith, lt, behind) in
+          let m_is : m ≡ new = set_here news n new m (ap (slice_get (set news n new)) (sym here) ∙ is) in
+          let o_is : mid ≡ o = one_there news n mid o at (same ∙ ap (slice_get olds) (sym here) ∙ was) in
+          subst (λ x. DropsTo t x m) o_is (subst (λ y. DropsTo t mid y) (sym m_is) drops)
+    ]
+
+-- ---- what is so where a cut may be called, and where a refill may be
+pub well_filling : (p : Program) (rows : ℕ) (border : Option ℕ) (stage : Stage) (inlets : List Inlet) → IsWell p rows border stage inlets
+    → stage ≡ Filling → AreWell p rows border inlets
+well_filling p rows border stage inlets is e = subst (λ s. IsWell p rows border s inlets) e is
+
+pub well_filled : (p : Program) (rows : ℕ) (border : Option ℕ) (stage : Stage) (b : Border) (inlets : List Inlet) → IsWell p rows border stage inlets
+    → stage ≡ Filled b
+    → AreWell p rows border inlets × IsSettledBy p border b inlets
+well_filled p rows border stage b inlets is e = subst (λ s. IsWell p rows border s inlets) e is
+
+pub closed_if_not : (b : Border) → ((t : ℕ) → b ≡ At t → ⊥) → b ≡ Closed
+closed_if_not Closed other = refl
+closed_if_not (At t) other = absurd (other t refl)
+
+-- ---- the lists of a cut
+pub cut_lists : (v : Holding) (p q : Program) (rows : ℕ) (border : Option ℕ) (stage : Stage) (inlets : List Inlet) (b : Border)
+    (lines : ℕ → List Next) (lists : List (List Item)) → holding q rows border stage inlets ≡ v → q ≡ p
+    → ((above : Option ℕ) (these : ℕ → List Next) → AreBehind p above these inlets → lists ≡ lists_between p above b these) → AreHeldBehind v lines
+    → lists ≡ lists_between p v.border b lines
+cut_lists v p q rows border stage inlets b lines lists is same each behind =
+    let own = behind_at q rows border stage inlets lines (subst (λ w. AreHeldBehind w lines) (sym is) behind) in
+    each border lines (subst (λ r. AreBehind r border lines inlets) same own) ∙ ap (λ (w : Holding). lists_between p w.border b lines) is

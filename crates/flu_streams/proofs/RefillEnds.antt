@@ -1,0 +1,239 @@
+-- What a refill leaves, where it is done and where it stops.
+use Rattle.std.proofs.Common.{◌≡◌, ℕ, ◌≤◌, true, false, List, ◌∷◌, ◌++◌, length, take, map, Option, Some, None, refl, sym, ap, subst, ◌∙◌, append_assoc, arith}
+use Rattle.std.specs.Prelude.{slice_get}
+use Rattle.std.specs.List.{list_all}
+use Rattle.std.proofs.lemmas.List.{length-map, take_all}
+use Rattle.std.proofs.lemmas.Option.{slice_get_within}
+use Rattle.flu_lemmas.proofs.Places.{slice_get-there}
+use Rattle.flu_lemmas.proofs.Tests.{not_both}
+use Rattle.flu_model.specs.declared.jobs.Source.{Source}
+use Rattle.flu_model.specs.declared.jobs.Program.{Program}
+use Rattle.flu_outside.specs.Outside.{Contents, WhereTold}
+use Rattle.flu_outside.specs.Taking.{IsReadOut}
+use Rattle.flu_rows.specs.declared.rows.Next.{Next}
+use Rattle.flu_rows.specs.Reading.{ahead}
+use Rattle.flu_streams.specs.declared.border.Border.{Border}
+use Rattle.flu_streams.specs.declared.border.Border.TheVariants.{At, Closed}
+use Rattle.flu_streams.specs.declared.faults.GatherFault.{GatherFault}
+use Rattle.flu_streams.specs.declared.faults.GatherFault.TheVariants.{ReadFault as ReadFaulty}
+use Rattle.flu_streams.specs.declared.faults.Why.{Why}
+use Rattle.flu_streams.specs.declared.held.Stage.{Stage}
+use Rattle.flu_streams.specs.declared.held.Stage.TheVariants.{Filled}
+use Rattle.flu_streams.specs.declared.inlet.Inlet.{Inlet}
+use Rattle.flu_streams.specs.declared.source.Stop.{Stop}
+use Rattle.flu_streams.specs.declared.source.Stop.TheVariants.{Defect, ReadFault, NoMemory}
+use Rattle.flu_streams.specs.Holding.{HeldSource, AreHeldBehind, AreClosed, ClosedAreReadOut, IsNewBorder, IsRefillFault, HidesNoRoundFault, first_itag, fresh_source, still}
+use Rattle.flu_streams.specs.Lists.{item_time}
+use Rattle.flu_streams.specs.LoopGathering.{fault_of_stop}
+use Rattle.flu_streams.specs.LoopHeld.{source_of, IsRefilled, MeetsDefect, IsStopOf, HasRefilled, StopsAtSource, IsSettledAt, IsSettledBy, IsTurnOf, IsWellAt, AreWell, IsWell}
+use Rattle.flu_streams.specs.Rounds.{Reads, Meets, IsWithin, defect_in, is_above, is_enough}
+use Rattle.flu_streams.proofs.RoundOf.{told_from, at_told, choose, reads_at, turn_of, passed, holding, behind_at, all_closed, earliest_within, earliest_among}
+use Rattle.flu_streams.proofs.Starts.{from_mapped, to_mapped, one_there, fresh_at}
+
+-- ---- what is held behind a refill
+-- what was done to one source
+record IsOne (p : Program) (rows : ℕ) (olds news : List Inlet) (a b : Option Contents) (ends : List Border) (i : ℕ) (s : Source) : Type 0 where
+  pub end : Border
+  pub old : Inlet
+  pub new : Inlet
+  pub at_end : slice_get ends i ≡ Some end
+  pub was : slice_get olds i ≡ Some old
+  pub is : slice_get news i ≡ Some new
+  pub done : IsRefilled p.kinds s (first_itag p i) rows old new a b end
+
+one_of : (p : Program) (rows : ℕ) (olds news : List Inlet) (a b : Option Contents) (end : Border) → length olds ≡ length p.sources
+    → (has : HasRefilled p rows olds news a b end)
+    → (i : ℕ) (s : Source) → slice_get p.sources i ≡ Some s → IsOne p rows olds news a b has.ends i s
+one_of p rows olds news a b end count has i s at =
+    let lt = slice_get_within p.sources i s at in
+    let e = slice_get-there has.ends i (rw has.count lt) in
+    let old = slice_get-there olds i (rw count lt) in
+    let new = slice_get-there news i (rw (has.all.size, count) lt) in
+    record { end = e.0; old = old.0; new = new.0; at_end = e.1; was = old.1; is = new.1; done = has.all.each i s at e.0 old.0 new.0 e.1 old.1 new.1 }
+
+pub refill_border : (p : Program) (rows : ℕ) (border : Option ℕ) (olds news : List Inlet) (a b : Option Contents) (end : Border)
+    → AreWell p rows border olds → HasRefilled p rows olds news a b end → IsNewBorder border end
+refill_border p rows border olds news a b Closed well has = tt
+refill_border p rows border olds news a b (At t) well has =
+    let low = earliest_among has.ends t (sym has.earliest) in
+    let s = slice_get-there p.sources low.0 (rw (← has.count) (slice_get_within has.ends low.0 (At t) low.1)) in
+    let one = one_of p rows olds news a b (At t) well.count has low.0 s.0 s.1 in
+    let same : one.end ≡ At t = one_there has.ends low.0 one.end (At t) one.at_end low.1 in
+    subst (IsNewBorder border) same (one.done.border border (well.each low.0 s.0 s.1 one.old one.was))
+
+refill_keeps : (p : Program) (rows : ℕ) (border : Option ℕ) (olds news : List Inlet) (a b : Option Contents) (end : Border)
+    → AreWell p rows border olds → HasRefilled p rows olds news a b end → AreWell p rows border news
+refill_keeps p rows border olds news a b end well has = record {
+  some = well.some;
+  count = has.all.size ∙ well.count;
+  each = λ i s at h f.
+      let one = one_of p rows olds news a b end well.count has i s at in
+      subst (IsWellAt s border) (one_there news i one.new h one.is f) (one.done.keeps border (well.each i s at one.old one.was));
+}
+
+settled_turn : (s : Source) (h : Inlet) (end : Border) (t : ℕ) → IsTurnOf s h end → IsWithin t (turn_of end) → IsSettledAt s (Some t) h
+settled_turn s h (At u) t turn le goes v e = let same : t ≡ v = cc in (u, turn, omega (arith, same, le))
+settled_turn s h Closed t turn le goes v e = absurd (not_both h.closed turn goes)
+
+refill_settles : (p : Program) (rows : ℕ) (border : Option ℕ) (olds news : List Inlet) (a b : Option Contents) (end : Border)
+    → AreWell p rows border olds → HasRefilled p rows olds news a b end → IsSettledBy p border end news
+refill_settles p rows border olds news a b Closed well has = tt
+refill_settles p rows border olds news a b (At t) well has = (
+  (refill_border p rows border olds news a b (At t) well has).0,
+  λ i s at h f.
+      let one = one_of p rows olds news a b (At t) well.count has i s at in
+      subst (IsSettledAt s (Some t)) (one_there news i one.new h one.is f)
+      (settled_turn s one.new one.end t one.done.turn (earliest_within has.ends i t one.end (sym has.earliest) one.at_end)),
+)
+
+pub refill_well : (p : Program) (rows : ℕ) (border : Option ℕ) (olds news : List Inlet) (a b : Option Contents) (end : Border)
+    → AreWell p rows border olds → HasRefilled p rows olds news a b end → IsWell p rows border (Filled end) news
+refill_well p rows border olds news a b end well has =
+    (refill_keeps p rows border olds news a b end well has, refill_settles p rows border olds news a b end well has)
+
+pub refill_out : (p : Program) (rows : ℕ) (border : Option ℕ) (stage stage' : Stage) (olds news : List Inlet) (a b : Option Contents) (end : Border)
+    → AreWell p rows border olds → HasRefilled p rows olds news a b end
+    → ClosedAreReadOut (holding p rows border stage olds) a → ClosedAreReadOut (holding p rows border stage' news) b
+refill_out p rows border stage stage' olds news a b end well has was i source f closed =
+    let k = from_mapped source_of news i source f in
+    let s = slice_get-there p.sources i (rw (← well.count, ← has.all.size) (slice_get_within news i k.0 k.1)) in
+    let one = one_of p rows olds news a b end well.count has i s.0 s.1 in
+    let same : one.new ≡ k.0 = one_there news i one.new k.0 one.is k.1 in
+    let file_was : one.old.rows.file ≡ s.0.file = (well.each i s.0 s.1 one.old one.was).file in
+    let file_is : k.0.rows.file ≡ s.0.file = ((refill_keeps p rows border olds news a b end well has).each i s.0 s.1 k.0 k.1).file in
+    let shut : one.new.closed ≡ true = ap (λ (h : Inlet). h.closed) same ∙ ap (λ (h : HeldSource). h.closed) (sym k.2) ∙ closed in
+    let out = one.done.out (λ before. subst (λ n. IsReadOut n a) file_was (was i (source_of one.old) (to_mapped source_of olds i one.old one.was) before)) shut in
+    subst (λ n. IsReadOut n b) (sym (ap (λ (h : HeldSource). h.place.file) k.2 ∙ file_is)) out
+
+pub refill_closed : (p : Program) (rows : ℕ) (border : Option ℕ) (stage : Stage) (olds news : List Inlet) (a b : Option Contents) (end : Border)
+    → AreWell p rows border olds → HasRefilled p rows olds news a b end
+    → end ≡ Closed → AreClosed (holding p rows border stage news)
+refill_closed p rows border stage olds news a b end well has shut i source f =
+    let k = from_mapped source_of news i source f in
+    let s = slice_get-there p.sources i (rw (← well.count, ← has.all.size) (slice_get_within news i k.0 k.1)) in
+    let one = one_of p rows olds news a b end well.count has i s.0 s.1 in
+    let last : one.end ≡ Closed = all_closed has.ends i one.end (sym has.earliest ∙ shut) one.at_end in
+    let turn : one.new.closed ≡ true = subst (IsTurnOf s.0 one.new) last one.done.turn in
+    ap (λ (h : HeldSource). h.closed) k.2 ∙ ap (λ (h : Inlet). h.closed) (sym (one_there news i one.new k.0 one.is k.1)) ∙ turn
+
+-- ---- where it stops
+few_last : (s : Source) (rows : ℕ) (border : Option ℕ) (before more : List Next)
+    → ((k : ℕ) → k ≤ length more → is_enough rows border s (before ++ take k more) ≡ false)
+    → is_enough rows border s (before ++ more) ≡ false
+few_last s rows border before more few =
+    ap (λ (l : List Next). is_enough rows border s (before ++ l)) (sym (take_all (length more) more (omega arith))) ∙ few (length more) (omega arith)
+
+meets_reads : (p : Program) (s : Source) (rows : ℕ) (border : Option ℕ) (before whole now : List Next) (old : HeldSource) (a b : Option Contents)
+    (x y : Contents) (row : ℕ) (why : Why)
+    → (m : MeetsDefect p.kinds s rows border before old a b row why) → a ≡ Some x → b ≡ Some y → whole ≡ before ++ still old x → now ≡ before ++ m.more
+    → Reads p.kinds s rows border whole before now (Meets row why)
+meets_reads p s rows border before whole now old a b x y row why m e f all is =
+    let told = at_told (λ was at. (rest : List Next) × (still old was ≡ m.more ++ (m.next ∷ rest))) a b x y e f m.told in
+    let line : whole ≡ (before ++ m.more) ++ (m.next ∷ told.0) = all ∙ ap (λ (rest : List Next). before ++ rest) told.1
+    ∙ sym (append_assoc before m.more (m.next ∷ told.0)) in
+    subst (λ l. Reads p.kinds s rows border whole before l (Meets row why)) (sym is) (record {
+      more = m.more;
+      further = refl;
+      sound = m.sound;
+      shortest = λ k lt. m.few k (omega (arith, lt));
+      stops = ((m.next, told.0, line, m.defect), few_last s rows border before m.more m.few);
+    })
+
+pub refill_fault : (p : Program) (rows : ℕ) (border : Option ℕ) (stage : Stage) (olds : List Inlet) (a b : Option Contents)
+    (Q : Contents → Contents → Type 0) (fault : GatherFault) → length olds ≡ length p.sources
+    → WhereTold a b Q → StopsAtSource p rows olds a b fault → IsRefillFault (holding p rows border stage olds) a b fault
+refill_fault p rows border stage olds a b Q fault count told st =
+    subst (IsRefillFault (holding p rows border stage olds) a b) (sym st.cause) (by_stop st.stop st.own)
+  where
+    by_stop : (stop : Stop) → ((old : Inlet) → slice_get olds (length st.ends) ≡ Some old → IsStopOf p.kinds st.source (first_itag p (length st.ends)) rows old a b stop)
+        → IsRefillFault (holding p rows border stage olds) a b (fault_of_stop (length st.ends) stop)
+    by_stop (Defect row why) own = (
+      slice_get_within p.sources (length st.ends) st.source st.is,
+      λ before behind.
+          let own_behind = behind_at p rows border stage olds before behind in
+          let old = slice_get-there olds (length st.ends) (rw count (slice_get_within p.sources (length st.ends) st.source st.is)) in
+          let m = own old.0 old.1 border (before (length st.ends)) (own_behind (length st.ends) st.source st.is old.0 old.1) in
+          let picked = choose p rows border before olds st.news a b st.ends m.more count own_behind st.all in
+          told_from Q _ a b told (λ x y e f whole all. record {
+            now = picked.0;
+            earlier = λ i s at lt.
+                let r = (picked.1 i s at).0 lt in (
+                  turn_of r.end,
+                  reads_at p rows border before olds st.news a b st.ends i s (picked.0 i) (whole i) x y r e f
+                      (all i (source_of r.old) (to_mapped source_of olds i r.old r.was)),
+                  passed r.end,
+                );
+            source = (
+              st.source,
+              st.is,
+              meets_reads p st.source rows border (before (length st.ends)) (whole (length st.ends)) (picked.0 (length st.ends))
+                  (source_of old.0) a b x y row why m e f
+                  (all (length st.ends) (source_of old.0) (to_mapped source_of olds (length st.ends) old.0 old.1))
+                  ((picked.1 (length st.ends) st.source st.is).1 refl),
+            );
+          }),
+    )
+    by_stop ReadFault own = tt
+    by_stop NoMemory own = tt
+
+pub refill_hides : (p : Program) (rows : ℕ) (border : Option ℕ) (stage : Stage) (olds : List Inlet) (a b : Option Contents)
+    (Q : Contents → Contents → Type 0) (fault : GatherFault) → length olds ≡ length p.sources
+    → WhereTold a b Q → StopsAtSource p rows olds a b fault → fault ≡ ReadFaulty → (before : ℕ → List Next)
+    → AreHeldBehind (holding p rows border stage olds) before
+    → HidesNoRoundFault (holding p rows border stage olds) a b before
+refill_hides p rows border stage olds a b Q fault count told st is before behind = by_stop st.stop st.own (sym st.cause ∙ is)
+  where
+    by_stop : (stop : Stop) → ((old : Inlet) → slice_get olds (length st.ends) ≡ Some old → IsStopOf p.kinds st.source (first_itag p (length st.ends)) rows old a b stop)
+        → fault_of_stop (length st.ends) stop ≡ ReadFaulty → HidesNoRoundFault (holding p rows border stage olds) a b before
+    by_stop (Defect row why) own e = absurd cc
+    by_stop NoMemory own e = absurd cc
+    by_stop ReadFault own e =
+        let own_behind = behind_at p rows border stage olds before behind in
+        let old = slice_get-there olds (length st.ends) (rw count (slice_get_within p.sources (length st.ends) st.source st.is)) in
+        let m = own old.0 old.1 border (before (length st.ends)) (own_behind (length st.ends) st.source st.is old.0 old.1) in
+        let picked = choose p rows border before olds st.news a b st.ends m.more count own_behind st.all in
+        let now_is : picked.0 (length st.ends) ≡ before (length st.ends) ++ m.more = (picked.1 (length st.ends) st.source st.is).1 refl in
+        record {
+          at = length st.ends;
+          source = st.source;
+          is = st.is;
+          now = picked.0;
+          more = m.more;
+          further = now_is;
+          sound = ap (defect_in p.kinds st.source) now_is ∙ m.sound;
+          few = m.few;
+          place = m.place;
+          file = m.file;
+          undecided = m.undecided;
+          told = told_from Q _ a b told (λ x y e f whole all. (
+            λ i s at lt.
+                let r = (picked.1 i s at).0 lt in (
+                  turn_of r.end,
+                  reads_at p rows border before olds st.news a b st.ends i s (picked.0 i) (whole i) x y r e f
+                      (all i (source_of r.old) (to_mapped source_of olds i r.old r.was)),
+                  passed r.end,
+                ),
+            all (length st.ends) (source_of old.0) (to_mapped source_of olds (length st.ends) old.0 old.1)
+                ∙ ap (λ (rest : List Next). before (length st.ends) ++ rest)
+                (at_told (λ was at. still (source_of old.0) was ≡ m.more ++ ahead m.place at) a b x y e f m.told)
+                ∙ sym (append_assoc (before (length st.ends)) m.more (ahead m.place y)) ∙ ap (λ (l : List Next). l ++ ahead m.place y) (sym now_is),
+          ));
+        }
+
+-- ---- before the first round
+pub fresh_well : (p : Program) (rows : ℕ) (inlets : List Inlet) → 1 ≤ rows → map source_of inlets ≡ map fresh_source p.sources → AreWell p rows None inlets
+fresh_well p rows inlets some is = record {
+  some = some;
+  count = sym (length-map inlets source_of) ∙ ap length is ∙ length-map p.sources fresh_source;
+  each = λ i s at h f.
+      let same : source_of h ≡ fresh_source s = fresh_at p i s (source_of h) at
+      (ap (λ (l : List HeldSource). slice_get l i) (sym is) ∙ to_mapped source_of inlets i h f) in
+      record {
+        file = ap (λ (k : HeldSource). k.place.file) same;
+        above = ap (λ (k : HeldSource). list_all (λ item. is_above None (item_time item)) k.items) same;
+        settled = λ goes t e. absurd (no_border t e);
+      };
+}
+  where
+    no_border : (t : ℕ) → None ≡ Some t → ⊥
+    no_border t e = cc

@@ -1,0 +1,74 @@
+-- What is held before the first round, and behind the last one.
+use Rattle.std.proofs.Common.{◌≡◌, ℕ, zero, suc, List, [], ◌∷◌, map, Option, Some, None, refl, sym, ap, subst, ◌∙◌, arith}
+use Rattle.std.specs.Prelude.{slice_get, option_map}
+use Rattle.std.specs.List.{Contains}
+use Rattle.std.proofs.lemmas.Bool.{false≢true}
+use Rattle.std.proofs.lemmas.List.{length-map}
+use Rattle.std.proofs.lemmas.Option.{slice_get-map, slice_get_within}
+use Rattle.flu_lemmas.proofs.Places.{slice_get-there}
+use Rattle.flu_model.specs.declared.jobs.Source.{Source}
+use Rattle.flu_model.specs.declared.jobs.Program.{Program}
+use Rattle.flu_outside.specs.Taking.{IsReadOut}
+use Rattle.flu_streams.specs.Files.{files_of}
+use Rattle.flu_streams.specs.Holding.{HeldSource, IsHeldBehind, fresh_source, first_itag, still, LawOfStart, LawOfEnds}
+
+-- ---- an element of a list that was made of another
+pub from_mapped : {X Y : Type 0} (f : X → Y) (xs : List X) (i : ℕ) (y : Y) → slice_get (map f xs) i ≡ Some y → (x : X) × (slice_get xs i ≡ Some x) × (y ≡ f x)
+from_mapped f xs i y e = by_place (slice_get xs i) refl (sym (slice_get-map f xs i) ∙ e)
+  where
+    by_place : (o : Option _) → slice_get xs i ≡ o → option_map f o ≡ Some y → (x : _) × (slice_get xs i ≡ Some x) × (y ≡ f x)
+    by_place None at e = absurd cc
+    by_place (Some x) at e = (x, at, let same : f x ≡ y = cc in sym same)
+
+pub to_mapped : {X Y : Type 0} (f : X → Y) (xs : List X) (i : ℕ) (x : X) → slice_get xs i ≡ Some x → slice_get (map f xs) i ≡ Some (f x)
+to_mapped f xs i x e = slice_get-map f xs i ∙ ap (option_map f) e
+
+pub one_there : {X : Type 0} (xs : List X) (i : ℕ) (x y : X) → slice_get xs i ≡ Some x → slice_get xs i ≡ Some y → x ≡ y
+one_there xs i x y e f = let same : Some x ≡ Some y = sym e ∙ f in cc
+
+among : {X : Type 0} (xs : List X) (x : X) → Contains xs x → (i : ℕ) × (slice_get xs i ≡ Some x)
+among [] x (k, lt, e) = absurd (omega (arith, lt))
+among (y ∷ xs) x (zero, lt, e) = (zero, ap Some e)
+among (y ∷ xs) x (suc k, lt, e) = let rest = among xs x (k, omega (arith, lt), e) in (suc rest.0, rest.1)
+
+-- ---- the start
+fresh_behind : (p : Program) (rows i : ℕ) (s : Source) (source : HeldSource) → source ≡ fresh_source s
+    → IsHeldBehind p.kinds (first_itag p i) s None [] source
+fresh_behind p rows i s source is = subst (λ h. IsHeldBehind p.kinds (first_itag p i) s None [] h) (sym is) (record {
+  file = refl;
+  sound = refl;
+  items = refl;
+  last = refl;
+  ended = refl;
+  settled = λ goes t e. absurd (no_border t e);
+})
+  where
+    no_border : (t : ℕ) → None ≡ Some t → ⊥
+    no_border t e = cc
+
+pub fresh_at : (p : Program) (i : ℕ) (s : Source) (source : HeldSource) → slice_get p.sources i ≡ Some s
+    → slice_get (map fresh_source p.sources) i ≡ Some source → source ≡ fresh_source s
+fresh_at p i s source e f = let k = from_mapped fresh_source p.sources i source f in k.2 ∙ ap fresh_source (one_there p.sources i k.0 s k.1 e)
+
+pub law_of_start : LawOfStart
+law_of_start p rows = record {
+  behind = record {
+    count = length-map p.sources fresh_source;
+    each = λ i s source e f. fresh_behind p rows i s source (fresh_at p i s source e f);
+  };
+  all = λ left whole lines i source f.
+      let k = from_mapped fresh_source p.sources i source f in
+      lines i k.0 k.1 ∙ ap (λ (h : HeldSource). still h left) (sym k.2);
+  ended = λ left i source f closed.
+      let k = from_mapped fresh_source p.sources i source f in
+      absurd (false≢true (ap (λ (h : HeldSource). h.closed) (sym k.2) ∙ closed));
+}
+
+-- ---- the end
+pub law_of_ends : LawOfEnds
+law_of_ends h lines left behind closed out name names =
+    let file = among (files_of h.program.sources) name names in
+    let source = from_mapped (λ (s : Source). s.file) h.program.sources file.0 name file.1 in
+    let held = slice_get-there h.sources file.0 (rw behind.count (slice_get_within h.program.sources file.0 source.0 source.1)) in
+    let is = behind.each file.0 source.0 held.0 source.1 held.1 in
+    subst (λ n. IsReadOut n left) (is.file ∙ sym source.2) (out file.0 held.0 held.1 (closed file.0 held.0 held.1))

@@ -1,0 +1,50 @@
+use Rattle.std.proofs.Common.{◌≡◌, Some, sym, ap, subst, ◌∙◌}
+use Rattle.flu_streams.specs.declared.border.Border.TheVariants.{At, Closed}
+use Rattle.flu_streams.specs.declared.held.Stage.TheVariants.{Filling, Filled, Over}
+use Rattle.flu_streams.specs.Holding.{Holding, Cuts}
+use Rattle.flu_streams.specs.Lists.{lists_in}
+use Rattle.flu_streams.proofs.Cuts.{well_filled, cuts_at, cuts_closed, dropped_well, cut_lists, closed_if_not}
+use Rattle.flu_streams.proofs.RoundOf.{holding}
+use Rattle.flu_streams.proofs.held.Held.cut.Goals as goal
+
+pub returns-in_default-clause-lists : goal.returns-in_default-clause-lists
+returns-in_default-clause-lists c = λ lines behind.
+    let h = c.self.inside in
+    let program_is : h.program.value ≡ c.args.p.now = ap (λ (v : Holding). v.program) c.self.view_is ∙ c.requires.program in
+    c.new.ensures ∙ cut_lists c.args.self.now c.args.p.now h.program.value h.rows h.border h.stage h.sources.items c.args.b lines (lists_in c.in_ok-lists.lists) c.self.view_is program_is
+    (rw c.deref.ensures.value at c.in_ok-lists.ensures.lists) behind
+
+pub returns-clause-lists : goal.returns-clause-lists
+returns-clause-lists c = λ lines behind.
+    let h = c.self.inside in
+    let program_is : h.program.value ≡ c.args.p.now = ap (λ (v : Holding). v.program) c.self.view_is ∙ c.requires.program in
+    c.new-2.ensures ∙ cut_lists c.args.self.now c.args.p.now h.program.value h.rows h.border h.stage h.sources.items c.args.b lines (lists_in c.in_ok-lists.lists) c.self.view_is program_is
+    (rw c.deref.ensures.value at c.in_ok-lists.ensures.lists) behind
+
+pub returns-in_default-clause-cut : goal.returns-in_default-clause-cut
+returns-in_default-clause-cut c =
+    let h = c.self.inside in
+    let stage_is : h.stage ≡ Filled c.args.b = ap (λ (v : Holding). v.stage) c.self.view_is ∙ c.requires.stage in
+    let well = well_filled h.program.value h.rows h.border h.stage c.args.b h.sources.items c.self.invariant stage_is in
+    let last : c.args.b ≡ Closed = closed_if_not c.args.b c.in_default.not-At in
+    subst (λ b. Cuts c.args.self.now (holding h.program.value h.rows h.border Over h.sources.items) b) (sym last)
+    (subst (λ v. Cuts v (holding h.program.value h.rows h.border Over h.sources.items) Closed) c.self.view_is (cuts_closed h.program.value h.rows h.border h.stage h.sources.items well.0))
+
+pub invariant_of-self-2 : goal.invariant_of-self-2
+invariant_of-self-2 c =
+    let h = c.self.inside in
+    let t = c.in-At.time in
+    let stage_is : h.stage ≡ Filled (At t) = ap (λ (v : Holding). v.stage) c.self.view_is ∙ c.requires.stage ∙ ap Filled c.in-At.is in
+    let well = well_filled h.program.value h.rows h.border h.stage (At t) h.sources.items c.self.invariant stage_is in
+    dropped_well h.program.value h.rows t h.border h.sources.items c.drop_all.new.inlets.items well.0 well.1 c.drop_all.ensures
+
+pub returns-clause-cut : goal.returns-clause-cut
+returns-clause-cut c =
+    let h = c.self.inside in
+    let t = c.in-At.time in
+    let news = c.drop_all.new.inlets.items in
+    let stage_is : h.stage ≡ Filled (At t) = ap (λ (v : Holding). v.stage) c.self.view_is ∙ c.requires.stage ∙ ap Filled c.in-At.is in
+    let well = well_filled h.program.value h.rows h.border h.stage (At t) h.sources.items c.self.invariant stage_is in
+    subst (λ b. Cuts c.args.self.now (holding h.program.value h.rows (Some t) Filling news) b) (sym c.in-At.is)
+    (subst (λ v. Cuts v (holding h.program.value h.rows (Some t) Filling news) (At t)) c.self.view_is
+    (cuts_at h.program.value h.rows t h.border h.stage h.sources.items news well.0 well.1 c.drop_all.ensures))

@@ -1,0 +1,107 @@
+use Rattle.std.proofs.Common.{◌≡◌, Err, refl, sym, ap, subst, ◌∙◌}
+use Rattle.flu_outside.specs.Taking.{TookFronts}
+use Rattle.flu_streams.specs.declared.border.Border.TheVariants.{Closed}
+use Rattle.flu_streams.specs.declared.faults.GatherFault.TheVariants.{ReadFault}
+use Rattle.flu_streams.specs.declared.held.Stage.TheVariants.{Filling, Filled}
+use Rattle.flu_streams.specs.Holding.{Holding, AreHeldBehind, ClosedAreReadOut, Fills, IsNewBorder, IsRefillFault, HidesNoRoundFault}
+use Rattle.flu_streams.specs.LoopHeld.{AreWell, HasRefilled, StopsAtSource}
+use Rattle.flu_streams.proofs.Cuts.{well_filling}
+use Rattle.flu_streams.proofs.Gatherings.{err_same}
+use Rattle.flu_streams.proofs.RefillEnds.{refill_border, refill_well, refill_out, refill_closed, refill_fault, refill_hides}
+use Rattle.flu_streams.proofs.RoundOf.{holding, fills}
+use Rattle.flu_streams.proofs.held.Held.refill.Goals as goal
+
+pub refill_all-requires-clause-files : goal.refill_all-requires-clause-files
+refill_all-requires-clause-files g c =
+    let h = c.self.inside in
+    let stage_is : h.stage ≡ Filling = ap (λ (v : Holding). v.stage) c.self.view_is ∙ c.requires.stage in
+    let program_is : h.program.value ≡ c.args.p.now = ap (λ (v : Holding). v.program) c.self.view_is ∙ c.requires.program in
+    let well = well_filling h.program.value h.rows h.border h.stage h.sources.items c.self.invariant stage_is in
+    let here = subst (λ p. AreWell p h.rows h.border h.sources.items) program_is well in
+    λ i s at inlet is. (here.each i s at inlet is).file
+
+pub returns-in-Err-clause-fault : goal.returns-in-Err-clause-fault
+returns-in-Err-clause-fault g c =
+    let h = c.self.inside in
+    let a = g.F.Files.left c.args.files.now in
+    let b = g.F.Files.left c.refill_all.new.files in
+    let stage_is : h.stage ≡ Filling = ap (λ (v : Holding). v.stage) c.self.view_is ∙ c.requires.stage in
+    let program_is : h.program.value ≡ c.args.p.now = ap (λ (v : Holding). v.program) c.self.view_is ∙ c.requires.program in
+    let well = well_filling h.program.value h.rows h.border h.stage h.sources.items c.self.invariant stage_is in
+    let stop = subst (λ p. StopsAtSource p h.rows h.sources.items a b c.in-Err.fault) (sym program_is) c.in-Err.ensures.stop in
+    subst (λ v. IsRefillFault v a b c.in-Err.fault) c.self.view_is
+    (refill_fault h.program.value h.rows h.border h.stage h.sources.items a b TookFronts c.in-Err.fault well.count c.in-Err.ensures.fronts stop)
+
+pub returns-in-Err-clause-hides : goal.returns-in-Err-clause-hides
+returns-in-Err-clause-hides g c = λ is_fault before behind.
+    let h = c.self.inside in
+    let a = g.F.Files.left c.args.files.now in
+    let b = g.F.Files.left c.refill_all.new.files in
+    let stage_is : h.stage ≡ Filling = ap (λ (v : Holding). v.stage) c.self.view_is ∙ c.requires.stage in
+    let program_is : h.program.value ≡ c.args.p.now = ap (λ (v : Holding). v.program) c.self.view_is ∙ c.requires.program in
+    let well = well_filling h.program.value h.rows h.border h.stage h.sources.items c.self.invariant stage_is in
+    let stop = subst (λ p. StopsAtSource p h.rows h.sources.items a b c.in-Err.fault) (sym program_is) c.in-Err.ensures.stop in
+    subst (λ v. HidesNoRoundFault v a b before) c.self.view_is
+    (refill_hides h.program.value h.rows h.border h.stage h.sources.items a b TookFronts c.in-Err.fault well.count c.in-Err.ensures.fronts stop (err_same (Err c.in-Err.fault) c.in-Err.fault ReadFault refl is_fault) before
+    (subst (λ v. AreHeldBehind v before) (sym c.self.view_is) behind))
+
+pub invariant_of-self-2 : goal.invariant_of-self-2
+invariant_of-self-2 g c =
+    let h = c.self.inside in
+    let a = g.F.Files.left c.args.files.now in
+    let b = g.F.Files.left c.refill_all.new.files in
+    let stage_is : h.stage ≡ Filling = ap (λ (v : Holding). v.stage) c.self.view_is ∙ c.requires.stage in
+    let program_is : h.program.value ≡ c.args.p.now = ap (λ (v : Holding). v.program) c.self.view_is ∙ c.requires.program in
+    let well = well_filling h.program.value h.rows h.border h.stage h.sources.items c.self.invariant stage_is in
+    let has = subst (λ p. HasRefilled p h.rows h.sources.items c.refill_all.new.inlets.items a b c.in-Ok.end) (sym program_is) c.in-Ok.ensures.filled in
+    refill_well h.program.value h.rows h.border h.sources.items c.refill_all.new.inlets.items a b c.in-Ok.end well has
+
+pub returns-clause-round : goal.returns-clause-round
+returns-clause-round g c = λ before behind.
+    let h = c.self.inside in
+    let a = g.F.Files.left c.args.files.now in
+    let b = g.F.Files.left c.refill_all.new.files in
+    let news = c.refill_all.new.inlets.items in
+    let stage_is : h.stage ≡ Filling = ap (λ (v : Holding). v.stage) c.self.view_is ∙ c.requires.stage in
+    let program_is : h.program.value ≡ c.args.p.now = ap (λ (v : Holding). v.program) c.self.view_is ∙ c.requires.program in
+    let well = well_filling h.program.value h.rows h.border h.stage h.sources.items c.self.invariant stage_is in
+    let has = subst (λ p. HasRefilled p h.rows h.sources.items news a b c.in-Ok.end) (sym program_is) c.in-Ok.ensures.filled in
+    subst (λ v. Fills v (holding h.program.value h.rows h.border (Filled c.in-Ok.end) news) a b c.in-Ok.end before) c.self.view_is
+    (fills h.program.value h.rows h.border h.stage (Filled c.in-Ok.end) h.sources.items news a b TookFronts c.in-Ok.end well.count c.in-Ok.ensures.fronts has before
+    (subst (λ v. AreHeldBehind v before) (sym c.self.view_is) behind))
+
+pub returns-clause-border : goal.returns-clause-border
+returns-clause-border g c =
+    let h = c.self.inside in
+    let a = g.F.Files.left c.args.files.now in
+    let b = g.F.Files.left c.refill_all.new.files in
+    let stage_is : h.stage ≡ Filling = ap (λ (v : Holding). v.stage) c.self.view_is ∙ c.requires.stage in
+    let program_is : h.program.value ≡ c.args.p.now = ap (λ (v : Holding). v.program) c.self.view_is ∙ c.requires.program in
+    let well = well_filling h.program.value h.rows h.border h.stage h.sources.items c.self.invariant stage_is in
+    let has = subst (λ p. HasRefilled p h.rows h.sources.items c.refill_all.new.inlets.items a b c.in-Ok.end) (sym program_is) c.in-Ok.ensures.filled in
+    subst (λ (v : Holding). IsNewBorder v.border c.in-Ok.end) c.self.view_is
+    (refill_border h.program.value h.rows h.border h.sources.items c.refill_all.new.inlets.items a b c.in-Ok.end well has)
+
+pub returns-clause-read_out : goal.returns-clause-read_out
+returns-clause-read_out g c = λ was.
+    let h = c.self.inside in
+    let a = g.F.Files.left c.args.files.now in
+    let b = g.F.Files.left c.refill_all.new.files in
+    let stage_is : h.stage ≡ Filling = ap (λ (v : Holding). v.stage) c.self.view_is ∙ c.requires.stage in
+    let program_is : h.program.value ≡ c.args.p.now = ap (λ (v : Holding). v.program) c.self.view_is ∙ c.requires.program in
+    let well = well_filling h.program.value h.rows h.border h.stage h.sources.items c.self.invariant stage_is in
+    let has = subst (λ p. HasRefilled p h.rows h.sources.items c.refill_all.new.inlets.items a b c.in-Ok.end) (sym program_is) c.in-Ok.ensures.filled in
+    refill_out h.program.value h.rows h.border h.stage (Filled c.in-Ok.end) h.sources.items c.refill_all.new.inlets.items a b c.in-Ok.end well has
+    (subst (λ v. ClosedAreReadOut v a) (sym c.self.view_is) was)
+
+pub returns-clause-closed : goal.returns-clause-closed
+returns-clause-closed g c = λ is.
+    let h = c.self.inside in
+    let a = g.F.Files.left c.args.files.now in
+    let b = g.F.Files.left c.refill_all.new.files in
+    let stage_is : h.stage ≡ Filling = ap (λ (v : Holding). v.stage) c.self.view_is ∙ c.requires.stage in
+    let program_is : h.program.value ≡ c.args.p.now = ap (λ (v : Holding). v.program) c.self.view_is ∙ c.requires.program in
+    let well = well_filling h.program.value h.rows h.border h.stage h.sources.items c.self.invariant stage_is in
+    let has = subst (λ p. HasRefilled p h.rows h.sources.items c.refill_all.new.inlets.items a b c.in-Ok.end) (sym program_is) c.in-Ok.ensures.filled in
+    let last : c.in-Ok.end ≡ Closed = cc in
+    refill_closed h.program.value h.rows h.border (Filled c.in-Ok.end) h.sources.items c.refill_all.new.inlets.items a b c.in-Ok.end well has last

@@ -1,0 +1,25 @@
+use Rattle.std.proofs.Common.{◌≡◌, ◌-◌, ◌^◌, ℕ, List, Option, true}
+use Rattle.flu_outside.specs.Outside.{WhereTold, SameCounts}
+use Rattle.flu_outside.specs.Taking.{TakesFrom, CountsOf, IsReadOut}
+use Rattle.flu_rows.specs.declared.rows.Next.{Next}
+use Rattle.flu_streams.specs.Holding.{IsHeldBehind}
+use Rattle.flu_streams.specs.LoopHeld.{source_of, IsWellAt, IsRefilling}
+use Rattle.flu_streams.proofs.inlet.Inlet.refill.Given as goal
+
+abbrev pub invariant-loop-time : goal.invariant-loop-time
+invariant-loop-time g l =
+    let left = g.F.Files.left in
+    let faults = g.F.Files.faults in
+    record {
+      file : l.self.rows.file ≡ l.source.file;
+      so_far : (above : Option ℕ) (before : List Next) → IsHeldBehind l.kinds l.first l.source above before (source_of l.fn.self)
+          → IsRefilling l.kinds l.source l.first l.rows above before (source_of l.fn.self) (source_of l.self) (left l.fn.files) (left l.files);
+      well : (border : Option ℕ) → IsWellAt l.source border l.fn.self → IsWellAt l.source border l.self;
+      out : (l.fn.self.closed ≡ true → IsReadOut l.source.file (left l.fn.files)) → l.self.closed ≡ true → IsReadOut l.source.file (left l.files);
+      taken : WhereTold (left l.fn.files) (left l.files) (TakesFrom l.source.file);
+      counts : CountsOf (left l.fn.files) l.source.file (faults l.fn.files) (faults l.files);
+      quiet : SameCounts (faults l.fn.files) (faults l.files);
+    }
+
+abbrev pub decreases-loop-time : goal.decreases-loop-time
+decreases-loop-time g l = 2 ^ 32 - l.self.rows.lines

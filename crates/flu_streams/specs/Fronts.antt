@@ -1,0 +1,30 @@
+-- What defects are to rounds: where no source has one, the rounds up to any border give the front of what the whole gives; and one that
+-- is met is the first of its source.
+use Rattle.std.specs.Prelude.{◌≡◌, ℕ, List, Option, Some, None}
+use Rattle.flu_lemmas.specs.Elements.{AtEach}
+use Rattle.flu_model.specs.declared.events.Item.{Item}
+use Rattle.flu_model.specs.declared.jobs.Kind.{Kind}
+use Rattle.flu_model.specs.declared.jobs.Source.{Source}
+use Rattle.flu_model.specs.declared.jobs.Program.{Program}
+use Rattle.flu_model.specs.Contents.{Contents}
+use Rattle.flu_outside.specs.Outside.{Contents as Files}
+use Rattle.flu_rows.specs.declared.rows.Next.{Next}
+use Rattle.flu_streams.specs.declared.border.Border.TheVariants.{At, Closed}
+use Rattle.flu_streams.specs.declared.faults.Why.{Why}
+use Rattle.flu_streams.specs.Borders.{FoldsInTurn}
+use Rattle.flu_streams.specs.Good.{lists_of}
+use Rattle.flu_streams.specs.Rounds.{Meets, Reads, ComesTo, LinesIn, defect_in, lists_between}
+
+-- LAW OF FRONTS: the fold of all rows is that of the rows of the rounds up to a border, and then that of the later ones
+abbrev pub LawOfFronts : Type 0
+LawOfFronts =
+    (p : Program) (opening : Contents) (rows : ℕ) (whole : ℕ → List Next) (done : List (List (List Item))) (t : ℕ) (before : ℕ → List Next) (left : Files)
+    → LinesIn p left whole → AtEach (λ i s. defect_in p.kinds s (whole i) ≡ None) p.sources
+    → ComesTo p rows whole done (Some t) before
+    → FoldsInTurn p opening (lists_of p left) (lists_between p None (At t) before) (lists_between p (Some t) Closed whole)
+
+-- LAW OF MEETING: the defect of a source that a round meets is the first of all its lines
+abbrev pub LawOfMeeting : Type 0
+LawOfMeeting =
+    (kinds : List Kind) (s : Source) (rows : ℕ) (above : Option ℕ) (whole before now : List Next) (row : ℕ) (why : Why)
+    → Reads kinds s rows above whole before now (Meets row why) → defect_in kinds s whole ≡ Some (row, why)

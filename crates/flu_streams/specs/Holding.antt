@@ -1,0 +1,173 @@
+-- What is held of the sources between rounds, and behind which lines that is so (`docs/MODEL.md`, "Rounds").
+use Rattle.std.specs.Prelude.{◌≡◌, ℕ, ◌<◌, ◌≤◌, ◌^◌, Bool, true, false, Result, Ok, Option, Some, None, List, [], ◌++◌, length, map, take, slice_get, sum_by, if◌then◌else◌, ⊤}
+use Rattle.flu_lemmas.specs.Elements.{AtEach}
+use Rattle.flu_model.specs.declared.events.Item.{Item}
+use Rattle.flu_model.specs.declared.jobs.Kind.{Kind}
+use Rattle.flu_model.specs.declared.jobs.Source.{Source}
+use Rattle.flu_model.specs.declared.jobs.Program.{Program}
+use Rattle.flu_outside.specs.Outside.{Contents, WhereTold}
+use Rattle.flu_outside.specs.Taking.{IsReadOut}
+use Rattle.flu_rows.specs.declared.rows.Next.{Next}
+use Rattle.flu_rows.specs.Lines.{IsUndecided}
+use Rattle.flu_rows.specs.Reading.{Place, ahead, front_of}
+use Rattle.flu_streams.specs.declared.border.Border.{Border}
+use Rattle.flu_streams.specs.declared.border.Border.TheVariants.{At, Closed}
+use Rattle.flu_streams.specs.declared.faults.GatherFault.{GatherFault}
+use Rattle.flu_streams.specs.declared.faults.GatherFault.TheVariants.{Source as SourceFaulty, ReadFault, NoMemory}
+use Rattle.flu_streams.specs.declared.held.Stage.{Stage}
+use Rattle.flu_streams.specs.declared.held.Stage.TheVariants.{Filling, Filled, Over}
+use Rattle.flu_streams.specs.Files.{files_of, AreReadOut}
+use Rattle.flu_streams.specs.Good.{in_time_order}
+use Rattle.flu_streams.specs.LoopIntake.{item_of}
+use Rattle.flu_streams.specs.Rounds.{Turn, Reads, IsPassed, IsRound, IsRoundFault, LinesIn, defect_in, is_above, is_enough, rows_between, settled_time}
+use Rattle.flu_streams.specs.Tags.{width}
+use Rattle.flu_streams.specs.Tests.{rows_of, times_of, greatest, has_ended}
+
+-- ---- what is held
+-- of a source: the items with a time above the last border, in order of time; where its rows are read; the greatest time that was
+-- read; whether `end` was; and whether all of its file was
+pub record HeldSource : Type 0 where
+  pub items : List Item
+  pub place : Place
+  pub last : Option ℕ
+  pub ended : Bool
+  pub closed : Bool
+
+-- of all sources of a job: with how many rows a round is to be had, the border of the last cut, and what may be called next
+pub record Holding : Type 0 where
+  pub program : Program
+  pub rows : ℕ
+  pub border : Option ℕ
+  pub stage : Stage
+  pub sources : List HeldSource
+
+-- nothing was read of a source
+abbrev pub fresh_source : Source → HeldSource
+fresh_source s = record { items = []; place = front_of s.file; last = None; ended = false; closed = false }
+
+-- nothing was read of any
+abbrev pub fresh : Program → ℕ → Holding
+fresh p rows = record { program = p; rows = rows; border = None; stage = Filling; sources = map fresh_source p.sources }
+
+-- ---- behind which lines
+-- the number of the first itag of the source with a number
+abbrev pub first_itag : Program → ℕ → ℕ
+first_itag p number = sum_by width (take number p.sources)
+
+-- this is held of a source, whose first itag has this number, behind these lines and with this border. A border is settled where
+-- more is to be read: so what is still to come is above it.
+pub record IsHeldBehind (kinds : List Kind) (first : ℕ) (s : Source) (border : Option ℕ) (lines : List Next) (h : HeldSource) : Type 0 where
+  pub file : h.place.file ≡ s.file
+  pub sound : defect_in kinds s lines ≡ None
+  pub items : h.items ≡ map (item_of kinds s first) (in_time_order (rows_between border Closed (rows_of lines)))
+  pub last : h.last ≡ greatest (times_of (rows_of lines))
+  pub ended : h.ended ≡ has_ended (rows_of lines)
+  pub settled : h.closed ≡ false → (t : ℕ) → border ≡ Some t → (u : ℕ) × (settled_time s lines ≡ Some u) × (t ≤ u)
+
+-- this is held of all sources behind these lines of each
+pub record AreHeldBehind (h : Holding) (lines : ℕ → List Next) : Type 0 where
+  pub count : length h.sources ≡ length h.program.sources
+  pub each : (i : ℕ) (s : Source) (source : HeldSource) → slice_get h.program.sources i ≡ Some s → slice_get h.sources i ≡ Some source
+      → IsHeldBehind h.program.kinds (first_itag h.program i) s h.border (lines i) source
+
+-- what is still to be read of a source
+abbrev pub still : HeldSource → Contents → List Next
+still source left = if source.closed then [] else ahead source.place left
+
+-- there are these lines in all: those that were read, and those that are still to be read
+abbrev pub AreInAll : Holding → (ℕ → List Next) → Contents → (ℕ → List Next) → Type 0
+AreInAll h lines left whole = AtEach (λ i source. whole i ≡ lines i ++ still source left) h.sources
+
+-- nothing is left of a file that was read to its end, where that is told
+abbrev pub ClosedAreReadOut : Holding → Option Contents → Type 0
+ClosedAreReadOut h left = AtEach (λ i source. source.closed ≡ true → IsReadOut source.place.file left) h.sources
+
+-- all files were read to their ends
+abbrev pub AreClosed : Holding → Type 0
+AreClosed h = AtEach (λ i source. source.closed ≡ true) h.sources
+
+-- ---- a refill
+-- behind a refill a cut at its answer may be called
+abbrev pub IsFilled : Result Border GatherFault → Stage → Type 0
+IsFilled result stage = (b : Border) → result ≡ Ok b → stage ≡ Filled b
+
+-- the job, the number of rows and the border are as they were
+pub record KeepsJob (old new : Holding) : Type 0 where
+  pub program : new.program ≡ old.program
+  pub rows : new.rows ≡ old.rows
+  pub border : new.border ≡ old.border
+
+-- A REFILL reads what the round reads of each source, behind the lines that were read before it, and no others
+pub record Fills (old new : Holding) (left left' : Option Contents) (end : Border) (before : ℕ → List Next) : Type 0 where
+  pub now : ℕ → List Next
+  pub behind : AreHeldBehind new now
+  pub round : WhereTold left left' (λ was is. (whole : ℕ → List Next) → AreInAll old before was whole
+      → IsRound old.program old.rows old.border whole before now end × AreInAll new now is whole)
+
+-- a new border is above the one before it, and a time of a row
+abbrev pub IsNewBorder : Option ℕ → Border → Type 0
+IsNewBorder above (At t) = (is_above above t ≡ true) × (t < 2 ^ 63)
+IsNewBorder above Closed = ⊤
+
+-- a source fault is the defect of the round
+abbrev pub IsRefillFault : Holding → Option Contents → Option Contents → GatherFault → Type 0
+IsRefillFault old left left' (SourceFaulty f) = (f.source < length old.program.sources)
+    × ((before : ℕ → List Next) → AreHeldBehind old before → WhereTold left left' (λ was is. (whole : ℕ → List Next) → AreInAll old before was whole
+    → IsRoundFault old.program old.rows old.border whole before f))
+IsRefillFault old left left' ReadFault = ⊤
+IsRefillFault old left left' NoMemory = ⊤
+
+-- A READ FAULT HIDES NO DEFECT: the sources before one of them have what the round reads of them, and no defect of theirs is met;
+-- the reading of that one stops behind rows without a defect, which are not enough, and what was taken of it besides decides nothing
+pub record HidesNoRoundFault (old : Holding) (left left' : Option Contents) (before : ℕ → List Next) : Type 0 where
+  pub at : ℕ
+  pub source : Source
+  pub is : slice_get old.program.sources at ≡ Some source
+  pub now : ℕ → List Next
+  pub more : List Next
+  pub further : now at ≡ before at ++ more
+  pub sound : defect_in old.program.kinds source (now at) ≡ None
+  pub few : (k : ℕ) → k ≤ length more → is_enough old.rows old.border source (before at ++ take k more) ≡ false
+  pub place : Place
+  pub file : place.file ≡ source.file
+  pub undecided : IsUndecided place.taken
+  pub told : WhereTold left left' (λ was is. (whole : ℕ → List Next) → AreInAll old before was whole
+      → AtEach (λ i s. i < at → (turn : Turn) × Reads old.program.kinds s old.rows old.border (whole i) (before i) (now i) turn × IsPassed turn) old.program.sources
+      × (whole at ≡ now at ++ ahead place is))
+
+-- ---- a cut
+-- the border behind a cut at a border: the last round sets none
+abbrev pub border_after : Border → Option ℕ → Option ℕ
+border_after (At t) border = Some t
+border_after Closed border = border
+
+-- behind the last round nothing may be called
+abbrev pub stage_after : Border → Stage
+stage_after (At t) = Filling
+stage_after Closed = Over
+
+-- A CUT takes the rows of the round out, and leaves the others where they are; nothing is read
+pub record Cuts (old new : Holding) (b : Border) : Type 0 where
+  pub program : new.program ≡ old.program
+  pub rows : new.rows ≡ old.rows
+  pub border : new.border ≡ border_after b old.border
+  pub stage : new.stage ≡ stage_after b
+  pub behind : (lines : ℕ → List Next) → AreHeldBehind old lines → AreHeldBehind new lines
+  pub still' : (lines whole : ℕ → List Next) (left : Contents) → AreInAll old lines left whole → AreInAll new lines left whole
+  pub ended : (left : Option Contents) → ClosedAreReadOut old left → ClosedAreReadOut new left
+  pub closed : AreClosed old → AreClosed new
+
+-- ---- the start
+-- LAW OF THE START: before the first round nothing is read, so all lines are still to be read, and no file was read to its end
+pub record IsStart (p : Program) (rows : ℕ) : Type 0 where
+  pub behind : AreHeldBehind (fresh p rows) (λ i. [])
+  pub all : (left : Contents) (whole : ℕ → List Next) → LinesIn p left whole → AreInAll (fresh p rows) (λ i. []) left whole
+  pub ended : (left : Option Contents) → ClosedAreReadOut (fresh p rows) left
+
+abbrev pub LawOfStart : Type 0
+LawOfStart = (p : Program) (rows : ℕ) → IsStart p rows
+
+-- behind the last round all files were read out
+abbrev pub LawOfEnds : Type 0
+LawOfEnds = (h : Holding) (lines : ℕ → List Next) (left : Option Contents)
+    → AreHeldBehind h lines → AreClosed h → ClosedAreReadOut h left → AreReadOut (files_of h.program.sources) left

@@ -1,0 +1,221 @@
+-- What is held of one source, and how it is read in a round.
+use Rattle.std.specs.Prelude.{◌≡◌, ℕ, ◌<◌, ◌≤◌, max, min, true, false, ◌||◌, nat_lt, nat_le, Option, Some, None, option_and_then, unwrap_or, List, [], ◌∷◌, ◌++◌, length, take, slice_get, if◌then◌else◌, ⊤}
+use Rattle.std.specs.List.{filter, list_all}
+use Rattle.flu_lemmas.specs.Elements.{AtEach}
+use Rattle.flu_lemmas.specs.Late.{put_late}
+use Rattle.flu_model.specs.declared.events.Item.{Item}
+use Rattle.flu_model.specs.declared.jobs.Kind.{Kind}
+use Rattle.flu_model.specs.declared.jobs.Source.{Source}
+use Rattle.flu_model.specs.declared.jobs.Program.{Program}
+use Rattle.flu_outside.specs.Outside.{Contents, WhereTold}
+use Rattle.flu_outside.specs.Taking.{IsReadOut}
+use Rattle.flu_rows.specs.declared.row.Row.{Row}
+use Rattle.flu_rows.specs.declared.rows.Next.{Next}
+use Rattle.flu_rows.specs.Lines.{IsUndecided}
+use Rattle.flu_rows.specs.Reading.{Place, ahead}
+use Rattle.flu_streams.specs.declared.border.Border.{Border}
+use Rattle.flu_streams.specs.declared.border.Border.TheVariants.{At, Closed}
+use Rattle.flu_streams.specs.declared.faults.GatherFault.{GatherFault}
+use Rattle.flu_streams.specs.declared.faults.Why.{Why}
+use Rattle.flu_streams.specs.declared.faults.Why.TheVariants.{AfterEnd}
+use Rattle.flu_streams.specs.declared.held.Stage.{Stage}
+use Rattle.flu_streams.specs.declared.held.Stage.TheVariants.{Filling, Filled, Over}
+use Rattle.flu_streams.specs.declared.inlet.Inlet.{Inlet}
+use Rattle.flu_streams.specs.declared.source.Stop.{Stop}
+use Rattle.flu_streams.specs.declared.source.Stop.TheVariants.{Defect, ReadFault, NoMemory}
+use Rattle.flu_streams.specs.Before.{first_some}
+use Rattle.flu_streams.specs.Holding.{HeldSource, IsHeldBehind, IsNewBorder, first_itag, still}
+use Rattle.flu_streams.specs.Lists.{item_time, times_in}
+use Rattle.flu_streams.specs.LoopGathering.{fault_of_stop}
+use Rattle.flu_streams.specs.LoopIntake.{item_of}
+use Rattle.flu_streams.specs.Rounds.{defect_in, line_defect, is_above, is_up_to, is_enough, settled, settled_time}
+use Rattle.flu_streams.specs.Tests.{is_end, time_in, where_true, test_tag, test_value, test_behind}
+
+-- what contracts see of it
+abbrev pub source_of : Inlet → HeldSource
+source_of h = record { items = h.items.items; place = h.rows; last = h.last; ended = h.ended; closed = h.closed }
+
+-- ---- how many items are settled
+-- how many of some items come no later than a time
+abbrev pub count_to : ℕ → List Item → ℕ
+count_to u items = length (filter (λ item. nat_le (item_time item) u) items)
+
+-- the settled time, where so many of the items come no later
+abbrev pub enough_of : ℕ → ℕ → Option ℕ → List Item → Option ℕ
+enough_of rows slack last items = option_and_then (λ u. if nat_le rows (count_to u items) then Some u else None) (settled slack last)
+
+-- ---- a row
+-- the test of a time behind these items, where this is the greatest time that was read
+abbrev pub test_late : ℕ → List ℕ → Option ℕ → Option ℕ → Option Why
+test_late slack times last None = None
+test_late slack times last (Some time) = test_behind slack times last time
+
+-- what a row breaks behind these items
+abbrev pub fault_behind : List Kind → Source → Inlet → Row → Option Why
+fault_behind kinds s h row =
+    first_some (λ test. test) (where_true h.ended AfterEnd ∷ test_tag kinds s row ∷ test_value kinds row ∷ test_late s.slack (times_in h.items.items) h.last (time_in row) ∷ [])
+
+-- an event or a heartbeat is put where its time belongs, and the end is not held
+abbrev pub put_timed : Option ℕ → Item → List Item → List Item
+put_timed None item items = items
+put_timed (Some time) item items = put_late item_time item items
+
+abbrev pub later_of : Option ℕ → Option ℕ → Option ℕ
+later_of last None = last
+later_of last (Some time) = Some (max (unwrap_or last 0) time)
+
+-- a row passes its tests, and is held
+pub record PutsIn (kinds : List Kind) (s : Source) (first : ℕ) (row : Row) (old new : Inlet) : Type 0 where
+  pub passes : fault_behind kinds s old row ≡ None
+  pub items : new.items.items ≡ put_timed (time_in row) (item_of kinds s first row) old.items.items
+  pub rows : new.rows ≡ old.rows
+  pub last : new.last ≡ later_of old.last (time_in row)
+  pub ended : new.ended ≡ (old.ended || is_end row)
+  pub closed : new.closed ≡ old.closed
+
+-- an item is put where its time belongs
+pub record PutsItem (item : Item) (old new : Inlet) : Type 0 where
+  pub items : new.items.items ≡ put_late item_time item old.items.items
+  pub rows : new.rows ≡ old.rows
+  pub last : new.last ≡ Some (max (unwrap_or old.last 0) (item_time item))
+  pub ended : new.ended ≡ old.ended
+  pub closed : new.closed ≡ old.closed
+
+-- ---- what is so between rounds
+-- where more is to be read, a border is settled
+abbrev pub IsSettledAt : Source → Option ℕ → Inlet → Type 0
+IsSettledAt s border h = h.closed ≡ false → (t : ℕ) → border ≡ Some t → (u : ℕ) × (settled s.slack h.last ≡ Some u) × (t ≤ u)
+
+-- of a source the items above the last border are held
+pub record IsWellAt (s : Source) (border : Option ℕ) (h : Inlet) : Type 0 where
+  pub file : h.rows.file ≡ s.file
+  pub above : list_all (λ item. is_above border (item_time item)) h.items.items ≡ true
+  pub settled : IsSettledAt s border h
+
+pub record AreWell (p : Program) (rows : ℕ) (border : Option ℕ) (inlets : List Inlet) : Type 0 where
+  pub some : 1 ≤ rows
+  pub count : length inlets ≡ length p.sources
+  pub each : AtEach (λ i s. (h : Inlet) → slice_get inlets i ≡ Some h → IsWellAt s border h) p.sources
+
+-- a new border is above the last one, and settled
+abbrev pub IsSettledBy : Program → Option ℕ → Border → List Inlet → Type 0
+IsSettledBy p border (At t) inlets = (is_above border t ≡ true) × AtEach (λ i s. (h : Inlet) → slice_get inlets i ≡ Some h → IsSettledAt s (Some t) h) p.sources
+IsSettledBy p border Closed inlets = ⊤
+
+-- nothing more is asked of what refused a call
+abbrev pub IsWell : Program → ℕ → Option ℕ → Stage → List Inlet → Type 0
+IsWell p rows border Filling inlets = AreWell p rows border inlets
+IsWell p rows border (Filled b) inlets = AreWell p rows border inlets × IsSettledBy p border b inlets
+IsWell p rows border Over inlets = ⊤
+
+-- ---- the earliest border
+abbrev pub earlier_of : Border → Border → Border
+earlier_of Closed b = b
+earlier_of (At t) Closed = At t
+earlier_of (At t) (At u) = At (min t u)
+
+abbrev pub earliest : List Border → Border
+earliest [] = Closed
+earliest (b ∷ bs) = earlier_of b (earliest bs)
+
+-- ---- one source in a refill
+-- what was read more of a source, behind these lines: before its last line they were not enough
+pub record IsRefilling (kinds : List Kind) (s : Source) (first rows : ℕ) (above : Option ℕ) (before : List Next) (old new : HeldSource) (left left' : Option Contents) : Type 0 where
+  pub more : List Next
+  pub behind : IsHeldBehind kinds first s above (before ++ more) new
+  pub shortest : (k : ℕ) → k < length more → is_enough rows above s (before ++ take k more) ≡ false
+  pub told : WhereTold left left' (λ was is. still old was ≡ more ++ still new is)
+
+-- where the reading stops: the rows are enough, up to this time; or the source is closed
+abbrev pub EndsAt : Source → ℕ → Option ℕ → List Next → HeldSource → Border → Type 0
+EndsAt s rows above now new (At u) = (is_enough rows above s now ≡ true) × (settled_time s now ≡ Some u)
+EndsAt s rows above now new Closed = (new.closed ≡ true) × (is_enough rows above s now ≡ false)
+
+pub record Refills (kinds : List Kind) (s : Source) (first rows : ℕ) (above : Option ℕ) (before : List Next) (old new : HeldSource) (left left' : Option Contents) (end : Border) : Type 0 where
+  pub so_far : IsRefilling kinds s first rows above before old new left left'
+  pub ends : EndsAt s rows above (before ++ so_far.more) new end
+
+-- the same, by what is held alone
+abbrev pub IsTurnOf : Source → Inlet → Border → Type 0
+IsTurnOf s h (At u) = settled s.slack h.last ≡ Some u
+IsTurnOf s h Closed = h.closed ≡ true
+
+pub record IsRefilled (kinds : List Kind) (s : Source) (first rows : ℕ) (old new : Inlet) (left left' : Option Contents) (end : Border) : Type 0 where
+  pub keeps : (border : Option ℕ) → IsWellAt s border old → IsWellAt s border new
+  pub border : (above : Option ℕ) → IsWellAt s above old → IsNewBorder above end
+  pub turn : IsTurnOf s new end
+  pub out : (old.closed ≡ true → IsReadOut s.file left) → new.closed ≡ true → IsReadOut s.file left'
+  pub reads : (above : Option ℕ) (before : List Next) → IsHeldBehind kinds first s above before (source_of old)
+      → Refills kinds s first rows above before (source_of old) (source_of new) left left' end
+
+-- a defect is met behind lines that are not enough
+pub record MeetsDefect (kinds : List Kind) (s : Source) (rows : ℕ) (above : Option ℕ) (before : List Next) (old : HeldSource) (left left' : Option Contents) (row : ℕ) (why : Why) : Type 0 where
+  pub more : List Next
+  pub next : Next
+  pub sound : defect_in kinds s (before ++ more) ≡ None
+  pub few : (k : ℕ) → k ≤ length more → is_enough rows above s (before ++ take k more) ≡ false
+  pub defect : line_defect kinds s (before ++ more) next ≡ Some (row, why)
+  pub told : WhereTold left left' (λ was is. (rest : List Next) × (still old was ≡ more ++ next ∷ rest))
+
+-- a read fails behind lines that are not enough
+pub record StopsBehind (kinds : List Kind) (s : Source) (rows : ℕ) (above : Option ℕ) (before : List Next) (old : HeldSource) (left left' : Option Contents) : Type 0 where
+  pub more : List Next
+  pub place : Place
+  pub sound : defect_in kinds s (before ++ more) ≡ None
+  pub few : (k : ℕ) → k ≤ length more → is_enough rows above s (before ++ take k more) ≡ false
+  pub file : place.file ≡ s.file
+  pub undecided : IsUndecided place.taken
+  pub told : WhereTold left left' (λ was is. still old was ≡ more ++ ahead place is)
+
+abbrev pub IsStopOf : List Kind → Source → ℕ → ℕ → Inlet → Option Contents → Option Contents → Stop → Type 0
+IsStopOf kinds s first rows old left left' (Defect row why) = (above : Option ℕ) (before : List Next) → IsHeldBehind kinds first s above before (source_of old)
+    → MeetsDefect kinds s rows above before (source_of old) left left' row why
+IsStopOf kinds s first rows old left left' ReadFault = (above : Option ℕ) (before : List Next) → IsHeldBehind kinds first s above before (source_of old)
+    → StopsBehind kinds s rows above before (source_of old) left left'
+IsStopOf kinds s first rows old left left' NoMemory = ⊤
+
+-- ---- all sources in a refill
+-- the first sources, of as many as there are ends, were read
+pub record AreRefilled (p : Program) (rows : ℕ) (olds news : List Inlet) (left left' : Option Contents) (ends : List Border) : Type 0 where
+  pub size : length news ≡ length olds
+  pub each : AtEach (λ i s. (end : Border) (old new : Inlet) → slice_get ends i ≡ Some end → slice_get olds i ≡ Some old → slice_get news i ≡ Some new
+      → IsRefilled p.kinds s (first_itag p i) rows old new left left' end) p.sources
+
+-- all were read, and this is the earliest border
+pub record HasRefilled (p : Program) (rows : ℕ) (olds news : List Inlet) (left left' : Option Contents) (end : Border) : Type 0 where
+  pub ends : List Border
+  pub count : length ends ≡ length p.sources
+  pub all : AreRefilled p rows olds news left left' ends
+  pub earliest : end ≡ earliest ends
+
+-- the first sources were read, and the next one stopped
+pub record StopsAtSource (p : Program) (rows : ℕ) (olds : List Inlet) (left left' : Option Contents) (fault : GatherFault) : Type 0 where
+  pub ends : List Border
+  pub news : List Inlet
+  pub all : AreRefilled p rows olds news left left' ends
+  pub source : Source
+  pub is : slice_get p.sources (length ends) ≡ Some source
+  pub stop : Stop
+  pub cause : fault ≡ fault_of_stop (length ends) stop
+  pub own : (old : Inlet) → slice_get olds (length ends) ≡ Some old → IsStopOf p.kinds source (first_itag p (length ends)) rows old left left' stop
+
+-- ---- a cut
+-- the items that a round takes
+abbrev pub taken_by : Border → List Item → List Item
+taken_by end items = filter (λ item. is_up_to end (item_time item)) items
+
+-- the items up to a time are dropped
+pub record DropsTo (time : ℕ) (old new : Inlet) : Type 0 where
+  pub items : new.items.items ≡ filter (λ item. nat_lt time (item_time item)) old.items.items
+  pub rows : new.rows ≡ old.rows
+  pub last : new.last ≡ old.last
+  pub ended : new.ended ≡ old.ended
+  pub closed : new.closed ≡ old.closed
+
+pub record AreDropped (time : ℕ) (olds news : List Inlet) : Type 0 where
+  pub size : length news ≡ length olds
+  pub each : (i : ℕ) (old new : Inlet) → slice_get olds i ≡ Some old → slice_get news i ≡ Some new → DropsTo time old new
+
+-- this is held of all sources behind these lines of each
+abbrev pub AreBehind : Program → Option ℕ → (ℕ → List Next) → List Inlet → Type 0
+AreBehind p border lines inlets = AtEach (λ i s. (h : Inlet) → slice_get inlets i ≡ Some h → IsHeldBehind p.kinds (first_itag p i) s border (lines i) (source_of h)) p.sources

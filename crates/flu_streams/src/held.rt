@@ -1,0 +1,253 @@
+//! What is held of the sources from round to round.
+
+ghost use Rattle.std.specs.Prelude.{◌≡◌, ◌≢◌, ◌≤◌, ◌<◌, ℕ, length, map, slice_get, vec_len, List, Option, Some, IsTrue, IfOk, IfErr, OnOk, IsErrOf, Ok, Err};
+ghost use Rattle.flu_model.specs.Itags.{count_of_itags};
+ghost use Rattle.flu_model.specs.Listed.{listed};
+ghost use Rattle.flu_outside.specs.Outside.{WhereTold, SameCounts};
+ghost use Rattle.flu_outside.specs.Taking.{TookFronts};
+ghost use Rattle.flu_rows.specs.declared.rows.Next.{Next};
+ghost use Rattle.flu_streams.specs.Files.{files_of, LeavesOthers, CountsOfNames, OneRose};
+ghost use Rattle.flu_streams.specs.Holding.{fresh, AreHeldBehind, ClosedAreReadOut, AreClosed, IsFilled, KeepsJob, Fills, IsNewBorder, IsRefillFault, HidesNoRoundFault, Cuts};
+ghost use Rattle.flu_lemmas.specs.Elements.{AtEach};
+ghost use Rattle.flu_model.specs.Streaming.{are_streams};
+ghost use Rattle.flu_streams.specs.Lists.{lists_in};
+ghost use Rattle.flu_streams.specs.Holding.{fresh_source};
+ghost use Rattle.flu_streams.specs.LoopHeld.{source_of, earlier_of, HasRefilled, StopsAtSource, AreDropped, AreBehind};
+ghost use Rattle.flu_streams.specs.Rounds.{lists_between};
+
+use crate::border::Border;
+use crate::faults::GatherFault;
+use crate::inlet::Inlet;
+use crate::reading::fault_of;
+use crate::tags::tag_count;
+use flu_model::{Item, Program, Streams};
+use flu_outside::Files;
+use std::alloc::{AllocError, Global};
+use std::marker::Model;
+use std::snapshot::Snapshot;
+
+/// What may be called next of what is held.
+#[derive(Clone, Copy, Debug, PartialEq, Eq)]
+pub enum Stage {
+    /// A refill.
+    Filling,
+    /// A cut at the border that the last refill answered.
+    Filled(Border),
+    /// Nothing: the last round was cut, or a call refused.
+    Over,
+}
+
+/// What is held of the sources of a job between rounds (`docs/MODEL.md`, "Rounds").
+///
+/// Contracts see its job, with how many rows a round is to be had, the border of the last cut, which call may come next, and of
+/// each source what is held, where its rows are read, the greatest time read, and whether `end` and the file's end were read
+/// (`Holding` of `specs/Holding.antt`).
+#[derive(Drop)]
+pub struct Held {
+    program: Snapshot<Program>,
+    rows: u32,
+    border: Option<u64>,
+    stage: Stage,
+    sources: Vec<Inlet>,
+}
+
+impl Model for Held {
+    ghost use Rattle.std.specs.Prelude.{map};
+    ghost use Rattle.std.specs.Coded.{codes};
+    ghost use Rattle.flu_model.specs.contracts.jobs.Program as p;
+    ghost use Rattle.flu_streams.specs.Holding.{Holding};
+    ghost use Rattle.flu_streams.specs.LoopHeld.{source_of, IsWell};
+
+    ghost Value = { Holding };
+
+    ghost coded = { Prim.hlevel (codes, p.the_row.coded) };
+
+    ghost view = { λ h. record { program = h.program.value; rows = h.rows; border = h.border; stage = h.stage; sources = map source_of h.sources.items } };
+
+    ghost invariant = { λ h. IsWell h.program.value h.rows h.border h.stage h.sources.items };
+}
+
+impl Held {
+    /// Nothing of the sources of a job, of which a round is to be had as soon as each has so many rows that are settled.
+    ///
+    /// # Errors
+    ///
+    /// Only where memory is wanting.
+    pub fn new(alloc: Global, p: &Program, rows: u32) -> Result<Held, AllocError>
+        requires some { 1 ≤ rows }
+        requires few { rows ≤ 4096 }
+        ensures { IfOk result (λ h. h ≡ fresh p.now rows) }
+    {
+        let sources = new_inlets(alloc, p)?;
+        Ok(Held {
+            program: Snapshot::of(p),
+            rows,
+            border: None,
+            stage: Stage::Filling,
+            sources,
+        })
+    }
+
+    /// The border of the last cut, and none before the first one.
+    pub fn border(&self) -> Option<u64>
+        ensures { result ≡ self.now.border }
+    {
+        self.border
+    }
+
+    /// Reads the sources, in declared order, until each holds what the next round needs of it, and answers up to which time that
+    /// round takes rows. A source that is to be closed is read past `end` to the end of its file.
+    ///
+    /// `above` is the border of the last cut, and none before the first one. A source fault is the defect that the round meets, of
+    /// the first source, as declared, that has one. Items are not counted: a round holds few.
+    pub fn refill<F: Files>(
+        &mut self,
+        alloc: Global,
+        p: &Program,
+        files: &mut F,
+        above: Option<u64>,
+    ) -> Result<Border, GatherFault>
+        requires program { self.old.program ≡ p.now }
+        requires above { above ≡ self.old.border }
+        requires stage { self.old.stage ≡ Stage.Filling }
+        ensures round { IfOk result (λ end. (before : ℕ → List Next) → AreHeldBehind self.old before → Fills self.old self.new (F.left files.old) (F.left files.new) end before) }
+        ensures border { IfOk result (IsNewBorder self.old.border) }
+        ensures stage { IsFilled result self.new.stage }
+        ensures same { KeepsJob self.old self.new }
+        ensures read_out { OnOk result (ClosedAreReadOut self.old (F.left files.old) → ClosedAreReadOut self.new (F.left files.new)) }
+
+        ensures closed { result ≡ Ok Border.Closed → AreClosed self.new }
+
+        ensures fault { IfErr result (IsRefillFault self.old (F.left files.old) (F.left files.new)) }
+
+        // It takes bytes from the front of the sources' files alone, and a read fault has its cause there: no other answer comes
+        // behind a take that failed.
+        ensures fronts { WhereTold (F.left files.old) (F.left files.new) TookFronts }
+        ensures others { WhereTold (F.left files.old) (F.left files.new) (LeavesOthers (files_of p.now.sources)) }
+        ensures counts { CountsOfNames (F.left files.old) (files_of p.now.sources) (F.faults files.old) (F.faults files.new) }
+        ensures quiet { result ≢ Err GatherFault.ReadFault → SameCounts (F.faults files.old) (F.faults files.new) }
+        ensures hides { IsErrOf result GatherFault.ReadFault → (before : ℕ → List Next) → AreHeldBehind self.old before → HidesNoRoundFault self.old (F.left files.old) (F.left files.new) before }
+        ensures cause { IsErrOf result GatherFault.ReadFault → OneRose (files_of p.now.sources) (F.faults files.old) (F.faults files.new) }
+    {
+        self.stage = Stage::Over;
+        let end = match refill_all(&mut self.sources, p, self.rows, files) {
+            Ok(end) => end,
+            Err(fault) => return Err(fault),
+        };
+        self.stage = Stage::Filled(end);
+        Ok(end)
+    }
+
+    /// Takes the rows of a round out: for each itag its events, and the heartbeats of its source, up to the border, sorted by
+    /// time, and the end.
+    ///
+    /// # Errors
+    ///
+    /// Only where memory is wanting.
+    pub fn cut(&mut self, alloc: Global, p: &Program, b: Border) -> Result<Streams, AllocError>
+        requires program { self.old.program ≡ p.now }
+        requires stage { self.old.stage ≡ Stage.Filled b }
+        ensures lists { IfOk result (λ streams. (lines : ℕ → List Next) → AreHeldBehind self.old lines → listed streams ≡ lists_between p.now self.old.border b lines) }
+        ensures itags { IfOk result (λ streams. length (listed streams) ≡ count_of_itags p.now) }
+        ensures cut { OnOk result (Cuts self.old self.new b) }
+    {
+        self.stage = Stage::Over;
+        let lists = lists_to(alloc, p, &self.sources, b)?;
+        let Border::At(time) = b else {
+            return Ok(Streams::new(lists));
+        };
+        drop_all(&mut self.sources, time);
+        self.border = Some(time);
+        self.stage = Stage::Filling;
+        Ok(Streams::new(lists))
+    }
+}
+
+// Nothing of each source.
+fn new_inlets(alloc: Global, p: &Program) -> Result<Vec<Inlet>, AllocError>
+    ensures { IfOk result (λ inlets. map source_of inlets.items ≡ map fresh_source p.now.sources) }
+{
+    let mut inlets = Vec::new(alloc);
+    for source in p.sources.items() {
+        inlets.push(Inlet::new(alloc, source)?)?;
+    }
+    Ok(inlets)
+}
+
+// Reads the sources in turn, and answers the earliest border up to which one of them is settled.
+fn refill_all<F: Files>(
+    inlets: &mut Vec<Inlet>,
+    p: &Program,
+    rows: u32,
+    files: &mut F,
+) -> Result<Border, GatherFault>
+    requires some { 1 ≤ rows }
+    requires count { length inlets.old.items ≡ length p.now.sources }
+    requires files { AtEach (λ i s. (h : Inlet) → slice_get inlets.old.items i ≡ Some h → h.rows.file ≡ s.file) p.now.sources }
+    ensures filled { IfOk result (λ end. HasRefilled p.now rows inlets.old.items inlets.new.items (F.left files.old) (F.left files.new) end) }
+    ensures stop { IfErr result (StopsAtSource p.now rows inlets.old.items (F.left files.old) (F.left files.new)) }
+    ensures fronts { WhereTold (F.left files.old) (F.left files.new) TookFronts }
+    ensures others { WhereTold (F.left files.old) (F.left files.new) (LeavesOthers (files_of p.now.sources)) }
+    ensures counts { CountsOfNames (F.left files.old) (files_of p.now.sources) (F.faults files.old) (F.faults files.new) }
+    ensures quiet { result ≢ Err GatherFault.ReadFault → SameCounts (F.faults files.old) (F.faults files.new) }
+    ensures cause { IsErrOf result GatherFault.ReadFault → OneRose (files_of p.now.sources) (F.faults files.old) (F.faults files.new) }
+{
+    let mut end = Border::Closed;
+    let mut first = 0;
+    let mut number = 0;
+    for source in p.sources.items() {
+        let inlet = &mut inlets[number];
+        match inlet.refill(p.kinds.items(), source, first, rows, files) {
+            Ok(turn) => end = earlier(end, turn),
+            Err(stop) => return Err(fault_of(number as u32, stop)),
+        }
+        first += tag_count(source.tags.items());
+        number += 1;
+    }
+    Ok(end)
+}
+
+// The earlier of two borders.
+fn earlier(a: Border, b: Border) -> Border
+    ensures { result ≡ earlier_of a b }
+{
+    match (a, b) {
+        (Border::At(t), Border::At(u)) => Border::At(t.min(u)),
+        (Border::Closed, _) => b,
+        (_, Border::Closed) => a,
+    }
+}
+
+// The items of each itag up to a border.
+fn lists_to(
+    alloc: Global,
+    p: &Program,
+    inlets: &[Inlet],
+    end: Border,
+) -> Result<Vec<Vec<Item>>, AllocError>
+    requires { length inlets.now ≡ length p.now.sources }
+    ensures len { IfOk result (λ lists. vec_len lists ≡ count_of_itags p.now) }
+    ensures streams { IfOk result (λ lists. IsTrue (are_streams 0 (lists_in lists))) }
+    ensures lists { IfOk result (λ lists. (border : Option ℕ) (lines : ℕ → List Next) → AreBehind p.now border lines inlets.now → lists_in lists ≡ lists_between p.now border end lines) }
+{
+    let mut lists = Vec::new(alloc);
+    let mut number = 0;
+    for source in p.sources.items() {
+        let first = lists.len() as u32;
+        let width = tag_count(source.tags.items());
+        let mut own = inlets[number].lists(alloc, first, width, end)?;
+        lists.append(&mut own)?;
+        number += 1;
+    }
+    Ok(lists)
+}
+
+// Drops the items of each source up to a time.
+fn drop_all(inlets: &mut Vec<Inlet>, time: u64)
+    ensures { AreDropped time inlets.old.items inlets.new.items }
+{
+    for number in 0..inlets.len() {
+        let inlet = &mut inlets[number];
+        inlet.drop_until(time);
+    }
+}

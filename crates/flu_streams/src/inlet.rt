@@ -1,0 +1,212 @@
+//! What is held of one source from round to round.
+
+ghost use Rattle.std.specs.Prelude.{◌≡◌, ◌≢◌, ◌≤◌, ◌<◌, ◌+◌, ◌^◌, ◌++◌, ◌∷◌, [], ℕ, None, Some, length, unwrap_or, vec_len, IsTrue, OnOk, IfOk, IfErr, IsErrOf, Err};
+ghost use Rattle.std.specs.List.{filter_map};
+ghost use Rattle.flu_lemmas.specs.Late.{rises_from};
+ghost use Rattle.flu_outside.specs.Outside.{WhereTold, Rose, SameCounts};
+ghost use Rattle.flu_outside.specs.Taking.{TakesFrom, CountsOf};
+ghost use Rattle.flu_rows.specs.Row.{IsInRange};
+ghost use Rattle.flu_streams.specs.Lists.{item_time, item_for, items_of_list, times_in};
+ghost use Rattle.flu_streams.specs.Tags.{width};
+
+use crate::border::Border;
+use crate::faults::Why;
+use crate::intake::RowRefusal;
+use crate::items::{count_until, empty_lists, place_of, push_items, time_of};
+use crate::source::{Stop, defect_behind, stop_at, stop_of};
+use crate::tags::place_of_event;
+use flu_model::{Event, Itag, Item, Kind, Source};
+use flu_outside::Files;
+use flu_rows::{Next, Row, Rows};
+use std::alloc::{AllocError, Global};
+
+/// What is held of a source: the items with a time above the last border, in order of time; its reader; the greatest time that
+/// was read; and whether `end` was, and all of its file.
+#[derive(Drop)]
+pub(crate) struct Inlet {
+    pub(crate) rows: Rows,
+    pub(crate) items: Vec<Item>,
+    pub(crate) last: Option<u64>,
+    pub(crate) ended: bool,
+    pub(crate) closed: bool,
+    pub(crate) ghost rising: { IsTrue (rises_from item_time 0 items.items) },
+    pub(crate) ghost none: { last ≡ None → items.items ≡ [] },
+    pub(crate) ghost range: { unwrap_or last 0 < 2 ^ 63 },
+}
+
+impl Inlet {
+    ghost use Rattle.flu_streams.specs.Holding.{fresh_source};
+    ghost use Rattle.flu_streams.specs.LoopHeld.{source_of, enough_of, fault_behind, test_late, taken_by, PutsIn, PutsItem, DropsTo, IsRefilled, IsStopOf};
+    ghost use Rattle.flu_streams.specs.LoopIntake.{IsRefusal};
+
+    /// Nothing of a source.
+    pub(crate) fn new(alloc: Global, source: &Source) -> Result<Inlet, AllocError>
+        ensures { IfOk result (λ h. source_of h ≡ fresh_source source.now) }
+    {
+        Ok(Inlet {
+            rows: Rows::new(alloc, &source.file)?,
+            items: Vec::new(alloc),
+            last: None,
+            ended: false,
+            closed: false,
+        })
+    }
+
+    /// Reads the source until so many of its items are settled, and answers the settled time; or to the end of its file.
+    ///
+    /// Whether the items are enough is asked before anything is read, so nothing is read of a source that needs nothing.
+    pub(crate) fn refill<F: Files>(
+        &mut self,
+        kinds: &[Kind],
+        source: &Source,
+        first: u32,
+        rows: u32,
+        files: &mut F,
+    ) -> Result<Border, Stop>
+        requires kinds { length kinds.now ≤ 64 }
+        requires numbered { first + width source.now ≤ 256 }
+        requires some { 1 ≤ rows }
+        requires file { self.old.rows.file ≡ source.now.file }
+        ensures filled { IfOk result (λ end. IsRefilled kinds.now source.now first rows self.old self.new (F.left files.old) (F.left files.new) end) }
+        ensures stop { IfErr result (IsStopOf kinds.now source.now first rows self.old (F.left files.old) (F.left files.new)) }
+        ensures taken { WhereTold (F.left files.old) (F.left files.new) (TakesFrom source.now.file) }
+        ensures counts { CountsOf (F.left files.old) source.now.file (F.faults files.old) (F.faults files.new) }
+        ensures quiet { result ≢ Err Stop.ReadFault → SameCounts (F.faults files.old) (F.faults files.new) }
+        ensures cause { IsErrOf result Stop.ReadFault → Rose (F.faults files.old source.now.file) (F.faults files.new source.now.file) }
+    {
+        loop {
+            if let Some(time) = self.enough(rows, source.slack) {
+                return Ok(Border::At(time));
+            }
+            if self.closed {
+                return Ok(Border::Closed);
+            }
+            let next = match self.rows.next_row(files) {
+                Ok(next) => next,
+                Err(fault) => return Err(stop_of(fault)),
+            };
+            match next {
+                Next::Row { line, row } => {
+                    if let Err(refusal) = self.take(kinds, source, first, row) {
+                        return Err(stop_at(line, refusal));
+                    }
+                }
+                last => {
+                    if let Some((row, why)) = defect_behind(self.ended, &last) {
+                        return Err(Stop::Defect { row, why });
+                    }
+                    self.closed = true;
+                    return Ok(Border::Closed);
+                }
+            }
+        }
+    }
+
+    /// For each itag of the source, of which the first has the number `first`, its items up to a border, and the end.
+    pub(crate) fn lists(
+        &self,
+        alloc: Global,
+        first: u32,
+        width: u32,
+        end: Border,
+    ) -> Result<Vec<Vec<Item>>, AllocError>
+        requires { first + width ≤ 256 }
+        ensures len { IfOk result (λ lists. vec_len lists ≡ width) }
+        ensures each { IfOk result (λ lists. (i : ℕ) → i < width
+            → items_of_list lists i ≡ filter_map (item_for (first + i)) (taken_by end self.now.items.items) ++ Item.End ∷ []) }
+    {
+        let count = match end {
+            Border::At(time) => count_until(self.items.as_slice(), time),
+            Border::Closed => self.items.len(),
+        };
+        let mut lists = empty_lists(alloc, width)?;
+        push_items(&mut lists, first, &self.items[..count])?;
+        Ok(lists)
+    }
+
+    /// Drops the items up to a time.
+    pub(crate) fn drop_until(&mut self, time: u64)
+        ensures { DropsTo time self.old self.new }
+    {
+        let count = count_until(self.items.as_slice(), time);
+        self.items.drain(..count);
+    }
+
+    // The settled time, where so many of the items come no later.
+    fn enough(&self, rows: u32, slack: u64) -> Option<u64>
+        requires { 1 ≤ rows }
+        ensures { result ≡ enough_of rows slack self.now.last self.now.items.items }
+    {
+        let last = self.last?;
+        if last < slack {
+            return None;
+        }
+        let settled = last - slack;
+        let count = rows as usize;
+        if self.items.len() < count || time_of(&self.items[count - 1]) > settled {
+            return None;
+        }
+        Some(settled)
+    }
+
+    // Takes a row in.
+    fn take(
+        &mut self,
+        kinds: &[Kind],
+        source: &Source,
+        first: u32,
+        row: Row,
+    ) -> Result<(), RowRefusal>
+        requires few { length kinds.now ≤ 64 }
+        requires numbered { first + width source.now ≤ 256 }
+        requires range { IsInRange row }
+        ensures taken { OnOk result (PutsIn kinds.now source.now first row self.old self.new) }
+        ensures refused { IfErr result (IsRefusal (fault_behind kinds.now source.now self.old row)) }
+    {
+        if self.ended {
+            return Err(RowRefusal::Fault(Why::AfterEnd));
+        }
+        match row {
+            Row::End => {
+                self.ended = true;
+                Ok(())
+            }
+            Row::Beat(time) => self.insert(source.slack, Item::Beat(time)),
+            Row::Event {
+                time,
+                name,
+                key,
+                value,
+            } => match place_of_event(kinds, source, name.as_str(), key, value) {
+                Ok(place) => {
+                    let event = Event {
+                        time,
+                        itag: Itag(first + place),
+                        value: value.unwrap_or(0),
+                    };
+                    self.insert(source.slack, Item::Event(event))
+                }
+                Err(why) => Err(RowRefusal::Fault(why)),
+            },
+        }
+    }
+
+    // Takes an event or a heartbeat in.
+    fn insert(&mut self, slack: u64, item: Item) -> Result<(), RowRefusal>
+        requires { item_time item < 2 ^ 63 }
+        ensures passes { OnOk result (test_late slack (times_in self.old.items.items) self.old.last (Some (item_time item)) ≡ None) }
+        ensures taken { OnOk result (PutsItem item self.old self.new) }
+        ensures refused { IfErr result (IsRefusal (test_late slack (times_in self.old.items.items) self.old.last (Some (item_time item)))) }
+    {
+        let time = time_of(&item);
+        let at = match place_of(self.items.as_slice(), self.last, slack, time) {
+            Ok(at) => at,
+            Err(why) => return Err(RowRefusal::Fault(why)),
+        };
+        if self.items.insert(at, item).is_err() {
+            return Err(RowRefusal::NoMemory);
+        }
+        self.last = Some(self.last.unwrap_or(0).max(time));
+        Ok(())
+    }
+}

@@ -1,4 +1,0 @@
-use Rattle.flu_top.proofs.sharing.streams_are_shared.Goals as goal
-
-pub returns : goal.returns
-returns c = record { shared = c.shared.ensures.shared }

@@ -1,0 +1,73 @@
+-- How a command reads its job's sources, and whether they have a defect that it sees.
+use Rattle.std.specs.Prelude.{◌≡◌, ℕ, List, ◌++◌, Bool, true, false, Option, Some, None, ⊤, slice_get}
+use Rattle.flu_outside.specs.Outside.{Contents}
+use Rattle.flu_model.specs.declared.jobs.Source.{Source}
+use Rattle.flu_model.specs.declared.jobs.Program.{Program}
+use Rattle.flu_rows.specs.declared.rows.Next.{Next}
+use Rattle.flu_streams.specs.declared.faults.SourceFault.{SourceFault}
+use Rattle.flu_streams.specs.declared.faults.Why.{Why}
+use Rattle.flu_streams.specs.Rounds.{defect_in, IsRoundFault}
+use Rattle.flu_rounds.specs.Written.{AreSound, RanTo, WouldWrite, lines_in}
+use Rattle.flu_streams.specs.declared.border.Border.{Border}
+use Rattle.flu_top.specs.Behind.{emptied_each, fault_behind}
+
+-- not at all; all of them, before any event is run; or in rounds, of which each is run before the next one is read
+pub data Reading : Type 0 where
+  Unread : Reading
+  Whole : Reading
+  InRounds : Reading
+
+abbrev pub is_read : Reading → Bool
+is_read Unread = false
+is_read Whole = true
+is_read InRounds = true
+
+-- ---- sources that are read behind some texts
+-- the lines of their files
+abbrev pub lines_behind : List (List ℕ) → Contents → Program → ℕ → List Next
+lines_behind texts left p = lines_in p (emptied_each texts left)
+
+-- none has a defect: in rounds none by all tests but the one on how many items are held, since a round holds few
+abbrev pub AreSourcesGood : Reading → List (List ℕ) → Contents → Program → Type 0
+AreSourcesGood Unread texts left p = ⊤
+AreSourcesGood Whole texts left p = fault_behind texts left p ≡ None
+AreSourcesGood InRounds texts left p = AreSound p (lines_behind texts left p)
+
+-- one of them has a defect in these lines
+pub record HasDefectIn (p : Program) (lines : ℕ → List Next) : Type 0 where
+  pub at : ℕ
+  pub source : Source
+  pub is : slice_get p.sources at ≡ Some source
+  pub row : ℕ
+  pub why : Why
+  pub defect : defect_in p.kinds source (lines at) ≡ Some (row, why)
+
+-- one of them has a defect
+abbrev pub HasDefect : Reading → List (List ℕ) → Contents → Program → Type 0
+HasDefect Unread texts left p = ⊥
+HasDefect Whole texts left p = (fault : SourceFault) × (fault_behind texts left p ≡ Some fault)
+HasDefect InRounds texts left p = HasDefectIn p (lines_behind texts left p)
+
+-- ---- rounds
+-- a round is to be had as soon as each source has so many rows that are settled
+abbrev pub rows_in_round : ℕ
+rows_in_round = 4096
+
+-- THE ROUNDS UP TO SOME ONE meet no defect, and wrote this: the report of the events up to their border, and nothing before the first
+pub record HaveWritten (p : Program) (lines : ℕ → List Next) (text : List ℕ) : Type 0 where
+  pub border : Option ℕ
+  pub ran : RanTo p rows_in_round lines border text
+
+-- THE NEXT ROUND MEETS THIS DEFECT: no round before it meets any
+pub record MeetsDefect (p : Program) (lines : ℕ → List Next) (text : List ℕ) (fault : SourceFault) : Type 0 where
+  pub border : Option ℕ
+  pub ran : RanTo p rows_in_round lines border text
+  pub meets : IsRoundFault p rows_in_round border lines ran.before fault
+
+-- THE NEXT ROUND'S REPORT is this: with it, the text is the report of the events up to that round's end
+pub record ReportsNext (p : Program) (lines : ℕ → List Next) (text more : List ℕ) : Type 0 where
+  pub border : Option ℕ
+  pub ran : RanTo p rows_in_round lines border text
+  pub end : Border
+  pub now : ℕ → List Next
+  pub next : WouldWrite p rows_in_round lines border ran.before now end (text ++ more)

@@ -1,0 +1,4 @@
+pub mod Lines
+pub mod LoopFilling
+pub mod Replaying
+pub mod LoopReplaying

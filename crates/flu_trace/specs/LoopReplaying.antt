@@ -1,0 +1,50 @@
+-- What is still to come of a replay on its way.
+use Rattle.std.specs.Prelude.{◌≡◌, ℕ, ◌+◌, List, [], ◌∷◌, ◌++◌, Option, MatchOption, ⊤}
+use Rattle.flu_lemmas.specs.Named.{Contents, bytes_left}
+use Rattle.flu_rows.specs.Lines.{lines_of}
+use Rattle.flu_fork.specs.declared.content.Content.{Content}
+use Rattle.flu_net.specs.declared.steps.Step.{Step}
+use Rattle.flu_net.specs.Final.{IsFinal}
+use Rattle.flu_trace.specs.declared.faults.ReplayFault.{ReplayFault}
+use Rattle.flu_trace.specs.declared.faults.ReplayFault.TheVariants.{Bad, NotEnabled, Incomplete, ReadFault, NoMemory}
+use Rattle.flu_trace.specs.declared.held.Found.{Found}
+use Rattle.flu_trace.specs.declared.held.Found.TheVariants.{Last}
+use Rattle.flu_trace.specs.declared.replaying.Replaying.{Replaying}
+use Rattle.flu_trace.specs.Lines.{IsLineOf}
+use Rattle.flu_trace.specs.Replaying.{Ending, Ends, IsReplayed}
+
+-- how a replay ends that stands so, where this is left of the files
+abbrev pub EndsFrom : List ℕ → Replaying → Contents → Ending → Type 0
+EndsFrom name r left ending = Ends r.lines (lines_of (r.held ++ bytes_left left name)) r.net ending
+
+-- however the later one ends, the earlier one ends so too
+abbrev pub GoesOn : List ℕ → Replaying → Replaying → Contents → Contents → Type 0
+GoesOn name old new before now = (ending : Ending) → EndsFrom name new now ending → EndsFrom name old before ending
+
+-- the same, from the first byte of the trace
+abbrev pub IsReplayedBy : Content → List ℕ → Replaying → Contents → Contents → Type 0
+IsReplayedBy k name r before now = (ending : Ending) → EndsFrom name r now ending → IsReplayed k (bytes_left before name) ending
+
+-- what a line says: a step, or none
+abbrev pub Says : Option Step → List ℕ → Type 0
+Says said line = MatchOption said ((s : Step) → ¬ IsLineOf s line) (λ s. IsLineOf s line)
+
+-- a line stands in front, which says the step or none; behind a good one stands what is held then, and what comes
+pub record BeginsWith (said : Option Step) (held rest coming : List ℕ) : Type 0 where
+  pub line : List ℕ
+  pub lines : List (List ℕ)
+  pub cut : lines_of (held ++ coming) ≡ line ∷ lines
+  pub says : Says said line
+  pub behind : (s : Step) → IsLineOf s line → lines ≡ lines_of (rest ++ coming)
+
+-- what comes behind the bytes that are held is nothing, where these are the last
+abbrev pub MayCome : Found → List ℕ → Type 0
+MayCome found coming = found ≡ Last → coming ≡ []
+
+-- a fault of the end: the net is not final, or memory was wanting
+abbrev pub IsEndFault : Replaying → ReplayFault → Type 0
+IsEndFault r (Bad line) = ⊥
+IsEndFault r (NotEnabled line) = ⊥
+IsEndFault r (Incomplete line) = (line ≡ r.lines + 1) × ¬ IsFinal r.net
+IsEndFault r ReadFault = ⊥
+IsEndFault r NoMemory = ⊤
