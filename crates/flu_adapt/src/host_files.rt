@@ -5,7 +5,7 @@ ghost use Rattle.std.specs.BTreeMap.{get_by_text};
 ghost use Rattle.flu_outside.specs.Outside.{Rose};
 ghost use Rattle.std.specs.Io.KnownBytes.{ReadConsumes};
 
-use flu_outside::{Files, TakeFault};
+use flu_outside::{Files, PutFault, TakeFault};
 use std::alloc::Global;
 use std::collections::BTreeMap;
 use std::io::Read;
@@ -14,35 +14,39 @@ use std::{fs, io, rt};
 /// The failure of a name, as the system tells it.
 #[derive(Drop)]
 pub struct FileFailure {
-    /// The name that was to be opened or read.
+    /// The name that was to be opened, read or written.
     pub name: String,
     /// Why it was not.
     pub error: io::Error,
 }
 
-/// Files of the system, each opened when it is first taken from, and kept open. They tell nothing of what they hold.
+/// Files of the system, each opened when it is first taken from, and kept open until it is put. They tell nothing of what they hold.
 ///
-/// Contracts see how often a name failed (`count_of` of `specs/HostFiles.antt`); all names share one count.
+/// Contracts see how often a name failed to be taken (`count_of` of `specs/HostFiles.antt`) and to be put (`put_count_of`); all names
+/// share one count of each kind.
 #[derive(Drop)]
 pub struct HostFiles<R: rt::Files + AllocGlobal> {
     rt: R,
     opened: BTreeMap<String, R::File>,
     faults: u64,
+    put_faults: u64,
     last: Option<FileFailure>,
 }
 
 impl<R: rt::Files + AllocGlobal> HostFiles<R> {
-    ghost use Rattle.flu_adapt.specs.HostFiles.{count_of};
+    ghost use Rattle.flu_adapt.specs.HostFiles.{count_of, put_count_of};
 
     /// No file is open, and none has failed.
     pub fn new(rt: R) -> HostFiles<R>
-        ensures { count_of result ≡ 0 }
+        ensures count { count_of result ≡ 0 }
+        ensures put_count { put_count_of result ≡ 0 }
     {
         let opened = BTreeMap::new(rt.alloc());
         HostFiles {
             rt,
             opened,
             faults: 0,
+            put_faults: 0,
             last: None,
         }
     }
@@ -58,6 +62,7 @@ impl<R: rt::Files + AllocGlobal> HostFiles<R> {
         ensures raised { IsErrOf result TakeFault.Failed → count_of self.new ≡ min (count_of self.old + 1) (2 ^ 64 - 1) }
         ensures no_memory { IsErrOf result TakeFault.NoMemory → count_of self.new ≡ count_of self.old }
         ensures counts { count_of self.old ≤ count_of self.new }
+        ensures puts { put_count_of self.new ≡ put_count_of self.old }
         ensures here { OnOk result (IsSome (get_by_text self.new.opened name.now)) }
     {
         let Ok(kept) = String::from_str(self.rt.alloc(), name) else {
@@ -78,11 +83,13 @@ impl<R: rt::Files + AllocGlobal> HostFiles<R> {
 }
 
 impl<R: rt::Files + AllocGlobal> Files for HostFiles<R> {
-    ghost use Rattle.flu_adapt.specs.HostFiles.{count_of};
+    ghost use Rattle.flu_adapt.specs.HostFiles.{count_of, put_count_of};
 
     ghost left = { λ _. None };
 
     ghost faults = { λ f _. count_of f };
+
+    ghost put_faults = { λ f _. put_count_of f };
 
     fn take(&mut self, name: &str, buf: &mut [u8]) -> Result<usize, TakeFault>
         requires { 0 < length buf.old }
@@ -91,6 +98,7 @@ impl<R: rt::Files + AllocGlobal> Files for HostFiles<R> {
         ensures quiet { OnOk result (count_of self.new ≡ count_of self.old) }
         ensures failed { IsErrOf result TakeFault.Failed → Rose (count_of self.old) (count_of self.new) }
         ensures counts { count_of self.old ≤ count_of self.new }
+        ensures puts { put_count_of self.new ≡ put_count_of self.old }
 
         // Each failure is counted, up to the last number, and want of memory is none.
         ensures raised { IsErrOf result TakeFault.Failed → count_of self.new ≡ min (count_of self.old + 1) (2 ^ 64 - 1) }
@@ -111,7 +119,30 @@ impl<R: rt::Files + AllocGlobal> Files for HostFiles<R> {
         taken
     }
 
+    /// Writes the file whole, in place of the one that is there. The next take of it begins at its front.
+    fn put(&mut self, name: &str, bytes: Vec<u8>) -> Result<(), PutFault>
+        ensures quiet { OnOk result (put_count_of self.new ≡ put_count_of self.old) }
+        ensures counts { put_count_of self.old ≤ put_count_of self.new }
+        ensures takes { count_of self.new ≡ count_of self.old }
+
+        // Each failure is counted, up to the last number, and there is no other fault.
+        ensures fault { IfErr result (λ e. e ≡ PutFault.Failed) }
+        ensures raised { OnErr result (put_count_of self.new ≡ min (put_count_of self.old + 1) (2 ^ 64 - 1)) }
+    {
+        self.opened.remove(name);
+        match fs::write(&self.rt, name, bytes) {
+            Ok(()) => Ok(()),
+            Err(error) => {
+                self.last = failure_of(self.rt.alloc(), name, error);
+                self.put_faults = self.put_faults.saturating_add(1);
+                Err(PutFault::Failed)
+            }
+        }
+    }
+
     ghost shared = { λ f a b no_a no_b. refl };
+
+    ghost shared_puts = { λ f a b no_a no_b. refl };
 }
 
 // A failure with its name, where there is memory for the name.

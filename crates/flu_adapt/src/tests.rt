@@ -1,5 +1,5 @@
 use crate::{HostFiles, HostSink};
-use flu_outside::{Failed, Files, Sink, TakeFault};
+use flu_outside::{Failed, Files, PutFault, Sink, TakeFault};
 use std::rt;
 use std::test::Fail;
 
@@ -27,6 +27,23 @@ fn takes_from_files(rt: HostRuntime) -> Result<(), Fail> {
             }
         }
     }
+    Ok(())
+}
+
+#[test]
+fn puts_files(rt: HostRuntime) -> Result<(), Fail> {
+    let mut files = HostFiles::new(&rt);
+    // what is put, and the bytes that the next take of four gives
+    let cases: [(&[u8], &[u8]); 3] = [(b"abcdef", b"abcd"), (b"xy", b"xy"), (b"", b"")];
+    for (bytes, wanted) in cases {
+        assert_eq!(rt; files.put("save", bytes.to_vec(rt.alloc())?), Ok(()));
+        let mut buffer = [1u8; 4];
+        let n = files.take("save", &mut buffer).unwrap_or(9);
+        assert_eq!(rt; buffer.get(..n), Some(wanted));
+    }
+    let put = files.put("no/such/directory/save", b"abc".to_vec(rt.alloc())?);
+    assert_eq!(rt; put, Err(PutFault::Failed));
+    assert!(rt; has_last(&files, "no/such/directory/save"));
     Ok(())
 }
 

@@ -18,6 +18,15 @@ pub record Takes (old new : Contents) (name : List ℕ) (n : ℕ) (buffer : List
   pub end : n ≡ 0 → bytes ≡ []
   pub others : (other : List ℕ) → other ≢ name → new other ≡ old other
 
+-- names other than this one have the same left
+abbrev pub OthersStay : List ℕ → Contents → Contents → Type 0
+OthersStay name old new = (other : List ℕ) → other ≢ name → new other ≡ old other
+
+-- a name has these bytes, and other names are as they were
+pub record Puts (name bytes : List ℕ) (old new : Contents) : Type 0 where
+  pub here : new name ≡ Some bytes
+  pub others : OthersStay name old new
+
 -- each name has the same left
 abbrev pub SameLeft : Contents → Contents → Type 0
 SameLeft old new = (name : List ℕ) → new name ≡ old name

@@ -1,6 +1,8 @@
-//! Named bytes, which are taken from the front.
-ghost use Rattle.std.specs.Prelude.{◌≡◌, ◌<◌, ◌≤◌, List, ℕ, length, Option, IfOk, OnOk, OnErr, IsErrOf};
-ghost use Rattle.flu_outside.specs.Outside.{Contents, Rose, Takes, WhereTold, SameLeft, SameCounts, CountApart, ShareOneCount};
+//! Named bytes, which are taken from the front, or put whole.
+ghost use Rattle.std.specs.Prelude.{◌≡◌, ◌≢◌, ◌<◌, ◌≤◌, List, ℕ, length, Option, IfOk, OnOk, OnErr, IsErrOf, IsSome};
+ghost use Rattle.flu_outside.specs.Outside.{Contents, Rose, Takes, Puts, OthersStay, WhereTold, SameLeft, SameCounts, CountApart, ShareOneCount};
+
+use std::alloc::AllocError;
 
 /// Why no bytes were taken.
 #[derive(Clone, Copy, Debug, PartialEq, Eq)]
@@ -11,7 +13,27 @@ pub enum TakeFault {
     NoMemory,
 }
 
-/// Names with bytes, which are taken from the front of each name.
+/// Why bytes were not put.
+#[derive(Clone, Copy, Debug, PartialEq, Eq)]
+pub enum PutFault {
+    /// The name could not be written, or not to the end.
+    Failed,
+    /// There was no memory for it.
+    NoMemory,
+}
+
+impl From<AllocError> for PutFault {
+    ghost use Rattle.std.specs.Prelude.{◌≡◌};
+    ghost use Rattle.flu_outside.specs.declared.files.PutFault.{PutFault};
+
+    ghost from_gives = { λ _ e. e ≡ PutFault.NoMemory };
+
+    fn from(_e: AllocError) -> PutFault {
+        PutFault::NoMemory
+    }
+}
+
+/// Names with bytes, which are taken from the front of each name, or put in place of those that it has.
 ///
 /// A name that is read again gives what is left of it.
 pub trait Files {
@@ -20,6 +42,9 @@ pub trait Files {
 
     /// How often the taking of each name has failed, up to 2^64 - 1.
     ghost faults: { Self → List ℕ → ℕ };
+
+    /// How often the putting of each name has failed, up to 2^64 - 1.
+    ghost put_faults: { Self → List ℕ → ℕ };
 
     /// Takes some bytes of a name into the front of `buf`, and says how many. None means that the name has none left.
     ///
@@ -37,8 +62,29 @@ pub trait Files {
 
         // No count falls, and none changes but that of the name, which names that are not there share.
         ensures counts { (n : List ℕ) → faults self.old n ≤ faults self.new n }
-        ensures others { (n : List ℕ) → CountApart (left self.old) name.now n → faults self.new n ≡ faults self.old n };
+        ensures others { (n : List ℕ) → CountApart (left self.old) name.now n → faults self.new n ≡ faults self.old n }
+        ensures puts { SameCounts (put_faults self.old) (put_faults self.new) };
+
+    /// Gives a name these bytes, in place of those that it has.
+    ///
+    /// `Failed` is counted at the name, of which it is not told what it has then. `NoMemory` leaves all as it was.
+    fn put(&mut self, name: &str, bytes: Vec<u8>) -> Result<(), PutFault>
+        ensures holds { OnOk result (WhereTold (left self.old) (left self.new) (Puts name.now bytes.items)) }
+        ensures quiet { OnOk result (SameCounts (put_faults self.old) (put_faults self.new)) }
+
+        ensures others { IsErrOf result PutFault.Failed → WhereTold (left self.old) (left self.new) (OthersStay name.now) }
+        ensures failed { IsErrOf result PutFault.Failed → Rose (put_faults self.old name.now) (put_faults self.new name.now) }
+        ensures kept { IsErrOf result PutFault.NoMemory → WhereTold (left self.old) (left self.new) SameLeft }
+        ensures no_memory { IsErrOf result PutFault.NoMemory → SameCounts (put_faults self.old) (put_faults self.new) }
+
+        // No count falls, and where names are told none changes but that of the name.
+        ensures counts { (n : List ℕ) → put_faults self.old n ≤ put_faults self.new n }
+        ensures apart { IsSome (left self.old) → (n : List ℕ) → n ≢ name.now → put_faults self.new n ≡ put_faults self.old n }
+        ensures takes { SameCounts (faults self.old) (faults self.new) };
 
     /// All names that are not there share one count. Where nothing is told, these are all names.
     ghost shared: { (f : Self) → ShareOneCount (left f) (faults f) };
+
+    /// All names that are not there share one count of puts.
+    ghost shared_puts: { (f : Self) → ShareOneCount (left f) (put_faults f) };
 }

@@ -1,5 +1,5 @@
 //! Files in memory that never fail.
-use crate::files::{Files, TakeFault};
+use crate::files::{Files, PutFault, TakeFault};
 use crate::rest::Rest;
 use std::alloc::{AllocError, Global};
 use std::collections::BTreeMap;
@@ -43,15 +43,19 @@ impl HonestFiles {
 }
 
 impl Files for HonestFiles {
-    ghost use Rattle.std.specs.Prelude.{◌≡◌, ◌<◌, ◌≤◌, List, ℕ, [], length, min, refl, Some, IfOk, IsOk, unwrap_or};
-    ghost use Rattle.flu_outside.specs.Outside.{Takes};
+    ghost use Rattle.std.specs.Prelude.{◌≡◌, ◌<◌, ◌≤◌, List, ℕ, [], length, min, refl, Some, IfOk, IsOk, OnOk, OnErr, IfErr, unwrap_or};
+    ghost use Rattle.flu_outside.specs.Outside.{Takes, Puts, SameLeft};
     ghost use Rattle.flu_outside.specs.HonestFiles.{left_of};
 
     ghost left = { λ h. Some (left_of h) };
 
     ghost faults = { λ _ _. 0 };
 
+    ghost put_faults = { λ _ _. 0 };
+
     ghost shared = { λ _ _ _ _ _. refl };
+
+    ghost shared_puts = { λ _ _ _ _ _. refl };
 
     fn take(&mut self, name: &str, buf: &mut [u8]) -> Result<usize, TakeFault>
         requires { 0 < length buf.old }
@@ -67,5 +71,16 @@ impl Files for HonestFiles {
             return Ok(0);
         };
         Ok(rest.take_into(buf.len(), buf))
+    }
+
+    fn put(&mut self, name: &str, bytes: Vec<u8>) -> Result<(), PutFault>
+        ensures holds { OnOk result (Puts name.now bytes.items (left_of self.old) (left_of self.new)) }
+        ensures kept { OnErr result (SameLeft (left_of self.old) (left_of self.new)) }
+
+        // Only memory can be wanting.
+        ensures fault { IfErr result (λ e. e ≡ PutFault.NoMemory) }
+    {
+        self.add(name, bytes)?;
+        Ok(())
     }
 }

@@ -1,4 +1,4 @@
-//! The outside of the program: files, whose bytes are taken from the front, and a sink, which takes bytes.
+//! The outside of the program: files, whose bytes are taken from the front or put whole, and a sink, which takes bytes.
 //!
 //! `Files` and `Sink` say what the program may rely on, whatever stands behind them. `MemFiles`,
 //! `HonestFiles` and `MemSink` hold their bytes in memory. `read_whole` reads a name to its end, and `write_all` writes all
@@ -16,7 +16,7 @@ mod sink;
 mod taking;
 mod writing;
 
-pub use files::{Files, TakeFault};
+pub use files::{Files, PutFault, TakeFault};
 pub use honest_files::HonestFiles;
 pub use laws::{takes_can_be_played, writes_can_be_played};
 pub use mem_files::MemFiles;

@@ -1,51 +1,56 @@
 //! Files in memory, whose calls fail where one says.
-use crate::files::{Files, TakeFault};
+use crate::files::{Files, PutFault, TakeFault};
 use crate::rest::Rest;
 use crate::schedule::Schedule;
 use std::alloc::{AllocError, Global};
 use std::collections::BTreeMap;
 
-/// A file: the bytes that it has left, and how often it failed.
+/// A file: the bytes that it has left, and how often it failed to be taken and to be put.
 #[derive(Drop)]
 struct MemFile {
     rest: Rest,
     faults: u64,
+    put_faults: u64,
 }
 
-/// Files in memory. A name that is not there fails, and so does each call of `take` that is set to fail.
+/// Files in memory. A take of a name that is not there fails, and so does each call of `take` or `put` that is set to fail.
 ///
-/// Contracts see what each name has left (`left_of`), how often it failed (`counts_of`) and the calls
-/// of `take` (`calls_of`), all of `specs/MemFiles.antt`.
+/// Contracts see what each name has left (`left_of`), how often it failed (`counts_of`, and `put_counts_of` for puts) and the calls
+/// of `take` (`calls_of`) and of `put` (`puts_of`), all of `specs/MemFiles.antt`.
 #[derive(Drop)]
 pub struct MemFiles {
     files: BTreeMap<String, MemFile>,
     missing: u64,
     schedule: Schedule,
+    puts: Schedule,
     alloc: Global,
 }
 
 impl MemFiles {
-    ghost use Rattle.std.specs.Prelude.{◌≡◌, ◌≢◌, ◌<◌, ◌≤◌, List, ℕ, None, Some, OnOk, OnErr};
+    ghost use Rattle.std.specs.Prelude.{◌≡◌, ◌≢◌, ◌<◌, ◌≤◌, List, ℕ, [], None, Some, OnOk, OnErr, unwrap_or};
     ghost use Rattle.flu_outside.specs.Outside.{SameLeft, SameCounts};
     ghost use Rattle.flu_outside.specs.Calls.{as_made, with_failing, with_piece, with_later};
-    ghost use Rattle.flu_outside.specs.MemFiles.{left_of, counts_of, calls_of};
+    ghost use Rattle.flu_outside.specs.MemFiles.{left_of, counts_of, put_counts_of, calls_of, puts_of};
 
-    /// No name is there, no call fails, and a take gives all that it can.
+    /// No name is there, no call of `take` or `put` fails, and a take gives all that it can.
     pub fn new(alloc: Global) -> MemFiles
         ensures left { (name : List ℕ) → left_of result name ≡ None }
         ensures counts { (name : List ℕ) → counts_of result name ≡ 0 }
+        ensures put_counts { (name : List ℕ) → put_counts_of result name ≡ 0 }
         ensures calls { calls_of result ≡ as_made }
+        ensures puts { puts_of result ≡ as_made }
     {
         MemFiles {
             files: BTreeMap::new(alloc),
             missing: 0,
             schedule: Schedule::new(alloc),
+            puts: Schedule::new(alloc),
             alloc,
         }
     }
 
-    /// Gives a name these bytes, in place of those that it has. The name keeps its count: a new name
-    /// has the count that names share which are not there.
+    /// Gives a name these bytes, in place of those that it has. The name keeps its counts: a new name
+    /// has the counts that names share which are not there.
     ///
     /// An error leaves all unchanged.
     pub fn add(&mut self, name: &str, bytes: Vec<u8>) -> Result<(), AllocError>
@@ -53,6 +58,8 @@ impl MemFiles {
         ensures others { OnOk result ((n : List ℕ) → n ≢ name.now → left_of self.new n ≡ left_of self.old n) }
         ensures refused { OnErr result (SameLeft (left_of self.old) (left_of self.new)) }
         ensures counts { SameCounts (counts_of self.old) (counts_of self.new) }
+        ensures put_counts { SameCounts (put_counts_of self.old) (put_counts_of self.new) }
+        ensures puts { puts_of self.new ≡ puts_of self.old }
         ensures calls { calls_of self.new ≡ calls_of self.old }
     {
         let rest = Rest::of(bytes);
@@ -62,8 +69,29 @@ impl MemFiles {
         }
         let name = String::from_str(self.alloc, name)?;
         let faults = self.missing;
-        self.files.insert(name, MemFile { rest, faults })?;
+        let file = MemFile {
+            rest,
+            faults,
+            put_faults: 0,
+        };
+        self.files.insert(name, file)?;
         Ok(())
+    }
+
+    /// Sees to it that a name is there: a new one is empty.
+    fn enter(&mut self, name: &str) -> Result<(), AllocError>
+        ensures here { OnOk result (left_of self.new name.now ≡ Some (unwrap_or (left_of self.old name.now) [])) }
+        ensures others { OnOk result ((n : List ℕ) → n ≢ name.now → left_of self.new n ≡ left_of self.old n) }
+        ensures refused { OnErr result (SameLeft (left_of self.old) (left_of self.new)) }
+        ensures counts { SameCounts (counts_of self.old) (counts_of self.new) }
+        ensures put_counts { SameCounts (put_counts_of self.old) (put_counts_of self.new) }
+        ensures puts { puts_of self.new ≡ puts_of self.old }
+        ensures calls { calls_of self.new ≡ calls_of self.old }
+    {
+        if self.files.contains_key(name) {
+            return Ok(());
+        }
+        self.add(name, Vec::new(self.alloc))
     }
 
     /// Lets a call of `take` fail, counted from 1. An error leaves all unchanged.
@@ -72,8 +100,22 @@ impl MemFiles {
         ensures refused { OnErr result (calls_of self.new ≡ calls_of self.old) }
         ensures left { SameLeft (left_of self.old) (left_of self.new) }
         ensures counts { SameCounts (counts_of self.old) (counts_of self.new) }
+        ensures put_counts { SameCounts (put_counts_of self.old) (put_counts_of self.new) }
+        ensures puts { puts_of self.new ≡ puts_of self.old }
     {
         self.schedule.fail_at(call)
+    }
+
+    /// Lets a call of `put` fail, counted from 1. An error leaves all unchanged.
+    pub fn fail_put(&mut self, call: u64) -> Result<(), AllocError>
+        ensures set { OnOk result (puts_of self.new ≡ with_failing call (puts_of self.old)) }
+        ensures refused { OnErr result (puts_of self.new ≡ puts_of self.old) }
+        ensures left { SameLeft (left_of self.old) (left_of self.new) }
+        ensures counts { SameCounts (counts_of self.old) (counts_of self.new) }
+        ensures put_counts { SameCounts (put_counts_of self.old) (put_counts_of self.new) }
+        ensures calls { calls_of self.new ≡ calls_of self.old }
+    {
+        self.puts.fail_at(call)
     }
 
     /// Lets a take give at most so many bytes.
@@ -82,6 +124,8 @@ impl MemFiles {
         ensures set { calls_of self.new ≡ with_piece most (calls_of self.old) }
         ensures left { SameLeft (left_of self.old) (left_of self.new) }
         ensures counts { SameCounts (counts_of self.old) (counts_of self.new) }
+        ensures put_counts { SameCounts (put_counts_of self.old) (put_counts_of self.new) }
+        ensures puts { puts_of self.new ≡ puts_of self.old }
     {
         self.schedule.set_piece(most);
     }
@@ -95,25 +139,31 @@ impl MemFiles {
         ensures refused { OnErr result (calls_of self.new ≡ calls_of self.old) }
         ensures left { SameLeft (left_of self.old) (left_of self.new) }
         ensures counts { SameCounts (counts_of self.old) (counts_of self.new) }
+        ensures put_counts { SameCounts (put_counts_of self.old) (put_counts_of self.new) }
+        ensures puts { puts_of self.new ≡ puts_of self.old }
     {
         self.schedule.add_piece(most)
     }
 }
 
 impl Files for MemFiles {
-    ghost use Rattle.std.specs.Prelude.{◌≡◌, ◌<◌, ◌≤◌, ◌+◌, ◌-◌, ◌^◌, List, ℕ, [], length, min, Some, IfOk, OnOk, OnErr, IfErr, IsErrOf, is_ok, is_some, not, ◌&&◌, unwrap_or};
-    ghost use Rattle.flu_outside.specs.Outside.{Rose, Takes, SameLeft, SameCounts, CountApart};
+    ghost use Rattle.std.specs.Prelude.{◌≡◌, ◌≢◌, ◌<◌, ◌≤◌, ◌+◌, ◌-◌, ◌^◌, List, ℕ, [], length, min, Some, IfOk, OnOk, OnErr, IfErr, IsErrOf, IsSome, is_ok, true, false, is_some, not, ◌&&◌, unwrap_or};
+    ghost use Rattle.flu_outside.specs.Outside.{Rose, Takes, Puts, OthersStay, SameLeft, SameCounts, CountApart};
     ghost use Rattle.std.specs.BTreeMap.{get_by_text};
     ghost use Rattle.flu_outside.specs.Shared.{share_one_count};
     ghost use Rattle.flu_outside.specs.Answers.{IsTaken, answer_of};
     ghost use Rattle.flu_outside.specs.Calls.{next_fails, after_call};
-    ghost use Rattle.flu_outside.specs.MemFiles.{left_of, counts_of, calls_of};
+    ghost use Rattle.flu_outside.specs.MemFiles.{left_of, counts_of, put_counts_of, calls_of, puts_of};
 
     ghost left = { λ m. Some (left_of m) };
 
     ghost faults = { counts_of };
 
+    ghost put_faults = { put_counts_of };
+
     ghost shared = { λ m. share_one_count (λ f. f.rest) (λ f. f.faults) m.missing (get_by_text m.files) };
+
+    ghost shared_puts = { λ m. share_one_count (λ f. f.rest) (λ f. f.put_faults) 0 (get_by_text m.files) };
 
     fn take(&mut self, name: &str, buf: &mut [u8]) -> Result<usize, TakeFault>
         requires { 0 < length buf.old }
@@ -128,6 +178,7 @@ impl Files for MemFiles {
 
         ensures counts { (n : List ℕ) → counts_of self.old n ≤ counts_of self.new n }
         ensures others { (n : List ℕ) → CountApart (Some (left_of self.old)) name.now n → counts_of self.new n ≡ counts_of self.old n }
+        ensures puts { SameCounts (put_counts_of self.old) (put_counts_of self.new) }
 
         // It fails exactly where the call is set to fail or the name is not there, never for memory, and
         // gives as many bytes as it can.
@@ -136,6 +187,7 @@ impl Files for MemFiles {
         ensures amount { IfOk result (λ n. n ≡ min (min (length buf.old) (calls_of self.old).piece) (length (unwrap_or (left_of self.old name.now) []))) }
         ensures raised { OnErr result (counts_of self.new name.now ≡ min (counts_of self.old name.now + 1) (2 ^ 64 - 1)) }
         ensures calls { calls_of self.new ≡ after_call (calls_of self.old) }
+        ensures put_calls { puts_of self.new ≡ puts_of self.old }
 
         // The same, as one definition: that of `takes_can_be_played`.
         ensures answer { IsTaken (calls_of self.old) (left_of self.old) (left_of self.new) name.now (length buf.old) (answer_of result buf.new) }
@@ -151,5 +203,40 @@ impl Files for MemFiles {
             return Err(TakeFault::Failed);
         }
         Ok(file.rest.take_into(most, buf))
+    }
+
+    fn put(&mut self, name: &str, bytes: Vec<u8>) -> Result<(), PutFault>
+        ensures holds { OnOk result (Puts name.now bytes.items (left_of self.old) (left_of self.new)) }
+        ensures quiet { OnOk result (SameCounts (put_counts_of self.old) (put_counts_of self.new)) }
+
+        ensures others { IsErrOf result PutFault.Failed → OthersStay name.now (left_of self.old) (left_of self.new) }
+        ensures failed { IsErrOf result PutFault.Failed → Rose (put_counts_of self.old name.now) (put_counts_of self.new name.now) }
+        ensures kept { IsErrOf result PutFault.NoMemory → SameLeft (left_of self.old) (left_of self.new) }
+        ensures no_memory { IsErrOf result PutFault.NoMemory → SameCounts (put_counts_of self.old) (put_counts_of self.new) }
+
+        ensures counts { (n : List ℕ) → put_counts_of self.old n ≤ put_counts_of self.new n }
+        ensures apart { (n : List ℕ) → n ≢ name.now → put_counts_of self.new n ≡ put_counts_of self.old n }
+        ensures takes { SameCounts (counts_of self.old) (counts_of self.new) }
+
+        // Where memory is there it fails exactly where the call is set to fail. A new name is there then, and empty.
+        ensures succeeds { OnOk result (next_fails (puts_of self.old) ≡ false) }
+        ensures fails { IsErrOf result PutFault.Failed → next_fails (puts_of self.old) ≡ true }
+        ensures stays { IsErrOf result PutFault.Failed → left_of self.new name.now ≡ Some (unwrap_or (left_of self.old name.now) []) }
+        ensures raised { IsErrOf result PutFault.Failed → put_counts_of self.new name.now ≡ min (put_counts_of self.old name.now + 1) (2 ^ 64 - 1) }
+        ensures calls { calls_of self.new ≡ calls_of self.old }
+        ensures puts { puts_of self.new ≡ after_call (puts_of self.old) }
+    {
+        let fails = self.puts.count();
+        self.enter(name)?;
+        let file = match self.files.get_mut(name) {
+            Some(file) => file,
+            None => unreachable!(),
+        };
+        if fails {
+            file.put_faults = file.put_faults.saturating_add(1);
+            return Err(PutFault::Failed);
+        }
+        file.rest = Rest::of(bytes);
+        Ok(())
     }
 }

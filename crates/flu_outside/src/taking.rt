@@ -28,6 +28,7 @@ pub fn take_behind<F: Files>(
     ensures counts { CountsOf (F.left files.old) name.now (F.faults files.old) (F.faults files.new) }
     ensures quiet { result ≢ Err TakeFault.Failed → SameCounts (F.faults files.old) (F.faults files.new) }
     ensures failed { IsErrOf result TakeFault.Failed → Rose (F.faults files.old name.now) (F.faults files.new name.now) }
+    ensures puts { SameCounts (F.put_faults files.old) (F.put_faults files.new) }
 {
     let mut chunk = [0u8; CHUNK];
     let count = files.take(name, &mut chunk)?;
@@ -49,6 +50,7 @@ pub fn read_whole<F: Files>(
     ensures taken { WhereTold (F.left files.old) (F.left files.new) (TakesFrom name.now) }
     ensures counts { CountsOf (F.left files.old) name.now (F.faults files.old) (F.faults files.new) }
     ensures quiet { result ≢ Err TakeFault.Failed → SameCounts (F.faults files.old) (F.faults files.new) }
+    ensures puts { SameCounts (F.put_faults files.old) (F.put_faults files.new) }
 
     // A failed take is told only where it was needed: no more than `most` bytes came before it.
     ensures failed { IsErrOf result TakeFault.Failed → Rose (F.faults files.old name.now) (F.faults files.new name.now) }

@@ -96,6 +96,7 @@ impl Rows {
         ensures taken { WhereTold (F.left files.old) (F.left files.new) (TakesFrom self.old.file) }
         ensures counts { CountsOf (F.left files.old) self.old.file (F.faults files.old) (F.faults files.new) }
         ensures quiet { result ≢ Err RowsFault.ReadFault → SameCounts (F.faults files.old) (F.faults files.new) }
+        ensures puts { SameCounts (F.put_faults files.old) (F.put_faults files.new) }
         ensures cause { IsErrOf result RowsFault.ReadFault → Rose (F.faults files.old self.old.file) (F.faults files.new self.old.file) }
 
         // A read fault is told only where it hides nothing that was taken: all that was still to be read still is, and what was
@@ -132,6 +133,7 @@ impl Hold {
         ensures taken { WhereTold (F.left files.old) (F.left files.new) (TakesFrom file.now) }
         ensures counts { CountsOf (F.left files.old) file.now (F.faults files.old) (F.faults files.new) }
         ensures quiet { result ≢ Err RowsFault.ReadFault → SameCounts (F.faults files.old) (F.faults files.new) }
+        ensures puts { SameCounts (F.put_faults files.old) (F.put_faults files.new) }
         ensures cause { IsErrOf result RowsFault.ReadFault → Rose (F.faults files.old file.now) (F.faults files.new file.now) }
         ensures kept { IsErrOf result RowsFault.ReadFault → WhereTold (F.left files.old) (F.left files.new) (ReadsStep file.now self.old.lines (self.old.run ++ self.old.held) self.new.lines (self.new.run ++ self.new.held) Step.Skip) }
         ensures undecided { IsErrOf result RowsFault.ReadFault → IsUndecided (self.new.run ++ self.new.held) }

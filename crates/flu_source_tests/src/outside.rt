@@ -1,8 +1,9 @@
 //! Files and sinks in memory, and the taking and writing of many bytes.
 
 use flu_outside::{
-    Failed, Files, HonestFiles, MemFiles, MemSink, Sink, TakeFault, read_whole, write_all,
+    Failed, Files, HonestFiles, MemFiles, MemSink, PutFault, Sink, TakeFault, read_whole, write_all,
 };
+use std::alloc::Global;
 use std::process::Abort;
 use std::test::Fail;
 
@@ -19,6 +20,20 @@ fn take_each<F: Files>(rt: &impl Abort, files: &mut F, cases: &[(&str, Option<&[
         };
         assert_eq!(rt; got, *wanted, "{name}");
     }
+}
+
+/// Puts bytes at names in turn, and takes from each behind it: what is put, the answer, and what the take gives.
+fn put_each<F: Files>(
+    rt: &impl Abort,
+    alloc: Global,
+    files: &mut F,
+    cases: &[(&str, &[u8], Result<(), PutFault>, &[u8])],
+) -> Result<(), Fail> {
+    for (name, bytes, answer, wanted) in cases {
+        assert_eq!(rt; files.put(name, bytes.to_vec(alloc)?), *answer, "{name}");
+        take_each(rt, files, &[(*name, Some(*wanted))]);
+    }
+    Ok(())
 }
 
 /// Writes texts in turn, and compares how many bytes are taken: `None` where it fails.
@@ -111,6 +126,31 @@ fn honest_names_are_empty(rt: HostRuntime) -> Result<(), Fail> {
     ];
     take_each(&rt, &mut files, &cases);
     Ok(())
+}
+
+#[test]
+fn puts_in_place(rt: HostRuntime) -> Result<(), Fail> {
+    let mut files = MemFiles::new(rt.alloc());
+    files.add("job", b"abcdefgh".to_vec(rt.alloc())?)?;
+    let fails = Err(PutFault::Failed);
+    files.fail_put(3)?;
+    files.fail_put(5)?;
+    take_each(&rt, &mut files, &[("job", Some(b"abcd"))]);
+    let cases: [(&str, &[u8], Result<(), PutFault>, &[u8]); 6] = [
+        ("job", b"xy", Ok(()), b"xy"),
+        ("save", b"12345", Ok(()), b"1234"),
+        ("save", b"9", fails, b"5"),
+        ("save", b"9", Ok(()), b"9"),
+        ("new", b"7", fails, b""),
+        ("new", b"", Ok(()), b""),
+    ];
+    put_each(&rt, rt.alloc(), &mut files, &cases)?;
+    let mut files = HonestFiles::new(rt.alloc());
+    let cases: [(&str, &[u8], Result<(), PutFault>, &[u8]); 2] = [
+        ("job", b"abcdef", Ok(()), b"abcd"),
+        ("job", b"xy", Ok(()), b"xy"),
+    ];
+    put_each(&rt, rt.alloc(), &mut files, &cases)
 }
 
 #[test]

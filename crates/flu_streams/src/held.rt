@@ -126,6 +126,7 @@ impl Held {
         ensures others { WhereTold (F.left files.old) (F.left files.new) (LeavesOthers (files_of p.now.sources)) }
         ensures counts { CountsOfNames (F.left files.old) (files_of p.now.sources) (F.faults files.old) (F.faults files.new) }
         ensures quiet { result ≢ Err GatherFault.ReadFault → SameCounts (F.faults files.old) (F.faults files.new) }
+        ensures puts { SameCounts (F.put_faults files.old) (F.put_faults files.new) }
         ensures hides { IsErrOf result GatherFault.ReadFault → (before : ℕ → List Next) → AreHeldBehind self.old before → HidesNoRoundFault self.old (F.left files.old) (F.left files.new) before }
         ensures cause { IsErrOf result GatherFault.ReadFault → OneRose (files_of p.now.sources) (F.faults files.old) (F.faults files.new) }
     {
@@ -190,6 +191,7 @@ fn refill_all<F: Files>(
     ensures others { WhereTold (F.left files.old) (F.left files.new) (LeavesOthers (files_of p.now.sources)) }
     ensures counts { CountsOfNames (F.left files.old) (files_of p.now.sources) (F.faults files.old) (F.faults files.new) }
     ensures quiet { result ≢ Err GatherFault.ReadFault → SameCounts (F.faults files.old) (F.faults files.new) }
+    ensures puts { SameCounts (F.put_faults files.old) (F.put_faults files.new) }
     ensures cause { IsErrOf result GatherFault.ReadFault → OneRose (files_of p.now.sources) (F.faults files.old) (F.faults files.new) }
 {
     let mut end = Border::Closed;

@@ -41,6 +41,7 @@ loop-source-init g c =
       fronts = told_same TookFronts left (λ x name rest e. ([], e));
       counts = record { rise = λ n. omega arith; apart = λ n apart. refl };
       quiet = λ n. refl;
+      puts = λ n. refl;
       there = λ n there. there;
     }
 
@@ -169,5 +170,6 @@ loop-source-preserved g c =
       fronts = fronts_then (left old) (left b) (left new) inv.fronts (fronts_at s.file (left b) (left new) taken);
       counts = rw names (counts_more (left old) (left b) (files_of earlier) s.file (faults old) (faults b) (faults new) inv.there inv.counts c.in-Ok.ensures.counts);
       quiet = search rules;
+      puts = search rules;
       there = there_more s.file (left old) (left b) (left new) taken inv.there;
     }

@@ -12,6 +12,7 @@ abbrev pub invariant-loop-source : goal.invariant-loop-source
 invariant-loop-source g l =
     let left = g.F.Files.left in
     let faults = g.F.Files.faults in
+    let put_faults = g.F.Files.put_faults in
     let earlier = take l.source-index l.p.sources in
     record {
       number : l.number ≡ l.source-index;
@@ -25,5 +26,6 @@ invariant-loop-source g l =
       fronts : WhereTold (left l.fn.files) (left l.files) TookFronts;
       counts : CountsOfNames (left l.fn.files) (files_of earlier) (faults l.fn.files) (faults l.files);
       quiet : SameCounts (faults l.fn.files) (faults l.files);
+      puts : SameCounts (put_faults l.fn.files) (put_faults l.files);
       there : (n : List ℕ) → IsThere (left l.fn.files) n → IsThere (left l.files) n;
     }

@@ -13,3 +13,9 @@ returns-clause-others c = λ n other. grind (arith, text_keys)
 
 pub returns-clause-counts : goal.returns-clause-counts
 returns-clause-counts c = λ n. grind (arith, text_keys)
+
+pub returns-in-Some-clause-put_counts : goal.returns-in-Some-clause-put_counts
+returns-in-Some-clause-put_counts c = λ n. grind (arith, text_keys)
+
+pub returns-clause-put_counts : goal.returns-clause-put_counts
+returns-clause-put_counts c = λ n. grind (arith, text_keys)

@@ -53,3 +53,9 @@ returns-clause-answer c =
         others = λ other apart. grind (arith, text_keys);
       },
     )
+
+pub returns-then-fails-clause-puts : goal.returns-then-fails-clause-puts
+returns-then-fails-clause-puts c = λ n. grind (arith, text_keys)
+
+pub returns-clause-puts : goal.returns-clause-puts
+returns-clause-puts c = λ n. grind (arith, text_keys)

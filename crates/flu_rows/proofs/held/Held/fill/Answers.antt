@@ -27,6 +27,7 @@ loop-len-preserved g c =
       taken = taken_then file (left old) (left mid) (left new) c.loop-len.invariant.taken c.in_ok-count.ensures.taken;
       counts = counts_then file (left old) (left mid) (faults old) (faults mid) (faults new) c.loop-len.invariant.taken c.loop-len.invariant.counts c.in_ok-count.ensures.counts;
       quiet = search rules;
+      puts = search rules;
     }
 
 pub returns-else-len-gt-LONGEST_LINE-clause-found : goal.returns-else-len-gt-LONGEST_LINE-clause-found

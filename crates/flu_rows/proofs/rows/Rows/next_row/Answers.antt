@@ -28,6 +28,7 @@ loop-next-preserved g c =
       taken = taken_then file (left old) (left mid) (left new) c.loop-next.invariant.taken (rw name at c.in_ok-read_line.ensures.taken);
       counts = counts_then file (left old) (left mid) (faults old) (faults mid) (faults new) c.loop-next.invariant.taken c.loop-next.invariant.counts (rw name at c.in_ok-read_line.ensures.counts);
       quiet = search rules;
+      puts = search rules;
     }
 
 pub returns-in-Give-clause-taken : goal.returns-in-Give-clause-taken

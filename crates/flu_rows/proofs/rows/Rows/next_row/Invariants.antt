@@ -9,6 +9,7 @@ abbrev pub invariant-loop-next : goal.invariant-loop-next
 invariant-loop-next g l =
     let left = g.F.Files.left in
     let faults = g.F.Files.faults in
+    let put_faults = g.F.Files.put_faults in
     let old = l.fn.self in
     record {
       same : l.self-inside.file ≡ old.file;
@@ -17,6 +18,7 @@ invariant-loop-next g l =
       taken : WhereTold (left l.fn.files) (left l.files) (TakesFrom old.file);
       counts : CountsOf (left l.fn.files) old.file (faults l.fn.files) (faults l.files);
       quiet : SameCounts (faults l.fn.files) (faults l.files);
+      puts : SameCounts (put_faults l.fn.files) (put_faults l.files);
     }
 
 abbrev pub decreases-loop-next : goal.decreases-loop-next

@@ -22,6 +22,7 @@ loop-time-init g c =
       taken = none_taken file left;
       counts = no_counts file left (g.F.Files.faults c.args.files.now);
       quiet = λ n. refl;
+      puts = λ n. refl;
     }
 
 pub returns-in-Some-clause-filled : goal.returns-in-Some-clause-filled
@@ -83,6 +84,7 @@ loop-time-preserved g c =
       taken = taken_then file (left old) (left mid) (left new) c.loop-time.invariant.taken (rw c.loop-time.invariant.file at c.in-Ok.ensures.taken);
       counts = counts_then file (left old) (left mid) (faults old) (faults mid) (faults new) c.loop-time.invariant.taken c.loop-time.invariant.counts (rw c.loop-time.invariant.file at c.in-Ok.ensures.counts);
       quiet = search rules;
+      puts = search rules;
     }
 
 pub returns-in-Some-defect_behind : goal.returns-in-Some-defect_behind
@@ -100,6 +102,7 @@ returns-in-Some-defect_behind g c =
       taken = taken_then file (left old) (left mid) (left new) c.loop-time.invariant.taken (rw c.loop-time.invariant.file at c.in-Ok.ensures.taken);
       counts = counts_then file (left old) (left mid) (faults old) (faults mid) (faults new) c.loop-time.invariant.taken c.loop-time.invariant.counts (rw c.loop-time.invariant.file at c.in-Ok.ensures.counts);
       quiet = search rules;
+      puts = search rules;
       cause = search rules;
     }
 
@@ -121,5 +124,6 @@ returns-in_default-next g c =
       taken = taken_then file (left old) (left mid) (left new) c.loop-time.invariant.taken (rw c.loop-time.invariant.file at c.in-Ok.ensures.taken);
       counts = counts_then file (left old) (left mid) (faults old) (faults mid) (faults new) c.loop-time.invariant.taken c.loop-time.invariant.counts (rw c.loop-time.invariant.file at c.in-Ok.ensures.counts);
       quiet = search rules;
+      puts = search rules;
       cause = search rules;
     }

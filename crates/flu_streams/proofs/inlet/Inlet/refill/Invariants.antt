@@ -10,6 +10,7 @@ abbrev pub invariant-loop-time : goal.invariant-loop-time
 invariant-loop-time g l =
     let left = g.F.Files.left in
     let faults = g.F.Files.faults in
+    let put_faults = g.F.Files.put_faults in
     record {
       file : l.self.rows.file ≡ l.source.file;
       so_far : (above : Option ℕ) (before : List Next) → IsHeldBehind l.kinds l.first l.source above before (source_of l.fn.self)
@@ -19,6 +20,7 @@ invariant-loop-time g l =
       taken : WhereTold (left l.fn.files) (left l.files) (TakesFrom l.source.file);
       counts : CountsOf (left l.fn.files) l.source.file (faults l.fn.files) (faults l.files);
       quiet : SameCounts (faults l.fn.files) (faults l.files);
+      puts : SameCounts (put_faults l.fn.files) (put_faults l.files);
     }
 
 abbrev pub decreases-loop-time : goal.decreases-loop-time
