@@ -1,3 +1,4 @@
 pub mod PassLemmas
 pub mod RowLemmas
 pub mod StepLemmas
+pub mod TiedLemmas

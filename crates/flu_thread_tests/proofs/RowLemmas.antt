@@ -1,5 +1,6 @@
 -- What the case of the tests gives, by the laws of lots.
-use Rattle.std.proofs.Common.{◌≡◌, ◌≢◌, ℕ, zero, suc, ◌+◌, ◌^◌, ◌<◌, ◌≤◌, Bool, true, false, cond, ◌||◌, ◌==◌, ℤ, pos, inl, inr, List, [], ◌∷◌, map, length, sym, refl, ap, ◌∙◌, subst, ne_eqb, arith, Some, None}
+use Rattle.std.proofs.Common.{◌≡◌, ◌≢◌, ℕ, zero, suc, ◌+◌, ◌^◌, ◌<◌, ◌≤◌, Bool, true, false, ◌||◌, ◌==◌, ℤ, pos}
+use Rattle.std.proofs.Common.{inl, inr, List, [], ◌∷◌, map, length, sym, refl, ap, ◌∙◌, subst, ne_eqb, arith, Some, None}
 use Rattle.std.specs.Prelude.{◌↔◌, slice_get, slice_index, slice_index_or, slice_set}
 use Rattle.std.specs.List.{range_with_len}
 use Rattle.std.proofs.lemmas.Bool.{cases_eq}
@@ -19,16 +20,15 @@ use Rattle.flu_fork.specs.declared.content.Content.{Content}
 use Rattle.flu_fork.specs.declared.lots.Lot.{Lot}
 use Rattle.flu_fork.specs.Classes.{itag, own, below}
 use Rattle.flu_fork.specs.Fitting.{Fits}
-use Rattle.flu_fork.specs.Kin.{own_at, above_at, IsOfKids, ItagsAreOfNodes, ItagsAreOfKids}
+use Rattle.flu_fork.specs.Kin.{own_at, above_at, ItagsAreOfNodes, ItagsAreOfKids}
 use Rattle.flu_fork.specs.Laws.{no_counts, CentralLaw}
-use Rattle.flu_fork.specs.Lots.{job, nodes, kids, setting_of, LotFits, LotsPaired, HasJoinedCounts}
-use Rattle.flu_fork.specs.Parts.{joined_counts, ArePaired}
+use Rattle.flu_fork.specs.Lots.{job, nodes, kids, setting_of, LotFits}
 use Rattle.flu_fork.specs.Places.{HasMoment, EventsHaveMoments}
 use Rattle.flu_fork.specs.Serving.{AsksAbove, IsOnLoan, LeavesServe, ContentsAreSettings}
 use Rattle.flu_fork.specs.Settings.{events_at}
 use Rattle.flu_fork.specs.Streams.{IsEventAt, IsStreamExact, IsClearOf, ExactnessAgrees}
-use Rattle.flu_thread_tests.specs.Rows.{event, row, HasShape, IsRow, first_read, no_events, IsUnused, IsServed}
-use Rattle.flu_thread_tests.specs.Walks.{HasRow, ComesNext, FitsOwner}
+use Rattle.flu_thread_tests.specs.Rows.{event, row, HasShape, IsRow, first_read, no_events, IsServed}
+use Rattle.flu_thread_tests.specs.Walks.{ComesNext, FitsOwner}
 
 abbrev pub none : List ℕ
 none = 0 ∷ 0 ∷ 0 ∷ []
@@ -150,9 +150,6 @@ abbrev AsksOf : Content → ℕ → Event → List ℕ → ℕ → ℕ → Event
 AsksOf k i x upto j l y = itags_depend (job k) (itag i) (itag j) ≡ true → (l < slice_index upto j) ↔ (is_before y x ≡ true)
 
 module _ (k : Content) (i : ℕ) (x : Event) (upto : List ℕ) (j l : ℕ) (y : Event) where
-  before : l < slice_index upto j → is_before y x ≡ true → AsksOf k i x upto j l y
-  before lt earlier dep = ((λ less. earlier), (λ told. lt))
-
   behind : slice_index upto j ≤ l → is_before y x ≡ false → AsksOf k i x upto j l y
   behind le later dep = ((λ less. absurd (omega arith)), (λ earlier. absurd cc))
 
@@ -168,16 +165,6 @@ comes k r t i v upto lot are long small at room exact = record {
   room = subst (λ (us : List ℕ). slice_index us i + 1 < 2 ^ 64) (sym are) room;
 }
 
--- the itags of the two leaves are independent
-apart : (k : Content) → IsRow k → ContentsAreSettings → ItagsAreOfNodes → itags_depend (job k) (itag 1) (itag 0) ≡ false
-apart k r settings of_nodes =
-    let shape = r.shape in
-    let one : 1 < count_of_itags (job k) = (let c = shape.itags in omega arith) in
-    let zero : 0 < count_of_itags (job k) = (let c = shape.itags in omega arith) in
-    let right = ((of_nodes (setting_of k) 2 1 (settings k) one).owner).1 shape.right in
-    let left = ((of_nodes (setting_of k) 1 0 (settings k) zero).owner).1 shape.left in
-    ((settings k).valid).independent 2 1 (itag 1) (itag 0) one zero right left shape.apart
-
 pub first_comes : (k : Content) → IsRow k → (lot : Lot) → lot.upto ≡ none → ComesNext k lot first
 first_comes k r lot are =
     comes k r 1 0 (pos 5) none lot are refl (omega arith) refl (omega arith)
@@ -185,108 +172,8 @@ first_comes k r lot are =
     each (AsksOf k 0 x none) (behind k 0 x none 0 0 first (omega arith) refl) (behind k 0 x none 0 1 fourth (omega arith) refl)
     (behind k 0 x none 1 0 second (omega arith) refl) (behind k 0 x none 2 0 read (omega arith) refl) (behind k 0 x none 2 1 last (omega arith) refl))
 
-pub second_comes : (k : Content) → IsRow k → ContentsAreSettings → ItagsAreOfNodes → (lot : Lot) → lot.upto ≡ none → ComesNext k lot second
-second_comes k r settings of_nodes lot are =
-    comes k r 2 1 (pos 7) none lot are refl (omega arith) refl (omega arith)
-    (let x = second in
-    each (AsksOf k 1 x none) (λ dep. absurd (let no = apart k r settings of_nodes in cc)) (behind k 1 x none 0 1 fourth (omega arith) refl)
-    (behind k 1 x none 1 0 second (omega arith) refl) (behind k 1 x none 2 0 read (omega arith) refl) (behind k 1 x none 2 1 last (omega arith) refl))
-
-pub read_comes : (k : Content) → IsRow k → (lot : Lot) → lot.upto ≡ 1 ∷ 1 ∷ 0 ∷ [] → ComesNext k lot read
-read_comes k r lot are =
-    comes k r 3 2 (pos 0) (1 ∷ 1 ∷ 0 ∷ []) lot are refl (omega arith) refl (omega arith)
-    (let us = 1 ∷ 1 ∷ 0 ∷ [] in
-    each (AsksOf k 2 read us) (before k 2 read us 0 0 first (omega arith) refl) (behind k 2 read us 0 1 fourth (omega arith) refl)
-    (before k 2 read us 1 0 second (omega arith) refl) (behind k 2 read us 2 0 read (omega arith) refl) (behind k 2 read us 2 1 last (omega arith) refl))
-
-pub fourth_comes : (k : Content) → IsRow k → (lot : Lot) → lot.upto ≡ 1 ∷ 1 ∷ 1 ∷ [] → ComesNext k lot fourth
-fourth_comes k r lot are =
-    comes k r 4 0 (pos 2) (1 ∷ 1 ∷ 1 ∷ []) lot are refl (omega arith) refl (omega arith)
-    (let x = fourth in
-    let us = 1 ∷ 1 ∷ 1 ∷ [] in
-    each (AsksOf k 0 x us) (before k 0 x us 0 0 first (omega arith) refl) (behind k 0 x us 0 1 fourth (omega arith) refl)
-    (before k 0 x us 1 0 second (omega arith) refl) (before k 0 x us 2 0 read (omega arith) refl) (behind k 0 x us 2 1 last (omega arith) refl))
-
 pub fits_owner : (k : Content) (v : ℕ) (x : Event) (lot : Lot) → owner_of (job k) (nodes k) x.itag ≡ Some v → LotFits k v lot → FitsOwner k x lot
 fits_owner k v x lot owner fits w other = subst (λ (u : ℕ). LotFits k u lot) (one_owner v w (sym owner ∙ other)) fits
-
--- a row after an event of its node
-pub row_after : (k : Content) (w : ℕ) (since upto : List ℕ) (old new : Lot) (x : Event) → owner_of (job k) (nodes k) x.itag ≡ Some w
-    → HasRow k w since upto old → FitsOwner k x new → new.since ≡ old.since → new.upto ≡ slice_set old.upto x.itag.0 (slice_index old.upto x.itag.0 + 1)
-    → HasRow k w since (slice_set upto x.itag.0 (slice_index upto x.itag.0 + 1)) new
-row_after k w since upto old new x owner h fits same more = record {
-  fits = fits w owner;
-  since = same ∙ h.since;
-  upto = more ∙ ap (λ (us : List ℕ). slice_set us x.itag.0 (slice_index us x.itag.0 + 1)) h.upto;
-}
-
--- the same row, by equal counts
-pub row_as : (k : Content) (w : ℕ) (from from' to to' : List ℕ) (lot : Lot) → from ≡ from' → to ≡ to' → HasRow k w from to lot → HasRow k w from' to' lot
-row_as k w from from' to to' lot since upto h = record { fits = h.fits; since = h.since ∙ since; upto = h.upto ∙ upto }
-
--- ---- the join of the walk
-
--- the root's children are these two
-pub of_root : (k : Content) → HasShape k → (P : ℕ → ℕ → Type 0) → P 1 2 → (l r : ℕ) → kids k 0 ≡ Some (l, r) → P l r
-of_root k shape P p l r are =
-    let same : (1, 2) ≡ (l, r) = (let both : Some (1, 2) ≡ Some (l, r) = sym shape.root ∙ are in cc) in
-    subst (λ (z : ℕ × ℕ). P z.0 z.1) same p
-
-module _ (k : Content) (r : IsRow k) (settings : ContentsAreSettings) (of_nodes : ItagsAreOfNodes) (of_kids : ItagsAreOfKids) where
-  small : (i : ℕ) → i < 3 → i < count_of_itags (job k)
-  small i lt = subst (λ (n : ℕ). i < n) (sym r.shape.itags) lt
-
-  is_below : (w i : ℕ) → i < 3 → owner_of (job k) (nodes k) (itag i) ≡ Some w → below (job k) (nodes k) w i ≡ true
-  is_below w i lt owner = let n = of_nodes (setting_of k) w i (settings k) (small i lt) in n.own ((n.owner).1 owner)
-
-  kin : (i : ℕ) → i < 3 → IsOfKids (setting_of k) 0 1 2 i
-  kin i lt = of_kids (setting_of k) 0 1 2 i (settings k) r.shape.root (small i lt)
-
-  read_not_right : below (job k) (nodes k) 2 2 ≡ false
-  read_not_right =
-      let mine : own_at (setting_of k) 0 2 ≡ true = ((of_nodes (setting_of k) 0 2 (settings k) (small 2 (omega arith))).owner).1 r.shape.reads in
-      (kin 2 (omega arith)).not_right (ap (λ (b : Bool). b || above_at (setting_of k) 0 2) mine)
-
-  pub joined_are : joined_counts (job k) (nodes k) 2 one (0 ∷ 1 ∷ 0 ∷ []) ≡ 1 ∷ 1 ∷ 0 ∷ []
-  joined_are =
-      ap (λ (n : ℕ). map (λ (i : ℕ). cond (below (job k) (nodes k) 2 i) (slice_index (0 ∷ 1 ∷ 0 ∷ []) i) (slice_index one i)) (range_with_len 0 n)) r.shape.itags
-      ∙ (λ t. cond {A = ℕ} ((kin 0 (omega arith)).apart (is_below 1 0 (omega arith) r.shape.left) t) 0 1
-      ∷ cond {A = ℕ} (is_below 2 1 (omega arith) r.shape.right t) 1 0 ∷ cond {A = ℕ} (read_not_right t) 0 0 ∷ [])
-
-  paired : ArePaired (job k) (nodes k) 1 2 none one none (0 ∷ 1 ∷ 0 ∷ [])
-  paired = record {
-    left_first = λ i. let z = nothing i in omega arith;
-    left_outside = left_out;
-    left_inside = λ i within. let z = nothing i in omega arith;
-    right_outside = right_out;
-    right_inside = λ i within. let z = nothing i in omega arith;
-  }
-    where
-      left_out : (i : ℕ) → below (job k) (nodes k) 1 i ≡ false → slice_index one i ≡ slice_index none i
-      left_out zero away = absurd (let within = is_below 1 0 (omega arith) r.shape.left in cc)
-      left_out (suc zero) away = refl
-      left_out (suc (suc zero)) away = refl
-      left_out (suc (suc (suc i))) away = refl
-
-      right_out : (i : ℕ) → below (job k) (nodes k) 2 i ≡ false → slice_index (0 ∷ 1 ∷ 0 ∷ []) i ≡ slice_index none i
-      right_out zero away = refl
-      right_out (suc zero) away = absurd (let within = is_below 2 1 (omega arith) r.shape.right in cc)
-      right_out (suc (suc zero)) away = refl
-      right_out (suc (suc (suc i))) away = refl
-
-  pub lots_paired : (left right : Lot) → HasRow k 1 none one left → HasRow k 2 none (0 ∷ 1 ∷ 0 ∷ []) right → LotsPaired k 1 2 left right
-  lots_paired left right l r =
-      subst (λ (z : List ℕ × List ℕ × List ℕ × List ℕ). ArePaired (job k) (nodes k) 1 2 z.0 z.1 z.2 z.3)
-      (λ j. (sym l.since j, sym l.upto j, sym r.since j, sym r.upto j)) paired
-
-  pub joined_row : (left right lot : Lot) → HasRow k 1 none one left → HasRow k 2 none (0 ∷ 1 ∷ 0 ∷ []) right → LotFits k 0 lot
-      → HasJoinedCounts k 0 left right lot → HasRow k 0 none (1 ∷ 1 ∷ 0 ∷ []) lot
-  joined_row left right lot at_left at_right fits counts = record {
-    fits = fits;
-    since = counts.since ∙ at_left.since;
-    upto = counts.upto 1 2 r.shape.root
-        ∙ ap (λ (z : List ℕ × List ℕ). joined_counts (job k) (nodes k) 2 z.0 z.1) (λ j. (at_left.upto j, at_right.upto j)) ∙ joined_are;
-  }
 
 -- ---- and the first read, for which the leaf gives its lot
 

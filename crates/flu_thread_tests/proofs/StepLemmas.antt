@@ -11,14 +11,13 @@ use Rattle.flu_fork.specs.declared.lots.Lot.{Lot}
 use Rattle.flu_fork.specs.Laws.{no_counts}
 use Rattle.flu_fork.specs.Lots.{job, kids, LotFits}
 use Rattle.flu_fork.specs.Serving.{LotCounts, counts_of, AsksAbove, GrownFrom, Served}
-use Rattle.flu_worker.specs.declared.hand.Hand.{Hand}
 use Rattle.flu_worker.specs.declared.hand.Hand.TheVariants.{Lending, Down}
 use Rattle.flu_worker.specs.declared.hand.Side.{Side}
 use Rattle.flu_worker.specs.declared.hand.Side.TheVariants.{Left, Right}
-use Rattle.flu_worker.specs.Calls.{HoldsLot, GivesLot, HandlesEvent, LendsPart, IsFitPart, TakesPart, KeepsTarget, IsAskable}
+use Rattle.flu_worker.specs.Calls.{IsNew, HoldsLot, GivesLot, HandlesEvent, LendsPart, IsFitPart, TakesPart, KeepsTarget, IsAskable}
 use Rattle.flu_worker.specs.Hands.{at_side, is_open, may_lend, may_take, after_lend, after_take, first_hand}
 use Rattle.flu_worker.specs.Notes.{WorkerNote, lent_to, taken_from}
-use Rattle.flu_thread_tests.specs.Rows.{row, values, IsTriple, AreThere}
+use Rattle.flu_thread_tests.specs.Rows.{row, values, HasShape, IsTriple, AreThere}
 use Rattle.flu_thread_tests.specs.Steps.{IsBegun, Works, AreAt, IsBack, IsLent, Lends, Takes, AreBack, AreLent}
 
 -- ---- at the start
@@ -32,6 +31,27 @@ seen_all w x y z a b c none s1 s2 s3 =
     let one : x ≡ record w { seen = a ∷ 0 ∷ 0 ∷ [] } = s1 ∙ ap (λ (s : List ℕ). record w { seen = slice_set s 0 a }) none in
     let two : y ≡ record w { seen = a ∷ b ∷ 0 ∷ [] } = s2 ∙ ap (λ (n : WorkerNote). record n { seen = slice_set n.seen 1 b }) one in
     s3 ∙ ap (λ (n : WorkerNote). record n { seen = slice_set n.seen 2 c }) two
+
+-- what a new worker has seen, and that it may see more
+pub seen_first : (k : Content) (v a : ℕ) (w x : WorkerNote) → count_of_itags (job k) ≡ 3 → IsNew k v w → x ≡ record w { seen = slice_set w.seen 0 a }
+    → x.seen ≡ a ∷ 0 ∷ 0 ∷ []
+seen_first k v a w x itags new is =
+    ap (λ (m : WorkerNote). m.seen) is ∙ ap (λ (s : List ℕ). slice_set s 0 a) (new.seen ∙ zeros_of k itags)
+
+pub seen_second : (k : Content) (v a b : ℕ) (w x y : WorkerNote) → count_of_itags (job k) ≡ 3 → IsNew k v w → x ≡ record w { seen = slice_set w.seen 0 a }
+    → y ≡ record x { seen = slice_set x.seen 1 b } → y.seen ≡ a ∷ b ∷ 0 ∷ []
+seen_second k v a b w x y itags new first second =
+    ap (λ (m : WorkerNote). m.seen) second ∙ ap (λ (s : List ℕ). slice_set s 1 b) (seen_first k v a w x itags new first)
+
+pub see_in_range : (n : WorkerNote) (s : List ℕ) (i : ℕ) → n.seen ≡ s → i < length s → i < length n.seen
+see_in_range n s i is lt = subst (λ (l : List ℕ). i < length l) (sym is) lt
+
+pub see_forward : (n : WorkerNote) (s : List ℕ) (i count : ℕ) → n.seen ≡ s → slice_index s i ≤ count → slice_index n.seen i ≤ count
+see_forward n s i count is le = subst (λ (l : List ℕ). slice_index l i ≤ count) (sym is) le
+
+pub see_there : (k : Content) (n : WorkerNote) (i count : ℕ) → n.case ≡ k → count ≤ length (slice_index_or (listed k.streams) i [])
+    → count ≤ length (slice_index_or (listed n.case.streams) i [])
+see_there k n i count is le = subst (λ (c : Content). count ≤ length (slice_index_or (listed c.streams) i [])) (sym is) le
 
 pub begun_case : (k : Content) (w : ℕ) (s : List ℕ) (n : WorkerNote) → IsBegun k w s n → k ≡ n.case
 begun_case k w s n b = sym (ap (λ (m : WorkerNote). m.case) b.is ∙ b.new.case)
@@ -97,6 +117,11 @@ works_more a b c x w h = record {
 pub works_case : (k : Content) (a b : WorkerNote) → k ≡ a.case → Works a b → k ≡ b.case
 works_case k a b is w = is ∙ sym w.place.case
 
+-- ---- the case of the row
+
+pub row_triple : (k : Content) → HasShape k → IsTriple k
+row_triple k s = record { itags = s.itags; count = s.count; root = s.root }
+
 -- ---- how many items there are
 
 pub row_there : (k : Content) (c : ℕ) → listed k.streams ≡ row → c ≤ 3 → AreThere k 3 2 c
@@ -144,16 +169,16 @@ seen_case k a b s is more = is ∙ sym (ap (λ (m : WorkerNote). m.case) more)
 
 -- ---- places
 
-kids_of : (k : Content) (n : WorkerNote) → n.case ≡ k → n.node ≡ 0 → kids k 0 ≡ Some (1, 2) → kids n.case n.node ≡ Some (1, 2)
+pub kids_of : (k : Content) (n : WorkerNote) → n.case ≡ k → n.node ≡ 0 → kids k 0 ≡ Some (1, 2) → kids n.case n.node ≡ Some (1, 2)
 kids_of k n case node shape = subst (λ (z : Content × ℕ). kids z.0 z.1 ≡ Some (1, 2)) (λ j. (sym case j, sym node j)) shape
 
 root_kids : (k : Content) (s : Side) (root leaf : WorkerNote) → IsTriple k → AreAt k s root leaf → kids root.case root.node ≡ Some (1, 2)
 root_kids k s root leaf r at = kids_of k root at.root_case at.root_node r.root
 
-one_pair : (a b : ℕ × ℕ) → Some a ≡ Some b → a ≡ b
+pub one_pair : (a b : ℕ × ℕ) → Some a ≡ Some b → a ≡ b
 one_pair a b same = cc
 
-one_ask : (a b : Ask) → Some a ≡ Some b → a ≡ b
+pub one_ask : (a b : Ask) → Some a ≡ Some b → a ≡ b
 one_ask a b same = cc
 
 pub leaf_at_back : (k : Content) (s : Side) (root leaf : WorkerNote) → IsBack k s root leaf → k ≡ leaf.case
@@ -356,7 +381,10 @@ works_lent k s root leaf new b w = record {
 
 pub below_lent : (k : Content) (root left right left2 right2 : WorkerNote) → AreLent k root left right → Works left left2 → Works right right2
     → AreLent k root left2 right2
-below_lent k root left right left2 right2 b l r = record { at_left = works_lent k Left root left left2 b.at_left l; at_right = works_lent k Right root right right2 b.at_right r }
+below_lent k root left right left2 right2 b l r = record {
+  at_left = works_lent k Left root left left2 b.at_left l;
+  at_right = works_lent k Right root right right2 b.at_right r;
+}
 
 -- ---- both parts come back
 
@@ -390,8 +418,10 @@ pub askable_still : (root mid : WorkerNote) (y : Ask) → IsAskable root y → T
 askable_still root mid y f t l r is s =
     let p = t.takes.place in
     let here = f l r (subst (λ (z : Content × ℕ). kids z.0 z.1 ≡ Some (l, r)) (λ j. (p.case j, p.node j)) is) s in
-    let lent = lent_same s root mid t.takes.lent_left t.takes.lent_right in
-    (subst (λ (k : Content). AsksAbove k (at_side s l r) y) (sym p.case) here.0, subst (λ (h : LotCounts). y.index ≡ slice_index h.upto y.itag.0) (sym lent) here.1)
+    let lent = lent_same s root mid t.takes.lent_left t.takes.lent_right in (
+      subst (λ (k : Content). AsksAbove k (at_side s l r) y) (sym p.case) here.0,
+      subst (λ (h : LotCounts). y.index ≡ slice_index h.upto y.itag.0) (sym lent) here.1,
+    )
 
 pub are_back : (k : Content) (mid new left right : WorkerNote) → IsBack k Left mid left → Takes Right mid new → IsBack k Right new right
     → AreBack k new left right

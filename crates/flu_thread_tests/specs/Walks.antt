@@ -1,4 +1,4 @@
--- The walk of the tests: a row of it, and an event that comes next for one.
+-- An event that comes next for a lot.
 use Rattle.std.specs.Prelude.{◌≡◌, ℕ, ◌<◌, ◌+◌, ◌^◌, Some, List, length, slice_index}
 use Rattle.flu_model.specs.declared.events.Event.{Event}
 use Rattle.flu_model.specs.Itags.{count_of_itags}
@@ -7,12 +7,6 @@ use Rattle.flu_fork.specs.declared.content.Content.{Content}
 use Rattle.flu_fork.specs.declared.lots.Lot.{Lot}
 use Rattle.flu_fork.specs.Lots.{job, nodes, setting_of, LotFits}
 use Rattle.flu_fork.specs.Streams.{IsEventAt, IsStreamExact}
-
--- the lot fits the node and has these counts
-pub record HasRow (k : Content) (w : ℕ) (from to : List ℕ) (lot : Lot) : Type 0 where
-  pub fits : LotFits k w lot
-  pub since : lot.since ≡ from
-  pub upto : lot.upto ≡ to
 
 -- the event comes next by the lot's counts: of the itags on which it depends just the events before it are counted
 pub record ComesNext (k : Content) (lot : Lot) (x : Event) : Type 0 where

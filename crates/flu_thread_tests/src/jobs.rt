@@ -1,7 +1,6 @@
-//! A count to which two sources add and that a third puts out and clears, with a plan that has the reads at the root and each
-//! source that adds at a leaf, and with streams.
+//! Jobs with plans and streams, and the cases that they make.
 
-ghost use Rattle.std.specs.Prelude.{◌≡◌, ◌≤◌, length, map, IfOk, IfSome, IsTrue, true};
+ghost use Rattle.std.specs.Prelude.{◌≡◌, length, true};
 ghost use Rattle.flu_model.specs.declared.events.Item.TheVariants.{Event as ItemEvent};
 ghost use Rattle.flu_model.specs.Itags.{count_of_itags};
 ghost use Rattle.flu_model.specs.Listed.{listed};
@@ -13,92 +12,44 @@ use flu_cells::State;
 use flu_check::check;
 use flu_deps::{Checked, Valid};
 use flu_fork::Case;
-use flu_model::{
-    Act, Action, At, CellRef, Depend, Event, Expr, Family, Itag, Item, Keys, Kind, List, Name,
-    Piece, Program, Sort, Source, Streams, TagRef, Text, itag_count,
-};
-use flu_planner::plan;
-use flu_rules::program;
-use std::alloc::{AllocError, Global};
+use flu_model::{Event, Itag, Item, Streams, itag_count};
+use flu_parse::read_job;
+use flu_plan::read_plan;
+use flu_valid::validate;
+use std::alloc::Global;
+use std::process::Abort;
 
-const COUNT: CellRef = CellRef {
-    family: 0,
-    at: At::Alone,
-};
+/// What a test says where memory is wanting.
+pub const MEMORY: &str = "memory";
 
-fn kind(
-    alloc: Global,
-    name: &str,
-    has_value: bool,
-    actions: Vec<Action>,
-) -> Result<Kind, AllocError> {
-    let name = Name::of(String::from_str(alloc, name)?);
-    Ok(Kind {
-        name,
-        keyed: false,
-        has_value,
-        actions: List::of(actions),
-    })
+/// A count to which two sources add and that a third puts out and clears.
+pub const COUNT: &str =
+    "cell count sum\ntag inc int\ntag read none\ndepends inc read\ndepends read read\non inc: add count value\non read: emit \"count {count}\"; clear count\nsource a \"a.csv\" rate 1000: inc\nsource b \"b.csv\" rate 1000: inc\nsource c \"c.csv\" rate 1: read\n";
+
+/// Its plan with the reads at the root and each source that adds at a leaf.
+pub const TREE: &str = "node root: read -> l r\nnode l: inc@a\nnode r: inc@b\n";
+
+/// Its plan with one node.
+pub const ONE: &str = "node root: inc, read\n";
+
+/// An accepted job with three itags.
+pub fn checked(rt: &impl Abort, alloc: Global, job: &str) -> Checked
+    ensures { count_of_itags (program_of result) ≡ 3 }
+{
+    let p = read_job(alloc, job.as_bytes()).ok().expect(rt, "a job");
+    let checked = check(p).ok().expect(rt, "an accepted job");
+    assert!(rt; itag_count(checked.program()) == 3);
+    checked
 }
 
-const fn always(act: Act) -> Action {
-    Action { act, guard: None }
+/// A valid plan of a job.
+pub fn valid(rt: &impl Abort, alloc: Global, checked: &Checked, plan: &str) -> Valid
+    ensures { IsValidFor (program_of checked.now) result }
+{
+    let plan = read_plan(alloc, checked.program(), plan.as_bytes());
+    let plan = plan.ok().expect(rt, "a plan");
+    validate(checked, plan).ok().expect(rt, "a valid plan")
 }
-
-fn source(alloc: Global, name: &str, kind: u32) -> Result<Source, AllocError> {
-    let tag = TagRef {
-        kind,
-        keys: Keys::Alone,
-    };
-    Ok(Source {
-        name: Name::of(String::from_str(alloc, name)?),
-        file: Text::of(String::from_str(alloc, name)?),
-        rate: 1,
-        slack: 0,
-        tags: List::of(vec![in alloc; tag]?),
-    })
-}
-
-fn kinds(alloc: Global) -> Result<List<Kind>, AllocError> {
-    let adds = vec![in alloc; always(Act::Add(COUNT, Expr::Value))]?;
-    let word = Piece::Plain(Text::of(String::from_str(alloc, "count ")?));
-    let texts = vec![in alloc; word, Piece::Read(COUNT)]?;
-    let puts_out = vec![in alloc;
-        always(Act::Emit(List::of(texts))),
-        always(Act::Clear(COUNT)),
-    ]?;
-    let inc = kind(alloc, "inc", true, adds)?;
-    let read = kind(alloc, "read", false, puts_out)?;
-    Ok(List::of(vec![in alloc; inc, read]?))
-}
-
-const fn all(a: u32, b: u32) -> Depend {
-    Depend { a, b, same: false }
-}
-
-fn job(alloc: Global) -> Result<Option<Program>, AllocError> {
-    let family = Family {
-        name: Name::of(String::from_str(alloc, "count")?),
-        keyed: false,
-        sort: Sort::Sum,
-    };
-    let families = vec![in alloc; family]?;
-    let depends = vec![in alloc; all(0, 1), all(1, 1)]?;
-    let sources = vec![in alloc;
-        source(alloc, "a", 0)?,
-        source(alloc, "b", 0)?,
-        source(alloc, "c", 1)?,
-    ]?;
-    Ok(program(
-        1,
-        List::of(families),
-        kinds(alloc)?,
-        List::of(depends),
-        List::of(sources),
-    ))
-}
-
-// ---- streams
 
 pub fn event(time: u64, itag: u32, value: i64) -> Item
     ensures { result ≡ ItemEvent (record { time = time; itag = record { 0 = itag }; value = value }) }
@@ -110,49 +61,29 @@ pub fn event(time: u64, itag: u32, value: i64) -> Item
     })
 }
 
-fn streams(alloc: Global) -> Result<Streams, AllocError>
-    ensures { IfOk result (λ s. listed s ≡ row) }
+/// The streams of the count.
+pub fn counted(rt: &impl Abort, alloc: Global) -> Streams
+    ensures { listed result ≡ row }
 {
-    let first = vec![in alloc; event(1, 0, 5), event(4, 0, 2), Item::End]?;
-    let second = vec![in alloc; event(2, 1, 7), Item::End]?;
-    let reads = vec![in alloc; event(3, 2, 0), event(5, 2, 0), Item::End]?;
-    Ok(Streams::new(vec![in alloc; first, second, reads]?))
+    let first = vec![in alloc; event(1, 0, 5), event(4, 0, 2), Item::End].expect(rt, MEMORY);
+    let second = vec![in alloc; event(2, 1, 7), Item::End].expect(rt, MEMORY);
+    let reads = vec![in alloc; event(3, 2, 0), event(5, 2, 0), Item::End].expect(rt, MEMORY);
+    Streams::new(vec![in alloc; first, second, reads].expect(rt, MEMORY))
 }
 
-// ---- a case
-
-/// The job with its greedy plan of a depth and with streams; none where it is refused.
-pub fn made(alloc: Global, depth: u32) -> Result<Option<(Checked, Valid, Streams)>, AllocError>
-    requires { depth ≤ 6 }
-    ensures valid { IfOk result (λ made. IfSome made (λ m. IsValidFor (program_of m.0) m.1)) }
-    ensures one_each { IfOk result (λ made. IfSome made (λ m. length (listed m.2) ≡ count_of_itags (program_of m.0))) }
-    ensures row { IfOk result (λ made. IfSome made (λ m. listed m.2 ≡ row)) }
-{
-    let Some(p) = job(alloc)? else {
-        return Ok(None);
-    };
-    if itag_count(&p) != 3 {
-        return Ok(None);
-    }
-    let Ok(checked) = check(p) else {
-        return Ok(None);
-    };
-    let valid = plan(alloc, &checked, &[1000, 1000, 1], depth)?;
-    Ok(Some((checked, valid, streams(alloc)?)))
-}
-
+/// The case of a job, a plan and streams, which begins with no cell.
 pub fn opened<'a>(
+    rt: &impl Abort,
     alloc: Global,
     checked: &'a Checked,
     valid: &'a Valid,
     streams: &'a Streams,
-) -> Result<Case<'a>, AllocError>
+) -> Case<'a>
     requires of { IsValidFor (program_of checked.now) valid.now }
     requires one_each { length (listed streams.now) ≡ count_of_itags (program_of checked.now) }
-    ensures job { IfOk result (λ k. k.checked ≡ checked.now) }
-    ensures row { IfOk result (λ k. listed k.streams ≡ listed streams.now) }
+    ensures { listed result.streams ≡ listed streams.now }
 {
-    Case::new(alloc, checked, valid, streams, State::new(alloc))
+    Case::new(alloc, checked, valid, streams, State::new(alloc)).expect(rt, MEMORY)
 }
 
 /// Whether the plan has the reads at the root and each source that adds at a leaf.

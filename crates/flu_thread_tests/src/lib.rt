@@ -4,7 +4,7 @@
 #[cfg(test)]
 mod arrivals;
 #[cfg(test)]
-mod crossing;
+mod counted;
 #[cfg(test)]
 mod jobs;
 #[cfg(test)]
@@ -18,10 +18,8 @@ mod rounds;
 #[cfg(test)]
 mod steps;
 #[cfg(test)]
-mod stopping;
-#[cfg(test)]
 mod values;
 #[cfg(test)]
-mod walks;
+mod worked;
 #[cfg(test)]
 mod workers;

@@ -8,17 +8,26 @@ ghost use Rattle.flu_worker.specs.Hands.{may_lend, may_take};
 ghost use Rattle.flu_thread_tests.specs.Rows.{IsTriple, AreThere};
 ghost use Rattle.flu_thread_tests.specs.Steps.{IsBegun, Works, IsBack, IsLent, Lends, Takes};
 
+use crate::jobs::MEMORY;
 use crate::lots::counts_are;
-use flu_fork::{Ask, Case};
+use flu_cells::{Cell, Worth};
+use flu_fork::{Ask, Case, Lot};
 use flu_model::{Itag, Outs};
 use flu_worker::{Side, Worker};
 use std::alloc::{AllocError, Global};
+use std::process::Abort;
 
-/// The counts of a lot.
+/// What a lot is to be: its counts, and what it has in the first cell.
 #[derive(Clone, Copy)]
 pub struct Told {
     pub since: [u64; 3],
     pub upto: [u64; 3],
+    pub first: Option<Worth>,
+}
+
+fn is_told(lot: &Lot, told: &Told) -> bool {
+    counts_are(lot, &told.since, &told.upto)
+        && lot.state.get(Cell { family: 0, key: 0 }) == told.first
 }
 
 /// A worker that has seen so many items of each itag.
@@ -40,74 +49,55 @@ pub fn begun(
     Ok(worker)
 }
 
-/// Whether the worker takes just these events now, one after another.
+/// The worker takes just these events now, one after another.
 #[tactic(auto, using(crate::proofs::StepLemmas::works_none, crate::proofs::StepLemmas::works_more, crate::proofs::StepLemmas::works_case))]
 pub fn does(
+    rt: &impl Abort,
     alloc: Global,
     case: &Case,
     worker: &mut Worker,
     outs: &mut Outs,
     asks: &[Ask],
-) -> Result<bool, AllocError>
+)
     requires { case.now ≡ worker.old.case }
-    ensures { IfOk result (λ good. Works worker.old worker.new) }
+    ensures { Works worker.old worker.new }
 {
     for x in asks {
         let Some(y) = worker.can_handle(case) else {
-            return Ok(false);
+            panic!(rt; "it takes an event");
         };
-        if y != *x {
-            return Ok(false);
-        }
-        worker.handle(alloc, case, y, outs)?;
+        assert!(rt; y == *x);
+        worker.handle(alloc, case, y, outs).expect(rt, MEMORY);
     }
-    Ok(worker.can_handle(case).is_none())
+    assert!(rt; worker.can_handle(case).is_none());
 }
 
-/// Whether the worker takes just this event now, or none.
-pub fn does_one(
-    alloc: Global,
-    case: &Case,
-    worker: &mut Worker,
-    outs: &mut Outs,
-    one: Option<Ask>,
-) -> Result<bool, AllocError>
-    requires { case.now ≡ worker.old.case }
-    ensures { IfOk result (λ good. Works worker.old worker.new) }
-{
-    match one {
-        Some(x) => does(alloc, case, worker, outs, &[x]),
-        None => does(alloc, case, worker, outs, &[]),
-    }
-}
-
-/// Lends the part for a side to the leaf there, where it has these counts.
+/// Lends the part for a side to the leaf there. It is what was told.
 #[tactic(auto, using(crate::proofs::StepLemmas::fit_of, crate::proofs::StepLemmas::grown_of, crate::proofs::StepLemmas::shut, crate::proofs::StepLemmas::lent_now, crate::proofs::StepLemmas::lends_of, crate::proofs::StepLemmas::leaf_at_back))]
 pub fn lends(
+    rt: &impl Abort,
     alloc: Global,
     case: &Case,
     root: &mut Worker,
     side: Side,
     leaf: &mut Worker,
     told: &Told,
-) -> Result<bool, AllocError>
+)
     requires three { IsTriple case.now }
     requires back { IsBack case.now side root.old leaf.old }
     requires may { may_lend side root.old.hand ≡ true }
-    ensures root { IfOk result (λ good. good ≡ true → Lends side root.old root.new) }
-    ensures leaf { IfOk result (λ good. good ≡ true → IsLent case.now side root.new leaf.new) }
+    ensures root { Lends side root.old root.new }
+    ensures leaf { IsLent case.now side root.new leaf.new }
 {
     let lot = root.lend(side);
-    if !counts_are(&lot, &told.since, &told.upto) {
-        return Ok(false);
-    }
-    leaf.hold(alloc, case, lot)?;
-    Ok(true)
+    assert!(rt; is_told(&lot, told));
+    leaf.hold(alloc, case, lot).expect(rt, MEMORY);
 }
 
-/// Takes the part of a side back from the leaf there for the root's target, where the leaf may give it and it has these counts.
+/// Takes the part of a side back from the leaf there for the root's target. The leaf may give it, and it is what was told.
 #[tactic(auto, using(crate::proofs::StepLemmas::asked_above, crate::proofs::StepLemmas::asked_next, crate::proofs::StepLemmas::take_fits, crate::proofs::StepLemmas::take_served, crate::proofs::StepLemmas::back_now, crate::proofs::StepLemmas::takes_of, crate::proofs::StepLemmas::leaf_at_lent, crate::proofs::StepLemmas::root_at_lent))]
 pub fn gives(
+    rt: &impl Abort,
     alloc: Global,
     case: &Case,
     root: &mut Worker,
@@ -115,22 +105,19 @@ pub fn gives(
     leaf: &mut Worker,
     y: Ask,
     told: &Told,
-) -> Result<bool, AllocError>
+)
     requires three { IsTriple case.now }
     requires lent { IsLent case.now side root.old leaf.old }
     requires may { may_take side root.old.hand ≡ true }
     requires kept { root.old.kept ≡ Some y }
     requires askable { IsAskable root.old y }
-    ensures root { IfOk result (λ good. good ≡ true → Takes side root.old root.new) }
-    ensures leaf { IfOk result (λ good. good ≡ true → IsBack case.now side root.new leaf.new) }
+    ensures root { Takes side root.old root.new }
+    ensures leaf { IsBack case.now side root.new leaf.new }
 {
-    if !leaf.can_give(case, y) {
-        return Ok(false);
-    }
+    assert!(rt; leaf.can_give(case, y));
     let lot = leaf.give(case, y);
-    if !counts_are(&lot, &told.since, &told.upto) {
-        return Ok(false);
-    }
-    root.take_reply(alloc, case, side, lot)?;
-    Ok(true)
+    assert!(rt; is_told(&lot, told));
+    let Ok(()) = root.take_reply(alloc, case, side, lot) else {
+        panic!(rt; "memory");
+    };
 }

@@ -1,61 +1,32 @@
 //! Workers on two last values, each set by a source of its own, and what puts out both. The plan has the values at the root, what puts
 //! them out at the left leaf, and a right leaf that owns nothing.
 
-ghost use Rattle.std.specs.Prelude.{◌≡◌, length, IfOk, IfSome};
-ghost use Rattle.flu_model.specs.Itags.{count_of_itags};
+ghost use Rattle.std.specs.Prelude.{◌≡◌};
 ghost use Rattle.flu_model.specs.Listed.{listed};
-ghost use Rattle.flu_deps.specs.Checking.{program_of};
-ghost use Rattle.flu_deps.specs.Validated.{IsValidFor};
-ghost use Rattle.flu_thread_tests.specs.Rows.{values};
+ghost use Rattle.flu_thread_tests.specs.Rows.{values, IsTriple};
 
-use crate::jobs::{event, is_triple, opened};
+use crate::jobs::{MEMORY, checked, event, is_triple, opened, valid};
 use crate::lots::counts_are;
 use crate::rounds::{Expected, Round, walk};
 use crate::steps::Told;
 use flu_cells::{Cell, Worth};
-use flu_check::check;
-use flu_deps::{Checked, Valid};
-use flu_fork::Ask;
-use flu_model::{Itag, Item, Outs, Streams, itag_count};
-use flu_parse::read_job;
-use flu_plan::read_plan;
-use flu_valid::validate;
-use std::alloc::{AllocError, Global};
-use std::test::Fail;
+use flu_fork::{Ask, Case};
+use flu_model::{Itag, Item, Outs, Streams};
+use std::alloc::Global;
+use std::process::Abort;
 
 const JOB: &str =
     "cell p last\ncell q last\ntag r int\ntag r2 int\ntag z none\ndepends r r\ndepends r2 r2\ndepends z z\ndepends r z\ndepends r2 z\non r: set p value; emit \"p {p}\"\non r2: set q value; emit \"q {q}\"\non z: emit \"z {p} {q}\"\nsource s1 \"s1.csv\" rate 1: r\nsource s2 \"s2.csv\" rate 1: r2\nsource s3 \"s3.csv\" rate 10: z\n";
 
 const PLAN: &str = "node root: r, r2 -> l e\nnode l: z\nnode e:\n";
 
-fn streams(alloc: Global) -> Result<Streams, AllocError>
-    ensures { IfOk result (λ s. listed s ≡ values) }
+fn streams(rt: &impl Abort, alloc: Global) -> Streams
+    ensures { listed result ≡ values }
 {
-    let first = vec![in alloc; event(10, 0, 9), Item::End]?;
-    let second = vec![in alloc; event(4, 1, 7), Item::End]?;
-    let both = vec![in alloc; event(5, 2, 0), Item::End]?;
-    Ok(Streams::new(vec![in alloc; first, second, both]?))
-}
-
-/// The job with its plan and with streams; none where one of the first two is refused.
-fn made(alloc: Global) -> Result<Option<(Checked, Valid, Streams)>, Fail>
-    ensures valid { IfOk result (λ made. IfSome made (λ m. IsValidFor (program_of m.0) m.1)) }
-    ensures one_each { IfOk result (λ made. IfSome made (λ m. length (listed m.2) ≡ count_of_itags (program_of m.0))) }
-    ensures values { IfOk result (λ made. IfSome made (λ m. listed m.2 ≡ values)) }
-{
-    let Ok(checked) = check(read_job(alloc, JOB.as_bytes())?) else {
-        return Ok(None);
-    };
-    if itag_count(checked.program()) != 3 {
-        return Ok(None);
-    }
-    let Ok(plan) = read_plan(alloc, checked.program(), PLAN.as_bytes()) else {
-        return Ok(None);
-    };
-    let Ok(valid) = validate(&checked, plan) else {
-        return Ok(None);
-    };
-    Ok(Some((checked, valid, streams(alloc)?)))
+    let first = vec![in alloc; event(10, 0, 9), Item::End].expect(rt, MEMORY);
+    let second = vec![in alloc; event(4, 1, 7), Item::End].expect(rt, MEMORY);
+    let both = vec![in alloc; event(5, 2, 0), Item::End].expect(rt, MEMORY);
+    Streams::new(vec![in alloc; first, second, both].expect(rt, MEMORY))
 }
 
 const R_9: Ask = Ask {
@@ -78,6 +49,7 @@ const NONE: [u64; 3] = [0, 0, 0];
 const UNUSED: Told = Told {
     since: NONE,
     upto: NONE,
+    first: None,
 };
 
 /// What puts out both comes behind the second value, so that the left leaf gives its lot at once.
@@ -94,10 +66,12 @@ const SECOND: Round = Round {
         Told {
             since: NONE,
             upto: [0, 1, 0],
+            first: None,
         },
         Told {
             since: [0, 1, 0],
             upto: [0, 1, 0],
+            first: None,
         },
     ],
     waits: true,
@@ -106,10 +80,12 @@ const SECOND: Round = Round {
         Told {
             since: NONE,
             upto: [0, 1, 1],
+            first: None,
         },
         Told {
             since: [0, 1, 0],
             upto: [0, 1, 0],
+            first: None,
         },
     ],
     own: R_9,
@@ -121,10 +97,12 @@ const EXPECTED: Expected = Expected {
         Told {
             since: NONE,
             upto: [1, 1, 1],
+            first: Some(Worth::Last(9)),
         },
         Told {
             since: [1, 1, 1],
             upto: [1, 1, 1],
+            first: None,
         },
     ],
 };
@@ -144,23 +122,29 @@ fn are_of_values(outs: &Outs) -> bool {
     }
 }
 
+/// A leaf reads what the root sets.
 #[tactic(auto, using(crate::proofs::StepLemmas::values_there))]
-#[test]
-fn a_leaf_reads_what_the_root_sets(rt: HostRuntime) -> Result<(), Fail> {
-    let alloc = rt.alloc();
-    let made = made(alloc)?;
-    assert!(rt; made.is_some());
-    let (checked, valid, streams) = made.unwrap();
-    let case = opened(alloc, &checked, &valid, &streams)?;
-    assert!(rt; is_triple(&case));
-    let end = walk(alloc, &case, (2, 2, 2), &EXPECTED)?;
-    assert!(rt; end.is_some());
-    let (lot, outs) = end.unwrap();
+fn is_read_below(rt: &impl Abort, alloc: Global, case: &Case)
+    requires three { IsTriple case.now }
+    requires values { listed case.now.streams ≡ values }
+{
+    let mut outs = Outs::of(Vec::new(alloc));
+    let lot = walk(rt, alloc, case, (2, 2, 2), &EXPECTED, &mut outs);
     assert!(rt; counts_are(&lot, &[0, 0, 0], &[1, 1, 1]));
     assert!(rt; are_of_values(&outs));
     let p = Cell { family: 0, key: 0 };
     let q = Cell { family: 1, key: 0 };
     assert_eq!(rt; lot.state.get(p), Some(Worth::Last(9)));
     assert_eq!(rt; lot.state.get(q), Some(Worth::Last(7)));
-    Ok(())
+}
+
+#[test]
+fn a_leaf_reads_what_the_root_sets(rt: HostRuntime) {
+    let alloc = rt.alloc();
+    let checked = checked(&rt, alloc, JOB);
+    let valid = valid(&rt, alloc, &checked, PLAN);
+    let streams = streams(&rt, alloc);
+    let case = opened(&rt, alloc, &checked, &valid, &streams);
+    assert!(rt; is_triple(&case));
+    is_read_below(&rt, alloc, &case);
 }

@@ -2,19 +2,20 @@
 
 ghost use Rattle.std.specs.Prelude.{◌≡◌};
 ghost use Rattle.flu_model.specs.Listed.{listed};
-ghost use Rattle.flu_thread_tests.specs.Rows.{row, IsAlone};
+ghost use Rattle.flu_thread_tests.specs.Rows.{row, IsAlone, IsRow};
 
-use crate::jobs::{has_shape, is_alone, made, opened};
+use crate::jobs::{COUNT, MEMORY, ONE, checked, counted, is_alone, opened, valid};
 use crate::lots::counts_are;
 use crate::rounds::{Expected, Round, walk};
 use crate::steps::{Told, begun, does};
-use flu_fork::{Ask, Case, Lot};
+use flu_cells::Worth;
+use flu_fork::{Ask, Case};
 use flu_model::{Itag, Outs};
-use std::alloc::{AllocError, Global};
-use std::test::Fail;
+use std::alloc::Global;
+use std::process::Abort;
 
 // The events, by what they add or put out.
-const INC_5: Ask = Ask {
+pub const INC_5: Ask = Ask {
     itag: Itag(0),
     index: 0,
 };
@@ -54,42 +55,33 @@ fn are_of_row(outs: &Outs) -> bool {
 
 // ---- one worker
 
-/// The lot of the worker of the one node, at the end, with the outputs; none where a call answers otherwise than it should.
+/// The worker of the one node takes each event in turn, and ends once it has seen all.
 #[tactic(auto, using(crate::proofs::StepLemmas::row_there, crate::proofs::StepLemmas::begun_case, crate::proofs::StepLemmas::works_begun_case, crate::proofs::StepLemmas::last_in_range, crate::proofs::StepLemmas::last_forward, crate::proofs::StepLemmas::last_there, crate::proofs::StepLemmas::seen_case))]
-fn alone(alloc: Global, case: &Case) -> Result<Option<(Lot, Outs)>, AllocError>
+fn alone(rt: &impl Abort, alloc: Global, case: &Case)
     requires alone { IsAlone case.now }
     requires row { listed case.now.streams ≡ row }
 {
-    let mut worker = begun(alloc, case, 0, (3, 2, 2))?;
+    let mut worker = begun(alloc, case, 0, (3, 2, 2)).expect(rt, MEMORY);
     let mut outs = Outs::of(Vec::new(alloc));
     let order = [INC_5, INC_7, READ_12, INC_2, READ_2];
-    if !does(alloc, case, &mut worker, &mut outs, &order)? {
-        return Ok(None);
-    }
-    if worker.finished(case) {
-        return Ok(None);
-    }
+    does(rt, alloc, case, &mut worker, &mut outs, &order);
+    assert!(rt; are_of_row(&outs));
+    assert!(rt; !worker.finished(case));
     worker.see(case, Itag(2), 3);
-    if !worker.finished(case) {
-        return Ok(None);
-    }
-    Ok(worker.into_lot().map(|lot| (lot, outs)))
+    assert!(rt; worker.finished(case));
+    let lot = worker.into_lot().expect(rt, "it has its lot");
+    assert!(rt; counts_are(&lot, &[0, 0, 0], &[2, 1, 2]));
 }
 
 #[test]
-fn one_worker_takes_each_event_in_turn(rt: HostRuntime) -> Result<(), Fail> {
+fn one_worker_takes_each_event_in_turn(rt: HostRuntime) {
     let alloc = rt.alloc();
-    let made = made(alloc, 0)?;
-    assert!(rt; made.is_some());
-    let (checked, valid, streams) = made.unwrap();
-    let case = opened(alloc, &checked, &valid, &streams)?;
+    let checked = checked(&rt, alloc, COUNT);
+    let valid = valid(&rt, alloc, &checked, ONE);
+    let streams = counted(&rt, alloc);
+    let case = opened(&rt, alloc, &checked, &valid, &streams);
     assert!(rt; is_alone(&case));
-    let end = alone(alloc, &case)?;
-    assert!(rt; end.is_some());
-    let (lot, outs) = end.unwrap();
-    assert!(rt; counts_are(&lot, &[0, 0, 0], &[2, 1, 2]));
-    assert!(rt; are_of_row(&outs));
-    Ok(())
+    alone(&rt, alloc, &case);
 }
 
 // ---- three workers
@@ -99,6 +91,7 @@ const NONE: [u64; 3] = [0, 0, 0];
 const UNUSED: Told = Told {
     since: NONE,
     upto: NONE,
+    first: None,
 };
 
 const FIRST: Round = Round {
@@ -109,10 +102,12 @@ const FIRST: Round = Round {
         Told {
             since: NONE,
             upto: [1, 0, 0],
+            first: Some(Worth::Sum(5)),
         },
         Told {
             since: NONE,
             upto: [0, 1, 0],
+            first: Some(Worth::Sum(7)),
         },
     ],
     own: READ_12,
@@ -123,10 +118,12 @@ const SECOND: Round = Round {
         Told {
             since: NONE,
             upto: [1, 1, 1],
+            first: None,
         },
         Told {
             since: [1, 1, 1],
             upto: [1, 1, 1],
+            first: None,
         },
     ],
     waits: true,
@@ -135,10 +132,12 @@ const SECOND: Round = Round {
         Told {
             since: NONE,
             upto: [2, 1, 1],
+            first: Some(Worth::Sum(2)),
         },
         Told {
             since: [1, 1, 1],
             upto: [1, 1, 1],
+            first: None,
         },
     ],
     own: READ_2,
@@ -148,10 +147,12 @@ const LAST: [Told; 2] = [
     Told {
         since: NONE,
         upto: [2, 1, 2],
+        first: None,
     },
     Told {
         since: [2, 1, 2],
         upto: [2, 1, 2],
+        first: None,
     },
 ];
 
@@ -160,19 +161,13 @@ const EXPECTED: Expected = Expected {
     last: LAST,
 };
 
-#[tactic(auto, using(crate::proofs::StepLemmas::row_there))]
-#[test]
-fn three_workers_lend_and_give_back(rt: HostRuntime) -> Result<(), Fail> {
-    let alloc = rt.alloc();
-    let made = made(alloc, 3)?;
-    assert!(rt; made.is_some());
-    let (checked, valid, streams) = made.unwrap();
-    let case = opened(alloc, &checked, &valid, &streams)?;
-    assert!(rt; has_shape(&case));
-    let end = walk(alloc, &case, (3, 2, 3), &EXPECTED)?;
-    assert!(rt; end.is_some());
-    let (lot, outs) = end.unwrap();
+/// Three workers lend their lots and give them back.
+#[tactic(auto, using(crate::proofs::StepLemmas::row_there, crate::proofs::StepLemmas::row_triple))]
+pub fn lend_and_give_back(rt: &impl Abort, alloc: Global, case: &Case)
+    requires { IsRow case.now }
+{
+    let mut outs = Outs::of(Vec::new(alloc));
+    let lot = walk(rt, alloc, case, (3, 2, 3), &EXPECTED, &mut outs);
     assert!(rt; counts_are(&lot, &[0, 0, 0], &[2, 1, 2]));
     assert!(rt; are_of_row(&outs));
-    Ok(())
 }

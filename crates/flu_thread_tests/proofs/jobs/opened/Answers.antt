@@ -5,6 +5,6 @@ use Rattle.flu_deps.specs.Checking.{program_of}
 use Rattle.flu_thread_tests.proofs.jobs.opened.Goals as goal
 
 pub new-requires-2-clause-sorts : goal.new-requires-2-clause-sorts
-new-requires-2-clause-sorts c =
+new-requires-2-clause-sorts g c =
     let families = (program_of c.args.checked.now).families in
     subst (λ (s : Contents). IsStateOf families s) (sym c.new.ensures) (λ d. tt)

@@ -12,6 +12,7 @@ takes-requires-clause-fits c = fits_owner c.args.case.now 1 first c.args.lot c.r
 pub returns : goal.returns
 returns c =
     let told = c.in_ok-takes.ensures in
-    serves c.args.case.now c.requires.row c.contents_are_settings.ensures c.itags_are_of_nodes.ensures.nodes c.clear_events_are_served.ensures.leaf c.takes.new.lot
+    serves c.args.case.now c.requires.row c.contents_are_settings.ensures c.itags_are_of_nodes.ensures.nodes c.clear_events_are_served.ensures.leaf
+    c.takes.new.lot
     (told.fits 1 c.requires.row.shape.left) (told.since ∙ c.requires.unused.since)
     (told.upto ∙ ap (λ (us : List ℕ). slice_set us 0 (slice_index us 0 + 1)) c.requires.unused.upto)

@@ -3,4 +3,4 @@ use Rattle.flu_thread_tests.specs.Steps.{Works}
 use Rattle.flu_thread_tests.proofs.steps.does.Given as goal
 
 abbrev pub invariant-loop-x : goal.invariant-loop-x
-invariant-loop-x l = (l.case ≡ l.worker.case) × Works l.fn.worker l.worker
+invariant-loop-x g l = (l.case ≡ l.worker.case) × Works l.fn.worker l.worker

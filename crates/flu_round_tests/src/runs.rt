@@ -1,0 +1,125 @@
+//! Runs in rounds, on an engine and on a tree of threads.
+
+ghost use Rattle.std.specs.Prelude.{◌≡◌, ◌≤◌, IfOk};
+ghost use Rattle.flu_deps.specs.Checking.{program_of};
+ghost use Rattle.flu_streams.specs.declared.held.Stage.{Stage};
+ghost use Rattle.flu_rounds.specs.Standing.{StandsBehind};
+
+use flu_outside::{MemFiles, MemSink, write_all};
+use flu_rounds::{Begun, Border, Rounds, RoundsFault};
+use flu_run::TreeEngine;
+use flu_seq::{Engine, Gate};
+use std::alloc::Global;
+use std::sync::Wait;
+use std::test::Fail;
+use std::thread::Threads;
+
+/// More rounds than any run of these tests has.
+const MOST: u32 = 1000;
+
+/// What is written of a run's rounds behind their reports.
+#[derive(Clone, Copy, PartialEq, Eq)]
+pub enum Marks {
+    /// What each round answered, in a line.
+    Each,
+    /// What the last one answered.
+    Last,
+}
+
+/// Writes what a round answered, where it is to be told.
+fn mark(
+    alloc: Global,
+    out: &mut MemSink,
+    marks: Marks,
+    answer: Result<Border, RoundsFault>,
+) -> Result<(), Fail> {
+    let line = match answer {
+        Ok(Border::At(_)) if marks == Marks::Last => return Ok(()),
+        Ok(Border::At(time)) => format!(in alloc; "at {time}\n")?,
+        Ok(Border::Closed) => format!(in alloc; "closed\n")?,
+        Err(RoundsFault::Source(fault)) => {
+            let source = fault.source;
+            let row = fault.row;
+            let why = fault.why;
+            format!(in alloc; "source {source} row {row} {why:?}\n")?
+        }
+        Err(fault) => format!(in alloc; "{fault:?}\n")?,
+    };
+    write_all(out, line.as_bytes())?;
+    Ok(())
+}
+
+/// Runs the rounds on an engine until one is the last, or fails.
+pub fn run_on<R, N: Engine<R>>(
+    rt: &R,
+    alloc: Global,
+    engine: &mut N,
+    files: &mut MemFiles,
+    out: &mut MemSink,
+    rows: u32,
+    marks: Marks,
+) -> Result<(), Fail>
+    requires some { 1 ≤ rows }
+    requires few { rows ≤ 4096 }
+{
+    let mut rounds = Rounds::new(alloc, engine.program(), rows)?;
+    for _ in 0..MOST {
+        let answer = rounds.round(rt, alloc, files, out, engine);
+        mark(alloc, out, marks, answer)?;
+        let Ok(Border::At(_)) = answer else {
+            return Ok(());
+        };
+    }
+    Ok(())
+}
+
+/// One round on a tree of threads, in two halves with the batch between them.
+fn tree_round<G: Gate, R: Threads + Wait + Sync, B: Engine<R>>(
+    rt: &R,
+    alloc: Global,
+    engine: &mut TreeEngine<G, R, B>,
+    files: &mut MemFiles,
+    out: &mut MemSink,
+    rounds: &mut Rounds,
+) -> Result<Border, RoundsFault>
+    requires program { program_of engine.old.checked.now ≡ rounds.old.held.program }
+    requires stage { rounds.old.held.stage ≡ Stage.Filling }
+    ensures stands { IfOk result (StandsBehind rounds.old.held rounds.new.held) }
+    ensures same { program_of engine.new.checked.now ≡ program_of engine.old.checked.now }
+{
+    let checked = engine.checked;
+    let program = checked.program();
+    let Begun {
+        border,
+        opening,
+        rows,
+    } = rounds.begin(alloc, program, files)?;
+    let (state, outs) = engine.batch(rt, alloc, opening, &rows)?;
+    rounds.finish(alloc, program, out, state, outs)?;
+    Ok(border)
+}
+
+/// Runs the rounds on a tree of threads until one is the last, or fails.
+pub fn run_on_tree<G: Gate, R: Threads + Wait + Sync, B: Engine<R>>(
+    rt: &R,
+    alloc: Global,
+    engine: &mut TreeEngine<G, R, B>,
+    files: &mut MemFiles,
+    out: &mut MemSink,
+    rows: u32,
+    marks: Marks,
+) -> Result<(), Fail>
+    requires some { 1 ≤ rows }
+    requires few { rows ≤ 4096 }
+{
+    let checked = engine.checked;
+    let mut rounds = Rounds::new(alloc, checked.program(), rows)?;
+    for _ in 0..MOST {
+        let answer = tree_round(rt, alloc, engine, files, out, &mut rounds);
+        mark(alloc, out, marks, answer)?;
+        let Ok(Border::At(_)) = answer else {
+            return Ok(());
+        };
+    }
+    Ok(())
+}

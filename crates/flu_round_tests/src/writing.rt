@@ -1,0 +1,136 @@
+//! What the rounds of an input write by each engine.
+
+ghost use Rattle.std.specs.Prelude.{◌≤◌};
+ghost use Rattle.flu_deps.specs.Checking.{program_of};
+ghost use Rattle.flu_deps.specs.Validated.{IsValidFor};
+
+use crate::inputs::{Input, accepted, files_of, planned};
+use crate::runs::{Marks, run_on, run_on_tree};
+use flu_deps::{Checked, Valid};
+use flu_live::NetEngine;
+use flu_outside::MemSink;
+use flu_parse::read_job;
+use flu_run::TreeEngine;
+use flu_seq::{FoldEngine, OpenGate};
+use std::alloc::Global;
+use std::process::Abort;
+use std::sync::Wait;
+use std::test::Fail;
+use std::thread::Threads;
+
+/// More bytes than any run of these tests writes.
+const ROOM: usize = 3000;
+
+/// Compares the rounds by the fold.
+fn folds(
+    rt: &impl Abort,
+    alloc: Global,
+    input: Input,
+    rows: u32,
+    marks: Marks,
+    wanted: &[u8],
+) -> Result<(), Fail>
+    requires some { 1 ≤ rows }
+    requires few { rows ≤ 4096 }
+{
+    let program = read_job(alloc, input.job.as_bytes())?;
+    let mut engine = FoldEngine { program };
+    let mut files = files_of(alloc, input)?;
+    let mut out = MemSink::with_room(alloc, ROOM)?;
+    run_on(rt, alloc, &mut engine, &mut files, &mut out, rows, marks)?;
+    assert_eq!(rt; out.bytes(), wanted);
+    Ok(())
+}
+
+/// Compares the rounds by the net.
+fn nets(
+    rt: &impl Abort,
+    alloc: Global,
+    checked: &Checked,
+    valid: &Valid,
+    input: Input,
+    rows: u32,
+    marks: Marks,
+    wanted: &[u8],
+) -> Result<(), Fail>
+    requires valid { IsValidFor (program_of checked.now) valid.now }
+    requires some { 1 ≤ rows }
+    requires few { rows ≤ 4096 }
+{
+    let mut engine = NetEngine {
+        checked,
+        valid,
+        seed: rows,
+    };
+    let mut files = files_of(alloc, input)?;
+    let mut out = MemSink::with_room(alloc, ROOM)?;
+    run_on(rt, alloc, &mut engine, &mut files, &mut out, rows, marks)?;
+    assert_eq!(rt; out.bytes(), wanted);
+    Ok(())
+}
+
+/// Compares the rounds by the tree of threads.
+fn trees<R: Abort + Threads + Wait + Sync>(
+    rt: &R,
+    alloc: Global,
+    checked: &Checked,
+    valid: &Valid,
+    input: Input,
+    rows: u32,
+    marks: Marks,
+    wanted: &[u8],
+) -> Result<(), Fail>
+    requires valid { IsValidFor (program_of checked.now) valid.now }
+    requires some { 1 ≤ rows }
+    requires few { rows ≤ 4096 }
+{
+    let backup = NetEngine {
+        checked,
+        valid,
+        seed: 0,
+    };
+    let mut engine = TreeEngine::new(checked, valid, &OpenGate, backup);
+    let mut files = files_of(alloc, input)?;
+    let mut out = MemSink::with_room(alloc, ROOM)?;
+    run_on_tree(rt, alloc, &mut engine, &mut files, &mut out, rows, marks)?;
+    assert_eq!(rt; out.bytes(), wanted);
+    Ok(())
+}
+
+/// Compares the rounds by the net and by the tree of threads, both by the same plan.
+fn works<R: Abort + Threads + Wait + Sync>(
+    rt: &R,
+    alloc: Global,
+    checked: &Checked,
+    input: Input,
+    rows: u32,
+    marks: Marks,
+    wanted: &[u8],
+) -> Result<(), Fail>
+    requires some { 1 ≤ rows }
+    requires few { rows ≤ 4096 }
+{
+    let valid = planned(alloc, checked)?;
+    assert!(rt; valid.is_some());
+    let valid = valid.unwrap();
+    nets(rt, alloc, checked, &valid, input, rows, marks, wanted)?;
+    trees(rt, alloc, checked, &valid, input, rows, marks, wanted)
+}
+
+/// Compares the rounds by each engine.
+pub fn writes<R: Abort + Threads + Wait + Sync>(
+    rt: &R,
+    alloc: Global,
+    input: Input,
+    rows: u32,
+    marks: Marks,
+    wanted: &[u8],
+) -> Result<(), Fail>
+    requires some { 1 ≤ rows }
+    requires few { rows ≤ 4096 }
+{
+    folds(rt, alloc, input, rows, marks, wanted)?;
+    let checked = accepted(alloc, input.job)?;
+    assert!(rt; checked.is_some());
+    works(rt, alloc, &checked.unwrap(), input, rows, marks, wanted)
+}

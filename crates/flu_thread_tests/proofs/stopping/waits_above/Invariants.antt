@@ -1,9 +1,0 @@
-use Rattle.std.proofs.Common.{◌≡◌}
-use Rattle.flu_thread_tests.proofs.stopping.waits_above.Given as goal
-
-abbrev pub invariant-loop : goal.invariant-loop
-invariant-loop g l = record {
-  can_next : (goal.iterator-loop g).can_next l.iterator';
-  is_finite : (goal.iterator-loop g).is_finite l.iterator';
-  link : l.up.link ≡ l.fn.up.link;
-}

@@ -1,0 +1,23 @@
+//! What the tests do over the count with its tree of three nodes.
+
+use crate::jobs::{COUNT, TREE, checked, counted, has_shape, opened, valid};
+use crate::links::{one_end_stops, there_and_back};
+use crate::passing::to_and_fro;
+use crate::worked::over_a_link;
+use crate::workers::lend_and_give_back;
+
+/// One case for all of them: to make it is dear to prove.
+#[test]
+fn lots_links_and_workers_on_a_count(rt: HostRuntime) {
+    let alloc = rt.alloc();
+    let checked = checked(&rt, alloc, COUNT);
+    let valid = valid(&rt, alloc, &checked, TREE);
+    let streams = counted(&rt, alloc);
+    let case = opened(&rt, alloc, &checked, &valid, &streams);
+    assert!(rt; has_shape(&case));
+    there_and_back(&rt, alloc, &case);
+    one_end_stops(&rt, alloc, &case);
+    lend_and_give_back(&rt, alloc, &case);
+    over_a_link(&rt, alloc, &case);
+    to_and_fro(&rt, alloc, &case);
+}
