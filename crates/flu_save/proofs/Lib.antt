@@ -1,0 +1,5 @@
+pub mod Numbers
+pub mod Families
+pub mod Values
+pub mod Members
+pub mod States

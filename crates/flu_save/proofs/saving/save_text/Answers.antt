@@ -1,0 +1,25 @@
+use Rattle.std.proofs.Common.{Some, ap, sym, subst, ◌∙◌, ◌≤◌, ◌≡◌, Result, Ok, Err}
+use Rattle.std.specs.Prelude.{IfOk}
+use Rattle.std.proofs.lemmas.Result.{IfOk-weaker}
+use Rattle.serde_json.specs.Data.{Data, depth}
+use Rattle.serde_json.specs.Read.{max_depth}
+use Rattle.serde_json.specs.Written.{has_float, compact_text}
+use Rattle.flu_cells.specs.Holding.{held}
+use Rattle.flu_save.specs.Checkpoint.{checkpoint}
+use Rattle.flu_save.proofs.Values.{without_float, few_levels}
+use Rattle.flu_save.proofs.saving.save_text.Goals as goal
+
+both : {T E : Type 0} (r : Result T E) (P Q : T → Type 0) → IfOk r P → IfOk r Q → IfOk r (λ x. P x × Q x)
+both (Ok x) P Q a b = (a, b)
+both (Err e) P Q a b = tt
+
+pub returns : goal.returns
+returns c =
+    let d = checkpoint c.args.p.now c.args.border (held c.args.s.now) in
+    let is = c.in_ok-value.ensures in
+    let plain = ap has_float is ∙ without_float c.args.p.now c.args.border (held c.args.s.now) in
+    let shallow = subst (λ (x : Data). depth x ≤ max_depth) (sym is) (few_levels c.args.p.now c.args.border (held c.args.s.now)) in
+    record {
+      text = IfOk-weaker c.to_vec.result _ _ (λ b h. h plain ∙ ap compact_text is) c.to_vec.ensures.text;
+      value = IfOk-weaker c.to_vec.result _ _ (λ b h. (h.0, h.1 shallow ∙ ap Some is)) (both c.to_vec.result _ _ c.to_vec.ensures.utf8 c.to_vec.ensures.reads_back);
+    }

@@ -1,0 +1,96 @@
+//! The text of a checkpoint.
+
+ghost use Rattle.std.specs.Prelude.{◌≡◌, ◌<◌, ◌≤◌, ◌^◌, ◌++◌, ◌↔◌, length, map, slice_get, IfOk, OnOk, IsUtf8, Some};
+ghost use Rattle.flu_cells.specs.Holding.{held};
+ghost use Rattle.flu_model.specs.Contents.{cell, held_keys};
+ghost use Rattle.serde_json.specs.View.{view};
+ghost use Rattle.flu_save.specs.Checkpoint.{number_held, entry as entry_value, entries_of, checkpoint, save};
+ghost use Rattle.flu_save.specs.Forms.{IsJsonOf};
+
+use flu_cells::State;
+use flu_model::{Cell, Family, Program, Worth};
+use flu_parse::print_job;
+use serde_json::{Value, json};
+use std::alloc::{AllocError, Global};
+
+// The number that a cell holds; 0 where it is neutral.
+fn number_held(worth: Option<Worth>) -> i128
+    ensures { result ≡ number_held worth }
+{
+    match worth {
+        None => 0,
+        Some(Worth::Sum(n)) => n,
+        Some(Worth::Max(v)) => i128::from(v),
+        Some(Worth::Last(v)) => i128::from(v),
+    }
+}
+
+// The entry of a cell.
+fn entry(alloc: Global, family: &str, key: u32, value: i128) -> Result<Value, AllocError>
+    ensures { IfOk result (λ v. view v ≡ entry_value family.now key value) }
+{
+    let text = format!(in alloc; "{value}")?;
+    json!(in alloc; [family, key, text])
+}
+
+// The entries of a family's cells, by rising key, behind those that are there.
+fn add_family(
+    entries: &mut Vec<Value>,
+    alloc: Global,
+    s: &State,
+    number: u32,
+    family: &Family,
+) -> Result<(), AllocError>
+    ensures { OnOk result (map view entries.new.items ≡ map view entries.old.items
+        ++ map (λ k. entry_value family.now.name k (number_held (held s.now (cell number k)))) (held_keys (held s.now) number)) }
+{
+    let keys = s.keys(number)?;
+    for key in keys.as_slice() {
+        let worth = s.get(Cell {
+            family: number,
+            key: *key,
+        });
+        let entry = entry(alloc, family.name.as_str(), *key, number_held(worth))?;
+        entries.push(entry)?;
+    }
+    Ok(())
+}
+
+// The entries of the cells of all families.
+fn entries(alloc: Global, p: &Program, s: &State) -> Result<Vec<Value>, AllocError>
+    ensures { IfOk result (λ v. map view v.items ≡ entries_of p.now.families (held s.now)) }
+{
+    let mut entries = Vec::new(alloc);
+    let mut number = 0;
+    for family in p.families.items() {
+        add_family(&mut entries, alloc, s, number, family)?;
+        number += 1;
+    }
+    Ok(entries)
+}
+
+// The value of a checkpoint.
+fn checkpoint(alloc: Global, p: &Program, border: u64, s: &State) -> Result<Value, AllocError>
+    ensures { IfOk result (λ v. view v ≡ checkpoint p.now border (held s.now)) }
+{
+    let cells = entries(alloc, p, s)?;
+    let job = print_job(alloc, p)?;
+    json!(in alloc; {"border": border, "cells": cells, "job": job.as_str()})
+}
+
+/// A checkpoint as a text: one JSON object without blanks, with the members `border`, a number; `cells`, a list with an entry
+/// `[FAMILY, KEY, "VALUE"]` for each cell that is not neutral, by rising family and key; and `job`, the job in normal form.
+///
+/// The cells are those of the job's families. The border is at most 2^63 - 1.
+///
+/// # Errors
+///
+/// Only where memory is wanting.
+pub fn save_text(alloc: Global, p: &Program, border: u64, s: &State) -> Result<Vec<u8>, AllocError>
+    requires { border < 2 ^ 63 }
+    ensures text { IfOk result (λ v. v.items ≡ save p.now border (held s.now)) }
+    ensures value { IfOk result (λ v. IsJsonOf v.items (checkpoint p.now border (held s.now))) }
+{
+    let value = checkpoint(alloc, p, border, s)?;
+    value.to_vec(alloc)
+}
