@@ -1,9 +1,8 @@
 //! Small jobs over streams and plans that are drawn: `run` writes what `fold` writes.
 
-use super::words_of;
-use flu_outside::{MemFiles, MemSink};
+use super::{Left, assert_left, call, put};
+use flu_outside::MemFiles;
 use flu_seq::OpenGate;
-use flu_top::flumina;
 use std::alloc::{AllocError, Global};
 use std::process::Abort;
 use std::sync::Wait;
@@ -146,41 +145,40 @@ fn draw_files(alloc: Global, seed: u64) -> Result<Drawn, AllocError> {
     })
 }
 
-/// What a command writes over the files, and its status.
-fn told<R: Abort + Threads + Wait + Sync>(
-    rt: &R,
-    alloc: Global,
-    words: &[&str],
-    drawn: &Drawn,
-    plan: &str,
-) -> Result<(u8, MemSink), Fail> {
+fn files_for(alloc: Global, drawn: &Drawn, plan: &str) -> Result<MemFiles, AllocError> {
     let mut files = MemFiles::new(alloc);
-    files.add("J", drawn.job.as_bytes().to_vec(alloc)?)?;
-    files.add("P", plan.as_bytes().to_vec(alloc)?)?;
-    files.add("web.csv", drawn.web.as_bytes().to_vec(alloc)?)?;
-    files.add("app.csv", drawn.app.as_bytes().to_vec(alloc)?)?;
-    files.add("clock.csv", drawn.clock.as_bytes().to_vec(alloc)?)?;
-    let words = words_of(alloc, words)?;
-    let mut out = MemSink::with_room(alloc, 20000)?;
-    let mut err = MemSink::with_room(alloc, 100)?;
-    let status = flumina(rt, alloc, &words, &mut files, &mut out, &mut err, &OpenGate);
-    assert_eq!(rt; err.bytes(), "".as_bytes());
-    Ok((status, out))
+    put(alloc, &mut files, "J", &drawn.job)?;
+    put(alloc, &mut files, "P", plan)?;
+    put(alloc, &mut files, "web.csv", &drawn.web)?;
+    put(alloc, &mut files, "app.csv", &drawn.app)?;
+    put(alloc, &mut files, "clock.csv", &drawn.clock)?;
+    Ok(files)
 }
 
-/// Compares the runs by some words over the files with the fold.
+/// Makes a call over the files.
+fn left_by<R: Threads + Wait + Sync>(
+    rt: &R,
+    alloc: Global,
+    words: &str,
+    drawn: &Drawn,
+    plan: &str,
+) -> Result<Left, Fail> {
+    let mut files = files_for(alloc, drawn, plan)?;
+    Ok(call(rt, alloc, words, &mut files, &OpenGate)?)
+}
+
+/// Compares the run over the files with the fold.
 fn compare<R: Abort + Threads + Wait + Sync>(
     rt: &R,
     alloc: Global,
-    words: &[&str],
+    words: &str,
     drawn: &Drawn,
     plan: &str,
 ) -> Result<(), Fail> {
-    let (folded, wanted) = told(rt, alloc, &["fold", "J"], drawn, plan)?;
-    let (ran, found) = told(rt, alloc, words, drawn, plan)?;
-    assert_eq!(rt; folded, 0);
-    assert_eq!(rt; ran, 0);
-    assert_eq!(rt; found.bytes(), wanted.bytes());
+    let folded = left_by(rt, alloc, "fold J", drawn, plan)?;
+    let ran = left_by(rt, alloc, words, drawn, plan)?;
+    assert_eq!(rt; folded.status, 0);
+    assert_left(rt, &ran, 0, folded.out.bytes(), "");
     Ok(())
 }
 
@@ -190,18 +188,12 @@ fn runs_of_drawn_streams_are_folds(rt: HostRuntime) -> Result<(), Fail> {
     for seed in 0..6u64 {
         let drawn = draw_files(alloc, seed)?;
         for plan in PLANS {
-            compare(&rt, alloc, &["run", "J", "P"], &drawn, plan)?;
+            compare(&rt, alloc, "run J P", &drawn, plan)?;
         }
     }
-    Ok(())
-}
-
-#[test]
-fn runs_by_greedy_plans_are_folds(rt: HostRuntime) -> Result<(), Fail> {
-    let alloc = rt.alloc();
     for seed in 100..120u64 {
         let drawn = draw_files(alloc, seed)?;
-        compare(&rt, alloc, &["run", "J"], &drawn, "")?;
+        compare(&rt, alloc, "run J", &drawn, "")?;
     }
     Ok(())
 }

@@ -1,23 +1,12 @@
 //! A run with a gate that notes which worker handles which event, and what the states of the leaves hold.
 
-use super::runs::ran;
-use super::{files_of, pages, words_of};
+use super::{assert_left, call, files_of, pages};
 use flu_cells::State;
 use flu_model::{Cell, Itag};
-use flu_outside::MemSink;
 use flu_seq::Gate;
-use flu_top::flumina;
 use std::alloc::{AllocError, Global};
 use std::sync::atomic::{AtomicU64, Ordering};
 use std::test::Fail;
-
-/// The views of ten pages and the ticks that put them out, which the command plans by itself.
-const FILES: &[(&str, &str)] = &[
-    ("J", pages::JOB),
-    ("web.csv", pages::WEB),
-    ("app.csv", pages::APP),
-    ("clock.csv", pages::CLOCK),
-];
 
 /// The node that owns each itag in the greedy plan: the views of ten pages by the first source, those by the second one, the updates of
 /// ten pages, and the tick.
@@ -142,21 +131,20 @@ fn are_once(passes: &[AtomicU64]) -> bool {
     true
 }
 
+/// Whether each event was passed once before its update and once after it, and no other pass was made.
+fn are_kept(passes: &Passes) -> bool {
+    are_once(passes.before.as_slice())
+        && are_once(passes.after.as_slice())
+        && passes.strangers.load(Ordering::SeqCst) == 0
+}
+
 #[test]
 fn each_event_is_handled_by_its_owner(rt: HostRuntime) -> Result<(), Fail> {
-    let mut case = ran(FILES, pages::REPORT);
-    case.words = &["run", "J"];
     let alloc = rt.alloc();
-    let words = words_of(alloc, case.words)?;
-    let mut files = files_of(alloc, &case)?;
-    let mut out = MemSink::with_room(alloc, 5000)?;
-    let mut err = MemSink::with_room(alloc, 100)?;
+    let mut files = files_of(alloc, pages::files())?;
     let passes = Passes::new(alloc)?;
-    let status = flumina(&rt, alloc, &words, &mut files, &mut out, &mut err, &passes);
-    assert_eq!(rt; status, 0);
-    assert_eq!(rt; out.bytes(), pages::REPORT.as_bytes());
-    assert_eq!(rt; passes.strangers.load(Ordering::SeqCst), 0);
-    assert!(rt; are_once(passes.before.as_slice()));
-    assert!(rt; are_once(passes.after.as_slice()));
+    let left = call(&rt, alloc, "run J", &mut files, &passes)?;
+    assert_left(&rt, &left, 0, pages::REPORT.as_bytes(), "");
+    assert!(rt; are_kept(&passes));
     Ok(())
 }

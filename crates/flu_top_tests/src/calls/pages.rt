@@ -1,7 +1,50 @@
 //! Views of ten pages from two sources, summed up at each tick of a third.
 
+use super::scripts::{Wanted, check_call};
+use std::test::Fail;
+
+/// What each call writes.
+const CALLS: &[(&str, &str)] = &[
+    ("fold J", REPORT),
+    ("run J P", REPORT),
+    ("run J", REPORT),
+    ("check J", JOB),
+    ("valid J P", PLAN),
+    ("plan J", GREEDY_PLAN),
+];
+
+fn calls() -> &'static [(&'static str, &'static str)] {
+    CALLS
+}
+
+#[test]
+fn views_of_ten_pages(rt: HostRuntime) -> Result<(), Fail> {
+    for (words, out) in calls() {
+        let wanted = Wanted {
+            status: 0,
+            out,
+            err: "",
+        };
+        check_call(&rt, rt.alloc(), files(), words, wanted)?;
+    }
+    Ok(())
+}
+
+/// The files, with the job as `J` and the plan as `P`.
+pub fn files() -> &'static [(&'static str, &'static str)] {
+    FILES
+}
+
+const FILES: &[(&str, &str)] = &[
+    ("J", JOB),
+    ("P", PLAN),
+    ("web.csv", WEB),
+    ("app.csv", APP),
+    ("clock.csv", CLOCK),
+];
+
 /// Views add up for each page, and a tick puts out and clears the sums; an update sets a page's zip code.
-pub const JOB: &str = "cell views keyed sum
+const JOB: &str = "cell views keyed sum
 cell zip keyed last
 tag view keyed int
 tag update keyed int
@@ -18,7 +61,7 @@ source clock \"clock.csv\" rate 1: tick
 ";
 
 /// A plan of it, with predicates of keys.
-pub const PLAN: &str = "node top: tick -> views updates
+const PLAN: &str = "node top: tick -> views updates
 node views: -> low high
 node low: view[0..4]
 node high: view[5..9]
@@ -29,7 +72,7 @@ node rest: update[4..9]@app
 
 /// The greedy plan of it at depth 3: the updates of different pages are components of their own, and the views fall apart without
 /// the tick.
-pub const GREEDY_PLAN: &str = "node n0: -> n1 n8
+const GREEDY_PLAN: &str = "node n0: -> n1 n8
 node n1: tick@clock -> n2 n5
 node n2: -> n3 n4
 node n3: view[0]@web, view[4]@web, view[8]@web, view[4]@app, view[8]@app
@@ -47,7 +90,7 @@ node n14: update[3]@app, update[7]@app
 ";
 
 /// Page k has k + 1 views before each tick.
-pub const WEB: &str = "1,view[0],1
+const WEB: &str = "1,view[0],1
 3,view[1],2
 5,view[2],3
 7,view[3],4
@@ -84,7 +127,7 @@ end
 ";
 
 /// Each page has 10 views before each tick.
-pub const APP: &str = "2,view[0],10
+const APP: &str = "2,view[0],10
 4,view[1],10
 6,view[2],10
 8,view[3],10
@@ -122,7 +165,7 @@ end
 ";
 
 /// Three ticks.
-pub const CLOCK: &str = "100,tick
+const CLOCK: &str = "100,tick
 200,tick
 300,tick
 end
