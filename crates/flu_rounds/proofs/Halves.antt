@@ -1,12 +1,10 @@
 -- Both halves of a round, with the fold of its rows between them, make a round.
 use Rattle.std.proofs.Common.{◌≡◌, ℕ, List, Option, sym, ap, ◌∙◌, subst}
-use Rattle.std.specs.List.Sorted.{IsPermutation}
 use Rattle.std.proofs.lemmas.List.Sorted.{IsPermutation-sym}
 use Rattle.flu_lemmas.proofs.Told.{told_weaker}
 use Rattle.flu_cells.specs.declared.state.State.{State}
 use Rattle.flu_cells.specs.Holding.{held}
 use Rattle.flu_model.specs.declared.events.Item.{Item}
-use Rattle.flu_model.specs.declared.events.Out.{Out}
 use Rattle.flu_model.specs.declared.jobs.Program.{Program}
 use Rattle.flu_model.specs.Folding.{final_state, final_outputs}
 use Rattle.flu_model.specs.Reports.{report}
@@ -16,8 +14,8 @@ use Rattle.flu_rows.specs.declared.rows.Next.{Next}
 use Rattle.flu_streams.specs.declared.border.Border.{Border}
 use Rattle.flu_streams.specs.Holding.{Holding, AreHeldBehind, AreInAll, Fills, KeepsJob, Cuts}
 use Rattle.flu_streams.specs.Rounds.{IsRound, lists_between}
-use Rattle.flu_rounds.specs.Standing.{Standing, Runs, IsRoundOf, round_lists, round_report}
-use Rattle.flu_rounds.specs.Halves.{Begins, AreRun, AppendsReport, AppendsPartOfReport, LawOfHalves, LawOfHalf}
+use Rattle.flu_rounds.specs.Standing.{Standing, round_lists, round_report}
+use Rattle.flu_rounds.specs.Halves.{Begins, LawOfHalves, LawOfHalf}
 
 -- ---- the first half: a refill and a cut
 -- what a refill read is what the cut leaves read

@@ -1,9 +1,9 @@
 -- How far a run in rounds has come, and what it has written by then (`docs/MODEL.md`, "Rounds").
-use Rattle.std.specs.Prelude.{◌≡◌, ℕ, ◌<◌, ◌≤◌, Option, List, [], ◌++◌, length}
+use Rattle.std.specs.Prelude.{◌≡◌, ℕ, ◌<◌, ◌≤◌, Option, Some, None, List, [], ◌++◌, length}
 use Rattle.flu_cells.specs.Holding.{held}
 use Rattle.flu_model.specs.declared.events.Item.{Item}
 use Rattle.flu_model.specs.declared.jobs.Program.{Program}
-use Rattle.flu_model.specs.Contents.{nothing_held}
+use Rattle.flu_model.specs.Contents.{Contents, nothing_held}
 use Rattle.flu_model.specs.Folding.{final_state, final_outputs}
 use Rattle.flu_model.specs.Reports.{report}
 use Rattle.flu_outside.specs.Outside.{Contents as Files, WhereTold}
@@ -11,79 +11,113 @@ use Rattle.flu_rows.specs.declared.rows.Next.{Next}
 use Rattle.flu_streams.specs.declared.border.Border.{Border}
 use Rattle.flu_streams.specs.declared.border.Border.TheVariants.{At, Closed}
 use Rattle.flu_streams.specs.declared.faults.SourceFault.{SourceFault}
+use Rattle.flu_streams.specs.Borders.{beyond}
 use Rattle.flu_streams.specs.Files.{files_of, AreReadOut}
 use Rattle.flu_streams.specs.Good.{lists_of}
-use Rattle.flu_streams.specs.Rounds.{ComesTo, IsRoundFault, reports_in_turn, state_in_turn}
+use Rattle.flu_streams.specs.Rounds.{ComesFrom, IsRoundFault, reports_in_turn, state_in_turn}
 use Rattle.flu_streams.specs.Holding.{AreHeldBehind, AreInAll, ClosedAreReadOut, AreClosed}
 use Rattle.flu_rounds.specs.declared.faults.RoundsFault.TheVariants.{Source as SourceDefect}
-pub use Rattle.flu_rounds.specs.Written.{AreSound, RanTo, WouldWrite, lines_in, text_until, text_up_to}
-use Rattle.flu_rounds.specs.Standing.{Standing, Runs, IsRoundOf, IsSourceFault, StandsBehind, IsFirst, round_report}
+pub use Rattle.flu_rounds.specs.Written.{AreSound, RanFrom, RanTo, WouldWriteFrom, WouldWrite, lines_in, text_from, text_up_from, text_until, text_up_to}
+use Rattle.flu_rounds.specs.Standing.{Standing, Runs, IsRoundOf, IsSourceFault, StandsBehind, IsFirstFrom, round_report}
 
 -- ---- a run over files
--- A RUN HAS COME TO A STANDING: what is held and the state are those behind the rounds since its start, each of which was a round
--- of the lines that the files had then; and this was written
-pub record CameTo (p : Program) (rows : ℕ) (start left : Option Files) (now : Standing) (written : List ℕ) : Type 0 where
+-- A RUN HAS COME TO A STANDING, above a border, where there is one, and from a state: what is held and the state are those behind the
+-- rounds since its start, each of which was a round of the lines that the files had then; and this was written
+pub record CameFrom (p : Program) (rows : ℕ) (border : Option ℕ) (opening : Contents) (start left : Option Files) (now : Standing) (written : List ℕ) : Type 0 where
   pub program : now.held.program ≡ p
   pub number : now.held.rows ≡ rows
   pub done : List (List (List Item))
   pub before : ℕ → List Next
   pub behind : AreHeldBehind now.held before
-  pub state : held now.state ≡ state_in_turn p nothing_held done
-  pub wrote : written ≡ reports_in_turn p nothing_held done
+  pub state : held now.state ≡ state_in_turn p opening done
+  pub wrote : written ≡ reports_in_turn p opening done
   pub ended : ClosedAreReadOut now.held left
-  pub told : WhereTold start left (λ was is. ComesTo p rows (lines_in p was) done now.held.border before × AreInAll now.held before is (lines_in p was))
+  pub told : WhereTold start left (λ was is. ComesFrom p rows (lines_in p was) border done now.held.border before × AreInAll now.held before is (lines_in p was))
 
--- ALL OF THE RUN: no source has a defect, and the state and what was written are those of the fold of all rows
-pub record HasRun (p : Program) (was : Files) (now : Standing) (written : List ℕ) : Type 0 where
+-- from the first row on, and from the empty state
+abbrev pub CameTo : Program → ℕ → Option Files → Option Files → Standing → List ℕ → Type 0
+CameTo p rows start left now written = CameFrom p rows None nothing_held start left now written
+
+-- the items above a border, where there is one
+abbrev pub lists_above : Option ℕ → List (List Item) → List (List Item)
+lists_above None lists = lists
+lists_above (Some t) lists = beyond t lists
+
+-- ALL OF THE RUN: no source has a defect, and the state and what was written are those of the fold of all rows above the border
+pub record HasRunFrom (p : Program) (border : Option ℕ) (opening : Contents) (was : Files) (now : Standing) (written : List ℕ) : Type 0 where
   pub sound : AreSound p (lines_in p was)
-  pub state : held now.state ≡ final_state p nothing_held (lists_of p was)
-  pub text : written ≡ report p (final_outputs p nothing_held (lists_of p was))
+  pub state : held now.state ≡ final_state p opening (lists_above border (lists_of p was))
+  pub text : written ≡ report p (final_outputs p opening (lists_above border (lists_of p was)))
+
+abbrev pub HasRun : Program → Files → Standing → List ℕ → Type 0
+HasRun p was now written = HasRunFrom p None nothing_held was now written
 
 -- ---- laws
 -- LAW OF THE BEGINNING: before the first round nothing is written
-abbrev pub LawOfBeginning : Type 0
-LawOfBeginning = (p : Program) (rows : ℕ) (left : Option Files) (now : Standing) → IsFirst p rows now → CameTo p rows left left now []
+abbrev pub LawOfBeginningFrom : Option ℕ → Contents → Type 0
+LawOfBeginningFrom border opening =
+    (p : Program) (rows : ℕ) (left : Option Files) (now : Standing)
+    → IsFirstFrom p rows border opening now → CameFrom p rows border opening left left now []
 
 -- LAW OF GOING ON: a round with a border comes to the next standing
-abbrev pub LawOfGoingOn : Type 0
-LawOfGoingOn =
+abbrev pub LawOfGoingOnFrom : Option ℕ → Contents → Type 0
+LawOfGoingOnFrom border opening =
     (p : Program) (rows : ℕ) (start left left' : Option Files) (old new : Standing) (written : List ℕ) (t : ℕ)
-    → (came : CameTo p rows start left old written)
+    → (came : CameFrom p rows border opening start left old written)
     → (runs : Runs old new left left' (At t) came.before)
     → StandsBehind old.held new.held (At t)
     → (ClosedAreReadOut old.held left → ClosedAreReadOut new.held left')
-    → CameTo p rows start left' new (written ++ round_report old (At t) runs.fills.now)
+    → CameFrom p rows border opening start left' new (written ++ round_report old (At t) runs.fills.now)
 
--- LAW OF THE TEXT: what was written is the report of the fold of all rows up to the border
-abbrev pub LawOfText : Type 0
-LawOfText =
+-- LAW OF THE TEXT: what was written is the report of the fold of all rows up to the border, of those above the run's start
+abbrev pub LawOfTextFrom : Option ℕ → Contents → Type 0
+LawOfTextFrom border opening =
     (p : Program) (rows : ℕ) (start left : Option Files) (now : Standing) (written : List ℕ) → 1 ≤ rows
-    → CameTo p rows start left now written
-    → WhereTold start left (λ was is. RanTo p rows (lines_in p was) now.held.border written)
+    → CameFrom p rows border opening start left now written
+    → WhereTold start left (λ was is. RanFrom p rows border opening (lines_in p was) now.held.border written)
 
 -- LAW OF THE NEXT TEXT: with the report of a round more, it is that of all rows up to the round's end
-abbrev pub LawOfNextText : Type 0
-LawOfNextText =
-    (p : Program) (rows : ℕ) (start left left' : Option Files) (old : Standing) (written : List ℕ) (end : Border) (now : ℕ → List Next) → 1 ≤ rows
-    → (came : CameTo p rows start left old written)
+abbrev pub LawOfNextTextFrom : Option ℕ → Contents → Type 0
+LawOfNextTextFrom border opening =
+    (p : Program) (rows : ℕ) (start left left' : Option Files) (old : Standing) (written : List ℕ) (end : Border) (now : ℕ → List Next)
+    → 1 ≤ rows → (came : CameFrom p rows border opening start left old written)
     → IsRoundOf old left left' end came.before now
-    → WhereTold start left' (λ was is. (ran : RanTo p rows (lines_in p was) old.held.border written)
-    × WouldWrite p rows (lines_in p was) old.held.border ran.before now end (written ++ round_report old end now))
+    → WhereTold start left' (λ was is. (ran : RanFrom p rows border opening (lines_in p was) old.held.border written)
+    × WouldWriteFrom p rows border opening (lines_in p was) old.held.border ran.before now end (written ++ round_report old end now))
 
 -- LAW OF THE LAST ROUND: behind it all rows were run, and all files were read to their ends
-abbrev pub LawOfLast : Type 0
-LawOfLast =
+abbrev pub LawOfLastFrom : Option ℕ → Contents → Type 0
+LawOfLastFrom border opening =
     (p : Program) (rows : ℕ) (start left left' : Option Files) (old new : Standing) (written : List ℕ) → 1 ≤ rows
-    → (came : CameTo p rows start left old written)
+    → (came : CameFrom p rows border opening start left old written)
     → (runs : Runs old new left left' Closed came.before) → StandsBehind old.held new.held Closed
     → (ClosedAreReadOut old.held left → ClosedAreReadOut new.held left') → AreClosed new.held
-    → AreReadOut (files_of p.sources) left' × WhereTold start left' (λ was is. HasRun p was new (written ++ round_report old Closed runs.fills.now))
+    → AreReadOut (files_of p.sources) left' × WhereTold start left' (λ was is. HasRunFrom p border opening was new (written ++ round_report old Closed runs.fills.now))
 
 -- LAW OF A DEFECT: it is met by the run of the lines, behind the rounds so far
-abbrev pub LawOfDefect : Type 0
-LawOfDefect =
+abbrev pub LawOfDefectFrom : Option ℕ → Contents → Type 0
+LawOfDefectFrom border opening =
     (p : Program) (rows : ℕ) (start left left' : Option Files) (old : Standing) (written : List ℕ) (f : SourceFault) → 1 ≤ rows
-    → (came : CameTo p rows start left old written)
+    → (came : CameFrom p rows border opening start left old written)
     → IsSourceFault old.held left left' (SourceDefect f)
-    → (f.source < length p.sources) × WhereTold start left' (λ was is. (ran : RanTo p rows (lines_in p was) old.held.border written)
+    → (f.source < length p.sources) × WhereTold start left' (λ was is. (ran : RanFrom p rows border opening (lines_in p was) old.held.border written)
     × IsRoundFault p rows old.held.border (lines_in p was) ran.before f)
+
+-- ---- the laws of a run from the first row on, and from the empty state
+abbrev pub LawOfBeginning : Type 0
+LawOfBeginning = LawOfBeginningFrom None nothing_held
+
+abbrev pub LawOfGoingOn : Type 0
+LawOfGoingOn = LawOfGoingOnFrom None nothing_held
+
+abbrev pub LawOfText : Type 0
+LawOfText = LawOfTextFrom None nothing_held
+
+abbrev pub LawOfNextText : Type 0
+LawOfNextText = LawOfNextTextFrom None nothing_held
+
+abbrev pub LawOfLast : Type 0
+LawOfLast = LawOfLastFrom None nothing_held
+
+abbrev pub LawOfDefect : Type 0
+LawOfDefect = LawOfDefectFrom None nothing_held

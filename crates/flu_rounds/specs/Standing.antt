@@ -1,17 +1,17 @@
 -- Where a run in rounds stands, and what a round does (`docs/MODEL.md`, "Rounds").
-use Rattle.std.specs.Prelude.{◌≡◌, ℕ, List, Option, Some, None, ⊤}
+use Rattle.std.specs.Prelude.{◌≡◌, ℕ, List, Option, None, ⊤}
 use Rattle.flu_model.specs.declared.events.Item.{Item}
 use Rattle.flu_model.specs.declared.jobs.Program.{Program}
 use Rattle.flu_cells.specs.declared.state.State.{State}
 use Rattle.flu_cells.specs.Holding.{held}
-use Rattle.flu_model.specs.Contents.{nothing_held}
+use Rattle.flu_model.specs.Contents.{Contents, nothing_held}
 use Rattle.flu_model.specs.Folding.{final_state, final_outputs}
 use Rattle.flu_model.specs.Reports.{report}
 use Rattle.flu_outside.specs.Outside.{Contents as Files, WhereTold}
 use Rattle.flu_rows.specs.declared.rows.Next.{Next}
 use Rattle.flu_streams.specs.declared.border.Border.{Border}
 use Rattle.flu_streams.specs.declared.faults.GatherFault.TheVariants.{Source as SourceFaulty}
-use Rattle.flu_streams.specs.Holding.{Holding, fresh, border_after, stage_after, AreInAll, Fills, IsRefillFault}
+use Rattle.flu_streams.specs.Holding.{Holding, unread, border_after, stage_after, AreInAll, Fills, IsRefillFault}
 use Rattle.flu_streams.specs.Rounds.{IsRound, lists_between}
 use Rattle.flu_rounds.specs.declared.faults.RoundsFault.{RoundsFault}
 use Rattle.flu_rounds.specs.declared.faults.RoundsFault.TheVariants.{Source, ReadFault, WriteFault, NoMemory}
@@ -21,10 +21,15 @@ pub record Standing : Type 0 where
   pub held : Holding
   pub state : State
 
--- before the first round nothing is held of the sources, and the state is empty
-pub record IsFirst (p : Program) (rows : ℕ) (s : Standing) : Type 0 where
-  pub held' : s.held ≡ fresh p rows
-  pub state' : held s.state ≡ nothing_held
+-- before the first round of a run that starts above a border, where there is one, nothing is held of the sources, and the state is
+-- the one that it starts from
+pub record IsFirstFrom (p : Program) (rows : ℕ) (border : Option ℕ) (opening : Contents) (s : Standing) : Type 0 where
+  pub held' : s.held ≡ unread p rows border
+  pub state' : held s.state ≡ opening
+
+-- a run from the first row on starts from the empty state
+abbrev pub IsFirst : Program → ℕ → Standing → Type 0
+IsFirst p rows s = IsFirstFrom p rows None nothing_held s
 
 -- the lists of the rows that a round takes, where these lines were read of each source
 abbrev pub round_lists : Standing → Border → (ℕ → List Next) → List (List Item)

@@ -5,7 +5,7 @@ use Rattle.flu_lemmas.specs.Elements.{AtEach}
 use Rattle.flu_model.specs.declared.events.Item.{Item}
 use Rattle.flu_model.specs.declared.jobs.Source.{Source}
 use Rattle.flu_model.specs.declared.jobs.Program.{Program}
-use Rattle.flu_model.specs.Contents.{nothing_held}
+use Rattle.flu_model.specs.Contents.{Contents, nothing_held}
 use Rattle.flu_model.specs.Folding.{final_outputs}
 use Rattle.flu_model.specs.Reports.{report}
 use Rattle.flu_outside.specs.Outside.{Contents as Files}
@@ -14,33 +14,47 @@ use Rattle.flu_rows.specs.declared.rows.Next.{Next}
 use Rattle.flu_rows.specs.Reading.{read_file}
 use Rattle.flu_streams.specs.declared.border.Border.{Border}
 use Rattle.flu_streams.specs.declared.border.Border.TheVariants.{At}
-use Rattle.flu_streams.specs.Rounds.{ComesTo, IsRound, defect_in, lists_between}
+use Rattle.flu_streams.specs.Rounds.{ComesFrom, IsRound, defect_in, lists_between}
 
 -- ---- lines and texts
 -- the lines of the file of each source, by the source's number
 abbrev pub lines_in : Program → Files → ℕ → List Next
 lines_in p left i = option_map_or (λ (s : Source). read_file (bytes_left left s.file)) (slice_get p.sources i) []
 
--- the report of the fold, from the empty state, of the rows up to an end among these lines
+-- the report of the fold, from a state, of the rows above a border, where there is one, and up to an end among these lines
+abbrev pub text_from : Program → Option ℕ → Contents → Border → (ℕ → List Next) → List ℕ
+text_from p border opening end lines = report p (final_outputs p opening (lists_between p border end lines))
+
+-- the same up to another border, where there is one
+abbrev pub text_up_from : Program → Option ℕ → Contents → Option ℕ → (ℕ → List Next) → List ℕ
+text_up_from p border opening None lines = []
+text_up_from p border opening (Some t) lines = text_from p border opening (At t) lines
+
+-- from the first row on, and from the empty state
 abbrev pub text_until : Program → Border → (ℕ → List Next) → List ℕ
-text_until p end lines = report p (final_outputs p nothing_held (lists_between p None end lines))
+text_until p end lines = text_from p None nothing_held end lines
 
--- the same up to a border, where there is one
 abbrev pub text_up_to : Program → Option ℕ → (ℕ → List Next) → List ℕ
-text_up_to p None lines = []
-text_up_to p (Some t) lines = text_until p (At t) lines
+text_up_to p above lines = text_up_from p None nothing_held above lines
 
--- THE RUN OF THESE LINES COMES TO A BORDER, by rounds one after another, and this is written by then
-pub record RanTo (p : Program) (rows : ℕ) (whole : ℕ → List Next) (above : Option ℕ) (written : List ℕ) : Type 0 where
+-- THE RUN OF THESE LINES above a border and from a state COMES TO ANOTHER BORDER, by rounds one after another, and this is written by
+-- then
+pub record RanFrom (p : Program) (rows : ℕ) (border : Option ℕ) (opening : Contents) (whole : ℕ → List Next) (above : Option ℕ) (written : List ℕ) : Type 0 where
   pub done : List (List (List Item))
   pub before : ℕ → List Next
-  pub comes : ComesTo p rows whole done above before
-  pub text : written ≡ text_up_to p above before
+  pub comes : ComesFrom p rows whole border done above before
+  pub text : written ≡ text_up_from p border opening above before
+
+abbrev pub RanTo : Program → ℕ → (ℕ → List Next) → Option ℕ → List ℕ → Type 0
+RanTo p rows whole above written = RanFrom p rows None nothing_held whole above written
 
 -- A ROUND MORE of the lines, behind which this is written
-pub record WouldWrite (p : Program) (rows : ℕ) (whole : ℕ → List Next) (above : Option ℕ) (before now : ℕ → List Next) (end : Border) (written : List ℕ) : Type 0 where
+pub record WouldWriteFrom (p : Program) (rows : ℕ) (border : Option ℕ) (opening : Contents) (whole : ℕ → List Next) (above : Option ℕ) (before now : ℕ → List Next) (end : Border) (written : List ℕ) : Type 0 where
   pub round : IsRound p rows above whole before now end
-  pub text : written ≡ text_until p end now
+  pub text : written ≡ text_from p border opening end now
+
+abbrev pub WouldWrite : Program → ℕ → (ℕ → List Next) → Option ℕ → (ℕ → List Next) → (ℕ → List Next) → Border → List ℕ → Type 0
+WouldWrite p rows whole above before now end written = WouldWriteFrom p rows None nothing_held whole above before now end written
 
 -- NO DEFECT in these lines of each source
 abbrev pub AreSound : Program → (ℕ → List Next) → Type 0

@@ -1,9 +1,15 @@
 //! Laws of runs in rounds, each the contract of a function that does nothing.
 
+ghost use Rattle.std.specs.Prelude.{ℕ, Option};
+ghost use Rattle.flu_model.specs.Contents.{Contents};
 ghost use Rattle.flu_rounds.specs.Coming.{LawOfBeginning, LawOfGoingOn, LawOfText, LawOfNextText, LawOfLast, LawOfDefect};
+ghost use Rattle.flu_rounds.specs.Coming.{LawOfBeginningFrom, LawOfGoingOnFrom, LawOfTextFrom, LawOfNextTextFrom, LawOfLastFrom, LawOfDefectFrom};
 ghost use Rattle.flu_rounds.specs.Halves.{LawOfHalves, LawOfHalf};
 
-use flu_streams::{last_round_has_all_rows, rounds_are_folded_in_turn, rounds_begin_and_end};
+use flu_streams::{
+    last_round_has_all_rows, last_round_has_later_rows, rounds_are_folded_in_turn,
+    rounds_begin_and_end,
+};
 
 /// How far a run in rounds has come (`CameTo`): it begins with nothing written, and each round with a border takes it further.
 pub fn runs_go_on()
@@ -24,6 +30,29 @@ pub fn runs_write_the_fold()
 {
     rounds_are_folded_in_turn();
     last_round_has_all_rows();
+    last_round_has_later_rows();
+    rounds_begin_and_end();
+}
+
+/// How far a run has come that is resumed above a border, from a state (`CameFrom`), as in `runs_go_on`.
+pub fn resumed_runs_go_on()
+    ensures beginning { (border : Option ℕ) (opening : Contents) → LawOfBeginningFrom border opening }
+    ensures going_on { (border : Option ℕ) (opening : Contents) → LawOfGoingOnFrom border opening }
+{
+    rounds_begin_and_end();
+}
+
+/// What a run has written that is resumed above a border, from a state: as in `runs_write_the_fold`, with the fold from that state, of
+/// the rows above that border.
+pub fn resumed_runs_write_the_fold()
+    ensures text { (border : Option ℕ) (opening : Contents) → LawOfTextFrom border opening }
+    ensures next { (border : Option ℕ) (opening : Contents) → LawOfNextTextFrom border opening }
+    ensures last { (border : Option ℕ) (opening : Contents) → LawOfLastFrom border opening }
+    ensures defect { (border : Option ℕ) (opening : Contents) → LawOfDefectFrom border opening }
+{
+    rounds_are_folded_in_turn();
+    last_round_has_all_rows();
+    last_round_has_later_rows();
     rounds_begin_and_end();
 }
 

@@ -1,6 +1,6 @@
 //! The state of a run between rounds.
 
-ghost use Rattle.std.specs.Prelude.{◌≡◌, ◌≢◌, ◌≤◌, ◌⊎◌, ℕ, length, List, Option, Some, IfOk, IfErr, OnOk, IsErrOf, Ok, Err};
+ghost use Rattle.std.specs.Prelude.{◌≡◌, ◌≢◌, ◌<◌, ◌≤◌, ◌^◌, ◌⊎◌, ℕ, length, List, Option, Some, IfOk, IfErr, OnOk, IsErrOf, Ok, Err};
 ghost use Rattle.flu_outside.specs.Outside.{WhereTold, Rose, SameCounts};
 ghost use Rattle.flu_outside.specs.Taking.{TookFronts};
 ghost use Rattle.flu_outside.specs.Writing.{AppendsAll, AppendsPart};
@@ -14,7 +14,7 @@ ghost use Rattle.flu_streams.specs.declared.held.Stage.{Stage};
 ghost use Rattle.flu_streams.specs.Files.{files_of, LeavesOthers, CountsOfNames, OneRose};
 ghost use Rattle.flu_streams.specs.Holding.{AreHeldBehind, ClosedAreReadOut, AreClosed, IsNewBorder, HidesNoRoundFault};
 ghost use Rattle.flu_rounds.specs.Halves.{Begins, AppendsReport, AppendsPartOfReport};
-ghost use Rattle.flu_rounds.specs.Standing.{IsFirst, round_report, Runs, IsRoundOf, IsSourceFault, StandsBehind};
+ghost use Rattle.flu_rounds.specs.Standing.{IsFirst, IsFirstFrom, round_report, Runs, IsRoundOf, IsSourceFault, StandsBehind};
 
 use crate::faults::RoundsFault;
 use flu_cells::State;
@@ -80,6 +80,31 @@ impl Rounds {
         Ok(Rounds {
             held: Held::new(alloc, p, rows)?,
             state: State::new(alloc),
+        })
+    }
+
+    /// A run that is resumed: its first round starts from this state, and the rounds take the rows above this border. Rows up to it are
+    /// read and tested, and not run.
+    ///
+    /// # Errors
+    ///
+    /// Only where memory is wanting.
+    pub fn resume(
+        alloc: Global,
+        p: &Program,
+        rows: u32,
+        border: u64,
+        state: State,
+    ) -> Result<Rounds, AllocError>
+        requires some { 1 ≤ rows }
+        requires few { rows ≤ 4096 }
+        requires border { border < 2 ^ 63 }
+        requires sorts { IsStateOf p.now.families (held state) }
+        ensures { IfOk result (IsFirstFrom p.now rows (Some border) (held state)) }
+    {
+        Ok(Rounds {
+            held: Held::resume(alloc, p, rows, border)?,
+            state,
         })
     }
 
@@ -229,7 +254,7 @@ impl Rounds {
         &self.state
     }
 
-    /// The border of the last round that had one, and none before it.
+    /// The border of the last round that had one. Before it none, or that of a run that is resumed.
     pub fn border(&self) -> Option<u64>
         ensures { result ≡ self.now.held.border }
     {

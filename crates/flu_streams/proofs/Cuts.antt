@@ -31,14 +31,14 @@ use Rattle.flu_streams.specs.Before.{each_with_before}
 use Rattle.flu_streams.specs.Good.{in_time_order, items_at, lists_of_rows}
 use Rattle.flu_streams.specs.Holding.{HeldSource, Holding, IsHeldBehind, AreHeldBehind, Cuts, first_itag, still}
 use Rattle.flu_streams.specs.Lists.{lists_in, items_of_list, item_time, item_for}
-use Rattle.flu_streams.specs.LoopHeld.{source_of, taken_by, DropsTo, AreDropped, IsSettledAt, IsSettledBy, AreWell, IsWell, AreBehind}
+use Rattle.flu_streams.specs.LoopHeld.{source_of, taken_by, DropsTo, AreDropped, IsSettledAt, IsSettledBy, AreWell, AreCaughtUp, IsWell, AreBehind}
 use Rattle.flu_streams.specs.Rounds.{rows_between, is_above, is_up_to, settled, lists_between}
 use Rattle.flu_streams.specs.Tags.{width}
 use Rattle.flu_streams.specs.Tests.{rows_of}
 use Rattle.flu_streams.proofs.Befores.{with_before-append}
 use Rattle.flu_streams.proofs.Counting.{still_rises}
 use Rattle.flu_streams.proofs.Cutting.{all_kept}
-use Rattle.flu_streams.proofs.HeldRows.{taken_items, left_items}
+use Rattle.flu_streams.proofs.HeldRows.{taken_items, left_items, items_caught}
 use Rattle.flu_streams.proofs.RoundLaws.{Exceeds}
 use Rattle.flu_streams.proofs.RoundOf.{holding, behind_at, behind_of}
 use Rattle.flu_streams.proofs.Rounding.{set_here}
@@ -69,11 +69,12 @@ own_streams lists first n end items len each up =
 pub own_lists : (lists : Vec (Vec Item Global) Global) (kinds : List Kind) (s : Source) (first : ℕ) (border : Option ℕ) (end : Border)
     (lines : List Next) (h : Inlet) → vec_len lists ≡ width s
     → ((i : ℕ) → i < width s → items_of_list lists i ≡ own_items first end h.items.items i) → IsHeldBehind kinds first s border lines (source_of h)
+    → h.goal ≡ None
     → lists_in lists ≡ lists_of_rows kinds s first (rows_between border end (rows_of lines))
-own_lists lists kinds s first border end lines h len each is =
+own_lists lists kinds s first border end lines h len each is caught =
     let rows = rows_between border end (rows_of lines) in
     lists_are lists (width s) (items_at kinds s first rows) len
-    (λ i lt. each i lt ∙ ap (λ l. filter_map (item_for (first + i)) l ++ (EndItem ∷ [])) (taken_items kinds s first border end (rows_of lines) h.items.items is.items)
+    (λ i lt. each i lt ∙ ap (λ l. filter_map (item_for (first + i)) l ++ (EndItem ∷ [])) (taken_items kinds s first border end (rows_of lines) h.items.items (items_caught kinds s first border lines (source_of h) is caught))
     ∙ ap (λ l. l ++ (EndItem ∷ [])) (for_itags kinds s first i (in_time_order rows) lt))
 
 -- ---- the lists of all sources
@@ -103,21 +104,28 @@ exceeds None t up u e = refl
 exceeds (Some b) t up u e = grind (arith, nat_tests)
 
 cut_one : (kinds : List Kind) (s : Source) (first t : ℕ) (border : Option ℕ) (lines : List Next) (old new : Inlet) → is_above border t ≡ true
-    → IsSettledAt s (Some t) old → DropsTo t old new
+    → IsSettledAt s (Some t) old → old.goal ≡ None → DropsTo t old new
     → IsHeldBehind kinds first s border lines (source_of old) → IsHeldBehind kinds first s (Some t) lines (source_of new)
-cut_one kinds s first t border lines old new up at d is = record {
+cut_one kinds s first t border lines old new up at caught d is = record {
   file = ap (λ place. place.file) d.rows ∙ is.file;
   sound = is.sound;
-  items = d.items ∙ left_items kinds s first border t (rows_of lines) old.items.items (exceeds border t up) is.items;
+  low = Some t;
+  items = d.items ∙ left_items kinds s first border t (rows_of lines) old.items.items (exceeds border t up) (items_caught kinds s first border lines (source_of old) is caught);
   last = d.last ∙ is.last;
   ended = d.ended ∙ is.ended;
   settled = λ goes v e. let k = at (sym d.closed ∙ goes) v e in (k.0, ap (settled s.slack) (sym is.last) ∙ k.1, k.2);
+  up_to = λ l e. (l, e, omega arith);
+  caught = λ none. refl;
+  goal = λ v e. absurd (never v (sym caught ∙ sym d.goal ∙ e));
 }
+  where
+    never : (v : ℕ) → None ≡ Some v → ⊥
+    never v e = cc
 
 pub cuts_at : (p : Program) (rows t : ℕ) (border : Option ℕ) (stage : Stage) (olds news : List Inlet) → AreWell p rows border olds
-    → IsSettledBy p border (At t) olds → AreDropped t olds news
+    → IsSettledBy p border (At t) olds → AreCaughtUp olds → AreDropped t olds news
     → Cuts (holding p rows border stage olds) (holding p rows (Some t) Filling news) (At t)
-cuts_at p rows t border stage olds news well settles dropped =
+cuts_at p rows t border stage olds news well settles caught dropped =
     let count : length news ≡ length p.sources = dropped.size ∙ well.count in
     record {
       program = refl;
@@ -126,7 +134,7 @@ cuts_at p rows t border stage olds news well settles dropped =
       stage = refl;
       behind = λ lines is. behind_of p rows (Some t) Filling news lines count (λ i s at h f.
           let old = slice_get-there olds i (rw well.count (slice_get_within p.sources i s at)) in
-          cut_one p.kinds s (first_itag p i) t border (lines i) old.0 h settles.0 (settles.1 i s at old.0 old.1) (dropped.each i old.0 h old.1 f)
+          cut_one p.kinds s (first_itag p i) t border (lines i) old.0 h settles.0 (settles.1 i s at old.0 old.1) (caught i old.0 old.1) (dropped.each i old.0 h old.1 f)
           (behind_at p rows border stage olds lines is i s at old.0 old.1));
       still' = λ lines whole left all i source f.
           let k = from_mapped source_of news i source f in
@@ -164,8 +172,8 @@ cuts_closed p rows border stage inlets well = record {
 }
 
 pub dropped_well : (p : Program) (rows t : ℕ) (border : Option ℕ) (olds news : List Inlet) → AreWell p rows border olds
-    → IsSettledBy p border (At t) olds → AreDropped t olds news → AreWell p rows (Some t) news
-dropped_well p rows t border olds news well settles dropped = record {
+    → IsSettledBy p border (At t) olds → AreCaughtUp olds → AreDropped t olds news → AreWell p rows (Some t) news
+dropped_well p rows t border olds news well settles caught dropped = record {
   some = well.some;
   count = dropped.size ∙ well.count;
   each = λ i s at h f.
@@ -173,10 +181,14 @@ dropped_well p rows t border olds news well settles dropped = record {
       let d = dropped.each i old.0 h old.1 f in
       record {
         file = ap (λ place. place.file) d.rows ∙ (well.each i s at old.0 old.1).file;
-        above = rw d.items (all_kept (λ (item : Item). nat_lt t (item_time item)) old.0.items.items);
-        settled = λ goes v e. let k = settles.1 i s at old.0 old.1 (sym d.closed ∙ goes) v e in (k.0, ap (settled s.slack) d.last ∙ k.1, k.2);
+        goal = λ v e. absurd (never v (sym (caught i old.0 old.1) ∙ sym d.goal ∙ e));
+        above = λ none. rw d.items (all_kept (λ (item : Item). nat_lt t (item_time item)) old.0.items.items);
+        settled = λ none goes v e. let k = settles.1 i s at old.0 old.1 (sym d.closed ∙ goes) v e in (k.0, ap (settled s.slack) d.last ∙ k.1, k.2);
       };
 }
+  where
+    never : (v : ℕ) → None ≡ Some v → ⊥
+    never v e = cc
 
 -- one source more is dropped
 pub dropped_more : (t n : ℕ) (olds news : List Inlet) (mid new : Inlet) → slice_get news n ≡ Some mid → slice_get news n ≡ slice_get olds n → DropsTo t mid new
@@ -199,7 +211,7 @@ well_filling p rows border stage inlets is e = subst (λ s. IsWell p rows border
 
 pub well_filled : (p : Program) (rows : ℕ) (border : Option ℕ) (stage : Stage) (b : Border) (inlets : List Inlet) → IsWell p rows border stage inlets
     → stage ≡ Filled b
-    → AreWell p rows border inlets × IsSettledBy p border b inlets
+    → AreWell p rows border inlets × IsSettledBy p border b inlets × AreCaughtUp inlets
 well_filled p rows border stage b inlets is e = subst (λ s. IsWell p rows border s inlets) e is
 
 pub closed_if_not : (b : Border) → ((t : ℕ) → b ≡ At t → ⊥) → b ≡ Closed

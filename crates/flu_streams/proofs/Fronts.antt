@@ -47,7 +47,7 @@ of_border : (p : Program) (opening : Contents) (rows : ℕ) (whole : ℕ → Lis
 of_border p opening rows whole done above before sound (Starts reads none) t is = absurd (cc)
 of_border p opening rows whole done above before sound (GoesOn done' above' before' mid b came was) t is =
     let same : b ≡ t = cc in
-    let cut = folds_in_turn p opening b (lists_between p None Closed whole) (lists_between p None (At b) whole) (lists_between p (Some b) Closed whole) (between_cut p b Closed whole (λ n e. refl)) in
+    let cut = folds_in_turn p opening b (lists_between p None Closed whole) (lists_between p None (At b) whole) (lists_between p (Some b) Closed whole) (between_cut p b None Closed whole (λ n e. refl) (λ n e. refl)) in
     let there = subst (λ l. FoldsInTurn p opening (lists_between p None Closed whole) l (lists_between p (Some b) Closed whole)) (lists_up_to p rows b above' whole before' mid sound was) cut in
     subst (λ n. FoldsInTurn p opening (lists_between p None Closed whole) (lists_between p None (At n) mid) (lists_between p (Some n) Closed whole)) same there
 

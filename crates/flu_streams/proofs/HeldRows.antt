@@ -27,16 +27,17 @@ use Rattle.flu_streams.specs.declared.faults.Why.TheVariants.{AfterEnd, Disorder
 use Rattle.flu_streams.specs.declared.inlet.Inlet.{Inlet}
 use Rattle.flu_streams.specs.Before.{first_some}
 use Rattle.flu_streams.specs.Good.{time_at, in_time_order}
-use Rattle.flu_streams.specs.Holding.{HeldSource, IsHeldBehind}
+use Rattle.flu_outside.specs.Outside.{Contents}
+use Rattle.flu_streams.specs.Holding.{HeldSource, IsHeldBehind, IsUpTo, still}
 use Rattle.flu_streams.specs.Lists.{item_time, times_in}
-use Rattle.flu_streams.specs.LoopHeld.{source_of, count_to, enough_of, test_late, fault_behind, put_timed, later_of, PutsIn, IsWellAt, taken_by}
+use Rattle.flu_streams.specs.LoopHeld.{source_of, count_to, enough_of, enough_in, without, IsShort, CatchesUp, IsCaughtUp, Stays, Drops, Comes, test_late, fault_behind, put_timed, later_of, PutsIn, IsWellAt, taken_by}
 use Rattle.flu_streams.specs.LoopIntake.{item_of}
 use Rattle.flu_streams.specs.LoopSource.{defect_behind}
 use Rattle.flu_streams.specs.Rounds.{row_fault, line_defect, settled, settled_time, is_above, is_between, rows_between, is_enough}
 use Rattle.flu_streams.specs.Tests.{rows_of, has_ended, is_end, time_in, times_of, greatest, where_true, test_tag, test_value, test_behind, test_times, test_time}
-use Rattle.flu_streams.proofs.Cutting.{not_not, later_is}
+use Rattle.flu_streams.proofs.Cutting.{not_not, later_is, all_kept}
 use Rattle.flu_streams.proofs.Counting.{enough_is, none_enough, all_late}
-use Rattle.flu_streams.proofs.RoundLaws.{or_else-none, defect_in-more, not_late, settled_is, settled_some, line_settles, Exceeds, parts_at, early_between, late_between, kept_first, kept_second}
+use Rattle.flu_streams.proofs.RoundLaws.{or_else-none, defect_in-more, not_late, settled_is, settled_some, line_settles, Exceeds, parts_at, early_between, late_between, none_between, kept_first, kept_second}
 use Rattle.flu_streams.proofs.Taken.{any_time, greatest-push, times_more, ended_more, rows_more, item_time-of, items_late, IsNoRow, no_row_more}
 
 -- ---- items by their times
@@ -108,17 +109,32 @@ count_rows kinds s first above u rows items is =
     ∙ length_permutation (rows_between above (At u) rows) (in_time_order (rows_between above (At u) rows))
     (in_order-permutation (is_less time_at) (rows_between above (At u) rows))
 
+-- the items that are held where the reading has come to the border
+pub items_caught : (kinds : List Kind) (s : Source) (first : ℕ) (above : Option ℕ) (lines : List Next) (h : HeldSource)
+    → IsHeldBehind kinds first s above lines h → h.goal ≡ None
+    → h.items ≡ map (item_of kinds s first) (in_time_order (rows_between above Closed (rows_of lines)))
+items_caught kinds s first above lines h is none =
+    is.items ∙ ap (λ (low : Option ℕ). map (item_of kinds s first) (in_time_order (rows_between low Closed (rows_of lines)))) (is.caught none)
+
 settled_held : (kinds : List Kind) (s : Source) (first : ℕ) (above : Option ℕ) (lines : List Next) (h : HeldSource) → IsHeldBehind kinds first s above lines h
     → settled_time s lines ≡ settled s.slack h.last
 settled_held kinds s first above lines h is = ap (settled s.slack) (sym is.last)
 
+-- a time is found only where the reading has come to the border
+pub without_some : (goal found : Option ℕ) (u : ℕ) → without goal found ≡ Some u → (goal ≡ None) × (found ≡ Some u)
+without_some None found u e = (refl, e)
+without_some (Some g) found u e = absurd cc
+
 pub enough_held : (kinds : List Kind) (s : Source) (first rows u : ℕ) (above : Option ℕ) (lines : List Next) (h : HeldSource)
     → IsHeldBehind kinds first s above lines h
-    → enough_of rows s.slack h.last h.items ≡ Some u → (is_enough rows above s lines ≡ true) × (settled_time s lines ≡ Some u)
-enough_held kinds s first rows u above lines h is e =
+    → enough_in rows s.slack h ≡ Some u → (is_enough rows above s lines ≡ true) × (settled_time s lines ≡ Some u)
+enough_held kinds s first rows u above lines h is found =
+    let caught = without_some h.goal (enough_of rows s.slack h.last h.items) u found in
+    let e : enough_of rows s.slack h.last h.items ≡ Some u = caught.1 in
+    let items = items_caught kinds s first above lines h is caught.0 in
     let k = enough_is rows s.slack u h.last h.items e in
     let at : settled_time s lines ≡ Some u = settled_held kinds s first above lines h is ∙ k.settles in
-    let count = count_rows kinds s first above u (rows_of lines) h.items is.items in
+    let count = count_rows kinds s first above u (rows_of lines) h.items items in
     let le : nat_le rows (length (rows_between above (At u) (rows_of lines))) ≡ true = rw (← count) (le_is rows (count_to u h.items) k.count) in
     (ap (λ o. nat_le rows (option_map_or (λ v. length (rows_between above (At v) (rows_of lines))) o 0)) at ∙ le, at)
   where
@@ -127,21 +143,38 @@ enough_held kinds s first rows u above lines h is e =
 
 pub not_enough_held : (kinds : List Kind) (s : Source) (first rows : ℕ) (above : Option ℕ) (lines : List Next) (h : HeldSource) → 1 ≤ rows
     → IsHeldBehind kinds first s above lines h
-    → enough_of rows s.slack h.last h.items ≡ None → is_enough rows above s lines ≡ false
-not_enough_held kinds s first rows above lines h one is e = by_time (settled s.slack h.last) refl
+    → IsShort rows s h → is_enough rows above s lines ≡ false
+not_enough_held kinds s first rows above lines h one is short = by_goal h.goal refl
   where
     lt_is : (a b : ℕ) → b < a → nat_le a b ≡ false
     lt_is a b lt = grind (arith, nat_tests)
 
-    by_time : (o : Option ℕ) → settled s.slack h.last ≡ o → is_enough rows above s lines ≡ false
-    by_time None at =
+    -- nothing is both above the border and settled
+    before_goal : (g : ℕ) (o : Option ℕ) → h.goal ≡ Some g → settled s.slack h.last ≡ o → is_enough rows above s lines ≡ false
+    before_goal g None is_goal at =
         ap (λ o. nat_le rows (option_map_or (λ v. length (rows_between above (At v) (rows_of lines))) o 0)) (settled_held kinds s first above lines h is ∙ at)
         ∙ lt_is rows 0 (omega (arith, one))
-    by_time (Some u) at =
-        let count = count_rows kinds s first above u (rows_of lines) h.items is.items in
+    before_goal g (Some u) is_goal at =
+        let lt : u < g = short.1 g u is_goal at in
+        ap (λ o. nat_le rows (option_map_or (λ v. length (rows_between above (At v) (rows_of lines))) o 0)) (settled_held kinds s first above lines h is ∙ at)
+        ∙ ap (λ b. nat_le rows (length (rows_between b (At u) (rows_of lines)))) (is.goal g is_goal)
+        ∙ ap (λ (l : List Row). nat_le rows (length l)) (none_between g u (rows_of lines) (omega (arith, lt)))
+        ∙ lt_is rows 0 (omega (arith, one))
+
+    by_time : h.goal ≡ None → enough_of rows s.slack h.last h.items ≡ None → (o : Option ℕ) → settled s.slack h.last ≡ o
+        → is_enough rows above s lines ≡ false
+    by_time none e None at =
+        ap (λ o. nat_le rows (option_map_or (λ v. length (rows_between above (At v) (rows_of lines))) o 0)) (settled_held kinds s first above lines h is ∙ at)
+        ∙ lt_is rows 0 (omega (arith, one))
+    by_time none e (Some u) at =
+        let count = count_rows kinds s first above u (rows_of lines) h.items (items_caught kinds s first above lines h is none) in
         let few = none_enough rows s.slack u h.last h.items e at in
         ap (λ o. nat_le rows (option_map_or (λ v. length (rows_between above (At v) (rows_of lines))) o 0)) (settled_held kinds s first above lines h is ∙ at)
         ∙ ap (λ n. nat_le rows n) (sym count) ∙ lt_is rows (count_to u h.items) few
+
+    by_goal : (goal : Option ℕ) → h.goal ≡ goal → is_enough rows above s lines ≡ false
+    by_goal None e = by_time e (ap (λ g. without g (enough_of rows s.slack h.last h.items)) (sym e) ∙ short.0) (settled s.slack h.last) refl
+    by_goal (Some g) e = before_goal g (settled s.slack h.last) e refl
 
 -- what is no row changes nothing
 pub enough_still : (rows : ℕ) (above : Option ℕ) (s : Source) (lines : List Next) (next : Next) → IsNoRow next
@@ -237,10 +270,10 @@ test_same kinds s first above last rows items (Some time) is top at =
     by_last None e = refl
     by_last (Some l) e = ap (λ b. where_true b (Disordered l time)) (by_test l (nat_le (time + s.slack) l) e refl)
 
--- a border that was cut is settled where more is read
+-- the border that items are held above is settled where more is read
 pub border_settled : (kinds : List Kind) (s : Source) (first : ℕ) (above : Option ℕ) (lines : List Next) (h : HeldSource)
-    → IsHeldBehind kinds first s above lines h
-    → h.closed ≡ false → IsSettled s.slack above h.last
+    → (is : IsHeldBehind kinds first s above lines h)
+    → h.closed ≡ false → IsSettled s.slack is.low h.last
 border_settled kinds s first above lines h is goes = λ t e.
     let k = is.settled goes t e in
     (k.0, sym (settled_held kinds s first above lines h is) ∙ k.1, k.2)
@@ -250,8 +283,8 @@ pub fault_held : (kinds : List Kind) (s : Source) (first : ℕ) (above : Option 
     → h.closed ≡ false → mid.items.items ≡ h.items → mid.last ≡ h.last → mid.ended ≡ h.ended
     → row_fault kinds s (has_ended (rows_of lines)) (times_of (rows_of lines)) row ≡ fault_behind kinds s mid row
 fault_held kinds s first above lines h mid row is goes items last ended =
-    let at : IsSettled s.slack above h.last = border_settled kinds s first above lines h is goes in
-    let same = test_same kinds s first above h.last (rows_of lines) h.items (time_in row) is.items is.last at in
+    let at : IsSettled s.slack is.low h.last = border_settled kinds s first above lines h is goes in
+    let same = test_same kinds s first is.low h.last (rows_of lines) h.items (time_in row) is.items is.last at in
     ap (λ b. first_some (λ test. test) (where_true b AfterEnd ∷ test_tag kinds s row ∷ test_value kinds row ∷ test_time s.slack (times_of (rows_of lines)) row ∷ [])) (sym (ended ∙ is.ended))
     ∙ ap (λ o. first_some (λ test. test) (where_true mid.ended AfterEnd ∷ test_tag kinds s row ∷ test_value kinds row ∷ o ∷ []))
     (same ∙ ap (λ l. test_late s.slack (times_in l) h.last (time_in row)) (sym items) ∙ ap (λ o. test_late s.slack (times_in mid.items.items) o (time_in row)) (sym last))
@@ -320,22 +353,27 @@ settled_more kinds s above lines next passes at t e =
 
 pub behind_row : (kinds : List Kind) (s : Source) (first : ℕ) (above : Option ℕ) (lines : List Next) (h : HeldSource) (mid new : Inlet) (line : ℕ)
     (row : Row) → IsHeldBehind kinds first s above lines h
-    → h.closed ≡ false → mid.items.items ≡ h.items → mid.last ≡ h.last → mid.ended ≡ h.ended → mid.rows.file ≡ s.file → PutsIn kinds s first row mid new
+    → h.closed ≡ false → mid.items.items ≡ h.items → mid.last ≡ h.last → mid.ended ≡ h.ended → mid.goal ≡ h.goal → mid.rows.file ≡ s.file
+    → PutsIn kinds s first row mid new
     → IsHeldBehind kinds first s above (lines ++ RowNext line row ∷ []) (source_of new)
-behind_row kinds s first above lines h mid new line row is goes items last ended file puts =
-    let at : IsSettled s.slack above h.last = border_settled kinds s first above lines h is goes in
+behind_row kinds s first above lines h mid new line row is goes items last ended goal file puts =
+    let at : IsSettled s.slack is.low h.last = border_settled kinds s first above lines h is goes in
     let fault = fault_held kinds s first above lines h mid row is goes items last ended ∙ puts.passes in
     let passes : line_defect kinds s lines (RowNext line row) ≡ None = ap (option_map (λ (why : Why). (line, why))) fault in
     let late = passes_late kinds s mid row puts.passes in
-    let up = row_above s.slack above mid.last (times_in mid.items.items) row (rw last at) late in
+    let up = row_above s.slack is.low mid.last (times_in mid.items.items) row (rw last at) late in
     record {
       file = ap (λ (place : Place). place.file) puts.rows ∙ file;
+      low = is.low;
       sound = defect_in-more kinds s lines (RowNext line row) is.sound ∙ passes;
-      items = puts.items ∙ row_items kinds s first above (rows_of lines) row mid.items.items up (items ∙ is.items)
-          ∙ ap (λ l. map (item_of kinds s first) (in_time_order (rows_between above Closed l))) (sym (rows_more lines line row));
+      items = puts.items ∙ row_items kinds s first is.low (rows_of lines) row mid.items.items up (items ∙ is.items)
+          ∙ ap (λ l. map (item_of kinds s first) (in_time_order (rows_between is.low Closed l))) (sym (rows_more lines line row));
       last = puts.last ∙ row_last (rows_of lines) row mid.last (last ∙ is.last) ∙ ap (λ l. greatest (times_of l)) (sym (rows_more lines line row));
       ended = puts.ended ∙ ap (λ b. b || is_end row) (ended ∙ is.ended) ∙ sym (ended_more (rows_of lines) row) ∙ ap has_ended (sym (rows_more lines line row));
-      settled = λ open' t e. settled_more kinds s above lines (RowNext line row) passes (is.settled goes) t e;
+      settled = λ open' t e. settled_more kinds s is.low lines (RowNext line row) passes (is.settled goes) t e;
+      up_to = is.up_to;
+      caught = λ none. is.caught (sym goal ∙ sym puts.goal ∙ none);
+      goal = λ t e. is.goal t (sym goal ∙ sym puts.goal ∙ e);
     }
 
 -- ---- the end of a file
@@ -353,17 +391,22 @@ defect_held kinds s first above lines h next is other = defect_of_last kinds s l
 
 pub behind_end : (kinds : List Kind) (s : Source) (first : ℕ) (above : Option ℕ) (lines : List Next) (old new : HeldSource) (next : Next)
     → IsHeldBehind kinds first s above lines old → IsNoRow next
-    → defect_behind old.ended next ≡ None → new.items ≡ old.items → new.last ≡ old.last → new.ended ≡ old.ended → new.closed ≡ true → new.place.file ≡ s.file
+    → defect_behind old.ended next ≡ None → new.items ≡ old.items → new.last ≡ old.last → new.ended ≡ old.ended → new.closed ≡ true → new.goal ≡ old.goal
+    → new.place.file ≡ s.file
     → IsHeldBehind kinds first s above (lines ++ next ∷ []) new
-behind_end kinds s first above lines old new next is other none items last ended closed file =
+behind_end kinds s first above lines old new next is other none items last ended closed goal file =
     let rows = no_row_more lines next other in
     record {
       file = file;
       sound = defect_in-more kinds s lines next is.sound ∙ defect_held kinds s first above lines old next is other ∙ none;
-      items = items ∙ is.items ∙ ap (λ l. map (item_of kinds s first) (in_time_order (rows_between above Closed l))) (sym rows);
+      low = is.low;
+      items = items ∙ is.items ∙ ap (λ l. map (item_of kinds s first) (in_time_order (rows_between is.low Closed l))) (sym rows);
       last = last ∙ is.last ∙ ap (λ l. greatest (times_of l)) (sym rows);
       ended = ended ∙ is.ended ∙ ap has_ended (sym rows);
       settled = λ open' t e. absurd (not_both new.closed closed open');
+      up_to = is.up_to;
+      caught = λ none'. is.caught (sym goal ∙ none');
+      goal = λ t e. is.goal t (sym goal ∙ e);
     }
 
 -- ---- what is so between rounds
@@ -385,13 +428,128 @@ all_timed kinds s first above (Beat time) items up all =
 all_timed kinds s first above End items up all = all
 
 pub well_row : (kinds : List Kind) (s : Source) (first : ℕ) (border : Option ℕ) (old mid new : Inlet) (row : Row) → IsWellAt s border old → old.closed ≡ false
-    → mid.items.items ≡ old.items.items → mid.last ≡ old.last → mid.rows.file ≡ s.file → PutsIn kinds s first row mid new → IsWellAt s border new
-well_row kinds s first border old mid new row well goes items last file puts =
-    let at : IsSettled s.slack border mid.last = rw last (well.settled goes) in
-    let up = row_above s.slack border mid.last (times_in mid.items.items) row at (passes_late kinds s mid row puts.passes) in
+    → mid.items.items ≡ old.items.items → mid.last ≡ old.last → mid.goal ≡ old.goal → mid.rows.file ≡ s.file → PutsIn kinds s first row mid new
+    → IsWellAt s border new
+well_row kinds s first border old mid new row well goes items last goal file puts =
+    let same : new.goal ≡ old.goal = puts.goal ∙ goal in
     record {
       file = ap (λ (place : Place). place.file) puts.rows ∙ file;
-      above = rw (puts.items, items) (all_timed kinds s first border row old.items.items up well.above);
-      settled = λ open' t e. let was = at t e in let k = settled_later s.slack mid.last (time_in row) was.0 was.1 in
+      goal = λ t e. well.goal t (sym same ∙ e);
+      above = λ none. rw (puts.items, items) (all_timed kinds s first border row old.items.items (up (sym same ∙ none)) (well.above (sym same ∙ none)));
+      settled = λ none open' t e. let was = at (sym same ∙ none) t e in let k = settled_later s.slack mid.last (time_in row) was.0 was.1 in
           (k.0, ap (settled s.slack) puts.last ∙ k.1, omega (arith, was.2, k.2));
     }
+  where
+    at : old.goal ≡ None → IsSettled s.slack border mid.last
+    at none = rw last (well.settled none goes)
+
+    up : old.goal ≡ None → (time : ℕ) → time_in row ≡ Some time → is_above border time ≡ true
+    up none = row_above s.slack border mid.last (times_in mid.items.items) row (at none) (passes_late kinds s mid row puts.passes)
+
+-- ---- a resumed run comes to its border
+exceeds_low : (low : Option ℕ) (t : ℕ) → ((l : ℕ) → low ≡ Some l → l ≤ t) → Exceeds t low
+exceeds_low None t le u e = refl
+exceeds_low (Some l) t le u e = let few : l ≤ t = le l refl in grind (arith, nat_tests)
+
+low_under : (slack t l : ℕ) (last : Option ℕ) → settled slack last ≡ Some t → (u : ℕ) × (settled slack last ≡ Some u) × (l ≤ u) → l ≤ t
+low_under slack t l last at k = let same : k.0 ≡ t = some_is (sym k.1 ∙ at) in omega (arith, k.2, same)
+  where
+    some_is : {a b : ℕ} → Some a ≡ Some b → a ≡ b
+    some_is e = cc
+
+under_goal : (low above : Option ℕ) (g l : ℕ) → IsUpTo low above → above ≡ Some g → low ≡ Some l → l ≤ g
+under_goal low above g l up is e =
+    let k = up l e in
+    let same : k.0 ≡ g = some_is (sym k.1 ∙ is) in
+    omega (arith, k.2, same)
+  where
+    some_is : {a b : ℕ} → Some a ≡ Some b → a ≡ b
+    some_is e = cc
+
+one_of_both : {P : Type 0} (goal : Option ℕ) (g : ℕ) → goal ≡ Some g → goal ≡ None → P
+one_of_both goal g e none = absurd (never (sym e ∙ none))
+  where
+    never : Some g ≡ None → ⊥
+    never e = cc
+
+pub behind_caught : (kinds : List Kind) (s : Source) (first : ℕ) (above : Option ℕ) (lines : List Next) (old new : Inlet) → CatchesUp s.slack old new
+    → IsHeldBehind kinds first s above lines (source_of old) → IsHeldBehind kinds first s above lines (source_of new)
+behind_caught kinds s first above lines old new c is = by_items c.items
+  where
+    some_is : {a b : ℕ} → Some a ≡ Some b → a ≡ b
+    some_is e = cc
+
+    settled_at : (t : ℕ) → (u : ℕ) × (settled s.slack old.last ≡ Some u) × (t ≤ u) → (u : ℕ) × (settled_time s lines ≡ Some u) × (t ≤ u)
+    settled_at t k = (k.0, settled_held kinds s first above lines (source_of old) is ∙ k.1, k.2)
+
+    by_items : IsCaughtUp s.slack old new → IsHeldBehind kinds first s above lines (source_of new)
+    by_items (Stays items goal) = record {
+      file = ap (λ (place : Place). place.file) c.rows ∙ is.file;
+      sound = is.sound;
+      low = is.low;
+      items = items ∙ is.items;
+      last = c.last ∙ is.last;
+      ended = c.ended ∙ is.ended;
+      settled = λ open'. is.settled (sym c.closed ∙ open');
+      up_to = is.up_to;
+      caught = λ none. is.caught (sym goal ∙ none);
+      goal = λ t e. is.goal t (sym goal ∙ e);
+    }
+    by_items (Drops t goal goes at lt was now items) = record {
+      file = ap (λ (place : Place). place.file) c.rows ∙ is.file;
+      sound = is.sound;
+      low = Some t;
+      items = items ∙ left_items kinds s first is.low t (rows_of lines) old.items.items
+          (exceeds_low is.low t (λ l e. low_under s.slack t l old.last at (let k = is.settled goes l e in (k.0, sym (settled_held kinds s first above lines (source_of old) is) ∙ k.1, k.2)))) is.items;
+      last = c.last ∙ is.last;
+      ended = c.ended ∙ is.ended;
+      settled = λ open' v e. settled_at v (t, at, let same : t ≡ v = some_is e in omega (arith, same));
+      up_to = λ l e. (goal, is.goal goal was, let same : t ≡ l = some_is e in omega (arith, same, lt));
+      caught = λ none. one_of_both new.goal goal now none;
+      goal = λ v e. is.goal v (was ∙ sym now ∙ e);
+    }
+    by_items (Comes goal at was now items) = record {
+      file = ap (λ (place : Place). place.file) c.rows ∙ is.file;
+      sound = is.sound;
+      low = Some goal;
+      items = items ∙ left_items kinds s first is.low goal (rows_of lines) old.items.items
+          (exceeds_low is.low goal (λ l e. under_goal is.low above goal l is.up_to (is.goal goal was) e)) is.items;
+      last = c.last ∙ is.last;
+      ended = c.ended ∙ is.ended;
+      settled = λ open' v e. settled_at v (let k = at (sym c.closed ∙ open') in let same : goal ≡ v = some_is e in (k.0, k.1, omega (arith, same, k.2)));
+      up_to = λ l e. (goal, is.goal goal was, let same : goal ≡ l = some_is e in omega (arith, same));
+      caught = λ none. sym (is.goal goal was);
+      goal = λ v e. one_of_both new.goal v e now;
+    }
+
+pub well_caught : (s : Source) (border : Option ℕ) (old new : Inlet) → CatchesUp s.slack old new → IsWellAt s border old → IsWellAt s border new
+well_caught s border old new c well = by_items c.items
+  where
+    some_is : {a b : ℕ} → Some a ≡ Some b → a ≡ b
+    some_is e = cc
+
+    by_items : IsCaughtUp s.slack old new → IsWellAt s border new
+    by_items (Stays items goal) = record {
+      file = ap (λ (place : Place). place.file) c.rows ∙ well.file;
+      goal = λ t e. well.goal t (sym goal ∙ e);
+      above = λ none. ap (list_all (λ (item : Item). is_above border (item_time item))) items ∙ well.above (sym goal ∙ none);
+      settled = λ none open' t e. let k = well.settled (sym goal ∙ none) (sym c.closed ∙ open') t e in (k.0, ap (settled s.slack) c.last ∙ k.1, k.2);
+    }
+    by_items (Drops t goal goes at lt was now items) = record {
+      file = ap (λ (place : Place). place.file) c.rows ∙ well.file;
+      goal = λ v e. well.goal v (was ∙ sym now ∙ e);
+      above = λ none. one_of_both new.goal goal now none;
+      settled = λ none. one_of_both new.goal goal now none;
+    }
+    by_items (Comes goal at was now items) =
+        let is : border ≡ Some goal = well.goal goal was in
+        record {
+          file = ap (λ (place : Place). place.file) c.rows ∙ well.file;
+          goal = λ v e. one_of_both new.goal v e now;
+          above = λ none. rw (is, items) (all_kept (λ (item : Item). nat_lt goal (item_time item)) old.items.items);
+          settled = λ none open' t e. let k = at (sym c.closed ∙ open') in let same : goal ≡ t = some_is (sym is ∙ e) in
+              (k.0, ap (settled s.slack) c.last ∙ k.1, omega (arith, same, k.2));
+        }
+
+pub still_caught : (slack : ℕ) (old new : Inlet) (left : Contents) → CatchesUp slack old new → still (source_of new) left ≡ still (source_of old) left
+still_caught slack old new left c = rw (c.rows, c.closed) refl

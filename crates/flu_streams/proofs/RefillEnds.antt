@@ -22,10 +22,10 @@ use Rattle.flu_streams.specs.declared.held.Stage.TheVariants.{Filled}
 use Rattle.flu_streams.specs.declared.inlet.Inlet.{Inlet}
 use Rattle.flu_streams.specs.declared.source.Stop.{Stop}
 use Rattle.flu_streams.specs.declared.source.Stop.TheVariants.{Defect, ReadFault, NoMemory}
-use Rattle.flu_streams.specs.Holding.{HeldSource, AreHeldBehind, AreClosed, ClosedAreReadOut, IsNewBorder, IsRefillFault, HidesNoRoundFault, first_itag, fresh_source, still}
+use Rattle.flu_streams.specs.Holding.{HeldSource, AreHeldBehind, AreClosed, ClosedAreReadOut, IsNewBorder, IsRefillFault, HidesNoRoundFault, first_itag, unread_source, still}
 use Rattle.flu_streams.specs.Lists.{item_time}
 use Rattle.flu_streams.specs.LoopGathering.{fault_of_stop}
-use Rattle.flu_streams.specs.LoopHeld.{source_of, IsRefilled, MeetsDefect, IsStopOf, HasRefilled, StopsAtSource, IsSettledAt, IsSettledBy, IsTurnOf, IsWellAt, AreWell, IsWell}
+use Rattle.flu_streams.specs.LoopHeld.{source_of, IsRefilled, MeetsDefect, IsStopOf, HasRefilled, StopsAtSource, IsSettledAt, IsSettledBy, IsTurnOf, IsWellAt, AreWell, AreCaughtUp, IsWell}
 use Rattle.flu_streams.specs.Rounds.{Reads, Meets, IsWithin, defect_in, is_above, is_enough}
 use Rattle.flu_streams.proofs.RoundOf.{told_from, at_told, choose, reads_at, turn_of, passed, holding, behind_at, all_closed, earliest_within, earliest_among}
 use Rattle.flu_streams.proofs.Starts.{from_mapped, to_mapped, one_there, fresh_at}
@@ -86,10 +86,17 @@ refill_settles p rows border olds news a b (At t) well has = (
       (settled_turn s one.new one.end t one.done.turn (earliest_within has.ends i t one.end (sym has.earliest) one.at_end)),
 )
 
+refill_caught : (p : Program) (rows : ℕ) (border : Option ℕ) (olds news : List Inlet) (a b : Option Contents) (end : Border)
+    → AreWell p rows border olds → HasRefilled p rows olds news a b end → AreCaughtUp news
+refill_caught p rows border olds news a b end well has i h f =
+    let s = slice_get-there p.sources i (rw (← well.count, ← has.all.size) (slice_get_within news i h f)) in
+    let one = one_of p rows olds news a b end well.count has i s.0 s.1 in
+    ap (λ (g : Inlet). g.goal) (sym (one_there news i one.new h one.is f)) ∙ one.done.caught
+
 pub refill_well : (p : Program) (rows : ℕ) (border : Option ℕ) (olds news : List Inlet) (a b : Option Contents) (end : Border)
     → AreWell p rows border olds → HasRefilled p rows olds news a b end → IsWell p rows border (Filled end) news
 refill_well p rows border olds news a b end well has =
-    (refill_keeps p rows border olds news a b end well has, refill_settles p rows border olds news a b end well has)
+    (refill_keeps p rows border olds news a b end well has, refill_settles p rows border olds news a b end well has, refill_caught p rows border olds news a b end well has)
 
 pub refill_out : (p : Program) (rows : ℕ) (border : Option ℕ) (stage stage' : Stage) (olds news : List Inlet) (a b : Option Contents) (end : Border)
     → AreWell p rows border olds → HasRefilled p rows olds news a b end
@@ -221,17 +228,19 @@ refill_hides p rows border stage olds a b Q fault count told st is before behind
         }
 
 -- ---- before the first round
-pub fresh_well : (p : Program) (rows : ℕ) (inlets : List Inlet) → 1 ≤ rows → map source_of inlets ≡ map fresh_source p.sources → AreWell p rows None inlets
-fresh_well p rows inlets some is = record {
+pub fresh_well : (p : Program) (rows : ℕ) (border : Option ℕ) (inlets : List Inlet) → 1 ≤ rows
+    → map source_of inlets ≡ map (unread_source border) p.sources → AreWell p rows border inlets
+fresh_well p rows border inlets some is = record {
   some = some;
-  count = sym (length-map inlets source_of) ∙ ap length is ∙ length-map p.sources fresh_source;
+  count = sym (length-map inlets source_of) ∙ ap length is ∙ length-map p.sources (unread_source border);
   each = λ i s at h f.
-      let same : source_of h ≡ fresh_source s = fresh_at p i s (source_of h) at
+      let same : source_of h ≡ unread_source border s = fresh_at p border i s (source_of h) at
       (ap (λ (l : List HeldSource). slice_get l i) (sym is) ∙ to_mapped source_of inlets i h f) in
       record {
         file = ap (λ (k : HeldSource). k.place.file) same;
-        above = ap (λ (k : HeldSource). list_all (λ item. is_above None (item_time item)) k.items) same;
-        settled = λ goes t e. absurd (no_border t e);
+        goal = λ t e. ap (λ (k : HeldSource). k.goal) (sym same) ∙ e;
+        above = λ none. ap (λ (k : HeldSource). list_all (λ item. is_above border (item_time item)) k.items) same;
+        settled = λ none goes t e. absurd (no_border t (sym (ap (λ (k : HeldSource). k.goal) (sym same) ∙ none) ∙ e));
       };
 }
   where

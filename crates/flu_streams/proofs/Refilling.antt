@@ -4,7 +4,7 @@ use Rattle.std.specs.Prelude.{option_map, unwrap_or}
 use Rattle.std.proofs.lemmas.Bool.{cases_lt}
 use Rattle.std.proofs.lemmas.List.{append-nil, take_all, take-append-le}
 use Rattle.flu_lemmas.proofs.Tests.{not_both}
-use Rattle.flu_lemmas.proofs.Told.{told_then, told_same}
+use Rattle.flu_lemmas.proofs.Told.{told_then, told_same, told_weaker}
 use Rattle.flu_model.specs.declared.jobs.Kind.{Kind}
 use Rattle.flu_model.specs.declared.jobs.Source.{Source}
 use Rattle.flu_outside.specs.Outside.{Contents, WhereTold}
@@ -20,12 +20,12 @@ use Rattle.flu_streams.specs.declared.inlet.Inlet.{Inlet}
 use Rattle.flu_streams.specs.declared.intake.RowRefusal.{RowRefusal}
 use Rattle.flu_streams.specs.declared.intake.RowRefusal.TheVariants.{Fault, NoMemory}
 use Rattle.flu_streams.specs.Holding.{HeldSource, IsHeldBehind, still}
-use Rattle.flu_streams.specs.LoopHeld.{source_of, enough_of, fault_behind, PutsIn, IsWellAt, IsRefilling, IsRefilled, MeetsDefect, StopsBehind, IsStopOf}
+use Rattle.flu_streams.specs.LoopHeld.{source_of, enough_of, enough_in, IsShort, CatchesUp, fault_behind, PutsIn, IsWellAt, IsRefilling, IsRefilled, MeetsDefect, StopsBehind, IsStopOf}
 use Rattle.flu_streams.specs.LoopIntake.{IsRefusal}
 use Rattle.flu_streams.specs.LoopSource.{stop_at, defect_behind}
 use Rattle.flu_streams.specs.Rounds.{settled, is_enough}
 use Rattle.flu_streams.proofs.Counting.{enough_is, above_at}
-use Rattle.flu_streams.proofs.HeldRows.{enough_held, not_enough_held, enough_still, fault_held, defect_held, behind_row, behind_end}
+use Rattle.flu_streams.proofs.HeldRows.{without_some, enough_held, not_enough_held, enough_still, fault_held, defect_held, behind_row, behind_end, behind_caught, well_caught, still_caught}
 use Rattle.flu_streams.proofs.RoundLaws.{settled_is}
 use Rattle.flu_streams.proofs.Taken.{IsNoRow, then_last}
 
@@ -63,7 +63,7 @@ refilling_none kinds s first rows above before h left is = record {
 }
 
 few_held : (kinds : List Kind) (s : Source) (first rows : ℕ) (above : Option ℕ) (before : List Next) (old now : HeldSource) (a b : Option Contents) → 1 ≤ rows
-    → (r : IsRefilling kinds s first rows above before old now a b) → enough_of rows s.slack now.last now.items ≡ None
+    → (r : IsRefilling kinds s first rows above before old now a b) → IsShort rows s now
     → (k : ℕ) → k ≤ length r.more → is_enough rows above s (before ++ take k r.more) ≡ false
 few_held kinds s first rows above before old now a b one r e =
     few_to_all (λ l. is_enough rows above s (before ++ l)) r.more r.shortest (not_enough_held kinds s first rows above (before ++ r.more) now one r.behind e)
@@ -71,19 +71,19 @@ few_held kinds s first rows above before old now a b one r e =
 pub refilling_row : (kinds : List Kind) (s : Source) (first rows : ℕ) (old : HeldSource) (now mid new : Inlet) (a b c : Option Contents) (line : ℕ)
     (row : Row) → 1 ≤ rows
     → ((above : Option ℕ) (before : List Next) → IsHeldBehind kinds first s above before old → IsRefilling kinds s first rows above before old (source_of now) a b)
-    → now.closed ≡ false → enough_of rows s.slack now.last now.items.items ≡ None → mid.items.items ≡ now.items.items → mid.last ≡ now.last
-    → mid.ended ≡ now.ended → mid.closed ≡ now.closed → mid.rows.file ≡ s.file
+    → now.closed ≡ false → IsShort rows s (source_of now) → mid.items.items ≡ now.items.items → mid.last ≡ now.last
+    → mid.ended ≡ now.ended → mid.closed ≡ now.closed → mid.goal ≡ now.goal → mid.rows.file ≡ s.file
     → WhereTold b c (λ was is. ahead now.rows was ≡ then_behind (RowNext line row) (ahead mid.rows is)) → PutsIn kinds s first row mid new
     → (above : Option ℕ) (before : List Next) → IsHeldBehind kinds first s above before old
     → IsRefilling kinds s first rows above before old (source_of new) a c
-refilling_row kinds s first rows old now mid new a b c line row one so_far goes e items last ended closed file told puts above before is =
+refilling_row kinds s first rows old now mid new a b c line row one so_far goes e items last ended closed goal file told puts above before is =
     let r = so_far above before is in
     let next = RowNext line row in
     let still_goes : new.closed ≡ false = puts.closed ∙ closed ∙ goes in
     record {
       more = r.more ++ next ∷ [];
       behind = subst (λ l. IsHeldBehind kinds first s above l (source_of new)) (append_assoc before r.more (next ∷ []))
-          (behind_row kinds s first above (before ++ r.more) (source_of now) mid new line row r.behind goes items last ended file puts);
+          (behind_row kinds s first above (before ++ r.more) (source_of now) mid new line row r.behind goes items last ended goal file puts);
       shortest = few_more (λ l. is_enough rows above s (before ++ l)) r.more next (few_held kinds s first rows above before old (source_of now) a b one r e);
       told = told_then (λ was at. still old was ≡ r.more ++ still (source_of now) at) (λ was at. ahead now.rows was ≡ then_behind next (ahead mid.rows at))
           (λ was at. still old was ≡ (r.more ++ next ∷ []) ++ still (source_of new) at) a b c
@@ -96,7 +96,7 @@ refilling_row kinds s first rows old now mid new a b c line row one so_far goes 
 meets_row : (kinds : List Kind) (s : Source) (first rows : ℕ) (above : Option ℕ) (before : List Next) (old : HeldSource) (now mid : Inlet)
     (a b c : Option Contents) (line : ℕ) (row : Row) (why : Why) → 1 ≤ rows
     → IsRefilling kinds s first rows above before old (source_of now) a b
-    → now.closed ≡ false → enough_of rows s.slack now.last now.items.items ≡ None → mid.items.items ≡ now.items.items → mid.last ≡ now.last
+    → now.closed ≡ false → IsShort rows s (source_of now) → mid.items.items ≡ now.items.items → mid.last ≡ now.last
     → mid.ended ≡ now.ended
     → WhereTold b c (λ was is. ahead now.rows was ≡ then_behind (RowNext line row) (ahead mid.rows is)) → fault_behind kinds s mid row ≡ Some why
     → MeetsDefect kinds s rows above before old a c line why
@@ -115,7 +115,7 @@ meets_row kinds s first rows above before old now mid a b c line row why one r g
 pub refused_row : (kinds : List Kind) (s : Source) (first rows : ℕ) (old now mid : Inlet) (a b c : Option Contents) (line : ℕ) (row : Row)
     (refusal : RowRefusal) → 1 ≤ rows
     → ((above : Option ℕ) (before : List Next) → IsHeldBehind kinds first s above before (source_of old) → IsRefilling kinds s first rows above before (source_of old) (source_of now) a b)
-    → now.closed ≡ false → enough_of rows s.slack now.last now.items.items ≡ None → mid.items.items ≡ now.items.items → mid.last ≡ now.last
+    → now.closed ≡ false → IsShort rows s (source_of now) → mid.items.items ≡ now.items.items → mid.last ≡ now.last
     → mid.ended ≡ now.ended
     → WhereTold b c (λ was is. ahead now.rows was ≡ then_behind (RowNext line row) (ahead mid.rows is)) → IsRefusal (fault_behind kinds s mid row) refusal
     → IsStopOf kinds s first rows old a c (stop_at line refusal)
@@ -126,7 +126,7 @@ refused_row kinds s first rows old now mid a b c line row (Fault why) one so_far
 pub meets_last : (kinds : List Kind) (s : Source) (first rows : ℕ) (old now : Inlet) (place : Place) (a b c : Option Contents) (next : Next)
     (row : ℕ) (why : Why) → 1 ≤ rows
     → ((above : Option ℕ) (before : List Next) → IsHeldBehind kinds first s above before (source_of old) → IsRefilling kinds s first rows above before (source_of old) (source_of now) a b)
-    → now.closed ≡ false → enough_of rows s.slack now.last now.items.items ≡ None
+    → now.closed ≡ false → IsShort rows s (source_of now)
     → WhereTold b c (λ was is. ahead now.rows was ≡ then_behind next (ahead place is)) → IsNoRow next → defect_behind now.ended next ≡ Some (row, why)
     → (above : Option ℕ) (before : List Next) → IsHeldBehind kinds first s above before (source_of old)
     → MeetsDefect kinds s rows above before (source_of old) a c row why
@@ -146,7 +146,7 @@ meets_last kinds s first rows old now place a b c next row why one so_far goes e
 
 pub stops_behind : (kinds : List Kind) (s : Source) (first rows : ℕ) (old now : Inlet) (place : Place) (a b c : Option Contents) → 1 ≤ rows
     → ((above : Option ℕ) (before : List Next) → IsHeldBehind kinds first s above before (source_of old) → IsRefilling kinds s first rows above before (source_of old) (source_of now) a b)
-    → now.closed ≡ false → enough_of rows s.slack now.last now.items.items ≡ None → place.file ≡ s.file → IsUndecided place.taken
+    → now.closed ≡ false → IsShort rows s (source_of now) → place.file ≡ s.file → IsUndecided place.taken
     → WhereTold b c (λ was is. ahead now.rows was ≡ ahead place is)
     → (above : Option ℕ) (before : List Next) → IsHeldBehind kinds first s above before (source_of old)
     → StopsBehind kinds s rows above before (source_of old) a c
@@ -169,12 +169,14 @@ pub refilled_open : (kinds : List Kind) (s : Source) (first rows u : ℕ) (old n
     → ((above : Option ℕ) (before : List Next) → IsHeldBehind kinds first s above before (source_of old) → IsRefilling kinds s first rows above before (source_of old) (source_of now) a b)
     → ((border : Option ℕ) → IsWellAt s border old → IsWellAt s border now)
     → ((old.closed ≡ true → IsReadOut s.file a) → now.closed ≡ true → IsReadOut s.file b)
-    → enough_of rows s.slack now.last now.items.items ≡ Some u → IsRefilled kinds s first rows old now a b (At u)
+    → enough_in rows s.slack (source_of now) ≡ Some u → IsRefilled kinds s first rows old now a b (At u)
 refilled_open kinds s first rows u old now a b one so_far well out e =
-    let k = enough_is rows s.slack u now.last now.items.items e in
+    let found = without_some now.goal (enough_of rows s.slack now.last now.items.items) u e in
+    let k = enough_is rows s.slack u now.last now.items.items found.1 in
     record {
       keeps = well;
-      border = λ above was. (above_at above u now.items.items (well above was).above (omega (arith, one, k.count)), omega (arith, under_last s.slack u now.last k.settles, now.range));
+      caught = found.0;
+      border = λ above was. (above_at above u now.items.items ((well above was).above found.0) (omega (arith, one, k.count)), omega (arith, under_last s.slack u now.last k.settles, now.range));
       turn = k.settles;
       out = out;
       reads = λ above before is. let r = so_far above before is in
@@ -185,9 +187,10 @@ pub refilled_shut : (kinds : List Kind) (s : Source) (first rows : ℕ) (old now
     → ((above : Option ℕ) (before : List Next) → IsHeldBehind kinds first s above before (source_of old) → IsRefilling kinds s first rows above before (source_of old) (source_of now) a b)
     → ((border : Option ℕ) → IsWellAt s border old → IsWellAt s border now)
     → ((old.closed ≡ true → IsReadOut s.file a) → now.closed ≡ true → IsReadOut s.file b)
-    → enough_of rows s.slack now.last now.items.items ≡ None → now.closed ≡ true → IsRefilled kinds s first rows old now a b Closed
-refilled_shut kinds s first rows old now a b one so_far well out e closed = record {
+    → IsShort rows s (source_of now) → now.closed ≡ true → now.goal ≡ None → IsRefilled kinds s first rows old now a b Closed
+refilled_shut kinds s first rows old now a b one so_far well out e closed caught = record {
   keeps = well;
+  caught = caught;
   border = λ above was. tt;
   turn = closed;
   out = out;
@@ -195,21 +198,24 @@ refilled_shut kinds s first rows old now a b one so_far well out e closed = reco
       record { so_far = r; ends = (closed, not_enough_held kinds s first rows above (before ++ r.more) (source_of now) one r.behind e) };
 }
 
-pub refilled_end : (kinds : List Kind) (s : Source) (first rows : ℕ) (old now new : Inlet) (a b c : Option Contents) (next : Next) → 1 ≤ rows
+pub refilled_end : (kinds : List Kind) (s : Source) (first rows : ℕ) (old now shut new : Inlet) (a b c : Option Contents) (next : Next) → 1 ≤ rows
     → ((above : Option ℕ) (before : List Next) → IsHeldBehind kinds first s above before (source_of old) → IsRefilling kinds s first rows above before (source_of old) (source_of now) a b)
-    → ((border : Option ℕ) → IsWellAt s border old → IsWellAt s border now) → now.closed ≡ false → enough_of rows s.slack now.last now.items.items ≡ None
-    → WhereTold b c (λ was is. ahead now.rows was ≡ then_behind next (ahead new.rows is)) → IsNoRow next → defect_behind now.ended next ≡ None
+    → ((border : Option ℕ) → IsWellAt s border old → IsWellAt s border now) → now.closed ≡ false → IsShort rows s (source_of now)
+    → WhereTold b c (λ was is. ahead now.rows was ≡ then_behind next (ahead shut.rows is)) → IsNoRow next → defect_behind now.ended next ≡ None
     → IsReadOut s.file c
-    → new.items.items ≡ now.items.items → new.last ≡ now.last → new.ended ≡ now.ended → new.closed ≡ true → new.rows.file ≡ s.file
+    → shut.items.items ≡ now.items.items → shut.last ≡ now.last → shut.ended ≡ now.ended → shut.closed ≡ true → shut.goal ≡ now.goal → shut.rows.file ≡ s.file
+    → CatchesUp s.slack shut new
     → IsRefilled kinds s first rows old new a c Closed
-refilled_end kinds s first rows old now new a b c next one so_far well goes e told other none read_out items last ended closed file = record {
-  keeps = λ border was. record {
+refilled_end kinds s first rows old now shut new a b c next one so_far well goes e told other none read_out items last ended closed goal file catches = record {
+  keeps = λ border was. well_caught s border shut new catches (record {
     file = file;
-    above = rw items (well border was).above;
-    settled = λ goes'. absurd (not_both new.closed closed goes');
-  };
+    goal = λ t e. (well border was).goal t (sym goal ∙ e);
+    above = λ none'. rw items ((well border was).above (sym goal ∙ none'));
+    settled = λ none' goes'. absurd (not_both shut.closed closed goes');
+  });
+  caught = catches.shut now_closed;
   border = λ above was. tt;
-  turn = closed;
+  turn = now_closed;
   out = λ was is. read_out;
   reads = λ above before is.
       let r = so_far above before is in
@@ -217,19 +223,35 @@ refilled_end kinds s first rows old now new a b c next one so_far well goes e to
         so_far = record {
           more = r.more ++ next ∷ [];
           behind = subst (λ l. IsHeldBehind kinds first s above l (source_of new)) (append_assoc before r.more (next ∷ []))
-              (behind_end kinds s first above (before ++ r.more) (source_of now) (source_of new) next r.behind other none items last ended closed file);
+              (behind_caught kinds s first above ((before ++ r.more) ++ next ∷ []) shut new catches
+              (behind_end kinds s first above (before ++ r.more) (source_of now) (source_of shut) next r.behind other none items last ended closed goal file));
           shortest = few_more (λ l. is_enough rows above s (before ++ l)) r.more next
               (few_held kinds s first rows above before (source_of old) (source_of now) a b one r e);
           told = told_then (λ was at. still (source_of old) was ≡ r.more ++ still (source_of now) at)
-              (λ was at. ahead now.rows was ≡ then_behind next (ahead new.rows at))
+              (λ was at. ahead now.rows was ≡ then_behind next (ahead shut.rows at))
               (λ was at. still (source_of old) was ≡ (r.more ++ next ∷ []) ++ still (source_of new) at) a b c
-              (λ x y z p q. p ∙ ap (λ (rest : List Next). r.more ++ rest) (still_open (source_of now) y goes ∙ q ∙ then_last next (ahead new.rows z) other)
-              ∙ sym (ap (λ (rest : List Next). (r.more ++ next ∷ []) ++ rest) (still_closed (source_of new) z closed) ∙ append-nil (r.more ++ next ∷ []))) r.told told;
+              (λ x y z p q. p ∙ ap (λ (rest : List Next). r.more ++ rest) (still_open (source_of now) y goes ∙ q ∙ then_last next (ahead shut.rows z) other)
+              ∙ sym (ap (λ (rest : List Next). (r.more ++ next ∷ []) ++ rest) (still_closed (source_of new) z now_closed) ∙ append-nil (r.more ++ next ∷ []))) r.told told;
         };
         ends = (
-          closed,
+          now_closed,
           ap (is_enough rows above s) (sym (append_assoc before r.more (next ∷ []))) ∙ enough_still rows above s (before ++ r.more) next other
               ∙ not_enough_held kinds s first rows above (before ++ r.more) (source_of now) one r.behind e,
         );
       };
+}
+  where
+    now_closed : new.closed ≡ true
+    now_closed = catches.closed ∙ closed
+
+-- what was read so far is read where the run comes to its border
+pub refilling_caught : (kinds : List Kind) (s : Source) (first rows : ℕ) (above : Option ℕ) (before : List Next) (old : HeldSource) (now new : Inlet)
+    (a b : Option Contents) → CatchesUp s.slack now new → IsRefilling kinds s first rows above before old (source_of now) a b
+    → IsRefilling kinds s first rows above before old (source_of new) a b
+refilling_caught kinds s first rows above before old now new a b c r = record {
+  more = r.more;
+  behind = behind_caught kinds s first above (before ++ r.more) now new c r.behind;
+  shortest = r.shortest;
+  told = told_weaker (λ was at. still old was ≡ r.more ++ still (source_of now) at) (λ was at. still old was ≡ r.more ++ still (source_of new) at) a b
+      (λ x y p. p ∙ ap (λ (rest : List Next). r.more ++ rest) (sym (still_caught s.slack now new y c))) r.told;
 }

@@ -1,7 +1,7 @@
 -- Behind the last round all rows of the sources were run.
 use Rattle.std.proofs.Common.{◌≡◌, inl, inr, ◌⊎◌, ℕ, true, false, ◌||◌, List, [], ◌∷◌, ◌++◌, map, length, Option, None, refl, sym, ap, ◌∙◌, append_assoc, subst}
-use Rattle.std.specs.Prelude.{sum_by}
-use Rattle.std.specs.List.{range_with_len}
+use Rattle.std.specs.Prelude.{nat_lt, sum_by}
+use Rattle.std.specs.List.{filter, range_with_len}
 use Rattle.std.proofs.lemmas.Bool.{false≢true}
 use Rattle.std.proofs.lemmas.List.{append-nil}
 use Rattle.std.proofs.lemmas.List.Elements.{filter-append, filter_map-append}
@@ -9,6 +9,9 @@ use Rattle.std.proofs.lemmas.List.Folds.{list_any-append}
 use Rattle.flu_lemmas.specs.Elements.{AtEach}
 use Rattle.flu_lemmas.proofs.Booleans.{or_true}
 use Rattle.flu_lemmas.proofs.Elements.{all_map}
+use Rattle.flu_lemmas.specs.Sorting.{in_order}
+use Rattle.flu_model.specs.declared.events.Event.{Event as EventOf}
+use Rattle.flu_model.specs.Merging.{is_before, all_events}
 use Rattle.flu_model.specs.declared.jobs.Kind.{Kind}
 use Rattle.flu_model.specs.declared.jobs.Source.{Source}
 use Rattle.flu_model.specs.declared.jobs.Program.{Program}
@@ -22,10 +25,11 @@ use Rattle.flu_streams.specs.declared.faults.Why.{Why}
 use Rattle.flu_streams.specs.declared.faults.Why.TheVariants.{AfterEnd}
 use Rattle.flu_streams.specs.Before.{each_with_before}
 use Rattle.flu_streams.specs.Good.{lists_of_rows, lists_of, rows_in}
-use Rattle.flu_streams.specs.Rounds.{line_defect, defect_in, is_between, rows_between, lists_between, IsRound, LinesIn, LawOfLastRound}
+use Rattle.flu_streams.specs.Rounds.{line_defect, defect_in, is_between, rows_between, lists_between, IsRound, LinesIn, LawOfLastRound, LawOfLastAbove}
 use Rattle.flu_streams.specs.Tags.{width}
 use Rattle.flu_streams.specs.Tests.{row_in, rows_of, is_end, has_ended}
-use Rattle.flu_streams.proofs.RoundLaws.{no_option, sound_front, defect_in-more, each_source, flat_same}
+use Rattle.flu_streams.proofs.BorderLaws.{items_are_cut}
+use Rattle.flu_streams.proofs.RoundLaws.{between_cut, no_option, sound_front, defect_in-more, each_source, flat_same}
 use Rattle.flu_streams.proofs.Taken.{rows_more, ended_more, items_at-end, goes_on}
 
 -- ---- the end comes last
@@ -145,3 +149,10 @@ last_rows p rows above whole before now left lines round = λ i s e.
 
 pub law_of_last_round : LawOfLastRound
 law_of_last_round p rows above whole before now left lines round = lists_are p now left (last_rows p rows above whole before now left lines round)
+
+pub law_of_last_above : LawOfLastAbove
+law_of_last_above p rows above whole before now left t lines round =
+    let all = law_of_last_round p rows above whole before now left lines round in
+    let cut = between_cut p t None Closed now (λ n e. refl) (λ n e. refl) in
+    ap (in_order is_before)
+    (cut.late ∙ ap (λ lists. filter (λ (x : EventOf). nat_lt t x.time) (all_events lists)) all ∙ sym (items_are_cut t (lists_of p left)).late)

@@ -20,8 +20,9 @@ use Rattle.flu_model.specs.declared.jobs.Kind.{Kind}
 use Rattle.flu_model.specs.declared.jobs.Source.{Source}
 use Rattle.flu_model.specs.declared.jobs.Program.{Program}
 use Rattle.flu_model.specs.Contents.{Contents}
-use Rattle.flu_model.specs.Folding.{final_state, final_outputs}
-use Rattle.flu_model.specs.Merging.{events_of, all_events}
+use Rattle.flu_lemmas.specs.Sorting.{in_order}
+use Rattle.flu_model.specs.Folding.{final_state, final_outputs, state_after, outputs_of}
+use Rattle.flu_model.specs.Merging.{events_of, all_events, is_before}
 use Rattle.flu_model.specs.Reports.{report}
 use Rattle.flu_rows.specs.declared.row.Row.{Row}
 use Rattle.flu_rows.specs.declared.row.Row.TheVariants.{Event as EventRow, Beat as BeatRow, End as EndRow}
@@ -33,12 +34,12 @@ use Rattle.flu_streams.specs.declared.faults.Why.{Why}
 use Rattle.flu_streams.specs.Before.{with_before, each_with_before, first_some, or_else}
 use Rattle.flu_streams.specs.Borders.{AreCutAt, FoldsInTurn}
 use Rattle.flu_streams.specs.Good.{time_at, item_in, in_time_order, items_at, lists_of_rows}
-use Rattle.flu_streams.specs.Rounds.{row_fault, line_defect, defect_in, settled, settled_time, is_above, is_up_to, is_between, rows_between, is_enough, Turn, Open, Shut, Meets, StopsAt, Reads, IsWithin, IsRoundAt, IsRound, lists_between, Starts, GoesOn, state_in_turn, outputs_in_turn, reports_in_turn, GiveTheFold, LawOfRounds}
+use Rattle.flu_streams.specs.Rounds.{row_fault, line_defect, defect_in, settled, settled_time, is_above, is_up_to, is_between, rows_between, is_enough, Turn, Open, Shut, Meets, StopsAt, Reads, IsWithin, IsRoundAt, IsRound, lists_between, ComesFrom, Starts, GoesOn, state_in_turn, outputs_in_turn, reports_in_turn, GiveTheFold, LawOfRounds, LawOfNoRows}
 use Rattle.flu_streams.specs.Tags.{place_named, width}
 use Rattle.flu_streams.specs.Tests.{row_in, rows_of, time_in, times_of, greatest, where_true, test_behind, test_times, test_time, test_tag, test_value}
 use Rattle.flu_streams.proofs.Befores.{with_before-append, first_some-append}
 use Rattle.flu_streams.proofs.BorderLaws.{folds_in_turn}
-use Rattle.flu_streams.proofs.Cutting.{in_order-cut, all_early, all_late, kept_all, kept_none, later_is}
+use Rattle.flu_streams.proofs.Cutting.{in_order-cut, all_early, all_late, all_kept, kept_all, kept_none, later_is}
 use Rattle.flu_streams.proofs.Taken.{filter_more, times_more, greatest-push, rows_more}
 
 -- ---- lines without a defect
@@ -205,17 +206,17 @@ front_of_whole kinds s rows above whole now Shut h = ([], h.0 ∙ sym (append-ni
 front_of_whole kinds s rows above whole now (Meets row why) h = (h.0.0 ∷ h.0.1, h.0.2)
 
 -- the rows up to the border of one round are those that are read up to it in the next
-round_keeps : (kinds : List Kind) (s : Source) (rows b : ℕ) (above : Option ℕ) (whole before mid now : List Next) (turn next : Turn)
+round_keeps : (kinds : List Kind) (s : Source) (rows b : ℕ) (start above : Option ℕ) (whole before mid now : List Next) (turn next : Turn)
     → Reads kinds s rows above whole before mid turn → IsWithin b turn
-    → Reads kinds s rows (Some b) whole mid now next → rows_between None (At b) (rows_of now) ≡ rows_between None (At b) (rows_of mid)
-round_keeps kinds s rows b above whole before mid now (Open u) next was within reads =
-    ap (λ l. rows_between None (At b) (rows_of l)) reads.further
-    ∙ nothing_later kinds s None b mid reads.more u (ap (defect_in kinds s) (sym reads.further) ∙ reads.sound) was.stops.2 within
-round_keeps kinds s rows b above whole before mid now Shut next was within reads =
+    → Reads kinds s rows (Some b) whole mid now next → rows_between start (At b) (rows_of now) ≡ rows_between start (At b) (rows_of mid)
+round_keeps kinds s rows b start above whole before mid now (Open u) next was within reads =
+    ap (λ l. rows_between start (At b) (rows_of l)) reads.further
+    ∙ nothing_later kinds s start b mid reads.more u (ap (defect_in kinds s) (sym reads.further) ∙ reads.sound) was.stops.2 within
+round_keeps kinds s rows b start above whole before mid now Shut next was within reads =
     let front = front_of_whole kinds s rows (Some b) whole now next reads.stops in
     let none = nothing_more mid reads.more front.0 (sym was.stops.0 ∙ front.1 ∙ ap (λ l. l ++ front.0) reads.further) in
-    ap (λ l. rows_between None (At b) (rows_of l)) (reads.further ∙ ap (λ l. mid ++ l) none ∙ append-nil mid)
-round_keeps kinds s rows b above whole before mid now (Meets row why) next was within reads = absurd within
+    ap (λ l. rows_between start (At b) (rows_of l)) (reads.further ∙ ap (λ l. mid ++ l) none ∙ append-nil mid)
+round_keeps kinds s rows b start above whole before mid now (Meets row why) next was within reads = absurd within
 
 -- ---- each source, behind those before it
 each_before : (P : ℕ → Source → Type 0) (pre xs : List Source) → ((j : ℕ) (x : Source) → slice_get xs j ≡ Some x → P (length pre + j) x)
@@ -354,16 +355,16 @@ pub record PlaceCut (b : ℕ) (whole first second : List Item) : Type 0 where
   pub early : events_of first ≡ filter (λ (x : Event). nat_le x.time b) (events_of whole)
   pub late : events_of second ≡ filter (λ (x : Event). nat_lt b x.time) (events_of whole)
 
-place_cut : (kinds : List Kind) (s : Source) (first : ℕ) (b : ℕ) (end : Border) (rows : List Row) (place : ℕ) → Covers b end
-    → PlaceCut b (items_at kinds s first (rows_between None end rows) place) (items_at kinds s first (rows_between None (At b) rows) place) (items_at kinds s first (rows_between (Some b) end rows) place)
-place_cut kinds s first b end rows place covers =
+place_cut : (kinds : List Kind) (s : Source) (first : ℕ) (b : ℕ) (start : Option ℕ) (end : Border) (rows : List Row) (place : ℕ) → Covers b end → Exceeds b start
+    → PlaceCut b (items_at kinds s first (rows_between start end rows) place) (items_at kinds s first (rows_between start (At b) rows) place) (items_at kinds s first (rows_between (Some b) end rows) place)
+place_cut kinds s first b start end rows place covers exceeds =
     let f = item_in kinds s first place in
-    let q = rows_between None end rows in
-    let front = in_time_order (rows_between None (At b) rows) in
+    let q = rows_between start end rows in
+    let front = in_time_order (rows_between start (At b) rows) in
     let back = in_time_order (rows_between (Some b) end rows) in
     let before = events_of (filter_map f front) in
     let behind = events_of (filter_map f back) in
-    let parts = parts_between None b end rows covers (λ t e. refl) in
+    let parts = parts_between start b end rows covers exceeds in
     let before_early = events_timed (λ n. nat_le n b) kinds s first place front parts.early in
     let behind_late = events_timed (λ n. not (nat_le n b)) kinds s first place back parts.late in
     let before_not : list_all (λ (x : Event). not (nat_lt b x.time)) before ≡ true = list_all_alike _ _ (λ (x : Event). not_later b x.time) before
@@ -409,19 +410,19 @@ items_in_round p reads above end e = items_at p.kinds e.1 (sum_by width e.0) (ro
 abbrev lists_in_round : Program → (ℕ → List Next) → Option ℕ → Border → List Source × Source → List (List Item)
 lists_in_round p reads above end e = lists_of_rows p.kinds e.1 (sum_by width e.0) (rows_between above end (rows_of (reads (length e.0))))
 
-place_cut_of : (p : Program) (b : ℕ) (end : Border) (reads : ℕ → List Next) → Covers b end → (e : List Source × Source) (i : ℕ)
-    → PlaceCut b (items_in_round p reads None end e i) (items_in_round p reads None (At b) e i) (items_in_round p reads (Some b) end e i)
-place_cut_of p b end reads covers e i = place_cut p.kinds e.1 (sum_by width e.0) b end (rows_of (reads (length e.0))) i covers
+place_cut_of : (p : Program) (b : ℕ) (start : Option ℕ) (end : Border) (reads : ℕ → List Next) → Covers b end → Exceeds b start → (e : List Source × Source) (i : ℕ)
+    → PlaceCut b (items_in_round p reads start end e i) (items_in_round p reads start (At b) e i) (items_in_round p reads (Some b) end e i)
+place_cut_of p b start end reads covers exceeds e i = place_cut p.kinds e.1 (sum_by width e.0) b start end (rows_of (reads (length e.0))) i covers exceeds
 
 -- the rows that are read, cut at a border
-pub between_cut : (p : Program) (b : ℕ) (end : Border) (reads : ℕ → List Next) → Covers b end
-    → AreCutAt b (lists_between p None end reads) (lists_between p None (At b) reads) (lists_between p (Some b) end reads)
-between_cut p b end reads covers = record {
-  early = sources_cut (λ (x : Event). nat_le x.time b) (lists_in_round p reads None (At b)) (lists_in_round p reads None end)
-      (λ e. maps_cut (λ (x : Event). nat_le x.time b) (items_in_round p reads None (At b) e) (items_in_round p reads None end e) (λ i. (place_cut_of p b end reads covers e i).early) (range_with_len 0 (width e.1)))
+pub between_cut : (p : Program) (b : ℕ) (start : Option ℕ) (end : Border) (reads : ℕ → List Next) → Covers b end → Exceeds b start
+    → AreCutAt b (lists_between p start end reads) (lists_between p start (At b) reads) (lists_between p (Some b) end reads)
+between_cut p b start end reads covers exceeds = record {
+  early = sources_cut (λ (x : Event). nat_le x.time b) (lists_in_round p reads start (At b)) (lists_in_round p reads start end)
+      (λ e. maps_cut (λ (x : Event). nat_le x.time b) (items_in_round p reads start (At b) e) (items_in_round p reads start end e) (λ i. (place_cut_of p b start end reads covers exceeds e i).early) (range_with_len 0 (width e.1)))
       (each_with_before p.sources);
-  late = sources_cut (λ (x : Event). nat_lt b x.time) (lists_in_round p reads (Some b) end) (lists_in_round p reads None end)
-      (λ e. maps_cut (λ (x : Event). nat_lt b x.time) (items_in_round p reads (Some b) end e) (items_in_round p reads None end e) (λ i. (place_cut_of p b end reads covers e i).late) (range_with_len 0 (width e.1)))
+  late = sources_cut (λ (x : Event). nat_lt b x.time) (lists_in_round p reads (Some b) end) (lists_in_round p reads start end)
+      (λ e. maps_cut (λ (x : Event). nat_lt b x.time) (items_in_round p reads (Some b) end e) (items_in_round p reads start end e) (λ i. (place_cut_of p b start end reads covers exceeds e i).late) (range_with_len 0 (width e.1)))
       (each_with_before p.sources);
 }
 
@@ -430,7 +431,7 @@ pub list_all_true : {X : Type 0} (p : X → Bool) → ((x : X) → p x ≡ true)
 list_all_true p h [] = refl
 list_all_true p h (x ∷ xs) = both (p x) _ (h x) (list_all_true p h xs)
 
-none_between : (b t : ℕ) (rows : List Row) → t ≤ b → rows_between (Some b) (At t) rows ≡ []
+pub none_between : (b t : ℕ) (rows : List Row) → t ≤ b → rows_between (Some b) (At t) rows ≡ []
 none_between b t rows le = kept_none (is_between (Some b) (At t)) rows (list_all_true _ apart rows)
   where
     apart_at : (time : ℕ) → not (nat_lt b time && nat_le time t) ≡ true
@@ -469,16 +470,16 @@ some_reads : (p : Program) (rows : ℕ) (above : Option ℕ) (whole before now :
 some_reads p rows above whole before now Closed round = λ i s e. (Shut, round i s e)
 some_reads p rows above whole before now (At t) round = λ i s e. let h = round.each i s e in (h.0, h.1)
 
-lists_keep : (p : Program) (rows b : ℕ) (above : Option ℕ) (whole before mid now : ℕ → List Next) (end : Border)
+lists_keep : (p : Program) (rows b : ℕ) (start above : Option ℕ) (whole before mid now : ℕ → List Next) (end : Border)
     → IsRoundAt p rows above whole before mid b → IsRound p rows (Some b) whole mid now end
-    → lists_between p None (At b) now ≡ lists_between p None (At b) mid
-lists_keep p rows b above whole before mid now end was round =
+    → lists_between p start (At b) now ≡ lists_between p start (At b) mid
+lists_keep p rows b start above whole before mid now end was round =
     flat_same _ _ (each_with_before p.sources)
-    (all_map (λ (e : List Source × Source). rows_between None (At b) (rows_of (now (length e.0))) ≡ rows_between None (At b) (rows_of (mid (length e.0)))) _ (each_with_before p.sources)
+    (all_map (λ (e : List Source × Source). rows_between start (At b) (rows_of (now (length e.0))) ≡ rows_between start (At b) (rows_of (mid (length e.0)))) _ (each_with_before p.sources)
     (λ e same. ap (lists_of_rows p.kinds e.1 (sum_by width e.0)) same)
-    (each_source (λ i s. rows_between None (At b) (rows_of (now i)) ≡ rows_between None (At b) (rows_of (mid i))) p.sources
+    (each_source (λ i s. rows_between start (At b) (rows_of (now i)) ≡ rows_between start (At b) (rows_of (mid i))) p.sources
     (λ i s e. let h = was.each i s e in let k = some_reads p rows (Some b) whole mid now end round i s e in
-    round_keeps p.kinds s rows b above (whole i) (before i) (mid i) (now i) h.0 k.0 h.1 h.2 k.1)))
+    round_keeps p.kinds s rows b start above (whole i) (before i) (mid i) (now i) h.0 k.0 h.1 h.2 k.1)))
 
 -- ---- rounds in turn
 state_push : (p : Program) (s : Contents) (done : List (List (List Item))) (lists : List (List Item))
@@ -510,14 +511,55 @@ one_more p opening done first second whole h cut = record {
       ∙ ap (λ s. report p (final_outputs p opening first) ++ report p (final_outputs p s second)) h.state ∙ sym cut.lines;
 }
 
+-- the border of a round is above the start of the run
+round_exceeds : (p : Program) (rows b : ℕ) (above : Option ℕ) (whole before now : ℕ → List Next) → 1 ≤ rows → IsRoundAt p rows above whole before now b
+    → Exceeds b above
+round_exceeds p rows b None whole before now one round = λ t e. refl
+round_exceeds p rows b (Some a) whole before now one round = λ t e.
+    let reads = round.least.3 in
+    let later = later_border round.least.1 rows a b (now round.least.0) one reads.stops.1 reads.stops.2 in
+    grind (arith, nat_tests)
+
+exceeds_start : (p : Program) (rows t : ℕ) (whole : ℕ → List Next) (start : Option ℕ) (done : List (List (List Item))) (above : Option ℕ) (before : ℕ → List Next)
+    → 1 ≤ rows → ComesFrom p rows whole start done above before → Exceeds t above → Exceeds t start
+exceeds_start p rows t whole start done above before one (Starts reads none) exceeds = exceeds
+exceeds_start p rows t whole start done above before one (GoesOn done' above' before' mid b came was) exceeds =
+    let up = round_exceeds p rows b above' whole before' mid one was in
+    exceeds_start p rows t whole start done' above' before' one came (λ u e. up u (exceeds u e))
+
 pub law_of_rounds : LawOfRounds
-law_of_rounds p opening rows whole done above before now end one (Starts reads none) round = record {
+law_of_rounds p opening rows whole start done above before now end one (Starts reads none) round = record {
   state = refl;
-  outputs = append-nil (final_outputs p opening (lists_between p None end now));
-  reports = append-nil (report p (final_outputs p opening (lists_between p None end now)));
+  outputs = append-nil (final_outputs p opening (lists_between p start end now));
+  reports = append-nil (report p (final_outputs p opening (lists_between p start end now)));
 }
-law_of_rounds p opening rows whole done above before now end one (GoesOn done' above' before' mid b came was) round =
-    let so_far = law_of_rounds p opening rows whole done' above' before' mid (At b) one came was in
-    let same = lists_keep p rows b above' whole before' mid now end was round in
-    let cut = folds_in_turn p opening b (lists_between p None end now) (lists_between p None (At b) now) (lists_between p (Some b) end now) (between_cut p b end now (covers_end p rows b whole mid now end one round)) in
-    one_more p opening _ (lists_between p None (At b) mid) (lists_between p (Some b) end now) (lists_between p None end now) so_far (subst (λ l. FoldsInTurn p opening (lists_between p None end now) l (lists_between p (Some b) end now)) same cut)
+law_of_rounds p opening rows whole start done above before now end one (GoesOn done' above' before' mid b came was) round =
+    let so_far = law_of_rounds p opening rows whole start done' above' before' mid (At b) one came was in
+    let same = lists_keep p rows b start above' whole before' mid now end was round in
+    let exceeds = exceeds_start p rows b whole start done' above' before' one came (round_exceeds p rows b above' whole before' mid one was) in
+    let cut = folds_in_turn p opening b (lists_between p start end now) (lists_between p start (At b) now) (lists_between p (Some b) end now)
+    (between_cut p b start end now (covers_end p rows b whole mid now end one round) exceeds) in
+    one_more p opening _ (lists_between p start (At b) mid) (lists_between p (Some b) end now) (lists_between p start end now) so_far
+    (subst (λ l. FoldsInTurn p opening (lists_between p start end now) l (lists_between p (Some b) end now)) same cut)
+
+-- no event is between a border and itself
+no_events : (p : Program) (t : ℕ) (reads : ℕ → List Next) → all_events (lists_between p (Some t) (At t) reads) ≡ []
+no_events p t reads =
+    let cut = between_cut p t None (At t) reads (λ u e. e) (λ u e. refl) in
+    let all = all_events (lists_between p None (At t) reads) in
+    let early = filter (λ (x : Event). nat_le x.time t) all in
+    let none : list_all (λ (x : Event). not (nat_lt t x.time)) early ≡ true =
+    list_all_alike _ _ (λ (x : Event). not_after t x.time) early ∙ all_kept (λ (x : Event). nat_le x.time t) all in
+    cut.late ∙ ap (filter (λ (x : Event). nat_lt t x.time)) cut.early ∙ kept_none (λ (x : Event). nat_lt t x.time) early none
+  where
+    not_after : (b n : ℕ) → not (nat_lt b n) ≡ nat_le n b
+    not_after b n = grind (arith, nat_tests)
+
+pub law_of_no_rows : LawOfNoRows
+law_of_no_rows p opening t reads =
+    let none = no_events p t reads in
+    record {
+      state = sym (ap (λ events. state_after p opening (in_order is_before events)) none);
+      outputs = sym (ap (λ events. outputs_of p opening (in_order is_before events)) none);
+      reports = sym (ap (λ events. report p (outputs_of p opening (in_order is_before events))) none);
+    }

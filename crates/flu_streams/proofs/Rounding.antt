@@ -63,6 +63,7 @@ refilled_later : (kinds : List Kind) (s : Source) (first rows : ℕ) (old new : 
     → WhereTold b c (TakesFrom name) → IsRefilled kinds s first rows old new a b end → IsRefilled kinds s first rows old new a c end
 refilled_later kinds s first rows old new name a b c end ne taken r = record {
   keeps = r.keeps;
+  caught = r.caught;
   border = r.border;
   turn = r.turn;
   out = λ was closed. still_out name s.file b c taken ne (r.out was closed);
@@ -81,6 +82,7 @@ pub refilled_earlier : (kinds : List Kind) (s : Source) (first rows : ℕ) (old 
     → WhereTold a b (LeavesOthers names) → IsRefilled kinds s first rows old new b c end → IsRefilled kinds s first rows old new a c end
 refilled_earlier kinds s first rows old new names a b c end apart others r = record {
   keeps = r.keeps;
+  caught = r.caught;
   border = r.border;
   turn = r.turn;
   out = λ was closed. r.out (λ before. read_out_before names s.file a b others apart (was before)) closed;

@@ -10,7 +10,7 @@ use Rattle.flu_model.specs.declared.jobs.Source.{Source}
 use Rattle.flu_model.specs.declared.jobs.Program.{Program}
 use Rattle.flu_outside.specs.Taking.{IsReadOut}
 use Rattle.flu_streams.specs.Files.{files_of}
-use Rattle.flu_streams.specs.Holding.{HeldSource, IsHeldBehind, fresh_source, first_itag, still, LawOfStart, LawOfEnds}
+use Rattle.flu_streams.specs.Holding.{HeldSource, IsHeldBehind, unread_source, first_itag, still, LawOfStart, LawOfEnds}
 
 -- ---- an element of a list that was made of another
 pub from_mapped : {X Y : Type 0} (f : X → Y) (xs : List X) (i : ℕ) (y : Y) → slice_get (map f xs) i ≡ Some y → (x : X) × (slice_get xs i ≡ Some x) × (y ≡ f x)
@@ -32,35 +32,40 @@ among (y ∷ xs) x (zero, lt, e) = (zero, ap Some e)
 among (y ∷ xs) x (suc k, lt, e) = let rest = among xs x (k, omega (arith, lt), e) in (suc rest.0, rest.1)
 
 -- ---- the start
-fresh_behind : (p : Program) (rows i : ℕ) (s : Source) (source : HeldSource) → source ≡ fresh_source s
-    → IsHeldBehind p.kinds (first_itag p i) s None [] source
-fresh_behind p rows i s source is = subst (λ h. IsHeldBehind p.kinds (first_itag p i) s None [] h) (sym is) (record {
+fresh_behind : (p : Program) (border : Option ℕ) (i : ℕ) (s : Source) (source : HeldSource) → source ≡ unread_source border s
+    → IsHeldBehind p.kinds (first_itag p i) s border [] source
+fresh_behind p border i s source is = subst (λ h. IsHeldBehind p.kinds (first_itag p i) s border [] h) (sym is) (record {
   file = refl;
   sound = refl;
+  low = None;
   items = refl;
   last = refl;
   ended = refl;
   settled = λ goes t e. absurd (no_border t e);
+  up_to = λ t e. absurd (no_border t e);
+  caught = λ none. sym none;
+  goal = λ t e. e;
 })
   where
     no_border : (t : ℕ) → None ≡ Some t → ⊥
     no_border t e = cc
 
-pub fresh_at : (p : Program) (i : ℕ) (s : Source) (source : HeldSource) → slice_get p.sources i ≡ Some s
-    → slice_get (map fresh_source p.sources) i ≡ Some source → source ≡ fresh_source s
-fresh_at p i s source e f = let k = from_mapped fresh_source p.sources i source f in k.2 ∙ ap fresh_source (one_there p.sources i k.0 s k.1 e)
+pub fresh_at : (p : Program) (border : Option ℕ) (i : ℕ) (s : Source) (source : HeldSource) → slice_get p.sources i ≡ Some s
+    → slice_get (map (unread_source border) p.sources) i ≡ Some source → source ≡ unread_source border s
+fresh_at p border i s source e f =
+    let k = from_mapped (unread_source border) p.sources i source f in k.2 ∙ ap (unread_source border) (one_there p.sources i k.0 s k.1 e)
 
 pub law_of_start : LawOfStart
-law_of_start p rows = record {
+law_of_start p rows border = record {
   behind = record {
-    count = length-map p.sources fresh_source;
-    each = λ i s source e f. fresh_behind p rows i s source (fresh_at p i s source e f);
+    count = length-map p.sources (unread_source border);
+    each = λ i s source e f. fresh_behind p border i s source (fresh_at p border i s source e f);
   };
   all = λ left whole lines i source f.
-      let k = from_mapped fresh_source p.sources i source f in
+      let k = from_mapped (unread_source border) p.sources i source f in
       lines i k.0 k.1 ∙ ap (λ (h : HeldSource). still h left) (sym k.2);
   ended = λ left i source f closed.
-      let k = from_mapped fresh_source p.sources i source f in
+      let k = from_mapped (unread_source border) p.sources i source f in
       absurd (false≢true (ap (λ (h : HeldSource). h.closed) (sym k.2) ∙ closed));
 }
 

@@ -25,13 +25,14 @@ use Rattle.flu_streams.specs.Tests.{rows_of, times_of, greatest, has_ended}
 
 -- ---- what is held
 -- of a source: the items with a time above the last border, in order of time; where its rows are read; the greatest time that was
--- read; whether `end` was; and whether all of its file was
+-- read; whether `end` was; whether all of its file was; and in a resumed run, the border that the reading is still to come to
 pub record HeldSource : Type 0 where
   pub items : List Item
   pub place : Place
   pub last : Option ℕ
   pub ended : Bool
   pub closed : Bool
+  pub goal : Option ℕ
 
 -- of all sources of a job: with how many rows a round is to be had, the border of the last cut, and what may be called next
 pub record Holding : Type 0 where
@@ -41,28 +42,41 @@ pub record Holding : Type 0 where
   pub stage : Stage
   pub sources : List HeldSource
 
--- nothing was read of a source
-abbrev pub fresh_source : Source → HeldSource
-fresh_source s = record { items = []; place = front_of s.file; last = None; ended = false; closed = false }
+-- nothing was read of a source, whose rows are run from this border on, where there is one
+abbrev pub unread_source : Option ℕ → Source → HeldSource
+unread_source border s = record { items = []; place = front_of s.file; last = None; ended = false; closed = false; goal = border }
 
 -- nothing was read of any
+abbrev pub unread : Program → ℕ → Option ℕ → Holding
+unread p rows border = record { program = p; rows = rows; border = border; stage = Filling; sources = map (unread_source border) p.sources }
+
+-- a run from the first row on
 abbrev pub fresh : Program → ℕ → Holding
-fresh p rows = record { program = p; rows = rows; border = None; stage = Filling; sources = map fresh_source p.sources }
+fresh p rows = unread p rows None
 
 -- ---- behind which lines
 -- the number of the first itag of the source with a number
 abbrev pub first_itag : Program → ℕ → ℕ
 first_itag p number = sum_by width (take number p.sources)
 
--- this is held of a source, whose first itag has this number, behind these lines and with this border. A border is settled where
--- more is to be read: so what is still to come is above it.
+-- a border is not above another
+abbrev pub IsUpTo : Option ℕ → Option ℕ → Type 0
+IsUpTo low border = (l : ℕ) → low ≡ Some l → (b : ℕ) × (border ≡ Some b) × (l ≤ b)
+
+-- this is held of a source, whose first itag has this number, behind these lines and with this border: the items above a lower one,
+-- which is the border itself but in a resumed run that has not come to it. The lower one is settled where more is to be read: so what
+-- is still to come is above it.
 pub record IsHeldBehind (kinds : List Kind) (first : ℕ) (s : Source) (border : Option ℕ) (lines : List Next) (h : HeldSource) : Type 0 where
   pub file : h.place.file ≡ s.file
   pub sound : defect_in kinds s lines ≡ None
-  pub items : h.items ≡ map (item_of kinds s first) (in_time_order (rows_between border Closed (rows_of lines)))
+  pub low : Option ℕ
+  pub items : h.items ≡ map (item_of kinds s first) (in_time_order (rows_between low Closed (rows_of lines)))
   pub last : h.last ≡ greatest (times_of (rows_of lines))
   pub ended : h.ended ≡ has_ended (rows_of lines)
-  pub settled : h.closed ≡ false → (t : ℕ) → border ≡ Some t → (u : ℕ) × (settled_time s lines ≡ Some u) × (t ≤ u)
+  pub settled : h.closed ≡ false → (t : ℕ) → low ≡ Some t → (u : ℕ) × (settled_time s lines ≡ Some u) × (t ≤ u)
+  pub up_to : IsUpTo low border
+  pub caught : h.goal ≡ None → low ≡ border
+  pub goal : (t : ℕ) → h.goal ≡ Some t → border ≡ Some t
 
 -- this is held of all sources behind these lines of each
 pub record AreHeldBehind (h : Holding) (lines : ℕ → List Next) : Type 0 where
@@ -159,13 +173,13 @@ pub record Cuts (old new : Holding) (b : Border) : Type 0 where
 
 -- ---- the start
 -- LAW OF THE START: before the first round nothing is read, so all lines are still to be read, and no file was read to its end
-pub record IsStart (p : Program) (rows : ℕ) : Type 0 where
-  pub behind : AreHeldBehind (fresh p rows) (λ i. [])
-  pub all : (left : Contents) (whole : ℕ → List Next) → LinesIn p left whole → AreInAll (fresh p rows) (λ i. []) left whole
-  pub ended : (left : Option Contents) → ClosedAreReadOut (fresh p rows) left
+pub record IsStart (p : Program) (rows : ℕ) (border : Option ℕ) : Type 0 where
+  pub behind : AreHeldBehind (unread p rows border) (λ i. [])
+  pub all : (left : Contents) (whole : ℕ → List Next) → LinesIn p left whole → AreInAll (unread p rows border) (λ i. []) left whole
+  pub ended : (left : Option Contents) → ClosedAreReadOut (unread p rows border) left
 
 abbrev pub LawOfStart : Type 0
-LawOfStart = (p : Program) (rows : ℕ) → IsStart p rows
+LawOfStart = (p : Program) (rows : ℕ) (border : Option ℕ) → IsStart p rows border
 
 -- behind the last round all files were read out
 abbrev pub LawOfEnds : Type 0

@@ -33,7 +33,7 @@ use Rattle.flu_streams.specs.Tests.{is_end, time_in, where_true, test_tag, test_
 
 -- what contracts see of it
 abbrev pub source_of : Inlet → HeldSource
-source_of h = record { items = h.items.items; place = h.rows; last = h.last; ended = h.ended; closed = h.closed }
+source_of h = record { items = h.items.items; place = h.rows; last = h.last; ended = h.ended; closed = h.closed; goal = h.goal }
 
 -- ---- how many items are settled
 -- how many of some items come no later than a time
@@ -43,6 +43,22 @@ count_to u items = length (filter (λ item. nat_le (item_time item) u) items)
 -- the settled time, where so many of the items come no later
 abbrev pub enough_of : ℕ → ℕ → Option ℕ → List Item → Option ℕ
 enough_of rows slack last items = option_and_then (λ u. if nat_le rows (count_to u items) then Some u else None) (settled slack last)
+
+-- the same, where the reading has come to the border of the run
+abbrev pub without : Option ℕ → Option ℕ → Option ℕ
+without None found = found
+without (Some goal) found = None
+
+abbrev pub enough_in : ℕ → ℕ → HeldSource → Option ℕ
+enough_in rows slack h = without h.goal (enough_of rows slack h.last h.items)
+
+-- a border that is still to be come to is not settled
+abbrev pub IsBefore : ℕ → HeldSource → Type 0
+IsBefore slack h = (t u : ℕ) → h.goal ≡ Some t → settled slack h.last ≡ Some u → u < t
+
+-- what is held is not enough
+abbrev pub IsShort : ℕ → Source → HeldSource → Type 0
+IsShort rows s h = (enough_in rows s.slack h ≡ None) × IsBefore s.slack h
 
 -- ---- a row
 -- the test of a time behind these items, where this is the greatest time that was read
@@ -72,6 +88,7 @@ pub record PutsIn (kinds : List Kind) (s : Source) (first : ℕ) (row : Row) (ol
   pub last : new.last ≡ later_of old.last (time_in row)
   pub ended : new.ended ≡ (old.ended || is_end row)
   pub closed : new.closed ≡ old.closed
+  pub goal : new.goal ≡ old.goal
 
 -- an item is put where its time belongs
 pub record PutsItem (item : Item) (old new : Inlet) : Type 0 where
@@ -80,17 +97,19 @@ pub record PutsItem (item : Item) (old new : Inlet) : Type 0 where
   pub last : new.last ≡ Some (max (unwrap_or old.last 0) (item_time item))
   pub ended : new.ended ≡ old.ended
   pub closed : new.closed ≡ old.closed
+  pub goal : new.goal ≡ old.goal
 
 -- ---- what is so between rounds
 -- where more is to be read, a border is settled
 abbrev pub IsSettledAt : Source → Option ℕ → Inlet → Type 0
 IsSettledAt s border h = h.closed ≡ false → (t : ℕ) → border ≡ Some t → (u : ℕ) × (settled s.slack h.last ≡ Some u) × (t ≤ u)
 
--- of a source the items above the last border are held
+-- of a source the items above the last border are held, or the reading is still to come to it
 pub record IsWellAt (s : Source) (border : Option ℕ) (h : Inlet) : Type 0 where
   pub file : h.rows.file ≡ s.file
-  pub above : list_all (λ item. is_above border (item_time item)) h.items.items ≡ true
-  pub settled : IsSettledAt s border h
+  pub goal : (t : ℕ) → h.goal ≡ Some t → border ≡ Some t
+  pub above : h.goal ≡ None → list_all (λ item. is_above border (item_time item)) h.items.items ≡ true
+  pub settled : h.goal ≡ None → IsSettledAt s border h
 
 pub record AreWell (p : Program) (rows : ℕ) (border : Option ℕ) (inlets : List Inlet) : Type 0 where
   pub some : 1 ≤ rows
@@ -102,10 +121,14 @@ abbrev pub IsSettledBy : Program → Option ℕ → Border → List Inlet → Ty
 IsSettledBy p border (At t) inlets = (is_above border t ≡ true) × AtEach (λ i s. (h : Inlet) → slice_get inlets i ≡ Some h → IsSettledAt s (Some t) h) p.sources
 IsSettledBy p border Closed inlets = ⊤
 
+-- of no source the reading is still to come to a border
+abbrev pub AreCaughtUp : List Inlet → Type 0
+AreCaughtUp inlets = (i : ℕ) (h : Inlet) → slice_get inlets i ≡ Some h → h.goal ≡ None
+
 -- nothing more is asked of what refused a call
 abbrev pub IsWell : Program → ℕ → Option ℕ → Stage → List Inlet → Type 0
 IsWell p rows border Filling inlets = AreWell p rows border inlets
-IsWell p rows border (Filled b) inlets = AreWell p rows border inlets × IsSettledBy p border b inlets
+IsWell p rows border (Filled b) inlets = AreWell p rows border inlets × IsSettledBy p border b inlets × AreCaughtUp inlets
 IsWell p rows border Over inlets = ⊤
 
 -- ---- the earliest border
@@ -117,6 +140,24 @@ earlier_of (At t) (At u) = At (min t u)
 abbrev pub earliest : List Border → Border
 earliest [] = Closed
 earliest (b ∷ bs) = earlier_of b (earliest bs)
+
+-- ---- a resumed run
+-- the items up to a border go once it is settled, or nothing more is to be read; before that some that are settled may go
+pub data IsCaughtUp (slack : ℕ) (old new : Inlet) : Type 0 where
+  Stays : new.items.items ≡ old.items.items → new.goal ≡ old.goal → IsCaughtUp slack old new
+  Drops : (t goal : ℕ) → old.closed ≡ false → settled slack old.last ≡ Some t → t < goal → old.goal ≡ Some goal → new.goal ≡ Some goal
+      → new.items.items ≡ filter (λ item. nat_lt t (item_time item)) old.items.items → IsCaughtUp slack old new
+  Comes : (goal : ℕ) → (old.closed ≡ false → (u : ℕ) × (settled slack old.last ≡ Some u) × (goal ≤ u)) → old.goal ≡ Some goal → new.goal ≡ None
+      → new.items.items ≡ filter (λ item. nat_lt goal (item_time item)) old.items.items → IsCaughtUp slack old new
+
+pub record CatchesUp (slack : ℕ) (old new : Inlet) : Type 0 where
+  pub rows : new.rows ≡ old.rows
+  pub last : new.last ≡ old.last
+  pub ended : new.ended ≡ old.ended
+  pub closed : new.closed ≡ old.closed
+  pub items : IsCaughtUp slack old new
+  pub before : IsBefore slack (source_of new)
+  pub shut : new.closed ≡ true → new.goal ≡ None
 
 -- ---- one source in a refill
 -- what was read more of a source, behind these lines: before its last line they were not enough
@@ -142,6 +183,7 @@ IsTurnOf s h Closed = h.closed ≡ true
 
 pub record IsRefilled (kinds : List Kind) (s : Source) (first rows : ℕ) (old new : Inlet) (left left' : Option Contents) (end : Border) : Type 0 where
   pub keeps : (border : Option ℕ) → IsWellAt s border old → IsWellAt s border new
+  pub caught : new.goal ≡ None
   pub border : (above : Option ℕ) → IsWellAt s above old → IsNewBorder above end
   pub turn : IsTurnOf s new end
   pub out : (old.closed ≡ true → IsReadOut s.file left) → new.closed ≡ true → IsReadOut s.file left'
@@ -211,6 +253,7 @@ pub record DropsTo (time : ℕ) (old new : Inlet) : Type 0 where
   pub last : new.last ≡ old.last
   pub ended : new.ended ≡ old.ended
   pub closed : new.closed ≡ old.closed
+  pub goal : new.goal ≡ old.goal
 
 pub record AreDropped (time : ℕ) (olds news : List Inlet) : Type 0 where
   pub size : length news ≡ length olds

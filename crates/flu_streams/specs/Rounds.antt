@@ -10,6 +10,7 @@ use Rattle.flu_model.specs.declared.jobs.Source.{Source}
 use Rattle.flu_model.specs.declared.jobs.Program.{Program}
 use Rattle.flu_model.specs.Contents.{Contents}
 use Rattle.flu_model.specs.Folding.{final_state, final_outputs}
+use Rattle.flu_model.specs.Merging.{merged}
 use Rattle.flu_model.specs.Reports.{report}
 use Rattle.flu_outside.specs.Outside.{Contents as Files}
 use Rattle.flu_outside.specs.Taking.{bytes_left}
@@ -23,6 +24,7 @@ use Rattle.flu_streams.specs.declared.faults.SourceFault.{SourceFault}
 use Rattle.flu_streams.specs.declared.faults.Why.{Why}
 use Rattle.flu_streams.specs.declared.faults.Why.TheVariants.{AfterEnd}
 use Rattle.flu_streams.specs.Before.{each_with_before, first_some}
+use Rattle.flu_streams.specs.Borders.{beyond}
 use Rattle.flu_streams.specs.Good.{lists_of_rows, lists_of}
 use Rattle.flu_streams.specs.Tags.{width}
 use Rattle.flu_streams.specs.Tests.{rows_of, time_in, times_of, greatest, has_ended, where_true, test_tag, test_value, test_time, defect_of}
@@ -146,13 +148,17 @@ abbrev pub lists_between : Program → Option ℕ → Border → (ℕ → List N
 lists_between p above end reads =
     flat_map (λ e. lists_of_rows p.kinds e.1 (sum_by width e.0) (rows_between above end (rows_of (reads (length e.0))))) (each_with_before p.sources)
 
--- ROUNDS ONE AFTER ANOTHER, from the first on, each with a new border: the lists of each, the border that they come to, and what
--- is read by then
-pub data ComesTo (p : Program) (rows : ℕ) (whole : ℕ → List Next) : List (List (List Item)) → Option ℕ → (ℕ → List Next) → Type 0 where
-  Starts : (reads : ℕ → List Next) → ((i : ℕ) → reads i ≡ []) → ComesTo p rows whole [] None reads
+-- ROUNDS ONE AFTER ANOTHER, from the first on, each with a new border, of a run that starts above a border, where there is one: the
+-- lists of each, the border that they come to, and what is read by then
+pub data ComesFrom (p : Program) (rows : ℕ) (whole : ℕ → List Next) (start : Option ℕ) : List (List (List Item)) → Option ℕ → (ℕ → List Next) → Type 0 where
+  Starts : (reads : ℕ → List Next) → ((i : ℕ) → reads i ≡ []) → ComesFrom p rows whole start [] start reads
   GoesOn : (done : List (List (List Item))) (above : Option ℕ) (before now : ℕ → List Next) (t : ℕ)
-      → ComesTo p rows whole done above before
-      → IsRoundAt p rows above whole before now t → ComesTo p rows whole (done ++ lists_between p above (At t) now ∷ []) (Some t) now
+      → ComesFrom p rows whole start done above before
+      → IsRoundAt p rows above whole before now t → ComesFrom p rows whole start (done ++ lists_between p above (At t) now ∷ []) (Some t) now
+
+-- the same of a run from the first row on
+abbrev pub ComesTo : Program → ℕ → (ℕ → List Next) → List (List (List Item)) → Option ℕ → (ℕ → List Next) → Type 0
+ComesTo p rows whole done above before = ComesFrom p rows whole None done above before
 
 -- ---- the fold of rounds
 -- the state behind the folds of some lists, each from the state behind the one before it
@@ -176,14 +182,18 @@ pub record GiveTheFold (p : Program) (opening : Contents) (done : List (List (Li
   pub outputs : outputs_in_turn p opening done ≡ final_outputs p opening lists
   pub reports : reports_in_turn p opening done ≡ report p (final_outputs p opening lists)
 
--- LAW OF ROUNDS: the rounds up to any one, folded in turn, give the fold of all rows that were read up to the new border; behind
--- the last round these are all rows
+-- LAW OF ROUNDS: the rounds up to any one, folded in turn, give the fold of all rows that were read above the run's start, up to the
+-- new border; behind the last round these are all rows above it
 abbrev pub LawOfRounds : Type 0
 LawOfRounds =
     (p : Program) (opening : Contents) (rows : ℕ) (whole : ℕ
-    → List Next) (done : List (List (List Item))) (above : Option ℕ) (before now : ℕ → List Next) (end : Border)
-    → 1 ≤ rows → ComesTo p rows whole done above before → IsRound p rows above whole before now end
-    → GiveTheFold p opening (done ++ lists_between p above end now ∷ []) (lists_between p None end now)
+    → List Next) (start : Option ℕ) (done : List (List (List Item))) (above : Option ℕ) (before now : ℕ → List Next) (end : Border)
+    → 1 ≤ rows → ComesFrom p rows whole start done above before → IsRound p rows above whole before now end
+    → GiveTheFold p opening (done ++ lists_between p above end now ∷ []) (lists_between p start end now)
+
+-- LAW OF NO ROWS: between a border and itself there is nothing to be folded
+abbrev pub LawOfNoRows : Type 0
+LawOfNoRows = (p : Program) (opening : Contents) (t : ℕ) (reads : ℕ → List Next) → GiveTheFold p opening [] (lists_between p (Some t) (At t) reads)
 
 -- these are the lines of the files of all sources
 abbrev pub LinesIn : Program → Files → (ℕ → List Next) → Type 0
@@ -195,3 +205,10 @@ LawOfLastRound =
     (p : Program) (rows : ℕ) (above : Option ℕ) (whole before now : ℕ → List Next) (left : Files) → LinesIn p left whole
     → IsRound p rows above whole before now Closed
     → lists_between p None Closed now ≡ lists_of p left
+
+-- of a run that starts above a border, they have the later events of a whole reading
+abbrev pub LawOfLastAbove : Type 0
+LawOfLastAbove =
+    (p : Program) (rows : ℕ) (above : Option ℕ) (whole before now : ℕ → List Next) (left : Files) (t : ℕ) → LinesIn p left whole
+    → IsRound p rows above whole before now Closed
+    → merged (lists_between p (Some t) Closed now) ≡ merged (beyond t (lists_of p left))

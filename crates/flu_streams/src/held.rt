@@ -1,18 +1,18 @@
 //! What is held of the sources from round to round.
 
-ghost use Rattle.std.specs.Prelude.{◌≡◌, ◌≢◌, ◌≤◌, ◌<◌, ℕ, length, map, slice_get, vec_len, List, Option, Some, IsTrue, IfOk, IfErr, OnOk, IsErrOf, Ok, Err};
+ghost use Rattle.std.specs.Prelude.{◌≡◌, ◌≢◌, ◌≤◌, ◌<◌, ◌^◌, ℕ, length, map, slice_get, vec_len, List, Option, Some, IsTrue, IfOk, IfErr, OnOk, IsErrOf, Ok, Err};
 ghost use Rattle.flu_model.specs.Itags.{count_of_itags};
 ghost use Rattle.flu_model.specs.Listed.{listed};
 ghost use Rattle.flu_outside.specs.Outside.{WhereTold, SameCounts};
 ghost use Rattle.flu_outside.specs.Taking.{TookFronts};
 ghost use Rattle.flu_rows.specs.declared.rows.Next.{Next};
 ghost use Rattle.flu_streams.specs.Files.{files_of, LeavesOthers, CountsOfNames, OneRose};
-ghost use Rattle.flu_streams.specs.Holding.{fresh, AreHeldBehind, ClosedAreReadOut, AreClosed, IsFilled, KeepsJob, Fills, IsNewBorder, IsRefillFault, HidesNoRoundFault, Cuts};
+ghost use Rattle.flu_streams.specs.Holding.{fresh, unread, AreHeldBehind, ClosedAreReadOut, AreClosed, IsFilled, KeepsJob, Fills, IsNewBorder, IsRefillFault, HidesNoRoundFault, Cuts};
 ghost use Rattle.flu_lemmas.specs.Elements.{AtEach};
 ghost use Rattle.flu_model.specs.Streaming.{are_streams};
 ghost use Rattle.flu_streams.specs.Lists.{lists_in};
-ghost use Rattle.flu_streams.specs.Holding.{fresh_source};
-ghost use Rattle.flu_streams.specs.LoopHeld.{source_of, earlier_of, HasRefilled, StopsAtSource, AreDropped, AreBehind};
+ghost use Rattle.flu_streams.specs.Holding.{unread_source};
+ghost use Rattle.flu_streams.specs.LoopHeld.{source_of, earlier_of, HasRefilled, StopsAtSource, AreDropped, AreBehind, AreCaughtUp};
 ghost use Rattle.flu_streams.specs.Rounds.{lists_between};
 
 use crate::border::Border;
@@ -78,17 +78,44 @@ impl Held {
         requires few { rows ≤ 4096 }
         ensures { IfOk result (λ h. h ≡ fresh p.now rows) }
     {
-        let sources = new_inlets(alloc, p)?;
+        Held::from_border(alloc, p, rows, None)
+    }
+
+    /// The same of a run that is resumed: its rows are those above a border. Rows up to it are read and tested, and not kept.
+    ///
+    /// # Errors
+    ///
+    /// Only where memory is wanting.
+    pub fn resume(alloc: Global, p: &Program, rows: u32, border: u64) -> Result<Held, AllocError>
+        requires some { 1 ≤ rows }
+        requires few { rows ≤ 4096 }
+        requires border { border < 2 ^ 63 }
+        ensures { IfOk result (λ h. h ≡ unread p.now rows (Some border)) }
+    {
+        Held::from_border(alloc, p, rows, Some(border))
+    }
+
+    // Nothing of the sources of a job, whose rows are run from a border on, where there is one.
+    fn from_border(
+        alloc: Global,
+        p: &Program,
+        rows: u32,
+        border: Option<u64>,
+    ) -> Result<Held, AllocError>
+        requires { 1 ≤ rows }
+        ensures { IfOk result (λ h. h ≡ unread p.now rows border) }
+    {
+        let sources = new_inlets(alloc, p, border)?;
         Ok(Held {
             program: Snapshot::of(p),
             rows,
-            border: None,
+            border,
             stage: Stage::Filling,
             sources,
         })
     }
 
-    /// The border of the last cut, and none before the first one.
+    /// The border of the last cut. Before the first one none, or that of a resumed run.
     pub fn border(&self) -> Option<u64>
         ensures { result ≡ self.now.border }
     {
@@ -98,7 +125,7 @@ impl Held {
     /// Reads the sources, in declared order, until each holds what the next round needs of it, and answers up to which time that
     /// round takes rows. A source that is to be closed is read past `end` to the end of its file.
     ///
-    /// `above` is the border of the last cut, and none before the first one. A source fault is the defect that the round meets, of
+    /// `above` is the border of the last cut; before the first one none, or that of a resumed run. A source fault is the defect that the round meets, of
     /// the first source, as declared, that has one. Items are not counted: a round holds few.
     pub fn refill<F: Files>(
         &mut self,
@@ -165,12 +192,12 @@ impl Held {
 }
 
 // Nothing of each source.
-fn new_inlets(alloc: Global, p: &Program) -> Result<Vec<Inlet>, AllocError>
-    ensures { IfOk result (λ inlets. map source_of inlets.items ≡ map fresh_source p.now.sources) }
+fn new_inlets(alloc: Global, p: &Program, border: Option<u64>) -> Result<Vec<Inlet>, AllocError>
+    ensures { IfOk result (λ inlets. map source_of inlets.items ≡ map (unread_source border) p.now.sources) }
 {
     let mut inlets = Vec::new(alloc);
     for source in p.sources.items() {
-        inlets.push(Inlet::new(alloc, source)?)?;
+        inlets.push(Inlet::new(alloc, source, border)?)?;
     }
     Ok(inlets)
 }
@@ -227,7 +254,8 @@ fn lists_to(
     inlets: &[Inlet],
     end: Border,
 ) -> Result<Vec<Vec<Item>>, AllocError>
-    requires { length inlets.now ≡ length p.now.sources }
+    requires count { length inlets.now ≡ length p.now.sources }
+    requires caught { AreCaughtUp inlets.now }
     ensures len { IfOk result (λ lists. vec_len lists ≡ count_of_itags p.now) }
     ensures streams { IfOk result (λ lists. IsTrue (are_streams 0 (lists_in lists))) }
     ensures lists { IfOk result (λ lists. (border : Option ℕ) (lines : ℕ → List Next) → AreBehind p.now border lines inlets.now → lists_in lists ≡ lists_between p.now border end lines) }

@@ -20,8 +20,12 @@ use flu_outside::Files;
 use flu_rows::{Next, Row, Rows};
 use std::alloc::{AllocError, Global};
 
+/// With so many items, a resumed run that has not come to its border lets settled ones go. At most 60,000, the greatest slack, are not
+/// settled, and a round needs at most 4,096 more.
+const MOST_ITEMS: usize = 64_096;
+
 /// What is held of a source: the items with a time above the last border, in order of time; its reader; the greatest time that
-/// was read; and whether `end` was, and all of its file.
+/// was read; and whether `end` was, and all of its file. In a resumed run, `goal` is its border until the reading has come to it.
 #[derive(Drop)]
 pub(crate) struct Inlet {
     pub(crate) rows: Rows,
@@ -29,19 +33,24 @@ pub(crate) struct Inlet {
     pub(crate) last: Option<u64>,
     pub(crate) ended: bool,
     pub(crate) closed: bool,
+    pub(crate) goal: Option<u64>,
     pub(crate) ghost rising: { IsTrue (rises_from item_time 0 items.items) },
     pub(crate) ghost none: { last ≡ None → items.items ≡ [] },
     pub(crate) ghost range: { unwrap_or last 0 < 2 ^ 63 },
 }
 
 impl Inlet {
-    ghost use Rattle.flu_streams.specs.Holding.{fresh_source};
-    ghost use Rattle.flu_streams.specs.LoopHeld.{source_of, enough_of, fault_behind, test_late, taken_by, PutsIn, PutsItem, DropsTo, IsRefilled, IsStopOf};
+    ghost use Rattle.flu_streams.specs.Holding.{unread_source};
+    ghost use Rattle.flu_streams.specs.LoopHeld.{source_of, enough_in, CatchesUp, fault_behind, test_late, taken_by, PutsIn, PutsItem, DropsTo, IsRefilled, IsStopOf};
     ghost use Rattle.flu_streams.specs.LoopIntake.{IsRefusal};
 
-    /// Nothing of a source.
-    pub(crate) fn new(alloc: Global, source: &Source) -> Result<Inlet, AllocError>
-        ensures { IfOk result (λ h. source_of h ≡ fresh_source source.now) }
+    /// Nothing of a source, whose rows are run from a border on, where there is one.
+    pub(crate) fn new(
+        alloc: Global,
+        source: &Source,
+        border: Option<u64>,
+    ) -> Result<Inlet, AllocError>
+        ensures { IfOk result (λ h. source_of h ≡ unread_source border source.now) }
     {
         Ok(Inlet {
             rows: Rows::new(alloc, &source.file)?,
@@ -49,6 +58,7 @@ impl Inlet {
             last: None,
             ended: false,
             closed: false,
+            goal: border,
         })
     }
 
@@ -75,6 +85,7 @@ impl Inlet {
         ensures puts { SameCounts (F.put_faults files.old) (F.put_faults files.new) }
         ensures cause { IsErrOf result Stop.ReadFault → Rose (F.faults files.old source.now.file) (F.faults files.new source.now.file) }
     {
+        self.catch_up(source.slack);
         loop {
             if let Some(time) = self.enough(rows, source.slack) {
                 return Ok(Border::At(time));
@@ -91,12 +102,14 @@ impl Inlet {
                     if let Err(refusal) = self.take(kinds, source, first, row) {
                         return Err(stop_at(line, refusal));
                     }
+                    self.catch_up(source.slack);
                 }
                 last => {
                     if let Some((row, why)) = defect_behind(self.ended, &last) {
                         return Err(Stop::Defect { row, why });
                     }
                     self.closed = true;
+                    self.catch_up(source.slack);
                     return Ok(Border::Closed);
                 }
             }
@@ -133,11 +146,42 @@ impl Inlet {
         self.items.drain(..count);
     }
 
+    // In a resumed run, drops the items up to its border once that is settled, or nothing more is to be read. Before that it drops
+    // those that are settled, where many are held: they are not needed to test later rows.
+    fn catch_up(&mut self, slack: u64)
+        ensures { CatchesUp slack self.old self.new }
+    {
+        let Some(goal) = self.goal else {
+            return;
+        };
+        if self.closed {
+            self.drop_until(goal);
+            self.goal = None;
+            return;
+        }
+        let Some(last) = self.last else {
+            return;
+        };
+        if last < slack {
+            return;
+        }
+        let settled = last - slack;
+        if settled >= goal {
+            self.drop_until(goal);
+            self.goal = None;
+        } else if self.items.len() >= MOST_ITEMS {
+            self.drop_until(settled);
+        }
+    }
+
     // The settled time, where so many of the items come no later.
     fn enough(&self, rows: u32, slack: u64) -> Option<u64>
         requires { 1 ≤ rows }
-        ensures { result ≡ enough_of rows slack self.now.last self.now.items.items }
+        ensures { result ≡ enough_in rows slack (source_of self.now) }
     {
+        if self.goal.is_some() {
+            return None;
+        }
         let last = self.last?;
         if last < slack {
             return None;

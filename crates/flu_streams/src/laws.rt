@@ -3,7 +3,7 @@
 ghost use Rattle.flu_streams.specs.Borders.{LawOfBorders, ItemsAreCut};
 ghost use Rattle.flu_streams.specs.Holding.{LawOfStart, LawOfEnds};
 ghost use Rattle.flu_streams.specs.Fronts.{LawOfFronts, LawOfMeeting};
-ghost use Rattle.flu_streams.specs.Rounds.{LawOfRounds, LawOfLastRound};
+ghost use Rattle.flu_streams.specs.Rounds.{LawOfRounds, LawOfNoRows, LawOfLastRound, LawOfLastAbove};
 
 /// The law of borders: what is cut at a time is folded in turn. The fold of the events up to the time, and then, from its state,
 /// that of the later ones, give the state and the outputs of the whole fold; and its report is the two reports, one behind the
@@ -14,15 +14,23 @@ pub fn borders_cut_a_fold()
 {}
 
 /// The law of rounds: the rounds up to any one, each folded from the state behind the one before it, give the state and the
-/// outputs of the fold of all rows that were read up to its border; and its report is their reports, one behind another.
+/// outputs of the fold of all rows that were read above the run's start, up to its border; and its report is their reports, one
+/// behind another. And before the first round there is nothing to be folded.
 pub fn rounds_are_folded_in_turn()
-    ensures { LawOfRounds }
+    ensures rounds { LawOfRounds }
+    ensures none { LawOfNoRows }
 {}
 
 /// The last round: behind it the rows that were read are all rows of the sources' files, and their lists are those that `gather`
 /// gives of good sources.
 pub fn last_round_has_all_rows()
     ensures { LawOfLastRound }
+{}
+
+/// The last round of a run that starts above a border: the lists of the rows above it have the later events of those that `gather`
+/// gives of good sources.
+pub fn last_round_has_later_rows()
+    ensures { LawOfLastAbove }
 {}
 
 /// The law of the start: before the first round nothing is read, so all lines are still to be read. And behind the last round,

@@ -48,7 +48,7 @@ loop-source-preserved c =
     let first = c.len-first.result in
     let t = turn p c.items-source-items.result.now i s c.items-source-items.ensures c.loop-source-test.true c.source-item.is in
     let at : slice_get p.sources i ≡ Some s = source_at p c.items-source-items.result.now i s c.items-source-items.ensures c.loop-source-test.true c.source-item.is in
-    let lt : n < length c.args.inlets.now = omega (arith, inv.number, c.requires, c.loop-source-test.true, ap length c.items-source-items.ensures) in
+    let lt : n < length c.args.inlets.now = omega (arith, inv.number, c.requires.count, c.loop-source-test.true, ap length c.items-source-items.ensures) in
     let is : slice_get c.args.inlets.now n ≡ Some h = slice_get_read c.args.inlets.now (length c.args.inlets.now) n h refl lt c.index-inlets-number.is in
     let here : slice_get c.args.inlets.now i ≡ Some h = ap (slice_get c.args.inlets.now) (sym inv.number) ∙ is in
     let w : c.tag_count-width.result ≡ width s = c.tag_count-width.ensures ∙ ap (λ tags. length (flat_map listed_tags tags)) c.items.ensures in
@@ -65,7 +65,7 @@ loop-source-preserved c =
       lists = λ border lines behind.
           both ∙ lists_more p border end lines earlier s i (lists_in lists) (lists_in own) (sym t.size) (inv.lists border lines behind)
           (own_lists own p.kinds s (sum_by width earlier) border end (lines i) h (c.in_ok-own.ensures.len ∙ w)
-          (λ k k_lt. c.in_ok-own.ensures.each k (rw w k_lt) ∙ ap (λ f. own_items f end h.items.items k) from) (behind i s at h here))
+          (λ k k_lt. c.in_ok-own.ensures.each k (rw w k_lt) ∙ ap (λ f. own_items f end h.items.items k) from) (behind i s at h here) (c.requires.caught i h here))
           ∙ ap (lists_first p border end lines) (sym t.more);
     }
 

@@ -1,4 +1,3 @@
-use Rattle.std.proofs.Common.{sym}
 use Rattle.flu_model.specs.Listed.{listed}
 use Rattle.flu_rounds.specs.Standing.{Standing}
 use Rattle.flu_rounds.proofs.Halves.{begins}

@@ -36,7 +36,7 @@ invariant_of-self-2 c =
     let t = c.in-At.time in
     let stage_is : h.stage ≡ Filled (At t) = ap (λ (v : Holding). v.stage) c.self.view_is ∙ c.requires.stage ∙ ap Filled c.in-At.is in
     let well = well_filled h.program.value h.rows h.border h.stage (At t) h.sources.items c.self.invariant stage_is in
-    dropped_well h.program.value h.rows t h.border h.sources.items c.drop_all.new.inlets.items well.0 well.1 c.drop_all.ensures
+    dropped_well h.program.value h.rows t h.border h.sources.items c.drop_all.new.inlets.items well.0 well.1 well.2 c.drop_all.ensures
 
 pub returns-clause-cut : goal.returns-clause-cut
 returns-clause-cut c =
@@ -47,4 +47,11 @@ returns-clause-cut c =
     let well = well_filled h.program.value h.rows h.border h.stage (At t) h.sources.items c.self.invariant stage_is in
     subst (λ b. Cuts c.args.self.now (holding h.program.value h.rows (Some t) Filling news) b) (sym c.in-At.is)
     (subst (λ v. Cuts v (holding h.program.value h.rows (Some t) Filling news) (At t)) c.self.view_is
-    (cuts_at h.program.value h.rows t h.border h.stage h.sources.items news well.0 well.1 c.drop_all.ensures))
+    (cuts_at h.program.value h.rows t h.border h.stage h.sources.items news well.0 well.1 well.2 c.drop_all.ensures))
+
+pub lists_to-requires-clause-caught : goal.lists_to-requires-clause-caught
+lists_to-requires-clause-caught c =
+    let h = c.self.inside in
+    let stage_is : h.stage ≡ Filled c.args.b = ap (λ (v : Holding). v.stage) c.self.view_is ∙ c.requires.stage in
+    let well = well_filled h.program.value h.rows h.border h.stage c.args.b h.sources.items c.self.invariant stage_is in
+    rw c.deref.ensures.value well.2

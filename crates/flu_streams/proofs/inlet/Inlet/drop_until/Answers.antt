@@ -44,4 +44,4 @@ returns c =
     let left : drop n items ≡ filter (λ (item : Item). nat_lt t (item_time item)) items =
     drop_failing (λ (item : Item). nat_lt t (item_time item)) End items n few (λ i lt. not_late t _ (early i lt)) (λ i le lt. is_late t _ (late i le lt)) in
     let now : c.drop-drain.new.self.0.items ≡ drop n items = search rules in
-    record { items = now ∙ left; rows = refl; last = refl; ended = refl; closed = refl }
+    record { items = now ∙ left; rows = refl; last = refl; ended = refl; closed = refl; goal = refl }

@@ -33,4 +33,4 @@ returns-clause-taken c =
     let below = rw (time, same) at c.in-Ok.ensures.earlier in
     let above = rw (time, same) at c.in-Ok.ensures.later in
     let put : c.insert.new.self.items ≡ put_late item_time item items = grind (arith, common_steps, put_at items item at few below above) in
-    record { items = put; rows = refl; last = search rules; ended = refl; closed = refl }
+    record { items = put; rows = refl; last = search rules; ended = refl; closed = refl; goal = refl }

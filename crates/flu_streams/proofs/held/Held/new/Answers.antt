@@ -1,8 +1,0 @@
-use Rattle.std.proofs.Common.{None, sym, subst}
-use Rattle.flu_streams.specs.LoopHeld.{AreWell}
-use Rattle.flu_streams.proofs.RefillEnds.{fresh_well}
-use Rattle.flu_streams.proofs.held.Held.new.Goals as goal
-
-pub invariant_of-result : goal.invariant_of-result
-invariant_of-result c =
-    subst (λ p. AreWell p c.args.rows None c.in_ok-sources.sources.items) (sym c.of.ensures) (fresh_well c.args.p.now c.args.rows c.in_ok-sources.sources.items c.requires.some c.in_ok-sources.ensures)

@@ -1,0 +1,5 @@
+use Rattle.flu_streams.proofs.RoundEnds.{law_of_last_above}
+use Rattle.flu_streams.proofs.laws.last_round_has_later_rows.Goals as goal
+
+pub returns : goal.returns
+returns c = law_of_last_above
