@@ -6,8 +6,8 @@ Usage: docs/definitions.py [--files]
 These are the files in `specs/` that declare a name of the contract, all files in `specs/` that those import, and so on; no proof is among
 them. The types of the code that they speak of are declared in `src/`, and those files are counted apart. Lines are counted without empty
 ones, comments and imports. The table has a row for each crate; with `--files` a line for each file is printed in its place. The last lines say
-how many of these only the first faults of texts, the step line of `simulate` and the demo need: what is not cited any more where
-`flu_top/specs/TextFaults.antt`, `Simulating.antt` or `Demos.antt` is left out.
+how many of these only the first faults of texts, the runs of `simulate` and `replay` on the net and the demo need: what is not cited any more
+where `TextFaults.antt`, `Simulating.antt` with those of replays, or `Demos.antt` of `flu_top/specs` is left out.
 """
 import re
 import sys
@@ -16,9 +16,13 @@ from pathlib import Path
 CRATES = Path(__file__).resolve().parent.parent / "crates"
 CALL = CRATES / "flu_top" / "src" / "top.rt"
 PARTS = {
-    "the first faults of texts": CRATES / "flu_top" / "specs" / "TextFaults.antt",
-    "the step line of `simulate`": CRATES / "flu_top" / "specs" / "Simulating.antt",
-    "`demo`": CRATES / "flu_top" / "specs" / "Demos.antt",
+    "the first faults of texts": {CRATES / "flu_top" / "specs" / "TextFaults.antt"},
+    "the runs of `simulate` and `replay` on the net": {
+        CRATES / "flu_top" / "specs" / "Simulating.antt",
+        CRATES / "flu_top" / "specs" / "Replaying.antt",
+        CRATES / "flu_trace" / "specs" / "Replaying.antt",
+    },
+    "`demo`": {CRATES / "flu_top" / "specs" / "Demos.antt"},
 }
 NAMES = re.compile(r"^\s*(?:ghost |pub )*use Rattle\.([\w.]+)\.\{([^}]*)\}", re.M)
 WHOLE = re.compile(r"^\s*(?:ghost |pub )*use Rattle\.([\w.]+)(?: as \w+)?;?$", re.M)
@@ -42,11 +46,11 @@ def file_of(module):
     return CRATES / crate / "specs" / (rest.replace(".", "/") + ".antt")
 
 
-def cited(without=None):
-    """The files that the contract cites, and all that they import; without a file, and what it alone imports."""
+def cited(without=frozenset()):
+    """The files that the contract cites, and all that they import; without some, and what they alone import."""
     words = contract()
     wanted = [module for module, names in NAMES.findall(CALL.read_text()) if words & set(re.findall(r"\w+", names))]
-    found = {without}
+    found = set(without)
     while wanted:
         path = file_of(wanted.pop())
         if path is None or path in found:
@@ -55,7 +59,7 @@ def cited(without=None):
         if path.suffix == ".antt":
             text = path.read_text()
             wanted += [module for module, _ in NAMES.findall(text)] + WHOLE.findall(text)
-    return found - {without}
+    return found - without
 
 
 def lines_of(path):
@@ -76,8 +80,8 @@ def main():
             print(f"| `{crate}` | {', '.join(f'{path.stem} {lines_of(path)}' for path in own)} | {sum(map(lines_of, own))} |")
     code = len(files) - len(definitions)
     print(f"\n{len(definitions)} files of definitions, {sum(map(lines_of, definitions))} lines; types that {code} files of code declare")
-    for part, file in PARTS.items():
-        left = cited(without=file)
+    for part, without in PARTS.items():
+        left = cited(without)
         alone = [path for path in definitions if path not in left]
         print(f"for {part} alone: {len(alone)} files of definitions, {sum(map(lines_of, alone))} lines")
 

@@ -6,7 +6,7 @@ At the top of the repository, where `rt ci` or `rt run` has built the program:
     docs/hostile.py [--program FILE] [--seed N] [--texts N] [--runs N] [--blanks N]
 
 Each row of the table is one kind of use with how often it was tried; the script ends with status 1 where an answer was none
-of those that docs/LANGUAGE.md gives: a signal, a status beyond 0 to 9, more than one line on standard error, bytes on
+of those that docs/LANGUAGE.md gives: a signal, a status beyond 0 to 9 and 13, more than one line on standard error, bytes on
 standard output that are not whole lines of the report, another report than that of `fold`, or more time than is allowed.
 """
 import argparse
@@ -24,6 +24,7 @@ from demo_sources import JOB as VIEWS
 LINES = {
     2: "flumina: bad words at ", 3: "flumina: job: ", 4: "flumina: conflict: ", 5: "flumina: plan: ",
     6: "flumina: source ", 7: "flumina: read fault", 8: "flumina: write fault", 9: "flumina: no memory",
+    13: "flumina: trace line ",
 }
 COUNTS = """cell count sum
 tag inc int

@@ -4,6 +4,7 @@ use crate::conflicts::conflict_hint;
 use crate::places::place_hint;
 use crate::reasons::{Failure, reason_hint};
 use crate::rows::row_hint;
+use crate::traces::trace_hint;
 use std::alloc::AllocError;
 use std::{fs, rt};
 
@@ -13,7 +14,8 @@ const USAGE: &str = "  flumina fold JOB
   flumina valid JOB PLAN
   flumina plan JOB [--depth D]
   flumina run JOB [PLAN]
-  flumina simulate JOB PLAN SEED
+  flumina simulate JOB PLAN SEED [--trace]
+  flumina replay JOB PLAN TRACE
   flumina demo N SEED
   flumina --help
 ";
@@ -39,6 +41,7 @@ pub fn hint<R: rt::Files + AllocGlobal>(
         5 => place_hint(rt, words.get(2), line),
         6 => row_hint(rt, words.get(1), line),
         7 | 8 => reason_hint(rt.alloc(), failure),
+        13 => trace_hint(rt.alloc(), line),
         _ => Ok(String::new(rt.alloc())),
     }
 }

@@ -11,6 +11,7 @@ mod reasons;
 mod rows;
 #[cfg(test)]
 mod tests;
+mod traces;
 
 pub use hints::hint;
 pub use reasons::Failure;

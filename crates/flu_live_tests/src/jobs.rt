@@ -1,30 +1,22 @@
-//! Jobs with their plans, and runs of them.
+//! Runs of jobs with their plans, and what they came to.
 
-ghost use Rattle.std.specs.Prelude.{◌≡◌, ◌^◌, ◌<◌, length, IfOk, IfSome};
+ghost use Rattle.std.specs.Prelude.{◌≡◌, ◌^◌, ◌<◌, length, IfOk};
 ghost use Rattle.flu_model.specs.Itags.{count_of_itags};
 ghost use Rattle.flu_model.specs.Listed.{listed};
-ghost use Rattle.flu_deps.specs.Checking.{program_of};
-ghost use Rattle.flu_deps.specs.Validated.{IsValidFor};
+ghost use Rattle.flu_model.specs.Sorts.{IsStateOf};
+ghost use Rattle.flu_cells.specs.Holding.{held};
 
+use crate::stages::{Sources, Stage, staged};
 use flu_cells::State;
-use flu_check::check;
-use flu_deps::{Checked, Valid};
+use flu_deps::Checked;
 use flu_fork::Case;
 use flu_live::{NetEngine, Run, StepCounts, bound, simulate, some_enabled};
-use flu_model::{Outs, Streams};
+use flu_model::{Cell, Outs, Streams};
 use flu_net::Net;
-use flu_outside::MemFiles;
-use flu_parse::read_job;
-use flu_plan::read_plan;
 use flu_report::report_text;
 use flu_seq::{Engine, fold};
-use flu_streams::gather;
-use flu_valid::validate;
 use std::alloc::{AllocError, Global};
 use std::test::Fail;
-
-/// The files of a job's sources, each with its name.
-pub type Sources = &'static [(&'static str, &'static str)];
 
 /// The reports of a run, of a batch with the same seed and of the fold, how many steps of each kind the run had, its mark, the bound on its steps, and
 /// whether a step is enabled at the start.
@@ -39,84 +31,47 @@ pub struct Heard {
     pub begins: bool,
 }
 
-/// A case that opens with the empty state.
-pub fn opened<'a>(
-    alloc: Global,
-    checked: &'a Checked,
-    valid: &'a Valid,
-    streams: &'a Streams,
-) -> Result<Case<'a>, AllocError>
-    requires of { IsValidFor (program_of checked.now) valid.now }
-    requires one_each { length (listed streams.now) ≡ count_of_itags (program_of checked.now) }
-{
-    Case::new(alloc, checked, valid, streams, State::new(alloc))
-}
-
-/// What a batch of an engine puts out, from the empty state.
-fn batched<E: Engine<()>>(
+/// What a batch of an engine comes to, from the empty state.
+pub fn batched<E: Engine<()>>(
     alloc: Global,
     engine: &mut E,
     streams: &Streams,
-) -> Result<Outs, AllocError>
+) -> Result<(State, Outs), AllocError>
     requires { length (listed streams.now) ≡ count_of_itags (E.program_of engine.old) }
+    ensures sorts { IfOk result (λ r. IsStateOf (E.program_of engine.old).families (held r.0)) }
+    ensures same { E.program_of engine.new ≡ E.program_of engine.old }
 {
-    let (_state, outs) = engine.batch(&(), alloc, State::new(alloc), streams)?;
-    Ok(outs)
+    engine.batch(&(), alloc, State::new(alloc), streams)
 }
 
-/// What the engine of the net puts out.
-fn on_net(
-    alloc: Global,
-    checked: &Checked,
-    valid: &Valid,
-    streams: &Streams,
-    seed: u32,
-) -> Result<Outs, AllocError>
-    requires of { IsValidFor (program_of checked.now) valid.now }
-    requires one_each { length (listed streams.now) ≡ count_of_itags (program_of checked.now) }
-    requires seed { seed < 2 ^ 31 }
+/// The report of a batch of the engine of the net.
+fn report_on_net(alloc: Global, stage: &Stage, seed: u32) -> Result<String, AllocError>
+    requires { seed < 2 ^ 31 }
 {
     let mut engine = NetEngine {
-        checked,
-        valid,
+        checked: &stage.checked,
+        valid: &stage.valid,
         seed,
     };
-    batched(alloc, &mut engine, streams)
+    let (_state, outs) = batched(alloc, &mut engine, &stage.streams)?;
+    reported(alloc, &stage.checked, outs)
 }
 
-/// What the fold puts out.
-fn folded(alloc: Global, checked: &Checked, streams: &Streams) -> Result<Outs, AllocError>
-    requires { length (listed streams.now) ≡ count_of_itags (program_of checked.now) }
-{
-    let (_state, outs) = fold(alloc, checked.program(), State::new(alloc), streams)?;
-    Ok(outs)
+/// What the fold comes to from a state: the report and what the state holds.
+pub fn folded(alloc: Global, stage: &Stage, opening: State) -> Result<String, AllocError> {
+    let (state, outs) = fold(alloc, stage.checked.program(), opening, &stage.streams)?;
+    ended(alloc, &stage.checked, &state, outs)
 }
 
-/// A job that is accepted, and a plan that is valid for it; none where one of the two is not.
-pub fn judged(alloc: Global, job: &str, plan: &str) -> Result<Option<(Checked, Valid)>, Fail>
-    ensures { IfOk result (λ both. IfSome both (λ b. IsValidFor (program_of b.0) b.1)) }
-{
-    let Ok(checked) = check(read_job(alloc, job.as_bytes())?) else {
-        return Ok(None);
-    };
-    let Ok(plan) = read_plan(alloc, checked.program(), plan.as_bytes()) else {
-        return Ok(None);
-    };
-    let Ok(valid) = validate(&checked, plan) else {
-        return Ok(None);
-    };
-    Ok(Some((checked, valid)))
-}
-
-/// The streams of a job's sources.
-pub fn gathered(alloc: Global, checked: &Checked, files: Sources) -> Result<Streams, Fail>
-    ensures { IfOk result (λ s. length (listed s) ≡ count_of_itags (program_of checked.now)) }
-{
-    let mut sources = MemFiles::new(alloc);
-    for (name, text) in files {
-        sources.add(name, text.as_bytes().to_vec(alloc)?)?;
-    }
-    Ok(gather(alloc, checked.program(), &mut sources)?)
+/// The report of the fold.
+fn report_of_fold(alloc: Global, stage: &Stage) -> Result<String, AllocError> {
+    let (_state, outs) = fold(
+        alloc,
+        stage.checked.program(),
+        State::new(alloc),
+        &stage.streams,
+    )?;
+    reported(alloc, &stage.checked, outs)
 }
 
 /// Whether a step is enabled at the start.
@@ -126,9 +81,24 @@ fn begins(alloc: Global, case: &Case) -> Result<bool, AllocError> {
 }
 
 /// The report of some outputs.
-pub fn reported(alloc: Global, checked: &Checked, outs: Outs) -> Result<String, AllocError> {
+fn reported(alloc: Global, checked: &Checked, outs: Outs) -> Result<String, AllocError> {
     let text = report_text(alloc, checked.program(), outs)?;
     String::from_str(alloc, text.as_str())
+}
+
+/// The report of some outputs, and behind it what a state holds in the first cell of its first two families, each in a line.
+pub fn ended(
+    alloc: Global,
+    checked: &Checked,
+    state: &State,
+    outs: Outs,
+) -> Result<String, AllocError> {
+    let mut text = reported(alloc, checked, outs)?;
+    for family in 0..2u32 {
+        let worth = state.get(Cell { family, key: 0 });
+        write!(text, "{worth:?}\n")?;
+    }
+    Ok(text)
 }
 
 /// What a run of the case came to, beside the reports of a batch and of the fold.
@@ -170,14 +140,11 @@ pub fn ran(
 ) -> Result<Option<Heard>, Fail>
     requires { seed < 2 ^ 31 }
 {
-    let Some((checked, valid)) = judged(alloc, job, plan)? else {
+    let Some(stage) = staged(alloc, job, plan, files)? else {
         return Ok(None);
     };
-    let streams = gathered(alloc, &checked, files)?;
-    let outs = on_net(alloc, &checked, &valid, &streams, seed)?;
-    let batch = reported(alloc, &checked, outs)?;
-    let outs = folded(alloc, &checked, &streams)?;
-    let folded = reported(alloc, &checked, outs)?;
-    let case = opened(alloc, &checked, &valid, &streams)?;
+    let batch = report_on_net(alloc, &stage, seed)?;
+    let folded = report_of_fold(alloc, &stage)?;
+    let case = stage.case(alloc)?;
     Ok(Some(told(alloc, &case, batch, folded, seed)?))
 }

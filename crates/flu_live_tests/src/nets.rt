@@ -2,7 +2,8 @@
 
 ghost use Rattle.std.specs.Prelude.{◌≡◌, OnOk};
 
-use crate::jobs::{Sources, gathered, judged, opened, reported};
+use crate::jobs::ended;
+use crate::stages::{Sources, staged};
 use flu_fork::Case;
 use flu_live::some_enabled;
 use flu_net::{Net, Step, StepFault};
@@ -13,7 +14,8 @@ use std::test::Fail;
 const MANY: u32 = 1000;
 
 /// What a walk over a net came to: whether each step of its list was made, whether each step that should be refused was, before each
-/// of these; whether the net was final then; whether a step was enabled from there on just until the net was final; and the report.
+/// of these; whether the net was final then; whether a step was enabled from there on just until the net was final; and the report with what
+/// the state holds.
 #[derive(Drop)]
 pub struct Walk {
     pub made: bool,
@@ -24,7 +26,7 @@ pub struct Walk {
 }
 
 /// Makes a step; whether it was enabled.
-fn made(alloc: Global, case: &Case, net: &mut Net, step: Step) -> Result<bool, AllocError>
+pub fn made(alloc: Global, case: &Case, net: &mut Net, step: Step) -> Result<bool, AllocError>
     requires { case.now ≡ net.old.case }
     ensures { OnOk result (net.new.case ≡ net.old.case) }
 {
@@ -89,15 +91,15 @@ fn run_out(alloc: Global, case: &Case, net: &mut Net) -> Result<bool, AllocError
     Ok(false)
 }
 
-/// The report of a final net; none of another one.
-fn told(alloc: Global, case: &Case, net: Net) -> Result<Option<String>, AllocError>
+/// The report of a final net, and what its state holds; none of another one.
+pub fn told(alloc: Global, case: &Case, net: Net) -> Result<Option<String>, AllocError>
     requires { case.now ≡ net.case }
 {
     if !net.is_final(case) {
         return Ok(None);
     }
-    let (_state, outs) = net.joined(alloc, case)?;
-    Ok(Some(reported(alloc, case.checked(), outs)?))
+    let (state, outs) = net.joined(alloc, case)?;
+    Ok(Some(ended(alloc, case.checked(), &state, outs)?))
 }
 
 /// Walks over the net of a case.
@@ -126,10 +128,9 @@ pub fn walked(
     steps: &[Step],
     others: &[Step],
 ) -> Result<Option<Walk>, Fail> {
-    let Some((checked, valid)) = judged(alloc, job, plan)? else {
+    let Some(stage) = staged(alloc, job, plan, files)? else {
         return Ok(None);
     };
-    let streams = gathered(alloc, &checked, files)?;
-    let case = opened(alloc, &checked, &valid, &streams)?;
+    let case = stage.case(alloc)?;
     Ok(Some(over(alloc, &case, steps, others)?))
 }

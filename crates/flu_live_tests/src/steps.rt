@@ -8,7 +8,8 @@ use flu_worker::Side;
 use std::process::Abort;
 use std::test::Fail;
 
-const VALUES_TOLD: &str = "4,r2,q 7\n5,z,z none 7\n10,r,p 9\n";
+/// The report of the job with two last values, and what the state holds.
+const VALUES_TOLD: &str = "4,r2,q 7\n5,z,z none 7\n10,r,p 9\nSome(Last(9))\nSome(Last(7))\n";
 
 /// A whole run of the job with two last values, in which the later one of the events at the root is seen before all others. It has to wait:
 /// the earlier one may come yet, and no part is asked for before it did.
@@ -100,9 +101,14 @@ fn steps_that_are_made_twice_are_refused(rt: HostRuntime) -> Result<(), Fail> {
 #[test]
 fn a_step_is_enabled_until_the_net_is_final(rt: HostRuntime) -> Result<(), Fail> {
     let cases = [
-        (COUNT, ONE, EMPTY, ""),
-        (COUNT, THREE, EMPTY, ""),
-        (COUNT, THREE, TWO_READS, "3,read,count 12\n5,read,count 2\n"),
+        (COUNT, ONE, EMPTY, "None\nNone\n"),
+        (COUNT, THREE, EMPTY, "None\nNone\n"),
+        (
+            COUNT,
+            THREE,
+            TWO_READS,
+            "3,read,count 12\n5,read,count 2\nNone\nNone\n",
+        ),
         (LAST, ABOVE, VALUES, VALUES_TOLD),
     ];
     for (job, plan, files, report) in cases {

@@ -1,6 +1,6 @@
 //! The jobs of these tests, with plans and rows.
 
-use crate::jobs::Sources;
+use crate::stages::Sources;
 
 /// A count to which two sources add and that a third puts out and clears.
 pub const COUNT: &str =
@@ -34,6 +34,10 @@ pub const ONE: &str = "node one: inc, read\n";
 
 /// Both values at the root, what puts them out at a leaf, and a leaf that owns nothing.
 pub const ABOVE: &str = "node root: r, r2 -> l e\nnode l: z\nnode e:\n";
+
+/// Reads of each source at a node of their own, one below the other, and a leaf that owns nothing.
+pub const DEEP: &str =
+    "node root: read@c -> mid e\nnode mid: read@d -> x y\nnode x: inc@a\nnode y: inc@b\nnode e:\n";
 
 pub const EMPTY: Sources = &[("a", "end"), ("b", "end"), ("c", "end")];
 

@@ -25,9 +25,13 @@ fn told(alloc: Global, command: Command) -> Result<String, AllocError> {
             job,
             plan: Some(plan),
         } => format!(in alloc; "run {job} {plan}"),
-        Command::Simulate { job, plan, seed } => {
-            format!(in alloc; "simulate {job} {plan} {}", seed.number)
-        }
+        Command::Simulate {
+            job,
+            plan,
+            seed,
+            trace,
+        } => format!(in alloc; "simulate {job} {plan} {} {trace}", seed.number),
+        Command::Replay { job, plan, trace } => format!(in alloc; "replay {job} {plan} {trace}"),
         Command::Demo { n, seed } => format!(in alloc; "demo {} {}", n.count, seed.number),
     }
 }
@@ -62,7 +66,7 @@ fn assert_refused<R: Abort>(
 
 #[test]
 fn commands_are_read(rt: HostRuntime) -> Result<(), Fail> {
-    let rows: [(&[&str], &str); 12] = [
+    let rows: [(&[&str], &str); 14] = [
         (&["fold", "J"], "fold J"),
         (&["check", "a b"], "check a b"),
         (&["valid", "J", "P"], "valid J P"),
@@ -70,11 +74,16 @@ fn commands_are_read(rt: HostRuntime) -> Result<(), Fail> {
         (&["plan", "J", "--depth", "0000000006"], "plan J 6"),
         (&["run", "J"], "run J"),
         (&["run", "J", "P"], "run J P"),
-        (&["simulate", "J", "P", "0"], "simulate J P 0"),
+        (&["simulate", "J", "P", "0"], "simulate J P 0 false"),
         (
             &["simulate", "J", "P", "2147483647"],
-            "simulate J P 2147483647",
+            "simulate J P 2147483647 false",
         ),
+        (
+            &["simulate", "J", "P", "1", "--trace"],
+            "simulate J P 1 true",
+        ),
+        (&["replay", "J", "P", "T"], "replay J P T"),
         (&["demo", "0", "1"], "demo 0 1"),
         (&["demo", "1000000", "0000000007"], "demo 1000000 7"),
         (&["fold", "fold"], "fold fold"),
@@ -110,7 +119,7 @@ fn words_of_one_file_are_refused(rt: HostRuntime) -> Result<(), Fail> {
 
 #[test]
 fn words_of_two_files_and_numbers_are_refused(rt: HostRuntime) -> Result<(), Fail> {
-    let rows: [(&[&str], usize); 16] = [
+    let rows: [(&[&str], usize); 21] = [
         (&["valid", "J"], 2),
         (&["run", "J", "--adapt"], 2),
         (&["run", "J", "P", "x"], 3),
@@ -122,6 +131,11 @@ fn words_of_two_files_and_numbers_are_refused(rt: HostRuntime) -> Result<(), Fai
         (&["simulate", "J", "P", "2147483648"], 3),
         (&["simulate", "J", "P", "99999999999"], 3),
         (&["simulate", "J", "P", "1", "x"], 4),
+        (&["simulate", "J", "P", "1", "--trace", "--trace"], 5),
+        (&["replay", ""], 1),
+        (&["replay", "J"], 2),
+        (&["replay", "J", "P", "-T"], 3),
+        (&["replay", "J", "P", "T", "x"], 4),
         (&["demo"], 1),
         (&["demo", "1000001", "1"], 1),
         (&["demo", "1", "+1"], 2),

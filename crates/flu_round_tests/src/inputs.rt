@@ -54,9 +54,9 @@ pub struct Input<'a> {
 /// The files of the sources, of which a take gives a few bytes at once.
 pub fn files_of(alloc: Global, input: Input) -> Result<MemFiles, Fail> {
     let mut files = MemFiles::new(alloc);
-    files.add("a", input.a.as_bytes().to_vec(alloc)?)?;
-    files.add("b", input.b.as_bytes().to_vec(alloc)?)?;
-    files.add("c", input.c.as_bytes().to_vec(alloc)?)?;
+    for (name, text) in [("a", input.a), ("b", input.b), ("c", input.c)] {
+        files.add(name, text.as_bytes().to_vec(alloc)?)?;
+    }
     files.piece(7);
     Ok(files)
 }

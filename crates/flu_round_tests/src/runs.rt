@@ -18,7 +18,7 @@ use std::thread::Threads;
 const MOST: u32 = 1000;
 
 /// What is written of a run's rounds behind their reports.
-#[derive(Clone, Copy, PartialEq, Eq)]
+#[derive(Clone, Copy)]
 pub enum Marks {
     /// What each round answered, in a line.
     Each,
@@ -34,7 +34,7 @@ fn mark(
     answer: Result<Border, RoundsFault>,
 ) -> Result<(), Fail> {
     let line = match answer {
-        Ok(Border::At(_)) if marks == Marks::Last => return Ok(()),
+        Ok(Border::At(_)) if matches!(marks, Marks::Last) => return Ok(()),
         Ok(Border::At(time)) => format!(in alloc; "at {time}\n")?,
         Ok(Border::Closed) => format!(in alloc; "closed\n")?,
         Err(RoundsFault::Source(fault)) => {

@@ -1,14 +1,14 @@
 -- A family by its name, and the cells of a state that can be saved.
 use Rattle.std.proofs.Common.{◌≡◌, ℕ, zero, suc, ◌+◌, ◌<◌, ◌++◌, Bool, true, false, not, cond, Option, Some, None, List, [], ◌∷◌, map, length, get_or, refl, sym, ap, subst, append_assoc, arith, ◌∙◌}
-use Rattle.std.specs.Prelude.{slice_get, option_map, ◌||◌, ◌&&◌, IsTrue}
+use Rattle.std.specs.Prelude.{slice_get, option_map, IsTrue}
 use Rattle.std.specs.List.{list_any, position}
 use Rattle.std.specs.Cmp.Lexicographic.{bytes_decides}
 use Rattle.std.proofs.lemmas.List.Folds.{list_any-append}
-use Rattle.std.proofs.lemmas.Option.{slice_get-get_or}
+use Rattle.std.proofs.lemmas.Option.{slice_get-get_or, slice_get-map}
 use Rattle.flu_lemmas.proofs.Booleans.{or_false_left}
 use Rattle.flu_lemmas.proofs.Elements.{fails_at}
 use Rattle.flu_lemmas.proofs.Places.{position-cons}
-use Rattle.flu_lemmas.proofs.Tests.{and_left, and_right, not_true, not_both, false_if_not}
+use Rattle.flu_lemmas.proofs.Tests.{and_left, and_right, not_true}
 use Rattle.flu_model.specs.declared.events.Cell.{Cell}
 use Rattle.flu_model.specs.declared.events.Worth.{Worth}
 use Rattle.flu_model.specs.declared.jobs.Family.{Family}
@@ -17,31 +17,31 @@ use Rattle.flu_model.specs.declared.jobs.Source.{Source}
 use Rattle.flu_model.specs.declared.jobs.Program.{Program}
 use Rattle.flu_model.specs.Contents.{Contents}
 use Rattle.flu_model.specs.Rules.{is_same_text, are_distinct}
-use Rattle.flu_model.specs.Sorts.{IsWorthOf, IsWorthIn, key_is_in, is_cell_of, MayHold}
+use Rattle.flu_model.specs.Sorts.{IsWorthOf, IsWorthIn, key_is_in, MayHold}
 use Rattle.flu_model.specs.Templates.{family_name}
 use Rattle.flu_save.specs.Checkpoint.{HasWordWidth, IsSavable}
 
 abbrev named : List ℕ → Family → Bool
 named name f = is_same_text f.name name
 
-name_at : (families : List Family) (i : ℕ) (f : Family) → slice_get families i ≡ Some f → slice_get (map (λ (g : Family). g.name) families) i ≡ Some f.name
-name_at [] i f at = absurd cc
-name_at (g ∷ gs) zero f at = let same : g ≡ f = cc in ap (λ (x : Family). Some x.name) same
-name_at (g ∷ gs) (suc i) f at = name_at gs i f at
-
 -- where the names differ, the family with a name is the first one that has it
-position_own : (families : List Family) (others : List (List ℕ)) (i : ℕ) (f : Family) → are_distinct is_same_text (map (λ (g : Family). g.name) families ++ others) ≡ true
+position_own : (families : List Family) (others : List (List ℕ)) (i : ℕ) (f : Family)
+    → are_distinct is_same_text (map (λ (g : Family). g.name) families ++ others) ≡ true
     → slice_get families i ≡ Some f → position (named f.name) families ≡ Some i
 position_own [] others i f apart at = absurd cc
 position_own (g ∷ gs) others zero f apart at =
     let same : g ≡ f = cc in
-    position-cons (named f.name) g gs ∙ ap (λ b. cond b (Some 0) (option_map (λ k. k + 1) (position (named f.name) gs))) ((bytes_decides g.name f.name).1 (ap (λ (x : Family). x.name) same))
+    position-cons (named f.name) g gs
+    ∙ ap (λ b. cond b (Some 0) (option_map (λ k. k + 1) (position (named f.name) gs))) ((bytes_decides g.name f.name).1 (ap (λ (x : Family). x.name) same))
 position_own (g ∷ gs) others (suc i) f apart at =
     let names = map (λ (x : Family). x.name) gs in
-    let none : list_any (is_same_text g.name) (names ++ others) ≡ false = not_true _ (and_left (not (list_any (is_same_text g.name) (names ++ others))) (are_distinct is_same_text (names ++ others)) apart) in
+    let none : list_any (is_same_text g.name) (names ++ others) ≡ false = not_true _ (and_left (not (list_any (is_same_text g.name) (names ++ others)))
+    (are_distinct is_same_text (names ++ others)) apart) in
     let among : list_any (is_same_text g.name) names ≡ false = or_false_left _ _ (sym (list_any-append (is_same_text g.name) names others) ∙ none) in
-    let other : is_same_text g.name f.name ≡ false = fails_at (is_same_text g.name) names i f.name among (name_at gs i f at) in
-    let more = position_own gs others i f (and_right (not (list_any (is_same_text g.name) (names ++ others))) (are_distinct is_same_text (names ++ others)) apart) at in
+    let other : is_same_text g.name f.name ≡ false = fails_at (is_same_text g.name) names i f.name among (slice_get-map (λ (x : Family). x.name) gs i ∙ ap
+    (option_map (λ (x : Family). x.name)) at) in
+    let more = position_own gs others i f (and_right (not (list_any (is_same_text g.name) (names ++ others))) (are_distinct is_same_text
+    (names ++ others)) apart) at in
     position-cons (named f.name) g gs
     ∙ ap (λ b. cond b (Some 0) (option_map (λ k. k + 1) (position (named f.name) gs))) other
     ∙ ap (option_map (λ k. k + 1)) more
@@ -85,7 +85,8 @@ pub same_family : (p : Program) (c : Cell) (w : Worth) (saved : Saves p c w) (fa
     → number ≡ c.family → number < length families → f ≡ get_or families number f → f ≡ saved.family
 same_family p c w saved families number f same at lt is =
     let there : slice_get families number ≡ Some f = slice_get-get_or families number f lt ∙ ap Some (sym is) in
-    let here : slice_get families number ≡ Some saved.family = ap (λ (xs : List Family). slice_get xs number) same ∙ ap (slice_get p.families) at ∙ saved.there in
+    let here : slice_get families number ≡ Some saved.family = ap (λ (xs : List Family). slice_get xs number) same ∙ ap (slice_get p.families) at
+    ∙ saved.there in
     cc
 
 pub if_some : (b : Bool) (x y : ℕ) → Some y ≡ cond b (Some x) None → (b ≡ true) × (y ≡ x)

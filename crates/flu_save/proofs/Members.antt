@@ -1,11 +1,10 @@
 -- The members of the value of a checkpoint, found and put together.
-use Rattle.std.proofs.Common.{◌≡◌, ◌≢◌, ℕ, ◌<◌, ◌≤◌, ◌^◌, inl, inr, Bool, true, false, List, [], ◌∷◌, Option, Some, None, refl, sym, ap, subst, ◌∙◌}
-use Rattle.std.specs.Prelude.{codes, map, not, nat_eq, option_map, option_and_then, length, Result, IfErr, MatchResult}
+use Rattle.std.proofs.Common.{◌≡◌, ℕ, inr, Bool, true, false, List, [], ◌∷◌, Option, Some, None, refl, sym, ap, subst, ◌∙◌}
+use Rattle.std.specs.Prelude.{map, not, nat_eq, option_and_then, Result, IfErr, MatchResult}
 use Rattle.std.specs.Option.{ok_or}
 use Rattle.std.specs.Cmp.Lexicographic.{pointwise, bytes_decides}
-use Rattle.serde_json.specs.Data.{Data, null, boolean, number, string, array, object, unsigned, negative, float, Items, no_items, item, no_members, member}
-use Rattle.serde_json.specs.Events.{members_len}
-use Rattle.serde_json.specs.Find.{get, as_array, as_number, as_object, as_str, as_u64}
+use Rattle.serde_json.specs.Data.{Data, null, boolean, number, string, array, object, unsigned, negative, float, Items, no_items, item}
+use Rattle.serde_json.specs.Find.{as_array, as_number, as_str, as_u64}
 use Rattle.serde_json.specs.View.{items_of, items_view, view}
 use Rattle.serde_json.specs.declared.value.Value.{Value}
 use Rattle.serde_json.proofs.OnLiterals.{serde_json_on_literals}
@@ -52,7 +51,8 @@ text_there (Some (array es)) s e = absurd cc
 text_there (Some (object ms)) s e = absurd cc
 
 -- ---- the members of a checkpoint
-pub checkpoint_parts : (p : Program) (t : ℕ) (s : Contents) (d : Data) → IsCheckpoint p t s d → HasParts d t (items_of (entries_of p.families s)) (normal_form (job_of p))
+pub checkpoint_parts : (p : Program) (t : ℕ) (s : Contents) (d : Data) → IsCheckpoint p t s d
+    → HasParts d t (items_of (entries_of p.families s)) (normal_form (job_of p))
 unfolding serde_json_on_literals
 checkpoint_parts p t s d is =
     subst (λ x. HasParts x t (items_of (entries_of p.families s)) (normal_form (job_of p))) (sym is.value)
@@ -88,10 +88,12 @@ same_value bytes d e a b = let both : Some d ≡ Some e = sym a.1 ∙ b.1 in cc
 pub checkpoint_form : (p : Program) (t : ℕ) (s : Contents) (d : Data) → IsCheckpoint p t s d → HasForm d
 checkpoint_form p t s d is = (normal_form (job_of p), record { border = t; entries = items_of (entries_of p.families s); parts = checkpoint_parts p t s d is })
 
-pub same_entries : (p : Program) (t u : ℕ) (s : Contents) (d : Data) (entries : List Value) (job : List ℕ) → HasParts d u (items_view entries) job → IsCheckpoint p t s d
+pub same_entries : (p : Program) (t u : ℕ) (s : Contents) (d : Data) (entries : List Value) (job : List ℕ) → HasParts d u (items_view entries) job
+    → IsCheckpoint p t s d
     → map view entries ≡ entries_of p.families s
 same_entries p t u s d entries job parts is =
-    same_lists (map view entries) (entries_of p.families s) (same_items d u t (items_view entries) (items_of (entries_of p.families s)) job (normal_form (job_of p)) parts (checkpoint_parts p t s d is))
+    same_lists (map view entries) (entries_of p.families s) (same_items d u t (items_view entries) (items_of (entries_of p.families s)) job (normal_form
+    (job_of p)) parts (checkpoint_parts p t s d is))
 
 pub save_value : (p : Program) (t : ℕ) (s : Contents) (bytes : List ℕ) (d : Data) → IsSave p t s bytes → IsJsonOf bytes d → IsCheckpoint p t s d
 save_value p t s bytes d is json = subst (IsCheckpoint p t s) (same_value bytes is.value d is.json json) is.checkpoint
@@ -106,10 +108,19 @@ same_texts a b r is e = (bytes_decides a b).0 (turned (pointwise nat_eq a b) (sy
 -- what is answered for what was found in the value
 pub fault_of_none : (p : Program) (bytes : List ℕ) (d : Data) → IsShort bytes → IsJsonOf bytes d → IsOfJob d (normal_form (job_of p)) → (o : Option Saved)
     → ((t : ℕ) (s : Contents) → IsCheckpoint p t s d → IsSavedWith o t s) → (r : Result Saved SaveFault) → r ≡ ok_or o WrongForm → IfErr r (IsFaultOf p bytes)
-fault_of_none p bytes d short json job None found r is = subst (λ (x : Result Saved SaveFault). IfErr x (IsFaultOf p bytes)) (sym is) (short, (d, json, inr (record { job = job; none = found })))
+fault_of_none p bytes d short json job None found r is = subst (λ (x : Result Saved SaveFault). IfErr x (IsFaultOf p bytes)) (sym is) (
+  short,
+  (
+    d,
+    json,
+    inr
+        (record { job = job; none = found }),
+  ),
+)
 fault_of_none p bytes d short json job (Some x) found r is = subst (λ (x : Result Saved SaveFault). IfErr x (IsFaultOf p bytes)) (sym is) tt
 
 pub answer_of : (t : ℕ) (s : Contents) (o : Option Saved) → IsSavedWith o t s → (r : Result Saved SaveFault) → r ≡ ok_or o WrongForm
     → MatchResult r (λ (x : Saved). (x.border ≡ t) × (held x.state ≡ s)) (λ e. e ≡ NoMemory)
 answer_of t s None found r is = absurd found
-answer_of t s (Some x) found r is = subst (λ (u : Result Saved SaveFault). MatchResult u (λ (x : Saved). (x.border ≡ t) × (held x.state ≡ s)) (λ e. e ≡ NoMemory)) (sym is) found
+answer_of t s (Some x) found r is = subst (λ (u : Result Saved SaveFault). MatchResult u (λ (x : Saved). (x.border ≡ t) × (held x.state ≡ s))
+    (λ e. e ≡ NoMemory)) (sym is) found

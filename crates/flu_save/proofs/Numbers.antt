@@ -10,7 +10,8 @@ use Rattle.std.proofs.lemmas.Fmt.{decimal_is_IsNumeral_wide}
 use Rattle.std.proofs.lemmas.Result.{Ok-from_Ok_iff}
 use Rattle.std.proofs.lemmas.Str.Parse.{numerals_by_value, tells_digits, parse_signed_digits, parse_signed_minus}
 
-pub parse-signed_decimal_wide : {E : Type 0} (w : Width) (z : ℤ) (bs : List ℕ) (r : Result ℤ E) → FitsSigned w z → mag z + 1 < 10 ^ 64 → bs ≡ signed_decimal z → ParsesSigned w 10 bs r → r ≡ Ok z
+pub parse-signed_decimal_wide : {E : Type 0} (w : Width) (z : ℤ) (bs : List ℕ) (r : Result ℤ E) → FitsSigned w z → mag z + 1 < 10 ^ 64
+    → bs ≡ signed_decimal z → ParsesSigned w 10 bs r → r ≡ Ok z
 parse-signed_decimal_wide w (pos n) bs r fits small is h =
     let k = decimal_is_IsNumeral_wide n (omega arith) in
     let read = parse_signed_digits (numerals_by_value _ tells_digits) w (decimal n) r (subst (λ l. ParsesSigned w 10 l r) is h) k.0.1 in

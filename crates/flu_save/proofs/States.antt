@@ -1,13 +1,12 @@
 -- A state that is filled cell by cell from the entries of a state that can be saved.
-use Rattle.std.proofs.Common.{◌≡◌, ◌≢◌, ℕ, zero, suc, ◌+◌, ◌<◌, ◌++◌, ℤ, pos, ◌+ℤ◌, Bool, true, false, not, cond, Option, Some, None, List, [], ◌∷◌, map, length, get_or, take, refl, sym, ap, subst, ◌∙◌, arith, eqb}
-use Rattle.std.specs.Prelude.{slice_get, ◌&&◌, ◌||◌, ◌==◌, if◌then◌else◌, is_some, IsTrue, FitsSigned, ⊤}
-use Rattle.std.specs.Int.{w128, int_wrap}
+use Rattle.std.proofs.Common.{◌≡◌, ℕ, zero, suc, ◌+◌, ◌<◌, ◌++◌, Bool, true, false, cond, Option, Some, None, List, [], ◌∷◌, map, length, get_or, take, refl, sym, ap, subst, ◌∙◌, arith}
+use Rattle.std.specs.Prelude.{slice_get, option_map, ◌&&◌, ◌||◌, ◌==◌, if◌then◌else◌, is_some}
 use Rattle.std.specs.List.{list_any, list_all, filter, flat_map, range_with_len}
-use Rattle.std.specs.Ordering.{int_eq}
 use Rattle.std.proofs.lemmas.Grind.{common_steps}
-use Rattle.std.proofs.lemmas.Int.{ints, int_wrap_fits}
-use Rattle.std.proofs.lemmas.List.Folds.{list_any-append}
-use Rattle.std.proofs.lemmas.Option.{slice_get-get_or}
+use Rattle.std.proofs.Math.Seq.{take-length}
+use Rattle.std.proofs.lemmas.List.{length-map}
+use Rattle.std.proofs.lemmas.List.Folds.{list_any-append, list_all-append, list_all-map}
+use Rattle.std.proofs.lemmas.Option.{slice_get-get_or, slice_get-map}
 use Rattle.serde_json.specs.Data.{Data}
 use Rattle.serde_json.specs.View.{view}
 use Rattle.serde_json.specs.declared.value.Value.{Value}
@@ -15,28 +14,20 @@ use Rattle.flu_lemmas.proofs.Booleans.{or_true}
 use Rattle.flu_lemmas.proofs.Elements.{passes_at}
 use Rattle.flu_lemmas.proofs.Ranges.{any_in_range}
 use Rattle.flu_lemmas.proofs.Searches.{list_any-map}
-use Rattle.flu_lemmas.proofs.Tests.{and_left, and_right, both, true_eq, true_lt}
+use Rattle.flu_lemmas.proofs.Tests.{and_left, and_right, both, true_eq}
 use Rattle.flu_model.specs.declared.events.Cell.{Cell}
 use Rattle.flu_model.specs.declared.events.Worth.{Worth}
-use Rattle.flu_model.specs.declared.events.Worth.TheVariants.{Sum, Max, Last}
 use Rattle.flu_model.specs.declared.jobs.Family.{Family}
-use Rattle.flu_model.specs.declared.jobs.Sort.{Sort}
-use Rattle.flu_model.specs.declared.jobs.Sort.TheVariants.{Sum as SumSort, Max as MaxSort, Last as LastSort}
-use Rattle.flu_model.specs.Contents.{Contents, cell, is_same_cell, nothing_held, with_worth, added, held_sum, raised, held_keys, all_keys, key_count}
-use Rattle.flu_model.specs.Sorts.{IsWorthOf, IsWorthIn, key_is_in, is_cell_of, MayHold}
+use Rattle.flu_model.specs.Contents.{Contents, cell, is_same_cell, nothing_held, with_worth, held_keys, all_keys, key_count}
+use Rattle.flu_model.specs.Sorts.{key_is_in, MayHold, IsStateOf}
 use Rattle.flu_save.specs.Checkpoint.{entry_of, cells_of_family, cells_held, entries_of, HasWordWidth, IsSavable}
-use Rattle.flu_save.specs.Parts.{IsProper}
+use Rattle.flu_save.specs.Widths.{AllHaveWordWidth}
 
 -- ---- the entries of a state, one by one
 mapped_at : {X Y : Type 0} (f : X → Y) (xs : List X) (i : ℕ) (y : Y) → slice_get (map f xs) i ≡ Some y → (x : X) × (slice_get xs i ≡ Some x) × (y ≡ f x)
 mapped_at f [] i y at = absurd cc
 mapped_at f (x ∷ xs) zero y at = (x, refl, cc)
 mapped_at f (x ∷ xs) (suc i) y at = mapped_at f xs i y at
-
-get_mapped : {X Y : Type 0} (f : X → Y) (xs : List X) (i : ℕ) (x : X) → slice_get xs i ≡ Some x → slice_get (map f xs) i ≡ Some (f x)
-get_mapped f [] i x at = absurd cc
-get_mapped f (y ∷ ys) zero x at = let same : y ≡ x = cc in ap (λ z. Some (f z)) same
-get_mapped f (y ∷ ys) (suc i) x at = get_mapped f ys i x at
 
 all_kept : (p : ℕ → Bool) (ks : List ℕ) → list_all p (filter p ks) ≡ true
 all_kept p [] = refl
@@ -46,22 +37,16 @@ all_kept p (k ∷ ks) = by_test (p k) refl (all_kept p ks)
     by_test true e more = both (p k) (list_all p (filter p ks)) e more
     by_test false e more = more
 
-all_append : {X : Type 0} (p : X → Bool) (xs ys : List X) → list_all p xs ≡ true → list_all p ys ≡ true → list_all p (xs ++ ys) ≡ true
-all_append p [] ys a b = b
-all_append p (x ∷ xs) ys a b = both (p x) (list_all p (xs ++ ys)) (and_left (p x) (list_all p xs) a) (all_append p xs ys (and_right (p x) (list_all p xs) a) b)
-
 abbrev is_held : Contents → Cell → Bool
 is_held s c = is_some (s c)
-
-all_mapped : (s : Contents) (f : ℕ) (ks : List ℕ) → list_all (λ k. is_some (s (cell f k))) ks ≡ true → list_all (is_held s) (map (cell f) ks) ≡ true
-all_mapped s f [] h = refl
-all_mapped s f (k ∷ ks) h =
-    both (is_held s (cell f k)) (list_all (is_held s) (map (cell f) ks)) (and_left (is_held s (cell f k)) _ h) (all_mapped s f ks (and_right (is_held s (cell f k)) _ h))
 
 all_held : (s : Contents) (fs : List ℕ) → list_all (is_held s) (flat_map (cells_of_family s) fs) ≡ true
 all_held s [] = refl
 all_held s (f ∷ fs) =
-    all_append (is_held s) (cells_of_family s f) (flat_map (cells_of_family s) fs) (all_mapped s f (held_keys s f) (all_kept (λ k. is_some (s (cell f k))) all_keys)) (all_held s fs)
+    let cells = cells_of_family s f in
+    let others = flat_map (cells_of_family s) fs in
+    let first : list_all (is_held s) cells ≡ true = list_all-map (is_held s) (cell f) (held_keys s f) ∙ all_kept (λ k. is_some (s (cell f k))) all_keys in
+    list_all-append (is_held s) cells others ∙ both (list_all (is_held s) cells) (list_all (is_held s) others) first (all_held s fs)
 
 from_some : (o : Option Worth) → is_some o ≡ true → (w : Worth) × (o ≡ Some w)
 from_some None h = absurd cc
@@ -75,11 +60,13 @@ pub record EntryAt (families : List Family) (s : Contents) (v : Value) (i : ℕ)
   pub holds : s cell ≡ Some worth
   pub entry : view v ≡ entry_of families s cell
 
-pub entry_at : (families : List Family) (s : Contents) (entries : List Value) (i : ℕ) (v : Value) → map view entries ≡ entries_of families s → i < length entries
+pub entry_at : (families : List Family) (s : Contents) (entries : List Value) (i : ℕ) (v : Value) → map view entries ≡ entries_of families s
+    → i < length entries
     → v ≡ get_or entries i v → EntryAt families s v i
 entry_at families s entries i v same lt is =
     let here : slice_get entries i ≡ Some v = slice_get-get_or entries i v lt ∙ ap Some (sym is) in
-    let seen : slice_get (entries_of families s) i ≡ Some (view v) = ap (λ (ds : List Data). slice_get ds i) (sym same) ∙ get_mapped view entries i v here in
+    let seen : slice_get (entries_of families s) i ≡ Some (view v) = ap (λ (ds : List Data). slice_get ds i) (sym same) ∙ slice_get-map view entries i
+    ∙ ap (option_map view) here in
     let found = mapped_at (entry_of families s) (cells_held families s) i (view v) seen in
     let held = from_some (s found.0) (passes_at (is_held s) (cells_held families s) i found.0 (all_held s (range_with_len 0 (length families))) found.1) in
     record { cell = found.0; worth = held.0; there = found.1; holds = held.1; entry = found.2 }
@@ -112,7 +99,8 @@ one_more s cs c w is = λ i d. at d i
         by_test true e =
             sym is ∙ ap s (sym (same_cell d c e))
             ∙ ap (λ b. cond b (s d) None) (sym (more ∙ ap (λ b. list_any (is_same_cell d) cs || (b || false)) e ∙ or_true (list_any (is_same_cell d) cs)))
-        by_test false e = ap (λ b. cond b (s d) None) (sym (more ∙ ap (λ b. list_any (is_same_cell d) cs || (b || false)) e ∙ or_nothing (list_any (is_same_cell d) cs)))
+        by_test false e = ap (λ b. cond b (s d) None) (sym (more ∙ ap (λ b. list_any (is_same_cell d) cs || (b || false)) e ∙ or_nothing (list_any
+            (is_same_cell d) cs)))
           where
             or_nothing : (b : Bool) → (b || (false || false)) ≡ b
             or_nothing true = refl
@@ -134,9 +122,11 @@ any_kept : (p q : ℕ → Bool) (ks : List ℕ) → list_any (λ k. q k && p k) 
 any_kept p q [] h = h
 any_kept p q (k ∷ ks) h = by_test (q k) (p k) refl refl (any_kept p q ks)
   where
-    by_test : (a b : Bool) → q k ≡ a → p k ≡ b → (list_any (λ j. q j && p j) ks ≡ true → list_any p (filter q ks) ≡ true) → list_any p (cond a (k ∷ filter q ks) (filter q ks)) ≡ true
+    by_test : (a b : Bool) → q k ≡ a → p k ≡ b → (list_any (λ j. q j && p j) ks ≡ true → list_any p (filter q ks) ≡ true)
+        → list_any p (cond a (k ∷ filter q ks) (filter q ks)) ≡ true
     by_test true true e f more = ap (λ b. b || list_any p (filter q ks)) f
-    by_test true false e f more = ap (λ b. b || list_any p (filter q ks)) f ∙ more (sym (ap (λ b. (b && p k) || list_any (λ j. q j && p j) ks) e ∙ ap (λ b. b || list_any (λ j. q j && p j) ks) f) ∙ h)
+    by_test true false e f more = ap (λ b. b || list_any p (filter q ks)) f
+        ∙ more (sym (ap (λ b. (b && p k) || list_any (λ j. q j && p j) ks) e ∙ ap (λ b. b || list_any (λ j. q j && p j) ks) f) ∙ h)
     by_test false b e f more = more (sym (ap (λ a. (a && p k) || list_any (λ j. q j && p j) ks) e) ∙ h)
 
 key_below : (o : Option Family) (key : ℕ) → key_is_in o key ≡ true → key < key_count
@@ -151,14 +141,15 @@ family_below (f ∷ fs) (suc i) key h = omega (arith, family_below fs i key h)
 itself : (d : Cell) → is_same_cell d d ≡ true
 itself d = grind (arith, common_steps)
 
-has_cell : (families : List Family) (s : Contents) (d : Cell) (w : Worth) → IsSavable families s → s d ≡ Some w → list_any (is_same_cell d) (cells_held families s) ≡ true
+has_cell : (families : List Family) (s : Contents) (d : Cell) (w : Worth) → IsStateOf families s → s d ≡ Some w
+    → list_any (is_same_cell d) (cells_held families s) ≡ true
 unfolding all_keys
-has_cell families s d w savable is =
+has_cell families s d w sorts is =
     any_flat (is_same_cell d) (cells_of_family s) (range_with_len 0 (length families))
     ∙ any_in_range (λ f. list_any (is_same_cell d) (cells_of_family s f)) 0 (length families) d.family (omega arith) (omega (arith, family)) in_family
   where
     fits : MayHold families d (Some w)
-    fits = subst (λ o. MayHold families d o) is (savable.sorts d)
+    fits = subst (λ o. MayHold families d o) is (sorts d)
 
     family : d.family < length families
     family = family_below families d.family d.key fits.0
@@ -180,27 +171,40 @@ all_filled families s savable = λ i d. at d i
     at d = by_worth (s d) refl
       where
         by_worth : (o : Option Worth) → s d ≡ o → cond (list_any (is_same_cell d) (cells_held families s)) (s d) None ≡ s d
-        by_worth None e = ap (λ o. cond (list_any (is_same_cell d) (cells_held families s)) o None) e ∙ none (list_any (is_same_cell d) (cells_held families s)) ∙ sym e
+        by_worth None e = ap (λ o. cond (list_any (is_same_cell d) (cells_held families s)) o None) e
+            ∙ none (list_any (is_same_cell d) (cells_held families s)) ∙ sym e
           where
             none : (b : Bool) → cond {A = Option Worth} b None None ≡ None
             none true = refl
             none false = refl
-        by_worth (Some w) e = ap (λ b. cond b (s d) None) (has_cell families s d w savable e)
+        by_worth (Some w) e = ap (λ b. cond b (s d) None) (has_cell families s d w savable.sorts e)
 
-take_whole : {X : Type 0} (xs : List X) (n : ℕ) → length xs ≡ n → take n xs ≡ xs
-take_whole [] n e = cc
-take_whole (x ∷ xs) zero e = absurd cc
-take_whole (x ∷ xs) (suc n) e = ap (λ ys. x ∷ ys) (take_whole xs n (omega (arith, e)))
+-- a state has values of 64 bits where the cells that it holds have them
+held_by_all : (s : Contents) (cs : List Cell) (d : Cell) → AllHaveWordWidth s cs → list_any (is_same_cell d) cs ≡ true → HasWordWidth (s d)
+held_by_all s [] d all h = absurd cc
+held_by_all s (c ∷ cs) d all h = by_test (is_same_cell d c) refl (held_by_all s cs d all.1)
+  where
+    by_test : (b : Bool) → is_same_cell d c ≡ b → (list_any (is_same_cell d) cs ≡ true → HasWordWidth (s d)) → HasWordWidth (s d)
+    by_test true e more = subst (λ x. HasWordWidth (s x)) (sym (same_cell d c e)) all.0
+    by_test false e more = more (sym (ap (λ b. b || list_any (is_same_cell d) cs) e) ∙ h)
 
-length_mapped : {X Y : Type 0} (f : X → Y) (xs : List X) → length (map f xs) ≡ length xs
-length_mapped f [] = refl
-length_mapped f (x ∷ xs) = ap suc (length_mapped f xs)
+pub savable_by_cells : (families : List Family) (s : Contents) → IsStateOf families s → AllHaveWordWidth s (cells_held families s) → IsSavable families s
+savable_by_cells families s sorts all = record { sorts = sorts; width = widths }
+  where
+    widths : (d : Cell) → HasWordWidth (s d)
+    widths d = by_worth (s d) refl
+      where
+        by_worth : (o : Option Worth) → s d ≡ o → HasWordWidth (s d)
+        by_worth None e = subst HasWordWidth (sym e) tt
+        by_worth (Some w) e = held_by_all s (cells_held families s) d all (has_cell families s d w sorts e)
 
-pub filled : (families : List Family) (s : Contents) (entries : List Value) (n : ℕ) (t : Contents) → IsSavable families s → map view entries ≡ entries_of families s
+pub filled : (families : List Family) (s : Contents) (entries : List Value) (n : ℕ) (t : Contents) → IsSavable families s
+    → map view entries ≡ entries_of families s
     → n ≡ length entries → t ≡ among s (take n (cells_held families s)) → t ≡ s
 filled families s entries n t savable same all is =
-    let size : length (cells_held families s) ≡ n = sym (length_mapped (entry_of families s) (cells_held families s)) ∙ ap length (sym same) ∙ length_mapped view entries ∙ sym all in
-    is ∙ ap (among s) (take_whole (cells_held families s) n size) ∙ all_filled families s savable
+    let cells = cells_held families s in
+    let size : n ≡ length cells = all ∙ sym (length-map entries view) ∙ ap length same ∙ length-map cells (entry_of families s) in
+    is ∙ ap (λ m. among s (take m cells)) size ∙ ap (among s) (take-length cells) ∙ all_filled families s savable
 
 -- ---- states that can be saved
 pub nothing_savable : (families : List Family) (t : Contents) → t ≡ nothing_held → IsSavable families t
@@ -223,63 +227,3 @@ with_savable families t u c w savable fits width is = subst (IsSavable families)
         by_test : (b : Bool) → HasWordWidth (cond b (Some w) (t d))
         by_test true = width
         by_test false = savable.width d
-
--- ---- what a cell is made to hold
-of_sort : (sort : Sort) (w : Worth) → IsWorthOf sort w → IsProper w
-of_sort SumSort (Sum n) h = h
-of_sort SumSort (Max v) h = elim h [ ]
-of_sort SumSort (Last v) h = elim h [ ]
-of_sort MaxSort (Sum n) h = elim h [ ]
-of_sort MaxSort (Max v) h = tt
-of_sort MaxSort (Last v) h = elim h [ ]
-of_sort LastSort (Sum n) h = elim h [ ]
-of_sort LastSort (Max v) h = elim h [ ]
-of_sort LastSort (Last v) h = tt
-
-pub proper : (families : List Family) (c : Cell) (w : Worth) → MayHold families c (Some w) → IsProper w
-proper families c w h = by_family (slice_get families c.family) h.1
-  where
-    by_family : (o : Option Family) → IsWorthIn o w → IsProper w
-    by_family None h = absurd h
-    by_family (Some f) h = of_sort f.sort w h
-
-pub key_fits : (families : List Family) (c : Cell) (w : Worth) → MayHold families c (Some w) → c.key < key_count
-key_fits families c w h = key_below (slice_get families c.family) c.key h.0
-
-anew : (s : Contents) (c : Cell) (a b : Option Worth) → with_worth (with_worth s c a) c b ≡ with_worth s c b
-anew s c a b = λ i d. at (is_same_cell d c) d i
-  where
-    at : (t : Bool) (d : Cell) → cond t b (cond t a (s d)) ≡ cond t b (s d)
-    at true d = refl
-    at false d = refl
-
-cleared : (s : Contents) (c : Cell) → with_worth s c None c ≡ None
-cleared s c = ap (λ b. cond b None (s c)) (itself c)
-
-eq_from : (a b : ℤ) → int_eq a b ≡ true → a ≡ b
-eq_from a b e = grind (arith, ints)
-
-not_zero : (n : ℤ) → n ≢ pos 0 → int_eq n (pos 0) ≡ false
-not_zero n other =
-    elim (int_eq n (pos 0)) as (λ t. int_eq n (pos 0) ≡ t → t ≡ false) [
-      | true ↦ λ e. absurd (other (eq_from n (pos 0) e))
-      | false ↦ λ e. refl
-    ] refl
-
-first_sum : (n : ℤ) → n ≢ pos 0 → FitsSigned w128 n → added None n ≡ Some (Sum n)
-first_sum n other fits =
-    let plain : pos 0 +ℤ n ≡ n = omega (arith, ints) in
-    ap (λ m. held_sum (int_wrap w128 m)) plain ∙ ap held_sum (int_wrap_fits w128 n fits) ∙ ap (λ b. cond b None (Some (Sum n))) (not_zero n other)
-
-pub sum_put : (s mid new : Contents) (c : Cell) (n : ℤ) → n ≢ pos 0 → FitsSigned w128 n → mid ≡ with_worth s c None → new ≡ with_worth mid c (added (mid c) n)
-    → new ≡ with_worth s c (Some (Sum n))
-sum_put s mid new c n other fits was is =
-    is ∙ ap (λ t. with_worth t c (added (t c) n)) was ∙ ap (λ o. with_worth (with_worth s c None) c (added o n)) (cleared s c)
-    ∙ ap (with_worth (with_worth s c None) c) (first_sum n other fits) ∙ anew s c None (Some (Sum n))
-
-pub max_put : (s mid new : Contents) (c : Cell) (v : ℤ) → mid ≡ with_worth s c None → new ≡ with_worth mid c (raised (mid c) v) → new ≡ with_worth s c (Some (Max v))
-max_put s mid new c v was is =
-    is ∙ ap (λ t. with_worth t c (raised (t c) v)) was ∙ ap (λ o. with_worth (with_worth s c None) c (raised o v)) (cleared s c) ∙ anew s c None (Some (Max v))
-
-pub last_put : (s mid new : Contents) (c : Cell) (v : ℤ) → mid ≡ with_worth s c None → new ≡ with_worth mid c (Some (Last v)) → new ≡ with_worth s c (Some (Last v))
-last_put s mid new c v was is = is ∙ ap (λ t. with_worth t c (Some (Last v))) was ∙ anew s c None (Some (Last v))

@@ -1,3 +1,4 @@
 pub mod Checkpoint
 pub mod Forms
 pub mod Parts
+pub mod Widths

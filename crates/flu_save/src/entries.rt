@@ -80,7 +80,11 @@ fn family_named(families: &[Family], name: &str) -> Option<usize>
 fn key_in(family: &Family, key: u64) -> Option<u32>
     ensures { result ≡ (if key_is_in (Some family.now) key then Some key else None) }
 {
-    let limit = if family.keyed { u64::from(KEY_COUNT) } else { 1 };
+    let limit = if family.keyed {
+        u64::from(KEY_COUNT)
+    } else {
+        1
+    };
     if key < limit { Some(key as u32) } else { None }
 }
 

@@ -137,7 +137,13 @@ fn state_of(alloc: Global, p: &Program, entries: &[Value]) -> Result<Option<Stat
 }
 
 // Whether a value is that of the checkpoint of a border and a state: it is where both have the same text.
-fn is_value_of(alloc: Global, value: &Value, p: &Program, border: u64, state: &State) -> Result<bool, AllocError>
+fn is_value_of(
+    alloc: Global,
+    value: &Value,
+    p: &Program,
+    border: u64,
+    state: &State,
+) -> Result<bool, AllocError>
     requires border { border < 2 ^ 63 }
     requires depth { depth (view value.now) ≤ max_depth }
     ensures { IfOk result (λ b. IsTrue b ↔ (view value.now ≡ checkpoint p.now border (held state.now))) }
@@ -148,7 +154,12 @@ fn is_value_of(alloc: Global, value: &Value, p: &Program, border: u64, state: &S
 }
 
 // What a checkpoint of the job holds; none where the value is no such checkpoint.
-fn saved_in(alloc: Global, value: &Value, p: &Program, parts: Parts<'_>) -> Result<Option<Saved>, AllocError>
+fn saved_in(
+    alloc: Global,
+    value: &Value,
+    p: &Program,
+    parts: Parts<'_>,
+) -> Result<Option<Saved>, AllocError>
     requires depth { depth (view value.now) ≤ max_depth }
     requires parts { HasParts (view value.now) parts.border (items_view parts.entries.now) parts.job.now }
     ensures some { IfOk result (λ o. IfSome o (λ saved. IsCheckpoint p.now saved.border (held saved.state) (view value.now))) }

@@ -3,9 +3,11 @@
 ghost use Rattle.std.specs.Prelude.{◌≡◌, ◌<◌, ◌≤◌, ◌^◌, ◌++◌, ◌↔◌, length, map, slice_get, IfOk, OnOk, IsUtf8, Some};
 ghost use Rattle.flu_cells.specs.Holding.{held};
 ghost use Rattle.flu_model.specs.Contents.{cell, held_keys};
+ghost use Rattle.flu_model.specs.Sorts.{IsStateOf};
 ghost use Rattle.serde_json.specs.View.{view};
-ghost use Rattle.flu_save.specs.Checkpoint.{number_held, entry as entry_value, entries_of, checkpoint, save};
-ghost use Rattle.flu_save.specs.Forms.{IsJsonOf};
+ghost use Rattle.flu_save.specs.Checkpoint.{number_held, entry as entry_value, entries_of, cells_held, checkpoint, save, HasWordWidth};
+ghost use Rattle.flu_save.specs.Forms.{IsJsonOf, IsSave, most_bytes};
+ghost use Rattle.flu_save.specs.Widths.{HaveWordWidth, AllHaveWordWidth};
 
 use flu_cells::State;
 use flu_model::{Cell, Family, Program, Worth};
@@ -15,7 +17,8 @@ use std::alloc::{AllocError, Global};
 
 // The number that a cell holds; 0 where it is neutral.
 fn number_held(worth: Option<Worth>) -> i128
-    ensures { result ≡ number_held worth }
+    ensures value { result ≡ number_held worth }
+    ensures width { HasWordWidth worth }
 {
     match worth {
         None => 0,
@@ -41,8 +44,9 @@ fn add_family(
     number: u32,
     family: &Family,
 ) -> Result<(), AllocError>
-    ensures { OnOk result (map view entries.new.items ≡ map view entries.old.items
+    ensures entries { OnOk result (map view entries.new.items ≡ map view entries.old.items
         ++ map (λ k. entry_value family.now.name k (number_held (held s.now (cell number k)))) (held_keys (held s.now) number)) }
+    ensures width { OnOk result (HaveWordWidth (held s.now) number (held_keys (held s.now) number)) }
 {
     let keys = s.keys(number)?;
     for key in keys.as_slice() {
@@ -58,7 +62,8 @@ fn add_family(
 
 // The entries of the cells of all families.
 fn entries(alloc: Global, p: &Program, s: &State) -> Result<Vec<Value>, AllocError>
-    ensures { IfOk result (λ v. map view v.items ≡ entries_of p.now.families (held s.now)) }
+    ensures entries { IfOk result (λ v. map view v.items ≡ entries_of p.now.families (held s.now)) }
+    ensures width { OnOk result (AllHaveWordWidth (held s.now) (cells_held p.now.families (held s.now))) }
 {
     let mut entries = Vec::new(alloc);
     let mut number = 0;
@@ -71,7 +76,8 @@ fn entries(alloc: Global, p: &Program, s: &State) -> Result<Vec<Value>, AllocErr
 
 // The value of a checkpoint.
 fn checkpoint(alloc: Global, p: &Program, border: u64, s: &State) -> Result<Value, AllocError>
-    ensures { IfOk result (λ v. view v ≡ checkpoint p.now border (held s.now)) }
+    ensures value { IfOk result (λ v. view v ≡ checkpoint p.now border (held s.now)) }
+    ensures width { OnOk result (AllHaveWordWidth (held s.now) (cells_held p.now.families (held s.now))) }
 {
     let cells = entries(alloc, p, s)?;
     let job = print_job(alloc, p)?;
@@ -81,7 +87,8 @@ fn checkpoint(alloc: Global, p: &Program, border: u64, s: &State) -> Result<Valu
 /// A checkpoint as a text: one JSON object without blanks, with the members `border`, a number; `cells`, a list with an entry
 /// `[FAMILY, KEY, "VALUE"]` for each cell that is not neutral, by rising family and key; and `job`, the job in normal form.
 ///
-/// The cells are those of the job's families. The border is at most 2^63 - 1.
+/// The cells are those of the job's families. The border is at most 2^63 - 1. Where the state has values of the job's sorts, the
+/// text is a checkpoint of the job with this border and this state, if it has at most 536,870,912 bytes; so `read_save` gives them.
 ///
 /// # Errors
 ///
@@ -90,6 +97,8 @@ pub fn save_text(alloc: Global, p: &Program, border: u64, s: &State) -> Result<V
     requires { border < 2 ^ 63 }
     ensures text { IfOk result (λ v. v.items ≡ save p.now border (held s.now)) }
     ensures value { IfOk result (λ v. IsJsonOf v.items (checkpoint p.now border (held s.now))) }
+    ensures read_again { IfOk result (λ v. IsStateOf p.now.families (held s.now) → length v.items ≤ most_bytes
+        → IsSave p.now border (held s.now) v.items) }
 {
     let value = checkpoint(alloc, p, border, s)?;
     value.to_vec(alloc)

@@ -30,6 +30,20 @@ fn is_told(lot: &Lot, told: &Told) -> bool {
         && lot.state.get(Cell { family: 0, key: 0 }) == told.first
 }
 
+/// Whether these are the outputs: the time and the text of each, in their order.
+pub fn outs_are(outs: &Outs, expected: &[(u64, &str)]) -> bool {
+    let items = outs.items();
+    for (i, (time, text)) in expected.iter().enumerate() {
+        let Some(out) = items.get(i) else {
+            return false;
+        };
+        if out.time != *time || out.text.as_str() != *text {
+            return false;
+        }
+    }
+    items.len() == expected.len()
+}
+
 /// A worker that has seen so many items of each itag.
 pub fn begun(
     alloc: Global,

@@ -8,7 +8,7 @@ ghost use Rattle.flu_thread_tests.specs.Rows.{values, IsTriple};
 use crate::jobs::{MEMORY, checked, event, is_triple, opened, valid};
 use crate::lots::counts_are;
 use crate::rounds::{Expected, Round, walk};
-use crate::steps::Told;
+use crate::steps::{Told, outs_are};
 use flu_cells::{Cell, Worth};
 use flu_fork::{Ask, Case};
 use flu_model::{Itag, Item, Outs, Streams};
@@ -107,20 +107,8 @@ const EXPECTED: Expected = Expected {
     ],
 };
 
-/// Whether these are the outputs, in the order in which the events were handled.
-fn are_of_values(outs: &Outs) -> bool {
-    match outs.items() {
-        [a, b, c] => {
-            a.time == 4
-                && a.text.as_str() == "q 7"
-                && b.time == 5
-                && b.text.as_str() == "z none 7"
-                && c.time == 10
-                && c.text.as_str() == "p 9"
-        }
-        _ => false,
-    }
-}
+/// The outputs, in the order in which the events were handled.
+const PUT_OUT: [(u64, &str); 3] = [(4, "q 7"), (5, "z none 7"), (10, "p 9")];
 
 /// A leaf reads what the root sets.
 #[tactic(auto, using(crate::proofs::StepLemmas::values_there))]
@@ -131,7 +119,7 @@ fn is_read_below(rt: &impl Abort, alloc: Global, case: &Case)
     let mut outs = Outs::of(Vec::new(alloc));
     let lot = walk(rt, alloc, case, (2, 2, 2), &EXPECTED, &mut outs);
     assert!(rt; counts_are(&lot, &[0, 0, 0], &[1, 1, 1]));
-    assert!(rt; are_of_values(&outs));
+    assert!(rt; outs_are(&outs, &PUT_OUT));
     let p = Cell { family: 0, key: 0 };
     let q = Cell { family: 1, key: 0 };
     assert_eq!(rt; lot.state.get(p), Some(Worth::Last(9)));

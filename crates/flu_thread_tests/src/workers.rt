@@ -7,7 +7,7 @@ ghost use Rattle.flu_thread_tests.specs.Rows.{row, IsAlone, IsRow};
 use crate::jobs::{COUNT, MEMORY, ONE, checked, counted, is_alone, opened, valid};
 use crate::lots::counts_are;
 use crate::rounds::{Expected, Round, walk};
-use crate::steps::{Told, begun, does};
+use crate::steps::{Told, begun, does, outs_are};
 use flu_cells::Worth;
 use flu_fork::{Ask, Case};
 use flu_model::{Itag, Outs};
@@ -40,18 +40,8 @@ const READ_2: Ask = Ask {
     index: 1,
 };
 
-/// Whether these are the outputs of the two reads.
-fn are_of_row(outs: &Outs) -> bool {
-    match outs.items() {
-        [a, b] => {
-            a.time == 3
-                && a.text.as_str() == "count 12"
-                && b.time == 5
-                && b.text.as_str() == "count 2"
-        }
-        _ => false,
-    }
-}
+/// The outputs of the two reads.
+const PUT_OUT: [(u64, &str); 2] = [(3, "count 12"), (5, "count 2")];
 
 // ---- one worker
 
@@ -65,7 +55,7 @@ fn alone(rt: &impl Abort, alloc: Global, case: &Case)
     let mut outs = Outs::of(Vec::new(alloc));
     let order = [INC_5, INC_7, READ_12, INC_2, READ_2];
     does(rt, alloc, case, &mut worker, &mut outs, &order);
-    assert!(rt; are_of_row(&outs));
+    assert!(rt; outs_are(&outs, &PUT_OUT));
     assert!(rt; !worker.finished(case));
     worker.see(case, Itag(2), 3);
     assert!(rt; worker.finished(case));
@@ -169,5 +159,5 @@ pub fn lend_and_give_back(rt: &impl Abort, alloc: Global, case: &Case)
     let mut outs = Outs::of(Vec::new(alloc));
     let lot = walk(rt, alloc, case, (3, 2, 3), &EXPECTED, &mut outs);
     assert!(rt; counts_are(&lot, &[0, 0, 0], &[2, 1, 2]));
-    assert!(rt; are_of_row(&outs));
+    assert!(rt; outs_are(&outs, &PUT_OUT));
 }

@@ -22,6 +22,7 @@ is_checked job p text a b read checked =
       record {
         good = record { has = whole.has; accepted = λ asked. checked.accepted; plan = λ plan named. absurd (cc); sources = tt };
         ends = λ name found. ap y (sym (only_one job name found)) ∙ whole.end;
+        trace = λ trace named. absurd (cc);
       },
       checked.is,
       refl,
@@ -42,3 +43,4 @@ check_refusal command job p a b before now (refusals.SourceFault q fault) named 
 check_refusal command job p a b before now refusals.ReadFault named asked read is = absurd is
 check_refusal command job p a b before now refusals.WriteFault named asked read is = is
 check_refusal command job p a b before now refusals.NoMemory named asked read is = tt
+check_refusal command job p a b before now (refusals.TraceFault fault) named asked read is = absurd is

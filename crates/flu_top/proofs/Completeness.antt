@@ -1,5 +1,5 @@
 -- Where nothing failed, a call's status is the one that the command, its job's text, its plan and its sources call for, or that of want of memory.
-use Rattle.std.proofs.Common.{◌≡◌, ◌≢◌, arith, sym, ◌∙◌, refl, subst, ℕ, Option, Some, Ok, Err, inl, inr, ◌⊎◌}
+use Rattle.std.proofs.Common.{◌≡◌, ◌≢◌, arith, sym, ap, ◌∙◌, refl, subst, ℕ, Option, Some, Ok, Err, inl, inr, ◌⊎◌}
 use Rattle.std.specs.Prelude.{List, IsTrue}
 use Rattle.flu_outside.specs.Outside.{Contents}
 use Rattle.flu_model.specs.declared.jobs.Program.{Program}
@@ -19,13 +19,17 @@ use Rattle.flu_streams.specs.Fronts.{LawOfMeeting}
 use Rattle.flu_lemmas.proofs.Told.{of_told}
 use Rattle.flu_top.specs.declared.refusals.PlanDefect.{PlanDefect}
 use Rattle.flu_top.specs.declared.refusals.PlanDefect.TheVariants as defects
+use Rattle.flu_trace.specs.declared.faults.ReplayFault.{ReplayFault}
+use Rattle.flu_trace.specs.declared.faults.ReplayFault.TheVariants as traces
+use Rattle.flu_trace.specs.Replaying.{Ending, Complete, ending_of}
 use Rattle.flu_words.specs.Words.{Command, command_in}
 use Rattle.flu_top.specs.Behind.{WantedJob, Named, Fixed, HasJob, HasPlan, plan_behind}
 use Rattle.flu_top.specs.Reading.{AreSourcesGood, HasDefect}
-use Rattle.flu_top.specs.Wants.{job_wanted, plan_named, asks_accepted, how_read, texts_named}
-use Rattle.flu_top.specs.Done.{HasValidPlan, HasPlanAsked, IsGood, IsDone, WhereKnown, IsReadName}
-use Rattle.flu_top.specs.Causes.{IsJobRead, HasJobFault, HasConflict, HasPlanDefect, IsMet, HasSourceFault}
-use Rattle.flu_top.specs.Outcome.{Outside, Outcome, FaultsFirst, CallsFor, NothingFailed, Completes}
+use Rattle.flu_top.specs.Wants.{job_wanted, plan_named, trace_named, asks_accepted, how_read, texts_named}
+use Rattle.flu_top.specs.Done.{HasValidPlan, HasPlanAsked, IsGood, IsTraceRead, IsDone, WhereKnown, IsReadName}
+use Rattle.flu_top.specs.Replaying.{ReplaysTo, CanOnlyComplete}
+use Rattle.flu_top.specs.Causes.{IsJobRead, HasJobFault, HasConflict, HasPlanDefect, IsMet, HasSourceFault, HasTraceFault}
+use Rattle.flu_top.specs.Outcome.{Outside, Outcome, FaultsFirst, HasFaultyTrace, CallsFor, NothingFailed, Completes}
 use Rattle.flu_top.specs.Outcome as cases
 use Rattle.flu_top.proofs.Defects.{good_or_bad, met_defect}
 use Rattle.flu_top.proofs.SameJob.{same_good}
@@ -45,12 +49,13 @@ IsStatus wanted status = (status ≡ wanted) ⊎ (status ≡ 9)
 
 -- what each outcome would show of the files goes with the status that is wanted
 record Leads (wanted : ℕ) (command : Command) (left : Contents) : Type 0 where
-  done : (p : Program) → IsGood command left p → IsStatus wanted 0
+  done : (p : Program) → IsGood command left p → ¬ HasFaultyTrace command left → IsStatus wanted 0
   job : (name : List ℕ) (fault : JobFault) → job_wanted command ≡ Named name → job_in (bytes_left left name) ≡ Err fault → IsStatus wanted 3
   conflict : (p : Program) → IsTrue (asks_accepted command) → ¬ IsAccepted p → HasJob (job_wanted command) left p → IsStatus wanted 4
   plan : (plan : List ℕ) (p : Program) → plan_named command ≡ Some plan → IsAccepted p → HasJob (job_wanted command) left p → ¬ HasValidPlan (job_wanted command) plan left p → IsStatus wanted 5
   source : (p : Program) → (IsTrue (asks_accepted command) → IsAccepted p) → HasJob (job_wanted command) left p
       → HasPlanAsked command left p → HasDefect (how_read command) (texts_named command) left p → IsStatus wanted 6
+  trace : (p : Program) (trace : List ℕ) (ending : Ending) → trace_named command ≡ Some trace → IsGood command left p → ReplaysTo command trace left p ending → ending ≢ Complete → IsStatus wanted 13
 
 -- a status that is wanted and is not that of want of memory
 settled : (wanted status : ℕ) → IsStatus wanted status → status ≢ 9 → wanted ≡ status
@@ -112,63 +117,104 @@ module _ (laws : LawsBelow) where
       let same : found.0 ≡ nodes = cc in
       refused (subst (IsValid p) same found.2)
 
+  -- ---- traces that end otherwise
+  -- a trace that can't be complete has another ending
+  other_ending : (command : Command) (left : Contents) (faulty : HasFaultyTrace command left) → faulty.ending ≢ Complete
+  other_ending command left faulty same =
+      faulty.faulty faulty.p faulty.good.has (subst (λ (ending : Ending). ReplaysTo command faulty.trace left faulty.p ending) same faulty.ends)
+
+  only_complete : (command : Command) (left : Contents) → CanOnlyComplete command left → ¬ HasFaultyTrace command left
+  only_complete command left only faulty = other_ending command left faulty (only faulty.trace faulty.named faulty.p faulty.ending faulty.good.has faulty.ends)
+
+  -- a trace that was read can be complete
+  read_complete : (command : Command) (left after : Contents) (p : Program) → HasJob (job_wanted command) left p → IsTraceRead command p left after → ¬ HasFaultyTrace command left
+  read_complete command left after p has read faulty = faulty.faulty p has (read faulty.trace faulty.named).0
+
+  -- a fault tells another ending
+  told_ending : (fault : ReplayFault) (ending : Ending) → ending_of fault ≡ Some ending → ending ≢ Complete
+  told_ending (traces.Bad line) ending tells same = let e = tells ∙ ap Some same in cc
+  told_ending (traces.NotEnabled line) ending tells same = let e = tells ∙ ap Some same in cc
+  told_ending (traces.Incomplete line) ending tells same = let e = tells ∙ ap Some same in cc
+  told_ending traces.ReadFault ending tells same = cc
+  told_ending traces.NoMemory ending tells same = cc
+
   -- ---- what the status that is called for leaves of the others
-  leads_done : (command : Command) (left : Contents) (p : Program) → IsGood command left p → Leads 0 command left
-  leads_done command left p good = record {
-    done = λ q other. inl refl;
+  leads_done : (command : Command) (left : Contents) (p : Program) → IsGood command left p → CanOnlyComplete command left → Leads 0 command left
+  leads_done command left p good only = record {
+    done = λ q other none. inl refl;
     job = λ name fault named bad. absurd (not_both (job_wanted command) name left p fault named good.has bad);
     conflict = λ q asked refused has. absurd (refused (accepted_of_text (job_wanted command) left p q good.has has (good.accepted asked)));
     plan = λ plan q named accepted has bad. absurd (bad (valid_of_text (job_wanted command) plan left p q good.has has (good.plan plan named)));
     source = λ q accepted has plan bad. absurd (no_defect command left p q good.has has good.sources bad);
+    trace = λ q trace ending named also ends other. absurd (other (only trace named q ending also.has ends));
   }
 
   leads_job : (command : Command) (name : List ℕ) (left : Contents) (fault : JobFault) → job_wanted command ≡ Named name → job_in (bytes_left left name) ≡ Err fault → Leads 3 command left
   leads_job command name left fault named bad = record {
-    done = λ q good. absurd (not_both (job_wanted command) name left q fault named good.has bad);
+    done = λ q good none. absurd (not_both (job_wanted command) name left q fault named good.has bad);
     job = λ another other also found. inl refl;
     conflict = λ q asked refused has. absurd (not_both (job_wanted command) name left q fault named has bad);
     plan = λ plan q asked accepted has other. absurd (not_both (job_wanted command) name left q fault named has bad);
     source = λ q accepted has plan found. absurd (not_both (job_wanted command) name left q fault named has bad);
+    trace = λ q trace ending its good ends other. absurd (not_both (job_wanted command) name left q fault named good.has bad);
   }
 
   leads_conflict : (command : Command) (left : Contents) (p : Program) → IsTrue (asks_accepted command) → HasJob (job_wanted command) left p → ¬ IsAccepted p → Leads 4 command left
   leads_conflict command left p asked has refused = record {
-    done = λ q good. absurd (refused (accepted_of_text (job_wanted command) left q p good.has has (good.accepted asked)));
+    done = λ q good none. absurd (refused (accepted_of_text (job_wanted command) left q p good.has has (good.accepted asked)));
     job = λ name fault named bad. absurd (not_both (job_wanted command) name left p fault named has bad);
     conflict = λ q asked none found. inl refl;
     plan = λ plan q named accepted found bad. absurd (refused (accepted_of_text (job_wanted command) left q p found has accepted));
     source = λ q accepted found plan bad. absurd (refused (accepted_of_text (job_wanted command) left q p found has (accepted asked)));
+    trace = λ q trace ending its good ends other. absurd (refused (accepted_of_text (job_wanted command) left q p good.has has (good.accepted asked)));
   }
 
   leads_plan : (command : Command) (left : Contents) (p : Program) (plan : List ℕ) → plan_named command ≡ Some plan → HasJob (job_wanted command) left p → IsAccepted p → ¬ HasValidPlan (job_wanted command) plan left p → Leads 5 command left
   leads_plan command left p plan named has accepted bad = record {
-    done = λ q good. absurd (bad (valid_of_text (job_wanted command) plan left q p good.has has (good.plan plan named)));
+    done = λ q good none. absurd (bad (valid_of_text (job_wanted command) plan left q p good.has has (good.plan plan named)));
     job = λ name fault named found. absurd (not_both (job_wanted command) name left p fault named has found);
     conflict = λ q asked refused found. absurd (refused (accepted_of_text (job_wanted command) left p q has found accepted));
     plan = λ name q also found others worse. inl refl;
     source = λ q also found valid others. absurd (bad (valid_of_text (job_wanted command) plan left q p found has (valid plan named)));
+    trace = λ q trace ending its good ends other. absurd (bad (valid_of_text (job_wanted command) plan left q p good.has has (good.plan plan named)));
   }
 
   leads_source : (command : Command) (left : Contents) (p : Program) → HasJob (job_wanted command) left p → (IsTrue (asks_accepted command) → IsAccepted p) → HasPlanAsked command left p → HasDefect (how_read command) (texts_named command) left p → Leads 6 command left
   leads_source command left p has accepted valid bad = record {
-    done = λ q good. absurd (no_defect command left q p good.has has good.sources bad);
+    done = λ q good none. absurd (no_defect command left q p good.has has good.sources bad);
     job = λ name other named found. absurd (not_both (job_wanted command) name left p other named has found);
     conflict = λ q asked refused found. absurd (refused (accepted_of_text (job_wanted command) left p q has found (accepted asked)));
     plan = λ plan q named also found other. absurd (other (valid_of_text (job_wanted command) plan left p q has found (valid plan named)));
     source = λ q also found plan others. inl refl;
+    trace = λ q trace ending its good ends other. absurd (no_defect command left q p good.has has good.sources bad);
   }
 
+  leads_trace : (command : Command) (left : Contents) → HasFaultyTrace command left → Leads 13 command left
+  leads_trace command left faulty =
+      let p = faulty.p in
+      let good = faulty.good in
+      record {
+        done = λ q also none. absurd (none faulty);
+        job = λ name fault named bad. absurd (not_both (job_wanted command) name left p fault named good.has bad);
+        conflict = λ q asked refused has. absurd (refused (accepted_of_text (job_wanted command) left p q good.has has (good.accepted asked)));
+        plan = λ plan q named accepted has bad. absurd (bad (valid_of_text (job_wanted command) plan left p q good.has has (good.plan plan named)));
+        source = λ q accepted has plan bad. absurd (no_defect command left p q good.has has good.sources bad);
+        trace = λ q trace ending named also ends other. inl refl;
+      }
+
   leads : (command : Command) (left : Contents) (wanted : ℕ) → CallsFor command left wanted → Leads wanted command left
-  leads command left wanted (cases.Good is p good) = subst (λ n. Leads n command left) (sym is) (leads_done command left p good)
+  leads command left wanted (cases.Good is p good only) = subst (λ n. Leads n command left) (sym is) (leads_done command left p good only)
   leads command left wanted (cases.FaultyJob is name fault named bad) = subst (λ n. Leads n command left) (sym is) (leads_job command name left fault named bad)
   leads command left wanted (cases.NotAccepted is p asked has refused) = subst (λ n. Leads n command left) (sym is) (leads_conflict command left p asked has refused)
   leads command left wanted (cases.NoValidPlan is p plan named has accepted bad) = subst (λ n. Leads n command left) (sym is) (leads_plan command left p plan named has accepted bad)
   leads command left wanted (cases.FaultySource is p has accepted valid bad) =
       subst (λ n. Leads n command left) (sym is) (leads_source command left p has accepted valid bad)
+  leads command left wanted (cases.FaultyTrace is faulty) = subst (λ n. Leads n command left) (sym is) (leads_trace command left faulty)
 
   -- a command and the files call for one status
   pub one_status : (command : Command) (left : Contents) (a b : ℕ) → CallsFor command left a → CallsFor command left b → a ≡ b
-  one_status command left a b first (cases.Good is p good) = settled a 0 ((leads command left a first).done p good) (λ e. omega (arith, e)) ∙ sym is
+  one_status command left a b first (cases.Good is p good only) =
+      settled a 0 ((leads command left a first).done p good (only_complete command left only)) (λ e. omega (arith, e)) ∙ sym is
   one_status command left a b first (cases.FaultyJob is name fault named bad) = settled a 3 ((leads command left a first).job name fault named bad) (λ e. omega (arith, e)) ∙ sym is
   one_status command left a b first (cases.NotAccepted is p asked has refused) =
       settled a 4 ((leads command left a first).conflict p asked refused has) (λ e. omega (arith, e)) ∙ sym is
@@ -176,6 +222,8 @@ module _ (laws : LawsBelow) where
       settled a 5 ((leads command left a first).plan plan p named accepted has bad) (λ e. omega (arith, e)) ∙ sym is
   one_status command left a b first (cases.FaultySource is p has accepted valid bad) =
       settled a 6 ((leads command left a first).source p accepted has valid bad) (λ e. omega (arith, e)) ∙ sym is
+  one_status command left a b first (cases.FaultyTrace is faulty) =
+      settled a 13 ((leads command left a first).trace faulty.p faulty.trace faulty.ending faulty.named faulty.good faulty.ends (other_ending command left faulty)) (λ e. omega (arith, e)) ∙ sym is
 
   -- ---- the outcome
   -- what each outcome shows of the files
@@ -192,7 +240,8 @@ module _ (laws : LawsBelow) where
       let same = same_command words other command also word in
       let known = subst (λ (d : Command). WhereKnown (job_wanted d) old.left new.left (IsDone d old.out new.out line)) same done in
       let found = known_at (job_wanted command) (IsDone command old.out new.out line) left old.left new.left told known in
-      subst (IsStatus wanted) (sym is) (leads.done found.1.0 found.1.2.good)
+      let read = found.1.2 in
+      subst (IsStatus wanted) (sym is) (leads.done found.1.0 read.good (read_complete command left found.0 found.1.0 read.good.has read.trace))
   by_case words old new before now out_before out_now status wanted command left (cases.BadWords is at bad files refused) faults word told nothing leads = absurd (no_command words command at word bad)
   by_case words old new before now out_before out_now status wanted command left (cases.BadJob is other also fault why refused) faults word told nothing leads =
       let same = same_command words other command also word in
@@ -218,6 +267,11 @@ module _ (laws : LawsBelow) where
       absurd (nothing.files rose.0 (subst (λ (d : Command). IsReadName old.left d rose.0) same rose.1.2) rose.2)
   by_case words old new before now out_before out_now status wanted command left (cases.WriteFailed is other also partly said) faults word told nothing leads = absurd (nothing.out (faults.write is))
   by_case words old new before now out_before out_now status wanted command left (cases.NoMemory is other also some said) faults word told nothing leads = inr is
+  by_case words old new before now out_before out_now status wanted command left (cases.BadTrace is other also fault why refused) faults word told nothing leads =
+      let same = same_command words other command also word in
+      let has = subst (λ (d : Command). HasTraceFault d old.left new.left fault) same why in
+      let found = of_told (λ old _. IsGood command old has.p × ReplaysTo command has.trace old has.p has.ending) left old.left new.left told has.first in
+      subst (IsStatus wanted) (sym is) (leads.trace has.p has.trace has.ending has.named found.1.0 found.1.1 (told_ending fault has.ending has.tells))
 
   -- completeness follows from the outcome, where a fault of the outside comes first
   pub completes_of : (words : List (List ℕ)) (old new : Outside) (before now : List ℕ → ℕ) (out_before out_now status : ℕ) → Outcome words old new status → FaultsFirst words old.left before now out_before out_now status → Completes words old.left before now out_before out_now status

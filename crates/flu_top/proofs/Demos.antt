@@ -41,6 +41,7 @@ is_shown n seed p text left demo accepted is = (
   record {
     good = record { has = is_demo_job p demo; accepted = λ asked. accepted; plan = λ plan named. absurd (cc); sources = tt };
     ends = λ name found. absurd (omega (arith, found.1));
+    trace = λ trace named. absurd (cc);
   },
   is,
   refl,
@@ -56,6 +57,7 @@ only_memory p (refusals.SourceFault q fault) accepted is = absurd is
 only_memory p refusals.ReadFault accepted is = absurd is
 only_memory p refusals.WriteFault accepted is = absurd is
 only_memory p refusals.NoMemory accepted is = refl
+only_memory p (refusals.TraceFault fault) accepted is = absurd is
 
 -- what refuses a demo refuses it whatever the files hold
 pub refused_anyhow : (n seed : ℕ) (result : Result Product Refusal) (old new : Option Contents) (before now : List ℕ → ℕ) → IfErr result (λ refusal. refusal ≡ refusals.NoMemory)

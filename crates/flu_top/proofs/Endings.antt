@@ -55,6 +55,7 @@ stopped c command (refusals.SourceFault job fault) why nothing = record { text =
 stopped c command refusals.ReadFault why nothing = record { why = why; wrote = some_none (how_read command) command c.left c.left_after c.taken c.taken_after nothing }
 stopped c command refusals.WriteFault why nothing = absurd why
 stopped c command refusals.NoMemory why nothing = some_none (how_read command) command c.left c.left_after c.taken c.taken_after nothing
+stopped c command (refusals.TraceFault fault) why nothing = (why, nothing)
 
 put_all : (c : Call) (command : Command) (product : Product) (steps : Option DrawnSteps) → WhereKnown (job_wanted command) c.left c.left_after (IsWritten command product.text (line_said product.steps))
     → MaySay (want command).says product.steps → IsPutAll product c.taken c.taken_after steps → HasAll c command steps

@@ -8,7 +8,7 @@ use Rattle.flu_words.specs.Words.{Command, Demo}
 use Rattle.flu_top.specs.declared.refusals.PlanDefect.{PlanDefect}
 use Rattle.flu_top.specs.declared.refusals.PlanDefect.TheVariants as defects
 use Rattle.flu_top.specs.Behind.{Named, Fixed}
-use Rattle.flu_top.specs.Causes.{HasJobFault, HasConflict, HasPlanDefect, HasSourceFault}
+use Rattle.flu_top.specs.Causes.{HasJobFault, HasConflict, HasPlanDefect, HasSourceFault, HasTraceFault}
 use Rattle.flu_top.specs.Demos.{demo_job}
 use Rattle.flu_top.specs.Done.{IsDone, WhereKnown, IsReadName}
 use Rattle.flu_top.specs.Laws.{DemoReadsNothing, DemoStatuses, DemoIsDone}
@@ -28,7 +28,8 @@ no_defect n seed old new (defects.Invalid checked fault) why = no_plan None why.
 
 not_read : (n seed : ℕ) (left : Option Contents) (name : List ℕ) → IsReadName left (Demo n seed) name → ⊥
 not_read n seed left name (inl named) = fixed_has_no_name demo_job name named
-not_read n seed left name (inr found) = absurd (omega (arith, found.3.1))
+not_read n seed left name (inr (inl found)) = absurd (omega (arith, found.3.1))
+not_read n seed left name (inr (inr trace)) = no_plan None name refl trace.named
 
 pub reads_law : DemoReadsNothing
 reads_law words n seed word left name read =
@@ -52,6 +53,9 @@ statuses_law words old new status before now out_before out_now (cases.ReadFaile
     let rose = faults.read is in absurd (reads_law words n seed word old.left rose.0 rose.1)
 statuses_law words old new status before now out_before out_now (cases.WriteFailed is command also partly said) faults n seed word = (1, omega arith, sym is)
 statuses_law words old new status before now out_before out_now (cases.NoMemory is command also some said) faults n seed word = (2, omega arith, sym is)
+statuses_law words old new status before now out_before out_now (cases.BadTrace is command also fault has refused) faults n seed word =
+    let why = subst (λ (d : Command). HasTraceFault d old.left new.left fault) (same_command words command (Demo n seed) also word) has in
+    absurd (no_plan None why.trace refl why.named)
 
 pub done_law : DemoIsDone
 done_law words old new status outcome is n seed word =

@@ -1,8 +1,8 @@
 -- The laws of outcomes.
 use Rattle.std.proofs.Common.{refl, inl, inr}
 use Rattle.flu_top.specs.Outcome as cases
-use Rattle.flu_top.specs.Laws.{KnownStatuses, DoneIsDone, DoneIsQuiet, SimulationIsHeard, BadWordsExactly, BadWordsLine, BadWordsTouchNothing, JobFaultIsFirst, ConflictIsFirst, PlanDefectIsFirst, SourceFaultIsFirst, ReadFaultRose, ReadFaultLine, WriteFaultRose, WriteFaultIsPart, WriteFaultLine, NoMemoryLine, NothingIsWritten, RefusalsWriteNothing, SomeIsWritten, FrontsAreTaken, NoOtherIsRead, GoodIsDone, JobFaultIsRefused, ConflictIsRefused, PlanDefectIsRefused, SourceFaultIsRefused, CompletesByFaults, CallsForOneStatus}
-use Rattle.flu_top.proofs.Statuses.{at_0, at_2, at_3, at_4, at_5, at_6, at_7, at_8, at_9, quiet_at_0, heard_at_0, known_status, nothing_written, refused_unwritten, of_no_command, bad_words_exactly}
+use Rattle.flu_top.specs.Laws.{KnownStatuses, DoneIsDone, DoneIsQuiet, SimulationIsHeard, BadWordsExactly, BadWordsLine, BadWordsTouchNothing, JobFaultIsFirst, ConflictIsFirst, PlanDefectIsFirst, SourceFaultIsFirst, TraceFaultIsFirst, ReadFaultRose, ReadFaultLine, WriteFaultRose, WriteFaultIsPart, WriteFaultLine, NoMemoryLine, NothingIsWritten, RefusalsWriteNothing, SomeIsWritten, FrontsAreTaken, NoOtherIsRead, GoodIsDone, JobFaultIsRefused, ConflictIsRefused, PlanDefectIsRefused, SourceFaultIsRefused, TraceFaultIsRefused, CompletesByFaults, CallsForOneStatus}
+use Rattle.flu_top.proofs.Statuses.{at_0, at_2, at_3, at_4, at_5, at_6, at_7, at_8, at_9, at_13, quiet_at_0, heard_at_0, known_status, nothing_written, refused_unwritten, of_no_command, bad_words_exactly}
 use Rattle.flu_top.proofs.Completeness.{LawsBelow, completes_of, one_status}
 
 -- ---- the statuses
@@ -26,7 +26,7 @@ pub quiet_law : DoneIsQuiet
 quiet_law words old new status outcome is command word nothing = quiet_at_0 words old new status outcome is command word nothing
 
 pub simulation_law : SimulationIsHeard
-simulation_law words old new status outcome is job plan seed word = heard_at_0 words old new status outcome is job plan seed word
+simulation_law words old new status outcome is job plan seed trace word = heard_at_0 words old new status outcome is job plan seed trace word
 
 pub bad_words_law : BadWordsExactly
 bad_words_law words old new status outcome = bad_words_exactly words old new status outcome
@@ -52,6 +52,10 @@ plan_defect_law words old new status outcome is =
 pub source_fault_law : SourceFaultIsFirst
 source_fault_law words old new status outcome is =
     at_6 words old new status outcome is
+
+pub trace_fault_law : TraceFaultIsFirst
+trace_fault_law words old new status outcome is =
+    let found = at_13 words old new status outcome is in (found.0, found.1, found.2, found.3, found.4.said)
 
 pub read_fault_law : ReadFaultRose
 read_fault_law words left before now out_before out_now status faults is = faults.read is
@@ -80,7 +84,7 @@ only_law words old new read = read.only
 
 -- ---- where nothing failed
 pub good_law : GoodIsDone
-good_law words told before now out_before out_now status complete command left p word is nothing good = complete command left 0 word is nothing (cases.Good refl p good)
+good_law words told before now out_before out_now status complete command left p word is nothing good only = complete command left 0 word is nothing (cases.Good refl p good only)
 
 pub refused_job_law : JobFaultIsRefused
 refused_job_law words told before now out_before out_now status complete command left name fault word is nothing named bad =
@@ -97,6 +101,9 @@ refused_plan_law words told before now out_before out_now status complete comman
 pub refused_source_law : SourceFaultIsRefused
 refused_source_law words told before now out_before out_now status complete command left p word is nothing has accepted valid bad =
     complete command left 6 word is nothing (cases.FaultySource refl p has accepted valid bad)
+
+pub refused_trace_law : TraceFaultIsRefused
+refused_trace_law words told before now out_before out_now status complete command left word is nothing faulty = complete command left 13 word is nothing (cases.FaultyTrace refl faulty)
 
 pub completes_law : LawsBelow → CompletesByFaults
 completes_law laws words old new status before now out_before out_now outcome faults =

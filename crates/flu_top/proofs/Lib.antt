@@ -11,6 +11,8 @@ pub mod Plannings
 pub mod Roundings
 pub mod Runnings
 pub mod Simulations
+pub mod Replays
+pub mod StepTexts
 pub mod DemoAccepted
 pub mod Demos
 pub mod RateLemmas

@@ -48,6 +48,7 @@ outcome_of words c err err_after count count_after ended ends heard = elim ends.
     by_refusal command word refusals.ReadFault stop line = cases.ReadFailed refl command word stop.wrote line
     by_refusal command word refusals.WriteFault stop line = cases.WriteFailed refl command word stop.partly line
     by_refusal command word refusals.NoMemory stop line = cases.NoMemory refl command word stop line
+    by_refusal command word (refusals.TraceFault fault) stop line = cases.BadTrace refl command word fault stop.0 (record { nothing = stop.1; said = line })
 
     by_ended : (command : Command) → command_in words ≡ Ok command → (ended : Result (Option DrawnSteps) Refusal) → IsEnding c command ended → IsHeard ended err err_after count count_after → Outcome words (before c err count) (behind c err_after count_after) (status_after ended)
     by_ended command word (Ok steps) ending heard =

@@ -16,6 +16,7 @@ is_planned job depth p text a b read planned =
       record {
         good = record { has = whole.has; accepted = λ asked. planned.accepted; plan = λ plan named. absurd (cc); sources = tt };
         ends = λ name found. ap y (sym (only_one job name found)) ∙ whole.end;
+        trace = λ trace named. absurd (cc);
       },
       planned.plan,
       refl,

@@ -180,6 +180,7 @@ module _ (laws : LawsBelow) (fronts : LawOfFronts) (last : LawOfLastRound) (job 
   by_case words old new status (cases.NoMemory is command also some said) word told =
       rounds_or_nothing old.left new.left old.out new.out told
       (subst (λ (d : Command). WroteSome (how_read d) d old.left new.left old.out new.out) (same_command words command (Run job plan) also word) some)
+  by_case words old new status (cases.BadTrace is command also fault has refused) word told = nothing old.out new.out refused.nothing
 
 pub runs_law : LawsBelow → LawOfFronts → LawOfLastRound → RunsWriteFronts
 unfolding HasFront

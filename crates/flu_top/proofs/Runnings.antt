@@ -1,5 +1,5 @@
 -- What was read and what refuses, where a job is run.
-use Rattle.std.proofs.Common.{◌≡◌, refl, sym, ap, ◌∙◌, subst, ℕ, ◌≤◌, List, [], ◌∷◌, Option, Some, None, Result, Ok, Err, inl, inr}
+use Rattle.std.proofs.Common.{◌≡◌, refl, sym, ap, ◌∙◌, subst, ℕ, ◌≤◌, List, [], ◌∷◌, Bool, Option, Some, None, Result, Ok, Err, inl, inr}
 use Rattle.std.specs.List.Sorted.{IsPermutation}
 use Rattle.std.specs.Prelude.{Contains, IsTrue, ◌++◌}
 use Rattle.std.proofs.lemmas.List.Sorted.{IsPermutation-sym}
@@ -30,7 +30,7 @@ use Rattle.flu_top.specs.declared.refusals.PlanDefect.TheVariants as defects
 use Rattle.flu_top.specs.declared.refusals.Refusal.{Refusal}
 use Rattle.flu_top.specs.declared.refusals.Refusal.TheVariants as refusals
 use Rattle.flu_deps.specs.Checking.{program_of}
-use Rattle.flu_words.specs.Words.{Command, Valid, Run, Simulate}
+use Rattle.flu_words.specs.Words.{Command, Valid, Run, Simulate, Replay}
 use Rattle.flu_top.specs.Taking.{TookOnly}
 use Rattle.flu_top.specs.Behind.{WantedJob, Named, HasJob, HasPlan, job_files, plan_behind, report_behind}
 use Rattle.flu_top.specs.TextFaults.{IsFirstTextFault}
@@ -43,7 +43,7 @@ use Rattle.flu_top.specs.Reading.{InRounds, HaveWritten, MeetsDefect, ReportsNex
 use Rattle.flu_top.specs.Ready.{AreTextsRead, IsReady}
 use Rattle.flu_top.specs.Refusing.{IsRefusal}
 use Rattle.flu_top.specs.Running.{RanAll, RanToDefect, RanSome, RanInto, IsRoundsRefusal, EndsRun}
-use Rattle.flu_top.proofs.Sequence.{ends_at, may_have_ready, source_is_read}
+use Rattle.flu_top.proofs.Sequence.{ends_at, stays_ended, may_have_ready, source_is_read}
 
 -- ---- commands that read a job and a plan as `valid` does, before they read more
 pub record ReadsPlan (command : Command) (job plan : List ℕ) : Type 0 where
@@ -54,8 +54,11 @@ pub record ReadsPlan (command : Command) (job plan : List ℕ) : Type 0 where
 pub run_reads : (job plan : List ℕ) → ReadsPlan (Run job (Some plan)) job plan
 run_reads job plan = record { its_job = refl; its_plan = refl; accepted = refl }
 
-pub simulation_reads : (job plan : List ℕ) (seed : ℕ) → ReadsPlan (Simulate job plan seed) job plan
-simulation_reads job plan seed = record { its_job = refl; its_plan = refl; accepted = refl }
+pub simulation_reads : (job plan : List ℕ) (seed : ℕ) (trace : Bool) → ReadsPlan (Simulate job plan seed trace) job plan
+simulation_reads job plan seed trace = record { its_job = refl; its_plan = refl; accepted = refl }
+
+pub replay_reads : (job plan trace : List ℕ) → ReadsPlan (Replay job plan trace) job plan
+replay_reads job plan trace = record { its_job = refl; its_plan = refl; accepted = refl }
 
 both_texts : (command : Command) (job plan : List ℕ) → ReadsPlan command job plan → job ∷ plan ∷ [] ≡ texts_named command
 both_texts command job plan reads = λ i. job_files (sym reads.its_job i) ++ plan_files (sym reads.its_plan i)
@@ -74,14 +77,18 @@ ready_as_valid command job plan p a c reads ready =
 may_have_as : (wanted other : WantedJob) (p : Program) (left : Option Contents) → wanted ≡ other → MayHaveJob left other p → MayHaveJob left wanted p
 may_have_as wanted other p left same may = subst (λ (job : WantedJob). MayHaveJob left job p) (sym same) may
 
+no_trace : (trace : List ℕ) → None ≡ Some trace → ⊥
+no_trace trace named = cc
+
 wider : (command : Command) (job plan : List ℕ) (left : Option Contents) (name : List ℕ) → ReadsPlan command job plan → IsReadName left (Valid job plan) name → IsReadName left command name
 wider command job plan left name reads (inl same) = inl (reads.its_job ∙ same)
-wider command job plan left name reads (inr found) = inr (
+wider command job plan left name reads (inr (inl found)) = inr (inl (
   found.0,
   may_have_as (job_wanted command) (Named job) found.0 left reads.its_job found.1,
   λ asked. found.2 refl,
   Contains-append_left (plan_files (plan_named command)) (sources_read command found.0) name (subst (λ (o : Option (List ℕ)). Contains (plan_files o) name) (sym reads.its_plan) found.3),
-)
+))
+wider command job plan left name reads (inr (inr trace)) = absurd (no_trace name trace.named)
 
 pub only_as_valid : (command : Command) (job plan : List ℕ) (a c : Option Contents) → ReadsPlan command job plan → WhereTold a c (TookOnly (IsReadName a (Valid job plan))) → WhereTold a c (TookOnly (IsReadName a command))
 only_as_valid command job plan a c reads only =
@@ -113,6 +120,7 @@ refusal_as_valid command job plan a c k m (refusals.SourceFault other fault) rea
 refusal_as_valid command job plan a c k m refusals.ReadFault reads is = (is.0, wider command job plan a is.0 reads is.1, is.2)
 refusal_as_valid command job plan a c k m refusals.WriteFault reads is = is
 refusal_as_valid command job plan a c k m refusals.NoMemory reads is = tt
+refusal_as_valid command job plan a c k m (refusals.TraceFault fault) reads is = absurd (no_trace is.trace is.named)
 
 -- ---- the rounds of a run, behind its texts
 -- where it is told that a file was read, nothing is left of it
@@ -146,7 +154,8 @@ module _ (job : List ℕ) (plan : Option (List ℕ)) (p : Program) (a b d : Opti
               plan = first.plan;
               sources = subst (AreSound p) (lines_same u v first) second.0.0.0;
             };
-            ends = ends_at (Run job plan) p u v w refl first second.1 second.0.1;
+            ends = ends_at (Run job plan) p u v w refl first second.1 (stays_ended (files_of p.sources) v w second.1 second.0.1);
+            trace = λ trace named. absurd (cc);
           },
           second.0.0.1 ∙ ap (λ (left : Contents). report p (final_outputs p nothing_held (lists_of p left))) (sym first.texts.behind),
           refl,
@@ -204,13 +213,14 @@ module _ (job : List ℕ) (plan : Option (List ℕ)) (p : Program) (a b d : Opti
       record {
         why = (
           rose.0,
-          inr (p, may_have_ready (Run job plan) p a b ready, (λ asked. accepted), source_is_read (Run job plan) p rose.0 refl rose.1),
+          inr (inl (p, may_have_ready (Run job plan) p a b ready, (λ asked. accepted), source_is_read (Run job plan) p rose.0 refl rose.1)),
           rose_behind (k rose.0) (l rose.0) (m rose.0) (rise rose.0) rose.2,
         );
         wrote = inr (wrote_rounds is.1);
       }
   refused_in_rounds refusals.WriteFault is = record { rose = is.0; partly = wrote_into is.1 }
   refused_in_rounds refusals.NoMemory is = inr (wrote_rounds is)
+  refused_in_rounds (refusals.TraceFault fault) is = absurd is
 
   pub ends_run : (result : Result (Option DrawnSteps) Refusal) → WhereTold b d (LeavesOthers (files_of p.sources)) → EndsRun p (call b d l m had has x z) result
       → IsEnding (call a d k m had has x z) (Run job plan) result

@@ -24,12 +24,13 @@ use Rattle.flu_words.specs.Words.{Command}
 use Rattle.flu_top.specs.Taking.{TookOnly}
 use Rattle.flu_top.specs.Behind.{WantedJob, Named, Fixed, HasJob, job_files, emptied, fault_behind, report_behind}
 use Rattle.flu_top.specs.Reading.{Reading, Whole, is_read, AreSourcesGood}
-use Rattle.flu_top.specs.Wants.{job_wanted, plan_named, asks_accepted, how_read, reads_sources, plan_files, texts_named, sources_read, files_read, Writes}
-use Rattle.flu_top.specs.Done.{HasPlanAsked, IsRead, Says, MayHaveJob, IsReadName, IsWritten}
+use Rattle.flu_top.specs.Wants.{job_wanted, plan_named, trace_named, asks_accepted, how_read, reads_sources, plan_files, texts_named, sources_read, files_read, Writes}
+use Rattle.flu_top.specs.Done.{HasPlanAsked, IsGood, IsTraceRead, IsRead, Says, MayHaveJob, IsReadName, IsWritten}
 use Rattle.flu_top.specs.Ready.{AreTextsRead, IsReady}
 use Rattle.flu_top.specs.Jobs.{IsJobRefusal}
 use Rattle.flu_top.specs.Causes.{IsJobRead, HasJobFault, IsMet, HasSourceFault}
-use Rattle.flu_top.specs.Folding.{IsReported, IsReportRefusal}
+use Rattle.flu_top.specs.Folding.{AreSourcesRead, IsReported, IsReportRefusal}
+use Rattle.flu_top.specs.Replays.{StaysEnded}
 use Rattle.flu_top.specs.Refusing.{IsRefusal}
 
 -- ---- names
@@ -38,7 +39,7 @@ only_one one name (zero, lt, e) = e
 only_one one name (suc k, lt, e) = absurd (omega arith)
 
 -- a name is among others, or is not
-among : (names : List (List ℕ)) (name : List ℕ) → Contains names name ⊎ (Contains names name → ⊥)
+pub among : (names : List (List ℕ)) (name : List ℕ) → Contains names name ⊎ (Contains names name → ⊥)
 among [] name = inr (λ found. absurd (omega (arith, found.1)))
 among (other ∷ names) name = by_test (bytes_eq other name) refl (among names name)
   where
@@ -83,20 +84,24 @@ pub only_job : (command : Command) (job : List ℕ) (a b : Option Contents) → 
 only_job command job a b named taken =
     told_weaker (TakesFrom job) (TookOnly (IsReadName a command)) a b (λ x y took name unread. took.others name (λ same. unread (inl (named ∙ ap Named (sym same))))) taken
 
+pub text_is_read : (command : Command) (p : Program) (a b : Option Contents) → (IsTrue (asks_accepted command) → IsAccepted p) → WhereTold a b (IsReady command p)
+    → (name : List ℕ) → Contains (texts_named command) name → IsReadName a command name
+text_is_read command p a b accepted ready name found = elim (Contains-append_cases (job_files (job_wanted command)) (plan_files (plan_named command)) name found) [
+  | inl job ↦ inl (job_file (job_wanted command) name job)
+  | inr plan ↦ inr (inl (p, may_have_ready command p a b ready, accepted, Contains-append_left (plan_files (plan_named command)) (sources_read command p) name plan))
+]
+
+pub source_name_is_read : (command : Command) (p : Program) (a b : Option Contents) → IsTrue (reads_sources command) → (IsTrue (asks_accepted command) → IsAccepted p) → WhereTold a b (IsReady command p)
+    → (name : List ℕ) → Contains (files_of p.sources) name → IsReadName a command name
+source_name_is_read command p a b reads accepted ready name found = inr (inl (p, may_have_ready command p a b ready, accepted, source_is_read command p name reads found))
+
 pub only_ready : (command : Command) (p : Program) (a b c : Option Contents) → IsTrue (reads_sources command) → (IsTrue (asks_accepted command) → IsAccepted p)
     → WhereTold a b (IsReady command p) → WhereTold b c (LeavesOthers (files_of p.sources)) → WhereTold a c (TookOnly (IsReadName a command))
 only_ready command p a b c reads accepted ready others =
     told_then (IsReady command p) (LeavesOthers (files_of p.sources)) (TookOnly (IsReadName a command)) a b c
-    (λ x y z first left name unread. left name (λ found. unread (of_source name found)) ∙ first.texts.others name (λ found. unread (of_text name found))) ready others
-  where
-    of_source : (name : List ℕ) → Contains (files_of p.sources) name → IsReadName a command name
-    of_source name found = inr (p, may_have_ready command p a b ready, accepted, source_is_read command p name reads found)
-
-    of_text : (name : List ℕ) → Contains (texts_named command) name → IsReadName a command name
-    of_text name found = elim (Contains-append_cases (job_files (job_wanted command)) (plan_files (plan_named command)) name found) [
-      | inl job ↦ inl (job_file (job_wanted command) name job)
-      | inr plan ↦ inr (p, may_have_ready command p a b ready, accepted, Contains-append_left (plan_files (plan_named command)) (sources_read command p) name plan)
-    ]
+    (λ x y z first left name unread.
+    left name (λ found. unread (source_name_is_read command p a b reads accepted ready name found))
+    ∙ first.texts.others name (λ found. unread (text_is_read command p a b accepted ready name found))) ready others
 
 -- ---- the report of a job
 pub is_reported : (p : Program) (report : List ℕ) (lists : List (List Item)) (a b : Option Contents) → WhereTold a b (λ old _. AreGood p old) → WhereTold a b (λ old _. lists ≡ lists_of p old) → AreReadOut (files_of p.sources) b → report ≡ reports.report p (final_outputs p nothing_held lists) → WhereTold a b (IsReported p report)
@@ -104,7 +109,13 @@ is_reported p report lists None None good are ends is = tt
 is_reported p report lists None (Some y) good are ends is = good
 is_reported p report lists (Some x) None good are ends is = good
 is_reported p report lists (Some x) (Some y) good are ends is =
-    record { good = good; is = is ∙ ap (λ ls. reports.report p (final_outputs p nothing_held ls)) are; ends = ends }
+    record { read = record { good = good; ends = ends }; is = is ∙ ap (λ ls. reports.report p (final_outputs p nothing_held ls)) are }
+
+pub sources_are_read : (p : Program) (a b : Option Contents) → WhereTold a b (λ old _. AreGood p old) → AreReadOut (files_of p.sources) b → WhereTold a b (AreSourcesRead p)
+sources_are_read p None None good ends = tt
+sources_are_read p None (Some y) good ends = good
+sources_are_read p (Some x) None good ends = good
+sources_are_read p (Some x) (Some y) good ends = record { good = good; ends = ends }
 
 emptied_some : (o : Option (List ℕ)) → true ≡ is_some o → option_map {U = List ℕ} (λ (bytes : List ℕ). []) o ≡ Some []
 emptied_some None e = absurd (cc)
@@ -159,59 +170,61 @@ none_behind : (command : Command) (p : Program) (x y : Contents) → IsReady com
 unfolding fault_behind
 none_behind command p x y ready = ap (first_fault p) ready.texts.behind
 
+-- what was read to its end before some names stays so
+pub stays_ended : (names : List (List ℕ)) (y z : Contents) → ((name : List ℕ) → Contains names name → z name ≡ Some []) → LeavesOthers names y z → StaysEnded y z
+stays_ended names y z ends others name end = elim (among names name) [ inl found ↦ ends name found | inr missing ↦ others name missing ∙ end ]
+
 -- the texts of a command and its sources were read to their ends
 pub ends_at : (command : Command) (p : Program) (x y z : Contents) → IsTrue (reads_sources command) → IsReady command p x y
-    → ((name : List ℕ) → Contains (files_of p.sources) name → z name ≡ Some []) → LeavesOthers (files_of p.sources) y z
+    → ((name : List ℕ) → Contains (files_of p.sources) name → z name ≡ Some []) → StaysEnded y z
     → (name : List ℕ) → Contains (texts_named command ++ sources_read command p) name → z name ≡ Some []
-ends_at command p x y z reads first sources others name found = by_name name (Contains-append_cases (texts_named command) (sources_read command p) name found)
+ends_at command p x y z reads first sources stays name found = by_name name (Contains-append_cases (texts_named command) (sources_read command p) name found)
   where
-    text_end : (name : List ℕ) → Contains (texts_named command) name → z name ≡ Some []
-    text_end name text =
-        elim (among (files_of p.sources) name) [ inl found ↦ sources name found | inr missing ↦ others name missing ∙ first.texts.ends name text ]
-
     by_name : (name : List ℕ) → Contains (texts_named command) name ⊎ Contains (sources_read command p) name → z name ≡ Some []
-    by_name name (inl text) = text_end name text
+    by_name name (inl text) = stays name (first.texts.ends name text)
     by_name name (inr found) = sources name (subst (λ (b : Bool). Contains (if b then files_of p.sources else []) name) reads found)
 
-read_at : (command : Command) (p : Program) (report : List ℕ) (x y z : Contents) → how_read command ≡ Whole → (IsTrue (asks_accepted command) → IsAccepted p)
-    → IsReady command p x y → IsReported p report y z × LeavesOthers (files_of p.sources) y z → IsRead command p x z
-read_at command p report x y z whole accepted first second = record {
-  good = record {
-    has = first.has;
-    accepted = accepted;
-    plan = first.plan;
-    sources = subst (λ (r : Reading). AreSourcesGood r (texts_named command) x p) (sym whole) (none_behind command p x y first ∙ second.0.good);
-  };
-  ends = ends_at command p x y z (ap is_read whole) first second.0.ends second.1;
+-- a command whose texts are read before its sources, and a trace behind them
+pub good_at : (command : Command) (p : Program) (x y : Contents) → how_read command ≡ Whole → (IsTrue (asks_accepted command) → IsAccepted p)
+    → IsReady command p x y → first_fault p y ≡ None → IsGood command x p
+good_at command p x y whole accepted first good = record {
+  has = first.has;
+  accepted = accepted;
+  plan = first.plan;
+  sources = subst (λ (r : Reading). AreSourcesGood r (texts_named command) x p) (sym whole) (none_behind command p x y first ∙ good);
+}
+
+-- a command that names no trace reads none
+pub no_trace_read : (command : Command) (p : Program) (x z : Contents) → trace_named command ≡ None → IsTraceRead command p x z
+no_trace_read command p x z untraced trace named = let e = sym untraced ∙ named in absurd (cc)
+
+pub read_at : (command : Command) (p : Program) (x y z : Contents) → how_read command ≡ Whole → (IsTrue (asks_accepted command) → IsAccepted p)
+    → IsReady command p x y → AreSourcesRead p y z → StaysEnded y z → IsTraceRead command p x z → IsRead command p x z
+read_at command p x y z whole accepted first read stays trace = record {
+  good = good_at command p x y whole accepted first read.good;
+  ends = ends_at command p x y z (ap is_read whole) first read.ends stays;
+  trace = trace;
 }
 
 -- the report of a job whose texts were read before its sources
-report_at : (command : Command) (p : Program) (report : List ℕ) (x y z : Contents) → IsReady command p x y → IsReported p report y z → report ≡ report_behind (texts_named command) x p
+pub report_at : (command : Command) (p : Program) (report : List ℕ) (x y z : Contents) → IsReady command p x y → IsReported p report y z → report ≡ report_behind (texts_named command) x p
 unfolding report_behind
 report_at command p report x y z first second = second.is ∙ ap (λ left. reports.report p (final_outputs p nothing_held (lists_of p left))) (sym first.texts.behind)
-
--- all was read, and this is the report of the command's job
-pub record HasReport (command : Command) (p : Program) (report : List ℕ) (x z : Contents) : Type 0 where
-  pub read : IsRead command p x z
-  pub is : report ≡ report_behind (texts_named command) x p
-
-pub has_report : (command : Command) (p : Program) (report : List ℕ) (a b c : Option Contents) → how_read command ≡ Whole → (IsTrue (asks_accepted command) → IsAccepted p)
-    → WhereTold a b (IsReady command p) → WhereTold b c (LeavesOthers (files_of p.sources)) → WhereTold b c (IsReported p report) → WhereTold a c (HasReport command p report)
-has_report command p report a b c whole accepted ready others reported =
-    told_then (IsReady command p) (λ y z. IsReported p report y z × LeavesOthers (files_of p.sources) y z) (HasReport command p report) a b c
-    (λ x y z first second. record { read = read_at command p report x y z whole accepted first second; is = report_at command p report x y z first second.0 })
-    ready (told_both (IsReported p report) (LeavesOthers (files_of p.sources)) b c reported others)
 
 -- the command writes the report of its job, and says nothing
 abbrev pub WritesReport : Command → Type 0
 WritesReport command =
     (left : Contents) (p : Program) (text : List ℕ) → text ≡ report_behind (texts_named command) left p → Writes command left p text × Says command left p []
 
-pub is_reported_behind : (command : Command) (p : Program) (report : List ℕ) (a b c : Option Contents) → how_read command ≡ Whole → (IsTrue (asks_accepted command) → IsAccepted p)
+pub is_reported_behind : (command : Command) (p : Program) (report : List ℕ) (a b c : Option Contents) → how_read command ≡ Whole → (IsTrue (asks_accepted command) → IsAccepted p) → trace_named command ≡ None
     → WritesReport command → WhereTold a b (IsReady command p) → WhereTold b c (LeavesOthers (files_of p.sources)) → WhereTold b c (IsReported p report) → WhereTold a c (IsWritten command report [])
-is_reported_behind command p report a b c whole accepted writes ready others reported =
-    told_weaker (HasReport command p report) (IsWritten command report []) a c
-    (λ x z has. let both = writes x p report has.is in (p, has.read, both.0, both.1)) (has_report command p report a b c whole accepted ready others reported)
+is_reported_behind command p report a b c whole accepted untraced writes ready others reported =
+    told_then (IsReady command p) (λ y z. IsReported p report y z × LeavesOthers (files_of p.sources) y z) (IsWritten command report []) a b c
+    (λ x y z first second.
+    let both = writes x p report (report_at command p report x y z first second.0) in
+    let read = second.0.read in
+    (p, read_at command p x y z whole accepted first read (stays_ended (files_of p.sources) y z read.ends second.1) (no_trace_read command p x z untraced), both.0, both.1))
+    ready (told_both (IsReported p report) (LeavesOthers (files_of p.sources)) b c reported others)
 
 -- ---- what refuses a job
 pub job_refusal : (command : Command) (job : List ℕ) (a b : Option Contents) (before now : List ℕ → ℕ) (refusal : Refusal) → job_wanted command ≡ Named job → IsJobRefusal job a b before now refusal → IsRefusal command a b before now refusal
@@ -223,6 +236,7 @@ job_refusal command job a b before now (refusals.SourceFault p fault) named is =
 job_refusal command job a b before now refusals.ReadFault named is = (job, inl named, is)
 job_refusal command job a b before now refusals.WriteFault named is = is
 job_refusal command job a b before now refusals.NoMemory named is = is
+job_refusal command job a b before now (refusals.TraceFault fault) named is = absurd is
 
 pub report_refusal : (command : Command) (p : Program) (a b c : Option Contents) (k l m : List ℕ → ℕ) (refusal : Refusal) → how_read command ≡ Whole
     → (IsTrue (asks_accepted command) → IsAccepted p) → WhereTold a b (IsReady command p) → ((n : List ℕ) → k n ≤ l n) → IsReportRefusal p b c l m refusal → IsRefusal command a c k m refusal
@@ -241,6 +255,7 @@ report_refusal command p a b c k l m (refusals.SourceFault q fault) whole accept
           (λ x y z first e. (first.has, first.plan, subst (λ (r : Reading). IsMet r (texts_named command) x p [] fault) (sym whole) (none_behind command p x y first ∙ e))) ready is.first;
     }
 report_refusal command p a b c k l m refusals.ReadFault whole accepted ready rise is =
-    (is.0, inr (p, may_have_ready command p a b ready, accepted, source_is_read command p is.0 (ap is_read whole) is.1), rose_behind (k is.0) (l is.0) (m is.0) (rise is.0) is.2)
+    (is.0, inr (inl (p, may_have_ready command p a b ready, accepted, source_is_read command p is.0 (ap is_read whole) is.1)), rose_behind (k is.0) (l is.0) (m is.0) (rise is.0) is.2)
 report_refusal command p a b c k l m refusals.WriteFault reads accepted ready rise is = is
 report_refusal command p a b c k l m refusals.NoMemory reads accepted ready rise is = tt
+report_refusal command p a b c k l m (refusals.TraceFault fault) reads accepted ready rise is = absurd is

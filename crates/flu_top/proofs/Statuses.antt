@@ -1,5 +1,5 @@
 -- What an outcome says at each status.
-use Rattle.std.proofs.Common.{◌≡◌, ◌≢◌, ◌<◌, refl, sym, ◌∙◌, subst, ℕ, List, [], ◌∷◌, Option, Ok, Err, arith}
+use Rattle.std.proofs.Common.{◌≡◌, ◌≢◌, ◌<◌, ◌≤◌, refl, sym, ◌∙◌, subst, ℕ, List, [], ◌∷◌, Bool, Option, Ok, Err, inl, inr, ◌⊎◌, arith}
 use Rattle.std.specs.Prelude.{Contains, IsTrue, ◌↔◌}
 use Rattle.std.proofs.lemmas.Bool.{false≢true}
 use Rattle.flu_model.specs.declared.jobs.Program.{Program}
@@ -7,17 +7,18 @@ use Rattle.flu_parse.specs.declared.faults.JobFault.{JobFault}
 use Rattle.flu_check.specs.declared.CheckFault.{CheckFault}
 use Rattle.flu_streams.specs.declared.faults.SourceFault.{SourceFault}
 use Rattle.flu_top.specs.declared.refusals.PlanDefect.{PlanDefect}
+use Rattle.flu_trace.specs.declared.faults.ReplayFault.{ReplayFault}
 use Rattle.flu_words.specs.Words.{Command, Simulate, command_in}
 use Rattle.flu_top.specs.Reading.{Reading, Unread, Whole, InRounds}
 use Rattle.flu_top.specs.Wants.{Saying, Nothing, Line, want, job_wanted, how_read, says_nothing, is_nothing}
 use Rattle.flu_top.specs.Done.{IsDone, WhereKnown, Wrote, WroteSome, WrotePart}
-use Rattle.flu_top.specs.Causes.{HasJobFault, HasConflict, HasPlanDefect, HasSourceFault}
+use Rattle.flu_top.specs.Causes.{HasJobFault, HasConflict, HasPlanDefect, HasSourceFault, HasTraceFault}
 use Rattle.flu_top.specs.Names.{source_name}
 use Rattle.flu_top.specs.Simulating.{IsLineOfRun, IsStepLine}
 use Rattle.flu_top.specs.Behind.{Named, HasJob}
 use Rattle.flu_outside.specs.Outside.{Contents, WhereTold}
 use Rattle.flu_lemmas.proofs.Told.{told_weaker}
-use Rattle.flu_top.specs.Lines.{bad_words_line, job_fault_line, conflict_line, plan_defect_line, source_fault_line, read_fault_line, write_fault_line, no_memory_line}
+use Rattle.flu_top.specs.Lines.{bad_words_line, job_fault_line, conflict_line, plan_defect_line, source_fault_line, read_fault_line, write_fault_line, no_memory_line, trace_fault_line}
 use Rattle.flu_top.specs.Outcome.{Outside, Said, Hears, Refused, Outcome}
 use Rattle.flu_top.specs.Outcome as cases
 
@@ -32,6 +33,7 @@ at_0 words old new status (cases.BadSource is command word p fault text has wrot
 at_0 words old new status (cases.ReadFailed is command word some said) e = absurd (omega (arith, is, e))
 at_0 words old new status (cases.WriteFailed is command word partly said) e = absurd (omega (arith, is, e))
 at_0 words old new status (cases.NoMemory is command word some said) e = absurd (omega (arith, is, e))
+at_0 words old new status (cases.BadTrace is command word fault has refused) e = absurd (omega (arith, is, e))
 
 pub at_2 : (words : List (List ℕ)) (old new : Outside) (status : ℕ) → Outcome words old new status → status ≡ 2 → (at : ℕ) × (command_in words ≡ Err at) × (new.left ≡ old.left) × Refused old new (bad_words_line at)
 at_2 words old new status (cases.Done is command word line done heard) e = absurd (omega (arith, is, e))
@@ -43,6 +45,7 @@ at_2 words old new status (cases.BadSource is command word p fault text has wrot
 at_2 words old new status (cases.ReadFailed is command word some said) e = absurd (omega (arith, is, e))
 at_2 words old new status (cases.WriteFailed is command word partly said) e = absurd (omega (arith, is, e))
 at_2 words old new status (cases.NoMemory is command word some said) e = absurd (omega (arith, is, e))
+at_2 words old new status (cases.BadTrace is command word fault has refused) e = absurd (omega (arith, is, e))
 
 pub at_3 : (words : List (List ℕ)) (old new : Outside) (status : ℕ) → Outcome words old new status → status ≡ 3 → (command : Command) × (fault : JobFault) × (command_in words ≡ Ok command) × HasJobFault (job_wanted command) old.left new.left fault × Refused old new (job_fault_line fault)
 at_3 words old new status (cases.Done is command word line done heard) e = absurd (omega (arith, is, e))
@@ -54,6 +57,7 @@ at_3 words old new status (cases.BadSource is command word p fault text has wrot
 at_3 words old new status (cases.ReadFailed is command word some said) e = absurd (omega (arith, is, e))
 at_3 words old new status (cases.WriteFailed is command word partly said) e = absurd (omega (arith, is, e))
 at_3 words old new status (cases.NoMemory is command word some said) e = absurd (omega (arith, is, e))
+at_3 words old new status (cases.BadTrace is command word fault has refused) e = absurd (omega (arith, is, e))
 
 pub at_4 : (words : List (List ℕ)) (old new : Outside) (status : ℕ) → Outcome words old new status → status ≡ 4 → (command : Command) × (fault : CheckFault) × (command_in words ≡ Ok command) × HasConflict command old.left new.left fault × Refused old new (conflict_line fault)
 at_4 words old new status (cases.Done is command word line done heard) e = absurd (omega (arith, is, e))
@@ -65,6 +69,7 @@ at_4 words old new status (cases.BadSource is command word p fault text has wrot
 at_4 words old new status (cases.ReadFailed is command word some said) e = absurd (omega (arith, is, e))
 at_4 words old new status (cases.WriteFailed is command word partly said) e = absurd (omega (arith, is, e))
 at_4 words old new status (cases.NoMemory is command word some said) e = absurd (omega (arith, is, e))
+at_4 words old new status (cases.BadTrace is command word fault has refused) e = absurd (omega (arith, is, e))
 
 pub at_5 : (words : List (List ℕ)) (old new : Outside) (status : ℕ) → Outcome words old new status → status ≡ 5 → (command : Command) × (defect : PlanDefect) × (command_in words ≡ Ok command) × HasPlanDefect command old.left new.left defect × Refused old new (plan_defect_line defect)
 at_5 words old new status (cases.Done is command word line done heard) e = absurd (omega (arith, is, e))
@@ -76,6 +81,7 @@ at_5 words old new status (cases.BadSource is command word p fault text has wrot
 at_5 words old new status (cases.ReadFailed is command word some said) e = absurd (omega (arith, is, e))
 at_5 words old new status (cases.WriteFailed is command word partly said) e = absurd (omega (arith, is, e))
 at_5 words old new status (cases.NoMemory is command word some said) e = absurd (omega (arith, is, e))
+at_5 words old new status (cases.BadTrace is command word fault has refused) e = absurd (omega (arith, is, e))
 
 pub at_6 : (words : List (List ℕ)) (old new : Outside) (status : ℕ) → Outcome words old new status → status ≡ 6 → (command : Command) × (p : Program) × (fault : SourceFault) × (text : List ℕ) × (command_in words ≡ Ok command) × HasSourceFault command old.left new.left p fault text × Wrote (how_read command) text old.out new.out × Said old new (source_fault_line (source_name p fault.source) fault.row fault.why)
 at_6 words old new status (cases.Done is command word line done heard) e = absurd (omega (arith, is, e))
@@ -87,6 +93,7 @@ at_6 words old new status (cases.BadSource is command word p fault text has wrot
 at_6 words old new status (cases.ReadFailed is command word some said) e = absurd (omega (arith, is, e))
 at_6 words old new status (cases.WriteFailed is command word partly said) e = absurd (omega (arith, is, e))
 at_6 words old new status (cases.NoMemory is command word some said) e = absurd (omega (arith, is, e))
+at_6 words old new status (cases.BadTrace is command word fault has refused) e = absurd (omega (arith, is, e))
 
 pub at_7 : (words : List (List ℕ)) (old new : Outside) (status : ℕ) → Outcome words old new status → status ≡ 7 → (command : Command) × (command_in words ≡ Ok command) × WroteSome (how_read command) command old.left new.left old.out new.out × Said old new read_fault_line
 at_7 words old new status (cases.Done is command word line done heard) e = absurd (omega (arith, is, e))
@@ -98,6 +105,7 @@ at_7 words old new status (cases.BadSource is command word p fault text has wrot
 at_7 words old new status (cases.ReadFailed is command word some said) e = (command, word, some, said)
 at_7 words old new status (cases.WriteFailed is command word partly said) e = absurd (omega (arith, is, e))
 at_7 words old new status (cases.NoMemory is command word some said) e = absurd (omega (arith, is, e))
+at_7 words old new status (cases.BadTrace is command word fault has refused) e = absurd (omega (arith, is, e))
 
 pub at_8 : (words : List (List ℕ)) (old new : Outside) (status : ℕ) → Outcome words old new status → status ≡ 8 → (command : Command) × (command_in words ≡ Ok command) × WrotePart (how_read command) command old.left new.left old.out new.out × Said old new write_fault_line
 at_8 words old new status (cases.Done is command word line done heard) e = absurd (omega (arith, is, e))
@@ -109,6 +117,7 @@ at_8 words old new status (cases.BadSource is command word p fault text has wrot
 at_8 words old new status (cases.ReadFailed is command word some said) e = absurd (omega (arith, is, e))
 at_8 words old new status (cases.WriteFailed is command word partly said) e = (command, word, partly, said)
 at_8 words old new status (cases.NoMemory is command word some said) e = absurd (omega (arith, is, e))
+at_8 words old new status (cases.BadTrace is command word fault has refused) e = absurd (omega (arith, is, e))
 
 pub at_9 : (words : List (List ℕ)) (old new : Outside) (status : ℕ) → Outcome words old new status → status ≡ 9 → (command : Command) × (command_in words ≡ Ok command) × WroteSome (how_read command) command old.left new.left old.out new.out × Said old new no_memory_line
 at_9 words old new status (cases.Done is command word line done heard) e = absurd (omega (arith, is, e))
@@ -120,9 +129,22 @@ at_9 words old new status (cases.BadSource is command word p fault text has wrot
 at_9 words old new status (cases.ReadFailed is command word some said) e = absurd (omega (arith, is, e))
 at_9 words old new status (cases.WriteFailed is command word partly said) e = absurd (omega (arith, is, e))
 at_9 words old new status (cases.NoMemory is command word some said) e = (command, word, some, said)
+at_9 words old new status (cases.BadTrace is command word fault has refused) e = absurd (omega (arith, is, e))
+
+pub at_13 : (words : List (List ℕ)) (old new : Outside) (status : ℕ) → Outcome words old new status → status ≡ 13 → (command : Command) × (fault : ReplayFault) × (command_in words ≡ Ok command) × HasTraceFault command old.left new.left fault × Refused old new (trace_fault_line fault)
+at_13 words old new status (cases.Done is command word line done heard) e = absurd (omega (arith, is, e))
+at_13 words old new status (cases.BadWords is at word files refused) e = absurd (omega (arith, is, e))
+at_13 words old new status (cases.BadJob is command word fault has refused) e = absurd (omega (arith, is, e))
+at_13 words old new status (cases.Conflicts is command word fault has refused) e = absurd (omega (arith, is, e))
+at_13 words old new status (cases.BadPlan is command word defect has refused) e = absurd (omega (arith, is, e))
+at_13 words old new status (cases.BadSource is command word p fault text has wrote said) e = absurd (omega (arith, is, e))
+at_13 words old new status (cases.ReadFailed is command word some said) e = absurd (omega (arith, is, e))
+at_13 words old new status (cases.WriteFailed is command word partly said) e = absurd (omega (arith, is, e))
+at_13 words old new status (cases.NoMemory is command word some said) e = absurd (omega (arith, is, e))
+at_13 words old new status (cases.BadTrace is command word fault has refused) e = (command, fault, word, has, refused)
 
 -- ---- what holds at more than one status
-pub known_status : (words : List (List ℕ)) (old new : Outside) (status : ℕ) → Outcome words old new status → Contains (0 ∷ 2 ∷ 3 ∷ 4 ∷ 5 ∷ 6 ∷ 7 ∷ 8 ∷ 9 ∷ []) status
+pub known_status : (words : List (List ℕ)) (old new : Outside) (status : ℕ) → Outcome words old new status → Contains (0 ∷ 2 ∷ 3 ∷ 4 ∷ 5 ∷ 6 ∷ 7 ∷ 8 ∷ 9 ∷ 13 ∷ []) status
 known_status words old new status (cases.Done is command word line done heard) = (0, omega arith, sym is)
 known_status words old new status (cases.BadWords is at word files refused) = (1, omega arith, sym is)
 known_status words old new status (cases.BadJob is command word fault has refused) = (2, omega arith, sym is)
@@ -132,6 +154,7 @@ known_status words old new status (cases.BadSource is command word p fault text 
 known_status words old new status (cases.ReadFailed is command word some said) = (6, omega arith, sym is)
 known_status words old new status (cases.WriteFailed is command word partly said) = (7, omega arith, sym is)
 known_status words old new status (cases.NoMemory is command word some said) = (8, omega arith, sym is)
+known_status words old new status (cases.BadTrace is command word fault has refused) = (9, omega arith, sym is)
 
 -- where nothing is read in rounds nothing was written
 wrote_unread : (reading : Reading) (text : List ℕ) (had has : Option (List ℕ)) → reading ≢ InRounds → Wrote reading text had has → has ≡ had
@@ -155,17 +178,24 @@ nothing_written words old new status (cases.BadSource is command word p fault te
 nothing_written words old new status (cases.ReadFailed is command word some said) done' other apart = some_unread (how_read command) command old.left new.left old.out new.out (apart command word) some
 nothing_written words old new status (cases.WriteFailed is command word partly said) done' other apart = absurd (other is)
 nothing_written words old new status (cases.NoMemory is command word some said) done' other apart = some_unread (how_read command) command old.left new.left old.out new.out (apart command word) some
+nothing_written words old new status (cases.BadTrace is command word fault has refused) done' other apart = refused.nothing
 
-pub refused_unwritten : (words : List (List ℕ)) (old new : Outside) (status : ℕ) → Outcome words old new status → status ≢ 0 → status < 6 → new.out ≡ old.out
+-- a status below 6, or 13, is none between them
+none_between : (n status : ℕ) → 6 ≤ n → n < 13 → status ≡ n → (status < 6) ⊎ (status ≡ 13) → ⊥
+none_between n status least most is (inl low) = omega (arith, least, is, low)
+none_between n status least most is (inr last) = omega (arith, most, is, last)
+
+pub refused_unwritten : (words : List (List ℕ)) (old new : Outside) (status : ℕ) → Outcome words old new status → status ≢ 0 → (status < 6) ⊎ (status ≡ 13) → new.out ≡ old.out
 refused_unwritten words old new status (cases.Done is command word line done heard) done' low = absurd (done' is)
 refused_unwritten words old new status (cases.BadWords is at word files refused) done' low = refused.nothing
 refused_unwritten words old new status (cases.BadJob is command word fault has refused) done' low = refused.nothing
 refused_unwritten words old new status (cases.Conflicts is command word fault has refused) done' low = refused.nothing
 refused_unwritten words old new status (cases.BadPlan is command word defect has refused) done' low = refused.nothing
-refused_unwritten words old new status (cases.BadSource is command word p fault text has wrote said) done' low = absurd (omega (arith, is, low))
-refused_unwritten words old new status (cases.ReadFailed is command word some said) done' low = absurd (omega (arith, is, low))
-refused_unwritten words old new status (cases.WriteFailed is command word partly said) done' low = absurd (omega (arith, is, low))
-refused_unwritten words old new status (cases.NoMemory is command word some said) done' low = absurd (omega (arith, is, low))
+refused_unwritten words old new status (cases.BadSource is command word p fault text has wrote said) done' low = absurd (none_between 6 status (omega arith) (omega arith) is low)
+refused_unwritten words old new status (cases.ReadFailed is command word some said) done' low = absurd (none_between 7 status (omega arith) (omega arith) is low)
+refused_unwritten words old new status (cases.WriteFailed is command word partly said) done' low = absurd (none_between 8 status (omega arith) (omega arith) is low)
+refused_unwritten words old new status (cases.NoMemory is command word some said) done' low = absurd (none_between 9 status (omega arith) (omega arith) is low)
+refused_unwritten words old new status (cases.BadTrace is command word fault has refused) done' low = refused.nothing
 
 -- words that are no command have status 2, and no others
 pub no_command : (words : List (List ℕ)) (command : Command) (at : ℕ) → command_in words ≡ Ok command → command_in words ≡ Err at → ⊥
@@ -184,6 +214,7 @@ of_no_command words old new status (cases.BadSource is command word p fault text
 of_no_command words old new status (cases.ReadFailed is command word some said) place bad = absurd (no_command words command place word bad)
 of_no_command words old new status (cases.WriteFailed is command word partly said) place bad = absurd (no_command words command place word bad)
 of_no_command words old new status (cases.NoMemory is command word some said) place bad = absurd (no_command words command place word bad)
+of_no_command words old new status (cases.BadTrace is command word fault has refused) place bad = absurd (no_command words command place word bad)
 
 pub bad_words_exactly : (words : List (List ℕ)) (old new : Outside) (status : ℕ) → Outcome words old new status → (status ≡ 2) ↔ ((at : ℕ) × (command_in words ≡ Err at))
 bad_words_exactly words old new status outcome =
@@ -204,14 +235,14 @@ quiet_at_0 words old new status outcome is command word nothing =
     let same = same_command words command found.0 word found.2 in
     heard_nothing (want found.0).says old new found.1 (subst (λ (d : Command). IsTrue (says_nothing d)) same nothing) found.4
 
-pub heard_at_0 : (words : List (List ℕ)) (old new : Outside) (status : ℕ) → Outcome words old new status → status ≡ 0 → (job plan : List ℕ) (seed : ℕ) → command_in words ≡ Ok (Simulate job plan seed)
+pub heard_at_0 : (words : List (List ℕ)) (old new : Outside) (status : ℕ) → Outcome words old new status → status ≡ 0 → (job plan : List ℕ) (seed : ℕ) (trace : Bool) → command_in words ≡ Ok (Simulate job plan seed trace)
     → (line : List ℕ) × IsStepLine line × Said old new line × WhereTold old.left new.left (λ left _. (p : Program) × HasJob (Named job) left p × IsLineOfRun job plan seed left p line)
-heard_at_0 words old new status outcome is job plan seed word =
+heard_at_0 words old new status outcome is job plan seed trace word =
     let found = at_0 words old new status outcome is in
     let line = found.1 in
-    let same = same_command words found.0 (Simulate job plan seed) found.2 word in
+    let same = same_command words found.0 (Simulate job plan seed trace) found.2 word in
     let done = subst (λ (d : Command). WhereKnown (job_wanted d) old.left new.left (IsDone d old.out new.out line)) same found.3 in
     let heard = subst (λ (d : Command). Hears (want d).says old new line) same found.4 in
-    let told = told_weaker (IsDone (Simulate job plan seed) old.out new.out line) (λ left _. (p : Program) × HasJob (Named job) left p × IsLineOfRun job plan seed left p line) old.left new.left
+    let told = told_weaker (IsDone (Simulate job plan seed trace) old.out new.out line) (λ left _. (p : Program) × HasJob (Named job) left p × IsLineOfRun job plan seed left p line) old.left new.left
     (λ x y d. (d.0, d.2.good.has, d.4)) done in
     (line, heard.0, heard.1, told)

@@ -67,6 +67,7 @@ validated_at job plan p nodes text x z accepted is both = (
   record {
     good = record { has = both.0.has; accepted = λ asked. accepted; plan = both.0.plan; sources = tt };
     ends = both.0.texts.ends;
+    trace = λ trace named. absurd (cc);
   },
   record { nodes = nodes; has = both.1; is = is },
   refl,
@@ -82,7 +83,7 @@ pub only_with_plan : (job plan : List ℕ) (p : Program) (a b c : Option Content
 only_with_plan job plan p a b c read taken accepted also =
     let may = may_have job p a b read in
     told_then (TakesFrom job) (TakesFrom plan) (TookOnly (IsReadName a (Valid job plan))) a b c
-    (λ x y z took more name unread. more.others name (λ same. unread (inr (p, may, λ asked. accepted, (0, omega arith, sym same)))) ∙ took.others name (λ same. unread (inl (ap Named (sym same))))) taken also
+    (λ x y z took more name unread. more.others name (λ same. unread (inr (inl (p, may, λ asked. accepted, (0, omega arith, sym same))))) ∙ took.others name (λ same. unread (inl (ap Named (sym same))))) taken also
 
 -- ---- what refuses a plan
 pub text_refusal : (job plan : List ℕ) (p : Program) (a b c : Option Contents) (k l m : List ℕ → ℕ) (refusal : Refusal) → WhereTold a b (IsJobRead job p) → WhereTold a b (TakesFrom job) → ((n : List ℕ) → k n ≤ l n) → IsAccepted p → IsTextRefusal p plan b c l m refusal → IsRefusal (Valid job plan) a c k m refusal
@@ -101,9 +102,10 @@ text_refusal job plan p a b c k l m (refusals.PlanDefect (defects.Text fault)) r
 text_refusal job plan p a b c k l m (refusals.PlanDefect (defects.Invalid checked fault)) read taken rise accepted is = absurd is
 text_refusal job plan p a b c k l m (refusals.SourceFault q fault) read taken rise accepted is = absurd is
 text_refusal job plan p a b c k l m refusals.ReadFault read taken rise accepted is =
-    (plan, inr (p, may_have job p a b read, λ asked. accepted, (0, omega arith, refl)), rose_behind (k plan) (l plan) (m plan) (rise plan) is)
+    (plan, inr (inl (p, may_have job p a b read, λ asked. accepted, (0, omega arith, refl))), rose_behind (k plan) (l plan) (m plan) (rise plan) is)
 text_refusal job plan p a b c k l m refusals.WriteFault read taken rise accepted is = is
 text_refusal job plan p a b c k l m refusals.NoMemory read taken rise accepted is = tt
+text_refusal job plan p a b c k l m (refusals.TraceFault fault) read taken rise accepted is = absurd is
 
 pub valid_refusal : (job plan : List ℕ) (checked : Checked) (nodes : List Node) (a b c : Option Contents) (k m : List ℕ → ℕ) (refusal : Refusal) → WhereTold a b (IsJobRead job (program_of checked)) → WhereTold a b (TakesFrom job) → IsAccepted (program_of checked) → WhereTold b c (IsPlanRead (program_of checked) plan nodes) → IsValidRefusal checked nodes refusal → IsRefusal (Valid job plan) a c k m refusal
 valid_refusal job plan checked nodes a b c k m (refusals.BadWords bad) read taken accepted found is = is
@@ -125,3 +127,4 @@ valid_refusal job plan checked nodes a b c k m (refusals.SourceFault q fault) re
 valid_refusal job plan checked nodes a b c k m refusals.ReadFault read taken accepted found is = absurd is
 valid_refusal job plan checked nodes a b c k m refusals.WriteFault read taken accepted found is = is
 valid_refusal job plan checked nodes a b c k m refusals.NoMemory read taken accepted found is = tt
+valid_refusal job plan checked nodes a b c k m (refusals.TraceFault fault) read taken accepted found is = absurd is

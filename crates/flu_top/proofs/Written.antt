@@ -7,7 +7,7 @@ use Rattle.std.specs.Prelude.{IsErr, codes}
 use Rattle.std.specs.Fmt.{decimal}
 use Rattle.flu_model.specs.declared.limits.What.{What}
 use Rattle.flu_streams.specs.declared.faults.Why.TheVariants.{Disordered, TooMany}
-use Rattle.flu_top.specs.Lines.{what_word, limit_text, fault_line, row_line, source_fault_line}
+use Rattle.flu_top.specs.Lines.{what_word, limit_text, fault_line, row_line, source_fault_line, trace_line}
 use Rattle.flu_lemmas.proofs.Named.{rose_behind}
 use Rattle.flu_lemmas.proofs.Told.{told_then, told_weaker, told_same}
 use Rattle.flu_outside.specs.declared.sink.Failed.{Failed}
@@ -106,6 +106,13 @@ limit_line head word digits what count is are =
     (λ i. limit_pieces head (is i) (are i))
     ∙ (ap (λ l. head ++ l) (joined_4 (codes "over limit ") (what_word what) (codes " ") (decimal count) (codes "\n"))
     ∙ sym (append_assoc head (limit_text what count) (codes "\n")))
+
+-- the line of what stops the replay of a trace
+abbrev pub trace_pieces : List ℕ → List ℕ → List ℕ
+trace_pieces digits why = codes "flumina: trace line " ++ (digits ++ (codes ": " ++ (why ++ codes "\n")))
+
+pub trace_line_of : (digits why : List ℕ) (line : ℕ) → digits ≡ decimal line → trace_pieces digits why ≡ trace_line line why
+trace_line_of digits why line is = ap (λ d. trace_pieces d why) is ∙ joined_4 (codes "flumina: trace line ") (decimal line) (codes ": ") why (codes "\n")
 
 -- the line of a row, of its first pieces and what comes behind them
 abbrev pub row_pieces : List ℕ → List ℕ → List ℕ → List ℕ

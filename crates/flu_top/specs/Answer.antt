@@ -6,13 +6,15 @@ use Rattle.flu_plan.specs.declared.fault.PlanFault.{PlanFault}
 use Rattle.flu_plan.specs.declared.fault.PlanFault.TheVariants as plans
 use Rattle.flu_outside.specs.declared.files.TakeFault.{TakeFault}
 use Rattle.flu_outside.specs.declared.files.TakeFault.TheVariants as takes
+use Rattle.flu_trace.specs.declared.faults.ReplayFault.{ReplayFault}
+use Rattle.flu_trace.specs.declared.faults.ReplayFault.TheVariants as traces
 use Rattle.flu_top.specs.declared.products.DrawnSteps.{DrawnSteps}
 use Rattle.flu_top.specs.declared.refusals.PlanDefect.TheVariants as defects
 use Rattle.flu_top.specs.declared.refusals.Refusal.{Refusal}
 use Rattle.flu_top.specs.declared.refusals.Refusal.TheVariants as refusals
 use Rattle.flu_top.specs.Jobs.{program_read}
 use Rattle.flu_top.specs.Names.{source_name}
-use Rattle.flu_top.specs.Lines.{bad_words_line, job_fault_line, conflict_line, plan_defect_line, source_fault_line, read_fault_line, write_fault_line, no_memory_line, step_line, IsSaid}
+use Rattle.flu_top.specs.Lines.{bad_words_line, job_fault_line, conflict_line, plan_defect_line, source_fault_line, read_fault_line, write_fault_line, no_memory_line, trace_fault_line, step_line, IsSaid}
 
 abbrev pub status_of : Refusal → ℕ
 status_of (refusals.BadWords bad) = 2
@@ -23,6 +25,7 @@ status_of (refusals.SourceFault job fault) = 6
 status_of refusals.ReadFault = 7
 status_of refusals.WriteFault = 8
 status_of refusals.NoMemory = 9
+status_of (refusals.TraceFault fault) = 13
 
 abbrev pub line_of : Refusal → List ℕ
 line_of (refusals.BadWords bad) = bad_words_line bad.at
@@ -33,6 +36,7 @@ line_of (refusals.SourceFault job fault) = source_fault_line (source_name (progr
 line_of refusals.ReadFault = read_fault_line
 line_of refusals.WriteFault = write_fault_line
 line_of refusals.NoMemory = no_memory_line
+line_of (refusals.TraceFault fault) = trace_fault_line fault
 
 -- the status of a call that was done or refused
 abbrev pub status_after : Result (Option DrawnSteps) Refusal → ℕ
@@ -69,3 +73,11 @@ refusal_of_plan plans.NoMemory = refusals.NoMemory
 abbrev pub refusal_of_take : TakeFault → Refusal
 refusal_of_take takes.Failed = refusals.ReadFault
 refusal_of_take takes.NoMemory = refusals.NoMemory
+
+-- the refusal for what stops a replay
+abbrev pub refusal_of_replay : ReplayFault → Refusal
+refusal_of_replay (traces.Bad line) = refusals.TraceFault (traces.Bad line)
+refusal_of_replay (traces.NotEnabled line) = refusals.TraceFault (traces.NotEnabled line)
+refusal_of_replay (traces.Incomplete line) = refusals.TraceFault (traces.Incomplete line)
+refusal_of_replay traces.ReadFault = refusals.ReadFault
+refusal_of_replay traces.NoMemory = refusals.NoMemory

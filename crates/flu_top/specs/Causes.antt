@@ -1,4 +1,5 @@
--- What refuses a command, in order: a fault of its job's text, a conflict of that job, a defect of its plan, a defect of a source.
+-- What refuses a command, in order: a fault of its job's text, a conflict of that job, a defect of its plan, a defect of a source, a
+-- fault of its trace.
 use Rattle.std.specs.Prelude.{◌≡◌, ◌≢◌, ◌<◌, ℕ, List, [], length, Option, Some, IsTrue}
 use Rattle.flu_outside.specs.Outside.{Contents, WhereTold}
 use Rattle.flu_model.specs.declared.jobs.Program.{Program}
@@ -18,12 +19,15 @@ use Rattle.flu_valid.specs.Faults.{IsFirstPlanFault}
 use Rattle.flu_streams.specs.declared.faults.SourceFault.{SourceFault}
 use Rattle.flu_top.specs.declared.refusals.PlanDefect.{PlanDefect}
 use Rattle.flu_top.specs.declared.refusals.PlanDefect.TheVariants as defects
+use Rattle.flu_trace.specs.declared.faults.ReplayFault.{ReplayFault}
+use Rattle.flu_trace.specs.Replaying.{Ending, ending_of}
 use Rattle.flu_words.specs.Words.{Command}
 use Rattle.flu_top.specs.Behind.{WantedJob, Named, HasJob, HasPlan, fault_behind, plan_behind}
 use Rattle.flu_top.specs.TextFaults.{IsFirstJobFault, IsFirstTextFault}
 use Rattle.flu_top.specs.Reading.{Reading, Unread, Whole, InRounds, MeetsDefect, lines_behind}
-use Rattle.flu_top.specs.Wants.{job_wanted, plan_named, asks_accepted, how_read, reads_sources, texts_named}
-use Rattle.flu_top.specs.Done.{HasPlanAsked}
+use Rattle.flu_top.specs.Wants.{job_wanted, plan_named, trace_named, asks_accepted, how_read, reads_sources, texts_named}
+use Rattle.flu_top.specs.Replaying.{ReplaysTo}
+use Rattle.flu_top.specs.Done.{HasPlanAsked, IsGood}
 
 -- the bytes under the job's name are the text of this program, and were read to their end
 pub record IsJobRead (job : List ℕ) (p : Program) (old new : Contents) : Type 0 where
@@ -96,3 +100,14 @@ pub record HasSourceFault (command : Command) (old new : Option Contents) (p : P
   pub accepted : IsTrue (asks_accepted command) → IsAccepted p
   pub source : fault.source < length p.sources
   pub first : WhereTold old new (λ left _. HasJob (job_wanted command) left p × HasPlanAsked command left p × IsMet (how_read command) (texts_named command) left p text fault)
+
+-- ---- the trace
+-- the command names a trace, nothing refuses it before that, and the trace has the ending that this fault tells
+pub record HasTraceFault (command : Command) (old new : Option Contents) (fault : ReplayFault) : Type 0 where
+  pub trace : List ℕ
+  pub named : trace_named command ≡ Some trace
+  pub p : Program
+  pub accepted : IsTrue (asks_accepted command) → IsAccepted p
+  pub ending : Ending
+  pub tells : ending_of fault ≡ Some ending
+  pub first : WhereTold old new (λ left _. IsGood command left p × ReplaysTo command trace left p ending)

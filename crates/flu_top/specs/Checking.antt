@@ -23,3 +23,4 @@ IsCheckRefusal p (refusals.SourceFault q fault) = ⊥
 IsCheckRefusal p refusals.ReadFault = ⊥
 IsCheckRefusal p refusals.WriteFault = ⊥
 IsCheckRefusal p refusals.NoMemory = ⊤
+IsCheckRefusal p (refusals.TraceFault fault) = ⊥

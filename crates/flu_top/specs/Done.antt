@@ -1,15 +1,17 @@
 -- What a call that does its command has done, and which names it reads.
-use Rattle.std.specs.Prelude.{◌≡◌, ℕ, List, [], ◌++◌, Option, Some, None, Contains, ⊤, ◌⊎◌, Ok, IsTrue}
+use Rattle.std.specs.Prelude.{◌≡◌, ℕ, List, [], ◌++◌, Option, Some, None, Contains, ⊤, ◌⊎◌, Ok, IsTrue, IfSome}
 use Rattle.flu_outside.specs.Outside.{Contents, WhereTold}
 use Rattle.flu_model.specs.declared.jobs.Program.{Program}
 use Rattle.flu_model.specs.declared.plans.Node.{Node}
 use Rattle.flu_model.specs.Modes.{IsAccepted}
 use Rattle.flu_model.specs.Validity.{IsValid}
 use Rattle.flu_outside.specs.Writing.{AppendsAll, AppendsPart}
+use Rattle.flu_trace.specs.Replaying.{Ending, Complete}
 use Rattle.flu_words.specs.Words.{Command, command_in}
 use Rattle.flu_top.specs.Behind.{WantedJob, Named, Fixed, HasJob, HasPlan}
 use Rattle.flu_top.specs.Reading.{Reading, Unread, Whole, InRounds, AreSourcesGood, HaveWritten, ReportsNext, lines_behind}
-use Rattle.flu_top.specs.Wants.{Saying, Nothing, Line, want, job_wanted, plan_named, asks_accepted, how_read, texts_named, sources_read, files_read, Writes}
+use Rattle.flu_top.specs.Wants.{Saying, Nothing, Line, want, job_wanted, plan_named, trace_named, asks_accepted, how_read, texts_named, sources_read, files_read, Writes}
+use Rattle.flu_top.specs.Replaying.{ReplaysTo}
 
 -- the text under a name, which is read behind the job's, is a plan that is valid for the job
 abbrev pub HasValidPlan : WantedJob → List ℕ → Contents → Program → Type 0
@@ -27,10 +29,15 @@ pub record IsGood (command : Command) (left : Contents) (p : Program) : Type 0 w
   pub plan : HasPlanAsked command left p
   pub sources : AreSourcesGood (how_read command) (texts_named command) left p
 
+-- the trace that the command names, if it names one, is complete, and was read to its end
+abbrev pub IsTraceRead : Command → Program → Contents → Contents → Type 0
+IsTraceRead command p old new = (trace : List ℕ) → trace_named command ≡ Some trace → ReplaysTo command trace old p Complete × (new trace ≡ Some [])
+
 -- nothing refuses the command, and all that it reads was read to its end
 pub record IsRead (command : Command) (p : Program) (old new : Contents) : Type 0 where
   pub good : IsGood command old p
   pub ends : (name : List ℕ) → Contains (texts_named command ++ sources_read command p) name → new name ≡ Some []
+  pub trace : IsTraceRead command p old new
 
 -- this is the line that is said, and the empty one where nothing is
 abbrev pub IsLine : Saying → Contents → Program → List ℕ → Type 0
@@ -109,11 +116,20 @@ abbrev pub MayHaveJob : Option Contents → WantedJob → Program → Type 0
 MayHaveJob None job p = ⊤
 MayHaveJob (Some left) job p = HasJob job left p
 
--- a name that a command reads: its job's, and those of the other files that it reads for that job, which is accepted where the
--- command asks for that
+-- the name of the trace that a command reads, where nothing refuses it before that, or the files do not tell it
+pub record IsTraceName (left : Option Contents) (command : Command) (name : List ℕ) : Type 0 where
+  pub named : trace_named command ≡ Some name
+  pub p : Program
+  pub accepted : IsTrue (asks_accepted command) → IsAccepted p
+  pub good : IfSome left (λ contents. IsGood command contents p)
+
+-- a name that a command reads: its job's, those of the other files that it reads for that job, which is accepted where the
+-- command asks for that, and its trace's
 abbrev pub IsReadName : Option Contents → Command → List ℕ → Type 0
 IsReadName left command name =
-    (job_wanted command ≡ Named name) ⊎ ((p : Program) × MayHaveJob left (job_wanted command) p × (IsTrue (asks_accepted command) → IsAccepted p) × Contains (files_read command p) name)
+    (job_wanted command ≡ Named name)
+    ⊎ ((p : Program) × MayHaveJob left (job_wanted command) p × (IsTrue (asks_accepted command) → IsAccepted p) × Contains (files_read command p) name)
+    ⊎ IsTraceName left command name
 
 -- a name that a call with some words reads
 abbrev pub IsReadBy : List (List ℕ) → Option Contents → List ℕ → Type 0

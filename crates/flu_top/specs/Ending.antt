@@ -9,7 +9,7 @@ use Rattle.flu_words.specs.Words.{Command, command_in}
 use Rattle.flu_top.specs.declared.products.DrawnSteps.{DrawnSteps}
 use Rattle.flu_top.specs.Wants.{want, job_wanted, how_read}
 use Rattle.flu_top.specs.Products.{line_said, MaySay}
-use Rattle.flu_top.specs.Causes.{HasJobFault, HasConflict, HasPlanDefect, HasSourceFault}
+use Rattle.flu_top.specs.Causes.{HasJobFault, HasConflict, HasPlanDefect, HasSourceFault, HasTraceFault}
 use Rattle.flu_top.specs.Done.{IsDone, WhereKnown, Wrote, WroteSome, WrotePart}
 use Rattle.flu_top.specs.Jobs.{program_read}
 use Rattle.flu_top.specs.Refusing.{HasReadFault}
@@ -64,6 +64,7 @@ IsStopped c command (refusals.SourceFault job fault) = HasDefectMet c command jo
 IsStopped c command refusals.ReadFault = HasReadFailure c command
 IsStopped c command refusals.WriteFault = HasWriteFault c command
 IsStopped c command refusals.NoMemory = WroteSome (how_read command) command c.left c.left_after c.taken c.taken_after
+IsStopped c command (refusals.TraceFault fault) = HasTraceFault command c.left c.left_after fault × WroteNothing c
 
 -- what is true of a call of a command that was done or refused
 abbrev pub IsEnding : Call → Command → Result (Option DrawnSteps) Refusal → Type 0

@@ -12,11 +12,15 @@ use Rattle.flu_top.specs.declared.refusals.Refusal.{Refusal}
 use Rattle.flu_top.specs.declared.refusals.Refusal.TheVariants as refusals
 use Rattle.flu_top.specs.Jobs.{program_read}
 
--- the program's sources have no defect, this is the report of the fold of their events, and they were read to their end
-pub record IsReported (p : Program) (report : List ℕ) (old new : Contents) : Type 0 where
+-- the program's sources have no defect, and they were read to their end
+pub record AreSourcesRead (p : Program) (old new : Contents) : Type 0 where
   pub good : first_fault p old ≡ None
-  pub is : report ≡ reports.report p (final_outputs p nothing_held (lists_of p old))
   pub ends : (name : List ℕ) → Contains (files_of p.sources) name → new name ≡ Some []
+
+-- and this is the report of the fold of their events
+pub record IsReported (p : Program) (report : List ℕ) (old new : Contents) : Type 0 where
+  pub read : AreSourcesRead p old new
+  pub is : report ≡ reports.report p (final_outputs p nothing_held (lists_of p old))
 
 -- this is the first fault of the program's sources
 pub record IsFaulty (p : Program) (old new : Option Contents) (q : Program) (fault : SourceFault) : Type 0 where
@@ -34,3 +38,4 @@ IsReportRefusal p old new before now (refusals.SourceFault job fault) = IsFaulty
 IsReportRefusal p old new before now refusals.ReadFault = OneRose (files_of p.sources) before now
 IsReportRefusal p old new before now refusals.WriteFault = ⊥
 IsReportRefusal p old new before now refusals.NoMemory = ⊤
+IsReportRefusal p old new before now (refusals.TraceFault fault) = ⊥

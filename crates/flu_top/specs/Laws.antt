@@ -1,5 +1,5 @@
 -- What follows from the outcome of a call: each status by itself, what was read, and what comes where nothing failed.
-use Rattle.std.specs.Prelude.{◌≡◌, ◌≢◌, ◌↔◌, ◌⊎◌, ◌<◌, ℕ, List, [], ◌∷◌, Contains, IsTrue, Option, Some, Ok, Err}
+use Rattle.std.specs.Prelude.{◌≡◌, ◌≢◌, ◌↔◌, ◌⊎◌, ◌<◌, ℕ, List, [], ◌∷◌, Bool, Contains, IsTrue, Option, Some, Ok, Err}
 use Rattle.flu_outside.specs.Outside.{Contents, WhereTold, Rose, Appends}
 use Rattle.flu_outside.specs.Taking.{bytes_left, TookFronts}
 use Rattle.flu_outside.specs.Writing.{AppendsAll}
@@ -10,25 +10,27 @@ use Rattle.flu_parse.specs.declared.faults.JobFault.{JobFault}
 use Rattle.flu_check.specs.declared.CheckFault.{CheckFault}
 use Rattle.flu_streams.specs.declared.faults.SourceFault.{SourceFault}
 use Rattle.flu_top.specs.declared.refusals.PlanDefect.{PlanDefect}
+use Rattle.flu_trace.specs.declared.faults.ReplayFault.{ReplayFault}
 use Rattle.flu_words.specs.Words.{Command, Run, Simulate, Demo, command_in}
 use Rattle.flu_top.specs.Taking.{TookOnly}
 use Rattle.flu_top.specs.Behind.{Named, HasJob, report_behind}
 use Rattle.flu_top.specs.Reading.{InRounds, HasDefect}
+use Rattle.flu_top.specs.Replaying.{CanOnlyComplete}
 use Rattle.flu_top.specs.TextFaults.{IsFirstJobFault}
 use Rattle.flu_top.specs.Wants.{want, job_wanted, plan_named, plan_files, asks_accepted, how_read, says_nothing, texts_named}
 use Rattle.flu_top.specs.Done.{HasValidPlan, HasPlanAsked, IsGood, IsDone, WhereKnown, Wrote, WroteSome, WrotePart, IsReadBy}
-use Rattle.flu_top.specs.Causes.{HasJobFault, HasConflict, HasPlanDefect, HasSourceFault}
+use Rattle.flu_top.specs.Causes.{HasJobFault, HasConflict, HasPlanDefect, HasSourceFault, HasTraceFault}
 use Rattle.flu_top.specs.Names.{source_name}
 use Rattle.flu_top.specs.Simulating.{IsLineOfRun, IsStepLine}
 use Rattle.flu_top.specs.Demos.{demo_job, demo_summary}
-use Rattle.flu_top.specs.Lines.{bad_words_line, job_fault_line, conflict_line, plan_defect_line, source_fault_line, read_fault_line, write_fault_line, no_memory_line}
-use Rattle.flu_top.specs.Outcome.{Outside, Said, Hears, Outcome, ReadOnly, FaultsFirst, CallsFor, NothingFailed, Completes}
+use Rattle.flu_top.specs.Lines.{bad_words_line, job_fault_line, conflict_line, plan_defect_line, source_fault_line, read_fault_line, write_fault_line, no_memory_line, trace_fault_line}
+use Rattle.flu_top.specs.Outcome.{Outside, Said, Hears, Outcome, ReadOnly, FaultsFirst, HasFaultyTrace, CallsFor, NothingFailed, Completes}
 
 -- ---- the statuses
 -- the status is one of these
 abbrev pub KnownStatuses : Type 0
 KnownStatuses =
-    (words : List (List ℕ)) (old new : Outside) (status : ℕ) → Outcome words old new status → Contains (0 ∷ 2 ∷ 3 ∷ 4 ∷ 5 ∷ 6 ∷ 7 ∷ 8 ∷ 9 ∷ []) status
+    (words : List (List ℕ)) (old new : Outside) (status : ℕ) → Outcome words old new status → Contains (0 ∷ 2 ∷ 3 ∷ 4 ∷ 5 ∷ 6 ∷ 7 ∷ 8 ∷ 9 ∷ 13 ∷ []) status
 
 -- status 0: all that the command reads was read to its end, out got what it writes, and err what it says
 abbrev pub DoneIsDone : Type 0
@@ -48,7 +50,7 @@ DoneIsQuiet =
 abbrev pub SimulationIsHeard : Type 0
 SimulationIsHeard =
     (words : List (List ℕ)) (old new : Outside) (status : ℕ) → Outcome words old new status → status ≡ 0
-    → (job plan : List ℕ) (seed : ℕ) → command_in words ≡ Ok (Simulate job plan seed)
+    → (job plan : List ℕ) (seed : ℕ) (trace : Bool) → command_in words ≡ Ok (Simulate job plan seed trace)
     → (line : List ℕ) × IsStepLine line × Said old new line
     × WhereTold old.left new.left (λ left _. (p : Program) × HasJob (Named job) left p × IsLineOfRun job plan seed left p line)
 
@@ -99,6 +101,13 @@ SourceFaultIsFirst =
     × HasSourceFault command old.left new.left p fault text × Wrote (how_read command) text old.out new.out
     × Said old new (source_fault_line (source_name p fault.source) fault.row fault.why)
 
+-- status 13: the command reads a trace, and once nothing refuses it before that, this stops the replay of the trace, and err gets its line
+abbrev pub TraceFaultIsFirst : Type 0
+TraceFaultIsFirst =
+    (words : List (List ℕ)) (old new : Outside) (status : ℕ) → Outcome words old new status → status ≡ 13
+    → (command : Command) × (fault : ReplayFault) × (command_in words ≡ Ok command)
+    × HasTraceFault command old.left new.left fault × Said old new (trace_fault_line fault)
+
 -- status 7: the count of a name that the call reads rose
 abbrev pub ReadFaultRose : Type 0
 ReadFaultRose =
@@ -139,10 +148,10 @@ NothingIsWritten =
     (words : List (List ℕ)) (old new : Outside) (status : ℕ) → Outcome words old new status → status ≢ 0 → status ≢ 8
     → ((command : Command) → command_in words ≡ Ok command → how_read command ≢ InRounds) → new.out ≡ old.out
 
--- at the statuses below 6 but 0 it gets nothing
+-- at the statuses below 6 but 0, and at 13, it gets nothing
 abbrev pub RefusalsWriteNothing : Type 0
 RefusalsWriteNothing =
-    (words : List (List ℕ)) (old new : Outside) (status : ℕ) → Outcome words old new status → status ≢ 0 → status < 6 → new.out ≡ old.out
+    (words : List (List ℕ)) (old new : Outside) (status : ℕ) → Outcome words old new status → status ≢ 0 → (status < 6) ⊎ (status ≡ 13) → new.out ≡ old.out
 
 -- status 7 or 9: out gets nothing; or, where the command reads in rounds, what those up to some one wrote
 abbrev pub SomeIsWritten : Type 0
@@ -192,14 +201,14 @@ NoOtherIsRead =
     (words : List (List ℕ)) (old new : Option Contents) → ReadOnly words old new → WhereTold old new (TookOnly (IsReadBy words old))
 
 -- ---- where nothing failed
--- a command that nothing refuses has status 0, or 9
+-- a command that nothing refuses has status 0, or 9, where a trace that it reads can only be complete
 abbrev pub GoodIsDone : Type 0
 GoodIsDone =
     (words : List (List ℕ)) (told : Option Contents) (before now : List ℕ → ℕ) (out_before out_now status : ℕ)
     → Completes words told before now out_before out_now status
     → (command : Command) (left : Contents) (p : Program) → command_in words ≡ Ok command → told ≡ Some left
     → NothingFailed command told before now out_before out_now
-    → IsGood command left p
+    → IsGood command left p → CanOnlyComplete command left
     → (status ≡ 0) ⊎ (status ≡ 9)
 
 -- a job's text with a fault has status 3, or 9
@@ -242,6 +251,16 @@ SourceFaultIsRefused =
     → HasJob (job_wanted command) left p → (IsTrue (asks_accepted command) → IsAccepted p)
     → HasPlanAsked command left p → HasDefect (how_read command) (texts_named command) left p
     → (status ≡ 6) ⊎ (status ≡ 9)
+
+-- a trace that can't be complete, where nothing refuses the command before it, has status 13, or 9
+abbrev pub TraceFaultIsRefused : Type 0
+TraceFaultIsRefused =
+    (words : List (List ℕ)) (told : Option Contents) (before now : List ℕ → ℕ) (out_before out_now status : ℕ)
+    → Completes words told before now out_before out_now status
+    → (command : Command) (left : Contents) → command_in words ≡ Ok command → told ≡ Some left
+    → NothingFailed command told before now out_before out_now
+    → HasFaultyTrace command left
+    → (status ≡ 13) ⊎ (status ≡ 9)
 
 -- completeness follows from the outcome, where 7 and 8 come only from faults of the outside
 abbrev pub CompletesByFaults : Type 0

@@ -6,6 +6,7 @@ pub mod Reading
 pub mod Simulating
 pub mod Demos
 pub mod Wants
+pub mod Replaying
 pub mod Products
 pub mod Done
 pub mod Causes
@@ -23,4 +24,5 @@ pub mod Planning
 pub mod Refusing
 pub mod Ending
 pub mod Running
+pub mod Replays
 pub mod Writing

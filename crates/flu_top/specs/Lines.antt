@@ -19,6 +19,8 @@ use Rattle.flu_valid.specs.declared.faults.Invalid.{Invalid}
 use Rattle.flu_valid.specs.declared.faults.Invalid.TheVariants.{Unowned, OwnedTwice, Clash}
 use Rattle.flu_streams.specs.declared.faults.Why.{Why}
 use Rattle.flu_streams.specs.declared.faults.Why.TheVariants as whys
+use Rattle.flu_trace.specs.declared.faults.ReplayFault.{ReplayFault}
+use Rattle.flu_trace.specs.declared.faults.ReplayFault.TheVariants as traces
 use Rattle.flu_top.specs.declared.refusals.PlanDefect.{PlanDefect}
 use Rattle.flu_top.specs.declared.refusals.PlanDefect.TheVariants as defects
 use Rattle.flu_top.specs.declared.products.DrawnSteps.{DrawnSteps}
@@ -121,6 +123,10 @@ row_line name row why = codes "flumina: source " ++ name ++ codes " row " ++ dec
 abbrev pub source_fault_line : List ℕ → ℕ → Why → List ℕ
 source_fault_line name row why = row_line name row (why_text why)
 
+-- the line of what stops the replay of a trace: the number of its line, and why
+abbrev pub trace_line : ℕ → List ℕ → List ℕ
+trace_line line why = codes "flumina: trace line " ++ decimal line ++ codes ": " ++ why ++ codes "\n"
+
 abbrev pub read_fault_line : List ℕ
 read_fault_line = codes "flumina: read fault\n"
 
@@ -129,6 +135,13 @@ write_fault_line = codes "flumina: write fault\n"
 
 abbrev pub no_memory_line : List ℕ
 no_memory_line = codes "flumina: no memory\n"
+
+abbrev pub trace_fault_line : ReplayFault → List ℕ
+trace_fault_line (traces.Bad line) = trace_line line (codes "bad line")
+trace_fault_line (traces.NotEnabled line) = trace_line line (codes "not enabled")
+trace_fault_line (traces.Incomplete line) = trace_line line (codes "incomplete")
+trace_fault_line traces.ReadFault = read_fault_line
+trace_fault_line traces.NoMemory = no_memory_line
 
 -- the line of the steps of a run that a seed drew: how many of each kind, and the mark of their places
 abbrev pub step_line : DrawnSteps → List ℕ

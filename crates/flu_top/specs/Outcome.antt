@@ -9,17 +9,20 @@ use Rattle.flu_parse.specs.declared.faults.JobFault.{JobFault}
 use Rattle.flu_check.specs.declared.CheckFault.{CheckFault}
 use Rattle.flu_streams.specs.declared.faults.SourceFault.{SourceFault}
 use Rattle.flu_top.specs.declared.refusals.PlanDefect.{PlanDefect}
+use Rattle.flu_trace.specs.declared.faults.ReplayFault.{ReplayFault}
+use Rattle.flu_trace.specs.Replaying.{Ending}
 use Rattle.flu_words.specs.Words.{Command, command_in}
 use Rattle.flu_top.specs.Taking.{TookOnly}
 use Rattle.flu_top.specs.Behind.{Named, HasJob}
 use Rattle.flu_top.specs.Reading.{HasDefect}
 use Rattle.flu_top.specs.TextFaults.{IsFirstJobFault}
 use Rattle.flu_top.specs.Wants.{Saying, Nothing, Line, want, texts_named}
+use Rattle.flu_top.specs.Replaying.{ReplaysTo, CanOnlyComplete, CanNotComplete}
 use Rattle.flu_top.specs.Done.{HasValidPlan, HasPlanAsked, IsGood, IsDone, WhereKnown, Wrote, WroteSome, WrotePart, IsReadName, IsReadBy}
-use Rattle.flu_top.specs.Causes.{HasJobFault, HasConflict, HasPlanDefect, HasSourceFault}
+use Rattle.flu_top.specs.Causes.{HasJobFault, HasConflict, HasPlanDefect, HasSourceFault, HasTraceFault}
 use Rattle.flu_top.specs.Names.{source_name}
 use Rattle.flu_top.specs.Lines.{IsSaid, bad_words_line, job_fault_line, conflict_line, plan_defect_line, source_fault_line}
-use Rattle.flu_top.specs.Lines.{read_fault_line, write_fault_line, no_memory_line}
+use Rattle.flu_top.specs.Lines.{read_fault_line, write_fault_line, no_memory_line, trace_fault_line}
 
 -- what the files have left, and what out and err have taken, where they tell that, and how often err has failed
 pub record Outside : Type 0 where
@@ -85,6 +88,10 @@ pub data Outcome (words : List (List ℕ)) (old new : Outside) (status : ℕ) : 
   NoMemory : status ≡ 9 → (command : Command) → command_in words ≡ Ok command
       → WroteSome (want command).sources command old.left new.left old.out new.out
       → Said old new no_memory_line → Outcome words old new status
+  -- the command reads a trace, nothing refuses the command before that, and this stops the replay of the trace
+  BadTrace : status ≡ 13 → (command : Command) → command_in words ≡ Ok command → (fault : ReplayFault)
+      → HasTraceFault command old.left new.left fault
+      → Refused old new (trace_fault_line fault) → Outcome words old new status
 
 -- ---- what was read
 -- bytes were taken from the front of names, and of no name that the call does not read
@@ -100,9 +107,19 @@ pub record FaultsFirst (words : List (List ℕ)) (left : Option Contents) (befor
   pub write : status ≡ 8 → Rose out_before out_now
 
 -- ---- completeness
+-- the command reads a trace, nothing refuses the command before that, and the trace ends somehow, but can't be complete
+pub record HasFaultyTrace (command : Command) (left : Contents) : Type 0 where
+  pub p : Program
+  pub good : IsGood command left p
+  pub trace : List ℕ
+  pub named : (want command).trace ≡ Some trace
+  pub ending : Ending
+  pub ends : ReplaysTo command trace left p ending
+  pub faulty : CanNotComplete command left trace
+
 -- the status that a command and the files call for where nothing fails
 pub data CallsFor (command : Command) (left : Contents) (status : ℕ) : Type 0 where
-  Good : status ≡ 0 → (p : Program) → IsGood command left p → CallsFor command left status
+  Good : status ≡ 0 → (p : Program) → IsGood command left p → CanOnlyComplete command left → CallsFor command left status
   FaultyJob : status ≡ 3 → (name : List ℕ) (fault : JobFault) → (want command).job ≡ Named name
       → IsFirstJobFault (bytes_left left name) fault → CallsFor command left status
   NotAccepted : status ≡ 4 → (p : Program) → IsTrue (want command).accepted → HasJob (want command).job left p
@@ -112,6 +129,7 @@ pub data CallsFor (command : Command) (left : Contents) (status : ℕ) : Type 0 
       → ¬ HasValidPlan (want command).job plan left p → CallsFor command left status
   FaultySource : status ≡ 6 → (p : Program) → HasJob (want command).job left p → (IsTrue (want command).accepted → IsAccepted p)
       → HasPlanAsked command left p → HasDefect (want command).sources (texts_named command) left p → CallsFor command left status
+  FaultyTrace : status ≡ 13 → HasFaultyTrace command left → CallsFor command left status
 
 -- no name that the command reads failed, and out did not
 pub record NothingFailed (command : Command) (left : Option Contents) (before now : List ℕ → ℕ)

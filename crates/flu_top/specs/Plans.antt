@@ -36,6 +36,7 @@ IsTextRefusal p plan old new before now (refusals.SourceFault q fault) = ⊥
 IsTextRefusal p plan old new before now refusals.ReadFault = Rose (before plan) (now plan)
 IsTextRefusal p plan old new before now refusals.WriteFault = ⊥
 IsTextRefusal p plan old new before now refusals.NoMemory = ⊤
+IsTextRefusal p plan old new before now (refusals.TraceFault fault) = ⊥
 
 -- why a plan that was read is not taken
 abbrev pub IsValidRefusal : Checked → List Node → Refusal → Type 0
@@ -49,3 +50,4 @@ IsValidRefusal checked nodes (refusals.SourceFault q fault) = ⊥
 IsValidRefusal checked nodes refusals.ReadFault = ⊥
 IsValidRefusal checked nodes refusals.WriteFault = ⊥
 IsValidRefusal checked nodes refusals.NoMemory = ⊤
+IsValidRefusal checked nodes (refusals.TraceFault fault) = ⊥

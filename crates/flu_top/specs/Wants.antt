@@ -8,11 +8,11 @@ use Rattle.flu_parse.specs.Printing.{normal_form}
 use Rattle.flu_plan.specs.Printing.{printed}
 use Rattle.flu_planner.specs.Plans.{IsGreedyPlan}
 use Rattle.flu_streams.specs.Files.{files_of}
-use Rattle.flu_words.specs.Words.{Command, Fold, Check, Valid, Plan, Run, Simulate, Demo}
+use Rattle.flu_words.specs.Words.{Command, Fold, Check, Valid, Plan, Run, Simulate, Replay, Demo}
 use Rattle.flu_top.specs.Behind.{WantedJob, Named, Fixed, HasPlan, job_files, report_behind}
 use Rattle.flu_top.specs.Rates.{source_rates}
 use Rattle.flu_top.specs.Reading.{Reading, Unread, Whole, InRounds, is_read}
-use Rattle.flu_top.specs.Simulating.{IsLineOfRun, IsStepLine}
+use Rattle.flu_top.specs.Simulating.{IsLineOfRun, IsStepLine, IsTraceOfRun}
 use Rattle.flu_top.specs.Demos.{demo_job, demo_summary}
 
 -- this is the text of the greedy plan of all itags of a job at a depth, where an itag has its source's rate
@@ -32,6 +32,11 @@ abbrev pub plan_files : Option (List ℕ) → List (List ℕ)
 plan_files None = []
 plan_files (Some plan) = plan ∷ []
 
+-- what a run that a seed draws writes: the report of the fold; or its trace, where that is asked for
+abbrev pub IsTextOfRun : Bool → List ℕ → List ℕ → ℕ → Contents → Program → List ℕ → Type 0
+IsTextOfRun false job plan seed left p text = text ≡ report_behind (job ∷ plan ∷ []) left p
+IsTextOfRun true job plan seed left p text = IsTraceOfRun job plan seed left p text
+
 -- what a command says on err where it is done: nothing; or a line, of which the one is true by what its files have left and by the
 -- job's program, and the other whatever they have left
 pub data Saying : Type 1 where
@@ -47,20 +52,24 @@ pub record Want : Type 1 where
   pub plan : Option (List ℕ)
   -- how it reads the job's sources, which must have no defect
   pub sources : Reading
+  -- the name of the trace that it reads, if it reads one, which has to be complete
+  pub trace : Option (List ℕ)
   -- the text that it writes, by what its files have left and by the job's program
   pub writes : Contents → Program → List ℕ → Type 0
   -- what it says on err where it is done
   pub says : Saying
 
 -- the report of the fold; the normal form of the job; the normal form of the plan; the text of a greedy plan; the report of
--- the fold again, which a run on the tree of threads gives too, and so does a run on the net, whose steps are said on err;
--- the summary of the report of what a seed draws, for which no file is read
+-- the fold again, which a run on the tree of threads gives too, and so does a run on the net, whose steps are said on err, and
+-- whose trace is written where that is asked for; the report of the fold again, by the steps of a trace; the summary of the report
+-- of what a seed draws, for which no file is read
 abbrev pub want : Command → Want
 want (Fold job) = record {
   job = Named job;
   accepted = false;
   plan = None;
   sources = Whole;
+  trace = None;
   writes = λ left p text. text ≡ report_behind (job ∷ []) left p;
   says = Nothing;
 }
@@ -69,6 +78,7 @@ want (Check job) = record {
   accepted = true;
   plan = None;
   sources = Unread;
+  trace = None;
   writes = λ left p text. text ≡ normal_form (job_of p);
   says = Nothing;
 }
@@ -77,6 +87,7 @@ want (Valid job plan) = record {
   accepted = true;
   plan = Some plan;
   sources = Unread;
+  trace = None;
   writes = λ left p text. IsPlanPrinted job plan left p text;
   says = Nothing;
 }
@@ -85,6 +96,7 @@ want (Plan job depth) = record {
   accepted = true;
   plan = None;
   sources = Unread;
+  trace = None;
   writes = λ left p text. IsGreedyText p depth text;
   says = Nothing;
 }
@@ -93,22 +105,34 @@ want (Run job plan) = record {
   accepted = true;
   plan = plan;
   sources = InRounds;
+  trace = None;
   writes = λ left p text. text ≡ report_behind (job ∷ plan_files plan) left p;
   says = Nothing;
 }
-want (Simulate job plan seed) = record {
+want (Simulate job plan seed trace) = record {
   job = Named job;
   accepted = true;
   plan = Some plan;
   sources = Whole;
-  writes = λ left p text. text ≡ report_behind (job ∷ plan ∷ []) left p;
+  trace = None;
+  writes = λ left p text. IsTextOfRun trace job plan seed left p text;
   says = Line (IsLineOfRun job plan seed) IsStepLine;
+}
+want (Replay job plan trace) = record {
+  job = Named job;
+  accepted = true;
+  plan = Some plan;
+  sources = Whole;
+  trace = Some trace;
+  writes = λ left p text. text ≡ report_behind (job ∷ plan ∷ []) left p;
+  says = Nothing;
 }
 want (Demo n seed) = record {
   job = Fixed demo_job;
   accepted = true;
   plan = None;
   sources = Unread;
+  trace = None;
   writes = λ left p text. text ≡ demo_summary n seed p;
   says = Nothing;
 }
@@ -133,6 +157,10 @@ how_read command = (want command).sources
 abbrev pub reads_sources : Command → Bool
 reads_sources command = is_read (how_read command)
 
+-- the name of the trace that a command reads, if it reads one
+abbrev pub trace_named : Command → Option (List ℕ)
+trace_named command = (want command).trace
+
 -- whether this is no line at all
 abbrev pub is_nothing : Saying → Bool
 is_nothing Nothing = true
@@ -154,6 +182,6 @@ Writes command = (want command).writes
 abbrev pub sources_read : Command → Program → List (List ℕ)
 sources_read command p = if reads_sources command then files_of p.sources else []
 
--- the files that a command reads besides its job
+-- the files that a command reads besides its job and a trace
 abbrev pub files_read : Command → Program → List (List ℕ)
 files_read command p = plan_files (plan_named command) ++ sources_read command p

@@ -14,6 +14,7 @@ use crate::folding::fold_job;
 use crate::planning::plan_job;
 use crate::products::{DrawnSteps, Product};
 use crate::refusals::Refusal;
+use crate::replaying::replay_planned;
 use crate::running::{run_greedily, run_planned};
 use crate::simulating::simulate_planned;
 use crate::validating::valid_plan;
@@ -49,8 +50,14 @@ pub fn run<F: Files, K: Sink, G: Gate, R: Threads + Wait + Sync>(
             plan: Some(plan),
         } => run_planned(rt, alloc, files, out, job, plan, gate),
         Command::Run { job, plan: None } => run_greedily(rt, alloc, files, out, job, gate),
-        Command::Simulate { job, plan, seed } => {
-            put(out, simulate_planned(alloc, files, job, plan, seed))
+        Command::Simulate {
+            job,
+            plan,
+            seed,
+            trace,
+        } => put(out, simulate_planned(alloc, files, job, plan, seed, trace)),
+        Command::Replay { job, plan, trace } => {
+            put_text(out, replay_planned(alloc, files, job, plan, trace))
         }
         Command::Demo { n, seed } => put(out, demo(rt, alloc, n, seed, gate)),
     }

@@ -1,7 +1,7 @@
 //! What follows from the outcome of a call of `flumina`: what each status says by itself, what was read, and what comes where nothing
 //! failed. Each law is the contract of a function that does nothing.
 
-ghost use Rattle.flu_top.specs.Laws.{KnownStatuses, DoneIsDone, DoneIsQuiet, SimulationIsHeard, DemoReadsNothing, DemoStatuses, DemoIsDone, BadWordsExactly, BadWordsLine, BadWordsTouchNothing, JobFaultIsFirst, ConflictIsFirst, PlanDefectIsFirst, SourceFaultIsFirst, ReadFaultRose, ReadFaultLine, WriteFaultRose, WriteFaultIsPart, WriteFaultLine, NoMemoryLine, NothingIsWritten, RefusalsWriteNothing, SomeIsWritten, RunsWriteFronts, FrontsAreTaken, NoOtherIsRead, GoodIsDone, JobFaultIsRefused, ConflictIsRefused, PlanDefectIsRefused, SourceFaultIsRefused, CompletesByFaults, CallsForOneStatus};
+ghost use Rattle.flu_top.specs.Laws.{KnownStatuses, DoneIsDone, DoneIsQuiet, SimulationIsHeard, DemoReadsNothing, DemoStatuses, DemoIsDone, BadWordsExactly, BadWordsLine, BadWordsTouchNothing, JobFaultIsFirst, ConflictIsFirst, PlanDefectIsFirst, SourceFaultIsFirst, TraceFaultIsFirst, ReadFaultRose, ReadFaultLine, WriteFaultRose, WriteFaultIsPart, WriteFaultLine, NoMemoryLine, NothingIsWritten, RefusalsWriteNothing, SomeIsWritten, RunsWriteFronts, FrontsAreTaken, NoOtherIsRead, GoodIsDone, JobFaultIsRefused, ConflictIsRefused, PlanDefectIsRefused, SourceFaultIsRefused, TraceFaultIsRefused, CompletesByFaults, CallsForOneStatus};
 
 use flu_grammar::laws::{jobs_are_grammar, plans_are_grammar};
 use flu_streams::{last_round_has_all_rows, rounds_meet_what_is_there};
@@ -38,13 +38,14 @@ pub fn of_bad_words()
     ensures untouched { BadWordsTouchNothing }
 {}
 
-/// The statuses 3 to 6 come only where a fault of the job's text, a conflict of the job, a defect of the plan or a defect of a source
-/// refuses the command, with the line of the first one.
+/// The statuses 3 to 6 and 13 come only where a fault of the job's text, a conflict of the job, a defect of the plan, a defect of a
+/// source or a fault of a trace refuses the command, with the line of the first one.
 pub fn of_refusals()
     ensures job_fault { JobFaultIsFirst }
     ensures conflict { ConflictIsFirst }
     ensures plan_defect { PlanDefectIsFirst }
     ensures source_fault { SourceFaultIsFirst }
+    ensures trace_fault { TraceFaultIsFirst }
 {}
 
 /// Status 7 comes only where the count of a name that the call reads rose, and 8 only where out's count rose; then out has a front of
@@ -74,13 +75,14 @@ pub fn of_reading()
     ensures only { NoOtherIsRead }
 {}
 
-/// Where no count rose, the status is the one that the command, its job's text, its plan and its sources call for, or 9.
+/// Where no count rose, the status is the one that the command, its job's text, its plan, its sources and its trace call for, or 9.
 pub fn of_completeness()
     ensures completes { GoodIsDone }
     ensures refuses_job { JobFaultIsRefused }
     ensures refuses_conflict { ConflictIsRefused }
     ensures refuses_plan { PlanDefectIsRefused }
     ensures refuses_source { SourceFaultIsRefused }
+    ensures refuses_trace { TraceFaultIsRefused }
 {}
 
 /// That a call completes follows from its outcome, where the statuses 7 and 8 come only from faults of the outside.

@@ -18,10 +18,12 @@ mod products;
 mod programs;
 mod rates;
 mod refusals;
+mod replaying;
 mod running;
 mod simulating;
 mod sources;
 mod top;
+mod traces;
 mod validating;
 
 pub use top::flumina;

@@ -3,7 +3,7 @@
 ghost use Rattle.std.specs.Prelude.{◌≡◌, ◌++◌, OnOk, OnErr};
 ghost use Rattle.std.specs.Fmt.{decimal};
 ghost use Rattle.flu_outside.specs.Writing.{Writes};
-ghost use Rattle.flu_top.specs.Lines.{what_word, limit_text, bad_words_line, fault_line, job_fault_line, conflict_line, row_line, source_fault_line, step_line, IsSaid};
+ghost use Rattle.flu_top.specs.Lines.{what_word, limit_text, bad_words_line, fault_line, job_fault_line, conflict_line, row_line, source_fault_line, trace_line, trace_fault_line, step_line, IsSaid};
 ghost use Rattle.flu_streams.specs.declared.faults.Why.{Why};
 ghost use Rattle.flu_top.specs.Answer.{line_of};
 
@@ -18,6 +18,7 @@ use flu_outside::{Failed, Sink};
 use flu_parse::JobFault;
 use flu_report::write_all;
 use flu_streams::{SourceFault, Why};
+use flu_trace::ReplayFault;
 use flu_words::BadWords;
 use itoa::Buffer;
 
@@ -85,6 +86,7 @@ fn write_line<E: Sink>(err: &mut E, refusal: &Refusal) -> Result<(), Failed>
         Refusal::ReadFault => write_all(err, b"flumina: read fault\n"),
         Refusal::WriteFault => write_all(err, b"flumina: write fault\n"),
         Refusal::NoMemory => write_all(err, b"flumina: no memory\n"),
+        Refusal::TraceFault(fault) => write_trace_fault(err, *fault),
     }
 }
 
@@ -265,4 +267,26 @@ fn write_too_many<E: Sink>(err: &mut E, name: &str, row: u64, count: u64) -> Res
             b"\n",
         ],
     )
+}
+
+// Writes the line of what stops the replay of a trace.
+fn write_trace_fault<E: Sink>(err: &mut E, fault: ReplayFault) -> Result<(), Failed>
+    ensures { Writes (trace_fault_line fault) (E.taken err.old) (E.taken err.new) (E.faults err.old) (E.faults err.new) result }
+{
+    match fault {
+        ReplayFault::Bad { line } => write_trace_line(err, line, b"bad line"),
+        ReplayFault::NotEnabled { line } => write_trace_line(err, line, b"not enabled"),
+        ReplayFault::Incomplete { line } => write_trace_line(err, line, b"incomplete"),
+        ReplayFault::ReadFault => write_all(err, b"flumina: read fault\n"),
+        ReplayFault::NoMemory => write_all(err, b"flumina: no memory\n"),
+    }
+}
+
+// Writes the line of a trace's line.
+fn write_trace_line<E: Sink>(err: &mut E, line: u64, why: &[u8]) -> Result<(), Failed>
+    ensures { Writes (trace_line line why.now) (E.taken err.old) (E.taken err.new) (E.faults err.old) (E.faults err.new) result }
+{
+    let mut buffer = Buffer::new();
+    let digits = digits_of(&mut buffer, line);
+    write_pieces(err, &[b"flumina: trace line ", digits, b": ", why, b"\n"])
 }

@@ -10,6 +10,7 @@ use flu_outside::TakeFault;
 use flu_parse::JobFault;
 use flu_plan::PlanFault;
 use flu_streams::SourceFault;
+use flu_trace::ReplayFault;
 use flu_valid::ValidFault;
 use flu_words::BadWords;
 use std::alloc::AllocError;
@@ -65,6 +66,8 @@ pub enum Refusal {
     WriteFault,
     /// There was no memory.
     NoMemory,
+    /// The trace has a fault, or stops before the net is final.
+    TraceFault(ReplayFault),
 }
 
 /// The status of a refusal.
@@ -80,6 +83,7 @@ pub fn status(refusal: &Refusal) -> u8
         Refusal::ReadFault => 7,
         Refusal::WriteFault => 8,
         Refusal::NoMemory => 9,
+        Refusal::TraceFault(_) => 13,
     }
 }
 
@@ -121,6 +125,21 @@ impl From<TakeFault> for Refusal {
         match fault {
             TakeFault::Failed => Refusal::ReadFault,
             TakeFault::NoMemory => Refusal::NoMemory,
+        }
+    }
+}
+
+impl From<ReplayFault> for Refusal {
+    ghost use Rattle.std.specs.Prelude.{◌≡◌};
+    ghost use Rattle.flu_top.specs.Answer.{refusal_of_replay};
+
+    ghost from_gives = { λ fault refusal. refusal ≡ refusal_of_replay fault };
+
+    fn from(fault: ReplayFault) -> Refusal {
+        match fault {
+            ReplayFault::ReadFault => Refusal::ReadFault,
+            ReplayFault::NoMemory => Refusal::NoMemory,
+            fault => Refusal::TraceFault(fault),
         }
     }
 }

@@ -1,13 +1,10 @@
-//! `simulate JOB PLAN SEED`: the report and the steps of the run that a seed draws on the net of a plan.
+//! `simulate JOB PLAN SEED [--trace]`: the report, or the trace, and the steps of the run that a seed draws on the net of a plan.
 
-ghost use Rattle.std.specs.Prelude.{◌≡◌, length, IfOk, IfErr};
+ghost use Rattle.std.specs.Prelude.{◌≡◌, length, IfOk, OnOk, IfErr};
 ghost use Rattle.flu_outside.specs.Outside.{WhereTold};
 ghost use Rattle.flu_outside.specs.Taking.{TookFronts};
-ghost use Rattle.flu_model.specs.Contents.{nothing_held};
-ghost use Rattle.flu_model.specs.Folding.{final_outputs};
 ghost use Rattle.flu_model.specs.Itags.{count_of_itags};
 ghost use Rattle.flu_model.specs.Listed.{listed};
-ghost use Rattle.flu_model.specs.Reports.{report};
 ghost use Rattle.flu_deps.specs.Checking.{program_of};
 ghost use Rattle.flu_deps.specs.Validated.{plan_of, IsValidFor};
 ghost use Rattle.flu_streams.specs.Files.{files_of, LeavesOthers};
@@ -16,15 +13,16 @@ ghost use Rattle.flu_words.specs.Words.{Simulate};
 ghost use Rattle.flu_top.specs.Taking.{TookOnly};
 ghost use Rattle.flu_top.specs.Wants.{want};
 ghost use Rattle.flu_top.specs.Done.{IsReadName, IsWritten};
-ghost use Rattle.flu_top.specs.Folding.{IsReported, IsReportRefusal};
+ghost use Rattle.flu_top.specs.Folding.{AreSourcesRead, IsReportRefusal};
 ghost use Rattle.flu_top.specs.Products.{line_said, MaySay};
 ghost use Rattle.flu_top.specs.Refusing.{IsRefusal};
-ghost use Rattle.flu_top.specs.Simulating.{AreDrawn};
+ghost use Rattle.flu_top.specs.Simulating.{AreDrawn, IsTextOn};
 
 use crate::planned::{Planned, planned_by};
 use crate::products::{DrawnSteps, Product};
 use crate::refusals::{JobRead, Refusal};
 use crate::sources::streams_of;
+use crate::traces::trace_text;
 use flu_cells::State;
 use flu_fork::Case;
 use flu_live::{Run, simulate};
@@ -35,26 +33,27 @@ use flu_streams::GatherFault;
 use flu_words::Seed;
 use std::alloc::{AllocError, Global};
 
-/// The report and the steps of the job that a file holds, which is run on the net of the plan that another file holds, by the
-/// steps that a seed draws.
+/// The report, or the trace where it is asked for, and the steps of the job that a file holds, which is run on the net of the plan
+/// that another file holds, by the steps that a seed draws.
 pub fn simulate_planned<F: Files>(
     alloc: Global,
     files: &mut F,
     job: &str,
     plan: &str,
     seed: Seed,
+    traced: bool,
 ) -> Result<Product, Refusal>
-    ensures written { IfOk result (λ product. WhereTold (F.left files.old) (F.left files.new) (IsWritten (Simulate job.now plan.now seed.number) product.text (line_said product.steps))) }
-    ensures says { IfOk result (λ product. MaySay (want (Simulate job.now plan.now seed.number)).says product.steps) }
-    ensures refused { IfErr result (IsRefusal (Simulate job.now plan.now seed.number) (F.left files.old) (F.left files.new) (F.faults files.old) (F.faults files.new)) }
+    ensures written { IfOk result (λ product. WhereTold (F.left files.old) (F.left files.new) (IsWritten (Simulate job.now plan.now seed.number traced) product.text (line_said product.steps))) }
+    ensures says { IfOk result (λ product. MaySay (want (Simulate job.now plan.now seed.number traced)).says product.steps) }
+    ensures refused { IfErr result (IsRefusal (Simulate job.now plan.now seed.number traced) (F.left files.old) (F.left files.new) (F.faults files.old) (F.faults files.new)) }
     ensures fronts { WhereTold (F.left files.old) (F.left files.new) TookFronts }
-    ensures only { WhereTold (F.left files.old) (F.left files.new) (TookOnly (IsReadName (F.left files.old) (Simulate job.now plan.now seed.number))) }
+    ensures only { WhereTold (F.left files.old) (F.left files.new) (TookOnly (IsReadName (F.left files.old) (Simulate job.now plan.now seed.number traced))) }
 {
     let planned = match planned_by(alloc, files, job, plan) {
         Ok(planned) => planned,
         Err(refusal) => return Err(refusal),
     };
-    match report_of(alloc, files, planned, seed) {
+    match text_of(alloc, files, planned, seed, traced) {
         Ok((text, steps)) => Ok(Product {
             text,
             steps: Some(steps),
@@ -63,15 +62,17 @@ pub fn simulate_planned<F: Files>(
     }
 }
 
-// The report and the steps of a job by a plan over its sources' files.
-fn report_of<F: Files>(
+// The report or the trace, and the steps, of a job by a plan over its sources' files.
+fn text_of<F: Files>(
     alloc: Global,
     files: &mut F,
     planned: Planned,
     seed: Seed,
+    traced: bool,
 ) -> Result<(Text, DrawnSteps), Refusal>
     requires { IsValidFor (program_of planned.checked) planned.valid }
-    ensures reported { IfOk result (λ both. WhereTold (F.left files.old) (F.left files.new) (IsReported (program_of planned.checked) both.0)) }
+    ensures read { OnOk result (WhereTold (F.left files.old) (F.left files.new) (AreSourcesRead (program_of planned.checked))) }
+    ensures text { IfOk result (λ both. WhereTold (F.left files.old) (F.left files.new) (λ old new. IsTextOn traced (program_of planned.checked) (plan_of planned.valid).nodes (lists_of (program_of planned.checked) old) seed.number both.0)) }
     ensures drawn { IfOk result (λ both. WhereTold (F.left files.old) (F.left files.new) (λ old new. AreDrawn (program_of planned.checked) (plan_of planned.valid).nodes (lists_of (program_of planned.checked) old) seed.number both.1)) }
     ensures refused { IfErr result (IsReportRefusal (program_of planned.checked) (F.left files.old) (F.left files.new) (F.faults files.old) (F.faults files.new)) }
     ensures fronts { WhereTold (F.left files.old) (F.left files.new) TookFronts }
@@ -85,20 +86,22 @@ fn report_of<F: Files>(
         Err(GatherFault::ReadFault) => return Err(Refusal::ReadFault),
         Err(GatherFault::NoMemory) => return Err(Refusal::NoMemory),
     };
-    let (text, steps) = net_report(alloc, &planned, &streams, seed)?;
+    let (text, steps) = net_text(alloc, &planned, &streams, seed, traced)?;
     Ok((text, steps))
 }
 
-// The report and the steps of the run of some streams from the empty state that a seed draws on the net.
-fn net_report(
+// The report or the trace, and the steps, of the run of some streams from the empty state that a seed draws on the net. The run is
+// made once more for its trace, whose steps are not kept otherwise.
+fn net_text(
     alloc: Global,
     planned: &Planned,
     streams: &Streams,
     seed: Seed,
+    traced: bool,
 ) -> Result<(Text, DrawnSteps), AllocError>
     requires valid { IsValidFor (program_of planned.now.checked) planned.now.valid }
     requires lists { length (listed streams.now) ≡ count_of_itags (program_of planned.now.checked) }
-    ensures report { IfOk result (λ both. both.0 ≡ report (program_of planned.now.checked) (final_outputs (program_of planned.now.checked) nothing_held (listed streams.now))) }
+    ensures text { IfOk result (λ both. IsTextOn traced (program_of planned.now.checked) (plan_of planned.now.valid).nodes (listed streams.now) seed.number both.0) }
     ensures drawn { IfOk result (λ both. AreDrawn (program_of planned.now.checked) (plan_of planned.now.valid).nodes (listed streams.now) seed.number both.1) }
 {
     let program = planned.checked.program();
@@ -116,6 +119,11 @@ fn net_report(
         mark,
         ..
     } = run;
+    let steps = DrawnSteps { counts, mark };
+    if traced {
+        let lines = trace_text(alloc, &case, seed.number)?;
+        return Ok((lines, steps));
+    }
     let text = report_text(alloc, program, outs)?;
-    Ok((text, DrawnSteps { counts, mark }))
+    Ok((text, steps))
 }

@@ -1,6 +1,6 @@
 //! The streams of a job's sources.
 
-ghost use Rattle.std.specs.Prelude.{◌≡◌, length, IfOk, IfErr, OnOk, IsErrOf};
+ghost use Rattle.std.specs.Prelude.{◌≡◌, ◌≤◌, ℕ, List, length, IfOk, IfErr, OnOk, IsErrOf};
 ghost use Rattle.flu_outside.specs.Outside.{WhereTold};
 ghost use Rattle.flu_outside.specs.Taking.{TookFronts};
 ghost use Rattle.flu_model.specs.Itags.{count_of_itags};
@@ -30,6 +30,7 @@ pub fn streams_of<F: Files>(
     ensures fault { IfErr result (IsFirstFault (program_of checked.now) (F.left files.old) (F.left files.new)) }
     ensures fronts { WhereTold (F.left files.old) (F.left files.new) TookFronts }
     ensures others { WhereTold (F.left files.old) (F.left files.new) (LeavesOthers (files_of (program_of checked.now).sources)) }
+    ensures rise { (n : List ℕ) → F.faults files.old n ≤ F.faults files.new n }
     ensures cause { IsErrOf result GatherFault.ReadFault → OneRose (files_of (program_of checked.now).sources) (F.faults files.old) (F.faults files.new) }
 {
     gather(alloc, checked.program(), files)

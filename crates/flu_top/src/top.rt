@@ -33,14 +33,17 @@ use std::thread::Threads;
 /// source or more, runs the events of each round on a thread for each node of the plan, and writes the report of the
 /// fold, round by round. `simulate JOB PLAN SEED` reads such a job, a plan that is valid for it and the sources, runs
 /// the events on the net of the plan by the steps that the seed draws, writes the report of the fold, and then says on
-/// `err` how many steps of each kind there were, with their mark. `demo N SEED` reads no file: it runs the job of a
-/// demo, as `run` does, over N events that the seed draws and the ticks of a clock, and writes how many events there
-/// were and how many lines and bytes their report has. Status 0: all was written. Else the line of the answer goes to
-/// `err`, and a failure of `err` changes no status: 2 for words that are no command, 3 for a job text with a fault, 4
-/// for a job that is not accepted, 5 for a plan text with a fault or a plan that is not valid, 6 for a source with a
-/// defect, 7 where a file that was read failed, 8 where `out` failed, 9 where there was no memory. Where `run` is
-/// stopped, at 6 to 9, `out` may have what the rounds until then wrote. `docs/LANGUAGE.md` has the forms and the lines,
-/// and `docs/TRUST.md` what is to be believed.
+/// `err` how many steps of each kind there were, with their mark; with `--trace` behind the seed it writes the trace of
+/// that run, its steps line by line, in place of the report. `replay JOB PLAN TRACE` reads the same and then a trace,
+/// runs the events on the net by its steps, and writes the report of the fold. `demo N SEED` reads no file: it runs the
+/// job of a demo, as `run` does, over N events that the seed draws and the ticks of a clock, and writes how many events
+/// there were and how many lines and bytes their report has. Status 0: all was written. Else the line of the answer
+/// goes to `err`, and a failure of `err` changes no status: 2 for words that are no command, 3 for a job text with a
+/// fault, 4 for a job that is not accepted, 5 for a plan text with a fault or a plan that is not valid, 6 for a source
+/// with a defect, 7 where a file that was read failed, 8 where `out` failed, 9 where there was no memory, 13 for a trace
+/// with a bad line, with a step that is not enabled where it stands, or with too few steps. Where `run` is stopped, at
+/// 6 to 9, `out` may have what the rounds until then wrote. `docs/LANGUAGE.md` has the forms and the lines, and
+/// `docs/TRUST.md` what is to be believed.
 ///
 /// Each worker of a run passes the gate before and after each of its updates. `run` and `demo` alone start threads, and
 /// wait for them: what is said here holds where the call returns.

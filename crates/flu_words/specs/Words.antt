@@ -1,19 +1,20 @@
 -- The words of a command.
-use Rattle.std.specs.Prelude.{ℕ, ◌+◌, List, [], ◌∷◌, Bool, false, not, ◌==◌, if◌then◌else◌, Option, Some, None, option_map, Result, Ok, Err, codes}
+use Rattle.std.specs.Prelude.{ℕ, ◌+◌, List, [], ◌∷◌, Bool, true, false, not, ◌==◌, if◌then◌else◌, Option, Some, None, option_map, Result, Ok, Err, codes}
 use Rattle.std.specs.Str.{bytes_eq}
 use Rattle.flu_words.specs.declared.words.Command.{Command as NamedCommand}
 use Rattle.flu_words.specs.declared.words.Command.TheVariants as named
 use Rattle.flu_words.specs.Numbers.{depth_of, seed_of, draws_of}
 
 -- what the words ask for, each with the names of its files, where a plan may be left out, how deep a plan is wanted, the seed of
--- what is drawn, and how many events a demo draws
+-- what is drawn, whether the trace of a drawn run is asked for in place of its report, and how many events a demo draws
 pub data Command : Type 0 where
   Fold : (job : List ℕ) → Command
   Check : (job : List ℕ) → Command
   Valid : (job plan : List ℕ) → Command
   Plan : (job : List ℕ) → (depth : ℕ) → Command
   Run : (job : List ℕ) → (plan : Option (List ℕ)) → Command
-  Simulate : (job plan : List ℕ) → (seed : ℕ) → Command
+  Simulate : (job plan : List ℕ) → (seed : ℕ) → (trace : Bool) → Command
+  Replay : (job plan trace : List ℕ) → Command
   Demo : (n seed : ℕ) → Command
 
 -- a command without where its names lie in memory
@@ -23,7 +24,8 @@ plain_command (named.Check job) = Check job.now
 plain_command (named.Valid job plan) = Valid job.now plan.now
 plain_command (named.Plan job depth) = Plan job.now depth.levels
 plain_command (named.Run job plan) = Run job.now (option_map (λ name. name.now) plan)
-plain_command (named.Simulate job plan seed) = Simulate job.now plan.now seed.number
+plain_command (named.Simulate job plan seed trace) = Simulate job.now plan.now seed.number trace
+plain_command (named.Replay job plan trace) = Replay job.now plan.now trace.now
 plain_command (named.Demo n seed) = Demo n.count seed.number
 
 -- a word that can name a file: it is not empty and does not begin with a dash
@@ -115,14 +117,55 @@ abbrev pub on_seed : (ℕ → Command) → Result ℕ ℕ → Result Command ℕ
 on_seed command (Ok seed) = Ok (command seed)
 on_seed command (Err at) = Err at
 
-abbrev pub simulation_by : List ℕ → List (List ℕ) → Result Command ℕ
-simulation_by job [] = Err 2
-simulation_by job (w ∷ ws) = if is_file_name w then on_seed (Simulate job w) (seed_alone 3 ws) else Err 2
+-- whether a trace is asked for, in the words behind a seed: `--trace` alone asks for it
+abbrev pub no_word_after_option : List (List ℕ) → Result Bool ℕ
+no_word_after_option [] = Ok true
+no_word_after_option (w ∷ ws) = Err 5
 
--- the names of a job and a plan and a seed in the words behind `simulate`
+abbrev pub trace_after : List (List ℕ) → Result Bool ℕ
+trace_after [] = Ok false
+trace_after (w ∷ ws) = if bytes_eq w (codes "--trace") then no_word_after_option ws else Err 4
+
+abbrev pub on_option : (Bool → Command) → Result Bool ℕ → Result Command ℕ
+on_option command (Ok asked) = Ok (command asked)
+on_option command (Err at) = Err at
+
+abbrev pub simulation_from : List ℕ → List ℕ → Option ℕ → List (List ℕ) → Result Command ℕ
+simulation_from job plan None ws = Err 3
+simulation_from job plan (Some seed) ws = on_option (Simulate job plan seed) (trace_after ws)
+
+abbrev pub simulation_of : List ℕ → List ℕ → List (List ℕ) → Result Command ℕ
+simulation_of job plan [] = Err 3
+simulation_of job plan (w ∷ ws) = simulation_from job plan (seed_of w) ws
+
+abbrev pub plan_and_rest : List ℕ → List (List ℕ) → Result (List ℕ × List ℕ × List (List ℕ)) ℕ
+plan_and_rest job [] = Err 2
+plan_and_rest job (w ∷ ws) = if is_file_name w then Ok (job, w, ws) else Err 2
+
+-- the names of a job and a plan that the words behind a command begin with, and the words behind them
+abbrev pub both_and_rest : List (List ℕ) → Result (List ℕ × List ℕ × List (List ℕ)) ℕ
+both_and_rest [] = Err 1
+both_and_rest (w ∷ ws) = if is_file_name w then plan_and_rest w ws else Err 1
+
+abbrev pub on_rest : (List ℕ → List ℕ → List (List ℕ) → Result Command ℕ) → Result (List ℕ × List ℕ × List (List ℕ)) ℕ → Result Command ℕ
+on_rest command (Ok begun) = command begun.0 begun.1 begun.2
+on_rest command (Err at) = Err at
+
+-- the names of a job and a plan, a seed and maybe an option in the words behind `simulate`
 abbrev pub simulation : List (List ℕ) → Result Command ℕ
-simulation [] = Err 1
-simulation (w ∷ ws) = if is_file_name w then simulation_by w ws else Err 1
+simulation ws = on_rest simulation_of (both_and_rest ws)
+
+abbrev pub no_word_after_trace : List ℕ → List ℕ → List ℕ → List (List ℕ) → Result Command ℕ
+no_word_after_trace job plan trace [] = Ok (Replay job plan trace)
+no_word_after_trace job plan trace (w ∷ ws) = Err 4
+
+abbrev pub replay_of : List ℕ → List ℕ → List (List ℕ) → Result Command ℕ
+replay_of job plan [] = Err 3
+replay_of job plan (w ∷ ws) = if is_file_name w then no_word_after_trace job plan w ws else Err 3
+
+-- the names of a job, a plan and a trace in the words behind `replay`
+abbrev pub replay : List (List ℕ) → Result Command ℕ
+replay ws = on_rest replay_of (both_and_rest ws)
 
 abbrev pub demo_with : Option ℕ → List (List ℕ) → Result Command ℕ
 demo_with None ws = Err 1
@@ -141,6 +184,7 @@ command_of w ws =
     else if bytes_eq w (codes "plan") then on_depth Plan (job_and_depth ws)
     else if bytes_eq w (codes "run") then on_any_plan Run (job_and_any_plan ws)
     else if bytes_eq w (codes "simulate") then simulation ws
+    else if bytes_eq w (codes "replay") then replay ws
     else if bytes_eq w (codes "demo") then demo ws else Err 0
 
 -- the command that words are, or the number from 0 of the first word that does not fit, which is the number of words where

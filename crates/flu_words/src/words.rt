@@ -1,7 +1,7 @@
 //! The words of a command.
 
 ghost use Rattle.std.specs.Prelude.{◌≡◌, ◌<◌, MatchResult, Ok, Err, map, option_map, string_bytes};
-ghost use Rattle.flu_words.specs.Words.{command_in, plain_command, job_alone, job_and_plan, job_and_depth, job_and_any_plan, depth_after, seed_alone, simulation, demo, is_file_name};
+ghost use Rattle.flu_words.specs.Words.{command_in, plain_command, job_alone, job_and_plan, job_and_depth, job_and_any_plan, depth_after, trace_after, seed_alone, both_and_rest, simulation, replay, demo, is_file_name};
 
 use crate::numbers::{Depth, Draws, Seed, USUAL_DEPTH, depth_of, draws_of, seed_of};
 
@@ -37,11 +37,18 @@ pub enum Command<'a> {
         job: &'a str,
         plan: Option<&'a str>,
     },
-    /// `simulate JOB PLAN SEED`: the report of the run that the seed draws on the net of the plan.
+    /// `simulate JOB PLAN SEED [--trace]`: the report of the run that the seed draws on the net of the plan, or its trace.
     Simulate {
         job: &'a str,
         plan: &'a str,
         seed: Seed,
+        trace: bool,
+    },
+    /// `replay JOB PLAN TRACE`: the report of the run of the trace's steps on the net of the plan.
+    Replay {
+        job: &'a str,
+        plan: &'a str,
+        trace: &'a str,
     },
     /// `demo N SEED`: a summary of a run on the tree of threads over N events that the seed draws.
     Demo {
@@ -83,6 +90,7 @@ pub fn read_words(words: &[String]) -> Result<Command<'_>, BadWords>
             Ok(Command::Run { job, plan })
         }
         "simulate" => simulation(operands),
+        "replay" => replay(operands),
         "demo" => demo(operands),
         _ => Err(BadWords { at: 0 }),
     }
@@ -194,11 +202,11 @@ fn depth_after(options: &[String]) -> Result<Depth, BadWords>
     Ok(depth)
 }
 
-// The job, the plan and the seed in the words behind `simulate`.
-fn simulation(operands: &[String]) -> Result<Command<'_>, BadWords>
+// The names of a job and a plan that the words behind a command begin with, and the words behind them.
+fn both_and_rest(operands: &[String]) -> Result<(&str, &str, &[String]), BadWords>
     ensures { MatchResult result
-        (λ command. simulation (map string_bytes operands.now) ≡ Ok (plain_command command))
-        (λ bad. simulation (map string_bytes operands.now) ≡ Err bad.at) }
+        (λ begun. both_and_rest (map string_bytes operands.now) ≡ Ok (begun.0.now, begun.1.now, map string_bytes begun.2.now))
+        (λ bad. both_and_rest (map string_bytes operands.now) ≡ Err bad.at) }
 {
     let [job, behind @ ..] = operands else {
         return Err(BadWords { at: 1 });
@@ -212,11 +220,69 @@ fn simulation(operands: &[String]) -> Result<Command<'_>, BadWords>
     if !is_file_name(plan.as_str()) {
         return Err(BadWords { at: 2 });
     }
-    let seed = seed_alone(3, others)?;
+    Ok((job.as_str(), plan.as_str(), others))
+}
+
+// The job, the plan, the seed and maybe the option in the words behind `simulate`.
+fn simulation(operands: &[String]) -> Result<Command<'_>, BadWords>
+    ensures { MatchResult result
+        (λ command. simulation (map string_bytes operands.now) ≡ Ok (plain_command command))
+        (λ bad. simulation (map string_bytes operands.now) ≡ Err bad.at) }
+{
+    let (job, plan, others) = both_and_rest(operands)?;
+    let [value, options @ ..] = others else {
+        return Err(BadWords { at: 3 });
+    };
+    let Some(seed) = seed_of(value.as_str().as_bytes()) else {
+        return Err(BadWords { at: 3 });
+    };
+    let trace = trace_after(options)?;
     Ok(Command::Simulate {
-        job: job.as_str(),
-        plan: plan.as_str(),
+        job,
+        plan,
         seed,
+        trace,
+    })
+}
+
+// Whether a trace is asked for, in the words behind a seed.
+fn trace_after(options: &[String]) -> Result<bool, BadWords>
+    ensures { MatchResult result
+        (λ asked. trace_after (map string_bytes options.now) ≡ Ok asked)
+        (λ bad. trace_after (map string_bytes options.now) ≡ Err bad.at) }
+{
+    let [option, others @ ..] = options else {
+        return Ok(false);
+    };
+    if option.as_str() != "--trace" {
+        return Err(BadWords { at: 4 });
+    }
+    if !others.is_empty() {
+        return Err(BadWords { at: 5 });
+    }
+    Ok(true)
+}
+
+// The job, the plan and the trace in the words behind `replay`.
+fn replay(operands: &[String]) -> Result<Command<'_>, BadWords>
+    ensures { MatchResult result
+        (λ command. replay (map string_bytes operands.now) ≡ Ok (plain_command command))
+        (λ bad. replay (map string_bytes operands.now) ≡ Err bad.at) }
+{
+    let (job, plan, behind) = both_and_rest(operands)?;
+    let [trace, others @ ..] = behind else {
+        return Err(BadWords { at: 3 });
+    };
+    if !is_file_name(trace.as_str()) {
+        return Err(BadWords { at: 3 });
+    }
+    if !others.is_empty() {
+        return Err(BadWords { at: 4 });
+    }
+    Ok(Command::Replay {
+        job,
+        plan,
+        trace: trace.as_str(),
     })
 }
 

@@ -15,16 +15,20 @@ pub const HELP: &str =
   flumina plan JOB [--depth D]   write a plan, with at most D levels below its root: 0 to 6, or 3
   flumina run JOB [PLAN]         run the job on a thread for each node of the plan, or of a made one, write the report
   flumina simulate JOB PLAN SEED run the job by the steps that a seed draws, write the report, then count the steps
+  flumina simulate JOB PLAN SEED --trace
+                                 the same, but write the trace of the run, its steps line by line, for the report
+  flumina replay JOB PLAN TRACE  run the job by the steps of a trace, write the report
   flumina demo N SEED            run a job of page views over N events that a seed draws, write one line that sums up
   flumina --help                 write this
   flumina --version              write the version and the toolchain that proves it
 
-JOB and PLAN are names of files, SEED is a number from 0 to 2147483647, and N one from 0 to 1000000. Names in a job,
+JOB, PLAN and TRACE are names of files, SEED is a number from 0 to 2147483647, and N one from 0 to 1000000. Names in a job,
 as that of a file, are looked up in the working folder.
 
 Status 0: written. Each other one has a line on standard error: 2 the words are no command, 3 the job's text has a
 fault, 4 tags conflict that are not declared dependent, 5 the plan has a fault or is not valid, 6 a source has a
-defect, 7 a file is missing or failed, 8 standard output failed, 9 memory was wanting.
+defect, 7 a file is missing or failed, 8 standard output failed, 9 memory was wanting, 13 a trace has a bad line, one whose
+step can't be made there, or too few lines.
 
 docs/LANGUAGE.md describes jobs, rows and lines, docs/TREE.md plans, docs/GUIDE.md the way from a log to a report.
 ";

@@ -93,6 +93,7 @@ fn check_scene<R: Abort + Threads + Wait + Sync>(
 ) -> Result<(), Fail> {
     let (status, said) = head.split_once(' ').unwrap_or((head, ""));
     let status = status.parse::<u8>()?;
+    assert!(rt; !scene.calls.is_empty(), "{head}");
     for call in scene.calls.iter() {
         let (words, err) = call.split_once(" -> ").unwrap_or((call, said));
         let wanted = Wanted { status, out, err };
@@ -124,5 +125,9 @@ pub fn play<R: Abort + Threads + Wait + Sync>(
             add_file(&mut scene, head, lines)?;
         }
     }
+    assert!(rt;
+        scene.is_played && scene.calls.is_empty(),
+        "the script ends with calls"
+    );
     Ok(())
 }

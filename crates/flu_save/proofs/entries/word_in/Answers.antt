@@ -5,4 +5,5 @@ use Rattle.flu_save.proofs.Numbers.{parse-signed_decimal_wide}
 use Rattle.flu_save.proofs.entries.word_in.Goals as goal
 
 pub returns : goal.returns
-returns c n fits is = c.ok.ensures.value ∙ ap result_ok (parse-signed_decimal_wide w64 n c.args.text.now c.parse.result fits (omega (arith, fits.sfits)) is c.parse.ensures.value.0)
+returns c n fits is = c.ok.ensures.value
+    ∙ ap result_ok (parse-signed_decimal_wide w64 n c.args.text.now c.parse.result fits (omega (arith, fits.sfits)) is c.parse.ensures.value.0)

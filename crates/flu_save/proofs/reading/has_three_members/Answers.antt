@@ -11,5 +11,5 @@ use Rattle.flu_save.proofs.reading.has_three_members.Goals as goal
 pub returns-in-Some : goal.returns-in-Some
 returns-in-Some c =
     let count : option_map members_len (as_object (view c.args.value.now)) ≡ Some c.len.result =
-        ap (option_map members_len) (sym c.in-Some.ensures) ∙ ap Some (members_len-members_view c.in-Some.members.now.entries ∙ sym c.len.ensures.len) in
+    ap (option_map members_len) (sym c.in-Some.ensures) ∙ ap Some (members_len-members_view c.in-Some.members.now.entries ∙ sym c.len.ensures.len) in
     (λ t. count ∙ ap Some (true_eq c.len.result 3 t), λ e. ap (λ n. nat_eq n 3) (of_some _ _ (sym count ∙ e)))

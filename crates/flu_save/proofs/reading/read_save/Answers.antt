@@ -1,4 +1,4 @@
-use Rattle.std.proofs.Common.{◌≡◌, ◌≤◌, Option, sym, ap, ◌∙◌, subst, arith, length}
+use Rattle.std.proofs.Common.{◌≡◌, Option, ◌∙◌, subst, arith}
 use Rattle.std.specs.Prelude.{IfNone}
 use Rattle.serde_json.specs.View.{view, items_view}
 use Rattle.flu_model.specs.Erasure.{job_of}
@@ -19,8 +19,11 @@ returns-clause-fault c =
     let p = c.args.p.now in
     let d = view c.in_ok-value.value in
     let short : IsShort c.args.bytes.now = omega (arith, c.if-bytes-gt-MOST_BYTES.false) in
-    let text : c.in-Some.parts.job.now ≡ normal_form (job_of p) = same_texts c.in-Some.parts.job.now c.as_str.result.now c.ne.result c.ne.ensures c.if-ne.false ∙ c.as_str.ensures ∙ c.in_ok-job.ensures.text in
-    let job : IsOfJob d (normal_form (job_of p)) = subst (IsOfJob d) text (record { border = c.in-Some.parts.border; entries = items_view c.in-Some.parts.entries.now; parts = c.in-Some.ensures.some }) in
+    let text : c.in-Some.parts.job.now ≡ normal_form
+    (job_of p) = same_texts c.in-Some.parts.job.now c.as_str.result.now c.ne.result c.ne.ensures c.if-ne.false ∙ c.as_str.ensures
+    ∙ c.in_ok-job.ensures.text in
+    let job : IsOfJob d (normal_form (job_of p)) = subst (IsOfJob d) text
+    (record { border = c.in-Some.parts.border; entries = items_view c.in-Some.parts.entries.now; parts = c.in-Some.ensures.some }) in
     fault_of_none p c.args.bytes.now d short c.in_ok-value.ensures.json job c.in_ok-saved_in.field-0 c.in_ok-saved_in.ensures.found c.ok_or.result c.ok_or.ensures.value
 
 pub returns-clause-found : goal.returns-clause-found

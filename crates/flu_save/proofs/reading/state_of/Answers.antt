@@ -1,4 +1,4 @@
-use Rattle.std.proofs.Common.{◌≡◌, Some, None, sym, ap, ◌∙◌, arith}
+use Rattle.std.proofs.Common.{Some, ap, ◌∙◌, arith}
 use Rattle.flu_cells.specs.Holding.{held}
 use Rattle.flu_model.specs.Contents.{with_worth}
 use Rattle.flu_save.proofs.Families.{of_some}
@@ -24,7 +24,8 @@ loop-entry-preserved c =
     let old = held c.loop-entry.state in
     record {
       savable =
-          with_savable families old (held c.put.new.state) c.in-Some.cell c.in-Some.worth c.loop-entry.invariant.savable c.in-Some.ensures.fits.0 c.in-Some.ensures.fits.1 c.in_ok-put.ensures;
+          with_savable families old
+          (held c.put.new.state) c.in-Some.cell c.in-Some.worth c.loop-entry.invariant.savable c.in-Some.ensures.fits.0 c.in-Some.ensures.fits.1 c.in_ok-put.ensures;
       found = λ s savable same.
           let here = entry_at families s c.args.entries.now c.loop-entry.entry-index c.entry-item.result same c.loop-entry-test.true c.entry-item.is in
           let pair = of_some _ _ (c.in-Some.ensures.found s here.cell here.worth savable here.holds here.entry) in

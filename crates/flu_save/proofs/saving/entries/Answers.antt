@@ -1,7 +1,6 @@
-use Rattle.std.proofs.Common.{◌≡◌, ◌+◌, ◌<◌, ◌++◌, map, length, get_or, ap, subst, ◌∙◌}
-use Rattle.serde_json.specs.View.{view}
+use Rattle.std.proofs.Common.{◌+◌, ◌<◌, ◌++◌, length, get_or, ap, subst, ◌∙◌}
 use Rattle.flu_cells.specs.Holding.{held}
-use Rattle.flu_save.proofs.Values.{first_entries, family_entries, next_family}
+use Rattle.flu_save.proofs.Values.{family_entries, next_family, next_width}
 use Rattle.flu_save.proofs.saving.entries.Goals as goal
 
 pub loop-family-preserved : goal.loop-family-preserved
@@ -14,8 +13,9 @@ loop-family-preserved c =
     record {
       number = ap (λ n. n + 1) c.loop-family.invariant.number;
       entries =
-          c.in_ok-add_family.ensures
+          c.in_ok-add_family.ensures.entries
           ∙ ap (λ ds. ds ++ family_entries f s c.loop-family.number) c.loop-family.invariant.entries
           ∙ next_family families s c.loop-family.number i f c.loop-family.invariant.number
-          (subst (λ xs. i < length xs) there c.loop-family-test.true) (c.family-item.is ∙ ap (λ xs. get_or xs i f) there)
+          (subst (λ xs. i < length xs) there c.loop-family-test.true) (c.family-item.is ∙ ap (λ xs. get_or xs i f) there);
+      width = next_width s c.loop-family.number i c.loop-family.invariant.number c.loop-family.invariant.width c.in_ok-add_family.ensures.width;
     }

@@ -2,8 +2,8 @@ use Rattle.flu_thread_tests.proofs.StepLemmas.{may_left}
 use Rattle.flu_thread_tests.proofs.TiedLemmas.{lent_fits, lent_grown, tied_lent, hand_lent}
 use Rattle.flu_thread_tests.proofs.worked.lends.Goals as goal
 
-pub lend-requires : goal.lend-requires
-lend-requires g c = may_left c.args.root.now c.requires.hand
+pub lend-part-requires : goal.lend-part-requires
+lend-part-requires g c = may_left c.args.root.now c.requires.hand
 
 pub try_lend-requires-clause-fits : goal.try_lend-requires-clause-fits
 try_lend-requires-clause-fits g c =

@@ -1,5 +1,5 @@
 use Rattle.std.proofs.Common.{refl, ap}
-use Rattle.flu_words.specs.Words.{Fold, Check, Valid, Plan, Simulate, Demo, plain_command}
+use Rattle.flu_words.specs.Words.{Fold, Check, Valid, Plan, Simulate, Replay, Demo, plain_command}
 use Rattle.flu_top.specs.Ending.{call}
 use Rattle.flu_top.proofs.Demos.{refused_anyhow}
 use Rattle.flu_top.proofs.Endings.{ends_text, ends_product}
@@ -28,8 +28,13 @@ returns-in-Plan-clause-ends g c =
 pub returns-in-Simulate-clause-ends : goal.returns-in-Simulate-clause-ends
 returns-in-Simulate-clause-ends g c =
     ends_product (call (g.F.Files.left c.args.files.now) (g.F.Files.left c.simulate_planned.new.files) (g.F.Files.faults c.args.files.now) (g.F.Files.faults c.simulate_planned.new.files) (g.K.Sink.taken c.args.out.now) (g.K.Sink.taken c.put.new.out) (g.K.Sink.faults c.args.out.now) (g.K.Sink.faults c.put.new.out))
-    (plain_command c.args.command) (Simulate c.in-Simulate.job.now c.in-Simulate.plan.now c.in-Simulate.seed.number) c.simulate_planned.result c.put.result (ap plain_command c.in-Simulate.is) (λ e. cc)
+    (plain_command c.args.command) (Simulate c.in-Simulate.job.now c.in-Simulate.plan.now c.in-Simulate.seed.number c.in-Simulate.trace) c.simulate_planned.result c.put.result (ap plain_command c.in-Simulate.is) (λ e. cc)
     c.simulate_planned.ensures.written c.simulate_planned.ensures.says c.simulate_planned.ensures.refused c.put.ensures
+
+pub returns-in-Replay-clause-ends : goal.returns-in-Replay-clause-ends
+returns-in-Replay-clause-ends g c =
+    ends_text (call (g.F.Files.left c.args.files.now) (g.F.Files.left c.replay_planned.new.files) (g.F.Files.faults c.args.files.now) (g.F.Files.faults c.replay_planned.new.files) (g.K.Sink.taken c.args.out.now) (g.K.Sink.taken c.put_text-in-Replay.new.out) (g.K.Sink.faults c.args.out.now) (g.K.Sink.faults c.put_text-in-Replay.new.out))
+    (plain_command c.args.command) (Replay c.in-Replay.job.now c.in-Replay.plan.now c.in-Replay.trace.now) c.replay_planned.result c.put_text-in-Replay.result (ap plain_command c.in-Replay.is) (λ e. cc) refl c.replay_planned.ensures.written c.replay_planned.ensures.refused c.put_text-in-Replay.ensures
 
 pub returns-in-Demo-clause-ends : goal.returns-in-Demo-clause-ends
 returns-in-Demo-clause-ends g c =

@@ -12,7 +12,7 @@ returns-in-Ok-clause-written g c =
     let p = c.in-Ok.program in
     let ready = ready_alone (Fold job) job p _ _ refl refl (λ x plan named. absurd (cc)) c.in-Ok.ensures.read c.in-Ok.ensures.taken in
     IfOk-weaker c.report_of.result _ _
-    (λ report reported. is_reported_behind (Fold job) p report _ _ _ refl (λ asked. absurd (false≢true asked)) (λ left q text is. (is, refl)) ready c.report_of.ensures.others reported)
+    (λ report reported. is_reported_behind (Fold job) p report _ _ _ refl (λ asked. absurd (false≢true asked)) refl (λ left q text is. (is, refl)) ready c.report_of.ensures.others reported)
     c.report_of.ensures.reported
 
 pub returns-in-Ok-clause-refused : goal.returns-in-Ok-clause-refused

@@ -1,4 +1,4 @@
-use Rattle.flu_top.proofs.LawsOfOutcome.{good_law, refused_job_law, refused_conflict_law, refused_plan_law, refused_source_law}
+use Rattle.flu_top.proofs.LawsOfOutcome.{good_law, refused_job_law, refused_conflict_law, refused_plan_law, refused_source_law, refused_trace_law}
 use Rattle.flu_top.proofs.laws.of_completeness.Goals as goal
 
 pub returns-clause-completes : goal.returns-clause-completes
@@ -15,3 +15,6 @@ returns-clause-refuses_plan c = refused_plan_law
 
 pub returns-clause-refuses_source : goal.returns-clause-refuses_source
 returns-clause-refuses_source c = refused_source_law
+
+pub returns-clause-refuses_trace : goal.returns-clause-refuses_trace
+returns-clause-refuses_trace c = refused_trace_law

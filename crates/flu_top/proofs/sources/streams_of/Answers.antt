@@ -30,3 +30,6 @@ returns-clause-others g c = subst (λ (q : Program). WhereTold (g.F.Files.left c
 
 pub returns-clause-cause : goal.returns-clause-cause
 returns-clause-cause g c = subst (λ (q : Program). IsErrOf c.gather.result GatherFault.ReadFault → OneRose (files_of q.sources) (g.F.Files.faults c.args.files.now) (g.F.Files.faults c.gather.new.files)) c.program.ensures c.gather.ensures.cause
+
+pub returns-clause-rise : goal.returns-clause-rise
+returns-clause-rise g c n = c.gather.ensures.counts.rise n

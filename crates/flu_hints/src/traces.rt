@@ -1,0 +1,33 @@
+//! What stops the replay of a trace.
+
+use std::alloc::{AllocError, Global};
+
+/// What a line of a trace may be, where one is none.
+const FORMS: &str = "  a line is arrive N, handle N, give N or hold N, or ask N SIDE, take N SIDE or lend N SIDE, with left or right as SIDE
+";
+
+/// Why no step is made by the line.
+const STOPS: &str = "  the net can't go on by that line there: its step waits for others, or is no step of this plan
+";
+
+/// Why a trace is not whole.
+const STOPS_EARLY: &str = "  the lines end there, and the net has steps left
+";
+
+/// What writes a trace.
+const WRITES: &str = "  a whole trace is written by: flumina simulate JOB PLAN SEED --trace
+";
+
+/// What stops the replay at the line that the line of an answer names, and what writes a whole trace.
+pub fn trace_hint(alloc: Global, line: &str) -> Result<String, AllocError> {
+    let mut told = String::new(alloc);
+    told.push_str(if line.ends_with(": bad line\n") {
+        FORMS
+    } else if line.ends_with(": not enabled\n") {
+        STOPS
+    } else {
+        STOPS_EARLY
+    })?;
+    told.push_str(WRITES)?;
+    Ok(told)
+}

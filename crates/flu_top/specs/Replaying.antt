@@ -1,0 +1,49 @@
+-- How the trace that a command reads ends on the net of its plan.
+use Rattle.std.specs.Prelude.{◌≡◌, ℕ, List, Option, Some}
+use Rattle.flu_outside.specs.Outside.{Contents}
+use Rattle.flu_outside.specs.Taking.{bytes_left}
+use Rattle.flu_model.specs.declared.events.Item.{Item}
+use Rattle.flu_model.specs.declared.jobs.Program.{Program}
+use Rattle.flu_model.specs.declared.plans.Node.{Node}
+use Rattle.flu_fork.specs.declared.content.Content.{Content}
+use Rattle.flu_fork.specs.Lots.{setting_of}
+use Rattle.flu_streams.specs.Files.{files_of}
+use Rattle.flu_streams.specs.Good.{lists_of}
+use Rattle.flu_trace.specs.Replaying.{Ending, Complete, IsReplayed}
+use Rattle.flu_words.specs.Words.{Command}
+use Rattle.flu_top.specs.Behind.{HasJob, HasPlan, emptied_each}
+use Rattle.flu_top.specs.Simulating.{from_nothing}
+use Rattle.flu_top.specs.Wants.{job_wanted, plan_named, trace_named, texts_named}
+
+-- on the net of a plan over these items, from the empty state, a trace of these bytes ends so
+pub record EndsOnNet (p : Program) (nodes : List Node) (lists : List (List Item)) (bytes : List ℕ) (ending : Ending) : Type 0 where
+  pub case : Content
+  pub of : setting_of case ≡ from_nothing p nodes lists
+  pub replayed : IsReplayed case bytes ending
+
+-- the bytes under a trace's name, which are read behind the sources of a program: none, where it names the file of one
+abbrev pub trace_in : List ℕ → Program → Contents → List ℕ
+trace_in trace p left = bytes_left (emptied_each (files_of p.sources) left) trace
+
+-- the trace under a name ends so, read behind the sources of a program, on the net of a plan over their items
+abbrev pub EndsBehind : Program → List Node → List ℕ → Contents → Ending → Type 0
+EndsBehind p nodes trace left ending = EndsOnNet p nodes (lists_of p left) (trace_in trace p left) ending
+
+-- THE TRACE UNDER A NAME ENDS SO on the net of the command's plan: its job's text and its plan's are read first, then the sources,
+-- and then the trace, so that one that names any of these files is empty
+pub record ReplaysTo (command : Command) (trace : List ℕ) (left : Contents) (p : Program) (ending : Ending) : Type 0 where
+  pub plan : List ℕ
+  pub asked : plan_named command ≡ Some plan
+  pub nodes : List Node
+  pub has : HasPlan (job_wanted command) plan left p nodes
+  pub ends : EndsBehind p nodes trace (emptied_each (texts_named command) left) ending
+
+-- a net may hand on one lot or another, so that a trace may have more than one ending: this one has none but the complete one
+abbrev pub CanOnlyComplete : Command → Contents → Type 0
+CanOnlyComplete command left =
+    (trace : List ℕ) → trace_named command ≡ Some trace → (p : Program) (ending : Ending) → HasJob (job_wanted command) left p
+    → ReplaysTo command trace left p ending → ending ≡ Complete
+
+-- and the complete one is none of its endings
+abbrev pub CanNotComplete : Command → Contents → List ℕ → Type 0
+CanNotComplete command left trace = (p : Program) → HasJob (job_wanted command) left p → ¬ ReplaysTo command trace left p Complete

@@ -1,0 +1,36 @@
+//! The trace of the run that a seed draws, as text (`docs/TREE.md`, "Traces").
+
+ghost use Rattle.std.specs.Prelude.{◌≡◌, ◌<◌, ◌^◌, IfOk};
+ghost use Rattle.std.specs.List.{All};
+ghost use Rattle.flu_trace.specs.Lines.{number_of};
+ghost use Rattle.flu_top.specs.Simulating.{IsTraceIn, lines_of_steps};
+
+use flu_fork::Case;
+use flu_live::trace;
+use flu_model::Text;
+use flu_net::Step;
+use flu_trace::step_line;
+use std::alloc::{AllocError, Global};
+
+/// The lines of the steps that a seed draws on the net of a case, each with a line feed.
+pub fn trace_text(alloc: Global, case: &Case, seed: u32) -> Result<Text, AllocError>
+    requires { seed < 2 ^ 31 }
+    ensures { IfOk result (IsTraceIn case.now seed) }
+{
+    let steps = trace(alloc, case, seed)?;
+    lines_of(alloc, steps.as_slice())
+}
+
+// The lines of some steps, each with a line feed.
+fn lines_of(alloc: Global, steps: &[Step]) -> Result<Text, AllocError>
+    requires { All (λ s. number_of s < 1000) steps.now }
+    ensures { IfOk result (λ text. text ≡ lines_of_steps steps.now) }
+{
+    let mut text = String::new(alloc);
+    for step in steps {
+        let line = step_line(alloc, *step)?;
+        text.push_str(line.as_str())?;
+        text.push_str("\n")?;
+    }
+    Ok(Text::of(text))
+}
