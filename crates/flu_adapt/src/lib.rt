@@ -3,8 +3,6 @@
 
 mod host_files;
 mod host_sink;
-#[cfg(test)]
-mod tests;
 
 pub use host_files::{FileFailure, HostFiles};
 pub use host_sink::HostSink;

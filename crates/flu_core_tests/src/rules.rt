@@ -6,17 +6,18 @@ use flu_model::{
 };
 use flu_rules::program;
 use std::alloc::{AllocError, Global};
+use std::process::Abort;
 use std::test::Fail;
 
 const ADDS: u32 = 0;
 
 const REPORTS: u32 = 1;
 
-/// What a case changes: the version, the first family, how many there are, how the kinds name its cell, what they do, and the source.
+/// A job of one family, and how its kinds name their cell and what they do with it.
 #[derive(Clone, Copy)]
-struct Case<'a> {
+struct Case {
     version: u32,
-    name: &'a str,
+    name: &'static str,
     families: u32,
     sort: Sort,
     keyed_family: bool,
@@ -24,10 +25,29 @@ struct Case<'a> {
     at: At,
     height: u32,
     literal: Option<i64>,
-    texts: &'a [&'a str],
+    texts: &'static [&'static str],
     rate: u64,
     slack: u64,
-    tags: &'a [TagRef],
+    tags: [TagRef; 2],
+}
+
+/// What is changed of the small job: the version, the family's name, how many families there are, the sort, whether the family and the
+/// kinds are keyed and how these name its cell, the height of what is added, a literal in place of the value, the pieces of the
+/// template, the rate, the slack, or, where family and kinds are keyed, the tags of the source.
+#[derive(Clone, Copy)]
+enum Change {
+    Nothing,
+    Version(u32),
+    Name(&'static str),
+    Families(u32),
+    Sort(Sort),
+    Keys(bool, bool, At),
+    Height(u32),
+    Literal(i64),
+    Texts(&'static [&'static str]),
+    Rate(u64),
+    Slack(u64),
+    Tags([TagRef; 2]),
 }
 
 /// Together with `{total}` it has 256 bytes, and with one byte more 257.
@@ -48,7 +68,7 @@ const LONE_TAGS: [TagRef; 2] = [
     },
 ];
 
-fn lone() -> Case<'static> {
+fn lone() -> Case {
     Case {
         version: 1,
         name: "total",
@@ -62,356 +82,177 @@ fn lone() -> Case<'static> {
         texts: &["total "],
         rate: 10,
         slack: 0,
-        tags: &LONE_TAGS,
+        tags: LONE_TAGS,
     }
 }
 
-fn keyed(tags: &[TagRef]) -> Case<'_> {
-    Case {
-        version: 1,
-        name: "total",
-        families: 1,
-        sort: Sort::Sum,
-        keyed_family: true,
-        keyed_kinds: true,
-        at: At::OwnKey,
-        height: 1,
-        literal: None,
-        texts: &["total "],
-        rate: 10,
-        slack: 0,
-        tags,
+fn changed(change: Change) -> Case {
+    let mut case = lone();
+    match change {
+        Change::Nothing => {}
+        Change::Version(version) => case.version = version,
+        Change::Name(name) => case.name = name,
+        Change::Families(families) => case.families = families,
+        Change::Sort(sort) => case.sort = sort,
+        Change::Keys(family, kinds, at) => {
+            case.keyed_family = family;
+            case.keyed_kinds = kinds;
+            case.at = at;
+        }
+        Change::Height(height) => case.height = height,
+        Change::Literal(number) => case.literal = Some(number),
+        Change::Texts(texts) => case.texts = texts,
+        Change::Rate(rate) => case.rate = rate,
+        Change::Slack(slack) => case.slack = slack,
+        Change::Tags(tags) => {
+            case.keyed_family = true;
+            case.keyed_kinds = true;
+            case.at = At::OwnKey;
+            case.tags = tags;
+        }
     }
+    case
+}
+
+/// Whether the small job with each change is accepted or not, as it should be.
+fn expect_all(
+    rt: &impl Abort,
+    alloc: Global,
+    cases: &[(&str, Change, bool)],
+) -> Result<(), AllocError> {
+    for (what, change, wanted) in cases {
+        assert_eq!(rt; is_accepted(alloc, &changed(*change))?, *wanted, "{what}");
+    }
+    Ok(())
 }
 
 #[test]
-fn tells_which_jobs_keep_the_rules(rt: HostRuntime) -> Result<(), Fail> {
+fn versions_and_names(rt: HostRuntime) -> Result<(), Fail> {
     let cases = [
-        ("a small job", lone(), true),
-        (
-            "an underscore",
-            Case {
-                name: "_",
-                ..lone()
-            },
-            true,
-        ),
-        (
-            "version 2",
-            Case {
-                version: 2,
-                ..lone()
-            },
-            true,
-        ),
-        (
-            "version 0",
-            Case {
-                version: 0,
-                ..lone()
-            },
-            false,
-        ),
-        (
-            "version 3",
-            Case {
-                version: 3,
-                ..lone()
-            },
-            false,
-        ),
-        ("no name", Case { name: "", ..lone() }, false),
-        (
-            "a digit first",
-            Case {
-                name: "9to5",
-                ..lone()
-            },
-            false,
-        ),
-        (
-            "a reserved name",
-            Case {
-                name: "slack",
-                ..lone()
-            },
-            false,
-        ),
+        ("a small job", Change::Nothing, true),
+        ("version 2", Change::Version(2), true),
+        ("version 0", Change::Version(0), false),
+        ("version 3", Change::Version(3), false),
+        ("an underscore", Change::Name("_"), true),
+        ("no name", Change::Name(""), false),
+        ("a digit first", Change::Name("9to5"), false),
+        ("a reserved name", Change::Name("slack"), false),
         (
             "32 bytes",
-            Case {
-                name: "a2345678901234567890123456789012",
-                ..lone()
-            },
+            Change::Name("a2345678901234567890123456789012"),
             true,
         ),
         (
             "33 bytes",
-            Case {
-                name: "a23456789012345678901234567890123",
-                ..lone()
-            },
+            Change::Name("a23456789012345678901234567890123"),
             false,
         ),
-        (
-            "a kind's name",
-            Case {
-                name: "report",
-                ..lone()
-            },
-            false,
-        ),
-        (
-            "a source's name",
-            Case {
-                name: "till",
-                ..lone()
-            },
-            false,
-        ),
-        (
-            "64 families",
-            Case {
-                families: 64,
-                ..lone()
-            },
-            true,
-        ),
-        (
-            "65 families",
-            Case {
-                families: 65,
-                ..lone()
-            },
-            false,
-        ),
-        (
-            "a maximum",
-            Case {
-                sort: Sort::Max,
-                ..lone()
-            },
-            false,
-        ),
-        (
-            "a number as key",
-            Case {
-                at: At::Fixed(0),
-                ..lone()
-            },
-            false,
-        ),
-        (
-            "a key of an unkeyed family",
-            Case {
-                keyed_kinds: true,
-                at: At::OwnKey,
-                ..lone()
-            },
-            false,
-        ),
-        (
-            "the key of an unkeyed kind",
-            Case {
-                keyed_family: true,
-                at: At::OwnKey,
-                ..lone()
-            },
-            false,
-        ),
-        (
-            "a fixed key",
-            Case {
-                keyed_family: true,
-                at: At::Fixed(65_535),
-                ..lone()
-            },
-            true,
-        ),
-        (
-            "a key too great",
-            Case {
-                keyed_family: true,
-                at: At::Fixed(65_536),
-                ..lone()
-            },
-            false,
-        ),
-        (
-            "32 levels",
-            Case {
-                height: 32,
-                ..lone()
-            },
-            true,
-        ),
-        (
-            "33 levels",
-            Case {
-                height: 33,
-                ..lone()
-            },
-            false,
-        ),
-        (
-            "a literal",
-            Case {
-                literal: Some(0),
-                ..lone()
-            },
-            true,
-        ),
-        (
-            "a negative literal",
-            Case {
-                literal: Some(-1),
-                ..lone()
-            },
-            false,
-        ),
-        (
-            "a template of 256 bytes",
-            Case {
-                texts: &[LONGEST],
-                ..lone()
-            },
-            true,
-        ),
-        (
-            "a template of 257 bytes",
-            Case {
-                texts: &[TOO_LONG],
-                ..lone()
-            },
-            false,
-        ),
-        (
-            "no plain piece",
-            Case {
-                texts: &[],
-                ..lone()
-            },
-            true,
-        ),
-        (
-            "an empty piece",
-            Case {
-                texts: &[""],
-                ..lone()
-            },
-            false,
-        ),
-        (
-            "two plain pieces",
-            Case {
-                texts: &["total", " "],
-                ..lone()
-            },
-            false,
-        ),
-        (
-            "a brace",
-            Case {
-                texts: &["{"],
-                ..lone()
-            },
-            false,
-        ),
-        (
-            "the greatest rate",
-            Case {
-                rate: 1_000_000_000,
-                ..lone()
-            },
-            true,
-        ),
-        (
-            "a rate too great",
-            Case {
-                rate: 1_000_000_001,
-                ..lone()
-            },
-            false,
-        ),
-        (
-            "the greatest slack",
-            Case {
-                slack: 60_000,
-                ..lone()
-            },
-            true,
-        ),
-        (
-            "a slack too great",
-            Case {
-                slack: 60_001,
-                ..lone()
-            },
-            false,
-        ),
+        ("a kind's name", Change::Name("report"), false),
+        ("a source's name", Change::Name("till"), false),
     ];
-    for (what, case, want) in cases {
-        assert_eq!(rt; is_accepted(rt.alloc(), &case)?, want, "{what}");
-    }
+    expect_all(&rt, rt.alloc(), &cases)?;
     Ok(())
 }
 
 #[test]
-fn tells_which_tags_may_be_listed(rt: HostRuntime) -> Result<(), Fail> {
-    let reports = TagRef {
-        kind: REPORTS,
-        keys: Keys::One(0),
-    };
+fn families_cells_and_amounts(rt: HostRuntime) -> Result<(), Fail> {
     let cases = [
-        ("two kinds", keys_of(Keys::Range(3, 9)), reports, true),
-        ("256 itags", keys_of(Keys::Range(0, 254)), reports, true),
-        ("257 itags", keys_of(Keys::Range(0, 255)), reports, false),
+        ("64 families", Change::Families(64), true),
+        ("65 families", Change::Families(65), false),
+        ("a maximum", Change::Sort(Sort::Max), false),
         (
-            "2^32 keys",
-            keys_of(Keys::Range(0, u32::MAX)),
-            reports,
+            "a number as key",
+            Change::Keys(false, false, At::Fixed(0)),
             false,
         ),
-        ("backwards", keys_of(Keys::Range(4, 3)), reports, false),
-        ("the last key", keys_of(Keys::One(65_535)), reports, true),
+        (
+            "a key of an unkeyed family",
+            Change::Keys(false, true, At::OwnKey),
+            false,
+        ),
+        (
+            "the key of an unkeyed kind",
+            Change::Keys(true, false, At::OwnKey),
+            false,
+        ),
+        (
+            "a fixed key",
+            Change::Keys(true, false, At::Fixed(65_535)),
+            true,
+        ),
         (
             "a key too great",
-            keys_of(Keys::One(65_536)),
-            reports,
+            Change::Keys(true, false, At::Fixed(65_536)),
             false,
         ),
-        ("no key", keys_of(Keys::Alone), reports, false),
+        ("32 levels", Change::Height(32), true),
+        ("33 levels", Change::Height(33), false),
+        ("a literal", Change::Literal(0), true),
+        ("a negative literal", Change::Literal(-1), false),
+    ];
+    expect_all(&rt, rt.alloc(), &cases)?;
+    Ok(())
+}
+
+#[test]
+fn templates_rates_and_slacks(rt: HostRuntime) -> Result<(), Fail> {
+    let cases = [
+        ("a template of 256 bytes", Change::Texts(&[LONGEST]), true),
+        ("a template of 257 bytes", Change::Texts(&[TOO_LONG]), false),
+        ("no plain piece", Change::Texts(&[]), true),
+        ("an empty piece", Change::Texts(&[""]), false),
+        ("two plain pieces", Change::Texts(&["total", " "]), false),
+        ("a brace", Change::Texts(&["{"]), false),
+        ("the greatest rate", Change::Rate(1_000_000_000), true),
+        ("a rate too great", Change::Rate(1_000_000_001), false),
+        ("the greatest slack", Change::Slack(60_000), true),
+        ("a slack too great", Change::Slack(60_001), false),
+    ];
+    expect_all(&rt, rt.alloc(), &cases)?;
+    Ok(())
+}
+
+/// The tags of a kind, where it is keyed.
+const fn tags_of(kind: u32, keys: Keys) -> TagRef {
+    TagRef { kind, keys }
+}
+
+#[test]
+fn tags_that_may_be_listed(rt: HostRuntime) -> Result<(), Fail> {
+    let reports = tags_of(REPORTS, Keys::One(0));
+    let cases = [
+        ("two kinds", Keys::Range(3, 9), reports, true),
+        ("256 itags", Keys::Range(0, 254), reports, true),
+        ("257 itags", Keys::Range(0, 255), reports, false),
+        ("2^32 keys", Keys::Range(0, u32::MAX), reports, false),
+        ("backwards", Keys::Range(4, 3), reports, false),
+        ("the last key", Keys::One(65_535), reports, true),
+        ("a key too great", Keys::One(65_536), reports, false),
+        ("no key", Keys::Alone, reports, false),
         (
             "twice",
-            keys_of(Keys::One(7)),
-            keys_of(Keys::Range(5, 7)),
+            Keys::One(7),
+            tags_of(ADDS, Keys::Range(5, 7)),
             false,
         ),
         (
             "side by side",
-            keys_of(Keys::One(7)),
-            keys_of(Keys::Range(5, 6)),
+            Keys::One(7),
+            tags_of(ADDS, Keys::Range(5, 6)),
             true,
         ),
         (
             "no such kind",
-            TagRef {
-                kind: 2,
-                keys: Keys::One(0),
-            },
-            reports,
+            Keys::One(3),
+            tags_of(2, Keys::One(0)),
             false,
         ),
     ];
-    for (what, first, second, want) in cases {
-        let tags = [first, second];
-        assert_eq!(rt; is_accepted(rt.alloc(), &keyed(&tags))?, want, "{what}");
+    for (what, keys, second, wanted) in cases {
+        let change = Change::Tags([tags_of(ADDS, keys), second]);
+        expect_all(&rt, rt.alloc(), &[(what, change, wanted)])?;
     }
     Ok(())
-}
-
-fn keys_of(keys: Keys) -> TagRef {
-    TagRef { kind: ADDS, keys }
 }
 
 fn is_accepted(alloc: Global, case: &Case) -> Result<bool, AllocError> {

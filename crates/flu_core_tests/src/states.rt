@@ -129,39 +129,70 @@ fn a_join_adds_raises_and_takes_the_left_last_value_first(rt: HostRuntime) -> Re
     Ok(())
 }
 
-#[test]
-fn the_cells_of_a_set_are_copied_cleared_taken_out_and_joined_again(
-    rt: HostRuntime,
-) -> Result<(), Fail> {
-    let mut state = filled(rt.alloc(), 5, -1, 1, 10)?;
+/// A state with a sum, a maximum and two last values.
+fn of_four(alloc: Global) -> Result<State, AllocError> {
+    let mut state = filled(alloc, 5, -1, 1, 10)?;
     state.put(seen(2), 12)?;
-    let whole = state.copy()?;
-    let mut wanted = CellSet::new(rt.alloc());
-    wanted.add_family(HIGH)?;
-    wanted.add(seen(2))?;
-    wanted.add(seen(2))?;
-    let copied = state.copy_of(&wanted)?;
-    let mut cleared = state.copy()?;
-    cleared.clear_all(&wanted);
-    // what is held, and whether it is of the set
+    Ok(state)
+}
+
+/// The set of the maxima and of one of the last values, which is added twice.
+fn of_two(alloc: Global) -> Result<CellSet, AllocError> {
+    let mut set = CellSet::new(alloc);
+    set.add_family(HIGH)?;
+    set.add(seen(2))?;
+    set.add(seen(2))?;
+    Ok(set)
+}
+
+/// What a state holds in the four cells: the sum, the maximum and the two last values.
+fn worths(state: &State) -> [Option<Worth>; 4] {
+    [
+        state.get(COUNT),
+        state.get(high(0)),
+        state.get(seen(1)),
+        state.get(seen(2)),
+    ]
+}
+
+const SUM: Option<Worth> = Some(Worth::Sum(5));
+
+const MAX: Option<Worth> = Some(Worth::Max(-1));
+
+const FIRST: Option<Worth> = Some(Worth::Last(10));
+
+const SECOND: Option<Worth> = Some(Worth::Last(12));
+
+#[test]
+fn the_cells_of_a_set_are_copied_and_cleared(rt: HostRuntime) -> Result<(), Fail> {
+    let state = of_four(rt.alloc())?;
+    let set = of_two(rt.alloc())?;
     let cases = [
         (COUNT, false),
         (high(0), true),
         (seen(1), false),
         (seen(2), true),
     ];
-    let taken = state.take_out(&wanted)?;
     for (cell, is_in) in cases {
-        assert_eq!(rt; wanted.has(cell), is_in, "{cell:?}");
-        assert_eq!(rt; taken.get(cell).is_some(), is_in, "{cell:?}");
-        assert_eq!(rt; copied.get(cell), taken.get(cell), "{cell:?}");
-        assert_eq!(rt; cleared.get(cell), state.get(cell), "{cell:?}");
-        assert_eq!(rt; state.get(cell).is_some(), !is_in, "{cell:?}");
+        assert_eq!(rt; set.has(cell), is_in, "{cell:?}");
     }
+    let copied = state.copy_of(&set)?;
+    assert_eq!(rt; worths(&copied), [None, MAX, None, SECOND]);
+    let mut cleared = state.copy()?;
+    cleared.clear_all(&set);
+    assert_eq!(rt; worths(&cleared), [SUM, None, FIRST, None]);
+    assert_eq!(rt; worths(&state), [SUM, MAX, FIRST, SECOND]);
+    Ok(())
+}
+
+#[test]
+fn the_cells_of_a_set_are_taken_out_and_joined_again(rt: HostRuntime) -> Result<(), Fail> {
+    let mut state = of_four(rt.alloc())?;
+    let taken = state.take_out(&of_two(rt.alloc())?)?;
+    assert_eq!(rt; worths(&taken), [None, MAX, None, SECOND]);
+    assert_eq!(rt; worths(&state), [SUM, None, FIRST, None]);
     state.absorb(taken)?;
-    for (cell, _) in cases {
-        assert_eq!(rt; state.get(cell), whole.get(cell), "{cell:?}");
-    }
+    assert_eq!(rt; worths(&state), [SUM, MAX, FIRST, SECOND]);
     Ok(())
 }
 

@@ -10,8 +10,6 @@ mod lots;
 mod note;
 mod parting;
 mod rights;
-#[cfg(test)]
-mod tests;
 
 pub use case::Case;
 pub use content::Content;

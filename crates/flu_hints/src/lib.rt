@@ -9,9 +9,8 @@ mod places;
 mod plans;
 mod reasons;
 mod rows;
-#[cfg(test)]
-mod tests;
 mod traces;
 
 pub use hints::hint;
+pub use limits::limit_place;
 pub use reasons::Failure;

@@ -3,11 +3,13 @@
 use std::alloc::{AllocError, Global};
 
 /// What a line of a trace may be, where one is none.
-const FORMS: &str = "  a line is arrive N, handle N, give N or hold N, or ask N SIDE, take N SIDE or lend N SIDE, with left or right as SIDE
+const FORMS: &str =
+    "  a line is arrive N, handle N, give N or hold N, or ask N SIDE, take N SIDE or lend N SIDE, with left or right as SIDE
 ";
 
 /// Why no step is made by the line.
-const STOPS: &str = "  the net can't go on by that line there: its step waits for others, or is no step of this plan
+const STOPS: &str =
+    "  the net can't go on by that line there: its step waits for others, or is no step of this plan
 ";
 
 /// Why a trace is not whole.

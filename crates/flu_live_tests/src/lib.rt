@@ -21,3 +21,5 @@ mod steps;
 mod texts;
 #[cfg(test)]
 mod traces;
+#[cfg(test)]
+mod waits;

@@ -52,14 +52,16 @@ fn said(alloc: Global, p: &Program, text: &str) -> Result<String, AllocError> {
     }
 }
 
+/// Whether each text is read as its plan, or its fault is told, where this is the job.
 fn expect_all(
     rt: &impl Abort,
     alloc: Global,
-    p: &Program,
+    job: &str,
     cases: &[(&str, &str)],
-) -> Result<(), AllocError> {
+) -> Result<(), Fail> {
+    let p = read_job(alloc, job.as_bytes())?;
     for (text, expected) in cases {
-        let said = said(alloc, p, text)?;
+        let said = said(alloc, &p, text)?;
         assert_eq!(rt; said.as_str(), *expected, "{text}");
     }
     Ok(())
@@ -67,7 +69,6 @@ fn expect_all(
 
 #[test]
 fn first_faults(rt: HostRuntime) -> Result<(), Fail> {
-    let p = read_job(rt.alloc(), JOB_J.as_bytes()).expect(&rt, "a job");
     let cases = [
         ("", "unexpected at 0"),
         ("  # nothing\n", "unexpected at 12"),
@@ -83,13 +84,11 @@ fn first_faults(rt: HostRuntime) -> Result<(), Fail> {
         ("node a: inc@b@c", "unexpected at 13"),
         ("node a: -> b c node b:", "unknown name at 13"),
     ];
-    expect_all(&rt, rt.alloc(), &p, &cases)?;
-    Ok(())
+    expect_all(&rt, rt.alloc(), JOB_J, &cases)
 }
 
 #[test]
 fn nodes_that_are_no_tree(rt: HostRuntime) -> Result<(), Fail> {
-    let p = read_job(rt.alloc(), JOB_J.as_bytes()).expect(&rt, "a job");
     let cases = [
         ("node a: -> b b node b: inc, read", "not a tree at b"),
         ("node a: inc node a: read", "not a tree at a"),
@@ -104,13 +103,11 @@ fn nodes_that_are_no_tree(rt: HostRuntime) -> Result<(), Fail> {
         ("node a: foo node a:", "not a tree at a"),
         ("node a: -> b b node b: foo", "unknown name at 23"),
     ];
-    expect_all(&rt, rt.alloc(), &p, &cases)?;
-    Ok(())
+    expect_all(&rt, rt.alloc(), JOB_J, &cases)
 }
 
 #[test]
 fn plans_are_printed(rt: HostRuntime) -> Result<(), Fail> {
-    let p = read_job(rt.alloc(), JOB_J.as_bytes()).expect(&rt, "a job");
     let cases = [
         (PLAN_P, PLAN_P),
         (
@@ -132,13 +129,11 @@ fn plans_are_printed(rt: HostRuntime) -> Result<(), Fail> {
             "node a: inc[7], read[8..2]@a\n",
         ),
     ];
-    expect_all(&rt, rt.alloc(), &p, &cases)?;
-    Ok(())
+    expect_all(&rt, rt.alloc(), JOB_J, &cases)
 }
 
 #[test]
 fn keys_over_the_limit(rt: HostRuntime) -> Result<(), Fail> {
-    let p = read_job(rt.alloc(), JOB_K.as_bytes()).expect(&rt, "a job");
     let cases = [
         ("node a: view[65535..0]", "node a: view[65535..0]\n"),
         ("node a: tick[65536]", "over limit Key 65536"),
@@ -149,8 +144,7 @@ fn keys_over_the_limit(rt: HostRuntime) -> Result<(), Fail> {
         ("node a: view[70000..80000]", "over limit Key 70000"),
         ("node a: view[9223372036854775808]", "bad token at 13"),
     ];
-    expect_all(&rt, rt.alloc(), &p, &cases)?;
-    Ok(())
+    expect_all(&rt, rt.alloc(), JOB_K, &cases)
 }
 
 /// A full tree of this many nodes, level by level, with a name for each number from 1; nodes with numbers below `inner` have two
@@ -192,22 +186,20 @@ fn lines_of(alloc: Global, p: &Program, text: &str) -> Result<String, AllocError
     }
 }
 
+/// Whether a text is a plan of the job, or passes this limit.
+fn expect_limit(rt: &impl Abort, alloc: Global, text: &str, wanted: &str) -> Result<(), Fail> {
+    let p = read_job(alloc, JOB_J.as_bytes())?;
+    assert_eq!(rt; lines_of(alloc, &p, text)?.as_str(), wanted);
+    Ok(())
+}
+
 #[test]
 fn nodes_and_depth(rt: HostRuntime) -> Result<(), Fail> {
     let alloc = rt.alloc();
-    let p = read_job(alloc, JOB_J.as_bytes()).expect(&rt, "a job");
-    let full = levels(alloc, 64, 127)?;
-    assert_eq!(&rt; lines_of(alloc, &p, &full)?.as_str(), "a plan");
-    let more = levels(alloc, 65, 129)?;
-    assert_eq!(&rt;
-        lines_of(alloc, &p, &more)?.as_str(),
-        "over limit Nodes 128"
-    );
-    let six = chain(alloc, 6)?;
-    assert_eq!(&rt; lines_of(alloc, &p, &six)?.as_str(), "a plan");
-    let seven = chain(alloc, 7)?;
-    assert_eq!(&rt; lines_of(alloc, &p, &seven)?.as_str(), "over limit Depth 7");
-    Ok(())
+    expect_limit(&rt, alloc, &levels(alloc, 64, 127)?, "a plan")?;
+    expect_limit(&rt, alloc, &levels(alloc, 65, 129)?, "over limit Nodes 128")?;
+    expect_limit(&rt, alloc, &chain(alloc, 6)?, "a plan")?;
+    expect_limit(&rt, alloc, &chain(alloc, 7)?, "over limit Depth 7")
 }
 
 fn with_predicates(alloc: Global, count: u32) -> Result<String, AllocError> {
@@ -222,15 +214,13 @@ fn with_predicates(alloc: Global, count: u32) -> Result<String, AllocError> {
 #[test]
 fn predicates(rt: HostRuntime) -> Result<(), Fail> {
     let alloc = rt.alloc();
-    let p = read_job(alloc, JOB_J.as_bytes()).expect(&rt, "a job");
-    let most = with_predicates(alloc, 4096)?;
-    assert_eq!(&rt; lines_of(alloc, &p, &most)?.as_str(), "a plan");
-    let more = with_predicates(alloc, 4097)?;
-    assert_eq!(&rt;
-        lines_of(alloc, &p, &more)?.as_str(),
-        "over limit Predicates 4097"
-    );
-    Ok(())
+    expect_limit(&rt, alloc, &with_predicates(alloc, 4096)?, "a plan")?;
+    expect_limit(
+        &rt,
+        alloc,
+        &with_predicates(alloc, 4097)?,
+        "over limit Predicates 4097",
+    )
 }
 
 /// The numbers of the itags that a predicate matches.

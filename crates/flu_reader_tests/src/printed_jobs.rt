@@ -1,6 +1,6 @@
 //! The normal form of a job, and that it is read again.
 
-use crate::whole_jobs::{JOB_J, JOB_K, JOB_M, JOB_X};
+use crate::whole_jobs::{JOB_D, JOB_J, JOB_K, JOB_M, JOB_X};
 use flu_model::Program;
 use flu_parse::{print_job, read_job};
 use std::alloc::Global;
@@ -27,6 +27,7 @@ fn jobs_in_normal_form(rt: HostRuntime) -> Result<(), Fail> {
     expect_printed(&rt, rt.alloc(), "", "")?;
     expect_printed(&rt, rt.alloc(), JOB_J, JOB_J)?;
     expect_printed(&rt, rt.alloc(), JOB_K, JOB_K)?;
+    expect_printed(&rt, rt.alloc(), JOB_D, JOB_D)?;
     Ok(())
 }
 

@@ -2,7 +2,7 @@
 
 use flu_model::{Op, Sort};
 use flu_syntax::{
-    SyntaxFault, WrittenAct, WrittenDeclaration, WrittenExpr, WrittenKey, WrittenKeys,
+    SyntaxFault, WrittenAct, WrittenDeclaration, WrittenExpr, WrittenJob, WrittenKey, WrittenKeys,
     WrittenNumber, WrittenRelation, read_syntax,
 };
 use flu_text::tokens;
@@ -41,17 +41,10 @@ fn answers(alloc: Global, cases: &[(&str, Answer)]) -> bool {
     true
 }
 
-/// Whether one text is read as one declaration that passes.
-fn passes<F: Fn(&WrittenDeclaration) -> bool>(alloc: Global, text: &str, test: F) -> bool
-    requires { F.IsAlwaysCallable test }
-{
-    let Ok(found) = tokens(alloc, text) else {
-        return false;
-    };
-    match read_syntax(alloc, found.as_slice(), text.len()) {
-        Ok(job) => job.declarations.items().iter().all(test),
-        Err(_) => false,
-    }
+/// What a text is read as.
+fn job_of(alloc: Global, text: &str) -> Option<WrittenJob> {
+    let found = tokens(alloc, text).ok()?;
+    read_syntax(alloc, found.as_slice(), text.len()).ok()
 }
 
 #[test]
@@ -170,9 +163,13 @@ fn shape(declaration: &WrittenDeclaration) -> Option<(Op, bool, bool)> {
 
 /// Whether an amount has this operator, between operands that are operations or not.
 fn shaped(alloc: Global, text: &str, op: Op, left: bool, right: bool) -> bool {
-    passes(alloc, text, |declaration: &WrittenDeclaration| {
-        shape(declaration) == Some((op, left, right))
-    })
+    match job_of(alloc, text) {
+        Some(job) => match job.declarations.items().first() {
+            Some(declaration) => shape(declaration) == Some((op, left, right)),
+            None => false,
+        },
+        None => false,
+    }
 }
 
 #[test]
@@ -223,9 +220,7 @@ fn grouping(rt: HostRuntime) {
 
 /// The version that is written at the head of a text.
 fn version_of(alloc: Global, text: &str) -> Option<WrittenNumber> {
-    let found = tokens(alloc, text).ok()?;
-    let job = read_syntax(alloc, found.as_slice(), text.len()).ok()?;
-    job.version
+    job_of(alloc, text)?.version
 }
 
 #[test]
@@ -235,83 +230,84 @@ fn versions(rt: HostRuntime) {
     assert!(rt; written == Some(WrittenNumber { value: 2, at: 9 }));
 }
 
-#[test]
-fn places(rt: HostRuntime) {
-    let cell = passes(
-        rt.alloc(),
-        "cell count keyed max",
-        |declaration: &WrittenDeclaration| {
-            match declaration {
-                WrittenDeclaration::Cell { name, keyed, sort } => {
-                    name.from == 5 && name.to == 10 && *keyed && *sort == Sort::Max
-                }
-                _ => false,
-            }
-        },
-    );
-    assert!(rt; cell);
-    let same = passes(
-        rt.alloc(),
-        "depends a b same",
-        |declaration: &WrittenDeclaration| {
-            match declaration {
-                WrittenDeclaration::Depends { relation, .. } => {
-                    *relation == (WrittenRelation::Same { at: 12 })
-                }
-                _ => false,
-            }
-        },
-    );
-    assert!(rt; same);
-    let source = passes(
-        rt.alloc(),
-        "source s \"f\" rate 07 slack 9: t[1..20]",
-        |declaration: &WrittenDeclaration| {
-            match declaration {
-                WrittenDeclaration::Source {
-                    file,
-                    rate: Some(rate),
-                    slack: Some(slack),
-                    tags,
-                    ..
-                } => match tags.items().first() {
-                    Some(tag) => match tag.keys {
-                        WrittenKeys::Range(low, high) => file.to == 12
-                            && rate.value == 7
-                            && rate.at == 18
-                            && slack.value == 9
-                            && slack.at == 27
-                            && low.at == 32
-                            && high.value == 20,
-                        _ => false,
-                    },
-                    None => false,
-                },
-                _ => false,
-            }
-        },
-    );
-    assert!(rt; source);
+/// Whether a family is keyed, a maximum, and named where it is.
+fn is_cell(declaration: &WrittenDeclaration) -> bool {
+    match declaration {
+        WrittenDeclaration::Cell { name, keyed, sort } => {
+            name.from == 5 && name.to == 10 && *keyed && *sort == Sort::Max
+        }
+        _ => false,
+    }
 }
 
-#[test]
-fn places_of_actions(rt: HostRuntime) {
-    let clear = passes(
-        rt.alloc(),
-        "on t: clear x[key]",
-        |declaration: &WrittenDeclaration| {
-            match declaration {
-                WrittenDeclaration::On { actions, .. } => match actions.items().first() {
-                    Some(action) => match &action.act {
-                        WrittenAct::Clear(cell) => action.at == 6
-                            && cell.key == (WrittenKey::OwnKey { at: 14 }),
-                        _ => false,
-                    },
-                    None => false,
-                },
+/// Whether a dependency is of the same key, where that is said.
+fn is_same(declaration: &WrittenDeclaration) -> bool {
+    match declaration {
+        WrittenDeclaration::Depends { relation, .. } => {
+            *relation == (WrittenRelation::Same { at: 33 })
+        }
+        _ => false,
+    }
+}
+
+/// Whether a source has its file, its rate and its slack where they are.
+fn is_source(declaration: &WrittenDeclaration) -> bool {
+    match declaration {
+        WrittenDeclaration::Source {
+            file,
+            rate: Some(rate),
+            slack: Some(slack),
+            ..
+        } => file.to == 50
+            && (rate.value, rate.at) == (7, 56)
+            && (slack.value, slack.at) == (9, 65),
+        _ => false,
+    }
+}
+
+/// The keys of the first tag of a source.
+fn keys_of(declaration: &WrittenDeclaration) -> Option<WrittenKeys> {
+    match declaration {
+        WrittenDeclaration::Source { tags, .. } => Some(tags.items().first()?.keys),
+        _ => None,
+    }
+}
+
+/// Whether the first action clears the cell at the event's key, where they are.
+fn is_clear(declaration: &WrittenDeclaration) -> bool {
+    match declaration {
+        WrittenDeclaration::On { actions, .. } => match actions.items().first() {
+            Some(action) => match &action.act {
+                WrittenAct::Clear(cell) => action.at == 83
+                    && cell.key == (WrittenKey::OwnKey { at: 91 }),
                 _ => false,
-            }
+            },
+            None => false,
         },
-    );
-    assert!(rt; clear);
+        _ => false,
+    }
+}
+
+/// A declaration of each form but `tag`, one on a line.
+const FORMS: &str = "cell count keyed max
+depends a b same
+source s \"f\" rate 07 slack 9: t[1..20]
+on t: clear x[key]";
+
+#[test]
+fn places(rt: HostRuntime) {
+    let job = job_of(rt.alloc(), FORMS).expect(&rt, "a job");
+    match job.declarations.items() {
+        [cell, depends, source, on] => {
+            assert!(rt; is_cell(cell) && is_same(depends) && is_source(source) && is_clear(on));
+            match keys_of(source) {
+                Some(WrittenKeys::Range(low, high)) => {
+                    assert_eq!(rt; (low.value, low.at), (1, 70));
+                    assert_eq!(rt; (high.value, high.at), (20, 73));
+                }
+                _ => assert!(rt; false, "no range"),
+            }
+        }
+        _ => assert!(rt; false, "not four declarations"),
+    }
 }

@@ -1,12 +1,7 @@
-//! Jobs that are read whole, compared with programs that are made of their parts.
+//! Jobs as texts, and one of them whose parts are looked at one by one when it is read.
 
-use flu_model::{
-    Act, Action, At, CellRef, Depend, Expr, Family, Keys, Kind, List, Name, Op, Piece, Program,
-    Sort, Source, TagRef, Text,
-};
-use flu_parse::{print_job, read_job};
-use flu_rules::program;
-use std::alloc::{AllocError, Global};
+use flu_model::{Act, Action, At, CellRef, Depend, Expr, Keys, Op, Piece, Program, Sort, TagRef};
+use flu_parse::read_job;
 use std::process::Abort;
 use std::test::Fail;
 
@@ -46,7 +41,8 @@ on t: raise hi value when value > 2; set seen value; emit \"hi {hi} seen {seen}\
 source s \"s.csv\" rate 1: t
 ";
 
-const JOB_D: &str = "cell p last
+/// Two last values, and a tag that puts out both.
+pub const JOB_D: &str = "cell p last
 cell q last
 tag r int
 tag r2 int
@@ -83,339 +79,231 @@ source t \"t.csv\" rate 100 slack 250: trade
 source s \"s.csv\" rate 1: shut
 ";
 
-/// The text is read as this job. What is printed of a job is all that it has but the places of its boxes.
-fn expect_job(
-    rt: &impl Abort,
-    alloc: Global,
-    text: &str,
-    job: Option<Program>,
-) -> Result<(), Fail> {
-    let read = print_job(alloc, &read_job(alloc, text.as_bytes())?)?;
-    match job {
-        Some(job) => {
-            let expected = print_job(alloc, &job)?;
-            assert_eq!(rt; read.as_str(), expected.as_str());
-        }
-        None => assert!(rt; false),
+/// A job that has each sort of cell, each action, and keys, a guard, a slack and both kinds of dependency.
+const JOB_ALL: &str = "version 2
+cell price last
+cell views keyed sum
+cell hi max
+tag quote int
+tag view keyed int
+tag tick none
+depends quote view
+depends view view same
+depends view tick all
+on quote: set price value; raise hi value when value > 2
+on view: add views[key] value * price; emit \"at {price} {views[7]}\"
+on tick: flush views \"page {key} views {cell}\"; clear hi
+source q \"q.csv\" rate 100 slack 250: quote
+source web \"web file\": view[0..9], view[12], tick
+";
+
+const PRICE: CellRef = CellRef {
+    family: 0,
+    at: At::Alone,
+};
+
+const OWN_VIEWS: CellRef = CellRef {
+    family: 1,
+    at: At::OwnKey,
+};
+
+const VIEWS_7: CellRef = CellRef {
+    family: 1,
+    at: At::Fixed(7),
+};
+
+const HIGH: CellRef = CellRef {
+    family: 2,
+    at: At::Alone,
+};
+
+#[test]
+fn declarations_are_read(rt: HostRuntime) -> Result<(), Fail> {
+    let p = read_job(rt.alloc(), JOB_ALL.as_bytes())?;
+    assert_eq!(rt; p.version, 2);
+    let families = [
+        ("price", false, Sort::Last),
+        ("views", true, Sort::Sum),
+        ("hi", false, Sort::Max),
+    ];
+    assert_eq!(rt; p.families.items().len(), families.len());
+    for (family, (name, keyed, sort)) in p.families.items().iter().zip(families) {
+        assert_eq!(rt; family.name.as_str(), name);
+        assert_eq!(rt; (family.keyed, family.sort), (keyed, sort));
+    }
+    let kinds = [
+        ("quote", false, true, 2),
+        ("view", true, true, 2),
+        ("tick", false, false, 2),
+    ];
+    assert_eq!(rt; p.kinds.items().len(), kinds.len());
+    for (kind, (name, keyed, has_value, actions)) in p.kinds.items().iter().zip(kinds) {
+        assert_eq!(rt; kind.name.as_str(), name);
+        assert_eq!(rt; (kind.keyed, kind.has_value), (keyed, has_value));
+        assert_eq!(rt; kind.actions.items().len(), actions);
     }
     Ok(())
 }
 
-fn alone(family: u32) -> CellRef {
-    CellRef {
-        family,
-        at: At::Alone,
-    }
+const fn depend(a: u32, b: u32, same: bool) -> Depend {
+    Depend { a, b, same }
 }
 
-fn own(family: u32) -> CellRef {
-    CellRef {
-        family,
-        at: At::OwnKey,
-    }
-}
-
-fn only(kind: u32) -> TagRef {
-    TagRef {
-        kind,
-        keys: Keys::Alone,
-    }
-}
-
-fn ten(kind: u32) -> TagRef {
-    TagRef {
-        kind,
-        keys: Keys::Range(0, 9),
-    }
-}
-
-fn always(act: Act) -> Action {
-    Action { act, guard: None }
-}
-
-fn name(alloc: Global, bytes: &str) -> Result<Name, AllocError> {
-    Ok(Name::of(String::from_str(alloc, bytes)?))
-}
-
-fn plain(alloc: Global, bytes: &str) -> Result<Piece, AllocError> {
-    Ok(Piece::Plain(Text::of(String::from_str(alloc, bytes)?)))
-}
-
-/// A plain text and a field.
-fn pair(alloc: Global, bytes: &str, field: Piece) -> Result<Vec<Piece>, AllocError> {
-    let mut pieces = Vec::new(alloc);
-    pieces.push(plain(alloc, bytes)?)?;
-    pieces.push(field)?;
-    Ok(pieces)
-}
-
-/// Two plain texts, each with a field behind it.
-fn two_pairs(
-    alloc: Global,
-    first: &str,
-    field: Piece,
-    second: &str,
-    last: Piece,
-) -> Result<List<Piece>, AllocError> {
-    let mut pieces = pair(alloc, first, field)?;
-    pieces.push(plain(alloc, second)?)?;
-    pieces.push(last)?;
-    Ok(List::of(pieces))
-}
-
-/// A plain text and what a cell holds.
-fn told(alloc: Global, bytes: &str, cell: CellRef) -> Result<Action, AllocError> {
-    Ok(always(Act::Emit(List::of(pair(alloc, bytes, Piece::Read(cell))?))))
-}
-
-fn list<T: Drop>(alloc: Global, first: T) -> Result<Vec<T>, AllocError> {
-    let mut items = Vec::new(alloc);
-    items.push(first)?;
-    Ok(items)
-}
-
-fn families(alloc: Global, declared: &[(&str, bool, Sort)]) -> Result<List<Family>, AllocError> {
-    let mut families = Vec::new(alloc);
-    for (called, keyed, sort) in declared {
-        families.push(Family {
-            name: name(alloc, called)?,
-            keyed: *keyed,
-            sort: *sort,
-        })?;
-    }
-    Ok(List::of(families))
-}
-
-fn kind(
-    alloc: Global,
-    called: &str,
-    keyed: bool,
-    has_value: bool,
-    actions: Vec<Action>,
-) -> Result<Kind, AllocError> {
-    Ok(Kind {
-        name: name(alloc, called)?,
-        keyed,
-        has_value,
-        actions: List::of(actions),
-    })
-}
-
-fn depends(alloc: Global, pairs: &[(u32, u32, bool)]) -> Result<List<Depend>, AllocError> {
-    let mut depends = Vec::new(alloc);
-    for (a, b, same) in pairs {
-        depends.push(Depend {
-            a: *a,
-            b: *b,
-            same: *same,
-        })?;
-    }
-    Ok(List::of(depends))
-}
-
-/// Sources, each with its name, its rate, its slack and its tags; the file of each has its name.
-fn sources(
-    alloc: Global,
-    listed: &[(&str, u64, u64, &[TagRef])],
-) -> Result<List<Source>, AllocError> {
-    let mut sources = Vec::new(alloc);
-    for (called, rate, slack, tags) in listed {
-        sources.push(Source {
-            name: name(alloc, called)?,
-            file: Text::of(format!(in alloc; "{called}.csv")?),
-            rate: *rate,
-            slack: *slack,
-            tags: List::of(tags.to_vec(alloc)?),
-        })?;
-    }
-    Ok(List::of(sources))
-}
-
-fn job_j(alloc: Global) -> Result<Option<Program>, AllocError> {
-    let adds = list(alloc, always(Act::Add(alone(0), Expr::Value)))?;
-    let mut reads = list(alloc, told(alloc, "count ", alone(0))?)?;
-    reads.push(always(Act::Clear(alone(0))))?;
-    let mut kinds = list(alloc, kind(alloc, "inc", false, true, adds)?)?;
-    kinds.push(kind(alloc, "read", false, false, reads)?)?;
-    Ok(program(
-        1,
-        families(alloc, &[("count", false, Sort::Sum)])?,
-        List::of(kinds),
-        depends(alloc, &[(0, 1, false), (1, 1, false)])?,
-        sources(
-            alloc,
-            &[
-                ("a", 1000, 0, &[only(0)]),
-                ("b", 1000, 0, &[only(0)]),
-                ("c", 1, 0, &[only(1)]),
-            ],
-        )?,
-    ))
-}
-
-fn kinds_of_k(alloc: Global) -> Result<List<Kind>, AllocError> {
-    let views = list(alloc, always(Act::Add(own(0), Expr::Value)))?;
-    let mut updates = list(alloc, told(alloc, "was ", own(1))?)?;
-    updates.push(always(Act::Set(own(1), Expr::Value)))?;
-    let pieces = two_pairs(alloc, "page ", Piece::Key, " views ", Piece::CellValue)?;
-    let ticks = list(alloc, always(Act::Flush(0, pieces)))?;
-    let mut kinds = list(alloc, kind(alloc, "view", true, true, views)?)?;
-    kinds.push(kind(alloc, "update", true, true, updates)?)?;
-    kinds.push(kind(alloc, "tick", false, false, ticks)?)?;
-    Ok(List::of(kinds))
-}
-
-fn job_k(alloc: Global) -> Result<Option<Program>, AllocError> {
-    Ok(program(
-        1,
-        families(
-            alloc,
-            &[("views", true, Sort::Sum), ("zip", true, Sort::Last)],
-        )?,
-        kinds_of_k(alloc)?,
-        depends(alloc, &[(1, 1, true), (0, 2, false), (2, 2, false)])?,
-        sources(
-            alloc,
-            &[
-                ("web", 1000, 0, &[ten(0)]),
-                ("app", 500, 0, &[ten(0), ten(1)]),
-                ("clock", 1, 0, &[only(2)]),
-            ],
-        )?,
-    ))
-}
-
-fn actions_of_m(alloc: Global) -> Result<Vec<Action>, AllocError> {
-    let value = Box::new(alloc, Expr::Value)?;
-    let two = Box::new(alloc, Expr::Lit(2))?;
-    let raise = Action {
-        act: Act::Raise(alone(0), Expr::Value),
-        guard: Some(Expr::Two(Op::More, value, two)),
-    };
-    let mut actions = list(alloc, raise)?;
-    actions.push(always(Act::Set(alone(1), Expr::Value)))?;
-    let high = Piece::Read(alone(0));
-    let seen = Piece::Read(alone(1));
-    actions.push(always(Act::Emit(two_pairs(alloc, "hi ", high, " seen ", seen)?)))?;
-    Ok(actions)
-}
-
-fn job_m(alloc: Global) -> Result<Option<Program>, AllocError> {
-    let kinds = list(alloc, kind(alloc, "t", false, true, actions_of_m(alloc)?)?)?;
-    Ok(program(
-        1,
-        families(
-            alloc,
-            &[("hi", false, Sort::Max), ("seen", false, Sort::Last)],
-        )?,
-        List::of(kinds),
-        depends(alloc, &[(0, 0, false)])?,
-        sources(alloc, &[("s", 1, 0, &[only(0)])])?,
-    ))
-}
-
-/// A kind that sets a cell and tells what it holds.
-fn keeper(alloc: Global, called: &str, family: u32, text: &str) -> Result<Kind, AllocError> {
-    let mut actions = list(alloc, always(Act::Set(alone(family), Expr::Value)))?;
-    actions.push(told(alloc, text, alone(family))?)?;
-    kind(alloc, called, false, true, actions)
-}
-
-fn kinds_of_d(alloc: Global) -> Result<List<Kind>, AllocError> {
-    let mut kinds = list(alloc, keeper(alloc, "r", 0, "p ")?)?;
-    kinds.push(keeper(alloc, "r2", 1, "q ")?)?;
-    let first = Piece::Read(alone(0));
-    let second = Piece::Read(alone(1));
-    let tells = list(
-        alloc,
-        always(Act::Emit(two_pairs(alloc, "z ", first, " ", second)?)),
-    )?;
-    kinds.push(kind(alloc, "z", false, false, tells)?)?;
-    Ok(List::of(kinds))
-}
-
-fn job_d(alloc: Global) -> Result<Option<Program>, AllocError> {
-    Ok(program(
-        1,
-        families(alloc, &[("p", false, Sort::Last), ("q", false, Sort::Last)])?,
-        kinds_of_d(alloc)?,
-        depends(
-            alloc,
-            &[
-                (0, 0, false),
-                (1, 1, false),
-                (2, 2, false),
-                (0, 2, false),
-                (1, 2, false),
-            ],
-        )?,
-        sources(
-            alloc,
-            &[
-                ("s1", 1, 0, &[only(0)]),
-                ("s2", 1, 0, &[only(1)]),
-                ("s3", 10, 0, &[only(2)]),
-            ],
-        )?,
-    ))
-}
-
-fn kinds_of_x(alloc: Global) -> Result<List<Kind>, AllocError> {
-    let quotes = list(alloc, always(Act::Set(alone(0), Expr::Value)))?;
-    let value = Box::new(alloc, Expr::Value)?;
-    let price = Box::new(alloc, Expr::Read(alone(0)))?;
-    let worth = Expr::Two(Op::Times, value, price);
-    let mut trades = list(alloc, always(Act::Add(alone(1), worth)))?;
-    trades.push(told(alloc, "at ", alone(0))?)?;
-    let mut shuts = list(alloc, told(alloc, "vol ", alone(1))?)?;
-    shuts.push(always(Act::Clear(alone(1))))?;
-    let mut kinds = list(alloc, kind(alloc, "quote", false, true, quotes)?)?;
-    kinds.push(kind(alloc, "trade", false, true, trades)?)?;
-    kinds.push(kind(alloc, "shut", false, false, shuts)?)?;
-    Ok(List::of(kinds))
-}
-
-fn job_x(alloc: Global) -> Result<Option<Program>, AllocError> {
-    Ok(program(
-        2,
-        families(
-            alloc,
-            &[("price", false, Sort::Last), ("vol", false, Sort::Sum)],
-        )?,
-        kinds_of_x(alloc)?,
-        depends(
-            alloc,
-            &[(0, 0, false), (0, 1, false), (1, 2, false), (2, 2, false)],
-        )?,
-        sources(
-            alloc,
-            &[
-                ("q", 1, 0, &[only(0)]),
-                ("t", 100, 250, &[only(1)]),
-                ("s", 1, 0, &[only(2)]),
-            ],
-        )?,
-    ))
-}
-
-fn no_job(alloc: Global) -> Option<Program> {
-    program(
-        1,
-        List::of(Vec::new(alloc)),
-        List::of(Vec::new(alloc)),
-        List::of(Vec::new(alloc)),
-        List::of(Vec::new(alloc)),
-    )
+const fn tag(kind: u32, keys: Keys) -> TagRef {
+    TagRef { kind, keys }
 }
 
 #[test]
-fn whole_jobs(rt: HostRuntime) -> Result<(), Fail> {
-    let alloc = rt.alloc();
-    expect_job(&rt, alloc, "", no_job(alloc))?;
-    expect_job(&rt, alloc, JOB_J, job_j(alloc)?)?;
-    expect_job(&rt, alloc, JOB_K, job_k(alloc)?)?;
-    expect_job(&rt, alloc, JOB_M, job_m(alloc)?)?;
-    expect_job(&rt, alloc, JOB_D, job_d(alloc)?)?;
-    expect_job(&rt, alloc, JOB_X, job_x(alloc)?)?;
+fn dependencies_and_sources_are_read(rt: HostRuntime) -> Result<(), Fail> {
+    let p = read_job(rt.alloc(), JOB_ALL.as_bytes())?;
+    let depends = [depend(0, 1, false), depend(1, 1, true), depend(1, 2, false)];
+    assert_eq!(rt; p.depends.items(), depends.as_slice());
+    let sources: [(&str, &str, u64, u64, &[TagRef]); 2] = [
+        ("q", "q.csv", 100, 250, &[tag(0, Keys::Alone)]),
+        (
+            "web",
+            "web file",
+            1,
+            0,
+            &[
+                tag(1, Keys::Range(0, 9)),
+                tag(1, Keys::One(12)),
+                tag(2, Keys::Alone),
+            ],
+        ),
+    ];
+    assert_eq!(rt; p.sources.items().len(), sources.len());
+    for (source, (name, file, rate, slack, tags)) in p.sources.items().iter().zip(sources) {
+        assert_eq!(rt; source.name.as_str(), name);
+        assert_eq!(rt; source.file.as_str(), file);
+        assert_eq!(rt; (source.rate, source.slack), (rate, slack));
+        assert_eq!(rt; source.tags.items(), tags);
+    }
+    Ok(())
+}
+
+/// What an action does to a cell or a family, without its amount or its text.
+#[derive(Clone, Copy, PartialEq, Eq, Debug)]
+enum Effect {
+    Add(CellRef),
+    Raise(CellRef),
+    Set(CellRef),
+    Clear(CellRef),
+    Emit,
+    Flush(u32),
+}
+
+fn effect_of(act: &Act) -> Effect {
+    match act {
+        Act::Add(cell, _) => Effect::Add(*cell),
+        Act::Raise(cell, _) => Effect::Raise(*cell),
+        Act::Set(cell, _) => Effect::Set(*cell),
+        Act::Clear(cell) => Effect::Clear(*cell),
+        Act::Emit(_) => Effect::Emit,
+        Act::Flush(family, _) => Effect::Flush(*family),
+    }
+}
+
+/// The amount of an action that has one.
+fn amount(act: &Act) -> Option<&Expr> {
+    match act {
+        Act::Add(_, amount) | Act::Raise(_, amount) | Act::Set(_, amount) => Some(amount),
+        _ => None,
+    }
+}
+
+/// Whether an amount is the value.
+fn is_value(amount: Option<&Expr>) -> bool {
+    matches!(amount, Some(Expr::Value))
+}
+
+/// The operator of an amount whose left operand is the value, and its right operand.
+fn of_value(amount: Option<&Expr>) -> Option<(Op, &Expr)> {
+    match amount {
+        Some(Expr::Two(op, left, right)) if matches!(**left, Expr::Value) => Some((*op, &**right)),
+        _ => None,
+    }
+}
+
+/// The first and the second action of a kind.
+fn two_actions(p: &Program, kind: usize) -> Option<(&Action, &Action)> {
+    let actions = p.kinds.items().get(kind)?.actions.items();
+    Some((actions.first()?, actions.get(1)?))
+}
+
+#[test]
+fn actions_are_read(rt: HostRuntime) -> Result<(), Fail> {
+    let p = read_job(rt.alloc(), JOB_ALL.as_bytes())?;
+    let effects = [
+        (Effect::Set(PRICE), Effect::Raise(HIGH)),
+        (Effect::Add(OWN_VIEWS), Effect::Emit),
+        (Effect::Flush(1), Effect::Clear(HIGH)),
+    ];
+    for (kind, wanted) in effects.into_iter().enumerate() {
+        let (first, second) = two_actions(&p, kind).expect(&rt, "two actions");
+        assert_eq!(rt; (effect_of(&first.act), effect_of(&second.act)), wanted);
+        assert_eq!(rt; second.guard.is_some(), kind == 0);
+        assert!(rt; first.guard.is_none());
+    }
+    Ok(())
+}
+
+#[test]
+fn amounts_are_read(rt: HostRuntime) -> Result<(), Fail> {
+    let p = read_job(rt.alloc(), JOB_ALL.as_bytes())?;
+    let (sets, raises) = two_actions(&p, 0).expect(&rt, "two actions");
+    assert!(rt; is_value(amount(&sets.act)) && is_value(amount(&raises.act)));
+    let guard = of_value(raises.guard.as_ref());
+    assert!(rt; matches!(guard, Some((Op::More, Expr::Lit(2)))));
+    let (adds, emits) = two_actions(&p, 1).expect(&rt, "two actions");
+    let worth = of_value(amount(&adds.act));
+    assert!(rt; matches!(worth, Some((Op::Times, Expr::Read(cell))) if *cell == PRICE));
+    assert!(rt; amount(&emits.act).is_none());
+    Ok(())
+}
+
+/// A piece of a text as it is written, and the cell that it reads.
+fn told(piece: &Piece) -> (&str, Option<CellRef>) {
+    match piece {
+        Piece::Plain(text) => (text.as_str(), None),
+        Piece::Value => ("{value}", None),
+        Piece::Key => ("{key}", None),
+        Piece::Time => ("{time}", None),
+        Piece::Read(cell) => ("{}", Some(*cell)),
+        Piece::CellValue => ("{cell}", None),
+    }
+}
+
+fn expect_text(rt: &impl Abort, act: &Act, wanted: &[(&str, Option<CellRef>)]) {
+    match act {
+        Act::Emit(pieces) | Act::Flush(_, pieces) => {
+            assert_eq!(rt; pieces.items().len(), wanted.len());
+            for (piece, told_so) in pieces.items().iter().zip(wanted) {
+                assert_eq!(rt; told(piece), *told_so);
+            }
+        }
+        _ => assert!(rt; false, "no text"),
+    }
+}
+
+#[test]
+fn texts_are_read(rt: HostRuntime) -> Result<(), Fail> {
+    let p = read_job(rt.alloc(), JOB_ALL.as_bytes())?;
+    let (_, emits) = two_actions(&p, 1).expect(&rt, "two actions");
+    let fields = [
+        ("at ", None),
+        ("{}", Some(PRICE)),
+        (" ", None),
+        ("{}", Some(VIEWS_7)),
+    ];
+    expect_text(&rt, &emits.act, &fields);
+    let (flushes, _) = two_actions(&p, 2).expect(&rt, "two actions");
+    let fields = [
+        ("page ", None),
+        ("{key}", None),
+        (" views ", None),
+        ("{cell}", None),
+    ];
+    expect_text(&rt, &flushes.act, &fields);
     Ok(())
 }

@@ -4,8 +4,6 @@
 mod lines;
 mod report;
 mod tags;
-#[cfg(test)]
-mod tests;
 
 pub use flu_outside::write_all;
 pub use report::report_text;

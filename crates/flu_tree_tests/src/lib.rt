@@ -1,5 +1,11 @@
-//! Tests of plans over small jobs. It has no code of its own.
+//! Tests of the tree: which jobs are accepted, and lots that are parted and joined.
 #![tactic(auto)]
 
 #[cfg(test)]
-mod plans;
+mod checks;
+#[cfg(test)]
+mod jobs;
+#[cfg(test)]
+mod lots;
+#[cfg(test)]
+mod streams;

@@ -6,8 +6,33 @@ ghost use Rattle.flu_model.specs.Listed.{listed};
 ghost use Rattle.flu_model.specs.Streaming as meaning;
 
 use flu_model::{Event, Itag, Item, Program, Streams, itag_count};
+use std::alloc::{AllocError, Global};
 
-pub fn event(time: u64, itag: u32, value: i64) -> Item {
+/// The items of each itag: its events of these, each an itag, a time and a value, and the end.
+pub fn lists(
+    alloc: Global,
+    itags: u32,
+    events: &[(u32, u64, i64)],
+) -> Result<Vec<Vec<Item>>, AllocError> {
+    let mut lists = Vec::new(alloc);
+    for itag in 0..itags {
+        lists.push(items(alloc, itag, events)?)?;
+    }
+    Ok(lists)
+}
+
+fn items(alloc: Global, itag: u32, events: &[(u32, u64, i64)]) -> Result<Vec<Item>, AllocError> {
+    let mut items = Vec::new(alloc);
+    for (of, time, value) in events {
+        if *of == itag {
+            items.push(event(itag, *time, *value))?;
+        }
+    }
+    items.push(Item::End)?;
+    Ok(items)
+}
+
+fn event(itag: u32, time: u64, value: i64) -> Item {
     Item::Event(Event {
         time,
         itag: Itag(itag),

@@ -1,12 +1,11 @@
 //! Sources whose rows may be late.
 
-use flu_cells::State;
-use flu_model::{Program, Text};
-use flu_outside::MemFiles;
+use crate::demos::report;
+use crate::files::files_of;
+use crate::gathering::told;
+use flu_model::Program;
 use flu_parse::read_job;
-use flu_report::report_text;
-use flu_seq::fold;
-use flu_streams::{GatherFault, gather};
+use flu_streams::gather;
 use std::alloc::{AllocError, Global};
 use std::test::Fail;
 
@@ -18,23 +17,16 @@ fn job(alloc: Global, slack: u64) -> Result<String, AllocError> {
 }
 
 /// The report of the job where these rows are in the file of the first source, or the fault of its sources.
-fn outcome(alloc: Global, p: &Program, rows: &str) -> Result<Text, Fail> {
-    let mut files = MemFiles::new(alloc);
-    files.add("a.csv", rows.as_bytes().to_vec(alloc)?)?;
-    files.add("b.csv", b"2,inc,7\nend\n".to_vec(alloc)?)?;
-    files.add("c.csv", b"3,read\n5,read\nend\n".to_vec(alloc)?)?;
+fn outcome(alloc: Global, p: &Program, rows: &str) -> Result<String, AllocError> {
+    let named: [(&str, &[u8]); 3] = [
+        ("a.csv", rows.as_bytes()),
+        ("b.csv", b"2,inc,7\nend\n"),
+        ("c.csv", b"3,read\n5,read\nend\n"),
+    ];
+    let mut files = files_of(alloc, &named, 4096)?;
     match gather(alloc, p, &mut files) {
-        Ok(streams) => {
-            let (_, outs) = fold(alloc, p, State::new(alloc), &streams)?;
-            Ok(report_text(alloc, p, outs)?)
-        }
-        Err(GatherFault::Source(fault)) => {
-            let source = fault.source;
-            let row = fault.row;
-            let why = fault.why;
-            Ok(Text::of(format!(in alloc; "{source} {row} {why:?}")?))
-        }
-        Err(fault) => Ok(Text::of(format!(in alloc; "{fault:?}")?)),
+        Ok(streams) => report(alloc, p, &streams),
+        Err(fault) => told(alloc, fault),
     }
 }
 

@@ -1,5 +1,6 @@
 //! Files and sinks in memory, and the taking and writing of many bytes.
 
+use crate::files::files_of;
 use flu_outside::{
     Failed, Files, HonestFiles, MemFiles, MemSink, PutFault, Sink, TakeFault, read_whole, write_all,
 };
@@ -47,11 +48,8 @@ fn write_each<K: Sink>(rt: &impl Abort, sink: &mut K, cases: &[(&[u8], Option<us
 
 #[test]
 fn takes_in_pieces(rt: HostRuntime) -> Result<(), Fail> {
-    let mut files = MemFiles::new(rt.alloc());
-    files.add("job", b"abcdefgh".to_vec(rt.alloc())?)?;
-    files.add("plan", b"xyz".to_vec(rt.alloc())?)?;
+    let mut files = files_of(rt.alloc(), &[("job", b"abcdefgh"), ("plan", b"xyz")], 3)?;
     files.fail_at(2)?;
-    files.piece(3);
     let cases: [(&str, Option<&[u8]>); 8] = [
         ("job", Some(b"abc")),
         ("job", None),
@@ -77,10 +75,8 @@ fn takes_in_pieces(rt: HostRuntime) -> Result<(), Fail> {
 }
 
 #[test]
-fn a_piece_for_each_call(rt: HostRuntime) -> Result<(), Fail> {
-    let mut files = MemFiles::new(rt.alloc());
-    files.add("job", b"abcdefghi".to_vec(rt.alloc())?)?;
-    files.piece(2);
+fn a_piece_for_each_take(rt: HostRuntime) -> Result<(), Fail> {
+    let mut files = files_of(rt.alloc(), &[("job", b"abcdefghi")], 2)?;
     files.add_piece(1)?;
     files.add_piece(9)?;
     files.add_piece(4)?;
@@ -97,6 +93,11 @@ fn a_piece_for_each_call(rt: HostRuntime) -> Result<(), Fail> {
         ("job", Some(b"")),
     ];
     take_each(&rt, &mut files, &cases);
+    Ok(())
+}
+
+#[test]
+fn a_piece_for_each_write(rt: HostRuntime) -> Result<(), Fail> {
     let mut sink = MemSink::with_room(rt.alloc(), 20)?;
     sink.piece(3);
     sink.add_piece(1)?;
@@ -195,10 +196,11 @@ fn writes_all_until_a_failure(rt: HostRuntime) -> Result<(), Fail> {
 
 #[test]
 fn reads_whole_names(rt: HostRuntime) -> Result<(), Fail> {
-    let mut files = MemFiles::new(rt.alloc());
-    files.add("job", b"abcdefgh".to_vec(rt.alloc())?)?;
-    files.add("plan", b"abcdefgh".to_vec(rt.alloc())?)?;
-    files.piece(3);
+    let mut files = files_of(
+        rt.alloc(),
+        &[("job", b"abcdefgh"), ("plan", b"abcdefgh")],
+        3,
+    )?;
     files.fail_at(7)?;
     // the name, the limit, and what is read, or none where a take fails
     let cases: [(&str, usize, Option<&[u8]>); 5] = [

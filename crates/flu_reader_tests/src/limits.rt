@@ -1,4 +1,6 @@
-use crate::limits::limit_place;
+//! The places at which texts pass limits.
+
+use flu_hints::limit_place;
 use std::alloc::{AllocError, Global};
 use std::test::Fail;
 

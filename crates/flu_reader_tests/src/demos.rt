@@ -1,9 +1,12 @@
 //! The input of a demo.
 
-ghost use Rattle.std.specs.Prelude.{◌≤◌, ◌<◌, ◌^◌};
+ghost use Rattle.std.specs.Prelude.{◌≡◌, ◌≤◌, ◌<◌, ◌^◌, length};
+ghost use Rattle.flu_model.specs.Itags.{count_of_itags};
+ghost use Rattle.flu_model.specs.Listed.{listed};
 
 use flu_cells::State;
 use flu_gen::{demo_job, demo_streams};
+use flu_model::{Program, Streams};
 use flu_parse::{print_job, read_job};
 use flu_report::report_text;
 use flu_seq::fold;
@@ -27,16 +30,23 @@ source app \"app.csv\" rate 500: view[0..9], update[0..9]
 source clock \"clock.csv\" rate 1: tick
 ";
 
-/// The report of the fold of a demo.
-fn report(alloc: Global, n: u32, seed: u32) -> Result<String, AllocError>
+/// The report of the fold of a job's streams, from the empty state.
+pub fn report(alloc: Global, p: &Program, streams: &Streams) -> Result<String, AllocError>
+    requires { length (listed streams.now) ≡ count_of_itags p.now }
+{
+    let (_, outs) = fold(alloc, p, State::new(alloc), streams)?;
+    let text = report_text(alloc, p, outs)?;
+    String::from_str(alloc, text.as_str())
+}
+
+/// The report of a demo.
+fn demo(alloc: Global, n: u32, seed: u32) -> Result<String, AllocError>
     requires few { n ≤ 1000000 }
     requires seed { seed < 2 ^ 31 }
 {
     let p = demo_job(alloc)?;
     let streams = demo_streams(alloc, &p, n, seed)?;
-    let (_, outs) = fold(alloc, &p, State::new(alloc), &streams)?;
-    let text = report_text(alloc, &p, outs)?;
-    String::from_str(alloc, text.as_str())
+    report(alloc, &p, &streams)
 }
 
 #[test]
@@ -62,7 +72,7 @@ fn demos_are_reported(rt: HostRuntime) -> Result<(), Fail> {
     ];
     for (n, seed, wanted) in cases {
         assert_eq!(rt;
-            report(rt.alloc(), n, seed)?.as_str(),
+            demo(rt.alloc(), n, seed)?.as_str(),
             wanted,
             "demo {n} {seed}"
         );

@@ -1,4 +1,6 @@
-use crate::{HostFiles, HostSink};
+//! Real files and writers.
+
+use flu_adapt::{HostFiles, HostSink};
 use flu_outside::{Failed, Files, PutFault, Sink, TakeFault};
 use std::rt;
 use std::test::Fail;

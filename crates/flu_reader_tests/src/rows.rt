@@ -2,10 +2,12 @@
 
 ghost use Rattle.std.specs.Prelude.{◌<◌};
 
+use crate::files::files_of;
 use flu_model::Text;
 use flu_outside::MemFiles;
 use flu_rows::{Next, Row, Rows, RowsFault};
 use std::alloc::{AllocError, Global};
+use std::process::Abort;
 use std::test::Fail;
 
 /// What is read of the file `f`, in short: `LINE: TIME NAME KEY VALUE`, `LINE: beat TIME`, `LINE: end`, and then how
@@ -13,19 +15,31 @@ use std::test::Fail;
 fn read_all(alloc: Global, bytes: &[u8], piece: usize) -> Result<String, Fail>
     requires { 0 < piece }
 {
-    let mut files = MemFiles::new(alloc);
-    files.add("f", bytes.to_vec(alloc)?)?;
-    files.piece(piece);
-    let mut rows = Rows::new(alloc, &Text::of(String::from_str(alloc, "f")?))?;
+    let mut files = files_of(alloc, &[("f", bytes)], piece)?;
+    let mut rows = rows_of(alloc, "f")?;
     let mut text = String::new(alloc);
     for _ in 0..20u8 {
-        let next = rows.next_row(&mut files)?;
-        text.push_str(&shown(alloc, &next)?)?;
-        if !matches!(next, Next::Row { .. }) {
+        if !add_next(alloc, &mut rows, &mut files, &mut text)? {
             return Ok(text);
         }
     }
     Ok(text)
+}
+
+fn rows_of(alloc: Global, name: &str) -> Result<Rows, AllocError> {
+    Rows::new(alloc, &Text::of(String::from_str(alloc, name)?))
+}
+
+/// Adds what is read next; whether that is a row.
+fn add_next(
+    alloc: Global,
+    rows: &mut Rows,
+    files: &mut MemFiles,
+    text: &mut String,
+) -> Result<bool, Fail> {
+    let next = rows.next_row(files)?;
+    text.push_str(&shown(alloc, &next)?)?;
+    Ok(matches!(next, Next::Row { .. }))
 }
 
 fn shown(alloc: Global, next: &Next) -> Result<String, AllocError> {
@@ -49,9 +63,20 @@ fn shown(alloc: Global, next: &Next) -> Result<String, AllocError> {
     }
 }
 
+/// Whether each file is read so, however many bytes a take gives.
+fn expect_all(rt: &impl Abort, alloc: Global, cases: &[(&[u8], &str)]) -> Result<(), Fail> {
+    for (bytes, wanted) in cases {
+        for piece in [1usize, 3, 100_000] {
+            let got = read_all(alloc, bytes, piece)?;
+            assert_eq!(rt; got.as_str(), *wanted, "{piece}");
+        }
+    }
+    Ok(())
+}
+
 #[test]
 fn reads_rows(rt: HostRuntime) -> Result<(), Fail> {
-    let cases: [(&[u8], &str); 32] = [
+    let cases: [(&[u8], &str); 11] = [
         (b"", "done 0"),
         (b"\n", "done 1"),
         (b"\r\n\n", "done 2"),
@@ -72,6 +97,13 @@ fn reads_rows(rt: HostRuntime) -> Result<(), Fail> {
         (b"7,inc[1\n", "bad 1"),
         (b"1,inc\nx,inc,1\n2,inc", "1: 1 inc None None, bad 2"),
         (b"1,inc,+1\n", "bad 1"),
+    ];
+    expect_all(&rt, rt.alloc(), &cases)
+}
+
+#[test]
+fn reads_names_and_numbers(rt: HostRuntime) -> Result<(), Fail> {
+    let cases: [(&[u8], &str); 11] = [
         (b"1,9inc\n", "bad 1"),
         (b"1,sum\n", "bad 1"),
         (b"1,end\n", "bad 1"),
@@ -92,6 +124,13 @@ fn reads_rows(rt: HostRuntime) -> Result<(), Fail> {
             b"1,a,9223372036854775807",
             "1: 1 a None Some(9223372036854775807), done 1",
         ),
+    ];
+    expect_all(&rt, rt.alloc(), &cases)
+}
+
+#[test]
+fn reads_marks_and_line_ends(rt: HostRuntime) -> Result<(), Fail> {
+    let cases: [(&[u8], &str); 10] = [
         (b"1,a,9223372036854775808", "bad 1"),
         (
             b"1,abcdefghijklmnopqrstuvwxyz012345",
@@ -109,13 +148,7 @@ fn reads_rows(rt: HostRuntime) -> Result<(), Fail> {
         ),
         (b"\"1\",\"in\"c\n1,in\"c\n", "1: 1 inc None None, bad 2"),
     ];
-    for (bytes, wanted) in cases {
-        for piece in [1usize, 3, 100_000] {
-            let got = read_all(rt.alloc(), bytes, piece)?;
-            assert_eq!(rt; got.as_str(), wanted, "{piece}");
-        }
-    }
-    Ok(())
+    expect_all(&rt, rt.alloc(), &cases)
 }
 
 /// A line of so many bytes that is a row, with a line feed or without one.
@@ -147,15 +180,18 @@ fn reads_lines_of_4096_bytes(rt: HostRuntime) -> Result<(), Fail> {
 
 #[test]
 fn tells_a_fault(rt: HostRuntime) -> Result<(), Fail> {
-    let alloc = rt.alloc();
-    let mut files = MemFiles::new(alloc);
-    files.add("f", b"1,inc\n2,inc\n".to_vec(alloc)?)?;
-    files.piece(3);
+    let mut files = files_of(rt.alloc(), &[("f", b"1,inc\n2,inc\n")], 3)?;
     files.fail_at(4)?;
-    let mut rows = Rows::new(alloc, &Text::of(String::from_str(alloc, "f")?))?;
+    let mut rows = rows_of(rt.alloc(), "f")?;
     assert_eq!(rt; rows.next_row(&mut files).is_ok(), true);
     assert_eq!(rt; rows.next_row(&mut files).err(), Some(RowsFault::ReadFault));
-    let mut rows = Rows::new(alloc, &Text::of(String::from_str(alloc, "missing")?))?;
+    Ok(())
+}
+
+#[test]
+fn a_missing_file_is_a_fault(rt: HostRuntime) -> Result<(), Fail> {
+    let mut files = files_of(rt.alloc(), &[], 3)?;
+    let mut rows = rows_of(rt.alloc(), "missing")?;
     assert_eq!(rt; rows.next_row(&mut files).err(), Some(RowsFault::ReadFault));
     Ok(())
 }

@@ -1,36 +1,12 @@
-ghost use Rattle.std.specs.Prelude.{◌≡◌, true, [], IfOk};
+//! The lines of a report.
 
-use crate::report_text;
-use flu_model::{Kind, List, Name, Out, Outs, Program, Tag, Text};
-use std::alloc::{AllocError, Global};
+use flu_model::{Out, Outs, Tag, Text};
+use flu_parse::read_job;
+use flu_report::report_text;
 use std::test::Fail;
 
-/// A kind without actions.
-fn kind(alloc: Global, name: &str, keyed: bool) -> Result<Kind, AllocError>
-    ensures { IfOk result (λ k. k ≡ record { name = name.now; keyed = keyed; has_value = true; actions = [] }) }
-{
-    Ok(Kind {
-        name: Name::of(String::from_str(alloc, name)?),
-        keyed,
-        has_value: true,
-        actions: List::of(Vec::new(alloc)),
-    })
-}
-
-/// A job of the kinds `view`, which is keyed, `tick` and `tic`, without sources.
-fn job(alloc: Global) -> Result<Program, AllocError> {
-    let mut kinds = Vec::new(alloc);
-    kinds.push(kind(alloc, "view", true)?)?;
-    kinds.push(kind(alloc, "tick", false)?)?;
-    kinds.push(kind(alloc, "tic", false)?)?;
-    Ok(Program {
-        version: 1,
-        families: List::of(Vec::new(alloc)),
-        kinds: List::of(kinds),
-        depends: List::of(Vec::new(alloc)),
-        sources: List::of(Vec::new(alloc)),
-    })
-}
+/// Three kinds, the first of which is keyed.
+const JOB: &str = "tag view keyed int tag tick int tag tic int";
 
 #[test]
 fn lines_are_sorted(rt: HostRuntime) -> Result<(), Fail> {
@@ -63,7 +39,7 @@ fn lines_are_sorted(rt: HostRuntime) -> Result<(), Fail> {
         "7,tick,a,b\n7,tick,ab\n7,tick,b\n7,tick,b\n",
         "3,tic,zz\n3,tick,z\n18446744073709551615,view[0],z\n",
     ];
-    let p = job(rt.alloc())?;
+    let p = read_job(rt.alloc(), JOB.as_bytes())?;
     for (rows, wanted) in cases.into_iter().zip(wanted) {
         let mut outs = Outs::of(Vec::new(rt.alloc()));
         for (time, kind, key, text) in rows {

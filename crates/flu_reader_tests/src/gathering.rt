@@ -4,11 +4,12 @@ ghost use Rattle.std.specs.Prelude.{◌≡◌, length};
 ghost use Rattle.flu_model.specs.Itags.{count_of_itags};
 ghost use Rattle.flu_model.specs.Listed.{listed};
 
+use crate::files::files_of;
 use flu_model::{Itag, Item, Program, Streams, itag_count};
-use flu_outside::MemFiles;
 use flu_parse::read_job;
 use flu_streams::{GatherFault, Why, gather};
 use std::alloc::{AllocError, Global};
+use std::process::Abort;
 use std::test::Fail;
 
 /// A job with two sources: `a` lists `inc`, which has a value, `item[1]` and `item[2]`, which have one, and `tick`, which
@@ -22,46 +23,56 @@ fn shown(alloc: Global, p: &Program, streams: &Streams) -> Result<String, AllocE
 {
     let mut text = String::new(alloc);
     for number in 0..itag_count(p) {
-        for item in streams.items(Itag(number)) {
-            let piece = match item {
-                Item::Event(x) => {
-                    let itag = x.itag.0;
-                    let time = x.time;
-                    let value = x.value;
-                    format!(in alloc; "{itag}:{time}={value} ")?
-                }
-                Item::Beat(time) => format!(in alloc; "beat{time} ")?,
-                Item::End => format!(in alloc; "end ")?,
-            };
-            text.push_str(&piece)?;
-        }
-        text.push_str("|")?;
+        add_items(&mut text, streams.items(Itag(number)))?;
     }
     Ok(text)
 }
 
-/// What gathering the job's sources gives, in short, where these bytes are in their files.
-fn gathered(alloc: Global, p: &Program, a: &str, b: &str) -> Result<String, Fail> {
-    let mut files = MemFiles::new(alloc);
-    files.add("a", a.as_bytes().to_vec(alloc)?)?;
-    files.add("b", b.as_bytes().to_vec(alloc)?)?;
-    files.piece(5);
-    let text = match gather(alloc, p, &mut files) {
-        Ok(streams) => shown(alloc, p, &streams)?,
-        Err(GatherFault::Source(fault)) => {
+fn add_items(text: &mut String, items: &[Item]) -> Result<(), AllocError> {
+    for item in items {
+        match item {
+            Item::Event(x) => write!(text, "{}:{}={} ", x.itag.0, x.time, x.value)?,
+            Item::Beat(time) => write!(text, "beat{time} ")?,
+            Item::End => text.push_str("end ")?,
+        }
+    }
+    text.push_str("|")
+}
+
+/// A fault, in short.
+pub fn told(alloc: Global, fault: GatherFault) -> Result<String, AllocError> {
+    match fault {
+        GatherFault::Source(fault) => {
             let source = fault.source;
             let row = fault.row;
             let why = fault.why;
-            format!(in alloc; "{source} {row} {why:?}")?
+            format!(in alloc; "{source} {row} {why:?}")
         }
-        Err(fault) => format!(in alloc; "{fault:?}")?,
-    };
-    Ok(text)
+        fault => format!(in alloc; "{fault:?}"),
+    }
+}
+
+/// What gathering the job's sources gives, in short, where these bytes are in their files.
+fn gathered(alloc: Global, p: &Program, a: &str, b: &str) -> Result<String, AllocError> {
+    let mut files = files_of(alloc, &[("a", a.as_bytes()), ("b", b.as_bytes())], 5)?;
+    match gather(alloc, p, &mut files) {
+        Ok(streams) => shown(alloc, p, &streams),
+        Err(fault) => told(alloc, fault),
+    }
+}
+
+/// Whether gathering gives this, for the bytes of each two files.
+fn expect_all(rt: &impl Abort, alloc: Global, cases: &[(&str, &str, &str)]) -> Result<(), Fail> {
+    let p = read_job(alloc, JOB.as_bytes())?;
+    for (a, b, wanted) in cases {
+        let got = gathered(alloc, &p, a, b)?;
+        assert_eq!(rt; got.as_str(), *wanted);
+    }
+    Ok(())
 }
 
 #[test]
 fn gathers(rt: HostRuntime) -> Result<(), Fail> {
-    let alloc = rt.alloc();
     let cases = [
         (
             "1,inc,5\n2,item[2],-7\n3,beat\n4,tick\nend\n",
@@ -75,6 +86,13 @@ fn gathers(rt: HostRuntime) -> Result<(), Fail> {
         ("1,item,4\nend", "end", "0 1 UnknownTag"),
         ("1,inc[1],4\nend", "end", "0 1 UnknownTag"),
         ("1,item[3],4\nend", "end", "0 1 UnknownTag"),
+    ];
+    expect_all(&rt, rt.alloc(), &cases)
+}
+
+#[test]
+fn tells_the_first_defect(rt: HostRuntime) -> Result<(), Fail> {
+    let cases = [
         (
             "5,inc,1\n\n5,beat\nend",
             "end",
@@ -94,29 +112,24 @@ fn gathers(rt: HostRuntime) -> Result<(), Fail> {
         ("end", "1,inc,2\nend", "1 1 UnknownTag"),
         ("", "1,inc,2\nend", "0 1 Unclosed"),
     ];
-    let p = read_job(alloc, JOB.as_bytes())?;
-    for (a, b, wanted) in cases {
-        let got = gathered(alloc, &p, a, b)?;
-        assert_eq!(rt; got.as_str(), wanted);
-    }
-    Ok(())
+    expect_all(&rt, rt.alloc(), &cases)
 }
 
 #[test]
 fn tells_a_read_fault(rt: HostRuntime) -> Result<(), Fail> {
-    let alloc = rt.alloc();
-    let p = read_job(alloc, JOB.as_bytes())?;
-    let mut files = MemFiles::new(alloc);
-    files.add("a", b"end".to_vec(alloc)?)?;
-    assert_eq!(rt;
-        gather(alloc, &p, &mut files).err(),
-        Some(GatherFault::ReadFault)
-    );
-    files.add("a", b"x".to_vec(alloc)?)?;
-    let fault = gather(alloc, &p, &mut files).err();
-    assert_eq!(rt;
-        matches!(fault, Some(GatherFault::Source(f)) if f.why == Why::BadRow),
-        true
-    );
+    let p = read_job(rt.alloc(), JOB.as_bytes())?;
+    let mut files = files_of(rt.alloc(), &[("a", b"end")], 5)?;
+    let fault = gather(rt.alloc(), &p, &mut files).err();
+    assert_eq!(rt; fault, Some(GatherFault::ReadFault));
+    Ok(())
+}
+
+// A defect of the first source is told before the second one is read.
+#[test]
+fn tells_a_defect_before_a_read_fault(rt: HostRuntime) -> Result<(), Fail> {
+    let p = read_job(rt.alloc(), JOB.as_bytes())?;
+    let mut files = files_of(rt.alloc(), &[("a", b"x")], 5)?;
+    let fault = gather(rt.alloc(), &p, &mut files).err();
+    assert!(rt; matches!(fault, Some(GatherFault::Source(f)) if f.why == Why::BadRow));
     Ok(())
 }
