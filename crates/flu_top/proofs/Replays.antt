@@ -3,7 +3,7 @@ use Rattle.std.proofs.Common.{◌≡◌, ◌≢◌, refl, sym, ap, ◌∙◌, su
 use Rattle.std.specs.Prelude.{Contains, option_map, unwrap_or, IfSome, IfOk, OnOk}
 use Rattle.std.specs.Str.{bytes_eq}
 use Rattle.std.proofs.lemmas.Bool.{false≢true}
-use Rattle.std.proofs.lemmas.List.Elements.{Contains-append_cases, Contains-append_left, Contains-append_right}
+use Rattle.std.proofs.lemmas.List.Elements.{Contains-append_cases, Contains-append_right}
 use Rattle.std.proofs.lemmas.Slice.Eq.{bytes_eq-Decides}
 use Rattle.flu_outside.specs.Outside.{WhereTold, Contents, Rose}
 use Rattle.flu_outside.specs.Taking.{bytes_left, TakesFrom, IsReadOut}
@@ -23,19 +23,17 @@ use Rattle.flu_streams.specs.Good.{first_fault, lists_of, AreGood}
 use Rattle.flu_trace.specs.declared.faults.ReplayFault.{ReplayFault}
 use Rattle.flu_trace.specs.declared.faults.ReplayFault.TheVariants as traces
 use Rattle.flu_trace.specs.Replaying.{Ending, Complete, IsReplayed, ending_of}
-use Rattle.flu_words.specs.Words.{Command, Replay}
+use Rattle.flu_words.specs.Words.{Replay}
 use Rattle.flu_top.specs.declared.refusals.Refusal.{Refusal}
 use Rattle.flu_top.specs.declared.refusals.Refusal.TheVariants as refusals
 use Rattle.flu_top.specs.Answer.{refusal_of_replay}
 use Rattle.flu_top.specs.Taking.{TookOnly}
 use Rattle.flu_top.specs.Behind.{emptied, emptied_each}
-use Rattle.flu_top.specs.Causes.{HasTraceFault}
-use Rattle.flu_top.specs.Done.{IsGood, IsTraceName, IsReadName, IsWritten}
-use Rattle.flu_top.specs.Folding.{AreSourcesRead, IsReported}
+use Rattle.flu_top.specs.Done.{IsGood, IsReadName, IsWritten}
 use Rattle.flu_top.specs.Ready.{HasNodes, IsReady}
 use Rattle.flu_top.specs.Refusing.{IsRefusal}
 use Rattle.flu_top.specs.Replaying.{EndsOnNet, EndsBehind, ReplaysTo, trace_in}
-use Rattle.flu_top.specs.Replays.{Tells, IsNetRefusal, IsReplayDone, IsReadIn, StaysEnded, IsReplayRefusal}
+use Rattle.flu_top.specs.Replays.{IsNetRefusal, IsReplayDone, IsReadIn, StaysEnded, IsReplayRefusal}
 use Rattle.flu_top.specs.Simulating.{from_nothing}
 use Rattle.flu_top.proofs.Sequence.{among, only_one, same_or_apart, read_at, good_at, report_at, report_refusal, text_is_read, source_name_is_read, stays_ended}
 

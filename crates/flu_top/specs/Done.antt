@@ -6,7 +6,7 @@ use Rattle.flu_model.specs.declared.plans.Node.{Node}
 use Rattle.flu_model.specs.Modes.{IsAccepted}
 use Rattle.flu_model.specs.Validity.{IsValid}
 use Rattle.flu_outside.specs.Writing.{AppendsAll, AppendsPart}
-use Rattle.flu_trace.specs.Replaying.{Ending, Complete}
+use Rattle.flu_trace.specs.Replaying.{Complete}
 use Rattle.flu_words.specs.Words.{Command, command_in}
 use Rattle.flu_top.specs.Behind.{WantedJob, Named, Fixed, HasJob, HasPlan}
 use Rattle.flu_top.specs.Reading.{Reading, Unread, Whole, InRounds, AreSourcesGood, HaveWritten, ReportsNext, lines_behind}

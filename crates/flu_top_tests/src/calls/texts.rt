@@ -176,3 +176,99 @@ node n0:
 fn jobs_and_plans_are_printed(rt: HostRuntime) -> Result<(), Fail> {
     play(&rt, rt.alloc(), TEXTS)
 }
+
+/// Greedy plans: of one itag and of two that depend on each other; keys are told, and the greater rate stands at the left; equal totals go by the
+/// least itag; of a complete graph no itag is removed, a rate of 0 is removed first, and equal rates by number, or not at all.
+const PLANS: &str = "@ J
+tag t none
+depends t t
+source a \"a\": t
+@ $ plan J
+@ = 0
+node n0: t@a
+@ J
+tag t none
+tag u none
+depends u t
+source a \"a\": t
+source b \"b\" rate 2: u
+@ $ plan J
+@ = 0
+node n0: t@a, u@b
+@ J
+tag t keyed none
+source a \"a\": t[7]
+source b \"b\" rate 2: t[8]
+@ $ plan J --depth 1
+@ = 0
+node n0: -> n1 n2
+node n1: t[8]@b
+node n2: t[7]@a
+@ J
+tag t none
+tag u none
+tag v none
+tag w none
+depends t w
+source a \"a\" rate 2: t
+source b \"b\" rate 4: u, v
+source c \"c\" rate 2: w
+@ $ plan J --depth 1
+@ = 0
+node n0: -> n1 n2
+node n1: t@a, w@c
+node n2: u@b, v@b
+@ J
+tag t none
+tag u none
+tag v none
+depends t u
+depends t v
+depends u v
+source a \"a\": t
+source b \"b\" rate 2: u
+source c \"c\" rate 3: v
+@ $ plan J
+@ = 0
+node n0: t@a, u@b, v@c
+@ J
+tag t none
+tag u none
+tag v none
+depends t v
+depends u v
+source a \"a\" rate 7: t, u
+source b \"b\" rate 0: v
+@ $ plan J
+@ = 0
+node n0: v@b -> n1 n2
+node n1: t@a
+node n2: u@a
+@ J
+tag t none
+tag u none
+tag v none
+depends t u
+depends t v
+source a \"a\" rate 7: t, u, v
+@ $ plan J
+@ = 0
+node n0: t@a -> n1 n2
+node n1: u@a
+node n2: v@a
+@ J
+tag t none
+tag u none
+tag v none
+depends t v
+depends u v
+source a \"a\" rate 7: t, u, v
+@ $ plan J
+@ = 0
+node n0: t@a, u@a, v@a
+";
+
+#[test]
+fn greedy_plans(rt: HostRuntime) -> Result<(), Fail> {
+    play(&rt, rt.alloc(), PLANS)
+}
