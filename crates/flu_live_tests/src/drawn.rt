@@ -2,9 +2,11 @@
 
 ghost use Rattle.std.specs.Prelude.{◌^◌, ◌<◌};
 
+use crate::stages::MEMORY;
 use flu_draw::{draw_of, next_draw};
 use flu_outside::MemFiles;
-use std::alloc::{AllocError, Global};
+use std::alloc::Global;
+use std::process::Abort;
 
 /// The sources of a job, each with its file's name, the tag of its rows, and whether these have values.
 pub type Tagged = &'static [(&'static str, &'static str, bool)];
@@ -32,31 +34,33 @@ impl Draws {
 }
 
 /// Up to seven rows of a source, of which one in six is a beat, with up to three instants in between, and its end.
-fn rows(alloc: Global, draws: &mut Draws, tag: &str, valued: bool) -> Result<String, AllocError> {
+fn rows(rt: &impl Abort, alloc: Global, draws: &mut Draws, tag: &str, valued: bool) -> String {
     let mut text = String::new(alloc);
     let mut time = 0u32;
     for _ in 0..draws.below(8) {
         time = time.wrapping_add(1).wrapping_add(draws.below(4));
         let value = draws.below(100);
-        match draws.below(6) {
-            0 => write!(text, "{time},beat\n")?,
-            _ if valued => write!(text, "{time},{tag},{value}\n")?,
-            _ => write!(text, "{time},{tag}\n")?,
-        }
+        let pushed = match draws.below(6) {
+            0 => write!(text, "{time},beat\n"),
+            _ if valued => write!(text, "{time},{tag},{value}\n"),
+            _ => write!(text, "{time},{tag}\n"),
+        };
+        pushed.expect(rt, MEMORY);
     }
-    text.push_str("end\n")?;
-    Ok(text)
+    text.push_str("end\n").expect(rt, MEMORY);
+    text
 }
 
 /// The files of some sources, with the rows that a seed draws.
-pub fn drawn_files(alloc: Global, sources: Tagged, seed: u32) -> Result<MemFiles, AllocError>
+pub fn drawn_files(rt: &impl Abort, alloc: Global, sources: Tagged, seed: u32) -> MemFiles
     requires { seed < 2 ^ 31 }
 {
     let mut draws = Draws::of(seed);
     let mut files = MemFiles::new(alloc);
     for (name, tag, valued) in sources {
-        let text = rows(alloc, &mut draws, tag, *valued)?;
-        files.add(name, text.as_bytes().to_vec(alloc)?)?;
+        let text = rows(rt, alloc, &mut draws, tag, *valued);
+        let bytes = text.as_bytes().to_vec(alloc).expect(rt, MEMORY);
+        files.add(name, bytes).expect(rt, MEMORY);
     }
-    Ok(files)
+    files
 }

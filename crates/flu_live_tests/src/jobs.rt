@@ -1,4 +1,4 @@
-//! Runs of jobs with their plans, and what they came to.
+//! What runs of jobs with their plans come to.
 
 ghost use Rattle.std.specs.Prelude.{◌≡◌, ◌^◌, ◌<◌, length, IfOk};
 ghost use Rattle.flu_model.specs.Itags.{count_of_itags};
@@ -6,7 +6,7 @@ ghost use Rattle.flu_model.specs.Listed.{listed};
 ghost use Rattle.flu_model.specs.Sorts.{IsStateOf};
 ghost use Rattle.flu_cells.specs.Holding.{held};
 
-use crate::stages::{Sources, Stage, staged};
+use crate::stages::{MEMORY, Stage};
 use flu_cells::State;
 use flu_deps::Checked;
 use flu_fork::Case;
@@ -16,19 +16,15 @@ use flu_net::Net;
 use flu_report::report_text;
 use flu_seq::{Engine, fold};
 use std::alloc::{AllocError, Global};
-use std::test::Fail;
+use std::process::Abort;
 
-/// The reports of a run, of a batch with the same seed and of the fold, how many steps of each kind the run had, its mark, the bound on its steps, and
-/// whether a step is enabled at the start.
-#[derive(Drop)]
-pub struct Heard {
-    pub report: String,
-    pub batch: String,
-    pub folded: String,
-    pub steps: StepCounts,
-    pub mark: u32,
-    pub most: u128,
-    pub begins: bool,
+/// What a run is to come to: the report, and, where they are given, how many steps of each kind it has, in the order in which they are
+/// declared, and its mark with the bound on its steps.
+#[derive(Clone, Copy)]
+pub struct Wanted<'a> {
+    pub report: &'a str,
+    pub steps: Option<[u128; 7]>,
+    pub mark: Option<(u32, u128)>,
 }
 
 /// What a batch of an engine comes to, from the empty state.
@@ -44,107 +40,102 @@ pub fn batched<E: Engine<()>>(
     engine.batch(&(), alloc, State::new(alloc), streams)
 }
 
-/// The report of a batch of the engine of the net.
-fn report_on_net(alloc: Global, stage: &Stage, seed: u32) -> Result<String, AllocError>
+/// Compares the report of some outputs.
+fn reports(rt: &impl Abort, alloc: Global, checked: &Checked, outs: Outs, report: &str) {
+    let text = report_text(alloc, checked.program(), outs).expect(rt, MEMORY);
+    assert_eq!(rt; text.as_str(), report);
+}
+
+/// Compares the report of a batch of the engine of the net.
+fn batches(rt: &impl Abort, alloc: Global, stage: &Stage, seed: u32, report: &str)
     requires { seed < 2 ^ 31 }
 {
     let mut engine = NetEngine {
-        checked: &stage.checked,
-        valid: &stage.valid,
+        checked: stage.checked,
+        valid: stage.valid,
         seed,
     };
-    let (_state, outs) = batched(alloc, &mut engine, &stage.streams)?;
-    reported(alloc, &stage.checked, outs)
+    let (_state, outs) = batched(alloc, &mut engine, stage.streams).expect(rt, MEMORY);
+    reports(rt, alloc, stage.checked, outs, report);
 }
 
-/// What the fold comes to from a state: the report and what the state holds.
-pub fn folded(alloc: Global, stage: &Stage, opening: State) -> Result<String, AllocError> {
-    let (state, outs) = fold(alloc, stage.checked.program(), opening, &stage.streams)?;
-    ended(alloc, &stage.checked, &state, outs)
+/// Compares the report of the fold.
+fn folds(rt: &impl Abort, alloc: Global, stage: &Stage, report: &str) {
+    let program = stage.checked.program();
+    let (_state, outs) = fold(alloc, program, State::new(alloc), stage.streams).expect(rt, MEMORY);
+    reports(rt, alloc, stage.checked, outs, report);
 }
 
-/// The report of the fold.
-fn report_of_fold(alloc: Global, stage: &Stage) -> Result<String, AllocError> {
-    let (_state, outs) = fold(
-        alloc,
-        stage.checked.program(),
-        State::new(alloc),
-        &stage.streams,
-    )?;
-    reported(alloc, &stage.checked, outs)
-}
-
-/// Whether a step is enabled at the start.
-fn begins(alloc: Global, case: &Case) -> Result<bool, AllocError> {
-    let net = Net::new(alloc, case)?;
-    Ok(some_enabled(&net, case).is_some())
-}
-
-/// The report of some outputs.
-fn reported(alloc: Global, checked: &Checked, outs: Outs) -> Result<String, AllocError> {
-    let text = report_text(alloc, checked.program(), outs)?;
-    String::from_str(alloc, text.as_str())
+/// What the fold comes to from the empty state: the report and what the state holds.
+pub fn folded(rt: &impl Abort, alloc: Global, stage: &Stage) -> String {
+    let program = stage.checked.program();
+    let (state, outs) = fold(alloc, program, State::new(alloc), stage.streams).expect(rt, MEMORY);
+    ended(rt, alloc, stage.checked, &state, outs)
 }
 
 /// The report of some outputs, and behind it what a state holds in the first cell of its first two families, each in a line.
 pub fn ended(
+    rt: &impl Abort,
     alloc: Global,
     checked: &Checked,
     state: &State,
     outs: Outs,
-) -> Result<String, AllocError> {
-    let mut text = reported(alloc, checked, outs)?;
+) -> String {
+    let report = report_text(alloc, checked.program(), outs).expect(rt, MEMORY);
+    let mut text = String::from_str(alloc, report.as_str()).expect(rt, MEMORY);
     for family in 0..2u32 {
         let worth = state.get(Cell { family, key: 0 });
-        write!(text, "{worth:?}\n")?;
+        write!(text, "{worth:?}\n").expect(rt, MEMORY);
     }
-    Ok(text)
+    text
 }
 
-/// What a run of the case came to, beside the reports of a batch and of the fold.
-fn told(
-    alloc: Global,
-    case: &Case,
-    batch: String,
-    folded: String,
-    seed: u32,
-) -> Result<Heard, AllocError>
+/// Whether a step is enabled at the start.
+fn begins(rt: &impl Abort, alloc: Global, case: &Case) -> bool {
+    let net = Net::new(alloc, case).expect(rt, MEMORY);
+    some_enabled(&net, case).is_some()
+}
+
+/// How many steps of each kind a run has, in the order in which they are declared.
+fn counts(steps: StepCounts) -> [u128; 7] {
+    [
+        steps.arrive,
+        steps.handle,
+        steps.ask,
+        steps.take,
+        steps.give,
+        steps.hold,
+        steps.lend,
+    ]
+}
+
+/// Compares what a run comes to.
+fn simulates(rt: &impl Abort, alloc: Global, case: &Case, seed: u32, wanted: Wanted)
     requires { seed < 2 ^ 31 }
 {
-    let begins = begins(alloc, case)?;
     let Run {
         outs,
         steps,
         mark,
         ..
-    } = simulate(alloc, case, seed)?;
-    let report = reported(alloc, case.checked(), outs)?;
-    Ok(Heard {
-        report,
-        batch,
-        folded,
-        steps,
-        mark,
-        most: bound(case),
-        begins,
-    })
+    } = simulate(alloc, case, seed).expect(rt, MEMORY);
+    reports(rt, alloc, case.checked(), outs, wanted.report);
+    if let Some(all) = wanted.steps {
+        assert_eq!(rt; counts(steps), all);
+    }
+    if let Some((seen, most)) = wanted.mark {
+        assert_eq!(rt; mark, seen);
+        assert_eq!(rt; bound(case), most);
+    }
 }
 
-/// What a run of a job with a plan over some files came to; none where the job is not accepted or the plan is not valid for it.
-pub fn ran(
-    alloc: Global,
-    job: &str,
-    plan: &str,
-    files: Sources,
-    seed: u32,
-) -> Result<Option<Heard>, Fail>
+/// Compares what a run, a batch with the same seed and the fold come to.
+pub fn runs(rt: &impl Abort, alloc: Global, stage: &Stage, seed: u32, wanted: Wanted)
     requires { seed < 2 ^ 31 }
 {
-    let Some(stage) = staged(alloc, job, plan, files)? else {
-        return Ok(None);
-    };
-    let batch = report_on_net(alloc, &stage, seed)?;
-    let folded = report_of_fold(alloc, &stage)?;
-    let case = stage.case(alloc)?;
-    Ok(Some(told(alloc, &case, batch, folded, seed)?))
+    batches(rt, alloc, stage, seed, wanted.report);
+    folds(rt, alloc, stage, wanted.report);
+    let case = stage.case(alloc).expect(rt, MEMORY);
+    assert!(rt; begins(rt, alloc, &case));
+    simulates(rt, alloc, &case, seed, wanted);
 }

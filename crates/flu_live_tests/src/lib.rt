@@ -1,8 +1,6 @@
-//! Tests of runs of the net that seeds draw, of steps by hand, of traces and their replays, and of the backup of a run. It has no code of its own.
+//! Tests of runs of the net that seeds draw, of steps by hand, and of traces and their replays. It has no code of its own.
 #![tactic(auto)]
 
-#[cfg(test)]
-mod backups;
 #[cfg(test)]
 mod drawn;
 #[cfg(test)]

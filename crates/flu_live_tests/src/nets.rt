@@ -3,26 +3,25 @@
 ghost use Rattle.std.specs.Prelude.{◌≡◌, OnOk};
 
 use crate::jobs::ended;
-use crate::stages::{Sources, staged};
+use crate::stages::{MEMORY, Stage};
 use flu_fork::Case;
 use flu_live::some_enabled;
 use flu_net::{Net, Step, StepFault};
 use std::alloc::{AllocError, Global};
-use std::test::Fail;
+use std::process::Abort;
 
 /// More steps than a net of these tests makes.
 const MANY: u32 = 1000;
 
-/// What a walk over a net came to: whether each step of its list was made, whether each step that should be refused was, before each
-/// of these; whether the net was final then; whether a step was enabled from there on just until the net was final; and the report with what
-/// the state holds.
-#[derive(Drop)]
-pub struct Walk {
+/// A walk over a net: the steps of a list, before each of which all of others are tried and refused, and then whatever is enabled, which there is
+/// just until the net is final. Whether each step of the list is made, whether the net is final behind them, and what the run comes to.
+#[derive(Clone, Copy)]
+pub struct Walk<'a> {
+    pub steps: &'a [Step],
+    pub others: &'a [Step],
     pub made: bool,
-    pub refused: bool,
     pub ended: bool,
-    pub exact: bool,
-    pub report: Option<String>,
+    pub report: &'a str,
 }
 
 /// Makes a step; whether it was enabled.
@@ -91,46 +90,31 @@ fn run_out(alloc: Global, case: &Case, net: &mut Net) -> Result<bool, AllocError
     Ok(false)
 }
 
-/// The report of a final net, and what its state holds; none of another one.
-pub fn told(alloc: Global, case: &Case, net: Net) -> Result<Option<String>, AllocError>
+/// The report of a final net, and what its state holds.
+pub fn told(rt: &impl Abort, alloc: Global, case: &Case, net: Net) -> String
     requires { case.now ≡ net.case }
 {
-    if !net.is_final(case) {
-        return Ok(None);
-    }
-    let (state, outs) = net.joined(alloc, case)?;
-    Ok(Some(ended(alloc, case.checked(), &state, outs)?))
+    assert!(rt; net.is_final(case));
+    let (state, outs) = net.joined(alloc, case).expect(rt, MEMORY);
+    ended(rt, alloc, case.checked(), &state, outs)
 }
 
 /// Walks over the net of a case.
-fn over(alloc: Global, case: &Case, steps: &[Step], others: &[Step]) -> Result<Walk, AllocError> {
-    let mut net = Net::new(alloc, case)?;
-    let (made, refused) = all_made(alloc, case, &mut net, steps, others)?;
-    let ended = net.is_final(case);
-    let exact = run_out(alloc, case, &mut net)?;
-    let report = told(alloc, case, net)?;
-    Ok(Walk {
-        made,
-        refused,
-        ended,
-        exact,
-        report,
-    })
+fn over(rt: &impl Abort, alloc: Global, case: &Case, walk: Walk) {
+    let mut net = Net::new(alloc, case).expect(rt, MEMORY);
+    let (made, refused) = all_made(alloc, case, &mut net, walk.steps, walk.others).expect(
+        rt, MEMORY,
+    );
+    assert!(rt; refused);
+    assert_eq!(rt; made, walk.made);
+    assert_eq!(rt; net.is_final(case), walk.ended);
+    assert!(rt; run_out(alloc, case, &mut net).expect(rt, MEMORY));
+    let report = told(rt, alloc, case, net);
+    assert_eq!(rt; report.as_str(), walk.report);
 }
 
-/// Walks over the net of a job with a plan over some files: the steps of a list, others before each of them, and then whatever is enabled.
-/// None where the job is not accepted or the plan is not valid for it.
-pub fn walked(
-    alloc: Global,
-    job: &str,
-    plan: &str,
-    files: Sources,
-    steps: &[Step],
-    others: &[Step],
-) -> Result<Option<Walk>, Fail> {
-    let Some(stage) = staged(alloc, job, plan, files)? else {
-        return Ok(None);
-    };
-    let case = stage.case(alloc)?;
-    Ok(Some(over(alloc, &case, steps, others)?))
+/// Walks over the net of a stage.
+pub fn walks(rt: &impl Abort, alloc: Global, stage: &Stage, walk: Walk) {
+    let case = stage.case(alloc).expect(rt, MEMORY);
+    over(rt, alloc, &case, walk);
 }

@@ -4,18 +4,17 @@ ghost use Rattle.std.specs.Prelude.{◌≡◌, ◌^◌, ◌<◌, length, OnOk};
 
 use crate::drawn::Draws;
 use crate::nets::{made, told};
-use crate::stages::{Stage, staged};
+use crate::stages::{Input, MEMORY, Rows, Stage, Task, tries};
 use crate::texts::{
     ABOVE, COUNT, LAST, ONE, SHARED, SHARED_PLAN, THREE, TRADES, TWO_READS, VALUES,
 };
-use crate::traces::{lines_of, push_line, push_lines, replayed, trace_of};
+use crate::traces::{lines_of, push_line, push_lines, replayed};
 use flu_fork::Case;
 use flu_model::Text;
 use flu_net::Net;
 use flu_trace::{ReplayFault, read_step};
 use std::alloc::{AllocError, Global};
 use std::process::Abort;
-use std::test::Fail;
 
 /// What is done to one line of a trace.
 #[derive(Clone, Copy)]
@@ -44,47 +43,27 @@ const ODD: [&str; 8] = [
     "take 0 middle",
 ];
 
-/// How edited traces end, by the net: so many at a bad line, at a step that is not enabled, before the net is final, and in a final net; and the
-/// first one whose replay comes to something else, or nothing.
-#[derive(Drop)]
+/// How edited traces end: so many at a bad line, at a step that is not enabled, before the net is final, and in a final net.
+#[derive(Clone, Copy)]
 struct Tally {
     bad: u32,
     not_enabled: u32,
     incomplete: u32,
     complete: u32,
-    other: String,
 }
 
 impl Tally {
-    fn none(alloc: Global) -> Tally {
-        Tally {
-            bad: 0,
-            not_enabled: 0,
-            incomplete: 0,
-            complete: 0,
-            other: String::new(alloc),
-        }
-    }
-
-    // Counts how a trace ends by the net.
-    fn count(&mut self, by_net: &str) {
-        if by_net.starts_with("Bad") {
+    // Counts how a trace ends.
+    fn count(&mut self, told: &str) {
+        if told.starts_with("Bad") {
             self.bad = self.bad.saturating_add(1);
-        } else if by_net.starts_with("NotEnabled") {
+        } else if told.starts_with("NotEnabled") {
             self.not_enabled = self.not_enabled.saturating_add(1);
-        } else if by_net.starts_with("Incomplete") {
+        } else if told.starts_with("Incomplete") {
             self.incomplete = self.incomplete.saturating_add(1);
         } else {
             self.complete = self.complete.saturating_add(1);
         }
-    }
-
-    // Keeps how a trace ends by the net and by the replay, where these differ.
-    fn compare(&mut self, by_net: &str, by_replay: &str) -> Result<(), AllocError> {
-        if by_net != by_replay && self.other.is_empty() {
-            write!(self.other, "{by_net} by the net, {by_replay} by the replay")?;
-        }
-        Ok(())
     }
 }
 
@@ -134,86 +113,115 @@ fn first_stop(
 }
 
 /// What a trace comes to by its steps one by one: the report and what the state holds, or the fault.
-fn stepped(alloc: Global, case: &Case, text: &str) -> Result<String, AllocError> {
-    let mut net = Net::new(alloc, case)?;
-    match first_stop(alloc, case, &mut net, text)? {
-        Some(fault) => format!(in alloc; "{fault:?}"),
-        None => Ok(told(alloc, case, net)?.unwrap_or(String::new(alloc))),
+fn stepped(rt: &impl Abort, alloc: Global, case: &Case, text: &str) -> String {
+    let mut net = Net::new(alloc, case).expect(rt, MEMORY);
+    match first_stop(alloc, case, &mut net, text).expect(rt, MEMORY) {
+        Some(fault) => format!(in alloc; "{fault:?}").expect(rt, MEMORY),
+        None => told(rt, alloc, case, net),
     }
 }
 
 /// The trace of some lines, one of which is edited; where it is changed, another line stands there.
 fn edited(
+    rt: &impl Abort,
     alloc: Global,
     lines: &[Text],
     at: usize,
     edit: Edit,
     other: &str,
-) -> Result<String, AllocError>
+) -> String
     requires { at < length lines.now }
 {
-    let mut text = trace_of(alloc, &lines[..at])?;
+    let mut text = String::new(alloc);
+    push_lines(rt, &mut text, &lines[..at]);
     let line = lines[at].as_str();
     let behind = match edit {
         Edit::Changed => {
-            push_line(&mut text, other)?;
+            push_line(rt, &mut text, other);
             &lines[at + 1..]
         }
         Edit::Doubled => {
-            push_line(&mut text, line)?;
+            push_line(rt, &mut text, line);
             &lines[at..]
         }
         Edit::Dropped => &lines[at + 1..],
         Edit::Swapped => match lines.get(at + 1) {
             Some(next) => {
-                push_line(&mut text, next.as_str())?;
-                push_line(&mut text, line)?;
+                push_line(rt, &mut text, next.as_str());
+                push_line(rt, &mut text, line);
                 &lines[at + 2..]
             }
             None => &lines[at..],
         },
     };
-    push_lines(&mut text, behind)?;
-    Ok(text)
+    push_lines(rt, &mut text, behind);
+    text
 }
 
 /// Another line: one of these, or an odd one.
 fn other_line<'a>(lines: &'a [Text], draws: &mut Draws) -> &'a str {
-    let place = draws.below(60) as usize;
+    let place = draws.below(100) as usize;
     match lines.get(place) {
         Some(line) => line.as_str(),
         None => ODD[place % ODD.len()],
     }
 }
 
-/// How the traces end that differ in one line from the trace of a run.
-fn tallied(alloc: Global, stage: &Stage, seed: u32, tally: &mut Tally) -> Result<(), AllocError>
+/// Compares what a trace comes to by its steps and by its replay, and counts how it ends.
+fn compare(rt: &impl Abort, alloc: Global, case: &Case, text: &str, tally: &mut Tally) {
+    let by_net = stepped(rt, alloc, case, text);
+    let by_replay = replayed(rt, alloc, case, text, 50);
+    assert_eq!(rt; by_replay.as_str(), by_net.as_str(), "{text}");
+    tally.count(by_net.as_str());
+}
+
+/// Compares what the traces come to that differ in this line.
+fn edits_at(
+    rt: &impl Abort,
+    alloc: Global,
+    case: &Case,
+    lines: &[Text],
+    at: usize,
+    draws: &mut Draws,
+    tally: &mut Tally,
+)
+    requires { at < length lines.now }
+{
+    for edit in EDITS {
+        let other = other_line(lines, draws);
+        let text = edited(rt, alloc, lines, at, edit, other);
+        compare(rt, alloc, case, text.as_str(), tally);
+    }
+}
+
+/// Compares what the traces come to that differ in one line from the trace of a run.
+fn edits_of(rt: &impl Abort, alloc: Global, case: &Case, seed: u32, tally: &mut Tally)
     requires { seed < 2 ^ 31 }
 {
     let mut draws = Draws::of(seed);
-    let case = stage.case(alloc)?;
-    let lines = lines_of(alloc, &case, seed)?;
+    let lines = lines_of(rt, alloc, case, seed);
     for at in 0..lines.len() {
-        for edit in EDITS {
-            let other = other_line(lines.as_slice(), &mut draws);
-            let text = edited(alloc, lines.as_slice(), at, edit, other)?;
-            compare(alloc, &case, text.as_str(), tally)?;
-        }
+        edits_at(rt, alloc, case, lines.as_slice(), at, &mut draws, tally);
     }
-    Ok(())
 }
 
-/// Counts how a trace ends.
-fn compare(alloc: Global, case: &Case, text: &str, tally: &mut Tally) -> Result<(), AllocError> {
-    let by_net = stepped(alloc, case, text)?;
-    let by_replay = replayed(alloc, case, text, 50)?;
-    tally.count(by_net.as_str());
-    tally.compare(by_net.as_str(), by_replay.as_str())
+/// Compares what the traces come to that differ in one line from the trace of one of two runs. Some of them end in each of the four ways.
+pub fn edits(rt: &impl Abort, alloc: Global, stage: &Stage) {
+    let case = stage.case(alloc).expect(rt, MEMORY);
+    let mut tally = Tally {
+        bad: 0,
+        not_enabled: 0,
+        incomplete: 0,
+        complete: 0,
+    };
+    edits_of(rt, alloc, &case, 0, &mut tally);
+    edits_of(rt, alloc, &case, 1, &mut tally);
+    assert!(rt; tally.bad > 0 && tally.not_enabled > 0);
+    assert!(rt; tally.incomplete > 0 && tally.complete > 0);
 }
 
 #[test]
-fn an_edited_trace_ends_as_its_steps_do(rt: HostRuntime) -> Result<(), Fail> {
-    let alloc = rt.alloc();
+fn an_edited_trace_ends_as_its_steps_do(rt: HostRuntime) {
     let cases = [
         (COUNT, ONE, TWO_READS),
         (COUNT, THREE, TWO_READS),
@@ -221,16 +229,7 @@ fn an_edited_trace_ends_as_its_steps_do(rt: HostRuntime) -> Result<(), Fail> {
         (SHARED, SHARED_PLAN, TRADES),
     ];
     for (job, plan, files) in cases {
-        let stage = staged(alloc, job, plan, files)?;
-        assert!(rt; stage.is_some());
-        let stage = stage.unwrap();
-        let mut tally = Tally::none(alloc);
-        for seed in 0..2 {
-            tallied(alloc, &stage, seed, &mut tally)?;
-        }
-        assert_eq!(rt; tally.other.as_str(), "");
-        assert!(rt; tally.bad > 0 && tally.not_enabled > 0);
-        assert!(rt; tally.incomplete > 0 && tally.complete > 0);
+        let rows = Rows::Written(files);
+        tries(&rt, rt.alloc(), Input { job, plan, rows }, 0, Task::Edit);
     }
-    Ok(())
 }

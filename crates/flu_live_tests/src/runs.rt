@@ -1,30 +1,40 @@
 //! Runs: the report is the fold's for every seed, and the steps and the mark are those of the schedule.
 
-use crate::jobs::ran;
+ghost use Rattle.std.specs.Prelude.{◌^◌, ◌<◌};
+
+use crate::jobs::Wanted;
+use crate::stages::{Input, Rows, Sources, Task, tries};
 use crate::texts::{
     ABOVE, COUNT, EMPTY, FOUR, LARGE, LAST, ONE, ONE_TIME, READS_FIRST, SHARED, SHARED_PLAN, THREE,
     TRADES, TWICE, TWO_READS, VALUES,
 };
-use flu_live::StepCounts;
+use std::alloc::Global;
 use std::process::Abort;
-use std::test::Fail;
 
-/// How many steps of each kind a run has, in the order in which they are declared.
-fn counts(steps: StepCounts) -> [u128; 7] {
-    [
-        steps.arrive,
-        steps.handle,
-        steps.ask,
-        steps.take,
-        steps.give,
-        steps.hold,
-        steps.lend,
-    ]
+/// Runs a job with a plan over some files.
+fn ran(
+    rt: &impl Abort,
+    alloc: Global,
+    job: &'static str,
+    plan: &'static str,
+    files: Sources,
+    seed: u32,
+    wanted: Wanted,
+)
+    requires { seed < 2 ^ 31 }
+{
+    let rows = Rows::Written(files);
+    tries(
+        rt,
+        alloc,
+        Input { job, plan, rows },
+        seed,
+        Task::Run(wanted),
+    );
 }
 
 #[test]
-fn every_seed_gives_the_report(rt: HostRuntime) -> Result<(), Fail> {
-    let alloc = rt.alloc();
+fn every_seed_gives_the_report(rt: HostRuntime) {
     let cases = [
         (COUNT, THREE, EMPTY, "", [3, 0, 0, 0, 0, 2, 2]),
         (COUNT, ONE, EMPTY, "", [3, 0, 0, 0, 0, 0, 0]),
@@ -79,63 +89,62 @@ fn every_seed_gives_the_report(rt: HostRuntime) -> Result<(), Fail> {
         ),
     ];
     for (job, plan, files, report, steps) in cases {
+        let wanted = Wanted {
+            report,
+            steps: Some(steps),
+            mark: None,
+        };
         for seed in 0..4 {
-            let run = ran(alloc, job, plan, files, seed)?;
-            assert!(rt; run.is_some());
-            let run = run.unwrap();
-            assert_eq!(rt; run.report.as_str(), report);
-            assert_eq!(rt; run.batch.as_str(), report);
-            assert_eq!(rt; run.folded.as_str(), report);
-            assert_eq!(rt; counts(run.steps), steps);
-            assert!(rt; run.begins);
+            ran(&rt, rt.alloc(), job, plan, files, seed, wanted);
         }
     }
-    Ok(())
 }
 
 #[test]
-fn a_hundred_seeds_have_as_many_steps(rt: HostRuntime) -> Result<(), Fail> {
-    let alloc = rt.alloc();
+fn a_hundred_seeds_have_as_many_steps(rt: HostRuntime) {
+    let wanted = Wanted {
+        report: "3,read,count 12\n5,read,count 2\n",
+        steps: Some([8, 5, 4, 4, 4, 6, 6]),
+        mark: None,
+    };
     for seed in 0..100 {
-        let run = ran(alloc, COUNT, THREE, TWO_READS, seed)?;
-        assert!(rt; run.is_some());
-        let run = run.unwrap();
-        assert_eq!(rt; run.report.as_str(), "3,read,count 12\n5,read,count 2\n");
-        assert_eq!(rt; counts(run.steps), [8, 5, 4, 4, 4, 6, 6]);
+        ran(&rt, rt.alloc(), COUNT, THREE, TWO_READS, seed, wanted);
     }
-    Ok(())
 }
 
 #[test]
-fn marks_are_those_of_the_schedule(rt: HostRuntime) -> Result<(), Fail> {
-    let alloc = rt.alloc();
+fn marks_are_those_of_the_schedule(rt: HostRuntime) {
+    let counted = "3,read,count 12\n5,read,count 2\n";
     let cases = [
-        (THREE, EMPTY, [3, 0, 0, 0, 0, 2, 2], 3_995_476_782, 27),
-        (ONE, EMPTY, [3, 0, 0, 0, 0, 0, 0], 2178, 11),
-        (THREE, TWO_READS, [8, 5, 4, 4, 4, 6, 6], 2_121_232_296, 157),
+        (THREE, EMPTY, "", [3, 0, 0, 0, 0, 2, 2], 3_995_476_782, 27),
+        (ONE, EMPTY, "", [3, 0, 0, 0, 0, 0, 0], 2178, 11),
+        (
+            THREE,
+            TWO_READS,
+            counted,
+            [8, 5, 4, 4, 4, 6, 6],
+            2_121_232_296,
+            157,
+        ),
     ];
-    for (plan, files, steps, mark, most) in cases {
-        let run = ran(alloc, COUNT, plan, files, 1)?;
-        assert!(rt; run.is_some());
-        let run = run.unwrap();
-        assert_eq!(rt; counts(run.steps), steps);
-        assert_eq!(rt; run.mark, mark);
-        assert_eq!(rt; run.most, most);
+    for (plan, files, report, steps, mark, most) in cases {
+        let wanted = Wanted {
+            report,
+            steps: Some(steps),
+            mark: Some((mark, most)),
+        };
+        ran(&rt, rt.alloc(), COUNT, plan, files, 1, wanted);
     }
-    Ok(())
 }
 
 #[test]
-fn shared_reads_give_the_fold(rt: HostRuntime) -> Result<(), Fail> {
-    let alloc = rt.alloc();
-    let report =
-        "2,trade,at 3\n3,trade,at 3\n5,shut,vol 41\n5,trade,at 5\n6,trade,at 5\n8,trade,at 2\n9,shut,vol 43\n";
+fn shared_reads_give_the_fold(rt: HostRuntime) {
+    let wanted = Wanted {
+        report: "2,trade,at 3\n3,trade,at 3\n5,shut,vol 41\n5,trade,at 5\n6,trade,at 5\n8,trade,at 2\n9,shut,vol 43\n",
+        steps: None,
+        mark: None,
+    };
     for seed in 0..10 {
-        let run = ran(alloc, SHARED, SHARED_PLAN, TRADES, seed)?;
-        assert!(rt; run.is_some());
-        let run = run.unwrap();
-        assert_eq!(rt; run.report.as_str(), report);
-        assert_eq!(rt; run.folded.as_str(), report);
+        ran(&rt, rt.alloc(), SHARED, SHARED_PLAN, TRADES, seed, wanted);
     }
-    Ok(())
 }

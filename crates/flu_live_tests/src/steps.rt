@@ -1,12 +1,11 @@
 //! Steps of a net by hand.
 
-use crate::nets::walked;
+use crate::nets::Walk;
+use crate::stages::{Input, Rows, Task, tries};
 use crate::texts::{ABOVE, COUNT, EMPTY, LAST, ONE, THREE, TWO_READS, VALUES};
 use flu_model::Itag;
 use flu_net::Step;
 use flu_worker::Side;
-use std::process::Abort;
-use std::test::Fail;
 
 /// The report of the job with two last values, and what the state holds.
 const VALUES_TOLD: &str = "4,r2,q 7\n5,z,z none 7\n10,r,p 9\nSome(Last(9))\nSome(Last(7))\n";
@@ -67,56 +66,73 @@ const NEVER: [Step; 14] = [
     Step::Hold(0),
 ];
 
+/// The job with two last values and its rows.
+const TWO_VALUES: Input = Input {
+    job: LAST,
+    plan: ABOVE,
+    rows: Rows::Written(VALUES),
+};
+
 #[test]
-fn the_later_event_may_come_first(rt: HostRuntime) -> Result<(), Fail> {
-    let walk = walked(rt.alloc(), LAST, ABOVE, VALUES, &LATER_ONE_FIRST, &[])?;
-    assert!(rt; walk.is_some());
-    let walk = walk.unwrap();
-    assert!(rt; walk.made && walk.ended && walk.exact);
-    assert_eq!(rt; walk.report.as_deref(), Some(VALUES_TOLD));
-    Ok(())
+fn the_later_event_may_come_first(rt: HostRuntime) {
+    let walk = Walk {
+        steps: &LATER_ONE_FIRST,
+        others: &[],
+        made: true,
+        ended: true,
+        report: VALUES_TOLD,
+    };
+    tries(&rt, rt.alloc(), TWO_VALUES, 0, Task::Walk(walk));
 }
 
 #[test]
-fn steps_that_are_not_there_change_nothing(rt: HostRuntime) -> Result<(), Fail> {
-    let walk = walked(rt.alloc(), LAST, ABOVE, VALUES, &LATER_ONE_FIRST, &NEVER)?;
-    assert!(rt; walk.is_some());
-    let walk = walk.unwrap();
-    assert!(rt; walk.refused && walk.made && walk.ended);
-    assert_eq!(rt; walk.report.as_deref(), Some(VALUES_TOLD));
-    Ok(())
+fn steps_that_are_not_there_change_nothing(rt: HostRuntime) {
+    let walk = Walk {
+        steps: &LATER_ONE_FIRST,
+        others: &NEVER,
+        made: true,
+        ended: true,
+        report: VALUES_TOLD,
+    };
+    tries(&rt, rt.alloc(), TWO_VALUES, 0, Task::Walk(walk));
 }
 
 #[test]
-fn steps_that_are_made_twice_are_refused(rt: HostRuntime) -> Result<(), Fail> {
-    let twice = [Step::Lend(0, Side::Left), Step::Lend(0, Side::Left)];
-    let walk = walked(rt.alloc(), LAST, ABOVE, VALUES, &twice, &[])?;
-    assert!(rt; walk.is_some());
-    let walk = walk.unwrap();
-    assert!(rt; !walk.made && !walk.ended && walk.exact);
-    assert_eq!(rt; walk.report.as_deref(), Some(VALUES_TOLD));
-    Ok(())
+fn steps_that_are_made_twice_are_refused(rt: HostRuntime) {
+    let walk = Walk {
+        steps: &[Step::Lend(0, Side::Left), Step::Lend(0, Side::Left)],
+        others: &[],
+        made: false,
+        ended: false,
+        report: VALUES_TOLD,
+    };
+    tries(&rt, rt.alloc(), TWO_VALUES, 0, Task::Walk(walk));
 }
 
 #[test]
-fn a_step_is_enabled_until_the_net_is_final(rt: HostRuntime) -> Result<(), Fail> {
+fn a_step_is_enabled_until_the_net_is_final(rt: HostRuntime) {
+    let counted = "3,read,count 12\n5,read,count 2\nNone\nNone\n";
     let cases = [
         (COUNT, ONE, EMPTY, "None\nNone\n"),
         (COUNT, THREE, EMPTY, "None\nNone\n"),
-        (
-            COUNT,
-            THREE,
-            TWO_READS,
-            "3,read,count 12\n5,read,count 2\nNone\nNone\n",
-        ),
+        (COUNT, THREE, TWO_READS, counted),
         (LAST, ABOVE, VALUES, VALUES_TOLD),
     ];
     for (job, plan, files, report) in cases {
-        let walk = walked(rt.alloc(), job, plan, files, &[Step::Arrive(Itag(0))], &[])?;
-        assert!(rt; walk.is_some());
-        let walk = walk.unwrap();
-        assert!(rt; walk.made && !walk.ended && walk.exact);
-        assert_eq!(rt; walk.report.as_deref(), Some(report));
+        let rows = Rows::Written(files);
+        let walk = Walk {
+            steps: &[Step::Arrive(Itag(0))],
+            others: &[],
+            made: true,
+            ended: false,
+            report,
+        };
+        tries(
+            &rt,
+            rt.alloc(),
+            Input { job, plan, rows },
+            0,
+            Task::Walk(walk),
+        );
     }
-    Ok(())
 }

@@ -3,22 +3,21 @@
 ghost use Rattle.std.specs.Prelude.{◌≡◌, ◌^◌, ◌<◌};
 ghost use Rattle.flu_trace.specs.Lines.{number_of};
 
-use crate::drawn::{Tagged, drawn_files};
+use crate::drawn::Tagged;
 use crate::jobs::{ended, folded};
-use crate::stages::{Stage, staged, staged_over};
+use crate::stages::{Input, MEMORY, Rows, Sources, Stage, Task, tries};
 use crate::texts::{
-    ABOVE, COUNT, DEEP, FOUR, LAST, ONE, SHARED, SHARED_PLAN, THREE, TWO_READS, VALUES,
+    ABOVE, COUNT, DEEP, EMPTY, FOUR, LAST, ONE, ONE_TIME, SHARED, SHARED_PLAN, THREE, TWO_READS,
+    VALUES,
 };
-use flu_cells::State;
 use flu_fork::Case;
 use flu_live::trace;
 use flu_model::Text;
 use flu_net::Step;
 use flu_outside::MemFiles;
 use flu_trace::{replay, step_line};
-use std::alloc::{AllocError, Global};
+use std::alloc::Global;
 use std::process::Abort;
-use std::test::Fail;
 
 /// The name of a trace among files.
 const TRACE: &str = "trace";
@@ -41,14 +40,6 @@ const SOLD: Tagged = &[
     ("s", "shut", false),
 ];
 
-/// How many lines the trace of a run has, what its replay comes to, and what the fold comes to: the report and what the state holds.
-#[derive(Drop)]
-struct Retold {
-    lines: usize,
-    replayed: String,
-    folded: String,
-}
-
 /// The number of the itag or of the worker that a step names.
 fn number(step: Step) -> u32
     ensures { result ≡ number_of step }
@@ -61,80 +52,97 @@ fn number(step: Step) -> u32
 }
 
 /// The lines of the run that a seed draws, without their line feeds. A step whose number has more than three digits has none.
-pub fn lines_of(alloc: Global, case: &Case, seed: u32) -> Result<Vec<Text>, AllocError>
+pub fn lines_of(rt: &impl Abort, alloc: Global, case: &Case, seed: u32) -> Vec<Text>
     requires { seed < 2 ^ 31 }
 {
-    let steps = trace(alloc, case, seed)?;
+    let steps = trace(alloc, case, seed).expect(rt, MEMORY);
     let mut lines = Vec::new(alloc);
     for step in steps.as_slice() {
         if number(*step) < 1000 {
-            lines.push(step_line(alloc, *step)?)?;
+            let line = step_line(alloc, *step).expect(rt, MEMORY);
+            lines.push(line).expect(rt, MEMORY);
         }
     }
-    Ok(lines)
+    lines
 }
 
 /// Puts a line behind a text.
-pub fn push_line(text: &mut String, line: &str) -> Result<(), AllocError> {
-    text.push_str(line)?;
-    text.push_str("\n")
+pub fn push_line(rt: &impl Abort, text: &mut String, line: &str) {
+    text.push_str(line).expect(rt, MEMORY);
+    text.push_str("\n").expect(rt, MEMORY);
 }
 
 /// Puts lines behind a text.
-pub fn push_lines(text: &mut String, lines: &[Text]) -> Result<(), AllocError> {
+pub fn push_lines(rt: &impl Abort, text: &mut String, lines: &[Text]) {
     for line in lines {
-        push_line(text, line.as_str())?;
+        push_line(rt, text, line.as_str());
     }
-    Ok(())
-}
-
-/// The trace of some lines.
-pub fn trace_of(alloc: Global, lines: &[Text]) -> Result<String, AllocError> {
-    let mut text = String::new(alloc);
-    push_lines(&mut text, lines)?;
-    Ok(text)
 }
 
 /// What the replay of a trace comes to: the report and what the state holds, or the fault. The first take gives at most so many bytes, and
 /// each later one a single byte.
-pub fn replayed(alloc: Global, case: &Case, text: &str, most: usize) -> Result<String, AllocError>
+pub fn replayed(rt: &impl Abort, alloc: Global, case: &Case, text: &str, most: usize) -> String
     requires { 0 < most }
 {
     let mut files = MemFiles::new(alloc);
-    files.add(TRACE, text.as_bytes().to_vec(alloc)?)?;
+    let bytes = text.as_bytes().to_vec(alloc).expect(rt, MEMORY);
+    files.add(TRACE, bytes).expect(rt, MEMORY);
     files.piece(most);
-    files.add_piece(1)?;
+    files.add_piece(1).expect(rt, MEMORY);
     match replay(alloc, case, TRACE, &mut files) {
-        Ok((state, outs)) => ended(alloc, case.checked(), &state, outs),
-        Err(fault) => format!(in alloc; "{fault:?}"),
+        Ok((state, outs)) => ended(rt, alloc, case.checked(), &state, outs),
+        Err(fault) => format!(in alloc; "{fault:?}").expect(rt, MEMORY),
     }
 }
 
-/// How many lines the trace of a run has, and what its replay comes to.
-fn rerun(alloc: Global, stage: &Stage, seed: u32) -> Result<(usize, String), AllocError>
-    requires { seed < 2 ^ 31 }
+/// Compares what the replay of a trace comes to.
+fn replays(rt: &impl Abort, alloc: Global, case: &Case, text: &str, most: usize, wanted: &str)
+    requires { 0 < most }
 {
-    let case = stage.case(alloc)?;
-    let lines = lines_of(alloc, &case, seed)?;
-    let text = trace_of(alloc, lines.as_slice())?;
-    Ok((lines.len(), replayed(alloc, &case, text.as_str(), 20)?))
+    let told = replayed(rt, alloc, case, text, most);
+    assert_eq!(rt; told.as_str(), wanted, "{text} {most}");
 }
 
-fn retell(alloc: Global, stage: &Stage, seed: u32) -> Result<Retold, AllocError>
+/// Compares what the replay of a trace comes to, of which the first take gives less, about as much and more than a line.
+pub fn replays_in_pieces(rt: &impl Abort, alloc: Global, stage: &Stage, text: &str, wanted: &str) {
+    let case = stage.case(alloc).expect(rt, MEMORY);
+    replays(rt, alloc, &case, text, 1, wanted);
+    replays(rt, alloc, &case, text, 20, wanted);
+    replays(rt, alloc, &case, text, 1000, wanted);
+}
+
+/// Compares what the replay of the trace of a run comes to; how many lines the trace has.
+fn reruns(rt: &impl Abort, alloc: Global, case: &Case, seed: u32, wanted: &str) -> usize
     requires { seed < 2 ^ 31 }
 {
-    let folded = folded(alloc, stage, State::new(alloc))?;
-    let (lines, replayed) = rerun(alloc, stage, seed)?;
-    Ok(Retold {
-        lines,
-        replayed,
-        folded,
-    })
+    let lines = lines_of(rt, alloc, case, seed);
+    let mut text = String::new(alloc);
+    push_lines(rt, &mut text, lines.as_slice());
+    replays(rt, alloc, case, text.as_str(), 20, wanted);
+    lines.len()
+}
+
+/// Compares what the replay of the trace of a run and the fold come to.
+pub fn retells(
+    rt: &impl Abort,
+    alloc: Global,
+    stage: &Stage,
+    seed: u32,
+    told: Option<(usize, &str)>,
+)
+    requires { seed < 2 ^ 31 }
+{
+    let wanted = folded(rt, alloc, stage);
+    let case = stage.case(alloc).expect(rt, MEMORY);
+    let count = reruns(rt, alloc, &case, seed, wanted.as_str());
+    if let Some((lines, report)) = told {
+        assert_eq!(rt; count, lines);
+        assert_eq!(rt; wanted.as_str(), report);
+    }
 }
 
 #[test]
-fn traces_of_drawn_streams_give_the_fold(rt: HostRuntime) -> Result<(), Fail> {
-    let alloc = rt.alloc();
+fn traces_of_drawn_streams_give_the_fold(rt: HostRuntime) {
     let cases = [
         (COUNT, ONE, PLAIN),
         (COUNT, THREE, PLAIN),
@@ -143,20 +151,16 @@ fn traces_of_drawn_streams_give_the_fold(rt: HostRuntime) -> Result<(), Fail> {
         (SHARED, SHARED_PLAN, SOLD),
     ];
     for (job, plan, sources) in cases {
+        let rows = Rows::Drawn(sources);
+        let input = Input { job, plan, rows };
         for seed in 0..40 {
-            let mut files = drawn_files(alloc, sources, seed)?;
-            let stage = staged_over(alloc, job, plan, &mut files)?;
-            assert!(rt; stage.is_some());
-            let told = retell(alloc, &stage.unwrap(), seed)?;
-            assert_eq!(rt; told.replayed.as_str(), told.folded.as_str(), "{seed}");
+            tries(&rt, rt.alloc(), input, seed, Task::Retell(None));
         }
     }
-    Ok(())
 }
 
 #[test]
-fn traces_of_a_run_have_as_many_lines(rt: HostRuntime) -> Result<(), Fail> {
-    let alloc = rt.alloc();
+fn traces_of_a_run_have_as_many_lines(rt: HostRuntime) {
     let counted = "3,read,count 12\n5,read,count 2\nNone\nNone\n";
     let values = "4,r2,q 7\n5,z,z none 7\n10,r,p 9\nSome(Last(9))\nSome(Last(7))\n";
     let cases = [
@@ -165,13 +169,94 @@ fn traces_of_a_run_have_as_many_lines(rt: HostRuntime) -> Result<(), Fail> {
         (LAST, ABOVE, VALUES, 33, values),
     ];
     for (job, plan, files, lines, report) in cases {
+        let rows = Rows::Written(files);
+        let input = Input { job, plan, rows };
         for seed in 0..10 {
-            let stage = staged(alloc, job, plan, files)?;
-            assert!(rt; stage.is_some());
-            let told = retell(alloc, &stage.unwrap(), seed)?;
-            assert_eq!(rt; told.lines, lines);
-            assert_eq!(rt; told.replayed.as_str(), report);
+            let task = Task::Retell(Some((lines, report)));
+            tries(&rt, rt.alloc(), input, seed, task);
         }
     }
-    Ok(())
+}
+
+/// Replays a trace on one node of the first job over some files.
+fn replays_on_one(rt: &impl Abort, alloc: Global, files: Sources, text: &str, wanted: &str) {
+    let input = Input {
+        job: COUNT,
+        plan: ONE,
+        rows: Rows::Written(files),
+    };
+    tries(rt, alloc, input, 0, Task::Replay(text, wanted));
+}
+
+#[test]
+fn a_replay_that_nothing_stops_ends_with_its_lines(rt: HostRuntime) {
+    let cases = [
+        (EMPTY, "", "Incomplete { line: 1 }"),
+        (EMPTY, "arrive 2\narrive 0\narrive 1", "None\nNone\n"),
+        (EMPTY, "arrive 2\narrive 0\narrive 1\n", "None\nNone\n"),
+        (EMPTY, "arrive 2\narrive 0\n", "Incomplete { line: 3 }"),
+        (
+            ONE_TIME,
+            "arrive 0\narrive 2\nhandle 0\narrive 0\narrive 1\narrive 2\nhandle 0",
+            "3,read,count 1\nNone\nNone\n",
+        ),
+    ];
+    for (files, text, wanted) in cases {
+        replays_on_one(&rt, rt.alloc(), files, text, wanted);
+    }
+}
+
+#[test]
+fn a_replay_ends_at_a_step_that_is_not_enabled(rt: HostRuntime) {
+    let cases = [
+        (EMPTY, "arrive 2\narrive 2\nx", "NotEnabled { line: 2 }"),
+        (
+            EMPTY,
+            "arrive 2\narrive 0\narrive 1\ngive 0",
+            "NotEnabled { line: 4 }",
+        ),
+        (EMPTY, "arrive 7", "NotEnabled { line: 1 }"),
+        (EMPTY, "ask 3 left", "NotEnabled { line: 1 }"),
+        (EMPTY, "hold 3", "NotEnabled { line: 1 }"),
+        (EMPTY, "take 999 right", "NotEnabled { line: 1 }"),
+        (
+            ONE_TIME,
+            "arrive 0\narrive 0\narrive 1\nhandle 0",
+            "NotEnabled { line: 4 }",
+        ),
+    ];
+    for (files, text, wanted) in cases {
+        replays_on_one(&rt, rt.alloc(), files, text, wanted);
+    }
+}
+
+#[test]
+fn a_replay_ends_at_a_bad_line(rt: HostRuntime) {
+    let cases = [
+        ("arrive 2\nx\narrive 2", "Bad { line: 2 }"),
+        ("arrive 2\narrive 0\narrive 1\n\n", "Bad { line: 4 }"),
+        ("arive 0", "Bad { line: 1 }"),
+        ("\n", "Bad { line: 1 }"),
+        ("arrive 007", "Bad { line: 1 }"),
+        ("arrive 1000", "Bad { line: 1 }"),
+        ("arrive 0\r\n", "Bad { line: 1 }"),
+        ("ask 3", "Bad { line: 1 }"),
+        ("hold 3 left", "Bad { line: 1 }"),
+    ];
+    for (text, wanted) in cases {
+        replays_on_one(&rt, rt.alloc(), EMPTY, text, wanted);
+    }
+}
+
+#[test]
+fn long_lines_are_bad(rt: HostRuntime) {
+    let texts = [
+        "arrive 2\narrive 0                \narrive 1",
+        "arrive 2\narrive 0                 \narrive 1",
+        "arrive 2\narrive 0                ",
+        "arrive 2\narrive 0                 ",
+    ];
+    for text in texts {
+        replays_on_one(&rt, rt.alloc(), EMPTY, text, "Bad { line: 2 }");
+    }
 }
