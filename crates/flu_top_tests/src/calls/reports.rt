@@ -371,6 +371,9 @@ demo events 3 lines 2 bytes 46
 @ $ demo 10 1
 @ = 0
 demo events 11 lines 8 bytes 192
+@ $ demo 100000 1
+@ = 0
+demo events 100101 lines 7220 bytes 170546
 ";
 
 #[test]
