@@ -234,7 +234,9 @@ fn check_writes<R: Abort + Threads + Wait + Sync>(
 fn each_write_fails(rt: HostRuntime) -> Result<(), Fail> {
     for command in commands() {
         check_writes(&rt, rt.alloc(), command, usize::MAX, &[])?;
-        check_writes(&rt, rt.alloc(), command, 4, &[])?;
+        for most in 1..=MOST {
+            check_writes(&rt, rt.alloc(), command, most, &[])?;
+        }
         check_writes(&rt, rt.alloc(), command, 3, &[1, 7, 2])?;
     }
     Ok(())
