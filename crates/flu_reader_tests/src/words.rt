@@ -13,18 +13,19 @@ fn words_of(alloc: Global, words: &[&str]) -> Result<Vec<String>, AllocError> {
     Ok(owned)
 }
 
-/// A command as a line of its words, with a depth where none was given.
+/// A command as a line of its words, with a depth where none was given, and a dash for each file of a run that is not named.
 fn told(alloc: Global, command: Command) -> Result<String, AllocError> {
     match command {
         Command::Fold { job } => format!(in alloc; "fold {job}"),
         Command::Check { job } => format!(in alloc; "check {job}"),
         Command::Valid { job, plan } => format!(in alloc; "valid {job} {plan}"),
         Command::Plan { job, depth } => format!(in alloc; "plan {job} {}", depth.levels),
-        Command::Run { job, plan: None } => format!(in alloc; "run {job}"),
-        Command::Run {
-            job,
-            plan: Some(plan),
-        } => format!(in alloc; "run {job} {plan}"),
+        Command::Run { job, plan, options } => {
+            let plan = plan.unwrap_or("-");
+            let save = options.save.unwrap_or("-");
+            let resume = options.resume.unwrap_or("-");
+            format!(in alloc; "run {job} {plan} {save} {resume}")
+        }
         Command::Simulate {
             job,
             plan,
@@ -66,14 +67,12 @@ fn assert_refused<R: Abort>(
 
 #[test]
 fn commands_are_read(rt: HostRuntime) -> Result<(), Fail> {
-    let rows: [(&[&str], &str); 14] = [
+    let rows: [(&[&str], &str); 12] = [
         (&["fold", "J"], "fold J"),
         (&["check", "a b"], "check a b"),
         (&["valid", "J", "P"], "valid J P"),
         (&["plan", "J"], "plan J 3"),
         (&["plan", "J", "--depth", "0000000006"], "plan J 6"),
-        (&["run", "J"], "run J"),
-        (&["run", "J", "P"], "run J P"),
         (&["simulate", "J", "P", "0"], "simulate J P 0 false"),
         (
             &["simulate", "J", "P", "2147483647"],
@@ -119,10 +118,8 @@ fn words_of_one_file_are_refused(rt: HostRuntime) -> Result<(), Fail> {
 
 #[test]
 fn words_of_two_files_and_numbers_are_refused(rt: HostRuntime) -> Result<(), Fail> {
-    let rows: [(&[&str], usize); 21] = [
+    let rows: [(&[&str], usize); 19] = [
         (&["valid", "J"], 2),
-        (&["run", "J", "--adapt"], 2),
-        (&["run", "J", "P", "x"], 3),
         (&["simulate"], 1),
         (&["simulate", "-J", "P", "1"], 1),
         (&["simulate", "J", "-1", "1"], 2),
@@ -141,6 +138,60 @@ fn words_of_two_files_and_numbers_are_refused(rt: HostRuntime) -> Result<(), Fai
         (&["demo", "1", "+1"], 2),
         (&["demo", "1"], 2),
         (&["demo", "1", "2", "3"], 3),
+    ];
+    for (words, at) in rows {
+        assert_refused(&rt, rt.alloc(), words, at)?;
+    }
+    Ok(())
+}
+
+#[test]
+fn runs_are_read(rt: HostRuntime) -> Result<(), Fail> {
+    let rows: [(&[&str], &str); 8] = [
+        (&["run", "J"], "run J - - -"),
+        (&["run", "J", "P"], "run J P - -"),
+        (&["run", "J", "J"], "run J J - -"),
+        (&["run", "J", "--save", "s"], "run J - s -"),
+        (&["run", "J", "--resume", "s"], "run J - - s"),
+        (&["run", "J", "P", "--save", "s"], "run J P s -"),
+        (
+            &["run", "J", "P", "--save", "s", "--resume", "t"],
+            "run J P s t",
+        ),
+        (
+            &["run", "J", "P", "--save", "s", "--resume", "s"],
+            "run J P s s",
+        ),
+    ];
+    for (words, line) in rows {
+        assert_told(&rt, rt.alloc(), words, line)?;
+    }
+    Ok(())
+}
+
+#[test]
+fn words_of_runs_are_refused(rt: HostRuntime) -> Result<(), Fail> {
+    let rows: [(&[&str], usize); 20] = [
+        (&["run"], 1),
+        (&["run", "--save", "s"], 1),
+        (&["run", "J", ""], 2),
+        (&["run", "J", "--adapt"], 2),
+        (&["run", "J", "P", "Q"], 3),
+        (&["run", "J", "--save"], 3),
+        (&["run", "J", "--save", ""], 3),
+        (&["run", "J", "--save", "J"], 3),
+        (&["run", "J", "--save", "--resume"], 3),
+        (&["run", "J", "--resume", "J"], 3),
+        (&["run", "J", "--resume"], 3),
+        (&["run", "J", "P", "--save", "P"], 4),
+        (&["run", "J", "P", "--resume", "P"], 4),
+        (&["run", "J", "P", "--save", "J"], 4),
+        (&["run", "J", "--save", "s", "P"], 4),
+        (&["run", "J", "--save", "s", "--save", "t"], 4),
+        (&["run", "J", "P", "--resume", "s", "--save", "t"], 5),
+        (&["run", "J", "--save", "s", "--resume"], 5),
+        (&["run", "J", "P", "--save", "s", "--resume", "P"], 6),
+        (&["run", "J", "P", "--save", "s", "--resume", "t", "x"], 7),
     ];
     for (words, at) in rows {
         assert_refused(&rt, rt.alloc(), words, at)?;

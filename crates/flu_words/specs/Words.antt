@@ -1,9 +1,15 @@
 -- The words of a command.
-use Rattle.std.specs.Prelude.{ℕ, ◌+◌, List, [], ◌∷◌, Bool, true, false, not, ◌==◌, if◌then◌else◌, Option, Some, None, option_map, Result, Ok, Err, codes}
+use Rattle.std.specs.Prelude.{ℕ, ◌+◌, List, [], ◌∷◌, Bool, true, false, not, ◌==◌, ◌&&◌, if◌then◌else◌, Option, Some, None, option_map, Result, Ok, Err, codes}
 use Rattle.std.specs.Str.{bytes_eq}
+use Rattle.flu_words.specs.declared.words.RunOptions.{RunOptions as NamedOptions}
 use Rattle.flu_words.specs.declared.words.Command.{Command as NamedCommand}
 use Rattle.flu_words.specs.declared.words.Command.TheVariants as named
 use Rattle.flu_words.specs.Numbers.{depth_of, seed_of, draws_of}
+
+-- what else a run does: the name of the file that its checkpoints are put under, and of the checkpoint that it is resumed from
+pub record RunOptions : Type 0 where
+  pub save : Option (List ℕ)
+  pub resume : Option (List ℕ)
 
 -- what the words ask for, each with the names of its files, where a plan may be left out, how deep a plan is wanted, the seed of
 -- what is drawn, whether the trace of a drawn run is asked for in place of its report, and how many events a demo draws
@@ -12,10 +18,14 @@ pub data Command : Type 0 where
   Check : (job : List ℕ) → Command
   Valid : (job plan : List ℕ) → Command
   Plan : (job : List ℕ) → (depth : ℕ) → Command
-  Run : (job : List ℕ) → (plan : Option (List ℕ)) → Command
+  Run : (job : List ℕ) → (plan : Option (List ℕ)) → (options : RunOptions) → Command
   Simulate : (job plan : List ℕ) → (seed : ℕ) → (trace : Bool) → Command
   Replay : (job plan trace : List ℕ) → Command
   Demo : (n seed : ℕ) → Command
+
+-- a run's options without where their names lie in memory
+abbrev pub plain_options : NamedOptions → RunOptions
+plain_options options = record { save = option_map (λ name. name.now) options.save; resume = option_map (λ name. name.now) options.resume }
 
 -- a command without where its names lie in memory
 abbrev pub plain_command : NamedCommand → Command
@@ -23,7 +33,7 @@ plain_command (named.Fold job) = Fold job.now
 plain_command (named.Check job) = Check job.now
 plain_command (named.Valid job plan) = Valid job.now plan.now
 plain_command (named.Plan job depth) = Plan job.now depth.levels
-plain_command (named.Run job plan) = Run job.now (option_map (λ name. name.now) plan)
+plain_command (named.Run job plan options) = Run job.now (option_map (λ name. name.now) plan) (plain_options options)
 plain_command (named.Simulate job plan seed trace) = Simulate job.now plan.now seed.number trace
 plain_command (named.Replay job plan trace) = Replay job.now plan.now trace.now
 plain_command (named.Demo n seed) = Demo n.count seed.number
@@ -91,22 +101,59 @@ abbrev pub on_depth : (List ℕ → ℕ → Command) → Result (List ℕ × ℕ
 on_depth command (Ok both) = Ok (command both.0 both.1)
 on_depth command (Err at) = Err at
 
-abbrev pub no_word_after_plan : List ℕ → List ℕ → List (List ℕ) → Result (List ℕ × Option (List ℕ)) ℕ
-no_word_after_plan job plan [] = Ok (job, Some plan)
-no_word_after_plan job plan (w ∷ ws) = Err 3
+-- whether a plan's file, where one is named, has another name than a word
+abbrev pub is_no_plan : Option (List ℕ) → List ℕ → Bool
+is_no_plan None w = true
+is_no_plan (Some plan) w = not (bytes_eq w plan)
 
-abbrev pub any_plan_after : List ℕ → List (List ℕ) → Result (List ℕ × Option (List ℕ)) ℕ
-any_plan_after job [] = Ok (job, None)
-any_plan_after job (w ∷ ws) = if is_file_name w then no_word_after_plan job w ws else Err 2
+-- a word that names a file, which is neither the job's nor the plan's
+abbrev pub is_other_file : List ℕ → Option (List ℕ) → List ℕ → Bool
+is_other_file job plan w = is_file_name w && not (bytes_eq w job) && is_no_plan plan w
 
--- the name of a job and, where there is one, of a plan in the words behind a command that has no others
-abbrev pub job_and_any_plan : List (List ℕ) → Result (List ℕ × Option (List ℕ)) ℕ
-job_and_any_plan [] = Err 1
-job_and_any_plan (w ∷ ws) = if is_file_name w then any_plan_after w ws else Err 1
+-- What words begin with, where they do: a name; the place of the first word behind it, and the words from there on.
+abbrev pub Begun : Type 0
+Begun = Option (List ℕ) × ℕ × List (List ℕ)
 
-abbrev pub on_any_plan : (List ℕ → Option (List ℕ) → Command) → Result (List ℕ × Option (List ℕ)) ℕ → Result Command ℕ
-on_any_plan command (Ok names) = Ok (command names.0 names.1)
-on_any_plan command (Err at) = Err at
+abbrev pub plan_and_rest : List (List ℕ) → Begun
+plan_and_rest [] = (None, 2, [])
+plan_and_rest (w ∷ ws) = if is_file_name w then (Some w, 3, ws) else (None, 2, w ∷ ws)
+
+abbrev pub file_behind : List ℕ → Option (List ℕ) → ℕ → List (List ℕ) → Result Begun ℕ
+file_behind job plan at [] = Err at
+file_behind job plan at (w ∷ ws) = if is_other_file job plan w then Ok (Some w, at + 1, ws) else Err at
+
+-- the file behind an option, in the words from a place on, which may begin with that option
+abbrev pub file_after : List ℕ → List ℕ → Option (List ℕ) → ℕ → List (List ℕ) → Result Begun ℕ
+file_after option job plan at [] = Ok (None, at, [])
+file_after option job plan at (w ∷ ws) = if bytes_eq w option then file_behind job plan (at + 1) ws else Ok (None, at, w ∷ ws)
+
+abbrev pub no_word_after_options : RunOptions → ℕ → List (List ℕ) → Result RunOptions ℕ
+no_word_after_options options at [] = Ok options
+no_word_after_options options at (w ∷ ws) = Err at
+
+abbrev pub with_resume : Option (List ℕ) → Result Begun ℕ → Result RunOptions ℕ
+with_resume save (Ok begun) = no_word_after_options (record { save = save; resume = begun.0 }) begun.1 begun.2
+with_resume save (Err at) = Err at
+
+abbrev pub with_save : List ℕ → Option (List ℕ) → Result Begun ℕ → Result RunOptions ℕ
+with_save job plan (Ok begun) = with_resume begun.0 (file_after (codes "--resume") job plan begun.1 begun.2)
+with_save job plan (Err at) = Err at
+
+-- the options of a run in the words from a place on, which have no others
+abbrev pub run_options : List ℕ → Option (List ℕ) → ℕ → List (List ℕ) → Result RunOptions ℕ
+run_options job plan at ws = with_save job plan (file_after (codes "--save") job plan at ws)
+
+abbrev pub on_options : (RunOptions → Command) → Result RunOptions ℕ → Result Command ℕ
+on_options command (Ok options) = Ok (command options)
+on_options command (Err at) = Err at
+
+abbrev pub run_of : List ℕ → Begun → Result Command ℕ
+run_of job begun = on_options (Run job begun.0) (run_options job begun.0 begun.1 begun.2)
+
+-- the name of a job, maybe that of a plan, and a run's options in the words behind `run`
+abbrev pub run_command : List (List ℕ) → Result Command ℕ
+run_command [] = Err 1
+run_command (w ∷ ws) = if is_file_name w then run_of w (plan_and_rest ws) else Err 1
 
 -- the seed in the words from a place on, which have no others
 abbrev pub seed_alone : ℕ → List (List ℕ) → Result ℕ ℕ
@@ -138,14 +185,14 @@ abbrev pub simulation_of : List ℕ → List ℕ → List (List ℕ) → Result 
 simulation_of job plan [] = Err 3
 simulation_of job plan (w ∷ ws) = simulation_from job plan (seed_of w) ws
 
-abbrev pub plan_and_rest : List ℕ → List (List ℕ) → Result (List ℕ × List ℕ × List (List ℕ)) ℕ
-plan_and_rest job [] = Err 2
-plan_and_rest job (w ∷ ws) = if is_file_name w then Ok (job, w, ws) else Err 2
+abbrev pub plan_and_others : List ℕ → List (List ℕ) → Result (List ℕ × List ℕ × List (List ℕ)) ℕ
+plan_and_others job [] = Err 2
+plan_and_others job (w ∷ ws) = if is_file_name w then Ok (job, w, ws) else Err 2
 
 -- the names of a job and a plan that the words behind a command begin with, and the words behind them
 abbrev pub both_and_rest : List (List ℕ) → Result (List ℕ × List ℕ × List (List ℕ)) ℕ
 both_and_rest [] = Err 1
-both_and_rest (w ∷ ws) = if is_file_name w then plan_and_rest w ws else Err 1
+both_and_rest (w ∷ ws) = if is_file_name w then plan_and_others w ws else Err 1
 
 abbrev pub on_rest : (List ℕ → List ℕ → List (List ℕ) → Result Command ℕ) → Result (List ℕ × List ℕ × List (List ℕ)) ℕ → Result Command ℕ
 on_rest command (Ok begun) = command begun.0 begun.1 begun.2
@@ -182,7 +229,7 @@ command_of w ws =
     else if bytes_eq w (codes "check") then on_job Check (job_alone ws)
     else if bytes_eq w (codes "valid") then on_both Valid (job_and_plan ws)
     else if bytes_eq w (codes "plan") then on_depth Plan (job_and_depth ws)
-    else if bytes_eq w (codes "run") then on_any_plan Run (job_and_any_plan ws)
+    else if bytes_eq w (codes "run") then run_command ws
     else if bytes_eq w (codes "simulate") then simulation ws
     else if bytes_eq w (codes "replay") then replay ws
     else if bytes_eq w (codes "demo") then demo ws else Err 0

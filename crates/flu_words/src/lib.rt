@@ -5,4 +5,4 @@ mod numbers;
 mod words;
 
 pub use numbers::{Depth, Draws, Seed, USUAL_DEPTH};
-pub use words::{BadWords, Command, read_words};
+pub use words::{BadWords, Command, RunOptions, read_words};

@@ -1,7 +1,7 @@
 //! The words of a command.
 
-ghost use Rattle.std.specs.Prelude.{◌≡◌, ◌<◌, MatchResult, Ok, Err, map, option_map, string_bytes};
-ghost use Rattle.flu_words.specs.Words.{command_in, plain_command, job_alone, job_and_plan, job_and_depth, job_and_any_plan, depth_after, trace_after, seed_alone, both_and_rest, simulation, replay, demo, is_file_name};
+ghost use Rattle.std.specs.Prelude.{◌≡◌, ◌<◌, ◌≤◌, ◌+◌, MatchResult, IfOk, Ok, Err, map, option_map, string_bytes};
+ghost use Rattle.flu_words.specs.Words.{command_in, plain_command, plain_options, job_alone, job_and_plan, job_and_depth, run_command, plan_and_rest, run_options, file_after, is_other_file, depth_after, trace_after, seed_alone, both_and_rest, simulation, replay, demo, is_file_name};
 
 use crate::numbers::{Depth, Draws, Seed, USUAL_DEPTH, depth_of, draws_of, seed_of};
 
@@ -9,6 +9,15 @@ use crate::numbers::{Depth, Draws, Seed, USUAL_DEPTH, depth_of, draws_of, seed_o
 #[derive(Clone, Copy, Debug, PartialEq, Eq)]
 pub struct BadWords {
     pub at: usize,
+}
+
+/// What else a run does. The names are neither the job's nor the plan's.
+#[derive(Clone, Copy)]
+pub struct RunOptions<'a> {
+    /// The name of the file that a checkpoint is put under after each round that wrote its report.
+    pub save: Option<&'a str>,
+    /// The name of the file that has the checkpoint that the run is resumed from.
+    pub resume: Option<&'a str>,
 }
 
 /// What the words ask for, with the names of its files.
@@ -32,10 +41,12 @@ pub enum Command<'a> {
         job: &'a str,
         depth: Depth,
     },
-    /// `run JOB [PLAN]`: the report of a run on the tree of threads, by the plan, or by the greedy plan where none is named.
+    /// `run JOB [PLAN] [--save FILE] [--resume FILE]`: the report of a run on the tree of threads, by the plan, or by the greedy plan
+    /// where none is named; with checkpoints that are put under a file, or resumed from one.
     Run {
         job: &'a str,
         plan: Option<&'a str>,
+        options: RunOptions<'a>,
     },
     /// `simulate JOB PLAN SEED [--trace]`: the report of the run that the seed draws on the net of the plan, or its trace.
     Simulate {
@@ -85,10 +96,7 @@ pub fn read_words(words: &[String]) -> Result<Command<'_>, BadWords>
             let (job, depth) = job_and_depth(operands)?;
             Ok(Command::Plan { job, depth })
         }
-        "run" => {
-            let (job, plan) = job_and_any_plan(operands)?;
-            Ok(Command::Run { job, plan })
-        }
+        "run" => run_command(operands),
         "simulate" => simulation(operands),
         "replay" => replay(operands),
         "demo" => demo(operands),
@@ -138,11 +146,11 @@ fn job_and_plan(operands: &[String]) -> Result<(&str, &str), BadWords>
     Ok((job.as_str(), plan.as_str()))
 }
 
-// The name of a job and, where there is one, of a plan in the words behind a command that has no others.
-fn job_and_any_plan(operands: &[String]) -> Result<(&str, Option<&str>), BadWords>
+// The job, maybe the plan, and the options in the words behind `run`.
+fn run_command(operands: &[String]) -> Result<Command<'_>, BadWords>
     ensures { MatchResult result
-        (λ names. job_and_any_plan (map string_bytes operands.now) ≡ Ok (names.0.now, option_map (λ name. name.now) names.1))
-        (λ bad. job_and_any_plan (map string_bytes operands.now) ≡ Err bad.at) }
+        (λ command. run_command (map string_bytes operands.now) ≡ Ok (plain_command command))
+        (λ bad. run_command (map string_bytes operands.now) ≡ Err bad.at) }
 {
     let [job, behind @ ..] = operands else {
         return Err(BadWords { at: 1 });
@@ -150,16 +158,75 @@ fn job_and_any_plan(operands: &[String]) -> Result<(&str, Option<&str>), BadWord
     if !is_file_name(job.as_str()) {
         return Err(BadWords { at: 1 });
     }
-    let [plan, others @ ..] = behind else {
-        return Ok((job.as_str(), None));
+    let job = job.as_str();
+    let (plan, at, words) = plan_and_rest(behind);
+    let options = run_options(job, plan, at, words)?;
+    Ok(Command::Run { job, plan, options })
+}
+
+// The plan's name that the words behind a job's name may begin with, the place of the first word behind it, and the words from there on.
+fn plan_and_rest(words: &[String]) -> (Option<&str>, usize, &[String])
+    ensures value { plan_and_rest (map string_bytes words.now) ≡ (option_map (λ name. name.now) result.0, result.1, map string_bytes result.2.now) }
+    ensures near { result.1 ≤ 3 }
+{
+    let [plan, rest @ ..] = words else {
+        return (None, 2, words);
     };
-    if !is_file_name(plan.as_str()) {
-        return Err(BadWords { at: 2 });
+    if is_file_name(plan.as_str()) {
+        (Some(plan.as_str()), 3, rest)
+    } else {
+        (None, 2, words)
     }
-    if !others.is_empty() {
-        return Err(BadWords { at: 3 });
+}
+
+// The options of a run in the words from a place on, which have no others.
+fn run_options<'a>(
+    job: &str,
+    plan: Option<&str>,
+    at: usize,
+    words: &'a [String],
+) -> Result<RunOptions<'a>, BadWords>
+    requires { at ≤ 3 }
+    ensures { MatchResult result
+        (λ options. run_options job.now (option_map (λ name. name.now) plan.entry) at (map string_bytes words.now) ≡ Ok (plain_options options))
+        (λ bad. run_options job.now (option_map (λ name. name.now) plan.entry) at (map string_bytes words.now) ≡ Err bad.at) }
+{
+    let (save, behind_save, others) = file_after("--save", job, plan, at, words)?;
+    let (resume, behind_resume, none) = file_after("--resume", job, plan, behind_save, others)?;
+    if !none.is_empty() {
+        return Err(BadWords { at: behind_resume });
     }
-    Ok((job.as_str(), Some(plan.as_str())))
+    Ok(RunOptions { save, resume })
+}
+
+// The file behind an option that the words from a place on may begin with, the place of the first word behind both, and the words from
+// there on.
+fn file_after<'a>(
+    option: &str,
+    job: &str,
+    plan: Option<&str>,
+    at: usize,
+    words: &'a [String],
+) -> Result<(Option<&'a str>, usize, &'a [String]), BadWords>
+    requires { at ≤ 5 }
+    ensures value { MatchResult result
+        (λ begun. file_after option.now job.now (option_map (λ name. name.now) plan.entry) at (map string_bytes words.now) ≡ Ok (option_map (λ name. name.now) begun.0, begun.1, map string_bytes begun.2.now))
+        (λ bad. file_after option.now job.now (option_map (λ name. name.now) plan.entry) at (map string_bytes words.now) ≡ Err bad.at) }
+    ensures near { IfOk result (λ begun. begun.1 ≤ at + 2) }
+{
+    let [word, behind @ ..] = words else {
+        return Ok((None, at, words));
+    };
+    if word.as_str() != option {
+        return Ok((None, at, words));
+    }
+    let [file, rest @ ..] = behind else {
+        return Err(BadWords { at: at + 1 });
+    };
+    if !is_other_file(job, plan, file.as_str()) {
+        return Err(BadWords { at: at + 1 });
+    }
+    Ok((Some(file.as_str()), at + 2, rest))
 }
 
 // The name of a job and a depth in the words behind a command that has no others.
@@ -319,6 +386,19 @@ fn seed_alone(at: usize, words: &[String]) -> Result<Seed, BadWords>
         return Err(BadWords { at: at + 1 });
     }
     Ok(seed)
+}
+
+// A word that names a file, which is neither the job's nor the plan's.
+fn is_other_file(job: &str, plan: Option<&str>, word: &str) -> bool
+    ensures { result ≡ is_other_file job.now (option_map (λ name. name.now) plan.entry) word.now }
+{
+    if !is_file_name(word) || word == job {
+        return false;
+    }
+    match plan {
+        None => true,
+        Some(plan) => word != plan,
+    }
 }
 
 // A word that can name a file: it is not empty and does not begin with a dash.

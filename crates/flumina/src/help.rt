@@ -14,6 +14,8 @@ pub const HELP: &str =
   flumina valid JOB PLAN         say whether a plan shares that work rightly, write the plan in normal form
   flumina plan JOB [--depth D]   write a plan, with at most D levels below its root: 0 to 6, or 3
   flumina run JOB [PLAN]         run the job on a thread for each node of the plan, or of a made one, write the report
+  flumina run JOB [PLAN] [--save FILE] [--resume FILE]
+                                 the same, but put a checkpoint under FILE after each round, or go on from the one in FILE
   flumina simulate JOB PLAN SEED run the job by the steps that a seed draws, write the report, then count the steps
   flumina simulate JOB PLAN SEED --trace
                                  the same, but write the trace of the run, its steps line by line, for the report
@@ -22,7 +24,7 @@ pub const HELP: &str =
   flumina --help                 write this
   flumina --version              write the version and the toolchain that proves it
 
-JOB, PLAN and TRACE are names of files, SEED is a number from 0 to 2147483647, and N one from 0 to 1000000. Names in a job,
+JOB, PLAN, TRACE and FILE are names of files, SEED is a number from 0 to 2147483647, and N one from 0 to 1000000. Names in a job,
 as that of a file, are looked up in the working folder.
 
 Status 0: written. Each other one has a line on standard error: 2 the words are no command, 3 the job's text has a
