@@ -24,7 +24,7 @@ use Rattle.flu_streams.specs.Rounds.{ComesTo, GoesOn, LinesIn, LawOfLastRound, l
 use Rattle.flu_rounds.specs.Written.{AreSound, RanTo, WouldWrite, lines_in, text_up_to}
 use Rattle.flu_words.specs.Words.{Command, Run, command_in}
 use Rattle.flu_top.specs.Behind.{Named, HasJob, emptied_each, report_behind}
-use Rattle.flu_top.specs.Wants.{job_wanted, plan_files, how_read}
+use Rattle.flu_top.specs.Wants.{job_wanted, if_named, how_read}
 use Rattle.flu_top.specs.Reading.{InRounds, HaveWritten, ReportsNext, lines_behind, rows_in_round}
 use Rattle.flu_top.specs.Done.{HasPlanAsked, IsGood, IsDone, WhereKnown, AppendsInto, Wrote, WroteRounds, WroteSome, WroteIntoRound, WrotePart}
 use Rattle.flu_top.specs.Causes.{HasSourceFault, IsMet}
@@ -88,42 +88,42 @@ module _ (fronts : LawOfFronts) (last : LawOfLastRound) where
 -- what was written is a front of the report of a program of the job
 HasFront : List ℕ → Option (List ℕ) → Contents → Option (List ℕ) → Option (List ℕ) → Type 0
 HasFront job plan left had has =
-    (q : Program) × HasJob (Named job) left q × WhereTold had has (λ old new. (n : ℕ) × Appends n (report_behind (job ∷ plan_files plan) left q) old new)
+    (q : Program) × HasJob (Named job) left q × WhereTold had has (λ old new. (n : ℕ) × Appends n (report_behind (job ∷ if_named plan) left q) old new)
 
 module _ (laws : LawsBelow) (fronts : LawOfFronts) (last : LawOfLastRound) (job : List ℕ) (plan : Option (List ℕ)) (left : Contents) (p : Program) (good : IsGood (Run job plan) left p) where
-  sound_of : (q : Program) → HasJob (Named job) left q → AreSound q (lines_in q (emptied_each (job ∷ plan_files plan) left))
-  sound_of q has = same_good InRounds (job ∷ plan_files plan) left p q (same_job laws (Named job) left p q good.has has) good.sources
+  sound_of : (q : Program) → HasJob (Named job) left q → AreSound q (lines_in q (emptied_each (job ∷ if_named plan) left))
+  sound_of q has = same_good InRounds (job ∷ if_named plan) left p q (same_job laws (Named job) left p q good.has has) good.sources
 
   nothing : (had has : Option (List ℕ)) → has ≡ had → HasFront job plan left had has
   unfolding HasFront
   nothing had has same = (
     p,
     good.has,
-    subst (λ (o : Option (List ℕ)). WhereTold had o (λ old new. (n : ℕ) × Appends n (report_behind (job ∷ plan_files plan) left p) old new)) (sym same)
-        (told_same (λ old new. (n : ℕ) × Appends n (report_behind (job ∷ plan_files plan) left p) old new) had (λ bytes. (0, sym (append-nil bytes)))),
+    subst (λ (o : Option (List ℕ)). WhereTold had o (λ old new. (n : ℕ) × Appends n (report_behind (job ∷ if_named plan) left p) old new)) (sym same)
+        (told_same (λ old new. (n : ℕ) × Appends n (report_behind (job ∷ if_named plan) left p) old new) had (λ bytes. (0, sym (append-nil bytes)))),
   )
 
-  front_written : (q : Program) (text rest : List ℕ) (had has : Option (List ℕ)) → HasJob (Named job) left q → whole_report q (emptied_each (job ∷ plan_files plan) left) ≡ text ++ rest
+  front_written : (q : Program) (text rest : List ℕ) (had has : Option (List ℕ)) → HasJob (Named job) left q → whole_report q (emptied_each (job ∷ if_named plan) left) ≡ text ++ rest
       → WhereTold had has (AppendsAll text) → HasFront job plan left had has
   unfolding HasFront whole_report report_behind
   front_written q text rest had has its is wrote = (
     q,
     its,
-    told_weaker (AppendsAll text) (λ old new. (n : ℕ) × Appends n (whole_report q (emptied_each (job ∷ plan_files plan) left)) old new) had has
-        (λ x y w. appends_front text rest (whole_report q (emptied_each (job ∷ plan_files plan) left)) x y is w) wrote,
+    told_weaker (AppendsAll text) (λ old new. (n : ℕ) × Appends n (whole_report q (emptied_each (job ∷ if_named plan) left)) old new) had has
+        (λ x y w. appends_front text rest (whole_report q (emptied_each (job ∷ if_named plan) left)) x y is w) wrote,
   )
 
-  more_written : (q : Program) (text more rest : List ℕ) (had has : Option (List ℕ)) → HasJob (Named job) left q → whole_report q (emptied_each (job ∷ plan_files plan) left) ≡ (text ++ more) ++ rest
+  more_written : (q : Program) (text more rest : List ℕ) (had has : Option (List ℕ)) → HasJob (Named job) left q → whole_report q (emptied_each (job ∷ if_named plan) left) ≡ (text ++ more) ++ rest
       → WhereTold had has (AppendsInto text more) → HasFront job plan left had has
   unfolding HasFront whole_report report_behind
   more_written q text more rest had has its is wrote = (
     q,
     its,
-    told_weaker (AppendsInto text more) (λ old new. (n : ℕ) × Appends n (whole_report q (emptied_each (job ∷ plan_files plan) left)) old new) had has
-        (λ x y w. appends_more text more rest (whole_report q (emptied_each (job ∷ plan_files plan) left)) x y is w) wrote,
+    told_weaker (AppendsInto text more) (λ old new. (n : ℕ) × Appends n (whole_report q (emptied_each (job ∷ if_named plan) left)) old new) had has
+        (λ x y w. appends_more text more rest (whole_report q (emptied_each (job ∷ if_named plan) left)) x y is w) wrote,
   )
 
-  all_written : (q : Program) (text : List ℕ) (had has : Option (List ℕ)) → HasJob (Named job) left q → text ≡ report_behind (job ∷ plan_files plan) left q
+  all_written : (q : Program) (text : List ℕ) (had has : Option (List ℕ)) → HasJob (Named job) left q → text ≡ report_behind (job ∷ if_named plan) left q
       → WhereTold had has (AppendsAll text) → HasFront job plan left had has
   unfolding whole_report report_behind
   all_written q text had has its is wrote = front_written q text [] had has its (sym is ∙ sym (append-nil text)) wrote
@@ -131,23 +131,23 @@ module _ (laws : LawsBelow) (fronts : LawOfFronts) (last : LawOfLastRound) (job 
   some_written : (a b : Option Contents) (had has : Option (List ℕ)) → a ≡ Some left → WroteRounds (Run job plan) a b had has → HasFront job plan left had has
   some_written a b had has told wrote =
       let q = wrote.p in
-      let found = of_told (λ x _. HasJob (Named job) x q × HasPlanAsked (Run job plan) x q × HaveWritten q (lines_behind (job ∷ plan_files plan) x q) wrote.text) left a b told wrote.rounds in
-      let front = front_of fronts last q (emptied_each (job ∷ plan_files plan) left) found.1.2.border wrote.text (sound_of q found.1.0) found.1.2.ran in
+      let found = of_told (λ x _. HasJob (Named job) x q × HasPlanAsked (Run job plan) x q × HaveWritten q (lines_behind (job ∷ if_named plan) x q) wrote.text) left a b told wrote.rounds in
+      let front = front_of fronts last q (emptied_each (job ∷ if_named plan) left) found.1.2.border wrote.text (sound_of q found.1.0) found.1.2.ran in
       front_written q wrote.text front.0 had has found.1.0 front.1 wrote.wrote
 
   part_written : (a b : Option Contents) (had has : Option (List ℕ)) → a ≡ Some left → WroteIntoRound (Run job plan) a b had has → HasFront job plan left had has
   part_written a b had has told wrote =
       let q = wrote.p in
-      let found = of_told (λ x _. HasJob (Named job) x q × HasPlanAsked (Run job plan) x q × ReportsNext q (lines_behind (job ∷ plan_files plan) x q) wrote.text wrote.more) left a b told wrote.round in
+      let found = of_told (λ x _. HasJob (Named job) x q × HasPlanAsked (Run job plan) x q × ReportsNext q (lines_behind (job ∷ if_named plan) x q) wrote.text wrote.more) left a b told wrote.round in
       let next = found.1.2 in
-      let front = next_at fronts last q (emptied_each (job ∷ plan_files plan) left) next.border wrote.text wrote.more next.now next.end (sound_of q found.1.0) next.ran next.next in
+      let front = next_at fronts last q (emptied_each (job ∷ if_named plan) left) next.border wrote.text wrote.more next.now next.end (sound_of q found.1.0) next.ran next.next in
       more_written q wrote.text wrote.more front.0 had has found.1.0 front.1 wrote.wrote
 
   met_written : (a b : Option Contents) (had has : Option (List ℕ)) (q : Program) (fault : SourceFault) (text : List ℕ) → a ≡ Some left → HasSourceFault (Run job plan) a b q fault text
       → WhereTold had has (AppendsAll text) → HasFront job plan left had has
   met_written a b had has q fault text told why wrote =
-      let found = of_told (λ x _. HasJob (Named job) x q × HasPlanAsked (Run job plan) x q × IsMet InRounds (job ∷ plan_files plan) x q text fault) left a b told why.first in
-      let front = front_of fronts last q (emptied_each (job ∷ plan_files plan) left) found.1.2.border text (sound_of q found.1.0) found.1.2.ran in
+      let found = of_told (λ x _. HasJob (Named job) x q × HasPlanAsked (Run job plan) x q × IsMet InRounds (job ∷ if_named plan) x q text fault) left a b told why.first in
+      let front = front_of fronts last q (emptied_each (job ∷ if_named plan) left) found.1.2.border text (sound_of q found.1.0) found.1.2.ran in
       front_written q text front.0 had has found.1.0 front.1 wrote
 
   done_written : (a b : Option Contents) (had has : Option (List ℕ)) (line : List ℕ) → a ≡ Some left → WhereTold a b (IsDone (Run job plan) had has line) → HasFront job plan left had has

@@ -34,7 +34,7 @@ use Rattle.flu_words.specs.Words.{Command, Valid, Run, Simulate, Replay}
 use Rattle.flu_top.specs.Taking.{TookOnly}
 use Rattle.flu_top.specs.Behind.{WantedJob, Named, HasJob, HasPlan, job_files, plan_behind, report_behind}
 use Rattle.flu_top.specs.TextFaults.{IsFirstTextFault}
-use Rattle.flu_top.specs.Wants.{job_wanted, plan_named, asks_accepted, plan_files, texts_named, sources_read}
+use Rattle.flu_top.specs.Wants.{job_wanted, plan_named, asks_accepted, if_named, texts_named, sources_read}
 use Rattle.flu_top.specs.Done.{HasPlanAsked, HasValidPlan, MayHaveJob, IsDone, WroteRounds, WroteIntoRound, IsReadName}
 use Rattle.flu_top.specs.Causes.{HasJobFault, HasSourceFault, IsMet}
 use Rattle.flu_top.specs.Ending.{call, HasAll, HasDefectMet, IsStopped, IsEnding}
@@ -61,7 +61,7 @@ pub replay_reads : (job plan trace : List ℕ) → ReadsPlan (Replay job plan tr
 replay_reads job plan trace = record { its_job = refl; its_plan = refl; accepted = refl }
 
 both_texts : (command : Command) (job plan : List ℕ) → ReadsPlan command job plan → job ∷ plan ∷ [] ≡ texts_named command
-both_texts command job plan reads = λ i. job_files (sym reads.its_job i) ++ plan_files (sym reads.its_plan i)
+both_texts command job plan reads = λ i. job_files (sym reads.its_job i) ++ if_named (sym reads.its_plan i)
 
 ready_at : (command : Command) (job plan : List ℕ) (p : Program) (x z : Contents) → ReadsPlan command job plan → IsReady (Valid job plan) p x z → IsReady command p x z
 ready_at command job plan p x z reads ready = record {
@@ -86,7 +86,7 @@ wider command job plan left name reads (inr (inl found)) = inr (inl (
   found.0,
   may_have_as (job_wanted command) (Named job) found.0 left reads.its_job found.1,
   λ asked. found.2 refl,
-  Contains-append_left (plan_files (plan_named command)) (sources_read command found.0) name (subst (λ (o : Option (List ℕ)). Contains (plan_files o) name) (sym reads.its_plan) found.3),
+  Contains-append_left (if_named (plan_named command)) (sources_read command found.0) name (subst (λ (o : Option (List ℕ)). Contains (if_named o) name) (sym reads.its_plan) found.3),
 ))
 wider command job plan left name reads (inr (inr trace)) = absurd (no_trace name trace.named)
 

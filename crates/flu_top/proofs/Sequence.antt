@@ -24,7 +24,7 @@ use Rattle.flu_words.specs.Words.{Command}
 use Rattle.flu_top.specs.Taking.{TookOnly}
 use Rattle.flu_top.specs.Behind.{WantedJob, Named, Fixed, HasJob, job_files, emptied, fault_behind, report_behind}
 use Rattle.flu_top.specs.Reading.{Reading, Whole, is_read, AreSourcesGood}
-use Rattle.flu_top.specs.Wants.{job_wanted, plan_named, trace_named, asks_accepted, how_read, reads_sources, plan_files, texts_named, sources_read, files_read, Writes}
+use Rattle.flu_top.specs.Wants.{job_wanted, plan_named, trace_named, asks_accepted, how_read, reads_sources, if_named, texts_named, sources_read, files_read, Writes}
 use Rattle.flu_top.specs.Done.{HasPlanAsked, IsGood, IsTraceRead, IsRead, Says, MayHaveJob, IsReadName, IsWritten}
 use Rattle.flu_top.specs.Ready.{AreTextsRead, IsReady}
 use Rattle.flu_top.specs.Jobs.{IsJobRefusal}
@@ -72,8 +72,8 @@ may_have_ready command p (Some x) (Some y) ready = ready.has
 
 pub source_is_read : (command : Command) (p : Program) (name : List ℕ) → IsTrue (reads_sources command) → Contains (files_of p.sources) name → Contains (files_read command p) name
 source_is_read command p name reads found =
-    subst (λ (b : Bool). Contains (plan_files (plan_named command) ++ (if b then files_of p.sources else [])) name) (sym reads)
-    (Contains-append_right (plan_files (plan_named command)) (files_of p.sources) name found)
+    subst (λ (b : Bool). Contains (if_named (plan_named command) ++ (if b then files_of p.sources else [])) name) (sym reads)
+    (Contains-append_right (if_named (plan_named command)) (files_of p.sources) name found)
 
 pub may_have : (job : List ℕ) (p : Program) (a b : Option Contents) → WhereTold a b (IsJobRead job p) → MayHaveJob a (Named job) p
 may_have job p None b read = tt
@@ -86,9 +86,9 @@ only_job command job a b named taken =
 
 pub text_is_read : (command : Command) (p : Program) (a b : Option Contents) → (IsTrue (asks_accepted command) → IsAccepted p) → WhereTold a b (IsReady command p)
     → (name : List ℕ) → Contains (texts_named command) name → IsReadName a command name
-text_is_read command p a b accepted ready name found = elim (Contains-append_cases (job_files (job_wanted command)) (plan_files (plan_named command)) name found) [
+text_is_read command p a b accepted ready name found = elim (Contains-append_cases (job_files (job_wanted command)) (if_named (plan_named command)) name found) [
   | inl job ↦ inl (job_file (job_wanted command) name job)
-  | inr plan ↦ inr (inl (p, may_have_ready command p a b ready, accepted, Contains-append_left (plan_files (plan_named command)) (sources_read command p) name plan))
+  | inr plan ↦ inr (inl (p, may_have_ready command p a b ready, accepted, Contains-append_left (if_named (plan_named command)) (sources_read command p) name plan))
 ]
 
 pub source_name_is_read : (command : Command) (p : Program) (a b : Option Contents) → IsTrue (reads_sources command) → (IsTrue (asks_accepted command) → IsAccepted p) → WhereTold a b (IsReady command p)

@@ -6,15 +6,20 @@ use Rattle.flu_plan.specs.declared.fault.PlanFault.{PlanFault}
 use Rattle.flu_plan.specs.declared.fault.PlanFault.TheVariants as plans
 use Rattle.flu_outside.specs.declared.files.TakeFault.{TakeFault}
 use Rattle.flu_outside.specs.declared.files.TakeFault.TheVariants as takes
+use Rattle.flu_outside.specs.declared.files.PutFault.{PutFault}
+use Rattle.flu_outside.specs.declared.files.PutFault.TheVariants as puts
+use Rattle.flu_save.specs.declared.fault.SaveFault.{SaveFault}
+use Rattle.flu_save.specs.declared.fault.SaveFault.TheVariants as saves
 use Rattle.flu_trace.specs.declared.faults.ReplayFault.{ReplayFault}
 use Rattle.flu_trace.specs.declared.faults.ReplayFault.TheVariants as traces
 use Rattle.flu_top.specs.declared.products.DrawnSteps.{DrawnSteps}
 use Rattle.flu_top.specs.declared.refusals.PlanDefect.TheVariants as defects
+use Rattle.flu_top.specs.declared.refusals.SaveDefect.TheVariants as starts
 use Rattle.flu_top.specs.declared.refusals.Refusal.{Refusal}
 use Rattle.flu_top.specs.declared.refusals.Refusal.TheVariants as refusals
 use Rattle.flu_top.specs.Jobs.{program_read}
 use Rattle.flu_top.specs.Names.{source_name}
-use Rattle.flu_top.specs.Lines.{bad_words_line, job_fault_line, conflict_line, plan_defect_line, source_fault_line, read_fault_line, write_fault_line, no_memory_line, trace_fault_line, step_line, IsSaid}
+use Rattle.flu_top.specs.Lines.{bad_words_line, job_fault_line, conflict_line, plan_defect_line, source_fault_line, read_fault_line, write_fault_line, no_memory_line, save_defect_line, put_fault_line, trace_fault_line, step_line, IsSaid}
 
 abbrev pub status_of : Refusal → ℕ
 status_of (refusals.BadWords bad) = 2
@@ -25,6 +30,8 @@ status_of (refusals.SourceFault job fault) = 6
 status_of refusals.ReadFault = 7
 status_of refusals.WriteFault = 8
 status_of refusals.NoMemory = 9
+status_of (refusals.SaveDefect defect) = 11
+status_of refusals.PutFault = 12
 status_of (refusals.TraceFault fault) = 13
 
 abbrev pub line_of : Refusal → List ℕ
@@ -36,6 +43,8 @@ line_of (refusals.SourceFault job fault) = source_fault_line (source_name (progr
 line_of refusals.ReadFault = read_fault_line
 line_of refusals.WriteFault = write_fault_line
 line_of refusals.NoMemory = no_memory_line
+line_of (refusals.SaveDefect defect) = save_defect_line defect
+line_of refusals.PutFault = put_fault_line
 line_of (refusals.TraceFault fault) = trace_fault_line fault
 
 -- the status of a call that was done or refused
@@ -73,6 +82,19 @@ refusal_of_plan plans.NoMemory = refusals.NoMemory
 abbrev pub refusal_of_take : TakeFault → Refusal
 refusal_of_take takes.Failed = refusals.ReadFault
 refusal_of_take takes.NoMemory = refusals.NoMemory
+
+-- the refusal where a checkpoint could not be put
+abbrev pub refusal_of_put : PutFault → Refusal
+refusal_of_put puts.Failed = refusals.PutFault
+refusal_of_put puts.NoMemory = refusals.NoMemory
+
+-- the refusal for a fault in a checkpoint
+abbrev pub refusal_of_save : SaveFault → Refusal
+refusal_of_save (saves.OverLimit count) = refusals.SaveDefect (starts.Checkpoint (saves.OverLimit count))
+refusal_of_save saves.NotJson = refusals.SaveDefect (starts.Checkpoint saves.NotJson)
+refusal_of_save saves.WrongForm = refusals.SaveDefect (starts.Checkpoint saves.WrongForm)
+refusal_of_save saves.OtherJob = refusals.SaveDefect (starts.Checkpoint saves.OtherJob)
+refusal_of_save saves.NoMemory = refusals.NoMemory
 
 -- the refusal for what stops a replay
 abbrev pub refusal_of_replay : ReplayFault → Refusal

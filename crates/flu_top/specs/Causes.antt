@@ -1,5 +1,5 @@
--- What refuses a command, in order: a fault of its job's text, a conflict of that job, a defect of its plan, a defect of a source, a
--- fault of its trace.
+-- What refuses a command, in order: a fault of its job's text, a conflict of that job, a defect of its plan, what keeps a run from its
+-- start, a defect of a source, a fault of its trace.
 use Rattle.std.specs.Prelude.{◌≡◌, ◌≢◌, ◌<◌, ℕ, List, [], length, Option, Some, IsTrue}
 use Rattle.flu_outside.specs.Outside.{Contents, WhereTold}
 use Rattle.flu_model.specs.declared.jobs.Program.{Program}
@@ -22,11 +22,15 @@ use Rattle.flu_top.specs.declared.refusals.PlanDefect.TheVariants as defects
 use Rattle.flu_trace.specs.declared.faults.ReplayFault.{ReplayFault}
 use Rattle.flu_trace.specs.Replaying.{Ending, ending_of}
 use Rattle.flu_words.specs.Words.{Command}
+use Rattle.flu_top.specs.declared.refusals.SaveDefect.{SaveDefect}
+use Rattle.flu_top.specs.declared.refusals.SaveDefect.TheVariants as saves
 use Rattle.flu_top.specs.Behind.{WantedJob, Named, HasJob, HasPlan, fault_behind, plan_behind}
+use Rattle.flu_top.specs.Openings.{Opening}
 use Rattle.flu_top.specs.TextFaults.{IsFirstJobFault, IsFirstTextFault}
 use Rattle.flu_top.specs.Reading.{Reading, Unread, Whole, InRounds, MeetsDefect, lines_behind}
 use Rattle.flu_top.specs.Wants.{job_wanted, plan_named, trace_named, asks_accepted, how_read, reads_sources, texts_named}
 use Rattle.flu_top.specs.Replaying.{ReplaysTo}
+use Rattle.flu_top.specs.Starting.{StartsFrom, CanStart, IsSameName, HasBadCheckpoint, Leaves}
 use Rattle.flu_top.specs.Done.{HasPlanAsked, IsGood}
 
 -- the bytes under the job's name are the text of this program, and were read to their end
@@ -86,20 +90,41 @@ abbrev pub HasPlanDefect : Command → Option Contents → Option Contents → P
 HasPlanDefect command old new (defects.Text fault) = HasPlanFault command old new fault
 HasPlanDefect command old new (defects.Invalid checked fault) = HasInvalidPlan command old new (program_of checked) fault.plan.nodes fault.why
 
--- ---- the sources
--- a defect refuses the sources that are read behind some texts, once this was written: of all sources it is the first one, and in
--- rounds that of the earliest round that meets any
-abbrev pub IsMet : Reading → List (List ℕ) → Contents → Program → List ℕ → SourceFault → Type 0
-IsMet Unread texts left p text fault = ⊥
-IsMet Whole texts left p text fault = fault_behind texts left p ≡ Some fault
-IsMet InRounds texts left p text fault = MeetsDefect p (lines_behind texts left p) text fault
+-- ---- the start
+-- the command's job is this program, which is accepted, a plan that it names is valid for it, and this is true of them
+pub record HasStartDefect (command : Command) (old new : Option Contents) (p : Program) (Is : Contents → Type 0) : Type 0 where
+  pub accepted : IsTrue (asks_accepted command) → IsAccepted p
+  pub first : WhereTold old new (λ left _. HasJob (job_wanted command) left p × HasPlanAsked command left p × Is left)
 
--- the command reads sources, its job is this program, which is accepted where the command asks for that, a plan that the command names is valid for it, and this defect of its sources refuses it, once this was written
+-- what keeps a run from its start: a name that it saves to or is resumed from is that of a source's file; or the checkpoint that it is
+-- resumed from has this first fault
+abbrev pub HasSaveDefect : Command → Option Contents → Option Contents → SaveDefect → Type 0
+HasSaveDefect command old new (saves.SameName checked number) = HasStartDefect command old new (program_of checked) (λ left. IsSameName command (program_of checked) number)
+HasSaveDefect command old new (saves.Checkpoint fault) = (p : Program) × HasStartDefect command old new p (λ left. HasBadCheckpoint command left p fault)
+
+-- ---- the sources
+-- the round that comes next meets a defect, once this was written; what was put before it is left
+pub record IsMetInRounds (command : Command) (left now : Contents) (p : Program) (text : List ℕ) (fault : SourceFault) : Type 0 where
+  pub opening : Opening
+  pub starts : StartsFrom command left p opening
+  pub put : Option (List ℕ)
+  pub met : MeetsDefect p opening (lines_behind (texts_named command) left p) text put fault
+  pub leaves : Leaves command put left now
+
+-- a defect refuses the sources that are read behind the command's texts, once this was written: of all sources it is the first one, and
+-- in rounds that of the earliest round that meets any
+abbrev pub IsMet : Reading → Command → Contents → Contents → Program → List ℕ → SourceFault → Type 0
+IsMet Unread command left now p text fault = ⊥
+IsMet Whole command left now p text fault = fault_behind (texts_named command) left p ≡ Some fault
+IsMet InRounds command left now p text fault = IsMetInRounds command left now p text fault
+
+-- the command reads sources, its job is this program, which is accepted where the command asks for that, a plan that the command names
+-- is valid for it, it can start, and this defect of its sources refuses it, once this was written
 pub record HasSourceFault (command : Command) (old new : Option Contents) (p : Program) (fault : SourceFault) (text : List ℕ) : Type 0 where
   pub asked : IsTrue (reads_sources command)
   pub accepted : IsTrue (asks_accepted command) → IsAccepted p
   pub source : fault.source < length p.sources
-  pub first : WhereTold old new (λ left _. HasJob (job_wanted command) left p × HasPlanAsked command left p × IsMet (how_read command) (texts_named command) left p text fault)
+  pub first : WhereTold old new (λ left now. HasJob (job_wanted command) left p × HasPlanAsked command left p × CanStart command left p × IsMet (how_read command) command left now p text fault)
 
 -- ---- the trace
 -- the command names a trace, nothing refuses it before that, and the trace has the ending that this fault tells

@@ -23,4 +23,6 @@ IsCheckRefusal p (refusals.SourceFault q fault) = ⊥
 IsCheckRefusal p refusals.ReadFault = ⊥
 IsCheckRefusal p refusals.WriteFault = ⊥
 IsCheckRefusal p refusals.NoMemory = ⊤
+IsCheckRefusal p (refusals.SaveDefect defect) = ⊥
+IsCheckRefusal p refusals.PutFault = ⊥
 IsCheckRefusal p (refusals.TraceFault fault) = ⊥

@@ -1,16 +1,19 @@
 -- What a call that does its command has done, and which names it reads.
-use Rattle.std.specs.Prelude.{◌≡◌, ℕ, List, [], ◌++◌, Option, Some, None, Contains, ⊤, ◌⊎◌, Ok, IsTrue, IfSome}
+use Rattle.std.specs.Prelude.{◌≡◌, ◌≢◌, ℕ, List, [], ◌∷◌, ◌++◌, Option, Some, None, Contains, ⊤, ◌⊎◌, Ok, IsTrue, IfSome}
 use Rattle.flu_outside.specs.Outside.{Contents, WhereTold}
 use Rattle.flu_model.specs.declared.jobs.Program.{Program}
 use Rattle.flu_model.specs.declared.plans.Node.{Node}
 use Rattle.flu_model.specs.Modes.{IsAccepted}
 use Rattle.flu_model.specs.Validity.{IsValid}
 use Rattle.flu_outside.specs.Writing.{AppendsAll, AppendsPart}
+use Rattle.flu_save.specs.Checkpoint.{save}
 use Rattle.flu_trace.specs.Replaying.{Complete}
 use Rattle.flu_words.specs.Words.{Command, command_in}
 use Rattle.flu_top.specs.Behind.{WantedJob, Named, Fixed, HasJob, HasPlan}
-use Rattle.flu_top.specs.Reading.{Reading, Unread, Whole, InRounds, AreSourcesGood, HaveWritten, ReportsNext, lines_behind}
-use Rattle.flu_top.specs.Wants.{Saying, Nothing, Line, want, job_wanted, plan_named, trace_named, asks_accepted, how_read, texts_named, sources_read, files_read, Writes}
+use Rattle.flu_top.specs.Openings.{Opening, state_from}
+use Rattle.flu_top.specs.Reading.{Reading, Unread, Whole, InRounds, AreSourcesGood, HaveWritten, ReportsNext, greatest_border, lines_behind}
+use Rattle.flu_top.specs.Wants.{Saying, Nothing, Line, want, job_wanted, plan_named, save_named, resume_named, trace_named, asks_accepted, how_read, if_named, texts_named, sources_read, Writes, IsNotSaved}
+use Rattle.flu_top.specs.Starting.{AreNoSources, StartsFrom, CanStart, Leaves, LeavesAnything}
 use Rattle.flu_top.specs.Replaying.{ReplaysTo}
 
 -- the text under a name, which is read behind the job's, is a plan that is valid for the job
@@ -22,22 +25,30 @@ abbrev pub HasPlanAsked : Command → Contents → Program → Type 0
 HasPlanAsked command left p = (plan : List ℕ) → plan_named command ≡ Some plan → HasValidPlan (job_wanted command) plan left p
 
 -- the program is the command's job, which is accepted where the command asks for that, the plan that the command names is valid
--- for it, and its sources have no defect where the command reads them
+-- for it, it can start, and its sources have no defect where the command reads them
 pub record IsGood (command : Command) (left : Contents) (p : Program) : Type 0 where
   pub has : HasJob (job_wanted command) left p
   pub accepted : IsTrue (asks_accepted command) → IsAccepted p
   pub plan : HasPlanAsked command left p
+  pub start : CanStart command left p
   pub sources : AreSourcesGood (how_read command) (texts_named command) left p
 
 -- the trace that the command names, if it names one, is complete, and was read to its end
 abbrev pub IsTraceRead : Command → Program → Contents → Contents → Type 0
 IsTraceRead command p old new = (trace : List ℕ) → trace_named command ≡ Some trace → ReplaysTo command trace old p Complete × (new trace ≡ Some [])
 
--- nothing refuses the command, and all that it reads was read to its end
+-- the last checkpoint stands under the name that the command saves to, if it saves any: that of the greatest border and of the state
+-- behind all events
+abbrev pub HasSaved : Command → Program → Contents → Contents → Type 0
+HasSaved command p old new = (name : List ℕ) → save_named command ≡ Some name
+    → (o : Opening) × StartsFrom command old p o × (new name ≡ Some (save p greatest_border (state_from o (texts_named command) old p)))
+
+-- nothing refuses the command, all that it reads was read to its end, and what it saves was put
 pub record IsRead (command : Command) (p : Program) (old new : Contents) : Type 0 where
   pub good : IsGood command old p
-  pub ends : (name : List ℕ) → Contains (texts_named command ++ sources_read command p) name → new name ≡ Some []
+  pub ends : (name : List ℕ) → Contains (texts_named command ++ sources_read command p) name → IsNotSaved command name → new name ≡ Some []
   pub trace : IsTraceRead command p old new
+  pub saved : HasSaved command p old new
 
 -- this is the line that is said, and the empty one where nothing is
 abbrev pub IsLine : Saying → Contents → Program → List ℕ → Type 0
@@ -75,34 +86,65 @@ Wrote Unread text had has = has ≡ had
 Wrote Whole text had has = has ≡ had
 Wrote InRounds text had has = WhereTold had has (AppendsAll text)
 
--- THE ROUNDS UP TO SOME ONE were run: nothing refuses the command before its sources, and what they wrote stands behind what was in out
+-- THE ROUNDS UP TO SOME ONE were run: nothing refuses the command before its sources, what they wrote stands behind what was in out,
+-- and what they put stands under the name that the command saves to
 pub record WroteRounds (command : Command) (old new : Option Contents) (had has : Option (List ℕ)) : Type 0 where
   pub p : Program
   pub text : List ℕ
   pub accepted : IsTrue (asks_accepted command) → IsAccepted p
   pub wrote : WhereTold had has (AppendsAll text)
-  pub rounds : WhereTold old new (λ left _. HasJob (job_wanted command) left p × HasPlanAsked command left p × HaveWritten p (lines_behind (texts_named command) left p) text)
+  pub rounds : WhereTold old new (λ left now. HasJob (job_wanted command) left p × HasPlanAsked command left p
+      × ((o : Opening) × StartsFrom command left p o
+      × ((put : Option (List ℕ)) × HaveWritten p o (lines_behind (texts_named command) left p) text put × Leaves command put left now)))
+
+-- nothing was written, and nothing was put
+pub record WroteNone (command : Command) (old new : Option Contents) (had has : Option (List ℕ)) : Type 0 where
+  pub nothing : has ≡ had
+  pub as_before : WhereTold old new (Leaves command None)
 
 -- it wrote nothing; or what the rounds up to some one wrote, where it reads in rounds
 abbrev pub WroteSome : Reading → Command → Option Contents → Option Contents → Option (List ℕ) → Option (List ℕ) → Type 0
 WroteSome Unread command old new had has = has ≡ had
 WroteSome Whole command old new had has = has ≡ had
-WroteSome InRounds command old new had has = (has ≡ had) ⊎ WroteRounds command old new had has
+WroteSome InRounds command old new had has = WroteNone command old new had has ⊎ WroteRounds command old new had has
+
+-- ONE ROUND MORE was written than is saved: behind what the rounds up to some one wrote stands the report of the next one, and of what
+-- is left under the name that the command saves to this holds of what those up to that one put
+pub record WroteUnsaved (Left : Option (List ℕ) → Contents → Contents → Type 0) (command : Command) (old new : Option Contents) (had has : Option (List ℕ)) : Type 0 where
+  pub p : Program
+  pub text : List ℕ
+  pub more : List ℕ
+  pub saves : save_named command ≢ None
+  pub accepted : IsTrue (asks_accepted command) → IsAccepted p
+  pub wrote : WhereTold had has (AppendsAll (text ++ more))
+  pub round : WhereTold old new (λ left now. HasJob (job_wanted command) left p × HasPlanAsked command left p
+      × ((o : Opening) × StartsFrom command left p o
+      × ((put : Option (List ℕ)) × ReportsNext p o (lines_behind (texts_named command) left p) text put more × Left put left now)))
+
+-- where memory was wanting it wrote some of this, and may have wanted that for a checkpoint
+abbrev pub WroteForMemory : Reading → Command → Option Contents → Option Contents → Option (List ℕ) → Option (List ℕ) → Type 0
+WroteForMemory how command old new had has = WroteSome how command old new had has ⊎ WroteUnsaved (Leaves command) command old new had has
+
+-- where a checkpoint could not be put, it wrote the report of its round, and nothing is said of what is left under its name
+abbrev pub WroteForPut : Command → Option Contents → Option Contents → Option (List ℕ) → Option (List ℕ) → Type 0
+WroteForPut command old new had has = WroteUnsaved LeavesAnything command old new had has
 
 -- ---- of a command where out failed
 -- a text stands behind what was there, and then fewer than all bytes of another, from its front
 abbrev pub AppendsInto : List ℕ → List ℕ → List ℕ → List ℕ → Type 0
 AppendsInto text more old new = AppendsPart more (old ++ text) new
 
--- A ROUND WAS BEGUN to be written: nothing refuses the command before its sources, and behind what the rounds before it wrote stand
--- fewer than all bytes of its report
+-- A ROUND WAS BEGUN to be written: nothing refuses the command before its sources, behind what the rounds before it wrote stand fewer
+-- than all bytes of its report, and what those put stands under the name that the command saves to
 pub record WroteIntoRound (command : Command) (old new : Option Contents) (had has : Option (List ℕ)) : Type 0 where
   pub p : Program
   pub text : List ℕ
   pub more : List ℕ
   pub accepted : IsTrue (asks_accepted command) → IsAccepted p
   pub wrote : WhereTold had has (AppendsInto text more)
-  pub round : WhereTold old new (λ left _. HasJob (job_wanted command) left p × HasPlanAsked command left p × ReportsNext p (lines_behind (texts_named command) left p) text more)
+  pub round : WhereTold old new (λ left now. HasJob (job_wanted command) left p × HasPlanAsked command left p
+      × ((o : Opening) × StartsFrom command left p o
+      × ((put : Option (List ℕ)) × ReportsNext p o (lines_behind (texts_named command) left p) text put more × Leaves command put left now)))
 
 -- what stands in out: a front of what the command writes, all being read; or, in rounds, a front of what the rounds up to some one write
 abbrev pub WrotePart : Reading → Command → Option Contents → Option Contents → Option (List ℕ) → Option (List ℕ) → Type 0
@@ -123,14 +165,50 @@ pub record IsTraceName (left : Option Contents) (command : Command) (name : List
   pub accepted : IsTrue (asks_accepted command) → IsAccepted p
   pub good : IfSome left (λ contents. IsGood command contents p)
 
--- a name that a command reads: its job's, those of the other files that it reads for that job, which is accepted where the
--- command asks for that, and its trace's
+-- a program that may be the command's job, as far as the files tell, and is accepted where the command asks for that
+pub record MayBeJob (left : Option Contents) (command : Command) (p : Program) : Type 0 where
+  pub has : MayHaveJob left (job_wanted command) p
+  pub accepted : IsTrue (asks_accepted command) → IsAccepted p
+
+-- the names of the plan, of the checkpoint and of the sources' files that a command reads for a job: its names have to be no sources'
+-- files, and it has to be able to start, before these come
+pub record IsPlanName (left : Option Contents) (command : Command) (name : List ℕ) : Type 0 where
+  pub p : Program
+  pub job : MayBeJob left command p
+  pub named : plan_named command ≡ Some name
+
+pub record IsCheckpointName (left : Option Contents) (command : Command) (name : List ℕ) : Type 0 where
+  pub p : Program
+  pub job : MayBeJob left command p
+  pub apart : AreNoSources command p
+  pub named : resume_named command ≡ Some name
+
+pub record IsSourceFile (left : Option Contents) (command : Command) (name : List ℕ) : Type 0 where
+  pub p : Program
+  pub job : MayBeJob left command p
+  pub apart : AreNoSources command p
+  pub start : IfSome left (λ contents. CanStart command contents p)
+  pub named : Contains (sources_read command p) name
+
+-- a name that a command reads: its job's, its plan's, that of the checkpoint which it is resumed from, those of its job's sources, and
+-- its trace's
 abbrev pub IsReadName : Option Contents → Command → List ℕ → Type 0
 IsReadName left command name =
     (job_wanted command ≡ Named name)
-    ⊎ ((p : Program) × MayHaveJob left (job_wanted command) p × (IsTrue (asks_accepted command) → IsAccepted p) × Contains (files_read command p) name)
-    ⊎ IsTraceName left command name
+    ⊎ IsPlanName left command name ⊎ IsCheckpointName left command name ⊎ IsSourceFile left command name ⊎ IsTraceName left command name
 
 -- a name that a call with some words reads
 abbrev pub IsReadBy : List (List ℕ) → Option Contents → List ℕ → Type 0
 IsReadBy words left name = (command : Command) × (command_in words ≡ Ok command) × IsReadName left command name
+
+-- a name that a command may have put, at a status: that which it saves to, where rounds may have been run
+abbrev pub IsPutAt : Command → ℕ → List ℕ → Type 0
+IsPutAt command status name = (save_named command ≡ Some name) × Contains (0 ∷ 6 ∷ 7 ∷ 8 ∷ 9 ∷ 12 ∷ []) status
+
+-- a name that a call with some words saves to
+abbrev pub IsSavedBy : List (List ℕ) → List ℕ → Type 0
+IsSavedBy words name = (command : Command) × (command_in words ≡ Ok command) × (save_named command ≡ Some name)
+
+-- a name that a call with some words may have put, at a status
+abbrev pub MayBePut : List (List ℕ) → ℕ → List ℕ → Type 0
+MayBePut words status name = (command : Command) × (command_in words ≡ Ok command) × IsPutAt command status name

@@ -1,5 +1,5 @@
 -- How the doing of a command ends.
-use Rattle.std.specs.Prelude.{◌≡◌, ℕ, List, Option, Result, Ok, Err, ◌⊎◌}
+use Rattle.std.specs.Prelude.{◌≡◌, ℕ, List, Option, Some, Result, Ok, Err, ◌⊎◌}
 use Rattle.flu_outside.specs.Outside.{Contents, Rose}
 use Rattle.flu_streams.specs.declared.faults.SourceFault.{SourceFault}
 use Rattle.flu_top.specs.declared.refusals.JobRead.{JobRead}
@@ -7,27 +7,29 @@ use Rattle.flu_top.specs.declared.refusals.Refusal.{Refusal}
 use Rattle.flu_top.specs.declared.refusals.Refusal.TheVariants as refusals
 use Rattle.flu_words.specs.Words.{Command, command_in}
 use Rattle.flu_top.specs.declared.products.DrawnSteps.{DrawnSteps}
-use Rattle.flu_top.specs.Wants.{want, job_wanted, how_read}
+use Rattle.flu_top.specs.Wants.{want, job_wanted, how_read, save_named}
 use Rattle.flu_top.specs.Products.{line_said, MaySay}
-use Rattle.flu_top.specs.Causes.{HasJobFault, HasConflict, HasPlanDefect, HasSourceFault, HasTraceFault}
-use Rattle.flu_top.specs.Done.{IsDone, WhereKnown, Wrote, WroteSome, WrotePart}
+use Rattle.flu_top.specs.Causes.{HasJobFault, HasConflict, HasPlanDefect, HasSaveDefect, HasSourceFault, HasTraceFault}
+use Rattle.flu_top.specs.Done.{IsDone, WhereKnown, Wrote, WroteSome, WroteForMemory, WroteForPut, WrotePart}
 use Rattle.flu_top.specs.Jobs.{program_read}
 use Rattle.flu_top.specs.Refusing.{HasReadFault}
 
--- what a call finds, and what it leaves: the files with their counts, and out with its count
+-- what a call finds, and what it leaves: the files with their counts of takes and of puts, and out with its count
 pub record Call : Type 0 where
   pub left : Option Contents
   pub left_after : Option Contents
   pub counts : List ℕ → ℕ
   pub counts_after : List ℕ → ℕ
+  pub puts : List ℕ → ℕ
+  pub puts_after : List ℕ → ℕ
   pub taken : Option (List ℕ)
   pub taken_after : Option (List ℕ)
   pub count : ℕ
   pub count_after : ℕ
 
-abbrev pub call : Option Contents → Option Contents → (List ℕ → ℕ) → (List ℕ → ℕ) → Option (List ℕ) → Option (List ℕ) → ℕ → ℕ → Call
-call left left_after counts counts_after taken taken_after count count_after =
-    record { left = left; left_after = left_after; counts = counts; counts_after = counts_after; taken = taken; taken_after = taken_after; count = count; count_after = count_after }
+abbrev pub call : Option Contents → Option Contents → (List ℕ → ℕ) → (List ℕ → ℕ) → (List ℕ → ℕ) → (List ℕ → ℕ) → Option (List ℕ) → Option (List ℕ) → ℕ → ℕ → Call
+call left left_after counts counts_after puts puts_after taken taken_after count count_after =
+    record { left = left; left_after = left_after; counts = counts; counts_after = counts_after; puts = puts; puts_after = puts_after; taken = taken; taken_after = taken_after; count = count; count_after = count_after }
 
 -- nothing was written to out
 abbrev pub WroteNothing : Call → Type 0
@@ -49,6 +51,13 @@ pub record HasWriteFault (c : Call) (command : Command) : Type 0 where
   pub rose : Rose c.count c.count_after
   pub partly : WrotePart (how_read command) command c.left c.left_after c.taken c.taken_after
 
+-- a checkpoint could not be put
+pub record HasPutFault (c : Call) (command : Command) : Type 0 where
+  pub name : List ℕ
+  pub named : save_named command ≡ Some name
+  pub rose : Rose (c.puts name) (c.puts_after name)
+  pub wrote : WroteForPut command c.left c.left_after c.taken c.taken_after
+
 -- all was written, and these are the steps to be said
 pub record HasAll (c : Call) (command : Command) (steps : Option DrawnSteps) : Type 0 where
   pub done : WhereKnown (job_wanted command) c.left c.left_after (IsDone command c.taken c.taken_after (line_said steps))
@@ -63,7 +72,9 @@ IsStopped c command (refusals.PlanDefect defect) = HasPlanDefect command c.left 
 IsStopped c command (refusals.SourceFault job fault) = HasDefectMet c command job fault
 IsStopped c command refusals.ReadFault = HasReadFailure c command
 IsStopped c command refusals.WriteFault = HasWriteFault c command
-IsStopped c command refusals.NoMemory = WroteSome (how_read command) command c.left c.left_after c.taken c.taken_after
+IsStopped c command refusals.NoMemory = WroteForMemory (how_read command) command c.left c.left_after c.taken c.taken_after
+IsStopped c command (refusals.SaveDefect defect) = HasSaveDefect command c.left c.left_after defect × WroteNothing c
+IsStopped c command refusals.PutFault = HasPutFault c command
 IsStopped c command (refusals.TraceFault fault) = HasTraceFault command c.left c.left_after fault × WroteNothing c
 
 -- what is true of a call of a command that was done or refused

@@ -38,4 +38,6 @@ IsReportRefusal p old new before now (refusals.SourceFault job fault) = IsFaulty
 IsReportRefusal p old new before now refusals.ReadFault = OneRose (files_of p.sources) before now
 IsReportRefusal p old new before now refusals.WriteFault = ⊥
 IsReportRefusal p old new before now refusals.NoMemory = ⊤
+IsReportRefusal p old new before now (refusals.SaveDefect defect) = ⊥
+IsReportRefusal p old new before now refusals.PutFault = ⊥
 IsReportRefusal p old new before now (refusals.TraceFault fault) = ⊥

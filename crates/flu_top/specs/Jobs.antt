@@ -25,4 +25,6 @@ IsJobRefusal job old new before now (refusals.SourceFault other fault) = ⊥
 IsJobRefusal job old new before now refusals.ReadFault = Rose (before job) (now job)
 IsJobRefusal job old new before now refusals.WriteFault = ⊥
 IsJobRefusal job old new before now refusals.NoMemory = ⊤
+IsJobRefusal job old new before now (refusals.SaveDefect defect) = ⊥
+IsJobRefusal job old new before now refusals.PutFault = ⊥
 IsJobRefusal job old new before now (refusals.TraceFault fault) = ⊥

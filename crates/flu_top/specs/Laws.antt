@@ -1,8 +1,14 @@
 -- What follows from the outcome of a call: each status by itself, what was read, and what comes where nothing failed.
-use Rattle.std.specs.Prelude.{◌≡◌, ◌≢◌, ◌↔◌, ◌⊎◌, ◌<◌, ℕ, List, [], ◌∷◌, Bool, Contains, IsTrue, Option, Some, Ok, Err}
+use Rattle.std.specs.Prelude.{◌≡◌, ◌≢◌, ◌↔◌, ◌⊎◌, ◌<◌, ℕ, List, [], ◌∷◌, Bool, Contains, IsTrue, Option, Some, None, ◌++◌, Ok, Err}
 use Rattle.flu_outside.specs.Outside.{Contents, WhereTold, Rose, Appends}
 use Rattle.flu_outside.specs.Taking.{bytes_left, TookFronts}
 use Rattle.flu_outside.specs.Writing.{AppendsAll}
+use Rattle.flu_model.specs.declared.events.Item.{Item}
+use Rattle.flu_model.specs.Contents.{nothing_held}
+use Rattle.flu_model.specs.Folding.{final_state, final_outputs}
+use Rattle.flu_model.specs.Reports.{report}
+use Rattle.flu_rounds.specs.Coming.{lists_above}
+use Rattle.flu_streams.specs.Borders.{up_to}
 use Rattle.flu_model.specs.Erasure.{job_of}
 use Rattle.flu_model.specs.declared.jobs.Program.{Program}
 use Rattle.flu_model.specs.Modes.{IsAccepted}
@@ -10,27 +16,30 @@ use Rattle.flu_parse.specs.declared.faults.JobFault.{JobFault}
 use Rattle.flu_check.specs.declared.CheckFault.{CheckFault}
 use Rattle.flu_streams.specs.declared.faults.SourceFault.{SourceFault}
 use Rattle.flu_top.specs.declared.refusals.PlanDefect.{PlanDefect}
+use Rattle.flu_top.specs.declared.refusals.SaveDefect.{SaveDefect}
 use Rattle.flu_trace.specs.declared.faults.ReplayFault.{ReplayFault}
-use Rattle.flu_words.specs.Words.{Command, Run, Simulate, Demo, command_in}
+use Rattle.flu_words.specs.Words.{Command, Run, RunOptions, Simulate, Demo, command_in}
 use Rattle.flu_top.specs.Taking.{TookOnly}
 use Rattle.flu_top.specs.Behind.{Named, HasJob, report_behind}
+use Rattle.flu_top.specs.Openings.{Opening, report_from}
 use Rattle.flu_top.specs.Reading.{InRounds, HasDefect}
 use Rattle.flu_top.specs.Replaying.{CanOnlyComplete}
 use Rattle.flu_top.specs.TextFaults.{IsFirstJobFault}
-use Rattle.flu_top.specs.Wants.{want, job_wanted, plan_named, plan_files, asks_accepted, how_read, says_nothing, texts_named}
-use Rattle.flu_top.specs.Done.{HasValidPlan, HasPlanAsked, IsGood, IsDone, WhereKnown, Wrote, WroteSome, WrotePart, IsReadBy}
-use Rattle.flu_top.specs.Causes.{HasJobFault, HasConflict, HasPlanDefect, HasSourceFault, HasTraceFault}
+use Rattle.flu_top.specs.Starting.{StartsFrom, CanStart}
+use Rattle.flu_top.specs.Wants.{want, job_wanted, plan_named, if_named, asks_accepted, how_read, says_nothing, texts_named}
+use Rattle.flu_top.specs.Done.{HasValidPlan, HasPlanAsked, IsGood, IsDone, WhereKnown, Wrote, WroteSome, WroteForMemory, WroteForPut, WrotePart, IsReadBy, IsSavedBy, MayBePut}
+use Rattle.flu_top.specs.Causes.{HasJobFault, HasConflict, HasPlanDefect, HasSaveDefect, HasSourceFault, HasTraceFault}
 use Rattle.flu_top.specs.Names.{source_name}
 use Rattle.flu_top.specs.Simulating.{IsLineOfRun, IsStepLine}
 use Rattle.flu_top.specs.Demos.{demo_job, demo_summary}
-use Rattle.flu_top.specs.Lines.{bad_words_line, job_fault_line, conflict_line, plan_defect_line, source_fault_line, read_fault_line, write_fault_line, no_memory_line, trace_fault_line}
-use Rattle.flu_top.specs.Outcome.{Outside, Said, Hears, Outcome, ReadOnly, FaultsFirst, HasFaultyTrace, CallsFor, NothingFailed, Completes}
+use Rattle.flu_top.specs.Lines.{bad_words_line, job_fault_line, conflict_line, plan_defect_line, source_fault_line, read_fault_line, write_fault_line, no_memory_line, save_defect_line, put_fault_line, trace_fault_line}
+use Rattle.flu_top.specs.Outcome.{Outside, Said, Hears, Outcome, ReadOnly, Faults, FaultsFirst, HasFaultyTrace, CallsFor, NothingFailed, Completes}
 
 -- ---- the statuses
 -- the status is one of these
 abbrev pub KnownStatuses : Type 0
 KnownStatuses =
-    (words : List (List ℕ)) (old new : Outside) (status : ℕ) → Outcome words old new status → Contains (0 ∷ 2 ∷ 3 ∷ 4 ∷ 5 ∷ 6 ∷ 7 ∷ 8 ∷ 9 ∷ 13 ∷ []) status
+    (words : List (List ℕ)) (old new : Outside) (status : ℕ) → Outcome words old new status → Contains (0 ∷ 2 ∷ 3 ∷ 4 ∷ 5 ∷ 6 ∷ 7 ∷ 8 ∷ 9 ∷ 11 ∷ 12 ∷ 13 ∷ []) status
 
 -- status 0: all that the command reads was read to its end, out got what it writes, and err what it says
 abbrev pub DoneIsDone : Type 0
@@ -101,6 +110,13 @@ SourceFaultIsFirst =
     × HasSourceFault command old.left new.left p fault text × Wrote (how_read command) text old.out new.out
     × Said old new (source_fault_line (source_name p fault.source) fault.row fault.why)
 
+-- status 11: nothing refuses the command before it would start, this keeps it from that, and err gets its line
+abbrev pub SaveDefectIsFirst : Type 0
+SaveDefectIsFirst =
+    (words : List (List ℕ)) (old new : Outside) (status : ℕ) → Outcome words old new status → status ≡ 11
+    → (command : Command) × (defect : SaveDefect) × (command_in words ≡ Ok command)
+    × HasSaveDefect command old.left new.left defect × Said old new (save_defect_line defect)
+
 -- status 13: the command reads a trace, and once nothing refuses it before that, this stops the replay of the trace, and err gets its line
 abbrev pub TraceFaultIsFirst : Type 0
 TraceFaultIsFirst =
@@ -111,8 +127,8 @@ TraceFaultIsFirst =
 -- status 7: the count of a name that the call reads rose
 abbrev pub ReadFaultRose : Type 0
 ReadFaultRose =
-    (words : List (List ℕ)) (left : Option Contents) (before now : List ℕ → ℕ) (out_before out_now status : ℕ) → FaultsFirst words left before now out_before out_now status → status ≡ 7
-    → (name : List ℕ) × IsReadBy words left name × Rose (before name) (now name)
+    (words : List (List ℕ)) (left : Option Contents) (before now : Faults) (status : ℕ) → FaultsFirst words left before now status → status ≡ 7
+    → (name : List ℕ) × IsReadBy words left name × Rose (before.takes name) (now.takes name)
 
 -- status 7: err gets the line of a read fault
 abbrev pub ReadFaultLine : Type 0
@@ -122,7 +138,7 @@ ReadFaultLine =
 -- status 8: out's count rose
 abbrev pub WriteFaultRose : Type 0
 WriteFaultRose =
-    (words : List (List ℕ)) (left : Option Contents) (before now : List ℕ → ℕ) (out_before out_now status : ℕ) → FaultsFirst words left before now out_before out_now status → status ≡ 8 → Rose out_before out_now
+    (words : List (List ℕ)) (left : Option Contents) (before now : Faults) (status : ℕ) → FaultsFirst words left before now status → status ≡ 8 → Rose before.out now.out
 
 -- status 8: out got a front of what the command writes, which is not all of it. All was read; or, in rounds, what those up to some one
 -- wrote stands there, and fewer than all bytes of the next one's report
@@ -137,6 +153,18 @@ abbrev pub WriteFaultLine : Type 0
 WriteFaultLine =
     (words : List (List ℕ)) (old new : Outside) (status : ℕ) → Outcome words old new status → status ≡ 8 → Said old new write_fault_line
 
+-- status 12: the count of puts of the name that the call saves to rose
+abbrev pub PutFaultRose : Type 0
+PutFaultRose =
+    (words : List (List ℕ)) (left : Option Contents) (before now : Faults) (status : ℕ) → FaultsFirst words left before now status → status ≡ 12
+    → (name : List ℕ) × IsSavedBy words name × Rose (before.puts name) (now.puts name)
+
+-- status 12: out got the report of some round and of those before it, and err the line of a save fault
+abbrev pub PutFaultIsBehindARound : Type 0
+PutFaultIsBehindARound =
+    (words : List (List ℕ)) (old new : Outside) (status : ℕ) → Outcome words old new status → status ≡ 12
+    → (command : Command) × (command_in words ≡ Ok command) × WroteForPut command old.left new.left old.out new.out × Said old new put_fault_line
+
 -- status 9: err gets the line of want of memory
 abbrev pub NoMemoryLine : Type 0
 NoMemoryLine =
@@ -148,25 +176,49 @@ NothingIsWritten =
     (words : List (List ℕ)) (old new : Outside) (status : ℕ) → Outcome words old new status → status ≢ 0 → status ≢ 8
     → ((command : Command) → command_in words ≡ Ok command → how_read command ≢ InRounds) → new.out ≡ old.out
 
--- at the statuses below 6 but 0, and at 13, it gets nothing
+-- at the statuses below 6 but 0, and at 11 and 13, it gets nothing
 abbrev pub RefusalsWriteNothing : Type 0
 RefusalsWriteNothing =
-    (words : List (List ℕ)) (old new : Outside) (status : ℕ) → Outcome words old new status → status ≢ 0 → (status < 6) ⊎ (status ≡ 13) → new.out ≡ old.out
+    (words : List (List ℕ)) (old new : Outside) (status : ℕ) → Outcome words old new status → status ≢ 0
+    → (status < 6) ⊎ ((status ≡ 11) ⊎ (status ≡ 13)) → new.out ≡ old.out
 
--- status 7 or 9: out gets nothing; or, where the command reads in rounds, what those up to some one wrote
+-- status 7: out gets nothing; or, where the command reads in rounds, what those up to some one wrote
 abbrev pub SomeIsWritten : Type 0
 SomeIsWritten =
-    (words : List (List ℕ)) (old new : Outside) (status : ℕ) → Outcome words old new status → (status ≡ 7) ⊎ (status ≡ 9)
+    (words : List (List ℕ)) (old new : Outside) (status : ℕ) → Outcome words old new status → status ≡ 7
     → (command : Command) × (command_in words ≡ Ok command) × WroteSome (how_read command) command old.left new.left old.out new.out
 
+-- status 9: the same; or, where a checkpoint was to be put, the report of one round more
+abbrev pub SomeIsWrittenForMemory : Type 0
+SomeIsWrittenForMemory =
+    (words : List (List ℕ)) (old new : Outside) (status : ℕ) → Outcome words old new status → status ≡ 9
+    → (command : Command) × (command_in words ≡ Ok command) × WroteForMemory (how_read command) command old.left new.left old.out new.out
+
 -- ---- run
--- what a run of good sources wrote is a front of the report, whatever its status: so it is at 7 to 9 too
+-- what a run of good sources wrote is a front of its report, from its opening, whatever its status: so it is at 7 to 9 and 12 too
 abbrev pub RunsWriteFronts : Type 0
 RunsWriteFronts =
     (words : List (List ℕ)) (old new : Outside) (status : ℕ) → Outcome words old new status
-    → (job : List ℕ) (plan : Option (List ℕ)) (left : Contents) (p : Program) → command_in words ≡ Ok (Run job plan)
-    → old.left ≡ Some left → IsGood (Run job plan) left p
-    → (q : Program) × HasJob (Named job) left q × WhereTold old.out new.out (λ had has. (n : ℕ) × Appends n (report_behind (job ∷ plan_files plan) left q) had has)
+    → (job : List ℕ) (plan : Option (List ℕ)) (options : RunOptions) (left : Contents) (p : Program) → command_in words ≡ Ok (Run job plan options)
+    → old.left ≡ Some left → IsGood (Run job plan options) left p
+    → (q : Program) × HasJob (Named job) left q
+    × ((o : Opening) × StartsFrom (Run job plan options) left q o
+    × WhereTold old.out new.out (λ had has. (n : ℕ) × Appends n (report_from o (texts_named (Run job plan options)) left q) had has))
+
+-- a run that is not resumed opens fresh, so that its report is that of the fold of all events from the empty state
+abbrev pub FreshRunsReportTheFold : Type 0
+FreshRunsReportTheFold =
+    (job : List ℕ) (plan save : Option (List ℕ)) (left : Contents) (p : Program) (o : Opening)
+    → StartsFrom (Run job plan (record { save = save; resume = None })) left p o
+    → report_from o (texts_named (Run job plan (record { save = save; resume = None }))) left p ≡ report_behind (job ∷ if_named plan) left p
+
+-- the report up to a border and that of a run which is resumed from its checkpoint are together the report of the whole: the later
+-- events, from the state of the earlier ones
+abbrev pub ResumedRunsGoOn : Type 0
+ResumedRunsGoOn =
+    (p : Program) (lists : List (List Item)) (t : ℕ)
+    → report p (final_outputs p nothing_held lists)
+    ≡ report p (final_outputs p nothing_held (up_to t lists)) ++ report p (final_outputs p (final_state p nothing_held (up_to t lists)) (lists_above (Some t) lists))
 
 -- ---- demo
 -- `demo` reads no file
@@ -178,8 +230,8 @@ DemoReadsNothing =
 -- `demo` has status 0, 8 or 9
 abbrev pub DemoStatuses : Type 0
 DemoStatuses =
-    (words : List (List ℕ)) (old new : Outside) (status : ℕ) (before now : List ℕ → ℕ) (out_before out_now : ℕ)
-    → Outcome words old new status → FaultsFirst words old.left before now out_before out_now status
+    (words : List (List ℕ)) (old new : Outside) (status : ℕ) (before now : Faults)
+    → Outcome words old new status → FaultsFirst words old.left before now status
     → (n seed : ℕ) → command_in words ≡ Ok (Demo n seed) → Contains (0 ∷ 8 ∷ 9 ∷ []) status
 
 -- status 0 of `demo`: out gets the summary of the report of what the seed draws, whatever the files hold and tell
@@ -190,84 +242,97 @@ DemoIsDone =
     → (p : Program) × (job_of p ≡ demo_job) × WhereTold old.out new.out (AppendsAll (demo_summary n seed p))
 
 -- ---- what was read
--- bytes are taken from the front of names
+-- bytes are taken from the front of names, where none may have been put
 abbrev pub FrontsAreTaken : Type 0
 FrontsAreTaken =
-    (words : List (List ℕ)) (old new : Option Contents) → ReadOnly words old new → WhereTold old new TookFronts
+    (words : List (List ℕ)) (old new : Option Contents) (status : ℕ) → ReadOnly words old new status → ((name : List ℕ) → ¬ MayBePut words status name)
+    → WhereTold old new TookFronts
 
--- no byte is taken of a name that the call does not read
+-- no byte is taken of a name that the call does not read, and none is put but of one that it saves to
 abbrev pub NoOtherIsRead : Type 0
 NoOtherIsRead =
-    (words : List (List ℕ)) (old new : Option Contents) → ReadOnly words old new → WhereTold old new (TookOnly (IsReadBy words old))
+    (words : List (List ℕ)) (old new : Option Contents) (status : ℕ) → ReadOnly words old new status
+    → WhereTold old new (TookOnly (λ name. IsReadBy words old name ⊎ IsSavedBy words name))
 
 -- ---- where nothing failed
 -- a command that nothing refuses has status 0, or 9, where a trace that it reads can only be complete
 abbrev pub GoodIsDone : Type 0
 GoodIsDone =
-    (words : List (List ℕ)) (told : Option Contents) (before now : List ℕ → ℕ) (out_before out_now status : ℕ)
-    → Completes words told before now out_before out_now status
+    (words : List (List ℕ)) (told : Option Contents) (before now : Faults) (status : ℕ)
+    → Completes words told before now status
     → (command : Command) (left : Contents) (p : Program) → command_in words ≡ Ok command → told ≡ Some left
-    → NothingFailed command told before now out_before out_now
+    → NothingFailed command told before now
     → IsGood command left p → CanOnlyComplete command left
     → (status ≡ 0) ⊎ (status ≡ 9)
 
 -- a job's text with a fault has status 3, or 9
 abbrev pub JobFaultIsRefused : Type 0
 JobFaultIsRefused =
-    (words : List (List ℕ)) (told : Option Contents) (before now : List ℕ → ℕ) (out_before out_now status : ℕ)
-    → Completes words told before now out_before out_now status
+    (words : List (List ℕ)) (told : Option Contents) (before now : Faults) (status : ℕ)
+    → Completes words told before now status
     → (command : Command) (left : Contents) (name : List ℕ) (fault : JobFault) → command_in words ≡ Ok command → told ≡ Some left
-    → NothingFailed command told before now out_before out_now
+    → NothingFailed command told before now
     → job_wanted command ≡ Named name → IsFirstJobFault (bytes_left left name) fault
     → (status ≡ 3) ⊎ (status ≡ 9)
 
 -- a job that is not accepted, where the command asks for that, has status 4, or 9
 abbrev pub ConflictIsRefused : Type 0
 ConflictIsRefused =
-    (words : List (List ℕ)) (told : Option Contents) (before now : List ℕ → ℕ) (out_before out_now status : ℕ)
-    → Completes words told before now out_before out_now status
+    (words : List (List ℕ)) (told : Option Contents) (before now : Faults) (status : ℕ)
+    → Completes words told before now status
     → (command : Command) (left : Contents) (p : Program) → command_in words ≡ Ok command → told ≡ Some left
-    → NothingFailed command told before now out_before out_now
+    → NothingFailed command told before now
     → IsTrue (asks_accepted command) → HasJob (job_wanted command) left p → ¬ IsAccepted p
     → (status ≡ 4) ⊎ (status ≡ 9)
 
 -- a plan that is not valid for an accepted job has status 5, or 9
 abbrev pub PlanDefectIsRefused : Type 0
 PlanDefectIsRefused =
-    (words : List (List ℕ)) (told : Option Contents) (before now : List ℕ → ℕ) (out_before out_now status : ℕ)
-    → Completes words told before now out_before out_now status
+    (words : List (List ℕ)) (told : Option Contents) (before now : Faults) (status : ℕ)
+    → Completes words told before now status
     → (command : Command) (left : Contents) (p : Program) (plan : List ℕ) → command_in words ≡ Ok command → told ≡ Some left
-    → NothingFailed command told before now out_before out_now
+    → NothingFailed command told before now
     → plan_named command ≡ Some plan → HasJob (job_wanted command) left p → IsAccepted p → ¬ HasValidPlan (job_wanted command) plan left p
     → (status ≡ 5) ⊎ (status ≡ 9)
 
 -- a source with a defect, where the command reads sources and a plan that it names is valid, has status 6, or 9
 abbrev pub SourceFaultIsRefused : Type 0
 SourceFaultIsRefused =
-    (words : List (List ℕ)) (told : Option Contents) (before now : List ℕ → ℕ) (out_before out_now status : ℕ)
-    → Completes words told before now out_before out_now status
+    (words : List (List ℕ)) (told : Option Contents) (before now : Faults) (status : ℕ)
+    → Completes words told before now status
     → (command : Command) (left : Contents) (p : Program) → command_in words ≡ Ok command → told ≡ Some left
-    → NothingFailed command told before now out_before out_now
+    → NothingFailed command told before now
     → HasJob (job_wanted command) left p → (IsTrue (asks_accepted command) → IsAccepted p)
-    → HasPlanAsked command left p → HasDefect (how_read command) (texts_named command) left p
+    → HasPlanAsked command left p → CanStart command left p → HasDefect (how_read command) (texts_named command) left p
     → (status ≡ 6) ⊎ (status ≡ 9)
+
+-- a command that nothing refuses before its start, and that can't start, has status 11, or 9
+abbrev pub SaveDefectIsRefused : Type 0
+SaveDefectIsRefused =
+    (words : List (List ℕ)) (told : Option Contents) (before now : Faults) (status : ℕ)
+    → Completes words told before now status
+    → (command : Command) (left : Contents) (p : Program) → command_in words ≡ Ok command → told ≡ Some left
+    → NothingFailed command told before now
+    → HasJob (job_wanted command) left p → (IsTrue (asks_accepted command) → IsAccepted p)
+    → HasPlanAsked command left p → ¬ CanStart command left p
+    → (status ≡ 11) ⊎ (status ≡ 9)
 
 -- a trace that can't be complete, where nothing refuses the command before it, has status 13, or 9
 abbrev pub TraceFaultIsRefused : Type 0
 TraceFaultIsRefused =
-    (words : List (List ℕ)) (told : Option Contents) (before now : List ℕ → ℕ) (out_before out_now status : ℕ)
-    → Completes words told before now out_before out_now status
+    (words : List (List ℕ)) (told : Option Contents) (before now : Faults) (status : ℕ)
+    → Completes words told before now status
     → (command : Command) (left : Contents) → command_in words ≡ Ok command → told ≡ Some left
-    → NothingFailed command told before now out_before out_now
+    → NothingFailed command told before now
     → HasFaultyTrace command left
     → (status ≡ 13) ⊎ (status ≡ 9)
 
--- completeness follows from the outcome, where 7 and 8 come only from faults of the outside
+-- completeness follows from the outcome, where 7, 8 and 12 come only from faults of the outside
 abbrev pub CompletesByFaults : Type 0
 CompletesByFaults =
-    (words : List (List ℕ)) (old new : Outside) (status : ℕ) (before now : List ℕ → ℕ) (out_before out_now : ℕ)
-    → Outcome words old new status → FaultsFirst words old.left before now out_before out_now status
-    → Completes words old.left before now out_before out_now status
+    (words : List (List ℕ)) (old new : Outside) (status : ℕ) (before now : Faults)
+    → Outcome words old new status → FaultsFirst words old.left before now status
+    → Completes words old.left before now status
 
 -- a command and the files call for one status at most: what refuses a command comes in an order, and the first decides
 abbrev pub CallsForOneStatus : Type 0

@@ -5,7 +5,9 @@ pub mod Rates
 pub mod Reading
 pub mod Simulating
 pub mod Demos
+pub mod Openings
 pub mod Wants
+pub mod Starting
 pub mod Replaying
 pub mod Products
 pub mod Done

@@ -19,12 +19,16 @@ use Rattle.flu_valid.specs.declared.faults.Invalid.{Invalid}
 use Rattle.flu_valid.specs.declared.faults.Invalid.TheVariants.{Unowned, OwnedTwice, Clash}
 use Rattle.flu_streams.specs.declared.faults.Why.{Why}
 use Rattle.flu_streams.specs.declared.faults.Why.TheVariants as whys
+use Rattle.flu_save.specs.declared.fault.SaveFault.{SaveFault}
+use Rattle.flu_save.specs.declared.fault.SaveFault.TheVariants as saves
 use Rattle.flu_trace.specs.declared.faults.ReplayFault.{ReplayFault}
 use Rattle.flu_trace.specs.declared.faults.ReplayFault.TheVariants as traces
 use Rattle.flu_top.specs.declared.refusals.PlanDefect.{PlanDefect}
 use Rattle.flu_top.specs.declared.refusals.PlanDefect.TheVariants as defects
+use Rattle.flu_top.specs.declared.refusals.SaveDefect.{SaveDefect}
+use Rattle.flu_top.specs.declared.refusals.SaveDefect.TheVariants as starts
 use Rattle.flu_top.specs.declared.products.DrawnSteps.{DrawnSteps}
-use Rattle.flu_top.specs.Names.{node_name, itag_text}
+use Rattle.flu_top.specs.Names.{node_name, itag_text, source_name}
 
 -- the word for what has a limit
 abbrev pub what_word : What → List ℕ
@@ -87,6 +91,14 @@ why_text whys.Unclosed = codes "unclosed"
 why_text whys.AfterEnd = codes "after end"
 why_text (whys.TooMany count) = codes "too many, " ++ decimal count
 
+-- why bytes are no checkpoint
+abbrev pub save_fault_text : SaveFault → List ℕ
+save_fault_text (saves.OverLimit count) = limit_text whats.Bytes count
+save_fault_text saves.NotJson = codes "not json"
+save_fault_text saves.WrongForm = codes "wrong form"
+save_fault_text saves.OtherJob = codes "other job"
+save_fault_text saves.NoMemory = codes "no memory"
+
 -- ---- the lines
 -- the line of words that are no command, of which the one at a place does not fit
 abbrev pub bad_words_line : ℕ → List ℕ
@@ -123,6 +135,14 @@ row_line name row why = codes "flumina: source " ++ name ++ codes " row " ++ dec
 abbrev pub source_fault_line : List ℕ → ℕ → Why → List ℕ
 source_fault_line name row why = row_line name row (why_text why)
 
+-- the line of what keeps a run from its start: the source whose file its name is, or what is wrong with its checkpoint
+abbrev pub save_line : List ℕ → List ℕ
+save_line defect = fault_line (codes "flumina: save: ") defect
+
+abbrev pub save_defect_line : SaveDefect → List ℕ
+save_defect_line (starts.SameName checked number) = save_line (codes "same as source " ++ source_name (program_of checked) number)
+save_defect_line (starts.Checkpoint fault) = save_line (save_fault_text fault)
+
 -- the line of what stops the replay of a trace: the number of its line, and why
 abbrev pub trace_line : ℕ → List ℕ → List ℕ
 trace_line line why = codes "flumina: trace line " ++ decimal line ++ codes ": " ++ why ++ codes "\n"
@@ -132,6 +152,9 @@ read_fault_line = codes "flumina: read fault\n"
 
 abbrev pub write_fault_line : List ℕ
 write_fault_line = codes "flumina: write fault\n"
+
+abbrev pub put_fault_line : List ℕ
+put_fault_line = codes "flumina: save fault\n"
 
 abbrev pub no_memory_line : List ℕ
 no_memory_line = codes "flumina: no memory\n"

@@ -1,28 +1,30 @@
 -- THE OUTCOME of a call of `flumina`: what its status says of the words, of what the files held and hold, and of what out and
 -- err got.
-use Rattle.std.specs.Prelude.{◌≡◌, ℕ, List, Option, Some, Ok, Err, IsTrue, ◌⊎◌}
+use Rattle.std.specs.Prelude.{◌≡◌, ℕ, List, [], ◌∷◌, ◌++◌, Contains, Option, Some, Ok, Err, IsTrue, ◌⊎◌}
 use Rattle.flu_outside.specs.Outside.{Contents, WhereTold, Rose}
-use Rattle.flu_outside.specs.Taking.{bytes_left, TookFronts}
+use Rattle.flu_outside.specs.Taking.{bytes_left}
 use Rattle.flu_model.specs.declared.jobs.Program.{Program}
 use Rattle.flu_model.specs.Modes.{IsAccepted}
 use Rattle.flu_parse.specs.declared.faults.JobFault.{JobFault}
 use Rattle.flu_check.specs.declared.CheckFault.{CheckFault}
 use Rattle.flu_streams.specs.declared.faults.SourceFault.{SourceFault}
 use Rattle.flu_top.specs.declared.refusals.PlanDefect.{PlanDefect}
+use Rattle.flu_top.specs.declared.refusals.SaveDefect.{SaveDefect}
 use Rattle.flu_trace.specs.declared.faults.ReplayFault.{ReplayFault}
 use Rattle.flu_trace.specs.Replaying.{Ending}
 use Rattle.flu_words.specs.Words.{Command, command_in}
-use Rattle.flu_top.specs.Taking.{TookOnly}
+use Rattle.flu_top.specs.Taking.{TookOnly, TookFrontsBut}
 use Rattle.flu_top.specs.Behind.{Named, HasJob}
 use Rattle.flu_top.specs.Reading.{HasDefect}
 use Rattle.flu_top.specs.TextFaults.{IsFirstJobFault}
-use Rattle.flu_top.specs.Wants.{Saying, Nothing, Line, want, texts_named}
+use Rattle.flu_top.specs.Wants.{Saying, Nothing, Line, want, save_named, texts_named}
+use Rattle.flu_top.specs.Starting.{CanStart}
 use Rattle.flu_top.specs.Replaying.{ReplaysTo, CanOnlyComplete, CanNotComplete}
-use Rattle.flu_top.specs.Done.{HasValidPlan, HasPlanAsked, IsGood, IsDone, WhereKnown, Wrote, WroteSome, WrotePart, IsReadName, IsReadBy}
-use Rattle.flu_top.specs.Causes.{HasJobFault, HasConflict, HasPlanDefect, HasSourceFault, HasTraceFault}
+use Rattle.flu_top.specs.Done.{HasValidPlan, HasPlanAsked, IsGood, IsDone, WhereKnown, Wrote, WroteSome, WroteForMemory, WroteForPut, WrotePart, IsReadName, IsReadBy, IsSavedBy, MayBePut}
+use Rattle.flu_top.specs.Causes.{HasJobFault, HasConflict, HasPlanDefect, HasSaveDefect, HasSourceFault, HasTraceFault}
 use Rattle.flu_top.specs.Names.{source_name}
 use Rattle.flu_top.specs.Lines.{IsSaid, bad_words_line, job_fault_line, conflict_line, plan_defect_line, source_fault_line}
-use Rattle.flu_top.specs.Lines.{read_fault_line, write_fault_line, no_memory_line, trace_fault_line}
+use Rattle.flu_top.specs.Lines.{read_fault_line, write_fault_line, no_memory_line, save_defect_line, put_fault_line, trace_fault_line}
 
 -- what the files have left, and what out and err have taken, where they tell that, and how often err has failed
 pub record Outside : Type 0 where
@@ -50,7 +52,8 @@ pub record Refused (old new : Outside) (line : List ℕ) : Type 0 where
 
 -- ---- the cases, one for each status: `old` is the outside before the call, and `new` behind it
 pub data Outcome (words : List (List ℕ)) (old new : Outside) (status : ℕ) : Type 0 where
-  -- nothing refuses the command, all that it reads was read to its end, out got all that it writes, and err what it says
+  -- nothing refuses the command, all that it reads was read to its end, out got all that it writes, err what it says, and the last
+  -- checkpoint stands where it saves any
   Done : status ≡ 0 → (command : Command) → command_in words ≡ Ok command → (line : List ℕ)
       → WhereKnown (want command).job old.left new.left (IsDone command old.out new.out line)
       → Hears (want command).says old new line → Outcome words old new status
@@ -70,7 +73,8 @@ pub data Outcome (words : List (List ℕ)) (old new : Outside) (status : ℕ) : 
       → HasPlanDefect command old.left new.left defect
       → Refused old new (plan_defect_line defect) → Outcome words old new status
   -- the command reads the sources of its job, and this is the first defect of the first one that has any; where it reads them in
-  -- rounds, it is that of the earliest round that meets one, and out got what the rounds before that wrote
+  -- rounds, it is that of the earliest round that meets one, and out got what the rounds before that wrote, as the name that it saves
+  -- to has what they put
   BadSource : status ≡ 6 → (command : Command) → command_in words ≡ Ok command → (p : Program) (fault : SourceFault) (text : List ℕ)
       → HasSourceFault command old.left new.left p fault text → Wrote (want command).sources text old.out new.out
       → Said old new (source_fault_line (source_name p fault.source) fault.row fault.why)
@@ -86,25 +90,43 @@ pub data Outcome (words : List (List ℕ)) (old new : Outside) (status : ℕ) : 
       → Said old new write_fault_line → Outcome words old new status
   -- there was no memory; where the command reads in rounds, out may have what those up to some one wrote
   NoMemory : status ≡ 9 → (command : Command) → command_in words ≡ Ok command
-      → WroteSome (want command).sources command old.left new.left old.out new.out
+      → WroteForMemory (want command).sources command old.left new.left old.out new.out
       → Said old new no_memory_line → Outcome words old new status
+  -- a run can't start: a name that it saves to or is resumed from is that of a source's file, or its checkpoint has this first fault
+  BadSave : status ≡ 11 → (command : Command) → command_in words ≡ Ok command → (defect : SaveDefect)
+      → HasSaveDefect command old.left new.left defect
+      → Refused old new (save_defect_line defect) → Outcome words old new status
+  -- a checkpoint could not be put; out has the report of its round and of those before it
+  PutFailed : status ≡ 12 → (command : Command) → command_in words ≡ Ok command
+      → WroteForPut command old.left new.left old.out new.out
+      → Said old new put_fault_line → Outcome words old new status
   -- the command reads a trace, nothing refuses the command before that, and this stops the replay of the trace
   BadTrace : status ≡ 13 → (command : Command) → command_in words ≡ Ok command → (fault : ReplayFault)
       → HasTraceFault command old.left new.left fault
       → Refused old new (trace_fault_line fault) → Outcome words old new status
 
 -- ---- what was read
--- bytes were taken from the front of names, and of no name that the call does not read
-pub record ReadOnly (words : List (List ℕ)) (old new : Option Contents) : Type 0 where
-  pub fronts : WhereTold old new TookFronts
-  pub only : WhereTold old new (TookOnly (IsReadBy words old))
+-- bytes were taken from the front of names, and of no name that the call does not read; but for one that it put
+pub record ReadOnly (words : List (List ℕ)) (old new : Option Contents) (status : ℕ) : Type 0 where
+  pub fronts : WhereTold old new (TookFrontsBut (MayBePut words status))
+  pub only : WhereTold old new (TookOnly (λ name. IsReadBy words old name ⊎ MayBePut words status name))
 
 -- ---- the faults of the outside
--- status 7 comes only where the count of a name that the call reads rose, and status 8 only where out's did
-pub record FaultsFirst (words : List (List ℕ)) (left : Option Contents) (before now : List ℕ → ℕ)
-    (out_before out_now status : ℕ) : Type 0 where
-  pub read : status ≡ 7 → (name : List ℕ) × IsReadBy words left name × Rose (before name) (now name)
-  pub write : status ≡ 8 → Rose out_before out_now
+-- how often the taking and the putting of each name has failed, and how often out has
+pub record Faults : Type 0 where
+  pub takes : List ℕ → ℕ
+  pub puts : List ℕ → ℕ
+  pub out : ℕ
+
+abbrev pub faults : (List ℕ → ℕ) → (List ℕ → ℕ) → ℕ → Faults
+faults takes puts out = record { takes = takes; puts = puts; out = out }
+
+-- status 7 comes only where the count of a name that the call reads rose, status 8 only where out's did, and status 12 only where that
+-- of puts of the name that it saves to did
+pub record FaultsFirst (words : List (List ℕ)) (left : Option Contents) (before now : Faults) (status : ℕ) : Type 0 where
+  pub read : status ≡ 7 → (name : List ℕ) × IsReadBy words left name × Rose (before.takes name) (now.takes name)
+  pub write : status ≡ 8 → Rose before.out now.out
+  pub put : status ≡ 12 → (name : List ℕ) × IsSavedBy words name × Rose (before.puts name) (now.puts name)
 
 -- ---- completeness
 -- the command reads a trace, nothing refuses the command before that, and the trace ends somehow, but can't be complete
@@ -127,19 +149,21 @@ pub data CallsFor (command : Command) (left : Contents) (status : ℕ) : Type 0 
   NoValidPlan : status ≡ 5 → (p : Program) (plan : List ℕ) → (want command).plan ≡ Some plan
       → HasJob (want command).job left p → IsAccepted p
       → ¬ HasValidPlan (want command).job plan left p → CallsFor command left status
+  FaultyStart : status ≡ 11 → (p : Program) → HasJob (want command).job left p → (IsTrue (want command).accepted → IsAccepted p)
+      → HasPlanAsked command left p → ¬ CanStart command left p → CallsFor command left status
   FaultySource : status ≡ 6 → (p : Program) → HasJob (want command).job left p → (IsTrue (want command).accepted → IsAccepted p)
-      → HasPlanAsked command left p → HasDefect (want command).sources (texts_named command) left p → CallsFor command left status
+      → HasPlanAsked command left p → CanStart command left p → HasDefect (want command).sources (texts_named command) left p → CallsFor command left status
   FaultyTrace : status ≡ 13 → HasFaultyTrace command left → CallsFor command left status
 
--- no name that the command reads failed, and out did not
-pub record NothingFailed (command : Command) (left : Option Contents) (before now : List ℕ → ℕ)
-    (out_before out_now : ℕ) : Type 0 where
-  pub files : (name : List ℕ) → IsReadName left command name → ¬ Rose (before name) (now name)
-  pub out : ¬ Rose out_before out_now
+-- no name that the command reads failed, none that it saves to, and out did not
+pub record NothingFailed (command : Command) (left : Option Contents) (before now : Faults) : Type 0 where
+  pub files : (name : List ℕ) → IsReadName left command name → ¬ Rose (before.takes name) (now.takes name)
+  pub saves : (name : List ℕ) → save_named command ≡ Some name → ¬ Rose (before.puts name) (now.puts name)
+  pub out : ¬ Rose before.out now.out
 
 -- where nothing failed, the status is the one that the command and the files call for, or that of want of memory
-abbrev pub Completes : List (List ℕ) → Option Contents → (List ℕ → ℕ) → (List ℕ → ℕ) → ℕ → ℕ → ℕ → Type 0
-Completes words told before now out_before out_now status =
+abbrev pub Completes : List (List ℕ) → Option Contents → Faults → Faults → ℕ → Type 0
+Completes words told before now status =
     (command : Command) (left : Contents) (wanted : ℕ) → command_in words ≡ Ok command → told ≡ Some left
-    → NothingFailed command told before now out_before out_now → CallsFor command left wanted
+    → NothingFailed command told before now → CallsFor command left wanted
     → (status ≡ wanted) ⊎ (status ≡ 9)

@@ -36,6 +36,8 @@ IsTextRefusal p plan old new before now (refusals.SourceFault q fault) = ⊥
 IsTextRefusal p plan old new before now refusals.ReadFault = Rose (before plan) (now plan)
 IsTextRefusal p plan old new before now refusals.WriteFault = ⊥
 IsTextRefusal p plan old new before now refusals.NoMemory = ⊤
+IsTextRefusal p plan old new before now (refusals.SaveDefect defect) = ⊥
+IsTextRefusal p plan old new before now refusals.PutFault = ⊥
 IsTextRefusal p plan old new before now (refusals.TraceFault fault) = ⊥
 
 -- why a plan that was read is not taken
@@ -50,4 +52,6 @@ IsValidRefusal checked nodes (refusals.SourceFault q fault) = ⊥
 IsValidRefusal checked nodes refusals.ReadFault = ⊥
 IsValidRefusal checked nodes refusals.WriteFault = ⊥
 IsValidRefusal checked nodes refusals.NoMemory = ⊤
+IsValidRefusal checked nodes (refusals.SaveDefect defect) = ⊥
+IsValidRefusal checked nodes refusals.PutFault = ⊥
 IsValidRefusal checked nodes (refusals.TraceFault fault) = ⊥

@@ -1,15 +1,20 @@
 -- How a command reads its job's sources, and whether they have a defect that it sees.
-use Rattle.std.specs.Prelude.{◌≡◌, ℕ, List, ◌++◌, Bool, true, false, Option, Some, None, ⊤, slice_get}
+use Rattle.std.specs.Prelude.{◌≡◌, ℕ, List, [], ◌∷◌, ◌++◌, Bool, true, false, Option, Some, None, option_map, ⊤, slice_get}
 use Rattle.flu_outside.specs.Outside.{Contents}
+use Rattle.flu_model.specs.declared.events.Item.{Item}
 use Rattle.flu_model.specs.declared.jobs.Source.{Source}
 use Rattle.flu_model.specs.declared.jobs.Program.{Program}
+use Rattle.flu_model.specs.Folding.{final_state}
 use Rattle.flu_rows.specs.declared.rows.Next.{Next}
 use Rattle.flu_streams.specs.declared.faults.SourceFault.{SourceFault}
 use Rattle.flu_streams.specs.declared.faults.Why.{Why}
-use Rattle.flu_streams.specs.Rounds.{defect_in, IsRoundFault}
-use Rattle.flu_rounds.specs.Written.{AreSound, RanTo, WouldWrite, lines_in}
 use Rattle.flu_streams.specs.declared.border.Border.{Border}
+use Rattle.flu_streams.specs.declared.border.Border.TheVariants.{At}
+use Rattle.flu_streams.specs.Rounds.{defect_in, IsRoundFault, lists_between}
+use Rattle.flu_rounds.specs.Written.{AreSound, RanFrom, WouldWriteFrom, lines_in}
+use Rattle.flu_save.specs.Checkpoint.{save}
 use Rattle.flu_top.specs.Behind.{emptied_each, fault_behind}
+use Rattle.flu_top.specs.Openings.{Opening}
 
 -- not at all; all of them, before any event is run; or in rounds, of which each is run before the next one is read
 pub data Reading : Type 0 where
@@ -53,21 +58,38 @@ HasDefect InRounds texts left p = HasDefectIn p (lines_behind texts left p)
 abbrev pub rows_in_round : ℕ
 rows_in_round = 4096
 
--- THE ROUNDS UP TO SOME ONE meet no defect, and wrote this: the report of the events up to their border, and nothing before the first
-pub record HaveWritten (p : Program) (lines : ℕ → List Next) (text : List ℕ) : Type 0 where
+-- the greatest border, which is that of the last checkpoint
+abbrev pub greatest_border : ℕ
+greatest_border = 9223372036854775807
+
+-- THE CHECKPOINT OF A BORDER: of the state of the fold of the rows above the opening's border and up to this one
+abbrev pub checkpoint_at : Program → Opening → ℕ → (ℕ → List Next) → List ℕ
+checkpoint_at p o t lines = save p t (final_state p o.cells (lists_between p o.border (At t) lines))
+
+-- what a run that saves has put last, where it has come to a border by some rounds: nothing before the first one
+abbrev pub put_by : Program → Opening → List (List (List Item)) → Option ℕ → (ℕ → List Next) → Option (List ℕ)
+put_by p o [] border lines = None
+put_by p o (round ∷ rounds) border lines = option_map (λ t. checkpoint_at p o t lines) border
+
+-- THE ROUNDS UP TO SOME ONE meet no defect, and wrote this: the report of the events up to their border, and nothing before the first;
+-- and this was put last, where the run saves
+pub record HaveWritten (p : Program) (o : Opening) (lines : ℕ → List Next) (text : List ℕ) (put : Option (List ℕ)) : Type 0 where
   pub border : Option ℕ
-  pub ran : RanTo p rows_in_round lines border text
+  pub ran : RanFrom p rows_in_round o.border o.cells lines border text
+  pub saved : put ≡ put_by p o ran.done border ran.before
 
 -- THE NEXT ROUND MEETS THIS DEFECT: no round before it meets any
-pub record MeetsDefect (p : Program) (lines : ℕ → List Next) (text : List ℕ) (fault : SourceFault) : Type 0 where
+pub record MeetsDefect (p : Program) (o : Opening) (lines : ℕ → List Next) (text : List ℕ) (put : Option (List ℕ)) (fault : SourceFault) : Type 0 where
   pub border : Option ℕ
-  pub ran : RanTo p rows_in_round lines border text
+  pub ran : RanFrom p rows_in_round o.border o.cells lines border text
+  pub saved : put ≡ put_by p o ran.done border ran.before
   pub meets : IsRoundFault p rows_in_round border lines ran.before fault
 
 -- THE NEXT ROUND'S REPORT is this: with it, the text is the report of the events up to that round's end
-pub record ReportsNext (p : Program) (lines : ℕ → List Next) (text more : List ℕ) : Type 0 where
+pub record ReportsNext (p : Program) (o : Opening) (lines : ℕ → List Next) (text : List ℕ) (put : Option (List ℕ)) (more : List ℕ) : Type 0 where
   pub border : Option ℕ
-  pub ran : RanTo p rows_in_round lines border text
+  pub ran : RanFrom p rows_in_round o.border o.cells lines border text
+  pub saved : put ≡ put_by p o ran.done border ran.before
   pub end : Border
   pub now : ℕ → List Next
-  pub next : WouldWrite p rows_in_round lines border ran.before now end (text ++ more)
+  pub next : WouldWriteFrom p rows_in_round o.border o.cells lines border ran.before now end (text ++ more)

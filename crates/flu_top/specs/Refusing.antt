@@ -7,7 +7,7 @@ use Rattle.flu_words.specs.Words.{Command}
 use Rattle.flu_top.specs.Wants.{job_wanted}
 use Rattle.flu_top.specs.Done.{IsReadName}
 use Rattle.flu_top.specs.Jobs.{program_read}
-use Rattle.flu_top.specs.Causes.{HasJobFault, HasConflict, HasPlanDefect, HasSourceFault, HasTraceFault}
+use Rattle.flu_top.specs.Causes.{HasJobFault, HasConflict, HasPlanDefect, HasSaveDefect, HasSourceFault, HasTraceFault}
 
 -- a name that is read failed
 abbrev pub HasReadFault : Command → Option Contents → (List ℕ → ℕ) → (List ℕ → ℕ) → Type 0
@@ -23,4 +23,6 @@ IsRefusal command old new before now (refusals.SourceFault job fault) = HasSourc
 IsRefusal command old new before now refusals.ReadFault = HasReadFault command old before now
 IsRefusal command old new before now refusals.WriteFault = ⊥
 IsRefusal command old new before now refusals.NoMemory = ⊤
+IsRefusal command old new before now (refusals.SaveDefect defect) = HasSaveDefect command old new defect
+IsRefusal command old new before now refusals.PutFault = ⊥
 IsRefusal command old new before now (refusals.TraceFault fault) = HasTraceFault command old new fault

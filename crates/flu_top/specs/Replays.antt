@@ -30,6 +30,8 @@ IsNetRefusal p nodes lists trace old new before now (refusals.SourceFault job fa
 IsNetRefusal p nodes lists trace old new before now refusals.ReadFault = Rose (before trace) (now trace)
 IsNetRefusal p nodes lists trace old new before now refusals.WriteFault = ⊥
 IsNetRefusal p nodes lists trace old new before now refusals.NoMemory = ⊤
+IsNetRefusal p nodes lists trace old new before now (refusals.SaveDefect defect) = ⊥
+IsNetRefusal p nodes lists trace old new before now refusals.PutFault = ⊥
 IsNetRefusal p nodes lists trace old new before now (refusals.TraceFault fault) =
     Tells fault (λ ending. WhereTold old new (λ left _. EndsOnNet p nodes lists (bytes_left left trace) ending))
 
@@ -64,5 +66,7 @@ IsReplayRefusal p nodes trace old new before now (refusals.SourceFault job fault
 IsReplayRefusal p nodes trace old new before now refusals.ReadFault = IsReadRise p trace old new before now
 IsReplayRefusal p nodes trace old new before now refusals.WriteFault = ⊥
 IsReplayRefusal p nodes trace old new before now refusals.NoMemory = ⊤
+IsReplayRefusal p nodes trace old new before now (refusals.SaveDefect defect) = ⊥
+IsReplayRefusal p nodes trace old new before now refusals.PutFault = ⊥
 IsReplayRefusal p nodes trace old new before now (refusals.TraceFault fault) =
     Tells fault (λ ending. WhereTold old new (λ left _. (first_fault p left ≡ None) × EndsBehind p nodes trace left ending))

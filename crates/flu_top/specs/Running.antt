@@ -87,6 +87,8 @@ IsRoundsRefusal p c (refusals.SourceFault job fault) = (program_read job ≡ p) 
 IsRoundsRefusal p c refusals.ReadFault = OneRose (files_of p.sources) c.counts c.counts_after × RanSome p c
 IsRoundsRefusal p c refusals.WriteFault = Rose c.count c.count_after × RanInto p c
 IsRoundsRefusal p c refusals.NoMemory = RanSome p c
+IsRoundsRefusal p c (refusals.SaveDefect defect) = ⊥
+IsRoundsRefusal p c refusals.PutFault = ⊥
 IsRoundsRefusal p c (refusals.TraceFault fault) = ⊥
 
 abbrev pub EndsRun : Program → Call → Result (Option DrawnSteps) Refusal → Type 0

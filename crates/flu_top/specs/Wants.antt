@@ -1,5 +1,5 @@
 -- What each command wants: the files that it reads, what it asks of them, what it writes, and what it says on err.
-use Rattle.std.specs.Prelude.{◌≡◌, ℕ, List, [], ◌∷◌, ◌++◌, Bool, true, false, if◌then◌else◌, Option, Some, None}
+use Rattle.std.specs.Prelude.{◌≡◌, ◌≢◌, ℕ, List, [], ◌∷◌, ◌++◌, Bool, true, false, if◌then◌else◌, Option, Some, None}
 use Rattle.flu_outside.specs.Outside.{Contents}
 use Rattle.flu_model.specs.declared.jobs.Program.{Program}
 use Rattle.flu_model.specs.declared.plans.Node.{Node}
@@ -8,8 +8,9 @@ use Rattle.flu_parse.specs.Printing.{normal_form}
 use Rattle.flu_plan.specs.Printing.{printed}
 use Rattle.flu_planner.specs.Plans.{IsGreedyPlan}
 use Rattle.flu_streams.specs.Files.{files_of}
-use Rattle.flu_words.specs.Words.{Command, Fold, Check, Valid, Plan, Run, Simulate, Replay, Demo}
+use Rattle.flu_words.specs.Words.{Command, Fold, Check, Valid, Plan, Run, Simulate, Replay, Demo, RunOptions}
 use Rattle.flu_top.specs.Behind.{WantedJob, Named, Fixed, HasPlan, job_files, report_behind}
+use Rattle.flu_top.specs.Openings.{Opening, Opens, report_from}
 use Rattle.flu_top.specs.Rates.{source_rates}
 use Rattle.flu_top.specs.Reading.{Reading, Unread, Whole, InRounds, is_read}
 use Rattle.flu_top.specs.Simulating.{IsLineOfRun, IsStepLine, IsTraceOfRun}
@@ -27,10 +28,14 @@ pub record IsPlanPrinted (job plan : List ℕ) (left : Contents) (p : Program) (
   pub has : HasPlan (Named job) plan left p nodes
   pub is : text ≡ printed p nodes
 
--- the file of a plan, if there is one
-abbrev pub plan_files : Option (List ℕ) → List (List ℕ)
-plan_files None = []
-plan_files (Some plan) = plan ∷ []
+-- a name, if there is one, as a list
+abbrev pub if_named : Option (List ℕ) → List (List ℕ)
+if_named None = []
+if_named (Some name) = name ∷ []
+
+-- this is the report of a run that opens with a checkpoint, if one is named, which is read behind some texts; and then the sources
+abbrev pub IsReportOfRun : List (List ℕ) → Option (List ℕ) → Contents → Program → List ℕ → Type 0
+IsReportOfRun texts resume left p text = (o : Opening) × Opens resume texts left p o × (text ≡ report_from o (texts ++ if_named resume) left p)
 
 -- what a run that a seed draws writes: the report of the fold; or its trace, where that is asked for
 abbrev pub IsTextOfRun : Bool → List ℕ → List ℕ → ℕ → Contents → Program → List ℕ → Type 0
@@ -52,6 +57,9 @@ pub record Want : Type 1 where
   pub plan : Option (List ℕ)
   -- how it reads the job's sources, which must have no defect
   pub sources : Reading
+  -- the name that it saves checkpoints to, if it saves any, and that of the one which it is resumed from
+  pub save : Option (List ℕ)
+  pub resume : Option (List ℕ)
   -- the name of the trace that it reads, if it reads one, which has to be complete
   pub trace : Option (List ℕ)
   -- the text that it writes, by what its files have left and by the job's program
@@ -60,15 +68,17 @@ pub record Want : Type 1 where
   pub says : Saying
 
 -- the report of the fold; the normal form of the job; the normal form of the plan; the text of a greedy plan; the report of
--- the fold again, which a run on the tree of threads gives too, and so does a run on the net, whose steps are said on err, and
--- whose trace is written where that is asked for; the report of the fold again, by the steps of a trace; the summary of the report
--- of what a seed draws, for which no file is read
+-- the fold again, which a run on the tree of threads gives too, from a checkpoint where it is resumed from one; and so does a run on
+-- the net, whose steps are said on err, and whose trace is written where that is asked for; the report of the fold again, by the
+-- steps of a trace; the summary of the report of what a seed draws, for which no file is read
 abbrev pub want : Command → Want
 want (Fold job) = record {
   job = Named job;
   accepted = false;
   plan = None;
   sources = Whole;
+  save = None;
+  resume = None;
   trace = None;
   writes = λ left p text. text ≡ report_behind (job ∷ []) left p;
   says = Nothing;
@@ -78,6 +88,8 @@ want (Check job) = record {
   accepted = true;
   plan = None;
   sources = Unread;
+  save = None;
+  resume = None;
   trace = None;
   writes = λ left p text. text ≡ normal_form (job_of p);
   says = Nothing;
@@ -87,6 +99,8 @@ want (Valid job plan) = record {
   accepted = true;
   plan = Some plan;
   sources = Unread;
+  save = None;
+  resume = None;
   trace = None;
   writes = λ left p text. IsPlanPrinted job plan left p text;
   says = Nothing;
@@ -96,17 +110,21 @@ want (Plan job depth) = record {
   accepted = true;
   plan = None;
   sources = Unread;
+  save = None;
+  resume = None;
   trace = None;
   writes = λ left p text. IsGreedyText p depth text;
   says = Nothing;
 }
-want (Run job plan) = record {
+want (Run job plan options) = record {
   job = Named job;
   accepted = true;
   plan = plan;
   sources = InRounds;
+  save = options.save;
+  resume = options.resume;
   trace = None;
-  writes = λ left p text. text ≡ report_behind (job ∷ plan_files plan) left p;
+  writes = λ left p text. IsReportOfRun (job ∷ if_named plan) options.resume left p text;
   says = Nothing;
 }
 want (Simulate job plan seed trace) = record {
@@ -114,6 +132,8 @@ want (Simulate job plan seed trace) = record {
   accepted = true;
   plan = Some plan;
   sources = Whole;
+  save = None;
+  resume = None;
   trace = None;
   writes = λ left p text. IsTextOfRun trace job plan seed left p text;
   says = Line (IsLineOfRun job plan seed) IsStepLine;
@@ -123,6 +143,8 @@ want (Replay job plan trace) = record {
   accepted = true;
   plan = Some plan;
   sources = Whole;
+  save = None;
+  resume = None;
   trace = Some trace;
   writes = λ left p text. text ≡ report_behind (job ∷ plan ∷ []) left p;
   says = Nothing;
@@ -132,6 +154,8 @@ want (Demo n seed) = record {
   accepted = true;
   plan = None;
   sources = Unread;
+  save = None;
+  resume = None;
   trace = None;
   writes = λ left p text. text ≡ demo_summary n seed p;
   says = Nothing;
@@ -170,9 +194,20 @@ is_nothing (Line Is IsForm) = false
 abbrev pub says_nothing : Command → Bool
 says_nothing command = is_nothing (want command).says
 
--- the names of the texts that a command reads, one after another: its job's, and its plan's, if it reads them
+-- the names that a command saves to and is resumed from, if it names them
+abbrev pub save_named : Command → Option (List ℕ)
+save_named command = (want command).save
+
+abbrev pub resume_named : Command → Option (List ℕ)
+resume_named command = (want command).resume
+
+-- the names of the job's text and of the plan's, if a command reads them
+abbrev pub job_and_plan_named : Command → List (List ℕ)
+job_and_plan_named command = job_files (job_wanted command) ++ if_named (plan_named command)
+
+-- the names of all texts that it reads, one after another, before the sources: those, and that of the checkpoint, if it reads one
 abbrev pub texts_named : Command → List (List ℕ)
-texts_named command = job_files (job_wanted command) ++ plan_files (plan_named command)
+texts_named command = job_and_plan_named command ++ if_named (resume_named command)
 
 -- this text is what a command writes
 abbrev pub Writes : Command → Contents → Program → List ℕ → Type 0
@@ -182,6 +217,6 @@ Writes command = (want command).writes
 abbrev pub sources_read : Command → Program → List (List ℕ)
 sources_read command p = if reads_sources command then files_of p.sources else []
 
--- the files that a command reads besides its job and a trace
-abbrev pub files_read : Command → Program → List (List ℕ)
-files_read command p = plan_files (plan_named command) ++ sources_read command p
+-- a name that a command does not save to
+abbrev pub IsNotSaved : Command → List ℕ → Type 0
+IsNotSaved command name = save_named command ≢ Some name

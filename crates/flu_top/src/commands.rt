@@ -1,10 +1,11 @@
 //! The doing of commands.
 
+ghost use Rattle.std.specs.Prelude.{◌⊎◌};
 ghost use Rattle.flu_outside.specs.Outside.{WhereTold};
-ghost use Rattle.flu_outside.specs.Taking.{TookFronts};
 ghost use Rattle.flu_words.specs.Words.{plain_command};
-ghost use Rattle.flu_top.specs.Taking.{TookOnly};
-ghost use Rattle.flu_top.specs.Done.{IsReadName};
+ghost use Rattle.flu_top.specs.Taking.{TookOnly, TookFrontsBut};
+ghost use Rattle.flu_top.specs.Answer.{status_after};
+ghost use Rattle.flu_top.specs.Done.{IsReadName, IsPutAt};
 ghost use Rattle.flu_top.specs.Ending.{call, IsEnding};
 ghost use Rattle.flu_top.specs.Writing.{IsPut, as_product};
 
@@ -15,7 +16,7 @@ use crate::planning::plan_job;
 use crate::products::{DrawnSteps, Product};
 use crate::refusals::Refusal;
 use crate::replaying::replay_planned;
-use crate::running::{run_greedily, run_planned};
+use crate::running::run_job;
 use crate::simulating::simulate_planned;
 use crate::validating::valid_plan;
 use flu_model::Text;
@@ -36,20 +37,18 @@ pub fn run<F: Files, K: Sink, G: Gate, R: Threads + Wait + Sync>(
     command: Command,
     gate: &G,
 ) -> Result<Option<DrawnSteps>, Refusal>
-    ensures ends { IsEnding (call (F.left files.old) (F.left files.new) (F.faults files.old) (F.faults files.new) (K.taken out.old) (K.taken out.new) (K.faults out.old) (K.faults out.new)) (plain_command command.entry) result }
-    ensures fronts { WhereTold (F.left files.old) (F.left files.new) TookFronts }
-    ensures only { WhereTold (F.left files.old) (F.left files.new) (TookOnly (IsReadName (F.left files.old) (plain_command command.entry))) }
+    ensures ends { IsEnding (call (F.left files.old) (F.left files.new) (F.faults files.old) (F.faults files.new) (F.put_faults files.old) (F.put_faults files.new) (K.taken out.old) (K.taken out.new) (K.faults out.old) (K.faults out.new)) (plain_command command.entry) result }
+    ensures fronts { WhereTold (F.left files.old) (F.left files.new) (TookFrontsBut (IsPutAt (plain_command command.entry) (status_after result))) }
+    ensures only { WhereTold (F.left files.old) (F.left files.new) (TookOnly (λ name. IsReadName (F.left files.old) (plain_command command.entry) name ⊎ IsPutAt (plain_command command.entry) (status_after result) name)) }
 {
     match command {
         Command::Fold { job } => put_text(out, fold_job(alloc, files, job)),
         Command::Check { job } => put_text(out, check_job(alloc, files, job)),
         Command::Valid { job, plan } => put_text(out, valid_plan(alloc, files, job, plan)),
         Command::Plan { job, depth } => put_text(out, plan_job(alloc, files, job, depth)),
-        Command::Run {
-            job,
-            plan: Some(plan),
-        } => run_planned(rt, alloc, files, out, job, plan, gate),
-        Command::Run { job, plan: None } => run_greedily(rt, alloc, files, out, job, gate),
+        Command::Run { job, plan, options } => {
+            run_job(rt, alloc, files, out, job, plan, options, gate)
+        }
         Command::Simulate {
             job,
             plan,

@@ -1,18 +1,20 @@
 //! What follows from the outcome of a call of `flumina`: what each status says by itself, what was read, and what comes where nothing
 //! failed. Each law is the contract of a function that does nothing.
 
-ghost use Rattle.flu_top.specs.Laws.{KnownStatuses, DoneIsDone, DoneIsQuiet, SimulationIsHeard, DemoReadsNothing, DemoStatuses, DemoIsDone, BadWordsExactly, BadWordsLine, BadWordsTouchNothing, JobFaultIsFirst, ConflictIsFirst, PlanDefectIsFirst, SourceFaultIsFirst, TraceFaultIsFirst, ReadFaultRose, ReadFaultLine, WriteFaultRose, WriteFaultIsPart, WriteFaultLine, NoMemoryLine, NothingIsWritten, RefusalsWriteNothing, SomeIsWritten, RunsWriteFronts, FrontsAreTaken, NoOtherIsRead, GoodIsDone, JobFaultIsRefused, ConflictIsRefused, PlanDefectIsRefused, SourceFaultIsRefused, TraceFaultIsRefused, CompletesByFaults, CallsForOneStatus};
+ghost use Rattle.flu_top.specs.Laws.{KnownStatuses, DoneIsDone, DoneIsQuiet, SimulationIsHeard, DemoReadsNothing, DemoStatuses, DemoIsDone, BadWordsExactly, BadWordsLine, BadWordsTouchNothing, JobFaultIsFirst, ConflictIsFirst, PlanDefectIsFirst, SaveDefectIsFirst, SourceFaultIsFirst, TraceFaultIsFirst, ReadFaultRose, ReadFaultLine, WriteFaultRose, WriteFaultIsPart, WriteFaultLine, PutFaultRose, PutFaultIsBehindARound, NoMemoryLine, NothingIsWritten, RefusalsWriteNothing, SomeIsWritten, SomeIsWrittenForMemory, RunsWriteFronts, FreshRunsReportTheFold, ResumedRunsGoOn, FrontsAreTaken, NoOtherIsRead, GoodIsDone, JobFaultIsRefused, ConflictIsRefused, PlanDefectIsRefused, SaveDefectIsRefused, SourceFaultIsRefused, TraceFaultIsRefused, CompletesByFaults, CallsForOneStatus};
 
 use flu_grammar::laws::{jobs_are_grammar, plans_are_grammar};
-use flu_streams::{last_round_has_all_rows, rounds_meet_what_is_there};
+use flu_save::{checkpoints_have_one_meaning, faults_are_no_checkpoints};
+use flu_streams::{borders_cut_a_fold, last_round_has_all_rows, rounds_meet_what_is_there};
 
-/// The statuses, and which of them write to out: 0 and 8; and 6, 7 and 9 of a command that reads in rounds, which may leave there what
-/// the rounds up to some one wrote.
+/// The statuses, and which of them write to out: 0 and 8; and 6, 7, 9 and 12 of a command that reads in rounds, which may leave there
+/// what the rounds up to some one wrote.
 pub fn of_statuses()
     ensures known { KnownStatuses }
     ensures nothing { NothingIsWritten }
     ensures refused { RefusalsWriteNothing }
     ensures some { SomeIsWritten }
+    ensures memory { SomeIsWrittenForMemory }
 {}
 
 /// Status 0: all that the command reads was read to its end, what it writes stands in out, and err is untouched, but by `simulate`,
@@ -38,38 +40,47 @@ pub fn of_bad_words()
     ensures untouched { BadWordsTouchNothing }
 {}
 
-/// The statuses 3 to 6 and 13 come only where a fault of the job's text, a conflict of the job, a defect of the plan, a defect of a
-/// source or a fault of a trace refuses the command, with the line of the first one.
+/// The statuses 3 to 6, 11 and 13 come only where a fault of the job's text, a conflict of the job, a defect of the plan, what keeps a
+/// run from its start, a defect of a source or a fault of a trace refuses the command, with the line of the first one.
 pub fn of_refusals()
     ensures job_fault { JobFaultIsFirst }
     ensures conflict { ConflictIsFirst }
     ensures plan_defect { PlanDefectIsFirst }
+    ensures save_defect { SaveDefectIsFirst }
     ensures source_fault { SourceFaultIsFirst }
     ensures trace_fault { TraceFaultIsFirst }
 {}
 
-/// Status 7 comes only where the count of a name that the call reads rose, and 8 only where out's count rose; then out has a front of
-/// what the command writes. Each of them, and 9, has its line.
+/// Status 7 comes only where the count of a name that the call reads rose, 8 only where out's count rose, and then out has a front of
+/// what the command writes; and 12 only where that of puts of the name that it saves to did, and then out has the report of the round
+/// whose checkpoint could not be put. Each of them, and 9, has its line.
 pub fn of_faults()
     ensures read_fault { ReadFaultRose }
     ensures read_fault_line { ReadFaultLine }
     ensures write_fault { WriteFaultRose }
     ensures partial { WriteFaultIsPart }
     ensures write_fault_line { WriteFaultLine }
+    ensures put_fault { PutFaultRose }
+    ensures behind_a_round { PutFaultIsBehindARound }
     ensures no_memory_line { NoMemoryLine }
 {}
 
-/// Where the sources of a `run` are good, what it wrote is a front of its report, whatever its status.
+/// Where a `run` can start and its sources are good, what it wrote is a front of its report, whatever its status. Where it is not
+/// resumed that is the report of the fold; and the report up to a border, with that of the later events from the state that is saved
+/// with it, is that of the whole.
 pub fn of_runs()
-    ensures { RunsWriteFronts }
+    ensures fronts { RunsWriteFronts }
+    ensures fresh { FreshRunsReportTheFold }
+    ensures resumed { ResumedRunsGoOn }
 {
+    borders_cut_a_fold();
     jobs_are_grammar();
     plans_are_grammar();
     last_round_has_all_rows();
     rounds_meet_what_is_there();
 }
 
-/// Bytes are taken from the front of names, and of no name that the call does not read.
+/// Bytes are taken from the front of names, and of no name that the call does not read, but for one that it puts.
 pub fn of_reading()
     ensures fronts { FrontsAreTaken }
     ensures only { NoOtherIsRead }
@@ -81,14 +92,16 @@ pub fn of_completeness()
     ensures refuses_job { JobFaultIsRefused }
     ensures refuses_conflict { ConflictIsRefused }
     ensures refuses_plan { PlanDefectIsRefused }
+    ensures refuses_start { SaveDefectIsRefused }
     ensures refuses_source { SourceFaultIsRefused }
     ensures refuses_trace { TraceFaultIsRefused }
 {}
 
-/// That a call completes follows from its outcome, where the statuses 7 and 8 come only from faults of the outside.
+/// That a call completes follows from its outcome, where the statuses 7, 8 and 12 come only from faults of the outside.
 pub fn completes_by_faults()
     ensures { CompletesByFaults }
 {
+    faults_are_no_checkpoints();
     jobs_are_grammar();
     plans_are_grammar();
     rounds_meet_what_is_there();
@@ -98,6 +111,7 @@ pub fn completes_by_faults()
 pub fn calls_for_one_status()
     ensures { CallsForOneStatus }
 {
+    checkpoints_have_one_meaning();
     jobs_are_grammar();
     plans_are_grammar();
     rounds_meet_what_is_there();

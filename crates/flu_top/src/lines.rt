@@ -3,7 +3,7 @@
 ghost use Rattle.std.specs.Prelude.{◌≡◌, ◌++◌, OnOk, OnErr};
 ghost use Rattle.std.specs.Fmt.{decimal};
 ghost use Rattle.flu_outside.specs.Writing.{Writes};
-ghost use Rattle.flu_top.specs.Lines.{what_word, limit_text, bad_words_line, fault_line, job_fault_line, conflict_line, row_line, source_fault_line, trace_line, trace_fault_line, step_line, IsSaid};
+ghost use Rattle.flu_top.specs.Lines.{what_word, limit_text, bad_words_line, fault_line, job_fault_line, conflict_line, row_line, source_fault_line, save_line, save_fault_text, save_defect_line, trace_line, trace_fault_line, step_line, IsSaid};
 ghost use Rattle.flu_streams.specs.declared.faults.Why.{Why};
 ghost use Rattle.flu_top.specs.Answer.{line_of};
 
@@ -11,12 +11,13 @@ use crate::names::{source_name, write_cell, write_tag};
 use crate::pieces::{digits_of, write_counts, write_pieces};
 use crate::plan_lines::write_plan_defect;
 use crate::products::DrawnSteps;
-use crate::refusals::Refusal;
+use crate::refusals::{Refusal, SaveDefect};
 use flu_check::CheckFault;
 use flu_model::What;
 use flu_outside::{Failed, Sink};
 use flu_parse::JobFault;
 use flu_report::write_all;
+use flu_save::SaveFault;
 use flu_streams::{SourceFault, Why};
 use flu_trace::ReplayFault;
 use flu_words::BadWords;
@@ -24,6 +25,9 @@ use itoa::Buffer;
 
 // What a line of a fault in a job text begins with.
 const JOB: &[u8] = b"flumina: job: ";
+
+// What a line of what keeps a run from its start begins with.
+const SAVE: &[u8] = b"flumina: save: ";
 
 /// Says a refusal on err, in a line that takes no memory.
 pub fn say<E: Sink>(err: &mut E, refusal: &Refusal)
@@ -86,6 +90,8 @@ fn write_line<E: Sink>(err: &mut E, refusal: &Refusal) -> Result<(), Failed>
         Refusal::ReadFault => write_all(err, b"flumina: read fault\n"),
         Refusal::WriteFault => write_all(err, b"flumina: write fault\n"),
         Refusal::NoMemory => write_all(err, b"flumina: no memory\n"),
+        Refusal::SaveDefect(defect) => write_save_defect(err, defect),
+        Refusal::PutFault => write_all(err, b"flumina: save fault\n"),
         Refusal::TraceFault(fault) => write_trace_fault(err, *fault),
     }
 }
@@ -267,6 +273,32 @@ fn write_too_many<E: Sink>(err: &mut E, name: &str, row: u64, count: u64) -> Res
             b"\n",
         ],
     )
+}
+
+// Writes the line of what keeps a run from its start.
+fn write_save_defect<E: Sink>(err: &mut E, defect: &SaveDefect) -> Result<(), Failed>
+    ensures { Writes (save_defect_line defect.now) (E.taken err.old) (E.taken err.new) (E.faults err.old) (E.faults err.new) result }
+{
+    match defect {
+        SaveDefect::SameName(checked, number) => {
+            let name = source_name(checked.program(), *number).as_bytes();
+            write_pieces(err, &[SAVE, b"same as source ", name, b"\n"])
+        }
+        SaveDefect::Checkpoint(fault) => write_save_fault(err, *fault),
+    }
+}
+
+// Writes the line of a fault in a checkpoint.
+fn write_save_fault<E: Sink>(err: &mut E, fault: SaveFault) -> Result<(), Failed>
+    ensures { Writes (save_line (save_fault_text fault)) (E.taken err.old) (E.taken err.new) (E.faults err.old) (E.faults err.new) result }
+{
+    match fault {
+        SaveFault::OverLimit { count } => write_over_limit(err, SAVE, What::Bytes, count),
+        SaveFault::NotJson => write_all(err, b"flumina: save: not json\n"),
+        SaveFault::WrongForm => write_all(err, b"flumina: save: wrong form\n"),
+        SaveFault::OtherJob => write_all(err, b"flumina: save: other job\n"),
+        SaveFault::NoMemory => write_all(err, b"flumina: save: no memory\n"),
+    }
 }
 
 // Writes the line of what stops the replay of a trace.

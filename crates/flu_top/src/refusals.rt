@@ -6,9 +6,10 @@ ghost use Rattle.flu_top.specs.Answer.{status_of};
 use flu_check::CheckFault;
 use flu_deps::Checked;
 use flu_model::Program;
-use flu_outside::TakeFault;
+use flu_outside::{PutFault, TakeFault};
 use flu_parse::JobFault;
 use flu_plan::PlanFault;
+use flu_save::SaveFault;
 use flu_streams::SourceFault;
 use flu_trace::ReplayFault;
 use flu_valid::ValidFault;
@@ -47,6 +48,15 @@ pub enum PlanDefect {
     Invalid(Checked, ValidFault),
 }
 
+/// What keeps a run from its start.
+#[derive(Drop)]
+pub enum SaveDefect {
+    /// A name that the run saves to, or is resumed from, is that of the file of this source of the job.
+    SameName(Checked, u32),
+    /// The bytes under the name that it is resumed from are no checkpoint of the job.
+    Checkpoint(SaveFault),
+}
+
 /// Why a command was not done.
 #[derive(Drop)]
 pub enum Refusal {
@@ -66,6 +76,10 @@ pub enum Refusal {
     WriteFault,
     /// There was no memory.
     NoMemory,
+    /// The run can't start.
+    SaveDefect(SaveDefect),
+    /// A checkpoint could not be put.
+    PutFault,
     /// The trace has a fault, or stops before the net is final.
     TraceFault(ReplayFault),
 }
@@ -83,6 +97,8 @@ pub fn status(refusal: &Refusal) -> u8
         Refusal::ReadFault => 7,
         Refusal::WriteFault => 8,
         Refusal::NoMemory => 9,
+        Refusal::SaveDefect(_) => 11,
+        Refusal::PutFault => 12,
         Refusal::TraceFault(_) => 13,
     }
 }
@@ -125,6 +141,34 @@ impl From<TakeFault> for Refusal {
         match fault {
             TakeFault::Failed => Refusal::ReadFault,
             TakeFault::NoMemory => Refusal::NoMemory,
+        }
+    }
+}
+
+impl From<PutFault> for Refusal {
+    ghost use Rattle.std.specs.Prelude.{◌≡◌};
+    ghost use Rattle.flu_top.specs.Answer.{refusal_of_put};
+
+    ghost from_gives = { λ fault refusal. refusal ≡ refusal_of_put fault };
+
+    fn from(fault: PutFault) -> Refusal {
+        match fault {
+            PutFault::Failed => Refusal::PutFault,
+            PutFault::NoMemory => Refusal::NoMemory,
+        }
+    }
+}
+
+impl From<SaveFault> for Refusal {
+    ghost use Rattle.std.specs.Prelude.{◌≡◌};
+    ghost use Rattle.flu_top.specs.Answer.{refusal_of_save};
+
+    ghost from_gives = { λ fault refusal. refusal ≡ refusal_of_save fault };
+
+    fn from(fault: SaveFault) -> Refusal {
+        match fault {
+            SaveFault::NoMemory => Refusal::NoMemory,
+            fault => Refusal::SaveDefect(SaveDefect::Checkpoint(fault)),
         }
     }
 }

@@ -1,6 +1,6 @@
-//! `run JOB [PLAN]`: the report of a run of a job's events on the tree of threads, in rounds.
+//! `run JOB [PLAN] [--save FILE] [--resume FILE]`: the report of a run of a job's events on the tree of threads, in rounds.
 
-ghost use Rattle.std.specs.Prelude.{◌≡◌, ◌≢◌, ◌≤◌, ℕ, length, List, Some, None, Ok, Err, IfOk, IfErr, OnOk, IsErrOf};
+ghost use Rattle.std.specs.Prelude.{◌≡◌, ◌≢◌, ◌≤◌, ◌⊎◌, ℕ, option_map, length, List, Some, None, Ok, Err, IfOk, IfErr, OnOk, IsErrOf};
 ghost use Rattle.flu_outside.specs.Outside.{WhereTold, Rose};
 ghost use Rattle.flu_outside.specs.Taking.{TookFronts};
 ghost use Rattle.flu_outside.specs.Writing.{AppendsAll, AppendsPart};
@@ -18,27 +18,30 @@ ghost use Rattle.flu_streams.specs.Files.{files_of, LeavesOthers, OneRose};
 ghost use Rattle.flu_streams.specs.Holding.{AreHeldBehind, ClosedAreReadOut, AreClosed, IsNewBorder};
 ghost use Rattle.flu_rounds.specs.declared.faults.RoundsFault.{RoundsFault};
 ghost use Rattle.flu_rounds.specs.Standing.{round_report, Runs, IsRoundOf, IsSourceFault, StandsBehind};
-ghost use Rattle.flu_words.specs.Words.{Run};
-ghost use Rattle.flu_top.specs.Taking.{TookOnly};
-ghost use Rattle.flu_top.specs.Done.{IsReadName};
+ghost use Rattle.flu_words.specs.Words.{Run, plain_options};
+ghost use Rattle.flu_top.specs.Taking.{TookOnly, TookFrontsBut};
+ghost use Rattle.flu_top.specs.Answer.{status_after};
+ghost use Rattle.flu_top.specs.Done.{IsReadName, IsPutAt};
 ghost use Rattle.flu_top.specs.Ending.{call, IsEnding};
 ghost use Rattle.flu_top.specs.Running.{EndsRounds, EndsRun};
 
 use crate::backup::Backup;
+use crate::openings::{Opening, opening_of, same_name};
 use crate::planned::{Planned, planned_by, planned_greedily};
 use crate::products::DrawnSteps;
 use crate::programs::program_of;
-use crate::refusals::{JobRead, Refusal};
+use crate::refusals::{JobRead, Refusal, SaveDefect};
+use crate::saves::put_checkpoint;
 use flu_cells::State;
-use flu_model::{Streams, Text};
-use flu_outside::{Files, Sink};
+use flu_model::{Program, Streams, Text};
+use flu_outside::{Files, PutFault, Sink};
 use flu_report::report_text;
 use flu_rounds::{
     Begun, Border, Rounds, RoundsFault, halves_make_a_round, runs_go_on, runs_write_the_fold,
 };
 use flu_run::TreeEngine;
 use flu_seq::{Engine, Gate};
-use flu_words::USUAL_DEPTH;
+use flu_words::{RunOptions, USUAL_DEPTH};
 use std::alloc::{AllocError, Global};
 use std::sync::Wait;
 use std::thread::Threads;
@@ -46,97 +49,143 @@ use std::thread::Threads;
 // A round is to be had as soon as each source has so many rows that are settled.
 const ROWS_IN_ROUND: u32 = 4096;
 
-/// Writes the report of the job that a file holds, which is run by the plan that another file holds.
-pub fn run_planned<F: Files, K: Sink, G: Gate, R: Threads + Wait + Sync>(
+/// Why the rounds of a run ended before the last one.
+#[derive(Clone, Copy, Debug)]
+enum RunFault {
+    /// A round was not run, or not all of its report was written.
+    Round(RoundsFault),
+    /// A round's report was written, and its checkpoint could not be put.
+    Unsaved(PutFault),
+}
+
+/// Writes the report of the job that a file holds, which is run by the plan that another file holds, or by its greedy plan where none
+/// is named: from its opening, and with a checkpoint behind each round where it saves.
+pub fn run_job<F: Files, K: Sink, G: Gate, R: Threads + Wait + Sync>(
     rt: &R,
     alloc: Global,
     files: &mut F,
     out: &mut K,
     job: &str,
-    plan: &str,
+    plan: Option<&str>,
+    options: RunOptions<'_>,
     gate: &G,
 ) -> Result<Option<DrawnSteps>, Refusal>
-    ensures ends { IsEnding (call (F.left files.old) (F.left files.new) (F.faults files.old) (F.faults files.new) (K.taken out.old) (K.taken out.new) (K.faults out.old) (K.faults out.new)) (Run job.now (Some plan.now)) result }
-    ensures fronts { WhereTold (F.left files.old) (F.left files.new) TookFronts }
-    ensures only { WhereTold (F.left files.old) (F.left files.new) (TookOnly (IsReadName (F.left files.old) (Run job.now (Some plan.now)))) }
+    ensures ends { IsEnding (call (F.left files.old) (F.left files.new) (F.faults files.old) (F.faults files.new) (F.put_faults files.old) (F.put_faults files.new) (K.taken out.old) (K.taken out.new) (K.faults out.old) (K.faults out.new)) (Run job.now (option_map (λ name. name.now) plan) (plain_options options)) result }
+    ensures fronts { WhereTold (F.left files.old) (F.left files.new) (TookFrontsBut (IsPutAt (Run job.now (option_map (λ name. name.now) plan) (plain_options options)) (status_after result))) }
+    ensures only { WhereTold (F.left files.old) (F.left files.new) (TookOnly (λ name. IsReadName (F.left files.old) (Run job.now (option_map (λ name. name.now) plan) (plain_options options)) name ⊎ IsPutAt (Run job.now (option_map (λ name. name.now) plan) (plain_options options)) (status_after result) name)) }
 {
-    match planned_by(alloc, files, job, plan) {
-        Ok(planned) => run_in_rounds(rt, alloc, files, out, planned, gate),
+    let planned = match planned_for(alloc, files, job, plan) {
+        Ok(planned) => planned,
+        Err(refusal) => return Err(refusal),
+    };
+    if let Some(number) = same_name(planned.checked.program(), options) {
+        return Err(Refusal::SaveDefect(SaveDefect::SameName(
+            planned.checked,
+            number,
+        )));
+    }
+    let opening = match opening_of(alloc, files, planned.checked.program(), options.resume) {
+        Ok(opening) => opening,
+        Err(refusal) => return Err(refusal),
+    };
+    run_in_rounds(rt, alloc, files, out, planned, opening, options.save, gate)
+}
+
+// The job that a file holds with the plan that another file holds, or with its greedy plan where none is named.
+fn planned_for<F: Files>(
+    alloc: Global,
+    files: &mut F,
+    job: &str,
+    plan: Option<&str>,
+) -> Result<Planned, Refusal> {
+    match plan {
+        Some(plan) => planned_by(alloc, files, job, plan),
+        None => greedily(alloc, files, job),
+    }
+}
+
+// The job that a file holds with its greedy plan.
+fn greedily<F: Files>(alloc: Global, files: &mut F, job: &str) -> Result<Planned, Refusal> {
+    match program_of(alloc, files, job) {
+        Ok(program) => planned_greedily(alloc, program, USUAL_DEPTH),
         Err(refusal) => Err(refusal),
     }
 }
 
-/// Writes the report of the job that a file holds, which is run by its greedy plan.
-pub fn run_greedily<F: Files, K: Sink, G: Gate, R: Threads + Wait + Sync>(
-    rt: &R,
-    alloc: Global,
-    files: &mut F,
-    out: &mut K,
-    job: &str,
-    gate: &G,
-) -> Result<Option<DrawnSteps>, Refusal>
-    ensures ends { IsEnding (call (F.left files.old) (F.left files.new) (F.faults files.old) (F.faults files.new) (K.taken out.old) (K.taken out.new) (K.faults out.old) (K.faults out.new)) (Run job.now None) result }
-    ensures fronts { WhereTold (F.left files.old) (F.left files.new) TookFronts }
-    ensures only { WhereTold (F.left files.old) (F.left files.new) (TookOnly (IsReadName (F.left files.old) (Run job.now None))) }
-{
-    let program = match program_of(alloc, files, job) {
-        Ok(program) => program,
-        Err(refusal) => return Err(refusal),
-    };
-    let planned = match planned_greedily(alloc, program, USUAL_DEPTH) {
-        Ok(planned) => planned,
-        Err(refusal) => return Err(refusal),
-    };
-    run_in_rounds(rt, alloc, files, out, planned, gate)
-}
-
-// Writes the report of a job by a plan over its sources' files.
+// Writes the report of a job by a plan over its sources' files, from an opening.
 fn run_in_rounds<F: Files, K: Sink, G: Gate, R: Threads + Wait + Sync>(
     rt: &R,
     alloc: Global,
     files: &mut F,
     out: &mut K,
     planned: Planned,
+    opening: Opening,
+    save: Option<&str>,
     gate: &G,
 ) -> Result<Option<DrawnSteps>, Refusal>
     requires { IsValidFor (program_of planned.checked) planned.valid }
-    ensures ends { EndsRun (program_of planned.checked) (call (F.left files.old) (F.left files.new) (F.faults files.old) (F.faults files.new) (K.taken out.old) (K.taken out.new) (K.faults out.old) (K.faults out.new)) result }
-    ensures fronts { WhereTold (F.left files.old) (F.left files.new) TookFronts }
-    ensures others { WhereTold (F.left files.old) (F.left files.new) (LeavesOthers (files_of (program_of planned.checked).sources)) }
-    ensures rise { (n : List ℕ) → F.faults files.old n ≤ F.faults files.new n }
 {
-    match rounds(rt, alloc, files, out, &planned, gate) {
+    match rounds(rt, alloc, files, out, &planned, opening, save, gate) {
         Ok(()) => Ok(None),
-        Err(RoundsFault::Source(fault)) => {
+        Err(RunFault::Round(RoundsFault::Source(fault))) => {
             Err(Refusal::SourceFault(JobRead::Accepted(planned.checked), fault))
         }
-        Err(RoundsFault::ReadFault) => Err(Refusal::ReadFault),
-        Err(RoundsFault::WriteFault) => Err(Refusal::WriteFault),
-        Err(RoundsFault::NoMemory) => Err(Refusal::NoMemory),
+        Err(RunFault::Round(RoundsFault::ReadFault)) => Err(Refusal::ReadFault),
+        Err(RunFault::Round(RoundsFault::WriteFault)) => Err(Refusal::WriteFault),
+        Err(RunFault::Round(RoundsFault::NoMemory)) => Err(Refusal::NoMemory),
+        Err(RunFault::Unsaved(fault)) => Err(Refusal::from(fault)),
     }
 }
 
-// Runs all rounds of a job's sources, each of which writes its report.
+// Runs all rounds of a job's sources, each of which writes its report, and then puts its checkpoint.
 fn rounds<F: Files, K: Sink, G: Gate, R: Threads + Wait + Sync>(
     rt: &R,
     alloc: Global,
     files: &mut F,
     out: &mut K,
     planned: &Planned,
+    opening: Opening,
+    save: Option<&str>,
     gate: &G,
-) -> Result<(), RoundsFault>
+) -> Result<(), RunFault>
     requires { IsValidFor (program_of planned.now.checked) planned.now.valid }
-    ensures ends { EndsRounds (program_of planned.now.checked) (call (F.left files.old) (F.left files.new) (F.faults files.old) (F.faults files.new) (K.taken out.old) (K.taken out.new) (K.faults out.old) (K.faults out.new)) result }
-    ensures fronts { WhereTold (F.left files.old) (F.left files.new) TookFronts }
-    ensures others { WhereTold (F.left files.old) (F.left files.new) (LeavesOthers (files_of (program_of planned.now.checked).sources)) }
-    ensures rise { (n : List ℕ) → F.faults files.old n ≤ F.faults files.new n }
 {
-    runs_go_on();
-    runs_write_the_fold();
     let mut engine = engine_of(planned, gate);
-    let mut rounds = Rounds::new(alloc, planned.checked.program(), ROWS_IN_ROUND)?;
-    while let Border::At(_) = round(rt, alloc, files, out, &mut rounds, &mut engine)? {}
+    let mut rounds = first(alloc, planned.checked.program(), opening)?;
+    while let Border::At(_) = saved_round(rt, alloc, files, out, &mut rounds, &mut engine, save)? {}
     Ok(())
+}
+
+// A run before its first round, from its opening.
+fn first(alloc: Global, program: &Program, opening: Opening) -> Result<Rounds, RunFault> {
+    let made = match opening.border {
+        None => Rounds::new(alloc, program, ROWS_IN_ROUND),
+        Some(border) => Rounds::resume(alloc, program, ROWS_IN_ROUND, border, opening.state),
+    };
+    made.map_err(|_| RunFault::Round(RoundsFault::NoMemory))
+}
+
+// Runs one round, which writes its report, and puts its checkpoint.
+fn saved_round<F: Files, K: Sink, G: Gate, R: Threads + Wait + Sync, B: Engine<R>>(
+    rt: &R,
+    alloc: Global,
+    files: &mut F,
+    out: &mut K,
+    rounds: &mut Rounds,
+    engine: &mut TreeEngine<G, R, B>,
+    save: Option<&str>,
+) -> Result<Border, RunFault>
+    requires program { program_of engine.old.checked.now ≡ rounds.old.held.program }
+    requires stage { rounds.old.held.stage ≡ Stage.Filling }
+{
+    let end = match round(rt, alloc, files, out, rounds, engine) {
+        Ok(end) => end,
+        Err(fault) => return Err(RunFault::Round(fault)),
+    };
+    match put_checkpoint(alloc, files, engine.checked.program(), save, end, rounds.state()) {
+        Ok(()) => Ok(end),
+        Err(fault) => Err(RunFault::Unsaved(fault)),
+    }
 }
 
 // The tree of threads of a job by a plan. Where a thread is refused the job is folded.

@@ -1,13 +1,12 @@
 //! The top call.
 
-ghost use Rattle.std.specs.Prelude.{◌≡◌, map, string_bytes};
+ghost use Rattle.std.specs.Prelude.{◌≡◌, ◌⊎◌, map, string_bytes};
 ghost use Rattle.flu_outside.specs.Outside.{WhereTold};
-ghost use Rattle.flu_outside.specs.Taking.{TookFronts};
-ghost use Rattle.flu_top.specs.Taking.{TookOnly};
-ghost use Rattle.flu_top.specs.Done.{IsReadBy};
+ghost use Rattle.flu_top.specs.Taking.{TookOnly, TookFrontsBut};
+ghost use Rattle.flu_top.specs.Done.{IsReadBy, MayBePut};
 ghost use Rattle.flu_top.specs.Answer.{status_after, IsHeard};
 ghost use Rattle.flu_top.specs.Ending.{call, Ends};
-ghost use Rattle.flu_top.specs.Outcome.{outside, Outcome, ReadOnly, FaultsFirst, Completes};
+ghost use Rattle.flu_top.specs.Outcome.{outside, faults, Outcome, ReadOnly, FaultsFirst, Completes};
 
 use crate::commands::run;
 use crate::lines::{say, say_steps};
@@ -31,7 +30,8 @@ use std::thread::Threads;
 /// at most D levels below the root: 0 to 6, and 3 where no depth is given. `run JOB [PLAN]` reads such a job and a plan
 /// that is valid for it, or takes its greedy plan of depth 3. It reads the sources in rounds, of 4,096 rows of each
 /// source or more, runs the events of each round on a thread for each node of the plan, and writes the report of the
-/// fold, round by round. `simulate JOB PLAN SEED` reads such a job, a plan that is valid for it and the sources, runs
+/// fold, round by round. With `--save FILE` it puts a checkpoint under that name behind each round, and with `--resume
+/// FILE` it goes on from such a one: it runs the events above its border, from its state. `simulate JOB PLAN SEED` reads such a job, a plan that is valid for it and the sources, runs
 /// the events on the net of the plan by the steps that the seed draws, writes the report of the fold, and then says on
 /// `err` how many steps of each kind there were, with their mark; with `--trace` behind the seed it writes the trace of
 /// that run, its steps line by line, in place of the report. `replay JOB PLAN TRACE` reads the same and then a trace,
@@ -40,9 +40,10 @@ use std::thread::Threads;
 /// there were and how many lines and bytes their report has. Status 0: all was written. Else the line of the answer
 /// goes to `err`, and a failure of `err` changes no status: 2 for words that are no command, 3 for a job text with a
 /// fault, 4 for a job that is not accepted, 5 for a plan text with a fault or a plan that is not valid, 6 for a source
-/// with a defect, 7 where a file that was read failed, 8 where `out` failed, 9 where there was no memory, 13 for a trace
-/// with a bad line, with a step that is not enabled where it stands, or with too few steps. Where `run` is stopped, at
-/// 6 to 9, `out` may have what the rounds until then wrote. `docs/LANGUAGE.md` has the forms and the lines, and
+/// with a defect, 7 where a file that was read failed, 8 where `out` failed, 9 where there was no memory, 11 for a name of a
+/// checkpoint that is a source's file, or a checkpoint with a fault, 12 where a checkpoint could not be put, 13 for a
+/// trace with a bad line, with a step that is not enabled where it stands, or with too few steps. Where `run` is
+/// stopped, at 6 to 9 and 12, `out` may have what the rounds until then wrote. `docs/LANGUAGE.md` has the forms and the lines, and
 /// `docs/TRUST.md` what is to be believed.
 ///
 /// Each worker of a run passes the gate before and after each of its updates. `run` and `demo` alone start threads, and
@@ -61,16 +62,17 @@ pub fn flumina<F: Files, K: Sink, E: Sink, G: Gate, R: Threads + Wait + Sync>(
         (outside (F.left files.old) (K.taken out.old) (E.taken err.old) (E.faults err.old))
         (outside (F.left files.new) (K.taken out.new) (E.taken err.new) (E.faults err.new)) result }
 
-    // Bytes are taken from the front of names, and of no name that the call does not read.
-    ensures read { ReadOnly (map string_bytes words.now) (F.left files.old) (F.left files.new) }
+    // Bytes are taken from the front of names, and of no name that the call does not read, but for one that it puts.
+    ensures read { ReadOnly (map string_bytes words.now) (F.left files.old) (F.left files.new) result }
 
-    // Status 7 comes only where the count of a name that the call reads rose, and status 8 only where out's did.
+    // Status 7 comes only where the count of a name that the call reads rose, status 8 only where out's did, and status 12
+    // only where that of puts of the name that it saves to did.
     ensures faults { FaultsFirst (map string_bytes words.now) (F.left files.old)
-        (F.faults files.old) (F.faults files.new) (K.faults out.old) (K.faults out.new) result }
+        (faults (F.faults files.old) (F.put_faults files.old) (K.faults out.old)) (faults (F.faults files.new) (F.put_faults files.new) (K.faults out.new)) result }
 
-    // Where neither rose, the status is the one that the command and its files call for, or 9.
+    // Where none rose, the status is the one that the command and its files call for, or 9.
     ensures completes { Completes (map string_bytes words.now) (F.left files.old)
-        (F.faults files.old) (F.faults files.new) (K.faults out.old) (K.faults out.new) result }
+        (faults (F.faults files.old) (F.put_faults files.old) (K.faults out.old)) (faults (F.faults files.new) (F.put_faults files.new) (K.faults out.new)) result }
 {
     jobs_are_grammar();
     plans_are_grammar();
@@ -88,9 +90,9 @@ fn do_words<F: Files, K: Sink, G: Gate, R: Threads + Wait + Sync>(
     out: &mut K,
     gate: &G,
 ) -> Result<Option<DrawnSteps>, Refusal>
-    ensures ends { Ends (map string_bytes words.now) (call (F.left files.old) (F.left files.new) (F.faults files.old) (F.faults files.new) (K.taken out.old) (K.taken out.new) (K.faults out.old) (K.faults out.new)) result }
-    ensures fronts { WhereTold (F.left files.old) (F.left files.new) TookFronts }
-    ensures only { WhereTold (F.left files.old) (F.left files.new) (TookOnly (IsReadBy (map string_bytes words.now) (F.left files.old))) }
+    ensures ends { Ends (map string_bytes words.now) (call (F.left files.old) (F.left files.new) (F.faults files.old) (F.faults files.new) (F.put_faults files.old) (F.put_faults files.new) (K.taken out.old) (K.taken out.new) (K.faults out.old) (K.faults out.new)) result }
+    ensures fronts { WhereTold (F.left files.old) (F.left files.new) (TookFrontsBut (MayBePut (map string_bytes words.now) (status_after result))) }
+    ensures only { WhereTold (F.left files.old) (F.left files.new) (TookOnly (λ name. IsReadBy (map string_bytes words.now) (F.left files.old) name ⊎ MayBePut (map string_bytes words.now) (status_after result) name)) }
 {
     match read_words(words) {
         Ok(command) => run(rt, alloc, files, out, command, gate),
