@@ -1,2 +1,5 @@
 pub mod Comings
 pub mod Halves
+pub mod OtherNames
+pub mod ReportFronts
+pub mod States

@@ -1,5 +1,5 @@
 -- How far a run in rounds has come, and what it has written by then (`docs/MODEL.md`, "Rounds").
-use Rattle.std.specs.Prelude.{◌≡◌, ℕ, ◌<◌, ◌≤◌, Option, Some, None, List, [], ◌++◌, length}
+use Rattle.std.specs.Prelude.{◌≡◌, ℕ, ◌<◌, ◌≤◌, Option, Some, None, List, [], ◌++◌, length, Contains}
 use Rattle.flu_cells.specs.Holding.{held}
 use Rattle.flu_model.specs.declared.events.Item.{Item}
 use Rattle.flu_model.specs.declared.jobs.Program.{Program}
@@ -14,7 +14,7 @@ use Rattle.flu_streams.specs.declared.faults.SourceFault.{SourceFault}
 use Rattle.flu_streams.specs.Borders.{beyond}
 use Rattle.flu_streams.specs.Files.{files_of, AreReadOut}
 use Rattle.flu_streams.specs.Good.{lists_of}
-use Rattle.flu_streams.specs.Rounds.{ComesFrom, IsRoundFault, reports_in_turn, state_in_turn}
+use Rattle.flu_streams.specs.Rounds.{ComesFrom, IsRoundFault, lists_between, reports_in_turn, state_in_turn}
 use Rattle.flu_streams.specs.Holding.{AreHeldBehind, AreInAll, ClosedAreReadOut, AreClosed}
 use Rattle.flu_rounds.specs.declared.faults.RoundsFault.TheVariants.{Source as SourceDefect}
 pub use Rattle.flu_rounds.specs.Written.{AreSound, RanFrom, RanTo, WouldWriteFrom, WouldWrite, lines_in, text_from, text_up_from, text_until, text_up_to}
@@ -85,6 +85,36 @@ LawOfNextTextFrom border opening =
     → WhereTold start left' (λ was is. (ran : RanFrom p rows border opening (lines_in p was) old.held.border written)
     × WouldWriteFrom p rows border opening (lines_in p was) old.held.border ran.before now end (written ++ round_report old end now))
 
+-- A state is that of the fold from this one up to this border, where there is one, of the rows above the run's start
+abbrev pub IsStateUpTo : Program → Option ℕ → Contents → Option ℕ → (ℕ → List Next) → Contents → Type 0
+IsStateUpTo p border opening above before s = (t : ℕ) → above ≡ Some t → s ≡ final_state p opening (lists_between p border (At t) before)
+
+-- LAW OF THE TEXT AND THE STATE: by the rounds that were run the text is as in the law of the text, and the state is that of the same fold
+abbrev pub LawOfTextAndState : Option ℕ → Contents → Type 0
+LawOfTextAndState border opening =
+    (p : Program) (rows : ℕ) (start left : Option Files) (now : Standing) (written : List ℕ) → 1 ≤ rows
+    → (came : CameFrom p rows border opening start left now written)
+    → WhereTold start left (λ was is. (ran : RanFrom p rows border opening (lines_in p was) now.held.border written) × (ran.done ≡ came.done)
+    × IsStateUpTo p border opening now.held.border ran.before (held now.state))
+
+-- LAW OF THE NEXT TEXT AND STATE: the same before a round more, and the text with its report
+abbrev pub LawOfNextTextAndState : Option ℕ → Contents → Type 0
+LawOfNextTextAndState border opening =
+    (p : Program) (rows : ℕ) (start left left' : Option Files) (old : Standing) (written : List ℕ) (end : Border) (now : ℕ → List Next)
+    → 1 ≤ rows → (came : CameFrom p rows border opening start left old written)
+    → IsRoundOf old left left' end came.before now
+    → WhereTold start left' (λ was is. (ran : RanFrom p rows border opening (lines_in p was) old.held.border written) × (ran.done ≡ came.done)
+    × IsStateUpTo p border opening old.held.border ran.before (held old.state)
+    × WouldWriteFrom p rows border opening (lines_in p was) old.held.border ran.before now end (written ++ round_report old end now))
+
+-- LAW OF THE NEXT STATE: behind a round with a border the state is that of the fold up to it
+abbrev pub LawOfNextState : Option ℕ → Contents → Type 0
+LawOfNextState border opening =
+    (p : Program) (rows : ℕ) (start left left' : Option Files) (old new : Standing) (written : List ℕ) (t : ℕ) → 1 ≤ rows
+    → (came : CameFrom p rows border opening start left old written)
+    → (runs : Runs old new left left' (At t) came.before)
+    → WhereTold start left' (λ was is. held new.state ≡ final_state p opening (lists_between p border (At t) runs.fills.now))
+
 -- LAW OF THE LAST ROUND: behind it all rows were run, and all files were read to their ends
 abbrev pub LawOfLastFrom : Option ℕ → Contents → Type 0
 LawOfLastFrom border opening =
@@ -102,6 +132,43 @@ LawOfDefectFrom border opening =
     → IsSourceFault old.held left left' (SourceDefect f)
     → (f.source < length p.sources) × WhereTold start left' (λ was is. (ran : RanFrom p rows border opening (lines_in p was) old.held.border written)
     × IsRoundFault p rows old.held.border (lines_in p was) ran.before f)
+
+-- LAW OF A DEFECT AND THE STATE: by the rounds that were run, and with the state behind them
+abbrev pub LawOfDefectAndState : Option ℕ → Contents → Type 0
+LawOfDefectAndState border opening =
+    (p : Program) (rows : ℕ) (start left left' : Option Files) (old : Standing) (written : List ℕ) (f : SourceFault) → 1 ≤ rows
+    → (came : CameFrom p rows border opening start left old written)
+    → IsSourceFault old.held left left' (SourceDefect f)
+    → WhereTold start left' (λ was is. (ran : RanFrom p rows border opening (lines_in p was) old.held.border written) × (ran.done ≡ came.done)
+    × IsStateUpTo p border opening old.held.border ran.before (held old.state)
+    × IsRoundFault p rows old.held.border (lines_in p was) ran.before f)
+
+-- ---- names that no source has
+-- LAW OF OTHER NAMES: a run stays where it has come to while names change between two rounds that are no source's file
+abbrev pub LawOfOtherNames : Option ℕ → Contents → Type 0
+LawOfOtherNames border opening =
+    (p : Program) (rows : ℕ) (start left left' : Option Files) (now : Standing) (written : List ℕ)
+    → CameFrom p rows border opening start left now written
+    → WhereTold left left' (λ was is. (name : List ℕ) → Contains (files_of p.sources) name → is name ≡ was name)
+    → CameFrom p rows border opening start left' now written
+
+-- ---- fronts of the report
+-- this is a front of the report of the fold of all rows above a border, where there is one, and from a state
+abbrev pub IsFrontOfReport : Program → Option ℕ → Contents → Files → List ℕ → Type 0
+IsFrontOfReport p border opening left text = (rest : List ℕ) × (report p (final_outputs p opening (lists_above border (lists_of p left))) ≡ text ++ rest)
+
+-- LAW OF FRONTS: where no source has a defect, what a run has written behind a border is a front of its report
+abbrev pub LawOfReportFronts : Option ℕ → Contents → Type 0
+LawOfReportFronts border opening =
+    (p : Program) (rows : ℕ) (left : Files) (above : Option ℕ) (text : List ℕ) → 1 ≤ rows → AreSound p (lines_in p left)
+    → RanFrom p rows border opening (lines_in p left) above text → IsFrontOfReport p border opening left text
+
+-- LAW OF NEXT FRONTS: and so it is with the report of a round more
+abbrev pub LawOfNextReportFronts : Option ℕ → Contents → Type 0
+LawOfNextReportFronts border opening =
+    (p : Program) (rows : ℕ) (left : Files) (above : Option ℕ) (text more : List ℕ) (now : ℕ → List Next) (end : Border) → 1 ≤ rows → AreSound p (lines_in p left)
+    → (ran : RanFrom p rows border opening (lines_in p left) above text)
+    → WouldWriteFrom p rows border opening (lines_in p left) above ran.before now end more → IsFrontOfReport p border opening left more
 
 -- ---- the laws of a run from the first row on, and from the empty state
 abbrev pub LawOfBeginning : Type 0

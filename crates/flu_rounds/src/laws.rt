@@ -4,11 +4,13 @@ ghost use Rattle.std.specs.Prelude.{ℕ, Option};
 ghost use Rattle.flu_model.specs.Contents.{Contents};
 ghost use Rattle.flu_rounds.specs.Coming.{LawOfBeginning, LawOfGoingOn, LawOfText, LawOfNextText, LawOfLast, LawOfDefect};
 ghost use Rattle.flu_rounds.specs.Coming.{LawOfBeginningFrom, LawOfGoingOnFrom, LawOfTextFrom, LawOfNextTextFrom, LawOfLastFrom, LawOfDefectFrom};
+ghost use Rattle.flu_rounds.specs.Coming.{LawOfTextAndState, LawOfNextTextAndState, LawOfNextState, LawOfDefectAndState};
+ghost use Rattle.flu_rounds.specs.Coming.{LawOfOtherNames, LawOfReportFronts, LawOfNextReportFronts};
 ghost use Rattle.flu_rounds.specs.Halves.{LawOfHalves, LawOfHalf};
 
 use flu_streams::{
     last_round_has_all_rows, last_round_has_later_rows, rounds_are_folded_in_turn,
-    rounds_begin_and_end,
+    rounds_begin_and_end, rounds_meet_what_is_there,
 };
 
 /// How far a run in rounds has come (`CameTo`): it begins with nothing written, and each round with a border takes it further.
@@ -43,12 +45,16 @@ pub fn resumed_runs_go_on()
 }
 
 /// What a run has written that is resumed above a border, from a state: as in `runs_write_the_fold`, with the fold from that state, of
-/// the rows above that border.
+/// the rows above that border. And the state behind the rounds that were run is that of the same fold.
 pub fn resumed_runs_write_the_fold()
     ensures text { (border : Option ℕ) (opening : Contents) → LawOfTextFrom border opening }
     ensures next { (border : Option ℕ) (opening : Contents) → LawOfNextTextFrom border opening }
     ensures last { (border : Option ℕ) (opening : Contents) → LawOfLastFrom border opening }
     ensures defect { (border : Option ℕ) (opening : Contents) → LawOfDefectFrom border opening }
+    ensures state { (border : Option ℕ) (opening : Contents) → LawOfTextAndState border opening }
+    ensures next_with_state { (border : Option ℕ) (opening : Contents) → LawOfNextTextAndState border opening }
+    ensures next_state { (border : Option ℕ) (opening : Contents) → LawOfNextState border opening }
+    ensures defect_with_state { (border : Option ℕ) (opening : Contents) → LawOfDefectAndState border opening }
 {
     rounds_are_folded_in_turn();
     last_round_has_all_rows();
@@ -62,3 +68,19 @@ pub fn halves_make_a_round()
     ensures round { LawOfHalves }
     ensures part { LawOfHalf }
 {}
+
+/// A run stays where it has come to while names change between two rounds that are no source's file.
+pub fn other_names_leave_runs_alone()
+    ensures { (border : Option ℕ) (opening : Contents) → LawOfOtherNames border opening }
+{}
+
+/// Where no source has a defect, what a run has written behind a border, and with the report of a round more, is a front of the report
+/// of the fold of all rows; of a run that is resumed, of those above its border, from its state.
+pub fn fronts_of_reports()
+    ensures fronts { (border : Option ℕ) (opening : Contents) → LawOfReportFronts border opening }
+    ensures next { (border : Option ℕ) (opening : Contents) → LawOfNextReportFronts border opening }
+{
+    rounds_meet_what_is_there();
+    last_round_has_all_rows();
+    last_round_has_later_rows();
+}

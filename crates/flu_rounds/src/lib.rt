@@ -9,7 +9,7 @@ mod rounds;
 pub use faults::RoundsFault;
 pub use flu_streams::{Border, SourceFault};
 pub use laws::{
-    halves_make_a_round, resumed_runs_go_on, resumed_runs_write_the_fold, runs_go_on,
-    runs_write_the_fold,
+    fronts_of_reports, halves_make_a_round, other_names_leave_runs_alone, resumed_runs_go_on,
+    resumed_runs_write_the_fold, runs_go_on, runs_write_the_fold,
 };
 pub use rounds::{Begun, Rounds};

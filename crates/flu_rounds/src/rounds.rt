@@ -247,9 +247,10 @@ impl Rounds {
         Ok(())
     }
 
-    /// The state behind the rounds so far.
+    /// The state behind the rounds so far. It takes no memory.
     pub fn state(&self) -> &State
-        ensures { result.now ≡ self.now.state }
+        ensures value { result.now ≡ self.now.state }
+        ensures sorts { IsStateOf self.now.held.program.families (held result.now) }
     {
         &self.state
     }

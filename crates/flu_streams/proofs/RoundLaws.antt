@@ -512,7 +512,7 @@ one_more p opening done first second whole h cut = record {
 }
 
 -- the border of a round is above the start of the run
-round_exceeds : (p : Program) (rows b : ℕ) (above : Option ℕ) (whole before now : ℕ → List Next) → 1 ≤ rows → IsRoundAt p rows above whole before now b
+pub round_exceeds : (p : Program) (rows b : ℕ) (above : Option ℕ) (whole before now : ℕ → List Next) → 1 ≤ rows → IsRoundAt p rows above whole before now b
     → Exceeds b above
 round_exceeds p rows b None whole before now one round = λ t e. refl
 round_exceeds p rows b (Some a) whole before now one round = λ t e.
@@ -520,7 +520,7 @@ round_exceeds p rows b (Some a) whole before now one round = λ t e.
     let later = later_border round.least.1 rows a b (now round.least.0) one reads.stops.1 reads.stops.2 in
     grind (arith, nat_tests)
 
-exceeds_start : (p : Program) (rows t : ℕ) (whole : ℕ → List Next) (start : Option ℕ) (done : List (List (List Item))) (above : Option ℕ) (before : ℕ → List Next)
+pub exceeds_start : (p : Program) (rows t : ℕ) (whole : ℕ → List Next) (start : Option ℕ) (done : List (List (List Item))) (above : Option ℕ) (before : ℕ → List Next)
     → 1 ≤ rows → ComesFrom p rows whole start done above before → Exceeds t above → Exceeds t start
 exceeds_start p rows t whole start done above before one (Starts reads none) exceeds = exceeds
 exceeds_start p rows t whole start done above before one (GoesOn done' above' before' mid b came was) exceeds =
@@ -543,7 +543,7 @@ law_of_rounds p opening rows whole start done above before now end one (GoesOn d
     (subst (λ l. FoldsInTurn p opening (lists_between p start end now) l (lists_between p (Some b) end now)) same cut)
 
 -- no event is between a border and itself
-no_events : (p : Program) (t : ℕ) (reads : ℕ → List Next) → all_events (lists_between p (Some t) (At t) reads) ≡ []
+pub no_events : (p : Program) (t : ℕ) (reads : ℕ → List Next) → all_events (lists_between p (Some t) (At t) reads) ≡ []
 no_events p t reads =
     let cut = between_cut p t None (At t) reads (λ u e. e) (λ u e. refl) in
     let all = all_events (lists_between p None (At t) reads) in

@@ -1,6 +1,6 @@
 -- What defects are to rounds: where no source has one, the rounds up to any border give the front of what the whole gives; and one that
 -- is met is the first of its source.
-use Rattle.std.specs.Prelude.{◌≡◌, ℕ, List, Option, Some, None}
+use Rattle.std.specs.Prelude.{◌≡◌, ℕ, ◌≤◌, List, Option, Some, None}
 use Rattle.flu_lemmas.specs.Elements.{AtEach}
 use Rattle.flu_model.specs.declared.events.Item.{Item}
 use Rattle.flu_model.specs.declared.jobs.Kind.{Kind}
@@ -11,9 +11,9 @@ use Rattle.flu_outside.specs.Outside.{Contents as Files}
 use Rattle.flu_rows.specs.declared.rows.Next.{Next}
 use Rattle.flu_streams.specs.declared.border.Border.TheVariants.{At, Closed}
 use Rattle.flu_streams.specs.declared.faults.Why.{Why}
-use Rattle.flu_streams.specs.Borders.{FoldsInTurn}
+use Rattle.flu_streams.specs.Borders.{FoldsInTurn, beyond}
 use Rattle.flu_streams.specs.Good.{lists_of}
-use Rattle.flu_streams.specs.Rounds.{Meets, Reads, ComesTo, LinesIn, defect_in, lists_between}
+use Rattle.flu_streams.specs.Rounds.{Meets, Reads, ComesFrom, ComesTo, LinesIn, defect_in, lists_between}
 
 -- LAW OF FRONTS: the fold of all rows is that of the rows of the rounds up to a border, and then that of the later ones
 abbrev pub LawOfFronts : Type 0
@@ -22,6 +22,14 @@ LawOfFronts =
     → LinesIn p left whole → AtEach (λ i s. defect_in p.kinds s (whole i) ≡ None) p.sources
     → ComesTo p rows whole done (Some t) before
     → FoldsInTurn p opening (lists_of p left) (lists_between p None (At t) before) (lists_between p (Some t) Closed whole)
+
+-- of a run that starts above a border it is so with the later events
+abbrev pub LawOfFrontsAbove : Type 0
+LawOfFrontsAbove =
+    (p : Program) (opening : Contents) (rows : ℕ) (whole : ℕ → List Next) (start : ℕ) (done : List (List (List Item))) (t : ℕ) (before : ℕ → List Next) (left : Files)
+    → 1 ≤ rows → LinesIn p left whole → AtEach (λ i s. defect_in p.kinds s (whole i) ≡ None) p.sources
+    → ComesFrom p rows whole (Some start) done (Some t) before
+    → FoldsInTurn p opening (beyond start (lists_of p left)) (lists_between p (Some start) (At t) before) (lists_between p (Some t) Closed whole)
 
 -- LAW OF MEETING: the defect of a source that a round meets is the first of all its lines
 abbrev pub LawOfMeeting : Type 0

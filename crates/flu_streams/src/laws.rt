@@ -2,7 +2,7 @@
 
 ghost use Rattle.flu_streams.specs.Borders.{LawOfBorders, ItemsAreCut};
 ghost use Rattle.flu_streams.specs.Holding.{LawOfStart, LawOfEnds};
-ghost use Rattle.flu_streams.specs.Fronts.{LawOfFronts, LawOfMeeting};
+ghost use Rattle.flu_streams.specs.Fronts.{LawOfFronts, LawOfFrontsAbove, LawOfMeeting};
 ghost use Rattle.flu_streams.specs.Rounds.{LawOfRounds, LawOfNoRows, LawOfLastRound, LawOfLastAbove};
 
 /// The law of borders: what is cut at a time is folded in turn. The fold of the events up to the time, and then, from its state,
@@ -41,9 +41,11 @@ pub fn rounds_begin_and_end()
 {}
 
 /// The law of fronts: where no source has a defect, the fold of all rows is that of the rows of the rounds up to a border, and then,
-/// from its state, that of the later ones; and its report is the two reports, one behind the other.
+/// from its state, that of the later ones; and its report is the two reports, one behind the other. The same holds of a run that
+/// starts above a border, with the rows above it.
 /// And the law of meeting: a defect that a round meets is the first one of its source.
 pub fn rounds_meet_what_is_there()
     ensures fronts { LawOfFronts }
+    ensures above { LawOfFrontsAbove }
     ensures meeting { LawOfMeeting }
 {}

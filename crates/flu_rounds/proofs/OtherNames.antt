@@ -1,0 +1,67 @@
+-- A run does not change where names do that are no source's file.
+use Rattle.std.proofs.Common.{◌≡◌, ℕ, zero, suc, List, [], ◌∷◌, ◌++◌, Option, Some, None, sym, ap, ◌∙◌, subst, arith, if◌then◌else◌}
+use Rattle.std.specs.Prelude.{Contains, slice_get, unwrap_or}
+use Rattle.std.proofs.lemmas.Option.{slice_get_within}
+use Rattle.flu_lemmas.proofs.Containing.{contains_here, contains_later}
+use Rattle.flu_lemmas.proofs.Places.{slice_get-there}
+use Rattle.flu_lemmas.proofs.Told.{told_then}
+use Rattle.flu_model.specs.declared.jobs.Source.{Source}
+use Rattle.flu_model.specs.declared.jobs.Program.{Program}
+use Rattle.flu_model.specs.Contents.{Contents}
+use Rattle.flu_outside.specs.Outside.{Contents as Files, WhereTold}
+use Rattle.flu_outside.specs.Taking.{IsReadOut}
+use Rattle.flu_rows.specs.declared.rows.Next.{Next}
+use Rattle.flu_rows.specs.Reading.{read_bytes}
+use Rattle.flu_streams.specs.Files.{files_of}
+use Rattle.flu_streams.specs.Holding.{Holding, HeldSource, AreHeldBehind, still}
+use Rattle.flu_rounds.specs.Coming.{LawOfOtherNames}
+use Rattle.flu_rounds.proofs.Comings.{Stands}
+
+-- the file of a source is among those of all
+file_among : (xs : List Source) (i : ℕ) (s : Source) → slice_get xs i ≡ Some s → Contains (files_of xs) s.file
+file_among [] i s is = absurd cc
+file_among (x ∷ xs) zero s is = let same : x ≡ s = cc in subst (λ (y : Source). Contains (files_of (x ∷ xs)) y.file) same (contains_here x.file (files_of xs))
+file_among (x ∷ xs) (suc i) s is = contains_later x.file s.file (files_of xs) (file_among xs i s is)
+
+-- so is the file of what is held of a source
+held_among : (h : Holding) (lines : ℕ → List Next) → AreHeldBehind h lines → (i : ℕ) (source : HeldSource) → slice_get h.sources i ≡ Some source
+    → Contains (files_of h.program.sources) source.place.file
+held_among h lines behind i source is =
+    let count = behind.count in
+    let lt = slice_get_within h.sources i source is in
+    let there = slice_get-there h.program.sources i (omega (arith, count, lt)) in
+    subst (λ name. Contains (files_of h.program.sources) name) (sym (behind.each i there.0 source there.1 is).file) (file_among h.program.sources i there.0 there.1)
+
+still_same : (source : HeldSource) (was is : Files) → is source.place.file ≡ was source.place.file → still source is ≡ still source was
+still_same source was is same =
+    ap (λ (o : Option (List ℕ)). if source.closed then [] else read_bytes source.place.lines (source.place.taken ++ unwrap_or o [])) same
+
+-- the files of the sources are as they were
+abbrev KeepsFiles : List (List ℕ) → Files → Files → Type 0
+KeepsFiles names was is = (name : List ℕ) → Contains names name → is name ≡ was name
+
+read_out_same : (names : List (List ℕ)) (name : List ℕ) (a b : Option Files) → Contains names name → WhereTold a b (KeepsFiles names) → IsReadOut name a → IsReadOut name b
+read_out_same names name None None among keeps out = tt
+read_out_same names name None (Some y) among keeps out = absurd keeps
+read_out_same names name (Some x) None among keeps out = absurd keeps
+read_out_same names name (Some x) (Some y) among keeps out = keeps name among ∙ out
+
+pub law_of_other_names : (border : Option ℕ) (opening : Contents) → LawOfOtherNames border opening
+law_of_other_names border opening p rows start left left' now written came keeps =
+    let among = λ (i : ℕ) (source : HeldSource) (is : slice_get now.held.sources i ≡ Some source). subst (λ (q : Program). Contains (files_of q.sources) source.place.file) came.program (held_among now.held came.before came.behind i source is) in
+    record {
+      program = came.program;
+      number = came.number;
+      done = came.done;
+      before = came.before;
+      behind = came.behind;
+      state = came.state;
+      wrote = came.wrote;
+      ended = λ i source is closed. read_out_same (files_of p.sources) source.place.file left left' (among i source is) keeps (came.ended i source is closed);
+      told = told_then (Stands p rows border came.done came.before now) (KeepsFiles (files_of p.sources)) (Stands p rows border came.done came.before now) start left left'
+          (λ was mid is stood same. (
+            stood.0,
+            λ i source at. stood.1 i source at ∙ ap (λ rest. came.before i ++ rest) (sym (still_same source mid is (same source.place.file (among i source at)))),
+          ))
+          came.told keeps;
+    }
