@@ -8,6 +8,8 @@ pub mod Sequence
 pub mod Checks
 pub mod Validations
 pub mod Plannings
+pub mod AsValid
+pub mod RunReports
 pub mod Roundings
 pub mod Runnings
 pub mod Simulations

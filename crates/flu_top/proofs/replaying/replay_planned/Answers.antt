@@ -3,7 +3,7 @@ use Rattle.flu_deps.specs.Checking.{program_of}
 use Rattle.flu_deps.specs.Validated.{plan_of}
 use Rattle.flu_lemmas.proofs.Named.{fronts_then}
 use Rattle.flu_words.specs.Words.{Replay}
-use Rattle.flu_top.proofs.Runnings.{replay_reads, ready_as_valid, only_as_valid, refusal_as_valid}
+use Rattle.flu_top.proofs.AsValid.{replay_reads, ready_as_valid, only_as_valid, refusal_as_valid}
 use Rattle.flu_top.proofs.Replays.{replayed, only_replayed, replay_refusal}
 use Rattle.flu_top.proofs.replaying.replay_planned.Goals as goal
 

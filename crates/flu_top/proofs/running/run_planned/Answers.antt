@@ -6,7 +6,8 @@ use Rattle.flu_words.specs.Words.{Run}
 use Rattle.flu_top.specs.Ending.{call}
 use Rattle.flu_top.proofs.Endings.{stopped}
 use Rattle.flu_top.proofs.Sequence.{only_ready}
-use Rattle.flu_top.proofs.Runnings.{run_reads, ready_as_valid, only_as_valid, refusal_as_valid, ends_run}
+use Rattle.flu_top.proofs.AsValid.{run_reads, ready_as_valid, only_as_valid, refusal_as_valid}
+use Rattle.flu_top.proofs.Runnings.{ends_run}
 use Rattle.flu_top.proofs.running.run_planned.Goals as goal
 
 pub returns-in-Ok-clause-ends : goal.returns-in-Ok-clause-ends

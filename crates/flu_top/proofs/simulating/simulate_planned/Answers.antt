@@ -4,7 +4,7 @@ use Rattle.flu_deps.specs.Validated.{plan_of}
 use Rattle.flu_lemmas.proofs.Named.{fronts_then}
 use Rattle.flu_words.specs.Words.{Simulate}
 use Rattle.flu_top.proofs.Sequence.{report_refusal, only_ready}
-use Rattle.flu_top.proofs.Runnings.{simulation_reads, ready_as_valid, only_as_valid, refusal_as_valid}
+use Rattle.flu_top.proofs.AsValid.{simulation_reads, ready_as_valid, only_as_valid, refusal_as_valid}
 use Rattle.flu_top.proofs.Simulations.{is_simulated}
 use Rattle.flu_top.proofs.simulating.simulate_planned.Goals as goal
 
