@@ -35,7 +35,7 @@ reports_more p s (l ∷ done) lists =
     ∙ sym (append_assoc (report p (final_outputs p s l)) (reports_in_turn p (final_state p s l) done) (report p (final_outputs p (state_in_turn p (final_state p s l) done) lists)))
 
 -- a round's report behind those of the rounds before it
-report_behind : (p : Program) (opening : Contents) (old : Standing) (done : List (List (List Item))) (written : List ℕ) (end : Border) (now : ℕ → List Next)
+pub report_behind : (p : Program) (opening : Contents) (old : Standing) (done : List (List (List Item))) (written : List ℕ) (end : Border) (now : ℕ → List Next)
     → old.held.program ≡ p → held old.state ≡ state_in_turn p opening done → written ≡ reports_in_turn p opening done
     → written ++ round_report old end now ≡ reports_in_turn p opening (done ++ lists_between p old.held.border end now ∷ [])
 report_behind p opening old done written end now program state wrote =
@@ -45,7 +45,7 @@ report_behind p opening old done written end now program state wrote =
     ∙ sym (reports_more p opening done (lists_between p old.held.border end now))
 
 -- and the state behind it
-state_behind : (p : Program) (opening : Contents) (old : Standing) (done : List (List (List Item))) (end : Border) (now : ℕ → List Next)
+pub state_behind : (p : Program) (opening : Contents) (old : Standing) (done : List (List (List Item))) (end : Border) (now : ℕ → List Next)
     → old.held.program ≡ p → held old.state ≡ state_in_turn p opening done
     → final_state old.held.program (held old.state) (lists_between old.held.program old.held.border end now)
     ≡ state_in_turn p opening (done ++ lists_between p old.held.border end now ∷ [])
@@ -55,7 +55,7 @@ state_behind p opening old done end now program state =
     ∙ sym (state_more p opening done (lists_between p old.held.border end now))
 
 -- a round of the same job and number of rows
-same_round : (p q : Program) (rows n : ℕ) (above : Option ℕ) (whole before now : ℕ → List Next) (end : Border)
+pub same_round : (p q : Program) (rows n : ℕ) (above : Option ℕ) (whole before now : ℕ → List Next) (end : Border)
     → q ≡ p → n ≡ rows → IsRound q n above whole before now end → IsRound p rows above whole before now end
 same_round p q rows n above whole before now end job number round =
     subst (λ (m : ℕ). IsRound p m above whole before now end) number (subst (λ (r : Program). IsRound r n above whole before now end) job round)
@@ -67,10 +67,10 @@ same_defect p q rows n above whole before f job number fault =
 
 -- ---- standings
 -- the lines of the files are those that stand in them
-lines_are_in : (p : Program) (left : Files) → LinesIn p left (lines_in p left)
+pub lines_are_in : (p : Program) (left : Files) → LinesIn p left (lines_in p left)
 lines_are_in p left i s is = simp is
 
-pub law_of_beginning : LawOfStart → (border : Option ℕ) (opening : Contents) → LawOfBeginningFrom border opening
+abbrev pub law_of_beginning : LawOfStart → (border : Option ℕ) (opening : Contents) → LawOfBeginningFrom border opening
 law_of_beginning start border opening p rows left now first = let s = start p rows border in record {
   program = ap (λ (h : Holding). h.program) first.held';
   number = ap (λ (h : Holding). h.rows) first.held';
@@ -86,10 +86,10 @@ law_of_beginning start border opening p rows left now first = let s = start p ro
 }
 
 -- what is told of a standing
-abbrev Stands : Program → ℕ → Option ℕ → List (List (List Item)) → (ℕ → List Next) → Standing → Files → Files → Type 0
+abbrev pub Stands : Program → ℕ → Option ℕ → List (List (List Item)) → (ℕ → List Next) → Standing → Files → Files → Type 0
 Stands p rows border done before now was is = ComesFrom p rows (lines_in p was) border done now.held.border before × AreInAll now.held before is (lines_in p was)
 
-pub law_of_going_on : (border : Option ℕ) (opening : Contents) → LawOfGoingOnFrom border opening
+abbrev pub law_of_going_on : (border : Option ℕ) (opening : Contents) → LawOfGoingOnFrom border opening
 law_of_going_on border opening p rows start left left' old new written t came runs stands ended =
     let now = runs.fills.now in
     let lists = lists_between p old.held.border (At t) now in
@@ -162,7 +162,7 @@ sound_at p rows above whole before now round i s is =
     ap (defect_in p.kinds s) shut.stops.0 ∙ shut.sound
 
 -- the rows of the last round and those before it are all rows above the border
-last_events : LawOfLastRound → LawOfLastAbove → (p : Program) (rows : ℕ) (border above : Option ℕ) (whole before now : ℕ → List Next) (left : Files)
+pub last_events : LawOfLastRound → LawOfLastAbove → (p : Program) (rows : ℕ) (border above : Option ℕ) (whole before now : ℕ → List Next) (left : Files)
     → LinesIn p left whole → IsRound p rows above whole before now Closed
     → merged (lists_between p border Closed now) ≡ merged (lists_above border (lists_of p left))
 last_events last later p rows None above whole before now left lines round = ap (λ lists. merged lists) (last p rows above whole before now left lines round)

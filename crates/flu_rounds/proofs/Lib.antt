@@ -1,2 +1,3 @@
 pub mod Comings
+pub mod Countings
 pub mod Halves

@@ -9,7 +9,7 @@ mod rounds;
 pub use faults::RoundsFault;
 pub use flu_streams::{Border, SourceFault};
 pub use laws::{
-    halves_make_a_round, resumed_runs_go_on, resumed_runs_write_the_fold, runs_go_on,
-    runs_write_the_fold,
+    halves_make_a_round, resumed_runs_go_on, resumed_runs_write_the_fold, runs_count_their_events,
+    runs_go_on, runs_write_the_fold,
 };
 pub use rounds::{Begun, Rounds};
