@@ -1,17 +1,14 @@
 -- Events are counted round by round.
-use Rattle.std.proofs.Common.{◌≡◌, ℕ, suc, ◌+◌, ◌-◌, ◌^◌, ◌≤◌, List, [], ◌∷◌, ◌++◌, Option, Some, None, refl, sym, ap, ◌∙◌, arith}
+use Rattle.std.proofs.Common.{◌≡◌, ℕ, suc, ◌+◌, ◌-◌, ◌^◌, List, [], ◌∷◌, ◌++◌, Some, refl, sym, ap, ◌∙◌, arith}
 use Rattle.std.specs.Prelude.{◌==◌, min, cond}
 use Rattle.std.proofs.lemmas.List.Sums.{sum_by-append}
 use Rattle.flu_model.specs.declared.events.Event.{Event}
 use Rattle.flu_model.specs.declared.events.Item.{Item}
-use Rattle.flu_model.specs.declared.jobs.Program.{Program}
 use Rattle.flu_model.specs.Merging.{merged}
-use Rattle.flu_rows.specs.declared.rows.Next.{Next}
-use Rattle.flu_streams.specs.declared.border.Border.{Border}
-use Rattle.flu_streams.specs.declared.border.Border.TheVariants.{At, Closed}
+use Rattle.flu_streams.specs.declared.border.Border.TheVariants.{At}
 use Rattle.flu_streams.specs.Borders.{AreCutAt}
-use Rattle.flu_streams.specs.Counts.{count_of_itag, counted_on, grown_by, grown, grown_in_turn, OneMoreInTurn, LawOfCounts}
-use Rattle.flu_streams.specs.Rounds.{ComesFrom, Starts, GoesOn, IsRound, IsRoundAt, lists_between}
+use Rattle.flu_streams.specs.Counts.{count_of_itag, counted_on, grown_by, grown, OneMoreInTurn, LawOfCounts}
+use Rattle.flu_streams.specs.Rounds.{Starts, GoesOn, lists_between}
 use Rattle.flu_streams.proofs.BorderLaws.{merged_cut}
 use Rattle.flu_streams.proofs.RoundLaws.{cut_of_rounds}
 

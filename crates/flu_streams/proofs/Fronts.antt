@@ -8,15 +8,14 @@ use Rattle.flu_model.specs.declared.jobs.Kind.{Kind}
 use Rattle.flu_model.specs.declared.jobs.Source.{Source}
 use Rattle.flu_model.specs.declared.jobs.Program.{Program}
 use Rattle.flu_model.specs.Contents.{Contents}
-use Rattle.flu_outside.specs.Outside.{Contents as Files}
 use Rattle.flu_rows.specs.declared.rows.Next.{Next}
 use Rattle.flu_streams.specs.declared.border.Border.TheVariants.{At, Closed}
 use Rattle.flu_streams.specs.declared.faults.Why.{Why}
 use Rattle.flu_streams.specs.Before.{with_before, each_with_before, first_some, or_else}
 use Rattle.flu_streams.specs.Borders.{FoldsInTurn}
 use Rattle.flu_streams.specs.Fronts.{LawOfFronts, LawOfMeeting}
-use Rattle.flu_streams.specs.Good.{lists_of_rows, lists_of}
-use Rattle.flu_streams.specs.Rounds.{Turn, Open, Shut, Meets, Reads, IsWithin, IsRoundAt, Starts, GoesOn, ComesTo, LinesIn, line_defect, defect_in, rows_between, lists_between}
+use Rattle.flu_streams.specs.Good.{lists_of_rows}
+use Rattle.flu_streams.specs.Rounds.{Turn, Open, Shut, Meets, Reads, IsWithin, IsRoundAt, Starts, GoesOn, ComesTo, line_defect, defect_in, rows_between, lists_between}
 use Rattle.flu_streams.specs.Tags.{width}
 use Rattle.flu_streams.specs.Tests.{rows_of}
 use Rattle.flu_streams.proofs.BorderLaws.{folds_in_turn}

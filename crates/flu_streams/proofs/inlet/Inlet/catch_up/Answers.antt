@@ -1,4 +1,4 @@
-use Rattle.std.proofs.Common.{◌≡◌, ◌-◌, ◌<◌, ◌≤◌, ℕ, Option, None, Some, false, refl, sym, ap, ◌∙◌, arith}
+use Rattle.std.proofs.Common.{◌≡◌, ◌-◌, ◌<◌, ◌≤◌, ℕ, Option, None, Some, refl, sym, ap, ◌∙◌, arith}
 use Rattle.flu_lemmas.proofs.Tests.{not_both}
 use Rattle.flu_streams.specs.LoopHeld.{Drops, Comes}
 use Rattle.flu_streams.specs.Rounds.{settled}
