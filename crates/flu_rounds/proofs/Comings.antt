@@ -70,7 +70,7 @@ same_defect p q rows n above whole before f job number fault =
 pub lines_are_in : (p : Program) (left : Files) → LinesIn p left (lines_in p left)
 lines_are_in p left i s is = simp is
 
-pub law_of_beginning : LawOfStart → (border : Option ℕ) (opening : Contents) → LawOfBeginningFrom border opening
+abbrev pub law_of_beginning : LawOfStart → (border : Option ℕ) (opening : Contents) → LawOfBeginningFrom border opening
 law_of_beginning start border opening p rows left now first = let s = start p rows border in record {
   program = ap (λ (h : Holding). h.program) first.held';
   number = ap (λ (h : Holding). h.rows) first.held';
@@ -89,7 +89,7 @@ law_of_beginning start border opening p rows left now first = let s = start p ro
 abbrev pub Stands : Program → ℕ → Option ℕ → List (List (List Item)) → (ℕ → List Next) → Standing → Files → Files → Type 0
 Stands p rows border done before now was is = ComesFrom p rows (lines_in p was) border done now.held.border before × AreInAll now.held before is (lines_in p was)
 
-pub law_of_going_on : (border : Option ℕ) (opening : Contents) → LawOfGoingOnFrom border opening
+abbrev pub law_of_going_on : (border : Option ℕ) (opening : Contents) → LawOfGoingOnFrom border opening
 law_of_going_on border opening p rows start left left' old new written t came runs stands ended =
     let now = runs.fills.now in
     let lists = lists_between p old.held.border (At t) now in

@@ -144,13 +144,14 @@ LawOfDefectAndState border opening =
     × IsRoundFault p rows old.held.border (lines_in p was) ran.before f)
 
 -- ---- names that no source has
--- LAW OF OTHER NAMES: a run stays where it has come to while names change between two rounds that are no source's file
+-- LAW OF OTHER NAMES: a run stays where it has come to, by the same rounds, while names change between two rounds that are no source's
+-- file
 abbrev pub LawOfOtherNames : Option ℕ → Contents → Type 0
 LawOfOtherNames border opening =
     (p : Program) (rows : ℕ) (start left left' : Option Files) (now : Standing) (written : List ℕ)
-    → CameFrom p rows border opening start left now written
+    → (came : CameFrom p rows border opening start left now written)
     → WhereTold left left' (λ was is. (name : List ℕ) → Contains (files_of p.sources) name → is name ≡ was name)
-    → CameFrom p rows border opening start left' now written
+    → (still : CameFrom p rows border opening start left' now written) × (still.done ≡ came.done)
 
 -- ---- fronts of the report
 -- this is a front of the report of the fold of all rows above a border, where there is one, and from a state
