@@ -70,50 +70,55 @@ same_defect p q rows n above whole before f job number fault =
 pub lines_are_in : (p : Program) (left : Files) → LinesIn p left (lines_in p left)
 lines_are_in p left i s is = simp is
 
-abbrev pub law_of_beginning : LawOfStart → (border : Option ℕ) (opening : Contents) → LawOfBeginningFrom border opening
-law_of_beginning start border opening p rows left now first = let s = start p rows border in record {
-  program = ap (λ (h : Holding). h.program) first.held';
-  number = ap (λ (h : Holding). h.rows) first.held';
-  done = [];
-  before = λ i. [];
-  behind = subst (λ (h : Holding). AreHeldBehind h (λ i. [])) (sym first.held') s.behind;
-  state = first.state';
-  wrote = refl;
-  ended = subst (λ (h : Holding). ClosedAreReadOut h left) (sym first.held') (s.ended left);
-  told = subst (λ (h : Holding). WhereTold left left (λ was is. ComesFrom p rows (lines_in p was) border [] h.border (λ i. []) × AreInAll h (λ i. []) is (lines_in p was))) (sym first.held')
-      (told_same (λ was is. ComesFrom p rows (lines_in p was) border [] border (λ i. []) × AreInAll (unread p rows border) (λ i. []) is (lines_in p was)) left
-      (λ was. (Starts (λ i. []) (λ i. refl), s.all was (lines_in p was) (lines_are_in p was))));
-}
+pub law_of_beginning : LawOfStart → (border : Option ℕ) (opening : Contents) → LawOfBeginningFrom border opening
+law_of_beginning start border opening p rows left now first = let s = start p rows border in (
+  record {
+    program = ap (λ (h : Holding). h.program) first.held';
+    number = ap (λ (h : Holding). h.rows) first.held';
+    done = [];
+    before = λ i. [];
+    behind = subst (λ (h : Holding). AreHeldBehind h (λ i. [])) (sym first.held') s.behind;
+    state = first.state';
+    wrote = refl;
+    ended = subst (λ (h : Holding). ClosedAreReadOut h left) (sym first.held') (s.ended left);
+    told = subst (λ (h : Holding). WhereTold left left (λ was is. ComesFrom p rows (lines_in p was) border [] h.border (λ i. []) × AreInAll h (λ i. []) is (lines_in p was))) (sym first.held')
+        (told_same (λ was is. ComesFrom p rows (lines_in p was) border [] border (λ i. []) × AreInAll (unread p rows border) (λ i. []) is (lines_in p was)) left
+        (λ was. (Starts (λ i. []) (λ i. refl), s.all was (lines_in p was) (lines_are_in p was))));
+  },
+  refl,
+)
 
 -- what is told of a standing
 abbrev pub Stands : Program → ℕ → Option ℕ → List (List (List Item)) → (ℕ → List Next) → Standing → Files → Files → Type 0
 Stands p rows border done before now was is = ComesFrom p rows (lines_in p was) border done now.held.border before × AreInAll now.held before is (lines_in p was)
 
-abbrev pub law_of_going_on : (border : Option ℕ) (opening : Contents) → LawOfGoingOnFrom border opening
+pub law_of_going_on : (border : Option ℕ) (opening : Contents) → LawOfGoingOnFrom border opening
 law_of_going_on border opening p rows start left left' old new written t came runs stands ended =
     let now = runs.fills.now in
-    let lists = lists_between p old.held.border (At t) now in
-    record {
-      program = stands.program ∙ came.program;
-      number = stands.rows ∙ came.number;
-      done = came.done ++ lists ∷ [];
-      before = now;
-      behind = runs.fills.behind;
-      state = runs.state ∙ state_behind p opening old came.done (At t) now came.program came.state;
-      wrote = report_behind p opening old came.done written (At t) now came.program came.state came.wrote;
-      ended = ended came.ended;
-      told = told_then (Stands p rows border came.done came.before old)
-          (λ mid is. (whole : ℕ → List Next) → AreInAll old.held came.before mid whole → IsRound old.held.program old.held.rows old.held.border whole came.before now (At t) × AreInAll new.held now is whole)
-          (Stands p rows border (came.done ++ lists ∷ []) now new) start left left'
-          (λ was mid is stood fills.
-          let f = fills (lines_in p was) stood.1 in
-          let round = same_round p old.held.program rows old.held.rows old.held.border (lines_in p was) came.before now (At t) came.program came.number f.0 in (
-            subst (λ (b : Option ℕ). ComesFrom p rows (lines_in p was) border (came.done ++ lists ∷ []) b now) (sym stands.border)
-                (GoesOn came.done old.held.border came.before now t stood.0 round),
-            f.1,
-          ))
-          came.told runs.fills.round;
-    }
+    let lists = lists_between p old.held.border (At t) now in (
+      record {
+        program = stands.program ∙ came.program;
+        number = stands.rows ∙ came.number;
+        done = came.done ++ lists ∷ [];
+        before = now;
+        behind = runs.fills.behind;
+        state = runs.state ∙ state_behind p opening old came.done (At t) now came.program came.state;
+        wrote = report_behind p opening old came.done written (At t) now came.program came.state came.wrote;
+        ended = ended came.ended;
+        told = told_then (Stands p rows border came.done came.before old)
+            (λ mid is. (whole : ℕ → List Next) → AreInAll old.held came.before mid whole → IsRound old.held.program old.held.rows old.held.border whole came.before now (At t) × AreInAll new.held now is whole)
+            (Stands p rows border (came.done ++ lists ∷ []) now new) start left left'
+            (λ was mid is stood fills.
+            let f = fills (lines_in p was) stood.1 in
+            let round = same_round p old.held.program rows old.held.rows old.held.border (lines_in p was) came.before now (At t) came.program came.number f.0 in (
+              subst (λ (b : Option ℕ). ComesFrom p rows (lines_in p was) border (came.done ++ lists ∷ []) b now) (sym stands.border)
+                  (GoesOn came.done old.held.border came.before now t stood.0 round),
+              f.1,
+            ))
+            came.told runs.fills.round;
+      },
+      refl,
+    )
 
 -- ---- texts
 text_of_start : LawOfNoRows → (p : Program) (border : Option ℕ) (opening : Contents) (reads : ℕ → List Next) → [] ≡ text_up_from p border opening border reads

@@ -1,5 +1,5 @@
 -- What a run in rounds has counted.
-use Rattle.std.proofs.Common.{◌≡◌, ℕ, List, [], ◌∷◌, ◌++◌, Option, refl, sym, ap, ◌∙◌, subst}
+use Rattle.std.proofs.Common.{◌≡◌, ℕ, List, [], ◌∷◌, ◌++◌, Option, sym, ap, ◌∙◌, subst}
 use Rattle.flu_lemmas.proofs.Told.{told_then}
 use Rattle.flu_model.specs.declared.jobs.Program.{Program}
 use Rattle.flu_rows.specs.declared.rows.Next.{Next}
@@ -16,17 +16,20 @@ use Rattle.flu_rounds.proofs.Comings.{Stands, same_round, lines_are_in, last_eve
 
 pub law_of_first_counts : LawOfStart → LawOfFirstCounts
 law_of_first_counts start p rows border opening left now counts is =
-    record { came = law_of_beginning start border opening p rows left now is; counts' = refl }
+    let begun = law_of_beginning start border opening p rows left now is in
+    record { came = begun.0; counts' = sym (ap (grown_in_turn counts) begun.1) }
 
 pub law_of_next_counts : OneMoreInTurn → LawOfNextCounts
 law_of_next_counts more p rows border opening start left left' old new written first counts t counted runs stands ended =
     let came = counted.came in
     let now = runs.fills.now in
+    let on = law_of_going_on border opening p rows start left left' old new written t came runs stands ended in
     record {
-      came = law_of_going_on border opening p rows start left left' old new written t came runs stands ended;
+      came = on.0;
       counts' = ap (λ (c : List ℕ). grown c (round_lists old (At t) now)) counted.counts'
           ∙ ap (λ (q : Program). grown (grown_in_turn first came.done) (lists_between q old.held.border (At t) now)) came.program
-          ∙ sym (more first came.done (lists_between p old.held.border (At t) now));
+          ∙ sym (more first came.done (lists_between p old.held.border (At t) now))
+          ∙ ap (grown_in_turn first) (sym on.1);
     }
 
 pub law_of_last_counts : LawOfCounts → LawOfLastRound → LawOfLastAbove → LawOfLastCounts

@@ -1,5 +1,5 @@
 -- A run does not change where names do that are no source's file.
-use Rattle.std.proofs.Common.{◌≡◌, refl, ℕ, zero, suc, List, [], ◌∷◌, ◌++◌, Option, Some, None, sym, ap, ◌∙◌, subst, arith, if◌then◌else◌}
+use Rattle.std.proofs.Common.{◌≡◌, ℕ, zero, suc, List, [], ◌∷◌, ◌++◌, Option, Some, None, refl, sym, ap, ◌∙◌, subst, arith, if◌then◌else◌}
 use Rattle.std.specs.Prelude.{Contains, slice_get, unwrap_or}
 use Rattle.std.proofs.lemmas.Option.{slice_get_within}
 use Rattle.flu_lemmas.proofs.Containing.{contains_here, contains_later}
@@ -48,20 +48,22 @@ read_out_same names name (Some x) (Some y) among keeps out = keeps name among �
 
 pub law_of_other_names : (border : Option ℕ) (opening : Contents) → LawOfOtherNames border opening
 law_of_other_names border opening p rows start left left' now written came keeps =
-    let among = λ (i : ℕ) (source : HeldSource) (is : slice_get now.held.sources i ≡ Some source). subst (λ (q : Program). Contains (files_of q.sources) source.place.file) came.program (held_among now.held came.before came.behind i source is) in
-    (record {
-      program = came.program;
-      number = came.number;
-      done = came.done;
-      before = came.before;
-      behind = came.behind;
-      state = came.state;
-      wrote = came.wrote;
-      ended = λ i source is closed. read_out_same (files_of p.sources) source.place.file left left' (among i source is) keeps (came.ended i source is closed);
-      told = told_then (Stands p rows border came.done came.before now) (KeepsFiles (files_of p.sources)) (Stands p rows border came.done came.before now) start left left'
-          (λ was mid is stood same. (
-            stood.0,
-            λ i source at. stood.1 i source at ∙ ap (λ rest. came.before i ++ rest) (sym (still_same source mid is (same source.place.file (among i source at)))),
-          ))
-          came.told keeps;
-    }, refl)
+    let among = λ (i : ℕ) (source : HeldSource) (is : slice_get now.held.sources i ≡ Some source). subst (λ (q : Program). Contains (files_of q.sources) source.place.file) came.program (held_among now.held came.before came.behind i source is) in (
+      record {
+        program = came.program;
+        number = came.number;
+        done = came.done;
+        before = came.before;
+        behind = came.behind;
+        state = came.state;
+        wrote = came.wrote;
+        ended = λ i source is closed. read_out_same (files_of p.sources) source.place.file left left' (among i source is) keeps (came.ended i source is closed);
+        told = told_then (Stands p rows border came.done came.before now) (KeepsFiles (files_of p.sources)) (Stands p rows border came.done came.before now) start left left'
+            (λ was mid is stood same. (
+              stood.0,
+              λ i source at. stood.1 i source at ∙ ap (λ rest. came.before i ++ rest) (sym (still_same source mid is (same source.place.file (among i source at)))),
+            ))
+            came.told keeps;
+      },
+      refl,
+    )

@@ -1,5 +1,5 @@
 -- How far a run in rounds has come, and what it has written by then (`docs/MODEL.md`, "Rounds").
-use Rattle.std.specs.Prelude.{◌≡◌, ℕ, ◌<◌, ◌≤◌, Option, Some, None, List, [], ◌++◌, length, Contains}
+use Rattle.std.specs.Prelude.{◌≡◌, ℕ, ◌<◌, ◌≤◌, Option, Some, None, List, [], ◌∷◌, ◌++◌, length, Contains}
 use Rattle.flu_cells.specs.Holding.{held}
 use Rattle.flu_model.specs.declared.events.Item.{Item}
 use Rattle.flu_model.specs.declared.jobs.Program.{Program}
@@ -53,13 +53,13 @@ abbrev pub HasRun : Program → Files → Standing → List ℕ → Type 0
 HasRun p was now written = HasRunFrom p None nothing_held was now written
 
 -- ---- laws
--- LAW OF THE BEGINNING: before the first round nothing is written
+-- LAW OF THE BEGINNING: before the first round nothing is run, and nothing is written
 abbrev pub LawOfBeginningFrom : Option ℕ → Contents → Type 0
 LawOfBeginningFrom border opening =
     (p : Program) (rows : ℕ) (left : Option Files) (now : Standing)
-    → IsFirstFrom p rows border opening now → CameFrom p rows border opening left left now []
+    → IsFirstFrom p rows border opening now → (came : CameFrom p rows border opening left left now []) × (came.done ≡ [])
 
--- LAW OF GOING ON: a round with a border comes to the next standing
+-- LAW OF GOING ON: a round with a border comes to the next standing, and is run behind those before it
 abbrev pub LawOfGoingOnFrom : Option ℕ → Contents → Type 0
 LawOfGoingOnFrom border opening =
     (p : Program) (rows : ℕ) (start left left' : Option Files) (old new : Standing) (written : List ℕ) (t : ℕ)
@@ -67,7 +67,8 @@ LawOfGoingOnFrom border opening =
     → (runs : Runs old new left left' (At t) came.before)
     → StandsBehind old.held new.held (At t)
     → (ClosedAreReadOut old.held left → ClosedAreReadOut new.held left')
-    → CameFrom p rows border opening start left' new (written ++ round_report old (At t) runs.fills.now)
+    → (on : CameFrom p rows border opening start left' new (written ++ round_report old (At t) runs.fills.now))
+    × (on.done ≡ came.done ++ lists_between p old.held.border (At t) runs.fills.now ∷ [])
 
 -- LAW OF THE TEXT: what was written is the report of the fold of all rows up to the border, of those above the run's start
 abbrev pub LawOfTextFrom : Option ℕ → Contents → Type 0
@@ -151,7 +152,7 @@ LawOfOtherNames border opening =
     (p : Program) (rows : ℕ) (start left left' : Option Files) (now : Standing) (written : List ℕ)
     → (came : CameFrom p rows border opening start left now written)
     → WhereTold left left' (λ was is. (name : List ℕ) → Contains (files_of p.sources) name → is name ≡ was name)
-    → (still : CameFrom p rows border opening start left' now written) × (still.done ≡ came.done)
+    → (same : CameFrom p rows border opening start left' now written) × (same.done ≡ came.done)
 
 -- ---- fronts of the report
 -- this is a front of the report of the fold of all rows above a border, where there is one, and from a state

@@ -11,7 +11,7 @@ use Rattle.flu_streams.specs.Files.{files_of}
 use Rattle.flu_words.specs.Words.{Command}
 use Rattle.flu_top.specs.Behind.{emptied_each}
 use Rattle.flu_top.specs.Openings.{Opening, Opens}
-use Rattle.flu_top.specs.Wants.{save_named, resume_named, job_and_plan_named}
+use Rattle.flu_top.specs.Wants.{save_named, resume_named, job_and_plan_named, texts_named}
 
 -- ---- the opening
 -- a name, if there is one, is that of no source's file
@@ -51,19 +51,20 @@ pub record HasBadCheckpoint (command : Command) (left : Contents) (p : Program) 
   pub first : IsFaultOf p (bytes_left (emptied_each (job_and_plan_named command) left) name) fault
 
 -- ---- what is left under the name that it saves to
--- as before: nothing was put there. What it is resumed from too, was read, so that an end of that is left
-pub record IsAsBefore (resume : Option (List ℕ)) (name : List ℕ) (old new : Contents) : Type 0 where
+-- as before: nothing was put there. What is one of the texts that are read, as the checkpoint that a run is resumed from, has an end of
+-- what it had left
+pub record IsAsBefore (texts : List (List ℕ)) (name : List ℕ) (old new : Contents) : Type 0 where
   pub end : (rest : List ℕ) → new name ≡ Some rest → (front : List ℕ) × (old name ≡ Some (front ++ rest))
-  pub unread : resume ≢ Some name → new name ≡ old name
+  pub unread : ¬ Contains texts name → new name ≡ old name
 
 -- where this was put last, there is this, and as before where nothing was put
-abbrev pub LeavesPut : Option (List ℕ) → Option (List ℕ) → Option (List ℕ) → Contents → Contents → Type 0
-LeavesPut None resume put old new = ⊤
-LeavesPut (Some name) resume None old new = IsAsBefore resume name old new
-LeavesPut (Some name) resume (Some checkpoint) old new = new name ≡ Some checkpoint
+abbrev pub LeavesPut : Option (List ℕ) → List (List ℕ) → Option (List ℕ) → Contents → Contents → Type 0
+LeavesPut None texts put old new = ⊤
+LeavesPut (Some name) texts None old new = IsAsBefore texts name old new
+LeavesPut (Some name) texts (Some checkpoint) old new = new name ≡ Some checkpoint
 
 abbrev pub Leaves : Command → Option (List ℕ) → Contents → Contents → Type 0
-Leaves command put old new = LeavesPut (save_named command) (resume_named command) put old new
+Leaves command put old new = LeavesPut (save_named command) (texts_named command) put old new
 
 -- whatever is there
 abbrev pub LeavesAnything : Option (List ℕ) → Contents → Contents → Type 0

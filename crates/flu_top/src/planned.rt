@@ -1,7 +1,7 @@
 //! A job with a plan for it.
 
 ghost use Rattle.std.specs.Prelude.{◌≡◌, ◌≤◌, ℕ, List, Ok, IfOk, IfErr};
-ghost use Rattle.flu_outside.specs.Outside.{WhereTold};
+ghost use Rattle.flu_outside.specs.Outside.{WhereTold, SameCounts};
 ghost use Rattle.flu_model.specs.Modes.{IsAccepted};
 ghost use Rattle.flu_deps.specs.Checking.{program_of};
 ghost use Rattle.flu_deps.specs.Validated.{plan_of, IsValidFor};
@@ -50,6 +50,7 @@ pub fn planned_by<F: Files>(
     ensures fronts { WhereTold (F.left files.old) (F.left files.new) TookFronts }
     ensures only { WhereTold (F.left files.old) (F.left files.new) (TookOnly (IsReadName (F.left files.old) (ValidCommand job.now plan.now))) }
     ensures counts { (n : List ℕ) → F.faults files.old n ≤ F.faults files.new n }
+    ensures puts { SameCounts (F.put_faults files.old) (F.put_faults files.new) }
 {
     let program = match program_of(alloc, files, job) {
         Ok(program) => program,

@@ -1,7 +1,7 @@
 //! The job that a file holds.
 
 ghost use Rattle.std.specs.Prelude.{◌≤◌, List, ℕ, IfOk, IfErr};
-ghost use Rattle.flu_outside.specs.Outside.{WhereTold};
+ghost use Rattle.flu_outside.specs.Outside.{WhereTold, SameCounts};
 ghost use Rattle.flu_outside.specs.Taking.{TakesFrom};
 ghost use Rattle.flu_top.specs.Jobs.{IsJobRefusal};
 ghost use Rattle.flu_top.specs.Causes.{IsJobRead};
@@ -22,6 +22,7 @@ pub fn program_of<F: Files>(alloc: Global, files: &mut F, job: &str) -> Result<P
     ensures refused { IfErr result (IsJobRefusal job.now (F.left files.old) (F.left files.new) (F.faults files.old) (F.faults files.new)) }
     ensures taken { WhereTold (F.left files.old) (F.left files.new) (TakesFrom job.now) }
     ensures counts { (n : List ℕ) → F.faults files.old n ≤ F.faults files.new n }
+    ensures puts { SameCounts (F.put_faults files.old) (F.put_faults files.new) }
 {
     jobs_are_grammar();
     let bytes = read_whole(alloc, files, job, MOST_BYTES)?;
