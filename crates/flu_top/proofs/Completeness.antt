@@ -15,6 +15,7 @@ use Rattle.flu_grammar.specs.Plans.{IsPlanText}
 use Rattle.flu_grammar.specs.Laws.{JobsAreGrammar, PlansAreGrammar}
 use Rattle.flu_plan.specs.declared.fault.PlanFault.{PlanFault}
 use Rattle.flu_outside.specs.Taking.{bytes_left}
+use Rattle.flu_save.specs.Laws.{LawOfFaults}
 use Rattle.flu_streams.specs.Fronts.{LawOfMeeting}
 use Rattle.flu_lemmas.proofs.Told.{of_told}
 use Rattle.flu_top.specs.declared.refusals.PlanDefect.{PlanDefect}
@@ -38,14 +39,14 @@ use Rattle.flu_top.proofs.Defects.{good_or_bad, met_defect}
 use Rattle.flu_top.proofs.SameJob.{same_good}
 use Rattle.flu_top.proofs.SameAcceptance.{same_accepted}
 use Rattle.flu_top.proofs.SamePlans.{same_plan, same_valid}
-use Rattle.flu_top.proofs.Starts.{FaultsAreNoCheckpoints, same_start, same_name_stops, bad_checkpoint_stops}
+use Rattle.flu_top.proofs.Starts.{same_start, same_name_stops, bad_checkpoint_stops}
 
 -- texts are read by their grammar, a defect that a round meets is the first of its source, and bytes with a fault are no checkpoint
 pub record LawsBelow : Type 0 where
   pub jobs : JobsAreGrammar
   pub plans : PlansAreGrammar
   pub meeting : LawOfMeeting
-  pub saves : FaultsAreNoCheckpoints
+  pub saves : LawOfFaults
 
 -- ---- each outcome of a call in which nothing failed
 -- the status that is wanted, or that of want of memory
@@ -81,13 +82,12 @@ known_at : (job : WantedJob) (P : Contents → Contents → Type 0) (x : Content
 known_at (Named name) P x a b told known = of_told P x a b told known
 known_at (Fixed job) P x a b told known = (x, known x)
 
-module _ (laws : LawsBelow) where
-  -- ---- two programs of one text
-  pub same_job : (job : WantedJob) (left : Contents) (p q : Program) → HasJob job left p → HasJob job left q → IsSameJob p q
-  same_job (Named name) left p q first second =
-      let e = sym ((laws.jobs (bytes_left left name) (job_of p)).1 first) ∙ (laws.jobs (bytes_left left name) (job_of q)).1 second in cc
-  same_job (Fixed job) left p q first second = first ∙ sym second
+-- ---- two programs of one text
+pub same_job : JobsAreGrammar → (job : WantedJob) (left : Contents) (p q : Program) → HasJob job left p → HasJob job left q → IsSameJob p q
+same_job jobs (Named name) left p q first second = let e = sym ((jobs (bytes_left left name) (job_of p)).1 first) ∙ (jobs (bytes_left left name) (job_of q)).1 second in cc
+same_job jobs (Fixed job) left p q first second = first ∙ sym second
 
+module _ (laws : LawsBelow) where
   not_both : (job : WantedJob) (name : List ℕ) (left : Contents) (p : Program) (fault : JobFault) → job ≡ Named name → HasJob job left p → job_in (bytes_left left name) ≡ Err fault → ⊥
   not_both job name left p fault named has bad =
       let e = sym ((laws.jobs (bytes_left left name) (job_of p)).1 (subst (λ (wanted : WantedJob). HasJob wanted left p) named has)) ∙ bad in cc
@@ -96,10 +96,10 @@ module _ (laws : LawsBelow) where
   no_defect : (command : Command) (left : Contents) (p q : Program) → HasJob (job_wanted command) left p → HasJob (job_wanted command) left q
       → AreSourcesGood (how_read command) (texts_named command) left p → HasDefect (how_read command) (texts_named command) left q → ⊥
   no_defect command left p q first second good bad =
-      good_or_bad (how_read command) (texts_named command) left q (same_good (how_read command) (texts_named command) left p q (same_job (job_wanted command) left p q first second) good) bad
+      good_or_bad (how_read command) (texts_named command) left q (same_good (how_read command) (texts_named command) left p q (same_job laws.jobs (job_wanted command) left p q first second) good) bad
 
   accepted_of_text : (job : WantedJob) (left : Contents) (p q : Program) → HasJob job left p → HasJob job left q → IsAccepted p → IsAccepted q
-  accepted_of_text job left p q first second = same_accepted p q (same_job job left p q first second)
+  accepted_of_text job left p q first second = same_accepted p q (same_job laws.jobs job left p q first second)
 
   -- a plan's text for a program is one for another that is the same job
   same_plan_text : (p q : Program) (bytes : List ℕ) (nodes : List Node) → IsSameJob p q → IsPlanText p bytes nodes → IsPlanText q bytes nodes
@@ -108,12 +108,12 @@ module _ (laws : LawsBelow) where
   valid_of_text : (job : WantedJob) (plan : List ℕ) (left : Contents) (p q : Program) → HasJob job left p → HasJob job left q → HasValidPlan job plan left p
       → HasValidPlan job plan left q
   valid_of_text job plan left p q first second found =
-      let same = same_job job left p q first second in
+      let same = same_job laws.jobs job left p q first second in
       (found.0, same_plan_text p q (plan_behind job plan left) found.0 same found.1, same_valid p q found.0 same found.2)
 
   start_of_text : (command : Command) (left : Contents) (p q : Program) → HasJob (job_wanted command) left p → HasJob (job_wanted command) left q
       → CanStart command left p → CanStart command left q
-  start_of_text command left p q first second start = same_start command left p q (same_job (job_wanted command) left p q first second) start
+  start_of_text command left p q first second start = same_start command left p q (same_job laws.jobs (job_wanted command) left p q first second) start
 
   -- ---- plans with a defect
   faulty_text : (job : WantedJob) (plan : List ℕ) (left : Contents) (p : Program) (fault : PlanFault) → plan_in p (plan_behind job plan left) ≡ Err fault

@@ -1,5 +1,5 @@
 -- Programs that are the same job start alike, and what keeps a run from its start is that it can't start.
-use Rattle.std.proofs.Common.{◌≡◌, ◌≢◌, sym, ap, ◌∙◌, subst, ℕ, List, length, map, Option, Some, None}
+use Rattle.std.proofs.Common.{◌≡◌, sym, ap, ◌∙◌, subst, ℕ, List, length, map, Option, Some, None}
 use Rattle.std.specs.Prelude.{Contains, option_map, slice_get, codes}
 use Rattle.std.proofs.lemmas.Option.{slice_get-map, slice_get_within, get_or_from_slice_get}
 use Rattle.serde_json.specs.Data.{number, unsigned, string, array, object, no_members, member}
@@ -12,9 +12,9 @@ use Rattle.flu_model.specs.Contents.{Contents}
 use Rattle.flu_model.specs.Erasure.{Job, IsSameJob}
 use Rattle.flu_parse.specs.Printing.{normal_form}
 use Rattle.flu_save.specs.declared.fault.SaveFault.{SaveFault}
-use Rattle.flu_save.specs.declared.fault.SaveFault.TheVariants as saves
 use Rattle.flu_save.specs.Checkpoint.{IsSavable, entries_of}
-use Rattle.flu_save.specs.Forms.{IsSave, IsFaultOf}
+use Rattle.flu_save.specs.Forms.{IsSave}
+use Rattle.flu_save.specs.Laws.{LawOfFaults}
 use Rattle.flu_streams.specs.Files.{files_of}
 use Rattle.flu_words.specs.Words.{Command}
 use Rattle.flu_top.specs.Behind.{emptied_each}
@@ -76,12 +76,8 @@ pub same_name_stops : (command : Command) (left : Files) (p : Program) (number :
 same_name_stops command left p number (Saves is) start = not_apart (save_named command) p number is start.1.apart.save
 same_name_stops command left p number (Resumes other is) start = not_apart (resume_named command) p number is start.1.apart.resume
 
--- bytes that have a fault as a checkpoint of a job are none
-abbrev pub FaultsAreNoCheckpoints : Type 0
-FaultsAreNoCheckpoints = (p : Program) (bytes : List ℕ) (fault : SaveFault) → IsFaultOf p bytes fault → fault ≢ saves.NoMemory → (t : ℕ) (s : Contents) → ¬ IsSave p t s bytes
-
--- so that a command that is resumed from them can't start
-pub bad_checkpoint_stops : FaultsAreNoCheckpoints → (command : Command) (left : Files) (p : Program) (fault : SaveFault) → HasBadCheckpoint command left p fault → ¬ CanStart command left p
+-- bytes with a fault are no checkpoint, so that a command that is resumed from them can't start
+pub bad_checkpoint_stops : LawOfFaults → (command : Command) (left : Files) (p : Program) (fault : SaveFault) → HasBadCheckpoint command left p fault → ¬ CanStart command left p
 bad_checkpoint_stops none command left p fault bad start =
     let opens : OpensAt p (bytes_left (emptied_each (job_and_plan_named command) left) bad.name) start.0 = subst (λ (resume : Option (List ℕ)). Opens resume (job_and_plan_named command) left p start.0) bad.named start.1.opens in
     none p (bytes_left (emptied_each (job_and_plan_named command) left) bad.name) fault bad.first bad.is_fault opens.time start.0.cells opens.save
