@@ -1,5 +1,5 @@
 -- Commands that read a job and a plan as `valid` does, before they read more.
-use Rattle.std.proofs.Common.{◌≡◌, refl, sym, ap, ◌∙◌, subst, ℕ, List, [], ◌∷◌, Bool, Option, Some, None, inl, inr, arith}
+use Rattle.std.proofs.Common.{◌≡◌, refl, sym, ap, ◌∙◌, subst, ℕ, List, [], ◌∷◌, Bool, Option, Some, None, inl, inr}
 use Rattle.std.specs.Prelude.{IsTrue, ◌++◌}
 use Rattle.std.proofs.lemmas.Bool.{false≢true}
 use Rattle.flu_outside.specs.Outside.{WhereTold, Contents}
@@ -15,11 +15,12 @@ use Rattle.flu_top.specs.Taking.{TookOnly}
 use Rattle.flu_top.specs.Behind.{WantedJob, Named, HasJob, HasPlan, job_files, plan_behind}
 use Rattle.flu_top.specs.TextFaults.{IsFirstTextFault}
 use Rattle.flu_top.specs.Wants.{job_wanted, plan_named, asks_accepted, resume_named, if_named, texts_named}
-use Rattle.flu_top.specs.Starting.{IsSameName, Saves, Resumes}
+use Rattle.flu_top.specs.Starting.{IsSameName, Saves, Resumes, HasBadCheckpoint}
 use Rattle.flu_top.specs.Done.{HasValidPlan, HasPlanAsked, MayHaveJob, IsReadName}
 use Rattle.flu_top.specs.Causes.{HasJobFault, HasStartDefect}
 use Rattle.flu_top.specs.Ready.{AreTextsRead, IsReady}
 use Rattle.flu_top.specs.Refusing.{IsRefusal}
+use Rattle.flu_top.proofs.Sequence.{none_among}
 
 -- a command that reads these, and asks for a job that is accepted
 pub record ReadsPlan (command : Command) (job plan : List ℕ) : Type 0 where
@@ -66,7 +67,7 @@ wider command job plan left name reads (inr (inl found)) = inr (inl (record {
   named = reads.its_plan ∙ found.named;
 }))
 wider command job plan left name reads (inr (inr (inl checkpoint))) = absurd (not_named name checkpoint.named)
-wider command job plan left name reads (inr (inr (inr (inl source)))) = absurd (omega (arith, source.named.1))
+wider command job plan left name reads (inr (inr (inr (inl source)))) = absurd (none_among name source.named)
 wider command job plan left name reads (inr (inr (inr (inr trace)))) = absurd (not_named name trace.named)
 
 pub only_as_valid : (command : Command) (job plan : List ℕ) (a c : Option Contents) → ReadsPlan command job plan → WhereTold a c (TookOnly (IsReadName a (Valid job plan))) → WhereTold a c (TookOnly (IsReadName a command))
@@ -112,8 +113,10 @@ refusal_as_valid command job plan a c k m (refusals.SourceFault other fault) rea
 refusal_as_valid command job plan a c k m refusals.ReadFault reads is = (is.0, wider command job plan a is.0 reads is.1, is.2)
 refusal_as_valid command job plan a c k m refusals.WriteFault reads is = is
 refusal_as_valid command job plan a c k m refusals.NoMemory reads is = tt
-refusal_as_valid command job plan a c k m (refusals.SaveDefect (saves.SameName checked number)) reads is = start_as_valid command job plan a c (program_of checked) _ _ (never_same job plan (program_of checked) number) is
+refusal_as_valid command job plan a c k m (refusals.SaveDefect (saves.SameName checked number)) reads is =
+    start_as_valid command job plan a c (program_of checked)
+    (λ left. IsSameName (Valid job plan) (program_of checked) number) (λ left. IsSameName command (program_of checked) number) (never_same job plan (program_of checked) number) is
 refusal_as_valid command job plan a c k m (refusals.SaveDefect (saves.Checkpoint fault)) reads is =
-    (is.0, start_as_valid command job plan a c is.0 _ _ (λ left bad. not_named bad.name bad.named) is.1)
+    (is.0, start_as_valid command job plan a c is.0 (λ left. HasBadCheckpoint (Valid job plan) left is.0 fault) (λ left. HasBadCheckpoint command left is.0 fault) (λ left bad. not_named bad.name bad.named) is.1)
 refusal_as_valid command job plan a c k m refusals.PutFault reads is = is
 refusal_as_valid command job plan a c k m (refusals.TraceFault fault) reads is = absurd (not_named is.trace is.named)
