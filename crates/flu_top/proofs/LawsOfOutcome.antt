@@ -99,11 +99,11 @@ fronts_law words old new status read none =
 pub only_law : NoOtherIsRead
 only_law words old new status read =
     told_weaker (TookOnly (λ name. IsReadBy words old name ⊎ MayBePut words status name)) (TookOnly (λ name. IsReadBy words old name ⊎ IsSavedBy words name)) old new
-    (λ x y took name other. took name (λ either. other (saved_if_put either))) read.only
+    (λ x y took name other. took name (λ either. other (saved_if_put name either))) read.only
   where
-    saved_if_put : {name : List ℕ} → IsReadBy words old name ⊎ MayBePut words status name → IsReadBy words old name ⊎ IsSavedBy words name
-    saved_if_put (inl read) = inl read
-    saved_if_put (inr put) = inr (put.0, put.1, put.2.0)
+    saved_if_put : (name : List ℕ) → IsReadBy words old name ⊎ MayBePut words status name → IsReadBy words old name ⊎ IsSavedBy words name
+    saved_if_put name (inl took) = inl took
+    saved_if_put name (inr put) = inr (put.0, put.1, put.2.0)
 
 -- ---- where nothing failed
 pub good_law : GoodIsDone

@@ -2,8 +2,6 @@
 use Rattle.std.proofs.Common.{◌≡◌, sym, ap, ◌∙◌, subst, ℕ, List, length, map, Option, Some, None}
 use Rattle.std.specs.Prelude.{Contains, option_map, slice_get, codes}
 use Rattle.std.proofs.lemmas.Option.{slice_get-map, slice_get_within, get_or_from_slice_get}
-use Rattle.serde_json.specs.Data.{number, unsigned, string, array, object, no_members, member}
-use Rattle.serde_json.specs.View.{items_of}
 use Rattle.flu_outside.specs.Outside.{Contents as Files}
 use Rattle.flu_outside.specs.Taking.{bytes_left}
 use Rattle.flu_model.specs.declared.jobs.Source.{Source}
@@ -12,7 +10,7 @@ use Rattle.flu_model.specs.Contents.{Contents}
 use Rattle.flu_model.specs.Erasure.{Job, IsSameJob}
 use Rattle.flu_parse.specs.Printing.{normal_form}
 use Rattle.flu_save.specs.declared.fault.SaveFault.{SaveFault}
-use Rattle.flu_save.specs.Checkpoint.{IsSavable, entries_of}
+use Rattle.flu_save.specs.Checkpoint.{IsSavable, checkpoint}
 use Rattle.flu_save.specs.Forms.{IsSave}
 use Rattle.flu_save.specs.Laws.{LawOfFaults}
 use Rattle.flu_streams.specs.Files.{files_of}
@@ -32,6 +30,9 @@ same_apart command p q same apart = record {
   resume = same_no_source (resume_named command) p q same apart.resume;
 }
 
+same_value : (p q : Program) (t : ℕ) (s : Contents) → IsSameJob p q → checkpoint p t s ≡ checkpoint q t s
+same_value p q t s same = let families : p.families ≡ q.families = ap (λ j. j.families) same in cc
+
 -- a checkpoint of one is one of the other, of the same border and state
 same_save : (p q : Program) (t : ℕ) (s : Contents) (bytes : List ℕ) → IsSameJob p q → IsSave p t s bytes → IsSave q t s bytes
 same_save p q t s bytes same save = record {
@@ -41,10 +42,7 @@ same_save p q t s bytes same save = record {
   checkpoint = record {
     border = save.checkpoint.border;
     state = subst (λ fs. IsSavable fs s) (ap (λ j. j.families) same) save.checkpoint.state;
-    value = save.checkpoint.value ∙ ap (λ (j : Job).
-        object (member (codes "border") (number (unsigned t))
-        (member (codes "cells") (array (items_of (entries_of j.families s)))
-        (member (codes "job") (string (normal_form j)) no_members)))) same;
+    value = save.checkpoint.value ∙ same_value p q t s same;
   };
 }
 
