@@ -1,4 +1,5 @@
 pub mod Comings
+pub mod Countings
 pub mod Halves
 pub mod OtherNames
 pub mod ReportFronts

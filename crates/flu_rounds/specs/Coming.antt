@@ -145,7 +145,8 @@ LawOfDefectAndState border opening =
     × IsRoundFault p rows old.held.border (lines_in p was) ran.before f)
 
 -- ---- names that no source has
--- LAW OF OTHER NAMES: a run stays where it has come to while names change between two rounds that are no source's file
+-- LAW OF OTHER NAMES: a run stays where it has come to, by the same rounds, while names change between two rounds that are no source's
+-- file
 abbrev pub LawOfOtherNames : Option ℕ → Contents → Type 0
 LawOfOtherNames border opening =
     (p : Program) (rows : ℕ) (start left left' : Option Files) (now : Standing) (written : List ℕ)

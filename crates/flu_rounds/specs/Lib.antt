@@ -3,3 +3,4 @@ pub mod Faults
 pub mod Halves
 pub mod Standing
 pub mod Written
+pub mod Counting

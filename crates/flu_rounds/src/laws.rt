@@ -6,11 +6,12 @@ ghost use Rattle.flu_rounds.specs.Coming.{LawOfBeginning, LawOfGoingOn, LawOfTex
 ghost use Rattle.flu_rounds.specs.Coming.{LawOfBeginningFrom, LawOfGoingOnFrom, LawOfTextFrom, LawOfNextTextFrom, LawOfLastFrom, LawOfDefectFrom};
 ghost use Rattle.flu_rounds.specs.Coming.{LawOfTextAndState, LawOfNextTextAndState, LawOfNextState, LawOfDefectAndState};
 ghost use Rattle.flu_rounds.specs.Coming.{LawOfOtherNames, LawOfReportFronts, LawOfNextReportFronts};
+ghost use Rattle.flu_rounds.specs.Counting.{LawOfFirstCounts, LawOfNextCounts, LawOfLastCounts};
 ghost use Rattle.flu_rounds.specs.Halves.{LawOfHalves, LawOfHalf};
 
 use flu_streams::{
-    last_round_has_all_rows, last_round_has_later_rows, rounds_are_folded_in_turn,
-    rounds_begin_and_end, rounds_meet_what_is_there,
+    last_round_has_all_rows, last_round_has_later_rows, rounds_are_counted_in_turn,
+    rounds_are_folded_in_turn, rounds_begin_and_end, rounds_meet_what_is_there,
 };
 
 /// How far a run in rounds has come (`CameTo`): it begins with nothing written, and each round with a border takes it further.
@@ -57,6 +58,19 @@ pub fn resumed_runs_write_the_fold()
     ensures defect_with_state { (border : Option ℕ) (opening : Contents) → LawOfDefectAndState border opening }
 {
     rounds_are_folded_in_turn();
+    last_round_has_all_rows();
+    last_round_has_later_rows();
+    rounds_begin_and_end();
+}
+
+/// What a run in rounds has counted (`CountedFrom`), whether it is resumed or not: before its first round nothing, each round with a
+/// border grows the counts by its events, and behind the last one those of all rows above the run's start were counted.
+pub fn runs_count_their_events()
+    ensures first { LawOfFirstCounts }
+    ensures next { LawOfNextCounts }
+    ensures last { LawOfLastCounts }
+{
+    rounds_are_counted_in_turn();
     last_round_has_all_rows();
     last_round_has_later_rows();
     rounds_begin_and_end();

@@ -2,4 +2,5 @@ pub mod Numbers
 pub mod Families
 pub mod Values
 pub mod Members
+pub mod Meanings
 pub mod States

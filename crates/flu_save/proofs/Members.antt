@@ -12,7 +12,7 @@ use Rattle.flu_model.specs.declared.jobs.Program.{Program}
 use Rattle.flu_model.specs.Contents.{Contents}
 use Rattle.flu_model.specs.Erasure.{job_of}
 use Rattle.flu_parse.specs.Printing.{normal_form}
-use Rattle.flu_save.specs.Checkpoint.{entries_of, checkpoint, IsCheckpoint}
+use Rattle.flu_save.specs.Checkpoint.{entries_of, IsCheckpoint}
 use Rattle.flu_cells.specs.Holding.{held}
 use Rattle.flu_save.specs.Forms.{HasParts, HasForm, IsOfJob, IsJsonOf, IsShort, IsSave, IsFaultOf}
 use Rattle.flu_save.specs.Parts.{IsSavedWith}

@@ -37,10 +37,10 @@ all_kept p (k ∷ ks) = by_test (p k) refl (all_kept p ks)
     by_test true e more = both (p k) (list_all p (filter p ks)) e more
     by_test false e more = more
 
-abbrev is_held : Contents → Cell → Bool
+abbrev pub is_held : Contents → Cell → Bool
 is_held s c = is_some (s c)
 
-all_held : (s : Contents) (fs : List ℕ) → list_all (is_held s) (flat_map (cells_of_family s) fs) ≡ true
+pub all_held : (s : Contents) (fs : List ℕ) → list_all (is_held s) (flat_map (cells_of_family s) fs) ≡ true
 all_held s [] = refl
 all_held s (f ∷ fs) =
     let cells = cells_of_family s f in
@@ -48,7 +48,7 @@ all_held s (f ∷ fs) =
     let first : list_all (is_held s) cells ≡ true = list_all-map (is_held s) (cell f) (held_keys s f) ∙ all_kept (λ k. is_some (s (cell f k))) all_keys in
     list_all-append (is_held s) cells others ∙ both (list_all (is_held s) cells) (list_all (is_held s) others) first (all_held s fs)
 
-from_some : (o : Option Worth) → is_some o ≡ true → (w : Worth) × (o ≡ Some w)
+pub from_some : (o : Option Worth) → is_some o ≡ true → (w : Worth) × (o ≡ Some w)
 from_some None h = absurd cc
 from_some (Some w) h = (w, refl)
 
@@ -80,7 +80,7 @@ take_next (y ∷ ys) (suc i) x at = ap (λ zs. y ∷ zs) (take_next ys i x at)
 abbrev pub among : Contents → List Cell → Contents
 among s cs = λ d. if list_any (is_same_cell d) cs then s d else None
 
-same_cell : (d c : Cell) → is_same_cell d c ≡ true → d ≡ c
+pub same_cell : (d c : Cell) → is_same_cell d c ≡ true → d ≡ c
 same_cell d c e =
     let family = true_eq d.family c.family (and_left (d.family == c.family) (d.key == c.key) e) in
     let key = true_eq d.key c.key (and_right (d.family == c.family) (d.key == c.key) e) in

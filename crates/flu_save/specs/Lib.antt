@@ -1,4 +1,5 @@
 pub mod Checkpoint
 pub mod Forms
+pub mod Laws
 pub mod Parts
 pub mod Widths

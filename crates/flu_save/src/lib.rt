@@ -3,9 +3,11 @@
 
 mod entries;
 mod fault;
+mod laws;
 mod reading;
 mod saving;
 
 pub use fault::SaveFault;
+pub use laws::{checkpoints_have_one_meaning, faults_are_no_checkpoints};
 pub use reading::{Saved, read_save};
 pub use saving::save_text;

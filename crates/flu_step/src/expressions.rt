@@ -1,13 +1,21 @@
 //! The values of expressions: signed numbers of 64 bits, where each result is clamped to that range (`docs/LANGUAGE.md`).
 
-ghost use Rattle.std.specs.Prelude.{◌≡◌, ℕ, pos, IfSome};
+ghost use Rattle.std.specs.Prelude.{◌≡◌, pos};
 ghost use Rattle.flu_model.specs.Contents as contents;
-ghost use Rattle.flu_model.specs.Contents.{Contents};
 ghost use Rattle.flu_model.specs.Expressions as meaning;
+ghost use Rattle.flu_model.specs.declared.jobs.Op.TheVariants.{Plus, Minus, Times};
 ghost use Rattle.flu_cells.specs.Holding.{held};
 
 use flu_cells::State;
 use flu_model::{Event, Expr, Op, Worth, cell_of};
+
+/// What the operands of an expression are read from: a state and an event whose tag has this key.
+#[derive(Clone, Copy)]
+struct Scope<'a> {
+    state: &'a State,
+    event: &'a Event,
+    key: u32,
+}
 
 /// The value of an expression in a state, at an event whose tag has this key. It takes no memory.
 ///
@@ -16,49 +24,123 @@ use flu_model::{Event, Expr, Op, Worth, cell_of};
 pub fn value_of(e: &Expr, s: &State, x: &Event, key: u32) -> i64
     ensures { result ≡ meaning.value_of_expr e.now (held s.now) x.now key }
 {
-    match e {
-        Expr::Lit(n) => *n,
-        Expr::Value => x.value,
-        Expr::Key => i64::from(key),
-        Expr::Time => clamped_time(x.time),
-        Expr::Read(r) => number_in(s.get(cell_of(*r, key))),
-        Expr::Has(r) => as_number(s.get(cell_of(*r, key)).is_some()),
-        Expr::Neg(e) => value_of(e, s, x, key).saturating_neg(),
-        Expr::Not(e) => as_number(!is_true(value_of(e, s, x, key))),
-        Expr::Two(op, a, b) => {
-            let right = match known(b, x) {
-                Some(n) => n,
-                None => value_of(b, s, x, key),
-            };
-            // A chain of operators leans to the left, so an operator there is done without a call too.
-            if let Expr::Two(inner, c, d) = &**a {
-                let second = match known(d, x) {
-                    Some(n) => n,
-                    None => value_of(d, s, x, key),
-                };
-                let first = match known(c, x) {
-                    Some(n) => n,
-                    None => value_of(c, s, x, key),
-                };
-                return result_of(*op, result_of(*inner, first, second), right);
-            }
-            let left = match known(a, x) {
-                Some(n) => n,
-                None => value_of(a, s, x, key),
-            };
-            result_of(*op, left, right)
-        }
+    value_in(
+        e,
+        &Scope {
+            state: s,
+            event: x,
+            key,
+        },
+    )
+}
+
+// The value of an expression. A chain of operators leans to the left, so up to five of them are done without a call.
+#[cycle(expression)]
+#[inline(never)]
+fn value_in(e: &Expr, scope: &Scope<'_>) -> i64
+    ensures { result ≡ meaning.value_of_expr e.now (held scope.now.state.now) scope.now.event.now scope.now.key }
+{
+    if let Expr::Two(op, a, b) = e {
+        result_of(*op, chain_of_four(a, scope), operand(b, scope))
+    } else {
+        value_of_any(e, scope)
     }
 }
 
-// The value of an operand that is read off without a call: most are numbers of the job or the event's value.
-fn known(e: &Expr, x: &Event) -> Option<i64>
-    ensures { IfSome result (λ n. (s : Contents) (key : ℕ) → n ≡ meaning.value_of_expr e.now s x.now key) }
+// The value of an expression, by its kind.
+#[cycle(expression)]
+#[inline(never)]
+fn value_of_any(e: &Expr, scope: &Scope<'_>) -> i64
+    ensures { result ≡ meaning.value_of_expr e.now (held scope.now.state.now) scope.now.event.now scope.now.key }
 {
     match e {
-        Expr::Lit(n) => Some(*n),
-        Expr::Value => Some(x.value),
-        _ => None,
+        Expr::Lit(n) => *n,
+        Expr::Value => scope.event.value,
+        Expr::Key => i64::from(scope.key),
+        Expr::Time => clamped_time(scope.event.time),
+        Expr::Read(r) => number_in(scope.state.get(cell_of(*r, scope.key))),
+        Expr::Has(r) => as_number(scope.state.get(cell_of(*r, scope.key)).is_some()),
+        Expr::Neg(e) => value_in(e, scope).saturating_neg(),
+        Expr::Not(e) => as_number(!is_true(value_in(e, scope))),
+        Expr::Two(op, a, b) => result_of_any(*op, value_in(a, scope), value_in(b, scope)),
+    }
+}
+
+// The value of an expression of which up to four operators are done without a call.
+#[cycle(expression)]
+#[inline(always)]
+fn chain_of_four(e: &Expr, scope: &Scope<'_>) -> i64
+    ensures { result ≡ meaning.value_of_expr e.now (held scope.now.state.now) scope.now.event.now scope.now.key }
+{
+    if let Expr::Two(op, a, b) = e {
+        result_of(*op, chain_of_three(a, scope), operand(b, scope))
+    } else {
+        operand(e, scope)
+    }
+}
+
+// The same with up to three.
+#[cycle(expression)]
+#[inline(always)]
+fn chain_of_three(e: &Expr, scope: &Scope<'_>) -> i64
+    ensures { result ≡ meaning.value_of_expr e.now (held scope.now.state.now) scope.now.event.now scope.now.key }
+{
+    if let Expr::Two(op, a, b) = e {
+        result_of(*op, chain_of_two(a, scope), operand(b, scope))
+    } else {
+        operand(e, scope)
+    }
+}
+
+// The same with up to two.
+#[cycle(expression)]
+#[inline(always)]
+fn chain_of_two(e: &Expr, scope: &Scope<'_>) -> i64
+    ensures { result ≡ meaning.value_of_expr e.now (held scope.now.state.now) scope.now.event.now scope.now.key }
+{
+    if let Expr::Two(op, a, b) = e {
+        result_of(*op, chain_of_one(a, scope), operand(b, scope))
+    } else {
+        operand(e, scope)
+    }
+}
+
+// The same with one.
+#[cycle(expression)]
+#[inline(always)]
+fn chain_of_one(e: &Expr, scope: &Scope<'_>) -> i64
+    ensures { result ≡ meaning.value_of_expr e.now (held scope.now.state.now) scope.now.event.now scope.now.key }
+{
+    if let Expr::Two(op, a, b) = e {
+        result_of(*op, operand(a, scope), operand(b, scope))
+    } else {
+        operand(e, scope)
+    }
+}
+
+// The value of an operand. Most are numbers of the job, which are read off without a call.
+#[cycle(expression)]
+#[inline(always)]
+fn operand(e: &Expr, scope: &Scope<'_>) -> i64
+    ensures { result ≡ meaning.value_of_expr e.now (held scope.now.state.now) scope.now.event.now scope.now.key }
+{
+    if let Expr::Lit(n) = e {
+        *n
+    } else {
+        other_operand(e, scope)
+    }
+}
+
+// The same where it is likely no number: the event's value costs a short call, and all others are evaluated.
+#[cycle(expression)]
+#[inline(never)]
+fn other_operand(e: &Expr, scope: &Scope<'_>) -> i64
+    ensures { result ≡ meaning.value_of_expr e.now (held scope.now.state.now) scope.now.event.now scope.now.key }
+{
+    if let Expr::Value = e {
+        scope.event.value
+    } else {
+        value_in(e, scope)
     }
 }
 
@@ -102,8 +184,56 @@ fn clamped_sum(n: i128) -> i64
     i64::try_from(n).unwrap_or(if n < 0 { i64::MIN } else { i64::MAX })
 }
 
-// The result of an operator.
+// The result of an operator. Most are sums, differences and products, so these are told from the others first.
+#[inline(always)]
 fn result_of(op: Op, a: i64, b: i64) -> i64
+    ensures { result ≡ meaning.result_of op a b }
+{
+    match op {
+        Op::Plus => sum(a, b),
+        Op::Minus => difference(a, b),
+        Op::Times => product(a, b),
+        _ => result_of_any(op, a, b),
+    }
+}
+
+// The sum. Most fit, so the test whether one does is all that is done beside it.
+#[inline(always)]
+fn sum(a: i64, b: i64) -> i64
+    ensures { result ≡ meaning.result_of Plus a b }
+{
+    match a.checked_add(b) {
+        Some(n) => n,
+        None => result_of_any(Op::Plus, a, b),
+    }
+}
+
+// The difference, in the same way.
+#[inline(always)]
+fn difference(a: i64, b: i64) -> i64
+    ensures { result ≡ meaning.result_of Minus a b }
+{
+    match a.checked_sub(b) {
+        Some(n) => n,
+        None => result_of_any(Op::Minus, a, b),
+    }
+}
+
+// The product, in the same way.
+#[inline(always)]
+fn product(a: i64, b: i64) -> i64
+    ensures { result ≡ meaning.result_of Times a b }
+{
+    match a.checked_mul(b) {
+        Some(n) => n,
+        None => result_of_any(Op::Times, a, b),
+    }
+}
+
+// The result of any operator.
+#[cold]
+#[inline(never)]
+fn result_of_any(op: Op, a: i64, b: i64) -> i64
     ensures { result ≡ meaning.result_of op a b }
 {
     match op {

@@ -35,7 +35,7 @@ late_last t x y e f =
     let eq : (x.time == y.time) ≡ false = grind (arith, nat_tests) in
     rw (lt, eq) refl
 
-merged_cut : (t : ℕ) (whole first second : List (List Item)) → AreCutAt t whole first second → merged whole ≡ merged first ++ merged second
+pub merged_cut : (t : ℕ) (whole first second : List (List Item)) → AreCutAt t whole first second → merged whole ≡ merged first ++ merged second
 merged_cut t whole first second cut =
     in_order-cut is_before (λ (x : Event). nat_le x.time t) (early_first t) (late_last t) (all_events whole)
     ∙ ap (λ (xs : List Event). in_order is_before (filter (λ (x : Event). nat_le x.time t) (all_events whole)) ++ in_order is_before xs) (sym late)

@@ -9,6 +9,7 @@ pub mod Placing
 pub mod Cutting
 pub mod BorderLaws
 pub mod RoundLaws
+pub mod CountLaws
 pub mod RoundEnds
 pub mod Counting
 pub mod HeldRows

@@ -527,6 +527,16 @@ exceeds_start p rows t whole start done above before one (GoesOn done' above' be
     let up = round_exceeds p rows b above' whole before' mid one was in
     exceeds_start p rows t whole start done' above' before' one came (λ u e. up u (exceeds u e))
 
+-- the rows that were read above the run's start, cut at the border of the round before
+pub cut_of_rounds : (p : Program) (rows : ℕ) (whole : ℕ → List Next) (start : Option ℕ) (done : List (List (List Item))) (above : Option ℕ) (before mid now : ℕ → List Next)
+    (b : ℕ) (end : Border) → 1 ≤ rows → ComesFrom p rows whole start done above before → IsRoundAt p rows above whole before mid b → IsRound p rows (Some b) whole mid now end
+    → AreCutAt b (lists_between p start end now) (lists_between p start (At b) mid) (lists_between p (Some b) end now)
+cut_of_rounds p rows whole start done above before mid now b end one came was round =
+    let same = lists_keep p rows b start above whole before mid now end was round in
+    let exceeds = exceeds_start p rows b whole start done above before one came (round_exceeds p rows b above whole before mid one was) in
+    subst (λ l. AreCutAt b (lists_between p start end now) l (lists_between p (Some b) end now)) same
+    (between_cut p b start end now (covers_end p rows b whole mid now end one round) exceeds)
+
 pub law_of_rounds : LawOfRounds
 law_of_rounds p opening rows whole start done above before now end one (Starts reads none) round = record {
   state = refl;
@@ -535,12 +545,9 @@ law_of_rounds p opening rows whole start done above before now end one (Starts r
 }
 law_of_rounds p opening rows whole start done above before now end one (GoesOn done' above' before' mid b came was) round =
     let so_far = law_of_rounds p opening rows whole start done' above' before' mid (At b) one came was in
-    let same = lists_keep p rows b start above' whole before' mid now end was round in
-    let exceeds = exceeds_start p rows b whole start done' above' before' one came (round_exceeds p rows b above' whole before' mid one was) in
-    let cut = folds_in_turn p opening b (lists_between p start end now) (lists_between p start (At b) now) (lists_between p (Some b) end now)
-    (between_cut p b start end now (covers_end p rows b whole mid now end one round) exceeds) in
+    let cut = cut_of_rounds p rows whole start done' above' before' mid now b end one came was round in
     one_more p opening _ (lists_between p start (At b) mid) (lists_between p (Some b) end now) (lists_between p start end now) so_far
-    (subst (λ l. FoldsInTurn p opening (lists_between p start end now) l (lists_between p (Some b) end now)) same cut)
+    (folds_in_turn p opening b (lists_between p start end now) (lists_between p start (At b) mid) (lists_between p (Some b) end now) cut)
 
 -- no event is between a border and itself
 pub no_events : (p : Program) (t : ℕ) (reads : ℕ → List Next) → all_events (lists_between p (Some t) (At t) reads) ≡ []

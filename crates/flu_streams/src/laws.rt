@@ -1,6 +1,7 @@
 //! Laws of borders and rounds, each the contract of a function that does nothing.
 
 ghost use Rattle.flu_streams.specs.Borders.{LawOfBorders, ItemsAreCut};
+ghost use Rattle.flu_streams.specs.Counts.{OneMoreInTurn, LawOfCounts};
 ghost use Rattle.flu_streams.specs.Holding.{LawOfStart, LawOfEnds};
 ghost use Rattle.flu_streams.specs.Fronts.{LawOfFronts, LawOfFrontsAbove, LawOfMeeting};
 ghost use Rattle.flu_streams.specs.Rounds.{LawOfRounds, LawOfNoRows, LawOfLastRound, LawOfLastAbove};
@@ -19,6 +20,13 @@ pub fn borders_cut_a_fold()
 pub fn rounds_are_folded_in_turn()
     ensures rounds { LawOfRounds }
     ensures none { LawOfNoRows }
+{}
+
+/// The law of counts: the events of the rounds up to any one, counted by itag round by round, are those of all rows that were read
+/// above the run's start, up to its border. And where one round more is counted, its events are counted behind those before it.
+pub fn rounds_are_counted_in_turn()
+    ensures rounds { LawOfCounts }
+    ensures one_more { OneMoreInTurn }
 {}
 
 /// The last round: behind it the rows that were read are all rows of the sources' files, and their lists are those that `gather`

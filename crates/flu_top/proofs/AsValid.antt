@@ -16,8 +16,8 @@ use Rattle.flu_top.specs.Behind.{WantedJob, Named, HasJob, HasPlan, job_files, p
 use Rattle.flu_top.specs.TextFaults.{IsFirstTextFault}
 use Rattle.flu_top.specs.Wants.{job_wanted, plan_named, asks_accepted, resume_named, if_named, texts_named}
 use Rattle.flu_top.specs.Starting.{IsSameName, Saves, Resumes, HasBadCheckpoint}
-use Rattle.flu_top.specs.Done.{HasValidPlan, HasPlanAsked, MayHaveJob, IsReadName}
-use Rattle.flu_top.specs.Causes.{HasJobFault, HasStartDefect}
+use Rattle.flu_top.specs.Done.{HasValidPlan, MayHaveJob, IsReadName}
+use Rattle.flu_top.specs.Causes.{HasJobFault}
 use Rattle.flu_top.specs.Ready.{AreTextsRead, IsReady}
 use Rattle.flu_top.specs.Refusing.{IsRefusal}
 use Rattle.flu_top.proofs.Sequence.{none_among}
@@ -77,17 +77,9 @@ only_as_valid command job plan a c reads only =
 
 -- ---- what refuses `valid` refuses them
 -- which has no names of checkpoints, and so nothing that keeps it from its start
-never_same : (job plan : List ℕ) (p : Program) (number : ℕ) → Contents → IsSameName (Valid job plan) p number → ⊥
-never_same job plan p number left (Saves file) = not_named file.0.file file.2
-never_same job plan p number left (Resumes apart file) = not_named file.0.file file.2
-
-start_as_valid : (command : Command) (job plan : List ℕ) (a c : Option Contents) (p : Program) (Is Other : Contents → Type 0) → ((left : Contents) → Is left → ⊥)
-    → HasStartDefect (Valid job plan) a c p Is → HasStartDefect command a c p Other
-start_as_valid command job plan a c p Is Other never found = record {
-  accepted = λ asked. found.accepted refl;
-  first = told_weaker (λ left _. HasJob (Named job) left p × HasPlanAsked (Valid job plan) left p × Is left) (λ left _. HasJob (job_wanted command) left p × HasPlanAsked command left p × Other left) a c
-      (λ x z is. absurd (never x is.2)) found.first;
-}
+never_starts : (name : List ℕ) → (None ≡ Some name) ⊎ (None ≡ Some name) → ⊥
+never_starts name (inl saved) = not_named name saved
+never_starts name (inr resumed) = not_named name resumed
 
 pub refusal_as_valid : (command : Command) (job plan : List ℕ) (a c : Option Contents) (k m : List ℕ → ℕ) (refusal : Refusal) → ReadsPlan command job plan → IsRefusal (Valid job plan) a c k m refusal → IsRefusal command a c k m refusal
 refusal_as_valid command job plan a c k m (refusals.BadWords bad) reads is = is
@@ -113,10 +105,7 @@ refusal_as_valid command job plan a c k m (refusals.SourceFault other fault) rea
 refusal_as_valid command job plan a c k m refusals.ReadFault reads is = (is.0, wider command job plan a is.0 reads is.1, is.2)
 refusal_as_valid command job plan a c k m refusals.WriteFault reads is = is
 refusal_as_valid command job plan a c k m refusals.NoMemory reads is = tt
-refusal_as_valid command job plan a c k m (refusals.SaveDefect (saves.SameName checked number)) reads is =
-    start_as_valid command job plan a c (program_of checked)
-    (λ left. IsSameName (Valid job plan) (program_of checked) number) (λ left. IsSameName command (program_of checked) number) (never_same job plan (program_of checked) number) is
-refusal_as_valid command job plan a c k m (refusals.SaveDefect (saves.Checkpoint fault)) reads is =
-    (is.0, start_as_valid command job plan a c is.0 (λ left. HasBadCheckpoint (Valid job plan) left is.0 fault) (λ left. HasBadCheckpoint command left is.0 fault) (λ left bad. not_named bad.name bad.named) is.1)
+refusal_as_valid command job plan a c k m (refusals.SaveDefect (saves.SameName checked number)) reads is = absurd (never_starts is.name is.named)
+refusal_as_valid command job plan a c k m (refusals.SaveDefect (saves.Checkpoint fault)) reads is = absurd (never_starts is.1.name is.1.named)
 refusal_as_valid command job plan a c k m refusals.PutFault reads is = is
 refusal_as_valid command job plan a c k m (refusals.TraceFault fault) reads is = absurd (not_named is.trace is.named)

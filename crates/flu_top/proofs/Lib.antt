@@ -22,6 +22,7 @@ pub mod SameJob
 pub mod Defects
 pub mod SameAcceptance
 pub mod SamePlans
+pub mod Starts
 pub mod Endings
 pub mod Completeness
 pub mod Outcomes

@@ -1,0 +1,13 @@
+//! Laws of checkpoints, each the contract of a function that does nothing.
+
+ghost use Rattle.flu_save.specs.Laws.{LawOfFaults, LawOfOneMeaning};
+
+/// Bytes that have one of the faults of `SaveFault`, but want of memory, are no checkpoint of the job.
+pub fn faults_are_no_checkpoints()
+    ensures { LawOfFaults }
+{}
+
+/// Bytes are a checkpoint of one border and one state at most.
+pub fn checkpoints_have_one_meaning()
+    ensures { LawOfOneMeaning }
+{}
