@@ -13,16 +13,17 @@ use Rattle.flu_top.specs.Done.{IsWritten}
 use Rattle.flu_top.specs.Causes.{IsJobRead}
 use Rattle.flu_top.specs.Checking.{IsChecked, IsCheckRefusal}
 use Rattle.flu_top.specs.Refusing.{IsRefusal}
-use Rattle.flu_top.proofs.Sequence.{only_one}
+use Rattle.flu_top.proofs.Sequence.{only_one, can_start, has_saved}
 
 pub is_checked : (job : List ℕ) (p : Program) (text : List ℕ) (a b : Option Contents) → WhereTold a b (IsJobRead job p) → IsChecked p text → WhereTold a b (IsWritten (Check job) text [])
 is_checked job p text a b read checked =
     told_weaker (IsJobRead job p) (IsWritten (Check job) text []) a b (λ x y whole. (
       p,
       record {
-        good = record { has = whole.has; accepted = λ asked. checked.accepted; plan = λ plan named. absurd (cc); sources = tt };
-        ends = λ name found. ap y (sym (only_one job name found)) ∙ whole.end;
+        good = record { has = whole.has; accepted = λ asked. checked.accepted; plan = λ plan named. absurd (cc); start = can_start (Check job) x p (record { save = refl; resume = refl }); sources = tt };
+        ends = λ name found apart. ap y (sym (only_one job name found)) ∙ whole.end;
         trace = λ trace named. absurd (cc);
+        saved = has_saved (Check job) p x y (record { save = refl; resume = refl });
       },
       checked.is,
       refl,
@@ -43,4 +44,6 @@ check_refusal command job p a b before now (refusals.SourceFault q fault) named 
 check_refusal command job p a b before now refusals.ReadFault named asked read is = absurd is
 check_refusal command job p a b before now refusals.WriteFault named asked read is = is
 check_refusal command job p a b before now refusals.NoMemory named asked read is = tt
+check_refusal command job p a b before now (refusals.SaveDefect defect) named asked read is = absurd is
+check_refusal command job p a b before now refusals.PutFault named asked read is = is
 check_refusal command job p a b before now (refusals.TraceFault fault) named asked read is = absurd is

@@ -15,32 +15,38 @@ use Rattle.flu_grammar.specs.Plans.{IsPlanText}
 use Rattle.flu_grammar.specs.Laws.{JobsAreGrammar, PlansAreGrammar}
 use Rattle.flu_plan.specs.declared.fault.PlanFault.{PlanFault}
 use Rattle.flu_outside.specs.Taking.{bytes_left}
+use Rattle.flu_save.specs.Laws.{LawOfFaults}
 use Rattle.flu_streams.specs.Fronts.{LawOfMeeting}
 use Rattle.flu_lemmas.proofs.Told.{of_told}
 use Rattle.flu_top.specs.declared.refusals.PlanDefect.{PlanDefect}
 use Rattle.flu_top.specs.declared.refusals.PlanDefect.TheVariants as defects
+use Rattle.flu_top.specs.declared.refusals.SaveDefect.{SaveDefect}
+use Rattle.flu_top.specs.declared.refusals.SaveDefect.TheVariants as starts
 use Rattle.flu_trace.specs.declared.faults.ReplayFault.{ReplayFault}
 use Rattle.flu_trace.specs.declared.faults.ReplayFault.TheVariants as traces
 use Rattle.flu_trace.specs.Replaying.{Ending, Complete, ending_of}
 use Rattle.flu_words.specs.Words.{Command, command_in}
 use Rattle.flu_top.specs.Behind.{WantedJob, Named, Fixed, HasJob, HasPlan, plan_behind}
 use Rattle.flu_top.specs.Reading.{AreSourcesGood, HasDefect}
-use Rattle.flu_top.specs.Wants.{job_wanted, plan_named, trace_named, asks_accepted, how_read, texts_named}
+use Rattle.flu_top.specs.Starting.{CanStart, IsSameName, HasBadCheckpoint}
+use Rattle.flu_top.specs.Wants.{job_wanted, plan_named, save_named, trace_named, asks_accepted, how_read, texts_named}
 use Rattle.flu_top.specs.Done.{HasValidPlan, HasPlanAsked, IsGood, IsTraceRead, IsDone, WhereKnown, IsReadName}
 use Rattle.flu_top.specs.Replaying.{ReplaysTo, CanOnlyComplete}
-use Rattle.flu_top.specs.Causes.{IsJobRead, HasJobFault, HasConflict, HasPlanDefect, IsMet, HasSourceFault, HasTraceFault}
-use Rattle.flu_top.specs.Outcome.{Outside, Outcome, FaultsFirst, HasFaultyTrace, CallsFor, NothingFailed, Completes}
+use Rattle.flu_top.specs.Causes.{IsJobRead, HasJobFault, HasConflict, HasPlanDefect, HasSaveDefect, IsMet, HasSourceFault, HasTraceFault}
+use Rattle.flu_top.specs.Outcome.{Outside, Outcome, Faults, FaultsFirst, HasFaultyTrace, CallsFor, NothingFailed, Completes}
 use Rattle.flu_top.specs.Outcome as cases
 use Rattle.flu_top.proofs.Defects.{good_or_bad, met_defect}
 use Rattle.flu_top.proofs.SameJob.{same_good}
 use Rattle.flu_top.proofs.SameAcceptance.{same_accepted}
 use Rattle.flu_top.proofs.SamePlans.{same_plan, same_valid}
+use Rattle.flu_top.proofs.Starts.{same_start, same_name_stops, bad_checkpoint_stops}
 
--- texts are read by their grammar, and a defect that a round meets is the first of its source
+-- texts are read by their grammar, a defect that a round meets is the first of its source, and bytes with a fault are no checkpoint
 pub record LawsBelow : Type 0 where
   pub jobs : JobsAreGrammar
   pub plans : PlansAreGrammar
   pub meeting : LawOfMeeting
+  pub saves : LawOfFaults
 
 -- ---- each outcome of a call in which nothing failed
 -- the status that is wanted, or that of want of memory
@@ -53,8 +59,10 @@ record Leads (wanted : ℕ) (command : Command) (left : Contents) : Type 0 where
   job : (name : List ℕ) (fault : JobFault) → job_wanted command ≡ Named name → job_in (bytes_left left name) ≡ Err fault → IsStatus wanted 3
   conflict : (p : Program) → IsTrue (asks_accepted command) → ¬ IsAccepted p → HasJob (job_wanted command) left p → IsStatus wanted 4
   plan : (plan : List ℕ) (p : Program) → plan_named command ≡ Some plan → IsAccepted p → HasJob (job_wanted command) left p → ¬ HasValidPlan (job_wanted command) plan left p → IsStatus wanted 5
+  start : (p : Program) → (IsTrue (asks_accepted command) → IsAccepted p) → HasJob (job_wanted command) left p
+      → HasPlanAsked command left p → ¬ CanStart command left p → IsStatus wanted 11
   source : (p : Program) → (IsTrue (asks_accepted command) → IsAccepted p) → HasJob (job_wanted command) left p
-      → HasPlanAsked command left p → HasDefect (how_read command) (texts_named command) left p → IsStatus wanted 6
+      → HasPlanAsked command left p → CanStart command left p → HasDefect (how_read command) (texts_named command) left p → IsStatus wanted 6
   trace : (p : Program) (trace : List ℕ) (ending : Ending) → trace_named command ≡ Some trace → IsGood command left p → ReplaysTo command trace left p ending → ending ≢ Complete → IsStatus wanted 13
 
 -- a status that is wanted and is not that of want of memory
@@ -74,13 +82,12 @@ known_at : (job : WantedJob) (P : Contents → Contents → Type 0) (x : Content
 known_at (Named name) P x a b told known = of_told P x a b told known
 known_at (Fixed job) P x a b told known = (x, known x)
 
-module _ (laws : LawsBelow) where
-  -- ---- two programs of one text
-  pub same_job : (job : WantedJob) (left : Contents) (p q : Program) → HasJob job left p → HasJob job left q → IsSameJob p q
-  same_job (Named name) left p q first second =
-      let e = sym ((laws.jobs (bytes_left left name) (job_of p)).1 first) ∙ (laws.jobs (bytes_left left name) (job_of q)).1 second in cc
-  same_job (Fixed job) left p q first second = first ∙ sym second
+-- ---- two programs of one text
+pub same_job : JobsAreGrammar → (job : WantedJob) (left : Contents) (p q : Program) → HasJob job left p → HasJob job left q → IsSameJob p q
+same_job jobs (Named name) left p q first second = let e = sym ((jobs (bytes_left left name) (job_of p)).1 first) ∙ (jobs (bytes_left left name) (job_of q)).1 second in cc
+same_job jobs (Fixed job) left p q first second = first ∙ sym second
 
+module _ (laws : LawsBelow) where
   not_both : (job : WantedJob) (name : List ℕ) (left : Contents) (p : Program) (fault : JobFault) → job ≡ Named name → HasJob job left p → job_in (bytes_left left name) ≡ Err fault → ⊥
   not_both job name left p fault named has bad =
       let e = sym ((laws.jobs (bytes_left left name) (job_of p)).1 (subst (λ (wanted : WantedJob). HasJob wanted left p) named has)) ∙ bad in cc
@@ -89,10 +96,10 @@ module _ (laws : LawsBelow) where
   no_defect : (command : Command) (left : Contents) (p q : Program) → HasJob (job_wanted command) left p → HasJob (job_wanted command) left q
       → AreSourcesGood (how_read command) (texts_named command) left p → HasDefect (how_read command) (texts_named command) left q → ⊥
   no_defect command left p q first second good bad =
-      good_or_bad (how_read command) (texts_named command) left q (same_good (how_read command) (texts_named command) left p q (same_job (job_wanted command) left p q first second) good) bad
+      good_or_bad (how_read command) (texts_named command) left q (same_good (how_read command) (texts_named command) left p q (same_job laws.jobs (job_wanted command) left p q first second) good) bad
 
   accepted_of_text : (job : WantedJob) (left : Contents) (p q : Program) → HasJob job left p → HasJob job left q → IsAccepted p → IsAccepted q
-  accepted_of_text job left p q first second = same_accepted p q (same_job job left p q first second)
+  accepted_of_text job left p q first second = same_accepted p q (same_job laws.jobs job left p q first second)
 
   -- a plan's text for a program is one for another that is the same job
   same_plan_text : (p q : Program) (bytes : List ℕ) (nodes : List Node) → IsSameJob p q → IsPlanText p bytes nodes → IsPlanText q bytes nodes
@@ -101,8 +108,12 @@ module _ (laws : LawsBelow) where
   valid_of_text : (job : WantedJob) (plan : List ℕ) (left : Contents) (p q : Program) → HasJob job left p → HasJob job left q → HasValidPlan job plan left p
       → HasValidPlan job plan left q
   valid_of_text job plan left p q first second found =
-      let same = same_job job left p q first second in
+      let same = same_job laws.jobs job left p q first second in
       (found.0, same_plan_text p q (plan_behind job plan left) found.0 same found.1, same_valid p q found.0 same found.2)
+
+  start_of_text : (command : Command) (left : Contents) (p q : Program) → HasJob (job_wanted command) left p → HasJob (job_wanted command) left q
+      → CanStart command left p → CanStart command left q
+  start_of_text command left p q first second start = same_start command left p q (same_job laws.jobs (job_wanted command) left p q first second) start
 
   -- ---- plans with a defect
   faulty_text : (job : WantedJob) (plan : List ℕ) (left : Contents) (p : Program) (fault : PlanFault) → plan_in p (plan_behind job plan left) ≡ Err fault
@@ -145,7 +156,8 @@ module _ (laws : LawsBelow) where
     job = λ name fault named bad. absurd (not_both (job_wanted command) name left p fault named good.has bad);
     conflict = λ q asked refused has. absurd (refused (accepted_of_text (job_wanted command) left p q good.has has (good.accepted asked)));
     plan = λ plan q named accepted has bad. absurd (bad (valid_of_text (job_wanted command) plan left p q good.has has (good.plan plan named)));
-    source = λ q accepted has plan bad. absurd (no_defect command left p q good.has has good.sources bad);
+    start = λ q accepted has plan bad. absurd (bad (start_of_text command left p q good.has has good.start));
+    source = λ q accepted has plan start bad. absurd (no_defect command left p q good.has has good.sources bad);
     trace = λ q trace ending named also ends other. absurd (other (only trace named q ending also.has ends));
   }
 
@@ -155,7 +167,8 @@ module _ (laws : LawsBelow) where
     job = λ another other also found. inl refl;
     conflict = λ q asked refused has. absurd (not_both (job_wanted command) name left q fault named has bad);
     plan = λ plan q asked accepted has other. absurd (not_both (job_wanted command) name left q fault named has bad);
-    source = λ q accepted has plan found. absurd (not_both (job_wanted command) name left q fault named has bad);
+    start = λ q accepted has plan found. absurd (not_both (job_wanted command) name left q fault named has bad);
+    source = λ q accepted has plan start found. absurd (not_both (job_wanted command) name left q fault named has bad);
     trace = λ q trace ending its good ends other. absurd (not_both (job_wanted command) name left q fault named good.has bad);
   }
 
@@ -165,7 +178,8 @@ module _ (laws : LawsBelow) where
     job = λ name fault named bad. absurd (not_both (job_wanted command) name left p fault named has bad);
     conflict = λ q asked none found. inl refl;
     plan = λ plan q named accepted found bad. absurd (refused (accepted_of_text (job_wanted command) left q p found has accepted));
-    source = λ q accepted found plan bad. absurd (refused (accepted_of_text (job_wanted command) left q p found has (accepted asked)));
+    start = λ q accepted found plan bad. absurd (refused (accepted_of_text (job_wanted command) left q p found has (accepted asked)));
+    source = λ q accepted found plan start bad. absurd (refused (accepted_of_text (job_wanted command) left q p found has (accepted asked)));
     trace = λ q trace ending its good ends other. absurd (refused (accepted_of_text (job_wanted command) left q p good.has has (good.accepted asked)));
   }
 
@@ -175,18 +189,33 @@ module _ (laws : LawsBelow) where
     job = λ name fault named found. absurd (not_both (job_wanted command) name left p fault named has found);
     conflict = λ q asked refused found. absurd (refused (accepted_of_text (job_wanted command) left p q has found accepted));
     plan = λ name q also found others worse. inl refl;
-    source = λ q also found valid others. absurd (bad (valid_of_text (job_wanted command) plan left q p found has (valid plan named)));
+    start = λ q also found valid others. absurd (bad (valid_of_text (job_wanted command) plan left q p found has (valid plan named)));
+    source = λ q also found valid start others. absurd (bad (valid_of_text (job_wanted command) plan left q p found has (valid plan named)));
     trace = λ q trace ending its good ends other. absurd (bad (valid_of_text (job_wanted command) plan left q p good.has has (good.plan plan named)));
   }
 
-  leads_source : (command : Command) (left : Contents) (p : Program) → HasJob (job_wanted command) left p → (IsTrue (asks_accepted command) → IsAccepted p) → HasPlanAsked command left p → HasDefect (how_read command) (texts_named command) left p → Leads 6 command left
-  leads_source command left p has accepted valid bad = record {
+  leads_source : (command : Command) (left : Contents) (p : Program) → HasJob (job_wanted command) left p → (IsTrue (asks_accepted command) → IsAccepted p) → HasPlanAsked command left p → CanStart command left p
+      → HasDefect (how_read command) (texts_named command) left p → Leads 6 command left
+  leads_source command left p has accepted valid start bad = record {
     done = λ q good none. absurd (no_defect command left q p good.has has good.sources bad);
     job = λ name other named found. absurd (not_both (job_wanted command) name left p other named has found);
     conflict = λ q asked refused found. absurd (refused (accepted_of_text (job_wanted command) left p q has found (accepted asked)));
     plan = λ plan q named also found other. absurd (other (valid_of_text (job_wanted command) plan left p q has found (valid plan named)));
-    source = λ q also found plan others. inl refl;
+    start = λ q also found plan others. absurd (others (start_of_text command left p q has found start));
+    source = λ q also found plan begun others. inl refl;
     trace = λ q trace ending its good ends other. absurd (no_defect command left q p good.has has good.sources bad);
+  }
+
+  leads_start : (command : Command) (left : Contents) (p : Program) → HasJob (job_wanted command) left p → (IsTrue (asks_accepted command) → IsAccepted p) → HasPlanAsked command left p → ¬ CanStart command left p
+      → Leads 11 command left
+  leads_start command left p has accepted valid bad = record {
+    done = λ q good none. absurd (bad (start_of_text command left q p good.has has good.start));
+    job = λ name other named found. absurd (not_both (job_wanted command) name left p other named has found);
+    conflict = λ q asked refused found. absurd (refused (accepted_of_text (job_wanted command) left p q has found (accepted asked)));
+    plan = λ plan q named also found other. absurd (other (valid_of_text (job_wanted command) plan left p q has found (valid plan named)));
+    start = λ q also found plan others. inl refl;
+    source = λ q also found plan start others. absurd (bad (start_of_text command left q p found has start));
+    trace = λ q trace ending its good ends other. absurd (bad (start_of_text command left q p good.has has good.start));
   }
 
   leads_trace : (command : Command) (left : Contents) → HasFaultyTrace command left → Leads 13 command left
@@ -198,7 +227,8 @@ module _ (laws : LawsBelow) where
         job = λ name fault named bad. absurd (not_both (job_wanted command) name left p fault named good.has bad);
         conflict = λ q asked refused has. absurd (refused (accepted_of_text (job_wanted command) left p q good.has has (good.accepted asked)));
         plan = λ plan q named accepted has bad. absurd (bad (valid_of_text (job_wanted command) plan left p q good.has has (good.plan plan named)));
-        source = λ q accepted has plan bad. absurd (no_defect command left p q good.has has good.sources bad);
+        start = λ q accepted has plan bad. absurd (bad (start_of_text command left p q good.has has good.start));
+        source = λ q accepted has plan start bad. absurd (no_defect command left p q good.has has good.sources bad);
         trace = λ q trace ending named also ends other. inl refl;
       }
 
@@ -207,8 +237,10 @@ module _ (laws : LawsBelow) where
   leads command left wanted (cases.FaultyJob is name fault named bad) = subst (λ n. Leads n command left) (sym is) (leads_job command name left fault named bad)
   leads command left wanted (cases.NotAccepted is p asked has refused) = subst (λ n. Leads n command left) (sym is) (leads_conflict command left p asked has refused)
   leads command left wanted (cases.NoValidPlan is p plan named has accepted bad) = subst (λ n. Leads n command left) (sym is) (leads_plan command left p plan named has accepted bad)
-  leads command left wanted (cases.FaultySource is p has accepted valid bad) =
-      subst (λ n. Leads n command left) (sym is) (leads_source command left p has accepted valid bad)
+  leads command left wanted (cases.FaultyStart is p has accepted valid bad) =
+      subst (λ n. Leads n command left) (sym is) (leads_start command left p has accepted valid bad)
+  leads command left wanted (cases.FaultySource is p has accepted valid start bad) =
+      subst (λ n. Leads n command left) (sym is) (leads_source command left p has accepted valid start bad)
   leads command left wanted (cases.FaultyTrace is faulty) = subst (λ n. Leads n command left) (sym is) (leads_trace command left faulty)
 
   -- a command and the files call for one status
@@ -220,8 +252,10 @@ module _ (laws : LawsBelow) where
       settled a 4 ((leads command left a first).conflict p asked refused has) (λ e. omega (arith, e)) ∙ sym is
   one_status command left a b first (cases.NoValidPlan is p plan named has accepted bad) =
       settled a 5 ((leads command left a first).plan plan p named accepted has bad) (λ e. omega (arith, e)) ∙ sym is
-  one_status command left a b first (cases.FaultySource is p has accepted valid bad) =
-      settled a 6 ((leads command left a first).source p accepted has valid bad) (λ e. omega (arith, e)) ∙ sym is
+  one_status command left a b first (cases.FaultyStart is p has accepted valid bad) =
+      settled a 11 ((leads command left a first).start p accepted has valid bad) (λ e. omega (arith, e)) ∙ sym is
+  one_status command left a b first (cases.FaultySource is p has accepted valid start bad) =
+      settled a 6 ((leads command left a first).source p accepted has valid start bad) (λ e. omega (arith, e)) ∙ sym is
   one_status command left a b first (cases.FaultyTrace is faulty) =
       settled a 13 ((leads command left a first).trace faulty.p faulty.trace faulty.ending faulty.named faulty.good faulty.ends (other_ending command left faulty)) (λ e. omega (arith, e)) ∙ sym is
 
@@ -235,45 +269,64 @@ module _ (laws : LawsBelow) where
       let found = of_told (λ old _. HasJob (job_wanted command) old (program_of checked) × HasPlan (job_wanted command) why.plan old (program_of checked) fault.plan.nodes) left old new told why.text in
       leads.plan why.plan (program_of checked) why.asked why.accepted found.1.0 (invalid_plan (job_wanted command) why.plan left (program_of checked) fault.plan.nodes why.invalid.refused found.1.1)
 
-  by_case : (words : List (List ℕ)) (old new : Outside) (before now : List ℕ → ℕ) (out_before out_now status wanted : ℕ) (command : Command) (left : Contents) → Outcome words old new status → FaultsFirst words old.left before now out_before out_now status → command_in words ≡ Ok command → old.left ≡ Some left → NothingFailed command old.left before now out_before out_now → Leads wanted command left → IsStatus wanted status
-  by_case words old new before now out_before out_now status wanted command left (cases.Done is other also line done heard) faults word told nothing leads =
+  by_start : (wanted : ℕ) (command : Command) (left : Contents) (old new : Option Contents) (defect : SaveDefect) → old ≡ Some left → Leads wanted command left → HasSaveDefect command old new defect → IsStatus wanted 11
+  by_start wanted command left old new (starts.SameName checked number) told leads why =
+      let p = program_of checked in
+      let found = (of_told (λ old _. HasJob (job_wanted command) old p × HasPlanAsked command old p × IsSameName command p number) left old new told why.first).1 in
+      leads.start p why.accepted found.0 found.1 (same_name_stops command left p number found.2)
+  by_start wanted command left old new (starts.Checkpoint fault) told leads why =
+      let p = why.0 in
+      let found = (of_told (λ old _. HasJob (job_wanted command) old p × HasPlanAsked command old p × HasBadCheckpoint command old p fault) left old new told why.1.first).1 in
+      leads.start p why.1.accepted found.0 found.1 (bad_checkpoint_stops laws.saves command left p fault found.2)
+
+  by_case : (words : List (List ℕ)) (old new : Outside) (before now : Faults) (status wanted : ℕ) (command : Command) (left : Contents) → Outcome words old new status → FaultsFirst words old.left before now status → command_in words ≡ Ok command → old.left ≡ Some left → NothingFailed command old.left before now → Leads wanted command left → IsStatus wanted status
+  by_case words old new before now status wanted command left (cases.Done is other also line done heard) faults word told nothing leads =
       let same = same_command words other command also word in
       let known = subst (λ (d : Command). WhereKnown (job_wanted d) old.left new.left (IsDone d old.out new.out line)) same done in
       let found = known_at (job_wanted command) (IsDone command old.out new.out line) left old.left new.left told known in
       let read = found.1.2 in
       subst (IsStatus wanted) (sym is) (leads.done found.1.0 read.good (read_complete command left found.0 found.1.0 read.good.has read.trace))
-  by_case words old new before now out_before out_now status wanted command left (cases.BadWords is at bad files refused) faults word told nothing leads = absurd (no_command words command at word bad)
-  by_case words old new before now out_before out_now status wanted command left (cases.BadJob is other also fault why refused) faults word told nothing leads =
+  by_case words old new before now status wanted command left (cases.BadWords is at bad files refused) faults word told nothing leads = absurd (no_command words command at word bad)
+  by_case words old new before now status wanted command left (cases.BadJob is other also fault why refused) faults word told nothing leads =
       let same = same_command words other command also word in
       let has = subst (λ (d : Command). HasJobFault (job_wanted d) old.left new.left fault) same why in
       subst (IsStatus wanted) (sym is) (leads.job has.name fault has.named (of_told (λ old _. job_in (bytes_left old has.name) ≡ Err fault) left old.left new.left told has.first).1)
-  by_case words old new before now out_before out_now status wanted command left (cases.Conflicts is other also fault why refused) faults word told nothing leads =
+  by_case words old new before now status wanted command left (cases.Conflicts is other also fault why refused) faults word told nothing leads =
       let same = same_command words other command also word in
       let has = subst (λ (d : Command). HasConflict d old.left new.left fault) same why in
       let read = of_told (IsJobRead has.name fault.program) left old.left new.left told has.job in
       subst (IsStatus wanted) (sym is) (leads.conflict fault.program has.asked has.conflict.refused (subst (λ (job : WantedJob). HasJob job left fault.program) (sym has.named) read.1.has))
-  by_case words old new before now out_before out_now status wanted command left (cases.BadPlan is other also defect why refused) faults word told nothing leads =
+  by_case words old new before now status wanted command left (cases.BadPlan is other also defect why refused) faults word told nothing leads =
       let same = same_command words other command also word in
       let has = subst (λ (d : Command). HasPlanDefect d old.left new.left defect) same why in
       subst (IsStatus wanted) (sym is) (by_defect wanted command left old.left new.left defect told leads has)
-  by_case words old new before now out_before out_now status wanted command left (cases.BadSource is other also p fault text why wrote said) faults word told nothing leads =
+  by_case words old new before now status wanted command left (cases.BadSource is other also p fault text why wrote said) faults word told nothing leads =
       let same = same_command words other command also word in
       let has = subst (λ (d : Command). HasSourceFault d old.left new.left p fault text) same why in
-      let found = of_told (λ old _. HasJob (job_wanted command) old p × HasPlanAsked command old p × IsMet (how_read command) (texts_named command) old p text fault) left old.left new.left told has.first in
-      subst (IsStatus wanted) (sym is) (leads.source p has.accepted found.1.0 found.1.1 (met_defect laws.meeting (how_read command) (texts_named command) left p text fault found.1.2))
-  by_case words old new before now out_before out_now status wanted command left (cases.ReadFailed is other also some said) faults word told nothing leads =
+      let found = of_told (λ old new. HasJob (job_wanted command) old p × HasPlanAsked command old p × CanStart command old p × IsMet (how_read command) command old new p text fault) left old.left new.left told has.first in
+      subst (IsStatus wanted) (sym is)
+      (leads.source p has.accepted found.1.0 found.1.1 found.1.2 (met_defect laws.meeting (how_read command) command left found.0 p text fault found.1.3))
+  by_case words old new before now status wanted command left (cases.ReadFailed is other also some said) faults word told nothing leads =
       let rose = faults.read is in
       let same = same_command words rose.1.0 command rose.1.1 word in
       absurd (nothing.files rose.0 (subst (λ (d : Command). IsReadName old.left d rose.0) same rose.1.2) rose.2)
-  by_case words old new before now out_before out_now status wanted command left (cases.WriteFailed is other also partly said) faults word told nothing leads = absurd (nothing.out (faults.write is))
-  by_case words old new before now out_before out_now status wanted command left (cases.NoMemory is other also some said) faults word told nothing leads = inr is
-  by_case words old new before now out_before out_now status wanted command left (cases.BadTrace is other also fault why refused) faults word told nothing leads =
+  by_case words old new before now status wanted command left (cases.WriteFailed is other also partly said) faults word told nothing leads = absurd (nothing.out (faults.write is))
+  by_case words old new before now status wanted command left (cases.NoMemory is other also some said) faults word told nothing leads = inr is
+  by_case words old new before now status wanted command left (cases.BadSave is other also defect why refused) faults word told nothing leads =
+      let same = same_command words other command also word in
+      let has = subst (λ (d : Command). HasSaveDefect d old.left new.left defect) same why in
+      subst (IsStatus wanted) (sym is) (by_start wanted command left old.left new.left defect told leads has)
+  by_case words old new before now status wanted command left (cases.PutFailed is other also some said) faults word told nothing leads =
+      let rose = faults.put is in
+      let same = same_command words rose.1.0 command rose.1.1 word in
+      absurd (nothing.saves rose.0 (subst (λ (d : Command). save_named d ≡ Some rose.0) same rose.1.2) rose.2)
+  by_case words old new before now status wanted command left (cases.BadTrace is other also fault why refused) faults word told nothing leads =
       let same = same_command words other command also word in
       let has = subst (λ (d : Command). HasTraceFault d old.left new.left fault) same why in
       let found = of_told (λ old _. IsGood command old has.p × ReplaysTo command has.trace old has.p has.ending) left old.left new.left told has.first in
       subst (IsStatus wanted) (sym is) (leads.trace has.p has.trace has.ending has.named found.1.0 found.1.1 (told_ending fault has.ending has.tells))
 
   -- completeness follows from the outcome, where a fault of the outside comes first
-  pub completes_of : (words : List (List ℕ)) (old new : Outside) (before now : List ℕ → ℕ) (out_before out_now status : ℕ) → Outcome words old new status → FaultsFirst words old.left before now out_before out_now status → Completes words old.left before now out_before out_now status
-  completes_of words old new before now out_before out_now status outcome faults command left wanted word told nothing called =
-      by_case words old new before now out_before out_now status wanted command left outcome faults word told nothing (leads command left wanted called)
+  pub completes_of : (words : List (List ℕ)) (old new : Outside) (before now : Faults) (status : ℕ) → Outcome words old new status → FaultsFirst words old.left before now status → Completes words old.left before now status
+  completes_of words old new before now status outcome faults command left wanted word told nothing called =
+      by_case words old new before now status wanted command left outcome faults word told nothing (leads command left wanted called)

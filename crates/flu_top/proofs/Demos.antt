@@ -20,6 +20,7 @@ use Rattle.flu_top.specs.Checking.{IsCheckRefusal}
 use Rattle.flu_top.specs.Demos.{demo_job, summary, demo_summary}
 use Rattle.flu_top.specs.Done.{IsWritten}
 use Rattle.flu_top.specs.Refusing.{IsRefusal}
+use Rattle.flu_top.proofs.Sequence.{none_among, can_start, has_saved}
 
 pub is_demo_job : (p : Program) → IsDemoJob p → job_of p ≡ demo_job
 is_demo_job p demo =
@@ -39,9 +40,10 @@ pub is_shown : (n seed : ℕ) (p : Program) (text : List ℕ) (left : Contents) 
 is_shown n seed p text left demo accepted is = (
   p,
   record {
-    good = record { has = is_demo_job p demo; accepted = λ asked. accepted; plan = λ plan named. absurd (cc); sources = tt };
-    ends = λ name found. absurd (omega (arith, found.1));
+    good = record { has = is_demo_job p demo; accepted = λ asked. accepted; plan = λ plan named. absurd (cc); start = can_start (Demo n seed) left p (record { save = refl; resume = refl }); sources = tt };
+    ends = λ name found apart. absurd (none_among name found);
     trace = λ trace named. absurd (cc);
+    saved = has_saved (Demo n seed) p left left (record { save = refl; resume = refl });
   },
   is,
   refl,
@@ -57,6 +59,8 @@ only_memory p (refusals.SourceFault q fault) accepted is = absurd is
 only_memory p refusals.ReadFault accepted is = absurd is
 only_memory p refusals.WriteFault accepted is = absurd is
 only_memory p refusals.NoMemory accepted is = refl
+only_memory p (refusals.SaveDefect defect) accepted is = absurd is
+only_memory p refusals.PutFault accepted is = absurd is
 only_memory p (refusals.TraceFault fault) accepted is = absurd is
 
 -- what refuses a demo refuses it whatever the files hold

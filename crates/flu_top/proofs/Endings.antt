@@ -1,21 +1,23 @@
 -- What an ending says of the status, of out and of err.
-use Rattle.std.proofs.Common.{◌≡◌, ◌≢◌, refl, sym, ap, subst, ℕ, List, [], Option, None, Result, Ok, Err, inl, inr, arith}
+use Rattle.std.proofs.Common.{◌≡◌, ◌≢◌, refl, sym, ap, subst, ℕ, List, [], Option, None, Result, Ok, Err, inl, inr, ◌⊎◌, arith}
 use Rattle.std.specs.Prelude.{IfOk, IfErr}
 use Rattle.std.proofs.lemmas.List.{append-nil}
 use Rattle.flu_outside.specs.Outside.{WhereTold, Rose}
+use Rattle.flu_outside.specs.Taking.{TookFronts}
 use Rattle.flu_outside.specs.Writing.{AppendsAll}
 use Rattle.flu_lemmas.proofs.Told.{told_same, told_weaker}
 use Rattle.flu_outside.specs.Outside.{Contents}
 use Rattle.flu_top.specs.declared.refusals.Refusal.{Refusal}
 use Rattle.flu_top.specs.declared.refusals.Refusal.TheVariants as refusals
 use Rattle.flu_words.specs.Words.{Command, command_in}
-use Rattle.flu_top.specs.Taking.{TookOnly}
+use Rattle.flu_top.specs.Taking.{TookOnly, TookFrontsBut}
 use Rattle.flu_top.specs.Behind.{WantedJob, Named, Fixed}
 use Rattle.flu_top.specs.Reading.{Reading, Unread, Whole, InRounds}
 use Rattle.flu_top.specs.declared.products.DrawnSteps.{DrawnSteps}
 use Rattle.flu_top.specs.declared.products.Product.{Product}
 use Rattle.flu_top.specs.Wants.{want, job_wanted, how_read}
-use Rattle.flu_top.specs.Done.{IsWritten, IsDone, IsPartlyDone, WhereKnown, Wrote, WroteSome, WrotePart, IsReadName, IsReadBy}
+use Rattle.flu_top.specs.Starting.{Leaves}
+use Rattle.flu_top.specs.Done.{IsWritten, IsDone, IsPartlyDone, WhereKnown, Wrote, WroteSome, WrotePart, IsReadName, IsReadBy, IsPutAt, IsSavedBy, MayBePut}
 use Rattle.flu_top.specs.Refusing.{IsRefusal}
 use Rattle.flu_top.specs.Products.{line_said, MaySay}
 use Rattle.flu_top.specs.Lines.{IsSaid}
@@ -34,10 +36,14 @@ wrote_none Unread had has same = same
 wrote_none Whole had has same = same
 wrote_none InRounds had has same = subst (λ (o : Option (List ℕ)). WhereTold had o (AppendsAll [])) (sym same) (told_same (AppendsAll []) had (λ bytes. sym (append-nil bytes)))
 
-pub some_none : (reading : Reading) (command : Command) (a b : Option Contents) (had has : Option (List ℕ)) → has ≡ had → WroteSome reading command a b had has
-some_none Unread command a b had has same = same
-some_none Whole command a b had has same = same
-some_none InRounds command a b had has same = inl same
+-- where a command reads in rounds, nothing was put either
+abbrev pub LeavesAll : Reading → Command → Option Contents → Option Contents → Type 0
+LeavesAll reading command a b = reading ≡ InRounds → WhereTold a b (Leaves command None)
+
+some_none : (reading : Reading) (command : Command) (a b : Option Contents) (had has : Option (List ℕ)) → LeavesAll reading command a b → has ≡ had → WroteSome reading command a b had has
+some_none Unread command a b had has leaves same = same
+some_none Whole command a b had has leaves same = same
+some_none InRounds command a b had has leaves same = inl (record { nothing = same; as_before = leaves refl })
 
 part_of_all : (reading : Reading) (command : Command) (a b : Option Contents) (had has : Option (List ℕ)) → reading ≢ InRounds → WhereKnown (job_wanted command) a b (IsPartlyDone command had has) → WrotePart reading command a b had has
 part_of_all Unread command a b had has other partly = partly
@@ -46,16 +52,18 @@ part_of_all InRounds command a b had has other partly = absurd (other refl)
 
 -- ---- the making of an ending
 -- a command that was refused before it wrote anything
-pub stopped : (c : Call) (command : Command) (refusal : Refusal) → IsRefusal command c.left c.left_after c.counts c.counts_after refusal → WroteNothing c → IsStopped c command refusal
-stopped c command (refusals.BadWords bad) why nothing = why
-stopped c command (refusals.JobFault fault) why nothing = (why, nothing)
-stopped c command (refusals.Conflict fault) why nothing = (why, nothing)
-stopped c command (refusals.PlanDefect defect) why nothing = (why, nothing)
-stopped c command (refusals.SourceFault job fault) why nothing = record { text = []; why = why; wrote = wrote_none (how_read command) c.taken c.taken_after nothing }
-stopped c command refusals.ReadFault why nothing = record { why = why; wrote = some_none (how_read command) command c.left c.left_after c.taken c.taken_after nothing }
-stopped c command refusals.WriteFault why nothing = absurd why
-stopped c command refusals.NoMemory why nothing = some_none (how_read command) command c.left c.left_after c.taken c.taken_after nothing
-stopped c command (refusals.TraceFault fault) why nothing = (why, nothing)
+pub stopped : (c : Call) (command : Command) (refusal : Refusal) → IsRefusal command c.left c.left_after c.counts c.counts_after refusal → LeavesAll (how_read command) command c.left c.left_after → WroteNothing c → IsStopped c command refusal
+stopped c command (refusals.BadWords bad) why leaves nothing = why
+stopped c command (refusals.JobFault fault) why leaves nothing = (why, nothing)
+stopped c command (refusals.Conflict fault) why leaves nothing = (why, nothing)
+stopped c command (refusals.PlanDefect defect) why leaves nothing = (why, nothing)
+stopped c command (refusals.SourceFault job fault) why leaves nothing = record { text = []; why = why; wrote = wrote_none (how_read command) c.taken c.taken_after nothing }
+stopped c command refusals.ReadFault why leaves nothing = record { why = why; wrote = some_none (how_read command) command c.left c.left_after c.taken c.taken_after leaves nothing }
+stopped c command refusals.WriteFault why leaves nothing = absurd why
+stopped c command refusals.NoMemory why leaves nothing = inl (some_none (how_read command) command c.left c.left_after c.taken c.taken_after leaves nothing)
+stopped c command (refusals.SaveDefect defect) why leaves nothing = (why, nothing)
+stopped c command refusals.PutFault why leaves nothing = absurd why
+stopped c command (refusals.TraceFault fault) why leaves nothing = (why, nothing)
 
 put_all : (c : Call) (command : Command) (product : Product) (steps : Option DrawnSteps) → WhereKnown (job_wanted command) c.left c.left_after (IsWritten command product.text (line_said product.steps))
     → MaySay (want command).says product.steps → IsPutAll product c.taken c.taken_after steps → HasAll c command steps
@@ -83,7 +91,7 @@ put_out : (c : Call) (command : Command) (produced : Result Product Refusal) (re
 put_out c command (Ok product) (Ok steps) other written says refused put = put_all c command product steps written says put
 put_out c command (Ok product) (Err refusal) other written says refused put = put_part c command product refusal other written put
 put_out c command (Err why) (Ok steps) other written says refused put = absurd put
-put_out c command (Err why) (Err refusal) other written says refused put = subst (IsStopped c command) (sym put.is) (stopped c command why refused put.nothing)
+put_out c command (Err why) (Err refusal) other written says refused put = subst (IsStopped c command) (sym put.is) (stopped c command why refused (λ rounds. absurd (other rounds)) put.nothing)
 
 pub ends_product : (c : Call) (whole command : Command) (produced : Result Product Refusal) (result : Result (Option DrawnSteps) Refusal) → whole ≡ command → how_read command ≢ InRounds
     → IfOk produced (λ (product : Product). WhereKnown (job_wanted command) c.left c.left_after (IsWritten command product.text (line_said product.steps)))
@@ -106,10 +114,29 @@ ends_text c whole command (Err why) result same other quiet written refused put 
 pub ends_command : (words : List (List ℕ)) (c : Call) (command : Command) (ended : Result (Option DrawnSteps) Refusal) → command_in words ≡ Ok command → IsEnding c command ended → Ends words c ended
 ends_command words c command ended word ending = record { how = inl (command, word, ending) }
 
--- ---- the names that a call reads
-pub only_wider : (words : List (List ℕ)) (command : Command) (a b : Option Contents) → command_in words ≡ Ok command → WhereTold a b (TookOnly (IsReadName a command)) → WhereTold a b (TookOnly (IsReadBy words a))
-only_wider words command a b is only =
-    told_weaker (TookOnly (IsReadName a command)) (TookOnly (IsReadBy words a)) a b (λ x y took name unread. took name (λ read. unread (command, is, read))) only
+-- ---- the names that a call reads, and those that it may have put
+-- where bytes were taken of fronts, and none were put
+pub fronts_of_all : (IsPut : List ℕ → Type 0) (a b : Option Contents) → WhereTold a b TookFronts → WhereTold a b (TookFrontsBut IsPut)
+fronts_of_all IsPut a b fronts = told_weaker TookFronts (TookFrontsBut IsPut) a b (λ x y took name rest unput left. took name rest left) fronts
+
+-- the same command by another name
+pub only_of_command : (whole command : Command) (status : ℕ) (a b : Option Contents) → whole ≡ command → WhereTold a b (TookOnly (IsReadName a command))
+    → WhereTold a b (TookOnly (λ name. IsReadName a whole name ⊎ IsPutAt whole status name))
+only_of_command whole command status a b same only =
+    told_weaker (TookOnly (IsReadName a command)) (TookOnly (λ name. IsReadName a whole name ⊎ IsPutAt whole status name)) a b
+    (λ x y took name unread. took name (λ read. unread (inl (subst (λ (d : Command). IsReadName a d name) (sym same) read)))) only
+
+pub fronts_wider : (words : List (List ℕ)) (command : Command) (status : ℕ) (a b : Option Contents) → command_in words ≡ Ok command → WhereTold a b (TookFrontsBut (IsPutAt command status))
+    → WhereTold a b (TookFrontsBut (MayBePut words status))
+fronts_wider words command status a b is fronts =
+    told_weaker (TookFrontsBut (IsPutAt command status)) (TookFrontsBut (MayBePut words status)) a b
+    (λ x y took name rest unput left. took name rest (λ put. unput (command, is, put)) left) fronts
+
+pub only_wider : (words : List (List ℕ)) (command : Command) (status : ℕ) (a b : Option Contents) → command_in words ≡ Ok command
+    → WhereTold a b (TookOnly (λ name. IsReadName a command name ⊎ IsPutAt command status name)) → WhereTold a b (TookOnly (λ name. IsReadBy words a name ⊎ MayBePut words status name))
+only_wider words command status a b is only =
+    told_weaker (TookOnly (λ name. IsReadName a command name ⊎ IsPutAt command status name)) (TookOnly (λ name. IsReadBy words a name ⊎ MayBePut words status name)) a b
+    (λ x y took name untouched. took name (λ touched. untouched (elim touched [ inl read ↦ inl (command, is, read) | inr put ↦ inr (command, is, put) ]))) only
 
 -- ---- which ending has a status
 of_read_fault : (ended : Result (Option DrawnSteps) Refusal) → status_after ended ≡ 7 → ended ≡ Err refusals.ReadFault
@@ -119,6 +146,10 @@ of_read_fault ended is = absurd (omega arith)
 of_write_fault : (ended : Result (Option DrawnSteps) Refusal) → status_after ended ≡ 8 → ended ≡ Err refusals.WriteFault
 of_write_fault (Err refusals.WriteFault) is = refl
 of_write_fault ended is = absurd (omega arith)
+
+of_put_fault : (ended : Result (Option DrawnSteps) Refusal) → status_after ended ≡ 12 → ended ≡ Err refusals.PutFault
+of_put_fault (Err refusals.PutFault) is = refl
+of_put_fault ended is = absurd (omega arith)
 
 -- the ending of a call whose status is not that of bad words
 ending_at : (words : List (List ℕ)) (c : Call) (ended : Result (Option DrawnSteps) Refusal) → Ends words c ended → status_after ended ≢ 2 → (command : Command) × (command_in words ≡ Ok command) × IsEnding c command ended
@@ -134,6 +165,12 @@ pub write_fault_at : (words : List (List ℕ)) (c : Call) (ended : Result (Optio
 write_fault_at words c ended ends is =
     let ending = ending_at words c ended ends (λ e. omega arith) in
     (subst (IsEnding c ending.0) (of_write_fault ended is) ending.2).rose
+
+pub put_fault_at : (words : List (List ℕ)) (c : Call) (ended : Result (Option DrawnSteps) Refusal) → Ends words c ended → status_after ended ≡ 12 → (name : List ℕ) × IsSavedBy words name × Rose (c.puts name) (c.puts_after name)
+put_fault_at words c ended ends is =
+    let ending = ending_at words c ended ends (λ e. omega arith) in
+    let fault = subst (IsEnding c ending.0) (of_put_fault ended is) ending.2 in
+    (fault.name, (ending.0, ending.1, fault.named), fault.rose)
 
 -- the line that is said of what refused
 pub said_of : (ended : Result (Option DrawnSteps) Refusal) (refusal : Refusal) (old new : Option (List ℕ)) (before now : ℕ) → IsHeard ended old new before now → ended ≡ Err refusal → IsSaid (line_of refusal) old new before now

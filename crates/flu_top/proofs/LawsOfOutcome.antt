@@ -1,8 +1,12 @@
 -- The laws of outcomes.
-use Rattle.std.proofs.Common.{refl, inl, inr}
+use Rattle.std.proofs.Common.{refl, ℕ, List, ◌⊎◌, inl, inr}
+use Rattle.flu_lemmas.proofs.Told.{told_weaker}
+use Rattle.flu_outside.specs.Taking.{TookFronts}
+use Rattle.flu_top.specs.Taking.{TookOnly, TookFrontsBut}
+use Rattle.flu_top.specs.Done.{IsReadBy, IsSavedBy, MayBePut}
 use Rattle.flu_top.specs.Outcome as cases
-use Rattle.flu_top.specs.Laws.{KnownStatuses, DoneIsDone, DoneIsQuiet, SimulationIsHeard, BadWordsExactly, BadWordsLine, BadWordsTouchNothing, JobFaultIsFirst, ConflictIsFirst, PlanDefectIsFirst, SourceFaultIsFirst, TraceFaultIsFirst, ReadFaultRose, ReadFaultLine, WriteFaultRose, WriteFaultIsPart, WriteFaultLine, NoMemoryLine, NothingIsWritten, RefusalsWriteNothing, SomeIsWritten, FrontsAreTaken, NoOtherIsRead, GoodIsDone, JobFaultIsRefused, ConflictIsRefused, PlanDefectIsRefused, SourceFaultIsRefused, TraceFaultIsRefused, CompletesByFaults, CallsForOneStatus}
-use Rattle.flu_top.proofs.Statuses.{at_0, at_2, at_3, at_4, at_5, at_6, at_7, at_8, at_9, at_13, quiet_at_0, heard_at_0, known_status, nothing_written, refused_unwritten, of_no_command, bad_words_exactly}
+use Rattle.flu_top.specs.Laws.{KnownStatuses, DoneIsDone, DoneIsQuiet, SimulationIsHeard, BadWordsExactly, BadWordsLine, BadWordsTouchNothing, JobFaultIsFirst, ConflictIsFirst, PlanDefectIsFirst, SaveDefectIsFirst, SourceFaultIsFirst, TraceFaultIsFirst, ReadFaultRose, ReadFaultLine, WriteFaultRose, WriteFaultIsPart, WriteFaultLine, PutFaultRose, PutFaultIsBehindARound, NoMemoryLine, NothingIsWritten, RefusalsWriteNothing, SomeIsWritten, SomeIsWrittenForMemory, FrontsAreTaken, NoOtherIsRead, GoodIsDone, JobFaultIsRefused, ConflictIsRefused, PlanDefectIsRefused, SaveDefectIsRefused, SourceFaultIsRefused, TraceFaultIsRefused, CompletesByFaults, CallsForOneStatus}
+use Rattle.flu_top.proofs.Statuses.{at_0, at_2, at_3, at_4, at_5, at_6, at_7, at_8, at_9, at_11, at_12, at_13, quiet_at_0, heard_at_0, known_status, nothing_written, refused_unwritten, of_no_command, bad_words_exactly}
 use Rattle.flu_top.proofs.Completeness.{LawsBelow, completes_of, one_status}
 
 -- ---- the statuses
@@ -16,8 +20,10 @@ pub unwritten_law : RefusalsWriteNothing
 unwritten_law words old new status outcome some low = refused_unwritten words old new status outcome some low
 
 pub some_law : SomeIsWritten
-some_law words old new status outcome (inl is) = let found = at_7 words old new status outcome is in (found.0, found.1, found.2)
-some_law words old new status outcome (inr is) = let found = at_9 words old new status outcome is in (found.0, found.1, found.2)
+some_law words old new status outcome is = let found = at_7 words old new status outcome is in (found.0, found.1, found.2)
+
+pub memory_law : SomeIsWrittenForMemory
+memory_law words old new status outcome is = let found = at_9 words old new status outcome is in (found.0, found.1, found.2)
 
 pub done_law : DoneIsDone
 done_law words old new status outcome is = at_0 words old new status outcome is
@@ -49,6 +55,10 @@ pub plan_defect_law : PlanDefectIsFirst
 plan_defect_law words old new status outcome is =
     let found = at_5 words old new status outcome is in (found.0, found.1, found.2, found.3, found.4.said)
 
+pub save_defect_law : SaveDefectIsFirst
+save_defect_law words old new status outcome is =
+    let found = at_11 words old new status outcome is in (found.0, found.1, found.2, found.3, found.4.said)
+
 pub source_fault_law : SourceFaultIsFirst
 source_fault_law words old new status outcome is =
     at_6 words old new status outcome is
@@ -58,13 +68,13 @@ trace_fault_law words old new status outcome is =
     let found = at_13 words old new status outcome is in (found.0, found.1, found.2, found.3, found.4.said)
 
 pub read_fault_law : ReadFaultRose
-read_fault_law words left before now out_before out_now status faults is = faults.read is
+read_fault_law words left before now status faults is = faults.read is
 
 pub read_fault_line_law : ReadFaultLine
 read_fault_line_law words old new status outcome is = (at_7 words old new status outcome is).3
 
 pub write_fault_law : WriteFaultRose
-write_fault_law words left before now out_before out_now status faults is = faults.write is
+write_fault_law words left before now status faults is = faults.write is
 
 pub partial_law : WriteFaultIsPart
 partial_law words old new status outcome is = let found = at_8 words old new status outcome is in (found.0, found.1, found.2)
@@ -72,42 +82,58 @@ partial_law words old new status outcome is = let found = at_8 words old new sta
 pub write_fault_line_law : WriteFaultLine
 write_fault_line_law words old new status outcome is = (at_8 words old new status outcome is).3
 
+pub put_fault_law : PutFaultRose
+put_fault_law words left before now status faults is = faults.put is
+
+pub put_fault_round_law : PutFaultIsBehindARound
+put_fault_round_law words old new status outcome is = at_12 words old new status outcome is
+
 pub no_memory_line_law : NoMemoryLine
 no_memory_line_law words old new status outcome is = (at_9 words old new status outcome is).3
 
 -- ---- what was read
 pub fronts_law : FrontsAreTaken
-fronts_law words old new read = read.fronts
+fronts_law words old new status read none =
+    told_weaker (TookFrontsBut (MayBePut words status)) TookFronts old new (λ x y took name rest is. took name rest (none name) is) read.fronts
 
 pub only_law : NoOtherIsRead
-only_law words old new read = read.only
+only_law words old new status read =
+    told_weaker (TookOnly (λ name. IsReadBy words old name ⊎ MayBePut words status name)) (TookOnly (λ name. IsReadBy words old name ⊎ IsSavedBy words name)) old new
+    (λ x y took name other. took name (λ either. other (saved_if_put name either))) read.only
+  where
+    saved_if_put : (name : List ℕ) → IsReadBy words old name ⊎ MayBePut words status name → IsReadBy words old name ⊎ IsSavedBy words name
+    saved_if_put name (inl took) = inl took
+    saved_if_put name (inr put) = inr (put.0, put.1, put.2.0)
 
 -- ---- where nothing failed
 pub good_law : GoodIsDone
-good_law words told before now out_before out_now status complete command left p word is nothing good only = complete command left 0 word is nothing (cases.Good refl p good only)
+good_law words told before now status complete command left p word is nothing good only = complete command left 0 word is nothing (cases.Good refl p good only)
 
 pub refused_job_law : JobFaultIsRefused
-refused_job_law words told before now out_before out_now status complete command left name fault word is nothing named bad =
+refused_job_law words told before now status complete command left name fault word is nothing named bad =
     complete command left 3 word is nothing (cases.FaultyJob refl name fault named bad)
 
 pub refused_conflict_law : ConflictIsRefused
-refused_conflict_law words told before now out_before out_now status complete command left p word is nothing asked has refused =
+refused_conflict_law words told before now status complete command left p word is nothing asked has refused =
     complete command left 4 word is nothing (cases.NotAccepted refl p asked has refused)
 
 pub refused_plan_law : PlanDefectIsRefused
-refused_plan_law words told before now out_before out_now status complete command left p plan word is nothing named has accepted bad =
+refused_plan_law words told before now status complete command left p plan word is nothing named has accepted bad =
     complete command left 5 word is nothing (cases.NoValidPlan refl p plan named has accepted bad)
 
 pub refused_source_law : SourceFaultIsRefused
-refused_source_law words told before now out_before out_now status complete command left p word is nothing has accepted valid bad =
-    complete command left 6 word is nothing (cases.FaultySource refl p has accepted valid bad)
+refused_source_law words told before now status complete command left p word is nothing has accepted valid start bad =
+    complete command left 6 word is nothing (cases.FaultySource refl p has accepted valid start bad)
+
+pub refused_start_law : SaveDefectIsRefused
+refused_start_law words told before now status complete command left p word is nothing has accepted valid bad =
+    complete command left 11 word is nothing (cases.FaultyStart refl p has accepted valid bad)
 
 pub refused_trace_law : TraceFaultIsRefused
-refused_trace_law words told before now out_before out_now status complete command left word is nothing faulty = complete command left 13 word is nothing (cases.FaultyTrace refl faulty)
+refused_trace_law words told before now status complete command left word is nothing faulty = complete command left 13 word is nothing (cases.FaultyTrace refl faulty)
 
 pub completes_law : LawsBelow → CompletesByFaults
-completes_law laws words old new status before now out_before out_now outcome faults =
-    completes_of laws words old new before now out_before out_now status outcome faults
+completes_law laws words old new status before now outcome faults = completes_of laws words old new before now status outcome faults
 
 pub one_status_law : LawsBelow → CallsForOneStatus
 one_status_law laws command left a b first second = one_status laws command left a b first second

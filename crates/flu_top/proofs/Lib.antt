@@ -8,6 +8,8 @@ pub mod Sequence
 pub mod Checks
 pub mod Validations
 pub mod Plannings
+pub mod AsValid
+pub mod RunReports
 pub mod Roundings
 pub mod Runnings
 pub mod Simulations
@@ -20,6 +22,7 @@ pub mod SameJob
 pub mod Defects
 pub mod SameAcceptance
 pub mod SamePlans
+pub mod Starts
 pub mod Endings
 pub mod Completeness
 pub mod Outcomes

@@ -10,9 +10,9 @@ use Rattle.flu_top.specs.Jobs.{program_read}
 use Rattle.flu_top.specs.Lines.{IsSaid}
 use Rattle.flu_top.specs.Answer.{status_of, status_after, line_of, IsHeard}
 use Rattle.flu_top.specs.Ending.{Call, IsStopped, IsEnding, IsRefused, Ends}
-use Rattle.flu_top.specs.Outcome.{Outside, outside, Hears, Outcome, FaultsFirst}
+use Rattle.flu_top.specs.Outcome.{Outside, outside, Hears, Outcome, faults, FaultsFirst}
 use Rattle.flu_top.specs.Outcome as cases
-use Rattle.flu_top.proofs.Endings.{said_of, read_fault_at, write_fault_at}
+use Rattle.flu_top.proofs.Endings.{said_of, read_fault_at, write_fault_at, put_fault_at}
 
 -- the outside before and behind a call, where err told and counted this
 abbrev pub before : Call → Option (List ℕ) → ℕ → Outside
@@ -48,6 +48,8 @@ outcome_of words c err err_after count count_after ended ends heard = elim ends.
     by_refusal command word refusals.ReadFault stop line = cases.ReadFailed refl command word stop.wrote line
     by_refusal command word refusals.WriteFault stop line = cases.WriteFailed refl command word stop.partly line
     by_refusal command word refusals.NoMemory stop line = cases.NoMemory refl command word stop line
+    by_refusal command word (refusals.SaveDefect defect) stop line = cases.BadSave refl command word defect stop.0 (record { nothing = stop.1; said = line })
+    by_refusal command word refusals.PutFault stop line = cases.PutFailed refl command word stop.wrote line
     by_refusal command word (refusals.TraceFault fault) stop line = cases.BadTrace refl command word fault stop.0 (record { nothing = stop.1; said = line })
 
     by_ended : (command : Command) → command_in words ≡ Ok command → (ended : Result (Option DrawnSteps) Refusal) → IsEnding c command ended → IsHeard ended err err_after count count_after → Outcome words (before c err count) (behind c err_after count_after) (status_after ended)
@@ -55,5 +57,10 @@ outcome_of words c err err_after count count_after ended ends heard = elim ends.
         cases.Done refl command word (line_said steps) ending.done (hears (want command).says steps (before c err count) (behind c err_after count_after) ending.may_say heard)
     by_ended command word (Err refusal) ending heard = by_refusal command word refusal ending heard
 
-pub faults_of : (words : List (List ℕ)) (c : Call) (ended : Result (Option DrawnSteps) Refusal) → Ends words c ended → FaultsFirst words c.left c.counts c.counts_after c.count c.count_after (status_after ended)
-faults_of words c ended ends = record { read = λ is. read_fault_at words c ended ends is; write = λ is. write_fault_at words c ended ends is }
+pub faults_of : (words : List (List ℕ)) (c : Call) (ended : Result (Option DrawnSteps) Refusal) → Ends words c ended
+    → FaultsFirst words c.left (faults c.counts c.puts c.count) (faults c.counts_after c.puts_after c.count_after) (status_after ended)
+faults_of words c ended ends = record {
+  read = λ is. read_fault_at words c ended ends is;
+  write = λ is. write_fault_at words c ended ends is;
+  put = λ is. put_fault_at words c ended ends is;
+}

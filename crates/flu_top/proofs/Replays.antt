@@ -29,13 +29,14 @@ use Rattle.flu_top.specs.declared.refusals.Refusal.TheVariants as refusals
 use Rattle.flu_top.specs.Answer.{refusal_of_replay}
 use Rattle.flu_top.specs.Taking.{TookOnly}
 use Rattle.flu_top.specs.Behind.{emptied, emptied_each}
+use Rattle.flu_top.specs.Starting.{AreNoSources}
 use Rattle.flu_top.specs.Done.{IsGood, IsReadName, IsWritten}
 use Rattle.flu_top.specs.Ready.{HasNodes, IsReady}
 use Rattle.flu_top.specs.Refusing.{IsRefusal}
 use Rattle.flu_top.specs.Replaying.{EndsOnNet, EndsBehind, ReplaysTo, trace_in}
 use Rattle.flu_top.specs.Replays.{IsNetRefusal, IsReplayDone, IsReadIn, StaysEnded, IsReplayRefusal}
 use Rattle.flu_top.specs.Simulating.{from_nothing}
-use Rattle.flu_top.proofs.Sequence.{among, only_one, same_or_apart, read_at, good_at, report_at, report_refusal, text_is_read, source_name_is_read, stays_ended}
+use Rattle.flu_top.proofs.Sequence.{among, only_one, same_or_apart, read_at, good_at, report_at, report_refusal, text_is_read, source_name_is_read, stays_ended, NamesNoCheckpoint, no_sources, can_start}
 
 -- ---- names of which nothing is left
 emptied_left : (o : Option (List ℕ)) → unwrap_or (option_map {U = List ℕ} (λ (bytes : List ℕ). []) o) [] ≡ []
@@ -179,6 +180,8 @@ behind_refusal p nodes lists trace a b c k l m refusals.ReadFault read taken ris
     inr (told_then (AreRead p lists) (TakesFrom trace) (λ left _. first_fault p left ≡ None) a b c (λ x y z first second. first.0) read taken, rose_behind (k trace) (l trace) (m trace) (rise trace) is)
 behind_refusal p nodes lists trace a b c k l m refusals.WriteFault read taken rise is = is
 behind_refusal p nodes lists trace a b c k l m refusals.NoMemory read taken rise is = tt
+behind_refusal p nodes lists trace a b c k l m (refusals.SaveDefect defect) read taken rise is = absurd is
+behind_refusal p nodes lists trace a b c k l m refusals.PutFault read taken rise is = absurd is
 behind_refusal p nodes lists trace a b c k l m (refusals.TraceFault fault) read taken rise is = (
   is.0,
   is.1,
@@ -187,6 +190,9 @@ behind_refusal p nodes lists trace a b c k l m (refusals.TraceFault fault) read 
 )
 
 -- ---- the trace behind the texts and the sources
+no_checkpoint : (job plan trace : List ℕ) → NamesNoCheckpoint (Replay job plan trace)
+no_checkpoint job plan trace = record { save = refl; resume = refl }
+
 module _ (job plan trace : List ℕ) (p : Program) (nodes : List Node) (a b c : Option Contents) (accepted : IsAccepted p)
     (ready : WhereTold a b (IsReady (Replay job plan trace) p)) (found : WhereTold a b (HasNodes job plan p nodes)) where
   replays_at : (x y : Contents) (ending : Ending) → IsReady (Replay job plan trace) p x y → HasNodes job plan p nodes x y → EndsBehind p nodes trace y ending
@@ -210,7 +216,7 @@ module _ (job plan trace : List ℕ) (p : Program) (nodes : List Node) (a b c : 
       told_then (λ x y. IsReady (Replay job plan trace) p x y × HasNodes job plan p nodes x y) (λ y z. IsReplayDone p nodes trace text y z × StaysEnded y z) (IsWritten (Replay job plan trace) text []) a b c
       (λ x y z first second. (
         p,
-        read_at (Replay job plan trace) p x y z refl (λ asked. accepted) first.0 second.0.reported.read second.1
+        read_at (Replay job plan trace) p x y z refl (λ asked. accepted) (no_checkpoint job plan trace) first.0 second.0.reported.read second.1
             (λ name named. trace_read x z name named (replays_at x y Complete first.0 first.1 second.0.complete) second.0.end),
         report_at (Replay job plan trace) p text x y z first.0 second.0.reported,
         refl,
@@ -231,21 +237,23 @@ module _ (job plan trace : List ℕ) (p : Program) (nodes : List Node) (a b c : 
       by_told None b c first good = tt
       by_told (Some x) None c first good = absurd first
       by_told (Some x) (Some y) None first good = absurd good
-      by_told (Some x) (Some y) (Some z) first good = good_at (Replay job plan trace) p x y refl (λ asked. accepted) first good
+      by_told (Some x) (Some y) (Some z) first good = good_at (Replay job plan trace) p x y refl (λ asked. accepted) (no_checkpoint job plan trace) first good
 
   trace_name : WhereTold b c (λ left _. first_fault p left ≡ None) → IsReadName a (Replay job plan trace) trace
-  trace_name good = inr (inr (record { named = refl; p = p; accepted = λ asked. accepted; good = good_told good }))
+  trace_name good = inr (inr (inr (inr (record { named = refl; p = p; accepted = λ asked. accepted; good = good_told good }))))
 
   pub replay_refusal : (k l m : List ℕ → ℕ) (refusal : Refusal) → ((n : List ℕ) → k n ≤ l n) → IsReplayRefusal p nodes trace b c l m refusal → IsRefusal (Replay job plan trace) a c k m refusal
   replay_refusal k l m (refusals.BadWords bad) rise is = is
   replay_refusal k l m (refusals.JobFault fault) rise is = absurd is
   replay_refusal k l m (refusals.Conflict fault) rise is = absurd is
   replay_refusal k l m (refusals.PlanDefect defect) rise is = absurd is
-  replay_refusal k l m (refusals.SourceFault q fault) rise is = report_refusal (Replay job plan trace) p a b c k l m (refusals.SourceFault q fault) refl (λ asked. accepted) ready rise is
-  replay_refusal k l m refusals.ReadFault rise (inl rose) = report_refusal (Replay job plan trace) p a b c k l m refusals.ReadFault refl (λ asked. accepted) ready rise rose
+  replay_refusal k l m (refusals.SourceFault q fault) rise is = report_refusal (Replay job plan trace) p a b c k l m (refusals.SourceFault q fault) refl (λ asked. accepted) (no_checkpoint job plan trace) ready rise is
+  replay_refusal k l m refusals.ReadFault rise (inl rose) = report_refusal (Replay job plan trace) p a b c k l m refusals.ReadFault refl (λ asked. accepted) (no_checkpoint job plan trace) ready rise rose
   replay_refusal k l m refusals.ReadFault rise (inr rose) = (trace, trace_name rose.0, rose_behind (k trace) (l trace) (m trace) (rise trace) rose.1)
   replay_refusal k l m refusals.WriteFault rise is = is
   replay_refusal k l m refusals.NoMemory rise is = tt
+  replay_refusal k l m (refusals.SaveDefect defect) rise is = absurd is
+  replay_refusal k l m refusals.PutFault rise is = is
   replay_refusal k l m (refusals.TraceFault fault) rise is = record {
     trace = trace;
     named = refl;
@@ -255,7 +263,7 @@ module _ (job plan trace : List ℕ) (p : Program) (nodes : List Node) (a b c : 
     tells = is.1;
     first = told_then (λ x y. IsReady (Replay job plan trace) p x y × HasNodes job plan p nodes x y) (λ left _. (first_fault p left ≡ None) × EndsBehind p nodes trace left is.0)
         (λ left _. IsGood (Replay job plan trace) left p × ReplaysTo (Replay job plan trace) trace left p is.0) a b c
-        (λ x y z first second. (good_at (Replay job plan trace) p x y refl (λ asked. accepted) first.0 second.0, replays_at x y is.0 first.0 first.1 second.1))
+        (λ x y z first second. (good_at (Replay job plan trace) p x y refl (λ asked. accepted) (no_checkpoint job plan trace) first.0 second.0, replays_at x y is.0 first.0 first.1 second.1))
         (told_both (IsReady (Replay job plan trace) p) (HasNodes job plan p nodes) a b ready found) is.2;
   }
 
@@ -268,13 +276,16 @@ only_replayed job plan trace p None (Some y) c accepted ready only = absurd read
 only_replayed job plan trace p (Some x) None c accepted ready only = absurd ready
 only_replayed job plan trace p (Some x) (Some y) None accepted ready only = only
 only_replayed job plan trace p (Some x) (Some y) (Some z) accepted ready only = λ name unread.
-    only name (λ found. unread (behind name found)) ∙ ready.texts.others name (λ found. unread (text_is_read (Replay job plan trace) p (Some x) (Some y) (λ asked. accepted) ready name found))
+    only name (λ found. unread (behind name found)) ∙ ready.texts.others name (λ found. unread (text_is_read (Replay job plan trace) p (Some x) (Some y) (λ asked. accepted) apart ready name found))
   where
+    apart : AreNoSources (Replay job plan trace) p
+    apart = no_sources (Replay job plan trace) p (no_checkpoint job plan trace)
+
     behind : (name : List ℕ) → IsReadIn p trace y name → IsReadName (Some x) (Replay job plan trace) name
-    behind name (inl found) = source_name_is_read (Replay job plan trace) p (Some x) (Some y) refl (λ asked. accepted) ready name found
-    behind name (inr found) = inr (inr (record {
+    behind name (inl found) = source_name_is_read (Replay job plan trace) p (Some x) (Some y) refl (λ asked. accepted) apart (can_start (Replay job plan trace) x p (no_checkpoint job plan trace)) ready name found
+    behind name (inr found) = inr (inr (inr (inr (record {
       named = ap Some found.0;
       p = p;
       accepted = λ asked. accepted;
-      good = good_at (Replay job plan trace) p x y refl (λ asked. accepted) ready found.1;
-    }))
+      good = good_at (Replay job plan trace) p x y refl (λ asked. accepted) (no_checkpoint job plan trace) ready found.1;
+    }))))

@@ -1,37 +1,32 @@
 -- What a run of good sources wrote is a front of its report.
 use Rattle.std.proofs.Common.{◌≡◌, refl, sym, ap, ◌∙◌, subst, ℕ, ◌+◌, ◌≤◌, List, [], ◌∷◌, ◌++◌, length, take, Option, Some, None, Ok, inl, inr, append_assoc, arith}
-use Rattle.std.specs.Option.{option_map_or}
 use Rattle.std.proofs.Math.Seq.{take-append_seam, take-append-add}
 use Rattle.std.proofs.lemmas.List.{append-nil, take-append-le}
 use Rattle.flu_lemmas.proofs.Told.{of_told, told_same, told_weaker}
 use Rattle.flu_outside.specs.Outside.{WhereTold, Contents, Appends}
-use Rattle.flu_outside.specs.Taking.{bytes_left}
 use Rattle.flu_outside.specs.Writing.{AppendsAll}
 use Rattle.flu_model.specs.declared.events.Item.{Item}
-use Rattle.flu_model.specs.declared.jobs.Source.{Source}
 use Rattle.flu_model.specs.declared.jobs.Program.{Program}
-use Rattle.flu_model.specs.Contents.{nothing_held}
-use Rattle.flu_model.specs.Folding.{final_state, final_outputs}
-use Rattle.flu_model.specs.Reports.{report}
+use Rattle.flu_model.specs.Contents.{nothing_held, Contents as State}
+use Rattle.flu_grammar.specs.Laws.{JobsAreGrammar}
 use Rattle.flu_rows.specs.declared.rows.Next.{Next}
-use Rattle.flu_rows.specs.Reading.{read_file}
+use Rattle.flu_streams.specs.Borders.{LawOfBorders, ItemsAreCut, up_to, beyond}
 use Rattle.flu_streams.specs.declared.border.Border.{Border}
-use Rattle.flu_streams.specs.declared.border.Border.TheVariants.{At, Closed}
 use Rattle.flu_streams.specs.declared.faults.SourceFault.{SourceFault}
-use Rattle.flu_streams.specs.Fronts.{LawOfFronts}
-use Rattle.flu_streams.specs.Good.{lists_of}
-use Rattle.flu_streams.specs.Rounds.{ComesTo, GoesOn, LinesIn, LawOfLastRound, lists_between}
-use Rattle.flu_rounds.specs.Written.{AreSound, RanTo, WouldWrite, lines_in, text_up_to}
-use Rattle.flu_words.specs.Words.{Command, Run, command_in}
-use Rattle.flu_top.specs.Behind.{Named, HasJob, emptied_each, report_behind}
-use Rattle.flu_top.specs.Wants.{job_wanted, if_named, how_read}
+use Rattle.flu_rounds.specs.Coming.{LawOfReportFronts, LawOfNextReportFronts}
+use Rattle.flu_rounds.specs.Written.{AreSound, RanFrom, WouldWriteFrom, lines_in}
+use Rattle.flu_words.specs.Words.{Command, Run, RunOptions, command_in}
+use Rattle.flu_top.specs.Behind.{Named, HasJob, emptied_each, lists_behind, report_behind}
+use Rattle.flu_top.specs.Openings.{Opening, report_from}
+use Rattle.flu_top.specs.Starting.{StartsFrom, CanStart, Leaves, LeavesAnything}
+use Rattle.flu_top.specs.Wants.{job_wanted, if_named, how_read, texts_named}
 use Rattle.flu_top.specs.Reading.{InRounds, HaveWritten, ReportsNext, lines_behind, rows_in_round}
-use Rattle.flu_top.specs.Done.{HasPlanAsked, IsGood, IsDone, WhereKnown, AppendsInto, Wrote, WroteRounds, WroteSome, WroteIntoRound, WrotePart}
-use Rattle.flu_top.specs.Causes.{HasSourceFault, IsMet}
+use Rattle.flu_top.specs.Done.{HasPlanAsked, IsGood, IsDone, WhereKnown, AppendsInto, Wrote, WroteRounds, WroteSome, WroteUnsaved, WroteForMemory, WroteForPut, WroteIntoRound, WrotePart}
+use Rattle.flu_top.specs.Causes.{HasSourceFault, IsMetInRounds}
 use Rattle.flu_top.specs.Outcome.{Outside, Outcome}
 use Rattle.flu_top.specs.Outcome as cases
-use Rattle.flu_top.specs.Laws.{RunsWriteFronts}
-use Rattle.flu_top.proofs.Completeness.{LawsBelow, same_job}
+use Rattle.flu_top.specs.Laws.{RunsWriteFronts, FreshRunsReportTheFold, ResumedRunsGoOn}
+use Rattle.flu_top.proofs.Completeness.{same_job}
 use Rattle.flu_top.proofs.SameJob.{same_good}
 use Rattle.flu_top.proofs.Statuses.{same_command, no_command}
 
@@ -49,139 +44,158 @@ appends_more text more rest whole old new is wrote =
     ap (take (length text + n)) (is ∙ append_assoc text more rest) ∙ take-append-add text (more ++ rest) n ∙ ap (λ bytes. text ++ bytes) (take-append-le n more rest few) in
     (length text + n, wrote.2 ∙ append_assoc old text (take n more) ∙ ap (λ bytes. old ++ bytes) (sym front))
 
--- ---- the report of good sources
-whole_report : Program → Contents → List ℕ
-whole_report p left = report p (final_outputs p nothing_held (lists_of p left))
-
-module _ (fronts : LawOfFronts) (last : LawOfLastRound) where
-  lines_there : (p : Program) (left : Contents) → LinesIn p left (lines_in p left)
-  lines_there p left = λ i s e. ap (λ (o : Option Source). option_map_or (λ (s : Source). read_file (bytes_left left s.file)) o []) e
-
-  front_at : (p : Program) (left : Contents) → AreSound p (lines_in p left) → (border : Option ℕ) (done : List (List (List Item))) (before : ℕ → List Next)
-      → ComesTo p rows_in_round (lines_in p left) done border before → (rest : List ℕ) × (whole_report p left ≡ text_up_to p border before ++ rest)
-  unfolding whole_report
-  front_at p left sound None done before came = (report p (final_outputs p nothing_held (lists_of p left)), refl)
-  front_at p left sound (Some t) done before came = (
-    report p (final_outputs p (final_state p nothing_held (lists_between p None (At t) before)) (lists_between p (Some t) Closed (lines_in p left))),
-    (fronts p nothing_held rows_in_round (lines_in p left) done t before left (lines_there p left) sound came).lines,
-  )
-
-  front_of : (p : Program) (left : Contents) (border : Option ℕ) (text : List ℕ) → AreSound p (lines_in p left) → RanTo p rows_in_round (lines_in p left) border text
-      → (rest : List ℕ) × (whole_report p left ≡ text ++ rest)
-  front_of p left border text sound ran =
-      let front = front_at p left sound border ran.done ran.before ran.comes in (front.0, front.1 ∙ ap (λ bytes. bytes ++ front.0) (sym ran.text))
-
-  next_at : (p : Program) (left : Contents) (border : Option ℕ) (text more : List ℕ) (now : ℕ → List Next) (end : Border) → AreSound p (lines_in p left)
-      → (ran : RanTo p rows_in_round (lines_in p left) border text) → WouldWrite p rows_in_round (lines_in p left) border ran.before now end (text ++ more)
-      → (rest : List ℕ) × (whole_report p left ≡ (text ++ more) ++ rest)
-  unfolding whole_report
-  next_at p left border text more now (At t) sound ran next =
-      let front = front_at p left sound (Some t) _ now (GoesOn ran.done border ran.before now t ran.comes next.round) in
-      (front.0, front.1 ∙ ap (λ bytes. bytes ++ front.0) (sym next.text))
-  next_at p left border text more now Closed sound ran next = (
-    [],
-    ap (λ lists. report p (final_outputs p nothing_held lists)) (sym (last p rows_in_round border (lines_in p left) ran.before now left (lines_there p left) next.round))
-        ∙ sym next.text ∙ sym (append-nil (text ++ more)),
-  )
-
 -- ---- a run
--- what was written is a front of the report of a program of the job
-HasFront : List ℕ → Option (List ℕ) → Contents → Option (List ℕ) → Option (List ℕ) → Type 0
-HasFront job plan left had has =
-    (q : Program) × HasJob (Named job) left q × WhereTold had has (λ old new. (n : ℕ) × Appends n (report_behind (job ∷ if_named plan) left q) old new)
+-- what was written is a front of the report of a program of the job, from an opening
+HasFront : Command → List ℕ → Contents → Option (List ℕ) → Option (List ℕ) → Type 0
+HasFront command job left had has =
+    (q : Program) × HasJob (Named job) left q
+    × ((o : Opening) × StartsFrom command left q o × WhereTold had has (λ old new. (n : ℕ) × Appends n (report_from o (texts_named command) left q) old new))
 
-module _ (laws : LawsBelow) (fronts : LawOfFronts) (last : LawOfLastRound) (job : List ℕ) (plan : Option (List ℕ)) (left : Contents) (p : Program) (good : IsGood (Run job plan) left p) where
-  sound_of : (q : Program) → HasJob (Named job) left q → AreSound q (lines_in q (emptied_each (job ∷ if_named plan) left))
-  sound_of q has = same_good InRounds (job ∷ if_named plan) left p q (same_job laws (Named job) left p q good.has has) good.sources
+module _ (jobs : JobsAreGrammar) (fronts : (border : Option ℕ) (opening : State) → LawOfReportFronts border opening) (nexts : (border : Option ℕ) (opening : State) → LawOfNextReportFronts border opening) (job : List ℕ) (plan : Option (List ℕ)) (options : RunOptions) (left : Contents) (p : Program) (good : IsGood (Run job plan options) left p) where
+  sound_of : (q : Program) → HasJob (Named job) left q → AreSound q (lines_behind (texts_named (Run job plan options)) left q)
+  sound_of q has = same_good InRounds (texts_named (Run job plan options)) left p q (same_job jobs (Named job) left p q good.has has) good.sources
 
-  nothing : (had has : Option (List ℕ)) → has ≡ had → HasFront job plan left had has
+  front_of : (q : Program) (o : Opening) (border : Option ℕ) (text : List ℕ) → HasJob (Named job) left q
+      → RanFrom q rows_in_round o.border o.cells (lines_behind (texts_named (Run job plan options)) left q) border text
+      → (rest : List ℕ) × (report_from o (texts_named (Run job plan options)) left q ≡ text ++ rest)
+  unfolding lists_behind
+  front_of q o border text has ran =
+      fronts o.border o.cells q rows_in_round (emptied_each (texts_named (Run job plan options)) left) border text (omega arith) (sound_of q has) ran
+
+  next_of : (q : Program) (o : Opening) (text more : List ℕ) (put : Option (List ℕ)) → HasJob (Named job) left q → ReportsNext q o (lines_behind (texts_named (Run job plan options)) left q) text put more
+      → (rest : List ℕ) × (report_from o (texts_named (Run job plan options)) left q ≡ (text ++ more) ++ rest)
+  unfolding lists_behind
+  next_of q o text more put has round =
+      nexts o.border o.cells q rows_in_round (emptied_each (texts_named (Run job plan options)) left) round.border text (text ++ more) round.now round.end (omega arith) (sound_of q has) round.ran round.next
+
+  nothing : (had has : Option (List ℕ)) → has ≡ had → HasFront (Run job plan options) job left had has
   unfolding HasFront
-  nothing had has same = (
-    p,
-    good.has,
-    subst (λ (o : Option (List ℕ)). WhereTold had o (λ old new. (n : ℕ) × Appends n (report_behind (job ∷ if_named plan) left p) old new)) (sym same)
-        (told_same (λ old new. (n : ℕ) × Appends n (report_behind (job ∷ if_named plan) left p) old new) had (λ bytes. (0, sym (append-nil bytes)))),
-  )
+  nothing had has same =
+      let o = good.start.0 in (
+        p,
+        good.has,
+        (o, good.start.1,
+        subst (λ (now : Option (List ℕ)). WhereTold had now (λ old new. (n : ℕ) × Appends n (report_from o (texts_named (Run job plan options)) left p) old new)) (sym same)
+        (told_same (λ old new. (n : ℕ) × Appends n (report_from o (texts_named (Run job plan options)) left p) old new) had (λ bytes. (0, sym (append-nil bytes))))),
+      )
 
-  front_written : (q : Program) (text rest : List ℕ) (had has : Option (List ℕ)) → HasJob (Named job) left q → whole_report q (emptied_each (job ∷ if_named plan) left) ≡ text ++ rest
-      → WhereTold had has (AppendsAll text) → HasFront job plan left had has
-  unfolding HasFront whole_report report_behind
-  front_written q text rest had has its is wrote = (
+  front_written : (q : Program) (o : Opening) (text rest : List ℕ) (had has : Option (List ℕ)) → HasJob (Named job) left q → StartsFrom (Run job plan options) left q o
+      → report_from o (texts_named (Run job plan options)) left q ≡ text ++ rest → WhereTold had has (AppendsAll text) → HasFront (Run job plan options) job left had has
+  unfolding HasFront
+  front_written q o text rest had has its starts is wrote = (
     q,
     its,
-    told_weaker (AppendsAll text) (λ old new. (n : ℕ) × Appends n (whole_report q (emptied_each (job ∷ if_named plan) left)) old new) had has
-        (λ x y w. appends_front text rest (whole_report q (emptied_each (job ∷ if_named plan) left)) x y is w) wrote,
+    (o, starts,
+    told_weaker (AppendsAll text) (λ old new. (n : ℕ) × Appends n (report_from o (texts_named (Run job plan options)) left q) old new) had has
+    (λ x y w. appends_front text rest (report_from o (texts_named (Run job plan options)) left q) x y is w) wrote),
   )
 
-  more_written : (q : Program) (text more rest : List ℕ) (had has : Option (List ℕ)) → HasJob (Named job) left q → whole_report q (emptied_each (job ∷ if_named plan) left) ≡ (text ++ more) ++ rest
-      → WhereTold had has (AppendsInto text more) → HasFront job plan left had has
-  unfolding HasFront whole_report report_behind
-  more_written q text more rest had has its is wrote = (
+  more_written : (q : Program) (o : Opening) (text more rest : List ℕ) (had has : Option (List ℕ)) → HasJob (Named job) left q → StartsFrom (Run job plan options) left q o
+      → report_from o (texts_named (Run job plan options)) left q ≡ (text ++ more) ++ rest → WhereTold had has (AppendsInto text more) → HasFront (Run job plan options) job left had has
+  unfolding HasFront
+  more_written q o text more rest had has its starts is wrote = (
     q,
     its,
-    told_weaker (AppendsInto text more) (λ old new. (n : ℕ) × Appends n (whole_report q (emptied_each (job ∷ if_named plan) left)) old new) had has
-        (λ x y w. appends_more text more rest (whole_report q (emptied_each (job ∷ if_named plan) left)) x y is w) wrote,
+    (o, starts,
+    told_weaker (AppendsInto text more) (λ old new. (n : ℕ) × Appends n (report_from o (texts_named (Run job plan options)) left q) old new) had has
+    (λ x y w. appends_more text more rest (report_from o (texts_named (Run job plan options)) left q) x y is w) wrote),
   )
 
-  all_written : (q : Program) (text : List ℕ) (had has : Option (List ℕ)) → HasJob (Named job) left q → text ≡ report_behind (job ∷ if_named plan) left q
-      → WhereTold had has (AppendsAll text) → HasFront job plan left had has
-  unfolding whole_report report_behind
-  all_written q text had has its is wrote = front_written q text [] had has its (sym is ∙ sym (append-nil text)) wrote
-
-  some_written : (a b : Option Contents) (had has : Option (List ℕ)) → a ≡ Some left → WroteRounds (Run job plan) a b had has → HasFront job plan left had has
+  -- ---- by what is known of what was written
+  some_written : (a b : Option Contents) (had has : Option (List ℕ)) → a ≡ Some left → WroteRounds (Run job plan options) a b had has → HasFront (Run job plan options) job left had has
   some_written a b had has told wrote =
       let q = wrote.p in
-      let found = of_told (λ x _. HasJob (Named job) x q × HasPlanAsked (Run job plan) x q × HaveWritten q (lines_behind (job ∷ if_named plan) x q) wrote.text) left a b told wrote.rounds in
-      let front = front_of fronts last q (emptied_each (job ∷ if_named plan) left) found.1.2.border wrote.text (sound_of q found.1.0) found.1.2.ran in
-      front_written q wrote.text front.0 had has found.1.0 front.1 wrote.wrote
+      let found = (of_told (λ x y. HasJob (Named job) x q × HasPlanAsked (Run job plan options) x q
+          × ((o : Opening) × StartsFrom (Run job plan options) x q o
+          × ((put : Option (List ℕ)) × HaveWritten q o (lines_behind (texts_named (Run job plan options)) x q) wrote.text put × Leaves (Run job plan options) put x y))) left a b told wrote.rounds).1 in
+      let o = found.2.0 in
+      let written = found.2.2.1 in
+      let front = front_of q o written.border wrote.text found.0 written.ran in
+      front_written q o wrote.text front.0 had has found.0 found.2.1 front.1 wrote.wrote
 
-  part_written : (a b : Option Contents) (had has : Option (List ℕ)) → a ≡ Some left → WroteIntoRound (Run job plan) a b had has → HasFront job plan left had has
+  unsaved_written : (Left : Option (List ℕ) → Contents → Contents → Type 0) (a b : Option Contents) (had has : Option (List ℕ)) → a ≡ Some left → WroteUnsaved Left (Run job plan options) a b had has
+      → HasFront (Run job plan options) job left had has
+  unsaved_written Left a b had has told wrote =
+      let q = wrote.p in
+      let found = (of_told (λ x y. HasJob (Named job) x q × HasPlanAsked (Run job plan options) x q
+          × ((o : Opening) × StartsFrom (Run job plan options) x q o
+          × ((put : Option (List ℕ)) × ReportsNext q o (lines_behind (texts_named (Run job plan options)) x q) wrote.text put wrote.more × Left put x y))) left a b told wrote.round).1 in
+      let o = found.2.0 in
+      let front = next_of q o wrote.text wrote.more found.2.2.0 found.0 found.2.2.1 in
+      front_written q o (wrote.text ++ wrote.more) front.0 had has found.0 found.2.1 front.1 wrote.wrote
+
+  part_written : (a b : Option Contents) (had has : Option (List ℕ)) → a ≡ Some left → WroteIntoRound (Run job plan options) a b had has → HasFront (Run job plan options) job left had has
   part_written a b had has told wrote =
       let q = wrote.p in
-      let found = of_told (λ x _. HasJob (Named job) x q × HasPlanAsked (Run job plan) x q × ReportsNext q (lines_behind (job ∷ if_named plan) x q) wrote.text wrote.more) left a b told wrote.round in
-      let next = found.1.2 in
-      let front = next_at fronts last q (emptied_each (job ∷ if_named plan) left) next.border wrote.text wrote.more next.now next.end (sound_of q found.1.0) next.ran next.next in
-      more_written q wrote.text wrote.more front.0 had has found.1.0 front.1 wrote.wrote
+      let found = (of_told (λ x y. HasJob (Named job) x q × HasPlanAsked (Run job plan options) x q
+          × ((o : Opening) × StartsFrom (Run job plan options) x q o
+          × ((put : Option (List ℕ)) × ReportsNext q o (lines_behind (texts_named (Run job plan options)) x q) wrote.text put wrote.more × Leaves (Run job plan options) put x y))) left a b told wrote.round).1 in
+      let o = found.2.0 in
+      let front = next_of q o wrote.text wrote.more found.2.2.0 found.0 found.2.2.1 in
+      more_written q o wrote.text wrote.more front.0 had has found.0 found.2.1 front.1 wrote.wrote
 
-  met_written : (a b : Option Contents) (had has : Option (List ℕ)) (q : Program) (fault : SourceFault) (text : List ℕ) → a ≡ Some left → HasSourceFault (Run job plan) a b q fault text
-      → WhereTold had has (AppendsAll text) → HasFront job plan left had has
+  met_written : (a b : Option Contents) (had has : Option (List ℕ)) (q : Program) (fault : SourceFault) (text : List ℕ) → a ≡ Some left → HasSourceFault (Run job plan options) a b q fault text
+      → WhereTold had has (AppendsAll text) → HasFront (Run job plan options) job left had has
   met_written a b had has q fault text told why wrote =
-      let found = of_told (λ x _. HasJob (Named job) x q × HasPlanAsked (Run job plan) x q × IsMet InRounds (job ∷ if_named plan) x q text fault) left a b told why.first in
-      let front = front_of fronts last q (emptied_each (job ∷ if_named plan) left) found.1.2.border text (sound_of q found.1.0) found.1.2.ran in
-      front_written q text front.0 had has found.1.0 front.1 wrote
+      let found = (of_told (λ x y. HasJob (Named job) x q × HasPlanAsked (Run job plan options) x q × CanStart (Run job plan options) x q × IsMetInRounds (Run job plan options) x y q text fault) left a b told why.first).1 in
+      let met = found.3 in
+      let front = front_of q met.opening met.met.border text found.0 met.met.ran in
+      front_written q met.opening text front.0 had has found.0 met.starts front.1 wrote
 
-  done_written : (a b : Option Contents) (had has : Option (List ℕ)) (line : List ℕ) → a ≡ Some left → WhereTold a b (IsDone (Run job plan) had has line) → HasFront job plan left had has
+  done_written : (a b : Option Contents) (had has : Option (List ℕ)) (line : List ℕ) → a ≡ Some left → WhereTold a b (IsDone (Run job plan options) had has line) → HasFront (Run job plan options) job left had has
   done_written a b had has line told done =
-      let found = (of_told (IsDone (Run job plan) had has line) left a b told done).1 in
-      all_written found.0 found.1 had has found.2.good.has found.3 found.5
+      let found = (of_told (IsDone (Run job plan options) had has line) left a b told done).1 in
+      let writes = found.3 in
+      let starts : StartsFrom (Run job plan options) left found.0 writes.0 = record { apart = found.2.good.start.1.apart; opens = writes.1 } in
+      front_written found.0 writes.0 found.1 [] had has found.2.good.has starts (sym writes.2 ∙ sym (append-nil found.1)) found.5
 
-  rounds_or_nothing : (a b : Option Contents) (had has : Option (List ℕ)) → a ≡ Some left → WroteSome InRounds (Run job plan) a b had has → HasFront job plan left had has
-  rounds_or_nothing a b had has told (inl same) = nothing had has same
+  rounds_or_nothing : (a b : Option Contents) (had has : Option (List ℕ)) → a ≡ Some left → WroteSome InRounds (Run job plan options) a b had has → HasFront (Run job plan options) job left had has
+  rounds_or_nothing a b had has told (inl none) = nothing had has none.nothing
   rounds_or_nothing a b had has told (inr wrote) = some_written a b had has told wrote
 
-  by_case : (words : List (List ℕ)) (old new : Outside) (status : ℕ) → Outcome words old new status → command_in words ≡ Ok (Run job plan) → old.left ≡ Some left → HasFront job plan left old.out new.out
+  memory_written : (a b : Option Contents) (had has : Option (List ℕ)) → a ≡ Some left → WroteForMemory InRounds (Run job plan options) a b had has → HasFront (Run job plan options) job left had has
+  memory_written a b had has told (inl some) = rounds_or_nothing a b had has told some
+  memory_written a b had has told (inr wrote) = unsaved_written (Leaves (Run job plan options)) a b had has told wrote
+
+  by_case : (words : List (List ℕ)) (old new : Outside) (status : ℕ) → Outcome words old new status → command_in words ≡ Ok (Run job plan options) → old.left ≡ Some left
+      → HasFront (Run job plan options) job left old.out new.out
   by_case words old new status (cases.Done is command also line done heard) word told =
       done_written old.left new.left old.out new.out line told
-      (subst (λ (d : Command). WhereKnown (job_wanted d) old.left new.left (IsDone d old.out new.out line)) (same_command words command (Run job plan) also word) done)
-  by_case words old new status (cases.BadWords is at bad files refused) word told = absurd (no_command words (Run job plan) at word bad)
+      (subst (λ (d : Command). WhereKnown (job_wanted d) old.left new.left (IsDone d old.out new.out line)) (same_command words command (Run job plan options) also word) done)
+  by_case words old new status (cases.BadWords is at bad files refused) word told = absurd (no_command words (Run job plan options) at word bad)
   by_case words old new status (cases.BadJob is command also fault has refused) word told = nothing old.out new.out refused.nothing
   by_case words old new status (cases.Conflicts is command also fault has refused) word told = nothing old.out new.out refused.nothing
   by_case words old new status (cases.BadPlan is command also defect has refused) word told = nothing old.out new.out refused.nothing
   by_case words old new status (cases.BadSource is command also q fault text has wrote said) word told =
-      let same = same_command words command (Run job plan) also word in
+      let same = same_command words command (Run job plan options) also word in
       met_written old.left new.left old.out new.out q fault text told (subst (λ (d : Command). HasSourceFault d old.left new.left q fault text) same has)
       (subst (λ (d : Command). Wrote (how_read d) text old.out new.out) same wrote)
   by_case words old new status (cases.ReadFailed is command also some said) word told =
       rounds_or_nothing old.left new.left old.out new.out told
-      (subst (λ (d : Command). WroteSome (how_read d) d old.left new.left old.out new.out) (same_command words command (Run job plan) also word) some)
+      (subst (λ (d : Command). WroteSome (how_read d) d old.left new.left old.out new.out) (same_command words command (Run job plan options) also word) some)
   by_case words old new status (cases.WriteFailed is command also partly said) word told =
       part_written old.left new.left old.out new.out told
-      (subst (λ (d : Command). WrotePart (how_read d) d old.left new.left old.out new.out) (same_command words command (Run job plan) also word) partly)
+      (subst (λ (d : Command). WrotePart (how_read d) d old.left new.left old.out new.out) (same_command words command (Run job plan options) also word) partly)
   by_case words old new status (cases.NoMemory is command also some said) word told =
-      rounds_or_nothing old.left new.left old.out new.out told
-      (subst (λ (d : Command). WroteSome (how_read d) d old.left new.left old.out new.out) (same_command words command (Run job plan) also word) some)
+      memory_written old.left new.left old.out new.out told
+      (subst (λ (d : Command). WroteForMemory (how_read d) d old.left new.left old.out new.out) (same_command words command (Run job plan options) also word) some)
+  by_case words old new status (cases.BadSave is command also defect has refused) word told = nothing old.out new.out refused.nothing
+  by_case words old new status (cases.PutFailed is command also some said) word told =
+      unsaved_written LeavesAnything old.left new.left old.out new.out told
+      (subst (λ (d : Command). WroteForPut d old.left new.left old.out new.out) (same_command words command (Run job plan options) also word) some)
   by_case words old new status (cases.BadTrace is command also fault has refused) word told = nothing old.out new.out refused.nothing
 
-pub runs_law : LawsBelow → LawOfFronts → LawOfLastRound → RunsWriteFronts
+pub runs_law : JobsAreGrammar → ((border : Option ℕ) (opening : State) → LawOfReportFronts border opening) → ((border : Option ℕ) (opening : State) → LawOfNextReportFronts border opening) → RunsWriteFronts
 unfolding HasFront
-runs_law laws fronts last words old new status outcome job plan left p word told good = by_case laws fronts last job plan left p good words old new status outcome word told
+runs_law jobs fronts nexts words old new status outcome job plan options left p word told good =
+    by_case jobs fronts nexts job plan options left p good words old new status outcome word told
+
+-- ---- what the report is
+pub fresh_law : FreshRunsReportTheFold
+unfolding lists_behind report_behind
+fresh_law job plan save left p o starts =
+    ap (λ (from : Opening). report_from from ((job ∷ if_named plan) ++ []) left p) starts.opens
+    ∙ ap (λ (texts : List (List ℕ)). report_behind texts left p) (append-nil (job ∷ if_named plan))
+
+pub resumed_law : LawOfBorders → ItemsAreCut → ResumedRunsGoOn
+resumed_law borders cut p lists t = (borders p nothing_held t lists (up_to t lists) (beyond t lists) (cut t lists)).lines

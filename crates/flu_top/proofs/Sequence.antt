@@ -1,6 +1,6 @@
 -- A job's text is read, and then its sources.
 use Rattle.std.proofs.Common.{◌≡◌, ◌≢◌, refl, sym, ap, ◌∙◌, subst, ℕ, ◌≤◌, List, [], ◌∷◌, Bool, true, false, Option, Some, None, inl, inr, ◌⊎◌, zero, suc, if◌then◌else◌, arith}
-use Rattle.std.specs.Prelude.{Contains, IsTrue, is_some, option_map, ◌++◌}
+use Rattle.std.specs.Prelude.{Contains, IsTrue, IfSome, is_some, option_map, ◌++◌}
 use Rattle.std.specs.Str.{bytes_eq}
 use Rattle.std.proofs.Math.Path.{fun_ext}
 use Rattle.std.proofs.lemmas.Bool.{false≢true}
@@ -23,9 +23,11 @@ use Rattle.flu_model.specs.Modes.{IsAccepted}
 use Rattle.flu_words.specs.Words.{Command}
 use Rattle.flu_top.specs.Taking.{TookOnly}
 use Rattle.flu_top.specs.Behind.{WantedJob, Named, Fixed, HasJob, job_files, emptied, fault_behind, report_behind}
+use Rattle.flu_top.specs.Openings.{Opens, fresh}
 use Rattle.flu_top.specs.Reading.{Reading, Whole, is_read, AreSourcesGood}
-use Rattle.flu_top.specs.Wants.{job_wanted, plan_named, trace_named, asks_accepted, how_read, reads_sources, if_named, texts_named, sources_read, files_read, Writes}
-use Rattle.flu_top.specs.Done.{HasPlanAsked, IsGood, IsTraceRead, IsRead, Says, MayHaveJob, IsReadName, IsWritten}
+use Rattle.flu_top.specs.Wants.{job_wanted, plan_named, save_named, resume_named, trace_named, asks_accepted, how_read, reads_sources, if_named, job_and_plan_named, texts_named, sources_read, Writes}
+use Rattle.flu_top.specs.Starting.{AreNoSources, StartsFrom, CanStart}
+use Rattle.flu_top.specs.Done.{HasPlanAsked, IsGood, IsTraceRead, HasSaved, IsRead, Says, MayHaveJob, MayBeJob, IsReadName, IsWritten}
 use Rattle.flu_top.specs.Ready.{AreTextsRead, IsReady}
 use Rattle.flu_top.specs.Jobs.{IsJobRefusal}
 use Rattle.flu_top.specs.Causes.{IsJobRead, HasJobFault, IsMet, HasSourceFault}
@@ -38,9 +40,12 @@ pub only_one : (one name : List ℕ) → Contains (one ∷ []) name → one ≡ 
 only_one one name (zero, lt, e) = e
 only_one one name (suc k, lt, e) = absurd (omega arith)
 
+pub none_among : (name : List ℕ) → Contains [] name → ⊥
+none_among name found = omega (arith, found.1)
+
 -- a name is among others, or is not
 pub among : (names : List (List ℕ)) (name : List ℕ) → Contains names name ⊎ (Contains names name → ⊥)
-among [] name = inr (λ found. absurd (omega (arith, found.1)))
+among [] name = inr (none_among name)
 among (other ∷ names) name = by_test (bytes_eq other name) refl (among names name)
   where
     by_rest : other ≢ name → Contains names name ⊎ (Contains names name → ⊥) → Contains (other ∷ names) name ⊎ (Contains (other ∷ names) name → ⊥)
@@ -59,21 +64,52 @@ same_or_apart a b = by_test (bytes_eq a b) refl
     by_test true t = inl ((bytes_eq-Decides a b).0 t)
     by_test false f = inr (λ same. false≢true (sym f ∙ (bytes_eq-Decides a b).1 same))
 
+-- ---- commands without checkpoints
+-- a command that saves no checkpoint, and is resumed from none
+pub record NamesNoCheckpoint (command : Command) : Type 0 where
+  pub save : save_named command ≡ None
+  pub resume : resume_named command ≡ None
+
+not_named : (o : Option (List ℕ)) (name : List ℕ) → o ≡ None → o ≡ Some name → ⊥
+not_named o name none named = let e = sym none ∙ named in cc
+
+pub no_sources : (command : Command) (p : Program) → NamesNoCheckpoint command → AreNoSources command p
+no_sources command p none = record {
+  save = λ name named. absurd (not_named (save_named command) name none.save named);
+  resume = λ name named. absurd (not_named (resume_named command) name none.resume named);
+}
+
+-- it starts fresh
+pub can_start : (command : Command) (left : Contents) (p : Program) → NamesNoCheckpoint command → CanStart command left p
+can_start command left p none =
+    (fresh, record { apart = no_sources command p none; opens = subst (λ (o : Option (List ℕ)). Opens o (job_and_plan_named command) left p fresh) (sym none.resume) refl })
+
+-- it saved nothing
+pub has_saved : (command : Command) (p : Program) (x z : Contents) → NamesNoCheckpoint command → HasSaved command p x z
+has_saved command p x z none name named = absurd (not_named (save_named command) name none.save named)
+
 -- ---- the names that are read
+-- a name that is given, if one is
+name_given : (o : Option (List ℕ)) (name : List ℕ) → Contains (if_named o) name → o ≡ Some name
+name_given None name found = absurd (none_among name found)
+name_given (Some one) name found = ap Some (only_one one name found)
+
 -- the file of a job is that of its name
 job_file : (job : WantedJob) (name : List ℕ) → Contains (job_files job) name → job ≡ Named name
 job_file (Named one) name found = ap Named (only_one one name found)
-job_file (Fixed job) name found = absurd (omega (arith, found.1))
+job_file (Fixed job) name found = absurd (none_among name found)
 
 pub may_have_ready : (command : Command) (p : Program) (a b : Option Contents) → WhereTold a b (IsReady command p) → MayHaveJob a (job_wanted command) p
 may_have_ready command p None b ready = tt
 may_have_ready command p (Some x) None ready = absurd ready
 may_have_ready command p (Some x) (Some y) ready = ready.has
 
-pub source_is_read : (command : Command) (p : Program) (name : List ℕ) → IsTrue (reads_sources command) → Contains (files_of p.sources) name → Contains (files_read command p) name
-source_is_read command p name reads found =
-    subst (λ (b : Bool). Contains (if_named (plan_named command) ++ (if b then files_of p.sources else [])) name) (sym reads)
-    (Contains-append_right (if_named (plan_named command)) (files_of p.sources) name found)
+-- the job that was read may be the command's
+pub may_be_ready : (command : Command) (p : Program) (a b : Option Contents) → (IsTrue (asks_accepted command) → IsAccepted p) → WhereTold a b (IsReady command p) → MayBeJob a command p
+may_be_ready command p a b accepted ready = record { has = may_have_ready command p a b ready; accepted = accepted }
+
+pub source_is_read : (command : Command) (p : Program) (name : List ℕ) → IsTrue (reads_sources command) → Contains (files_of p.sources) name → Contains (sources_read command p) name
+source_is_read command p name reads found = subst (λ (b : Bool). Contains (if b then files_of p.sources else []) name) (sym reads) found
 
 pub may_have : (job : List ℕ) (p : Program) (a b : Option Contents) → WhereTold a b (IsJobRead job p) → MayHaveJob a (Named job) p
 may_have job p None b read = tt
@@ -84,24 +120,39 @@ pub only_job : (command : Command) (job : List ℕ) (a b : Option Contents) → 
 only_job command job a b named taken =
     told_weaker (TakesFrom job) (TookOnly (IsReadName a command)) a b (λ x y took name unread. took.others name (λ same. unread (inl (named ∙ ap Named (sym same))))) taken
 
-pub text_is_read : (command : Command) (p : Program) (a b : Option Contents) → (IsTrue (asks_accepted command) → IsAccepted p) → WhereTold a b (IsReady command p)
+pub text_is_read : (command : Command) (p : Program) (a b : Option Contents) → (IsTrue (asks_accepted command) → IsAccepted p) → AreNoSources command p → WhereTold a b (IsReady command p)
     → (name : List ℕ) → Contains (texts_named command) name → IsReadName a command name
-text_is_read command p a b accepted ready name found = elim (Contains-append_cases (job_files (job_wanted command)) (if_named (plan_named command)) name found) [
-  | inl job ↦ inl (job_file (job_wanted command) name job)
-  | inr plan ↦ inr (inl (p, may_have_ready command p a b ready, accepted, Contains-append_left (if_named (plan_named command)) (sources_read command p) name plan))
+text_is_read command p a b accepted apart ready name found = elim (Contains-append_cases (job_and_plan_named command) (if_named (resume_named command)) name found) [
+  | inl text ↦ elim (Contains-append_cases (job_files (job_wanted command)) (if_named (plan_named command)) name text) [
+    | inl job ↦ inl (job_file (job_wanted command) name job)
+    | inr plan ↦ inr (inl (record { p = p; job = may_be_ready command p a b accepted ready; named = name_given (plan_named command) name plan }))
+  ]
+  | inr checkpoint ↦ inr (inr (inl (record { p = p; job = may_be_ready command p a b accepted ready; apart = apart; named = name_given (resume_named command) name checkpoint })))
 ]
 
-pub source_name_is_read : (command : Command) (p : Program) (a b : Option Contents) → IsTrue (reads_sources command) → (IsTrue (asks_accepted command) → IsAccepted p) → WhereTold a b (IsReady command p)
-    → (name : List ℕ) → Contains (files_of p.sources) name → IsReadName a command name
-source_name_is_read command p a b reads accepted ready name found = inr (inl (p, may_have_ready command p a b ready, accepted, source_is_read command p name reads found))
+pub source_name_is_read : (command : Command) (p : Program) (a b : Option Contents) → IsTrue (reads_sources command) → (IsTrue (asks_accepted command) → IsAccepted p) → AreNoSources command p
+    → IfSome a (λ contents. CanStart command contents p) → WhereTold a b (IsReady command p) → (name : List ℕ) → Contains (files_of p.sources) name → IsReadName a command name
+source_name_is_read command p a b reads accepted apart start ready name found = inr (inr (inr (inl (record {
+  p = p;
+  job = may_be_ready command p a b accepted ready;
+  apart = apart;
+  start = start;
+  named = source_is_read command p name reads found;
+}))))
 
-pub only_ready : (command : Command) (p : Program) (a b c : Option Contents) → IsTrue (reads_sources command) → (IsTrue (asks_accepted command) → IsAccepted p)
+-- whatever the files tell, a command without checkpoints can start
+pub start_told : (command : Command) (p : Program) (a : Option Contents) → NamesNoCheckpoint command → IfSome a (λ contents. CanStart command contents p)
+start_told command p None none = tt
+start_told command p (Some x) none = can_start command x p none
+
+pub only_ready : (command : Command) (p : Program) (a b c : Option Contents) → NamesNoCheckpoint command → IsTrue (reads_sources command) → (IsTrue (asks_accepted command) → IsAccepted p)
     → WhereTold a b (IsReady command p) → WhereTold b c (LeavesOthers (files_of p.sources)) → WhereTold a c (TookOnly (IsReadName a command))
-only_ready command p a b c reads accepted ready others =
+only_ready command p a b c none reads accepted ready others =
+    let apart = no_sources command p none in
     told_then (IsReady command p) (LeavesOthers (files_of p.sources)) (TookOnly (IsReadName a command)) a b c
     (λ x y z first left name unread.
-    left name (λ found. unread (source_name_is_read command p a b reads accepted ready name found))
-    ∙ first.texts.others name (λ found. unread (text_is_read command p a b accepted ready name found))) ready others
+    left name (λ found. unread (source_name_is_read command p a b reads accepted apart (start_told command p a none) ready name found))
+    ∙ first.texts.others name (λ found. unread (text_is_read command p a b accepted apart ready name found))) ready others
 
 -- ---- the report of a job
 pub is_reported : (p : Program) (report : List ℕ) (lists : List (List Item)) (a b : Option Contents) → WhereTold a b (λ old _. AreGood p old) → WhereTold a b (λ old _. lists ≡ lists_of p old) → AreReadOut (files_of p.sources) b → report ≡ reports.report p (final_outputs p nothing_held lists) → WhereTold a b (IsReported p report)
@@ -185,25 +236,27 @@ ends_at command p x y z reads first sources stays name found = by_name name (Con
     by_name name (inr found) = sources name (subst (λ (b : Bool). Contains (if b then files_of p.sources else []) name) reads found)
 
 -- a command whose texts are read before its sources, and a trace behind them
-pub good_at : (command : Command) (p : Program) (x y : Contents) → how_read command ≡ Whole → (IsTrue (asks_accepted command) → IsAccepted p)
+pub good_at : (command : Command) (p : Program) (x y : Contents) → how_read command ≡ Whole → (IsTrue (asks_accepted command) → IsAccepted p) → NamesNoCheckpoint command
     → IsReady command p x y → first_fault p y ≡ None → IsGood command x p
-good_at command p x y whole accepted first good = record {
+good_at command p x y whole accepted none first good = record {
   has = first.has;
   accepted = accepted;
   plan = first.plan;
+  start = can_start command x p none;
   sources = subst (λ (r : Reading). AreSourcesGood r (texts_named command) x p) (sym whole) (none_behind command p x y first ∙ good);
 }
 
 -- a command that names no trace reads none
 pub no_trace_read : (command : Command) (p : Program) (x z : Contents) → trace_named command ≡ None → IsTraceRead command p x z
-no_trace_read command p x z untraced trace named = let e = sym untraced ∙ named in absurd (cc)
+no_trace_read command p x z untraced trace named = absurd (not_named (trace_named command) trace untraced named)
 
-pub read_at : (command : Command) (p : Program) (x y z : Contents) → how_read command ≡ Whole → (IsTrue (asks_accepted command) → IsAccepted p)
+pub read_at : (command : Command) (p : Program) (x y z : Contents) → how_read command ≡ Whole → (IsTrue (asks_accepted command) → IsAccepted p) → NamesNoCheckpoint command
     → IsReady command p x y → AreSourcesRead p y z → StaysEnded y z → IsTraceRead command p x z → IsRead command p x z
-read_at command p x y z whole accepted first read stays trace = record {
-  good = good_at command p x y whole accepted first read.good;
-  ends = ends_at command p x y z (ap is_read whole) first read.ends stays;
+read_at command p x y z whole accepted none first read stays trace = record {
+  good = good_at command p x y whole accepted none first read.good;
+  ends = λ name found apart. ends_at command p x y z (ap is_read whole) first read.ends stays name found;
   trace = trace;
+  saved = has_saved command p x z none;
 }
 
 -- the report of a job whose texts were read before its sources
@@ -217,13 +270,13 @@ WritesReport command =
     (left : Contents) (p : Program) (text : List ℕ) → text ≡ report_behind (texts_named command) left p → Writes command left p text × Says command left p []
 
 pub is_reported_behind : (command : Command) (p : Program) (report : List ℕ) (a b c : Option Contents) → how_read command ≡ Whole → (IsTrue (asks_accepted command) → IsAccepted p) → trace_named command ≡ None
-    → WritesReport command → WhereTold a b (IsReady command p) → WhereTold b c (LeavesOthers (files_of p.sources)) → WhereTold b c (IsReported p report) → WhereTold a c (IsWritten command report [])
-is_reported_behind command p report a b c whole accepted untraced writes ready others reported =
+    → NamesNoCheckpoint command → WritesReport command → WhereTold a b (IsReady command p) → WhereTold b c (LeavesOthers (files_of p.sources)) → WhereTold b c (IsReported p report) → WhereTold a c (IsWritten command report [])
+is_reported_behind command p report a b c whole accepted untraced none writes ready others reported =
     told_then (IsReady command p) (λ y z. IsReported p report y z × LeavesOthers (files_of p.sources) y z) (IsWritten command report []) a b c
     (λ x y z first second.
     let both = writes x p report (report_at command p report x y z first second.0) in
     let read = second.0.read in
-    (p, read_at command p x y z whole accepted first read (stays_ended (files_of p.sources) y z read.ends second.1) (no_trace_read command p x z untraced), both.0, both.1))
+    (p, read_at command p x y z whole accepted none first read (stays_ended (files_of p.sources) y z read.ends second.1) (no_trace_read command p x z untraced), both.0, both.1))
     ready (told_both (IsReported p report) (LeavesOthers (files_of p.sources)) b c reported others)
 
 -- ---- what refuses a job
@@ -236,26 +289,30 @@ job_refusal command job a b before now (refusals.SourceFault p fault) named is =
 job_refusal command job a b before now refusals.ReadFault named is = (job, inl named, is)
 job_refusal command job a b before now refusals.WriteFault named is = is
 job_refusal command job a b before now refusals.NoMemory named is = is
+job_refusal command job a b before now (refusals.SaveDefect defect) named is = absurd is
+job_refusal command job a b before now refusals.PutFault named is = is
 job_refusal command job a b before now (refusals.TraceFault fault) named is = absurd is
 
 pub report_refusal : (command : Command) (p : Program) (a b c : Option Contents) (k l m : List ℕ → ℕ) (refusal : Refusal) → how_read command ≡ Whole
-    → (IsTrue (asks_accepted command) → IsAccepted p) → WhereTold a b (IsReady command p) → ((n : List ℕ) → k n ≤ l n) → IsReportRefusal p b c l m refusal → IsRefusal command a c k m refusal
-report_refusal command p a b c k l m (refusals.BadWords bad) reads accepted ready rise is = is
-report_refusal command p a b c k l m (refusals.JobFault fault) reads accepted ready rise is = absurd is
-report_refusal command p a b c k l m (refusals.Conflict fault) reads accepted ready rise is = absurd is
-report_refusal command p a b c k l m (refusals.PlanDefect defect) reads accepted ready rise is = absurd is
-report_refusal command p a b c k l m (refusals.SourceFault q fault) whole accepted ready rise is =
+    → (IsTrue (asks_accepted command) → IsAccepted p) → NamesNoCheckpoint command → WhereTold a b (IsReady command p) → ((n : List ℕ) → k n ≤ l n) → IsReportRefusal p b c l m refusal → IsRefusal command a c k m refusal
+report_refusal command p a b c k l m (refusals.BadWords bad) reads accepted none ready rise is = is
+report_refusal command p a b c k l m (refusals.JobFault fault) reads accepted none ready rise is = absurd is
+report_refusal command p a b c k l m (refusals.Conflict fault) reads accepted none ready rise is = absurd is
+report_refusal command p a b c k l m (refusals.PlanDefect defect) reads accepted none ready rise is = absurd is
+report_refusal command p a b c k l m (refusals.SourceFault q fault) whole accepted none ready rise is =
     subst (λ (r : Program). HasSourceFault command a c r fault []) (sym is.program)
     record {
       asked = ap is_read whole;
       accepted = accepted;
       source = is.source;
       first = told_then (IsReady command p) (λ left _. first_fault p left ≡ Some fault)
-          (λ left _. HasJob (job_wanted command) left p × HasPlanAsked command left p × IsMet (how_read command) (texts_named command) left p [] fault) a b c
-          (λ x y z first e. (first.has, first.plan, subst (λ (r : Reading). IsMet r (texts_named command) x p [] fault) (sym whole) (none_behind command p x y first ∙ e))) ready is.first;
+          (λ left now. HasJob (job_wanted command) left p × HasPlanAsked command left p × CanStart command left p × IsMet (how_read command) command left now p [] fault) a b c
+          (λ x y z first e. (first.has, first.plan, can_start command x p none, subst (λ (r : Reading). IsMet r command x z p [] fault) (sym whole) (none_behind command p x y first ∙ e))) ready is.first;
     }
-report_refusal command p a b c k l m refusals.ReadFault whole accepted ready rise is =
-    (is.0, inr (inl (p, may_have_ready command p a b ready, accepted, source_is_read command p is.0 (ap is_read whole) is.1)), rose_behind (k is.0) (l is.0) (m is.0) (rise is.0) is.2)
-report_refusal command p a b c k l m refusals.WriteFault reads accepted ready rise is = is
-report_refusal command p a b c k l m refusals.NoMemory reads accepted ready rise is = tt
-report_refusal command p a b c k l m (refusals.TraceFault fault) reads accepted ready rise is = absurd is
+report_refusal command p a b c k l m refusals.ReadFault whole accepted none ready rise is =
+    (is.0, source_name_is_read command p a b (ap is_read whole) accepted (no_sources command p none) (start_told command p a none) ready is.0 is.1, rose_behind (k is.0) (l is.0) (m is.0) (rise is.0) is.2)
+report_refusal command p a b c k l m refusals.WriteFault reads accepted none ready rise is = is
+report_refusal command p a b c k l m refusals.NoMemory reads accepted none ready rise is = tt
+report_refusal command p a b c k l m (refusals.SaveDefect defect) reads accepted none ready rise is = absurd is
+report_refusal command p a b c k l m refusals.PutFault reads accepted none ready rise is = is
+report_refusal command p a b c k l m (refusals.TraceFault fault) reads accepted none ready rise is = absurd is

@@ -75,7 +75,7 @@ is_simulated job plan seed trace p nodes text steps a b c accepted ready found r
     told_then (λ x y. IsReady (Simulate job plan seed trace) p x y × HasNodes job plan p nodes x y) (HasRun trace p nodes seed text steps) (IsWritten (Simulate job plan seed trace) text (step_line steps)) a b c
     (λ x y z first second. (
       p,
-      read_at (Simulate job plan seed trace) p x y z refl (λ asked. accepted) first.0 second.0 (stays_ended (files_of p.sources) y z second.0.ends second.3)
+      read_at (Simulate job plan seed trace) p x y z refl (λ asked. accepted) (record { save = refl; resume = refl }) first.0 second.0 (stays_ended (files_of p.sources) y z second.0.ends second.3)
           (no_trace_read (Simulate job plan seed trace) p x z refl),
       text_at job plan seed trace p nodes text x y first.0.texts.behind first.1 second.1,
       line_at job plan seed trace p nodes steps x y first.0 first.1 second.2,

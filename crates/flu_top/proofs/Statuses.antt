@@ -1,5 +1,5 @@
 -- What an outcome says at each status.
-use Rattle.std.proofs.Common.{◌≡◌, ◌≢◌, ◌<◌, ◌≤◌, refl, sym, ◌∙◌, subst, ℕ, List, [], ◌∷◌, Bool, Option, Ok, Err, inl, inr, ◌⊎◌, arith}
+use Rattle.std.proofs.Common.{◌≡◌, ◌≢◌, ◌<◌, ◌≤◌, refl, sym, ◌∙◌, subst, ℕ, List, [], ◌∷◌, Bool, Option, None, Ok, Err, inl, inr, ◌⊎◌, arith}
 use Rattle.std.specs.Prelude.{Contains, IsTrue, ◌↔◌}
 use Rattle.std.proofs.lemmas.Bool.{false≢true}
 use Rattle.flu_model.specs.declared.jobs.Program.{Program}
@@ -7,18 +7,20 @@ use Rattle.flu_parse.specs.declared.faults.JobFault.{JobFault}
 use Rattle.flu_check.specs.declared.CheckFault.{CheckFault}
 use Rattle.flu_streams.specs.declared.faults.SourceFault.{SourceFault}
 use Rattle.flu_top.specs.declared.refusals.PlanDefect.{PlanDefect}
+use Rattle.flu_top.specs.declared.refusals.SaveDefect.{SaveDefect}
 use Rattle.flu_trace.specs.declared.faults.ReplayFault.{ReplayFault}
-use Rattle.flu_words.specs.Words.{Command, Simulate, command_in}
+use Rattle.flu_words.specs.Words.{Command, Fold, Check, Valid, Plan, Run, Simulate, Replay, Demo, command_in}
 use Rattle.flu_top.specs.Reading.{Reading, Unread, Whole, InRounds}
-use Rattle.flu_top.specs.Wants.{Saying, Nothing, Line, want, job_wanted, how_read, says_nothing, is_nothing}
-use Rattle.flu_top.specs.Done.{IsDone, WhereKnown, Wrote, WroteSome, WrotePart}
-use Rattle.flu_top.specs.Causes.{HasJobFault, HasConflict, HasPlanDefect, HasSourceFault, HasTraceFault}
+use Rattle.flu_top.specs.Wants.{Saying, Nothing, Line, want, job_wanted, how_read, save_named, says_nothing, is_nothing}
+use Rattle.flu_top.specs.Starting.{Leaves, LeavesAnything}
+use Rattle.flu_top.specs.Done.{IsDone, WhereKnown, Wrote, WroteSome, WroteUnsaved, WroteForMemory, WroteForPut, WrotePart}
+use Rattle.flu_top.specs.Causes.{HasJobFault, HasConflict, HasPlanDefect, HasSaveDefect, HasSourceFault, HasTraceFault}
 use Rattle.flu_top.specs.Names.{source_name}
 use Rattle.flu_top.specs.Simulating.{IsLineOfRun, IsStepLine}
 use Rattle.flu_top.specs.Behind.{Named, HasJob}
 use Rattle.flu_outside.specs.Outside.{Contents, WhereTold}
 use Rattle.flu_lemmas.proofs.Told.{told_weaker}
-use Rattle.flu_top.specs.Lines.{bad_words_line, job_fault_line, conflict_line, plan_defect_line, source_fault_line, read_fault_line, write_fault_line, no_memory_line, trace_fault_line}
+use Rattle.flu_top.specs.Lines.{bad_words_line, job_fault_line, conflict_line, plan_defect_line, source_fault_line, read_fault_line, write_fault_line, no_memory_line, save_defect_line, put_fault_line, trace_fault_line}
 use Rattle.flu_top.specs.Outcome.{Outside, Said, Hears, Refused, Outcome}
 use Rattle.flu_top.specs.Outcome as cases
 
@@ -33,6 +35,8 @@ at_0 words old new status (cases.BadSource is command word p fault text has wrot
 at_0 words old new status (cases.ReadFailed is command word some said) e = absurd (omega (arith, is, e))
 at_0 words old new status (cases.WriteFailed is command word partly said) e = absurd (omega (arith, is, e))
 at_0 words old new status (cases.NoMemory is command word some said) e = absurd (omega (arith, is, e))
+at_0 words old new status (cases.BadSave is command word defect has refused) e = absurd (omega (arith, is, e))
+at_0 words old new status (cases.PutFailed is command word some said) e = absurd (omega (arith, is, e))
 at_0 words old new status (cases.BadTrace is command word fault has refused) e = absurd (omega (arith, is, e))
 
 pub at_2 : (words : List (List ℕ)) (old new : Outside) (status : ℕ) → Outcome words old new status → status ≡ 2 → (at : ℕ) × (command_in words ≡ Err at) × (new.left ≡ old.left) × Refused old new (bad_words_line at)
@@ -45,6 +49,8 @@ at_2 words old new status (cases.BadSource is command word p fault text has wrot
 at_2 words old new status (cases.ReadFailed is command word some said) e = absurd (omega (arith, is, e))
 at_2 words old new status (cases.WriteFailed is command word partly said) e = absurd (omega (arith, is, e))
 at_2 words old new status (cases.NoMemory is command word some said) e = absurd (omega (arith, is, e))
+at_2 words old new status (cases.BadSave is command word defect has refused) e = absurd (omega (arith, is, e))
+at_2 words old new status (cases.PutFailed is command word some said) e = absurd (omega (arith, is, e))
 at_2 words old new status (cases.BadTrace is command word fault has refused) e = absurd (omega (arith, is, e))
 
 pub at_3 : (words : List (List ℕ)) (old new : Outside) (status : ℕ) → Outcome words old new status → status ≡ 3 → (command : Command) × (fault : JobFault) × (command_in words ≡ Ok command) × HasJobFault (job_wanted command) old.left new.left fault × Refused old new (job_fault_line fault)
@@ -57,6 +63,8 @@ at_3 words old new status (cases.BadSource is command word p fault text has wrot
 at_3 words old new status (cases.ReadFailed is command word some said) e = absurd (omega (arith, is, e))
 at_3 words old new status (cases.WriteFailed is command word partly said) e = absurd (omega (arith, is, e))
 at_3 words old new status (cases.NoMemory is command word some said) e = absurd (omega (arith, is, e))
+at_3 words old new status (cases.BadSave is command word defect has refused) e = absurd (omega (arith, is, e))
+at_3 words old new status (cases.PutFailed is command word some said) e = absurd (omega (arith, is, e))
 at_3 words old new status (cases.BadTrace is command word fault has refused) e = absurd (omega (arith, is, e))
 
 pub at_4 : (words : List (List ℕ)) (old new : Outside) (status : ℕ) → Outcome words old new status → status ≡ 4 → (command : Command) × (fault : CheckFault) × (command_in words ≡ Ok command) × HasConflict command old.left new.left fault × Refused old new (conflict_line fault)
@@ -69,6 +77,8 @@ at_4 words old new status (cases.BadSource is command word p fault text has wrot
 at_4 words old new status (cases.ReadFailed is command word some said) e = absurd (omega (arith, is, e))
 at_4 words old new status (cases.WriteFailed is command word partly said) e = absurd (omega (arith, is, e))
 at_4 words old new status (cases.NoMemory is command word some said) e = absurd (omega (arith, is, e))
+at_4 words old new status (cases.BadSave is command word defect has refused) e = absurd (omega (arith, is, e))
+at_4 words old new status (cases.PutFailed is command word some said) e = absurd (omega (arith, is, e))
 at_4 words old new status (cases.BadTrace is command word fault has refused) e = absurd (omega (arith, is, e))
 
 pub at_5 : (words : List (List ℕ)) (old new : Outside) (status : ℕ) → Outcome words old new status → status ≡ 5 → (command : Command) × (defect : PlanDefect) × (command_in words ≡ Ok command) × HasPlanDefect command old.left new.left defect × Refused old new (plan_defect_line defect)
@@ -81,6 +91,8 @@ at_5 words old new status (cases.BadSource is command word p fault text has wrot
 at_5 words old new status (cases.ReadFailed is command word some said) e = absurd (omega (arith, is, e))
 at_5 words old new status (cases.WriteFailed is command word partly said) e = absurd (omega (arith, is, e))
 at_5 words old new status (cases.NoMemory is command word some said) e = absurd (omega (arith, is, e))
+at_5 words old new status (cases.BadSave is command word defect has refused) e = absurd (omega (arith, is, e))
+at_5 words old new status (cases.PutFailed is command word some said) e = absurd (omega (arith, is, e))
 at_5 words old new status (cases.BadTrace is command word fault has refused) e = absurd (omega (arith, is, e))
 
 pub at_6 : (words : List (List ℕ)) (old new : Outside) (status : ℕ) → Outcome words old new status → status ≡ 6 → (command : Command) × (p : Program) × (fault : SourceFault) × (text : List ℕ) × (command_in words ≡ Ok command) × HasSourceFault command old.left new.left p fault text × Wrote (how_read command) text old.out new.out × Said old new (source_fault_line (source_name p fault.source) fault.row fault.why)
@@ -93,6 +105,8 @@ at_6 words old new status (cases.BadSource is command word p fault text has wrot
 at_6 words old new status (cases.ReadFailed is command word some said) e = absurd (omega (arith, is, e))
 at_6 words old new status (cases.WriteFailed is command word partly said) e = absurd (omega (arith, is, e))
 at_6 words old new status (cases.NoMemory is command word some said) e = absurd (omega (arith, is, e))
+at_6 words old new status (cases.BadSave is command word defect has refused) e = absurd (omega (arith, is, e))
+at_6 words old new status (cases.PutFailed is command word some said) e = absurd (omega (arith, is, e))
 at_6 words old new status (cases.BadTrace is command word fault has refused) e = absurd (omega (arith, is, e))
 
 pub at_7 : (words : List (List ℕ)) (old new : Outside) (status : ℕ) → Outcome words old new status → status ≡ 7 → (command : Command) × (command_in words ≡ Ok command) × WroteSome (how_read command) command old.left new.left old.out new.out × Said old new read_fault_line
@@ -105,6 +119,8 @@ at_7 words old new status (cases.BadSource is command word p fault text has wrot
 at_7 words old new status (cases.ReadFailed is command word some said) e = (command, word, some, said)
 at_7 words old new status (cases.WriteFailed is command word partly said) e = absurd (omega (arith, is, e))
 at_7 words old new status (cases.NoMemory is command word some said) e = absurd (omega (arith, is, e))
+at_7 words old new status (cases.BadSave is command word defect has refused) e = absurd (omega (arith, is, e))
+at_7 words old new status (cases.PutFailed is command word some said) e = absurd (omega (arith, is, e))
 at_7 words old new status (cases.BadTrace is command word fault has refused) e = absurd (omega (arith, is, e))
 
 pub at_8 : (words : List (List ℕ)) (old new : Outside) (status : ℕ) → Outcome words old new status → status ≡ 8 → (command : Command) × (command_in words ≡ Ok command) × WrotePart (how_read command) command old.left new.left old.out new.out × Said old new write_fault_line
@@ -117,9 +133,11 @@ at_8 words old new status (cases.BadSource is command word p fault text has wrot
 at_8 words old new status (cases.ReadFailed is command word some said) e = absurd (omega (arith, is, e))
 at_8 words old new status (cases.WriteFailed is command word partly said) e = (command, word, partly, said)
 at_8 words old new status (cases.NoMemory is command word some said) e = absurd (omega (arith, is, e))
+at_8 words old new status (cases.BadSave is command word defect has refused) e = absurd (omega (arith, is, e))
+at_8 words old new status (cases.PutFailed is command word some said) e = absurd (omega (arith, is, e))
 at_8 words old new status (cases.BadTrace is command word fault has refused) e = absurd (omega (arith, is, e))
 
-pub at_9 : (words : List (List ℕ)) (old new : Outside) (status : ℕ) → Outcome words old new status → status ≡ 9 → (command : Command) × (command_in words ≡ Ok command) × WroteSome (how_read command) command old.left new.left old.out new.out × Said old new no_memory_line
+pub at_9 : (words : List (List ℕ)) (old new : Outside) (status : ℕ) → Outcome words old new status → status ≡ 9 → (command : Command) × (command_in words ≡ Ok command) × WroteForMemory (how_read command) command old.left new.left old.out new.out × Said old new no_memory_line
 at_9 words old new status (cases.Done is command word line done heard) e = absurd (omega (arith, is, e))
 at_9 words old new status (cases.BadWords is at word files refused) e = absurd (omega (arith, is, e))
 at_9 words old new status (cases.BadJob is command word fault has refused) e = absurd (omega (arith, is, e))
@@ -129,7 +147,37 @@ at_9 words old new status (cases.BadSource is command word p fault text has wrot
 at_9 words old new status (cases.ReadFailed is command word some said) e = absurd (omega (arith, is, e))
 at_9 words old new status (cases.WriteFailed is command word partly said) e = absurd (omega (arith, is, e))
 at_9 words old new status (cases.NoMemory is command word some said) e = (command, word, some, said)
+at_9 words old new status (cases.BadSave is command word defect has refused) e = absurd (omega (arith, is, e))
+at_9 words old new status (cases.PutFailed is command word some said) e = absurd (omega (arith, is, e))
 at_9 words old new status (cases.BadTrace is command word fault has refused) e = absurd (omega (arith, is, e))
+
+pub at_11 : (words : List (List ℕ)) (old new : Outside) (status : ℕ) → Outcome words old new status → status ≡ 11 → (command : Command) × (defect : SaveDefect) × (command_in words ≡ Ok command) × HasSaveDefect command old.left new.left defect × Refused old new (save_defect_line defect)
+at_11 words old new status (cases.Done is command word line done heard) e = absurd (omega (arith, is, e))
+at_11 words old new status (cases.BadWords is at word files refused) e = absurd (omega (arith, is, e))
+at_11 words old new status (cases.BadJob is command word fault has refused) e = absurd (omega (arith, is, e))
+at_11 words old new status (cases.Conflicts is command word fault has refused) e = absurd (omega (arith, is, e))
+at_11 words old new status (cases.BadPlan is command word defect has refused) e = absurd (omega (arith, is, e))
+at_11 words old new status (cases.BadSource is command word p fault text has wrote said) e = absurd (omega (arith, is, e))
+at_11 words old new status (cases.ReadFailed is command word some said) e = absurd (omega (arith, is, e))
+at_11 words old new status (cases.WriteFailed is command word partly said) e = absurd (omega (arith, is, e))
+at_11 words old new status (cases.NoMemory is command word some said) e = absurd (omega (arith, is, e))
+at_11 words old new status (cases.BadSave is command word defect has refused) e = (command, defect, word, has, refused)
+at_11 words old new status (cases.PutFailed is command word some said) e = absurd (omega (arith, is, e))
+at_11 words old new status (cases.BadTrace is command word fault has refused) e = absurd (omega (arith, is, e))
+
+pub at_12 : (words : List (List ℕ)) (old new : Outside) (status : ℕ) → Outcome words old new status → status ≡ 12 → (command : Command) × (command_in words ≡ Ok command) × WroteForPut command old.left new.left old.out new.out × Said old new put_fault_line
+at_12 words old new status (cases.Done is command word line done heard) e = absurd (omega (arith, is, e))
+at_12 words old new status (cases.BadWords is at word files refused) e = absurd (omega (arith, is, e))
+at_12 words old new status (cases.BadJob is command word fault has refused) e = absurd (omega (arith, is, e))
+at_12 words old new status (cases.Conflicts is command word fault has refused) e = absurd (omega (arith, is, e))
+at_12 words old new status (cases.BadPlan is command word defect has refused) e = absurd (omega (arith, is, e))
+at_12 words old new status (cases.BadSource is command word p fault text has wrote said) e = absurd (omega (arith, is, e))
+at_12 words old new status (cases.ReadFailed is command word some said) e = absurd (omega (arith, is, e))
+at_12 words old new status (cases.WriteFailed is command word partly said) e = absurd (omega (arith, is, e))
+at_12 words old new status (cases.NoMemory is command word some said) e = absurd (omega (arith, is, e))
+at_12 words old new status (cases.BadSave is command word defect has refused) e = absurd (omega (arith, is, e))
+at_12 words old new status (cases.PutFailed is command word some said) e = (command, word, some, said)
+at_12 words old new status (cases.BadTrace is command word fault has refused) e = absurd (omega (arith, is, e))
 
 pub at_13 : (words : List (List ℕ)) (old new : Outside) (status : ℕ) → Outcome words old new status → status ≡ 13 → (command : Command) × (fault : ReplayFault) × (command_in words ≡ Ok command) × HasTraceFault command old.left new.left fault × Refused old new (trace_fault_line fault)
 at_13 words old new status (cases.Done is command word line done heard) e = absurd (omega (arith, is, e))
@@ -141,10 +189,12 @@ at_13 words old new status (cases.BadSource is command word p fault text has wro
 at_13 words old new status (cases.ReadFailed is command word some said) e = absurd (omega (arith, is, e))
 at_13 words old new status (cases.WriteFailed is command word partly said) e = absurd (omega (arith, is, e))
 at_13 words old new status (cases.NoMemory is command word some said) e = absurd (omega (arith, is, e))
+at_13 words old new status (cases.BadSave is command word defect has refused) e = absurd (omega (arith, is, e))
+at_13 words old new status (cases.PutFailed is command word some said) e = absurd (omega (arith, is, e))
 at_13 words old new status (cases.BadTrace is command word fault has refused) e = (command, fault, word, has, refused)
 
 -- ---- what holds at more than one status
-pub known_status : (words : List (List ℕ)) (old new : Outside) (status : ℕ) → Outcome words old new status → Contains (0 ∷ 2 ∷ 3 ∷ 4 ∷ 5 ∷ 6 ∷ 7 ∷ 8 ∷ 9 ∷ 13 ∷ []) status
+pub known_status : (words : List (List ℕ)) (old new : Outside) (status : ℕ) → Outcome words old new status → Contains (0 ∷ 2 ∷ 3 ∷ 4 ∷ 5 ∷ 6 ∷ 7 ∷ 8 ∷ 9 ∷ 11 ∷ 12 ∷ 13 ∷ []) status
 known_status words old new status (cases.Done is command word line done heard) = (0, omega arith, sym is)
 known_status words old new status (cases.BadWords is at word files refused) = (1, omega arith, sym is)
 known_status words old new status (cases.BadJob is command word fault has refused) = (2, omega arith, sym is)
@@ -154,7 +204,9 @@ known_status words old new status (cases.BadSource is command word p fault text 
 known_status words old new status (cases.ReadFailed is command word some said) = (6, omega arith, sym is)
 known_status words old new status (cases.WriteFailed is command word partly said) = (7, omega arith, sym is)
 known_status words old new status (cases.NoMemory is command word some said) = (8, omega arith, sym is)
-known_status words old new status (cases.BadTrace is command word fault has refused) = (9, omega arith, sym is)
+known_status words old new status (cases.BadSave is command word defect has refused) = (9, omega arith, sym is)
+known_status words old new status (cases.PutFailed is command word some said) = (10, omega arith, sym is)
+known_status words old new status (cases.BadTrace is command word fault has refused) = (11, omega arith, sym is)
 
 -- where nothing is read in rounds nothing was written
 wrote_unread : (reading : Reading) (text : List ℕ) (had has : Option (List ℕ)) → reading ≢ InRounds → Wrote reading text had has → has ≡ had
@@ -167,6 +219,24 @@ some_unread Unread command a b had has other some = some
 some_unread Whole command a b had has other some = some
 some_unread InRounds command a b had has other some = absurd (other refl)
 
+-- and nothing is saved by a command that does not read in rounds
+saves_nothing : (command : Command) → how_read command ≢ InRounds → save_named command ≡ None
+saves_nothing (Fold job) other = refl
+saves_nothing (Check job) other = refl
+saves_nothing (Valid job plan) other = refl
+saves_nothing (Plan job depth) other = refl
+saves_nothing (Run job plan options) other = absurd (other refl)
+saves_nothing (Simulate job plan seed trace) other = refl
+saves_nothing (Replay job plan trace) other = refl
+saves_nothing (Demo n seed) other = refl
+
+unsaved_in_rounds : (Left : Option (List ℕ) → Contents → Contents → Type 0) (command : Command) (a b : Option Contents) (had has : Option (List ℕ)) → how_read command ≢ InRounds → WroteUnsaved Left command a b had has → ⊥
+unsaved_in_rounds Left command a b had has other wrote = wrote.saves (saves_nothing command other)
+
+memory_unread : (command : Command) (a b : Option Contents) (had has : Option (List ℕ)) → how_read command ≢ InRounds → WroteForMemory (how_read command) command a b had has → has ≡ had
+memory_unread command a b had has other (inl some) = some_unread (how_read command) command a b had has other some
+memory_unread command a b had has other (inr wrote) = absurd (unsaved_in_rounds (Leaves command) command a b had has other wrote)
+
 pub nothing_written : (words : List (List ℕ)) (old new : Outside) (status : ℕ) → Outcome words old new status → status ≢ 0 → status ≢ 8
     → ((command : Command) → command_in words ≡ Ok command → how_read command ≢ InRounds) → new.out ≡ old.out
 nothing_written words old new status (cases.Done is command word line done heard) done' other apart = absurd (done' is)
@@ -177,24 +247,30 @@ nothing_written words old new status (cases.BadPlan is command word defect has r
 nothing_written words old new status (cases.BadSource is command word p fault text has wrote said) done' other apart = wrote_unread (how_read command) text old.out new.out (apart command word) wrote
 nothing_written words old new status (cases.ReadFailed is command word some said) done' other apart = some_unread (how_read command) command old.left new.left old.out new.out (apart command word) some
 nothing_written words old new status (cases.WriteFailed is command word partly said) done' other apart = absurd (other is)
-nothing_written words old new status (cases.NoMemory is command word some said) done' other apart = some_unread (how_read command) command old.left new.left old.out new.out (apart command word) some
+nothing_written words old new status (cases.NoMemory is command word some said) done' other apart = memory_unread command old.left new.left old.out new.out (apart command word) some
+nothing_written words old new status (cases.BadSave is command word defect has refused) done' other apart = refused.nothing
+nothing_written words old new status (cases.PutFailed is command word some said) done' other apart = absurd (unsaved_in_rounds LeavesAnything command old.left new.left old.out new.out (apart command word) some)
 nothing_written words old new status (cases.BadTrace is command word fault has refused) done' other apart = refused.nothing
 
--- a status below 6, or 13, is none between them
-none_between : (n status : ℕ) → 6 ≤ n → n < 13 → status ≡ n → (status < 6) ⊎ (status ≡ 13) → ⊥
-none_between n status least most is (inl low) = omega (arith, least, is, low)
-none_between n status least most is (inr last) = omega (arith, most, is, last)
+-- a status below 6, or 11, or 13, is none of the others
+none_of_those : (n status : ℕ) → 6 ≤ n → n ≢ 11 → n ≢ 13 → status ≡ n → (status < 6) ⊎ ((status ≡ 11) ⊎ (status ≡ 13)) → ⊥
+none_of_those n status least start trace is (inl low) = omega (arith, least, is, low)
+none_of_those n status least start trace is (inr (inl eleven)) = start (sym is ∙ eleven)
+none_of_those n status least start trace is (inr (inr thirteen)) = trace (sym is ∙ thirteen)
 
-pub refused_unwritten : (words : List (List ℕ)) (old new : Outside) (status : ℕ) → Outcome words old new status → status ≢ 0 → (status < 6) ⊎ (status ≡ 13) → new.out ≡ old.out
+pub refused_unwritten : (words : List (List ℕ)) (old new : Outside) (status : ℕ) → Outcome words old new status → status ≢ 0
+    → (status < 6) ⊎ ((status ≡ 11) ⊎ (status ≡ 13)) → new.out ≡ old.out
 refused_unwritten words old new status (cases.Done is command word line done heard) done' low = absurd (done' is)
 refused_unwritten words old new status (cases.BadWords is at word files refused) done' low = refused.nothing
 refused_unwritten words old new status (cases.BadJob is command word fault has refused) done' low = refused.nothing
 refused_unwritten words old new status (cases.Conflicts is command word fault has refused) done' low = refused.nothing
 refused_unwritten words old new status (cases.BadPlan is command word defect has refused) done' low = refused.nothing
-refused_unwritten words old new status (cases.BadSource is command word p fault text has wrote said) done' low = absurd (none_between 6 status (omega arith) (omega arith) is low)
-refused_unwritten words old new status (cases.ReadFailed is command word some said) done' low = absurd (none_between 7 status (omega arith) (omega arith) is low)
-refused_unwritten words old new status (cases.WriteFailed is command word partly said) done' low = absurd (none_between 8 status (omega arith) (omega arith) is low)
-refused_unwritten words old new status (cases.NoMemory is command word some said) done' low = absurd (none_between 9 status (omega arith) (omega arith) is low)
+refused_unwritten words old new status (cases.BadSource is command word p fault text has wrote said) done' low = absurd (none_of_those 6 status (omega arith) (λ e. omega (arith, e)) (λ e. omega (arith, e)) is low)
+refused_unwritten words old new status (cases.ReadFailed is command word some said) done' low = absurd (none_of_those 7 status (omega arith) (λ e. omega (arith, e)) (λ e. omega (arith, e)) is low)
+refused_unwritten words old new status (cases.WriteFailed is command word partly said) done' low = absurd (none_of_those 8 status (omega arith) (λ e. omega (arith, e)) (λ e. omega (arith, e)) is low)
+refused_unwritten words old new status (cases.NoMemory is command word some said) done' low = absurd (none_of_those 9 status (omega arith) (λ e. omega (arith, e)) (λ e. omega (arith, e)) is low)
+refused_unwritten words old new status (cases.BadSave is command word defect has refused) done' low = refused.nothing
+refused_unwritten words old new status (cases.PutFailed is command word some said) done' low = absurd (none_of_those 12 status (omega arith) (λ e. omega (arith, e)) (λ e. omega (arith, e)) is low)
 refused_unwritten words old new status (cases.BadTrace is command word fault has refused) done' low = refused.nothing
 
 -- words that are no command have status 2, and no others
@@ -214,6 +290,8 @@ of_no_command words old new status (cases.BadSource is command word p fault text
 of_no_command words old new status (cases.ReadFailed is command word some said) place bad = absurd (no_command words command place word bad)
 of_no_command words old new status (cases.WriteFailed is command word partly said) place bad = absurd (no_command words command place word bad)
 of_no_command words old new status (cases.NoMemory is command word some said) place bad = absurd (no_command words command place word bad)
+of_no_command words old new status (cases.BadSave is command word defect has refused) place bad = absurd (no_command words command place word bad)
+of_no_command words old new status (cases.PutFailed is command word some said) place bad = absurd (no_command words command place word bad)
 of_no_command words old new status (cases.BadTrace is command word fault has refused) place bad = absurd (no_command words command place word bad)
 
 pub bad_words_exactly : (words : List (List ℕ)) (old new : Outside) (status : ℕ) → Outcome words old new status → (status ≡ 2) ↔ ((at : ℕ) × (command_in words ≡ Err at))

@@ -24,7 +24,7 @@ use Rattle.flu_top.specs.Causes.{IsJobRead, HasInvalidPlan}
 use Rattle.flu_top.specs.Ready.{HasNodes, IsReady}
 use Rattle.flu_top.specs.Plans.{IsPlanRead, IsTextRefusal, IsValidRefusal}
 use Rattle.flu_top.specs.Refusing.{IsRefusal}
-use Rattle.flu_top.proofs.Sequence.{may_have, emptied_is, one_text, two_texts}
+use Rattle.flu_top.proofs.Sequence.{may_have, emptied_is, one_text, two_texts, can_start, has_saved}
 
 -- ---- the plan behind the job
 plan_at : (job plan : List ℕ) (p : Program) (x y : Contents) → IsJobRead job p x y × TakesFrom job x y → plan_behind (Named job) plan x ≡ bytes_left y plan
@@ -65,9 +65,10 @@ validated_at : (job plan : List ℕ) (p : Program) (nodes : List Node) (text : L
 validated_at job plan p nodes text x z accepted is both = (
   p,
   record {
-    good = record { has = both.0.has; accepted = λ asked. accepted; plan = both.0.plan; sources = tt };
-    ends = both.0.texts.ends;
+    good = record { has = both.0.has; accepted = λ asked. accepted; plan = both.0.plan; start = can_start (Valid job plan) x p (record { save = refl; resume = refl }); sources = tt };
+    ends = λ name found apart. both.0.texts.ends name found;
     trace = λ trace named. absurd (cc);
+    saved = has_saved (Valid job plan) p x z (record { save = refl; resume = refl });
   },
   record { nodes = nodes; has = both.1; is = is },
   refl,
@@ -79,11 +80,16 @@ is_validated job plan p nodes text a c accepted ready found is =
     told_weaker (λ x z. IsReady (Valid job plan) p x z × HasNodes job plan p nodes x z) (IsWritten (Valid job plan) text []) a c
     (λ x z both. validated_at job plan p nodes text x z accepted is both) (told_both (IsReady (Valid job plan) p) (HasNodes job plan p nodes) a c ready found)
 
+-- the plan's name is one that is read
+plan_name : (job plan : List ℕ) (p : Program) (a b : Option Contents) → WhereTold a b (IsJobRead job p) → IsAccepted p → IsReadName a (Valid job plan) plan
+plan_name job plan p a b read accepted = inr (inl (record { p = p; job = record { has = may_have job p a b read; accepted = λ asked. accepted }; named = refl }))
+
 pub only_with_plan : (job plan : List ℕ) (p : Program) (a b c : Option Contents) → WhereTold a b (IsJobRead job p) → WhereTold a b (TakesFrom job) → IsAccepted p → WhereTold b c (TakesFrom plan) → WhereTold a c (TookOnly (IsReadName a (Valid job plan)))
 only_with_plan job plan p a b c read taken accepted also =
-    let may = may_have job p a b read in
     told_then (TakesFrom job) (TakesFrom plan) (TookOnly (IsReadName a (Valid job plan))) a b c
-    (λ x y z took more name unread. more.others name (λ same. unread (inr (inl (p, may, λ asked. accepted, (0, omega arith, sym same))))) ∙ took.others name (λ same. unread (inl (ap Named (sym same))))) taken also
+    (λ x y z took more name unread.
+    more.others name (λ same. unread (subst (IsReadName a (Valid job plan)) (sym same) (plan_name job plan p a b read accepted)))
+    ∙ took.others name (λ same. unread (inl (ap Named (sym same))))) taken also
 
 -- ---- what refuses a plan
 pub text_refusal : (job plan : List ℕ) (p : Program) (a b c : Option Contents) (k l m : List ℕ → ℕ) (refusal : Refusal) → WhereTold a b (IsJobRead job p) → WhereTold a b (TakesFrom job) → ((n : List ℕ) → k n ≤ l n) → IsAccepted p → IsTextRefusal p plan b c l m refusal → IsRefusal (Valid job plan) a c k m refusal
@@ -102,9 +108,11 @@ text_refusal job plan p a b c k l m (refusals.PlanDefect (defects.Text fault)) r
 text_refusal job plan p a b c k l m (refusals.PlanDefect (defects.Invalid checked fault)) read taken rise accepted is = absurd is
 text_refusal job plan p a b c k l m (refusals.SourceFault q fault) read taken rise accepted is = absurd is
 text_refusal job plan p a b c k l m refusals.ReadFault read taken rise accepted is =
-    (plan, inr (inl (p, may_have job p a b read, λ asked. accepted, (0, omega arith, refl))), rose_behind (k plan) (l plan) (m plan) (rise plan) is)
+    (plan, plan_name job plan p a b read accepted, rose_behind (k plan) (l plan) (m plan) (rise plan) is)
 text_refusal job plan p a b c k l m refusals.WriteFault read taken rise accepted is = is
 text_refusal job plan p a b c k l m refusals.NoMemory read taken rise accepted is = tt
+text_refusal job plan p a b c k l m (refusals.SaveDefect defect) read taken rise accepted is = absurd is
+text_refusal job plan p a b c k l m refusals.PutFault read taken rise accepted is = is
 text_refusal job plan p a b c k l m (refusals.TraceFault fault) read taken rise accepted is = absurd is
 
 pub valid_refusal : (job plan : List ℕ) (checked : Checked) (nodes : List Node) (a b c : Option Contents) (k m : List ℕ → ℕ) (refusal : Refusal) → WhereTold a b (IsJobRead job (program_of checked)) → WhereTold a b (TakesFrom job) → IsAccepted (program_of checked) → WhereTold b c (IsPlanRead (program_of checked) plan nodes) → IsValidRefusal checked nodes refusal → IsRefusal (Valid job plan) a c k m refusal
@@ -127,4 +135,6 @@ valid_refusal job plan checked nodes a b c k m (refusals.SourceFault q fault) re
 valid_refusal job plan checked nodes a b c k m refusals.ReadFault read taken accepted found is = absurd is
 valid_refusal job plan checked nodes a b c k m refusals.WriteFault read taken accepted found is = is
 valid_refusal job plan checked nodes a b c k m refusals.NoMemory read taken accepted found is = tt
+valid_refusal job plan checked nodes a b c k m (refusals.SaveDefect defect) read taken accepted found is = absurd is
+valid_refusal job plan checked nodes a b c k m refusals.PutFault read taken accepted found is = is
 valid_refusal job plan checked nodes a b c k m (refusals.TraceFault fault) read taken accepted found is = absurd is

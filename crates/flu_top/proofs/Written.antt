@@ -94,8 +94,12 @@ joined_6 a b c d e f g = simp append_assoc
 abbrev pub place_pieces : List ℕ → List ℕ → List ℕ → List ℕ
 place_pieces head fault digits = head ++ (fault ++ (digits ++ codes "\n"))
 
+-- and that of a fault at a place which has a name
+pub named_place_line : (head fault bytes name : List ℕ) → bytes ≡ name → place_pieces head fault bytes ≡ fault_line head (fault ++ name)
+named_place_line head fault bytes name is = ap (place_pieces head fault) is ∙ joined_3 head fault name (codes "\n")
+
 pub place_line : (head fault digits : List ℕ) (place : ℕ) → digits ≡ decimal place → place_pieces head fault digits ≡ fault_line head (fault ++ decimal place)
-place_line head fault digits place is = ap (place_pieces head fault) is ∙ joined_3 head fault (decimal place) (codes "\n")
+place_line head fault digits place is = named_place_line head fault digits (decimal place) is
 
 -- the line of a limit that a text passes
 abbrev pub limit_pieces : List ℕ → List ℕ → List ℕ → List ℕ

@@ -1,6 +1,6 @@
 -- What refuses a command, in order: a fault of its job's text, a conflict of that job, a defect of its plan, what keeps a run from its
 -- start, a defect of a source, a fault of its trace.
-use Rattle.std.specs.Prelude.{◌≡◌, ◌≢◌, ◌<◌, ℕ, List, [], length, Option, Some, IsTrue}
+use Rattle.std.specs.Prelude.{◌≡◌, ◌≢◌, ◌<◌, ℕ, List, [], length, Option, Some, ◌⊎◌, IsTrue}
 use Rattle.flu_outside.specs.Outside.{Contents, WhereTold}
 use Rattle.flu_model.specs.declared.jobs.Program.{Program}
 use Rattle.flu_model.specs.declared.plans.Node.{Node}
@@ -28,7 +28,7 @@ use Rattle.flu_top.specs.Behind.{WantedJob, Named, HasJob, HasPlan, fault_behind
 use Rattle.flu_top.specs.Openings.{Opening}
 use Rattle.flu_top.specs.TextFaults.{IsFirstJobFault, IsFirstTextFault}
 use Rattle.flu_top.specs.Reading.{Reading, Unread, Whole, InRounds, MeetsDefect, lines_behind}
-use Rattle.flu_top.specs.Wants.{job_wanted, plan_named, trace_named, asks_accepted, how_read, reads_sources, texts_named}
+use Rattle.flu_top.specs.Wants.{job_wanted, plan_named, save_named, resume_named, trace_named, asks_accepted, how_read, reads_sources, texts_named}
 use Rattle.flu_top.specs.Replaying.{ReplaysTo}
 use Rattle.flu_top.specs.Starting.{StartsFrom, CanStart, IsSameName, HasBadCheckpoint, Leaves}
 use Rattle.flu_top.specs.Done.{HasPlanAsked, IsGood}
@@ -91,8 +91,11 @@ HasPlanDefect command old new (defects.Text fault) = HasPlanFault command old ne
 HasPlanDefect command old new (defects.Invalid checked fault) = HasInvalidPlan command old new (program_of checked) fault.plan.nodes fault.why
 
 -- ---- the start
--- the command's job is this program, which is accepted, a plan that it names is valid for it, and this is true of them
+-- the command names what it saves to or is resumed from, its job is this program, which is accepted, a plan that it names is valid for
+-- it, and this is true of them
 pub record HasStartDefect (command : Command) (old new : Option Contents) (p : Program) (Is : Contents → Type 0) : Type 0 where
+  pub name : List ℕ
+  pub named : (save_named command ≡ Some name) ⊎ (resume_named command ≡ Some name)
   pub accepted : IsTrue (asks_accepted command) → IsAccepted p
   pub first : WhereTold old new (λ left _. HasJob (job_wanted command) left p × HasPlanAsked command left p × Is left)
 

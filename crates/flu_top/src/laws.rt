@@ -4,8 +4,9 @@
 ghost use Rattle.flu_top.specs.Laws.{KnownStatuses, DoneIsDone, DoneIsQuiet, SimulationIsHeard, DemoReadsNothing, DemoStatuses, DemoIsDone, BadWordsExactly, BadWordsLine, BadWordsTouchNothing, JobFaultIsFirst, ConflictIsFirst, PlanDefectIsFirst, SaveDefectIsFirst, SourceFaultIsFirst, TraceFaultIsFirst, ReadFaultRose, ReadFaultLine, WriteFaultRose, WriteFaultIsPart, WriteFaultLine, PutFaultRose, PutFaultIsBehindARound, NoMemoryLine, NothingIsWritten, RefusalsWriteNothing, SomeIsWritten, SomeIsWrittenForMemory, RunsWriteFronts, FreshRunsReportTheFold, ResumedRunsGoOn, FrontsAreTaken, NoOtherIsRead, GoodIsDone, JobFaultIsRefused, ConflictIsRefused, PlanDefectIsRefused, SaveDefectIsRefused, SourceFaultIsRefused, TraceFaultIsRefused, CompletesByFaults, CallsForOneStatus};
 
 use flu_grammar::laws::{jobs_are_grammar, plans_are_grammar};
-use flu_save::{checkpoints_have_one_meaning, faults_are_no_checkpoints};
-use flu_streams::{borders_cut_a_fold, last_round_has_all_rows, rounds_meet_what_is_there};
+use flu_rounds::fronts_of_reports;
+use flu_save::faults_are_no_checkpoints;
+use flu_streams::{borders_cut_a_fold, rounds_meet_what_is_there};
 
 /// The statuses, and which of them write to out: 0 and 8; and 6, 7, 9 and 12 of a command that reads in rounds, which may leave there
 /// what the rounds up to some one wrote.
@@ -74,10 +75,8 @@ pub fn of_runs()
     ensures resumed { ResumedRunsGoOn }
 {
     borders_cut_a_fold();
+    fronts_of_reports();
     jobs_are_grammar();
-    plans_are_grammar();
-    last_round_has_all_rows();
-    rounds_meet_what_is_there();
 }
 
 /// Bytes are taken from the front of names, and of no name that the call does not read, but for one that it puts.
@@ -111,7 +110,7 @@ pub fn completes_by_faults()
 pub fn calls_for_one_status()
     ensures { CallsForOneStatus }
 {
-    checkpoints_have_one_meaning();
+    faults_are_no_checkpoints();
     jobs_are_grammar();
     plans_are_grammar();
     rounds_meet_what_is_there();

@@ -14,6 +14,7 @@ use crate::products::DrawnSteps;
 use crate::refusals::{Refusal, status};
 use flu_grammar::laws::{jobs_are_grammar, plans_are_grammar};
 use flu_outside::{Files, Sink};
+use flu_save::faults_are_no_checkpoints;
 use flu_seq::Gate;
 use flu_streams::rounds_meet_what_is_there;
 use flu_words::read_words;
@@ -74,6 +75,7 @@ pub fn flumina<F: Files, K: Sink, E: Sink, G: Gate, R: Threads + Wait + Sync>(
     ensures completes { Completes (map string_bytes words.now) (F.left files.old)
         (faults (F.faults files.old) (F.put_faults files.old) (K.faults out.old)) (faults (F.faults files.new) (F.put_faults files.new) (K.faults out.new)) result }
 {
+    faults_are_no_checkpoints();
     jobs_are_grammar();
     plans_are_grammar();
     rounds_meet_what_is_there();

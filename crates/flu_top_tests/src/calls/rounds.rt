@@ -14,7 +14,7 @@ use std::thread::Threads;
 const ROWS: u64 = 5000;
 
 /// The report of the first round, whose border is the time of the first source's 4,096th row.
-const FIRST: &str = "4000,read,count 4000\n";
+pub const FIRST: &str = "4000,read,count 4000\n";
 
 /// The report of all rounds.
 const ALL: &str = "4000,read,count 4000\n5000,read,count 1000\n";
@@ -42,9 +42,9 @@ const AT_ONCE: &[Words] = &["fold J", "simulate J P 1"];
 
 const ROUNDS: &[Words] = &["run J P", "run J"];
 
-const SAME_TIME: &str = "5000,inc,1\n";
+pub const SAME_TIME: &str = "5000,inc,1\n";
 
-const DISORDERED: &str = "flumina: source a row 5001: disordered, last 5000, got 5000";
+pub const DISORDERED: &str = "flumina: source a row 5001: disordered, last 5000, got 5000";
 
 const CASES: &[Case] = &[
     Case {
@@ -219,7 +219,7 @@ const CASES: &[Case] = &[
 ];
 
 /// The first source's rows.
-fn adds(alloc: Global) -> Result<String, AllocError> {
+pub fn adds(alloc: Global) -> Result<String, AllocError> {
     let mut text = String::new(alloc);
     for time in 1..=ROWS {
         text.push_str(&format!(in alloc; "{time},inc,1\n")?)?;

@@ -1,4 +1,4 @@
-use Rattle.flu_top.proofs.LawsOfOutcome.{good_law, refused_job_law, refused_conflict_law, refused_plan_law, refused_source_law, refused_trace_law}
+use Rattle.flu_top.proofs.LawsOfOutcome.{good_law, refused_job_law, refused_conflict_law, refused_plan_law, refused_start_law, refused_source_law, refused_trace_law}
 use Rattle.flu_top.proofs.laws.of_completeness.Goals as goal
 
 pub returns-clause-completes : goal.returns-clause-completes
@@ -12,6 +12,9 @@ returns-clause-refuses_conflict c = refused_conflict_law
 
 pub returns-clause-refuses_plan : goal.returns-clause-refuses_plan
 returns-clause-refuses_plan c = refused_plan_law
+
+pub returns-clause-refuses_start : goal.returns-clause-refuses_start
+returns-clause-refuses_start c = refused_start_law
 
 pub returns-clause-refuses_source : goal.returns-clause-refuses_source
 returns-clause-refuses_source c = refused_source_law

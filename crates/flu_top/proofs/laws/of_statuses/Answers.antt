@@ -1,4 +1,4 @@
-use Rattle.flu_top.proofs.LawsOfOutcome.{known_law, nothing_law, unwritten_law, some_law}
+use Rattle.flu_top.proofs.LawsOfOutcome.{known_law, nothing_law, unwritten_law, some_law, memory_law}
 use Rattle.flu_top.proofs.laws.of_statuses.Goals as goal
 
 pub returns-clause-known : goal.returns-clause-known
@@ -12,3 +12,6 @@ returns-clause-refused c = unwritten_law
 
 pub returns-clause-some : goal.returns-clause-some
 returns-clause-some c = some_law
+
+pub returns-clause-memory : goal.returns-clause-memory
+returns-clause-memory c = memory_law

@@ -11,3 +11,6 @@ returns-in-WriteFault g c = writes_as _ _ _ _ _ _ c.write_all-in-WriteFault.resu
 
 pub returns-in-NoMemory : goal.returns-in-NoMemory
 returns-in-NoMemory g c = writes_as _ _ _ _ _ _ c.write_all-in-NoMemory.result (ap (line_of) (sym c.in-NoMemory.is)) c.write_all-in-NoMemory.ensures
+
+pub returns-in-PutFault : goal.returns-in-PutFault
+returns-in-PutFault g c = writes_as _ _ _ _ _ _ c.write_all-in-PutFault.result (ap (line_of) (sym c.in-PutFault.is)) c.write_all-in-PutFault.ensures

@@ -10,7 +10,7 @@ use Rattle.flu_top.specs.Answer.{refusal_of_replay}
 use Rattle.flu_top.specs.Replays.{IsNetRefusal}
 use Rattle.flu_top.proofs.Jobs.{if_err_at}
 use Rattle.flu_top.proofs.Replays.{on_net, told_on_net, net_refusal}
-use Rattle.flu_top.proofs.Runnings.{run_report}
+use Rattle.flu_top.proofs.RunReports.{run_report}
 use Rattle.flu_top.proofs.Simulations.{case_from_nothing}
 use Rattle.flu_top.proofs.replaying.net_report.Goals as goal
 

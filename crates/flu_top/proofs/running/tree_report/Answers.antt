@@ -5,7 +5,7 @@ use Rattle.flu_model.specs.Listed.{listed}
 use Rattle.flu_model.specs.Sorts.{IsStateOf}
 use Rattle.flu_cells.specs.Holding.{held}
 use Rattle.flu_deps.specs.Checking.{program_of}
-use Rattle.flu_top.proofs.Runnings.{outputs_report}
+use Rattle.flu_top.proofs.RunReports.{outputs_report}
 use Rattle.flu_top.proofs.running.tree_report.Goals as goal
 
 pub batch-requires-clause-sorts : goal.batch-requires-clause-sorts

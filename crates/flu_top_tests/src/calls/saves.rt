@@ -1,0 +1,173 @@
+//! Calls of `run` with `--save` and `--resume`: what they answer, and what stands under the name that is saved to.
+
+use super::jobs::{COUNTED, END, REPORT};
+use super::rounds::{DISORDERED, FIRST, SAME_TIME, adds};
+use super::scripts::play;
+use super::{SOUND, Settings, Words, add_all, assert_left, call, call_with, files_of, put};
+use flu_outside::{MemFiles, TakeFault, read_whole};
+use flu_seq::OpenGate;
+use std::alloc::{AllocError, Global};
+use std::process::Abort;
+use std::sync::Wait;
+use std::test::Fail;
+use std::thread::Threads;
+
+/// Runs from the checkpoint of a border, with what was counted up to it, and from one that holds nothing; what is no checkpoint of the
+/// job; names that are sources' files; and a checkpoint that is not there.
+const RESUMED: &str = "@ s
+{\"border\":2,\"cells\":[[\"count\",0,\"12\"]],\"job\":\"cell count sum\\ntag inc int\\ntag read none\\ndepends inc read\\ndepends read read\\non inc: add count value\\non read: emit \\\"count {count}\\\"; clear count\\nsource a \\\"a.csv\\\" rate 1000: inc\\nsource b \\\"b.csv\\\" rate 1000: inc\\nsource c \\\"c.csv\\\" rate 1: read\\n\"}
+@ $ run J P --resume s
+@ $ run J --resume s
+@ = 0
+3,read,count 12
+5,read,count 2
+@ s
+{\"border\":3,\"cells\":[],\"job\":\"cell count sum\\ntag inc int\\ntag read none\\ndepends inc read\\ndepends read read\\non inc: add count value\\non read: emit \\\"count {count}\\\"; clear count\\nsource a \\\"a.csv\\\" rate 1000: inc\\nsource b \\\"b.csv\\\" rate 1000: inc\\nsource c \\\"c.csv\\\" rate 1: read\\n\"}
+@ $ run J P --resume s
+@ = 0
+5,read,count 2
+@ s|{
+@ $ run J P --resume s
+@ $ run J P --save t --resume s
+@ $ run J --save s --resume s
+@ = 11 flumina: save: not json
+@ s|{\"border\":2,\"cells\":[],\"job\":\"\"}
+@ $ run J P --resume s
+@ = 11 flumina: save: other job
+@ s|{\"border\":2,\"cells\":[]}
+@ $ run J P --resume s
+@ = 11 flumina: save: wrong form
+@ s|{
+@ $ run J P --save a.csv
+@ $ run J P --resume a.csv
+@ $ run J P --save a.csv --resume s
+@ $ run J P --save a.csv --resume missing
+@ $ run J P --save s --resume a.csv
+@ $ run J P --save a.csv --resume b.csv
+@ = 11 flumina: save: same as source a
+@ s|{
+@ $ run J P --save s --resume missing
+@ = 7 flumina: read fault
+";
+
+#[test]
+fn runs_are_resumed(rt: HostRuntime) -> Result<(), Fail> {
+    play(&rt, rt.alloc(), RESUMED)
+}
+
+/// What a name has left.
+fn left_of(alloc: Global, files: &mut MemFiles, name: &str) -> Result<Vec<u8>, TakeFault> {
+    read_whole(alloc, files, name, 1 << 20)
+}
+
+/// A call over the files of the count, of which one put fails, 0 for none: what it answers, and what the name that it saves to begins
+/// with then; nothing, where it has nothing.
+#[derive(Clone, Copy)]
+struct Case {
+    words: Words,
+    failing_put: u64,
+    status: u8,
+    out: &'static str,
+    err: &'static str,
+    saved: &'static str,
+}
+
+/// The last checkpoint of the count: both reads have cleared it.
+const LAST: &str = "{\"border\":9223372036854775807,\"cells\":[],\"job\":\"cell count sum\\ntag inc int\\n";
+
+const CASES: &[Case] = &[
+    Case {
+        words: "run J P --save s",
+        failing_put: 0,
+        status: 0,
+        out: REPORT,
+        err: "",
+        saved: LAST,
+    },
+    Case {
+        words: "run J --save s",
+        failing_put: 2,
+        status: 0,
+        out: REPORT,
+        err: "",
+        saved: LAST,
+    },
+    Case {
+        words: "run J P --save s",
+        failing_put: 1,
+        status: 12,
+        out: REPORT,
+        err: "flumina: save fault",
+        saved: "",
+    },
+    Case {
+        words: "run J P --save P",
+        failing_put: 0,
+        status: 2,
+        out: "",
+        err: "flumina: bad words at 4",
+        saved: "",
+    },
+];
+
+fn cases() -> &'static [Case] {
+    CASES
+}
+
+fn check_case<R: Abort + Threads + Wait + Sync>(
+    rt: &R,
+    alloc: Global,
+    case: &Case,
+) -> Result<(), Fail> {
+    let mut files = files_of(alloc, COUNTED)?;
+    put(alloc, &mut files, "s", "")?;
+    files.fail_put(case.failing_put)?;
+    let left = call(rt, alloc, case.words, &mut files, &OpenGate)?;
+    assert_left(rt, &left, case.status, case.out.as_bytes(), case.err);
+    let saved = left_of(alloc, &mut files, "s")?;
+    assert!(rt; saved.starts_with(case.saved.as_bytes()), "{}", case.words);
+    assert!(rt; !case.saved.is_empty() || saved.is_empty(), "{}", case.words);
+    Ok(())
+}
+
+#[test]
+fn checkpoints_are_put(rt: HostRuntime) -> Result<(), Fail> {
+    for case in cases() {
+        check_case(&rt, rt.alloc(), case)?;
+    }
+    Ok(())
+}
+
+/// A run that is resumed from what a whole run saved has nothing more to run; also where it saves to the same name.
+#[test]
+fn a_whole_run_is_resumed(rt: HostRuntime) -> Result<(), Fail> {
+    let mut files = files_of(rt.alloc(), COUNTED)?;
+    call(&rt, rt.alloc(), "run J P --save s", &mut files, &OpenGate)?;
+    let saved = left_of(rt.alloc(), &mut files, "s")?;
+    let saved = std::str::from_utf8(&saved)?;
+    for words in ["run J P --resume s", "run J --save s --resume s"] {
+        let mut again = files_of(rt.alloc(), COUNTED)?;
+        add_all(rt.alloc(), &mut again, &[("s", saved)])?;
+        let left = call(&rt, rt.alloc(), words, &mut again, &OpenGate)?;
+        assert_left(&rt, &left, 0, b"", "");
+    }
+    Ok(())
+}
+
+/// The checkpoint of the first round, whose border is the time of the first source's 4,096th row, is left where the second one meets a
+/// defect.
+#[test]
+fn the_checkpoint_before_a_defect_is_left(rt: HostRuntime) -> Result<(), Fail> {
+    let alloc = rt.alloc();
+    let mut source = adds(alloc)?;
+    source.push_str(SAME_TIME)?;
+    let mut files = files_of(alloc, COUNTED)?;
+    put(alloc, &mut files, "a.csv", &source)?;
+    put(alloc, &mut files, "b.csv", END)?;
+    put(alloc, &mut files, "c.csv", "4000,read\nend\n")?;
+    let left = call(&rt, alloc, "run J P --save s", &mut files, &OpenGate)?;
+    assert_left(&rt, &left, 6, FIRST.as_bytes(), DISORDERED);
+    let saved = left_of(alloc, &mut files, "s")?;
+    assert!(&rt; saved.starts_with(b"{\"border\":4096,\"cells\":[[\"count\",0,\"96\"]],\"job\":"));
+    Ok(())
+}
