@@ -1,6 +1,8 @@
-//! Tests of runs in rounds: by the engine that folds, by the net and by a tree of threads. It has no code of its own.
+//! Tests of runs in rounds: by the engine that folds, by the net and by a tree of threads, and of its backup. It has no code of its own.
 #![tactic(auto)]
 
+#[cfg(test)]
+mod backups;
 #[cfg(test)]
 mod drawn;
 #[cfg(test)]
