@@ -1,8 +1,9 @@
 #!/usr/bin/env bash
-# Measures the program beside gawk and sort, on inputs that it makes itself. Run at the top of the repository, where
-# `rt ci` or `rt run` has built the program: docs/measure.sh [FOLDER]
+# Measures the program beside gawk, sort and a program in Rust, on inputs that it makes itself. Run at the top of the repository,
+# where `rt ci` or `rt run` has built the program: docs/measure.sh [FOLDER]. It needs gawk, rustc and python3. PROGRAM names another
+# program to measure.
 set -eu
-program=$PWD/crates/flumina/out/flumina
+program=${PROGRAM:-$PWD/crates/flumina/out/flumina}
 folder=${1:-$(mktemp -d)}
 mkdir -p "$folder"
 cd "$folder"
@@ -20,6 +21,21 @@ measure() {
         if [ -z "$least" ] || [ "$took" -lt "$least" ]; then least=$took; fi
     done
     printf '%-64s %d.%03d s\n' "$title" $((least / 1000)) $((least % 1000))
+}
+
+# The most memory that a command holds, and how much of it, beside 4 MB, that is for each of some events: in bytes.
+peak() {
+    python3 - "$@" <<'PYTHON'
+import resource
+import subprocess
+import sys
+
+title, events, *command = sys.argv[1:]
+with open("out.txt", "w") as out:
+    subprocess.run(command, stdout=out, check=True)
+held = 1024 * resource.getrusage(resource.RUSAGE_CHILDREN).ru_maxrss
+print(f"{title:64} {held:,} bytes, {(held - 4 * 2**20) / int(events):.1f} for each event")
+PYTHON
 }
 
 # ---- the rows of one source: 1,000,000 rows, with and without quotes, with LF and CR LF
@@ -46,6 +62,16 @@ done
 gawk 'BEGIN { srand(1); for (t = 1; t <= 1000000; t++) printf "%d,inc,\"%d\n", t, int(rand() * 10000); print "end" }' > unclosed.csv
 sed 's/plain.csv/unclosed.csv/' plain.job > unclosed.job
 measure '1,000,000 rows, unclosed quotes: flumina fold' "$program" fold unclosed.job
+
+# Four and sixteen times as many plain rows; and the memory that they take, beside that of a number just above a power of two.
+for rows in 1048577 4000000 16000000; do
+    gawk -v rows=$rows 'BEGIN { srand(1); for (t = 1; t <= rows; t++) printf "%d,inc,%d\n", t, int(rand() * 10000); print "end" }' > many.csv
+    sed 's/plain.csv/many.csv/' plain.job > many.job
+    measure "$rows rows, plain: flumina fold" "$program" fold many.job
+    peak "$rows rows, plain: memory" $rows "$program" fold many.job
+    rm many.csv
+done
+peak '1,000,000 rows, plain: memory' 1000000 "$program" fold plain.job
 
 # ---- a run over three sources of 1,000,000 rows in all
 # A job that counts the values of `inc` and puts the count out at each `read`, over the sources given.
@@ -78,6 +104,7 @@ measure 'three sources, 1,000,000 rows: sort -m and gawk in C.UTF-8' sort_and_co
 cmp out.txt folded.txt
 measure 'three sources, 1,000,000 rows: sort -m and gawk in C' sort_and_count C
 cmp out.txt folded.txt
+peak 'three sources, 1,000,000 rows: memory' 1000000 "$program" fold counts.job
 
 # ---- 1,000,000 rows that come late by less than 1,000, beside the same rows in order
 count_over 'source a "late.csv" slack 1000: inc' \
@@ -91,6 +118,106 @@ measure '1,000,000 rows in order, slack 1,000: flumina fold' "$program" fold ord
 cp out.txt folded.txt
 measure '1,000,000 rows late by less than 1,000: flumina fold' "$program" fold late.job
 cmp out.txt folded.txt
+
+# ---- page views and updates of zip codes, by two sources, and the ticks that put the views out, beside a program in Rust that keeps
+# two hash maps and writes the same bytes: 1,000,000 rows, some 73,000 lines
+cat > pages.job <<'JOB'
+cell views keyed sum
+cell zip keyed last
+tag view keyed int
+tag update keyed int
+tag tick none
+depends update update same
+depends view tick
+depends tick tick
+on view: add views[key] value
+on update: emit "was {zip[key]}"; set zip[key] value
+on tick: flush views "page {key} views {cell}"
+source web "web.csv": view[0..99]
+source app "app.csv": view[0..99], update[0..54]
+source clock "clock.csv": tick
+JOB
+gawk 'BEGIN {
+    srand(1)
+    for (t = 1; t <= 1000000; t++) {
+        if (rand() < 0.6) print 2 * t ",view[" int(rand() * 100) "]," t % 100 > "web.csv"
+        else if (rand() < 0.125) print 2 * t ",update[" int(rand() * 55) "]," int(rand() * 100000) > "app.csv"
+        else print 2 * t ",view[" int(rand() * 100) "]," t % 100 > "app.csv"
+    }
+    for (n = 1; n <= 226; n++) print 8800 * n + 1 ",tick" > "clock.csv"
+    print "end" > "web.csv"
+    print "end" > "app.csv"
+    print "end" > "clock.csv"
+}'
+cat > pages.rs <<'RUST'
+//! The report of the job: page views that are put out at each tick, and the zip codes that updates set.
+use std::collections::HashMap;
+use std::fmt::Write;
+use std::iter::Peekable;
+use std::{env, fs};
+
+/// A row: its time, its tag with the key between brackets, and its value.
+#[derive(Clone, Copy)]
+struct Row<'a> {
+    time: u64,
+    kind: &'a str,
+    key: u32,
+    value: i64,
+}
+
+fn row(line: &str) -> Row<'_> {
+    let mut fields = line.split(',');
+    let time = fields.next().unwrap().parse().unwrap();
+    let tag = fields.next().unwrap();
+    let value = fields.next().map_or(0, |field| field.parse().unwrap());
+    let (kind, key) = match tag.strip_suffix(']').and_then(|tag| tag.split_once('[')) {
+        Some((kind, key)) => (kind, key.parse().unwrap()),
+        None => (tag, 0),
+    };
+    Row { time, kind, key, value }
+}
+
+fn next<'a>(sources: &mut [Peekable<impl Iterator<Item = Row<'a>>>]) -> Option<Row<'a>> {
+    let times = sources.iter_mut().enumerate().filter_map(|(n, rows)| Some((rows.peek()?.time, n)));
+    let (_, first) = times.min()?;
+    sources[first].next()
+}
+
+fn main() {
+    let texts: Vec<String> = env::args().skip(1).map(|name| fs::read_to_string(name).unwrap()).collect();
+    let mut sources: Vec<_> = texts
+        .iter()
+        .map(|text| text.lines().take_while(|line| *line != "end").map(row).peekable())
+        .collect();
+    let mut views: HashMap<u32, i64> = HashMap::new();
+    let mut zips: HashMap<u32, i64> = HashMap::new();
+    let mut report = String::new();
+    while let Some(Row { time, kind, key, value }) = next(&mut sources) {
+        match kind {
+            "view" => *views.entry(key).or_insert(0) += value,
+            "update" => match zips.insert(key, value) {
+                Some(zip) => writeln!(report, "{time},update[{key}],was {zip}").unwrap(),
+                None => writeln!(report, "{time},update[{key}],was none").unwrap(),
+            },
+            _ => {
+                let mut lines: Vec<String> =
+                    views.drain().map(|(page, count)| format!("page {page} views {count}")).collect();
+                lines.sort();
+                for line in lines {
+                    writeln!(report, "{time},tick,{line}").unwrap();
+                }
+            }
+        }
+    }
+    print!("{report}");
+}
+RUST
+rustc -O --edition 2024 pages.rs -o pages
+measure '1,000,000 views and updates of pages: flumina fold' "$program" fold pages.job
+cp out.txt folded.txt
+measure '1,000,000 views and updates of pages: two hash maps, in Rust' ./pages web.csv app.csv clock.csv
+cmp out.txt folded.txt
+peak '1,000,000 views and updates of pages: memory' 1000000 "$program" fold pages.job
 
 # ---- 1,000,000 page views of 50 pages and of 100, put out 1,000 times
 gawk 'BEGIN { for (t = 1; t <= 1000; t++) print 1000 * t ",tick"; print "end" }' > ticks.csv

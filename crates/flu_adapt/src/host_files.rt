@@ -5,6 +5,7 @@ ghost use Rattle.std.specs.BTreeMap.{get_by_text};
 ghost use Rattle.flu_outside.specs.Outside.{Rose};
 ghost use Rattle.std.specs.Io.KnownBytes.{ReadConsumes};
 
+use crate::replacing::replace;
 use flu_outside::{Files, PutFault, TakeFault};
 use std::alloc::Global;
 use std::collections::BTreeMap;
@@ -119,7 +120,8 @@ impl<R: rt::Files + AllocGlobal> Files for HostFiles<R> {
         taken
     }
 
-    /// Writes the file whole, in place of the one that is there. The next take of it begins at its front.
+    /// Writes the file whole, in place of the one that is there, so that whoever is stopped in the middle leaves the old one or the new
+    /// one, where it is a plain file (`replacing.rt`). The next take of it begins at its front.
     fn put(&mut self, name: &str, bytes: Vec<u8>) -> Result<(), PutFault>
         ensures quiet { OnOk result (put_count_of self.new ≡ put_count_of self.old) }
         ensures counts { put_count_of self.old ≤ put_count_of self.new }
@@ -130,7 +132,7 @@ impl<R: rt::Files + AllocGlobal> Files for HostFiles<R> {
         ensures raised { OnErr result (put_count_of self.new ≡ min (put_count_of self.old + 1) (2 ^ 64 - 1)) }
     {
         self.opened.remove(name);
-        match fs::write(&self.rt, name, bytes) {
+        match replace(&self.rt, name, &bytes) {
             Ok(()) => Ok(()),
             Err(error) => {
                 self.last = failure_of(self.rt.alloc(), name, error);

@@ -3,6 +3,7 @@
 
 mod host_files;
 mod host_sink;
+mod replacing;
 
 pub use host_files::{FileFailure, HostFiles};
 pub use host_sink::HostSink;

@@ -116,8 +116,11 @@ know_families text ds n named own = record {
   differ = among_differ text family_name (families_in text) (families_one text) ds own;
 }
 
+pub kinds_differ : (text : List ℕ) (ds : Declarations) → AllDiffer (all_names text ds) → AllDiffer (map kind_name (all_kinds text ds))
+kinds_differ text ds own = among_differ text kind_name (kinds_in text) (kinds_one text) ds own
+
 pub know_kinds : (text : List ℕ) (ds : Declarations) (n : Naming) → Named text ds n → AllDiffer (all_names text ds) → KnowKinds n (all_kinds text ds)
-know_kinds text ds n named own = record { heads_are = named.kinds; differ = among_differ text kind_name (kinds_in text) (kinds_one text) ds own }
+know_kinds text ds n named own = record { heads_are = named.kinds; differ = kinds_differ text ds own }
 
 -- ---- parts of a job
 

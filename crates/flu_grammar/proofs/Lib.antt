@@ -20,6 +20,7 @@ pub mod JobSources
 pub mod JobDrafts
 pub mod JobFound
 pub mod JobTexts
+pub mod NormalForms
 pub mod Faults
 pub mod Printed
 pub mod FaultKinds

@@ -7,7 +7,7 @@ use Rattle.flu_model.specs.declared.jobs.Family.{Family}
 use Rattle.flu_model.specs.declared.jobs.Kind.{Kind}
 use Rattle.flu_model.specs.declared.jobs.Depend.{Depend}
 use Rattle.flu_model.specs.declared.jobs.Source.{Source}
-use Rattle.flu_model.specs.Erasure.{Job}
+use Rattle.flu_model.specs.Erasure.{Job, job_of}
 use Rattle.flu_rules.specs.Kept.{KeepsRules}
 use Rattle.flu_parse.specs.Laws.{job_with}
 use Rattle.flu_parse.specs.Printing.{normal_form}
@@ -52,3 +52,7 @@ abbrev pub JobTextsKeepRules : Type 0
 JobTextsKeepRules =
     (bytes : List ℕ) (version : ℕ) (families : List Family) (kinds : List Kind) (depends : List Depend) (sources : List Source)
     → IsJobText bytes (job_with version families kinds depends sources) → KeepsRules version families kinds depends sources
+
+-- the normal form of the job of a text has at most 25 MiB
+abbrev pub NormalFormIsShort : Type 0
+NormalFormIsShort = (p : Program) (bytes : List ℕ) → IsJobText bytes (job_of p) → length (normal_form (job_of p)) ≤ 26214400

@@ -3,12 +3,12 @@
 ghost use Rattle.flu_grammar.specs.Faults.{BytesAreTooMany, BytesAreNotUtf8, NoTokenBegins, UnexpectedIsNotContinued, RefusedIsNoJob, RefusedIsNoPlan, FamilyIsUnknown, KindIsUnknown, PlanKindIsUnknown, PlanSourceIsUnknown, ChildIsUnknown, TwiceNamedIsDeclaredTwice, TwiceNamedIsOnTwice, TwiceNamedIsFileTwice, NoTreeIsNodeTwice};
 ghost use Rattle.flu_grammar.specs.BrokenJobs.{FaultsAreByRule};
 ghost use Rattle.flu_grammar.specs.BrokenPlans.{PlanFaultsAreByRule};
-ghost use Rattle.flu_grammar.specs.Laws.{JobsAreGrammar, TextsHaveOneJob, PlansAreGrammar, TextsHaveOnePlan, NormalFormIsText, PrintedIsText, JobTextsKeepRules};
+ghost use Rattle.flu_grammar.specs.Laws.{JobsAreGrammar, TextsHaveOneJob, PlansAreGrammar, TextsHaveOnePlan, NormalFormIsText, PrintedIsText, JobTextsKeepRules, NormalFormIsShort};
 
 use flu_parse::laws::{jobs_keep_rules, printed_is_read};
 use flu_plan::laws::{found_is_plan, plans_keep_rules};
 use flu_syntax::laws::{found_is_job, unexpected_is_first};
-use flu_text::laws::reading_is_exact;
+use flu_text::laws::{reading_is_exact, tokens_stand};
 
 /// The job that is read of some bytes is exactly the one that they are the text of, by the grammar and by what each part of it means.
 pub fn jobs_are_grammar()
@@ -58,6 +58,14 @@ pub fn job_texts_keep_rules()
 {
     jobs_are_grammar();
     jobs_keep_rules();
+}
+
+/// The normal form of the job that a text means has at most 26,214,400 bytes: each expression is printed with at most 23 bytes for each of
+/// its tokens and 16 more, and all else has the bounds that the rules of a job give.
+pub fn normal_forms_are_short()
+    ensures { NormalFormIsShort }
+{
+    tokens_stand();
 }
 
 /// Bytes in which a fault is found are the text of no job, and of no plan.

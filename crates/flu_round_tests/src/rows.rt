@@ -4,7 +4,7 @@ ghost use Rattle.std.specs.Prelude.{◌≤◌};
 
 use crate::inputs::{Input, job};
 use crate::runs::Marks;
-use crate::writing::writes;
+use crate::writing::{resumes, writes};
 use std::alloc::{AllocError, Global};
 use std::process::Abort;
 use std::sync::Wait;
@@ -134,4 +134,35 @@ fn a_defect_is_met_behind_a_round(rt: HostRuntime) -> Result<(), Fail> {
         [text.as_str(), END, "4000,read\nend\n"],
         wanted,
     )
+}
+
+#[test]
+fn a_run_is_resumed_from_a_border(rt: HostRuntime) -> Result<(), Fail> {
+    let alloc = rt.alloc();
+    let job = job(alloc, [0, 0, 0])?;
+    let input = Input {
+        job: job.as_str(),
+        a: A,
+        b: B,
+        c: C,
+    };
+    // The state behind so many rounds, which is {count: 12} behind two of them, and from which border the run goes on.
+    let cases = [
+        (
+            2,
+            2,
+            "3,read,count 12\nat 3\nat 4\n5,read,count 2\nat 5\nclosed\n",
+        ),
+        (3, 3, "at 4\n5,read,count 2\nat 5\nclosed\n"),
+        (0, 3, "at 4\n5,read,count 2\nat 5\nclosed\n"),
+        (
+            0,
+            2,
+            "3,read,count 0\nat 3\nat 4\n5,read,count 2\nat 5\nclosed\n",
+        ),
+    ];
+    for (rounds, border, wanted) in cases {
+        resumes(&rt, alloc, input, rounds, border, wanted.as_bytes())?;
+    }
+    Ok(())
 }

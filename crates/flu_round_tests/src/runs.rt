@@ -1,10 +1,13 @@
 //! Runs in rounds, on an engine and on a tree of threads.
 
-ghost use Rattle.std.specs.Prelude.{◌≡◌, ◌≤◌, IfOk};
+ghost use Rattle.std.specs.Prelude.{◌≡◌, ◌≤◌, ◌<◌, ◌^◌, IfOk};
+ghost use Rattle.flu_cells.specs.Holding.{held};
 ghost use Rattle.flu_deps.specs.Checking.{program_of};
+ghost use Rattle.flu_model.specs.Sorts.{IsStateOf};
 ghost use Rattle.flu_streams.specs.declared.held.Stage.{Stage};
 ghost use Rattle.flu_rounds.specs.Standing.{StandsBehind};
 
+use flu_cells::State;
 use flu_outside::{MemFiles, MemSink, write_all};
 use flu_rounds::{Begun, Border, Rounds, RoundsFault};
 use flu_run::TreeEngine;
@@ -63,6 +66,66 @@ pub fn run_on<R, N: Engine<R>>(
     requires few { rows ≤ 4096 }
 {
     let mut rounds = Rounds::new(alloc, engine.program(), rows)?;
+    go_on(rt, alloc, engine, &mut rounds, files, out, marks)
+}
+
+/// Runs so many rounds on an engine, or fewer where one is the last or fails, and tells the state behind them.
+pub fn state_behind<R, N: Engine<R>>(
+    rt: &R,
+    alloc: Global,
+    engine: &mut N,
+    files: &mut MemFiles,
+    out: &mut MemSink,
+    rows: u32,
+    rounds: u32,
+) -> Result<State, Fail>
+    requires some { 1 ≤ rows }
+    requires few { rows ≤ 4096 }
+    ensures same { N.program_of engine.new ≡ N.program_of engine.old }
+    ensures sorts { IfOk result (λ state. IsStateOf (N.program_of engine.old).families (held state)) }
+{
+    let mut run = Rounds::new(alloc, engine.program(), rows)?;
+    for _ in 0..rounds {
+        let Border::At(_) = run.round(rt, alloc, files, out, engine)? else {
+            break;
+        };
+    }
+    Ok(run.state().copy()?)
+}
+
+/// Runs the rounds on an engine, above a border and from a state, until one is the last, or fails.
+pub fn resume_on<R, N: Engine<R>>(
+    rt: &R,
+    alloc: Global,
+    engine: &mut N,
+    files: &mut MemFiles,
+    out: &mut MemSink,
+    rows: u32,
+    border: u64,
+    state: State,
+) -> Result<(), Fail>
+    requires some { 1 ≤ rows }
+    requires few { rows ≤ 4096 }
+    requires border { border < 2 ^ 63 }
+    requires sorts { IsStateOf (N.program_of engine.old).families (held state) }
+{
+    let mut rounds = Rounds::resume(alloc, engine.program(), rows, border, state)?;
+    go_on(rt, alloc, engine, &mut rounds, files, out, Marks::Each)
+}
+
+// Runs the rounds on an engine, from where they stand, until one is the last, or fails.
+fn go_on<R, N: Engine<R>>(
+    rt: &R,
+    alloc: Global,
+    engine: &mut N,
+    rounds: &mut Rounds,
+    files: &mut MemFiles,
+    out: &mut MemSink,
+    marks: Marks,
+) -> Result<(), Fail>
+    requires program { N.program_of engine.old ≡ rounds.old.held.program }
+    requires stage { rounds.old.held.stage ≡ Stage.Filling }
+{
     for _ in 0..MOST {
         let answer = rounds.round(rt, alloc, files, out, engine);
         mark(alloc, out, marks, answer)?;

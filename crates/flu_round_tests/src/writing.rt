@@ -1,11 +1,11 @@
 //! What the rounds of an input write by each engine.
 
-ghost use Rattle.std.specs.Prelude.{◌≤◌};
+ghost use Rattle.std.specs.Prelude.{◌≤◌, ◌<◌, ◌^◌};
 ghost use Rattle.flu_deps.specs.Checking.{program_of};
 ghost use Rattle.flu_deps.specs.Validated.{IsValidFor};
 
 use crate::inputs::{Input, accepted, files_of, planned};
-use crate::runs::{Marks, run_on, run_on_tree};
+use crate::runs::{Marks, resume_on, run_on, run_on_tree, state_behind};
 use flu_deps::{Checked, Valid};
 use flu_live::NetEngine;
 use flu_outside::MemSink;
@@ -38,6 +38,38 @@ fn folds(
     let mut files = files_of(alloc, input)?;
     let mut out = MemSink::with_room(alloc, ROOM)?;
     run_on(rt, alloc, &mut engine, &mut files, &mut out, rows, marks)?;
+    assert_eq!(rt; out.bytes(), wanted);
+    Ok(())
+}
+
+/// Compares what the fold writes above a border, a row at a time, from the state behind so many rounds from the first row on.
+pub fn resumes(
+    rt: &impl Abort,
+    alloc: Global,
+    input: Input,
+    rounds: u32,
+    border: u64,
+    wanted: &[u8],
+) -> Result<(), Fail>
+    requires { border < 2 ^ 63 }
+{
+    let program = read_job(alloc, input.job.as_bytes())?;
+    let mut engine = FoldEngine { program };
+    let mut files = files_of(alloc, input)?;
+    let mut out = MemSink::with_room(alloc, ROOM)?;
+    let state = state_behind(rt, alloc, &mut engine, &mut files, &mut out, 1, rounds)?;
+    let mut files = files_of(alloc, input)?;
+    let mut out = MemSink::with_room(alloc, ROOM)?;
+    resume_on(
+        rt,
+        alloc,
+        &mut engine,
+        &mut files,
+        &mut out,
+        1,
+        border,
+        state,
+    )?;
     assert_eq!(rt; out.bytes(), wanted);
     Ok(())
 }

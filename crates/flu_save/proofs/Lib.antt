@@ -1,5 +1,6 @@
 pub mod Numbers
 pub mod Families
+pub mod Lengths
 pub mod Values
 pub mod Members
 pub mod Meanings

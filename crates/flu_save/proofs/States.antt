@@ -129,7 +129,7 @@ any_kept p q (k ∷ ks) h = by_test (q k) (p k) refl refl (any_kept p q ks)
         ∙ more (sym (ap (λ b. (b && p k) || list_any (λ j. q j && p j) ks) e ∙ ap (λ b. b || list_any (λ j. q j && p j) ks) f) ∙ h)
     by_test false b e f more = more (sym (ap (λ a. (a && p k) || list_any (λ j. q j && p j) ks) e) ∙ h)
 
-key_below : (o : Option Family) (key : ℕ) → key_is_in o key ≡ true → key < key_count
+pub key_below : (o : Option Family) (key : ℕ) → key_is_in o key ≡ true → key < key_count
 key_below None key h = absurd cc
 key_below (Some f) key h = grind (arith, common_steps)
 

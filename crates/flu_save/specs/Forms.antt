@@ -16,6 +16,10 @@ use Rattle.flu_save.specs.Checkpoint.{IsCheckpoint}
 abbrev pub most_bytes : ℕ
 most_bytes = 536870912
 
+-- the normal form of a job has so few bytes that each of its checkpoints is read
+abbrev pub HasShortText : Program → Type 0
+HasShortText p = length (normal_form (job_of p)) ≤ 26214400
+
 -- the bytes are UTF-8 and a JSON text of this value
 abbrev pub IsJsonOf : List ℕ → Data → Type 0
 IsJsonOf bytes d = IsUtf8 bytes × (read bytes ≡ Some d)

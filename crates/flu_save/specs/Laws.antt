@@ -1,10 +1,11 @@
 -- Laws of checkpoints.
-use Rattle.std.specs.Prelude.{◌≡◌, ◌≢◌, ℕ, List}
+use Rattle.std.specs.Prelude.{◌≡◌, ◌≢◌, ℕ, ◌<◌, ◌≤◌, ◌^◌, List, length}
 use Rattle.flu_model.specs.declared.jobs.Program.{Program}
 use Rattle.flu_model.specs.Contents.{Contents}
 use Rattle.flu_save.specs.declared.fault.SaveFault.{SaveFault}
 use Rattle.flu_save.specs.declared.fault.SaveFault.TheVariants.{NoMemory}
-use Rattle.flu_save.specs.Forms.{IsSave, IsFaultOf}
+use Rattle.flu_save.specs.Checkpoint.{save, IsSavable}
+use Rattle.flu_save.specs.Forms.{IsSave, IsFaultOf, HasShortText, most_bytes}
 
 -- LAW OF FAULTS: bytes that have a fault are no checkpoint
 abbrev pub LawOfFaults : Type 0
@@ -16,3 +17,8 @@ LawOfFaults =
 abbrev pub LawOfOneMeaning : Type 0
 LawOfOneMeaning =
     (p : Program) (bytes : List ℕ) (t u : ℕ) (s r : Contents) → IsSave p t s bytes → IsSave p u r bytes → (t ≡ u) × (s ≡ r)
+
+-- LAW OF SHORT TEXTS: the text of a checkpoint has no more bytes than are read, where that of its job is short
+abbrev pub LawOfShortTexts : Type 0
+LawOfShortTexts =
+    (p : Program) (t : ℕ) (s : Contents) → t < 2 ^ 63 → IsSavable p.families s → HasShortText p → length (save p t s) ≤ most_bytes

@@ -8,6 +8,6 @@ mod reading;
 mod saving;
 
 pub use fault::SaveFault;
-pub use laws::{checkpoints_have_one_meaning, faults_are_no_checkpoints};
+pub use laws::{checkpoints_have_one_meaning, faults_are_no_checkpoints, save_is_short};
 pub use reading::{Saved, read_save};
 pub use saving::save_text;

@@ -6,7 +6,7 @@ ghost use Rattle.flu_model.specs.Contents.{cell, held_keys};
 ghost use Rattle.flu_model.specs.Sorts.{IsStateOf};
 ghost use Rattle.serde_json.specs.View.{view};
 ghost use Rattle.flu_save.specs.Checkpoint.{number_held, entry as entry_value, entries_of, cells_held, checkpoint, save, HasWordWidth};
-ghost use Rattle.flu_save.specs.Forms.{IsJsonOf, IsSave, most_bytes};
+ghost use Rattle.flu_save.specs.Forms.{IsJsonOf, IsSave, HasShortText, most_bytes};
 ghost use Rattle.flu_save.specs.Widths.{HaveWordWidth, AllHaveWordWidth};
 
 use flu_cells::State;
@@ -89,6 +89,7 @@ fn checkpoint(alloc: Global, p: &Program, border: u64, s: &State) -> Result<Valu
 ///
 /// The cells are those of the job's families. The border is at most 2^63 - 1. Where the state has values of the job's sorts, the
 /// text is a checkpoint of the job with this border and this state, if it has at most 536,870,912 bytes; so `read_save` gives them.
+/// It has, where the normal form of the job has at most 26,214,400.
 ///
 /// # Errors
 ///
@@ -99,6 +100,7 @@ pub fn save_text(alloc: Global, p: &Program, border: u64, s: &State) -> Result<V
     ensures value { IfOk result (λ v. IsJsonOf v.items (checkpoint p.now border (held s.now))) }
     ensures read_again { IfOk result (λ v. IsStateOf p.now.families (held s.now) → length v.items ≤ most_bytes
         → IsSave p.now border (held s.now) v.items) }
+    ensures saved { IfOk result (λ v. IsStateOf p.now.families (held s.now) → HasShortText p.now → IsSave p.now border (held s.now) v.items) }
 {
     let value = checkpoint(alloc, p, border, s)?;
     value.to_vec(alloc)

@@ -1,0 +1,621 @@
+-- The normal form of the job of a text is short: an expression is printed with a few bytes for each of its tokens, and all else has the
+-- bounds that the rules of a job give.
+use Rattle.std.proofs.Common.{◌≡◌, ◌<◌, ◌≤◌, ◌+◌, ◌*◌, ◌^◌, ◌-◌, ℕ, suc, ℤ, pos, negsuc, Bool, true, false, cond, Option, Some, None, List, [], ◌∷◌, ◌++◌, map, length, refl, sym, ap, subst, ◌∙◌, arith, length-append}
+use Rattle.std.specs.Prelude.{nat_lt, nat_le, ◌==◌, ◌&&◌, slice_get, codes, option_map, ⊤}
+use Rattle.std.specs.Fmt.{decimal, signed_decimal}
+use Rattle.std.specs.List.{list_all, flat_map, All}
+use Rattle.std.specs.Str.{bytes_eq}
+use Rattle.std.specs.Cmp.Lexicographic.{bytes_decides}
+use Rattle.std.proofs.lemmas.Fmt.{length-decimal-le_wide}
+use Rattle.std.proofs.lemmas.List.{length-map}
+use Rattle.std.proofs.lemmas.List.FromFn.{length-range_with_len}
+use Rattle.std.proofs.lemmas.Option.{slice_get-map}
+use Rattle.flu_lemmas.specs.Items.{Pairs}
+use Rattle.flu_lemmas.specs.Totals.{total}
+use Rattle.flu_lemmas.proofs.Elements.{passes_at}
+use Rattle.flu_lemmas.proofs.NoTotal.{total_none}
+use Rattle.flu_lemmas.proofs.Tests.{and_left, and_right, true_lt, true_le}
+use Rattle.flu_lemmas.proofs.Totals.{total-flat_map}
+use Rattle.flu_names.specs.Names.{is_name}
+use Rattle.flu_model.specs.declared.events.Tag.{Tag}
+use Rattle.flu_model.specs.declared.jobs.At.{At}
+use Rattle.flu_model.specs.declared.jobs.At.TheVariants as at
+use Rattle.flu_model.specs.declared.jobs.CellRef.{CellRef}
+use Rattle.flu_model.specs.declared.jobs.Depend.{Depend}
+use Rattle.flu_model.specs.declared.jobs.Expr.{Expr}
+use Rattle.flu_model.specs.declared.jobs.Expr.TheVariants.{Lit, Value, Key, Time, Read, Has, Neg', Not', Two'}
+use Rattle.flu_model.specs.declared.jobs.Act.{Act}
+use Rattle.flu_model.specs.declared.jobs.Act.TheVariants.{Add, Raise, Set, Clear, Emit, Flush}
+use Rattle.flu_model.specs.declared.jobs.Action.{Action as JobAction}
+use Rattle.flu_model.specs.declared.jobs.Family.{Family}
+use Rattle.flu_model.specs.declared.jobs.Keys.{Keys}
+use Rattle.flu_model.specs.declared.jobs.Keys.TheVariants as keys
+use Rattle.flu_model.specs.declared.jobs.Kind.{Kind}
+use Rattle.flu_model.specs.declared.jobs.Op.{Op}
+use Rattle.flu_model.specs.declared.jobs.Op.TheVariants as op
+use Rattle.flu_model.specs.declared.jobs.Program.{Program}
+use Rattle.flu_model.specs.declared.jobs.Sort.{Sort}
+use Rattle.flu_model.specs.declared.jobs.Sort.TheVariants as sort
+use Rattle.flu_model.specs.declared.jobs.Source.{Source}
+use Rattle.flu_model.specs.declared.jobs.TagRef.{TagRef}
+use Rattle.flu_model.specs.Contents.{key_count}
+use Rattle.flu_model.specs.Erasure.{Term, Literal, EventValue, EventKey, EventTime, CellRead, CellHeld, Negative, Negation, Operation, term_of, PlainAct, Adding, Raising, Setting, Clearing, Emitting, Flushing, plain_act, PlainAction, plain_action, PlainKind, plain_kind}
+use Rattle.flu_model.specs.Listing.{tag, listed_keys, listed_tags, tags_of_source, itags_of_sources}
+use Rattle.flu_model.specs.Rules.{family_fits, ref_fits, ref_has_sort, is_literal, expr_fits, height, is_good_expr, is_short, flush_template_fits, is_keyed, act_fits, guard_fits, action_fits, kind_fits, keys_fit, listed_kind_fits, tag_ref_fits, is_file_text, source_fits}
+use Rattle.flu_model.specs.Templates.{family_name, written_key, written_cell, written_template}
+use Rattle.flu_text.specs.declared.words.Token.{Token}
+use Rattle.flu_text.specs.Grammar.{LeadsTo, IsSpan}
+use Rattle.flu_text.specs.Laws.{EachIsSpan}
+use Rattle.flu_text.specs.declared.words.Word.{Word}
+use Rattle.flu_text.specs.declared.words.Word.TheVariants as w
+use Rattle.flu_text.specs.declared.words.Mark.TheVariants as m
+use Rattle.flu_text.specs.Signs.{Sign, Any, AreSigns, separated as signs_between}
+use Rattle.flu_syntax.specs.Tree.{Tree, Deed, Action, Declaration, Declarations}
+use Rattle.flu_syntax.specs.Tree as d
+use Rattle.flu_syntax.specs.Grammar.{op_word, cell_signs, spelled, deed_signs, guard_signs, action_signs, declaration_signs, version_signs}
+use Rattle.flu_layout.specs.Laid.{line_end, quoted}
+use Rattle.flu_layout.specs.Lists.{separated, keys_text}
+use Rattle.flu_layout.specs.Spelling.{name_of}
+use Rattle.flu_parse.specs.Printing.{op_text, term_text, act_text, guard_text, action_text, version_line, keyed_text, sort_text, cell_line, value_text, tag_line, kind_name, same_text, depends_line, actions_line, on_line, tag_text, slack_text, source_head, source_line}
+use Rattle.flu_grammar.specs.Means.{AllDiffer, IfWritten}
+use Rattle.flu_grammar.specs.Terms.{MeansTerm, means_number, means_value, means_key, means_time, means_read, means_held, means_inside, means_negative, means_negation, means_operation, MeansExpression}
+use Rattle.flu_grammar.specs.Actions.{MeansDeed, means_add, means_raise, means_set, means_clear, means_emit, means_flush, MeansAction}
+use Rattle.flu_grammar.specs.Declared.{DeclaredKind, kinds_in, actions_in}
+use Rattle.flu_grammar.specs.Jobs.{MeansDeclaredKind}
+use Rattle.flu_grammar.specs.Laws.{NormalFormIsShort}
+use Rattle.flu_grammar.proofs.JobTexts.{kinds_differ}
+use Rattle.flu_grammar.proofs.Lists.{differ_head, differ_tail, get_map}
+
+-- ---- lists
+-- each text of a list has at most so many bytes
+flat_few : {X : Type 0} (text : X → List ℕ) (m : ℕ) (test : X → Bool) → ((x : X) → test x ≡ true → length (text x) ≤ m) → (xs : List X)
+    → list_all test xs ≡ true → length (flat_map text xs) ≤ m * length xs
+flat_few text m test few [] all = omega arith
+flat_few text m test few (x ∷ xs) all =
+    let here = few x (and_left (test x) (list_all test xs) all) in
+    let more = flat_few text m test few xs (and_right (test x) (list_all test xs) all) in
+    omega (arith, here, more, length-append (text x) (flat_map text xs))
+
+-- texts one behind another
+three_long : (a b c : List ℕ) → length (a ++ b ++ c) ≡ length a + length b + length c
+three_long a b c = omega (arith, length-append (a ++ b) c, length-append a b)
+
+four_long : (a b c e : List ℕ) → length (a ++ b ++ c ++ e) ≡ length a + length b + length c + length e
+four_long a b c e = omega (arith, length-append (a ++ b ++ c) e, three_long a b c)
+
+five_long : (a b c e f : List ℕ) → length (a ++ b ++ c ++ e ++ f) ≡ length a + length b + length c + length e + length f
+five_long a b c e f = omega (arith, length-append (a ++ b ++ c ++ e) f, four_long a b c e)
+
+six_long : (a b c e f g : List ℕ) → length (a ++ b ++ c ++ e ++ f ++ g) ≡ length a + length b + length c + length e + length f + length g
+six_long a b c e f g = omega (arith, length-append (a ++ b ++ c ++ e ++ f) g, five_long a b c e f)
+
+seven_long : (a b c e f g h : List ℕ) → length (a ++ b ++ c ++ e ++ f ++ g ++ h) ≡ length a + length b + length c + length e + length f + length g + length h
+seven_long a b c e f g h = omega (arith, length-append (a ++ b ++ c ++ e ++ f ++ g) h, six_long a b c e f g)
+
+-- items with a mark between each two
+separated_few : {X : Type 0} (mark : List ℕ) (text : X → List ℕ) (xs : List X) → length (separated mark text xs) ≤ total (λ x. length mark + length (text x)) xs
+separated_few mark text [] = omega arith
+separated_few mark text (x ∷ xs) = omega (arith, length-append (text x) (flat_map (λ y. mark ++ text y) xs), others xs)
+  where
+    others : (ys : List _) → length (flat_map (λ y. mark ++ text y) ys) ≤ total (λ y. length mark + length (text y)) ys
+    others [] = omega arith
+    others (y ∷ ys) = omega (arith, length-append (mark ++ text y) (flat_map (λ z. mark ++ text z) ys), length-append mark (text y), others ys)
+
+total_sum : {X : Type 0} (f g : X → ℕ) (xs : List X) → total (λ x. f x + g x) xs ≡ total f xs + total g xs
+total_sum f g [] = refl
+total_sum f g (x ∷ xs) = omega (arith, total_sum f g xs)
+
+-- ---- names and numbers
+name_few : (name : List ℕ) → is_name name ≡ true → length name ≤ 32
+name_few name e = true_le (length name) 32 (and_right _ (nat_le (length name) 32) (and_left _ _ e))
+
+digits : (k n : ℕ) → 0 < k → n < 10 ^ k → n < 10 ^ 64 → length (decimal n) ≤ k
+digits k n some small fits = length-decimal-le_wide k n some small fits
+
+module _ (families : List Family) (named : list_all (λ (f : Family). is_name f.name) families ≡ true) where
+  family_few : (i : ℕ) → length (family_name (slice_get families i)) ≤ 32
+  family_few i = by (slice_get families i) refl
+    where
+      by : (o : Option Family) → slice_get families i ≡ o → length (family_name o) ≤ 32
+      by None e = omega arith
+      by (Some f) e = name_few f.name (passes_at (λ (g : Family). is_name g.name) families i f named e)
+
+  key_few : (o : Option Family) (keyed : Bool) (key : At) → family_fits o keyed key ≡ true → length (written_key key) ≤ 7
+  key_few None keyed key e = absurd cc
+  key_few (Some f) keyed at.Alone e = omega arith
+  key_few (Some f) keyed at.OwnKey e = omega arith
+  key_few (Some f) keyed (at.Fixed k) e =
+      let small = true_lt k key_count (and_right f.keyed (nat_lt k key_count) e) in
+      omega (arith, digits 5 k (omega arith) (omega (arith, small)) (omega (arith, small)), length-append (decimal k) (codes "]"))
+
+  cell_few : (keyed : Bool) (r : CellRef) → ref_fits families keyed r ≡ true → length (written_cell families r) ≤ 39
+  cell_few keyed r e =
+      let name = family_few r.family in
+      let key = key_few (slice_get families r.family) keyed r.at e in
+      omega (arith, name, key, length-append (family_name (slice_get families r.family)) (written_key r.at))
+
+  -- ---- expressions
+  -- what stands alone in it has few bytes
+  abbrev SmallTerm : Term → Type 0
+  SmallTerm (Literal n) = length (signed_decimal n) ≤ 39
+  SmallTerm EventValue = ⊤
+  SmallTerm EventKey = ⊤
+  SmallTerm EventTime = ⊤
+  SmallTerm (CellRead r) = length (written_cell families r) ≤ 39
+  SmallTerm (CellHeld r) = length (written_cell families r) ≤ 39
+  SmallTerm (Negative e) = SmallTerm e
+  SmallTerm (Negation e) = SmallTerm e
+  SmallTerm (Operation o a b) = SmallTerm a × SmallTerm b
+
+  literal_few : (n : ℤ) → is_literal n ≡ true → length (signed_decimal n) ≤ 39
+  literal_few (pos n) e = let small = true_lt n (2 ^ 63) e in omega (arith, digits 19 n (omega arith) (omega (arith, small)) (omega (arith, small)))
+  literal_few (negsuc n) e = absurd cc
+
+  small_term : (keyed has_value : Bool) (e : Expr) → expr_fits families keyed has_value e ≡ true → SmallTerm (term_of e)
+  small_term keyed has_value (Lit n) fits = literal_few n fits
+  small_term keyed has_value Value fits = tt
+  small_term keyed has_value Key fits = tt
+  small_term keyed has_value Time fits = tt
+  small_term keyed has_value (Read r) fits = cell_few keyed r fits
+  small_term keyed has_value (Has r) fits = cell_few keyed r fits
+  small_term keyed has_value (Neg' p e) fits = small_term keyed has_value e fits
+  small_term keyed has_value (Not' p e) fits = small_term keyed has_value e fits
+  small_term keyed has_value (Two' o p a q b) fits = (
+    small_term keyed has_value a (and_left (expr_fits families keyed has_value a) (expr_fits families keyed has_value b) fits),
+    small_term keyed has_value b (and_right (expr_fits families keyed has_value a) (expr_fits families keyed has_value b) fits),
+  )
+
+  op_few : (o : Op) → length (op_text o) ≤ 3
+  op_few op.Plus = omega arith
+  op_few op.Minus = omega arith
+  op_few op.Times = omega arith
+  op_few op.Less = omega arith
+  op_few op.LessEq = omega arith
+  op_few op.More = omega arith
+  op_few op.MoreEq = omega arith
+  op_few op.Same = omega arith
+  op_few op.Differs = omega arith
+  op_few op.Both = omega arith
+  op_few op.Either = omega arith
+
+  module _ (text : List ℕ) (keyed has_value : Bool) where
+    -- AN EXPRESSION has few bytes for each of its tokens
+    term_few : {e : Tree} {t : Term} → MeansTerm text families keyed has_value e t → SmallTerm t → length (term_text families t) ≤ 23 * length (spelled e) + 16
+    term_few (means_number n) small = omega (arith, small)
+    term_few (means_value at h) small = omega arith
+    term_few (means_key at h) small = omega arith
+    term_few (means_time at) small = omega arith
+    term_few (means_read r c means) small = omega (arith, small)
+    term_few (means_held at r c means) small = omega (arith, small)
+    term_few (means_inside at e t means) small = omega (arith, term_few means small, length-append (spelled e) (Any (w.Mark m.CloseParen) ∷ []))
+    term_few (means_negative at e t means) small = omega (arith, term_few means small, length-append (term_text families t) (codes ")"))
+    term_few (means_negation at e t means) small = omega (arith, term_few means small, length-append (term_text families t) (codes ")"))
+    term_few (means_operation o left right a b first second) small =
+        omega (
+          arith,
+          op_few o,
+          term_few first small.0,
+          term_few second small.1,
+          length-append (spelled left) (Any (op_word o) ∷ spelled right),
+          six_long (term_text families a) (codes " ") (op_text o) (codes " ") (term_text families b) (codes ")"),
+        )
+
+    expression_few : (e : Tree) (t : Term) → MeansExpression text families keyed has_value e t → SmallTerm t → length (term_text families t) ≤ 23 * length (spelled e) + 16
+    expression_few e t is small = term_few is.means small
+
+    -- ---- actions
+    abbrev SmallAct : PlainAct → Type 0
+    SmallAct (Adding r e) = (length (written_cell families r) ≤ 39) × SmallTerm e
+    SmallAct (Raising r e) = (length (written_cell families r) ≤ 39) × SmallTerm e
+    SmallAct (Setting r e) = (length (written_cell families r) ≤ 39) × SmallTerm e
+    SmallAct (Clearing r) = length (written_cell families r) ≤ 39
+    SmallAct (Emitting ps) = length (written_template families ps) ≤ 256
+    SmallAct (Flushing f ps) = length (written_template families ps) ≤ 256
+
+    abbrev SmallGuard : Option Term → Type 0
+    SmallGuard None = ⊤
+    SmallGuard (Some t) = SmallTerm t
+
+    good_term : (e : Expr) → is_good_expr families keyed has_value e ≡ true → SmallTerm (term_of e)
+    good_term e good = small_term keyed has_value e (and_left (expr_fits families keyed has_value e) (nat_le (height e) 32) good)
+
+    -- an action of a cell and an expression
+    cell_fits : (r : CellRef) (sort : Sort) (e : Expr) → ref_fits families keyed r && ref_has_sort families sort r && is_good_expr families keyed has_value e ≡ true
+        → (length (written_cell families r) ≤ 39) × SmallTerm (term_of e)
+    cell_fits r sort e fits = (
+      cell_few keyed r (and_left (ref_fits families keyed r) (ref_has_sort families sort r) (and_left (ref_fits families keyed r && ref_has_sort families sort r) (is_good_expr families keyed has_value e) fits)),
+      good_term e (and_right (ref_fits families keyed r && ref_has_sort families sort r) (is_good_expr families keyed has_value e) fits),
+    )
+
+    small_act : (a : Act) → act_fits families keyed has_value a ≡ true → SmallAct (plain_act a)
+    small_act (Add r e) fits = cell_fits r sort.Sum e fits
+    small_act (Raise r e) fits = cell_fits r sort.Max e fits
+    small_act (Set r e) fits = cell_fits r sort.Last e fits
+    small_act (Clear r) fits = cell_few keyed r fits
+    small_act (Emit ps) fits = true_le (length (written_template families ps)) 256 (and_right _ (is_short (written_template families ps)) fits)
+    small_act (Flush f ps) fits =
+        true_le (length (written_template families ps)) 256 (and_right _ (is_short (written_template families ps)) (and_right (is_keyed (slice_get families f)) (flush_template_fits families has_value ps) fits))
+
+    small_guard : (o : Option Expr) → guard_fits families keyed has_value o ≡ true → SmallGuard (option_map term_of o)
+    small_guard None fits = tt
+    small_guard (Some e) fits = good_term e fits
+
+    quoted_length : (bytes : List ℕ) → length (quoted bytes) ≡ length bytes + 2
+    quoted_length bytes = omega (arith, length-append bytes (34 ∷ []))
+
+    -- a word, a cell and an expression
+    cell_act : (word : List ℕ) (r : CellRef) (e : Tree) (t : Term) (signs : ℕ) → length word ≤ 6 → length (written_cell families r) ≤ 39
+        → length (term_text families t) ≤ 23 * length (spelled e) + 16 → length (spelled e) ≤ signs
+        → length (word ++ written_cell families r ++ codes " " ++ term_text families t) ≤ 23 * signs + 297
+    cell_act word r e t signs short cell term few =
+        omega (arith, short, cell, term, few, four_long word (written_cell families r) (codes " ") (term_text families t))
+
+    act_few : (at : ℕ) {deed : Deed} {act : PlainAct} → MeansDeed text families keyed has_value deed act → SmallAct act
+        → length (act_text families act) ≤ 23 * length (deed_signs at deed) + 297
+    act_few at (means_add r e c t cell term) small =
+        cell_act (codes "add ") c e t _ (omega arith) small.0 (expression_few e t term small.1) (omega (arith, length-append (cell_signs r) (spelled e)))
+    act_few at (means_raise r e c t cell term) small =
+        cell_act (codes "raise ") c e t _ (omega arith) small.0 (expression_few e t term small.1) (omega (arith, length-append (cell_signs r) (spelled e)))
+    act_few at (means_set r e c t cell term) small =
+        cell_act (codes "set ") c e t _ (omega arith) small.0 (expression_few e t term small.1) (omega (arith, length-append (cell_signs r) (spelled e)))
+    act_few at (means_clear r c cell) small = omega (arith, small)
+    act_few at (means_emit s ps means) small = omega (arith, small, quoted_length (written_template families ps))
+    act_few at (means_flush name s number ps family means) small =
+        omega (
+          arith,
+          small,
+          quoted_length (written_template families ps),
+          family_few number,
+          three_long (family_name (slice_get families number)) (codes " ") (quoted (written_template families ps)),
+        )
+
+    guard_few : (written : Option Tree) (guard : Option Term) → IfWritten (MeansExpression text families keyed has_value) written guard → SmallGuard guard
+        → length (guard_text families guard) ≤ 23 * length (guard_signs written) + 22
+    guard_few None None means small = omega arith
+    guard_few None (Some t) means small = absurd means
+    guard_few (Some e) None means small = absurd means
+    guard_few (Some e) (Some t) means small = omega (arith, expression_few e t means small)
+
+    action_few : (written : Action) (a : JobAction) → MeansAction text families keyed has_value written (plain_action a) → action_fits families keyed has_value a ≡ true
+        → length (action_text families (plain_action a)) ≤ 23 * length (action_signs written) + 319
+    action_few written a means fits =
+        let act = act_few written.at means.act (small_act a.act (and_left (act_fits families keyed has_value a.act) (guard_fits families keyed has_value a.guard) fits)) in
+        let guard = guard_few written.guard (option_map term_of a.guard) means.guard (small_guard a.guard (and_right (act_fits families keyed has_value a.act) (guard_fits families keyed has_value a.guard) fits)) in
+        omega (
+          arith,
+          act,
+          guard,
+          length-append (act_text families (plain_act a.act)) (guard_text families (option_map term_of a.guard)),
+          length-append (deed_signs written.at written.deed) (guard_signs written.guard),
+        )
+
+    actions_few : (ws : List Action) (js : List JobAction) → Pairs (MeansAction text families keyed has_value) ws (map plain_action js)
+        → list_all (action_fits families keyed has_value) js ≡ true
+        → total (λ a. 2 + length (action_text families a)) (map plain_action js) ≤ 23 * total (λ w. length (action_signs w)) ws + 321 * length js
+    actions_few [] [] means fits = omega arith
+    actions_few [] (a ∷ js) means fits = absurd means
+    actions_few (w ∷ ws) [] means fits = absurd means
+    actions_few (w ∷ ws) (a ∷ js) means fits =
+        let here = action_few w a means.0 (and_left (action_fits families keyed has_value a) (list_all (action_fits families keyed has_value) js) fits) in
+        let more = actions_few ws js means.1 (and_right (action_fits families keyed has_value a) (list_all (action_fits families keyed has_value) js) fits) in
+        omega (arith, here, more)
+
+  -- the line of a kind's actions
+  line_few : (name : List ℕ) (js : List PlainAction) → length name ≤ 32
+      → length (actions_line families name js) ≤ total (λ a. 2 + length (action_text families a)) js + 38
+  line_few name [] short = omega arith
+  line_few name (a ∷ js) short =
+      let items = separated (codes "; ") (action_text families) (a ∷ js) in
+      omega (
+        arith,
+        short,
+        separated_few (codes "; ") (action_text families) (a ∷ js),
+        four_long name (codes ": ") items line_end,
+      )
+
+-- ---- the actions of all kinds
+-- how many tokens the actions of a kind of this name have in a declaration
+abbrev size_of : List ℕ → List ℕ → Declaration → ℕ
+size_of text name y = total (λ (a : Action). length (action_signs a)) (actions_in text name y)
+
+action_tokens : (mark : Word) (js : List Action) → total (λ (a : Action). length (action_signs a)) js ≤ length (signs_between mark action_signs js)
+action_tokens mark [] = omega arith
+action_tokens mark (a ∷ js) = omega (arith, length-append (action_signs a) (flat_map (λ (y : Action). Any mark ∷ action_signs y) js), others js)
+  where
+    others : (ys : List Action) → total (λ (y : Action). length (action_signs y)) ys ≤ length (flat_map (λ (y : Action). Any mark ∷ action_signs y) ys)
+    others [] = omega arith
+    others (y ∷ ys) = omega (arith, length-append (Any mark ∷ action_signs y) (flat_map (λ (z : Action). Any mark ∷ action_signs z) ys), others ys)
+
+module _ (text : List ℕ) where
+  abbrev declared_name : DeclaredKind → List ℕ
+  declared_name k = k.name
+
+  -- actions are those of one kind at most
+  one_kind : (name : List ℕ) (actions : List Action) (ks : List DeclaredKind) → AllDiffer (map declared_name ks)
+      → total (λ (k : DeclaredKind). total (λ (a : Action). length (action_signs a)) (cond (bytes_eq name k.name) actions [])) ks
+      ≤ total (λ (a : Action). length (action_signs a)) actions
+  one_kind name actions [] differ = omega arith
+  one_kind name actions (k ∷ ks) differ = by_test (bytes_eq name k.name) refl (one_kind name actions ks (differ_tail k.name (map declared_name ks) differ))
+    where
+      by_test : (b : Bool) → bytes_eq name k.name ≡ b
+          → total (λ (j : DeclaredKind). total (λ (a : Action). length (action_signs a)) (cond (bytes_eq name j.name) actions [])) ks ≤ total (λ (a : Action). length (action_signs a)) actions
+          → total (λ (a : Action). length (action_signs a)) (cond b actions []) + total (λ (j : DeclaredKind). total (λ (a : Action). length (action_signs a)) (cond (bytes_eq name j.name) actions [])) ks
+          ≤ total (λ (a : Action). length (action_signs a)) actions
+      by_test false e more = omega (arith, more)
+      by_test true e more =
+          let none : total (λ (j : DeclaredKind). total (λ (a : Action). length (action_signs a)) (cond (bytes_eq name j.name) actions [])) ks ≡ 0 =
+          total_none (λ (j : DeclaredKind). total (λ (a : Action). length (action_signs a)) (cond (bytes_eq name j.name) actions [])) ks (λ i j at. other i j at (bytes_eq name j.name) refl) in
+          omega (arith, none)
+        where
+          other : (i : ℕ) (j : DeclaredKind) → slice_get ks i ≡ Some j → (c : Bool) → bytes_eq name j.name ≡ c
+              → total (λ (a : Action). length (action_signs a)) (cond c actions []) ≡ 0
+          other i j at false f = refl
+          other i j at true f =
+              let same : j.name ≡ k.name = sym ((bytes_decides name j.name).0 f) ∙ (bytes_decides name k.name).0 e in
+              absurd (differ_head k.name (map declared_name ks) differ i (get_map declared_name ks i j at ∙ ap (λ (n : List ℕ). Some n) same))
+
+  no_actions : (f : DeclaredKind → ℕ) → ((k : DeclaredKind) → f k ≡ 0) → (ks : List DeclaredKind) → total f ks ≡ 0
+  no_actions f none ks = total_none f ks (λ i k at. none k)
+
+  -- so a declaration's tokens are no fewer
+  one_declaration : (ks : List DeclaredKind) → AllDiffer (map declared_name ks) → (y : Declaration)
+      → total (λ (k : DeclaredKind). size_of text k.name y) ks ≤ length (declaration_signs y)
+  one_declaration ks differ (d.Cell name keyed sort) = omega (arith, no_actions (λ k. 0) (λ k. refl) ks)
+  one_declaration ks differ (d.Tag name keyed has_value) = omega (arith, no_actions (λ k. 0) (λ k. refl) ks)
+  one_declaration ks differ (d.Depends a b relation) = omega (arith, no_actions (λ k. 0) (λ k. refl) ks)
+  one_declaration ks differ (d.Source name file rate slack tags) = omega (arith, no_actions (λ k. 0) (λ k. refl) ks)
+  one_declaration ks differ (d.On kind actions) =
+      omega (arith, one_kind (name_of text kind) actions ks differ, action_tokens (w.Mark m.Semicolon) actions)
+
+  all_declarations : (ks : List DeclaredKind) → AllDiffer (map declared_name ks) → (ds : Declarations)
+      → total (λ (k : DeclaredKind). total (size_of text k.name) ds) ks ≤ length (flat_map declaration_signs ds)
+  all_declarations ks differ [] = omega (arith, no_actions (λ k. 0) (λ k. refl) ks)
+  all_declarations ks differ (y ∷ ds) =
+      omega (
+        arith,
+        one_declaration ks differ y,
+        all_declarations ks differ ds,
+        length-append (declaration_signs y) (flat_map declaration_signs ds),
+        total_sum (λ (k : DeclaredKind). size_of text k.name y) (λ (k : DeclaredKind). total (size_of text k.name) ds) ks,
+      )
+
+  -- the lines of all kinds
+  kinds_few : (families : List Family) (named : list_all (λ (f : Family). is_name f.name) families ≡ true) (ds : Declarations) (declared : List DeclaredKind) (ks : List Kind)
+      → Pairs (MeansDeclaredKind text families ds) declared (map plain_kind ks) → list_all (kind_fits families) ks ≡ true
+      → length (flat_map (on_line families) (map plain_kind ks)) ≤ 23 * total (λ (k : DeclaredKind). total (size_of text k.name) ds) declared + 10310 * length ks
+  kinds_few families named ds [] [] means fits = omega arith
+  kinds_few families named ds [] (k ∷ ks) means fits = absurd means
+  kinds_few families named ds (x ∷ xs) [] means fits = absurd means
+  kinds_few families named ds (x ∷ xs) (k ∷ ks) means fits =
+      let one = and_left (kind_fits families k) (list_all (kind_fits families) ks) fits in
+      let front = and_left (is_name k.name && nat_le (length k.actions) 32) (list_all (action_fits families k.keyed k.has_value) k.actions) one in
+      let all = and_right (is_name k.name && nat_le (length k.actions) 32) (list_all (action_fits families k.keyed k.has_value) k.actions) one in
+      let name = name_few k.name (and_left (is_name k.name) (nat_le (length k.actions) 32) front) in
+      let count = true_le (length k.actions) 32 (and_right (is_name k.name) (nat_le (length k.actions) 32) front) in
+      let is = means.0 in
+      let actions = subst (λ (b : Bool). Pairs (MeansAction text families b x.has_value) (flat_map (actions_in text x.name) ds) (map plain_action k.actions)) (sym is.keyed)
+      is.actions in
+      let actions' = subst (λ (b : Bool). Pairs (MeansAction text families k.keyed b) (flat_map (actions_in text x.name) ds) (map plain_action k.actions)) (sym is.has_value) actions in
+      let here = actions_few families named text k.keyed k.has_value (flat_map (actions_in text x.name) ds) k.actions actions' all in
+      let size = total-flat_map (λ (a : Action). length (action_signs a)) (actions_in text x.name) ds in
+      let line = line_few families named k.name (map plain_action k.actions) name in
+      let more = kinds_few families named ds xs ks means.1 (and_right (kind_fits families k) (list_all (kind_fits families) ks) fits) in
+      omega (arith, here, size, line, count, more, length-append (on_line families (plain_kind k)) (flat_map (on_line families) (map plain_kind ks)))
+
+-- ---- tokens
+signs_counted : (signs : List Sign) (tokens : List Token) → AreSigns signs tokens → length signs ≡ length tokens
+signs_counted [] [] are = refl
+signs_counted [] (t ∷ ts) are = absurd are
+signs_counted (s ∷ ss) [] are = absurd are
+signs_counted (s ∷ ss) (t ∷ ts) are = ap suc (signs_counted ss ts are.1)
+
+-- each token takes a byte of the text
+tokens_few : (text : List ℕ) (from : ℕ) (ts : List Token) (to : ℕ) → All (IsSpan text) ts → LeadsTo text from ts to → from + length ts ≤ to
+tokens_few text from [] to spans leads = let rises = leads.rises in omega (arith, rises)
+tokens_few text from (t ∷ ts) to spans leads =
+    let rises = leads.0.rises in
+    let span = (spans 0 t (omega arith)).rises in
+    let more = tokens_few text t.to ts to (λ k x lt. spans (suc k) x (omega (arith, lt))) leads.2 in
+    omega (arith, rises, span, more)
+
+-- ---- the other lines
+module _ (p : Program) where
+  kind_name_few : (i : ℕ) → length (kind_name (slice_get (map plain_kind p.kinds) i)) ≤ 32
+  kind_name_few i = subst (λ (o : Option PlainKind). length (kind_name o) ≤ 32) (sym (slice_get-map plain_kind p.kinds i)) (by (slice_get p.kinds i) refl)
+    where
+      by : (o : Option Kind) → slice_get p.kinds i ≡ o → length (kind_name (option_map plain_kind o)) ≤ 32
+      by None e = omega arith
+      by (Some k) e =
+          let fits = passes_at (kind_fits p.families) p.kinds i k p.kinds_fit e in
+          name_few k.name (and_left (is_name k.name) (nat_le (length k.actions) 32)
+          (and_left (is_name k.name && nat_le (length k.actions) 32) (list_all (action_fits p.families k.keyed k.has_value) k.actions) fits))
+
+  version_few : length (version_line p.version) ≤ 10
+  version_few = by (p.version == 2)
+    where
+      by : (b : Bool) → length (cond b (codes "version 2" ++ 10 ∷ []) []) ≤ 10
+      by true = omega arith
+      by false = omega arith
+
+  keyed_few : (b : Bool) → length (keyed_text b) ≤ 6
+  keyed_few true = omega arith
+  keyed_few false = omega arith
+
+  sort_few : (s : Sort) → length (sort_text s) ≤ 5
+  sort_few sort.Sum = omega arith
+  sort_few sort.Max = omega arith
+  sort_few sort.Last = omega arith
+
+  value_few : (b : Bool) → length (value_text b) ≤ 5
+  value_few true = omega arith
+  value_few false = omega arith
+
+  same_few : (b : Bool) → length (same_text b) ≤ 5
+  same_few true = omega arith
+  same_few false = omega arith
+
+  cell_line_few : (f : Family) → is_name f.name ≡ true → length (cell_line f) ≤ 49
+  cell_line_few f e =
+      omega (arith, name_few f.name e, keyed_few f.keyed, sort_few f.sort, four_long f.name (keyed_text f.keyed) (sort_text f.sort) line_end)
+
+  tag_line_few : (k : Kind) → kind_fits p.families k ≡ true → length (tag_line (plain_kind k)) ≤ 48
+  tag_line_few k fits =
+      let name = name_few k.name (and_left (is_name k.name) (nat_le (length k.actions) 32)
+      (and_left (is_name k.name && nat_le (length k.actions) 32) (list_all (action_fits p.families k.keyed k.has_value) k.actions) fits)) in
+      omega (arith, name, keyed_few k.keyed, value_few k.has_value, four_long k.name (keyed_text k.keyed) (value_text k.has_value) line_end)
+
+  depends_line_few : (y : Depend) → length (depends_line (map plain_kind p.kinds) y) ≤ 79
+  depends_line_few y =
+      let a = kind_name (slice_get (map plain_kind p.kinds) y.a) in
+      let b = kind_name (slice_get (map plain_kind p.kinds) y.b) in
+      omega (arith, kind_name_few y.a, kind_name_few y.b, same_few y.same, five_long a (codes " ") b (same_text y.same) line_end)
+
+  -- ---- sources
+  keys_few : (o : Bool) (ks : Keys) → keys_fit o ks ≡ true → length (keys_text ks) ≤ 14
+  keys_few o keys.Alone e = omega arith
+  keys_few o (keys.One k) e =
+      let small = true_lt k key_count (and_right o (nat_lt k key_count) e) in
+      omega (arith, digits 5 k (omega arith) (omega (arith, small)) (omega (arith, small)), length-append (decimal k) (codes "]"))
+  keys_few o (keys.Range lo hi) e =
+      let small = true_lt hi key_count (and_right (o && nat_le lo hi) (nat_lt hi key_count) e) in
+      let rises = true_le lo hi (and_right o (nat_le lo hi) (and_left (o && nat_le lo hi) (nat_lt hi key_count) e)) in
+      omega (
+        arith,
+        digits 5 lo (omega arith) (omega (arith, small, rises)) (omega (arith, small, rises)),
+        digits 5 hi (omega arith) (omega (arith, small)) (omega (arith, small)),
+        four_long (decimal lo) (codes "..") (decimal hi) (codes "]"),
+      )
+
+  tag_few : (t : TagRef) → tag_ref_fits p.kinds t ≡ true → (length (tag_text (map plain_kind p.kinds) t) ≤ 46) × (1 ≤ length (listed_tags t))
+  tag_few t fits = by (slice_get p.kinds t.kind) refl
+    where
+      many : (o : Bool) (ks : Keys) → keys_fit o ks ≡ true → 1 ≤ length (listed_keys ks)
+      many o keys.Alone e = omega arith
+      many o (keys.One k) e = omega arith
+      many o (keys.Range lo hi) e =
+          let rises = true_le lo hi (and_right o (nat_le lo hi) (and_left (o && nat_le lo hi) (nat_lt hi key_count) e)) in
+          omega (arith, rises, length-range_with_len lo (hi + 1 - lo))
+
+      by : (o : Option Kind) → slice_get p.kinds t.kind ≡ o → (length (tag_text (map plain_kind p.kinds) t) ≤ 46) × (1 ≤ length (listed_tags t))
+      by None e = absurd (let none : listed_kind_fits None t.keys ≡ true = subst (λ o. listed_kind_fits o t.keys ≡ true) e fits in cc)
+      by (Some k) e =
+          let here : keys_fit k.keyed t.keys ≡ true = subst (λ o. listed_kind_fits o t.keys ≡ true) e fits in (
+            omega (arith, kind_name_few t.kind, keys_few k.keyed t.keys here, length-append (kind_name (slice_get (map plain_kind p.kinds) t.kind)) (keys_text t.keys)),
+            omega (arith, many k.keyed t.keys here, length-map (listed_keys t.keys) (λ (n : ℕ). tag t.kind n)),
+          )
+
+  -- the tags of a source, which are itags
+  tags_few : (ts : List TagRef) → list_all (tag_ref_fits p.kinds) ts ≡ true
+      → total (λ t. 2 + length (tag_text (map plain_kind p.kinds) t)) ts ≤ 48 * length (flat_map listed_tags ts)
+  tags_few [] fits = omega arith
+  tags_few (t ∷ ts) fits =
+      let here = tag_few t (and_left (tag_ref_fits p.kinds t) (list_all (tag_ref_fits p.kinds) ts) fits) in
+      let text = here.0 in
+      let some = here.1 in
+      let more = tags_few ts (and_right (tag_ref_fits p.kinds t) (list_all (tag_ref_fits p.kinds) ts) fits) in
+      omega (arith, text, some, more, length-append (listed_tags t) (flat_map listed_tags ts))
+
+  slack_few : (n : ℕ) → n ≤ 60000 → length (slack_text n) ≤ 12
+  slack_few n small = by (nat_lt 0 n)
+    where
+      by : (b : Bool) → length (cond b (codes " slack " ++ decimal n) []) ≤ 12
+      by true = omega (arith, digits 5 n (omega arith) (omega (arith, small)) (omega (arith, small)))
+      by false = omega arith
+
+  source_few : (s : Source) → source_fits p.kinds s ≡ true → length (source_line (map plain_kind p.kinds) s) ≤ 331 + 48 * length (tags_of_source s)
+  source_few s fits =
+      let five = and_left (is_name s.name && is_file_text s.file && nat_le s.rate 1000000000 && nat_le s.slack 60000 && nat_lt 0 (length s.tags) && list_all (tag_ref_fits p.kinds) s.tags) _ fits in
+      let tags = and_right (is_name s.name && is_file_text s.file && nat_le s.rate 1000000000 && nat_le s.slack 60000 && nat_lt 0 (length s.tags)) (list_all (tag_ref_fits p.kinds) s.tags) five in
+      let four = and_left (is_name s.name && is_file_text s.file && nat_le s.rate 1000000000 && nat_le s.slack 60000) (nat_lt 0 (length s.tags))
+      (and_left (is_name s.name && is_file_text s.file && nat_le s.rate 1000000000 && nat_le s.slack 60000 && nat_lt 0 (length s.tags)) (list_all (tag_ref_fits p.kinds) s.tags) five) in
+      let slack = true_le s.slack 60000 (and_right (is_name s.name && is_file_text s.file && nat_le s.rate 1000000000) (nat_le s.slack 60000) four) in
+      let three = and_left (is_name s.name && is_file_text s.file && nat_le s.rate 1000000000) (nat_le s.slack 60000) four in
+      let rate = true_le s.rate 1000000000 (and_right (is_name s.name && is_file_text s.file) (nat_le s.rate 1000000000) three) in
+      let two = and_left (is_name s.name && is_file_text s.file) (nat_le s.rate 1000000000) three in
+      let name = name_few s.name (and_left (is_name s.name) (is_file_text s.file) two) in
+      let file = true_le (length s.file) 256 (and_right (nat_lt 0 (length s.file)) (is_short s.file) (and_left (nat_lt 0 (length s.file) && is_short s.file) _ (and_right (is_name s.name) (is_file_text s.file) two))) in
+      let items = separated (codes ", ") (tag_text (map plain_kind p.kinds)) s.tags in
+      let listed = separated_few (codes ", ") (tag_text (map plain_kind p.kinds)) s.tags in
+      let few = tags_few s.tags tags in
+      omega (
+        arith,
+        name,
+        file,
+        listed,
+        few,
+        slack_few s.slack slack,
+        digits 10 s.rate (omega arith) (omega (arith, rate)) (omega (arith, rate)),
+        three_long (source_head s) items line_end,
+        length-append s.file (34 ∷ []),
+        seven_long s.name (codes " ") (quoted s.file) (codes " rate ") (decimal s.rate) (slack_text s.slack) (codes ": "),
+      )
+
+  sources_few : (at : ℕ) (ss : List Source) → list_all (source_fits p.kinds) ss ≡ true
+      → length (flat_map (source_line (map plain_kind p.kinds)) ss) ≤ 331 * length ss + 48 * length (itags_of_sources at ss)
+  sources_few at [] fits = omega arith
+  sources_few at (s ∷ ss) fits =
+      let here = source_few s (and_left (source_fits p.kinds s) (list_all (source_fits p.kinds) ss) fits) in
+      let more = sources_few (at + 1) ss (and_right (source_fits p.kinds s) (list_all (source_fits p.kinds) ss) fits) in
+      let pair : Tag → Tag × ℕ = λ t. (t, at) in
+      omega (
+        arith,
+        here,
+        more,
+        length-append (source_line (map plain_kind p.kinds) s) (flat_map (source_line (map plain_kind p.kinds)) ss),
+        length-append (map pair (tags_of_source s)) (itags_of_sources (at + 1) ss),
+        length-map (tags_of_source s) pair,
+      )
+
+  tag_lines_few : (ks : List Kind) → list_all (kind_fits p.families) ks ≡ true → length (flat_map tag_line (map plain_kind ks)) ≤ 48 * length ks
+  tag_lines_few [] fits = omega arith
+  tag_lines_few (k ∷ ks) fits =
+      let here = tag_line_few k (and_left (kind_fits p.families k) (list_all (kind_fits p.families) ks) fits) in
+      let more = tag_lines_few ks (and_right (kind_fits p.families k) (list_all (kind_fits p.families) ks) fits) in
+      omega (arith, here, more, length-append (tag_line (plain_kind k)) (flat_map tag_line (map plain_kind ks)))
+
+  depends_lines_few : (ys : List Depend) → length (flat_map (depends_line (map plain_kind p.kinds)) ys) ≤ 79 * length ys
+  depends_lines_few [] = omega arith
+  depends_lines_few (y ∷ ys) =
+      omega (arith, depends_line_few y, depends_lines_few ys, length-append (depends_line (map plain_kind p.kinds) y) (flat_map (depends_line (map plain_kind p.kinds)) ys))
+
+-- ---- the whole
+pub normal_form_is_short : EachIsSpan → NormalFormIsShort
+normal_form_is_short spans p bytes is =
+    let ds = is.written.declarations in
+    let kinds = map plain_kind p.kinds in
+    let declared = flat_map (kinds_in bytes) ds in
+    let tokens = tokens_few bytes 0 is.tokens (length bytes) (spans bytes is.tokens is.text.utf8 is.cut) is.cut in
+    let signs = signs_counted _ is.tokens is.grammar.spelled in
+    let weights = all_declarations bytes declared (kinds_differ bytes ds is.means.own_names) ds in
+    let actions = kinds_few bytes p.families p.families_fit ds declared p.kinds is.means.kinds p.kinds_fit in
+    let cells = flat_few cell_line 49 (λ (f : Family). is_name f.name) (cell_line_few p) p.families p.families_fit in
+    let tags = tag_lines_few p p.kinds p.kinds_fit in
+    let depends = depends_lines_few p p.depends in
+    let sources = sources_few p 0 p.sources p.sources_fit in
+    let short = is.text.short in
+    let a = p.few_families in
+    let b = p.few_kinds in
+    let c = p.few_depends in
+    let e = p.few_sources in
+    let f = p.few_itags in
+    omega (
+      arith,
+      tokens,
+      signs,
+      weights,
+      actions,
+      cells,
+      tags,
+      depends,
+      sources,
+      short,
+      a,
+      b,
+      c,
+      e,
+      f,
+      version_few p,
+      length-append (version_signs is.written.version) (flat_map declaration_signs ds),
+      six_long (version_line p.version) (flat_map cell_line p.families) (flat_map tag_line kinds) (flat_map (depends_line kinds) p.depends)
+          (flat_map (on_line p.families) kinds) (flat_map (source_line kinds) p.sources),
+    )

@@ -1,0 +1,135 @@
+#!/usr/bin/env python3
+"""Stops a run of 100,000 rows behind each of its rounds in turn, and at random moments from outside, and resumes it from its
+checkpoint: what is written before and after is together the report of the whole.
+
+    docs/stop_and_resume.py PROGRAM [KILLS]
+
+A run is stopped behind a round by sources that have one row more than the rounds up to it need, and no `end`: its status is 6, and
+what it wrote and saved is that of these rounds. It is stopped from outside by SIGKILL, KILLS times (20 where none are asked for),
+after a time that is drawn; then what the report has behind the checkpoint's border is thrown away, as docs/GUIDE.md tells. It ends
+with status 1 at the first answer that is not as it should be, and else prints how often it stopped and resumed."""
+
+import json
+import os
+import random
+import subprocess
+import sys
+import tempfile
+import time
+
+JOB = """cell views keyed sum
+cell most keyed max
+tag view keyed int
+tag tick none
+depends view tick
+depends tick tick
+on view: add views[key] value; raise most[key] value
+on tick: flush views "page {key}: {cell}"; flush most "most of {key}: {cell}"
+"""
+PAGES = 20
+ROWS = 50_000
+ROUND = 4_096
+
+
+def job():
+    pages = f"view[0..{PAGES - 1}]"
+    return JOB + f'source a "a.csv" rate 100: {pages}\nsource b "b.csv" rate 100: {pages}\nsource t "t.csv" rate 1: tick\n'
+
+
+def rows(draw):
+    """The rows of each source: views at rising times, and a tick after each 100 time units."""
+    made = {}
+    for name, first in (("a.csv", 1), ("b.csv", 2)):
+        made[name] = [f"{first + 2 * i},view[{draw.randrange(PAGES)}],{draw.randrange(-5, 50)}" for i in range(ROWS)]
+    made["t.csv"] = [f"{100 * (i + 1)},tick" for i in range(2 * ROWS // 100)]
+    return made
+
+
+def write(folder, made, count=None):
+    """Writes the sources; those of the views have only so many rows and no `end`, where a count is given."""
+    for name, lines in made.items():
+        cut = count is not None and name != "t.csv"
+        text = lines[:count] if cut else [*lines, "end"]
+        with open(f"{folder}/{name}", "w") as it:
+            it.write("".join(f"{line}\n" for line in text))
+
+
+def run(program, folder, *options):
+    done = subprocess.run([program, "run", "views.job", *options], cwd=folder, capture_output=True)
+    return done.returncode, done.stdout, done.stderr.decode()
+
+
+def border_of(folder):
+    with open(f"{folder}/save") as it:
+        return json.load(it)["border"]
+
+
+def need(holds, what):
+    if not holds:
+        sys.exit(f"not as it should be: {what}")
+
+
+def before(text, border):
+    """The lines of a report up to a border; a last line that was cut is none."""
+    lines = text.split(b"\n")[:-1]
+    return b"".join(line + b"\n" for line in lines if int(line.split(b",")[0]) <= border)
+
+
+def behind_each_round(program, folder, made, whole):
+    stops = 0
+    for count in range(0, ROWS + ROUND, ROUND):
+        write(folder, made, count + 1)
+        status, first, line = run(program, folder, "--save", "save")
+        need(status == 6, f"status {status} of a run over {count} rows: {line}")
+        write(folder, made)
+        options = ["--resume", "save"] if os.path.exists(f"{folder}/save") else []
+        status, second, line = run(program, folder, "--save", "save", *options)
+        need(status == 0, f"status {status} of the run that goes on behind {count} rows: {line}")
+        need(first + second == whole, f"the reports before and after {count} rows are not the whole")
+        need(border_of(folder) == 2**63 - 1, "the border of the last checkpoint")
+        os.remove(f"{folder}/save")
+        stops += 1
+    return stops
+
+
+def killed(program, folder, made, whole, times, draw):
+    write(folder, made)
+    began = time.monotonic()
+    run(program, folder)
+    takes = time.monotonic() - began
+    stopped = 0
+    for _ in range(times):
+        if os.path.exists(f"{folder}/save"):
+            os.remove(f"{folder}/save")
+        with open(f"{folder}/report", "wb") as out:
+            child = subprocess.Popen([program, "run", "views.job", "--save", "save"], cwd=folder, stdout=out)
+            time.sleep(draw.random() * takes)
+            child.kill()
+            stopped += child.wait() != 0
+        with open(f"{folder}/report", "rb") as it:
+            text = it.read()
+        options = ["--resume", "save"] if os.path.exists(f"{folder}/save") else []
+        kept = before(text, border_of(folder)) if options else b""
+        status, second, line = run(program, folder, *options)
+        need(status == 0, f"status {status} of the run that goes on behind a kill: {line}")
+        need(kept + second == whole, "the reports before and after a kill are not the whole")
+    return stopped
+
+
+def main():
+    program = os.path.abspath(sys.argv[1])
+    times = int(sys.argv[2]) if len(sys.argv) > 2 else 20
+    draw = random.Random(1)
+    with tempfile.TemporaryDirectory() as folder:
+        made = rows(draw)
+        with open(f"{folder}/views.job", "w") as it:
+            it.write(job())
+        write(folder, made)
+        status, whole, line = run(program, folder)
+        need(status == 0 and whole, f"status {status} of the whole run: {line}")
+        rounds = behind_each_round(program, folder, made, whole)
+        kills = killed(program, folder, made, whole, times, draw)
+        print(f"{len(whole)} bytes of report; stopped behind {rounds} rounds and {kills} of {times} times from outside, and resumed each time")
+
+
+main()
