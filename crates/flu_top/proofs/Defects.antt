@@ -16,7 +16,8 @@ good_or_bad Unread texts left p good bad = bad
 good_or_bad Whole texts left p good bad = let e = sym good ∙ bad.1 in cc
 good_or_bad InRounds texts left p good bad = let e = sym (good bad.at bad.source bad.is) ∙ bad.defect in cc
 
-met_in_round : LawOfMeeting → (p : Program) (o : Opening) (lines : ℕ → List Next) (text : List ℕ) (put : Option (List ℕ)) (fault : SourceFault) → MeetsDefect p o lines text put fault → HasDefectIn p lines
+met_in_round : LawOfMeeting → (p : Program) (o : Opening) (lines : ℕ → List Next) (text : List ℕ) (put : Option (List ℕ)) (fault : SourceFault)
+    → MeetsDefect p o lines text put fault → HasDefectIn p lines
 met_in_round meeting p o lines text put fault met =
     let found = met.meets.source in record {
       at = fault.source;
@@ -24,7 +25,8 @@ met_in_round meeting p o lines text put fault met =
       is = found.1;
       row = fault.row;
       why = fault.why;
-      defect = meeting p.kinds found.0 rows_in_round met.border (lines fault.source) (met.ran.before fault.source) (met.meets.now fault.source) fault.row fault.why found.2;
+      defect = meeting p.kinds found.0 rows_in_round met.border (lines fault.source) (met.ran.before fault.source) (met.meets.now fault.source)
+          fault.row fault.why found.2;
     }
 
 pub met_defect : LawOfMeeting → (reading : Reading) (command : Command) (left now : Contents) (p : Program) (text : List ℕ) (fault : SourceFault)

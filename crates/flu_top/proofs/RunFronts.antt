@@ -1,27 +1,25 @@
 -- What a run of good sources wrote is a front of its report.
-use Rattle.std.proofs.Common.{◌≡◌, refl, sym, ap, ◌∙◌, subst, ℕ, ◌+◌, ◌≤◌, List, [], ◌∷◌, ◌++◌, length, take, Option, Some, None, Ok, inl, inr, append_assoc, arith}
+use Rattle.std.proofs.Common.{◌≡◌, sym, ap, ◌∙◌, subst, ℕ, ◌+◌, ◌≤◌, List, [], ◌∷◌, ◌++◌, length, take, Option, Some, Ok, inl, inr, append_assoc, arith}
 use Rattle.std.proofs.Math.Seq.{take-append_seam, take-append-add}
 use Rattle.std.proofs.lemmas.List.{append-nil, take-append-le}
 use Rattle.flu_lemmas.proofs.Told.{of_told, told_same, told_weaker}
 use Rattle.flu_outside.specs.Outside.{WhereTold, Contents, Appends}
 use Rattle.flu_outside.specs.Writing.{AppendsAll}
-use Rattle.flu_model.specs.declared.events.Item.{Item}
 use Rattle.flu_model.specs.declared.jobs.Program.{Program}
 use Rattle.flu_model.specs.Contents.{nothing_held, Contents as State}
 use Rattle.flu_grammar.specs.Laws.{JobsAreGrammar}
-use Rattle.flu_rows.specs.declared.rows.Next.{Next}
 use Rattle.flu_streams.specs.Borders.{LawOfBorders, ItemsAreCut, up_to, beyond}
-use Rattle.flu_streams.specs.declared.border.Border.{Border}
 use Rattle.flu_streams.specs.declared.faults.SourceFault.{SourceFault}
 use Rattle.flu_rounds.specs.Coming.{LawOfReportFronts, LawOfNextReportFronts}
-use Rattle.flu_rounds.specs.Written.{AreSound, RanFrom, WouldWriteFrom, lines_in}
+use Rattle.flu_rounds.specs.Written.{AreSound, RanFrom}
 use Rattle.flu_words.specs.Words.{Command, Run, RunOptions, command_in}
 use Rattle.flu_top.specs.Behind.{Named, HasJob, emptied_each, lists_behind, report_behind}
 use Rattle.flu_top.specs.Openings.{Opening, report_from}
 use Rattle.flu_top.specs.Starting.{StartsFrom, CanStart, Leaves, LeavesAnything}
 use Rattle.flu_top.specs.Wants.{job_wanted, if_named, how_read, texts_named}
 use Rattle.flu_top.specs.Reading.{InRounds, HaveWritten, ReportsNext, lines_behind, rows_in_round}
-use Rattle.flu_top.specs.Done.{HasPlanAsked, IsGood, IsDone, WhereKnown, AppendsInto, Wrote, WroteRounds, WroteSome, WroteUnsaved, WroteForMemory, WroteForPut, WroteIntoRound, WrotePart}
+use Rattle.flu_top.specs.Done.{HasPlanAsked, IsGood, IsDone, WhereKnown, AppendsInto, Wrote}
+use Rattle.flu_top.specs.Done.{WroteRounds, WroteSome, WroteUnsaved, WroteForMemory, WroteForPut, WroteIntoRound, WrotePart}
 use Rattle.flu_top.specs.Causes.{HasSourceFault, IsMetInRounds}
 use Rattle.flu_top.specs.Outcome.{Outside, Outcome}
 use Rattle.flu_top.specs.Outcome as cases
@@ -31,12 +29,16 @@ use Rattle.flu_top.proofs.SameJob.{same_good}
 use Rattle.flu_top.proofs.Statuses.{same_command, no_command}
 
 -- ---- bytes
+-- a front of a text stands behind what was there
+abbrev AppendsFront : List ℕ → List ℕ → List ℕ → Type 0
+AppendsFront text old new = (n : ℕ) × Appends n text old new
+
 -- a text that was written is a front of what begins with it
-appends_front : (text rest whole old new : List ℕ) → whole ≡ text ++ rest → new ≡ old ++ text → (n : ℕ) × Appends n whole old new
+appends_front : (text rest whole old new : List ℕ) → whole ≡ text ++ rest → new ≡ old ++ text → AppendsFront whole old new
 appends_front text rest whole old new is wrote =
     (length text, wrote ∙ ap (λ bytes. old ++ bytes) (sym (ap (take (length text)) is ∙ take-append_seam text rest)))
 
-appends_more : (text more rest whole old new : List ℕ) → whole ≡ (text ++ more) ++ rest → AppendsInto text more old new → (n : ℕ) × Appends n whole old new
+appends_more : (text more rest whole old new : List ℕ) → whole ≡ (text ++ more) ++ rest → AppendsInto text more old new → AppendsFront whole old new
 appends_more text more rest whole old new is wrote =
     let n = wrote.0 in
     let few : n ≤ length more = omega (arith, wrote.1) in
@@ -49,143 +51,171 @@ appends_more text more rest whole old new is wrote =
 HasFront : Command → List ℕ → Contents → Option (List ℕ) → Option (List ℕ) → Type 0
 HasFront command job left had has =
     (q : Program) × HasJob (Named job) left q
-    × ((o : Opening) × StartsFrom command left q o × WhereTold had has (λ old new. (n : ℕ) × Appends n (report_from o (texts_named command) left q) old new))
+    × ((o : Opening) × StartsFrom command left q o × WhereTold had has (AppendsFront (report_from o (texts_named command) left q)))
 
-module _ (jobs : JobsAreGrammar) (fronts : (border : Option ℕ) (opening : State) → LawOfReportFronts border opening) (nexts : (border : Option ℕ) (opening : State) → LawOfNextReportFronts border opening) (job : List ℕ) (plan : Option (List ℕ)) (options : RunOptions) (left : Contents) (p : Program) (good : IsGood (Run job plan options) left p) where
-  sound_of : (q : Program) → HasJob (Named job) left q → AreSound q (lines_behind (texts_named (Run job plan options)) left q)
-  sound_of q has = same_good InRounds (texts_named (Run job plan options)) left p q (same_job jobs (Named job) left p q good.has has) good.sources
+-- the laws of fronts, of each opening
+abbrev ReportFronts : Type 0
+ReportFronts = (border : Option ℕ) (opening : State) → LawOfReportFronts border opening
+
+abbrev NextReportFronts : Type 0
+NextReportFronts = (border : Option ℕ) (opening : State) → LawOfNextReportFronts border opening
+
+module _ (jobs : JobsAreGrammar) (fronts : ReportFronts) (nexts : NextReportFronts)
+    (job : List ℕ) (plan : Option (List ℕ)) (options : RunOptions) (left : Contents) (p : Program) (good : IsGood (Run job plan options) left p) where
+  abbrev whole : Command
+  whole = Run job plan options
+
+  abbrev texts : List (List ℕ)
+  texts = texts_named (Run job plan options)
+
+  sound_of : (q : Program) → HasJob (Named job) left q → AreSound q (lines_behind texts left q)
+  sound_of q has = same_good InRounds texts left p q (same_job jobs (Named job) left p q good.has has) good.sources
 
   front_of : (q : Program) (o : Opening) (border : Option ℕ) (text : List ℕ) → HasJob (Named job) left q
-      → RanFrom q rows_in_round o.border o.cells (lines_behind (texts_named (Run job plan options)) left q) border text
-      → (rest : List ℕ) × (report_from o (texts_named (Run job plan options)) left q ≡ text ++ rest)
+      → RanFrom q rows_in_round o.border o.cells (lines_behind texts left q) border text
+      → (rest : List ℕ) × (report_from o texts left q ≡ text ++ rest)
   unfolding lists_behind
   front_of q o border text has ran =
-      fronts o.border o.cells q rows_in_round (emptied_each (texts_named (Run job plan options)) left) border text (omega arith) (sound_of q has) ran
+      fronts o.border o.cells q rows_in_round (emptied_each texts left) border text (omega arith) (sound_of q has) ran
 
-  next_of : (q : Program) (o : Opening) (text more : List ℕ) (put : Option (List ℕ)) → HasJob (Named job) left q → ReportsNext q o (lines_behind (texts_named (Run job plan options)) left q) text put more
-      → (rest : List ℕ) × (report_from o (texts_named (Run job plan options)) left q ≡ (text ++ more) ++ rest)
+  next_of : (q : Program) (o : Opening) (text more : List ℕ) (put : Option (List ℕ)) → HasJob (Named job) left q
+      → ReportsNext q o (lines_behind texts left q) text put more
+      → (rest : List ℕ) × (report_from o texts left q ≡ (text ++ more) ++ rest)
   unfolding lists_behind
   next_of q o text more put has round =
-      nexts o.border o.cells q rows_in_round (emptied_each (texts_named (Run job plan options)) left) round.border text (text ++ more) round.now round.end (omega arith) (sound_of q has) round.ran round.next
+      nexts o.border o.cells q rows_in_round (emptied_each texts left) round.border text (text ++ more) round.now round.end (omega arith) (sound_of q has)
+      round.ran round.next
 
-  nothing : (had has : Option (List ℕ)) → has ≡ had → HasFront (Run job plan options) job left had has
+  nothing : (had has : Option (List ℕ)) → has ≡ had → HasFront whole job left had has
   unfolding HasFront
   nothing had has same =
       let o = good.start.0 in (
         p,
         good.has,
-        (o, good.start.1,
-        subst (λ (now : Option (List ℕ)). WhereTold had now (λ old new. (n : ℕ) × Appends n (report_from o (texts_named (Run job plan options)) left p) old new)) (sym same)
-        (told_same (λ old new. (n : ℕ) × Appends n (report_from o (texts_named (Run job plan options)) left p) old new) had (λ bytes. (0, sym (append-nil bytes))))),
+        (
+          o,
+          good.start.1,
+          subst (λ (now : Option (List ℕ)). WhereTold had now (AppendsFront (report_from o texts left p))) (sym same)
+              (told_same (AppendsFront (report_from o texts left p)) had (λ bytes. (0, sym (append-nil bytes)))),
+        ),
       )
 
-  front_written : (q : Program) (o : Opening) (text rest : List ℕ) (had has : Option (List ℕ)) → HasJob (Named job) left q → StartsFrom (Run job plan options) left q o
-      → report_from o (texts_named (Run job plan options)) left q ≡ text ++ rest → WhereTold had has (AppendsAll text) → HasFront (Run job plan options) job left had has
+  front_written : (q : Program) (o : Opening) (text rest : List ℕ) (had has : Option (List ℕ)) → HasJob (Named job) left q → StartsFrom whole left q o
+      → report_from o texts left q ≡ text ++ rest → WhereTold had has (AppendsAll text) → HasFront whole job left had has
   unfolding HasFront
   front_written q o text rest had has its starts is wrote = (
     q,
     its,
-    (o, starts,
-    told_weaker (AppendsAll text) (λ old new. (n : ℕ) × Appends n (report_from o (texts_named (Run job plan options)) left q) old new) had has
-    (λ x y w. appends_front text rest (report_from o (texts_named (Run job plan options)) left q) x y is w) wrote),
+    (
+      o,
+      starts,
+      told_weaker (AppendsAll text) (AppendsFront (report_from o texts left q)) had has
+          (λ x y w. appends_front text rest (report_from o texts left q) x y is w) wrote,
+    ),
   )
 
-  more_written : (q : Program) (o : Opening) (text more rest : List ℕ) (had has : Option (List ℕ)) → HasJob (Named job) left q → StartsFrom (Run job plan options) left q o
-      → report_from o (texts_named (Run job plan options)) left q ≡ (text ++ more) ++ rest → WhereTold had has (AppendsInto text more) → HasFront (Run job plan options) job left had has
+  more_written : (q : Program) (o : Opening) (text more rest : List ℕ) (had has : Option (List ℕ)) → HasJob (Named job) left q → StartsFrom whole left q o
+      → report_from o texts left q ≡ (text ++ more) ++ rest → WhereTold had has (AppendsInto text more) → HasFront whole job left had has
   unfolding HasFront
   more_written q o text more rest had has its starts is wrote = (
     q,
     its,
-    (o, starts,
-    told_weaker (AppendsInto text more) (λ old new. (n : ℕ) × Appends n (report_from o (texts_named (Run job plan options)) left q) old new) had has
-    (λ x y w. appends_more text more rest (report_from o (texts_named (Run job plan options)) left q) x y is w) wrote),
+    (
+      o,
+      starts,
+      told_weaker (AppendsInto text more) (AppendsFront (report_from o texts left q)) had has
+          (λ x y w. appends_more text more rest (report_from o texts left q) x y is w) wrote,
+    ),
   )
 
   -- ---- by what is known of what was written
-  some_written : (a b : Option Contents) (had has : Option (List ℕ)) → a ≡ Some left → WroteRounds (Run job plan options) a b had has → HasFront (Run job plan options) job left had has
+  some_written : (a b : Option Contents) (had has : Option (List ℕ)) → a ≡ Some left → WroteRounds whole a b had has → HasFront whole job left had has
   some_written a b had has told wrote =
       let q = wrote.p in
-      let found = (of_told (λ x y. HasJob (Named job) x q × HasPlanAsked (Run job plan options) x q
-          × ((o : Opening) × StartsFrom (Run job plan options) x q o
-          × ((put : Option (List ℕ)) × HaveWritten q o (lines_behind (texts_named (Run job plan options)) x q) wrote.text put × Leaves (Run job plan options) put x y))) left a b told wrote.rounds).1 in
+      let found = (of_told (λ x y. HasJob (Named job) x q × HasPlanAsked whole x q
+      × ((o : Opening) × StartsFrom whole x q o
+      × ((put : Option (List ℕ)) × HaveWritten q o (lines_behind texts x q) wrote.text put × Leaves whole put x y))) left a b told wrote.rounds).1 in
       let o = found.2.0 in
       let written = found.2.2.1 in
       let front = front_of q o written.border wrote.text found.0 written.ran in
       front_written q o wrote.text front.0 had has found.0 found.2.1 front.1 wrote.wrote
 
-  unsaved_written : (Left : Option (List ℕ) → Contents → Contents → Type 0) (a b : Option Contents) (had has : Option (List ℕ)) → a ≡ Some left → WroteUnsaved Left (Run job plan options) a b had has
-      → HasFront (Run job plan options) job left had has
+  unsaved_written : (Left : Option (List ℕ) → Contents → Contents → Type 0) (a b : Option Contents) (had has : Option (List ℕ)) → a ≡ Some left
+      → WroteUnsaved Left whole a b had has
+      → HasFront whole job left had has
   unsaved_written Left a b had has told wrote =
       let q = wrote.p in
-      let found = (of_told (λ x y. HasJob (Named job) x q × HasPlanAsked (Run job plan options) x q
-          × ((o : Opening) × StartsFrom (Run job plan options) x q o
-          × ((put : Option (List ℕ)) × ReportsNext q o (lines_behind (texts_named (Run job plan options)) x q) wrote.text put wrote.more × Left put x y))) left a b told wrote.round).1 in
+      let found = (of_told (λ x y. HasJob (Named job) x q × HasPlanAsked whole x q
+      × ((o : Opening) × StartsFrom whole x q o
+      × ((put : Option (List ℕ)) × ReportsNext q o (lines_behind texts x q) wrote.text put wrote.more × Left put x y))) left a b told wrote.round).1 in
       let o = found.2.0 in
       let front = next_of q o wrote.text wrote.more found.2.2.0 found.0 found.2.2.1 in
       front_written q o (wrote.text ++ wrote.more) front.0 had has found.0 found.2.1 front.1 wrote.wrote
 
-  part_written : (a b : Option Contents) (had has : Option (List ℕ)) → a ≡ Some left → WroteIntoRound (Run job plan options) a b had has → HasFront (Run job plan options) job left had has
+  part_written : (a b : Option Contents) (had has : Option (List ℕ)) → a ≡ Some left → WroteIntoRound whole a b had has → HasFront whole job left had has
   part_written a b had has told wrote =
       let q = wrote.p in
-      let found = (of_told (λ x y. HasJob (Named job) x q × HasPlanAsked (Run job plan options) x q
-          × ((o : Opening) × StartsFrom (Run job plan options) x q o
-          × ((put : Option (List ℕ)) × ReportsNext q o (lines_behind (texts_named (Run job plan options)) x q) wrote.text put wrote.more × Leaves (Run job plan options) put x y))) left a b told wrote.round).1 in
+      let found = (of_told (λ x y. HasJob (Named job) x q × HasPlanAsked whole x q
+      × ((o : Opening) × StartsFrom whole x q o
+      × ((put : Option (List ℕ)) × ReportsNext q o (lines_behind texts x q) wrote.text put wrote.more × Leaves whole put x y))) left a b told wrote.round).1 in
       let o = found.2.0 in
       let front = next_of q o wrote.text wrote.more found.2.2.0 found.0 found.2.2.1 in
       more_written q o wrote.text wrote.more front.0 had has found.0 found.2.1 front.1 wrote.wrote
 
-  met_written : (a b : Option Contents) (had has : Option (List ℕ)) (q : Program) (fault : SourceFault) (text : List ℕ) → a ≡ Some left → HasSourceFault (Run job plan options) a b q fault text
-      → WhereTold had has (AppendsAll text) → HasFront (Run job plan options) job left had has
+  met_written : (a b : Option Contents) (had has : Option (List ℕ)) (q : Program) (fault : SourceFault) (text : List ℕ) → a ≡ Some left
+      → HasSourceFault whole a b q fault text
+      → WhereTold had has (AppendsAll text) → HasFront whole job left had has
   met_written a b had has q fault text told why wrote =
-      let found = (of_told (λ x y. HasJob (Named job) x q × HasPlanAsked (Run job plan options) x q × CanStart (Run job plan options) x q × IsMetInRounds (Run job plan options) x y q text fault) left a b told why.first).1 in
+      let found = (of_told (λ x y. HasJob (Named job) x q × HasPlanAsked whole x q × CanStart whole x q × IsMetInRounds whole x y q text fault) left a b told
+      why.first).1 in
       let met = found.3 in
       let front = front_of q met.opening met.met.border text found.0 met.met.ran in
       front_written q met.opening text front.0 had has found.0 met.starts front.1 wrote
 
-  done_written : (a b : Option Contents) (had has : Option (List ℕ)) (line : List ℕ) → a ≡ Some left → WhereTold a b (IsDone (Run job plan options) had has line) → HasFront (Run job plan options) job left had has
+  done_written : (a b : Option Contents) (had has : Option (List ℕ)) (line : List ℕ) → a ≡ Some left → WhereTold a b (IsDone whole had has line) → HasFront whole job left had has
   done_written a b had has line told done =
-      let found = (of_told (IsDone (Run job plan options) had has line) left a b told done).1 in
+      let found = (of_told (IsDone whole had has line) left a b told done).1 in
       let writes = found.3 in
-      let starts : StartsFrom (Run job plan options) left found.0 writes.0 = record { apart = found.2.good.start.1.apart; opens = writes.1 } in
+      let starts : StartsFrom whole left found.0 writes.0 = record { apart = found.2.good.start.1.apart; opens = writes.1 } in
       front_written found.0 writes.0 found.1 [] had has found.2.good.has starts (sym writes.2 ∙ sym (append-nil found.1)) found.5
 
-  rounds_or_nothing : (a b : Option Contents) (had has : Option (List ℕ)) → a ≡ Some left → WroteSome InRounds (Run job plan options) a b had has → HasFront (Run job plan options) job left had has
+  rounds_or_nothing : (a b : Option Contents) (had has : Option (List ℕ)) → a ≡ Some left → WroteSome InRounds whole a b had has → HasFront whole job left had has
   rounds_or_nothing a b had has told (inl none) = nothing had has none.nothing
   rounds_or_nothing a b had has told (inr wrote) = some_written a b had has told wrote
 
-  memory_written : (a b : Option Contents) (had has : Option (List ℕ)) → a ≡ Some left → WroteForMemory InRounds (Run job plan options) a b had has → HasFront (Run job plan options) job left had has
+  memory_written : (a b : Option Contents) (had has : Option (List ℕ)) → a ≡ Some left → WroteForMemory InRounds whole a b had has → HasFront whole job left had has
   memory_written a b had has told (inl some) = rounds_or_nothing a b had has told some
-  memory_written a b had has told (inr wrote) = unsaved_written (Leaves (Run job plan options)) a b had has told wrote
+  memory_written a b had has told (inr wrote) = unsaved_written (Leaves whole) a b had has told wrote
 
-  by_case : (words : List (List ℕ)) (old new : Outside) (status : ℕ) → Outcome words old new status → command_in words ≡ Ok (Run job plan options) → old.left ≡ Some left
-      → HasFront (Run job plan options) job left old.out new.out
+  by_case : (words : List (List ℕ)) (old new : Outside) (status : ℕ) → Outcome words old new status → command_in words ≡ Ok whole → old.left ≡ Some left
+      → HasFront whole job left old.out new.out
   by_case words old new status (cases.Done is command also line done heard) word told =
       done_written old.left new.left old.out new.out line told
-      (subst (λ (d : Command). WhereKnown (job_wanted d) old.left new.left (IsDone d old.out new.out line)) (same_command words command (Run job plan options) also word) done)
-  by_case words old new status (cases.BadWords is at bad files refused) word told = absurd (no_command words (Run job plan options) at word bad)
+      (subst (λ (d : Command). WhereKnown (job_wanted d) old.left new.left (IsDone d old.out new.out line)) (same_command words command whole also word) done)
+  by_case words old new status (cases.BadWords is at bad files refused) word told = absurd (no_command words whole at word bad)
   by_case words old new status (cases.BadJob is command also fault has refused) word told = nothing old.out new.out refused.nothing
   by_case words old new status (cases.Conflicts is command also fault has refused) word told = nothing old.out new.out refused.nothing
   by_case words old new status (cases.BadPlan is command also defect has refused) word told = nothing old.out new.out refused.nothing
   by_case words old new status (cases.BadSource is command also q fault text has wrote said) word told =
-      let same = same_command words command (Run job plan options) also word in
+      let same = same_command words command whole also word in
       met_written old.left new.left old.out new.out q fault text told (subst (λ (d : Command). HasSourceFault d old.left new.left q fault text) same has)
       (subst (λ (d : Command). Wrote (how_read d) text old.out new.out) same wrote)
   by_case words old new status (cases.ReadFailed is command also some said) word told =
       rounds_or_nothing old.left new.left old.out new.out told
-      (subst (λ (d : Command). WroteSome (how_read d) d old.left new.left old.out new.out) (same_command words command (Run job plan options) also word) some)
+      (subst (λ (d : Command). WroteSome (how_read d) d old.left new.left old.out new.out) (same_command words command whole also word) some)
   by_case words old new status (cases.WriteFailed is command also partly said) word told =
       part_written old.left new.left old.out new.out told
-      (subst (λ (d : Command). WrotePart (how_read d) d old.left new.left old.out new.out) (same_command words command (Run job plan options) also word) partly)
+      (subst (λ (d : Command). WrotePart (how_read d) d old.left new.left old.out new.out) (same_command words command whole also word) partly)
   by_case words old new status (cases.NoMemory is command also some said) word told =
       memory_written old.left new.left old.out new.out told
-      (subst (λ (d : Command). WroteForMemory (how_read d) d old.left new.left old.out new.out) (same_command words command (Run job plan options) also word) some)
+      (subst (λ (d : Command). WroteForMemory (how_read d) d old.left new.left old.out new.out) (same_command words command whole also word) some)
   by_case words old new status (cases.BadSave is command also defect has refused) word told = nothing old.out new.out refused.nothing
   by_case words old new status (cases.PutFailed is command also some said) word told =
       unsaved_written LeavesAnything old.left new.left old.out new.out told
-      (subst (λ (d : Command). WroteForPut d old.left new.left old.out new.out) (same_command words command (Run job plan options) also word) some)
+      (subst (λ (d : Command). WroteForPut d old.left new.left old.out new.out) (same_command words command whole also word) some)
   by_case words old new status (cases.BadTrace is command also fault has refused) word told = nothing old.out new.out refused.nothing
 
-pub runs_law : JobsAreGrammar → ((border : Option ℕ) (opening : State) → LawOfReportFronts border opening) → ((border : Option ℕ) (opening : State) → LawOfNextReportFronts border opening) → RunsWriteFronts
+pub runs_law : JobsAreGrammar → ReportFronts → NextReportFronts → RunsWriteFronts
 unfolding HasFront
 runs_law jobs fronts nexts words old new status outcome job plan options left p word told good =
     by_case jobs fronts nexts job plan options left p good words old new status outcome word told

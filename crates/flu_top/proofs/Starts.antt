@@ -1,14 +1,13 @@
 -- Programs that are the same job start alike, and what keeps a run from its start is that it can't start.
-use Rattle.std.proofs.Common.{◌≡◌, sym, ap, ◌∙◌, subst, ℕ, List, length, map, Option, Some, None}
-use Rattle.std.specs.Prelude.{Contains, option_map, slice_get, codes}
+use Rattle.std.proofs.Common.{◌≡◌, sym, ap, ◌∙◌, subst, ℕ, List, Option, Some, None}
+use Rattle.std.specs.Prelude.{Contains, option_map, slice_get}
 use Rattle.std.proofs.lemmas.Option.{slice_get-map, slice_get_within, get_or_from_slice_get}
 use Rattle.flu_outside.specs.Outside.{Contents as Files}
 use Rattle.flu_outside.specs.Taking.{bytes_left}
 use Rattle.flu_model.specs.declared.jobs.Source.{Source}
 use Rattle.flu_model.specs.declared.jobs.Program.{Program}
 use Rattle.flu_model.specs.Contents.{Contents}
-use Rattle.flu_model.specs.Erasure.{Job, IsSameJob}
-use Rattle.flu_parse.specs.Printing.{normal_form}
+use Rattle.flu_model.specs.Erasure.{IsSameJob}
 use Rattle.flu_save.specs.declared.fault.SaveFault.{SaveFault}
 use Rattle.flu_save.specs.Checkpoint.{IsSavable, checkpoint}
 use Rattle.flu_save.specs.Forms.{IsSave}
@@ -17,7 +16,7 @@ use Rattle.flu_streams.specs.Files.{files_of}
 use Rattle.flu_words.specs.Words.{Command}
 use Rattle.flu_top.specs.Behind.{emptied_each}
 use Rattle.flu_top.specs.Openings.{Opening, OpensAt, Opens}
-use Rattle.flu_top.specs.Starting.{IsNoSource, AreNoSources, StartsFrom, CanStart, IsFileOf, IsSameName, Saves, Resumes, HasBadCheckpoint}
+use Rattle.flu_top.specs.Starting.{IsNoSource, AreNoSources, CanStart, IsFileOf, IsSameName, Saves, Resumes, HasBadCheckpoint}
 use Rattle.flu_top.specs.Wants.{save_named, resume_named, job_and_plan_named}
 
 -- ---- two programs of one job
@@ -46,7 +45,8 @@ same_save p q t s bytes same save = record {
   };
 }
 
-same_opens : (resume : Option (List ℕ)) (texts : List (List ℕ)) (left : Files) (p q : Program) (o : Opening) → IsSameJob p q → Opens resume texts left p o → Opens resume texts left q o
+same_opens : (resume : Option (List ℕ)) (texts : List (List ℕ)) (left : Files) (p q : Program) (o : Opening) → IsSameJob p q → Opens resume texts left p o
+    → Opens resume texts left q o
 same_opens None texts left p q o same opens = opens
 same_opens (Some name) texts left p q o same opens = record {
   time = opens.time;
@@ -55,15 +55,19 @@ same_opens (Some name) texts left p q o same opens = record {
 }
 
 pub same_start : (command : Command) (left : Files) (p q : Program) → IsSameJob p q → CanStart command left p → CanStart command left q
-same_start command left p q same start = (start.0, record {
-  apart = same_apart command p q same start.1.apart;
-  opens = same_opens (resume_named command) (job_and_plan_named command) left p q start.0 same start.1.opens;
-})
+same_start command left p q same start = (
+  start.0,
+  record {
+    apart = same_apart command p q same start.1.apart;
+    opens = same_opens (resume_named command) (job_and_plan_named command) left p q start.0 same start.1.opens;
+  },
+)
 
 -- ---- what keeps a run from its start
 file_there : (p : Program) (number : ℕ) (source : Source) → slice_get p.sources number ≡ Some source → Contains (files_of p.sources) source.file
 file_there p number source is =
-    let there : slice_get (files_of p.sources) number ≡ Some source.file = slice_get-map (λ (s : Source). s.file) p.sources number ∙ ap (option_map (λ (s : Source). s.file)) is in
+    let there : slice_get (files_of p.sources) number ≡ Some source.file =
+    slice_get-map (λ (s : Source). s.file) p.sources number ∙ ap (option_map (λ (s : Source). s.file)) is in
     (number, slice_get_within (files_of p.sources) number source.file there, get_or_from_slice_get (files_of p.sources) number source.file source.file there)
 
 not_apart : (named : Option (List ℕ)) (p : Program) (number : ℕ) → IsFileOf named p number → ¬ IsNoSource named p
@@ -77,5 +81,7 @@ same_name_stops command left p number (Resumes other is) start = not_apart (resu
 -- bytes with a fault are no checkpoint, so that a command that is resumed from them can't start
 pub bad_checkpoint_stops : LawOfFaults → (command : Command) (left : Files) (p : Program) (fault : SaveFault) → HasBadCheckpoint command left p fault → ¬ CanStart command left p
 bad_checkpoint_stops none command left p fault bad start =
-    let opens : OpensAt p (bytes_left (emptied_each (job_and_plan_named command) left) bad.name) start.0 = subst (λ (resume : Option (List ℕ)). Opens resume (job_and_plan_named command) left p start.0) bad.named start.1.opens in
-    none p (bytes_left (emptied_each (job_and_plan_named command) left) bad.name) fault bad.first bad.is_fault opens.time start.0.cells opens.save
+    let texts = job_and_plan_named command in
+    let opens : OpensAt p (bytes_left (emptied_each texts left) bad.name) start.0 =
+    subst (λ (resume : Option (List ℕ)). Opens resume texts left p start.0) bad.named start.1.opens in
+    none p (bytes_left (emptied_each texts left) bad.name) fault bad.first bad.is_fault opens.time start.0.cells opens.save

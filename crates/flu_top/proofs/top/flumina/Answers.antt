@@ -10,7 +10,7 @@ returns-clause-outcome g c =
     (outcome_of _ _ _ _ _ _ c.do_words-ended.result c.do_words-ended.ensures.ends c.answer.ensures.heard)
 
 pub returns-clause-read : goal.returns-clause-read
-returns-clause-read g c = 
+returns-clause-read g c =
     subst (ReadOnly (map string_bytes c.args.words.now) _ _) (sym c.answer.ensures.status) (record { fronts = c.do_words-ended.ensures.fronts; only = c.do_words-ended.ensures.only })
 
 pub returns-clause-faults : goal.returns-clause-faults
