@@ -11,13 +11,12 @@ use Rattle.flu_rows.specs.declared.rows.Next.{Next}
 use Rattle.flu_streams.specs.declared.border.Border.{Border}
 use Rattle.flu_streams.specs.declared.border.Border.TheVariants.{At, Closed}
 use Rattle.flu_streams.specs.declared.faults.SourceFault.{SourceFault}
-use Rattle.flu_streams.specs.Borders.{beyond}
 use Rattle.flu_streams.specs.Files.{files_of, AreReadOut}
 use Rattle.flu_streams.specs.Good.{lists_of}
 use Rattle.flu_streams.specs.Rounds.{ComesFrom, IsRoundFault, lists_between, reports_in_turn, state_in_turn}
 use Rattle.flu_streams.specs.Holding.{AreHeldBehind, AreInAll, ClosedAreReadOut, AreClosed}
 use Rattle.flu_rounds.specs.declared.faults.RoundsFault.TheVariants.{Source as SourceDefect}
-pub use Rattle.flu_rounds.specs.Written.{AreSound, RanFrom, RanTo, WouldWriteFrom, WouldWrite, lines_in, text_from, text_up_from, text_until, text_up_to}
+pub use Rattle.flu_rounds.specs.Written.{AreSound, RanFrom, RanTo, WouldWriteFrom, WouldWrite, lines_in, lists_above, text_from, text_up_from, text_until, text_up_to}
 use Rattle.flu_rounds.specs.Standing.{Standing, Runs, IsRoundOf, IsSourceFault, StandsBehind, IsFirstFrom, round_report}
 
 -- ---- a run over files
@@ -37,11 +36,6 @@ pub record CameFrom (p : Program) (rows : ℕ) (border : Option ℕ) (opening : 
 -- from the first row on, and from the empty state
 abbrev pub CameTo : Program → ℕ → Option Files → Option Files → Standing → List ℕ → Type 0
 CameTo p rows start left now written = CameFrom p rows None nothing_held start left now written
-
--- the items above a border, where there is one
-abbrev pub lists_above : Option ℕ → List (List Item) → List (List Item)
-lists_above None lists = lists
-lists_above (Some t) lists = beyond t lists
 
 -- ALL OF THE RUN: no source has a defect, and the state and what was written are those of the fold of all rows above the border
 pub record HasRunFrom (p : Program) (border : Option ℕ) (opening : Contents) (was : Files) (now : Standing) (written : List ℕ) : Type 0 where

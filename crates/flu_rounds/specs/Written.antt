@@ -14,9 +14,15 @@ use Rattle.flu_rows.specs.declared.rows.Next.{Next}
 use Rattle.flu_rows.specs.Reading.{read_file}
 use Rattle.flu_streams.specs.declared.border.Border.{Border}
 use Rattle.flu_streams.specs.declared.border.Border.TheVariants.{At}
+use Rattle.flu_streams.specs.Borders.{beyond}
 use Rattle.flu_streams.specs.Rounds.{ComesFrom, IsRound, defect_in, lists_between}
 
 -- ---- lines and texts
+-- the items above a border, where there is one
+abbrev pub lists_above : Option ℕ → List (List Item) → List (List Item)
+lists_above None lists = lists
+lists_above (Some t) lists = beyond t lists
+
 -- the lines of the file of each source, by the source's number
 abbrev pub lines_in : Program → Files → ℕ → List Next
 lines_in p left i = option_map_or (λ (s : Source). read_file (bytes_left left s.file)) (slice_get p.sources i) []

@@ -18,7 +18,7 @@ use Rattle.flu_lemmas.proofs.Told.{told_both, told_then, told_weaker}
 use Rattle.flu_model.specs.Modes.{IsAccepted}
 use Rattle.flu_streams.specs.declared.faults.SourceFault.{SourceFault}
 use Rattle.flu_streams.specs.Files.{files_of, LeavesOthers}
-use Rattle.flu_rounds.specs.Coming.{lists_above}
+use Rattle.flu_rounds.specs.Written.{lists_above}
 use Rattle.flu_rounds.specs.Written.{AreSound, lines_in}
 use Rattle.flu_save.specs.Checkpoint.{save}
 use Rattle.flu_save.specs.Forms.{IsFaultOf}

@@ -7,7 +7,7 @@ use Rattle.flu_model.specs.declared.events.Item.{Item}
 use Rattle.flu_model.specs.Contents.{nothing_held}
 use Rattle.flu_model.specs.Folding.{final_state, final_outputs}
 use Rattle.flu_model.specs.Reports.{report}
-use Rattle.flu_rounds.specs.Coming.{lists_above}
+use Rattle.flu_rounds.specs.Written.{lists_above}
 use Rattle.flu_streams.specs.Borders.{up_to}
 use Rattle.flu_model.specs.Erasure.{job_of}
 use Rattle.flu_model.specs.declared.jobs.Program.{Program}

@@ -7,7 +7,7 @@ use Rattle.flu_model.specs.declared.jobs.Program.{Program}
 use Rattle.flu_model.specs.Contents.{Contents, nothing_held}
 use Rattle.flu_model.specs.Folding.{final_state, final_outputs}
 use Rattle.flu_model.specs.Reports.{report}
-use Rattle.flu_rounds.specs.Coming.{lists_above}
+use Rattle.flu_rounds.specs.Written.{lists_above}
 use Rattle.flu_save.specs.Forms.{IsSave}
 use Rattle.flu_top.specs.Behind.{emptied_each, lists_behind}
 
