@@ -1,10 +1,13 @@
-//! Tests of runs in rounds: by the engine that folds, by the net and by a tree of threads. It has no code of its own.
+//! Tests of runs in rounds: by the engine that folds, by the net, by a tree of threads and by one whose plan follows the counts. It has
+//! no code of its own.
 #![tactic(auto)]
 
 #[cfg(test)]
 mod drawn;
 #[cfg(test)]
 mod inputs;
+#[cfg(test)]
+mod plans;
 #[cfg(test)]
 mod rows;
 #[cfg(test)]

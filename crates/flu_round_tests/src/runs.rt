@@ -1,4 +1,4 @@
-//! Runs in rounds, on an engine and on a tree of threads.
+//! Runs in rounds, on an engine, on a tree of threads and on one whose plan follows the counts.
 
 ghost use Rattle.std.specs.Prelude.{◌≡◌, ◌≤◌, ◌<◌, ◌^◌, IfOk};
 ghost use Rattle.flu_cells.specs.Holding.{held};
@@ -7,8 +7,10 @@ ghost use Rattle.flu_model.specs.Sorts.{IsStateOf};
 ghost use Rattle.flu_streams.specs.declared.held.Stage.{Stage};
 ghost use Rattle.flu_rounds.specs.Standing.{StandsBehind};
 
+use flu_adaptive::Adaptive;
 use flu_cells::State;
 use flu_outside::{MemFiles, MemSink, write_all};
+use flu_plan::print_plan;
 use flu_rounds::{Begun, Border, Rounds, RoundsFault};
 use flu_run::TreeEngine;
 use flu_seq::{Engine, Gate};
@@ -27,6 +29,8 @@ pub enum Marks {
     Each,
     /// What the last one answered.
     Last,
+    /// What each round answered, and the plan that is in force behind it.
+    Plans,
 }
 
 /// Writes what a round answered, where it is to be told.
@@ -180,6 +184,61 @@ pub fn run_on_tree<G: Gate, R: Threads + Wait + Sync, B: Engine<R>>(
     for _ in 0..MOST {
         let answer = tree_round(rt, alloc, engine, files, out, &mut rounds);
         mark(alloc, out, marks, answer)?;
+        let Ok(Border::At(_)) = answer else {
+            return Ok(());
+        };
+    }
+    Ok(())
+}
+
+/// One round on an adaptive engine, in two halves with the batch between them.
+pub fn adaptive_round<G: Gate, R: Threads + Wait + Sync, B: Engine<R> + Drop>(
+    rt: &R,
+    alloc: Global,
+    engine: &mut Adaptive<G, R, B>,
+    files: &mut MemFiles,
+    out: &mut MemSink,
+    rounds: &mut Rounds,
+) -> Result<Border, RoundsFault>
+    requires program { program_of engine.old.checked ≡ rounds.old.held.program }
+    requires stage { rounds.old.held.stage ≡ Stage.Filling }
+    ensures stands { IfOk result (StandsBehind rounds.old.held rounds.new.held) }
+    ensures same { IfOk result (λ end. engine.new.checked ≡ engine.old.checked) }
+{
+    let checked = engine.checked();
+    let program = checked.program();
+    let Begun {
+        border,
+        opening,
+        rows,
+    } = rounds.begin(alloc, program, files)?;
+    let (state, outs) = engine.batch(rt, alloc, opening, &rows)?;
+    rounds.finish(alloc, program, out, state, outs)?;
+    Ok(border)
+}
+
+/// Runs the rounds on an adaptive engine until one is the last, or fails.
+pub fn run_adaptively<G: Gate, R: Threads + Wait + Sync, B: Engine<R> + Drop>(
+    rt: &R,
+    alloc: Global,
+    engine: &mut Adaptive<G, R, B>,
+    files: &mut MemFiles,
+    out: &mut MemSink,
+    rows: u32,
+    marks: Marks,
+) -> Result<(), Fail>
+    requires some { 1 ≤ rows }
+    requires few { rows ≤ 4096 }
+{
+    let checked = engine.checked();
+    let mut rounds = Rounds::new(alloc, checked.program(), rows)?;
+    for _ in 0..MOST {
+        let answer = adaptive_round(rt, alloc, engine, files, out, &mut rounds);
+        mark(alloc, out, marks, answer)?;
+        if matches!(marks, Marks::Plans) {
+            let plan = print_plan(alloc, checked.program(), engine.valid().plan())?;
+            write_all(out, plan.as_str().as_bytes())?;
+        }
         let Ok(Border::At(_)) = answer else {
             return Ok(());
         };

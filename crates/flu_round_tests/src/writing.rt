@@ -5,7 +5,8 @@ ghost use Rattle.flu_deps.specs.Checking.{program_of};
 ghost use Rattle.flu_deps.specs.Validated.{IsValidFor};
 
 use crate::inputs::{Input, accepted, files_of, planned};
-use crate::runs::{Marks, resume_on, run_on, run_on_tree, state_behind};
+use crate::runs::{Marks, resume_on, run_adaptively, run_on, run_on_tree, state_behind};
+use flu_adaptive::Adaptive;
 use flu_deps::{Checked, Valid};
 use flu_live::NetEngine;
 use flu_outside::MemSink;
@@ -129,7 +130,37 @@ fn trees<R: Abort + Threads + Wait + Sync>(
     Ok(())
 }
 
-/// Compares the rounds by the net and by the tree of threads, both by the same plan.
+/// Compares the rounds by a tree of threads whose plan follows the counts, from the first plan on.
+pub fn adapts<R: Abort + Threads + Wait + Sync>(
+    rt: &R,
+    alloc: Global,
+    checked: &Checked,
+    valid: &Valid,
+    first: Valid,
+    input: Input,
+    rows: u32,
+    marks: Marks,
+    wanted: &[u8],
+) -> Result<(), Fail>
+    requires valid { IsValidFor (program_of checked.now) valid.now }
+    requires first { IsValidFor (program_of checked.now) first }
+    requires some { 1 ≤ rows }
+    requires few { rows ≤ 4096 }
+{
+    let backup = NetEngine {
+        checked,
+        valid,
+        seed: 0,
+    };
+    let mut engine = Adaptive::new(alloc, checked, first, &OpenGate, backup)?;
+    let mut files = files_of(alloc, input)?;
+    let mut out = MemSink::with_room(alloc, ROOM)?;
+    run_adaptively(rt, alloc, &mut engine, &mut files, &mut out, rows, marks)?;
+    assert_eq!(rt; out.bytes(), wanted);
+    Ok(())
+}
+
+/// Compares the rounds by the net, by the tree of threads and by one whose plan follows the counts, all from the same plan on.
 fn works<R: Abort + Threads + Wait + Sync>(
     rt: &R,
     alloc: Global,
@@ -146,7 +177,38 @@ fn works<R: Abort + Threads + Wait + Sync>(
     assert!(rt; valid.is_some());
     let valid = valid.unwrap();
     nets(rt, alloc, checked, &valid, input, rows, marks, wanted)?;
-    trees(rt, alloc, checked, &valid, input, rows, marks, wanted)
+    trees(rt, alloc, checked, &valid, input, rows, marks, wanted)?;
+    follows(rt, alloc, checked, &valid, input, rows, marks, wanted)
+}
+
+/// Compares the rounds by a tree of threads whose plan follows the counts.
+pub fn follows<R: Abort + Threads + Wait + Sync>(
+    rt: &R,
+    alloc: Global,
+    checked: &Checked,
+    valid: &Valid,
+    input: Input,
+    rows: u32,
+    marks: Marks,
+    wanted: &[u8],
+) -> Result<(), Fail>
+    requires valid { IsValidFor (program_of checked.now) valid.now }
+    requires some { 1 ≤ rows }
+    requires few { rows ≤ 4096 }
+{
+    let first = planned(alloc, checked)?;
+    assert!(rt; first.is_some());
+    adapts(
+        rt,
+        alloc,
+        checked,
+        valid,
+        first.unwrap(),
+        input,
+        rows,
+        marks,
+        wanted,
+    )
 }
 
 /// Compares the rounds by each engine.

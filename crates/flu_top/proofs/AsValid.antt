@@ -1,5 +1,5 @@
 -- Commands that read a job and a plan as `valid` does, before they read more.
-use Rattle.std.proofs.Common.{◌≡◌, refl, sym, ap, ◌∙◌, subst, ℕ, List, [], ◌∷◌, Bool, Option, Some, None, inl, inr}
+use Rattle.std.proofs.Common.{◌≡◌, refl, sym, ◌∙◌, subst, ℕ, List, [], ◌∷◌, Bool, Option, Some, None, inl, inr, ◌⊎◌}
 use Rattle.std.specs.Prelude.{IsTrue, ◌++◌}
 use Rattle.std.proofs.lemmas.Bool.{false≢true}
 use Rattle.flu_outside.specs.Outside.{WhereTold, Contents}
@@ -15,7 +15,6 @@ use Rattle.flu_top.specs.Taking.{TookOnly}
 use Rattle.flu_top.specs.Behind.{WantedJob, Named, HasJob, HasPlan, job_files, plan_behind}
 use Rattle.flu_top.specs.TextFaults.{IsFirstTextFault}
 use Rattle.flu_top.specs.Wants.{job_wanted, plan_named, asks_accepted, resume_named, if_named, texts_named}
-use Rattle.flu_top.specs.Starting.{IsSameName, Saves, Resumes, HasBadCheckpoint}
 use Rattle.flu_top.specs.Done.{HasValidPlan, MayHaveJob, IsReadName}
 use Rattle.flu_top.specs.Causes.{HasJobFault}
 use Rattle.flu_top.specs.Ready.{AreTextsRead, IsReady}

@@ -1,5 +1,5 @@
 -- The demo job is run over the events that a seed draws.
-use Rattle.std.proofs.Common.{◌≡◌, refl, sym, ap, ◌∙◌, subst, ℕ, List, [], length, map, arith}
+use Rattle.std.proofs.Common.{◌≡◌, refl, sym, ap, ◌∙◌, subst, ℕ, List, [], length, map}
 use Rattle.std.specs.Prelude.{Result, Ok, Err, Option, IfErr}
 use Rattle.flu_outside.specs.Outside.{Contents}
 use Rattle.flu_model.specs.declared.events.Item.{Item}

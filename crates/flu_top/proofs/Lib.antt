@@ -10,6 +10,7 @@ pub mod Validations
 pub mod Plannings
 pub mod AsValid
 pub mod RunReports
+pub mod Checkpoints
 pub mod Roundings
 pub mod Runnings
 pub mod Simulations

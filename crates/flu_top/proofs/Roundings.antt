@@ -1,31 +1,46 @@
--- The rounds of a job's sources, one after another, and how they end.
-use Rattle.std.proofs.Common.{◌≡◌, ◌≢◌, refl, sym, ap, ◌∙◌, subst, ℕ, ◌-◌, ◌^◌, ◌<◌, ◌≤◌, List, [], ◌++◌, Option, Some, None, Result, Ok, Err, append_assoc, arith}
-use Rattle.std.specs.Prelude.{true, nat_lt}
+-- The rounds of a job's sources, one after another, what is put behind each, and how they end.
+use Rattle.std.proofs.Common.{◌≡◌, ◌≢◌, refl, sym, ap, ◌∙◌, subst, ℕ, ◌-◌, ◌^◌, ◌<◌, ◌≤◌, List, [], ◌∷◌, ◌++◌, Option, Some, None, Result, Ok, Err, inl, inr, ◌⊎◌, append_assoc, arith}
+use Rattle.std.specs.Prelude.{true, nat_lt, Contains, option_map}
 use Rattle.std.specs.Result.{IsErrAnd}
 use Rattle.std.proofs.lemmas.Bool.Decides.{nat_tests}
 use Rattle.std.proofs.lemmas.List.{append-nil}
-use Rattle.flu_lemmas.proofs.Named.{fronts_then, rose_behind}
-use Rattle.flu_lemmas.proofs.Told.{told_same, told_then, told_weaker}
-use Rattle.flu_outside.specs.Outside.{WhereTold, Contents, Rose}
+use Rattle.flu_lemmas.proofs.Named.{rose_behind}
+use Rattle.flu_lemmas.proofs.Told.{told_both, told_same, told_then, told_weaker}
+use Rattle.flu_outside.specs.declared.files.PutFault.{PutFault}
+use Rattle.flu_outside.specs.declared.files.PutFault.TheVariants.{Failed, NoMemory as NoMemoryToPut}
+use Rattle.flu_outside.specs.Outside.{WhereTold, Contents as Files, Rose, SameLeft, SameCounts}
 use Rattle.flu_outside.specs.Taking.{TookFronts}
 use Rattle.flu_outside.specs.Writing.{AppendsAll, AppendsPart}
+use Rattle.flu_cells.specs.declared.state.State.{State}
+use Rattle.flu_cells.specs.Holding.{held}
+use Rattle.flu_model.specs.declared.events.Item.{Item}
 use Rattle.flu_model.specs.declared.jobs.Program.{Program}
+use Rattle.flu_model.specs.Contents.{Contents}
+use Rattle.flu_model.specs.Folding.{final_state}
 use Rattle.flu_rows.specs.declared.rows.Next.{Next}
 use Rattle.flu_streams.specs.declared.border.Border.{Border}
 use Rattle.flu_streams.specs.declared.border.Border.TheVariants.{At, Closed}
 use Rattle.flu_streams.specs.declared.faults.SourceFault.{SourceFault}
-use Rattle.flu_streams.specs.Files.{files_of, LeavesOthers, OneRose}
-use Rattle.flu_streams.specs.Holding.{AreHeldBehind, ClosedAreReadOut, AreClosed, IsNewBorder}
+use Rattle.flu_streams.specs.Files.{files_of, LeavesOthers, AreReadOut, OneRose}
+use Rattle.flu_streams.specs.Good.{lists_of}
+use Rattle.flu_streams.specs.Holding.{AreHeldBehind, AreInAll, ClosedAreReadOut, AreClosed, IsNewBorder, border_after}
+use Rattle.flu_streams.specs.Rounds.{IsRound, IsRoundFault, LawOfNoRows, Starts, lists_between}
 use Rattle.flu_rounds.specs.declared.faults.RoundsFault.{RoundsFault}
 use Rattle.flu_rounds.specs.declared.faults.RoundsFault.TheVariants.{Source as SourceDefect, ReadFault, WriteFault, NoMemory}
-use Rattle.flu_rounds.specs.Coming.{HasRun, LawOfBeginning, LawOfGoingOn, LawOfText, LawOfNextText, LawOfLast, LawOfDefect}
-use Rattle.flu_rounds.specs.Written.{RanTo, WouldWrite, lines_in}
-use Rattle.flu_streams.specs.Rounds.{Starts, IsRoundFault}
-use Rattle.flu_rounds.specs.Standing.{Standing, IsFirst, Runs, IsRoundOf, IsSourceFault, StandsBehind, round_report}
+use Rattle.flu_rounds.specs.Coming.{HasRunFrom, IsStateUpTo, LawOfBeginningFrom, LawOfGoingOnFrom, LawOfLastFrom, LawOfDefectFrom, LawOfTextAndState, LawOfNextTextAndState, LawOfDefectAndState, LawOfOtherNames}
+use Rattle.flu_rounds.specs.Written.{RanFrom, WouldWriteFrom, lines_in, text_up_from}
+use Rattle.flu_rounds.specs.Standing.{Standing, IsFirstFrom, Runs, IsRoundOf, IsSourceFault, StandsBehind, round_report}
+use Rattle.flu_save.specs.Checkpoint.{save}
+use Rattle.flu_top.specs.declared.running.RunFault.{RunFault}
+use Rattle.flu_top.specs.declared.running.RunFault.TheVariants.{Round, Unsaved}
 use Rattle.flu_top.specs.Done.{AppendsInto}
 use Rattle.flu_top.specs.Ending.{Call, call}
-use Rattle.flu_top.specs.Reading.{HaveWritten, MeetsDefect, ReportsNext, rows_in_round}
-use Rattle.flu_top.specs.Running.{GoesOn, RanAll, RanToDefect, RanSome, RanInto, EndsRounds, borders_above}
+use Rattle.flu_top.specs.Openings.{Opening}
+use Rattle.flu_top.specs.Reading.{HaveWritten, MeetsDefect, ReportsNext, put_by, rows_in_round, greatest_border}
+use Rattle.flu_top.specs.Running.{GoesOn, StaysWithin, IsAllRun, RanAll, RanToDefect, RanSome, RanInto, RanUnsaved, EndsRounds, Steps, PutsAt, PutFailed, IsSavedTo, all_lists, border_at, borders_above, put_behind}
+use Rattle.flu_top.specs.Starting.{IsNoSource, LeavesPut, LeavesAnything}
+use Rattle.flu_top.specs.Taking.{TookOnly, TookFrontsBut}
+use Rattle.flu_top.proofs.Sequence.{among, same_or_apart}
 
 -- ---- each border is later than the one before it
 pub borders_fall : (above : Option ℕ) (t : ℕ) (next : Option ℕ) → IsNewBorder above (At t) → next ≡ Some t → borders_above next < borders_above above
@@ -38,20 +53,127 @@ borders_fall (Some b) t next new is =
     later_than : (b t : ℕ) → nat_lt b t ≡ true → b < t
     later_than b t e = grind (arith, nat_tests)
 
--- ---- before the first round
-pub rounds_start : LawOfBeginning → (p q : Program) (a : Option Contents) (k : List ℕ → ℕ) (had : Option (List ℕ)) (x : ℕ) (now : Standing) → q ≡ p
-    → IsFirst p rows_in_round now → GoesOn p q (call a a k k had had x x) now
-rounds_start beginning p q a k had x now engine first = record {
-  engine = engine;
-  stage = ap (λ h. h.stage) first.held';
-  written = [];
-  came = beginning p rows_in_round a now first;
-  wrote = told_same (AppendsAll []) had (λ bytes. sym (append-nil bytes));
-  fronts = told_same TookFronts a (λ left name rest e. ([], e));
-  others = told_same (LeavesOthers (files_of p.sources)) a (λ left name missing. refl);
-  rise = λ n. omega arith;
-  quiet = refl;
+-- ---- names
+-- a name that is saved to, or is not
+saved_or_not : (named : Option (List ℕ)) (name : List ℕ) → IsSavedTo named name ⊎ (¬ IsSavedTo named name)
+saved_or_not None name = inr (λ e. cc)
+saved_or_not (Some one) name = elim (same_or_apart one name) [ inl same ↦ inl (ap Some same) | inr apart ↦ inr (λ e. let same : one ≡ name = cc in apart same) ]
+
+pub fronts_join : (P : List ℕ → Type 0) (x y z : Files) → TookFrontsBut P x y → TookFrontsBut P y z → TookFrontsBut P x z
+fronts_join P x y z f g name rest other left =
+    let second = g name rest other left in
+    let first = f name (second.0 ++ rest) other second.1 in
+    (first.0 ++ second.0, first.1 ∙ ap Some (sym (append_assoc first.0 second.0 rest)))
+
+pub only_join : (P : List ℕ → Type 0) (x y z : Files) → TookOnly P x y → TookOnly P y z → TookOnly P x z
+only_join P x y z f g name other = g name other ∙ f name other
+
+-- what stays as it was but for one sort of names
+fronts_of_only : (P : List ℕ → Type 0) (x y : Files) → TookOnly P x y → TookFrontsBut P x y
+fronts_of_only P x y only name rest other left = ([], sym (only name other) ∙ left)
+
+-- ---- what was put
+-- by the rounds that were run, and the state behind them, it is the checkpoint of their border
+put_is : (p : Program) (o : Opening) (done ran : List (List (List Item))) (border : Option ℕ) (before : ℕ → List Next) (s : Contents)
+    → ran ≡ done → IsStateUpTo p o.border o.cells border before s → put_behind p done border s ≡ put_by p o ran border before
+put_is p o [] [] border before s same state = refl
+put_is p o [] (round ∷ rounds) border before s same state = absurd (cc)
+put_is p o (round ∷ rounds) [] border before s same state = absurd (cc)
+put_is p o (round ∷ rounds) (round' ∷ rounds') None before s same state = refl
+put_is p o (round ∷ rounds) (round' ∷ rounds') (Some t) before s same state = ap (λ cells. Some (save p t cells)) (state t refl)
+
+-- behind a round more something was put
+put_more : (p : Program) (done now : List (List (List Item))) (lists : List (List Item)) (border : Option ℕ) (t : ℕ) (s : Contents)
+    → now ≡ done ++ lists ∷ [] → border ≡ Some t → put_behind p now border s ≡ Some (save p t s)
+put_more p done [] lists border t s is at = absurd (not_empty done is)
+  where
+    not_empty : (rounds : List (List (List Item))) → [] ≡ rounds ++ lists ∷ [] → ⊥
+    not_empty [] e = cc
+    not_empty (r ∷ rs) e = cc
+put_more p done (round ∷ rounds) lists border t s is at = ap (λ above. put_behind p (round ∷ rounds) above s) at
+
+-- what was put stays while the name does
+keeps_put : (named put : Option (List ℕ)) (x y z : Files) → LeavesPut named [] put x y → ((name : List ℕ) → IsSavedTo named name → z name ≡ y name) → LeavesPut named [] put x z
+keeps_put None put x y z leaves same = tt
+keeps_put (Some name) None x y z leaves same = record {
+  end = λ rest is. leaves.end rest (sym (same name refl) ∙ is);
+  unread = λ missing. same name refl ∙ leaves.unread missing;
 }
+keeps_put (Some name) (Some bytes) x y z leaves same = same name refl ∙ leaves
+
+-- a round leaves a name that is no source's file
+round_keeps : (p : Program) (named put : Option (List ℕ)) (x y z : Files) → IsNoSource named p → LeavesPut named [] put x y → LeavesOthers (files_of p.sources) y z → LeavesPut named [] put x z
+round_keeps p named put x y z apart leaves others = keeps_put named put x y z leaves (λ name saved. others name (apart name saved))
+
+-- a put leaves what it puts
+put_leaves : (named put : Option (List ℕ)) (bytes : List ℕ) (x y z : Files) → put ≡ Some bytes → PutsAt named bytes y z → LeavesPut named [] put x z
+put_leaves None put bytes x y z is puts = tt
+put_leaves (Some name) None bytes x y z is puts = absurd (cc)
+put_leaves (Some name) (Some other) bytes x y z is puts = puts.here ∙ sym is
+
+-- and the sources' files
+put_keeps_sources : (p : Program) (named : Option (List ℕ)) (y z : Files) → IsNoSource named p → TookOnly (IsSavedTo named) y z → (name : List ℕ) → Contains (files_of p.sources) name → z name ≡ y name
+put_keeps_sources p named y z apart only name found = only name (λ saved. apart name saved found)
+
+-- ---- the laws of what was written, and of the state
+pub record Laws (o : Opening) : Type 0 where
+  pub going : LawOfGoingOnFrom o.border o.cells
+  pub state : LawOfTextAndState o.border o.cells
+  pub next : LawOfNextTextAndState o.border o.cells
+  pub last : LawOfLastFrom o.border o.cells
+  pub defect : LawOfDefectFrom o.border o.cells
+  pub defect_state : LawOfDefectAndState o.border o.cells
+  pub others : LawOfOtherNames o.border o.cells
+
+-- ---- before the first round
+stays_at_start : (p : Program) (named : Option (List ℕ)) (a : Option Files) (k s : List ℕ → ℕ) (had : Option (List ℕ)) (x : ℕ) → StaysWithin p named (call a a k k s s had had x x)
+stays_at_start p named a k s had x = record {
+  fronts = told_same (TookFrontsBut (IsSavedTo named)) a (λ left name rest other e. ([], e));
+  others = told_same (TookOnly (λ name. Contains (files_of p.sources) name ⊎ IsSavedTo named name)) a (λ left name other. refl);
+  rise = λ n. omega arith;
+}
+
+nothing_put : (named put : Option (List ℕ)) (left : Files) → put ≡ None → LeavesPut named [] put left left
+nothing_put None put left none = tt
+nothing_put (Some name) None left none = record { end = λ rest is. ([], is); unread = λ missing. refl }
+nothing_put (Some name) (Some bytes) left none = absurd (cc)
+
+pub rounds_start : (p q : Program) (o : Opening) (named : Option (List ℕ)) (a : Option Files) (k s : List ℕ → ℕ) (had : Option (List ℕ)) (x : ℕ) (now : Standing)
+    → LawOfBeginningFrom o.border o.cells → q ≡ p → IsFirstFrom p rows_in_round o.border o.cells now → GoesOn p q o named (call a a k k s s had had x x) now
+rounds_start p q o named a k s had x now beginning engine first =
+    let begun = beginning p rows_in_round a now first in
+    record {
+      engine = engine;
+      stage = ap (λ h. h.stage) first.held';
+      written = [];
+      came = begun.0;
+      wrote = told_same (AppendsAll []) had (λ bytes. sym (append-nil bytes));
+      leaves = told_same (LeavesPut named [] (put_behind p begun.0.done now.held.border (held now.state))) a
+          (λ left. nothing_put named (put_behind p begun.0.done now.held.border (held now.state)) left (ap (λ done. put_behind p done now.held.border (held now.state)) begun.1));
+      within = stays_at_start p named a k s had x;
+      quiet = refl;
+      puts = λ n. refl;
+    }
+
+-- where memory is wanting before it
+start_text : LawOfNoRows → (p : Program) (border : Option ℕ) (cells : Contents) → [] ≡ text_up_from p border cells border (λ i. [])
+start_text none p None cells = refl
+start_text none p (Some t) cells = (none p cells t (λ i. [])).reports
+
+pub some_at_start : LawOfNoRows → (p : Program) (o : Opening) (named : Option (List ℕ)) (a : Option Files) (k s : List ℕ → ℕ) (had : Option (List ℕ)) (x : ℕ)
+    → RanSome p o named (call a a k k s s had had x x) × StaysWithin p named (call a a k k s s had had x x)
+some_at_start none p o named a k s had x = (
+  record {
+    text = [];
+    wrote = told_same (AppendsAll []) had (λ bytes. sym (append-nil bytes));
+    rounds = told_same (λ left now. (put : Option (List ℕ)) × HaveWritten p o (lines_in p left) [] put × LeavesPut named [] put left now) a (λ left. (
+      None,
+      record { border = o.border; ran = record { done = []; before = λ i. []; comes = Starts (λ i. []) (λ i. refl); text = start_text none p o.border o.cells }; saved = refl },
+      nothing_put named None left refl,
+    ));
+  },
+  stays_at_start p named a k s had x,
+)
 
 -- ---- a round
 -- what is known of a round that was run and written
@@ -60,105 +182,15 @@ pub record IsRun (old new : Standing) (c : Call) (end : Border) : Type 0 where
       → (runs : Runs old new c.left c.left_after end before) × WhereTold c.taken c.taken_after (AppendsAll (round_report old end runs.fills.now))
   pub stands : StandsBehind old.held new.held end
   pub read_out : ClosedAreReadOut old.held c.left → ClosedAreReadOut new.held c.left_after
+  pub quiet : c.count_after ≡ c.count
+
+-- what is known of any round
+pub record IsWithin (old : Standing) (c : Call) : Type 0 where
   pub fronts : WhereTold c.left c.left_after TookFronts
   pub others : WhereTold c.left c.left_after (LeavesOthers (files_of old.held.program.sources))
   pub rise : (n : List ℕ) → c.counts n ≤ c.counts_after n
-  pub quiet : c.count_after ≡ c.count
+  pub puts : SameCounts c.puts c.puts_after
 
-wrote_then : (text more : List ℕ) (a b d : Option (List ℕ)) → WhereTold a b (AppendsAll text) → WhereTold b d (AppendsAll more) → WhereTold a d (AppendsAll (text ++ more))
-wrote_then text more a b d first second =
-    told_then (AppendsAll text) (AppendsAll more) (AppendsAll (text ++ more)) a b d (λ x y z e f. f ∙ ap (λ bytes. bytes ++ more) e ∙ append_assoc x text more) first second
-
-others_then : (names : List (List ℕ)) (a b d : Option Contents) → WhereTold a b (LeavesOthers names) → WhereTold b d (LeavesOthers names) → WhereTold a d (LeavesOthers names)
-others_then names a b d first second =
-    told_then (LeavesOthers names) (LeavesOthers names) (LeavesOthers names) a b d (λ x y z e f name missing. f name missing ∙ e name missing) first second
-
--- the files of a job's sources, and counts, over one round more
-pub leaves_on : (p : Program) (a b d : Option Contents) (r : Program) → r ≡ p → WhereTold a b (LeavesOthers (files_of p.sources)) → WhereTold b d (LeavesOthers (files_of r.sources)) → WhereTold a d (LeavesOthers (files_of p.sources))
-leaves_on p a b d r same first second = others_then (files_of p.sources) a b d first (subst (λ (s : Program). WhereTold b d (LeavesOthers (files_of s.sources))) same second)
-
-pub rises_on : (x y z : ℕ) → x ≤ y → y ≤ z → x ≤ z
-rises_on x y z first second = omega arith
-
-module _ (p q : Program) (a b d : Option Contents) (k l m : List ℕ → ℕ) (had mid has : Option (List ℕ)) (x y z : ℕ) (old : Standing)
-    (go : GoesOn p q (call a b k l had mid x y) old) where
-  pub goes_on : LawOfGoingOn → (new : Standing) (q' : Program) (t : ℕ) → IsRun old new (call b d l m mid has y z) (At t) → q' ≡ q → GoesOn p q' (call a d k m had has x z) new
-  goes_on going new q' t run same =
-      let round = run.written go.came.before go.came.behind in
-      record {
-        engine = same ∙ go.engine;
-        stage = run.stands.stage;
-        written = go.written ++ round_report old (At t) round.0.fills.now;
-        came = going p rows_in_round a b d old new go.written t go.came round.0 run.stands run.read_out;
-        wrote = wrote_then go.written (round_report old (At t) round.0.fills.now) had mid has go.wrote round.1;
-        fronts = fronts_then a b d go.fronts run.fronts;
-        others = leaves_on p a b d old.held.program go.came.program go.others run.others;
-        rise = λ n. rises_on (k n) (l n) (m n) (go.rise n) (run.rise n);
-        quiet = run.quiet ∙ go.quiet;
-      }
-
-  pub ran_all : LawOfLast → (new : Standing) → IsRun old new (call b d l m mid has y z) Closed → AreClosed new.held → RanAll p (call a d k m had has x z)
-  ran_all last new run closed =
-      let round = run.written go.came.before go.came.behind in
-      let whole = last p rows_in_round a b d old new go.written (omega arith) go.came round.0 run.stands run.read_out closed in
-      record {
-        text = go.written ++ round_report old Closed round.0.fills.now;
-        wrote = wrote_then go.written (round_report old Closed round.0.fills.now) had mid has go.wrote round.1;
-        all = told_weaker (λ was is. HasRun p was new (go.written ++ round_report old Closed round.0.fills.now)) _ a d (λ was is h. (h.sound, h.text)) whole.1;
-        ends = whole.0;
-      }
-
-  -- ---- a round that was not run
-  still : has ≡ mid → WhereTold had has (AppendsAll go.written)
-  still nothing = subst (λ (o : Option (List ℕ)). WhereTold had o (AppendsAll go.written)) (sym nothing) go.wrote
-
-  pub ran_to_defect : LawOfDefect → (fault : SourceFault) → IsSourceFault old.held b d (SourceDefect fault) → has ≡ mid → RanToDefect p (call a d k m had has x z) fault
-  ran_to_defect defect fault met nothing =
-      let found = defect p rows_in_round a b d old go.written fault (omega arith) go.came met in
-      record {
-        source = found.0;
-        text = go.written;
-        wrote = still nothing;
-        met = told_weaker (λ was is. (ran : RanTo p rows_in_round (lines_in p was) old.held.border go.written) × IsRoundFault p rows_in_round old.held.border (lines_in p was) ran.before fault)
-            (λ was is. MeetsDefect p (lines_in p was) go.written fault) a d (λ was is h. record { border = old.held.border; ran = h.0; meets = h.1 }) found.1;
-      }
-
-  pub ran_some : LawOfText → WhereTold b d TookFronts → has ≡ mid → RanSome p (call a d k m had has x z)
-  ran_some text fronts nothing = record {
-    text = go.written;
-    wrote = still nothing;
-    rounds = told_then (λ was is. RanTo p rows_in_round (lines_in p was) old.held.border go.written) TookFronts (λ was is. HaveWritten p (lines_in p was) go.written) a b d
-        (λ was is now ran fronts. record { border = old.held.border; ran = ran }) (text p rows_in_round a b old go.written (omega arith) go.came) fronts;
-  }
-
-  pub one_rose : OneRose (files_of old.held.program.sources) l m → OneRose (files_of p.sources) k m
-  one_rose found =
-      let at = subst (λ (r : Program). OneRose (files_of r.sources) l m) go.came.program found in
-      (at.0, at.1, rose_behind (k at.0) (l at.0) (m at.0) (go.rise at.0) at.2)
-
-  pub rose_on : Rose y z → Rose x z
-  rose_on rose = subst (λ (n : ℕ). Rose n z) go.quiet rose
-
-  pub ran_into : LawOfNextText
-      → ((before : ℕ → List Next) → AreHeldBehind old.held before → (end : Border) × (now : ℕ → List Next) × IsRoundOf old b d end before now × WhereTold mid has (AppendsPart (round_report old end now)))
-      → RanInto p (call a d k m had has x z)
-  ran_into next part =
-      let round = part go.came.before go.came.behind in
-      let end = round.0 in
-      let now = round.1 in
-      let more = round_report old end now in
-      record {
-        text = go.written;
-        more = more;
-        wrote = told_then (AppendsAll go.written) (AppendsPart more) (AppendsInto go.written more) had mid has
-            (λ u v w e f. subst (λ (bytes : List ℕ). AppendsPart more bytes w) e f) go.wrote round.3;
-        round = told_weaker
-            (λ was is. (ran : RanTo p rows_in_round (lines_in p was) old.held.border go.written) × WouldWrite p rows_in_round (lines_in p was) old.held.border ran.before now end (go.written ++ more))
-            (λ was is. ReportsNext p (lines_in p was) go.written more) a d (λ was is h. record { border = old.held.border; ran = h.0; end = end; now = now; next = h.1 })
-            (next p rows_in_round a b d old go.written end now (omega arith) go.came round.2);
-      }
-
--- ---- why a round was not run
 -- what is known of a round that was refused
 pub record IsHalted (old : Standing) (c : Call) (f : RoundsFault) : Type 0 where
   pub fault : IsSourceFault old.held c.left c.left_after f
@@ -167,46 +199,281 @@ pub record IsHalted (old : Standing) (c : Call) (f : RoundsFault) : Type 0 where
       → (end : Border) × (now : ℕ → List Next) × IsRoundOf old c.left c.left_after end before now × WhereTold c.taken c.taken_after (AppendsPart (round_report old end now))
   pub failed : f ≡ WriteFault → Rose c.count c.count_after
   pub cause : f ≡ ReadFault → OneRose (files_of old.held.program.sources) c.counts c.counts_after
-  pub fronts : WhereTold c.left c.left_after TookFronts
 
--- the laws of what was written
-pub record LawsOfText : Type 0 where
-  pub text : LawOfText
-  pub next : LawOfNextText
-  pub last : LawOfLast
-  pub defect : LawOfDefect
+wrote_then : (text more : List ℕ) (a b d : Option (List ℕ)) → WhereTold a b (AppendsAll text) → WhereTold b d (AppendsAll more) → WhereTold a d (AppendsAll (text ++ more))
+wrote_then text more a b d first second =
+    told_then (AppendsAll text) (AppendsAll more) (AppendsAll (text ++ more)) a b d (λ x y z e f. f ∙ ap (λ bytes. bytes ++ more) e ∙ append_assoc x text more) first second
 
-pub ends_halted : LawsOfText → (p q : Program) (a b d : Option Contents) (k l m : List ℕ → ℕ) (had mid has : Option (List ℕ)) (x y z : ℕ) (old : Standing)
-    → GoesOn p q (call a b k l had mid x y) old → (f : RoundsFault) → IsHalted old (call b d l m mid has y z) f → EndsRounds p (call a d k m had has x z) (Err f)
-ends_halted laws p q a b d k l m had mid has x y z old go (SourceDefect fault) is = ran_to_defect p q a b d k l m had mid has x y z old go laws.defect fault is.fault (is.nothing (λ e. cc))
-ends_halted laws p q a b d k l m had mid has x y z old go ReadFault is = (
-  one_rose p q a b d k l m had mid has x y z old go (is.cause refl),
-  ran_some p q a b d k l m had mid has x y z old go laws.text is.fronts (is.nothing (λ e. cc)),
-)
-ends_halted laws p q a b d k l m had mid has x y z old go WriteFault is = (
-  rose_on p q a b d k l m had mid has x y z old go (is.failed refl),
-  ran_into p q a b d k l m had mid has x y z old go laws.next (is.part refl),
-)
-ends_halted laws p q a b d k l m had mid has x y z old go NoMemory is = ran_some p q a b d k l m had mid has x y z old go laws.text is.fronts (is.nothing (λ e. cc))
+rises_on : (x y z : ℕ) → x ≤ y → y ≤ z → x ≤ z
+rises_on x y z first second = omega arith
 
--- where memory is wanting before the first round
-pub some_at_start : (p : Program) (a : Option Contents) (k : List ℕ → ℕ) (had : Option (List ℕ)) (x : ℕ) → RanSome p (call a a k k had had x x)
-some_at_start p a k had x = record {
-  text = [];
-  wrote = told_same (AppendsAll []) had (λ bytes. sym (append-nil bytes));
-  rounds = told_same (λ left now. HaveWritten p (lines_in p left) []) a
-      (λ left. record { border = None; ran = record { done = []; before = λ i. []; comes = Starts (λ i. []) (λ i. refl); text = refl } });
+-- where it is told that a file was read, nothing is left of it
+told_ends : (names : List (List ℕ)) (P : Files → Files → Type 0) (b d : Option Files) → WhereTold b d P → AreReadOut names d
+    → WhereTold b d (λ y z. P y z × ((name : List ℕ) → Contains names name → z name ≡ Some []))
+told_ends names P None None told ends = tt
+told_ends names P None (Some z) told ends = told
+told_ends names P (Some y) None told ends = told
+told_ends names P (Some y) (Some z) told ends = (told, ends)
+
+-- a run from a start `a`, which has come to files `b`; a round takes it to files `d`
+module _ (p q : Program) (o : Opening) (named : Option (List ℕ)) (a b d : Option Files) (k l m s t u : List ℕ → ℕ) (had mid has : Option (List ℕ)) (x y z : ℕ) (old : Standing)
+    (go : GoesOn p q o named (call a b k l s t had mid x y) old) (apart : IsNoSource named p) (within : IsWithin old (call b d l m t u mid has y z)) where
+  -- the files of the job's sources alone changed
+  others_of_job : WhereTold b d (LeavesOthers (files_of p.sources))
+  others_of_job = subst (λ (r : Program). WhereTold b d (LeavesOthers (files_of r.sources))) go.came.program within.others
+
+  stays : StaysWithin p named (call a d k m s u had has x z)
+  stays = record {
+    fronts = told_then (TookFrontsBut (IsSavedTo named)) TookFronts (TookFrontsBut (IsSavedTo named)) a b d
+        (λ v w r first second. fronts_join (IsSavedTo named) v w r first (λ name rest other left. second name rest left)) go.within.fronts within.fronts;
+    others = told_then (TookOnly (λ name. Contains (files_of p.sources) name ⊎ IsSavedTo named name)) (LeavesOthers (files_of p.sources)) (TookOnly (λ name. Contains (files_of p.sources) name ⊎ IsSavedTo named name)) a b d
+        (λ v w r first second name other. second name (λ found. other (inl found)) ∙ first name other) go.within.others others_of_job;
+    rise = λ n. rises_on (k n) (l n) (m n) (go.within.rise n) (within.rise n);
+  }
+
+  puts_same : SameCounts s u
+  puts_same n = within.puts n ∙ go.puts n
+
+  -- what was put before the round
+  abbrev put : Option (List ℕ)
+  put = put_behind p go.came.done old.held.border (held old.state)
+
+  leaves_on : WhereTold a d (LeavesPut named [] put)
+  leaves_on = told_then (LeavesPut named [] put) (LeavesOthers (files_of p.sources)) (LeavesPut named [] put) a b d (λ v w r leaves others. round_keeps p named put v w r apart leaves others) go.leaves others_of_job
+
+  put_was : (ran : List (List (List Item))) (before : ℕ → List Next) → ran ≡ go.came.done → IsStateUpTo p o.border o.cells old.held.border before (held old.state)
+      → put ≡ put_by p o ran old.held.border before
+  put_was ran before same state = put_is p o go.came.done ran old.held.border before (held old.state) same state
+
+  -- ---- a round that was not run
+  still : has ≡ mid → WhereTold had has (AppendsAll go.written)
+  still nothing = subst (λ (out : Option (List ℕ)). WhereTold had out (AppendsAll go.written)) (sym nothing) go.wrote
+
+  ran_to_defect : Laws o → (fault : SourceFault) → IsSourceFault old.held b d (SourceDefect fault) → has ≡ mid → RanToDefect p o named (call a d k m s u had has x z) fault
+  ran_to_defect laws fault met nothing = record {
+    source = (laws.defect p rows_in_round a b d old go.written fault (omega arith) go.came met).0;
+    text = go.written;
+    wrote = still nothing;
+    met = told_weaker
+        (λ was is. ((ran : RanFrom p rows_in_round o.border o.cells (lines_in p was) old.held.border go.written) × (ran.done ≡ go.came.done)
+        × IsStateUpTo p o.border o.cells old.held.border ran.before (held old.state) × IsRoundFault p rows_in_round old.held.border (lines_in p was) ran.before fault)
+        × LeavesPut named [] put was is)
+        (λ left now. (put' : Option (List ℕ)) × MeetsDefect p o (lines_in p left) go.written put' fault × LeavesPut named [] put' left now) a d
+        (λ was is h. (put, record { border = old.held.border; ran = h.0.0; saved = put_was h.0.0.done h.0.0.before h.0.1 h.0.2; meets = h.0.3 }, h.1))
+        (told_both _ (LeavesPut named [] put) a d (laws.defect_state p rows_in_round a b d old go.written fault (omega arith) go.came met) leaves_on);
+  }
+
+  ran_some : Laws o → has ≡ mid → RanSome p o named (call a d k m s u had has x z)
+  ran_some laws nothing = record {
+    text = go.written;
+    wrote = still nothing;
+    rounds = told_weaker
+        (λ was is. ((ran : RanFrom p rows_in_round o.border o.cells (lines_in p was) old.held.border go.written) × (ran.done ≡ go.came.done)
+        × IsStateUpTo p o.border o.cells old.held.border ran.before (held old.state)) × LeavesPut named [] put was is)
+        (λ left now. (put' : Option (List ℕ)) × HaveWritten p o (lines_in p left) go.written put' × LeavesPut named [] put' left now) a d
+        (λ was is h. (put, record { border = old.held.border; ran = h.0.0; saved = put_was h.0.0.done h.0.0.before h.0.1 h.0.2 }, h.1))
+        (told_both _ (LeavesPut named [] put) a d
+        (told_then _ TookFronts _ a b d (λ was is now ran fronts. ran) (laws.state p rows_in_round a b old go.written (omega arith) go.came) within.fronts) leaves_on);
+  }
+
+  one_rose : OneRose (files_of old.held.program.sources) l m → OneRose (files_of p.sources) k m
+  one_rose found =
+      let at = subst (λ (r : Program). OneRose (files_of r.sources) l m) go.came.program found in
+      (at.0, at.1, rose_behind (k at.0) (l at.0) (m at.0) (go.within.rise at.0) at.2)
+
+  rose_on : Rose y z → Rose x z
+  rose_on rose = subst (λ (n : ℕ). Rose n z) go.quiet rose
+
+  -- the report of the next round
+  reports_next : Laws o → (end : Border) (now : ℕ → List Next) → IsRoundOf old b d end go.came.before now
+      → WhereTold a d (λ left after. (put' : Option (List ℕ)) × ReportsNext p o (lines_in p left) go.written put' (round_report old end now) × LeavesPut named [] put' left after)
+  reports_next laws end now round = told_weaker
+      (λ was is. ((ran : RanFrom p rows_in_round o.border o.cells (lines_in p was) old.held.border go.written) × (ran.done ≡ go.came.done)
+      × IsStateUpTo p o.border o.cells old.held.border ran.before (held old.state)
+      × WouldWriteFrom p rows_in_round o.border o.cells (lines_in p was) old.held.border ran.before now end (go.written ++ round_report old end now)) × LeavesPut named [] put was is)
+      (λ left after. (put' : Option (List ℕ)) × ReportsNext p o (lines_in p left) go.written put' (round_report old end now) × LeavesPut named [] put' left after) a d
+      (λ was is h. (put, record { border = old.held.border; ran = h.0.0; saved = put_was h.0.0.done h.0.0.before h.0.1 h.0.2; end = end; now = now; next = h.0.3 }, h.1))
+      (told_both _ (LeavesPut named [] put) a d (laws.next p rows_in_round a b d old go.written end now (omega arith) go.came round) leaves_on)
+
+  ran_into : Laws o
+      → ((before : ℕ → List Next) → AreHeldBehind old.held before → (end : Border) × (now : ℕ → List Next) × IsRoundOf old b d end before now × WhereTold mid has (AppendsPart (round_report old end now)))
+      → RanInto p o named (call a d k m s u had has x z)
+  ran_into laws part =
+      let round = part go.came.before go.came.behind in
+      let more = round_report old round.0 round.1 in
+      record {
+        text = go.written;
+        more = more;
+        wrote = told_then (AppendsAll go.written) (AppendsPart more) (AppendsInto go.written more) had mid has
+            (λ v w r e f. subst (λ (bytes : List ℕ). AppendsPart more bytes r) e f) go.wrote round.3;
+        round = reports_next laws round.0 round.1 round.2;
+      }
+
+  -- why a round was not run
+  pub ends_halted : Laws o → (f : RoundsFault) → IsHalted old (call b d l m t u mid has y z) f
+      → EndsRounds p o named (call a d k m s u had has x z) (Err (Round f)) × StaysWithin p named (call a d k m s u had has x z)
+  ends_halted laws (SourceDefect fault) is = (ran_to_defect laws fault is.fault (is.nothing (λ e. cc)), stays)
+  ends_halted laws ReadFault is = ((one_rose (is.cause refl), ran_some laws (is.nothing (λ e. cc))), stays)
+  ends_halted laws WriteFault is = ((rose_on (is.failed refl), ran_into laws (is.part refl)), stays)
+  ends_halted laws NoMemory is = (ran_some laws (is.nothing (λ e. cc)), stays)
+
+  -- ---- the put behind a round that was run
+  module _ (e : Option Files) (n w : List ℕ → ℕ) (new : Standing) (end : Border) (run : IsRun old new (call b d l m t u mid has y z) end)
+      (kept : WhereTold d e (TookOnly (IsSavedTo named))) (takes : SameCounts m n) where
+    stays_put : StaysWithin p named (call a e k n s w had has x z)
+    stays_put = record {
+      fronts = told_then (TookFrontsBut (IsSavedTo named)) (TookOnly (IsSavedTo named)) (TookFrontsBut (IsSavedTo named)) a d e
+          (λ v r f first second. fronts_join (IsSavedTo named) v r f first (fronts_of_only (IsSavedTo named) r f second)) stays.fronts kept;
+      others = told_then (TookOnly (λ name. Contains (files_of p.sources) name ⊎ IsSavedTo named name)) (TookOnly (IsSavedTo named)) (TookOnly (λ name. Contains (files_of p.sources) name ⊎ IsSavedTo named name)) a d e
+          (λ v r f first second name other. second name (λ saved. other (inr saved)) ∙ first name other) stays.others kept;
+      rise = λ name. subst (λ (count : ℕ). k name ≤ count) (sym (takes name)) (stays.rise name);
+    }
+
+    -- the round that was run
+    its_run : (runs : Runs old new b d end go.came.before) × WhereTold mid has (AppendsAll (round_report old end runs.fills.now))
+    its_run = run.written go.came.before go.came.behind
+
+    wrote_more : WhereTold had has (AppendsAll (go.written ++ round_report old end its_run.0.fills.now))
+    wrote_more = wrote_then go.written (round_report old end its_run.0.fills.now) had mid has go.wrote its_run.1
+
+    is_round : IsRoundOf old b d end go.came.before its_run.0.fills.now
+    is_round = record {
+      round = told_weaker
+          (λ was is. (whole : ℕ → List Next) → AreInAll old.held go.came.before was whole
+          → IsRound old.held.program old.held.rows old.held.border whole go.came.before its_run.0.fills.now end × AreInAll new.held its_run.0.fills.now is whole)
+          (λ was is. (whole : ℕ → List Next) → AreInAll old.held go.came.before was whole
+          → IsRound old.held.program old.held.rows old.held.border whole go.came.before its_run.0.fills.now end) b d
+          (λ was is fills whole all. (fills whole all).0) its_run.0.fills.round;
+    }
+
+    -- it could not be put
+    unsaved : Laws o → (Left : Option (List ℕ) → Files → Files → Type 0) → named ≢ None
+        → WhereTold d e (λ r f. (v : Files) (other : Option (List ℕ)) → LeavesPut named [] other v r → Left other v f)
+        → RanUnsaved Left p o named (call a e k n s w had has x z)
+    unsaved laws Left saves leaves = record {
+      text = go.written;
+      more = round_report old end its_run.0.fills.now;
+      saves = saves;
+      wrote = wrote_more;
+      round = told_then
+          (λ left after. (put' : Option (List ℕ)) × ReportsNext p o (lines_in p left) go.written put' (round_report old end its_run.0.fills.now) × LeavesPut named [] put' left after)
+          (λ r f. (v : Files) (other : Option (List ℕ)) → LeavesPut named [] other v r → Left other v f)
+          (λ left after. (put' : Option (List ℕ)) × ReportsNext p o (lines_in p left) go.written put' (round_report old end its_run.0.fills.now) × Left put' left after) a d e
+          (λ v r f next left. (next.0, next.1, left v next.0 next.2)) (reports_next laws end its_run.0.fills.now is_round) leaves;
+    }
+
+    pub ends_unsaved : Laws o → (f : PutFault) → named ≢ None → (f ≡ Failed → PutFailed named u w) → (f ≡ NoMemoryToPut → WhereTold d e SameLeft)
+        → EndsRounds p o named (call a e k n s w had has x z) (Err (Unsaved f)) × StaysWithin p named (call a e k n s w had has x z)
+    ends_unsaved laws Failed saves failed same =
+        let rose = failed refl in ((
+          (rose.0, rose.1, subst (λ (count : ℕ). Rose count (w rose.0)) (puts_same rose.0) rose.2),
+          unsaved laws LeavesAnything saves (told_weaker (TookOnly (IsSavedTo named)) _ d e (λ r f only v other leaves. tt) kept),
+        ), stays_put)
+    ends_unsaved laws NoMemoryToPut saves failed same = (
+      unsaved laws (LeavesPut named []) saves
+          (told_weaker SameLeft (λ r f. (v : Files) (other : Option (List ℕ)) → LeavesPut named [] other v r → LeavesPut named [] other v f) d e
+          (λ r f same' v other leaves. keeps_put named other v r f leaves (λ name saved. same' name)) (same refl)),
+      stays_put,
+    )
+
+    -- it was put
+    module _ (q' r' : Program) (st : State) (has_state : st ≡ new.state) (engine : q' ≡ q) (its : r' ≡ q')
+        (puts : WhereTold d e (PutsAt named (save r' (border_at end) (held st)))) (quiet : SameCounts u w) where
+      saved_bytes : save r' (border_at end) (held st) ≡ save p (border_at end) (held new.state)
+      saved_bytes = λ i. save ((its ∙ engine ∙ go.engine) i) (border_at end) (held (has_state i))
+
+      its_puts : WhereTold d e (PutsAt named (save p (border_at end) (held new.state)))
+      its_puts = subst (λ (bytes : List ℕ). WhereTold d e (PutsAt named bytes)) saved_bytes puts
+
+      pub goes_on : Laws o → (time : ℕ) → end ≡ At time → GoesOn p q' o named (call a e k n s w had has x z) new
+      goes_on laws time at =
+          let runs = subst (λ (b' : Border). (runs' : Runs old new b d b' go.came.before) × WhereTold mid has (AppendsAll (round_report old b' runs'.fills.now))) at its_run in
+          let stands = subst (λ (b' : Border). StandsBehind old.held new.held b') at run.stands in
+          let on = laws.going p rows_in_round a b d old new go.written time go.came runs.0 stands run.read_out in
+          let still_on = laws.others p rows_in_round a d e new (go.written ++ round_report old (At time) runs.0.fills.now) on.0
+              (told_weaker (TookOnly (IsSavedTo named)) (λ was is. (name : List ℕ) → Contains (files_of p.sources) name → is name ≡ was name) d e
+              (λ r f only name found. put_keeps_sources p named r f apart only name found) kept) in
+          let bytes = save p time (held new.state) in
+          let put_now = put_more p go.came.done still_on.0.done (lists_between p old.held.border (At time) runs.0.fills.now) new.held.border time (held new.state) (still_on.1 ∙ on.1) stands.border in
+          record {
+            engine = engine ∙ go.engine;
+            stage = stands.stage;
+            written = go.written ++ round_report old (At time) runs.0.fills.now;
+            came = still_on.0;
+            wrote = wrote_then go.written (round_report old (At time) runs.0.fills.now) had mid has go.wrote runs.1;
+            leaves = told_then (LeavesPut named [] put) (PutsAt named bytes) (LeavesPut named [] (put_behind p still_on.0.done new.held.border (held new.state))) a d e
+                (λ v r f first second. put_leaves named (put_behind p still_on.0.done new.held.border (held new.state)) bytes v r f put_now second)
+                leaves_on (subst (λ (b' : Border). WhereTold d e (PutsAt named (save p (border_at b') (held new.state)))) at its_puts);
+            within = stays_put;
+            quiet = run.quiet ∙ go.quiet;
+            puts = λ name. quiet name ∙ puts_same name;
+          }
+
+      pub ran_all : Laws o → end ≡ Closed → AreClosed new.held → RanAll p o named (call a e k n s w had has x z) × StaysWithin p named (call a e k n s w had has x z)
+      ran_all laws at closed =
+          let runs = subst (λ (b' : Border). (runs' : Runs old new b d b' go.came.before) × WhereTold mid has (AppendsAll (round_report old b' runs'.fills.now))) at its_run in
+          let stands = subst (λ (b' : Border). StandsBehind old.held new.held b') at run.stands in
+          let text = go.written ++ round_report old Closed runs.0.fills.now in
+          let whole = laws.last p rows_in_round a b d old new go.written (omega arith) go.came runs.0 stands run.read_out closed in
+          let bytes = save p greatest_border (held new.state) in (
+            record {
+              text = text;
+              wrote = wrote_then go.written (round_report old Closed runs.0.fills.now) had mid has go.wrote runs.1;
+              all = told_then
+                  (λ was is. HasRunFrom p o.border o.cells was new text × ((name : List ℕ) → Contains (files_of p.sources) name → is name ≡ Some []))
+                  (λ is after. TookOnly (IsSavedTo named) is after × PutsAt named bytes is after)
+                  (IsAllRun p o named text) a d e
+                  (λ v r f first second. record {
+                    sound = first.0.sound;
+                    is = first.0.text;
+                    ends = λ name found. put_keeps_sources p named r f apart second.0 name found ∙ first.1 name found;
+                    saved = λ name saved. put_here bytes name r f saved second.1 ∙ ap (λ cells. Some (save p greatest_border cells)) first.0.state;
+                  })
+                  (told_ends (files_of p.sources) (λ was is. HasRunFrom p o.border o.cells was new text) a d whole.1 whole.0)
+                  (told_both (TookOnly (IsSavedTo named)) (PutsAt named bytes) d e kept (subst (λ (b' : Border). WhereTold d e (PutsAt named (save p (border_at b') (held new.state)))) at its_puts));
+            },
+            stays_put,
+          )
+        where
+          put_here : (bytes name : List ℕ) (r f : Files) → named ≡ Some name → PutsAt named bytes r f → f name ≡ Some bytes
+          put_here bytes name r f is puts' = (subst (λ (one : Option (List ℕ)). PutsAt one bytes r f) is puts').here
+
+      -- the next standing, or the end
+      pub steps_on : Laws o → (end ≡ Closed → AreClosed new.held) → Steps p q' o named (call a e k n s w had has x z) new (Ok end)
+      steps_on laws closed = by_end end refl
+        where
+          by_end : (b' : Border) → end ≡ b' → Steps p q' o named (call a e k n s w had has x z) new (Ok b')
+          by_end (At time) at = goes_on laws time at
+          by_end Closed at = ran_all laws at (closed at)
+
+-- ---- answers
+-- a name that is there is so too without where it lies in memory
+pub still_named : {A B : Type 0} (f : A → B) (o : Option A) → o ≢ None → option_map f o ≢ None
+still_named f None other e = other refl
+still_named f (Some x) other e = absurd (cc)
+
+pub laws_of : ((border : Option ℕ) (cells : Contents) → LawOfGoingOnFrom border cells) → ((border : Option ℕ) (cells : Contents) → LawOfTextAndState border cells)
+    → ((border : Option ℕ) (cells : Contents) → LawOfNextTextAndState border cells) → ((border : Option ℕ) (cells : Contents) → LawOfLastFrom border cells)
+    → ((border : Option ℕ) (cells : Contents) → LawOfDefectFrom border cells) → ((border : Option ℕ) (cells : Contents) → LawOfDefectAndState border cells)
+    → ((border : Option ℕ) (cells : Contents) → LawOfOtherNames border cells) → (o : Opening) → Laws o
+laws_of going state next last defect defect_state others o = record {
+  going = going o.border o.cells;
+  state = state o.border o.cells;
+  next = next o.border o.cells;
+  last = last o.border o.cells;
+  defect = defect o.border o.cells;
+  defect_state = defect_state o.border o.cells;
+  others = others o.border o.cells;
 }
 
 -- a result that `?` gives of an error
-pub given_err : {T : Type 0} (r : Result T RoundsFault) (f : RoundsFault) → IsErrAnd r (λ (e : RoundsFault). e ≡ f) → r ≡ Err f
+pub given_err : {T : Type 0} (r : Result T RunFault) (f : RunFault) → IsErrAnd r (λ (e : RunFault). e ≡ f) → r ≡ Err f
 given_err (Ok done) f is = absurd is
 given_err (Err e) f is = ap Err is
 
--- ---- answers
 pub closed_is : (b : Border) → ((t : ℕ) → b ≡ At t → ⊥) → b ≡ Closed
 closed_is (At t) other = absurd (other t refl)
 closed_is Closed other = refl
 
-pub not_both : {T : Type 0} (r : Result T RoundsFault) (x : T) (f : RoundsFault) → r ≡ Ok x → r ≡ Err f → ⊥
+pub not_both : {T E : Type 0} (r : Result T E) (x : T) (f : E) → r ≡ Ok x → r ≡ Err f → ⊥
 not_both r x f good bad = let e = sym good ∙ bad in cc

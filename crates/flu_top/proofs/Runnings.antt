@@ -1,131 +1,389 @@
--- What was read and what refuses, where a job is run.
-use Rattle.std.proofs.Common.{◌≡◌, refl, sym, ap, ◌∙◌, subst, ℕ, ◌≤◌, List, [], ◌∷◌, Bool, Option, Some, None, Result, Ok, Err, inl, inr}
-use Rattle.std.specs.List.Sorted.{IsPermutation}
-use Rattle.std.specs.Prelude.{Contains, IsTrue, ◌++◌}
-use Rattle.std.proofs.lemmas.List.Sorted.{IsPermutation-sym}
-use Rattle.std.proofs.lemmas.Bool.{false≢true}
-use Rattle.std.proofs.lemmas.List.Elements.{Contains-append_left}
-use Rattle.flu_outside.specs.Outside.{WhereTold, Contents}
-use Rattle.flu_model.specs.declared.events.Item.{Item}
-use Rattle.flu_model.specs.declared.events.Out.{Out}
+-- What a run has read before its rounds, what refuses it there, and how its rounds end its command.
+use Rattle.std.proofs.Common.{◌≡◌, ◌≢◌, refl, sym, ap, ◌∙◌, subst, ℕ, ◌≤◌, List, [], ◌∷◌, ◌++◌, Option, Some, None, Result, Ok, Err, inl, inr, ◌⊎◌, arith, append_assoc}
+use Rattle.std.specs.Prelude.{Contains, IfErr, IfSome}
+use Rattle.std.proofs.lemmas.Result.{IfErr-weaker}
+use Rattle.std.proofs.lemmas.List.Elements.{Contains-append_cases, Contains-append_left, Contains-append_right}
+use Rattle.flu_outside.specs.declared.files.PutFault.{PutFault}
+use Rattle.flu_outside.specs.declared.files.PutFault.TheVariants.{Failed, NoMemory as NoMemoryToPut}
+use Rattle.flu_outside.specs.Outside.{WhereTold, Contents, SameCounts, Rose}
+use Rattle.flu_outside.specs.Taking.{TakesFrom, TookFronts, bytes_left}
+use Rattle.flu_outside.specs.Writing.{AppendsAll}
 use Rattle.flu_model.specs.declared.jobs.Program.{Program}
-use Rattle.flu_model.specs.declared.streams.Streams.{Streams}
-use Rattle.flu_model.specs.Contents.{nothing_held, Contents as States}
-use Rattle.flu_model.specs.Folding.{final_outputs}
-use Rattle.flu_model.specs.Listed.{listed}
+use Rattle.flu_model.specs.Folding.{final_state, final_outputs}
 use Rattle.flu_model.specs.Reports.{report}
-use Rattle.flu_cells.specs.Holding.{held}
-use Rattle.flu_fork.specs.declared.content.Content.{Content}
-use Rattle.flu_fork.specs.Lots.{job as job_in_case}
+use Rattle.flu_deps.specs.Checking.{program_of}
+use Rattle.flu_lemmas.proofs.Containing.{contains_here, contains_later, one_contains}
 use Rattle.flu_lemmas.proofs.Named.{rose_behind}
 use Rattle.flu_lemmas.proofs.Told.{told_both, told_then, told_weaker}
 use Rattle.flu_model.specs.Modes.{IsAccepted}
 use Rattle.flu_streams.specs.declared.faults.SourceFault.{SourceFault}
-use Rattle.flu_streams.specs.Files.{files_of, LeavesOthers, AreReadOut}
-use Rattle.flu_streams.specs.Good.{lists_of}
+use Rattle.flu_streams.specs.Files.{files_of, LeavesOthers}
+use Rattle.flu_rounds.specs.Coming.{lists_above}
 use Rattle.flu_rounds.specs.Written.{AreSound, lines_in}
+use Rattle.flu_save.specs.Checkpoint.{save}
+use Rattle.flu_save.specs.Forms.{IsFaultOf}
+use Rattle.flu_streams.specs.Good.{lists_of}
+use Rattle.flu_words.specs.Words.{RunOptions, Run, Valid}
 use Rattle.flu_top.specs.declared.products.DrawnSteps.{DrawnSteps}
 use Rattle.flu_top.specs.declared.refusals.JobRead.{JobRead}
-use Rattle.flu_top.specs.declared.refusals.PlanDefect.TheVariants as defects
 use Rattle.flu_top.specs.declared.refusals.Refusal.{Refusal}
 use Rattle.flu_top.specs.declared.refusals.Refusal.TheVariants as refusals
-use Rattle.flu_deps.specs.Checking.{program_of}
-use Rattle.flu_words.specs.Words.{Command, Valid, Run, Simulate, Replay}
-use Rattle.flu_top.specs.Taking.{TookOnly}
-use Rattle.flu_top.specs.Behind.{WantedJob, Named, HasJob, HasPlan, job_files, plan_behind, report_behind}
-use Rattle.flu_top.specs.TextFaults.{IsFirstTextFault}
-use Rattle.flu_top.specs.Wants.{job_wanted, plan_named, asks_accepted, if_named, texts_named, sources_read}
-use Rattle.flu_top.specs.Done.{HasPlanAsked, HasValidPlan, MayHaveJob, IsDone, WroteRounds, WroteIntoRound, IsReadName}
-use Rattle.flu_top.specs.Causes.{HasJobFault, HasSourceFault, IsMet}
-use Rattle.flu_top.specs.Ending.{call, HasAll, HasDefectMet, IsStopped, IsEnding}
+use Rattle.flu_top.specs.declared.refusals.SaveDefect.TheVariants as defects
+use Rattle.flu_top.specs.declared.running.RunFault.TheVariants.{Unsaved}
+use Rattle.flu_top.specs.Answer.{refusal_of_put, status_after}
+use Rattle.flu_top.specs.Behind.{WantedJob, Named, job_files, HasJob, emptied_each, lists_behind}
+use Rattle.flu_top.specs.Causes.{IsJobRead, HasSourceFault, HasStartDefect, IsMet}
+use Rattle.flu_top.specs.Done.{HasPlanAsked, MayHaveJob, MayBeJob, IsDone, WroteRounds, WroteUnsaved, WroteIntoRound, IsReadName, IsPutAt}
+use Rattle.flu_top.specs.Ending.{Call, call, HasAll, HasDefectMet, IsStopped, IsEnding}
 use Rattle.flu_top.specs.Jobs.{program_read}
-use Rattle.flu_top.specs.Reading.{InRounds, HaveWritten, MeetsDefect, ReportsNext, lines_behind}
+use Rattle.flu_top.specs.Openings.{Opening, Opens, OpensAt, report_from, state_from}
 use Rattle.flu_top.specs.Ready.{AreTextsRead, IsReady}
+use Rattle.flu_top.specs.Reading.{InRounds, HaveWritten, MeetsDefect, ReportsNext, greatest_border, lines_behind}
 use Rattle.flu_top.specs.Refusing.{IsRefusal}
-use Rattle.flu_top.specs.Running.{RanAll, RanToDefect, RanSome, RanInto, IsRoundsRefusal, EndsRun}
-use Rattle.flu_top.proofs.Sequence.{ends_at, stays_ended, may_have_ready, source_is_read}
+use Rattle.flu_top.specs.Running.{IsBegun, IsOpened, IsOpeningRefusal, IsSavedTo, StaysWithin, IsAllRun, RanAll, RanToDefect, RanSome, RanInto, RanUnsaved, IsRoundsRefusal, EndsRounds, EndsRun}
+use Rattle.flu_top.specs.Starting.{AreNoSources, CanStart, HasBadCheckpoint, StartsFrom, IsSameName, Saves, Resumes, Leaves, LeavesPut, LeavesAnything}
+use Rattle.flu_top.specs.Taking.{TookOnly, TookFrontsBut}
+use Rattle.flu_top.specs.Wants.{if_named, job_and_plan_named, texts_named, sources_read, IsNotSaved}
+use Rattle.flu_top.proofs.AsValid.{only_as_valid, refusal_as_valid, run_reads}
+use Rattle.flu_top.proofs.Sequence.{among, none_among, one_text, only_one, source_name_is_read, stays_ended, text_is_read}
+
+-- ---- texts
+-- some texts are read, and then others
+emptied_then : (first second : List (List ℕ)) (x : Contents) → emptied_each (first ++ second) x ≡ emptied_each second (emptied_each first x)
+emptied_then [] second x = refl
+emptied_then (text ∷ first) second x = emptied_then first second _
+
+pub texts_then : (first second : List (List ℕ)) (x y z : Contents) → AreTextsRead first x y → AreTextsRead second y z → AreTextsRead (first ++ second) x z
+texts_then first second x y z one two = record {
+  behind = emptied_then first second x ∙ ap (emptied_each second) one.behind ∙ two.behind;
+  ends = λ name found. elim (Contains-append_cases first second name found) [
+    | inl early ↦ stays_ended second y z two.ends two.others name (one.ends name early)
+    | inr late ↦ two.ends name late
+  ];
+  others = λ name missing.
+      two.others name (λ found. missing (Contains-append_right first second name found)) ∙ one.others name (λ found. missing (Contains-append_left first second name found));
+}
+
+others_then : (first second : List (List ℕ)) (x y z : Contents) → LeavesOthers first x y → LeavesOthers second y z → LeavesOthers (first ++ second) x z
+others_then first second x y z one two name missing =
+    two name (λ found. missing (Contains-append_right first second name found)) ∙ one name (λ found. missing (Contains-append_left first second name found))
+
+fronts_on : (x y z : Contents) → TookFronts x y → TookFronts y z → TookFronts x z
+fronts_on x y z f g name rest left =
+    let second = g name rest left in
+    let first = f name (second.0 ++ rest) second.1 in
+    (first.0 ++ second.0, first.1 ∙ ap Some (sym (append_assoc first.0 second.0 rest)))
+
+-- ---- what is left under the name that is saved to
+-- where some texts were read, and nothing was put, it is as before
+none_put : (named : Option (List ℕ)) (texts : List (List ℕ)) (x y : Contents) → TookFronts x y → LeavesOthers texts x y → LeavesPut named texts None x y
+none_put None texts x y fronts others = tt
+none_put (Some name) texts x y fronts others = record { end = λ rest is. fronts name rest is; unread = λ missing. others name missing }
+
+-- what was put behind the texts
+put_behind_texts : (named put : Option (List ℕ)) (texts : List (List ℕ)) (x y z : Contents) → TookFronts x y → LeavesOthers texts x y → LeavesPut named [] put y z → LeavesPut named texts put x z
+put_behind_texts None put texts x y z fronts others leaves = tt
+put_behind_texts (Some name) None texts x y z fronts others leaves = record {
+  end = λ rest is.
+      let second = leaves.end rest is in
+      let first = fronts name (second.0 ++ rest) second.1 in
+      (first.0 ++ second.0, first.1 ∙ ap Some (sym (append_assoc first.0 second.0 rest)));
+  unread = λ missing. leaves.unread (none_among name) ∙ others name missing;
+}
+put_behind_texts (Some name) (Some bytes) texts x y z fronts others leaves = leaves
+
+-- ---- a run reads its job and its plan as `valid` does, where it names a plan
+-- those are all names that `valid` reads
+valid_reads : (job plan : List ℕ) (left : Option Contents) (name : List ℕ) → IsReadName left (Valid job plan) name → Contains (job ∷ plan ∷ []) name
+valid_reads job plan left name (inl same) = subst (λ (wanted : WantedJob). Contains (job_files wanted ++ plan ∷ []) name) (sym same) (contains_here name (plan ∷ []))
+valid_reads job plan left name (inr (inl found)) = contains_later job name (plan ∷ []) (one_contains plan name (let same : plan ≡ name = let e = found.named in cc in sym same))
+valid_reads job plan left name (inr (inr (inl checkpoint))) = absurd (let e = checkpoint.named in cc)
+valid_reads job plan left name (inr (inr (inr (inl source)))) = absurd (none_among name source.named)
+valid_reads job plan left name (inr (inr (inr (inr trace)))) = absurd (let e = trace.named in cc)
+
+pub others_as_valid : (job plan : List ℕ) (named : Option (List ℕ)) (a b : Option Contents) → named ≡ Some plan → WhereTold a b (TookOnly (IsReadName a (Valid job plan))) → WhereTold a b (LeavesOthers (job ∷ if_named named))
+others_as_valid job plan named a b is only = subst (λ (o : Option (List ℕ)). WhereTold a b (LeavesOthers (job ∷ if_named o))) (sym is)
+    (told_weaker (TookOnly (IsReadName a (Valid job plan))) (LeavesOthers (job ∷ plan ∷ [])) a b (λ x y took name missing. took name (λ read. missing (valid_reads job plan a name read))) only)
+
+pub run_only_as_valid : (job plan : List ℕ) (named : Option (List ℕ)) (a b : Option Contents) → named ≡ Some plan → WhereTold a b (TookOnly (IsReadName a (Valid job plan)))
+    → (options : RunOptions) → WhereTold a b (TookOnly (IsReadName a (Run job named options)))
+run_only_as_valid job plan named a b is only options = subst (λ (o : Option (List ℕ)). WhereTold a b (TookOnly (IsReadName a (Run job o options)))) (sym is)
+    (only_as_valid (Run job (Some plan) options) job plan a b (run_reads job plan options) only)
+
+pub run_refused_as_valid : {T : Type 0} (r : Result T Refusal) (job plan : List ℕ) (named : Option (List ℕ)) (a b : Option Contents) (k m : List ℕ → ℕ) → named ≡ Some plan → IfErr r (IsRefusal (Valid job plan) a b k m)
+    → IfErr r (λ (refusal : Refusal). (options : RunOptions) → IsRefusal (Run job named options) a b k m refusal)
+run_refused_as_valid r job plan named a b k m is refused = subst (λ (o : Option (List ℕ)). IfErr r (λ (refusal : Refusal). (options : RunOptions) → IsRefusal (Run job o options) a b k m refusal)) (sym is)
+    (IfErr-weaker r _ _ (λ refusal why options. refusal_as_valid (Run job (Some plan) options) job plan a b k m refusal (run_reads job plan options) why) refused)
+
+-- where it names none its job alone is read
+pub begun_alone : (job : List ℕ) (p q : Program) (a b : Option Contents) → q ≡ p → WhereTold a b (IsJobRead job p) → WhereTold a b (TakesFrom job) → WhereTold a b (IsBegun job None q)
+begun_alone job p q a b same read taken = subst (λ (r : Program). WhereTold a b (IsBegun job None r)) (sym same)
+    (told_weaker (λ x y. IsJobRead job p x y × TakesFrom job x y) (IsBegun job None p) a b
+    (λ x y first. record { has = first.0.has; its_plan = λ name named. absurd (cc); texts = one_text job x y first.0.end first.1 })
+    (told_both (IsJobRead job p) (TakesFrom job) a b read taken))
+
+-- ---- a run that has read its job and its plan
+-- a name that it saves to is as before
+pub as_before : (job : List ℕ) (plan : Option (List ℕ)) (options : RunOptions) (a b : Option Contents) → WhereTold a b TookFronts → WhereTold a b (LeavesOthers (job ∷ if_named plan)) → WhereTold a b (Leaves (Run job plan options) None)
+as_before job plan options a b fronts others = told_weaker (λ x y. TookFronts x y × LeavesOthers (job ∷ if_named plan) x y) (Leaves (Run job plan options) None) a b
+    (λ x y both. none_put options.save (texts_named (Run job plan options)) x y both.0
+    (λ name missing. both.1 name (λ found. missing (Contains-append_left (job ∷ if_named plan) (if_named options.resume) name found))))
+    (told_both TookFronts (LeavesOthers (job ∷ if_named plan)) a b fronts others)
+
+pub as_before_opening : (job : List ℕ) (plan : Option (List ℕ)) (options : RunOptions) (a b d : Option Contents) → WhereTold a b TookFronts → WhereTold a b (LeavesOthers (job ∷ if_named plan))
+    → WhereTold b d TookFronts → WhereTold b d (LeavesOthers (if_named options.resume)) → WhereTold a d (Leaves (Run job plan options) None)
+as_before_opening job plan options a b d fronts others fronts' others' =
+    told_then (λ x y. TookFronts x y × LeavesOthers (job ∷ if_named plan) x y) (λ y z. TookFronts y z × LeavesOthers (if_named options.resume) y z) (Leaves (Run job plan options) None) a b d
+    (λ x y z first second. none_put options.save (texts_named (Run job plan options)) x z (fronts_on x y z first.0 second.0) (others_then (job ∷ if_named plan) (if_named options.resume) x y z first.1 second.1))
+    (told_both TookFronts (LeavesOthers (job ∷ if_named plan)) a b fronts others) (told_both TookFronts (LeavesOthers (if_named options.resume)) b d fronts' others')
+
+module _ (job : List ℕ) (plan : Option (List ℕ)) (options : RunOptions) (p : Program) (a b : Option Contents) where
+  may_be_begun : IsAccepted p → WhereTold a b (IsBegun job plan p) → MayBeJob a (Run job plan options) p
+  may_be_begun accepted begun = record { has = has_begun a b begun; accepted = λ asked. accepted }
+    where
+      has_begun : (a' b' : Option Contents) → WhereTold a' b' (IsBegun job plan p) → MayHaveJob a' (Named job) p
+      has_begun None b' told = tt
+      has_begun (Some x) None told = absurd told
+      has_begun (Some x) (Some y) told = told.has
+
+  -- ---- what refuses it before its rounds
+  -- a name that it saves to, or is resumed from, is a source's file
+  pub same_name_refuses : IsAccepted p → WhereTold a b (IsBegun job plan p) → (number : ℕ) → IsSameName (Run job plan options) p number
+      → HasStartDefect (Run job plan options) a b p (λ left. IsSameName (Run job plan options) p number)
+  same_name_refuses accepted begun number same = record {
+    name = (names_it same).0;
+    named = (names_it same).1;
+    accepted = λ asked. accepted;
+    first = told_weaker (IsBegun job plan p) (λ left _. HasJob (Named job) left p × HasPlanAsked (Run job plan options) left p × IsSameName (Run job plan options) p number) a b
+        (λ x y first. (first.has, first.its_plan, same)) begun;
+  }
+    where
+      names_it : IsSameName (Run job plan options) p number → (name : List ℕ) × ((options.save ≡ Some name) ⊎ (options.resume ≡ Some name))
+      names_it (Saves file) = (file.0.file, inl file.2)
+      names_it (Resumes others file) = (file.0.file, inr file.2)
+
+  -- the checkpoint that it is resumed from could not be read, or has a fault
+  pub opening_refuses : (d : Option Contents) (k l m : List ℕ → ℕ) → IsAccepted p → AreNoSources (Run job plan options) p → WhereTold a b (IsBegun job plan p) → ((n : List ℕ) → k n ≤ l n) → (refusal : Refusal)
+      → IsOpeningRefusal options.resume p b d l m refusal → IsRefusal (Run job plan options) a d k m refusal
+  opening_refuses d k l m accepted apart begun rise (refusals.BadWords bad) is = is
+  opening_refuses d k l m accepted apart begun rise (refusals.JobFault fault) is = absurd is
+  opening_refuses d k l m accepted apart begun rise (refusals.Conflict fault) is = absurd is
+  opening_refuses d k l m accepted apart begun rise (refusals.PlanDefect defect) is = absurd is
+  opening_refuses d k l m accepted apart begun rise (refusals.SourceFault job_read fault) is = absurd is
+  opening_refuses d k l m accepted apart begun rise refusals.ReadFault is = (
+    is.0,
+    inr (inr (inl (record { p = p; job = may_be_begun accepted begun; apart = apart; named = is.1 }))),
+    rose_behind (k is.0) (l is.0) (m is.0) (rise is.0) is.2,
+  )
+  opening_refuses d k l m accepted apart begun rise refusals.WriteFault is = is
+  opening_refuses d k l m accepted apart begun rise refusals.NoMemory is = tt
+  opening_refuses d k l m accepted apart begun rise (refusals.SaveDefect (defects.SameName checked number)) is = absurd is
+  opening_refuses d k l m accepted apart begun rise (refusals.SaveDefect (defects.Checkpoint fault)) is = (p, record {
+    name = is.0;
+    named = inr is.1;
+    accepted = λ asked. accepted;
+    first = told_then (IsBegun job plan p) (λ left _. IsFaultOf p (bytes_left left is.0) fault)
+        (λ left _. HasJob (Named job) left p × HasPlanAsked (Run job plan options) left p × HasBadCheckpoint (Run job plan options) left p fault) a b d
+        (λ x y z first bad. (first.has, first.its_plan, record {
+          apart = apart;
+          name = is.0;
+          named = is.1;
+          is_fault = is.2;
+          first = subst (λ (left : Contents). IsFaultOf p (bytes_left left is.0) fault) (sym first.texts.behind) bad;
+        })) begun is.3;
+  })
+  opening_refuses d k l m accepted apart begun rise refusals.PutFault is = is
+  opening_refuses d k l m accepted apart begun rise (refusals.TraceFault fault) is = absurd is
+
+  -- and then nothing else was read
+  pub only_opening : (d : Option Contents) (status : ℕ) → IsAccepted p → AreNoSources (Run job plan options) p → WhereTold a b (IsBegun job plan p)
+      → WhereTold a b (TookOnly (IsReadName a (Run job plan options))) → WhereTold b d (LeavesOthers (if_named options.resume))
+      → WhereTold a d (TookOnly (λ name. IsReadName a (Run job plan options) name ⊎ IsPutAt (Run job plan options) status name))
+  only_opening d status accepted apart begun only others =
+      told_then (TookOnly (IsReadName a (Run job plan options))) (LeavesOthers (if_named options.resume)) (TookOnly (λ name. IsReadName a (Run job plan options) name ⊎ IsPutAt (Run job plan options) status name)) a b d
+      (λ x y z first second name unread.
+      second name (λ found. unread (inl (inr (inr (inl (record { p = p; job = may_be_begun accepted begun; apart = apart; named = is_named options.resume name found }))))))
+      ∙ first name (λ read. unread (inl read))) only others
+    where
+      is_named : (o : Option (List ℕ)) (name : List ℕ) → Contains (if_named o) name → o ≡ Some name
+      is_named None name found = absurd (none_among name found)
+      is_named (Some one) name found = ap Some (only_one one name found)
+
+-- ---- a run that has read all of its texts
+-- it has its opening then
+pub record IsStarted (job : List ℕ) (plan : Option (List ℕ)) (options : RunOptions) (p : Program) (o : Opening) (old new : Contents) : Type 0 where
+  pub ready : IsReady (Run job plan options) p old new
+  pub starts : StartsFrom (Run job plan options) old p o
+  pub fronts : TookFronts old new
+
+opens_behind : (resume : Option (List ℕ)) (texts : List (List ℕ)) (p : Program) (o : Opening) (x y : Contents) → emptied_each texts x ≡ y → Opens resume [] y p o → Opens resume texts x p o
+opens_behind None texts p o x y behind opens = opens
+opens_behind (Some name) texts p o x y behind opens = subst (λ (left : Contents). OpensAt p (bytes_left left name) o) (sym behind) opens
+
+pub is_started : (job : List ℕ) (plan : Option (List ℕ)) (options : RunOptions) (p : Program) (o : Opening) (a b d : Option Contents) → AreNoSources (Run job plan options) p
+    → WhereTold a b (IsBegun job plan p) → WhereTold a b TookFronts → WhereTold b d (IsOpened options.resume p o) → WhereTold b d TookFronts → WhereTold a d (IsStarted job plan options p o)
+is_started job plan options p o a b d apart begun fronts opened fronts' =
+    told_then (λ x y. IsBegun job plan p x y × TookFronts x y) (λ y z. IsOpened options.resume p o y z × TookFronts y z) (IsStarted job plan options p o) a b d
+    (λ x y z first second. record {
+      ready = record { has = first.0.has; plan = first.0.its_plan; texts = texts_then (job ∷ if_named plan) (if_named options.resume) x y z first.0.texts second.0.texts };
+      starts = record { apart = apart; opens = opens_behind options.resume (job ∷ if_named plan) p o x y first.0.texts.behind second.0.opens };
+      fronts = fronts_on x y z first.1 second.1;
+    })
+    (told_both (IsBegun job plan p) TookFronts a b begun fronts) (told_both (IsOpened options.resume p o) TookFronts b d opened fronts')
+
+-- where a checkpoint could not be put, this is what refuses the run
+pub refused_unsaved : (p : Program) (o : Opening) (named : Option (List ℕ)) (c : Call) (fault : PutFault) → EndsRounds p o named c (Err (Unsaved fault)) → IsRoundsRefusal p o named c (refusal_of_put fault)
+refused_unsaved p o named c Failed is = is
+refused_unsaved p o named c NoMemoryToPut is = inr is
 
 -- ---- the rounds of a run, behind its texts
--- where it is told that a file was read, nothing is left of it
-told_ends : (names : List (List ℕ)) (P : Contents → Contents → Type 0) (b d : Option Contents) → WhereTold b d P → AreReadOut names d
-    → WhereTold b d (λ y z. P y z × ((name : List ℕ) → Contains names name → z name ≡ Some []))
-told_ends names P None None told ends = tt
-told_ends names P None (Some z) told ends = told
-told_ends names P (Some y) None told ends = told
-told_ends names P (Some y) (Some z) told ends = (told, ends)
-
-module _ (job : List ℕ) (plan : Option (List ℕ)) (p : Program) (a b d : Option Contents) (k l m : List ℕ → ℕ) (had has : Option (List ℕ)) (x z : ℕ)
-    (accepted : IsAccepted p) (ready : WhereTold a b (IsReady (Run job plan) p)) (rise : (n : List ℕ) → k n ≤ l n) where
+module _ (job : List ℕ) (plan : Option (List ℕ)) (options : RunOptions) (p : Program) (o : Opening) (a b d : Option Contents) (k l m s t u : List ℕ → ℕ) (had has : Option (List ℕ)) (x z : ℕ)
+    (accepted : IsAccepted p) (apart : AreNoSources (Run job plan options) p) (started : WhereTold a b (IsStarted job plan options p o)) (rise : (n : List ℕ) → k n ≤ l n) (puts : SameCounts s t)
+    (within : StaysWithin p options.save (call b d l m t u had has x z)) where
   -- the lines of the sources behind the texts
-  lines_same : (u v : Contents) → IsReady (Run job plan) p u v → lines_in p v ≡ lines_behind (texts_named (Run job plan)) u p
-  lines_same u v first = ap (lines_in p) (sym first.texts.behind)
+  lines_same : (v w : Contents) → IsStarted job plan options p o v w → lines_in p w ≡ lines_behind (texts_named (Run job plan options)) v p
+  lines_same v w first = ap (lines_in p) (sym first.ready.texts.behind)
 
-  all_read : WhereTold b d (LeavesOthers (files_of p.sources)) → RanAll p (call b d l m had has x z) → HasAll (call a d k m had has x z) (Run job plan) None
-  unfolding report_behind
-  all_read others ran = record {
-    done = told_then (IsReady (Run job plan) p)
-        (λ v w. ((AreSound p (lines_in p v) × (ran.text ≡ report p (final_outputs p nothing_held (lists_of p v)))) × LeavesOthers (files_of p.sources) v w)
-        × ((name : List ℕ) → Contains (files_of p.sources) name → w name ≡ Some []))
-        (IsDone (Run job plan) had has []) a b d
-        (λ u v w first second. (
+  -- what is left under the name that it saves to
+  leaves_behind : (put : Option (List ℕ)) (v w r : Contents) → IsStarted job plan options p o v w → LeavesPut options.save [] put w r → Leaves (Run job plan options) put v r
+  leaves_behind put v w r first leaves = put_behind_texts options.save put (texts_named (Run job plan options)) v w r first.fronts first.ready.texts.others leaves
+
+  -- the names of its texts and sources were read to their ends, but for one that it saves to
+  ends_behind : (v w r : Contents) → IsStarted job plan options p o v w → ((name : List ℕ) → Contains (files_of p.sources) name → r name ≡ Some [])
+      → TookOnly (λ name. Contains (files_of p.sources) name ⊎ IsSavedTo options.save name) w r
+      → (name : List ℕ) → Contains (texts_named (Run job plan options) ++ sources_read (Run job plan options) p) name → IsNotSaved (Run job plan options) name → r name ≡ Some []
+  ends_behind v w r first ends only name found unsaved = elim (Contains-append_cases (texts_named (Run job plan options)) (files_of p.sources) name found) [
+    | inr source ↦ ends name source
+    | inl text ↦ elim (among (files_of p.sources) name) [
+      | inl source ↦ ends name source
+      | inr other ↦ only name (λ either. elim either [ inl source ↦ other source | inr saved ↦ unsaved saved ]) ∙ first.ready.texts.ends name text
+    ]
+  ]
+
+  all_read : RanAll p o options.save (call b d l m t u had has x z) → HasAll (call a d k m s u had has x z) (Run job plan options) None
+  unfolding lists_behind
+  all_read ran = record {
+    done = told_then (IsStarted job plan options p o)
+        (λ v w. IsAllRun p o options.save ran.text v w × TookOnly (λ name. Contains (files_of p.sources) name ⊎ IsSavedTo options.save name) v w)
+        (IsDone (Run job plan options) had has []) a b d
+        (λ v w r first second. (
           p,
           ran.text,
           record {
             good = record {
-              has = first.has;
+              has = first.ready.has;
               accepted = λ asked. accepted;
-              plan = first.plan;
-              sources = subst (AreSound p) (lines_same u v first) second.0.0.0;
+              plan = first.ready.plan;
+              start = (o, first.starts);
+              sources = subst (AreSound p) (lines_same v w first) second.0.sound;
             };
-            ends = ends_at (Run job plan) p u v w refl first second.1 (stays_ended (files_of p.sources) v w second.1 second.0.1);
+            ends = ends_behind v w r first second.0.ends second.1;
             trace = λ trace named. absurd (cc);
+            saved = λ name named. (
+              o,
+              first.starts,
+              second.0.saved name named ∙ ap (λ (left : Contents). Some (save p greatest_border (final_state p o.cells (lists_above o.border (lists_of p left))))) (sym first.ready.texts.behind),
+            );
           },
-          second.0.0.1 ∙ ap (λ (left : Contents). report p (final_outputs p nothing_held (lists_of p left))) (sym first.texts.behind),
+          (o, first.starts.opens, second.0.is ∙ ap (λ (left : Contents). report p (final_outputs p o.cells (lists_above o.border (lists_of p left)))) (sym first.ready.texts.behind)),
           refl,
           ran.wrote,
-        )) ready
-        (told_ends (files_of p.sources) _ b d (told_both (λ v w. AreSound p (lines_in p v) × (ran.text ≡ report p (final_outputs p nothing_held (lists_of p v)))) (LeavesOthers (files_of p.sources)) b d ran.all others) ran.ends);
+        )) started
+        (told_both (IsAllRun p o options.save ran.text) (TookOnly (λ name. Contains (files_of p.sources) name ⊎ IsSavedTo options.save name)) b d ran.all within.others);
     may_say = refl;
   }
 
-  met : (job_read : JobRead) (fault : SourceFault) → program_read job_read ≡ p → RanToDefect p (call b d l m had has x z) fault → HasDefectMet (call a d k m had has x z) (Run job plan) job_read fault
+  met : (job_read : JobRead) (fault : SourceFault) → program_read job_read ≡ p → RanToDefect p o options.save (call b d l m t u had has x z) fault
+      → HasDefectMet (call a d k m s u had has x z) (Run job plan options) job_read fault
   met job_read fault same ran = record {
     text = ran.text;
-    why = subst (λ (q : Program). HasSourceFault (Run job plan) a d q fault ran.text) (sym same) (record {
+    why = subst (λ (q : Program). HasSourceFault (Run job plan options) a d q fault ran.text) (sym same) (record {
       asked = refl;
       accepted = λ asked. accepted;
       source = ran.source;
-      first = told_then (IsReady (Run job plan) p) (λ v w. MeetsDefect p (lines_in p v) ran.text fault)
-          (λ left _. HasJob (Named job) left p × HasPlanAsked (Run job plan) left p × IsMet InRounds (texts_named (Run job plan)) left p ran.text fault) a b d
-          (λ u v w first second. (first.has, first.plan, subst (λ lines. MeetsDefect p lines ran.text fault) (lines_same u v first) second)) ready ran.met;
+      first = told_then (IsStarted job plan options p o) (λ v w. (put : Option (List ℕ)) × MeetsDefect p o (lines_in p v) ran.text put fault × LeavesPut options.save [] put v w)
+          (λ left now. HasJob (Named job) left p × HasPlanAsked (Run job plan options) left p × CanStart (Run job plan options) left p
+          × IsMet InRounds (Run job plan options) left now p ran.text fault) a b d
+          (λ v w r first second. (first.ready.has, first.ready.plan, (o, first.starts), record {
+            opening = o;
+            starts = first.starts;
+            put = second.0;
+            met = subst (λ lines. MeetsDefect p o lines ran.text second.0 fault) (lines_same v w first) second.1;
+            leaves = leaves_behind second.0 v w r first second.2;
+          })) started ran.met;
     });
     wrote = ran.wrote;
   }
 
-  wrote_rounds : RanSome p (call b d l m had has x z) → WroteRounds (Run job plan) a d had has
+  wrote_rounds : RanSome p o options.save (call b d l m t u had has x z) → WroteRounds (Run job plan options) a d had has
   wrote_rounds ran = record {
     p = p;
     text = ran.text;
     accepted = λ asked. accepted;
     wrote = ran.wrote;
-    rounds = told_then (IsReady (Run job plan) p) (λ v w. HaveWritten p (lines_in p v) ran.text)
-        (λ left _. HasJob (Named job) left p × HasPlanAsked (Run job plan) left p × HaveWritten p (lines_behind (texts_named (Run job plan)) left p) ran.text) a b d
-        (λ u v w first second. (first.has, first.plan, subst (λ lines. HaveWritten p lines ran.text) (lines_same u v first) second)) ready ran.rounds;
+    rounds = told_then (IsStarted job plan options p o) (λ v w. (put : Option (List ℕ)) × HaveWritten p o (lines_in p v) ran.text put × LeavesPut options.save [] put v w)
+        (λ left now. HasJob (Named job) left p × HasPlanAsked (Run job plan options) left p × ((o' : Opening) × StartsFrom (Run job plan options) left p o'
+        × ((put : Option (List ℕ)) × HaveWritten p o' (lines_behind (texts_named (Run job plan options)) left p) ran.text put × Leaves (Run job plan options) put left now))) a b d
+        (λ v w r first second. (first.ready.has, first.ready.plan, (o, first.starts, (
+          second.0,
+          subst (λ lines. HaveWritten p o lines ran.text second.0) (lines_same v w first) second.1,
+          leaves_behind second.0 v w r first second.2,
+        )))) started ran.rounds;
   }
 
-  wrote_into : RanInto p (call b d l m had has x z) → WroteIntoRound (Run job plan) a d had has
+  wrote_into : RanInto p o options.save (call b d l m t u had has x z) → WroteIntoRound (Run job plan options) a d had has
   wrote_into ran = record {
     p = p;
     text = ran.text;
     more = ran.more;
     accepted = λ asked. accepted;
     wrote = ran.wrote;
-    round = told_then (IsReady (Run job plan) p) (λ v w. ReportsNext p (lines_in p v) ran.text ran.more)
-        (λ left _. HasJob (Named job) left p × HasPlanAsked (Run job plan) left p × ReportsNext p (lines_behind (texts_named (Run job plan)) left p) ran.text ran.more) a b d
-        (λ u v w first second. (first.has, first.plan, subst (λ lines. ReportsNext p lines ran.text ran.more) (lines_same u v first) second)) ready ran.round;
+    round = told_then (IsStarted job plan options p o) (λ v w. (put : Option (List ℕ)) × ReportsNext p o (lines_in p v) ran.text put ran.more × LeavesPut options.save [] put v w)
+        (λ left now. HasJob (Named job) left p × HasPlanAsked (Run job plan options) left p × ((o' : Opening) × StartsFrom (Run job plan options) left p o'
+        × ((put : Option (List ℕ)) × ReportsNext p o' (lines_behind (texts_named (Run job plan options)) left p) ran.text put ran.more × Leaves (Run job plan options) put left now))) a b d
+        (λ v w r first second. (first.ready.has, first.ready.plan, (o, first.starts, (
+          second.0,
+          subst (λ lines. ReportsNext p o lines ran.text second.0 ran.more) (lines_same v w first) second.1,
+          leaves_behind second.0 v w r first second.2,
+        )))) started ran.round;
   }
 
-  refused_in_rounds : (refusal : Refusal) → IsRoundsRefusal p (call b d l m had has x z) refusal → IsStopped (call a d k m had has x z) (Run job plan) refusal
+  wrote_unsaved : (Left Left' : Option (List ℕ) → Contents → Contents → Type 0)
+      → ((put : Option (List ℕ)) (v w r : Contents) → IsStarted job plan options p o v w → Left put w r → Left' put v r)
+      → RanUnsaved Left p o options.save (call b d l m t u had has x z) → WroteUnsaved Left' (Run job plan options) a d had has
+  wrote_unsaved Left Left' behind ran = record {
+    p = p;
+    text = ran.text;
+    more = ran.more;
+    saves = ran.saves;
+    accepted = λ asked. accepted;
+    wrote = ran.wrote;
+    round = told_then (IsStarted job plan options p o) (λ v w. (put : Option (List ℕ)) × ReportsNext p o (lines_in p v) ran.text put ran.more × Left put v w)
+        (λ left now. HasJob (Named job) left p × HasPlanAsked (Run job plan options) left p × ((o' : Opening) × StartsFrom (Run job plan options) left p o'
+        × ((put : Option (List ℕ)) × ReportsNext p o' (lines_behind (texts_named (Run job plan options)) left p) ran.text put ran.more × Left' put left now))) a b d
+        (λ v w r first second. (first.ready.has, first.ready.plan, (o, first.starts, (
+          second.0,
+          subst (λ lines. ReportsNext p o lines ran.text second.0 ran.more) (lines_same v w first) second.1,
+          behind second.0 v w r first second.2,
+        )))) started ran.round;
+  }
+
+  -- it can start, where the files tell it
+  start_told : IfSome a (λ contents. CanStart (Run job plan options) contents p)
+  start_told = by_told a b started
+    where
+      by_told : (a' b' : Option Contents) → WhereTold a' b' (IsStarted job plan options p o) → IfSome a' (λ contents. CanStart (Run job plan options) contents p)
+      by_told None b' told = tt
+      by_told (Some v) None told = absurd told
+      by_told (Some v) (Some w) told = (o, told.starts)
+
+  is_ready : WhereTold a b (IsReady (Run job plan options) p)
+  is_ready = told_weaker (IsStarted job plan options p o) (IsReady (Run job plan options) p) a b (λ v w first. first.ready) started
+
+  source_read : (name : List ℕ) → Contains (files_of p.sources) name → IsReadName a (Run job plan options) name
+  source_read name found = source_name_is_read (Run job plan options) p a b refl (λ asked. accepted) apart start_told is_ready name found
+
+  refused_in_rounds : (refusal : Refusal) → IsRoundsRefusal p o options.save (call b d l m t u had has x z) refusal → IsStopped (call a d k m s u had has x z) (Run job plan options) refusal
   refused_in_rounds (refusals.BadWords bad) is = is
   refused_in_rounds (refusals.JobFault fault) is = absurd is
   refused_in_rounds (refusals.Conflict fault) is = absurd is
@@ -133,19 +391,53 @@ module _ (job : List ℕ) (plan : Option (List ℕ)) (p : Program) (a b d : Opti
   refused_in_rounds (refusals.SourceFault job_read fault) is = met job_read fault is.0 is.1
   refused_in_rounds refusals.ReadFault is =
       let rose = is.0 in
-      record {
-        why = (
-          rose.0,
-          inr (inl (p, may_have_ready (Run job plan) p a b ready, (λ asked. accepted), source_is_read (Run job plan) p rose.0 refl rose.1)),
-          rose_behind (k rose.0) (l rose.0) (m rose.0) (rise rose.0) rose.2,
-        );
-        wrote = inr (wrote_rounds is.1);
-      }
+      record { why = (rose.0, source_read rose.0 rose.1, rose_behind (k rose.0) (l rose.0) (m rose.0) (rise rose.0) rose.2); wrote = inr (wrote_rounds is.1) }
   refused_in_rounds refusals.WriteFault is = record { rose = is.0; partly = wrote_into is.1 }
-  refused_in_rounds refusals.NoMemory is = inr (wrote_rounds is)
+  refused_in_rounds refusals.NoMemory is = elim is [
+    | inl some ↦ inl (inr (wrote_rounds some))
+    | inr unsaved ↦ inr (wrote_unsaved (LeavesPut options.save []) (Leaves (Run job plan options)) leaves_behind unsaved)
+  ]
+  refused_in_rounds (refusals.SaveDefect defect) is = absurd is
+  refused_in_rounds refusals.PutFault is =
+      let rose = is.0 in
+      record {
+        name = rose.0;
+        named = rose.1;
+        rose = subst (λ (n : ℕ). Rose n (u rose.0)) (puts rose.0) rose.2;
+        wrote = wrote_unsaved LeavesAnything LeavesAnything (λ put v w r first anything. tt) is.1;
+      }
   refused_in_rounds (refusals.TraceFault fault) is = absurd is
 
-  pub ends_run : (result : Result (Option DrawnSteps) Refusal) → WhereTold b d (LeavesOthers (files_of p.sources)) → EndsRun p (call b d l m had has x z) result
-      → IsEnding (call a d k m had has x z) (Run job plan) result
-  ends_run (Ok steps) others is = subst (λ (s : Option DrawnSteps). HasAll (call a d k m had has x z) (Run job plan) s) (sym is.0) (all_read others is.1)
-  ends_run (Err refusal) others is = refused_in_rounds refusal is
+  pub ends_run : (result : Result (Option DrawnSteps) Refusal) → EndsRun p o options.save (call b d l m t u had has x z) result → IsEnding (call a d k m s u had has x z) (Run job plan options) result
+  ends_run (Ok steps) is = subst (λ (said : Option DrawnSteps). HasAll (call a d k m s u had has x z) (Run job plan options) said) (sym is.0) (all_read is.1)
+  ends_run (Err refusal) is = refused_in_rounds refusal is
+
+  -- ---- the names that it reads and puts
+  may_put : (result : Result (Option DrawnSteps) Refusal) → EndsRun p o options.save (call b d l m t u had has x z) result → Contains (0 ∷ 6 ∷ 7 ∷ 8 ∷ 9 ∷ 12 ∷ []) (status_after result)
+  may_put (Ok steps) is = (0, omega arith, refl)
+  may_put (Err (refusals.BadWords bad)) is = absurd is
+  may_put (Err (refusals.JobFault fault)) is = absurd is
+  may_put (Err (refusals.Conflict fault)) is = absurd is
+  may_put (Err (refusals.PlanDefect defect)) is = absurd is
+  may_put (Err (refusals.SourceFault job_read fault)) is = (1, omega arith, refl)
+  may_put (Err refusals.ReadFault) is = (2, omega arith, refl)
+  may_put (Err refusals.WriteFault) is = (3, omega arith, refl)
+  may_put (Err refusals.NoMemory) is = (4, omega arith, refl)
+  may_put (Err (refusals.SaveDefect defect)) is = absurd is
+  may_put (Err refusals.PutFault) is = (5, omega arith, refl)
+  may_put (Err (refusals.TraceFault fault)) is = absurd is
+
+  pub run_fronts : (result : Result (Option DrawnSteps) Refusal) → EndsRun p o options.save (call b d l m t u had has x z) result → WhereTold a d (TookFrontsBut (IsPutAt (Run job plan options) (status_after result)))
+  run_fronts result is = told_then (IsStarted job plan options p o) (TookFrontsBut (IsSavedTo options.save)) (TookFrontsBut (IsPutAt (Run job plan options) (status_after result))) a b d
+      (λ v w r first second name rest other left.
+      let later = second name rest (λ saved. other (saved, may_put result is)) left in
+      let early = first.fronts name (later.0 ++ rest) later.1 in
+      (early.0 ++ later.0, early.1 ∙ ap Some (sym (append_assoc early.0 later.0 rest)))) started within.fronts
+
+  pub run_only : (result : Result (Option DrawnSteps) Refusal) → EndsRun p o options.save (call b d l m t u had has x z) result
+      → WhereTold a d (TookOnly (λ name. IsReadName a (Run job plan options) name ⊎ IsPutAt (Run job plan options) (status_after result) name))
+  run_only result is = told_then (IsStarted job plan options p o) (TookOnly (λ name. Contains (files_of p.sources) name ⊎ IsSavedTo options.save name))
+      (TookOnly (λ name. IsReadName a (Run job plan options) name ⊎ IsPutAt (Run job plan options) (status_after result) name)) a b d
+      (λ v w r first second name unread.
+      second name (λ either. elim either [ inl source ↦ unread (inl (source_read name source)) | inr saved ↦ unread (inr (saved, may_put result is)) ])
+      ∙ first.ready.texts.others name (λ found. unread (inl (text_is_read (Run job plan options) p a b (λ asked. accepted) apart is_ready name found)))) started within.others

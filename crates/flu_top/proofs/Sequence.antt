@@ -26,7 +26,7 @@ use Rattle.flu_top.specs.Behind.{WantedJob, Named, Fixed, HasJob, job_files, emp
 use Rattle.flu_top.specs.Openings.{Opens, fresh}
 use Rattle.flu_top.specs.Reading.{Reading, Whole, is_read, AreSourcesGood}
 use Rattle.flu_top.specs.Wants.{job_wanted, plan_named, save_named, resume_named, trace_named, asks_accepted, how_read, reads_sources, if_named, job_and_plan_named, texts_named, sources_read, Writes}
-use Rattle.flu_top.specs.Starting.{AreNoSources, StartsFrom, CanStart}
+use Rattle.flu_top.specs.Starting.{AreNoSources, CanStart}
 use Rattle.flu_top.specs.Done.{HasPlanAsked, IsGood, IsTraceRead, HasSaved, IsRead, Says, MayHaveJob, MayBeJob, IsReadName, IsWritten}
 use Rattle.flu_top.specs.Ready.{AreTextsRead, IsReady}
 use Rattle.flu_top.specs.Jobs.{IsJobRefusal}

@@ -1,96 +1,218 @@
--- How the rounds of a job's sources end, and what they have written.
-use Rattle.std.specs.Prelude.{◌≡◌, ◌<◌, ◌-◌, ◌+◌, ◌^◌, ◌≤◌, ℕ, List, length, Option, None, Result, Ok, Err}
+-- How the rounds of a job's sources end, what they have written, and what they have put.
+use Rattle.std.specs.Prelude.{◌≡◌, ◌≢◌, ◌<◌, ◌-◌, ◌+◌, ◌^◌, ◌≤◌, ◌++◌, ◌⊎◌, ℕ, List, [], ◌∷◌, length, Option, Some, None, option_map, Result, Ok, Err, Contains, ⊤}
 use Rattle.std.specs.Option.{option_map_or}
-use Rattle.flu_outside.specs.Outside.{WhereTold, Rose}
-use Rattle.flu_outside.specs.Taking.{TookFronts}
+use Rattle.flu_outside.specs.declared.files.PutFault.TheVariants.{Failed, NoMemory as NoMemoryToPut}
+use Rattle.flu_outside.specs.Outside.{Contents as Files, WhereTold, Rose, Puts, OthersStay, SameLeft, SameCounts}
+use Rattle.flu_outside.specs.Taking.{bytes_left}
 use Rattle.flu_outside.specs.Writing.{AppendsAll}
+use Rattle.flu_cells.specs.Holding.{held}
+use Rattle.flu_model.specs.declared.events.Item.{Item}
 use Rattle.flu_model.specs.declared.jobs.Program.{Program}
-use Rattle.flu_model.specs.Contents.{nothing_held}
-use Rattle.flu_model.specs.Folding.{final_outputs}
+use Rattle.flu_model.specs.Contents.{Contents, nothing_held}
+use Rattle.flu_model.specs.Folding.{final_state, final_outputs}
 use Rattle.flu_model.specs.Reports.{report}
+use Rattle.flu_model.specs.Sorts.{IsStateOf}
+use Rattle.flu_streams.specs.declared.border.Border.{Border}
+use Rattle.flu_streams.specs.declared.border.Border.TheVariants.{At, Closed}
 use Rattle.flu_streams.specs.declared.faults.SourceFault.{SourceFault}
 use Rattle.flu_streams.specs.declared.held.Stage.TheVariants.{Filling}
-use Rattle.flu_streams.specs.Files.{files_of, LeavesOthers, AreReadOut, OneRose}
+use Rattle.flu_streams.specs.Files.{files_of, OneRose}
 use Rattle.flu_streams.specs.Good.{lists_of}
-use Rattle.flu_rounds.specs.declared.faults.RoundsFault.{RoundsFault}
 use Rattle.flu_rounds.specs.declared.faults.RoundsFault.TheVariants.{Source, ReadFault, WriteFault, NoMemory}
-use Rattle.flu_rounds.specs.Coming.{CameTo}
+use Rattle.flu_rounds.specs.Coming.{CameFrom, lists_above}
 use Rattle.flu_rounds.specs.Written.{AreSound, lines_in}
 use Rattle.flu_rounds.specs.Standing.{Standing}
+use Rattle.flu_save.specs.declared.fault.SaveFault.{SaveFault}
+use Rattle.flu_save.specs.declared.fault.SaveFault.TheVariants as saves
+use Rattle.flu_save.specs.Checkpoint.{save}
+use Rattle.flu_save.specs.Forms.{IsFaultOf}
+use Rattle.flu_words.specs.Words.{RunOptions, Run}
+use Rattle.flu_top.specs.declared.openings.Opening.{Opening as NamedOpening}
 use Rattle.flu_top.specs.declared.products.DrawnSteps.{DrawnSteps}
+use Rattle.flu_top.specs.declared.running.RunFault.{RunFault}
+use Rattle.flu_top.specs.declared.running.RunFault.TheVariants.{Round, Unsaved}
 use Rattle.flu_top.specs.declared.refusals.Refusal.{Refusal}
 use Rattle.flu_top.specs.declared.refusals.Refusal.TheVariants as refusals
-use Rattle.flu_top.specs.Done.{AppendsInto}
+use Rattle.flu_top.specs.declared.refusals.SaveDefect.TheVariants as defects
+use Rattle.flu_top.specs.Behind.{Named, HasJob}
+use Rattle.flu_top.specs.Done.{AppendsInto, HasValidPlan}
 use Rattle.flu_top.specs.Ending.{Call}
 use Rattle.flu_top.specs.Jobs.{program_read}
-use Rattle.flu_top.specs.Reading.{HaveWritten, MeetsDefect, ReportsNext, rows_in_round}
+use Rattle.flu_top.specs.Openings.{Opening, Opens}
+use Rattle.flu_top.specs.Reading.{HaveWritten, MeetsDefect, ReportsNext, rows_in_round, greatest_border}
+use Rattle.flu_top.specs.Ready.{AreTextsRead}
+use Rattle.flu_top.specs.Starting.{LeavesPut, LeavesAnything}
+use Rattle.flu_top.specs.Taking.{TookOnly, TookFrontsBut}
+use Rattle.flu_top.specs.Wants.{if_named}
+
+-- ---- before the rounds
+-- the bytes under the job's name are the text of this program, those under the plan's, where one is named, are a plan that is valid
+-- for it, and these texts alone were read
+pub record IsBegun (job : List ℕ) (plan : Option (List ℕ)) (p : Program) (old new : Files) : Type 0 where
+  pub has : HasJob (Named job) old p
+  pub its_plan : (name : List ℕ) → plan ≡ Some name → HasValidPlan (Named job) name old p
+  pub texts : AreTextsRead (job ∷ if_named plan) old new
+
+-- an opening without where its state lies in memory
+abbrev pub plain_opening : NamedOpening → Opening
+plain_opening opening = record { border = opening.border; cells = held opening.state }
+
+-- an opening that a run of this job can have: its border is in range, its state is of the job's sorts, and without a border it is
+-- the empty one
+pub record IsOpening (p : Program) (o : Opening) : Type 0 where
+  pub in_range : (t : ℕ) → o.border ≡ Some t → t < 2 ^ 63
+  pub sorts : IsStateOf p.families o.cells
+  pub empty : o.border ≡ None → o.cells ≡ nothing_held
+
+-- a run opens so, and the checkpoint that it is resumed from, where it is, alone was read
+pub record IsOpened (resume : Option (List ℕ)) (p : Program) (o : Opening) (old new : Files) : Type 0 where
+  pub opens : Opens resume [] old p o
+  pub texts : AreTextsRead (if_named resume) old new
+
+-- why a run has no opening
+abbrev pub IsOpeningRefusal : Option (List ℕ) → Program → Option Files → Option Files → (List ℕ → ℕ) → (List ℕ → ℕ) → Refusal → Type 0
+IsOpeningRefusal resume p old new before now (refusals.BadWords bad) = ⊥
+IsOpeningRefusal resume p old new before now (refusals.JobFault fault) = ⊥
+IsOpeningRefusal resume p old new before now (refusals.Conflict fault) = ⊥
+IsOpeningRefusal resume p old new before now (refusals.PlanDefect defect) = ⊥
+IsOpeningRefusal resume p old new before now (refusals.SourceFault job fault) = ⊥
+IsOpeningRefusal resume p old new before now refusals.ReadFault = (name : List ℕ) × (resume ≡ Some name) × Rose (before name) (now name)
+IsOpeningRefusal resume p old new before now refusals.WriteFault = ⊥
+IsOpeningRefusal resume p old new before now refusals.NoMemory = ⊤
+IsOpeningRefusal resume p old new before now (refusals.SaveDefect (defects.SameName checked number)) = ⊥
+IsOpeningRefusal resume p old new before now (refusals.SaveDefect (defects.Checkpoint fault)) =
+    (name : List ℕ) × (resume ≡ Some name) × (fault ≢ saves.NoMemory) × WhereTold old new (λ left _. IsFaultOf p (bytes_left left name) fault)
+IsOpeningRefusal resume p old new before now refusals.PutFault = ⊥
+IsOpeningRefusal resume p old new before now (refusals.TraceFault fault) = ⊥
+
+-- ---- a checkpoint
+-- the border that a checkpoint has behind a round's end: the greatest one behind the last
+abbrev pub border_at : Border → ℕ
+border_at (At t) = t
+border_at Closed = greatest_border
+
+-- a border is in range
+abbrev pub IsInRange : Border → Type 0
+IsInRange end = (t : ℕ) → end ≡ At t → t < 2 ^ 63
+
+-- this was put under a name, if there is one
+abbrev pub PutsAt : Option (List ℕ) → List ℕ → Files → Files → Type 0
+PutsAt None bytes old new = SameLeft old new
+PutsAt (Some name) bytes old new = Puts name bytes old new
+
+-- it could not be put under a name, whose count of puts rose
+abbrev pub PutFailed : Option (List ℕ) → (List ℕ → ℕ) → (List ℕ → ℕ) → Type 0
+PutFailed named before now = (name : List ℕ) × (named ≡ Some name) × Rose (before name) (now name)
+
+-- a name that is saved to
+abbrev pub IsSavedTo : Option (List ℕ) → List ℕ → Type 0
+IsSavedTo named name = named ≡ Some name
 
 -- ---- between two rounds
+-- what was put last behind some rounds, where the border and the state are these: nothing behind none
+abbrev pub put_behind : Program → List (List (List Item)) → Option ℕ → Contents → Option (List ℕ)
+put_behind p [] border s = None
+put_behind p (round ∷ rounds) border s = option_map (λ t. save p t s) border
+
+-- bytes are taken from the front of the sources' files alone, and none is put but of the name that is saved to; and no count of takes
+-- falls
+pub record StaysWithin (p : Program) (named : Option (List ℕ)) (c : Call) : Type 0 where
+  pub fronts : WhereTold c.left c.left_after (TookFrontsBut (IsSavedTo named))
+  pub others : WhereTold c.left c.left_after (TookOnly (λ name. Contains (files_of p.sources) name ⊎ IsSavedTo named name))
+  pub rise : (n : List ℕ) → c.counts n ≤ c.counts_after n
+
 -- a run in rounds has come to a standing, and may go on; another run's job is this one
-pub record GoesOn (p q : Program) (c : Call) (now : Standing) : Type 0 where
+pub record GoesOn (p q : Program) (o : Opening) (named : Option (List ℕ)) (c : Call) (now : Standing) : Type 0 where
   pub engine : q ≡ p
   pub stage : now.held.stage ≡ Filling
   pub written : List ℕ
-  pub came : CameTo p rows_in_round c.left c.left_after now written
+  pub came : CameFrom p rows_in_round o.border o.cells c.left c.left_after now written
   pub wrote : WhereTold c.taken c.taken_after (AppendsAll written)
-  pub fronts : WhereTold c.left c.left_after TookFronts
-  pub others : WhereTold c.left c.left_after (LeavesOthers (files_of p.sources))
-  pub rise : (n : List ℕ) → c.counts n ≤ c.counts_after n
+  pub leaves : WhereTold c.left c.left_after (LeavesPut named [] (put_behind p came.done now.held.border (held now.state)))
+  pub within : StaysWithin p named c
   pub quiet : c.count_after ≡ c.count
+  pub puts : SameCounts c.puts c.puts_after
 
 -- how many borders there may still be above one
 abbrev pub borders_above : Option ℕ → ℕ
 borders_above border = option_map_or (λ t. 2 ^ 63 - t) border (2 ^ 63 + 1)
 
 -- ---- how they end
--- no source has a defect, all files were read to their ends, and the report of all events was written
-pub record RanAll (p : Program) (c : Call) : Type 0 where
+-- the items that the run has in all
+abbrev pub all_lists : Program → Opening → Files → List (List Item)
+all_lists p o left = lists_above o.border (lists_of p left)
+
+-- no source has a defect, all files were read to their ends, this is the report of all events, and the last checkpoint was put
+pub record IsAllRun (p : Program) (o : Opening) (named : Option (List ℕ)) (text : List ℕ) (left now : Files) : Type 0 where
+  pub sound : AreSound p (lines_in p left)
+  pub is : text ≡ report p (final_outputs p o.cells (all_lists p o left))
+  pub ends : (name : List ℕ) → Contains (files_of p.sources) name → now name ≡ Some []
+  pub saved : (name : List ℕ) → named ≡ Some name → now name ≡ Some (save p greatest_border (final_state p o.cells (all_lists p o left)))
+
+-- all of it was written
+pub record RanAll (p : Program) (o : Opening) (named : Option (List ℕ)) (c : Call) : Type 0 where
   pub text : List ℕ
   pub wrote : WhereTold c.taken c.taken_after (AppendsAll text)
-  pub all : WhereTold c.left c.left_after (λ left _. AreSound p (lines_in p left) × (text ≡ report p (final_outputs p nothing_held (lists_of p left))))
-  pub ends : AreReadOut (files_of p.sources) c.left_after
+  pub all : WhereTold c.left c.left_after (IsAllRun p o named text)
 
 -- a round met this defect
-pub record RanToDefect (p : Program) (c : Call) (fault : SourceFault) : Type 0 where
+pub record RanToDefect (p : Program) (o : Opening) (named : Option (List ℕ)) (c : Call) (fault : SourceFault) : Type 0 where
   pub source : fault.source < length p.sources
   pub text : List ℕ
   pub wrote : WhereTold c.taken c.taken_after (AppendsAll text)
-  pub met : WhereTold c.left c.left_after (λ left _. MeetsDefect p (lines_in p left) text fault)
+  pub met : WhereTold c.left c.left_after (λ left now. (put : Option (List ℕ)) × MeetsDefect p o (lines_in p left) text put fault × LeavesPut named [] put left now)
 
--- what the rounds up to some one wrote stands in out
-pub record RanSome (p : Program) (c : Call) : Type 0 where
+-- what the rounds up to some one wrote stands in out, and what they put under the name that is saved to
+pub record RanSome (p : Program) (o : Opening) (named : Option (List ℕ)) (c : Call) : Type 0 where
   pub text : List ℕ
   pub wrote : WhereTold c.taken c.taken_after (AppendsAll text)
-  pub rounds : WhereTold c.left c.left_after (λ left _. HaveWritten p (lines_in p left) text)
+  pub rounds : WhereTold c.left c.left_after (λ left now. (put : Option (List ℕ)) × HaveWritten p o (lines_in p left) text put × LeavesPut named [] put left now)
 
 -- and a front of the next one's report
-pub record RanInto (p : Program) (c : Call) : Type 0 where
+pub record RanInto (p : Program) (o : Opening) (named : Option (List ℕ)) (c : Call) : Type 0 where
   pub text : List ℕ
   pub more : List ℕ
   pub wrote : WhereTold c.taken c.taken_after (AppendsInto text more)
-  pub round : WhereTold c.left c.left_after (λ left _. ReportsNext p (lines_in p left) text more)
+  pub round : WhereTold c.left c.left_after (λ left now. (put : Option (List ℕ)) × ReportsNext p o (lines_in p left) text put more × LeavesPut named [] put left now)
 
-abbrev pub EndsRounds : Program → Call → Result (Unit {0}) RoundsFault → Type 0
-EndsRounds p c (Ok done) = RanAll p c
-EndsRounds p c (Err (Source fault)) = RanToDefect p c fault
-EndsRounds p c (Err ReadFault) = OneRose (files_of p.sources) c.counts c.counts_after × RanSome p c
-EndsRounds p c (Err WriteFault) = Rose c.count c.count_after × RanInto p c
-EndsRounds p c (Err NoMemory) = RanSome p c
+-- or all of it, and its checkpoint could not be put: this holds of what is left under the name that is saved to, by what was put there
+-- before
+pub record RanUnsaved (Left : Option (List ℕ) → Files → Files → Type 0) (p : Program) (o : Opening) (named : Option (List ℕ)) (c : Call) : Type 0 where
+  pub text : List ℕ
+  pub more : List ℕ
+  pub saves : named ≢ None
+  pub wrote : WhereTold c.taken c.taken_after (AppendsAll (text ++ more))
+  pub round : WhereTold c.left c.left_after (λ left now. (put : Option (List ℕ)) × ReportsNext p o (lines_in p left) text put more × Left put left now)
+
+abbrev pub EndsRounds : Program → Opening → Option (List ℕ) → Call → Result (Unit {0}) RunFault → Type 0
+EndsRounds p o named c (Ok done) = RanAll p o named c
+EndsRounds p o named c (Err (Round (Source fault))) = RanToDefect p o named c fault
+EndsRounds p o named c (Err (Round ReadFault)) = OneRose (files_of p.sources) c.counts c.counts_after × RanSome p o named c
+EndsRounds p o named c (Err (Round WriteFault)) = Rose c.count c.count_after × RanInto p o named c
+EndsRounds p o named c (Err (Round NoMemory)) = RanSome p o named c
+EndsRounds p o named c (Err (Unsaved Failed)) = PutFailed named c.puts c.puts_after × RanUnsaved LeavesAnything p o named c
+EndsRounds p o named c (Err (Unsaved NoMemoryToPut)) = RanUnsaved (LeavesPut named []) p o named c
+
+-- what one round more comes to: the next standing, or an end
+abbrev pub Steps : Program → Program → Opening → Option (List ℕ) → Call → Standing → Result Border RunFault → Type 0
+Steps p q o named c new (Ok (At t)) = GoesOn p q o named c new
+Steps p q o named c new (Ok Closed) = RanAll p o named c × StaysWithin p named c
+Steps p q o named c new (Err fault) = EndsRounds p o named c (Err fault) × StaysWithin p named c
 
 -- the same where it is told as the end of a command
-abbrev pub IsRoundsRefusal : Program → Call → Refusal → Type 0
-IsRoundsRefusal p c (refusals.BadWords bad) = ⊥
-IsRoundsRefusal p c (refusals.JobFault fault) = ⊥
-IsRoundsRefusal p c (refusals.Conflict fault) = ⊥
-IsRoundsRefusal p c (refusals.PlanDefect defect) = ⊥
-IsRoundsRefusal p c (refusals.SourceFault job fault) = (program_read job ≡ p) × RanToDefect p c fault
-IsRoundsRefusal p c refusals.ReadFault = OneRose (files_of p.sources) c.counts c.counts_after × RanSome p c
-IsRoundsRefusal p c refusals.WriteFault = Rose c.count c.count_after × RanInto p c
-IsRoundsRefusal p c refusals.NoMemory = RanSome p c
-IsRoundsRefusal p c (refusals.SaveDefect defect) = ⊥
-IsRoundsRefusal p c refusals.PutFault = ⊥
-IsRoundsRefusal p c (refusals.TraceFault fault) = ⊥
+abbrev pub IsRoundsRefusal : Program → Opening → Option (List ℕ) → Call → Refusal → Type 0
+IsRoundsRefusal p o named c (refusals.BadWords bad) = ⊥
+IsRoundsRefusal p o named c (refusals.JobFault fault) = ⊥
+IsRoundsRefusal p o named c (refusals.Conflict fault) = ⊥
+IsRoundsRefusal p o named c (refusals.PlanDefect defect) = ⊥
+IsRoundsRefusal p o named c (refusals.SourceFault job fault) = (program_read job ≡ p) × RanToDefect p o named c fault
+IsRoundsRefusal p o named c refusals.ReadFault = OneRose (files_of p.sources) c.counts c.counts_after × RanSome p o named c
+IsRoundsRefusal p o named c refusals.WriteFault = Rose c.count c.count_after × RanInto p o named c
+IsRoundsRefusal p o named c refusals.NoMemory = RanSome p o named c ⊎ RanUnsaved (LeavesPut named []) p o named c
+IsRoundsRefusal p o named c (refusals.SaveDefect defect) = ⊥
+IsRoundsRefusal p o named c refusals.PutFault = PutFailed named c.puts c.puts_after × RanUnsaved LeavesAnything p o named c
+IsRoundsRefusal p o named c (refusals.TraceFault fault) = ⊥
 
-abbrev pub EndsRun : Program → Call → Result (Option DrawnSteps) Refusal → Type 0
-EndsRun p c (Ok steps) = (steps ≡ None) × RanAll p c
-EndsRun p c (Err refusal) = IsRoundsRefusal p c refusal
+abbrev pub EndsRun : Program → Opening → Option (List ℕ) → Call → Result (Option DrawnSteps) Refusal → Type 0
+EndsRun p o named c (Ok steps) = (steps ≡ None) × RanAll p o named c
+EndsRun p o named c (Err refusal) = IsRoundsRefusal p o named c refusal

@@ -1,5 +1,14 @@
 //! What a run starts from: the first row and the empty state, or a checkpoint.
 
+ghost use Rattle.std.specs.Prelude.{◌≡◌, ◌≤◌, ℕ, List, Option, Some, None, option_map, IfOk, IfErr, IfSome};
+ghost use Rattle.flu_outside.specs.Outside.{WhereTold, SameCounts};
+ghost use Rattle.flu_outside.specs.Taking.{TookFronts};
+ghost use Rattle.flu_streams.specs.Files.{LeavesOthers};
+ghost use Rattle.flu_words.specs.Words.{Run, plain_options};
+ghost use Rattle.flu_top.specs.Running.{IsOpening, IsOpened, IsOpeningRefusal, plain_opening};
+ghost use Rattle.flu_top.specs.Starting.{AreNoSources, IsFileOf, IsNoSource, IsSameName};
+ghost use Rattle.flu_top.specs.Wants.{if_named};
+
 use crate::refusals::Refusal;
 use flu_cells::State;
 use flu_model::Program;
@@ -26,7 +35,15 @@ pub fn opening_of<F: Files>(
     files: &mut F,
     program: &Program,
     resume: Option<&str>,
-) -> Result<Opening, Refusal> {
+) -> Result<Opening, Refusal>
+    ensures opening { IfOk result (λ o. IsOpening program.now (plain_opening o)) }
+    ensures opened { IfOk result (λ o. WhereTold (F.left files.old) (F.left files.new) (IsOpened (option_map (λ name. name.now) resume.entry) program.now (plain_opening o))) }
+    ensures refused { IfErr result (IsOpeningRefusal (option_map (λ name. name.now) resume.entry) program.now (F.left files.old) (F.left files.new) (F.faults files.old) (F.faults files.new)) }
+    ensures fronts { WhereTold (F.left files.old) (F.left files.new) TookFronts }
+    ensures others { WhereTold (F.left files.old) (F.left files.new) (LeavesOthers (if_named (option_map (λ name. name.now) resume.entry))) }
+    ensures counts { (n : List ℕ) → F.faults files.old n ≤ F.faults files.new n }
+    ensures puts { SameCounts (F.put_faults files.old) (F.put_faults files.new) }
+{
     match resume {
         None => Ok(Opening {
             border: None,
@@ -42,7 +59,15 @@ fn resumed<F: Files>(
     files: &mut F,
     program: &Program,
     name: &str,
-) -> Result<Opening, Refusal> {
+) -> Result<Opening, Refusal>
+    ensures opening { IfOk result (λ o. IsOpening program.now (plain_opening o)) }
+    ensures opened { IfOk result (λ o. WhereTold (F.left files.old) (F.left files.new) (IsOpened (Some name.now) program.now (plain_opening o))) }
+    ensures refused { IfErr result (IsOpeningRefusal (Some name.now) program.now (F.left files.old) (F.left files.new) (F.faults files.old) (F.faults files.new)) }
+    ensures fronts { WhereTold (F.left files.old) (F.left files.new) TookFronts }
+    ensures others { WhereTold (F.left files.old) (F.left files.new) (LeavesOthers (if_named (Some name.now))) }
+    ensures counts { (n : List ℕ) → F.faults files.old n ≤ F.faults files.new n }
+    ensures puts { SameCounts (F.put_faults files.old) (F.put_faults files.new) }
+{
     let bytes = read_whole(alloc, files, name, MOST_BYTES)?;
     let saved = read_save(alloc, program, &bytes)?;
     Ok(Opening {
@@ -52,7 +77,10 @@ fn resumed<F: Files>(
 }
 
 /// The source whose file has the name that a run saves to; or else that which it is resumed from.
-pub fn same_name(program: &Program, options: RunOptions<'_>) -> Option<u32> {
+pub fn same_name(program: &Program, options: RunOptions<'_>) -> Option<u32>
+    ensures found { IfSome result (λ number. (job : List ℕ) (plan : Option (List ℕ)) → IsSameName (Run job plan (plain_options options.entry)) program.now number) }
+    ensures none { result ≡ None → (job : List ℕ) (plan : Option (List ℕ)) → AreNoSources (Run job plan (plain_options options.entry)) program.now }
+{
     match source_with(program, options.save) {
         Some(number) => Some(number),
         None => source_with(program, options.resume),
@@ -60,7 +88,10 @@ pub fn same_name(program: &Program, options: RunOptions<'_>) -> Option<u32> {
 }
 
 // The source whose file has a name, if there is one.
-fn source_with(program: &Program, name: Option<&str>) -> Option<u32> {
+fn source_with(program: &Program, name: Option<&str>) -> Option<u32>
+    ensures found { IfSome result (IsFileOf (option_map (λ n. n.now) name.entry) program.now) }
+    ensures none { result ≡ None → IsNoSource (option_map (λ n. n.now) name.entry) program.now }
+{
     let name = name?;
     let number = program
         .sources

@@ -1,14 +1,17 @@
 //! `run JOB [PLAN] [--save FILE] [--resume FILE]`: the report of a run of a job's events on the tree of threads, in rounds.
 
-ghost use Rattle.std.specs.Prelude.{◌≡◌, ◌≢◌, ◌≤◌, ◌⊎◌, ℕ, option_map, length, List, Some, None, Ok, Err, IfOk, IfErr, OnOk, IsErrOf};
-ghost use Rattle.flu_outside.specs.Outside.{WhereTold, Rose};
-ghost use Rattle.flu_outside.specs.Taking.{TookFronts};
+ghost use Rattle.std.specs.Prelude.{◌≡◌, ◌≢◌, ◌<◌, ◌≤◌, ◌⊎◌, ℕ, option_map, length, List, ◌∷◌, Option, Some, None, Ok, Err, IfOk, IfErr, OnOk, IsErrOf};
+ghost use Rattle.flu_outside.specs.Outside.{Contents, WhereTold, Rose, SameCounts};
+ghost use Rattle.flu_outside.specs.Taking.{TakesFrom, TookFronts};
 ghost use Rattle.flu_outside.specs.Writing.{AppendsAll, AppendsPart};
+ghost use Rattle.flu_model.specs.declared.jobs.Program.{Program};
 ghost use Rattle.flu_model.specs.Contents.{nothing_held};
 ghost use Rattle.flu_model.specs.Folding.{final_outputs};
 ghost use Rattle.flu_model.specs.Itags.{count_of_itags};
 ghost use Rattle.flu_model.specs.Listed.{listed};
+ghost use Rattle.flu_model.specs.Modes.{IsAccepted};
 ghost use Rattle.flu_model.specs.Reports.{report};
+ghost use Rattle.flu_cells.specs.Holding.{held};
 ghost use Rattle.flu_deps.specs.Checking.{program_of};
 ghost use Rattle.flu_deps.specs.Validated.{IsValidFor};
 ghost use Rattle.flu_rows.specs.declared.rows.Next.{Next};
@@ -17,13 +20,18 @@ ghost use Rattle.flu_streams.specs.declared.held.Stage.{Stage};
 ghost use Rattle.flu_streams.specs.Files.{files_of, LeavesOthers, OneRose};
 ghost use Rattle.flu_streams.specs.Holding.{AreHeldBehind, ClosedAreReadOut, AreClosed, IsNewBorder};
 ghost use Rattle.flu_rounds.specs.declared.faults.RoundsFault.{RoundsFault};
-ghost use Rattle.flu_rounds.specs.Standing.{round_report, Runs, IsRoundOf, IsSourceFault, StandsBehind};
-ghost use Rattle.flu_words.specs.Words.{Run, plain_options};
+ghost use Rattle.flu_rounds.specs.Standing.{round_report, Runs, IsFirstFrom, IsRoundOf, IsSourceFault, StandsBehind};
+ghost use Rattle.flu_words.specs.Words.{Run, RunOptions as PlainOptions, plain_options};
 ghost use Rattle.flu_top.specs.Taking.{TookOnly, TookFrontsBut};
 ghost use Rattle.flu_top.specs.Answer.{status_after};
 ghost use Rattle.flu_top.specs.Done.{IsReadName, IsPutAt};
 ghost use Rattle.flu_top.specs.Ending.{call, IsEnding};
-ghost use Rattle.flu_top.specs.Running.{EndsRounds, EndsRun};
+ghost use Rattle.flu_top.specs.Openings.{Opening as PlainOpening};
+ghost use Rattle.flu_top.specs.Reading.{rows_in_round};
+ghost use Rattle.flu_top.specs.Refusing.{IsRefusal};
+ghost use Rattle.flu_top.specs.Running.{EndsRounds, EndsRun, GoesOn, IsBegun, IsOpening, StaysWithin, Steps, borders_above, plain_opening};
+ghost use Rattle.flu_top.specs.Starting.{IsNoSource};
+ghost use Rattle.flu_top.specs.Wants.{if_named};
 
 use crate::backup::Backup;
 use crate::openings::{Opening, opening_of, same_name};
@@ -37,10 +45,12 @@ use flu_model::{Program, Streams, Text};
 use flu_outside::{Files, PutFault, Sink};
 use flu_report::report_text;
 use flu_rounds::{
-    Begun, Border, Rounds, RoundsFault, halves_make_a_round, runs_go_on, runs_write_the_fold,
+    Begun, Border, Rounds, RoundsFault, halves_make_a_round, other_names_leave_runs_alone,
+    resumed_runs_go_on, resumed_runs_write_the_fold,
 };
 use flu_run::TreeEngine;
 use flu_seq::{Engine, Gate};
+use flu_streams::rounds_are_folded_in_turn;
 use flu_words::{RunOptions, USUAL_DEPTH};
 use std::alloc::{AllocError, Global};
 use std::sync::Wait;
@@ -70,9 +80,9 @@ pub fn run_job<F: Files, K: Sink, G: Gate, R: Threads + Wait + Sync>(
     options: RunOptions<'_>,
     gate: &G,
 ) -> Result<Option<DrawnSteps>, Refusal>
-    ensures ends { IsEnding (call (F.left files.old) (F.left files.new) (F.faults files.old) (F.faults files.new) (F.put_faults files.old) (F.put_faults files.new) (K.taken out.old) (K.taken out.new) (K.faults out.old) (K.faults out.new)) (Run job.now (option_map (λ name. name.now) plan) (plain_options options)) result }
-    ensures fronts { WhereTold (F.left files.old) (F.left files.new) (TookFrontsBut (IsPutAt (Run job.now (option_map (λ name. name.now) plan) (plain_options options)) (status_after result))) }
-    ensures only { WhereTold (F.left files.old) (F.left files.new) (TookOnly (λ name. IsReadName (F.left files.old) (Run job.now (option_map (λ name. name.now) plan) (plain_options options)) name ⊎ IsPutAt (Run job.now (option_map (λ name. name.now) plan) (plain_options options)) (status_after result) name)) }
+    ensures ends { IsEnding (call (F.left files.old) (F.left files.new) (F.faults files.old) (F.faults files.new) (F.put_faults files.old) (F.put_faults files.new) (K.taken out.old) (K.taken out.new) (K.faults out.old) (K.faults out.new)) (Run job.now (option_map (λ name. name.now) plan.entry) (plain_options options.entry)) result }
+    ensures fronts { WhereTold (F.left files.old) (F.left files.new) (TookFrontsBut (IsPutAt (Run job.now (option_map (λ name. name.now) plan.entry) (plain_options options.entry)) (status_after result))) }
+    ensures only { WhereTold (F.left files.old) (F.left files.new) (TookOnly (λ name. IsReadName (F.left files.old) (Run job.now (option_map (λ name. name.now) plan.entry) (plain_options options.entry)) name ⊎ IsPutAt (Run job.now (option_map (λ name. name.now) plan.entry) (plain_options options.entry)) (status_after result) name)) }
 {
     let planned = match planned_for(alloc, files, job, plan) {
         Ok(planned) => planned,
@@ -97,7 +107,17 @@ fn planned_for<F: Files>(
     files: &mut F,
     job: &str,
     plan: Option<&str>,
-) -> Result<Planned, Refusal> {
+) -> Result<Planned, Refusal>
+    ensures accepted { IfOk result (λ planned. IsAccepted (program_of planned.checked)) }
+    ensures valid { IfOk result (λ planned. IsValidFor (program_of planned.checked) planned.valid) }
+    ensures begun { IfOk result (λ planned. WhereTold (F.left files.old) (F.left files.new) (IsBegun job.now (option_map (λ name. name.now) plan.entry) (program_of planned.checked))) }
+    ensures refused { IfErr result (λ refusal. (options : PlainOptions) → IsRefusal (Run job.now (option_map (λ name. name.now) plan.entry) options) (F.left files.old) (F.left files.new) (F.faults files.old) (F.faults files.new) refusal) }
+    ensures fronts { WhereTold (F.left files.old) (F.left files.new) TookFronts }
+    ensures only { (options : PlainOptions) → WhereTold (F.left files.old) (F.left files.new) (TookOnly (IsReadName (F.left files.old) (Run job.now (option_map (λ name. name.now) plan.entry) options))) }
+    ensures others { WhereTold (F.left files.old) (F.left files.new) (LeavesOthers (job.now ∷ if_named (option_map (λ name. name.now) plan.entry))) }
+    ensures counts { (n : List ℕ) → F.faults files.old n ≤ F.faults files.new n }
+    ensures puts { SameCounts (F.put_faults files.old) (F.put_faults files.new) }
+{
     match plan {
         Some(plan) => planned_by(alloc, files, job, plan),
         None => greedily(alloc, files, job),
@@ -105,7 +125,15 @@ fn planned_for<F: Files>(
 }
 
 // The job that a file holds with its greedy plan.
-fn greedily<F: Files>(alloc: Global, files: &mut F, job: &str) -> Result<Planned, Refusal> {
+fn greedily<F: Files>(alloc: Global, files: &mut F, job: &str) -> Result<Planned, Refusal>
+    ensures accepted { IfOk result (λ planned. IsAccepted (program_of planned.checked)) }
+    ensures valid { IfOk result (λ planned. IsValidFor (program_of planned.checked) planned.valid) }
+    ensures begun { IfOk result (λ planned. WhereTold (F.left files.old) (F.left files.new) (IsBegun job.now None (program_of planned.checked))) }
+    ensures refused { IfErr result (λ refusal. (options : PlainOptions) → IsRefusal (Run job.now None options) (F.left files.old) (F.left files.new) (F.faults files.old) (F.faults files.new) refusal) }
+    ensures taken { WhereTold (F.left files.old) (F.left files.new) (TakesFrom job.now) }
+    ensures counts { (n : List ℕ) → F.faults files.old n ≤ F.faults files.new n }
+    ensures puts { SameCounts (F.put_faults files.old) (F.put_faults files.new) }
+{
     match program_of(alloc, files, job) {
         Ok(program) => planned_greedily(alloc, program, USUAL_DEPTH),
         Err(refusal) => Err(refusal),
@@ -123,7 +151,11 @@ fn run_in_rounds<F: Files, K: Sink, G: Gate, R: Threads + Wait + Sync>(
     save: Option<&str>,
     gate: &G,
 ) -> Result<Option<DrawnSteps>, Refusal>
-    requires { IsValidFor (program_of planned.checked) planned.valid }
+    requires valid { IsValidFor (program_of planned.checked) planned.valid }
+    requires opening { IsOpening (program_of planned.checked) (plain_opening opening) }
+    requires apart { IsNoSource (option_map (λ name. name.now) save) (program_of planned.checked) }
+    ensures ends { EndsRun (program_of planned.checked) (plain_opening opening) (option_map (λ name. name.now) save.entry) (call (F.left files.old) (F.left files.new) (F.faults files.old) (F.faults files.new) (F.put_faults files.old) (F.put_faults files.new) (K.taken out.old) (K.taken out.new) (K.faults out.old) (K.faults out.new)) result }
+    ensures within { StaysWithin (program_of planned.checked) (option_map (λ name. name.now) save.entry) (call (F.left files.old) (F.left files.new) (F.faults files.old) (F.faults files.new) (F.put_faults files.old) (F.put_faults files.new) (K.taken out.old) (K.taken out.new) (K.faults out.old) (K.faults out.new)) }
 {
     match rounds(rt, alloc, files, out, &planned, opening, save, gate) {
         Ok(()) => Ok(None),
@@ -148,8 +180,14 @@ fn rounds<F: Files, K: Sink, G: Gate, R: Threads + Wait + Sync>(
     save: Option<&str>,
     gate: &G,
 ) -> Result<(), RunFault>
-    requires { IsValidFor (program_of planned.now.checked) planned.now.valid }
+    requires valid { IsValidFor (program_of planned.now.checked) planned.now.valid }
+    requires opening { IsOpening (program_of planned.now.checked) (plain_opening opening) }
+    requires apart { IsNoSource (option_map (λ name. name.now) save) (program_of planned.now.checked) }
+    ensures ends { EndsRounds (program_of planned.now.checked) (plain_opening opening) (option_map (λ name. name.now) save.entry) (call (F.left files.old) (F.left files.new) (F.faults files.old) (F.faults files.new) (F.put_faults files.old) (F.put_faults files.new) (K.taken out.old) (K.taken out.new) (K.faults out.old) (K.faults out.new)) result }
+    ensures within { StaysWithin (program_of planned.now.checked) (option_map (λ name. name.now) save.entry) (call (F.left files.old) (F.left files.new) (F.faults files.old) (F.faults files.new) (F.put_faults files.old) (F.put_faults files.new) (K.taken out.old) (K.taken out.new) (K.faults out.old) (K.faults out.new)) }
 {
+    resumed_runs_go_on();
+    rounds_are_folded_in_turn();
     let mut engine = engine_of(planned, gate);
     let mut rounds = first(alloc, planned.checked.program(), opening)?;
     while let Border::At(_) = saved_round(rt, alloc, files, out, &mut rounds, &mut engine, save)? {}
@@ -157,7 +195,11 @@ fn rounds<F: Files, K: Sink, G: Gate, R: Threads + Wait + Sync>(
 }
 
 // A run before its first round, from its opening.
-fn first(alloc: Global, program: &Program, opening: Opening) -> Result<Rounds, RunFault> {
+fn first(alloc: Global, program: &Program, opening: Opening) -> Result<Rounds, RunFault>
+    requires { IsOpening program.now (plain_opening opening) }
+    ensures first { IfOk result (IsFirstFrom program.now rows_in_round opening.border (held opening.state)) }
+    ensures no_memory { IfErr result (λ fault. fault ≡ RunFault.Round RoundsFault.NoMemory) }
+{
     let made = match opening.border {
         None => Rounds::new(alloc, program, ROWS_IN_ROUND),
         Some(border) => Rounds::resume(alloc, program, ROWS_IN_ROUND, border, opening.state),
@@ -177,7 +219,14 @@ fn saved_round<F: Files, K: Sink, G: Gate, R: Threads + Wait + Sync, B: Engine<R
 ) -> Result<Border, RunFault>
     requires program { program_of engine.old.checked.now ≡ rounds.old.held.program }
     requires stage { rounds.old.held.stage ≡ Stage.Filling }
+    ensures steps { (p : Program) (o : PlainOpening) (a : Option Contents) (k s : List ℕ → ℕ) (had : Option (List ℕ)) (x : ℕ) → IsNoSource (option_map (λ name. name.now) save.entry) p
+        → GoesOn p (program_of engine.old.checked.now) o (option_map (λ name. name.now) save.entry) (call a (F.left files.old) k (F.faults files.old) s (F.put_faults files.old) had (K.taken out.old) x (K.faults out.old)) rounds.old
+        → Steps p (program_of engine.new.checked.now) o (option_map (λ name. name.now) save.entry) (call a (F.left files.new) k (F.faults files.new) s (F.put_faults files.new) had (K.taken out.new) x (K.faults out.new)) rounds.new result }
+    ensures smaller { (t : ℕ) → result ≡ Ok (Border.At t) → borders_above rounds.new.held.border < borders_above rounds.old.held.border }
 {
+    resumed_runs_go_on();
+    resumed_runs_write_the_fold();
+    other_names_leave_runs_alone();
     let end = match round(rt, alloc, files, out, rounds, engine) {
         Ok(end) => end,
         Err(fault) => return Err(RunFault::Round(fault)),
@@ -239,6 +288,7 @@ fn round<F: Files, K: Sink, G: Gate, R: Threads + Wait + Sync, B: Engine<R>>(
     ensures others { WhereTold (F.left files.old) (F.left files.new) (LeavesOthers (files_of rounds.old.held.program.sources)) }
     ensures rise { (n : List ℕ) → F.faults files.old n ≤ F.faults files.new n }
     ensures cause { IsErrOf result RoundsFault.ReadFault → OneRose (files_of rounds.old.held.program.sources) (F.faults files.old) (F.faults files.new) }
+    ensures puts { SameCounts (F.put_faults files.old) (F.put_faults files.new) }
 {
     halves_make_a_round();
     let checked = engine.checked;

@@ -1,5 +1,9 @@
-use Rattle.std.proofs.Common.{refl, ap}
-use Rattle.flu_words.specs.Words.{Fold, Check, Valid, Plan, Simulate, Replay, Demo, plain_command}
+use Rattle.std.proofs.Common.{refl, sym, ap, subst, ◌⊎◌}
+use Rattle.flu_outside.specs.Outside.{WhereTold}
+use Rattle.flu_words.specs.Words.{Command, Fold, Check, Valid, Plan, Simulate, Replay, Demo, plain_command}
+use Rattle.flu_top.specs.Taking.{TookOnly}
+use Rattle.flu_top.specs.Answer.{status_after}
+use Rattle.flu_top.specs.Done.{IsReadName, IsPutAt}
 use Rattle.flu_top.specs.Ending.{call}
 use Rattle.flu_top.proofs.Demos.{refused_anyhow}
 use Rattle.flu_top.proofs.Endings.{ends_text, ends_product, fronts_of_all, only_of_command}
@@ -77,3 +81,9 @@ returns-in-Replay-clause-fronts g c = fronts_of_all _ _ _ c.replay_planned.ensur
 
 pub returns-in-Replay-clause-only : goal.returns-in-Replay-clause-only
 returns-in-Replay-clause-only g c = only_of_command (plain_command c.args.command) (Replay c.in-Replay.job.now c.in-Replay.plan.now c.in-Replay.trace.now) _ _ _ (ap plain_command c.in-Replay.is) c.replay_planned.ensures.only
+
+pub returns-in-Run-clause-only : goal.returns-in-Run-clause-only
+returns-in-Run-clause-only g c =
+    let left = g.F.Files.left c.args.files.now in
+    subst (λ (d : Command). WhereTold left (g.F.Files.left c.run_job.new.files) (TookOnly (λ name. IsReadName left d name ⊎ IsPutAt d (status_after c.run_job.result) name))) (sym (ap plain_command c.in-Run.is))
+    c.run_job.ensures.only

@@ -1,12 +1,14 @@
+use Rattle.std.specs.Prelude.{option_map}
 use Rattle.flu_deps.specs.Checking.{program_of}
 use Rattle.flu_top.specs.Ending.{call}
-use Rattle.flu_top.specs.Running.{GoesOn, borders_above}
+use Rattle.flu_top.specs.Running.{GoesOn, borders_above, plain_opening}
 use Rattle.flu_top.proofs.running.rounds.Given as goal
 
 abbrev pub invariant-loop-rounds : goal.invariant-loop-rounds
 invariant-loop-rounds g l =
-    GoesOn (program_of l.fn.planned.checked) (program_of l.engine.checked.now)
-    (call (g.F.Files.left l.fn.files) (g.F.Files.left l.files) (g.F.Files.faults l.fn.files) (g.F.Files.faults l.files) (g.K.Sink.taken l.fn.out) (g.K.Sink.taken l.out) (g.K.Sink.faults l.fn.out) (g.K.Sink.faults l.out))
+    GoesOn (program_of l.fn.planned.checked) (program_of l.engine.checked.now) (plain_opening l.fn.opening) (option_map (λ name. name.now) l.fn.save)
+    (call (g.F.Files.left l.fn.files) (g.F.Files.left l.files) (g.F.Files.faults l.fn.files) (g.F.Files.faults l.files) (g.F.Files.put_faults l.fn.files) (g.F.Files.put_faults l.files)
+    (g.K.Sink.taken l.fn.out) (g.K.Sink.taken l.out) (g.K.Sink.faults l.fn.out) (g.K.Sink.faults l.out))
     l.rounds
 
 abbrev pub decreases-loop-rounds : goal.decreases-loop-rounds

@@ -1,0 +1,152 @@
+//! The engine that plans anew by the events that it has run.
+
+ghost use Rattle.std.specs.Prelude.{◌≡◌, length, replicate, IfOk, OnOk};
+ghost use Rattle.std.specs.List.Sorted.{IsPermutation};
+ghost use Rattle.flu_model.specs.Folding.{final_state, final_outputs};
+ghost use Rattle.flu_model.specs.Itags.{count_of_itags};
+ghost use Rattle.flu_model.specs.Listed.{listed};
+ghost use Rattle.flu_model.specs.Sorts.{IsStateOf};
+ghost use Rattle.flu_cells.specs.Holding.{held};
+ghost use Rattle.flu_deps.specs.Checking.{program_of};
+ghost use Rattle.flu_deps.specs.Validated.{plan_of, IsValidFor};
+ghost use Rattle.flu_streams.specs.Counts.{grown, no_counts};
+ghost use Rattle.flu_adaptive.specs.Observed.{IsObservedPlan};
+
+use crate::counting::{count_events, no_counts};
+use crate::observing::observed_plan;
+use flu_cells::State;
+use flu_deps::{Checked, Valid};
+use flu_model::{Outs, Streams, itag_count};
+use flu_run::TreeEngine;
+use flu_seq::{Engine, Gate};
+use std::alloc::{AllocError, Global};
+use std::marker::{Model, PhantomData};
+use std::sync::Wait;
+use std::thread::Threads;
+
+/// Runs batches on a tree of threads, whose plan follows the counts of the events that it has run: the first batch runs on a given
+/// plan, and each later one on the observed plan of the counts so far (`docs/TREE.md`).
+///
+/// Like [`TreeEngine`] it keeps the promise of an [`Engine`] for any runtime that has threads, and is none.
+///
+/// Contracts see its job, the plan in force and the counts (`AdaptiveNote` of `specs/Notes.antt`).
+#[derive(Drop)]
+pub struct Adaptive<'a, G: Gate, R, B: Engine<R>> {
+    checked: &'a Checked,
+    valid: Valid,
+    gate: &'a G,
+    // What runs a batch where a thread is refused. It is lent to each batch.
+    backup: Option<B>,
+    // How many events of each itag were run.
+    counts: Vec<u64>,
+    // By what the backup runs.
+    by: PhantomData<R>,
+}
+
+impl<'a, G: Gate, R, B: Engine<R>> Model for Adaptive<'a, G, R, B> {
+    ghost use Rattle.std.specs.Prelude.{◌≡◌, IsSome, IfSome};
+    ghost use Rattle.std.specs.Coded.{codes};
+    ghost use Rattle.flu_deps.specs.Checking.{program_of};
+    ghost use Rattle.flu_deps.specs.contracts.checked.Checked as c;
+    ghost use Rattle.flu_deps.specs.contracts.valid.Valid as v;
+    ghost use Rattle.flu_adaptive.specs.Notes.{AdaptiveNote, HasItsPlan};
+
+    ghost Value = { AdaptiveNote };
+
+    ghost coded = { Prim.hlevel (codes, c.the_row.coded, v.the_row.coded) };
+
+    ghost view = { λ a. record { checked = a.checked.now; valid = a.valid; counts = a.counts.items } };
+
+    ghost invariant = { λ a. HasItsPlan (record { checked = a.checked.now; valid = a.valid; counts = a.counts.items }) × IsSome a.backup × IfSome a.backup (λ b. B.program_of b ≡ program_of a.checked.now) };
+}
+
+impl<'a, G: Gate, R: Threads + Wait + Sync, B: Engine<R> + Drop> Adaptive<'a, G, R, B> {
+    /// The engine of a job, a plan that is valid for it, by which its first batch runs, a gate and a backup of the same job, which
+    /// runs a batch where a thread is refused.
+    ///
+    /// # Errors
+    ///
+    /// Only where memory is wanting.
+    pub fn new(
+        alloc: Global,
+        checked: &'a Checked,
+        first: Valid,
+        gate: &'a G,
+        backup: B,
+    ) -> Result<Adaptive<'a, G, R, B>, AllocError>
+        requires first { IsValidFor (program_of checked.now) first }
+        requires backup { B.program_of backup ≡ program_of checked.now }
+        ensures checked { IfOk result (λ a. a.checked ≡ checked.now) }
+        ensures valid { IfOk result (λ a. a.valid ≡ first) }
+        ensures counts { IfOk result (λ a. a.counts ≡ no_counts (program_of checked.now)) }
+    {
+        let counts = no_counts(alloc, itag_count(checked.program()))?;
+        Ok(Adaptive {
+            checked,
+            valid: first,
+            gate,
+            backup: Some(backup),
+            counts,
+            by: PhantomData,
+        })
+    }
+
+    /// The job. It takes no memory.
+    pub fn checked(&self) -> &'a Checked
+        ensures { result.now ≡ self.now.checked }
+    {
+        self.checked
+    }
+
+    /// The plan in force: that of the next batch. It takes no memory.
+    pub fn valid(&self) -> &Valid
+        ensures plan { result.now ≡ self.now.valid }
+        ensures of { IsValidFor (program_of self.now.checked) self.now.valid }
+    {
+        &self.valid
+    }
+
+    /// How many events of each itag were run, by the itags' numbers. A count stays at the greatest number that there is. It takes no
+    /// memory.
+    pub fn counts(&self) -> &[u64]
+        ensures counts { result.now ≡ self.now.counts }
+        ensures one_each { length self.now.counts ≡ count_of_itags (program_of self.now.checked) }
+    {
+        self.counts.as_slice()
+    }
+
+    /// Runs all events of the streams, which have one list for each itag of the job, from a state that holds values of the job's
+    /// sorts, on the tree of threads of the plan in force: the state is the fold's, which holds such values too, and the outputs are
+    /// the fold's in some order. Behind it the counts have grown by these events, and the plan in force is the observed one of the
+    /// counts. It waits for its threads.
+    ///
+    /// # Errors
+    ///
+    /// Only where memory is wanting. Behind an error the engine is to be given up.
+    pub fn batch(
+        &mut self,
+        rt: &R,
+        alloc: Global,
+        opening: State,
+        s: &Streams,
+    ) -> Result<(State, Outs), AllocError>
+        requires lists { length (listed s.now) ≡ count_of_itags (program_of self.old.checked) }
+        requires sorts { IsStateOf (program_of self.old.checked).families (held opening) }
+        ensures state { IfOk result (λ r. held r.0 ≡ final_state (program_of self.old.checked) (held opening) (listed s.now)) }
+        ensures sorts { IfOk result (λ r. IsStateOf (program_of self.old.checked).families (held r.0)) }
+        ensures outputs { IfOk result (λ r. IsPermutation (final_outputs (program_of self.old.checked) (held opening) (listed s.now)) r.1) }
+        ensures same { self.new.checked ≡ self.old.checked }
+        ensures counts { OnOk result (self.new.counts ≡ grown self.old.counts (listed s.now)) }
+        ensures observed { OnOk result (IsObservedPlan (program_of self.old.checked) self.new.counts (plan_of self.new.valid).nodes) }
+    {
+        let backup = self.backup.take().unwrap();
+        let mut engine = TreeEngine::new(self.checked, &self.valid, self.gate, backup);
+        let ran = engine.batch(rt, alloc, opening, s);
+        self.backup = Some(engine.backup);
+        let ran = ran?;
+        count_events(self.checked.program(), &mut self.counts, s);
+        let anew = observed_plan(alloc, self.checked, self.counts.as_slice())?;
+        self.valid = anew;
+        Ok(ran)
+    }
+}

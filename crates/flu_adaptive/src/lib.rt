@@ -1,0 +1,8 @@
+//! An engine whose plan follows the counts of the events that it has run (`docs/TREE.md`, "A plan that follows the counts").
+#![tactic(auto)]
+
+mod adaptive;
+mod counting;
+mod observing;
+
+pub use adaptive::Adaptive;
