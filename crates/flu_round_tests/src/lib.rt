@@ -1,7 +1,9 @@
-//! Tests of runs in rounds: by the engine that folds, by the net, by a tree of threads and by one whose plan follows the counts. It has
-//! no code of its own.
+//! Tests of runs in rounds: by the engine that folds, by the net, by a tree of threads, by its backup, and by one whose plan follows the
+//! counts. It has no code of its own.
 #![tactic(auto)]
 
+#[cfg(test)]
+mod backups;
 #[cfg(test)]
 mod drawn;
 #[cfg(test)]

@@ -25,6 +25,14 @@ row =
     ∷ (ItemEvent (event 3 2 (pos 0)) ∷ ItemEvent (event 5 2 (pos 0)) ∷ End ∷ [])
     ∷ []
 
+-- an event and a read at one time
+abbrev pub at_one_time : List (List Item)
+at_one_time =
+    (ItemEvent (event 3 0 (pos 1)) ∷ End ∷ [])
+    ∷ (End ∷ [])
+    ∷ (ItemEvent (event 3 2 (pos 0)) ∷ End ∷ [])
+    ∷ []
+
 -- a value at 10, another one at 4, and at 5 what puts out both
 abbrev pub values : List (List Item)
 values =

@@ -1,4 +1,4 @@
-//! Tests of lots, of the links between workers, of the arrival words and of workers, in one thread and in several. It has no code of its own.
+//! Tests of lots, of mailboxes, of the links between workers, of the arrival words and of workers, in one thread and in several. It has no code of its own.
 #![tactic(auto)]
 
 #[cfg(test)]
@@ -11,6 +11,8 @@ mod jobs;
 mod links;
 #[cfg(test)]
 mod lots;
+#[cfg(test)]
+mod mailboxes;
 #[cfg(test)]
 mod passing;
 #[cfg(test)]

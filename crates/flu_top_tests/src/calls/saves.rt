@@ -73,7 +73,8 @@ struct Case {
 }
 
 /// The last checkpoint of the count: both reads have cleared it.
-const LAST: &str = "{\"border\":9223372036854775807,\"cells\":[],\"job\":\"cell count sum\\ntag inc int\\n";
+const LAST: &str =
+    "{\"border\":9223372036854775807,\"cells\":[],\"job\":\"cell count sum\\ntag inc int\\n";
 
 const CASES: &[Case] = &[
     Case {
@@ -126,7 +127,11 @@ fn check_case<R: Abort + Threads + Wait + Sync>(
     assert_left(rt, &left, case.status, case.out.as_bytes(), case.err);
     let saved = left_of(alloc, &mut files, "s")?;
     assert!(rt; saved.starts_with(case.saved.as_bytes()), "{}", case.words);
-    assert!(rt; !case.saved.is_empty() || saved.is_empty(), "{}", case.words);
+    assert!(rt;
+        !case.saved.is_empty() || saved.is_empty(),
+        "{}",
+        case.words
+    );
     Ok(())
 }
 
