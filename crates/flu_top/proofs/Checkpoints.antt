@@ -8,7 +8,7 @@ use Rattle.std.proofs.lemmas.Slice.Eq.{bytes_eq-Decides}
 use Rattle.flu_lemmas.proofs.Containing.{contains_cases, contains_none}
 use Rattle.flu_lemmas.proofs.Places.{position-cons, position_passes}
 use Rattle.flu_lemmas.proofs.Told.{told_both, told_weaker}
-use Rattle.flu_outside.specs.Outside.{WhereTold, Contents, Rose}
+use Rattle.flu_outside.specs.Outside.{WhereTold, Contents}
 use Rattle.flu_outside.specs.Taking.{TakesFrom, TookWhole, bytes_left}
 use Rattle.flu_model.specs.declared.jobs.Program.{Program}
 use Rattle.flu_model.specs.Contents.{Contents as Cells, nothing_held}
@@ -21,7 +21,6 @@ use Rattle.flu_save.specs.declared.fault.SaveFault.{SaveFault}
 use Rattle.flu_save.specs.declared.fault.SaveFault.TheVariants as f
 use Rattle.flu_save.specs.Forms.{IsFaultOf, IsSave, IsShort, most_bytes}
 use Rattle.flu_top.specs.Answer.{refusal_of_save}
-use Rattle.flu_top.specs.Openings.{Opening}
 use Rattle.flu_top.specs.Running.{IsOpened, IsOpening, IsOpeningRefusal}
 use Rattle.flu_top.proofs.Sequence.{one_text}
 

@@ -16,14 +16,12 @@ use Rattle.flu_cells.specs.Holding.{held}
 use Rattle.flu_model.specs.declared.events.Item.{Item}
 use Rattle.flu_model.specs.declared.jobs.Program.{Program}
 use Rattle.flu_model.specs.Contents.{Contents}
-use Rattle.flu_model.specs.Folding.{final_state}
 use Rattle.flu_rows.specs.declared.rows.Next.{Next}
 use Rattle.flu_streams.specs.declared.border.Border.{Border}
 use Rattle.flu_streams.specs.declared.border.Border.TheVariants.{At, Closed}
 use Rattle.flu_streams.specs.declared.faults.SourceFault.{SourceFault}
 use Rattle.flu_streams.specs.Files.{files_of, LeavesOthers, AreReadOut, OneRose}
-use Rattle.flu_streams.specs.Good.{lists_of}
-use Rattle.flu_streams.specs.Holding.{AreHeldBehind, AreInAll, ClosedAreReadOut, AreClosed, IsNewBorder, border_after}
+use Rattle.flu_streams.specs.Holding.{AreHeldBehind, AreInAll, ClosedAreReadOut, AreClosed, IsNewBorder}
 use Rattle.flu_streams.specs.Rounds.{IsRound, IsRoundFault, LawOfNoRows, Starts, lists_between}
 use Rattle.flu_rounds.specs.declared.faults.RoundsFault.{RoundsFault}
 use Rattle.flu_rounds.specs.declared.faults.RoundsFault.TheVariants.{Source as SourceDefect, ReadFault, WriteFault, NoMemory}
@@ -37,10 +35,9 @@ use Rattle.flu_top.specs.Done.{AppendsInto}
 use Rattle.flu_top.specs.Ending.{Call, call}
 use Rattle.flu_top.specs.Openings.{Opening}
 use Rattle.flu_top.specs.Reading.{HaveWritten, MeetsDefect, ReportsNext, put_by, rows_in_round, greatest_border}
-use Rattle.flu_top.specs.Running.{GoesOn, StaysWithin, IsAllRun, RanAll, RanToDefect, RanSome, RanInto, RanUnsaved, EndsRounds, Steps, PutsAt, PutFailed, IsSavedTo, all_lists, border_at, borders_above, put_behind}
+use Rattle.flu_top.specs.Running.{GoesOn, StaysWithin, IsAllRun, RanAll, RanToDefect, RanSome, RanInto, RanUnsaved, EndsRounds, Steps, PutsAt, PutFailed, IsSavedTo, border_at, borders_above, put_behind}
 use Rattle.flu_top.specs.Starting.{IsNoSource, LeavesPut, LeavesAnything}
 use Rattle.flu_top.specs.Taking.{TookOnly, TookFrontsBut}
-use Rattle.flu_top.proofs.Sequence.{among, same_or_apart}
 
 -- ---- each border is later than the one before it
 pub borders_fall : (above : Option ℕ) (t : ℕ) (next : Option ℕ) → IsNewBorder above (At t) → next ≡ Some t → borders_above next < borders_above above
@@ -54,19 +51,11 @@ borders_fall (Some b) t next new is =
     later_than b t e = grind (arith, nat_tests)
 
 -- ---- names
--- a name that is saved to, or is not
-saved_or_not : (named : Option (List ℕ)) (name : List ℕ) → IsSavedTo named name ⊎ (¬ IsSavedTo named name)
-saved_or_not None name = inr (λ e. cc)
-saved_or_not (Some one) name = elim (same_or_apart one name) [ inl same ↦ inl (ap Some same) | inr apart ↦ inr (λ e. let same : one ≡ name = cc in apart same) ]
-
-pub fronts_join : (P : List ℕ → Type 0) (x y z : Files) → TookFrontsBut P x y → TookFrontsBut P y z → TookFrontsBut P x z
+fronts_join : (P : List ℕ → Type 0) (x y z : Files) → TookFrontsBut P x y → TookFrontsBut P y z → TookFrontsBut P x z
 fronts_join P x y z f g name rest other left =
     let second = g name rest other left in
     let first = f name (second.0 ++ rest) other second.1 in
     (first.0 ++ second.0, first.1 ∙ ap Some (sym (append_assoc first.0 second.0 rest)))
-
-pub only_join : (P : List ℕ → Type 0) (x y z : Files) → TookOnly P x y → TookOnly P y z → TookOnly P x z
-only_join P x y z f g name other = g name other ∙ f name other
 
 -- what stays as it was but for one sort of names
 fronts_of_only : (P : List ℕ → Type 0) (x y : Files) → TookOnly P x y → TookFrontsBut P x y
@@ -365,10 +354,13 @@ module _ (p q : Program) (o : Opening) (named : Option (List ℕ)) (a b d : Opti
     pub ends_unsaved : Laws o → (f : PutFault) → named ≢ None → (f ≡ Failed → PutFailed named u w) → (f ≡ NoMemoryToPut → WhereTold d e SameLeft)
         → EndsRounds p o named (call a e k n s w had has x z) (Err (Unsaved f)) × StaysWithin p named (call a e k n s w had has x z)
     ends_unsaved laws Failed saves failed same =
-        let rose = failed refl in ((
-          (rose.0, rose.1, subst (λ (count : ℕ). Rose count (w rose.0)) (puts_same rose.0) rose.2),
-          unsaved laws LeavesAnything saves (told_weaker (TookOnly (IsSavedTo named)) _ d e (λ r f only v other leaves. tt) kept),
-        ), stays_put)
+        let rose = failed refl in (
+          (
+            (rose.0, rose.1, subst (λ (count : ℕ). Rose count (w rose.0)) (puts_same rose.0) rose.2),
+            unsaved laws LeavesAnything saves (told_weaker (TookOnly (IsSavedTo named)) _ d e (λ r f only v other leaves. tt) kept),
+          ),
+          stays_put,
+        )
     ends_unsaved laws NoMemoryToPut saves failed same = (
       unsaved laws (LeavesPut named []) saves
           (told_weaker SameLeft (λ r f. (v : Files) (other : Option (List ℕ)) → LeavesPut named [] other v r → LeavesPut named [] other v f) d e
@@ -391,8 +383,8 @@ module _ (p q : Program) (o : Opening) (named : Option (List ℕ)) (a b d : Opti
           let stands = subst (λ (b' : Border). StandsBehind old.held new.held b') at run.stands in
           let on = laws.going p rows_in_round a b d old new go.written time go.came runs.0 stands run.read_out in
           let still_on = laws.others p rows_in_round a d e new (go.written ++ round_report old (At time) runs.0.fills.now) on.0
-              (told_weaker (TookOnly (IsSavedTo named)) (λ was is. (name : List ℕ) → Contains (files_of p.sources) name → is name ≡ was name) d e
-              (λ r f only name found. put_keeps_sources p named r f apart only name found) kept) in
+          (told_weaker (TookOnly (IsSavedTo named)) (λ was is. (name : List ℕ) → Contains (files_of p.sources) name → is name ≡ was name) d e
+          (λ r f only name found. put_keeps_sources p named r f apart only name found) kept) in
           let bytes = save p time (held new.state) in
           let put_now = put_more p go.came.done still_on.0.done (lists_between p old.held.border (At time) runs.0.fills.now) new.held.border time (held new.state) (still_on.1 ∙ on.1) stands.border in
           record {

@@ -1,5 +1,5 @@
 -- What a run has read before its rounds, what refuses it there, and how its rounds end its command.
-use Rattle.std.proofs.Common.{◌≡◌, ◌≢◌, refl, sym, ap, ◌∙◌, subst, ℕ, ◌≤◌, List, [], ◌∷◌, ◌++◌, Option, Some, None, Result, Ok, Err, inl, inr, ◌⊎◌, arith, append_assoc}
+use Rattle.std.proofs.Common.{◌≡◌, refl, sym, ap, ◌∙◌, subst, ℕ, ◌≤◌, List, [], ◌∷◌, ◌++◌, Option, Some, None, Result, Ok, Err, inl, inr, ◌⊎◌, arith, append_assoc}
 use Rattle.std.specs.Prelude.{Contains, IfErr, IfSome}
 use Rattle.std.proofs.lemmas.Result.{IfErr-weaker}
 use Rattle.std.proofs.lemmas.List.Elements.{Contains-append_cases, Contains-append_left, Contains-append_right}
@@ -7,13 +7,11 @@ use Rattle.flu_outside.specs.declared.files.PutFault.{PutFault}
 use Rattle.flu_outside.specs.declared.files.PutFault.TheVariants.{Failed, NoMemory as NoMemoryToPut}
 use Rattle.flu_outside.specs.Outside.{WhereTold, Contents, SameCounts, Rose}
 use Rattle.flu_outside.specs.Taking.{TakesFrom, TookFronts, bytes_left}
-use Rattle.flu_outside.specs.Writing.{AppendsAll}
 use Rattle.flu_model.specs.declared.jobs.Program.{Program}
 use Rattle.flu_model.specs.Folding.{final_state, final_outputs}
 use Rattle.flu_model.specs.Reports.{report}
-use Rattle.flu_deps.specs.Checking.{program_of}
 use Rattle.flu_lemmas.proofs.Containing.{contains_here, contains_later, one_contains}
-use Rattle.flu_lemmas.proofs.Named.{rose_behind}
+use Rattle.flu_lemmas.proofs.Named.{fronts_then, rose_behind}
 use Rattle.flu_lemmas.proofs.Told.{told_both, told_then, told_weaker}
 use Rattle.flu_model.specs.Modes.{IsAccepted}
 use Rattle.flu_streams.specs.declared.faults.SourceFault.{SourceFault}
@@ -36,16 +34,16 @@ use Rattle.flu_top.specs.Causes.{IsJobRead, HasSourceFault, HasStartDefect, IsMe
 use Rattle.flu_top.specs.Done.{HasPlanAsked, MayHaveJob, MayBeJob, IsDone, WroteRounds, WroteUnsaved, WroteIntoRound, IsReadName, IsPutAt}
 use Rattle.flu_top.specs.Ending.{Call, call, HasAll, HasDefectMet, IsStopped, IsEnding}
 use Rattle.flu_top.specs.Jobs.{program_read}
-use Rattle.flu_top.specs.Openings.{Opening, Opens, OpensAt, report_from, state_from}
+use Rattle.flu_top.specs.Openings.{Opening, Opens, OpensAt}
 use Rattle.flu_top.specs.Ready.{AreTextsRead, IsReady}
 use Rattle.flu_top.specs.Reading.{InRounds, HaveWritten, MeetsDefect, ReportsNext, greatest_border, lines_behind}
 use Rattle.flu_top.specs.Refusing.{IsRefusal}
 use Rattle.flu_top.specs.Running.{IsBegun, IsOpened, IsOpeningRefusal, IsSavedTo, StaysWithin, IsAllRun, RanAll, RanToDefect, RanSome, RanInto, RanUnsaved, IsRoundsRefusal, EndsRounds, EndsRun}
 use Rattle.flu_top.specs.Starting.{AreNoSources, CanStart, HasBadCheckpoint, StartsFrom, IsSameName, Saves, Resumes, Leaves, LeavesPut, LeavesAnything}
 use Rattle.flu_top.specs.Taking.{TookOnly, TookFrontsBut}
-use Rattle.flu_top.specs.Wants.{if_named, job_and_plan_named, texts_named, sources_read, IsNotSaved}
+use Rattle.flu_top.specs.Wants.{if_named, texts_named, sources_read, IsNotSaved}
 use Rattle.flu_top.proofs.AsValid.{only_as_valid, refusal_as_valid, run_reads}
-use Rattle.flu_top.proofs.Sequence.{among, none_among, one_text, only_one, source_name_is_read, stays_ended, text_is_read}
+use Rattle.flu_top.proofs.Sequence.{among, name_given, none_among, one_text, source_name_is_read, stays_ended, text_is_read}
 
 -- ---- texts
 -- some texts are read, and then others
@@ -67,12 +65,6 @@ texts_then first second x y z one two = record {
 others_then : (first second : List (List ℕ)) (x y z : Contents) → LeavesOthers first x y → LeavesOthers second y z → LeavesOthers (first ++ second) x z
 others_then first second x y z one two name missing =
     two name (λ found. missing (Contains-append_right first second name found)) ∙ one name (λ found. missing (Contains-append_left first second name found))
-
-fronts_on : (x y z : Contents) → TookFronts x y → TookFronts y z → TookFronts x z
-fronts_on x y z f g name rest left =
-    let second = g name rest left in
-    let first = f name (second.0 ++ rest) second.1 in
-    (first.0 ++ second.0, first.1 ∙ ap Some (sym (append_assoc first.0 second.0 rest)))
 
 -- ---- what is left under the name that is saved to
 -- where some texts were read, and nothing was put, it is as before
@@ -134,7 +126,7 @@ pub as_before_opening : (job : List ℕ) (plan : Option (List ℕ)) (options : R
     → WhereTold b d TookFronts → WhereTold b d (LeavesOthers (if_named options.resume)) → WhereTold a d (Leaves (Run job plan options) None)
 as_before_opening job plan options a b d fronts others fronts' others' =
     told_then (λ x y. TookFronts x y × LeavesOthers (job ∷ if_named plan) x y) (λ y z. TookFronts y z × LeavesOthers (if_named options.resume) y z) (Leaves (Run job plan options) None) a b d
-    (λ x y z first second. none_put options.save (texts_named (Run job plan options)) x z (fronts_on x y z first.0 second.0) (others_then (job ∷ if_named plan) (if_named options.resume) x y z first.1 second.1))
+    (λ x y z first second. none_put options.save (texts_named (Run job plan options)) x z (fronts_then (Some x) (Some y) (Some z) first.0 second.0) (others_then (job ∷ if_named plan) (if_named options.resume) x y z first.1 second.1))
     (told_both TookFronts (LeavesOthers (job ∷ if_named plan)) a b fronts others) (told_both TookFronts (LeavesOthers (if_named options.resume)) b d fronts' others')
 
 module _ (job : List ℕ) (plan : Option (List ℕ)) (options : RunOptions) (p : Program) (a b : Option Contents) where
@@ -178,20 +170,27 @@ module _ (job : List ℕ) (plan : Option (List ℕ)) (options : RunOptions) (p :
   opening_refuses d k l m accepted apart begun rise refusals.WriteFault is = is
   opening_refuses d k l m accepted apart begun rise refusals.NoMemory is = tt
   opening_refuses d k l m accepted apart begun rise (refusals.SaveDefect (defects.SameName checked number)) is = absurd is
-  opening_refuses d k l m accepted apart begun rise (refusals.SaveDefect (defects.Checkpoint fault)) is = (p, record {
-    name = is.0;
-    named = inr is.1;
-    accepted = λ asked. accepted;
-    first = told_then (IsBegun job plan p) (λ left _. IsFaultOf p (bytes_left left is.0) fault)
-        (λ left _. HasJob (Named job) left p × HasPlanAsked (Run job plan options) left p × HasBadCheckpoint (Run job plan options) left p fault) a b d
-        (λ x y z first bad. (first.has, first.its_plan, record {
-          apart = apart;
-          name = is.0;
-          named = is.1;
-          is_fault = is.2;
-          first = subst (λ (left : Contents). IsFaultOf p (bytes_left left is.0) fault) (sym first.texts.behind) bad;
-        })) begun is.3;
-  })
+  opening_refuses d k l m accepted apart begun rise (refusals.SaveDefect (defects.Checkpoint fault)) is = (
+    p,
+    record {
+      name = is.0;
+      named = inr is.1;
+      accepted = λ asked. accepted;
+      first = told_then (IsBegun job plan p) (λ left _. IsFaultOf p (bytes_left left is.0) fault)
+          (λ left _. HasJob (Named job) left p × HasPlanAsked (Run job plan options) left p × HasBadCheckpoint (Run job plan options) left p fault) a b d
+          (λ x y z first bad. (
+            first.has,
+            first.its_plan,
+            record {
+              apart = apart;
+              name = is.0;
+              named = is.1;
+              is_fault = is.2;
+              first = subst (λ (left : Contents). IsFaultOf p (bytes_left left is.0) fault) (sym first.texts.behind) bad;
+            },
+          )) begun is.3;
+    },
+  )
   opening_refuses d k l m accepted apart begun rise refusals.PutFault is = is
   opening_refuses d k l m accepted apart begun rise (refusals.TraceFault fault) is = absurd is
 
@@ -202,12 +201,8 @@ module _ (job : List ℕ) (plan : Option (List ℕ)) (options : RunOptions) (p :
   only_opening d status accepted apart begun only others =
       told_then (TookOnly (IsReadName a (Run job plan options))) (LeavesOthers (if_named options.resume)) (TookOnly (λ name. IsReadName a (Run job plan options) name ⊎ IsPutAt (Run job plan options) status name)) a b d
       (λ x y z first second name unread.
-      second name (λ found. unread (inl (inr (inr (inl (record { p = p; job = may_be_begun accepted begun; apart = apart; named = is_named options.resume name found }))))))
+      second name (λ found. unread (inl (inr (inr (inl (record { p = p; job = may_be_begun accepted begun; apart = apart; named = name_given options.resume name found }))))))
       ∙ first name (λ read. unread (inl read))) only others
-    where
-      is_named : (o : Option (List ℕ)) (name : List ℕ) → Contains (if_named o) name → o ≡ Some name
-      is_named None name found = absurd (none_among name found)
-      is_named (Some one) name found = ap Some (only_one one name found)
 
 -- ---- a run that has read all of its texts
 -- it has its opening then
@@ -227,7 +222,7 @@ is_started job plan options p o a b d apart begun fronts opened fronts' =
     (λ x y z first second. record {
       ready = record { has = first.0.has; plan = first.0.its_plan; texts = texts_then (job ∷ if_named plan) (if_named options.resume) x y z first.0.texts second.0.texts };
       starts = record { apart = apart; opens = opens_behind options.resume (job ∷ if_named plan) p o x y first.0.texts.behind second.0.opens };
-      fronts = fronts_on x y z first.1 second.1;
+      fronts = fronts_then (Some x) (Some y) (Some z) first.1 second.1;
     })
     (told_both (IsBegun job plan p) TookFronts a b begun fronts) (told_both (IsOpened options.resume p o) TookFronts b d opened fronts')
 
@@ -304,13 +299,18 @@ module _ (job : List ℕ) (plan : Option (List ℕ)) (options : RunOptions) (p :
       first = told_then (IsStarted job plan options p o) (λ v w. (put : Option (List ℕ)) × MeetsDefect p o (lines_in p v) ran.text put fault × LeavesPut options.save [] put v w)
           (λ left now. HasJob (Named job) left p × HasPlanAsked (Run job plan options) left p × CanStart (Run job plan options) left p
           × IsMet InRounds (Run job plan options) left now p ran.text fault) a b d
-          (λ v w r first second. (first.ready.has, first.ready.plan, (o, first.starts), record {
-            opening = o;
-            starts = first.starts;
-            put = second.0;
-            met = subst (λ lines. MeetsDefect p o lines ran.text second.0 fault) (lines_same v w first) second.1;
-            leaves = leaves_behind second.0 v w r first second.2;
-          })) started ran.met;
+          (λ v w r first second. (
+            first.ready.has,
+            first.ready.plan,
+            (o, first.starts),
+            record {
+              opening = o;
+              starts = first.starts;
+              put = second.0;
+              met = subst (λ lines. MeetsDefect p o lines ran.text second.0 fault) (lines_same v w first) second.1;
+              leaves = leaves_behind second.0 v w r first second.2;
+            },
+          )) started ran.met;
     });
     wrote = ran.wrote;
   }
@@ -324,11 +324,19 @@ module _ (job : List ℕ) (plan : Option (List ℕ)) (options : RunOptions) (p :
     rounds = told_then (IsStarted job plan options p o) (λ v w. (put : Option (List ℕ)) × HaveWritten p o (lines_in p v) ran.text put × LeavesPut options.save [] put v w)
         (λ left now. HasJob (Named job) left p × HasPlanAsked (Run job plan options) left p × ((o' : Opening) × StartsFrom (Run job plan options) left p o'
         × ((put : Option (List ℕ)) × HaveWritten p o' (lines_behind (texts_named (Run job plan options)) left p) ran.text put × Leaves (Run job plan options) put left now))) a b d
-        (λ v w r first second. (first.ready.has, first.ready.plan, (o, first.starts, (
-          second.0,
-          subst (λ lines. HaveWritten p o lines ran.text second.0) (lines_same v w first) second.1,
-          leaves_behind second.0 v w r first second.2,
-        )))) started ran.rounds;
+        (λ v w r first second. (
+          first.ready.has,
+          first.ready.plan,
+          (
+            o,
+            first.starts,
+            (
+              second.0,
+              subst (λ lines. HaveWritten p o lines ran.text second.0) (lines_same v w first) second.1,
+              leaves_behind second.0 v w r first second.2,
+            ),
+          ),
+        )) started ran.rounds;
   }
 
   wrote_into : RanInto p o options.save (call b d l m t u had has x z) → WroteIntoRound (Run job plan options) a d had has
@@ -341,11 +349,19 @@ module _ (job : List ℕ) (plan : Option (List ℕ)) (options : RunOptions) (p :
     round = told_then (IsStarted job plan options p o) (λ v w. (put : Option (List ℕ)) × ReportsNext p o (lines_in p v) ran.text put ran.more × LeavesPut options.save [] put v w)
         (λ left now. HasJob (Named job) left p × HasPlanAsked (Run job plan options) left p × ((o' : Opening) × StartsFrom (Run job plan options) left p o'
         × ((put : Option (List ℕ)) × ReportsNext p o' (lines_behind (texts_named (Run job plan options)) left p) ran.text put ran.more × Leaves (Run job plan options) put left now))) a b d
-        (λ v w r first second. (first.ready.has, first.ready.plan, (o, first.starts, (
-          second.0,
-          subst (λ lines. ReportsNext p o lines ran.text second.0 ran.more) (lines_same v w first) second.1,
-          leaves_behind second.0 v w r first second.2,
-        )))) started ran.round;
+        (λ v w r first second. (
+          first.ready.has,
+          first.ready.plan,
+          (
+            o,
+            first.starts,
+            (
+              second.0,
+              subst (λ lines. ReportsNext p o lines ran.text second.0 ran.more) (lines_same v w first) second.1,
+              leaves_behind second.0 v w r first second.2,
+            ),
+          ),
+        )) started ran.round;
   }
 
   wrote_unsaved : (Left Left' : Option (List ℕ) → Contents → Contents → Type 0)
@@ -361,11 +377,19 @@ module _ (job : List ℕ) (plan : Option (List ℕ)) (options : RunOptions) (p :
     round = told_then (IsStarted job plan options p o) (λ v w. (put : Option (List ℕ)) × ReportsNext p o (lines_in p v) ran.text put ran.more × Left put v w)
         (λ left now. HasJob (Named job) left p × HasPlanAsked (Run job plan options) left p × ((o' : Opening) × StartsFrom (Run job plan options) left p o'
         × ((put : Option (List ℕ)) × ReportsNext p o' (lines_behind (texts_named (Run job plan options)) left p) ran.text put ran.more × Left' put left now))) a b d
-        (λ v w r first second. (first.ready.has, first.ready.plan, (o, first.starts, (
-          second.0,
-          subst (λ lines. ReportsNext p o lines ran.text second.0 ran.more) (lines_same v w first) second.1,
-          behind second.0 v w r first second.2,
-        )))) started ran.round;
+        (λ v w r first second. (
+          first.ready.has,
+          first.ready.plan,
+          (
+            o,
+            first.starts,
+            (
+              second.0,
+              subst (λ lines. ReportsNext p o lines ran.text second.0 ran.more) (lines_same v w first) second.1,
+              behind second.0 v w r first second.2,
+            ),
+          ),
+        )) started ran.round;
   }
 
   -- it can start, where the files tell it

@@ -90,7 +90,7 @@ has_saved command p x z none name named = absurd (not_named (save_named command)
 
 -- ---- the names that are read
 -- a name that is given, if one is
-name_given : (o : Option (List ℕ)) (name : List ℕ) → Contains (if_named o) name → o ≡ Some name
+pub name_given : (o : Option (List ℕ)) (name : List ℕ) → Contains (if_named o) name → o ≡ Some name
 name_given None name found = absurd (none_among name found)
 name_given (Some one) name found = ap Some (only_one one name found)
 

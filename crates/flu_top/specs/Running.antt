@@ -2,7 +2,7 @@
 use Rattle.std.specs.Prelude.{◌≡◌, ◌≢◌, ◌<◌, ◌-◌, ◌+◌, ◌^◌, ◌≤◌, ◌++◌, ◌⊎◌, ℕ, List, [], ◌∷◌, length, Option, Some, None, option_map, Result, Ok, Err, Contains, ⊤}
 use Rattle.std.specs.Option.{option_map_or}
 use Rattle.flu_outside.specs.declared.files.PutFault.TheVariants.{Failed, NoMemory as NoMemoryToPut}
-use Rattle.flu_outside.specs.Outside.{Contents as Files, WhereTold, Rose, Puts, OthersStay, SameLeft, SameCounts}
+use Rattle.flu_outside.specs.Outside.{Contents as Files, WhereTold, Rose, Puts, SameLeft, SameCounts}
 use Rattle.flu_outside.specs.Taking.{bytes_left}
 use Rattle.flu_outside.specs.Writing.{AppendsAll}
 use Rattle.flu_cells.specs.Holding.{held}
@@ -22,11 +22,9 @@ use Rattle.flu_rounds.specs.declared.faults.RoundsFault.TheVariants.{Source, Rea
 use Rattle.flu_rounds.specs.Coming.{CameFrom, lists_above}
 use Rattle.flu_rounds.specs.Written.{AreSound, lines_in}
 use Rattle.flu_rounds.specs.Standing.{Standing}
-use Rattle.flu_save.specs.declared.fault.SaveFault.{SaveFault}
 use Rattle.flu_save.specs.declared.fault.SaveFault.TheVariants as saves
 use Rattle.flu_save.specs.Checkpoint.{save}
 use Rattle.flu_save.specs.Forms.{IsFaultOf}
-use Rattle.flu_words.specs.Words.{RunOptions, Run}
 use Rattle.flu_top.specs.declared.openings.Opening.{Opening as NamedOpening}
 use Rattle.flu_top.specs.declared.products.DrawnSteps.{DrawnSteps}
 use Rattle.flu_top.specs.declared.running.RunFault.{RunFault}

@@ -89,10 +89,7 @@ pub fn run_job<F: Files, K: Sink, G: Gate, R: Threads + Wait + Sync>(
         Err(refusal) => return Err(refusal),
     };
     if let Some(number) = same_name(planned.checked.program(), options) {
-        return Err(Refusal::SaveDefect(SaveDefect::SameName(
-            planned.checked,
-            number,
-        )));
+        return Err(Refusal::SaveDefect(SaveDefect::SameName(planned.checked, number)));
     }
     let opening = match opening_of(alloc, files, planned.checked.program(), options.resume) {
         Ok(opening) => opening,
@@ -231,7 +228,14 @@ fn saved_round<F: Files, K: Sink, G: Gate, R: Threads + Wait + Sync, B: Engine<R
         Ok(end) => end,
         Err(fault) => return Err(RunFault::Round(fault)),
     };
-    match put_checkpoint(alloc, files, engine.checked.program(), save, end, rounds.state()) {
+    match put_checkpoint(
+        alloc,
+        files,
+        engine.checked.program(),
+        save,
+        end,
+        rounds.state(),
+    ) {
         Ok(()) => Ok(end),
         Err(fault) => Err(RunFault::Unsaved(fault)),
     }

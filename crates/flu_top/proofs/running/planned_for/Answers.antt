@@ -1,4 +1,4 @@
-use Rattle.std.proofs.Common.{sym, ap, subst, List, ℕ, Option, None}
+use Rattle.std.proofs.Common.{sym, ap, subst, List, ℕ, Option}
 use Rattle.std.specs.Prelude.{IfErr, ◌∷◌, option_map}
 use Rattle.flu_lemmas.proofs.Named.{fronts_at}
 use Rattle.flu_outside.specs.Outside.{WhereTold}
