@@ -12,7 +12,7 @@ use Rattle.flu_words.specs.Words.{Command, command_in}
 use Rattle.flu_top.specs.Behind.{WantedJob, Named, Fixed, HasJob, HasPlan}
 use Rattle.flu_top.specs.Openings.{Opening, state_from}
 use Rattle.flu_top.specs.Reading.{Reading, Unread, Whole, InRounds, AreSourcesGood, HaveWritten, ReportsNext, greatest_border, lines_behind}
-use Rattle.flu_top.specs.Wants.{Saying, Nothing, Line, want, job_wanted, plan_named, save_named, resume_named, trace_named, asks_accepted, how_read, if_named, texts_named, sources_read, Writes, IsNotSaved}
+use Rattle.flu_top.specs.Wants.{Saying, Nothing, Line, want, job_wanted, plan_named, save_named, resume_named, trace_named, asks_accepted, how_read, texts_named, sources_read, Writes, IsNotSaved}
 use Rattle.flu_top.specs.Starting.{AreNoSources, StartsFrom, CanStart, Leaves, LeavesAnything}
 use Rattle.flu_top.specs.Replaying.{ReplaysTo}
 

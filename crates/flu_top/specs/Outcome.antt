@@ -1,6 +1,6 @@
 -- THE OUTCOME of a call of `flumina`: what its status says of the words, of what the files held and hold, and of what out and
 -- err got.
-use Rattle.std.specs.Prelude.{◌≡◌, ℕ, List, [], ◌∷◌, ◌++◌, Contains, Option, Some, Ok, Err, IsTrue, ◌⊎◌}
+use Rattle.std.specs.Prelude.{◌≡◌, ℕ, List, Option, Some, Ok, Err, IsTrue, ◌⊎◌}
 use Rattle.flu_outside.specs.Outside.{Contents, WhereTold, Rose}
 use Rattle.flu_outside.specs.Taking.{bytes_left}
 use Rattle.flu_model.specs.declared.jobs.Program.{Program}
