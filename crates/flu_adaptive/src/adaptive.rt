@@ -60,7 +60,7 @@ impl<'a, G: Gate, R, B: Engine<R>> Model for Adaptive<'a, G, R, B> {
     ghost invariant = { λ a. HasItsPlan (record { checked = a.checked.now; valid = a.valid; counts = a.counts.items }) × IsSome a.backup × IfSome a.backup (λ b. B.program_of b ≡ program_of a.checked.now) };
 }
 
-impl<'a, G: Gate, R: Threads + Wait + Sync, B: Engine<R> + Drop> Adaptive<'a, G, R, B> {
+impl<'a, G: Gate, R, B: Engine<R> + Drop> Adaptive<'a, G, R, B> {
     /// The engine of a job, a plan that is valid for it, by which its first batch runs, a gate and a backup of the same job, which
     /// runs a batch where a thread is refused.
     ///
@@ -114,7 +114,9 @@ impl<'a, G: Gate, R: Threads + Wait + Sync, B: Engine<R> + Drop> Adaptive<'a, G,
     {
         self.counts.as_slice()
     }
+}
 
+impl<'a, G: Gate, R: Threads + Wait + Sync, B: Engine<R> + Drop> Adaptive<'a, G, R, B> {
     /// Runs all events of the streams, which have one list for each itag of the job, from a state that holds values of the job's
     /// sorts, on the tree of threads of the plan in force: the state is the fold's, which holds such values too, and the outputs are
     /// the fold's in some order. Behind it the counts have grown by these events, and the plan in force is the observed one of the
