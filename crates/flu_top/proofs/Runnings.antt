@@ -22,7 +22,7 @@ use Rattle.flu_save.specs.Checkpoint.{save}
 use Rattle.flu_save.specs.Forms.{IsFaultOf}
 use Rattle.flu_streams.specs.Good.{lists_of}
 use Rattle.flu_words.specs.Words.{RunOptions, Run, Valid}
-use Rattle.flu_top.specs.declared.products.DrawnSteps.{DrawnSteps}
+use Rattle.flu_top.specs.declared.products.Said.{Said}
 use Rattle.flu_top.specs.declared.refusals.JobRead.{JobRead}
 use Rattle.flu_top.specs.declared.refusals.Refusal.{Refusal}
 use Rattle.flu_top.specs.declared.refusals.Refusal.TheVariants as refusals
@@ -432,12 +432,12 @@ module _ (job : List ℕ) (plan : Option (List ℕ)) (options : RunOptions) (p :
       }
   refused_in_rounds (refusals.TraceFault fault) is = absurd is
 
-  pub ends_run : (result : Result (Option DrawnSteps) Refusal) → EndsRun p o options.save (call b d l m t u had has x z) result → IsEnding (call a d k m s u had has x z) (Run job plan options) result
-  ends_run (Ok steps) is = subst (λ (said : Option DrawnSteps). HasAll (call a d k m s u had has x z) (Run job plan options) said) (sym is.0) (all_read is.1)
+  pub ends_run : (result : Result (Option Said) Refusal) → EndsRun p o options.save (call b d l m t u had has x z) result → IsEnding (call a d k m s u had has x z) (Run job plan options) result
+  ends_run (Ok steps) is = subst (λ (said : Option Said). HasAll (call a d k m s u had has x z) (Run job plan options) said) (sym is.0) (all_read is.1)
   ends_run (Err refusal) is = refused_in_rounds refusal is
 
   -- ---- the names that it reads and puts
-  may_put : (result : Result (Option DrawnSteps) Refusal) → EndsRun p o options.save (call b d l m t u had has x z) result → Contains (0 ∷ 6 ∷ 7 ∷ 8 ∷ 9 ∷ 12 ∷ []) (status_after result)
+  may_put : (result : Result (Option Said) Refusal) → EndsRun p o options.save (call b d l m t u had has x z) result → Contains (0 ∷ 6 ∷ 7 ∷ 8 ∷ 9 ∷ 12 ∷ []) (status_after result)
   may_put (Ok steps) is = (0, omega arith, refl)
   may_put (Err (refusals.BadWords bad)) is = absurd is
   may_put (Err (refusals.JobFault fault)) is = absurd is
@@ -451,14 +451,14 @@ module _ (job : List ℕ) (plan : Option (List ℕ)) (options : RunOptions) (p :
   may_put (Err refusals.PutFault) is = (5, omega arith, refl)
   may_put (Err (refusals.TraceFault fault)) is = absurd is
 
-  pub run_fronts : (result : Result (Option DrawnSteps) Refusal) → EndsRun p o options.save (call b d l m t u had has x z) result → WhereTold a d (TookFrontsBut (IsPutAt (Run job plan options) (status_after result)))
+  pub run_fronts : (result : Result (Option Said) Refusal) → EndsRun p o options.save (call b d l m t u had has x z) result → WhereTold a d (TookFrontsBut (IsPutAt (Run job plan options) (status_after result)))
   run_fronts result is = told_then (IsStarted job plan options p o) (TookFrontsBut (IsSavedTo options.save)) (TookFrontsBut (IsPutAt (Run job plan options) (status_after result))) a b d
       (λ v w r first second name rest other left.
       let later = second name rest (λ saved. other (saved, may_put result is)) left in
       let early = first.fronts name (later.0 ++ rest) later.1 in
       (early.0 ++ later.0, early.1 ∙ ap Some (sym (append_assoc early.0 later.0 rest)))) started within.fronts
 
-  pub run_only : (result : Result (Option DrawnSteps) Refusal) → EndsRun p o options.save (call b d l m t u had has x z) result
+  pub run_only : (result : Result (Option Said) Refusal) → EndsRun p o options.save (call b d l m t u had has x z) result
       → WhereTold a d (TookOnly (λ name. IsReadName a (Run job plan options) name ⊎ IsPutAt (Run job plan options) (status_after result) name))
   run_only result is = told_then (IsStarted job plan options p o) (TookOnly (λ name. Contains (files_of p.sources) name ⊎ IsSavedTo options.save name))
       (TookOnly (λ name. IsReadName a (Run job plan options) name ⊎ IsPutAt (Run job plan options) (status_after result) name)) a b d

@@ -26,7 +26,7 @@ use Rattle.flu_save.specs.declared.fault.SaveFault.TheVariants as saves
 use Rattle.flu_save.specs.Checkpoint.{save}
 use Rattle.flu_save.specs.Forms.{IsFaultOf}
 use Rattle.flu_top.specs.declared.openings.Opening.{Opening as NamedOpening}
-use Rattle.flu_top.specs.declared.products.DrawnSteps.{DrawnSteps}
+use Rattle.flu_top.specs.declared.products.Said.{Said}
 use Rattle.flu_top.specs.declared.running.RunFault.{RunFault}
 use Rattle.flu_top.specs.declared.running.RunFault.TheVariants.{Round, Unsaved}
 use Rattle.flu_top.specs.declared.refusals.Refusal.{Refusal}
@@ -211,6 +211,6 @@ IsRoundsRefusal p o named c (refusals.SaveDefect defect) = ⊥
 IsRoundsRefusal p o named c refusals.PutFault = PutFailed named c.puts c.puts_after × RanUnsaved LeavesAnything p o named c
 IsRoundsRefusal p o named c (refusals.TraceFault fault) = ⊥
 
-abbrev pub EndsRun : Program → Opening → Option (List ℕ) → Call → Result (Option DrawnSteps) Refusal → Type 0
+abbrev pub EndsRun : Program → Opening → Option (List ℕ) → Call → Result (Option Said) Refusal → Type 0
 EndsRun p o named c (Ok steps) = (steps ≡ None) × RanAll p o named c
 EndsRun p o named c (Err refusal) = IsRoundsRefusal p o named c refusal

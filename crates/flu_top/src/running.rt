@@ -36,7 +36,7 @@ ghost use Rattle.flu_top.specs.Wants.{if_named};
 use crate::backup::Backup;
 use crate::openings::{Opening, opening_of, same_name};
 use crate::planned::{Planned, planned_by, planned_greedily};
-use crate::products::DrawnSteps;
+use crate::products::Said;
 use crate::programs::program_of;
 use crate::refusals::{JobRead, Refusal, SaveDefect};
 use crate::saves::put_checkpoint;
@@ -79,7 +79,7 @@ pub fn run_job<F: Files, K: Sink, G: Gate, R: Threads + Wait + Sync>(
     plan: Option<&str>,
     options: RunOptions<'_>,
     gate: &G,
-) -> Result<Option<DrawnSteps>, Refusal>
+) -> Result<Option<Said>, Refusal>
     ensures ends { IsEnding (call (F.left files.old) (F.left files.new) (F.faults files.old) (F.faults files.new) (F.put_faults files.old) (F.put_faults files.new) (K.taken out.old) (K.taken out.new) (K.faults out.old) (K.faults out.new)) (Run job.now (option_map (λ name. name.now) plan.entry) (plain_options options.entry)) result }
     ensures fronts { WhereTold (F.left files.old) (F.left files.new) (TookFrontsBut (IsPutAt (Run job.now (option_map (λ name. name.now) plan.entry) (plain_options options.entry)) (status_after result))) }
     ensures only { WhereTold (F.left files.old) (F.left files.new) (TookOnly (λ name. IsReadName (F.left files.old) (Run job.now (option_map (λ name. name.now) plan.entry) (plain_options options.entry)) name ⊎ IsPutAt (Run job.now (option_map (λ name. name.now) plan.entry) (plain_options options.entry)) (status_after result) name)) }
@@ -147,7 +147,7 @@ fn run_in_rounds<F: Files, K: Sink, G: Gate, R: Threads + Wait + Sync>(
     opening: Opening,
     save: Option<&str>,
     gate: &G,
-) -> Result<Option<DrawnSteps>, Refusal>
+) -> Result<Option<Said>, Refusal>
     requires valid { IsValidFor (program_of planned.checked) planned.valid }
     requires opening { IsOpening (program_of planned.checked) (plain_opening opening) }
     requires apart { IsNoSource (option_map (λ name. name.now) save) (program_of planned.checked) }
