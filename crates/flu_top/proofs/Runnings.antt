@@ -309,7 +309,9 @@ module _ (job : List ℕ) (plan : Option (List ℕ)) (options : RunOptions) (p :
           says_behind said v w first second.1.1,
           ran.wrote,
         )) started
-        (told_both (IsAllRun p o options.save ran.text) _ b d ran.all
+        (told_both (IsAllRun p o options.save ran.text)
+        (λ v w. TookOnly (λ name. Contains (files_of p.sources) name ⊎ IsSavedTo options.save name) v w
+        × IsPlanSaid options.adapt p (grown (no_counts p) (lists_above o.border (lists_of p v))) (line_said said)) b d ran.all
         (told_both (TookOnly (λ name. Contains (files_of p.sources) name ⊎ IsSavedTo options.save name)) (λ v w. IsPlanSaid options.adapt p (grown (no_counts p) (lists_above o.border (lists_of p v))) (line_said said)) b d
         within.others says.told));
     may_say = may_say_line options.adapt (job ∷ if_named plan) options.resume said says.may_say;
