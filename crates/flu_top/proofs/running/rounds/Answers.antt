@@ -40,8 +40,8 @@ returns-in_err-rounds-clause-ends g c =
     subst (EndsRounds c.args.adapts p o named k) (sym (given_err c.from_residual-in_err-rounds.result c.in_err-rounds.field-0.0 c.from_residual-in_err-rounds.ensures.1 ∙ ap Err c.in_err-rounds.ensures.no_memory))
     (some_at_start c.rounds_are_folded_in_turn.ensures.none p o named (left c.args.files.now) (counts c.args.files.now) (puts c.args.files.now) (taken c.args.out.now) (count c.args.out.now)).0
 
-pub loop-rounds-init : goal.loop-rounds-init
-loop-rounds-init g c =
+pub loop-said-init : goal.loop-said-init
+loop-said-init g c =
     let p = program_of c.args.checked.now in
     let o = plain_opening c.args.opening in
     let named = option_map (λ name. name.now) c.args.save in
@@ -67,7 +67,7 @@ returns-in_err-saved_round-clause-ends g c =
     let whole = call (left c.args.files.now) (left c.saved_round.new.files) (counts c.args.files.now) (counts c.saved_round.new.files) (puts c.args.files.now) (puts c.saved_round.new.files)
     (taken c.args.out.now) (taken c.saved_round.new.out) (count c.args.out.now) (count c.saved_round.new.out) in
     subst (EndsRounds c.args.adapts p o named whole) (sym (given_err c.from_residual-in_err-saved_round.result c.in_err-saved_round.field-0.0 c.from_residual-in_err-saved_round.ensures.1))
-    (c.in_err-saved_round.ensures.steps c.args.adapts p o (left c.args.files.now) (counts c.args.files.now) (puts c.args.files.now) (taken c.args.out.now) (count c.args.out.now) c.requires.apart c.loop-rounds.invariant).0
+    (c.in_err-saved_round.ensures.steps c.args.adapts p o (left c.args.files.now) (counts c.args.files.now) (puts c.args.files.now) (taken c.args.out.now) (count c.args.out.now) c.requires.apart c.loop-said.invariant).0
 
 pub returns-in_err-saved_round-clause-within : goal.returns-in_err-saved_round-clause-within
 returns-in_err-saved_round-clause-within g c =
@@ -79,7 +79,7 @@ returns-in_err-saved_round-clause-within g c =
     let puts = g.F.Files.put_faults in
     let taken = g.K.Sink.taken in
     let count = g.K.Sink.faults in
-    (c.in_err-saved_round.ensures.steps c.args.adapts p o (left c.args.files.now) (counts c.args.files.now) (puts c.args.files.now) (taken c.args.out.now) (count c.args.out.now) c.requires.apart c.loop-rounds.invariant).1
+    (c.in_err-saved_round.ensures.steps c.args.adapts p o (left c.args.files.now) (counts c.args.files.now) (puts c.args.files.now) (taken c.args.out.now) (count c.args.out.now) c.requires.apart c.loop-said.invariant).1
 
 pub returns-clause-ends : goal.returns-clause-ends
 returns-clause-ends g c =
@@ -95,7 +95,7 @@ returns-clause-ends g c =
     (taken c.args.out.now) (taken c.saved_round.new.out) (count c.args.out.now) (count c.saved_round.new.out) in
     let closed = closed_is c.in_ok-saved_round.field-0 c.in_default.not-At in
     (subst (λ (b : Border). Steps c.args.adapts p c.saved_round.new.engine o named whole c.saved_round.new.rounds c.saved_round.new.said (Ok b)) closed
-    (c.in_ok-saved_round.ensures.steps c.args.adapts p o (left c.args.files.now) (counts c.args.files.now) (puts c.args.files.now) (taken c.args.out.now) (count c.args.out.now) c.requires.apart c.loop-rounds.invariant)).0
+    (c.in_ok-saved_round.ensures.steps c.args.adapts p o (left c.args.files.now) (counts c.args.files.now) (puts c.args.files.now) (taken c.args.out.now) (count c.args.out.now) c.requires.apart c.loop-said.invariant)).0
 
 pub returns-clause-within : goal.returns-clause-within
 returns-clause-within g c =
@@ -111,4 +111,4 @@ returns-clause-within g c =
     (taken c.args.out.now) (taken c.saved_round.new.out) (count c.args.out.now) (count c.saved_round.new.out) in
     let closed = closed_is c.in_ok-saved_round.field-0 c.in_default.not-At in
     (subst (λ (b : Border). Steps c.args.adapts p c.saved_round.new.engine o named whole c.saved_round.new.rounds c.saved_round.new.said (Ok b)) closed
-    (c.in_ok-saved_round.ensures.steps c.args.adapts p o (left c.args.files.now) (counts c.args.files.now) (puts c.args.files.now) (taken c.args.out.now) (count c.args.out.now) c.requires.apart c.loop-rounds.invariant)).1
+    (c.in_ok-saved_round.ensures.steps c.args.adapts p o (left c.args.files.now) (counts c.args.files.now) (puts c.args.files.now) (taken c.args.out.now) (count c.args.out.now) c.requires.apart c.loop-said.invariant)).1
