@@ -37,8 +37,8 @@ returns-clause-written g c before behind =
     c.in_ok-finish.ensures.written) before behind in
     (round.0, round.1, λ follows. c.in_ok-state.ensures.counts follows ∙ ap (grown c.args.engine.now.counts) round.2)
 
-pub said_behind-requires : goal.said_behind-requires
-said_behind-requires g c follows =
+pub said_behind-requires-after_bounds : goal.said_behind-requires-after_bounds
+said_behind-requires-after_bounds g c κs within follows =
     let note = c.batch.new.self in
     subst (λ (q : Program). IsObservedPlan q note.counts (plan_of note.valid).nodes) (sym (ap program_of c.batch.ensures.same))
     (c.in_ok-state.ensures.observed (sym c.batch.ensures.adapts ∙ follows))
