@@ -210,7 +210,9 @@ fn words_of_runs_are_refused(rt: HostRuntime) -> Result<(), Fail> {
         (&["run", "J", "P", "--save", "s", "--resume", "P"], 6),
         (&["run", "J", "P", "--save", "s", "--resume", "t", "x"], 7),
         (
-            &["run", "J", "P", "--adapt", "--save", "s", "--resume", "t", "x"],
+            &[
+                "run", "J", "P", "--adapt", "--save", "s", "--resume", "t", "x",
+            ],
             8,
         ),
     ];

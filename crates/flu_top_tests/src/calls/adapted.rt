@@ -303,9 +303,7 @@ fn job(alloc: Global, sources: &[Source]) -> Result<String, AllocError> {
     let mut text = String::from_str(alloc, JOB)?;
     for source in sources {
         let Form { name, tag, .. } = source.form;
-        text.push_str(
-            &format!(in alloc; "source {name} \"{name}.csv\" rate 7 slack 3: {tag}\n")?,
-        )?;
+        text.push_str(&format!(in alloc; "source {name} \"{name}.csv\" rate 7 slack 3: {tag}\n")?)?;
     }
     Ok(text)
 }
@@ -370,9 +368,7 @@ fn plan_of_counts<R: Threads + Wait + Sync>(
         "J",
         &job_of_counts(alloc, sources, border)?,
     )?;
-    Ok(call_with(
-        rt, alloc, "plan J", &mut files, &ROOM, &OpenGate,
-    )?)
+    Ok(call_with(rt, alloc, "plan J", &mut files, &ROOM, &OpenGate)?)
 }
 
 /// Compares a whole run with the report of the fold, and what it says with the plan of all counts.
