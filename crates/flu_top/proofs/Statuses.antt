@@ -330,8 +330,8 @@ pub adapted_at_0 : (words : List (List ℕ)) (old new : Outside) (status : ℕ) 
     → (job : List ℕ) (plan save resume : Option (List ℕ)) → command_in words ≡ Ok (Run job plan (record { adapt = true; save = save; resume = resume }))
     → (line : List ℕ) × IsSomePlanText line × Said old new line
     × WhereTold old.left new.left (λ left _. (p : Program) × HasJob (Named job) left p
-      × ((text : List ℕ) × Writes (Run job plan (record { adapt = false; save = save; resume = resume })) left p text × WhereTold old.out new.out (AppendsAll text))
-      × IsObservedText (job ∷ if_named plan) resume left p line)
+    × ((text : List ℕ) × Writes (Run job plan (record { adapt = false; save = save; resume = resume })) left p text × WhereTold old.out new.out (AppendsAll text))
+    × IsObservedText (job ∷ if_named plan) resume left p line)
 adapted_at_0 words old new status outcome is job plan save resume word =
     let whole = Run job plan (record { adapt = true; save = save; resume = resume }) in
     let found = at_0 words old new status outcome is in

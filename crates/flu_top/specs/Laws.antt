@@ -71,8 +71,8 @@ AdaptedPlanIsHeard =
     → (job : List ℕ) (plan save resume : Option (List ℕ)) → command_in words ≡ Ok (Run job plan (record { adapt = true; save = save; resume = resume }))
     → (line : List ℕ) × IsSomePlanText line × Said old new line
     × WhereTold old.left new.left (λ left _. (p : Program) × HasJob (Named job) left p
-      × ((text : List ℕ) × Writes (Run job plan (record { adapt = false; save = save; resume = resume })) left p text × WhereTold old.out new.out (AppendsAll text))
-      × IsObservedText (job ∷ if_named plan) resume left p line)
+    × ((text : List ℕ) × Writes (Run job plan (record { adapt = false; save = save; resume = resume })) left p text × WhereTold old.out new.out (AppendsAll text))
+    × IsObservedText (job ∷ if_named plan) resume left p line)
 
 -- status 2 comes exactly where the words are no command
 abbrev pub BadWordsExactly : Type 0

@@ -63,10 +63,7 @@ pub fn run<F: Files, K: Sink, G: Gate, R: Threads + Wait + Sync>(
 }
 
 // Writes a text, where nothing refused it.
-fn put_text<K: Sink>(
-    out: &mut K,
-    text: Result<Text, Refusal>,
-) -> Result<Option<Said>, Refusal>
+fn put_text<K: Sink>(out: &mut K, text: Result<Text, Refusal>) -> Result<Option<Said>, Refusal>
     ensures { IsPut (as_product text) (K.taken out.old) (K.taken out.new) (K.faults out.old) (K.faults out.new) result }
 {
     match text {
@@ -76,10 +73,7 @@ fn put_text<K: Sink>(
 }
 
 // Writes the text of what a command produced, where nothing refused it.
-fn put<K: Sink>(
-    out: &mut K,
-    produced: Result<Product, Refusal>,
-) -> Result<Option<Said>, Refusal>
+fn put<K: Sink>(out: &mut K, produced: Result<Product, Refusal>) -> Result<Option<Said>, Refusal>
     ensures { IsPut produced (K.taken out.old) (K.taken out.new) (K.faults out.old) (K.faults out.new) result }
 {
     let product = match produced {
