@@ -15,7 +15,6 @@ use Rattle.flu_adaptive.specs.Notes.{AdaptiveNote}
 use Rattle.flu_cells.specs.declared.state.State.{State}
 use Rattle.flu_cells.specs.Holding.{held}
 use Rattle.flu_deps.specs.Checking.{program_of}
-use Rattle.flu_deps.specs.declared.checked.Checked.{Checked}
 use Rattle.flu_model.specs.declared.events.Item.{Item}
 use Rattle.flu_model.specs.declared.jobs.Program.{Program}
 use Rattle.flu_model.specs.Contents.{Contents}
@@ -43,7 +42,7 @@ use Rattle.flu_top.specs.Openings.{Opening}
 use Rattle.flu_top.specs.Products.{line_said}
 use Rattle.flu_top.specs.Reading.{HaveWritten, MeetsDefect, ReportsNext, put_by, rows_in_round, greatest_border}
 use Rattle.flu_top.specs.Running.{GoesOn, StaysWithin, IsAllRun, RanAll, RanToDefect, RanSome, RanInto, RanUnsaved, EndsRounds, Steps, PutsAt, PutFailed, IsSavedTo, border_at, borders_above, put_behind}
-use Rattle.flu_top.specs.Running.{IsPlanSaid, MaySayPlan, SaysCounts, SaysPlan, all_lists}
+use Rattle.flu_top.specs.Running.{IsPlanSaid, SaysCounts, SaysPlan, all_lists}
 use Rattle.flu_top.specs.Starting.{IsNoSource, LeavesPut, LeavesAnything}
 use Rattle.flu_top.specs.Taking.{TookOnly, TookFrontsBut}
 
@@ -471,22 +470,22 @@ module _ (adapts : Bool) (p : Program) (note : AdaptiveNote) (o : Opening) (name
           let whole = laws.last p rows_in_round a b d old new go.written (omega arith) go.came runs.0 stands run.read_out closed in
           let bytes = save p greatest_border (held new.state) in
           let ran : RanAll p o named (call a e k n s w had has x z) =
-            record {
-              text = text;
-              wrote = wrote_then go.written (round_report old Closed runs.0.fills.now) had mid has go.wrote runs.1;
-              all = told_then
-                  (λ was is. HasRunFrom p o.border o.cells was new text × ((name : List ℕ) → Contains (files_of p.sources) name → is name ≡ Some []))
-                  (λ is after. TookOnly (IsSavedTo named) is after × PutsAt named bytes is after)
-                  (IsAllRun p o named text) a d e
-                  (λ v r f first second. record {
-                    sound = first.0.sound;
-                    is = first.0.text;
-                    ends = λ name found. put_keeps_sources p named r f apart second.0 name found ∙ first.1 name found;
-                    saved = λ name saved. put_here bytes name r f saved second.1 ∙ ap (λ cells. Some (save p greatest_border cells)) first.0.state;
-                  })
-                  (told_ends (files_of p.sources) (λ was is. HasRunFrom p o.border o.cells was new text) a d whole.1 whole.0)
-                  (told_both (TookOnly (IsSavedTo named)) (PutsAt named bytes) d e kept (subst (λ (b' : Border). WhereTold d e (PutsAt named (save p (border_at b') (held new.state)))) at its_puts));
-            } in
+          record {
+            text = text;
+            wrote = wrote_then go.written (round_report old Closed runs.0.fills.now) had mid has go.wrote runs.1;
+            all = told_then
+                (λ was is. HasRunFrom p o.border o.cells was new text × ((name : List ℕ) → Contains (files_of p.sources) name → is name ≡ Some []))
+                (λ is after. TookOnly (IsSavedTo named) is after × PutsAt named bytes is after)
+                (IsAllRun p o named text) a d e
+                (λ v r f first second. record {
+                  sound = first.0.sound;
+                  is = first.0.text;
+                  ends = λ name found. put_keeps_sources p named r f apart second.0 name found ∙ first.1 name found;
+                  saved = λ name saved. put_here bytes name r f saved second.1 ∙ ap (λ cells. Some (save p greatest_border cells)) first.0.state;
+                })
+                (told_ends (files_of p.sources) (λ was is. HasRunFrom p o.border o.cells was new text) a d whole.1 whole.0)
+                (told_both (TookOnly (IsSavedTo named)) (PutsAt named bytes) d e kept (subst (λ (b' : Border). WhereTold d e (PutsAt named (save p (border_at b') (held new.state)))) at its_puts));
+          } in
           ((ran, says_plan laws at), stays_put)
         where
           put_here : (bytes name : List ℕ) (r f : Files) → named ≡ Some name → PutsAt named bytes r f → f name ≡ Some bytes

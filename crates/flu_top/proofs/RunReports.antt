@@ -25,7 +25,6 @@ use Rattle.flu_streams.specs.declared.border.Border.{Border}
 use Rattle.flu_streams.specs.Holding.{AreHeldBehind}
 use Rattle.flu_rounds.specs.Halves.{Begins, AreRun, AppendsReport}
 use Rattle.flu_rounds.specs.Standing.{Standing, Runs, round_lists, round_report}
-use Rattle.flu_top.specs.declared.products.Said.{Said}
 use Rattle.flu_top.specs.declared.products.Said.TheVariants.{Plan}
 use Rattle.flu_top.specs.Running.{SaysCounts}
 
