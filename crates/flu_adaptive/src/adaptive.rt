@@ -1,6 +1,6 @@
 //! The engine that plans anew by the events that it has run.
 
-ghost use Rattle.std.specs.Prelude.{◌≡◌, length, replicate, IfOk, OnOk};
+ghost use Rattle.std.specs.Prelude.{◌≡◌, false, length, replicate, IfOk, OnOk, IsTrue};
 ghost use Rattle.std.specs.List.Sorted.{IsPermutation};
 ghost use Rattle.flu_model.specs.Folding.{final_state, final_outputs};
 ghost use Rattle.flu_model.specs.Itags.{count_of_itags};
@@ -24,12 +24,13 @@ use std::marker::{Model, PhantomData};
 use std::sync::Wait;
 use std::thread::Threads;
 
-/// Runs batches on a tree of threads, whose plan follows the counts of the events that it has run: the first batch runs on a given
-/// plan, and each later one on the observed plan of the counts so far (`docs/TREE.md`).
+/// Runs batches on a tree of threads, the first one on a given plan. Where it adapts, the plan follows the counts of the events that it
+/// has run: each later batch runs on the observed plan of the counts so far (`docs/TREE.md`). Where it does not, each batch runs on the
+/// given plan, and nothing is counted.
 ///
 /// Like [`TreeEngine`] it keeps the promise of an [`Engine`] for any runtime that has threads, and is none.
 ///
-/// Contracts see its job, the plan in force and the counts (`AdaptiveNote` of `specs/Notes.antt`).
+/// Contracts see its job, the plan in force, the counts, and whether it adapts (`AdaptiveNote` of `specs/Notes.antt`).
 #[derive(Drop)]
 pub struct Adaptive<'a, G: Gate, R, B: Engine<R>> {
     checked: &'a Checked,
@@ -37,8 +38,10 @@ pub struct Adaptive<'a, G: Gate, R, B: Engine<R>> {
     gate: &'a G,
     // What runs a batch where a thread is refused. It is lent to each batch.
     backup: Option<B>,
-    // How many events of each itag were run.
+    // How many events of each itag were run, where it adapts.
     counts: Vec<u64>,
+    // Whether the plan follows the counts.
+    adapts: bool,
     // By what the backup runs.
     by: PhantomData<R>,
 }
@@ -55,14 +58,14 @@ impl<'a, G: Gate, R, B: Engine<R>> Model for Adaptive<'a, G, R, B> {
 
     ghost coded = { Prim.hlevel (codes, c.the_row.coded, v.the_row.coded) };
 
-    ghost view = { λ a. record { checked = a.checked.now; valid = a.valid; counts = a.counts.items } };
+    ghost view = { λ a. record { checked = a.checked.now; valid = a.valid; counts = a.counts.items; adapts = a.adapts } };
 
-    ghost invariant = { λ a. HasItsPlan (record { checked = a.checked.now; valid = a.valid; counts = a.counts.items }) × IsSome a.backup × IfSome a.backup (λ b. B.program_of b ≡ program_of a.checked.now) };
+    ghost invariant = { λ a. HasItsPlan (record { checked = a.checked.now; valid = a.valid; counts = a.counts.items; adapts = a.adapts }) × IsSome a.backup × IfSome a.backup (λ b. B.program_of b ≡ program_of a.checked.now) };
 }
 
 impl<'a, G: Gate, R, B: Engine<R> + Drop> Adaptive<'a, G, R, B> {
     /// The engine of a job, a plan that is valid for it, by which its first batch runs, a gate and a backup of the same job, which
-    /// runs a batch where a thread is refused.
+    /// runs a batch where a thread is refused; and whether its plan follows the counts behind that.
     ///
     /// # Errors
     ///
@@ -73,12 +76,14 @@ impl<'a, G: Gate, R, B: Engine<R> + Drop> Adaptive<'a, G, R, B> {
         first: Valid,
         gate: &'a G,
         backup: B,
+        adapts: bool,
     ) -> Result<Adaptive<'a, G, R, B>, AllocError>
         requires first { IsValidFor (program_of checked.now) first }
         requires backup { B.program_of backup ≡ program_of checked.now }
         ensures checked { IfOk result (λ a. a.checked ≡ checked.now) }
         ensures valid { IfOk result (λ a. a.valid ≡ first) }
         ensures counts { IfOk result (λ a. a.counts ≡ no_counts (program_of checked.now)) }
+        ensures adapts { IfOk result (λ a. a.adapts ≡ adapts) }
     {
         let counts = no_counts(alloc, itag_count(checked.program()))?;
         Ok(Adaptive {
@@ -87,6 +92,7 @@ impl<'a, G: Gate, R, B: Engine<R> + Drop> Adaptive<'a, G, R, B> {
             gate,
             backup: Some(backup),
             counts,
+            adapts,
             by: PhantomData,
         })
     }
@@ -106,25 +112,32 @@ impl<'a, G: Gate, R, B: Engine<R> + Drop> Adaptive<'a, G, R, B> {
         &self.valid
     }
 
-    /// How many events of each itag were run, by the itags' numbers. A count stays at the greatest number that there is. It takes no
-    /// memory.
+    /// How many events of each itag were run, by the itags' numbers, where it adapts; else no events. A count stays at the greatest
+    /// number that there is. It takes no memory.
     pub fn counts(&self) -> &[u64]
         ensures counts { result.now ≡ self.now.counts }
         ensures one_each { length self.now.counts ≡ count_of_itags (program_of self.now.checked) }
     {
         self.counts.as_slice()
     }
+
+    /// Whether its plan follows the counts. It takes no memory.
+    pub fn adapts(&self) -> bool
+        ensures { result ≡ self.now.adapts }
+    {
+        self.adapts
+    }
 }
 
 impl<'a, G: Gate, R: Threads + Wait + Sync, B: Engine<R> + Drop> Adaptive<'a, G, R, B> {
     /// Runs all events of the streams, which have one list for each itag of the job, from a state that holds values of the job's
     /// sorts, on the tree of threads of the plan in force: the state is the fold's, which holds such values too, and the outputs are
-    /// the fold's in some order. Behind it the counts have grown by these events, and the plan in force is the observed one of the
-    /// counts. It waits for its threads.
+    /// the fold's in some order. Where the engine adapts, the counts have grown by these events behind it, and the plan in force is the
+    /// observed one of the counts; else both stay as they are. It waits for its threads.
     ///
     /// # Errors
     ///
-    /// Only where memory is wanting. Behind an error the engine is to be given up.
+    /// Only where memory is wanting. Behind an error an engine that adapts is to be given up.
     pub fn batch(
         &mut self,
         rt: &R,
@@ -138,14 +151,19 @@ impl<'a, G: Gate, R: Threads + Wait + Sync, B: Engine<R> + Drop> Adaptive<'a, G,
         ensures sorts { IfOk result (λ r. IsStateOf (program_of self.old.checked).families (held r.0)) }
         ensures outputs { IfOk result (λ r. IsPermutation (final_outputs (program_of self.old.checked) (held opening) (listed s.now)) r.1) }
         ensures same { self.new.checked ≡ self.old.checked }
-        ensures counts { OnOk result (self.new.counts ≡ grown self.old.counts (listed s.now)) }
-        ensures observed { OnOk result (IsObservedPlan (program_of self.old.checked) self.new.counts (plan_of self.new.valid).nodes) }
+        ensures adapts { self.new.adapts ≡ self.old.adapts }
+        ensures counts { OnOk result (IsTrue self.old.adapts → self.new.counts ≡ grown self.old.counts (listed s.now)) }
+        ensures observed { OnOk result (IsTrue self.old.adapts → IsObservedPlan (program_of self.old.checked) self.new.counts (plan_of self.new.valid).nodes) }
+        ensures stays { self.old.adapts ≡ false → self.new ≡ self.old }
     {
         let backup = self.backup.take().unwrap();
         let mut engine = TreeEngine::new(self.checked, &self.valid, self.gate, backup);
         let ran = engine.batch(rt, alloc, opening, s);
         self.backup = Some(engine.backup);
         let ran = ran?;
+        if !self.adapts {
+            return Ok(ran);
+        }
         count_events(self.checked.program(), &mut self.counts, s);
         let anew = observed_plan(alloc, self.checked, self.counts.as_slice())?;
         self.valid = anew;

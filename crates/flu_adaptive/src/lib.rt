@@ -1,4 +1,4 @@
-//! An engine whose plan follows the counts of the events that it has run (`docs/TREE.md`, "A plan that follows the counts").
+//! An engine whose plan can follow the counts of the events that it has run (`docs/TREE.md`, "A plan that follows the counts").
 #![tactic(auto)]
 
 mod adaptive;

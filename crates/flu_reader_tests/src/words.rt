@@ -13,7 +13,7 @@ fn words_of(alloc: Global, words: &[&str]) -> Result<Vec<String>, AllocError> {
     Ok(owned)
 }
 
-/// A command as a line of its words, with a depth where none was given, and a dash for each file of a run that is not named.
+/// A command as a line of its words, with a depth where none was given, and a dash for what is left out of a run.
 fn told(alloc: Global, command: Command) -> Result<String, AllocError> {
     match command {
         Command::Fold { job } => format!(in alloc; "fold {job}"),
@@ -22,9 +22,10 @@ fn told(alloc: Global, command: Command) -> Result<String, AllocError> {
         Command::Plan { job, depth } => format!(in alloc; "plan {job} {}", depth.levels),
         Command::Run { job, plan, options } => {
             let plan = plan.unwrap_or("-");
+            let adapt = if options.adapt { "adapt" } else { "-" };
             let save = options.save.unwrap_or("-");
             let resume = options.resume.unwrap_or("-");
-            format!(in alloc; "run {job} {plan} {save} {resume}")
+            format!(in alloc; "run {job} {plan} {adapt} {save} {resume}")
         }
         Command::Simulate {
             job,
@@ -147,20 +148,31 @@ fn words_of_two_files_and_numbers_are_refused(rt: HostRuntime) -> Result<(), Fai
 
 #[test]
 fn runs_are_read(rt: HostRuntime) -> Result<(), Fail> {
-    let rows: [(&[&str], &str); 8] = [
-        (&["run", "J"], "run J - - -"),
-        (&["run", "J", "P"], "run J P - -"),
-        (&["run", "J", "J"], "run J J - -"),
-        (&["run", "J", "--save", "s"], "run J - s -"),
-        (&["run", "J", "--resume", "s"], "run J - - s"),
-        (&["run", "J", "P", "--save", "s"], "run J P s -"),
+    let rows: [(&[&str], &str); 13] = [
+        (&["run", "J"], "run J - - - -"),
+        (&["run", "J", "P"], "run J P - - -"),
+        (&["run", "J", "J"], "run J J - - -"),
+        (&["run", "J", "--save", "s"], "run J - - s -"),
+        (&["run", "J", "--resume", "s"], "run J - - - s"),
+        (&["run", "J", "P", "--save", "s"], "run J P - s -"),
         (
             &["run", "J", "P", "--save", "s", "--resume", "t"],
-            "run J P s t",
+            "run J P - s t",
         ),
         (
             &["run", "J", "P", "--save", "s", "--resume", "s"],
-            "run J P s s",
+            "run J P - s s",
+        ),
+        (&["run", "J", "--adapt"], "run J - adapt - -"),
+        (&["run", "J", "P", "--adapt"], "run J P adapt - -"),
+        (&["run", "J", "--adapt", "--save", "s"], "run J - adapt s -"),
+        (
+            &["run", "J", "P", "--adapt", "--resume", "t"],
+            "run J P adapt - t",
+        ),
+        (
+            &["run", "J", "P", "--adapt", "--save", "s", "--resume", "t"],
+            "run J P adapt s t",
         ),
     ];
     for (words, line) in rows {
@@ -171,11 +183,14 @@ fn runs_are_read(rt: HostRuntime) -> Result<(), Fail> {
 
 #[test]
 fn words_of_runs_are_refused(rt: HostRuntime) -> Result<(), Fail> {
-    let rows: [(&[&str], usize); 20] = [
+    let rows: [(&[&str], usize); 26] = [
         (&["run"], 1),
         (&["run", "--save", "s"], 1),
         (&["run", "J", ""], 2),
-        (&["run", "J", "--adapt"], 2),
+        (&["run", "--adapt", "J"], 1),
+        (&["run", "J", "--adap"], 2),
+        (&["run", "J", "--adapt", "P"], 3),
+        (&["run", "J", "--adapt", "--adapt"], 3),
         (&["run", "J", "P", "Q"], 3),
         (&["run", "J", "--save"], 3),
         (&["run", "J", "--save", ""], 3),
@@ -188,10 +203,18 @@ fn words_of_runs_are_refused(rt: HostRuntime) -> Result<(), Fail> {
         (&["run", "J", "P", "--save", "J"], 4),
         (&["run", "J", "--save", "s", "P"], 4),
         (&["run", "J", "--save", "s", "--save", "t"], 4),
+        (&["run", "J", "--save", "s", "--adapt"], 4),
+        (&["run", "J", "--adapt", "--save", "J"], 4),
         (&["run", "J", "P", "--resume", "s", "--save", "t"], 5),
         (&["run", "J", "--save", "s", "--resume"], 5),
         (&["run", "J", "P", "--save", "s", "--resume", "P"], 6),
         (&["run", "J", "P", "--save", "s", "--resume", "t", "x"], 7),
+        (
+            &[
+                "run", "J", "P", "--adapt", "--save", "s", "--resume", "t", "x",
+            ],
+            8,
+        ),
     ];
     for (words, at) in rows {
         assert_refused(&rt, rt.alloc(), words, at)?;

@@ -152,7 +152,7 @@ pub fn adapts<R: Abort + Threads + Wait + Sync>(
         valid,
         seed: 0,
     };
-    let mut engine = Adaptive::new(alloc, checked, first, &OpenGate, backup)?;
+    let mut engine = Adaptive::new(alloc, checked, first, &OpenGate, backup, true)?;
     let mut files = files_of(alloc, input)?;
     let mut out = MemSink::with_room(alloc, ROOM)?;
     run_adaptively(rt, alloc, &mut engine, &mut files, &mut out, rows, marks)?;

@@ -13,7 +13,7 @@ use Rattle.flu_words.specs.Words.{Command, command_in}
 use Rattle.flu_top.specs.Taking.{TookOnly, TookFrontsBut}
 use Rattle.flu_top.specs.Behind.{WantedJob, Named, Fixed}
 use Rattle.flu_top.specs.Reading.{Reading, Unread, Whole, InRounds}
-use Rattle.flu_top.specs.declared.products.DrawnSteps.{DrawnSteps}
+use Rattle.flu_top.specs.declared.products.Said.{Said}
 use Rattle.flu_top.specs.declared.products.Product.{Product}
 use Rattle.flu_top.specs.Wants.{want, job_wanted, how_read}
 use Rattle.flu_top.specs.Starting.{Leaves}
@@ -65,53 +65,53 @@ stopped c command (refusals.SaveDefect defect) why leaves nothing = (why, nothin
 stopped c command refusals.PutFault why leaves nothing = absurd why
 stopped c command (refusals.TraceFault fault) why leaves nothing = (why, nothing)
 
-put_all : (c : Call) (command : Command) (product : Product) (steps : Option DrawnSteps) → WhereKnown (job_wanted command) c.left c.left_after (IsWritten command product.text (line_said product.steps))
-    → MaySay (want command).says product.steps → IsPutAll product c.taken c.taken_after steps → HasAll c command steps
-put_all c command product steps written may_say is = subst (λ (s : Option DrawnSteps). HasAll c command s) (sym is.steps') (record {
-  done = known_weaker (job_wanted command) (IsWritten command product.text (line_said product.steps)) (IsDone command c.taken c.taken_after (line_said product.steps)) c.left c.left_after
+put_all : (c : Call) (command : Command) (product : Product) (said : Option Said) → WhereKnown (job_wanted command) c.left c.left_after (IsWritten command product.text (line_said product.says))
+    → MaySay (want command).says product.says → IsPutAll product c.taken c.taken_after said → HasAll c command said
+put_all c command product said written may_say is = subst (λ (s : Option Said). HasAll c command s) (sym is.says) (record {
+  done = known_weaker (job_wanted command) (IsWritten command product.text (line_said product.says)) (IsDone command c.taken c.taken_after (line_said product.says)) c.left c.left_after
       (λ x y w. (w.0, product.text, w.1, w.2, w.3, is.all)) written;
   may_say = may_say;
 })
 
-put_part : (c : Call) (command : Command) (product : Product) (refusal : Refusal) → how_read command ≢ InRounds → WhereKnown (job_wanted command) c.left c.left_after (IsWritten command product.text (line_said product.steps))
+put_part : (c : Call) (command : Command) (product : Product) (refusal : Refusal) → how_read command ≢ InRounds → WhereKnown (job_wanted command) c.left c.left_after (IsWritten command product.text (line_said product.says))
     → IsPutPart product c.taken c.taken_after c.count c.count_after refusal → IsStopped c command refusal
 put_part c command product refusal other written is = subst (IsStopped c command) (sym is.is) (record {
   rose = is.rose;
   partly = part_of_all (how_read command) command c.left c.left_after c.taken c.taken_after other
-      (known_weaker (job_wanted command) (IsWritten command product.text (line_said product.steps)) (IsPartlyDone command c.taken c.taken_after) c.left c.left_after
+      (known_weaker (job_wanted command) (IsWritten command product.text (line_said product.says)) (IsPartlyDone command c.taken c.taken_after) c.left c.left_after
       (λ x y w. (w.0, product.text, w.1, w.2, is.part)) written);
 })
 
 -- a command that does not read in rounds: what it produced was put out
-put_out : (c : Call) (command : Command) (produced : Result Product Refusal) (result : Result (Option DrawnSteps) Refusal) → how_read command ≢ InRounds
-    → IfOk produced (λ (product : Product). WhereKnown (job_wanted command) c.left c.left_after (IsWritten command product.text (line_said product.steps)))
-    → IfOk produced (λ (product : Product). MaySay (want command).says product.steps)
+put_out : (c : Call) (command : Command) (produced : Result Product Refusal) (result : Result (Option Said) Refusal) → how_read command ≢ InRounds
+    → IfOk produced (λ (product : Product). WhereKnown (job_wanted command) c.left c.left_after (IsWritten command product.text (line_said product.says)))
+    → IfOk produced (λ (product : Product). MaySay (want command).says product.says)
     → IfErr produced (IsRefusal command c.left c.left_after c.counts c.counts_after)
     → IsPut produced c.taken c.taken_after c.count c.count_after result → IsEnding c command result
-put_out c command (Ok product) (Ok steps) other written says refused put = put_all c command product steps written says put
+put_out c command (Ok product) (Ok said) other written says refused put = put_all c command product said written says put
 put_out c command (Ok product) (Err refusal) other written says refused put = put_part c command product refusal other written put
-put_out c command (Err why) (Ok steps) other written says refused put = absurd put
+put_out c command (Err why) (Ok said) other written says refused put = absurd put
 put_out c command (Err why) (Err refusal) other written says refused put = subst (IsStopped c command) (sym put.is) (stopped c command why refused (λ rounds. absurd (other rounds)) put.nothing)
 
-pub ends_product : (c : Call) (whole command : Command) (produced : Result Product Refusal) (result : Result (Option DrawnSteps) Refusal) → whole ≡ command → how_read command ≢ InRounds
-    → IfOk produced (λ (product : Product). WhereKnown (job_wanted command) c.left c.left_after (IsWritten command product.text (line_said product.steps)))
-    → IfOk produced (λ (product : Product). MaySay (want command).says product.steps)
+pub ends_product : (c : Call) (whole command : Command) (produced : Result Product Refusal) (result : Result (Option Said) Refusal) → whole ≡ command → how_read command ≢ InRounds
+    → IfOk produced (λ (product : Product). WhereKnown (job_wanted command) c.left c.left_after (IsWritten command product.text (line_said product.says)))
+    → IfOk produced (λ (product : Product). MaySay (want command).says product.says)
     → IfErr produced (IsRefusal command c.left c.left_after c.counts c.counts_after)
     → IsPut produced c.taken c.taken_after c.count c.count_after result → IsEnding c whole result
 ends_product c whole command produced result same other written says refused put =
     subst (λ (d : Command). IsEnding c d result) (sym same) (put_out c command produced result other written says refused put)
 
--- the same of a text without steps
-pub ends_text : (c : Call) (whole command : Command) (text : Result (List ℕ) Refusal) (result : Result (Option DrawnSteps) Refusal) → whole ≡ command → how_read command ≢ InRounds
+-- the same of a text where nothing is said
+pub ends_text : (c : Call) (whole command : Command) (text : Result (List ℕ) Refusal) (result : Result (Option Said) Refusal) → whole ≡ command → how_read command ≢ InRounds
     → MaySay (want command).says None
     → IfOk text (λ (bytes : List ℕ). WhereKnown (job_wanted command) c.left c.left_after (IsWritten command bytes []))
     → IfErr text (IsRefusal command c.left c.left_after c.counts c.counts_after)
     → IsPut (as_product text) c.taken c.taken_after c.count c.count_after result → IsEnding c whole result
 ends_text c whole command (Ok bytes) result same other quiet written refused put =
-    ends_product c whole command (Ok (record { text = bytes; steps = None })) result same other written quiet tt put
+    ends_product c whole command (Ok (record { text = bytes; says = None })) result same other written quiet tt put
 ends_text c whole command (Err why) result same other quiet written refused put = ends_product c whole command (Err why) result same other tt tt refused put
 
-pub ends_command : (words : List (List ℕ)) (c : Call) (command : Command) (ended : Result (Option DrawnSteps) Refusal) → command_in words ≡ Ok command → IsEnding c command ended → Ends words c ended
+pub ends_command : (words : List (List ℕ)) (c : Call) (command : Command) (ended : Result (Option Said) Refusal) → command_in words ≡ Ok command → IsEnding c command ended → Ends words c ended
 ends_command words c command ended word ending = record { how = inl (command, word, ending) }
 
 -- ---- the names that a call reads, and those that it may have put
@@ -139,39 +139,39 @@ only_wider words command status a b is only =
     (λ x y took name untouched. took name (λ touched. untouched (elim touched [ inl read ↦ inl (command, is, read) | inr put ↦ inr (command, is, put) ]))) only
 
 -- ---- which ending has a status
-of_read_fault : (ended : Result (Option DrawnSteps) Refusal) → status_after ended ≡ 7 → ended ≡ Err refusals.ReadFault
+of_read_fault : (ended : Result (Option Said) Refusal) → status_after ended ≡ 7 → ended ≡ Err refusals.ReadFault
 of_read_fault (Err refusals.ReadFault) is = refl
 of_read_fault ended is = absurd (omega arith)
 
-of_write_fault : (ended : Result (Option DrawnSteps) Refusal) → status_after ended ≡ 8 → ended ≡ Err refusals.WriteFault
+of_write_fault : (ended : Result (Option Said) Refusal) → status_after ended ≡ 8 → ended ≡ Err refusals.WriteFault
 of_write_fault (Err refusals.WriteFault) is = refl
 of_write_fault ended is = absurd (omega arith)
 
-of_put_fault : (ended : Result (Option DrawnSteps) Refusal) → status_after ended ≡ 12 → ended ≡ Err refusals.PutFault
+of_put_fault : (ended : Result (Option Said) Refusal) → status_after ended ≡ 12 → ended ≡ Err refusals.PutFault
 of_put_fault (Err refusals.PutFault) is = refl
 of_put_fault ended is = absurd (omega arith)
 
 -- the ending of a call whose status is not that of bad words
-ending_at : (words : List (List ℕ)) (c : Call) (ended : Result (Option DrawnSteps) Refusal) → Ends words c ended → status_after ended ≢ 2 → (command : Command) × (command_in words ≡ Ok command) × IsEnding c command ended
+ending_at : (words : List (List ℕ)) (c : Call) (ended : Result (Option Said) Refusal) → Ends words c ended → status_after ended ≢ 2 → (command : Command) × (command_in words ≡ Ok command) × IsEnding c command ended
 ending_at words c ended ends apart = elim ends.how [ inl ending ↦ ending | inr refused ↦ absurd (apart (ap status_after refused.2.words)) ]
 
-pub read_fault_at : (words : List (List ℕ)) (c : Call) (ended : Result (Option DrawnSteps) Refusal) → Ends words c ended → status_after ended ≡ 7 → (name : List ℕ) × IsReadBy words c.left name × Rose (c.counts name) (c.counts_after name)
+pub read_fault_at : (words : List (List ℕ)) (c : Call) (ended : Result (Option Said) Refusal) → Ends words c ended → status_after ended ≡ 7 → (name : List ℕ) × IsReadBy words c.left name × Rose (c.counts name) (c.counts_after name)
 read_fault_at words c ended ends is =
     let ending = ending_at words c ended ends (λ e. omega arith) in
     let found = (subst (IsEnding c ending.0) (of_read_fault ended is) ending.2).why in
     (found.0, (ending.0, ending.1, found.1), found.2)
 
-pub write_fault_at : (words : List (List ℕ)) (c : Call) (ended : Result (Option DrawnSteps) Refusal) → Ends words c ended → status_after ended ≡ 8 → Rose c.count c.count_after
+pub write_fault_at : (words : List (List ℕ)) (c : Call) (ended : Result (Option Said) Refusal) → Ends words c ended → status_after ended ≡ 8 → Rose c.count c.count_after
 write_fault_at words c ended ends is =
     let ending = ending_at words c ended ends (λ e. omega arith) in
     (subst (IsEnding c ending.0) (of_write_fault ended is) ending.2).rose
 
-pub put_fault_at : (words : List (List ℕ)) (c : Call) (ended : Result (Option DrawnSteps) Refusal) → Ends words c ended → status_after ended ≡ 12 → (name : List ℕ) × IsSavedBy words name × Rose (c.puts name) (c.puts_after name)
+pub put_fault_at : (words : List (List ℕ)) (c : Call) (ended : Result (Option Said) Refusal) → Ends words c ended → status_after ended ≡ 12 → (name : List ℕ) × IsSavedBy words name × Rose (c.puts name) (c.puts_after name)
 put_fault_at words c ended ends is =
     let ending = ending_at words c ended ends (λ e. omega arith) in
     let fault = subst (IsEnding c ending.0) (of_put_fault ended is) ending.2 in
     (fault.name, (ending.0, ending.1, fault.named), fault.rose)
 
 -- the line that is said of what refused
-pub said_of : (ended : Result (Option DrawnSteps) Refusal) (refusal : Refusal) (old new : Option (List ℕ)) (before now : ℕ) → IsHeard ended old new before now → ended ≡ Err refusal → IsSaid (line_of refusal) old new before now
-said_of ended refusal old new before now heard is = subst (λ (r : Result (Option DrawnSteps) Refusal). IsHeard r old new before now) is heard
+pub said_of : (ended : Result (Option Said) Refusal) (refusal : Refusal) (old new : Option (List ℕ)) (before now : ℕ) → IsHeard ended old new before now → ended ≡ Err refusal → IsSaid (line_of refusal) old new before now
+said_of ended refusal old new before now heard is = subst (λ (r : Result (Option Said) Refusal). IsHeard r old new before now) is heard

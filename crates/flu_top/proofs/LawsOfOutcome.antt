@@ -5,8 +5,8 @@ use Rattle.flu_outside.specs.Taking.{TookFronts}
 use Rattle.flu_top.specs.Taking.{TookOnly, TookFrontsBut}
 use Rattle.flu_top.specs.Done.{IsReadBy, IsSavedBy, MayBePut}
 use Rattle.flu_top.specs.Outcome as cases
-use Rattle.flu_top.specs.Laws.{KnownStatuses, DoneIsDone, DoneIsQuiet, SimulationIsHeard, BadWordsExactly, BadWordsLine, BadWordsTouchNothing, JobFaultIsFirst, ConflictIsFirst, PlanDefectIsFirst, SaveDefectIsFirst, SourceFaultIsFirst, TraceFaultIsFirst, ReadFaultRose, ReadFaultLine, WriteFaultRose, WriteFaultIsPart, WriteFaultLine, PutFaultRose, PutFaultIsBehindARound, NoMemoryLine, NothingIsWritten, RefusalsWriteNothing, SomeIsWritten, SomeIsWrittenForMemory, FrontsAreTaken, NoOtherIsRead, GoodIsDone, JobFaultIsRefused, ConflictIsRefused, PlanDefectIsRefused, SaveDefectIsRefused, SourceFaultIsRefused, TraceFaultIsRefused, CompletesByFaults, CallsForOneStatus}
-use Rattle.flu_top.proofs.Statuses.{at_0, at_2, at_3, at_4, at_5, at_6, at_7, at_8, at_9, at_11, at_12, at_13, quiet_at_0, heard_at_0, known_status, nothing_written, refused_unwritten, of_no_command, bad_words_exactly}
+use Rattle.flu_top.specs.Laws.{KnownStatuses, DoneIsDone, DoneIsQuiet, SimulationIsHeard, AdaptedPlanIsHeard, BadWordsExactly, BadWordsLine, BadWordsTouchNothing, JobFaultIsFirst, ConflictIsFirst, PlanDefectIsFirst, SaveDefectIsFirst, SourceFaultIsFirst, TraceFaultIsFirst, ReadFaultRose, ReadFaultLine, WriteFaultRose, WriteFaultIsPart, WriteFaultLine, PutFaultRose, PutFaultIsBehindARound, NoMemoryLine, NothingIsWritten, RefusalsWriteNothing, SomeIsWritten, SomeIsWrittenForMemory, FrontsAreTaken, NoOtherIsRead, GoodIsDone, JobFaultIsRefused, ConflictIsRefused, PlanDefectIsRefused, SaveDefectIsRefused, SourceFaultIsRefused, TraceFaultIsRefused, CompletesByFaults, CallsForOneStatus}
+use Rattle.flu_top.proofs.Statuses.{at_0, at_2, at_3, at_4, at_5, at_6, at_7, at_8, at_9, at_11, at_12, at_13, quiet_at_0, heard_at_0, adapted_at_0, known_status, nothing_written, refused_unwritten, of_no_command, bad_words_exactly}
 use Rattle.flu_top.proofs.Completeness.{LawsBelow, completes_of, one_status}
 
 -- ---- the statuses
@@ -33,6 +33,9 @@ quiet_law words old new status outcome is command word nothing = quiet_at_0 word
 
 pub simulation_law : SimulationIsHeard
 simulation_law words old new status outcome is job plan seed trace word = heard_at_0 words old new status outcome is job plan seed trace word
+
+pub adapted_law : AdaptedPlanIsHeard
+adapted_law words old new status outcome is job plan save resume word = adapted_at_0 words old new status outcome is job plan save resume word
 
 pub bad_words_law : BadWordsExactly
 bad_words_law words old new status outcome = bad_words_exactly words old new status outcome

@@ -3,7 +3,7 @@ use Rattle.std.proofs.Common.{◌≡◌, refl, ap, ℕ, List, Option, Some, None
 use Rattle.flu_top.specs.declared.refusals.Refusal.{Refusal}
 use Rattle.flu_top.specs.declared.refusals.Refusal.TheVariants as refusals
 use Rattle.flu_words.specs.Words.{Command, command_in}
-use Rattle.flu_top.specs.declared.products.DrawnSteps.{DrawnSteps}
+use Rattle.flu_top.specs.declared.products.Said.{Said}
 use Rattle.flu_top.specs.Wants.{Saying, Nothing, Line, want}
 use Rattle.flu_top.specs.Products.{line_said, MaySay}
 use Rattle.flu_top.specs.Jobs.{program_read}
@@ -21,14 +21,14 @@ before c err count = outside c.left c.taken err count
 abbrev pub behind : Call → Option (List ℕ) → ℕ → Outside
 behind c err count = outside c.left_after c.taken_after err count
 
--- what is heard of the steps of a command that is done
-hears : (says : Saying) (steps : Option DrawnSteps) (old new : Outside) → MaySay says steps → IsHeard (Ok steps) old.err new.err old.err_faults new.err_faults → Hears says old new (line_said steps)
+-- what is heard of a command that is done
+hears : (says : Saying) (said : Option Said) (old new : Outside) → MaySay says said → IsHeard (Ok said) old.err new.err old.err_faults new.err_faults → Hears says old new (line_said said)
 hears Nothing None old new may_say heard = heard
-hears Nothing (Some steps) old new may_say heard = absurd (cc)
+hears Nothing (Some said) old new may_say heard = absurd (cc)
 hears (Line Is IsForm) None old new may_say heard = absurd may_say
-hears (Line Is IsForm) (Some steps) old new may_say heard = (may_say, heard)
+hears (Line Is IsForm) (Some said) old new may_say heard = (may_say, heard)
 
-pub outcome_of : (words : List (List ℕ)) (c : Call) (err err_after : Option (List ℕ)) (count count_after : ℕ) (ended : Result (Option DrawnSteps) Refusal) → Ends words c ended → IsHeard ended err err_after count count_after → Outcome words (before c err count) (behind c err_after count_after) (status_after ended)
+pub outcome_of : (words : List (List ℕ)) (c : Call) (err err_after : Option (List ℕ)) (count count_after : ℕ) (ended : Result (Option Said) Refusal) → Ends words c ended → IsHeard ended err err_after count count_after → Outcome words (before c err count) (behind c err_after count_after) (status_after ended)
 outcome_of words c err err_after count count_after ended ends heard = elim ends.how [
   | inl ending ↦ by_ended ending.0 ending.1 ended ending.2 heard
   | inr refused ↦ by_words refused.0 refused.1 refused.2
@@ -52,12 +52,12 @@ outcome_of words c err err_after count count_after ended ends heard = elim ends.
     by_refusal command word refusals.PutFault stop line = cases.PutFailed refl command word stop.wrote line
     by_refusal command word (refusals.TraceFault fault) stop line = cases.BadTrace refl command word fault stop.0 (record { nothing = stop.1; said = line })
 
-    by_ended : (command : Command) → command_in words ≡ Ok command → (ended : Result (Option DrawnSteps) Refusal) → IsEnding c command ended → IsHeard ended err err_after count count_after → Outcome words (before c err count) (behind c err_after count_after) (status_after ended)
-    by_ended command word (Ok steps) ending heard =
-        cases.Done refl command word (line_said steps) ending.done (hears (want command).says steps (before c err count) (behind c err_after count_after) ending.may_say heard)
+    by_ended : (command : Command) → command_in words ≡ Ok command → (ended : Result (Option Said) Refusal) → IsEnding c command ended → IsHeard ended err err_after count count_after → Outcome words (before c err count) (behind c err_after count_after) (status_after ended)
+    by_ended command word (Ok said) ending heard =
+        cases.Done refl command word (line_said said) ending.done (hears (want command).says said (before c err count) (behind c err_after count_after) ending.may_say heard)
     by_ended command word (Err refusal) ending heard = by_refusal command word refusal ending heard
 
-pub faults_of : (words : List (List ℕ)) (c : Call) (ended : Result (Option DrawnSteps) Refusal) → Ends words c ended
+pub faults_of : (words : List (List ℕ)) (c : Call) (ended : Result (Option Said) Refusal) → Ends words c ended
     → FaultsFirst words c.left (faults c.counts c.puts c.count) (faults c.counts_after c.puts_after c.count_after) (status_after ended)
 faults_of words c ended ends = record {
   read = λ is. read_fault_at words c ended ends is;

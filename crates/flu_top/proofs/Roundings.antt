@@ -1,6 +1,6 @@
--- The rounds of a job's sources, one after another, what is put behind each, and how they end.
-use Rattle.std.proofs.Common.{◌≡◌, ◌≢◌, refl, sym, ap, ◌∙◌, subst, ℕ, ◌-◌, ◌^◌, ◌<◌, ◌≤◌, List, [], ◌∷◌, ◌++◌, Option, Some, None, Result, Ok, Err, inl, inr, ◌⊎◌, append_assoc, arith}
-use Rattle.std.specs.Prelude.{true, nat_lt, Contains, option_map}
+-- The rounds of a job's sources, one after another, what is put behind each, what is counted of them, and how they end.
+use Rattle.std.proofs.Common.{◌≡◌, ◌≢◌, refl, sym, ap, ◌∙◌, subst, ℕ, Bool, ◌-◌, ◌^◌, ◌<◌, ◌≤◌, List, [], ◌∷◌, ◌++◌, Option, Some, None, Result, Ok, Err, inl, inr, ◌⊎◌, append_assoc, arith}
+use Rattle.std.specs.Prelude.{true, false, nat_lt, Contains, option_map, IsTrue}
 use Rattle.std.specs.Result.{IsErrAnd}
 use Rattle.std.proofs.lemmas.Bool.Decides.{nat_tests}
 use Rattle.std.proofs.lemmas.List.{append-nil}
@@ -11,8 +11,10 @@ use Rattle.flu_outside.specs.declared.files.PutFault.TheVariants.{Failed, NoMemo
 use Rattle.flu_outside.specs.Outside.{WhereTold, Contents as Files, Rose, SameLeft, SameCounts}
 use Rattle.flu_outside.specs.Taking.{TookFronts}
 use Rattle.flu_outside.specs.Writing.{AppendsAll, AppendsPart}
+use Rattle.flu_adaptive.specs.Notes.{AdaptiveNote}
 use Rattle.flu_cells.specs.declared.state.State.{State}
 use Rattle.flu_cells.specs.Holding.{held}
+use Rattle.flu_deps.specs.Checking.{program_of}
 use Rattle.flu_model.specs.declared.events.Item.{Item}
 use Rattle.flu_model.specs.declared.jobs.Program.{Program}
 use Rattle.flu_model.specs.Contents.{Contents}
@@ -20,22 +22,27 @@ use Rattle.flu_rows.specs.declared.rows.Next.{Next}
 use Rattle.flu_streams.specs.declared.border.Border.{Border}
 use Rattle.flu_streams.specs.declared.border.Border.TheVariants.{At, Closed}
 use Rattle.flu_streams.specs.declared.faults.SourceFault.{SourceFault}
+use Rattle.flu_streams.specs.Counts.{grown, grown_in_turn, no_counts, OneMoreInTurn}
 use Rattle.flu_streams.specs.Files.{files_of, LeavesOthers, AreReadOut, OneRose}
 use Rattle.flu_streams.specs.Holding.{AreHeldBehind, AreInAll, ClosedAreReadOut, AreClosed, IsNewBorder}
 use Rattle.flu_streams.specs.Rounds.{IsRound, IsRoundFault, LawOfNoRows, Starts, lists_between}
 use Rattle.flu_rounds.specs.declared.faults.RoundsFault.{RoundsFault}
 use Rattle.flu_rounds.specs.declared.faults.RoundsFault.TheVariants.{Source as SourceDefect, ReadFault, WriteFault, NoMemory}
 use Rattle.flu_rounds.specs.Coming.{HasRunFrom, IsStateUpTo, LawOfBeginningFrom, LawOfGoingOnFrom, LawOfLastFrom, LawOfDefectFrom, LawOfTextAndState, LawOfNextTextAndState, LawOfDefectAndState, LawOfOtherNames}
+use Rattle.flu_rounds.specs.Counting.{LawOfLastCounts}
 use Rattle.flu_rounds.specs.Written.{RanFrom, WouldWriteFrom, lines_in, text_up_from}
-use Rattle.flu_rounds.specs.Standing.{Standing, IsFirstFrom, Runs, IsRoundOf, IsSourceFault, StandsBehind, round_report}
+use Rattle.flu_rounds.specs.Standing.{Standing, IsFirstFrom, Runs, IsRoundOf, IsSourceFault, StandsBehind, round_lists, round_report}
 use Rattle.flu_save.specs.Checkpoint.{save}
+use Rattle.flu_top.specs.declared.products.Said.{Said}
 use Rattle.flu_top.specs.declared.running.RunFault.{RunFault}
 use Rattle.flu_top.specs.declared.running.RunFault.TheVariants.{Round, Unsaved}
 use Rattle.flu_top.specs.Done.{AppendsInto}
 use Rattle.flu_top.specs.Ending.{Call, call}
 use Rattle.flu_top.specs.Openings.{Opening}
+use Rattle.flu_top.specs.Products.{line_said}
 use Rattle.flu_top.specs.Reading.{HaveWritten, MeetsDefect, ReportsNext, put_by, rows_in_round, greatest_border}
 use Rattle.flu_top.specs.Running.{GoesOn, StaysWithin, IsAllRun, RanAll, RanToDefect, RanSome, RanInto, RanUnsaved, EndsRounds, Steps, PutsAt, PutFailed, IsSavedTo, border_at, borders_above, put_behind}
+use Rattle.flu_top.specs.Running.{IsPlanSaid, SaysCounts, SaysPlan, all_lists}
 use Rattle.flu_top.specs.Starting.{IsNoSource, LeavesPut, LeavesAnything}
 use Rattle.flu_top.specs.Taking.{TookOnly, TookFrontsBut}
 
@@ -104,7 +111,22 @@ put_leaves (Some name) (Some other) bytes x y z is puts = puts.here ∙ sym is
 put_keeps_sources : (p : Program) (named : Option (List ℕ)) (y z : Files) → IsNoSource named p → TookOnly (IsSavedTo named) y z → (name : List ℕ) → Contains (files_of p.sources) name → z name ≡ y name
 put_keeps_sources p named y z apart only name found = only name (λ saved. apart name saved found)
 
--- ---- the laws of what was written, and of the state
+-- ---- what is said
+-- this was said of counts that are those of all events, where that is told
+plan_told : (adapts : Bool) (p : Program) (o : Opening) (counts line : List ℕ) (P Q : Files → Files → Type 0) (a d e : Option Files) → WhereTold a e P → WhereTold d e Q
+    → (IsTrue adapts → WhereTold a d (λ was is. counts ≡ grown (no_counts p) (all_lists p o was))) → IsPlanSaid adapts p counts line
+    → WhereTold a e (λ left now. IsPlanSaid adapts p (grown (no_counts p) (all_lists p o left)) line)
+plan_told false p o counts line P Q a d e all later counted is = told_weaker P (λ left now. IsPlanSaid false p (grown (no_counts p) (all_lists p o left)) line) a e (λ v f known. is) all
+plan_told true p o counts line P Q a d e all later counted is =
+    told_then (λ was is. counts ≡ grown (no_counts p) (all_lists p o was)) Q (λ left now. IsPlanSaid true p (grown (no_counts p) (all_lists p o left)) line) a d e
+    (λ v r f same known. subst (λ (ns : List ℕ). IsPlanSaid true p ns line) same is) (counted refl) later
+
+-- what is said of the counts of an engine is said of those of its job
+says_of_job : (adapts adapts' : Bool) (p q : Program) (counts : List ℕ) (said : Option Said) → adapts' ≡ adapts → q ≡ p → SaysCounts adapts' q counts said → SaysCounts adapts p counts said
+says_of_job adapts adapts' p q counts said same job says =
+    subst (λ (r : Program). SaysCounts adapts r counts said) job (subst (λ (b : Bool). SaysCounts b q counts said) same says)
+
+-- ---- the laws of what was written, of the state, and of what was counted
 pub record Laws (o : Opening) : Type 0 where
   pub going : LawOfGoingOnFrom o.border o.cells
   pub state : LawOfTextAndState o.border o.cells
@@ -113,6 +135,8 @@ pub record Laws (o : Opening) : Type 0 where
   pub defect : LawOfDefectFrom o.border o.cells
   pub defect_state : LawOfDefectAndState o.border o.cells
   pub others : LawOfOtherNames o.border o.cells
+  pub one_more : OneMoreInTurn
+  pub counts : LawOfLastCounts
 
 -- ---- before the first round
 stays_at_start : (p : Program) (named : Option (List ℕ)) (a : Option Files) (k s : List ℕ → ℕ) (had : Option (List ℕ)) (x : ℕ) → StaysWithin p named (call a a k k s s had had x x)
@@ -127,15 +151,18 @@ nothing_put None put left none = tt
 nothing_put (Some name) None left none = record { end = λ rest is. ([], is); unread = λ missing. refl }
 nothing_put (Some name) (Some bytes) left none = absurd (cc)
 
-pub rounds_start : (p q : Program) (o : Opening) (named : Option (List ℕ)) (a : Option Files) (k s : List ℕ → ℕ) (had : Option (List ℕ)) (x : ℕ) (now : Standing)
-    → LawOfBeginningFrom o.border o.cells → q ≡ p → IsFirstFrom p rows_in_round o.border o.cells now → GoesOn p q o named (call a a k k s s had had x x) now
-rounds_start p q o named a k s had x now beginning engine first =
+pub rounds_start : (adapts : Bool) (p : Program) (note : AdaptiveNote) (o : Opening) (named : Option (List ℕ)) (a : Option Files) (k s : List ℕ → ℕ) (had : Option (List ℕ)) (x : ℕ) (now : Standing)
+    → LawOfBeginningFrom o.border o.cells → program_of note.checked ≡ p → note.adapts ≡ adapts → note.counts ≡ no_counts p → IsFirstFrom p rows_in_round o.border o.cells now
+    → GoesOn adapts p note o named (call a a k k s s had had x x) now
+rounds_start adapts p note o named a k s had x now beginning engine adapting none first =
     let begun = beginning p rows_in_round a now first in
     record {
       engine = engine;
+      adapting = adapting;
       stage = ap (λ h. h.stage) first.held';
       written = [];
       came = begun.0;
+      counted = λ follows. none ∙ sym (ap (grown_in_turn (no_counts p)) begun.1);
       wrote = told_same (AppendsAll []) had (λ bytes. sym (append-nil bytes));
       leaves = told_same (LeavesPut named [] (put_behind p begun.0.done now.held.border (held now.state))) a
           (λ left. nothing_put named (put_behind p begun.0.done now.held.border (held now.state)) left (ap (λ done. put_behind p done now.held.border (held now.state)) begun.1));
@@ -165,10 +192,18 @@ some_at_start none p o named a k s had x = (
 )
 
 -- ---- a round
+-- a round was run, its report was written, and its events were counted, where the plan follows them
+abbrev pub WritesRound : AdaptiveNote → AdaptiveNote → Standing → Standing → Option Files → Option Files → Option (List ℕ) → Option (List ℕ) → (ℕ → List Next) → Border → Type 0
+WritesRound note note' old new left left' had has before end =
+    (runs : Runs old new left left' end before) × WhereTold had has (AppendsAll (round_report old end runs.fills.now))
+    × (IsTrue note.adapts → note'.counts ≡ grown note.counts (round_lists old end runs.fills.now))
+
 -- what is known of a round that was run and written
-pub record IsRun (old new : Standing) (c : Call) (end : Border) : Type 0 where
-  pub written : (before : ℕ → List Next) → AreHeldBehind old.held before
-      → (runs : Runs old new c.left c.left_after end before) × WhereTold c.taken c.taken_after (AppendsAll (round_report old end runs.fills.now))
+pub record IsRun (note note' : AdaptiveNote) (old new : Standing) (said : Option Said) (c : Call) (end : Border) : Type 0 where
+  pub written : (before : ℕ → List Next) → AreHeldBehind old.held before → WritesRound note note' old new c.left c.left_after c.taken c.taken_after before end
+  pub says : end ≡ Closed → SaysCounts note'.adapts (program_of note'.checked) note'.counts said
+  pub engine : note'.checked ≡ note.checked
+  pub adapting : note'.adapts ≡ note.adapts
   pub stands : StandsBehind old.held new.held end
   pub read_out : ClosedAreReadOut old.held c.left → ClosedAreReadOut new.held c.left_after
   pub quiet : c.count_after ≡ c.count
@@ -205,8 +240,8 @@ told_ends names P (Some y) None told ends = told
 told_ends names P (Some y) (Some z) told ends = (told, ends)
 
 -- a run from a start `a`, which has come to files `b`; a round takes it to files `d`
-module _ (p q : Program) (o : Opening) (named : Option (List ℕ)) (a b d : Option Files) (k l m s t u : List ℕ → ℕ) (had mid has : Option (List ℕ)) (x y z : ℕ) (old : Standing)
-    (go : GoesOn p q o named (call a b k l s t had mid x y) old) (apart : IsNoSource named p) (within : IsWithin old (call b d l m t u mid has y z)) where
+module _ (adapts : Bool) (p : Program) (note : AdaptiveNote) (o : Opening) (named : Option (List ℕ)) (a b d : Option Files) (k l m s t u : List ℕ → ℕ) (had mid has : Option (List ℕ)) (x y z : ℕ) (old : Standing)
+    (go : GoesOn adapts p note o named (call a b k l s t had mid x y) old) (apart : IsNoSource named p) (within : IsWithin old (call b d l m t u mid has y z)) where
   -- the files of the job's sources alone changed
   others_of_job : WhereTold b d (LeavesOthers (files_of p.sources))
   others_of_job = subst (λ (r : Program). WhereTold b d (LeavesOthers (files_of r.sources))) go.came.program within.others
@@ -300,14 +335,14 @@ module _ (p q : Program) (o : Opening) (named : Option (List ℕ)) (a b d : Opti
 
   -- why a round was not run
   pub ends_halted : Laws o → (f : RoundsFault) → IsHalted old (call b d l m t u mid has y z) f
-      → EndsRounds p o named (call a d k m s u had has x z) (Err (Round f)) × StaysWithin p named (call a d k m s u had has x z)
+      → EndsRounds adapts p o named (call a d k m s u had has x z) (Err (Round f)) × StaysWithin p named (call a d k m s u had has x z)
   ends_halted laws (SourceDefect fault) is = (ran_to_defect laws fault is.fault (is.nothing (λ e. cc)), stays)
   ends_halted laws ReadFault is = ((one_rose (is.cause refl), ran_some laws (is.nothing (λ e. cc))), stays)
   ends_halted laws WriteFault is = ((rose_on (is.failed refl), ran_into laws (is.part refl)), stays)
   ends_halted laws NoMemory is = (ran_some laws (is.nothing (λ e. cc)), stays)
 
   -- ---- the put behind a round that was run
-  module _ (e : Option Files) (n w : List ℕ → ℕ) (new : Standing) (end : Border) (run : IsRun old new (call b d l m t u mid has y z) end)
+  module _ (e : Option Files) (n w : List ℕ → ℕ) (note' : AdaptiveNote) (new : Standing) (said : Option Said) (end : Border) (run : IsRun note note' old new said (call b d l m t u mid has y z) end)
       (kept : WhereTold d e (TookOnly (IsSavedTo named))) (takes : SameCounts m n) where
     stays_put : StaysWithin p named (call a e k n s w had has x z)
     stays_put = record {
@@ -319,7 +354,7 @@ module _ (p q : Program) (o : Opening) (named : Option (List ℕ)) (a b d : Opti
     }
 
     -- the round that was run
-    its_run : (runs : Runs old new b d end go.came.before) × WhereTold mid has (AppendsAll (round_report old end runs.fills.now))
+    its_run : WritesRound note note' old new b d mid has go.came.before end
     its_run = run.written go.came.before go.came.behind
 
     wrote_more : WhereTold had has (AppendsAll (go.written ++ round_report old end its_run.0.fills.now))
@@ -352,7 +387,7 @@ module _ (p q : Program) (o : Opening) (named : Option (List ℕ)) (a b d : Opti
     }
 
     pub ends_unsaved : Laws o → (f : PutFault) → named ≢ None → (f ≡ Failed → PutFailed named u w) → (f ≡ NoMemoryToPut → WhereTold d e SameLeft)
-        → EndsRounds p o named (call a e k n s w had has x z) (Err (Unsaved f)) × StaysWithin p named (call a e k n s w had has x z)
+        → EndsRounds adapts p o named (call a e k n s w had has x z) (Err (Unsaved f)) × StaysWithin p named (call a e k n s w had has x z)
     ends_unsaved laws Failed saves failed same =
         let rose = failed refl in (
           (
@@ -369,29 +404,40 @@ module _ (p q : Program) (o : Opening) (named : Option (List ℕ)) (a b d : Opti
     )
 
     -- it was put
-    module _ (q' r' : Program) (st : State) (has_state : st ≡ new.state) (engine : q' ≡ q) (its : r' ≡ q')
+    module _ (r' : Program) (st : State) (has_state : st ≡ new.state) (its : r' ≡ program_of note'.checked)
         (puts : WhereTold d e (PutsAt named (save r' (border_at end) (held st)))) (quiet : SameCounts u w) where
+      -- the engine is still of the job
+      still_engine : program_of note'.checked ≡ p
+      still_engine = ap program_of run.engine ∙ go.engine
+
       saved_bytes : save r' (border_at end) (held st) ≡ save p (border_at end) (held new.state)
-      saved_bytes = λ i. save ((its ∙ engine ∙ go.engine) i) (border_at end) (held (has_state i))
+      saved_bytes = λ i. save ((its ∙ still_engine) i) (border_at end) (held (has_state i))
 
       its_puts : WhereTold d e (PutsAt named (save p (border_at end) (held new.state)))
       its_puts = subst (λ (bytes : List ℕ). WhereTold d e (PutsAt named bytes)) saved_bytes puts
 
-      pub goes_on : Laws o → (time : ℕ) → end ≡ At time → GoesOn p q' o named (call a e k n s w had has x z) new
+      pub goes_on : Laws o → (time : ℕ) → end ≡ At time → GoesOn adapts p note' o named (call a e k n s w had has x z) new
       goes_on laws time at =
-          let runs = subst (λ (b' : Border). (runs' : Runs old new b d b' go.came.before) × WhereTold mid has (AppendsAll (round_report old b' runs'.fills.now))) at its_run in
+          let runs = subst (WritesRound note note' old new b d mid has go.came.before) at its_run in
           let stands = subst (λ (b' : Border). StandsBehind old.held new.held b') at run.stands in
           let on = laws.going p rows_in_round a b d old new go.written time go.came runs.0 stands run.read_out in
           let still_on = laws.others p rows_in_round a d e new (go.written ++ round_report old (At time) runs.0.fills.now) on.0
           (told_weaker (TookOnly (IsSavedTo named)) (λ was is. (name : List ℕ) → Contains (files_of p.sources) name → is name ≡ was name) d e
           (λ r f only name found. put_keeps_sources p named r f apart only name found) kept) in
           let bytes = save p time (held new.state) in
-          let put_now = put_more p go.came.done still_on.0.done (lists_between p old.held.border (At time) runs.0.fills.now) new.held.border time (held new.state) (still_on.1 ∙ on.1) stands.border in
+          let lists = lists_between p old.held.border (At time) runs.0.fills.now in
+          let put_now = put_more p go.came.done still_on.0.done lists new.held.border time (held new.state) (still_on.1 ∙ on.1) stands.border in
           record {
-            engine = engine ∙ go.engine;
+            engine = still_engine;
+            adapting = run.adapting ∙ go.adapting;
             stage = stands.stage;
             written = go.written ++ round_report old (At time) runs.0.fills.now;
             came = still_on.0;
+            counted = λ follows.
+                runs.2 (go.adapting ∙ follows)
+                ∙ (λ i. grown (go.counted follows i) (lists_between (go.came.program i) old.held.border (At time) runs.0.fills.now))
+                ∙ sym (laws.one_more (no_counts p) go.came.done lists)
+                ∙ ap (grown_in_turn (no_counts p)) (sym (still_on.1 ∙ on.1));
             wrote = wrote_then go.written (round_report old (At time) runs.0.fills.now) had mid has go.wrote runs.1;
             leaves = told_then (LeavesPut named [] put) (PutsAt named bytes) (LeavesPut named [] (put_behind p still_on.0.done new.held.border (held new.state))) a d e
                 (λ v r f first second. put_leaves named (put_behind p still_on.0.done new.held.border (held new.state)) bytes v r f put_now second)
@@ -401,40 +447,55 @@ module _ (p q : Program) (o : Opening) (named : Option (List ℕ)) (a b d : Opti
             puts = λ name. quiet name ∙ puts_same name;
           }
 
-      pub ran_all : Laws o → end ≡ Closed → AreClosed new.held → RanAll p o named (call a e k n s w had has x z) × StaysWithin p named (call a e k n s w had has x z)
+      -- the last round: all events were counted, and what is said is said of them
+      says_plan : Laws o → end ≡ Closed → SaysPlan adapts p o said (call a e k n s w had has x z)
+      says_plan laws at =
+          let runs = subst (WritesRound note note' old new b d mid has go.came.before) at its_run in
+          let says = says_of_job adapts note'.adapts p (program_of note'.checked) note'.counts said (run.adapting ∙ go.adapting) still_engine (run.says at) in
+          let counted : IsTrue adapts → WhereTold a d (λ was is. note'.counts ≡ grown (no_counts p) (all_lists p o was)) = λ follows.
+          told_weaker (λ was is. grown note.counts (round_lists old Closed runs.0.fills.now) ≡ grown (no_counts p) (all_lists p o was))
+          (λ was is. note'.counts ≡ grown (no_counts p) (all_lists p o was)) a d
+          (λ was is all. runs.2 (go.adapting ∙ follows) ∙ all)
+          (laws.counts p rows_in_round o.border o.cells a b d old new go.written (no_counts p) note.counts (omega arith) (record { came = go.came; counts' = go.counted follows }) runs.0) in
+          record {
+            may_say = says.may_say;
+            told = plan_told adapts p o note'.counts (line_said said) (TookFrontsBut (IsSavedTo named)) (TookOnly (IsSavedTo named)) a d e stays_put.fronts kept counted says.is;
+          }
+
+      pub ran_all : Laws o → end ≡ Closed → AreClosed new.held → EndsRounds adapts p o named (call a e k n s w had has x z) (Ok said) × StaysWithin p named (call a e k n s w had has x z)
       ran_all laws at closed =
-          let runs = subst (λ (b' : Border). (runs' : Runs old new b d b' go.came.before) × WhereTold mid has (AppendsAll (round_report old b' runs'.fills.now))) at its_run in
+          let runs = subst (WritesRound note note' old new b d mid has go.came.before) at its_run in
           let stands = subst (λ (b' : Border). StandsBehind old.held new.held b') at run.stands in
           let text = go.written ++ round_report old Closed runs.0.fills.now in
           let whole = laws.last p rows_in_round a b d old new go.written (omega arith) go.came runs.0 stands run.read_out closed in
-          let bytes = save p greatest_border (held new.state) in (
-            record {
-              text = text;
-              wrote = wrote_then go.written (round_report old Closed runs.0.fills.now) had mid has go.wrote runs.1;
-              all = told_then
-                  (λ was is. HasRunFrom p o.border o.cells was new text × ((name : List ℕ) → Contains (files_of p.sources) name → is name ≡ Some []))
-                  (λ is after. TookOnly (IsSavedTo named) is after × PutsAt named bytes is after)
-                  (IsAllRun p o named text) a d e
-                  (λ v r f first second. record {
-                    sound = first.0.sound;
-                    is = first.0.text;
-                    ends = λ name found. put_keeps_sources p named r f apart second.0 name found ∙ first.1 name found;
-                    saved = λ name saved. put_here bytes name r f saved second.1 ∙ ap (λ cells. Some (save p greatest_border cells)) first.0.state;
-                  })
-                  (told_ends (files_of p.sources) (λ was is. HasRunFrom p o.border o.cells was new text) a d whole.1 whole.0)
-                  (told_both (TookOnly (IsSavedTo named)) (PutsAt named bytes) d e kept (subst (λ (b' : Border). WhereTold d e (PutsAt named (save p (border_at b') (held new.state)))) at its_puts));
-            },
-            stays_put,
-          )
+          let bytes = save p greatest_border (held new.state) in
+          let ran : RanAll p o named (call a e k n s w had has x z) =
+          record {
+            text = text;
+            wrote = wrote_then go.written (round_report old Closed runs.0.fills.now) had mid has go.wrote runs.1;
+            all = told_then
+                (λ was is. HasRunFrom p o.border o.cells was new text × ((name : List ℕ) → Contains (files_of p.sources) name → is name ≡ Some []))
+                (λ is after. TookOnly (IsSavedTo named) is after × PutsAt named bytes is after)
+                (IsAllRun p o named text) a d e
+                (λ v r f first second. record {
+                  sound = first.0.sound;
+                  is = first.0.text;
+                  ends = λ name found. put_keeps_sources p named r f apart second.0 name found ∙ first.1 name found;
+                  saved = λ name saved. put_here bytes name r f saved second.1 ∙ ap (λ cells. Some (save p greatest_border cells)) first.0.state;
+                })
+                (told_ends (files_of p.sources) (λ was is. HasRunFrom p o.border o.cells was new text) a d whole.1 whole.0)
+                (told_both (TookOnly (IsSavedTo named)) (PutsAt named bytes) d e kept (subst (λ (b' : Border). WhereTold d e (PutsAt named (save p (border_at b') (held new.state)))) at its_puts));
+          } in
+          ((ran, says_plan laws at), stays_put)
         where
           put_here : (bytes name : List ℕ) (r f : Files) → named ≡ Some name → PutsAt named bytes r f → f name ≡ Some bytes
           put_here bytes name r f is puts' = (subst (λ (one : Option (List ℕ)). PutsAt one bytes r f) is puts').here
 
       -- the next standing, or the end
-      pub steps_on : Laws o → (end ≡ Closed → AreClosed new.held) → Steps p q' o named (call a e k n s w had has x z) new (Ok end)
+      pub steps_on : Laws o → (end ≡ Closed → AreClosed new.held) → Steps adapts p note' o named (call a e k n s w had has x z) new said (Ok end)
       steps_on laws closed = by_end end refl
         where
-          by_end : (b' : Border) → end ≡ b' → Steps p q' o named (call a e k n s w had has x z) new (Ok b')
+          by_end : (b' : Border) → end ≡ b' → Steps adapts p note' o named (call a e k n s w had has x z) new said (Ok b')
           by_end (At time) at = goes_on laws time at
           by_end Closed at = ran_all laws at (closed at)
 
@@ -447,8 +508,8 @@ still_named f (Some x) other e = absurd (cc)
 pub laws_of : ((border : Option ℕ) (cells : Contents) → LawOfGoingOnFrom border cells) → ((border : Option ℕ) (cells : Contents) → LawOfTextAndState border cells)
     → ((border : Option ℕ) (cells : Contents) → LawOfNextTextAndState border cells) → ((border : Option ℕ) (cells : Contents) → LawOfLastFrom border cells)
     → ((border : Option ℕ) (cells : Contents) → LawOfDefectFrom border cells) → ((border : Option ℕ) (cells : Contents) → LawOfDefectAndState border cells)
-    → ((border : Option ℕ) (cells : Contents) → LawOfOtherNames border cells) → (o : Opening) → Laws o
-laws_of going state next last defect defect_state others o = record {
+    → ((border : Option ℕ) (cells : Contents) → LawOfOtherNames border cells) → OneMoreInTurn → LawOfLastCounts → (o : Opening) → Laws o
+laws_of going state next last defect defect_state others one_more counts o = record {
   going = going o.border o.cells;
   state = state o.border o.cells;
   next = next o.border o.cells;
@@ -456,6 +517,8 @@ laws_of going state next last defect defect_state others o = record {
   defect = defect o.border o.cells;
   defect_state = defect_state o.border o.cells;
   others = others o.border o.cells;
+  one_more = one_more;
+  counts = counts;
 }
 
 -- a result that `?` gives of an error

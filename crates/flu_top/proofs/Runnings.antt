@@ -1,5 +1,5 @@
 -- What a run has read before its rounds, what refuses it there, and how its rounds end its command.
-use Rattle.std.proofs.Common.{◌≡◌, refl, sym, ap, ◌∙◌, subst, ℕ, ◌≤◌, List, [], ◌∷◌, ◌++◌, Option, Some, None, Result, Ok, Err, inl, inr, ◌⊎◌, arith, append_assoc}
+use Rattle.std.proofs.Common.{◌≡◌, refl, sym, ap, ◌∙◌, subst, ℕ, Bool, true, false, ◌≤◌, List, [], ◌∷◌, ◌++◌, Option, Some, None, Result, Ok, Err, inl, inr, ◌⊎◌, arith, append_assoc}
 use Rattle.std.specs.Prelude.{Contains, IfErr, IfSome}
 use Rattle.std.proofs.lemmas.Result.{IfErr-weaker}
 use Rattle.std.proofs.lemmas.List.Elements.{Contains-append_cases, Contains-append_left, Contains-append_right}
@@ -18,11 +18,12 @@ use Rattle.flu_streams.specs.declared.faults.SourceFault.{SourceFault}
 use Rattle.flu_streams.specs.Files.{files_of, LeavesOthers}
 use Rattle.flu_rounds.specs.Written.{lists_above}
 use Rattle.flu_rounds.specs.Written.{AreSound, lines_in}
+use Rattle.flu_streams.specs.Counts.{grown, no_counts}
 use Rattle.flu_save.specs.Checkpoint.{save}
 use Rattle.flu_save.specs.Forms.{IsFaultOf}
 use Rattle.flu_streams.specs.Good.{lists_of}
 use Rattle.flu_words.specs.Words.{RunOptions, Run, Valid}
-use Rattle.flu_top.specs.declared.products.DrawnSteps.{DrawnSteps}
+use Rattle.flu_top.specs.declared.products.Said.{Said}
 use Rattle.flu_top.specs.declared.refusals.JobRead.{JobRead}
 use Rattle.flu_top.specs.declared.refusals.Refusal.{Refusal}
 use Rattle.flu_top.specs.declared.refusals.Refusal.TheVariants as refusals
@@ -31,17 +32,19 @@ use Rattle.flu_top.specs.declared.running.RunFault.TheVariants.{Unsaved}
 use Rattle.flu_top.specs.Answer.{refusal_of_put, status_after}
 use Rattle.flu_top.specs.Behind.{WantedJob, Named, job_files, HasJob, emptied_each, lists_behind}
 use Rattle.flu_top.specs.Causes.{IsJobRead, HasSourceFault, HasStartDefect, IsMet}
-use Rattle.flu_top.specs.Done.{HasPlanAsked, MayHaveJob, MayBeJob, IsDone, WroteRounds, WroteUnsaved, WroteIntoRound, IsReadName, IsPutAt}
+use Rattle.flu_top.specs.Done.{HasPlanAsked, MayHaveJob, MayBeJob, IsDone, IsLine, WroteRounds, WroteUnsaved, WroteIntoRound, IsReadName, IsPutAt}
 use Rattle.flu_top.specs.Ending.{Call, call, HasAll, HasDefectMet, IsStopped, IsEnding}
 use Rattle.flu_top.specs.Jobs.{program_read}
-use Rattle.flu_top.specs.Openings.{Opening, Opens, OpensAt}
+use Rattle.flu_top.specs.Openings.{Opening, Opens, OpensAt, lists_from}
+use Rattle.flu_top.specs.Products.{line_said, MaySay}
 use Rattle.flu_top.specs.Ready.{AreTextsRead, IsReady}
 use Rattle.flu_top.specs.Reading.{InRounds, HaveWritten, MeetsDefect, ReportsNext, greatest_border, lines_behind}
 use Rattle.flu_top.specs.Refusing.{IsRefusal}
 use Rattle.flu_top.specs.Running.{IsBegun, IsOpened, IsOpeningRefusal, IsSavedTo, StaysWithin, IsAllRun, RanAll, RanToDefect, RanSome, RanInto, RanUnsaved, IsRoundsRefusal, EndsRounds, EndsRun}
+use Rattle.flu_top.specs.Running.{IsPlanSaid, MaySayPlan, SaysPlan}
 use Rattle.flu_top.specs.Starting.{AreNoSources, CanStart, HasBadCheckpoint, StartsFrom, IsSameName, Saves, Resumes, Leaves, LeavesPut, LeavesAnything}
 use Rattle.flu_top.specs.Taking.{TookOnly, TookFrontsBut}
-use Rattle.flu_top.specs.Wants.{if_named, texts_named, sources_read, IsNotSaved}
+use Rattle.flu_top.specs.Wants.{if_named, plan_said, texts_named, sources_read, IsNotSaved}
 use Rattle.flu_top.proofs.AsValid.{only_as_valid, refusal_as_valid, run_reads}
 use Rattle.flu_top.proofs.Sequence.{among, name_given, none_among, one_text, source_name_is_read, stays_ended, text_is_read}
 
@@ -227,9 +230,22 @@ is_started job plan options p o a b d apart begun fronts opened fronts' =
     (told_both (IsBegun job plan p) TookFronts a b begun fronts) (told_both (IsOpened options.resume p o) TookFronts b d opened fronts')
 
 -- where a checkpoint could not be put, this is what refuses the run
-pub refused_unsaved : (p : Program) (o : Opening) (named : Option (List ℕ)) (c : Call) (fault : PutFault) → EndsRounds p o named c (Err (Unsaved fault)) → IsRoundsRefusal p o named c (refusal_of_put fault)
-refused_unsaved p o named c Failed is = is
-refused_unsaved p o named c NoMemoryToPut is = inr is
+pub refused_unsaved : (adapts : Bool) (p : Program) (o : Opening) (named : Option (List ℕ)) (c : Call) (fault : PutFault) → EndsRounds adapts p o named c (Err (Unsaved fault))
+    → IsRoundsRefusal p o named c (refusal_of_put fault)
+refused_unsaved adapts p o named c Failed is = is
+refused_unsaved adapts p o named c NoMemoryToPut is = inr is
+
+-- ---- what is said
+-- what is said of the counts of all events is what the command says
+says_line : (adapts : Bool) (texts : List (List ℕ)) (resume : Option (List ℕ)) (p : Program) (o : Opening) (left : Contents) (line : List ℕ) → Opens resume texts left p o
+    → IsPlanSaid adapts p (grown (no_counts p) (lists_from o (texts ++ if_named resume) left p)) line → IsLine (plan_said adapts texts resume) left p line
+says_line false texts resume p o left line opens is = is
+says_line true texts resume p o left line opens is = (o, opens, is)
+
+may_say_line : (adapts : Bool) (texts : List (List ℕ)) (resume : Option (List ℕ)) (said : Option Said) → MaySayPlan adapts said → MaySay (plan_said adapts texts resume) said
+may_say_line false texts resume said is = is
+may_say_line true texts resume None is = is
+may_say_line true texts resume (Some said) is = is
 
 -- ---- the rounds of a run, behind its texts
 module _ (job : List ℕ) (plan : Option (List ℕ)) (options : RunOptions) (p : Program) (o : Opening) (a b d : Option Contents) (k l m s t u : List ℕ → ℕ) (had has : Option (List ℕ)) (x z : ℕ)
@@ -255,12 +271,21 @@ module _ (job : List ℕ) (plan : Option (List ℕ)) (options : RunOptions) (p :
     ]
   ]
 
-  all_read : RanAll p o options.save (call b d l m t u had has x z) → HasAll (call a d k m s u had has x z) (Run job plan options) None
+  -- all events are those of the sources behind the texts
+  says_behind : (said : Option Said) (v w : Contents) → IsStarted job plan options p o v w → IsPlanSaid options.adapt p (grown (no_counts p) (lists_above o.border (lists_of p w))) (line_said said)
+      → IsLine (plan_said options.adapt (job ∷ if_named plan) options.resume) v p (line_said said)
   unfolding lists_behind
-  all_read ran = record {
+  says_behind said v w first is = says_line options.adapt (job ∷ if_named plan) options.resume p o v (line_said said) first.starts.opens
+      (subst (λ (left : Contents). IsPlanSaid options.adapt p (grown (no_counts p) (lists_above o.border (lists_of p left))) (line_said said)) (sym first.ready.texts.behind) is)
+
+  all_read : (said : Option Said) → RanAll p o options.save (call b d l m t u had has x z) → SaysPlan options.adapt p o said (call b d l m t u had has x z)
+      → HasAll (call a d k m s u had has x z) (Run job plan options) said
+  unfolding lists_behind
+  all_read said ran says = record {
     done = told_then (IsStarted job plan options p o)
-        (λ v w. IsAllRun p o options.save ran.text v w × TookOnly (λ name. Contains (files_of p.sources) name ⊎ IsSavedTo options.save name) v w)
-        (IsDone (Run job plan options) had has []) a b d
+        (λ v w. IsAllRun p o options.save ran.text v w × (TookOnly (λ name. Contains (files_of p.sources) name ⊎ IsSavedTo options.save name) v w
+        × IsPlanSaid options.adapt p (grown (no_counts p) (lists_above o.border (lists_of p v))) (line_said said)))
+        (IsDone (Run job plan options) had has (line_said said)) a b d
         (λ v w r first second. (
           p,
           ran.text,
@@ -272,7 +297,7 @@ module _ (job : List ℕ) (plan : Option (List ℕ)) (options : RunOptions) (p :
               start = (o, first.starts);
               sources = subst (AreSound p) (lines_same v w first) second.0.sound;
             };
-            ends = ends_behind v w r first second.0.ends second.1;
+            ends = ends_behind v w r first second.0.ends second.1.0;
             trace = λ trace named. absurd (cc);
             saved = λ name named. (
               o,
@@ -281,11 +306,15 @@ module _ (job : List ℕ) (plan : Option (List ℕ)) (options : RunOptions) (p :
             );
           },
           (o, first.starts.opens, second.0.is ∙ ap (λ (left : Contents). report p (final_outputs p o.cells (lists_above o.border (lists_of p left)))) (sym first.ready.texts.behind)),
-          refl,
+          says_behind said v w first second.1.1,
           ran.wrote,
         )) started
-        (told_both (IsAllRun p o options.save ran.text) (TookOnly (λ name. Contains (files_of p.sources) name ⊎ IsSavedTo options.save name)) b d ran.all within.others);
-    may_say = refl;
+        (told_both (IsAllRun p o options.save ran.text)
+        (λ v w. TookOnly (λ name. Contains (files_of p.sources) name ⊎ IsSavedTo options.save name) v w
+        × IsPlanSaid options.adapt p (grown (no_counts p) (lists_above o.border (lists_of p v))) (line_said said)) b d ran.all
+        (told_both (TookOnly (λ name. Contains (files_of p.sources) name ⊎ IsSavedTo options.save name)) (λ v w. IsPlanSaid options.adapt p (grown (no_counts p) (lists_above o.border (lists_of p v))) (line_said said)) b d
+        within.others says.told));
+    may_say = may_say_line options.adapt (job ∷ if_named plan) options.resume said says.may_say;
   }
 
   met : (job_read : JobRead) (fault : SourceFault) → program_read job_read ≡ p → RanToDefect p o options.save (call b d l m t u had has x z) fault
@@ -432,13 +461,13 @@ module _ (job : List ℕ) (plan : Option (List ℕ)) (options : RunOptions) (p :
       }
   refused_in_rounds (refusals.TraceFault fault) is = absurd is
 
-  pub ends_run : (result : Result (Option DrawnSteps) Refusal) → EndsRun p o options.save (call b d l m t u had has x z) result → IsEnding (call a d k m s u had has x z) (Run job plan options) result
-  ends_run (Ok steps) is = subst (λ (said : Option DrawnSteps). HasAll (call a d k m s u had has x z) (Run job plan options) said) (sym is.0) (all_read is.1)
+  pub ends_run : (result : Result (Option Said) Refusal) → EndsRun options.adapt p o options.save (call b d l m t u had has x z) result → IsEnding (call a d k m s u had has x z) (Run job plan options) result
+  ends_run (Ok said) is = all_read said is.0 is.1
   ends_run (Err refusal) is = refused_in_rounds refusal is
 
   -- ---- the names that it reads and puts
-  may_put : (result : Result (Option DrawnSteps) Refusal) → EndsRun p o options.save (call b d l m t u had has x z) result → Contains (0 ∷ 6 ∷ 7 ∷ 8 ∷ 9 ∷ 12 ∷ []) (status_after result)
-  may_put (Ok steps) is = (0, omega arith, refl)
+  may_put : (result : Result (Option Said) Refusal) → EndsRun options.adapt p o options.save (call b d l m t u had has x z) result → Contains (0 ∷ 6 ∷ 7 ∷ 8 ∷ 9 ∷ 12 ∷ []) (status_after result)
+  may_put (Ok said) is = (0, omega arith, refl)
   may_put (Err (refusals.BadWords bad)) is = absurd is
   may_put (Err (refusals.JobFault fault)) is = absurd is
   may_put (Err (refusals.Conflict fault)) is = absurd is
@@ -451,14 +480,14 @@ module _ (job : List ℕ) (plan : Option (List ℕ)) (options : RunOptions) (p :
   may_put (Err refusals.PutFault) is = (5, omega arith, refl)
   may_put (Err (refusals.TraceFault fault)) is = absurd is
 
-  pub run_fronts : (result : Result (Option DrawnSteps) Refusal) → EndsRun p o options.save (call b d l m t u had has x z) result → WhereTold a d (TookFrontsBut (IsPutAt (Run job plan options) (status_after result)))
+  pub run_fronts : (result : Result (Option Said) Refusal) → EndsRun options.adapt p o options.save (call b d l m t u had has x z) result → WhereTold a d (TookFrontsBut (IsPutAt (Run job plan options) (status_after result)))
   run_fronts result is = told_then (IsStarted job plan options p o) (TookFrontsBut (IsSavedTo options.save)) (TookFrontsBut (IsPutAt (Run job plan options) (status_after result))) a b d
       (λ v w r first second name rest other left.
       let later = second name rest (λ saved. other (saved, may_put result is)) left in
       let early = first.fronts name (later.0 ++ rest) later.1 in
       (early.0 ++ later.0, early.1 ∙ ap Some (sym (append_assoc early.0 later.0 rest)))) started within.fronts
 
-  pub run_only : (result : Result (Option DrawnSteps) Refusal) → EndsRun p o options.save (call b d l m t u had has x z) result
+  pub run_only : (result : Result (Option Said) Refusal) → EndsRun options.adapt p o options.save (call b d l m t u had has x z) result
       → WhereTold a d (TookOnly (λ name. IsReadName a (Run job plan options) name ⊎ IsPutAt (Run job plan options) (status_after result) name))
   run_only result is = told_then (IsStarted job plan options p o) (TookOnly (λ name. Contains (files_of p.sources) name ⊎ IsSavedTo options.save name))
       (TookOnly (λ name. IsReadName a (Run job plan options) name ⊎ IsPutAt (Run job plan options) (status_after result) name)) a b d

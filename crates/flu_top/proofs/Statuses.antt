@@ -1,5 +1,5 @@
 -- What an outcome says at each status.
-use Rattle.std.proofs.Common.{◌≡◌, ◌≢◌, ◌<◌, ◌≤◌, refl, sym, ◌∙◌, subst, ℕ, List, [], ◌∷◌, Bool, Option, None, Ok, Err, inl, inr, ◌⊎◌, arith}
+use Rattle.std.proofs.Common.{◌≡◌, ◌≢◌, ◌<◌, ◌≤◌, refl, sym, ◌∙◌, subst, ℕ, List, [], ◌∷◌, Bool, true, false, Option, None, Ok, Err, inl, inr, ◌⊎◌, arith}
 use Rattle.std.specs.Prelude.{Contains, IsTrue, ◌↔◌}
 use Rattle.std.proofs.lemmas.Bool.{false≢true}
 use Rattle.flu_model.specs.declared.jobs.Program.{Program}
@@ -11,7 +11,7 @@ use Rattle.flu_top.specs.declared.refusals.SaveDefect.{SaveDefect}
 use Rattle.flu_trace.specs.declared.faults.ReplayFault.{ReplayFault}
 use Rattle.flu_words.specs.Words.{Command, Fold, Check, Valid, Plan, Run, Simulate, Replay, Demo, command_in}
 use Rattle.flu_top.specs.Reading.{Reading, Unread, Whole, InRounds}
-use Rattle.flu_top.specs.Wants.{Saying, Nothing, Line, want, job_wanted, how_read, save_named, says_nothing, is_nothing}
+use Rattle.flu_top.specs.Wants.{Saying, Nothing, Line, want, job_wanted, if_named, how_read, save_named, says_nothing, is_nothing, Writes, IsObservedText, IsSomePlanText}
 use Rattle.flu_top.specs.Starting.{Leaves, LeavesAnything}
 use Rattle.flu_top.specs.Done.{IsDone, WhereKnown, Wrote, WroteSome, WroteUnsaved, WroteForMemory, WroteForPut, WrotePart}
 use Rattle.flu_top.specs.Causes.{HasJobFault, HasConflict, HasPlanDefect, HasSaveDefect, HasSourceFault, HasTraceFault}
@@ -19,6 +19,7 @@ use Rattle.flu_top.specs.Names.{source_name}
 use Rattle.flu_top.specs.Simulating.{IsLineOfRun, IsStepLine}
 use Rattle.flu_top.specs.Behind.{Named, HasJob}
 use Rattle.flu_outside.specs.Outside.{Contents, WhereTold}
+use Rattle.flu_outside.specs.Writing.{AppendsAll}
 use Rattle.flu_lemmas.proofs.Told.{told_weaker}
 use Rattle.flu_top.specs.Lines.{bad_words_line, job_fault_line, conflict_line, plan_defect_line, source_fault_line, read_fault_line, write_fault_line, no_memory_line, save_defect_line, put_fault_line, trace_fault_line}
 use Rattle.flu_top.specs.Outcome.{Outside, Said, Hears, Refused, Outcome}
@@ -323,4 +324,22 @@ heard_at_0 words old new status outcome is job plan seed trace word =
     let heard = subst (λ (d : Command). Hears (want d).says old new line) same found.4 in
     let told = told_weaker (IsDone (Simulate job plan seed trace) old.out new.out line) (λ left _. (p : Program) × HasJob (Named job) left p × IsLineOfRun job plan seed left p line) old.left new.left
     (λ x y d. (d.0, d.2.good.has, d.4)) done in
+    (line, heard.0, heard.1, told)
+
+pub adapted_at_0 : (words : List (List ℕ)) (old new : Outside) (status : ℕ) → Outcome words old new status → status ≡ 0
+    → (job : List ℕ) (plan save resume : Option (List ℕ)) → command_in words ≡ Ok (Run job plan (record { adapt = true; save = save; resume = resume }))
+    → (line : List ℕ) × IsSomePlanText line × Said old new line
+    × WhereTold old.left new.left (λ left _. (p : Program) × HasJob (Named job) left p
+    × ((text : List ℕ) × Writes (Run job plan (record { adapt = false; save = save; resume = resume })) left p text × WhereTold old.out new.out (AppendsAll text))
+    × IsObservedText (job ∷ if_named plan) resume left p line)
+adapted_at_0 words old new status outcome is job plan save resume word =
+    let whole = Run job plan (record { adapt = true; save = save; resume = resume }) in
+    let found = at_0 words old new status outcome is in
+    let line = found.1 in
+    let same = same_command words found.0 whole found.2 word in
+    let done = subst (λ (d : Command). WhereKnown (job_wanted d) old.left new.left (IsDone d old.out new.out line)) same found.3 in
+    let heard = subst (λ (d : Command). Hears (want d).says old new line) same found.4 in
+    let told = told_weaker (IsDone whole old.out new.out line) (λ left _. (p : Program) × HasJob (Named job) left p
+    × ((text : List ℕ) × Writes (Run job plan (record { adapt = false; save = save; resume = resume })) left p text × WhereTold old.out new.out (AppendsAll text))
+    × IsObservedText (job ∷ if_named plan) resume left p line) old.left new.left (λ x y d. (d.0, d.2.good.has, (d.1, d.3, d.5), d.4)) done in
     (line, heard.0, heard.1, told)

@@ -12,14 +12,15 @@ use Rattle.flu_save.specs.declared.fault.SaveFault.{SaveFault}
 use Rattle.flu_save.specs.declared.fault.SaveFault.TheVariants as saves
 use Rattle.flu_trace.specs.declared.faults.ReplayFault.{ReplayFault}
 use Rattle.flu_trace.specs.declared.faults.ReplayFault.TheVariants as traces
-use Rattle.flu_top.specs.declared.products.DrawnSteps.{DrawnSteps}
+use Rattle.flu_top.specs.declared.products.Said.{Said}
 use Rattle.flu_top.specs.declared.refusals.PlanDefect.TheVariants as defects
 use Rattle.flu_top.specs.declared.refusals.SaveDefect.TheVariants as starts
 use Rattle.flu_top.specs.declared.refusals.Refusal.{Refusal}
 use Rattle.flu_top.specs.declared.refusals.Refusal.TheVariants as refusals
 use Rattle.flu_top.specs.Jobs.{program_read}
 use Rattle.flu_top.specs.Names.{source_name}
-use Rattle.flu_top.specs.Lines.{bad_words_line, job_fault_line, conflict_line, plan_defect_line, source_fault_line, read_fault_line, write_fault_line, no_memory_line, save_defect_line, put_fault_line, trace_fault_line, step_line, IsSaid}
+use Rattle.flu_top.specs.Products.{line_of_said}
+use Rattle.flu_top.specs.Lines.{bad_words_line, job_fault_line, conflict_line, plan_defect_line, source_fault_line, read_fault_line, write_fault_line, no_memory_line, save_defect_line, put_fault_line, trace_fault_line, IsSaid}
 
 abbrev pub status_of : Refusal → ℕ
 status_of (refusals.BadWords bad) = 2
@@ -48,14 +49,14 @@ line_of refusals.PutFault = put_fault_line
 line_of (refusals.TraceFault fault) = trace_fault_line fault
 
 -- the status of a call that was done or refused
-abbrev pub status_after : Result (Option DrawnSteps) Refusal → ℕ
-status_after (Ok steps) = 0
+abbrev pub status_after : Result (Option Said) Refusal → ℕ
+status_after (Ok said) = 0
 status_after (Err refusal) = status_of refusal
 
--- what err got of a call that was done or refused: nothing, the line of its steps, or that of the refusal
-abbrev pub IsHeard : Result (Option DrawnSteps) Refusal → Option (List ℕ) → Option (List ℕ) → ℕ → ℕ → Type 0
+-- what err got of a call that was done or refused: nothing, the line of what it says, or that of the refusal
+abbrev pub IsHeard : Result (Option Said) Refusal → Option (List ℕ) → Option (List ℕ) → ℕ → ℕ → Type 0
 IsHeard (Ok None) old new before now = new ≡ old
-IsHeard (Ok (Some steps)) old new before now = IsSaid (step_line steps) old new before now
+IsHeard (Ok (Some said)) old new before now = IsSaid (line_of_said said) old new before now
 IsHeard (Err refusal) old new before now = IsSaid (line_of refusal) old new before now
 
 -- the refusal for a fault in a job text

@@ -6,7 +6,7 @@ use Rattle.flu_top.specs.declared.refusals.JobRead.{JobRead}
 use Rattle.flu_top.specs.declared.refusals.Refusal.{Refusal}
 use Rattle.flu_top.specs.declared.refusals.Refusal.TheVariants as refusals
 use Rattle.flu_words.specs.Words.{Command, command_in}
-use Rattle.flu_top.specs.declared.products.DrawnSteps.{DrawnSteps}
+use Rattle.flu_top.specs.declared.products.Said.{Said}
 use Rattle.flu_top.specs.Wants.{want, job_wanted, how_read, save_named}
 use Rattle.flu_top.specs.Products.{line_said, MaySay}
 use Rattle.flu_top.specs.Causes.{HasJobFault, HasConflict, HasPlanDefect, HasSaveDefect, HasSourceFault, HasTraceFault}
@@ -58,10 +58,10 @@ pub record HasPutFault (c : Call) (command : Command) : Type 0 where
   pub rose : Rose (c.puts name) (c.puts_after name)
   pub wrote : WroteForPut command c.left c.left_after c.taken c.taken_after
 
--- all was written, and these are the steps to be said
-pub record HasAll (c : Call) (command : Command) (steps : Option DrawnSteps) : Type 0 where
-  pub done : WhereKnown (job_wanted command) c.left c.left_after (IsDone command c.taken c.taken_after (line_said steps))
-  pub may_say : MaySay (want command).says steps
+-- all was written, and this is to be said
+pub record HasAll (c : Call) (command : Command) (said : Option Said) : Type 0 where
+  pub done : WhereKnown (job_wanted command) c.left c.left_after (IsDone command c.taken c.taken_after (line_said said))
+  pub may_say : MaySay (want command).says said
 
 -- what is true of a call of a command that was refused
 abbrev pub IsStopped : Call → Command → Refusal → Type 0
@@ -78,16 +78,16 @@ IsStopped c command refusals.PutFault = HasPutFault c command
 IsStopped c command (refusals.TraceFault fault) = HasTraceFault command c.left c.left_after fault × WroteNothing c
 
 -- what is true of a call of a command that was done or refused
-abbrev pub IsEnding : Call → Command → Result (Option DrawnSteps) Refusal → Type 0
-IsEnding c command (Ok steps) = HasAll c command steps
+abbrev pub IsEnding : Call → Command → Result (Option Said) Refusal → Type 0
+IsEnding c command (Ok said) = HasAll c command said
 IsEnding c command (Err refusal) = IsStopped c command refusal
 
 -- a call was refused for its words, before anything was done
-pub record IsRefused (c : Call) (at : ℕ) (ended : Result (Option DrawnSteps) Refusal) : Type 0 where
+pub record IsRefused (c : Call) (at : ℕ) (ended : Result (Option Said) Refusal) : Type 0 where
   pub words : ended ≡ Err (refusals.BadWords (record { at = at }))
   pub files : c.left_after ≡ c.left
   pub nothing : WroteNothing c
 
 -- how a call with some words ended: they are a command, or are none
-pub record Ends (words : List (List ℕ)) (c : Call) (ended : Result (Option DrawnSteps) Refusal) : Type 0 where
+pub record Ends (words : List (List ℕ)) (c : Call) (ended : Result (Option Said) Refusal) : Type 0 where
   pub how : ((command : Command) × (command_in words ≡ Ok command) × IsEnding c command ended) ⊎ ((at : ℕ) × (command_in words ≡ Err at) × IsRefused c at ended)

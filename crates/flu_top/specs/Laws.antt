@@ -1,5 +1,5 @@
 -- What follows from the outcome of a call: each status by itself, what was read, and what comes where nothing failed.
-use Rattle.std.specs.Prelude.{◌≡◌, ◌≢◌, ◌↔◌, ◌⊎◌, ◌<◌, ℕ, List, [], ◌∷◌, Bool, Contains, IsTrue, Option, Some, None, ◌++◌, Ok, Err}
+use Rattle.std.specs.Prelude.{◌≡◌, ◌≢◌, ◌↔◌, ◌⊎◌, ◌<◌, ℕ, List, [], ◌∷◌, Bool, true, false, Contains, IsTrue, Option, Some, None, ◌++◌, Ok, Err}
 use Rattle.flu_outside.specs.Outside.{Contents, WhereTold, Rose, Appends}
 use Rattle.flu_outside.specs.Taking.{bytes_left, TookFronts}
 use Rattle.flu_outside.specs.Writing.{AppendsAll}
@@ -26,7 +26,7 @@ use Rattle.flu_top.specs.Reading.{InRounds, HasDefect}
 use Rattle.flu_top.specs.Replaying.{CanOnlyComplete}
 use Rattle.flu_top.specs.TextFaults.{IsFirstJobFault}
 use Rattle.flu_top.specs.Starting.{StartsFrom, CanStart}
-use Rattle.flu_top.specs.Wants.{want, job_wanted, plan_named, if_named, asks_accepted, how_read, says_nothing, texts_named}
+use Rattle.flu_top.specs.Wants.{want, job_wanted, plan_named, if_named, asks_accepted, how_read, says_nothing, texts_named, Writes, IsObservedText, IsSomePlanText}
 use Rattle.flu_top.specs.Done.{HasValidPlan, HasPlanAsked, IsGood, IsDone, WhereKnown, Wrote, WroteSome, WroteForMemory, WroteForPut, WrotePart, IsReadBy, IsSavedBy, MayBePut}
 use Rattle.flu_top.specs.Causes.{HasJobFault, HasConflict, HasPlanDefect, HasSaveDefect, HasSourceFault, HasTraceFault}
 use Rattle.flu_top.specs.Names.{source_name}
@@ -62,6 +62,17 @@ SimulationIsHeard =
     → (job plan : List ℕ) (seed : ℕ) (trace : Bool) → command_in words ≡ Ok (Simulate job plan seed trace)
     → (line : List ℕ) × IsStepLine line × Said old new line
     × WhereTold old.left new.left (λ left _. (p : Program) × HasJob (Named job) left p × IsLineOfRun job plan seed left p line)
+
+-- status 0 of `run .. --adapt`: out gets what the same run without `--adapt` writes, and err the text of some plan; where the files tell
+-- what they hold, that is the text of the plan that is observed of all events of the run, above its opening
+abbrev pub AdaptedPlanIsHeard : Type 0
+AdaptedPlanIsHeard =
+    (words : List (List ℕ)) (old new : Outside) (status : ℕ) → Outcome words old new status → status ≡ 0
+    → (job : List ℕ) (plan save resume : Option (List ℕ)) → command_in words ≡ Ok (Run job plan (record { adapt = true; save = save; resume = resume }))
+    → (line : List ℕ) × IsSomePlanText line × Said old new line
+    × WhereTold old.left new.left (λ left _. (p : Program) × HasJob (Named job) left p
+    × ((text : List ℕ) × Writes (Run job plan (record { adapt = false; save = save; resume = resume })) left p text × WhereTold old.out new.out (AppendsAll text))
+    × IsObservedText (job ∷ if_named plan) resume left p line)
 
 -- status 2 comes exactly where the words are no command
 abbrev pub BadWordsExactly : Type 0
@@ -208,9 +219,9 @@ RunsWriteFronts =
 -- a run that is not resumed opens fresh, so that its report is that of the fold of all events from the empty state
 abbrev pub FreshRunsReportTheFold : Type 0
 FreshRunsReportTheFold =
-    (job : List ℕ) (plan save : Option (List ℕ)) (left : Contents) (p : Program) (o : Opening)
-    → StartsFrom (Run job plan (record { save = save; resume = None })) left p o
-    → report_from o (texts_named (Run job plan (record { save = save; resume = None }))) left p ≡ report_behind (job ∷ if_named plan) left p
+    (job : List ℕ) (plan : Option (List ℕ)) (adapt : Bool) (save : Option (List ℕ)) (left : Contents) (p : Program) (o : Opening)
+    → StartsFrom (Run job plan (record { adapt = adapt; save = save; resume = None })) left p o
+    → report_from o (texts_named (Run job plan (record { adapt = adapt; save = save; resume = None }))) left p ≡ report_behind (job ∷ if_named plan) left p
 
 -- the report up to a border and that of a run which is resumed from its checkpoint are together the report of the whole: the later
 -- events, from the state of the earlier ones

@@ -1,16 +1,22 @@
--- What is said of a product's steps on err.
+-- What a command says on err once it is done.
 use Rattle.std.specs.Prelude.{◌≡◌, List, ℕ, [], Option, Some, None}
-use Rattle.flu_top.specs.declared.products.DrawnSteps.{DrawnSteps}
+use Rattle.flu_top.specs.declared.products.Said.{Said}
+use Rattle.flu_top.specs.declared.products.Said.TheVariants.{Steps, Plan}
 use Rattle.flu_top.specs.Lines.{step_line}
 use Rattle.flu_top.specs.Wants.{Saying, Nothing, Line}
 
--- the line of some steps, and the empty one where there are none
-abbrev pub line_said : Option DrawnSteps → List ℕ
-line_said None = []
-line_said (Some steps) = step_line steps
+-- the line of what is said: that of some steps, or the text of a plan, which has its line feeds
+abbrev pub line_of_said : Said → List ℕ
+line_of_said (Steps steps) = step_line steps
+line_of_said (Plan text) = text
 
--- there are steps exactly where a line is said, and theirs has its form
-abbrev pub MaySay : Saying → Option DrawnSteps → Type 0
-MaySay Nothing steps = steps ≡ None
+-- the same, and the empty one where nothing is said
+abbrev pub line_said : Option Said → List ℕ
+line_said None = []
+line_said (Some said) = line_of_said said
+
+-- something is said exactly where a command says a line, and it has the form of that
+abbrev pub MaySay : Saying → Option Said → Type 0
+MaySay Nothing said = said ≡ None
 MaySay (Line Is IsForm) None = ⊥
-MaySay (Line Is IsForm) (Some steps) = IsForm (step_line steps)
+MaySay (Line Is IsForm) (Some said) = IsForm (line_of_said said)

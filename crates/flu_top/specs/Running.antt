@@ -1,21 +1,27 @@
--- How the rounds of a job's sources end, what they have written, and what they have put.
-use Rattle.std.specs.Prelude.{◌≡◌, ◌≢◌, ◌<◌, ◌-◌, ◌+◌, ◌^◌, ◌≤◌, ◌++◌, ◌⊎◌, ℕ, List, [], ◌∷◌, length, Option, Some, None, option_map, Result, Ok, Err, Contains, ⊤}
+-- How the rounds of a job's sources end, what they have written, what they have put, and what is said of them.
+use Rattle.std.specs.Prelude.{◌≡◌, ◌≢◌, ◌<◌, ◌-◌, ◌+◌, ◌^◌, ◌≤◌, ◌++◌, ◌⊎◌, ℕ, Bool, true, false, List, [], ◌∷◌, length, Option, Some, None, option_map, Result, Ok, Err, Contains, IsTrue, ⊤}
 use Rattle.std.specs.Option.{option_map_or}
 use Rattle.flu_outside.specs.declared.files.PutFault.TheVariants.{Failed, NoMemory as NoMemoryToPut}
 use Rattle.flu_outside.specs.Outside.{Contents as Files, WhereTold, Rose, Puts, SameLeft, SameCounts}
 use Rattle.flu_outside.specs.Taking.{bytes_left}
 use Rattle.flu_outside.specs.Writing.{AppendsAll}
+use Rattle.flu_adaptive.specs.Notes.{AdaptiveNote}
+use Rattle.flu_adaptive.specs.Observed.{IsObservedPlan}
 use Rattle.flu_cells.specs.Holding.{held}
+use Rattle.flu_deps.specs.Checking.{program_of}
 use Rattle.flu_model.specs.declared.events.Item.{Item}
 use Rattle.flu_model.specs.declared.jobs.Program.{Program}
+use Rattle.flu_model.specs.declared.plans.Node.{Node}
 use Rattle.flu_model.specs.Contents.{Contents, nothing_held}
 use Rattle.flu_model.specs.Folding.{final_state, final_outputs}
 use Rattle.flu_model.specs.Reports.{report}
 use Rattle.flu_model.specs.Sorts.{IsStateOf}
+use Rattle.flu_plan.specs.Printing.{printed}
 use Rattle.flu_streams.specs.declared.border.Border.{Border}
 use Rattle.flu_streams.specs.declared.border.Border.TheVariants.{At, Closed}
 use Rattle.flu_streams.specs.declared.faults.SourceFault.{SourceFault}
 use Rattle.flu_streams.specs.declared.held.Stage.TheVariants.{Filling}
+use Rattle.flu_streams.specs.Counts.{grown, grown_in_turn, no_counts}
 use Rattle.flu_streams.specs.Files.{files_of, OneRose}
 use Rattle.flu_streams.specs.Good.{lists_of}
 use Rattle.flu_rounds.specs.declared.faults.RoundsFault.TheVariants.{Source, ReadFault, WriteFault, NoMemory}
@@ -26,7 +32,7 @@ use Rattle.flu_save.specs.declared.fault.SaveFault.TheVariants as saves
 use Rattle.flu_save.specs.Checkpoint.{save}
 use Rattle.flu_save.specs.Forms.{IsFaultOf}
 use Rattle.flu_top.specs.declared.openings.Opening.{Opening as NamedOpening}
-use Rattle.flu_top.specs.declared.products.DrawnSteps.{DrawnSteps}
+use Rattle.flu_top.specs.declared.products.Said.{Said}
 use Rattle.flu_top.specs.declared.running.RunFault.{RunFault}
 use Rattle.flu_top.specs.declared.running.RunFault.TheVariants.{Round, Unsaved}
 use Rattle.flu_top.specs.declared.refusals.Refusal.{Refusal}
@@ -37,11 +43,12 @@ use Rattle.flu_top.specs.Done.{AppendsInto, HasValidPlan}
 use Rattle.flu_top.specs.Ending.{Call}
 use Rattle.flu_top.specs.Jobs.{program_read}
 use Rattle.flu_top.specs.Openings.{Opening, Opens}
+use Rattle.flu_top.specs.Products.{line_of_said, line_said}
 use Rattle.flu_top.specs.Reading.{HaveWritten, MeetsDefect, ReportsNext, rows_in_round, greatest_border}
 use Rattle.flu_top.specs.Ready.{AreTextsRead}
 use Rattle.flu_top.specs.Starting.{LeavesPut, LeavesAnything}
 use Rattle.flu_top.specs.Taking.{TookOnly, TookFrontsBut}
-use Rattle.flu_top.specs.Wants.{if_named}
+use Rattle.flu_top.specs.Wants.{if_named, IsSomePlanText}
 
 -- ---- before the rounds
 -- the bytes under the job's name are the text of this program, those under the plan's, where one is named, are a plan that is valid
@@ -119,12 +126,15 @@ pub record StaysWithin (p : Program) (named : Option (List ℕ)) (c : Call) : Ty
   pub others : WhereTold c.left c.left_after (TookOnly (λ name. Contains (files_of p.sources) name ⊎ IsSavedTo named name))
   pub rise : (n : List ℕ) → c.counts n ≤ c.counts_after n
 
--- a run in rounds has come to a standing, and may go on; another run's job is this one
-pub record GoesOn (p q : Program) (o : Opening) (named : Option (List ℕ)) (c : Call) (now : Standing) : Type 0 where
-  pub engine : q ≡ p
+-- a run in rounds has come to a standing, and may go on; its engine is of this job, and has counted the events of the rounds so far,
+-- where its plan follows them
+pub record GoesOn (adapts : Bool) (p : Program) (e : AdaptiveNote) (o : Opening) (named : Option (List ℕ)) (c : Call) (now : Standing) : Type 0 where
+  pub engine : program_of e.checked ≡ p
+  pub adapting : e.adapts ≡ adapts
   pub stage : now.held.stage ≡ Filling
   pub written : List ℕ
   pub came : CameFrom p rows_in_round o.border o.cells c.left c.left_after now written
+  pub counted : IsTrue adapts → e.counts ≡ grown_in_turn (no_counts p) came.done
   pub wrote : WhereTold c.taken c.taken_after (AppendsAll written)
   pub leaves : WhereTold c.left c.left_after (LeavesPut named [] (put_behind p came.done now.held.border (held now.state)))
   pub within : StaysWithin p named c
@@ -139,6 +149,28 @@ borders_above border = option_map_or (λ t. 2 ^ 63 - t) border (2 ^ 63 + 1)
 -- the items that the run has in all
 abbrev pub all_lists : Program → Opening → Files → List (List Item)
 all_lists p o left = lists_above o.border (lists_of p left)
+
+-- this is what a run says whose events have these counts: the text of the plan that is observed of them, where its plan follows them, and
+-- else nothing
+abbrev pub IsPlanSaid : Bool → Program → List ℕ → List ℕ → Type 0
+IsPlanSaid false p counts line = line ≡ []
+IsPlanSaid true p counts line = (nodes : List Node) × IsObservedPlan p counts nodes × (line ≡ printed p nodes)
+
+-- something is said exactly where the plan follows the counts, and that is the text of some plan
+abbrev pub MaySayPlan : Bool → Option Said → Type 0
+MaySayPlan false said = said ≡ None
+MaySayPlan true None = ⊥
+MaySayPlan true (Some said) = IsSomePlanText (line_of_said said)
+
+-- this is said of the counts of the rounds that were run
+pub record SaysCounts (adapts : Bool) (p : Program) (counts : List ℕ) (said : Option Said) : Type 0 where
+  pub may_say : MaySayPlan adapts said
+  pub is : IsPlanSaid adapts p counts (line_said said)
+
+-- this is said of the counts of all events
+pub record SaysPlan (adapts : Bool) (p : Program) (o : Opening) (said : Option Said) (c : Call) : Type 0 where
+  pub may_say : MaySayPlan adapts said
+  pub told : WhereTold c.left c.left_after (λ left now. IsPlanSaid adapts p (grown (no_counts p) (all_lists p o left)) (line_said said))
 
 -- no source has a defect, all files were read to their ends, this is the report of all events, and the last checkpoint was put
 pub record IsAllRun (p : Program) (o : Opening) (named : Option (List ℕ)) (text : List ℕ) (left now : Files) : Type 0 where
@@ -182,20 +214,20 @@ pub record RanUnsaved (Left : Option (List ℕ) → Files → Files → Type 0) 
   pub wrote : WhereTold c.taken c.taken_after (AppendsAll (text ++ more))
   pub round : WhereTold c.left c.left_after (λ left now. (put : Option (List ℕ)) × ReportsNext p o (lines_in p left) text put more × Left put left now)
 
-abbrev pub EndsRounds : Program → Opening → Option (List ℕ) → Call → Result (Unit {0}) RunFault → Type 0
-EndsRounds p o named c (Ok done) = RanAll p o named c
-EndsRounds p o named c (Err (Round (Source fault))) = RanToDefect p o named c fault
-EndsRounds p o named c (Err (Round ReadFault)) = OneRose (files_of p.sources) c.counts c.counts_after × RanSome p o named c
-EndsRounds p o named c (Err (Round WriteFault)) = Rose c.count c.count_after × RanInto p o named c
-EndsRounds p o named c (Err (Round NoMemory)) = RanSome p o named c
-EndsRounds p o named c (Err (Unsaved Failed)) = PutFailed named c.puts c.puts_after × RanUnsaved LeavesAnything p o named c
-EndsRounds p o named c (Err (Unsaved NoMemoryToPut)) = RanUnsaved (LeavesPut named []) p o named c
+abbrev pub EndsRounds : Bool → Program → Opening → Option (List ℕ) → Call → Result (Option Said) RunFault → Type 0
+EndsRounds adapts p o named c (Ok said) = RanAll p o named c × SaysPlan adapts p o said c
+EndsRounds adapts p o named c (Err (Round (Source fault))) = RanToDefect p o named c fault
+EndsRounds adapts p o named c (Err (Round ReadFault)) = OneRose (files_of p.sources) c.counts c.counts_after × RanSome p o named c
+EndsRounds adapts p o named c (Err (Round WriteFault)) = Rose c.count c.count_after × RanInto p o named c
+EndsRounds adapts p o named c (Err (Round NoMemory)) = RanSome p o named c
+EndsRounds adapts p o named c (Err (Unsaved Failed)) = PutFailed named c.puts c.puts_after × RanUnsaved LeavesAnything p o named c
+EndsRounds adapts p o named c (Err (Unsaved NoMemoryToPut)) = RanUnsaved (LeavesPut named []) p o named c
 
--- what one round more comes to: the next standing, or an end
-abbrev pub Steps : Program → Program → Opening → Option (List ℕ) → Call → Standing → Result Border RunFault → Type 0
-Steps p q o named c new (Ok (At t)) = GoesOn p q o named c new
-Steps p q o named c new (Ok Closed) = RanAll p o named c × StaysWithin p named c
-Steps p q o named c new (Err fault) = EndsRounds p o named c (Err fault) × StaysWithin p named c
+-- what one round more comes to, with what it says: the next standing, or an end
+abbrev pub Steps : Bool → Program → AdaptiveNote → Opening → Option (List ℕ) → Call → Standing → Option Said → Result Border RunFault → Type 0
+Steps adapts p e o named c new said (Ok (At t)) = GoesOn adapts p e o named c new
+Steps adapts p e o named c new said (Ok Closed) = EndsRounds adapts p o named c (Ok said) × StaysWithin p named c
+Steps adapts p e o named c new said (Err fault) = EndsRounds adapts p o named c (Err fault) × StaysWithin p named c
 
 -- the same where it is told as the end of a command
 abbrev pub IsRoundsRefusal : Program → Opening → Option (List ℕ) → Call → Refusal → Type 0
@@ -211,6 +243,6 @@ IsRoundsRefusal p o named c (refusals.SaveDefect defect) = ⊥
 IsRoundsRefusal p o named c refusals.PutFault = PutFailed named c.puts c.puts_after × RanUnsaved LeavesAnything p o named c
 IsRoundsRefusal p o named c (refusals.TraceFault fault) = ⊥
 
-abbrev pub EndsRun : Program → Opening → Option (List ℕ) → Call → Result (Option DrawnSteps) Refusal → Type 0
-EndsRun p o named c (Ok steps) = (steps ≡ None) × RanAll p o named c
-EndsRun p o named c (Err refusal) = IsRoundsRefusal p o named c refusal
+abbrev pub EndsRun : Bool → Program → Opening → Option (List ℕ) → Call → Result (Option Said) Refusal → Type 0
+EndsRun adapts p o named c (Ok said) = RanAll p o named c × SaysPlan adapts p o said c
+EndsRun adapts p o named c (Err refusal) = IsRoundsRefusal p o named c refusal

@@ -4,13 +4,15 @@ use Rattle.flu_outside.specs.Outside.{Contents}
 use Rattle.flu_model.specs.declared.jobs.Program.{Program}
 use Rattle.flu_model.specs.declared.plans.Node.{Node}
 use Rattle.flu_model.specs.Erasure.{job_of}
+use Rattle.flu_adaptive.specs.Observed.{IsObservedPlan}
 use Rattle.flu_parse.specs.Printing.{normal_form}
 use Rattle.flu_plan.specs.Printing.{printed}
 use Rattle.flu_planner.specs.Plans.{IsGreedyPlan}
+use Rattle.flu_streams.specs.Counts.{grown, no_counts}
 use Rattle.flu_streams.specs.Files.{files_of}
 use Rattle.flu_words.specs.Words.{Command, Fold, Check, Valid, Plan, Run, Simulate, Replay, Demo}
 use Rattle.flu_top.specs.Behind.{WantedJob, Named, Fixed, HasPlan, job_files, report_behind}
-use Rattle.flu_top.specs.Openings.{Opening, Opens, report_from}
+use Rattle.flu_top.specs.Openings.{Opening, Opens, lists_from, report_from}
 use Rattle.flu_top.specs.Rates.{source_rates}
 use Rattle.flu_top.specs.Reading.{Reading, Unread, Whole, InRounds, is_read}
 use Rattle.flu_top.specs.Simulating.{IsLineOfRun, IsStepLine, IsTraceOfRun}
@@ -48,6 +50,22 @@ pub data Saying : Type 1 where
   Nothing : Saying
   Line : (Is : Contents → Program → List ℕ → Type 0) → (IsForm : List ℕ → Type 0) → Saying
 
+-- this is the text of the plan that is observed of all events of a run: those of its sources' items, above the border of the checkpoint
+-- where it is resumed from one, which is read behind some texts; and then the sources
+abbrev pub IsObservedText : List (List ℕ) → Option (List ℕ) → Contents → Program → List ℕ → Type 0
+IsObservedText texts resume left p line =
+    (o : Opening) × Opens resume texts left p o
+    × ((nodes : List Node) × IsObservedPlan p (grown (no_counts p) (lists_from o (texts ++ if_named resume) left p)) nodes × (line ≡ printed p nodes))
+
+-- this is the text of some plan
+abbrev pub IsSomePlanText : List ℕ → Type 0
+IsSomePlanText line = (p : Program) × (nodes : List Node) × (line ≡ printed p nodes)
+
+-- what a run says: the text of the plan that its events ask for, where its plan follows them
+abbrev pub plan_said : Bool → List (List ℕ) → Option (List ℕ) → Saying
+plan_said false texts resume = Nothing
+plan_said true texts resume = Line (IsObservedText texts resume) IsSomePlanText
+
 -- what a command wants
 pub record Want : Type 1 where
   -- its job, and whether that has to be accepted
@@ -68,9 +86,10 @@ pub record Want : Type 1 where
   pub says : Saying
 
 -- the report of the fold; the normal form of the job; the normal form of the plan; the text of a greedy plan; the report of
--- the fold again, which a run on the tree of threads gives too, from a checkpoint where it is resumed from one; and so does a run on
--- the net, whose steps are said on err, and whose trace is written where that is asked for; the report of the fold again, by the
--- steps of a trace; the summary of the report of what a seed draws, for which no file is read
+-- the fold again, which a run on the tree of threads gives too, from a checkpoint where it is resumed from one, and the plan that its
+-- events ask for is said on err where its plan follows them; and so does a run on the net, whose steps are said on err, and whose trace
+-- is written where that is asked for; the report of the fold again, by the steps of a trace; the summary of the report of what a seed
+-- draws, for which no file is read
 abbrev pub want : Command → Want
 want (Fold job) = record {
   job = Named job;
@@ -125,7 +144,7 @@ want (Run job plan options) = record {
   resume = options.resume;
   trace = None;
   writes = λ left p text. IsReportOfRun (job ∷ if_named plan) options.resume left p text;
-  says = Nothing;
+  says = plan_said options.adapt (job ∷ if_named plan) options.resume;
 }
 want (Simulate job plan seed trace) = record {
   job = Named job;

@@ -13,7 +13,7 @@ use crate::checking::check_job;
 use crate::demo::demo;
 use crate::folding::fold_job;
 use crate::planning::plan_job;
-use crate::products::{DrawnSteps, Product};
+use crate::products::{Product, Said};
 use crate::refusals::Refusal;
 use crate::replaying::replay_planned;
 use crate::running::run_job;
@@ -28,7 +28,7 @@ use std::alloc::Global;
 use std::sync::Wait;
 use std::thread::Threads;
 
-/// Does a command: writes what it produces to `out`, and answers the steps that are to be said on err, if there are any.
+/// Does a command: writes what it produces to `out`, and answers what is to be said on err, if there is anything.
 pub fn run<F: Files, K: Sink, G: Gate, R: Threads + Wait + Sync>(
     rt: &R,
     alloc: Global,
@@ -36,7 +36,7 @@ pub fn run<F: Files, K: Sink, G: Gate, R: Threads + Wait + Sync>(
     out: &mut K,
     command: Command,
     gate: &G,
-) -> Result<Option<DrawnSteps>, Refusal>
+) -> Result<Option<Said>, Refusal>
     ensures ends { IsEnding (call (F.left files.old) (F.left files.new) (F.faults files.old) (F.faults files.new) (F.put_faults files.old) (F.put_faults files.new) (K.taken out.old) (K.taken out.new) (K.faults out.old) (K.faults out.new)) (plain_command command.entry) result }
     ensures fronts { WhereTold (F.left files.old) (F.left files.new) (TookFrontsBut (IsPutAt (plain_command command.entry) (status_after result))) }
     ensures only { WhereTold (F.left files.old) (F.left files.new) (TookOnly (λ name. IsReadName (F.left files.old) (plain_command command.entry) name ⊎ IsPutAt (plain_command command.entry) (status_after result) name)) }
@@ -63,23 +63,17 @@ pub fn run<F: Files, K: Sink, G: Gate, R: Threads + Wait + Sync>(
 }
 
 // Writes a text, where nothing refused it.
-fn put_text<K: Sink>(
-    out: &mut K,
-    text: Result<Text, Refusal>,
-) -> Result<Option<DrawnSteps>, Refusal>
+fn put_text<K: Sink>(out: &mut K, text: Result<Text, Refusal>) -> Result<Option<Said>, Refusal>
     ensures { IsPut (as_product text) (K.taken out.old) (K.taken out.new) (K.faults out.old) (K.faults out.new) result }
 {
     match text {
-        Ok(text) => put(out, Ok(Product { text, steps: None })),
+        Ok(text) => put(out, Ok(Product { text, says: None })),
         Err(refusal) => Err(refusal),
     }
 }
 
 // Writes the text of what a command produced, where nothing refused it.
-fn put<K: Sink>(
-    out: &mut K,
-    produced: Result<Product, Refusal>,
-) -> Result<Option<DrawnSteps>, Refusal>
+fn put<K: Sink>(out: &mut K, produced: Result<Product, Refusal>) -> Result<Option<Said>, Refusal>
     ensures { IsPut produced (K.taken out.old) (K.taken out.new) (K.faults out.old) (K.faults out.new) result }
 {
     let product = match produced {
@@ -87,7 +81,7 @@ fn put<K: Sink>(
         Err(refusal) => return Err(refusal),
     };
     match write_all(out, product.text.as_str().as_bytes()) {
-        Ok(()) => Ok(product.steps),
+        Ok(()) => Ok(product.says),
         Err(_) => Err(Refusal::WriteFault),
     }
 }

@@ -29,8 +29,8 @@ pub fn demo<G: Gate, R: Threads + Wait + Sync>(
     seed: Seed,
     gate: &G,
 ) -> Result<Product, Refusal>
-    ensures written { IfOk result (λ product. (left : Contents) → IsWritten (Demo draws.count seed.number) product.text (line_said product.steps) left left) }
-    ensures says { IfOk result (λ product. MaySay (want (Demo draws.count seed.number)).says product.steps) }
+    ensures written { IfOk result (λ product. (left : Contents) → IsWritten (Demo draws.count seed.number) product.text (line_said product.says) left left) }
+    ensures says { IfOk result (λ product. MaySay (want (Demo draws.count seed.number)).says product.says) }
     ensures refused { IfErr result (λ refusal. refusal ≡ Refusal.NoMemory) }
 {
     let program = demo_job(alloc)?;
@@ -42,7 +42,7 @@ pub fn demo<G: Gate, R: Threads + Wait + Sync>(
     let report = tree_report(rt, alloc, &planned, &streams, gate)?;
     let n = u64::from(draws.count);
     let text = summary(alloc, n + n / 1000 + 1, report.as_str())?;
-    Ok(Product { text, steps: None })
+    Ok(Product { text, says: None })
 }
 
 // The summary of the report of so many events.

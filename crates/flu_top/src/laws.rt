@@ -1,7 +1,7 @@
 //! What follows from the outcome of a call of `flumina`: what each status says by itself, what was read, and what comes where nothing
 //! failed. Each law is the contract of a function that does nothing.
 
-ghost use Rattle.flu_top.specs.Laws.{KnownStatuses, DoneIsDone, DoneIsQuiet, SimulationIsHeard, DemoReadsNothing, DemoStatuses, DemoIsDone, BadWordsExactly, BadWordsLine, BadWordsTouchNothing, JobFaultIsFirst, ConflictIsFirst, PlanDefectIsFirst, SaveDefectIsFirst, SourceFaultIsFirst, TraceFaultIsFirst, ReadFaultRose, ReadFaultLine, WriteFaultRose, WriteFaultIsPart, WriteFaultLine, PutFaultRose, PutFaultIsBehindARound, NoMemoryLine, NothingIsWritten, RefusalsWriteNothing, SomeIsWritten, SomeIsWrittenForMemory, RunsWriteFronts, FreshRunsReportTheFold, ResumedRunsGoOn, FrontsAreTaken, NoOtherIsRead, GoodIsDone, JobFaultIsRefused, ConflictIsRefused, PlanDefectIsRefused, SaveDefectIsRefused, SourceFaultIsRefused, TraceFaultIsRefused, CompletesByFaults, CallsForOneStatus};
+ghost use Rattle.flu_top.specs.Laws.{KnownStatuses, DoneIsDone, DoneIsQuiet, SimulationIsHeard, AdaptedPlanIsHeard, DemoReadsNothing, DemoStatuses, DemoIsDone, BadWordsExactly, BadWordsLine, BadWordsTouchNothing, JobFaultIsFirst, ConflictIsFirst, PlanDefectIsFirst, SaveDefectIsFirst, SourceFaultIsFirst, TraceFaultIsFirst, ReadFaultRose, ReadFaultLine, WriteFaultRose, WriteFaultIsPart, WriteFaultLine, PutFaultRose, PutFaultIsBehindARound, NoMemoryLine, NothingIsWritten, RefusalsWriteNothing, SomeIsWritten, SomeIsWrittenForMemory, RunsWriteFronts, FreshRunsReportTheFold, ResumedRunsGoOn, FrontsAreTaken, NoOtherIsRead, GoodIsDone, JobFaultIsRefused, ConflictIsRefused, PlanDefectIsRefused, SaveDefectIsRefused, SourceFaultIsRefused, TraceFaultIsRefused, CompletesByFaults, CallsForOneStatus};
 
 use flu_grammar::laws::{jobs_are_grammar, plans_are_grammar};
 use flu_rounds::fronts_of_reports;
@@ -19,11 +19,13 @@ pub fn of_statuses()
 {}
 
 /// Status 0: all that the command reads was read to its end, what it writes stands in out, and err is untouched, but by `simulate`,
-/// which says the line of its steps.
+/// which says the line of its steps, and by `run .. --adapt`, which writes what it writes without that, and says the plan that its
+/// events ask for.
 pub fn of_done()
     ensures done { DoneIsDone }
     ensures quiet { DoneIsQuiet }
     ensures steps { SimulationIsHeard }
+    ensures plan { AdaptedPlanIsHeard }
 {}
 
 /// `demo` reads no file, so that no file can refuse it: its status is 0, 8 or 9. At status 0 the summary of the report of what the seed

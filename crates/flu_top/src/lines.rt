@@ -6,11 +6,12 @@ ghost use Rattle.flu_outside.specs.Writing.{Writes};
 ghost use Rattle.flu_top.specs.Lines.{what_word, limit_text, bad_words_line, fault_line, job_fault_line, conflict_line, row_line, source_fault_line, save_line, save_fault_text, save_defect_line, trace_line, trace_fault_line, step_line, IsSaid};
 ghost use Rattle.flu_streams.specs.declared.faults.Why.{Why};
 ghost use Rattle.flu_top.specs.Answer.{line_of};
+ghost use Rattle.flu_top.specs.Products.{line_of_said};
 
 use crate::names::{source_name, write_cell, write_tag};
 use crate::pieces::{digits_of, write_counts, write_pieces};
 use crate::plan_lines::write_plan_defect;
-use crate::products::DrawnSteps;
+use crate::products::{DrawnSteps, Said};
 use crate::refusals::{Refusal, SaveDefect};
 use flu_check::CheckFault;
 use flu_model::What;
@@ -39,13 +40,23 @@ pub fn say<E: Sink>(err: &mut E, refusal: &Refusal)
     }
 }
 
-/// Says the steps of a run that a seed drew on err, in a line that takes no memory.
-pub fn say_steps<E: Sink>(err: &mut E, steps: DrawnSteps)
-    ensures { IsSaid (step_line steps) (E.taken err.old) (E.taken err.new) (E.faults err.old) (E.faults err.new) }
+/// Says on err what a command says once it is done, which takes no memory.
+pub fn say_done<E: Sink>(err: &mut E, said: &Said)
+    ensures { IsSaid (line_of_said said.now) (E.taken err.old) (E.taken err.new) (E.faults err.old) (E.faults err.new) }
 {
-    match write_steps(err, steps) {
+    match write_said(err, said) {
         Ok(()) => (),
         Err(_) => (),
+    }
+}
+
+// Writes what a command says once it is done.
+fn write_said<E: Sink>(err: &mut E, said: &Said) -> Result<(), Failed>
+    ensures { Writes (line_of_said said.now) (E.taken err.old) (E.taken err.new) (E.faults err.old) (E.faults err.new) result }
+{
+    match said {
+        Said::Steps(steps) => write_steps(err, *steps),
+        Said::Plan(text) => write_all(err, text.as_str().as_bytes()),
     }
 }
 

@@ -10,11 +10,20 @@ pub struct DrawnSteps {
     pub mark: u32,
 }
 
+/// What a command says on err once it is done.
+#[derive(Drop)]
+pub enum Said {
+    /// The steps of a run that a seed drew.
+    Steps(DrawnSteps),
+    /// The text of the plan in force at the end of a run whose plan follows the counts.
+    Plan(Text),
+}
+
 /// What a command produces that nothing refuses.
 #[derive(Drop)]
 pub struct Product {
     /// The text for out.
     pub text: Text,
-    /// The steps whose line err gets once the text is written; none where the command says nothing.
-    pub steps: Option<DrawnSteps>,
+    /// What err gets once the text is written; none where the command says nothing.
+    pub says: Option<Said>,
 }

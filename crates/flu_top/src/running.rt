@@ -1,6 +1,6 @@
-//! `run JOB [PLAN] [--save FILE] [--resume FILE]`: the report of a run of a job's events on the tree of threads, in rounds.
+//! `run JOB [PLAN] [--adapt] [--save FILE] [--resume FILE]`: the report of a run of a job's events on the tree of threads, in rounds.
 
-ghost use Rattle.std.specs.Prelude.{◌≡◌, ◌≢◌, ◌<◌, ◌≤◌, ◌⊎◌, ℕ, option_map, length, List, ◌∷◌, Option, Some, None, Ok, Err, IfOk, IfErr, OnOk, IsErrOf};
+ghost use Rattle.std.specs.Prelude.{◌≡◌, ◌≢◌, ◌<◌, ◌≤◌, ◌⊎◌, ℕ, Bool, option_map, length, List, ◌∷◌, Option, Some, None, Ok, Err, IfOk, IfErr, OnOk, IsErrOf, IsTrue};
 ghost use Rattle.flu_outside.specs.Outside.{Contents, WhereTold, Rose, SameCounts};
 ghost use Rattle.flu_outside.specs.Taking.{TakesFrom, TookFronts};
 ghost use Rattle.flu_outside.specs.Writing.{AppendsAll, AppendsPart};
@@ -11,16 +11,18 @@ ghost use Rattle.flu_model.specs.Itags.{count_of_itags};
 ghost use Rattle.flu_model.specs.Listed.{listed};
 ghost use Rattle.flu_model.specs.Modes.{IsAccepted};
 ghost use Rattle.flu_model.specs.Reports.{report};
+ghost use Rattle.flu_adaptive.specs.Observed.{IsObservedPlan};
 ghost use Rattle.flu_cells.specs.Holding.{held};
 ghost use Rattle.flu_deps.specs.Checking.{program_of};
-ghost use Rattle.flu_deps.specs.Validated.{IsValidFor};
+ghost use Rattle.flu_deps.specs.Validated.{plan_of, IsValidFor};
 ghost use Rattle.flu_rows.specs.declared.rows.Next.{Next};
 ghost use Rattle.flu_streams.specs.declared.border.Border.{Border};
 ghost use Rattle.flu_streams.specs.declared.held.Stage.{Stage};
+ghost use Rattle.flu_streams.specs.Counts.{grown, no_counts};
 ghost use Rattle.flu_streams.specs.Files.{files_of, LeavesOthers, OneRose};
 ghost use Rattle.flu_streams.specs.Holding.{AreHeldBehind, ClosedAreReadOut, AreClosed, IsNewBorder};
 ghost use Rattle.flu_rounds.specs.declared.faults.RoundsFault.{RoundsFault};
-ghost use Rattle.flu_rounds.specs.Standing.{round_report, Runs, IsFirstFrom, IsRoundOf, IsSourceFault, StandsBehind};
+ghost use Rattle.flu_rounds.specs.Standing.{round_lists, round_report, Runs, IsFirstFrom, IsRoundOf, IsSourceFault, StandsBehind};
 ghost use Rattle.flu_words.specs.Words.{Run, RunOptions as PlainOptions, plain_options};
 ghost use Rattle.flu_top.specs.Taking.{TookOnly, TookFrontsBut};
 ghost use Rattle.flu_top.specs.Answer.{status_after};
@@ -29,28 +31,31 @@ ghost use Rattle.flu_top.specs.Ending.{call, IsEnding};
 ghost use Rattle.flu_top.specs.Openings.{Opening as PlainOpening};
 ghost use Rattle.flu_top.specs.Reading.{rows_in_round};
 ghost use Rattle.flu_top.specs.Refusing.{IsRefusal};
-ghost use Rattle.flu_top.specs.Running.{EndsRounds, EndsRun, GoesOn, IsBegun, IsOpening, StaysWithin, Steps, borders_above, plain_opening};
+ghost use Rattle.flu_top.specs.Running.{EndsRounds, EndsRun, GoesOn, IsBegun, IsOpening, SaysCounts, StaysWithin, Steps, borders_above, plain_opening};
 ghost use Rattle.flu_top.specs.Starting.{IsNoSource};
 ghost use Rattle.flu_top.specs.Wants.{if_named};
 
 use crate::backup::Backup;
 use crate::openings::{Opening, opening_of, same_name};
 use crate::planned::{Planned, planned_by, planned_greedily};
-use crate::products::DrawnSteps;
+use crate::products::Said;
 use crate::programs::program_of;
 use crate::refusals::{JobRead, Refusal, SaveDefect};
 use crate::saves::put_checkpoint;
+use flu_adaptive::Adaptive;
 use flu_cells::State;
+use flu_deps::{Checked, Valid};
 use flu_model::{Program, Streams, Text};
 use flu_outside::{Files, PutFault, Sink};
+use flu_plan::print_plan;
 use flu_report::report_text;
 use flu_rounds::{
     Begun, Border, Rounds, RoundsFault, halves_make_a_round, other_names_leave_runs_alone,
-    resumed_runs_go_on, resumed_runs_write_the_fold,
+    resumed_runs_go_on, resumed_runs_write_the_fold, runs_count_their_events,
 };
 use flu_run::TreeEngine;
 use flu_seq::{Engine, Gate};
-use flu_streams::rounds_are_folded_in_turn;
+use flu_streams::{rounds_are_counted_in_turn, rounds_are_folded_in_turn};
 use flu_words::{RunOptions, USUAL_DEPTH};
 use std::alloc::{AllocError, Global};
 use std::sync::Wait;
@@ -69,7 +74,8 @@ enum RunFault {
 }
 
 /// Writes the report of the job that a file holds, which is run by the plan that another file holds, or by its greedy plan where none
-/// is named: from its opening, and with a checkpoint behind each round where it saves.
+/// is named: from its opening, and with a checkpoint behind each round where it saves. Where its plan follows the events that were run, it
+/// answers the text of the plan in force at the end.
 pub fn run_job<F: Files, K: Sink, G: Gate, R: Threads + Wait + Sync>(
     rt: &R,
     alloc: Global,
@@ -79,7 +85,7 @@ pub fn run_job<F: Files, K: Sink, G: Gate, R: Threads + Wait + Sync>(
     plan: Option<&str>,
     options: RunOptions<'_>,
     gate: &G,
-) -> Result<Option<DrawnSteps>, Refusal>
+) -> Result<Option<Said>, Refusal>
     ensures ends { IsEnding (call (F.left files.old) (F.left files.new) (F.faults files.old) (F.faults files.new) (F.put_faults files.old) (F.put_faults files.new) (K.taken out.old) (K.taken out.new) (K.faults out.old) (K.faults out.new)) (Run job.now (option_map (λ name. name.now) plan.entry) (plain_options options.entry)) result }
     ensures fronts { WhereTold (F.left files.old) (F.left files.new) (TookFrontsBut (IsPutAt (Run job.now (option_map (λ name. name.now) plan.entry) (plain_options options.entry)) (status_after result))) }
     ensures only { WhereTold (F.left files.old) (F.left files.new) (TookOnly (λ name. IsReadName (F.left files.old) (Run job.now (option_map (λ name. name.now) plan.entry) (plain_options options.entry)) name ⊎ IsPutAt (Run job.now (option_map (λ name. name.now) plan.entry) (plain_options options.entry)) (status_after result) name)) }
@@ -95,7 +101,17 @@ pub fn run_job<F: Files, K: Sink, G: Gate, R: Threads + Wait + Sync>(
         Ok(opening) => opening,
         Err(refusal) => return Err(refusal),
     };
-    run_in_rounds(rt, alloc, files, out, planned, opening, options.save, gate)
+    run_in_rounds(
+        rt,
+        alloc,
+        files,
+        out,
+        planned,
+        opening,
+        options.save,
+        options.adapt,
+        gate,
+    )
 }
 
 // The job that a file holds with the plan that another file holds, or with its greedy plan where none is named.
@@ -137,7 +153,8 @@ fn greedily<F: Files>(alloc: Global, files: &mut F, job: &str) -> Result<Planned
     }
 }
 
-// Writes the report of a job by a plan over its sources' files, from an opening.
+// Writes the report of a job over its sources' files, from an opening, first by a plan, which follows the events that were run where the
+// run adapts.
 fn run_in_rounds<F: Files, K: Sink, G: Gate, R: Threads + Wait + Sync>(
     rt: &R,
     alloc: Global,
@@ -146,18 +163,22 @@ fn run_in_rounds<F: Files, K: Sink, G: Gate, R: Threads + Wait + Sync>(
     planned: Planned,
     opening: Opening,
     save: Option<&str>,
+    adapts: bool,
     gate: &G,
-) -> Result<Option<DrawnSteps>, Refusal>
+) -> Result<Option<Said>, Refusal>
     requires valid { IsValidFor (program_of planned.checked) planned.valid }
     requires opening { IsOpening (program_of planned.checked) (plain_opening opening) }
     requires apart { IsNoSource (option_map (λ name. name.now) save) (program_of planned.checked) }
-    ensures ends { EndsRun (program_of planned.checked) (plain_opening opening) (option_map (λ name. name.now) save.entry) (call (F.left files.old) (F.left files.new) (F.faults files.old) (F.faults files.new) (F.put_faults files.old) (F.put_faults files.new) (K.taken out.old) (K.taken out.new) (K.faults out.old) (K.faults out.new)) result }
+    ensures ends { EndsRun adapts (program_of planned.checked) (plain_opening opening) (option_map (λ name. name.now) save.entry) (call (F.left files.old) (F.left files.new) (F.faults files.old) (F.faults files.new) (F.put_faults files.old) (F.put_faults files.new) (K.taken out.old) (K.taken out.new) (K.faults out.old) (K.faults out.new)) result }
     ensures within { StaysWithin (program_of planned.checked) (option_map (λ name. name.now) save.entry) (call (F.left files.old) (F.left files.new) (F.faults files.old) (F.faults files.new) (F.put_faults files.old) (F.put_faults files.new) (K.taken out.old) (K.taken out.new) (K.faults out.old) (K.faults out.new)) }
 {
-    match rounds(rt, alloc, files, out, &planned, opening, save, gate) {
-        Ok(()) => Ok(None),
+    let Planned { checked, valid } = planned;
+    match rounds(
+        rt, alloc, files, out, &checked, valid, opening, save, adapts, gate,
+    ) {
+        Ok(said) => Ok(said),
         Err(RunFault::Round(RoundsFault::Source(fault))) => {
-            Err(Refusal::SourceFault(JobRead::Accepted(planned.checked), fault))
+            Err(Refusal::SourceFault(JobRead::Accepted(checked), fault))
         }
         Err(RunFault::Round(RoundsFault::ReadFault)) => Err(Refusal::ReadFault),
         Err(RunFault::Round(RoundsFault::WriteFault)) => Err(Refusal::WriteFault),
@@ -166,29 +187,62 @@ fn run_in_rounds<F: Files, K: Sink, G: Gate, R: Threads + Wait + Sync>(
     }
 }
 
-// Runs all rounds of a job's sources, each of which writes its report, and then puts its checkpoint.
+// Runs all rounds of a job's sources, each of which writes its report, and then puts its checkpoint; and answers what is said of them.
 fn rounds<F: Files, K: Sink, G: Gate, R: Threads + Wait + Sync>(
     rt: &R,
     alloc: Global,
     files: &mut F,
     out: &mut K,
-    planned: &Planned,
+    checked: &Checked,
+    valid: Valid,
     opening: Opening,
     save: Option<&str>,
+    adapts: bool,
     gate: &G,
-) -> Result<(), RunFault>
-    requires valid { IsValidFor (program_of planned.now.checked) planned.now.valid }
-    requires opening { IsOpening (program_of planned.now.checked) (plain_opening opening) }
-    requires apart { IsNoSource (option_map (λ name. name.now) save) (program_of planned.now.checked) }
-    ensures ends { EndsRounds (program_of planned.now.checked) (plain_opening opening) (option_map (λ name. name.now) save.entry) (call (F.left files.old) (F.left files.new) (F.faults files.old) (F.faults files.new) (F.put_faults files.old) (F.put_faults files.new) (K.taken out.old) (K.taken out.new) (K.faults out.old) (K.faults out.new)) result }
-    ensures within { StaysWithin (program_of planned.now.checked) (option_map (λ name. name.now) save.entry) (call (F.left files.old) (F.left files.new) (F.faults files.old) (F.faults files.new) (F.put_faults files.old) (F.put_faults files.new) (K.taken out.old) (K.taken out.new) (K.faults out.old) (K.faults out.new)) }
+) -> Result<Option<Said>, RunFault>
+    requires valid { IsValidFor (program_of checked.now) valid }
+    requires opening { IsOpening (program_of checked.now) (plain_opening opening) }
+    requires apart { IsNoSource (option_map (λ name. name.now) save) (program_of checked.now) }
+    ensures ends { EndsRounds adapts (program_of checked.now) (plain_opening opening) (option_map (λ name. name.now) save.entry) (call (F.left files.old) (F.left files.new) (F.faults files.old) (F.faults files.new) (F.put_faults files.old) (F.put_faults files.new) (K.taken out.old) (K.taken out.new) (K.faults out.old) (K.faults out.new)) result }
+    ensures within { StaysWithin (program_of checked.now) (option_map (λ name. name.now) save.entry) (call (F.left files.old) (F.left files.new) (F.faults files.old) (F.faults files.new) (F.put_faults files.old) (F.put_faults files.new) (K.taken out.old) (K.taken out.new) (K.faults out.old) (K.faults out.new)) }
 {
     resumed_runs_go_on();
     rounds_are_folded_in_turn();
-    let mut engine = engine_of(planned, gate);
-    let mut rounds = first(alloc, planned.checked.program(), opening)?;
-    while let Border::At(_) = saved_round(rt, alloc, files, out, &mut rounds, &mut engine, save)? {}
-    Ok(())
+    let mut engine = adaptive_of(alloc, checked, valid, adapts, gate)?;
+    let mut rounds = first(alloc, checked.program(), opening)?;
+    let mut said = None;
+    while let Border::At(_) = saved_round(
+        rt,
+        alloc,
+        files,
+        out,
+        &mut rounds,
+        &mut engine,
+        save,
+        &mut said,
+    )? {}
+    Ok(said)
+}
+
+// The engine of a run in rounds. Where a thread is refused the job is folded.
+fn adaptive_of<'a, G: Gate, R: Threads + Wait + Sync>(
+    alloc: Global,
+    checked: &'a Checked,
+    valid: Valid,
+    adapts: bool,
+    gate: &'a G,
+) -> Result<Adaptive<'a, G, R, Backup<'a>>, RunFault>
+    requires { IsValidFor (program_of checked.now) valid }
+    ensures checked { IfOk result (λ engine. engine.checked ≡ checked.now) }
+    ensures adapts { IfOk result (λ engine. engine.adapts ≡ adapts) }
+    ensures counts { IfOk result (λ engine. engine.counts ≡ no_counts (program_of checked.now)) }
+    ensures no_memory { IfErr result (λ fault. fault ≡ RunFault.Round RoundsFault.NoMemory) }
+{
+    let backup = Backup {
+        program: checked.program(),
+    };
+    let made = Adaptive::new(alloc, checked, valid, gate, backup, adapts);
+    made.map_err(|_| RunFault::Round(RoundsFault::NoMemory))
 }
 
 // A run before its first round, from its opening.
@@ -204,38 +258,35 @@ fn first(alloc: Global, program: &Program, opening: Opening) -> Result<Rounds, R
     made.map_err(|_| RunFault::Round(RoundsFault::NoMemory))
 }
 
-// Runs one round, which writes its report, and puts its checkpoint.
-fn saved_round<F: Files, K: Sink, G: Gate, R: Threads + Wait + Sync, B: Engine<R>>(
+// Runs one round, which writes its report, and puts its checkpoint; and finds what is said behind it.
+fn saved_round<F: Files, K: Sink, G: Gate, R: Threads + Wait + Sync, B: Engine<R> + Drop>(
     rt: &R,
     alloc: Global,
     files: &mut F,
     out: &mut K,
     rounds: &mut Rounds,
-    engine: &mut TreeEngine<G, R, B>,
+    engine: &mut Adaptive<G, R, B>,
     save: Option<&str>,
+    said: &mut Option<Said>,
 ) -> Result<Border, RunFault>
-    requires program { program_of engine.old.checked.now ≡ rounds.old.held.program }
+    requires program { program_of engine.old.checked ≡ rounds.old.held.program }
     requires stage { rounds.old.held.stage ≡ Stage.Filling }
-    ensures steps { (p : Program) (o : PlainOpening) (a : Option Contents) (k s : List ℕ → ℕ) (had : Option (List ℕ)) (x : ℕ) → IsNoSource (option_map (λ name. name.now) save.entry) p
-        → GoesOn p (program_of engine.old.checked.now) o (option_map (λ name. name.now) save.entry) (call a (F.left files.old) k (F.faults files.old) s (F.put_faults files.old) had (K.taken out.old) x (K.faults out.old)) rounds.old
-        → Steps p (program_of engine.new.checked.now) o (option_map (λ name. name.now) save.entry) (call a (F.left files.new) k (F.faults files.new) s (F.put_faults files.new) had (K.taken out.new) x (K.faults out.new)) rounds.new result }
+    ensures steps { (adapts : Bool) (p : Program) (o : PlainOpening) (a : Option Contents) (k s : List ℕ → ℕ) (had : Option (List ℕ)) (x : ℕ) → IsNoSource (option_map (λ name. name.now) save.entry) p
+        → GoesOn adapts p engine.old o (option_map (λ name. name.now) save.entry) (call a (F.left files.old) k (F.faults files.old) s (F.put_faults files.old) had (K.taken out.old) x (K.faults out.old)) rounds.old
+        → Steps adapts p engine.new o (option_map (λ name. name.now) save.entry) (call a (F.left files.new) k (F.faults files.new) s (F.put_faults files.new) had (K.taken out.new) x (K.faults out.new)) rounds.new said.new result }
     ensures smaller { (t : ℕ) → result ≡ Ok (Border.At t) → borders_above rounds.new.held.border < borders_above rounds.old.held.border }
 {
     resumed_runs_go_on();
     resumed_runs_write_the_fold();
     other_names_leave_runs_alone();
-    let end = match round(rt, alloc, files, out, rounds, engine) {
+    rounds_are_counted_in_turn();
+    runs_count_their_events();
+    let end = match round(rt, alloc, files, out, rounds, engine, said) {
         Ok(end) => end,
         Err(fault) => return Err(RunFault::Round(fault)),
     };
-    match put_checkpoint(
-        alloc,
-        files,
-        engine.checked.program(),
-        save,
-        end,
-        rounds.state(),
-    ) {
+    let program = engine.checked().program();
+    match put_checkpoint(alloc, files, program, save, end, rounds.state()) {
         Ok(()) => Ok(end),
         Err(fault) => Err(RunFault::Unsaved(fault)),
     }
@@ -255,26 +306,32 @@ fn engine_of<'a, G: Gate, R: Threads + Wait + Sync>(
     TreeEngine::new(&planned.checked, &planned.valid, gate, backup)
 }
 
-// Runs one round on the tree of threads, as `Rounds::round` does on an engine.
-fn round<F: Files, K: Sink, G: Gate, R: Threads + Wait + Sync, B: Engine<R>>(
+// Runs one round on the tree of threads, as `Rounds::round` does on an engine; and finds what is said behind it, before the report is
+// written, since that may want memory.
+fn round<F: Files, K: Sink, G: Gate, R: Threads + Wait + Sync, B: Engine<R> + Drop>(
     rt: &R,
     alloc: Global,
     files: &mut F,
     out: &mut K,
     rounds: &mut Rounds,
-    engine: &mut TreeEngine<G, R, B>,
+    engine: &mut Adaptive<G, R, B>,
+    said: &mut Option<Said>,
 ) -> Result<Border, RoundsFault>
-    requires program { program_of engine.old.checked.now ≡ rounds.old.held.program }
+    requires program { program_of engine.old.checked ≡ rounds.old.held.program }
     requires stage { rounds.old.held.stage ≡ Stage.Filling }
 
+    // Where the plan follows the counts, they have grown by the events of the round.
     ensures written { IfOk result (λ end. (before : ℕ → List Next) → AreHeldBehind rounds.old.held before
         → (runs : Runs rounds.old rounds.new (F.left files.old) (F.left files.new) end before)
-        × WhereTold (K.taken out.old) (K.taken out.new) (AppendsAll (round_report rounds.old end runs.fills.now))) }
+        × WhereTold (K.taken out.old) (K.taken out.new) (AppendsAll (round_report rounds.old end runs.fills.now))
+        × (IsTrue engine.old.adapts → engine.new.counts ≡ grown engine.old.counts (round_lists rounds.old end runs.fills.now))) }
+    ensures says { IfOk result (λ end. end ≡ Border.Closed → SaysCounts engine.new.adapts (program_of engine.new.checked) engine.new.counts said.new) }
     ensures border { IfOk result (IsNewBorder rounds.old.held.border) }
     ensures stands { IfOk result (StandsBehind rounds.old.held rounds.new.held) }
     ensures read_out { OnOk result (ClosedAreReadOut rounds.old.held (F.left files.old) → ClosedAreReadOut rounds.new.held (F.left files.new)) }
     ensures closed { result ≡ Ok Border.Closed → AreClosed rounds.new.held }
-    ensures engine { program_of engine.new.checked.now ≡ program_of engine.old.checked.now }
+    ensures engine { engine.new.checked ≡ engine.old.checked }
+    ensures adapts { engine.new.adapts ≡ engine.old.adapts }
 
     // A source fault is the defect that the round meets; out got nothing.
     ensures fault { IfErr result (λ f. IsSourceFault rounds.old.held (F.left files.old) (F.left files.new) f) }
@@ -295,16 +352,38 @@ fn round<F: Files, K: Sink, G: Gate, R: Threads + Wait + Sync, B: Engine<R>>(
     ensures puts { SameCounts (F.put_faults files.old) (F.put_faults files.new) }
 {
     halves_make_a_round();
-    let checked = engine.checked;
-    let program = checked.program();
+    let program = engine.checked().program();
     let Begun {
         border,
         opening,
         rows,
     } = rounds.begin(alloc, program, files)?;
     let (state, outs) = engine.batch(rt, alloc, opening, &rows)?;
+    let says = said_behind(alloc, engine, border)?;
     rounds.finish(alloc, program, out, state, outs)?;
+    *said = says;
     Ok(border)
+}
+
+// What is said behind a round: the text of the plan in force, where it is the last round and the plan follows the counts.
+fn said_behind<G: Gate, R, B: Engine<R> + Drop>(
+    alloc: Global,
+    engine: &Adaptive<G, R, B>,
+    border: Border,
+) -> Result<Option<Said>, AllocError>
+    requires { IsTrue engine.now.adapts → IsObservedPlan (program_of engine.now.checked) engine.now.counts (plan_of engine.now.valid).nodes }
+    ensures { IfOk result (λ said. border ≡ Border.Closed → SaysCounts engine.now.adapts (program_of engine.now.checked) engine.now.counts said) }
+{
+    if !engine.adapts() {
+        return Ok(None);
+    }
+    match border {
+        Border::At(_) => Ok(None),
+        Border::Closed => {
+            let text = print_plan(alloc, engine.checked().program(), engine.valid().plan())?;
+            Ok(Some(Said::Plan(text)))
+        }
+    }
 }
 
 /// The report of a run of some streams from the empty state on the tree of threads.

@@ -19,7 +19,7 @@ ghost use Rattle.flu_top.specs.Refusing.{IsRefusal};
 ghost use Rattle.flu_top.specs.Simulating.{AreDrawn, IsTextOn};
 
 use crate::planned::{Planned, planned_by};
-use crate::products::{DrawnSteps, Product};
+use crate::products::{DrawnSteps, Product, Said};
 use crate::refusals::{JobRead, Refusal};
 use crate::sources::streams_of;
 use crate::traces::trace_text;
@@ -43,8 +43,8 @@ pub fn simulate_planned<F: Files>(
     seed: Seed,
     traced: bool,
 ) -> Result<Product, Refusal>
-    ensures written { IfOk result (λ product. WhereTold (F.left files.old) (F.left files.new) (IsWritten (Simulate job.now plan.now seed.number traced) product.text (line_said product.steps))) }
-    ensures says { IfOk result (λ product. MaySay (want (Simulate job.now plan.now seed.number traced)).says product.steps) }
+    ensures written { IfOk result (λ product. WhereTold (F.left files.old) (F.left files.new) (IsWritten (Simulate job.now plan.now seed.number traced) product.text (line_said product.says))) }
+    ensures says { IfOk result (λ product. MaySay (want (Simulate job.now plan.now seed.number traced)).says product.says) }
     ensures refused { IfErr result (IsRefusal (Simulate job.now plan.now seed.number traced) (F.left files.old) (F.left files.new) (F.faults files.old) (F.faults files.new)) }
     ensures fronts { WhereTold (F.left files.old) (F.left files.new) TookFronts }
     ensures only { WhereTold (F.left files.old) (F.left files.new) (TookOnly (IsReadName (F.left files.old) (Simulate job.now plan.now seed.number traced))) }
@@ -56,7 +56,7 @@ pub fn simulate_planned<F: Files>(
     match text_of(alloc, files, planned, seed, traced) {
         Ok((text, steps)) => Ok(Product {
             text,
-            steps: Some(steps),
+            says: Some(Said::Steps(steps)),
         }),
         Err(refusal) => Err(refusal),
     }

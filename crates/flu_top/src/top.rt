@@ -9,8 +9,8 @@ ghost use Rattle.flu_top.specs.Ending.{call, Ends};
 ghost use Rattle.flu_top.specs.Outcome.{outside, faults, Outcome, ReadOnly, FaultsFirst, Completes};
 
 use crate::commands::run;
-use crate::lines::{say, say_steps};
-use crate::products::DrawnSteps;
+use crate::lines::{say, say_done};
+use crate::products::Said;
 use crate::refusals::{Refusal, status};
 use flu_grammar::laws::{jobs_are_grammar, plans_are_grammar};
 use flu_outside::{Files, Sink};
@@ -91,7 +91,7 @@ fn do_words<F: Files, K: Sink, G: Gate, R: Threads + Wait + Sync>(
     files: &mut F,
     out: &mut K,
     gate: &G,
-) -> Result<Option<DrawnSteps>, Refusal>
+) -> Result<Option<Said>, Refusal>
     ensures ends { Ends (map string_bytes words.now) (call (F.left files.old) (F.left files.new) (F.faults files.old) (F.faults files.new) (F.put_faults files.old) (F.put_faults files.new) (K.taken out.old) (K.taken out.new) (K.faults out.old) (K.faults out.new)) result }
     ensures fronts { WhereTold (F.left files.old) (F.left files.new) (TookFrontsBut (MayBePut (map string_bytes words.now) (status_after result))) }
     ensures only { WhereTold (F.left files.old) (F.left files.new) (TookOnly (λ name. IsReadBy (map string_bytes words.now) (F.left files.old) name ⊎ MayBePut (map string_bytes words.now) (status_after result) name)) }
@@ -102,15 +102,15 @@ fn do_words<F: Files, K: Sink, G: Gate, R: Threads + Wait + Sync>(
     }
 }
 
-// The status of what was done or refused; the line of its steps, or of the refusal, is said on err.
-fn answer<E: Sink>(err: &mut E, ended: Result<Option<DrawnSteps>, Refusal>) -> u8
+// The status of what was done or refused; what it says, or the line of the refusal, is said on err.
+fn answer<E: Sink>(err: &mut E, ended: Result<Option<Said>, Refusal>) -> u8
     ensures status { result ≡ status_after ended }
     ensures heard { IsHeard ended (E.taken err.old) (E.taken err.new) (E.faults err.old) (E.faults err.new) }
 {
     match ended {
         Ok(None) => 0,
-        Ok(Some(steps)) => {
-            say_steps(err, steps);
+        Ok(Some(said)) => {
+            say_done(err, &said);
             0
         }
         Err(refusal) => {

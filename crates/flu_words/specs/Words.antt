@@ -6,8 +6,10 @@ use Rattle.flu_words.specs.declared.words.Command.{Command as NamedCommand}
 use Rattle.flu_words.specs.declared.words.Command.TheVariants as named
 use Rattle.flu_words.specs.Numbers.{depth_of, seed_of, draws_of}
 
--- what else a run does: the name of the file that its checkpoints are put under, and of the checkpoint that it is resumed from
+-- what else a run does: whether its plan follows what is observed, the name of the file that its checkpoints are put under, and of the
+-- checkpoint that it is resumed from
 pub record RunOptions : Type 0 where
+  pub adapt : Bool
   pub save : Option (List ℕ)
   pub resume : Option (List ℕ)
 
@@ -25,7 +27,7 @@ pub data Command : Type 0 where
 
 -- a run's options without where their names lie in memory
 abbrev pub plain_options : NamedOptions → RunOptions
-plain_options options = record { save = option_map (λ name. name.now) options.save; resume = option_map (λ name. name.now) options.resume }
+plain_options options = record { adapt = options.adapt; save = option_map (λ name. name.now) options.save; resume = option_map (λ name. name.now) options.resume }
 
 -- a command without where its names lie in memory
 abbrev pub plain_command : NamedCommand → Command
@@ -127,21 +129,29 @@ abbrev pub file_after : List ℕ → List ℕ → Option (List ℕ) → ℕ → 
 file_after option job plan at [] = Ok (None, at, [])
 file_after option job plan at (w ∷ ws) = if bytes_eq w option then file_behind job plan (at + 1) ws else Ok (None, at, w ∷ ws)
 
+-- whether the words from a place on begin with `--adapt`
+abbrev pub adapt_and_rest : ℕ → List (List ℕ) → Bool × ℕ × List (List ℕ)
+adapt_and_rest at [] = (false, at, [])
+adapt_and_rest at (w ∷ ws) = if bytes_eq w (codes "--adapt") then (true, at + 1, ws) else (false, at, w ∷ ws)
+
 abbrev pub no_word_after_options : RunOptions → ℕ → List (List ℕ) → Result RunOptions ℕ
 no_word_after_options options at [] = Ok options
 no_word_after_options options at (w ∷ ws) = Err at
 
-abbrev pub with_resume : Option (List ℕ) → Result Begun ℕ → Result RunOptions ℕ
-with_resume save (Ok begun) = no_word_after_options (record { save = save; resume = begun.0 }) begun.1 begun.2
-with_resume save (Err at) = Err at
+abbrev pub with_resume : Bool → Option (List ℕ) → Result Begun ℕ → Result RunOptions ℕ
+with_resume adapt save (Ok begun) = no_word_after_options (record { adapt = adapt; save = save; resume = begun.0 }) begun.1 begun.2
+with_resume adapt save (Err at) = Err at
 
-abbrev pub with_save : List ℕ → Option (List ℕ) → Result Begun ℕ → Result RunOptions ℕ
-with_save job plan (Ok begun) = with_resume begun.0 (file_after (codes "--resume") job plan begun.1 begun.2)
-with_save job plan (Err at) = Err at
+abbrev pub with_save : List ℕ → Option (List ℕ) → Bool → Result Begun ℕ → Result RunOptions ℕ
+with_save job plan adapt (Ok begun) = with_resume adapt begun.0 (file_after (codes "--resume") job plan begun.1 begun.2)
+with_save job plan adapt (Err at) = Err at
+
+abbrev pub with_adapt : List ℕ → Option (List ℕ) → Bool × ℕ × List (List ℕ) → Result RunOptions ℕ
+with_adapt job plan begun = with_save job plan begun.0 (file_after (codes "--save") job plan begun.1 begun.2)
 
 -- the options of a run in the words from a place on, which have no others
 abbrev pub run_options : List ℕ → Option (List ℕ) → ℕ → List (List ℕ) → Result RunOptions ℕ
-run_options job plan at ws = with_save job plan (file_after (codes "--save") job plan at ws)
+run_options job plan at ws = with_adapt job plan (adapt_and_rest at ws)
 
 abbrev pub on_options : (RunOptions → Command) → Result RunOptions ℕ → Result Command ℕ
 on_options command (Ok options) = Ok (command options)

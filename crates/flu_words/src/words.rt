@@ -1,7 +1,7 @@
 //! The words of a command.
 
 ghost use Rattle.std.specs.Prelude.{◌≡◌, ◌<◌, ◌≤◌, ◌+◌, MatchResult, IfOk, Ok, Err, map, option_map, string_bytes};
-ghost use Rattle.flu_words.specs.Words.{command_in, plain_command, plain_options, job_alone, job_and_plan, job_and_depth, run_command, plan_and_rest, run_options, file_after, is_other_file, depth_after, trace_after, seed_alone, both_and_rest, simulation, replay, demo, is_file_name};
+ghost use Rattle.flu_words.specs.Words.{command_in, plain_command, plain_options, job_alone, job_and_plan, job_and_depth, run_command, plan_and_rest, run_options, adapt_and_rest, file_after, is_other_file, depth_after, trace_after, seed_alone, both_and_rest, simulation, replay, demo, is_file_name};
 
 use crate::numbers::{Depth, Draws, Seed, USUAL_DEPTH, depth_of, draws_of, seed_of};
 
@@ -14,6 +14,8 @@ pub struct BadWords {
 /// What else a run does. The names are neither the job's nor the plan's.
 #[derive(Clone, Copy)]
 pub struct RunOptions<'a> {
+    /// Whether the plan follows what is observed.
+    pub adapt: bool,
     /// The name of the file that a checkpoint is put under after each round that wrote its report.
     pub save: Option<&'a str>,
     /// The name of the file that has the checkpoint that the run is resumed from.
@@ -41,8 +43,9 @@ pub enum Command<'a> {
         job: &'a str,
         depth: Depth,
     },
-    /// `run JOB [PLAN] [--save FILE] [--resume FILE]`: the report of a run on the tree of threads, by the plan, or by the greedy plan
-    /// where none is named; with checkpoints that are put under a file, or resumed from one.
+    /// `run JOB [PLAN] [--adapt] [--save FILE] [--resume FILE]`: the report of a run on the tree of threads, by the plan, or by the
+    /// greedy plan where none is named; by a plan that follows what is observed, with checkpoints that are put under a file, or resumed
+    /// from one.
     Run {
         job: &'a str,
         plan: Option<&'a str>,
@@ -191,12 +194,33 @@ fn run_options<'a>(
         (λ options. run_options job.now (option_map (λ name. name.now) plan.entry) at (map string_bytes words.now) ≡ Ok (plain_options options))
         (λ bad. run_options job.now (option_map (λ name. name.now) plan.entry) at (map string_bytes words.now) ≡ Err bad.at) }
 {
-    let (save, behind_save, others) = file_after("--save", job, plan, at, words)?;
+    let (adapt, behind_adapt, files) = adapt_and_rest(at, words);
+    let (save, behind_save, others) = file_after("--save", job, plan, behind_adapt, files)?;
     let (resume, behind_resume, none) = file_after("--resume", job, plan, behind_save, others)?;
     if !none.is_empty() {
         return Err(BadWords { at: behind_resume });
     }
-    Ok(RunOptions { save, resume })
+    Ok(RunOptions {
+        adapt,
+        save,
+        resume,
+    })
+}
+
+// Whether the words from a place on begin with `--adapt`, the place of the first word behind it, and the words from there on.
+fn adapt_and_rest(at: usize, words: &[String]) -> (bool, usize, &[String])
+    requires { at ≤ 3 }
+    ensures value { adapt_and_rest at (map string_bytes words.now) ≡ (result.0, result.1, map string_bytes result.2.now) }
+    ensures near { result.1 ≤ at + 1 }
+{
+    let [word, behind @ ..] = words else {
+        return (false, at, words);
+    };
+    if word.as_str() == "--adapt" {
+        (true, at + 1, behind)
+    } else {
+        (false, at, words)
+    }
 }
 
 // The file behind an option that the words from a place on may begin with, the place of the first word behind both, and the words from
@@ -208,7 +232,7 @@ fn file_after<'a>(
     at: usize,
     words: &'a [String],
 ) -> Result<(Option<&'a str>, usize, &'a [String]), BadWords>
-    requires { at ≤ 5 }
+    requires { at ≤ 6 }
     ensures value { MatchResult result
         (λ begun. file_after option.now job.now (option_map (λ name. name.now) plan.entry) at (map string_bytes words.now) ≡ Ok (option_map (λ name. name.now) begun.0, begun.1, map string_bytes begun.2.now))
         (λ bad. file_after option.now job.now (option_map (λ name. name.now) plan.entry) at (map string_bytes words.now) ≡ Err bad.at) }

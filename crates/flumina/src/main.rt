@@ -22,8 +22,9 @@ const READ_FAULT: u8 = 7;
 /// The status where the words find no memory.
 const NO_MEMORY: u8 = 9;
 
-/// More than the longest line of an answer has.
-const LINE_ROOM: usize = 1024;
+/// More than the longest line of an answer has, and the text of a plan that follows the counts: at most 256 itags of at most 81 bytes, in
+/// at most 15 nodes.
+const LINE_ROOM: usize = 32_768;
 
 fn main(rt: HostRuntime) -> ExitCode {
     let Ok(arguments) = env::args(&rt) else {

@@ -73,11 +73,11 @@ node app3: view[3]@app
 
 /// Numbers that look drawn, each from the one before.
 #[derive(Clone, Copy)]
-struct Draws(u64);
+pub struct Draws(pub u64);
 
 impl Draws {
     // A number below another one, which is positive.
-    fn below(&mut self, most: u64) -> u64 {
+    pub fn below(&mut self, most: u64) -> u64 {
         self.0 = self.0.wrapping_mul(1_103_515_245).wrapping_add(12345) & 0x7fff_ffff;
         (self.0 / 65536).checked_rem(most).unwrap_or(0)
     }

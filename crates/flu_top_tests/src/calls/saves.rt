@@ -56,7 +56,7 @@ fn runs_are_resumed(rt: HostRuntime) -> Result<(), Fail> {
 }
 
 /// What a name has left.
-fn left_of(alloc: Global, files: &mut MemFiles, name: &str) -> Result<Vec<u8>, TakeFault> {
+pub fn left_of(alloc: Global, files: &mut MemFiles, name: &str) -> Result<Vec<u8>, TakeFault> {
     read_whole(alloc, files, name, 1 << 20)
 }
 

@@ -10,9 +10,9 @@ use Rattle.flu_top.specs.Running.{EndsRounds, Steps, plain_opening}
 use Rattle.flu_top.proofs.Roundings.{rounds_start, some_at_start, given_err, closed_is}
 use Rattle.flu_top.proofs.running.rounds.Goals as goal
 
-pub returns-in_err-rounds-clause-ends : goal.returns-in_err-rounds-clause-ends
-returns-in_err-rounds-clause-ends g c =
-    let p = program_of c.args.planned.now.checked in
+pub returns-in_err-engine-clause-ends : goal.returns-in_err-engine-clause-ends
+returns-in_err-engine-clause-ends g c =
+    let p = program_of c.args.checked.now in
     let o = plain_opening c.args.opening in
     let named = option_map (λ name. name.now) c.args.save in
     let left = g.F.Files.left in
@@ -22,12 +22,12 @@ returns-in_err-rounds-clause-ends g c =
     let count = g.K.Sink.faults in
     let k = call (left c.args.files.now) (left c.args.files.now) (counts c.args.files.now) (counts c.args.files.now) (puts c.args.files.now) (puts c.args.files.now)
     (taken c.args.out.now) (taken c.args.out.now) (count c.args.out.now) (count c.args.out.now) in
-    subst (EndsRounds p o named k) (sym (given_err c.from_residual.result c.in_err-rounds.field-0.0 c.from_residual.ensures.1 ∙ ap Err c.in_err-rounds.ensures.no_memory))
+    subst (EndsRounds c.args.adapts p o named k) (sym (given_err c.from_residual.result c.in_err-engine.field-0.0 c.from_residual.ensures.1 ∙ ap Err c.in_err-engine.ensures.no_memory))
     (some_at_start c.rounds_are_folded_in_turn.ensures.none p o named (left c.args.files.now) (counts c.args.files.now) (puts c.args.files.now) (taken c.args.out.now) (count c.args.out.now)).0
 
-pub loop-rounds-init : goal.loop-rounds-init
-loop-rounds-init g c =
-    let p = program_of c.args.planned.now.checked in
+pub returns-in_err-rounds-clause-ends : goal.returns-in_err-rounds-clause-ends
+returns-in_err-rounds-clause-ends g c =
+    let p = program_of c.args.checked.now in
     let o = plain_opening c.args.opening in
     let named = option_map (λ name. name.now) c.args.save in
     let left = g.F.Files.left in
@@ -35,13 +35,28 @@ loop-rounds-init g c =
     let puts = g.F.Files.put_faults in
     let taken = g.K.Sink.taken in
     let count = g.K.Sink.faults in
-    rounds_start p (program_of c.engine_of-engine.result.checked.now) o named (left c.args.files.now) (counts c.args.files.now) (puts c.args.files.now) (taken c.args.out.now) (count c.args.out.now)
-    c.in_ok-rounds.rounds (c.resumed_runs_go_on.ensures.beginning o.border o.cells) c.engine_of-engine.ensures
+    let k = call (left c.args.files.now) (left c.args.files.now) (counts c.args.files.now) (counts c.args.files.now) (puts c.args.files.now) (puts c.args.files.now)
+    (taken c.args.out.now) (taken c.args.out.now) (count c.args.out.now) (count c.args.out.now) in
+    subst (EndsRounds c.args.adapts p o named k) (sym (given_err c.from_residual-in_err-rounds.result c.in_err-rounds.field-0.0 c.from_residual-in_err-rounds.ensures.1 ∙ ap Err c.in_err-rounds.ensures.no_memory))
+    (some_at_start c.rounds_are_folded_in_turn.ensures.none p o named (left c.args.files.now) (counts c.args.files.now) (puts c.args.files.now) (taken c.args.out.now) (count c.args.out.now)).0
+
+pub loop-said-init : goal.loop-said-init
+loop-said-init g c =
+    let p = program_of c.args.checked.now in
+    let o = plain_opening c.args.opening in
+    let named = option_map (λ name. name.now) c.args.save in
+    let left = g.F.Files.left in
+    let counts = g.F.Files.faults in
+    let puts = g.F.Files.put_faults in
+    let taken = g.K.Sink.taken in
+    let count = g.K.Sink.faults in
+    rounds_start c.args.adapts p c.in_ok-engine.engine o named (left c.args.files.now) (counts c.args.files.now) (puts c.args.files.now) (taken c.args.out.now) (count c.args.out.now)
+    c.in_ok-rounds.rounds (c.resumed_runs_go_on.ensures.beginning o.border o.cells) (ap program_of c.in_ok-engine.ensures.checked) c.in_ok-engine.ensures.adapts c.in_ok-engine.ensures.counts
     (subst (λ (q : Program). IsFirstFrom q rows_in_round o.border o.cells c.in_ok-rounds.rounds) c.program.ensures c.in_ok-rounds.ensures.first)
 
 pub returns-in_err-saved_round-clause-ends : goal.returns-in_err-saved_round-clause-ends
 returns-in_err-saved_round-clause-ends g c =
-    let p = program_of c.args.planned.now.checked in
+    let p = program_of c.args.checked.now in
     let o = plain_opening c.args.opening in
     let named = option_map (λ name. name.now) c.args.save in
     let left = g.F.Files.left in
@@ -51,12 +66,12 @@ returns-in_err-saved_round-clause-ends g c =
     let count = g.K.Sink.faults in
     let whole = call (left c.args.files.now) (left c.saved_round.new.files) (counts c.args.files.now) (counts c.saved_round.new.files) (puts c.args.files.now) (puts c.saved_round.new.files)
     (taken c.args.out.now) (taken c.saved_round.new.out) (count c.args.out.now) (count c.saved_round.new.out) in
-    subst (EndsRounds p o named whole) (sym (given_err c.from_residual-in_err-saved_round.result c.in_err-saved_round.field-0.0 c.from_residual-in_err-saved_round.ensures.1))
-    (c.in_err-saved_round.ensures.steps p o (left c.args.files.now) (counts c.args.files.now) (puts c.args.files.now) (taken c.args.out.now) (count c.args.out.now) c.requires.apart c.loop-rounds.invariant).0
+    subst (EndsRounds c.args.adapts p o named whole) (sym (given_err c.from_residual-in_err-saved_round.result c.in_err-saved_round.field-0.0 c.from_residual-in_err-saved_round.ensures.1))
+    (c.in_err-saved_round.ensures.steps c.args.adapts p o (left c.args.files.now) (counts c.args.files.now) (puts c.args.files.now) (taken c.args.out.now) (count c.args.out.now) c.requires.apart c.loop-said.invariant).0
 
 pub returns-in_err-saved_round-clause-within : goal.returns-in_err-saved_round-clause-within
 returns-in_err-saved_round-clause-within g c =
-    let p = program_of c.args.planned.now.checked in
+    let p = program_of c.args.checked.now in
     let o = plain_opening c.args.opening in
     let named = option_map (λ name. name.now) c.args.save in
     let left = g.F.Files.left in
@@ -64,11 +79,11 @@ returns-in_err-saved_round-clause-within g c =
     let puts = g.F.Files.put_faults in
     let taken = g.K.Sink.taken in
     let count = g.K.Sink.faults in
-    (c.in_err-saved_round.ensures.steps p o (left c.args.files.now) (counts c.args.files.now) (puts c.args.files.now) (taken c.args.out.now) (count c.args.out.now) c.requires.apart c.loop-rounds.invariant).1
+    (c.in_err-saved_round.ensures.steps c.args.adapts p o (left c.args.files.now) (counts c.args.files.now) (puts c.args.files.now) (taken c.args.out.now) (count c.args.out.now) c.requires.apart c.loop-said.invariant).1
 
 pub returns-clause-ends : goal.returns-clause-ends
 returns-clause-ends g c =
-    let p = program_of c.args.planned.now.checked in
+    let p = program_of c.args.checked.now in
     let o = plain_opening c.args.opening in
     let named = option_map (λ name. name.now) c.args.save in
     let left = g.F.Files.left in
@@ -79,12 +94,12 @@ returns-clause-ends g c =
     let whole = call (left c.args.files.now) (left c.saved_round.new.files) (counts c.args.files.now) (counts c.saved_round.new.files) (puts c.args.files.now) (puts c.saved_round.new.files)
     (taken c.args.out.now) (taken c.saved_round.new.out) (count c.args.out.now) (count c.saved_round.new.out) in
     let closed = closed_is c.in_ok-saved_round.field-0 c.in_default.not-At in
-    (subst (λ (b : Border). Steps p (program_of c.saved_round.new.engine.checked.now) o named whole c.saved_round.new.rounds (Ok b)) closed
-    (c.in_ok-saved_round.ensures.steps p o (left c.args.files.now) (counts c.args.files.now) (puts c.args.files.now) (taken c.args.out.now) (count c.args.out.now) c.requires.apart c.loop-rounds.invariant)).0
+    (subst (λ (b : Border). Steps c.args.adapts p c.saved_round.new.engine o named whole c.saved_round.new.rounds c.saved_round.new.said (Ok b)) closed
+    (c.in_ok-saved_round.ensures.steps c.args.adapts p o (left c.args.files.now) (counts c.args.files.now) (puts c.args.files.now) (taken c.args.out.now) (count c.args.out.now) c.requires.apart c.loop-said.invariant)).0
 
 pub returns-clause-within : goal.returns-clause-within
 returns-clause-within g c =
-    let p = program_of c.args.planned.now.checked in
+    let p = program_of c.args.checked.now in
     let o = plain_opening c.args.opening in
     let named = option_map (λ name. name.now) c.args.save in
     let left = g.F.Files.left in
@@ -95,5 +110,5 @@ returns-clause-within g c =
     let whole = call (left c.args.files.now) (left c.saved_round.new.files) (counts c.args.files.now) (counts c.saved_round.new.files) (puts c.args.files.now) (puts c.saved_round.new.files)
     (taken c.args.out.now) (taken c.saved_round.new.out) (count c.args.out.now) (count c.saved_round.new.out) in
     let closed = closed_is c.in_ok-saved_round.field-0 c.in_default.not-At in
-    (subst (λ (b : Border). Steps p (program_of c.saved_round.new.engine.checked.now) o named whole c.saved_round.new.rounds (Ok b)) closed
-    (c.in_ok-saved_round.ensures.steps p o (left c.args.files.now) (counts c.args.files.now) (puts c.args.files.now) (taken c.args.out.now) (count c.args.out.now) c.requires.apart c.loop-rounds.invariant)).1
+    (subst (λ (b : Border). Steps c.args.adapts p c.saved_round.new.engine o named whole c.saved_round.new.rounds c.saved_round.new.said (Ok b)) closed
+    (c.in_ok-saved_round.ensures.steps c.args.adapts p o (left c.args.files.now) (counts c.args.files.now) (puts c.args.files.now) (taken c.args.out.now) (count c.args.out.now) c.requires.apart c.loop-said.invariant)).1

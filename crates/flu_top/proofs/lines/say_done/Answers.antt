@@ -1,5 +1,5 @@
 use Rattle.std.proofs.Common.{inl, inr}
-use Rattle.flu_top.proofs.lines.say_steps.Goals as goal
+use Rattle.flu_top.proofs.lines.say_done.Goals as goal
 
 pub returns-in-Ok : goal.returns-in-Ok
 returns-in-Ok g c = inl c.in-Ok.ensures.all
