@@ -40,7 +40,8 @@ replay_reads job plan trace = record { its_job = refl; its_plan = refl; accepted
 both_texts : (command : Command) (job plan : List ℕ) → ReadsPlan command job plan → resume_named command ≡ None → job ∷ plan ∷ [] ≡ texts_named command
 both_texts command job plan reads fresh = λ i. (job_files (sym reads.its_job i) ++ if_named (sym reads.its_plan i)) ++ if_named (sym fresh i)
 
-ready_at : (command : Command) (job plan : List ℕ) (p : Program) (x z : Contents) → ReadsPlan command job plan → resume_named command ≡ None → IsReady (Valid job plan) p x z → IsReady command p x z
+ready_at : (command : Command) (job plan : List ℕ) (p : Program) (x z : Contents) → ReadsPlan command job plan → resume_named command ≡ None
+    → IsReady (Valid job plan) p x z → IsReady command p x z
 ready_at command job plan p x z reads fresh ready = record {
   has = subst (λ (wanted : WantedJob). HasJob wanted x p) (sym reads.its_job) ready.has;
   plan = λ name named. subst (λ (wanted : WantedJob). HasValidPlan wanted name x p) (sym reads.its_job) (ready.plan name (sym reads.its_plan ∙ named));
@@ -58,7 +59,8 @@ may_have_as wanted other p left same may = subst (λ (job : WantedJob). MayHaveJ
 not_named : (name : List ℕ) → None ≡ Some name → ⊥
 not_named name named = cc
 
-wider : (command : Command) (job plan : List ℕ) (left : Option Contents) (name : List ℕ) → ReadsPlan command job plan → IsReadName left (Valid job plan) name → IsReadName left command name
+wider : (command : Command) (job plan : List ℕ) (left : Option Contents) (name : List ℕ) → ReadsPlan command job plan → IsReadName left (Valid job plan) name
+    → IsReadName left command name
 wider command job plan left name reads (inl same) = inl (reads.its_job ∙ same)
 wider command job plan left name reads (inr (inl found)) = inr (inl (record {
   p = found.p;
@@ -69,7 +71,8 @@ wider command job plan left name reads (inr (inr (inl checkpoint))) = absurd (no
 wider command job plan left name reads (inr (inr (inr (inl source)))) = absurd (none_among name source.named)
 wider command job plan left name reads (inr (inr (inr (inr trace)))) = absurd (not_named name trace.named)
 
-pub only_as_valid : (command : Command) (job plan : List ℕ) (a c : Option Contents) → ReadsPlan command job plan → WhereTold a c (TookOnly (IsReadName a (Valid job plan))) → WhereTold a c (TookOnly (IsReadName a command))
+pub only_as_valid : (command : Command) (job plan : List ℕ) (a c : Option Contents) → ReadsPlan command job plan
+    → WhereTold a c (TookOnly (IsReadName a (Valid job plan))) → WhereTold a c (TookOnly (IsReadName a command))
 only_as_valid command job plan a c reads only =
     told_weaker (TookOnly (IsReadName a (Valid job plan))) (TookOnly (IsReadName a command)) a c
     (λ x z took name unread. took name (λ read. unread (wider command job plan a name reads read))) only
@@ -80,9 +83,11 @@ never_starts : (name : List ℕ) → (None ≡ Some name) ⊎ (None ≡ Some nam
 never_starts name (inl saved) = not_named name saved
 never_starts name (inr resumed) = not_named name resumed
 
-pub refusal_as_valid : (command : Command) (job plan : List ℕ) (a c : Option Contents) (k m : List ℕ → ℕ) (refusal : Refusal) → ReadsPlan command job plan → IsRefusal (Valid job plan) a c k m refusal → IsRefusal command a c k m refusal
+pub refusal_as_valid : (command : Command) (job plan : List ℕ) (a c : Option Contents) (k m : List ℕ → ℕ) (refusal : Refusal) → ReadsPlan command job plan
+    → IsRefusal (Valid job plan) a c k m refusal → IsRefusal command a c k m refusal
 refusal_as_valid command job plan a c k m (refusals.BadWords bad) reads is = is
-refusal_as_valid command job plan a c k m (refusals.JobFault fault) reads is = subst (λ (wanted : WantedJob). HasJobFault wanted a c fault) (sym reads.its_job) is
+refusal_as_valid command job plan a c k m (refusals.JobFault fault) reads is =
+    subst (λ (wanted : WantedJob). HasJobFault wanted a c fault) (sym reads.its_job) is
 refusal_as_valid command job plan a c k m (refusals.Conflict fault) reads is =
     record { asked = reads.accepted; name = is.name; named = reads.its_job ∙ is.named; conflict = is.conflict; job = is.job }
 refusal_as_valid command job plan a c k m (refusals.PlanDefect (defects.Text fault)) reads is = record {
@@ -91,14 +96,16 @@ refusal_as_valid command job plan a c k m (refusals.PlanDefect (defects.Text fau
   asked = reads.its_plan ∙ is.asked;
   accepted = is.accepted;
   is_fault = is.is_fault;
-  first = subst (λ (wanted : WantedJob). WhereTold a c (λ left _. HasJob wanted left is.program × IsFirstTextFault is.program (plan_behind wanted is.plan left) fault)) (sym reads.its_job) is.first;
+  first = subst (λ (wanted : WantedJob). WhereTold a c (λ left _. HasJob wanted left is.program
+      × IsFirstTextFault is.program (plan_behind wanted is.plan left) fault)) (sym reads.its_job) is.first;
 }
 refusal_as_valid command job plan a c k m (refusals.PlanDefect (defects.Invalid checked fault)) reads is = record {
   plan = is.plan;
   asked = reads.its_plan ∙ is.asked;
   accepted = is.accepted;
   invalid = is.invalid;
-  text = subst (λ (wanted : WantedJob). WhereTold a c (λ left _. HasJob wanted left (program_of checked) × HasPlan wanted is.plan left (program_of checked) fault.plan.nodes)) (sym reads.its_job) is.text;
+  text = subst (λ (wanted : WantedJob). WhereTold a c (λ left _. HasJob wanted left (program_of checked)
+      × HasPlan wanted is.plan left (program_of checked) fault.plan.nodes)) (sym reads.its_job) is.text;
 }
 refusal_as_valid command job plan a c k m (refusals.SourceFault other fault) reads is = absurd (false≢true is.asked)
 refusal_as_valid command job plan a c k m refusals.ReadFault reads is = (is.0, wider command job plan a is.0 reads is.1, is.2)

@@ -1,5 +1,6 @@
 -- The checkpoint of a file's bytes, of which more than a checkpoint may have need not be read.
-use Rattle.std.proofs.Common.{◌≡◌, ◌≢◌, refl, sym, ap, ◌∙◌, subst, ℕ, ◌+◌, ◌<◌, ◌≤◌, ◌^◌, List, [], ◌∷◌, ◌++◌, length, Bool, true, false, Option, Some, None, cond, inl, inr, ◌⊎◌, arith, append-nil, length-append}
+use Rattle.std.proofs.Common.{◌≡◌, ◌≢◌, refl, sym, ap, ◌∙◌, subst, ℕ, ◌+◌, ◌<◌, ◌≤◌, ◌^◌, List, [], ◌∷◌, ◌++◌, length, Bool, true, false, Option, Some, None}
+use Rattle.std.proofs.Common.{cond, inl, inr, ◌⊎◌, arith, append-nil, length-append}
 use Rattle.std.specs.Prelude.{Contains, IfSome, option_map, slice_get}
 use Rattle.std.specs.List.{position}
 use Rattle.std.specs.Str.{bytes_eq}
@@ -31,7 +32,8 @@ all_bytes name bytes x y whole short =
     whole.front ∙ ap (λ (rest : List ℕ). bytes ++ rest) none ∙ append-nil bytes
 
 -- the bytes that were read have the fault of all
-fault_of_whole : (p : Program) (name bytes : List ℕ) (fault : SaveFault) (x y : Contents) → TookWhole name most_bytes bytes x y → IsFaultOf p bytes fault → IsFaultOf p (bytes_left x name) fault
+fault_of_whole : (p : Program) (name bytes : List ℕ) (fault : SaveFault) (x y : Contents) → TookWhole name most_bytes bytes x y → IsFaultOf p bytes fault
+    → IsFaultOf p (bytes_left x name) fault
 fault_of_whole p name bytes (f.OverLimit count) x y whole is =
     let long : length bytes ≤ length (bytes_left x name) = rw (whole.front, length-append) (omega arith) in
     (omega (arith, is.0, long), is.1)
@@ -40,12 +42,15 @@ fault_of_whole p name bytes f.WrongForm x y whole is = subst (λ (all : List ℕ
 fault_of_whole p name bytes f.OtherJob x y whole is = subst (λ (all : List ℕ). IsFaultOf p all f.OtherJob) (sym (all_bytes name bytes x y whole is.0)) is
 fault_of_whole p name bytes f.NoMemory x y whole is = tt
 
-has_fault : (p : Program) (name bytes : List ℕ) (fault : SaveFault) (a b : Option Contents) → fault ≢ f.NoMemory → WhereTold a b (TookWhole name most_bytes bytes) → IsFaultOf p bytes fault
+has_fault : (p : Program) (name bytes : List ℕ) (fault : SaveFault) (a b : Option Contents) → fault ≢ f.NoMemory
+    → WhereTold a b (TookWhole name most_bytes bytes) → IsFaultOf p bytes fault
     → (name' : List ℕ) × (Some name ≡ Some name') × (fault ≢ f.NoMemory) × WhereTold a b (λ left _. IsFaultOf p (bytes_left left name') fault)
 has_fault p name bytes fault a b other whole is =
-    (name, refl, other, told_weaker (TookWhole name most_bytes bytes) (λ left _. IsFaultOf p (bytes_left left name) fault) a b (λ x y w. fault_of_whole p name bytes fault x y w is) whole)
+    (name, refl, other, told_weaker (TookWhole name most_bytes bytes) (λ left _. IsFaultOf p (bytes_left left name) fault) a b
+        (λ x y w. fault_of_whole p name bytes fault x y w is) whole)
 
-pub checkpoint_is_refused : (p : Program) (name bytes : List ℕ) (fault : SaveFault) (a b : Option Contents) (before now : List ℕ → ℕ) → WhereTold a b (TookWhole name most_bytes bytes) → IsFaultOf p bytes fault
+pub checkpoint_is_refused : (p : Program) (name bytes : List ℕ) (fault : SaveFault) (a b : Option Contents) (before now : List ℕ → ℕ)
+    → WhereTold a b (TookWhole name most_bytes bytes) → IsFaultOf p bytes fault
     → IsOpeningRefusal (Some name) p a b before now (refusal_of_save fault)
 checkpoint_is_refused p name bytes (f.OverLimit count) a b before now whole is = has_fault p name bytes (f.OverLimit count) a b (λ e. cc) whole is
 checkpoint_is_refused p name bytes f.NotJson a b before now whole is = has_fault p name bytes f.NotJson a b (λ e. cc) whole is
@@ -68,7 +73,8 @@ opening_fresh p s empty = record {
   empty = λ e. empty;
 }
 
-pub opened_saved : (p : Program) (name bytes : List ℕ) (t : ℕ) (s : Cells) (a b : Option Contents) → WhereTold a b (TookWhole name most_bytes bytes) → WhereTold a b (TakesFrom name) → IsSave p t s bytes
+pub opened_saved : (p : Program) (name bytes : List ℕ) (t : ℕ) (s : Cells) (a b : Option Contents) → WhereTold a b (TookWhole name most_bytes bytes)
+    → WhereTold a b (TakesFrom name) → IsSave p t s bytes
     → WhereTold a b (IsOpened (Some name) p (record { border = Some t; cells = s }))
 opened_saved p name bytes t s a b whole taken is =
     told_weaker (λ x y. TookWhole name most_bytes bytes x y × TakesFrom name x y) (IsOpened (Some name) p (record { border = Some t; cells = s })) a b
@@ -79,7 +85,8 @@ opened_saved p name bytes t s a b whole taken is =
     (told_both (TookWhole name most_bytes bytes) (TakesFrom name) a b whole taken)
 
 pub others_of_one : (name : List ℕ) (a b : Option Contents) → WhereTold a b (TakesFrom name) → WhereTold a b (LeavesOthers (name ∷ []))
-others_of_one name a b taken = told_weaker (TakesFrom name) (LeavesOthers (name ∷ [])) a b (λ x y took other missing. took.others other (λ same. missing (0, omega arith, sym same))) taken
+others_of_one name a b taken = told_weaker (TakesFrom name) (LeavesOthers (name ∷ [])) a b
+    (λ x y took other missing. took.others other (λ same. missing (0, omega arith, sym same))) taken
 
 -- ---- names that are sources' files
 -- whether a source has a file
@@ -104,13 +111,16 @@ no_file (x ∷ xs) name none found = by_test (has_file name x) refl (contains_ca
     rest_none None e = refl
     rest_none (Some i) e = absurd (cc)
 
-    by_test : (b : Bool) → has_file name x ≡ b → (x.file ≡ name) ⊎ Contains (files_of xs) name → (position (has_file name) xs ≡ None → ¬ Contains (files_of xs) name) → ⊥
+    by_test : (b : Bool) → has_file name x ≡ b → (x.file ≡ name) ⊎ Contains (files_of xs) name
+        → (position (has_file name) xs ≡ None → ¬ Contains (files_of xs) name) → ⊥
     by_test true here either later = not_both 0
-        (sym (ap (λ (b : Bool). cond b (Some 0) (option_map (λ (i : ℕ). i + 1) (position (has_file name) xs))) here) ∙ sym (position-cons (has_file name) x xs) ∙ none)
+        (sym (ap (λ (b : Bool). cond b (Some 0) (option_map (λ (i : ℕ). i + 1) (position (has_file name) xs))) here)
+            ∙ sym (position-cons (has_file name) x xs) ∙ none)
     by_test false other (inl same) later = false≢true (sym other ∙ (bytes_eq-Decides x.file name).1 same)
     by_test false other (inr among) later =
         later (rest_none (position (has_file name) xs)
-        (sym (ap (λ (b : Bool). cond b (Some 0) (option_map (λ (i : ℕ). i + 1) (position (has_file name) xs))) other) ∙ sym (position-cons (has_file name) x xs) ∙ none)) among
+        (sym (ap (λ (b : Bool). cond b (Some 0) (option_map (λ (i : ℕ). i + 1) (position (has_file name) xs))) other)
+            ∙ sym (position-cons (has_file name) x xs) ∙ none)) among
 
 -- the source of the name that a run is resumed from, where it saves to that of none
 pub resumed_name : (r : Option ℕ) (p : Program) (options : RunOptions) → IsNoSource options.save p → IfSome r (IsFileOf options.resume p)

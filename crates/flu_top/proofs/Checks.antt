@@ -15,12 +15,14 @@ use Rattle.flu_top.specs.Checking.{IsChecked, IsCheckRefusal}
 use Rattle.flu_top.specs.Refusing.{IsRefusal}
 use Rattle.flu_top.proofs.Sequence.{only_one, can_start, has_saved}
 
-pub is_checked : (job : List ℕ) (p : Program) (text : List ℕ) (a b : Option Contents) → WhereTold a b (IsJobRead job p) → IsChecked p text → WhereTold a b (IsWritten (Check job) text [])
+pub is_checked : (job : List ℕ) (p : Program) (text : List ℕ) (a b : Option Contents) → WhereTold a b (IsJobRead job p) → IsChecked p text
+    → WhereTold a b (IsWritten (Check job) text [])
 is_checked job p text a b read checked =
     told_weaker (IsJobRead job p) (IsWritten (Check job) text []) a b (λ x y whole. (
       p,
       record {
-        good = record { has = whole.has; accepted = λ asked. checked.accepted; plan = λ plan named. absurd (cc); start = can_start (Check job) x p (record { save = refl; resume = refl }); sources = tt };
+        good = record { has = whole.has; accepted = λ asked. checked.accepted; plan = λ plan named. absurd (cc); start =
+            can_start (Check job) x p (record { save = refl; resume = refl }); sources = tt };
         ends = λ name found apart. ap y (sym (only_one job name found)) ∙ whole.end;
         trace = λ trace named. absurd (cc);
         saved = has_saved (Check job) p x y (record { save = refl; resume = refl });
@@ -29,7 +31,9 @@ is_checked job p text a b read checked =
       refl,
     )) read
 
-pub check_refusal : (command : Command) (job : List ℕ) (p : Program) (a b : Option Contents) (before now : List ℕ → ℕ) (refusal : Refusal) → job_wanted command ≡ Named job → IsTrue (asks_accepted command) → WhereTold a b (IsJobRead job p) → IsCheckRefusal p refusal → IsRefusal command a b before now refusal
+pub check_refusal : (command : Command) (job : List ℕ) (p : Program) (a b : Option Contents) (before now : List ℕ → ℕ) (refusal : Refusal)
+    → job_wanted command ≡ Named job → IsTrue (asks_accepted command) → WhereTold a b (IsJobRead job p) → IsCheckRefusal p refusal
+    → IsRefusal command a b before now refusal
 check_refusal command job p a b before now (refusals.BadWords bad) named asked read is = is
 check_refusal command job p a b before now (refusals.JobFault fault) named asked read is = absurd is
 check_refusal command job p a b before now (refusals.Conflict fault) named asked read is = record {

@@ -35,6 +35,7 @@ use Rattle.flu_top.specs.Replaying.{ReplaysTo, CanOnlyComplete}
 use Rattle.flu_top.specs.Causes.{IsJobRead, HasJobFault, HasConflict, HasPlanDefect, HasSaveDefect, IsMet, HasSourceFault, HasTraceFault}
 use Rattle.flu_top.specs.Outcome.{Outside, Outcome, Faults, FaultsFirst, HasFaultyTrace, CallsFor, NothingFailed, Completes}
 use Rattle.flu_top.specs.Outcome as cases
+use Rattle.flu_top.proofs.Commands.{same_command, no_command}
 use Rattle.flu_top.proofs.Defects.{good_or_bad, met_defect}
 use Rattle.flu_top.proofs.SameJob.{same_good}
 use Rattle.flu_top.proofs.SameAcceptance.{same_accepted}
@@ -58,12 +59,14 @@ record Leads (wanted : ℕ) (command : Command) (left : Contents) : Type 0 where
   done : (p : Program) → IsGood command left p → ¬ HasFaultyTrace command left → IsStatus wanted 0
   job : (name : List ℕ) (fault : JobFault) → job_wanted command ≡ Named name → job_in (bytes_left left name) ≡ Err fault → IsStatus wanted 3
   conflict : (p : Program) → IsTrue (asks_accepted command) → ¬ IsAccepted p → HasJob (job_wanted command) left p → IsStatus wanted 4
-  plan : (plan : List ℕ) (p : Program) → plan_named command ≡ Some plan → IsAccepted p → HasJob (job_wanted command) left p → ¬ HasValidPlan (job_wanted command) plan left p → IsStatus wanted 5
+  plan : (plan : List ℕ) (p : Program) → plan_named command ≡ Some plan → IsAccepted p → HasJob (job_wanted command) left p
+      → ¬ HasValidPlan (job_wanted command) plan left p → IsStatus wanted 5
   start : (p : Program) → (IsTrue (asks_accepted command) → IsAccepted p) → HasJob (job_wanted command) left p
       → HasPlanAsked command left p → ¬ CanStart command left p → IsStatus wanted 11
   source : (p : Program) → (IsTrue (asks_accepted command) → IsAccepted p) → HasJob (job_wanted command) left p
       → HasPlanAsked command left p → CanStart command left p → HasDefect (how_read command) (texts_named command) left p → IsStatus wanted 6
-  trace : (p : Program) (trace : List ℕ) (ending : Ending) → trace_named command ≡ Some trace → IsGood command left p → ReplaysTo command trace left p ending → ending ≢ Complete → IsStatus wanted 13
+  trace : (p : Program) (trace : List ℕ) (ending : Ending) → trace_named command ≡ Some trace → IsGood command left p → ReplaysTo command trace left p ending
+      → ending ≢ Complete → IsStatus wanted 13
 
 -- a status that is wanted and is not that of want of memory
 settled : (wanted status : ℕ) → IsStatus wanted status → status ≢ 9 → wanted ≡ status
@@ -71,24 +74,21 @@ settled wanted status (inl same) other = sym same
 settled wanted status (inr nine) other = absurd (other nine)
 
 -- ---- commands
-same_command : (words : List (List ℕ)) (a b : Command) → command_in words ≡ Ok a → command_in words ≡ Ok b → a ≡ b
-same_command words a b first second = let e = sym first ∙ second in cc
-
-no_command : (words : List (List ℕ)) (command : Command) (at : ℕ) → command_in words ≡ Ok command → command_in words ≡ Err at → ⊥
-no_command words command at is bad = let e = sym is ∙ bad in cc
-
 -- what is known of the files is true of what they hold where they tell it
-known_at : (job : WantedJob) (P : Contents → Contents → Type 0) (x : Contents) (a b : Option Contents) → a ≡ Some x → WhereKnown job a b P → (y : Contents) × P x y
+known_at : (job : WantedJob) (P : Contents → Contents → Type 0) (x : Contents) (a b : Option Contents) → a ≡ Some x → WhereKnown job a b P
+    → (y : Contents) × P x y
 known_at (Named name) P x a b told known = of_told P x a b told known
 known_at (Fixed job) P x a b told known = (x, known x)
 
 -- ---- two programs of one text
 pub same_job : JobsAreGrammar → (job : WantedJob) (left : Contents) (p q : Program) → HasJob job left p → HasJob job left q → IsSameJob p q
-same_job jobs (Named name) left p q first second = let e = sym ((jobs (bytes_left left name) (job_of p)).1 first) ∙ (jobs (bytes_left left name) (job_of q)).1 second in cc
+same_job jobs (Named name) left p q first second = let e = sym ((jobs (bytes_left left name) (job_of p)).1 first)
+    ∙ (jobs (bytes_left left name) (job_of q)).1 second in cc
 same_job jobs (Fixed job) left p q first second = first ∙ sym second
 
 module _ (laws : LawsBelow) where
-  not_both : (job : WantedJob) (name : List ℕ) (left : Contents) (p : Program) (fault : JobFault) → job ≡ Named name → HasJob job left p → job_in (bytes_left left name) ≡ Err fault → ⊥
+  not_both : (job : WantedJob) (name : List ℕ) (left : Contents) (p : Program) (fault : JobFault) → job ≡ Named name → HasJob job left p
+      → job_in (bytes_left left name) ≡ Err fault → ⊥
   not_both job name left p fault named has bad =
       let e = sym ((laws.jobs (bytes_left left name) (job_of p)).1 (subst (λ (wanted : WantedJob). HasJob wanted left p) named has)) ∙ bad in cc
 
@@ -96,7 +96,8 @@ module _ (laws : LawsBelow) where
   no_defect : (command : Command) (left : Contents) (p q : Program) → HasJob (job_wanted command) left p → HasJob (job_wanted command) left q
       → AreSourcesGood (how_read command) (texts_named command) left p → HasDefect (how_read command) (texts_named command) left q → ⊥
   no_defect command left p q first second good bad =
-      good_or_bad (how_read command) (texts_named command) left q (same_good (how_read command) (texts_named command) left p q (same_job laws.jobs (job_wanted command) left p q first second) good) bad
+      good_or_bad (how_read command) (texts_named command) left q (same_good (how_read command) (texts_named command) left p q
+          (same_job laws.jobs (job_wanted command) left p q first second) good) bad
 
   accepted_of_text : (job : WantedJob) (left : Contents) (p q : Program) → HasJob job left p → HasJob job left q → IsAccepted p → IsAccepted q
   accepted_of_text job left p q first second = same_accepted p q (same_job laws.jobs job left p q first second)
@@ -138,7 +139,8 @@ module _ (laws : LawsBelow) where
   only_complete command left only faulty = other_ending command left faulty (only faulty.trace faulty.named faulty.p faulty.ending faulty.good.has faulty.ends)
 
   -- a trace that was read can be complete
-  read_complete : (command : Command) (left after : Contents) (p : Program) → HasJob (job_wanted command) left p → IsTraceRead command p left after → ¬ HasFaultyTrace command left
+  read_complete : (command : Command) (left after : Contents) (p : Program) → HasJob (job_wanted command) left p → IsTraceRead command p left after
+      → ¬ HasFaultyTrace command left
   read_complete command left after p has read faulty = faulty.faulty p has (read faulty.trace faulty.named).0
 
   -- a fault tells another ending
@@ -161,7 +163,8 @@ module _ (laws : LawsBelow) where
     trace = λ q trace ending named also ends other. absurd (other (only trace named q ending also.has ends));
   }
 
-  leads_job : (command : Command) (name : List ℕ) (left : Contents) (fault : JobFault) → job_wanted command ≡ Named name → job_in (bytes_left left name) ≡ Err fault → Leads 3 command left
+  leads_job : (command : Command) (name : List ℕ) (left : Contents) (fault : JobFault) → job_wanted command ≡ Named name
+      → job_in (bytes_left left name) ≡ Err fault → Leads 3 command left
   leads_job command name left fault named bad = record {
     done = λ q good none. absurd (not_both (job_wanted command) name left q fault named good.has bad);
     job = λ another other also found. inl refl;
@@ -172,7 +175,8 @@ module _ (laws : LawsBelow) where
     trace = λ q trace ending its good ends other. absurd (not_both (job_wanted command) name left q fault named good.has bad);
   }
 
-  leads_conflict : (command : Command) (left : Contents) (p : Program) → IsTrue (asks_accepted command) → HasJob (job_wanted command) left p → ¬ IsAccepted p → Leads 4 command left
+  leads_conflict : (command : Command) (left : Contents) (p : Program) → IsTrue (asks_accepted command) → HasJob (job_wanted command) left p → ¬ IsAccepted p
+      → Leads 4 command left
   leads_conflict command left p asked has refused = record {
     done = λ q good none. absurd (refused (accepted_of_text (job_wanted command) left q p good.has has (good.accepted asked)));
     job = λ name fault named bad. absurd (not_both (job_wanted command) name left p fault named has bad);
@@ -183,7 +187,8 @@ module _ (laws : LawsBelow) where
     trace = λ q trace ending its good ends other. absurd (refused (accepted_of_text (job_wanted command) left q p good.has has (good.accepted asked)));
   }
 
-  leads_plan : (command : Command) (left : Contents) (p : Program) (plan : List ℕ) → plan_named command ≡ Some plan → HasJob (job_wanted command) left p → IsAccepted p → ¬ HasValidPlan (job_wanted command) plan left p → Leads 5 command left
+  leads_plan : (command : Command) (left : Contents) (p : Program) (plan : List ℕ) → plan_named command ≡ Some plan → HasJob (job_wanted command) left p
+      → IsAccepted p → ¬ HasValidPlan (job_wanted command) plan left p → Leads 5 command left
   leads_plan command left p plan named has accepted bad = record {
     done = λ q good none. absurd (bad (valid_of_text (job_wanted command) plan left q p good.has has (good.plan plan named)));
     job = λ name fault named found. absurd (not_both (job_wanted command) name left p fault named has found);
@@ -194,7 +199,8 @@ module _ (laws : LawsBelow) where
     trace = λ q trace ending its good ends other. absurd (bad (valid_of_text (job_wanted command) plan left q p good.has has (good.plan plan named)));
   }
 
-  leads_source : (command : Command) (left : Contents) (p : Program) → HasJob (job_wanted command) left p → (IsTrue (asks_accepted command) → IsAccepted p) → HasPlanAsked command left p → CanStart command left p
+  leads_source : (command : Command) (left : Contents) (p : Program) → HasJob (job_wanted command) left p → (IsTrue (asks_accepted command) → IsAccepted p)
+      → HasPlanAsked command left p → CanStart command left p
       → HasDefect (how_read command) (texts_named command) left p → Leads 6 command left
   leads_source command left p has accepted valid start bad = record {
     done = λ q good none. absurd (no_defect command left q p good.has has good.sources bad);
@@ -206,7 +212,8 @@ module _ (laws : LawsBelow) where
     trace = λ q trace ending its good ends other. absurd (no_defect command left q p good.has has good.sources bad);
   }
 
-  leads_start : (command : Command) (left : Contents) (p : Program) → HasJob (job_wanted command) left p → (IsTrue (asks_accepted command) → IsAccepted p) → HasPlanAsked command left p → ¬ CanStart command left p
+  leads_start : (command : Command) (left : Contents) (p : Program) → HasJob (job_wanted command) left p → (IsTrue (asks_accepted command) → IsAccepted p)
+      → HasPlanAsked command left p → ¬ CanStart command left p
       → Leads 11 command left
   leads_start command left p has accepted valid bad = record {
     done = λ q good none. absurd (bad (start_of_text command left q p good.has has good.start));
@@ -235,8 +242,10 @@ module _ (laws : LawsBelow) where
   leads : (command : Command) (left : Contents) (wanted : ℕ) → CallsFor command left wanted → Leads wanted command left
   leads command left wanted (cases.Good is p good only) = subst (λ n. Leads n command left) (sym is) (leads_done command left p good only)
   leads command left wanted (cases.FaultyJob is name fault named bad) = subst (λ n. Leads n command left) (sym is) (leads_job command name left fault named bad)
-  leads command left wanted (cases.NotAccepted is p asked has refused) = subst (λ n. Leads n command left) (sym is) (leads_conflict command left p asked has refused)
-  leads command left wanted (cases.NoValidPlan is p plan named has accepted bad) = subst (λ n. Leads n command left) (sym is) (leads_plan command left p plan named has accepted bad)
+  leads command left wanted (cases.NotAccepted is p asked has refused) =
+      subst (λ n. Leads n command left) (sym is) (leads_conflict command left p asked has refused)
+  leads command left wanted (cases.NoValidPlan is p plan named has accepted bad) =
+      subst (λ n. Leads n command left) (sym is) (leads_plan command left p plan named has accepted bad)
   leads command left wanted (cases.FaultyStart is p has accepted valid bad) =
       subst (λ n. Leads n command left) (sym is) (leads_start command left p has accepted valid bad)
   leads command left wanted (cases.FaultySource is p has accepted valid start bad) =
@@ -247,7 +256,8 @@ module _ (laws : LawsBelow) where
   pub one_status : (command : Command) (left : Contents) (a b : ℕ) → CallsFor command left a → CallsFor command left b → a ≡ b
   one_status command left a b first (cases.Good is p good only) =
       settled a 0 ((leads command left a first).done p good (only_complete command left only)) (λ e. omega (arith, e)) ∙ sym is
-  one_status command left a b first (cases.FaultyJob is name fault named bad) = settled a 3 ((leads command left a first).job name fault named bad) (λ e. omega (arith, e)) ∙ sym is
+  one_status command left a b first (cases.FaultyJob is name fault named bad) =
+      settled a 3 ((leads command left a first).job name fault named bad) (λ e. omega (arith, e)) ∙ sym is
   one_status command left a b first (cases.NotAccepted is p asked has refused) =
       settled a 4 ((leads command left a first).conflict p asked refused has) (λ e. omega (arith, e)) ∙ sym is
   one_status command left a b first (cases.NoValidPlan is p plan named has accepted bad) =
@@ -257,45 +267,58 @@ module _ (laws : LawsBelow) where
   one_status command left a b first (cases.FaultySource is p has accepted valid start bad) =
       settled a 6 ((leads command left a first).source p accepted has valid start bad) (λ e. omega (arith, e)) ∙ sym is
   one_status command left a b first (cases.FaultyTrace is faulty) =
-      settled a 13 ((leads command left a first).trace faulty.p faulty.trace faulty.ending faulty.named faulty.good faulty.ends (other_ending command left faulty)) (λ e. omega (arith, e)) ∙ sym is
+      settled a 13 ((leads command left a first).trace faulty.p faulty.trace faulty.ending faulty.named faulty.good faulty.ends
+          (other_ending command left faulty)) (λ e. omega (arith, e)) ∙ sym is
 
   -- ---- the outcome
   -- what each outcome shows of the files
-  by_defect : (wanted : ℕ) (command : Command) (left : Contents) (old new : Option Contents) (defect : PlanDefect) → old ≡ Some left → Leads wanted command left → HasPlanDefect command old new defect → IsStatus wanted 5
+  by_defect : (wanted : ℕ) (command : Command) (left : Contents) (old new : Option Contents) (defect : PlanDefect) → old ≡ Some left
+      → Leads wanted command left → HasPlanDefect command old new defect → IsStatus wanted 5
   by_defect wanted command left old new (defects.Text fault) told leads why =
-      let found = of_told (λ old _. HasJob (job_wanted command) old why.program × (plan_in why.program (plan_behind (job_wanted command) why.plan old) ≡ Err fault)) left old new told why.first in
+      let found = of_told (λ old _. HasJob (job_wanted command) old why.program
+          × (plan_in why.program (plan_behind (job_wanted command) why.plan old) ≡ Err fault)) left old new told why.first in
       leads.plan why.plan why.program why.asked why.accepted found.1.0 (faulty_text (job_wanted command) why.plan left why.program fault found.1.1)
   by_defect wanted command left old new (defects.Invalid checked fault) told leads why =
-      let found = of_told (λ old _. HasJob (job_wanted command) old (program_of checked) × HasPlan (job_wanted command) why.plan old (program_of checked) fault.plan.nodes) left old new told why.text in
-      leads.plan why.plan (program_of checked) why.asked why.accepted found.1.0 (invalid_plan (job_wanted command) why.plan left (program_of checked) fault.plan.nodes why.invalid.refused found.1.1)
+      let found = of_told (λ old _. HasJob (job_wanted command) old (program_of checked)
+          × HasPlan (job_wanted command) why.plan old (program_of checked) fault.plan.nodes) left old new told why.text in
+      leads.plan why.plan (program_of checked) why.asked why.accepted found.1.0
+          (invalid_plan (job_wanted command) why.plan left (program_of checked) fault.plan.nodes why.invalid.refused found.1.1)
 
-  by_start : (wanted : ℕ) (command : Command) (left : Contents) (old new : Option Contents) (defect : SaveDefect) → old ≡ Some left → Leads wanted command left → HasSaveDefect command old new defect → IsStatus wanted 11
+  by_start : (wanted : ℕ) (command : Command) (left : Contents) (old new : Option Contents) (defect : SaveDefect) → old ≡ Some left
+      → Leads wanted command left → HasSaveDefect command old new defect → IsStatus wanted 11
   by_start wanted command left old new (starts.SameName checked number) told leads why =
       let p = program_of checked in
-      let found = (of_told (λ old _. HasJob (job_wanted command) old p × HasPlanAsked command old p × IsSameName command p number) left old new told why.first).1 in
+      let found = (of_told (λ old _. HasJob (job_wanted command) old p × HasPlanAsked command old p × IsSameName command p number) left old new told
+          why.first).1 in
       leads.start p why.accepted found.0 found.1 (same_name_stops command left p number found.2)
   by_start wanted command left old new (starts.Checkpoint fault) told leads why =
       let p = why.0 in
-      let found = (of_told (λ old _. HasJob (job_wanted command) old p × HasPlanAsked command old p × HasBadCheckpoint command old p fault) left old new told why.1.first).1 in
+      let found = (of_told (λ old _. HasJob (job_wanted command) old p × HasPlanAsked command old p × HasBadCheckpoint command old p fault) left old new told
+          why.1.first).1 in
       leads.start p why.1.accepted found.0 found.1 (bad_checkpoint_stops laws.saves command left p fault found.2)
 
-  by_case : (words : List (List ℕ)) (old new : Outside) (before now : Faults) (status wanted : ℕ) (command : Command) (left : Contents) → Outcome words old new status → FaultsFirst words old.left before now status → command_in words ≡ Ok command → old.left ≡ Some left → NothingFailed command old.left before now → Leads wanted command left → IsStatus wanted status
+  by_case : (words : List (List ℕ)) (old new : Outside) (before now : Faults) (status wanted : ℕ) (command : Command) (left : Contents)
+      → Outcome words old new status → FaultsFirst words old.left before now status → command_in words ≡ Ok command → old.left ≡ Some left
+      → NothingFailed command old.left before now → Leads wanted command left → IsStatus wanted status
   by_case words old new before now status wanted command left (cases.Done is other also line done heard) faults word told nothing leads =
       let same = same_command words other command also word in
       let known = subst (λ (d : Command). WhereKnown (job_wanted d) old.left new.left (IsDone d old.out new.out line)) same done in
       let found = known_at (job_wanted command) (IsDone command old.out new.out line) left old.left new.left told known in
       let read = found.1.2 in
       subst (IsStatus wanted) (sym is) (leads.done found.1.0 read.good (read_complete command left found.0 found.1.0 read.good.has read.trace))
-  by_case words old new before now status wanted command left (cases.BadWords is at bad files refused) faults word told nothing leads = absurd (no_command words command at word bad)
+  by_case words old new before now status wanted command left (cases.BadWords is at bad files refused) faults word told nothing leads =
+      absurd (no_command words command at word bad)
   by_case words old new before now status wanted command left (cases.BadJob is other also fault why refused) faults word told nothing leads =
       let same = same_command words other command also word in
       let has = subst (λ (d : Command). HasJobFault (job_wanted d) old.left new.left fault) same why in
-      subst (IsStatus wanted) (sym is) (leads.job has.name fault has.named (of_told (λ old _. job_in (bytes_left old has.name) ≡ Err fault) left old.left new.left told has.first).1)
+      subst (IsStatus wanted) (sym is) (leads.job has.name fault has.named
+          (of_told (λ old _. job_in (bytes_left old has.name) ≡ Err fault) left old.left new.left told has.first).1)
   by_case words old new before now status wanted command left (cases.Conflicts is other also fault why refused) faults word told nothing leads =
       let same = same_command words other command also word in
       let has = subst (λ (d : Command). HasConflict d old.left new.left fault) same why in
       let read = of_told (IsJobRead has.name fault.program) left old.left new.left told has.job in
-      subst (IsStatus wanted) (sym is) (leads.conflict fault.program has.asked has.conflict.refused (subst (λ (job : WantedJob). HasJob job left fault.program) (sym has.named) read.1.has))
+      subst (IsStatus wanted) (sym is) (leads.conflict fault.program has.asked has.conflict.refused
+          (subst (λ (job : WantedJob). HasJob job left fault.program) (sym has.named) read.1.has))
   by_case words old new before now status wanted command left (cases.BadPlan is other also defect why refused) faults word told nothing leads =
       let same = same_command words other command also word in
       let has = subst (λ (d : Command). HasPlanDefect d old.left new.left defect) same why in
@@ -303,14 +326,16 @@ module _ (laws : LawsBelow) where
   by_case words old new before now status wanted command left (cases.BadSource is other also p fault text why wrote said) faults word told nothing leads =
       let same = same_command words other command also word in
       let has = subst (λ (d : Command). HasSourceFault d old.left new.left p fault text) same why in
-      let found = of_told (λ old new. HasJob (job_wanted command) old p × HasPlanAsked command old p × CanStart command old p × IsMet (how_read command) command old new p text fault) left old.left new.left told has.first in
+      let found = of_told (λ old new. HasJob (job_wanted command) old p × HasPlanAsked command old p × CanStart command old p
+          × IsMet (how_read command) command old new p text fault) left old.left new.left told has.first in
       subst (IsStatus wanted) (sym is)
       (leads.source p has.accepted found.1.0 found.1.1 found.1.2 (met_defect laws.meeting (how_read command) command left found.0 p text fault found.1.3))
   by_case words old new before now status wanted command left (cases.ReadFailed is other also some said) faults word told nothing leads =
       let rose = faults.read is in
       let same = same_command words rose.1.0 command rose.1.1 word in
       absurd (nothing.files rose.0 (subst (λ (d : Command). IsReadName old.left d rose.0) same rose.1.2) rose.2)
-  by_case words old new before now status wanted command left (cases.WriteFailed is other also partly said) faults word told nothing leads = absurd (nothing.out (faults.write is))
+  by_case words old new before now status wanted command left (cases.WriteFailed is other also partly said) faults word told nothing leads =
+      absurd (nothing.out (faults.write is))
   by_case words old new before now status wanted command left (cases.NoMemory is other also some said) faults word told nothing leads = inr is
   by_case words old new before now status wanted command left (cases.BadSave is other also defect why refused) faults word told nothing leads =
       let same = same_command words other command also word in
@@ -327,6 +352,7 @@ module _ (laws : LawsBelow) where
       subst (IsStatus wanted) (sym is) (leads.trace has.p has.trace has.ending has.named found.1.0 found.1.1 (told_ending fault has.ending has.tells))
 
   -- completeness follows from the outcome, where a fault of the outside comes first
-  pub completes_of : (words : List (List ℕ)) (old new : Outside) (before now : Faults) (status : ℕ) → Outcome words old new status → FaultsFirst words old.left before now status → Completes words old.left before now status
+  pub completes_of : (words : List (List ℕ)) (old new : Outside) (before now : Faults) (status : ℕ) → Outcome words old new status
+      → FaultsFirst words old.left before now status → Completes words old.left before now status
   completes_of words old new before now status outcome faults command left wanted word told nothing called =
       by_case words old new before now status wanted command left outcome faults word told nothing (leads command left wanted called)

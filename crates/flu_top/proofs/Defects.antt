@@ -11,7 +11,8 @@ use Rattle.flu_top.specs.Openings.{Opening}
 use Rattle.flu_top.specs.Reading.{Reading, Unread, Whole, InRounds, AreSourcesGood, HasDefectIn, HasDefect, MeetsDefect, lines_behind, rows_in_round}
 use Rattle.flu_top.specs.Wants.{texts_named}
 
-pub good_or_bad : (reading : Reading) (texts : List (List ℕ)) (left : Contents) (p : Program) → AreSourcesGood reading texts left p → HasDefect reading texts left p → ⊥
+pub good_or_bad : (reading : Reading) (texts : List (List ℕ)) (left : Contents) (p : Program) → AreSourcesGood reading texts left p
+    → HasDefect reading texts left p → ⊥
 good_or_bad Unread texts left p good bad = bad
 good_or_bad Whole texts left p good bad = let e = sym good ∙ bad.1 in cc
 good_or_bad InRounds texts left p good bad = let e = sym (good bad.at bad.source bad.is) ∙ bad.defect in cc
@@ -33,4 +34,5 @@ pub met_defect : LawOfMeeting → (reading : Reading) (command : Command) (left 
     → IsMet reading command left now p text fault → HasDefect reading (texts_named command) left p
 met_defect meeting Unread command left now p text fault met = met
 met_defect meeting Whole command left now p text fault met = (fault, met)
-met_defect meeting InRounds command left now p text fault met = met_in_round meeting p met.opening (lines_behind (texts_named command) left p) text met.put fault met.met
+met_defect meeting InRounds command left now p text fault met = met_in_round meeting p met.opening
+    (lines_behind (texts_named command) left p) text met.put fault met.met

@@ -1,6 +1,7 @@
 -- The demo job is accepted: its views add to the same cells, its updates own cells of their own keys, and its ticks depend on all
 -- that they conflict with.
-use Rattle.std.proofs.Common.{◌≡◌, refl, sym, ap, ◌∙◌, subst, ℕ, ◌<◌, ◌==◌, ◌&&◌, ◌||◌, List, [], ◌∷◌, Bool, true, false, inl, inr, ◌⊎◌, zero, suc, if◌then◌else◌, arith, nat_lt}
+use Rattle.std.proofs.Common.{◌≡◌, refl, sym, ap, ◌∙◌, subst, ℕ, ◌<◌, ◌==◌, ◌&&◌, ◌||◌, List, [], ◌∷◌, Bool, true, false, inl, inr, ◌⊎◌, zero, suc}
+use Rattle.std.proofs.Common.{if◌then◌else◌, arith, nat_lt}
 use Rattle.std.specs.Prelude.{Contains, IsTrue, slice_get}
 use Rattle.std.specs.List.{list_all, list_any}
 use Rattle.std.proofs.lemmas.Bool.{false≢true}
@@ -115,7 +116,8 @@ abbrev AreTied : ℕ → ℕ → ℕ → ℕ → Cell → Type 0
 AreTied x y k l c = IsTrue (modes_conflict (mode_in x k c) (mode_in y l c)) → IsTrue (tied x y k l)
 
 -- a conflict of kinds whose modes are these
-at_modes : (x y k l : ℕ) (c : Cell) (m n : Mode) → mode_in x k c ≡ m → mode_in y l c ≡ n → IsTrue (modes_conflict (mode_in x k c) (mode_in y l c)) → IsTrue (modes_conflict m n)
+at_modes : (x y k l : ℕ) (c : Cell) (m n : Mode) → mode_in x k c ≡ m → mode_in y l c ≡ n → IsTrue (modes_conflict (mode_in x k c) (mode_in y l c))
+    → IsTrue (modes_conflict m n)
 at_modes x y k l c m n first second e = sym (λ i. modes_conflict (first i) (second i)) ∙ e
 
 view_view : (k l : ℕ) (c : Cell) → AreTied 0 0 k l c
@@ -222,5 +224,6 @@ demo_accepted p demo a b c first second conflict =
     ∙ with_both a.kind b.kind a.key b.key c (kind_listed p a demo first) (kind_listed p b demo second)
     (at_conflict (mode_is p a c demo) (mode_is p b c demo) conflict)
   where
-    at_conflict : mode_of p a c ≡ mode_in a.kind a.key c → mode_of p b c ≡ mode_in b.kind b.key c → IsTrue (modes_conflict (mode_of p a c) (mode_of p b c)) → IsTrue (modes_conflict (mode_in a.kind a.key c) (mode_in b.kind b.key c))
+    at_conflict : mode_of p a c ≡ mode_in a.kind a.key c → mode_of p b c ≡ mode_in b.kind b.key c → IsTrue (modes_conflict (mode_of p a c) (mode_of p b c))
+        → IsTrue (modes_conflict (mode_in a.kind a.key c) (mode_in b.kind b.key c))
     at_conflict same also e = sym (λ i. modes_conflict (same i) (also i)) ∙ e

@@ -24,10 +24,12 @@ use Rattle.flu_top.proofs.Sequence.{none_among, can_start, has_saved}
 
 pub is_demo_job : (p : Program) → IsDemoJob p → job_of p ≡ demo_job
 is_demo_job p demo =
-    λ i. record { version = demo.version i; families = demo.families i; kinds = map plain_kind (demo.kinds i); depends = demo.depends i; sources = demo.sources i }
+    λ i. record { version = demo.version i; families = demo.families i; kinds = map plain_kind (demo.kinds i); depends = demo.depends i; sources =
+        demo.sources i }
 
 -- the summary of the report of the streams
-pub is_summary : (n seed events : ℕ) (p : Program) (lists : List (List Item)) (report text : List ℕ) → lists ≡ demo_lists n seed → length (all_events lists) ≡ events
+pub is_summary : (n seed events : ℕ) (p : Program) (lists : List (List Item)) (report text : List ℕ) → lists ≡ demo_lists n seed
+    → length (all_events lists) ≡ events
     → report ≡ reports.report p (final_outputs p nothing_held lists) → text ≡ summary events report → text ≡ demo_summary n seed p
 unfolding demo_summary
 is_summary n seed events p lists report text drawn count made is =
@@ -36,11 +38,13 @@ is_summary n seed events p lists report text drawn count made is =
     ∙ ap (λ (ls : List (List Item)). summary (length (all_events ls)) (reports.report p (final_outputs p nothing_held ls))) drawn
 
 -- the summary is what the demo writes, and no file is read for it
-pub is_shown : (n seed : ℕ) (p : Program) (text : List ℕ) (left : Contents) → IsDemoJob p → IsAccepted p → text ≡ demo_summary n seed p → IsWritten (Demo n seed) text [] left left
+pub is_shown : (n seed : ℕ) (p : Program) (text : List ℕ) (left : Contents) → IsDemoJob p → IsAccepted p → text ≡ demo_summary n seed p
+    → IsWritten (Demo n seed) text [] left left
 is_shown n seed p text left demo accepted is = (
   p,
   record {
-    good = record { has = is_demo_job p demo; accepted = λ asked. accepted; plan = λ plan named. absurd (cc); start = can_start (Demo n seed) left p (record { save = refl; resume = refl }); sources = tt };
+    good = record { has = is_demo_job p demo; accepted = λ asked. accepted; plan = λ plan named. absurd (cc); start =
+        can_start (Demo n seed) left p (record { save = refl; resume = refl }); sources = tt };
     ends = λ name found apart. absurd (none_among name found);
     trace = λ trace named. absurd (cc);
     saved = has_saved (Demo n seed) p left left (record { save = refl; resume = refl });
@@ -64,7 +68,8 @@ only_memory p refusals.PutFault accepted is = absurd is
 only_memory p (refusals.TraceFault fault) accepted is = absurd is
 
 -- what refuses a demo refuses it whatever the files hold
-pub refused_anyhow : (n seed : ℕ) (result : Result Product Refusal) (old new : Option Contents) (before now : List ℕ → ℕ) → IfErr result (λ refusal. refusal ≡ refusals.NoMemory)
+pub refused_anyhow : (n seed : ℕ) (result : Result Product Refusal) (old new : Option Contents) (before now : List ℕ → ℕ)
+    → IfErr result (λ refusal. refusal ≡ refusals.NoMemory)
     → IfErr result (IsRefusal (Demo n seed) old new before now)
 refused_anyhow n seed (Ok product) old new before now refused = tt
 refused_anyhow n seed (Err refusal) old new before now refused = subst (IsRefusal (Demo n seed) old new before now) (sym refused) tt

@@ -1,5 +1,6 @@
 -- The job of a file's bytes, of which more than a job text may have need not be read.
-use Rattle.std.proofs.Common.{◌≡◌, ◌≢◌, refl, sym, ap, ◌∙◌, subst, ℕ, ◌≤◌, List, [], ◌++◌, length, nat_le, Bool, true, false, Option, Result, Ok, Err, arith, append-nil, length-append}
+use Rattle.std.proofs.Common.{◌≡◌, ◌≢◌, refl, sym, ap, ◌∙◌, subst, ℕ, ◌≤◌, List, [], ◌++◌, length, nat_le, Bool, true, false, Option, Result, Ok, Err, arith}
+use Rattle.std.proofs.Common.{append-nil, length-append}
 use Rattle.std.specs.Prelude.{IfErr}
 use Rattle.std.proofs.lemmas.Bool.Decides.{nat_tests}
 use Rattle.flu_outside.specs.Outside.{WhereTold, Contents}
@@ -45,13 +46,15 @@ short_job bytes j is = by_length (nat_le (length bytes) 1048576) refl
     by_length true few = grind (arith, nat_tests)
     by_length false many = let e = sym (long_job bytes many) ∙ is in absurd (cc)
 
-pub job_is_read : JobsAreGrammar → (job bytes : List ℕ) (p : Program) (a b : Option Contents) → WhereTold a b (TookWhole job 1048576 bytes) → job_in bytes ≡ Ok (job_of p)
+pub job_is_read : JobsAreGrammar → (job bytes : List ℕ) (p : Program) (a b : Option Contents) → WhereTold a b (TookWhole job 1048576 bytes)
+    → job_in bytes ≡ Ok (job_of p)
     → WhereTold a b (IsJobRead job p)
 job_is_read grammar job bytes p a b whole is =
     told_weaker (TookWhole job 1048576 bytes) (IsJobRead job p) a b
     (λ x y w. record { has = (grammar (bytes_left x job) (job_of p)).0 (job_of_whole job bytes x y w ∙ is); end = w.end (short_job bytes (job_of p) is) }) whole
 
-has_job_fault : (job bytes : List ℕ) (fault : JobFault) (a b : Option Contents) → fault ≢ f.NoMemory → WhereTold a b (TookWhole job 1048576 bytes) → job_in bytes ≡ Err fault → HasJobFault (Named job) a b fault
+has_job_fault : (job bytes : List ℕ) (fault : JobFault) (a b : Option Contents) → fault ≢ f.NoMemory → WhereTold a b (TookWhole job 1048576 bytes)
+    → job_in bytes ≡ Err fault → HasJobFault (Named job) a b fault
 has_job_fault job bytes fault a b other whole is = record {
   name = job;
   named = refl;
@@ -59,7 +62,8 @@ has_job_fault job bytes fault a b other whole is = record {
   first = told_weaker (TookWhole job 1048576 bytes) (λ left _. job_in (bytes_left left job) ≡ Err fault) a b (λ x y w. job_of_whole job bytes x y w ∙ is) whole;
 }
 
-pub job_is_refused : (job bytes : List ℕ) (fault : JobFault) (a b : Option Contents) (before now : List ℕ → ℕ) → WhereTold a b (TookWhole job 1048576 bytes) → Fails fault (job_in bytes) → IsJobRefusal job a b before now (refusal_of_job fault)
+pub job_is_refused : (job bytes : List ℕ) (fault : JobFault) (a b : Option Contents) (before now : List ℕ → ℕ) → WhereTold a b (TookWhole job 1048576 bytes)
+    → Fails fault (job_in bytes) → IsJobRefusal job a b before now (refusal_of_job fault)
 job_is_refused job bytes (f.BadUtf8 at) a b before now whole is = has_job_fault job bytes (f.BadUtf8 at) a b (λ e. cc) whole is
 job_is_refused job bytes (f.BadToken at) a b before now whole is = has_job_fault job bytes (f.BadToken at) a b (λ e. cc) whole is
 job_is_refused job bytes (f.Unexpected at) a b before now whole is = has_job_fault job bytes (f.Unexpected at) a b (λ e. cc) whole is

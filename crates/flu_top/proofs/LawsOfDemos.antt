@@ -17,21 +17,19 @@ use Rattle.flu_top.specs.Done.{IsDone, WhereKnown, WroteForPut, IsReadName}
 use Rattle.flu_top.specs.Laws.{DemoReadsNothing, DemoStatuses, DemoIsDone}
 use Rattle.flu_top.specs.Outcome as cases
 use Rattle.flu_top.specs.Wants.{job_wanted, save_named, resume_named}
-use Rattle.flu_top.proofs.Statuses.{same_command, no_command, at_0}
+use Rattle.flu_top.proofs.Commands.{same_command, no_command, not_named}
+use Rattle.flu_top.proofs.Statuses.{at_0}
 
 fixed_has_no_name : (job : Job) (name : List ℕ) → Fixed job ≡ Named name → ⊥
 fixed_has_no_name job name e = cc
 
-no_name : (o : Option (List ℕ)) (name : List ℕ) → o ≡ None → o ≡ Some name → ⊥
-no_name o name none some = let e = sym none ∙ some in cc
-
 no_defect : (n seed : ℕ) (old new : Option Contents) (defect : PlanDefect) → HasPlanDefect (Demo n seed) old new defect → ⊥
-no_defect n seed old new (defects.Text fault) why = no_name None why.plan refl why.asked
-no_defect n seed old new (defects.Invalid checked fault) why = no_name None why.plan refl why.asked
+no_defect n seed old new (defects.Text fault) why = not_named None why.plan refl why.asked
+no_defect n seed old new (defects.Invalid checked fault) why = not_named None why.plan refl why.asked
 
 no_start : (n seed : ℕ) (name : List ℕ) → (save_named (Demo n seed) ≡ Some name) ⊎ (resume_named (Demo n seed) ≡ Some name) → ⊥
-no_start n seed name (inl saved) = no_name None name refl saved
-no_start n seed name (inr resumed) = no_name None name refl resumed
+no_start n seed name (inl saved) = not_named None name refl saved
+no_start n seed name (inr resumed) = not_named None name refl resumed
 
 no_save_defect : (n seed : ℕ) (old new : Option Contents) (defect : SaveDefect) → HasSaveDefect (Demo n seed) old new defect → ⊥
 no_save_defect n seed old new (saves.SameName checked number) why = no_start n seed why.name why.named
@@ -39,10 +37,10 @@ no_save_defect n seed old new (saves.Checkpoint fault) why = no_start n seed why
 
 not_read : (n seed : ℕ) (left : Option Contents) (name : List ℕ) → IsReadName left (Demo n seed) name → ⊥
 not_read n seed left name (inl named) = fixed_has_no_name demo_job name named
-not_read n seed left name (inr (inl plan)) = no_name None name refl plan.named
-not_read n seed left name (inr (inr (inl checkpoint))) = no_name None name refl checkpoint.named
+not_read n seed left name (inr (inl plan)) = not_named None name refl plan.named
+not_read n seed left name (inr (inr (inl checkpoint))) = not_named None name refl checkpoint.named
 not_read n seed left name (inr (inr (inr (inl source)))) = contains_none name source.named
-not_read n seed left name (inr (inr (inr (inr trace)))) = no_name None name refl trace.named
+not_read n seed left name (inr (inr (inr (inr trace)))) = not_named None name refl trace.named
 
 pub reads_law : DemoReadsNothing
 reads_law words n seed word left name read =
@@ -58,7 +56,8 @@ statuses_law words old new status before now (cases.Conflicts is command also fa
     let why = subst (λ (d : Command). HasConflict d old.left new.left fault) (same_command words command (Demo n seed) also word) has in
     absurd (fixed_has_no_name demo_job why.name why.named)
 statuses_law words old new status before now (cases.BadPlan is command also defect has refused) faults n seed word =
-    absurd (no_defect n seed old.left new.left defect (subst (λ (d : Command). HasPlanDefect d old.left new.left defect) (same_command words command (Demo n seed) also word) has))
+    absurd (no_defect n seed old.left new.left defect (subst (λ (d : Command). HasPlanDefect d old.left new.left defect)
+        (same_command words command (Demo n seed) also word) has))
 statuses_law words old new status before now (cases.BadSource is command also p fault text has wrote said) faults n seed word =
     let why = subst (λ (d : Command). HasSourceFault d old.left new.left p fault text) (same_command words command (Demo n seed) also word) has in
     absurd (false≢true why.asked)
@@ -67,12 +66,13 @@ statuses_law words old new status before now (cases.ReadFailed is command also s
 statuses_law words old new status before now (cases.WriteFailed is command also partly said) faults n seed word = (1, omega arith, sym is)
 statuses_law words old new status before now (cases.NoMemory is command also some said) faults n seed word = (2, omega arith, sym is)
 statuses_law words old new status before now (cases.BadSave is command also defect has refused) faults n seed word =
-    absurd (no_save_defect n seed old.left new.left defect (subst (λ (d : Command). HasSaveDefect d old.left new.left defect) (same_command words command (Demo n seed) also word) has))
+    absurd (no_save_defect n seed old.left new.left defect (subst (λ (d : Command). HasSaveDefect d old.left new.left defect)
+        (same_command words command (Demo n seed) also word) has))
 statuses_law words old new status before now (cases.PutFailed is command also some said) faults n seed word =
     absurd ((subst (λ (d : Command). WroteForPut d old.left new.left old.out new.out) (same_command words command (Demo n seed) also word) some).saves refl)
 statuses_law words old new status before now (cases.BadTrace is command also fault has refused) faults n seed word =
     let why = subst (λ (d : Command). HasTraceFault d old.left new.left fault) (same_command words command (Demo n seed) also word) has in
-    absurd (no_name None why.trace refl why.named)
+    absurd (not_named None why.trace refl why.named)
 
 pub done_law : DemoIsDone
 done_law words old new status outcome is n seed word =

@@ -5,8 +5,14 @@ use Rattle.flu_outside.specs.Taking.{TookFronts}
 use Rattle.flu_top.specs.Taking.{TookOnly, TookFrontsBut}
 use Rattle.flu_top.specs.Done.{IsReadBy, IsSavedBy, MayBePut}
 use Rattle.flu_top.specs.Outcome as cases
-use Rattle.flu_top.specs.Laws.{KnownStatuses, DoneIsDone, DoneIsQuiet, SimulationIsHeard, AdaptedPlanIsHeard, BadWordsExactly, BadWordsLine, BadWordsTouchNothing, JobFaultIsFirst, ConflictIsFirst, PlanDefectIsFirst, SaveDefectIsFirst, SourceFaultIsFirst, TraceFaultIsFirst, ReadFaultRose, ReadFaultLine, WriteFaultRose, WriteFaultIsPart, WriteFaultLine, PutFaultRose, PutFaultIsBehindARound, NoMemoryLine, NothingIsWritten, RefusalsWriteNothing, SomeIsWritten, SomeIsWrittenForMemory, FrontsAreTaken, NoOtherIsRead, GoodIsDone, JobFaultIsRefused, ConflictIsRefused, PlanDefectIsRefused, SaveDefectIsRefused, SourceFaultIsRefused, TraceFaultIsRefused, CompletesByFaults, CallsForOneStatus}
-use Rattle.flu_top.proofs.Statuses.{at_0, at_2, at_3, at_4, at_5, at_6, at_7, at_8, at_9, at_11, at_12, at_13, quiet_at_0, heard_at_0, adapted_at_0, known_status, nothing_written, refused_unwritten, of_no_command, bad_words_exactly}
+use Rattle.flu_top.specs.Laws.{KnownStatuses, DoneIsDone, DoneIsQuiet, SimulationIsHeard, AdaptedPlanIsHeard, BadWordsExactly, BadWordsLine}
+use Rattle.flu_top.specs.Laws.{BadWordsTouchNothing, JobFaultIsFirst, ConflictIsFirst, PlanDefectIsFirst, SaveDefectIsFirst, SourceFaultIsFirst}
+use Rattle.flu_top.specs.Laws.{TraceFaultIsFirst, ReadFaultRose, ReadFaultLine, WriteFaultRose, WriteFaultIsPart, WriteFaultLine, PutFaultRose}
+use Rattle.flu_top.specs.Laws.{PutFaultIsBehindARound, NoMemoryLine, NothingIsWritten, RefusalsWriteNothing, SomeIsWritten, SomeIsWrittenForMemory}
+use Rattle.flu_top.specs.Laws.{FrontsAreTaken, NoOtherIsRead, GoodIsDone, JobFaultIsRefused, ConflictIsRefused, PlanDefectIsRefused, SaveDefectIsRefused}
+use Rattle.flu_top.specs.Laws.{SourceFaultIsRefused, TraceFaultIsRefused, CompletesByFaults, CallsForOneStatus}
+use Rattle.flu_top.proofs.Statuses.{at_0, at_2, at_3, at_4, at_5, at_6, at_7, at_8, at_9, at_11, at_12, at_13, quiet_at_0, heard_at_0, adapted_at_0}
+use Rattle.flu_top.proofs.Statuses.{known_status, nothing_written, refused_unwritten, of_no_command, bad_words_exactly}
 use Rattle.flu_top.proofs.Completeness.{LawsBelow, completes_of, one_status}
 
 -- ---- the statuses
@@ -101,7 +107,8 @@ fronts_law words old new status read none =
 
 pub only_law : NoOtherIsRead
 only_law words old new status read =
-    told_weaker (TookOnly (λ name. IsReadBy words old name ⊎ MayBePut words status name)) (TookOnly (λ name. IsReadBy words old name ⊎ IsSavedBy words name)) old new
+    told_weaker (TookOnly (λ name. IsReadBy words old name ⊎ MayBePut words status name))
+        (TookOnly (λ name. IsReadBy words old name ⊎ IsSavedBy words name)) old new
     (λ x y took name other. took name (λ either. other (saved_if_put name either))) read.only
   where
     saved_if_put : (name : List ℕ) → IsReadBy words old name ⊎ MayBePut words status name → IsReadBy words old name ⊎ IsSavedBy words name
@@ -133,7 +140,8 @@ refused_start_law words told before now status complete command left p word is n
     complete command left 11 word is nothing (cases.FaultyStart refl p has accepted valid bad)
 
 pub refused_trace_law : TraceFaultIsRefused
-refused_trace_law words told before now status complete command left word is nothing faulty = complete command left 13 word is nothing (cases.FaultyTrace refl faulty)
+refused_trace_law words told before now status complete command left word is nothing faulty =
+    complete command left 13 word is nothing (cases.FaultyTrace refl faulty)
 
 pub completes_law : LawsBelow → CompletesByFaults
 completes_law laws words old new status before now outcome faults = completes_of laws words old new before now status outcome faults

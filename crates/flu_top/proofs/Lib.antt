@@ -1,3 +1,4 @@
+pub mod Commands
 pub mod Written
 pub mod WrittenConflicts
 pub mod WrittenPlans

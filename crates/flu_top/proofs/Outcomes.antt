@@ -22,29 +22,35 @@ abbrev pub behind : Call → Option (List ℕ) → ℕ → Outside
 behind c err count = outside c.left_after c.taken_after err count
 
 -- what is heard of a command that is done
-hears : (says : Saying) (said : Option Said) (old new : Outside) → MaySay says said → IsHeard (Ok said) old.err new.err old.err_faults new.err_faults → Hears says old new (line_said said)
+hears : (says : Saying) (said : Option Said) (old new : Outside) → MaySay says said → IsHeard (Ok said) old.err new.err old.err_faults new.err_faults
+    → Hears says old new (line_said said)
 hears Nothing None old new may_say heard = heard
 hears Nothing (Some said) old new may_say heard = absurd (cc)
 hears (Line Is IsForm) None old new may_say heard = absurd may_say
 hears (Line Is IsForm) (Some said) old new may_say heard = (may_say, heard)
 
-pub outcome_of : (words : List (List ℕ)) (c : Call) (err err_after : Option (List ℕ)) (count count_after : ℕ) (ended : Result (Option Said) Refusal) → Ends words c ended → IsHeard ended err err_after count count_after → Outcome words (before c err count) (behind c err_after count_after) (status_after ended)
+pub outcome_of : (words : List (List ℕ)) (c : Call) (err err_after : Option (List ℕ)) (count count_after : ℕ) (ended : Result (Option Said) Refusal)
+    → Ends words c ended → IsHeard ended err err_after count count_after
+    → Outcome words (before c err count) (behind c err_after count_after) (status_after ended)
 outcome_of words c err err_after count count_after ended ends heard = elim ends.how [
   | inl ending ↦ by_ended ending.0 ending.1 ended ending.2 heard
   | inr refused ↦ by_words refused.0 refused.1 refused.2
 ]
   where
-    by_words : (at : ℕ) → command_in words ≡ Err at → IsRefused c at ended → Outcome words (before c err count) (behind c err_after count_after) (status_after ended)
+    by_words : (at : ℕ) → command_in words ≡ Err at → IsRefused c at ended
+        → Outcome words (before c err count) (behind c err_after count_after) (status_after ended)
     by_words at word refused =
         let line = said_of ended (refusals.BadWords (record { at = at })) err err_after count count_after heard refused.words in
         cases.BadWords (ap status_after refused.words) at word refused.files (record { nothing = refused.nothing; said = line })
 
-    by_refusal : (command : Command) → command_in words ≡ Ok command → (refusal : Refusal) → IsStopped c command refusal → IsSaid (line_of refusal) err err_after count count_after → Outcome words (before c err count) (behind c err_after count_after) (status_of refusal)
+    by_refusal : (command : Command) → command_in words ≡ Ok command → (refusal : Refusal) → IsStopped c command refusal
+        → IsSaid (line_of refusal) err err_after count count_after → Outcome words (before c err count) (behind c err_after count_after) (status_of refusal)
     by_refusal command word (refusals.BadWords bad) stop line = absurd stop
     by_refusal command word (refusals.JobFault fault) stop line = cases.BadJob refl command word fault stop.0 (record { nothing = stop.1; said = line })
     by_refusal command word (refusals.Conflict fault) stop line = cases.Conflicts refl command word fault stop.0 (record { nothing = stop.1; said = line })
     by_refusal command word (refusals.PlanDefect defect) stop line = cases.BadPlan refl command word defect stop.0 (record { nothing = stop.1; said = line })
-    by_refusal command word (refusals.SourceFault job fault) stop line = cases.BadSource refl command word (program_read job) fault stop.text stop.why stop.wrote line
+    by_refusal command word (refusals.SourceFault job fault) stop line =
+        cases.BadSource refl command word (program_read job) fault stop.text stop.why stop.wrote line
     by_refusal command word refusals.ReadFault stop line = cases.ReadFailed refl command word stop.wrote line
     by_refusal command word refusals.WriteFault stop line = cases.WriteFailed refl command word stop.partly line
     by_refusal command word refusals.NoMemory stop line = cases.NoMemory refl command word stop line
@@ -52,9 +58,11 @@ outcome_of words c err err_after count count_after ended ends heard = elim ends.
     by_refusal command word refusals.PutFault stop line = cases.PutFailed refl command word stop.wrote line
     by_refusal command word (refusals.TraceFault fault) stop line = cases.BadTrace refl command word fault stop.0 (record { nothing = stop.1; said = line })
 
-    by_ended : (command : Command) → command_in words ≡ Ok command → (ended : Result (Option Said) Refusal) → IsEnding c command ended → IsHeard ended err err_after count count_after → Outcome words (before c err count) (behind c err_after count_after) (status_after ended)
+    by_ended : (command : Command) → command_in words ≡ Ok command → (ended : Result (Option Said) Refusal) → IsEnding c command ended
+        → IsHeard ended err err_after count count_after → Outcome words (before c err count) (behind c err_after count_after) (status_after ended)
     by_ended command word (Ok said) ending heard =
-        cases.Done refl command word (line_said said) ending.done (hears (want command).says said (before c err count) (behind c err_after count_after) ending.may_say heard)
+        cases.Done refl command word (line_said said) ending.done (hears (want command).says said (before c err count)
+            (behind c err_after count_after) ending.may_say heard)
     by_ended command word (Err refusal) ending heard = by_refusal command word refusal ending heard
 
 pub faults_of : (words : List (List ℕ)) (c : Call) (ended : Result (Option Said) Refusal) → Ends words c ended

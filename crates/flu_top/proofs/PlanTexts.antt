@@ -1,5 +1,6 @@
 -- The plan of a file's bytes, of which more than a plan text may have need not be read.
-use Rattle.std.proofs.Common.{◌≡◌, ◌≢◌, refl, sym, ap, ◌∙◌, ℕ, ◌≤◌, List, [], ◌++◌, length, nat_le, Bool, true, false, Option, Ok, Err, arith, append-nil, length-append}
+use Rattle.std.proofs.Common.{◌≡◌, ◌≢◌, refl, sym, ap, ◌∙◌, ℕ, ◌≤◌, List, [], ◌++◌, length, nat_le, Bool, true, false, Option, Ok, Err, arith, append-nil}
+use Rattle.std.proofs.Common.{length-append}
 use Rattle.std.proofs.lemmas.Bool.Decides.{nat_tests}
 use Rattle.flu_outside.specs.Outside.{WhereTold, Contents}
 use Rattle.flu_model.specs.declared.jobs.Program.{Program}
@@ -22,7 +23,8 @@ unfolding plan_in
 long_plan p bytes long = rw long refl
 
 -- the bytes that were read have the plan or the fault of all
-plan_of_whole : (p : Program) (plan bytes : List ℕ) (old new : Contents) → TookWhole plan 1048576 bytes old new → plan_in p (bytes_left old plan) ≡ plan_in p bytes
+plan_of_whole : (p : Program) (plan bytes : List ℕ) (old new : Contents) → TookWhole plan 1048576 bytes old new
+    → plan_in p (bytes_left old plan) ≡ plan_in p bytes
 plan_of_whole p plan bytes old new whole = by_length (nat_le (length bytes) 1048576) refl
   where
     by_length : (b : Bool) → nat_le (length bytes) 1048576 ≡ b → plan_in p (bytes_left old plan) ≡ plan_in p bytes
@@ -42,19 +44,23 @@ short_plan p bytes nodes is = by_length (nat_le (length bytes) 1048576) refl
     by_length true few = grind (arith, nat_tests)
     by_length false many = let e = sym (long_plan p bytes many) ∙ is in absurd (cc)
 
-pub plan_is_read : PlansAreGrammar → (p : Program) (plan bytes : List ℕ) (nodes : List Node) (a b : Option Contents) → WhereTold a b (TookWhole plan 1048576 bytes)
+pub plan_is_read : PlansAreGrammar → (p : Program) (plan bytes : List ℕ) (nodes : List Node) (a b : Option Contents)
+    → WhereTold a b (TookWhole plan 1048576 bytes)
     → plan_in p bytes ≡ Ok nodes → WhereTold a b (IsPlanRead p plan nodes)
 plan_is_read grammar p plan bytes nodes a b whole is =
     told_weaker (TookWhole plan 1048576 bytes) (IsPlanRead p plan nodes) a b
     (λ x y w. record { has = (grammar p (bytes_left x plan) nodes).0 (plan_of_whole p plan bytes x y w ∙ is); end = w.end (short_plan p bytes nodes is) }) whole
 
-has_text_fault : (p : Program) (plan bytes : List ℕ) (fault : PlanFault) (a b : Option Contents) → fault ≢ f.NoMemory → WhereTold a b (TookWhole plan 1048576 bytes) → plan_in p bytes ≡ Err fault → HasTextFault p plan a b fault
+has_text_fault : (p : Program) (plan bytes : List ℕ) (fault : PlanFault) (a b : Option Contents) → fault ≢ f.NoMemory
+    → WhereTold a b (TookWhole plan 1048576 bytes) → plan_in p bytes ≡ Err fault → HasTextFault p plan a b fault
 has_text_fault p plan bytes fault a b other whole is = record {
   is_fault = other;
-  first = told_weaker (TookWhole plan 1048576 bytes) (λ left _. plan_in p (bytes_left left plan) ≡ Err fault) a b (λ x y w. plan_of_whole p plan bytes x y w ∙ is) whole;
+  first = told_weaker (TookWhole plan 1048576 bytes) (λ left _. plan_in p (bytes_left left plan) ≡ Err fault) a b
+      (λ x y w. plan_of_whole p plan bytes x y w ∙ is) whole;
 }
 
-pub plan_is_refused : (p : Program) (plan bytes : List ℕ) (fault : PlanFault) (a b : Option Contents) (before now : List ℕ → ℕ) → WhereTold a b (TookWhole plan 1048576 bytes) → Fails fault (plan_in p bytes) → IsTextRefusal p plan a b before now (refusal_of_plan fault)
+pub plan_is_refused : (p : Program) (plan bytes : List ℕ) (fault : PlanFault) (a b : Option Contents) (before now : List ℕ → ℕ)
+    → WhereTold a b (TookWhole plan 1048576 bytes) → Fails fault (plan_in p bytes) → IsTextRefusal p plan a b before now (refusal_of_plan fault)
 plan_is_refused p plan bytes (f.BadToken at) a b before now whole is = has_text_fault p plan bytes (f.BadToken at) a b (λ e. cc) whole is
 plan_is_refused p plan bytes (f.Unexpected at) a b before now whole is = has_text_fault p plan bytes (f.Unexpected at) a b (λ e. cc) whole is
 plan_is_refused p plan bytes (f.UnknownName at) a b before now whole is = has_text_fault p plan bytes (f.UnknownName at) a b (λ e. cc) whole is

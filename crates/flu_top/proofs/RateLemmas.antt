@@ -25,12 +25,14 @@ abbrev pub rate_at : Program → ℕ → ℕ
 rate_at p i = rate_of_source p.sources (source_of_itag p (record { 0 = i }))
 
 -- one rate more
-pub rates_more : (p : Program) (number rate : ℕ) (old new : List ℕ) → old ≡ map (rate_at p) (range_with_len 0 number) → rate ≡ rate_at p number → new ≡ old ++ rate ∷ [] → new ≡ map (rate_at p) (range_with_len 0 (number + 1))
+pub rates_more : (p : Program) (number rate : ℕ) (old new : List ℕ) → old ≡ map (rate_at p) (range_with_len 0 number) → rate ≡ rate_at p number
+    → new ≡ old ++ rate ∷ [] → new ≡ map (rate_at p) (range_with_len 0 (number + 1))
 rates_more p number rate old new so_far is pushed =
     pushed ∙ ((λ i. so_far i ++ is i ∷ []) ∙ sym (map-range_with_len_more (rate_at p) 0 number number (omega arith)))
 
 -- the rates of all itags
-pub all_rates : (p : Program) (number : ℕ) (rates : List ℕ) → number ≡ count_of_itags p → rates ≡ map (rate_at p) (range_with_len 0 number) → rates ≡ source_rates p
+pub all_rates : (p : Program) (number : ℕ) (rates : List ℕ) → number ≡ count_of_itags p → rates ≡ map (rate_at p) (range_with_len 0 number)
+    → rates ≡ source_rates p
 unfolding source_rates
 all_rates p number rates all is = is ∙ ap (λ n. map (rate_at p) (range_with_len 0 n)) all
 

@@ -1,5 +1,6 @@
 -- A job is run on the net of a plan by the steps of a trace.
-use Rattle.std.proofs.Common.{◌≡◌, ◌≢◌, refl, sym, ap, ◌∙◌, subst, ℕ, ◌≤◌, List, [], ◌∷◌, Bool, true, false, Option, Some, None, Result, Ok, Err, inl, inr, ◌⊎◌, if◌then◌else◌, arith}
+use Rattle.std.proofs.Common.{◌≡◌, ◌≢◌, refl, sym, ap, ◌∙◌, subst, ℕ, ◌≤◌, List, [], ◌∷◌, Bool, true, false, Option, Some, None, Result, Ok, Err, inl, inr}
+use Rattle.std.proofs.Common.{◌⊎◌, if◌then◌else◌, arith}
 use Rattle.std.specs.Prelude.{Contains, option_map, unwrap_or, IfSome, IfOk, OnOk}
 use Rattle.std.specs.Str.{bytes_eq}
 use Rattle.std.proofs.lemmas.Bool.{false≢true}
@@ -36,7 +37,8 @@ use Rattle.flu_top.specs.Refusing.{IsRefusal}
 use Rattle.flu_top.specs.Replaying.{EndsOnNet, EndsBehind, ReplaysTo, trace_in}
 use Rattle.flu_top.specs.Replays.{IsNetRefusal, IsReplayDone, IsReadIn, StaysEnded, IsReplayRefusal}
 use Rattle.flu_top.specs.Simulating.{from_nothing}
-use Rattle.flu_top.proofs.Sequence.{among, only_one, same_or_apart, read_at, good_at, report_at, report_refusal, text_is_read, source_name_is_read, stays_ended, NamesNoCheckpoint, no_sources, can_start}
+use Rattle.flu_top.proofs.Sequence.{among, only_one, same_or_apart, read_at, good_at, report_at, report_refusal, text_is_read, source_name_is_read}
+use Rattle.flu_top.proofs.Sequence.{stays_ended, NamesNoCheckpoint, no_sources, can_start}
 
 -- ---- names of which nothing is left
 emptied_left : (o : Option (List ℕ)) → unwrap_or (option_map {U = List ℕ} (λ (bytes : List ℕ). []) o) [] ≡ []
@@ -48,7 +50,8 @@ emptied_of : (text : List ℕ) (left : Contents) (name : List ℕ) → (text ≡
 unfolding emptied
 emptied_of text left name none = by_test (bytes_eq name text) refl
   where
-    by_test : (b : Bool) → bytes_eq name text ≡ b → unwrap_or (if bytes_eq name text then option_map {U = List ℕ} (λ (bytes : List ℕ). []) (left name) else left name) [] ≡ []
+    by_test : (b : Bool) → bytes_eq name text ≡ b → unwrap_or (if bytes_eq name text then option_map {U = List ℕ} (λ (bytes : List ℕ). [])
+        (left name) else left name) [] ≡ []
     by_test true t = rw t (emptied_left (left name))
     by_test false f = rw f (elim none [ inl same ↦ absurd (false≢true (sym f ∙ (bytes_eq-Decides name text).1 (sym same))) | inr empty ↦ empty ])
 
@@ -56,12 +59,14 @@ emptied_apart : (text : List ℕ) (left : Contents) (name : List ℕ) → text �
 unfolding emptied
 emptied_apart text left name apart = by_test (bytes_eq name text) refl
   where
-    by_test : (b : Bool) → bytes_eq name text ≡ b → (if bytes_eq name text then option_map {U = List ℕ} (λ (bytes : List ℕ). []) (left name) else left name) ≡ left name
+    by_test : (b : Bool) → bytes_eq name text ≡ b → (if bytes_eq name text then option_map {U = List ℕ} (λ (bytes : List ℕ). []) (left name) else left name)
+        ≡ left name
     by_test true t = absurd (apart (sym ((bytes_eq-Decides name text).0 t)))
     by_test false f = rw f refl
 
 -- what is left behind texts of one of them, or of what had nothing left
-each_of : (texts : List (List ℕ)) (left : Contents) (name : List ℕ) → Contains texts name ⊎ (bytes_left left name ≡ []) → bytes_left (emptied_each texts left) name ≡ []
+each_of : (texts : List (List ℕ)) (left : Contents) (name : List ℕ) → Contains texts name ⊎ (bytes_left left name ≡ [])
+    → bytes_left (emptied_each texts left) name ≡ []
 each_of [] left name (inl found) = absurd (omega (arith, found.1))
 each_of [] left name (inr empty) = empty
 each_of (text ∷ texts) left name (inr empty) = each_of texts (emptied text left) name (inr (emptied_of text left name (inr empty)))
@@ -78,7 +83,8 @@ each_apart (text ∷ texts) left name missing =
     ∙ emptied_apart text left name (λ same. missing (0, omega arith, same))
 
 -- what a trace is behind the sources
-trace_left : (trace : List ℕ) (p : Program) (y z : Contents) → ((name : List ℕ) → Contains (files_of p.sources) name → z name ≡ Some []) → LeavesOthers (files_of p.sources) y z
+trace_left : (trace : List ℕ) (p : Program) (y z : Contents) → ((name : List ℕ) → Contains (files_of p.sources) name → z name ≡ Some [])
+    → LeavesOthers (files_of p.sources) y z
     → bytes_left z trace ≡ trace_in trace p y
 trace_left trace p y z ends others = elim (among (files_of p.sources) trace) [
   | inl found ↦ ap (λ (o : Option (List ℕ)). unwrap_or o []) (ends trace found) ∙ sym (each_of (files_of p.sources) y trace (inl found))
@@ -87,19 +93,24 @@ trace_left trace p y z ends others = elim (among (files_of p.sources) trace) [
 
 -- ---- the trace alone
 -- a replay in a case of these items is one on the net of the plan over them
-pub on_net : (p : Program) (nodes : List Node) (lists : List (List Item)) (trace : List ℕ) (k : Content) (a b : Option Contents) (ending : Ending) → setting_of k ≡ from_nothing p nodes lists
+pub on_net : (p : Program) (nodes : List Node) (lists : List (List Item)) (trace : List ℕ) (k : Content) (a b : Option Contents) (ending : Ending)
+    → setting_of k ≡ from_nothing p nodes lists
     → WhereTold a b (λ left _. IsReplayed k (bytes_left left trace) ending) → WhereTold a b (λ left _. EndsOnNet p nodes lists (bytes_left left trace) ending)
 on_net p nodes lists trace k a b ending of replayed =
     told_weaker (λ left _. IsReplayed k (bytes_left left trace) ending) (λ left _. EndsOnNet p nodes lists (bytes_left left trace) ending) a b
     (λ x y is. record { case = k; of = of; replayed = is }) replayed
 
-pub told_on_net : (p : Program) (nodes : List Node) (lists : List (List Item)) (trace : List ℕ) (k : Content) (a b : Option Contents) (told : Option Ending) → setting_of k ≡ from_nothing p nodes lists
-    → IfSome told (λ ending. WhereTold a b (λ left _. IsReplayed k (bytes_left left trace) ending)) → IfSome told (λ ending. WhereTold a b (λ left _. EndsOnNet p nodes lists (bytes_left left trace) ending))
+pub told_on_net : (p : Program) (nodes : List Node) (lists : List (List Item)) (trace : List ℕ) (k : Content) (a b : Option Contents) (told : Option Ending)
+    → setting_of k ≡ from_nothing p nodes lists
+    → IfSome told (λ ending. WhereTold a b (λ left _. IsReplayed k (bytes_left left trace) ending))
+        → IfSome told (λ ending. WhereTold a b (λ left _. EndsOnNet p nodes lists (bytes_left left trace) ending))
 told_on_net p nodes lists trace k a b None of replayed = tt
 told_on_net p nodes lists trace k a b (Some ending) of replayed = on_net p nodes lists trace k a b ending of replayed
 
-pub net_refusal : (p : Program) (nodes : List Node) (lists : List (List Item)) (trace : List ℕ) (a b : Option Contents) (before now : List ℕ → ℕ) (fault : ReplayFault)
-    → IfSome (ending_of fault) (λ ending. WhereTold a b (λ left _. EndsOnNet p nodes lists (bytes_left left trace) ending)) → (fault ≡ traces.ReadFault → Rose (before trace) (now trace))
+pub net_refusal : (p : Program) (nodes : List Node) (lists : List (List Item)) (trace : List ℕ) (a b : Option Contents) (before now : List ℕ → ℕ)
+    (fault : ReplayFault)
+    → IfSome (ending_of fault) (λ ending. WhereTold a b (λ left _. EndsOnNet p nodes lists (bytes_left left trace) ending))
+        → (fault ≡ traces.ReadFault → Rose (before trace) (now trace))
     → IsNetRefusal p nodes lists trace a b before now (refusal_of_replay fault)
 net_refusal p nodes lists trace a b before now (traces.Bad line) ends rose = (_, refl, ends)
 net_refusal p nodes lists trace a b before now (traces.NotEnabled line) ends rose = (_, refl, ends)
@@ -110,9 +121,11 @@ net_refusal p nodes lists trace a b before now traces.NoMemory ends rose = tt
 -- ---- the trace behind the sources
 -- what was read of the sources
 abbrev pub AreRead : Program → List (List Item) → Contents → Contents → Type 0
-AreRead p lists y z = (first_fault p y ≡ None) × (lists ≡ lists_of p y) × ((name : List ℕ) → Contains (files_of p.sources) name → z name ≡ Some []) × LeavesOthers (files_of p.sources) y z
+AreRead p lists y z = (first_fault p y ≡ None) × (lists ≡ lists_of p y) × ((name : List ℕ) → Contains (files_of p.sources) name → z name ≡ Some [])
+    × LeavesOthers (files_of p.sources) y z
 
-pub are_read : (p : Program) (lists : List (List Item)) (a b : Option Contents) → WhereTold a b (λ old _. AreGood p old) → WhereTold a b (λ old _. lists ≡ lists_of p old)
+pub are_read : (p : Program) (lists : List (List Item)) (a b : Option Contents) → WhereTold a b (λ old _. AreGood p old)
+    → WhereTold a b (λ old _. lists ≡ lists_of p old)
     → AreReadOut (files_of p.sources) b → WhereTold a b (LeavesOthers (files_of p.sources)) → WhereTold a b (AreRead p lists)
 are_read p lists None None good are ends others = tt
 are_read p lists None (Some y) good are ends others = good
@@ -129,8 +142,10 @@ ends_behind p nodes lists trace y z ending read ends =
 trace_stays : (trace : List ℕ) (y z : Contents) → z trace ≡ Some [] → TakesFrom trace y z → StaysEnded y z
 trace_stays trace y z end taken name ended = elim (same_or_apart name trace) [ inl same ↦ ap z same ∙ end | inr apart ↦ taken.others name apart ∙ ended ]
 
-pub replayed_behind : (p : Program) (nodes : List Node) (lists : List (List Item)) (trace : List ℕ) (a b c : Option Contents) (result : Result (List ℕ) Refusal) → WhereTold a b (AreRead p lists)
-    → IfOk result (λ (text : List ℕ). text ≡ report p (final_outputs p nothing_held lists)) → OnOk result (WhereTold b c (λ left _. EndsOnNet p nodes lists (bytes_left left trace) Complete))
+pub replayed_behind : (p : Program) (nodes : List Node) (lists : List (List Item)) (trace : List ℕ) (a b c : Option Contents)
+    (result : Result (List ℕ) Refusal) → WhereTold a b (AreRead p lists)
+    → IfOk result (λ (text : List ℕ). text ≡ report p (final_outputs p nothing_held lists))
+        → OnOk result (WhereTold b c (λ left _. EndsOnNet p nodes lists (bytes_left left trace) Complete))
     → OnOk result (IsReadOut trace c) → WhereTold b c (TakesFrom trace) → IfOk result (λ (text : List ℕ). WhereTold a c (IsReplayDone p nodes trace text))
 replayed_behind p nodes lists trace a b c (Err refusal) read is complete end taken = tt
 replayed_behind p nodes lists trace None None None (Ok text) read is complete end taken = tt
@@ -147,7 +162,8 @@ replayed_behind p nodes lists trace (Some x) (Some y) (Some z) (Ok text) read is
   end = end;
 }
 
-pub stays_behind : (p : Program) (lists : List (List Item)) (trace : List ℕ) (a b c : Option Contents) (result : Result (List ℕ) Refusal) → WhereTold a b (AreRead p lists)
+pub stays_behind : (p : Program) (lists : List (List Item)) (trace : List ℕ) (a b c : Option Contents) (result : Result (List ℕ) Refusal)
+    → WhereTold a b (AreRead p lists)
     → OnOk result (IsReadOut trace c) → WhereTold b c (TakesFrom trace) → OnOk result (WhereTold a c StaysEnded)
 stays_behind p lists trace a b c (Err refusal) read end taken = tt
 stays_behind p lists trace None None None (Ok text) read end taken = tt
@@ -158,26 +174,32 @@ stays_behind p lists trace (Some x) (Some y) None (Ok text) read end taken = tak
 stays_behind p lists trace (Some x) (Some y) (Some z) (Ok text) read end taken =
     λ name ended. trace_stays trace y z end taken name (stays_ended (files_of p.sources) x y read.2 read.3 name ended)
 
-pub only_of_sources : (p : Program) (trace : List ℕ) (a b : Option Contents) → WhereTold a b (LeavesOthers (files_of p.sources)) → WhereTold a b (λ x z. TookOnly (IsReadIn p trace x) x z)
+pub only_of_sources : (p : Program) (trace : List ℕ) (a b : Option Contents) → WhereTold a b (LeavesOthers (files_of p.sources))
+    → WhereTold a b (λ x z. TookOnly (IsReadIn p trace x) x z)
 only_of_sources p trace a b others =
-    told_weaker (LeavesOthers (files_of p.sources)) (λ x z. TookOnly (IsReadIn p trace x) x z) a b (λ x z left name unread. left name (λ found. unread (inl found))) others
+    told_weaker (LeavesOthers (files_of p.sources)) (λ x z. TookOnly (IsReadIn p trace x) x z) a b
+        (λ x z left name unread. left name (λ found. unread (inl found))) others
 
-pub only_of_both : (p : Program) (lists : List (List Item)) (trace : List ℕ) (a b c : Option Contents) → WhereTold a b (AreRead p lists) → WhereTold b c (TakesFrom trace)
+pub only_of_both : (p : Program) (lists : List (List Item)) (trace : List ℕ) (a b c : Option Contents) → WhereTold a b (AreRead p lists)
+    → WhereTold b c (TakesFrom trace)
     → WhereTold a c (λ x z. TookOnly (IsReadIn p trace x) x z)
 only_of_both p lists trace a b c read taken =
     told_then (AreRead p lists) (TakesFrom trace) (λ x z. TookOnly (IsReadIn p trace x) x z) a b c
     (λ x y z first second name unread.
     second.others name (λ same. unread (inr (sym same, first.0))) ∙ first.3 name (λ found. unread (inl found))) read taken
 
-pub behind_refusal : (p : Program) (nodes : List Node) (lists : List (List Item)) (trace : List ℕ) (a b c : Option Contents) (k l m : List ℕ → ℕ) (refusal : Refusal)
-    → WhereTold a b (AreRead p lists) → WhereTold b c (TakesFrom trace) → ((n : List ℕ) → k n ≤ l n) → IsNetRefusal p nodes lists trace b c l m refusal → IsReplayRefusal p nodes trace a c k m refusal
+pub behind_refusal : (p : Program) (nodes : List Node) (lists : List (List Item)) (trace : List ℕ) (a b c : Option Contents) (k l m : List ℕ → ℕ)
+    (refusal : Refusal)
+    → WhereTold a b (AreRead p lists) → WhereTold b c (TakesFrom trace) → ((n : List ℕ) → k n ≤ l n) → IsNetRefusal p nodes lists trace b c l m refusal
+        → IsReplayRefusal p nodes trace a c k m refusal
 behind_refusal p nodes lists trace a b c k l m (refusals.BadWords bad) read taken rise is = is
 behind_refusal p nodes lists trace a b c k l m (refusals.JobFault fault) read taken rise is = is
 behind_refusal p nodes lists trace a b c k l m (refusals.Conflict fault) read taken rise is = is
 behind_refusal p nodes lists trace a b c k l m (refusals.PlanDefect defect) read taken rise is = is
 behind_refusal p nodes lists trace a b c k l m (refusals.SourceFault job fault) read taken rise is = absurd is
 behind_refusal p nodes lists trace a b c k l m refusals.ReadFault read taken rise is =
-    inr (told_then (AreRead p lists) (TakesFrom trace) (λ left _. first_fault p left ≡ None) a b c (λ x y z first second. first.0) read taken, rose_behind (k trace) (l trace) (m trace) (rise trace) is)
+    inr (told_then (AreRead p lists) (TakesFrom trace) (λ left _. first_fault p left ≡ None) a b c (λ x y z first second. first.0) read taken, rose_behind
+        (k trace) (l trace) (m trace) (rise trace) is)
 behind_refusal p nodes lists trace a b c k l m refusals.WriteFault read taken rise is = is
 behind_refusal p nodes lists trace a b c k l m refusals.NoMemory read taken rise is = tt
 behind_refusal p nodes lists trace a b c k l m (refusals.SaveDefect defect) read taken rise is = absurd is
@@ -185,7 +207,8 @@ behind_refusal p nodes lists trace a b c k l m refusals.PutFault read taken rise
 behind_refusal p nodes lists trace a b c k l m (refusals.TraceFault fault) read taken rise is = (
   is.0,
   is.1,
-  told_then (AreRead p lists) (λ left _. EndsOnNet p nodes lists (bytes_left left trace) is.0) (λ left _. (first_fault p left ≡ None) × EndsBehind p nodes trace left is.0) a b c
+  told_then (AreRead p lists) (λ left _. EndsOnNet p nodes lists (bytes_left left trace) is.0)
+      (λ left _. (first_fault p left ≡ None) × EndsBehind p nodes trace left is.0) a b c
       (λ x y z first second. (first.0, ends_behind p nodes lists trace x y is.0 first second)) read is.2,
 )
 
@@ -211,9 +234,11 @@ module _ (job plan trace : List ℕ) (p : Program) (nodes : List Node) (a b c : 
       let same : trace ≡ name = cc in
       subst (λ (n : List ℕ). ReplaysTo (Replay job plan trace) n x p Complete × (z n ≡ Some [])) same (complete, end)
 
-  is_replayed : (text : List ℕ) → WhereTold b c (IsReplayDone p nodes trace text) → WhereTold b c StaysEnded → WhereTold a c (IsWritten (Replay job plan trace) text [])
+  is_replayed : (text : List ℕ) → WhereTold b c (IsReplayDone p nodes trace text) → WhereTold b c StaysEnded
+      → WhereTold a c (IsWritten (Replay job plan trace) text [])
   is_replayed text done stays =
-      told_then (λ x y. IsReady (Replay job plan trace) p x y × HasNodes job plan p nodes x y) (λ y z. IsReplayDone p nodes trace text y z × StaysEnded y z) (IsWritten (Replay job plan trace) text []) a b c
+      told_then (λ x y. IsReady (Replay job plan trace) p x y × HasNodes job plan p nodes x y) (λ y z. IsReplayDone p nodes trace text y z × StaysEnded y z)
+          (IsWritten (Replay job plan trace) text []) a b c
       (λ x y z first second. (
         p,
         read_at (Replay job plan trace) p x y z refl (λ asked. accepted) (no_checkpoint job plan trace) first.0 second.0.reported.read second.1
@@ -221,9 +246,11 @@ module _ (job plan trace : List ℕ) (p : Program) (nodes : List Node) (a b c : 
         report_at (Replay job plan trace) p text x y z first.0 second.0.reported,
         refl,
       ))
-      (told_both (IsReady (Replay job plan trace) p) (HasNodes job plan p nodes) a b ready found) (told_both (IsReplayDone p nodes trace text) StaysEnded b c done stays)
+      (told_both (IsReady (Replay job plan trace) p) (HasNodes job plan p nodes) a b ready found)
+          (told_both (IsReplayDone p nodes trace text) StaysEnded b c done stays)
 
-  pub replayed : (result : Result (List ℕ) Refusal) → IfOk result (λ (text : List ℕ). WhereTold b c (IsReplayDone p nodes trace text)) → OnOk result (WhereTold b c StaysEnded)
+  pub replayed : (result : Result (List ℕ) Refusal) → IfOk result (λ (text : List ℕ). WhereTold b c (IsReplayDone p nodes trace text))
+      → OnOk result (WhereTold b c StaysEnded)
       → IfOk result (λ (text : List ℕ). WhereTold a c (IsWritten (Replay job plan trace) text []))
   replayed (Ok text) done stays = is_replayed text done stays
   replayed (Err refusal) done stays = tt
@@ -242,13 +269,16 @@ module _ (job plan trace : List ℕ) (p : Program) (nodes : List Node) (a b c : 
   trace_name : WhereTold b c (λ left _. first_fault p left ≡ None) → IsReadName a (Replay job plan trace) trace
   trace_name good = inr (inr (inr (inr (record { named = refl; p = p; accepted = λ asked. accepted; good = good_told good }))))
 
-  pub replay_refusal : (k l m : List ℕ → ℕ) (refusal : Refusal) → ((n : List ℕ) → k n ≤ l n) → IsReplayRefusal p nodes trace b c l m refusal → IsRefusal (Replay job plan trace) a c k m refusal
+  pub replay_refusal : (k l m : List ℕ → ℕ) (refusal : Refusal) → ((n : List ℕ) → k n ≤ l n) → IsReplayRefusal p nodes trace b c l m refusal
+      → IsRefusal (Replay job plan trace) a c k m refusal
   replay_refusal k l m (refusals.BadWords bad) rise is = is
   replay_refusal k l m (refusals.JobFault fault) rise is = absurd is
   replay_refusal k l m (refusals.Conflict fault) rise is = absurd is
   replay_refusal k l m (refusals.PlanDefect defect) rise is = absurd is
-  replay_refusal k l m (refusals.SourceFault q fault) rise is = report_refusal (Replay job plan trace) p a b c k l m (refusals.SourceFault q fault) refl (λ asked. accepted) (no_checkpoint job plan trace) ready rise is
-  replay_refusal k l m refusals.ReadFault rise (inl rose) = report_refusal (Replay job plan trace) p a b c k l m refusals.ReadFault refl (λ asked. accepted) (no_checkpoint job plan trace) ready rise rose
+  replay_refusal k l m (refusals.SourceFault q fault) rise is = report_refusal (Replay job plan trace) p a b c k l m (refusals.SourceFault q fault) refl
+      (λ asked. accepted) (no_checkpoint job plan trace) ready rise is
+  replay_refusal k l m refusals.ReadFault rise (inl rose) = report_refusal (Replay job plan trace) p a b c k l m refusals.ReadFault refl (λ asked. accepted)
+      (no_checkpoint job plan trace) ready rise rose
   replay_refusal k l m refusals.ReadFault rise (inr rose) = (trace, trace_name rose.0, rose_behind (k trace) (l trace) (m trace) (rise trace) rose.1)
   replay_refusal k l m refusals.WriteFault rise is = is
   replay_refusal k l m refusals.NoMemory rise is = tt
@@ -261,9 +291,11 @@ module _ (job plan trace : List ℕ) (p : Program) (nodes : List Node) (a b c : 
     accepted = λ asked. accepted;
     ending = is.0;
     tells = is.1;
-    first = told_then (λ x y. IsReady (Replay job plan trace) p x y × HasNodes job plan p nodes x y) (λ left _. (first_fault p left ≡ None) × EndsBehind p nodes trace left is.0)
+    first = told_then (λ x y. IsReady (Replay job plan trace) p x y × HasNodes job plan p nodes x y)
+        (λ left _. (first_fault p left ≡ None) × EndsBehind p nodes trace left is.0)
         (λ left _. IsGood (Replay job plan trace) left p × ReplaysTo (Replay job plan trace) trace left p is.0) a b c
-        (λ x y z first second. (good_at (Replay job plan trace) p x y refl (λ asked. accepted) (no_checkpoint job plan trace) first.0 second.0, replays_at x y is.0 first.0 first.1 second.1))
+        (λ x y z first second. (good_at (Replay job plan trace) p x y refl (λ asked. accepted)
+            (no_checkpoint job plan trace) first.0 second.0, replays_at x y is.0 first.0 first.1 second.1))
         (told_both (IsReady (Replay job plan trace) p) (HasNodes job plan p nodes) a b ready found) is.2;
   }
 
@@ -276,13 +308,15 @@ only_replayed job plan trace p None (Some y) c accepted ready only = absurd read
 only_replayed job plan trace p (Some x) None c accepted ready only = absurd ready
 only_replayed job plan trace p (Some x) (Some y) None accepted ready only = only
 only_replayed job plan trace p (Some x) (Some y) (Some z) accepted ready only = λ name unread.
-    only name (λ found. unread (behind name found)) ∙ ready.texts.others name (λ found. unread (text_is_read (Replay job plan trace) p (Some x) (Some y) (λ asked. accepted) apart ready name found))
+    only name (λ found. unread (behind name found)) ∙ ready.texts.others name
+        (λ found. unread (text_is_read (Replay job plan trace) p (Some x) (Some y) (λ asked. accepted) apart ready name found))
   where
     apart : AreNoSources (Replay job plan trace) p
     apart = no_sources (Replay job plan trace) p (no_checkpoint job plan trace)
 
     behind : (name : List ℕ) → IsReadIn p trace y name → IsReadName (Some x) (Replay job plan trace) name
-    behind name (inl found) = source_name_is_read (Replay job plan trace) p (Some x) (Some y) refl (λ asked. accepted) apart (can_start (Replay job plan trace) x p (no_checkpoint job plan trace)) ready name found
+    behind name (inl found) = source_name_is_read (Replay job plan trace) p (Some x) (Some y) refl (λ asked. accepted) apart
+        (can_start (Replay job plan trace) x p (no_checkpoint job plan trace)) ready name found
     behind name (inr found) = inr (inr (inr (inr (record {
       named = ap Some found.0;
       p = p;

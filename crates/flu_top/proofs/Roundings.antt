@@ -1,5 +1,6 @@
 -- The rounds of a job's sources, one after another, what is put behind each, what is counted of them, and how they end.
-use Rattle.std.proofs.Common.{◌≡◌, ◌≢◌, refl, sym, ap, ◌∙◌, subst, ℕ, Bool, ◌-◌, ◌^◌, ◌<◌, ◌≤◌, List, [], ◌∷◌, ◌++◌, Option, Some, None, Result, Ok, Err, inl, inr, ◌⊎◌, append_assoc, arith}
+use Rattle.std.proofs.Common.{◌≡◌, ◌≢◌, refl, sym, ap, ◌∙◌, subst, ℕ, Bool, ◌-◌, ◌^◌, ◌<◌, ◌≤◌, List, [], ◌∷◌, ◌++◌, Option, Some, None, Result, Ok, Err, inl}
+use Rattle.std.proofs.Common.{inr, ◌⊎◌, append_assoc, arith}
 use Rattle.std.specs.Prelude.{true, false, nat_lt, Contains, option_map, IsTrue}
 use Rattle.std.specs.Result.{IsErrAnd}
 use Rattle.std.proofs.lemmas.Bool.Decides.{nat_tests}
@@ -28,7 +29,8 @@ use Rattle.flu_streams.specs.Holding.{AreHeldBehind, AreInAll, ClosedAreReadOut,
 use Rattle.flu_streams.specs.Rounds.{IsRound, IsRoundFault, LawOfNoRows, Starts, lists_between}
 use Rattle.flu_rounds.specs.declared.faults.RoundsFault.{RoundsFault}
 use Rattle.flu_rounds.specs.declared.faults.RoundsFault.TheVariants.{Source as SourceDefect, ReadFault, WriteFault, NoMemory}
-use Rattle.flu_rounds.specs.Coming.{HasRunFrom, IsStateUpTo, LawOfBeginningFrom, LawOfGoingOnFrom, LawOfLastFrom, LawOfDefectFrom, LawOfTextAndState, LawOfNextTextAndState, LawOfDefectAndState, LawOfOtherNames}
+use Rattle.flu_rounds.specs.Coming.{HasRunFrom, IsStateUpTo, LawOfBeginningFrom, LawOfGoingOnFrom, LawOfLastFrom, LawOfDefectFrom, LawOfTextAndState}
+use Rattle.flu_rounds.specs.Coming.{LawOfNextTextAndState, LawOfDefectAndState, LawOfOtherNames}
 use Rattle.flu_rounds.specs.Counting.{LawOfLastCounts}
 use Rattle.flu_rounds.specs.Written.{RanFrom, WouldWriteFrom, lines_in, text_up_from}
 use Rattle.flu_rounds.specs.Standing.{Standing, IsFirstFrom, Runs, IsRoundOf, IsSourceFault, StandsBehind, round_lists, round_report}
@@ -41,7 +43,8 @@ use Rattle.flu_top.specs.Ending.{Call, call}
 use Rattle.flu_top.specs.Openings.{Opening}
 use Rattle.flu_top.specs.Products.{line_said}
 use Rattle.flu_top.specs.Reading.{HaveWritten, MeetsDefect, ReportsNext, put_by, rows_in_round, greatest_border}
-use Rattle.flu_top.specs.Running.{GoesOn, StaysWithin, IsAllRun, RanAll, RanToDefect, RanSome, RanInto, RanUnsaved, EndsRounds, Steps, PutsAt, PutFailed, IsSavedTo, border_at, borders_above, put_behind}
+use Rattle.flu_top.specs.Running.{GoesOn, StaysWithin, IsAllRun, RanAll, RanToDefect, RanSome, RanInto, RanUnsaved, EndsRounds, Steps, PutsAt, PutFailed}
+use Rattle.flu_top.specs.Running.{IsSavedTo, border_at, borders_above, put_behind}
 use Rattle.flu_top.specs.Running.{IsPlanSaid, SaysCounts, SaysPlan, all_lists}
 use Rattle.flu_top.specs.Starting.{IsNoSource, LeavesPut, LeavesAnything}
 use Rattle.flu_top.specs.Taking.{TookOnly, TookFrontsBut}
@@ -89,7 +92,8 @@ put_more p done [] lists border t s is at = absurd (not_empty done is)
 put_more p done (round ∷ rounds) lists border t s is at = ap (λ above. put_behind p (round ∷ rounds) above s) at
 
 -- what was put stays while the name does
-keeps_put : (named put : Option (List ℕ)) (x y z : Files) → LeavesPut named [] put x y → ((name : List ℕ) → IsSavedTo named name → z name ≡ y name) → LeavesPut named [] put x z
+keeps_put : (named put : Option (List ℕ)) (x y z : Files) → LeavesPut named [] put x y → ((name : List ℕ) → IsSavedTo named name → z name ≡ y name)
+    → LeavesPut named [] put x z
 keeps_put None put x y z leaves same = tt
 keeps_put (Some name) None x y z leaves same = record {
   end = λ rest is. leaves.end rest (sym (same name refl) ∙ is);
@@ -98,7 +102,8 @@ keeps_put (Some name) None x y z leaves same = record {
 keeps_put (Some name) (Some bytes) x y z leaves same = same name refl ∙ leaves
 
 -- a round leaves a name that is no source's file
-round_keeps : (p : Program) (named put : Option (List ℕ)) (x y z : Files) → IsNoSource named p → LeavesPut named [] put x y → LeavesOthers (files_of p.sources) y z → LeavesPut named [] put x z
+round_keeps : (p : Program) (named put : Option (List ℕ)) (x y z : Files) → IsNoSource named p → LeavesPut named [] put x y
+    → LeavesOthers (files_of p.sources) y z → LeavesPut named [] put x z
 round_keeps p named put x y z apart leaves others = keeps_put named put x y z leaves (λ name saved. others name (apart name saved))
 
 -- a put leaves what it puts
@@ -108,21 +113,26 @@ put_leaves (Some name) None bytes x y z is puts = absurd (cc)
 put_leaves (Some name) (Some other) bytes x y z is puts = puts.here ∙ sym is
 
 -- and the sources' files
-put_keeps_sources : (p : Program) (named : Option (List ℕ)) (y z : Files) → IsNoSource named p → TookOnly (IsSavedTo named) y z → (name : List ℕ) → Contains (files_of p.sources) name → z name ≡ y name
+put_keeps_sources : (p : Program) (named : Option (List ℕ)) (y z : Files) → IsNoSource named p → TookOnly (IsSavedTo named) y z → (name : List ℕ)
+    → Contains (files_of p.sources) name → z name ≡ y name
 put_keeps_sources p named y z apart only name found = only name (λ saved. apart name saved found)
 
 -- ---- what is said
 -- this was said of counts that are those of all events, where that is told
-plan_told : (adapts : Bool) (p : Program) (o : Opening) (counts line : List ℕ) (P Q : Files → Files → Type 0) (a d e : Option Files) → WhereTold a e P → WhereTold d e Q
+plan_told : (adapts : Bool) (p : Program) (o : Opening) (counts line : List ℕ) (P Q : Files → Files → Type 0) (a d e : Option Files) → WhereTold a e P
+    → WhereTold d e Q
     → (IsTrue adapts → WhereTold a d (λ was is. counts ≡ grown (no_counts p) (all_lists p o was))) → IsPlanSaid adapts p counts line
     → WhereTold a e (λ left now. IsPlanSaid adapts p (grown (no_counts p) (all_lists p o left)) line)
-plan_told false p o counts line P Q a d e all later counted is = told_weaker P (λ left now. IsPlanSaid false p (grown (no_counts p) (all_lists p o left)) line) a e (λ v f known. is) all
+plan_told false p o counts line P Q a d e all later counted is = told_weaker P
+    (λ left now. IsPlanSaid false p (grown (no_counts p) (all_lists p o left)) line) a e (λ v f known. is) all
 plan_told true p o counts line P Q a d e all later counted is =
-    told_then (λ was is. counts ≡ grown (no_counts p) (all_lists p o was)) Q (λ left now. IsPlanSaid true p (grown (no_counts p) (all_lists p o left)) line) a d e
+    told_then (λ was is. counts ≡ grown (no_counts p) (all_lists p o was)) Q
+        (λ left now. IsPlanSaid true p (grown (no_counts p) (all_lists p o left)) line) a d e
     (λ v r f same known. subst (λ (ns : List ℕ). IsPlanSaid true p ns line) same is) (counted refl) later
 
 -- what is said of the counts of an engine is said of those of its job
-says_of_job : (adapts adapts' : Bool) (p q : Program) (counts : List ℕ) (said : Option Said) → adapts' ≡ adapts → q ≡ p → SaysCounts adapts' q counts said → SaysCounts adapts p counts said
+says_of_job : (adapts adapts' : Bool) (p q : Program) (counts : List ℕ) (said : Option Said) → adapts' ≡ adapts → q ≡ p → SaysCounts adapts' q counts said
+    → SaysCounts adapts p counts said
 says_of_job adapts adapts' p q counts said same job says =
     subst (λ (r : Program). SaysCounts adapts r counts said) job (subst (λ (b : Bool). SaysCounts b q counts said) same says)
 
@@ -139,7 +149,8 @@ pub record Laws (o : Opening) : Type 0 where
   pub counts : LawOfLastCounts
 
 -- ---- before the first round
-stays_at_start : (p : Program) (named : Option (List ℕ)) (a : Option Files) (k s : List ℕ → ℕ) (had : Option (List ℕ)) (x : ℕ) → StaysWithin p named (call a a k k s s had had x x)
+stays_at_start : (p : Program) (named : Option (List ℕ)) (a : Option Files) (k s : List ℕ → ℕ) (had : Option (List ℕ)) (x : ℕ)
+    → StaysWithin p named (call a a k k s s had had x x)
 stays_at_start p named a k s had x = record {
   fronts = told_same (TookFrontsBut (IsSavedTo named)) a (λ left name rest other e. ([], e));
   others = told_same (TookOnly (λ name. Contains (files_of p.sources) name ⊎ IsSavedTo named name)) a (λ left name other. refl);
@@ -151,8 +162,10 @@ nothing_put None put left none = tt
 nothing_put (Some name) None left none = record { end = λ rest is. ([], is); unread = λ missing. refl }
 nothing_put (Some name) (Some bytes) left none = absurd (cc)
 
-pub rounds_start : (adapts : Bool) (p : Program) (note : AdaptiveNote) (o : Opening) (named : Option (List ℕ)) (a : Option Files) (k s : List ℕ → ℕ) (had : Option (List ℕ)) (x : ℕ) (now : Standing)
-    → LawOfBeginningFrom o.border o.cells → program_of note.checked ≡ p → note.adapts ≡ adapts → note.counts ≡ no_counts p → IsFirstFrom p rows_in_round o.border o.cells now
+pub rounds_start : (adapts : Bool) (p : Program) (note : AdaptiveNote) (o : Opening) (named : Option (List ℕ)) (a : Option Files) (k s : List ℕ → ℕ)
+    (had : Option (List ℕ)) (x : ℕ) (now : Standing)
+    → LawOfBeginningFrom o.border o.cells → program_of note.checked ≡ p → note.adapts ≡ adapts → note.counts ≡ no_counts p
+        → IsFirstFrom p rows_in_round o.border o.cells now
     → GoesOn adapts p note o named (call a a k k s s had had x x) now
 rounds_start adapts p note o named a k s had x now beginning engine adapting none first =
     let begun = beginning p rows_in_round a now first in
@@ -165,7 +178,8 @@ rounds_start adapts p note o named a k s had x now beginning engine adapting non
       counted = λ follows. none ∙ sym (ap (grown_in_turn (no_counts p)) begun.1);
       wrote = told_same (AppendsAll []) had (λ bytes. sym (append-nil bytes));
       leaves = told_same (LeavesPut named [] (put_behind p begun.0.done now.held.border (held now.state))) a
-          (λ left. nothing_put named (put_behind p begun.0.done now.held.border (held now.state)) left (ap (λ done. put_behind p done now.held.border (held now.state)) begun.1));
+          (λ left. nothing_put named (put_behind p begun.0.done now.held.border (held now.state)) left
+              (ap (λ done. put_behind p done now.held.border (held now.state)) begun.1));
       within = stays_at_start p named a k s had x;
       quiet = refl;
       puts = λ n. refl;
@@ -184,7 +198,8 @@ some_at_start none p o named a k s had x = (
     wrote = told_same (AppendsAll []) had (λ bytes. sym (append-nil bytes));
     rounds = told_same (λ left now. (put : Option (List ℕ)) × HaveWritten p o (lines_in p left) [] put × LeavesPut named [] put left now) a (λ left. (
       None,
-      record { border = o.border; ran = record { done = []; before = λ i. []; comes = Starts (λ i. []) (λ i. refl); text = start_text none p o.border o.cells }; saved = refl },
+      record { border = o.border; ran = record { done = []; before = λ i. []; comes = Starts (λ i. []) (λ i. refl); text =
+          start_text none p o.border o.cells }; saved = refl },
       nothing_put named None left refl,
     ));
   },
@@ -193,7 +208,8 @@ some_at_start none p o named a k s had x = (
 
 -- ---- a round
 -- a round was run, its report was written, and its events were counted, where the plan follows them
-abbrev pub WritesRound : AdaptiveNote → AdaptiveNote → Standing → Standing → Option Files → Option Files → Option (List ℕ) → Option (List ℕ) → (ℕ → List Next) → Border → Type 0
+abbrev pub WritesRound : AdaptiveNote → AdaptiveNote → Standing → Standing → Option Files → Option Files → Option (List ℕ) → Option (List ℕ)
+    → (ℕ → List Next) → Border → Type 0
 WritesRound note note' old new left left' had has before end =
     (runs : Runs old new left left' end before) × WhereTold had has (AppendsAll (round_report old end runs.fills.now))
     × (IsTrue note.adapts → note'.counts ≡ grown note.counts (round_lists old end runs.fills.now))
@@ -220,13 +236,16 @@ pub record IsHalted (old : Standing) (c : Call) (f : RoundsFault) : Type 0 where
   pub fault : IsSourceFault old.held c.left c.left_after f
   pub nothing : f ≢ WriteFault → c.taken_after ≡ c.taken
   pub part : f ≡ WriteFault → (before : ℕ → List Next) → AreHeldBehind old.held before
-      → (end : Border) × (now : ℕ → List Next) × IsRoundOf old c.left c.left_after end before now × WhereTold c.taken c.taken_after (AppendsPart (round_report old end now))
+      → (end : Border) × (now : ℕ → List Next) × IsRoundOf old c.left c.left_after end before now
+          × WhereTold c.taken c.taken_after (AppendsPart (round_report old end now))
   pub failed : f ≡ WriteFault → Rose c.count c.count_after
   pub cause : f ≡ ReadFault → OneRose (files_of old.held.program.sources) c.counts c.counts_after
 
-wrote_then : (text more : List ℕ) (a b d : Option (List ℕ)) → WhereTold a b (AppendsAll text) → WhereTold b d (AppendsAll more) → WhereTold a d (AppendsAll (text ++ more))
+wrote_then : (text more : List ℕ) (a b d : Option (List ℕ)) → WhereTold a b (AppendsAll text) → WhereTold b d (AppendsAll more)
+    → WhereTold a d (AppendsAll (text ++ more))
 wrote_then text more a b d first second =
-    told_then (AppendsAll text) (AppendsAll more) (AppendsAll (text ++ more)) a b d (λ x y z e f. f ∙ ap (λ bytes. bytes ++ more) e ∙ append_assoc x text more) first second
+    told_then (AppendsAll text) (AppendsAll more) (AppendsAll (text ++ more)) a b d
+        (λ x y z e f. f ∙ ap (λ bytes. bytes ++ more) e ∙ append_assoc x text more) first second
 
 rises_on : (x y z : ℕ) → x ≤ y → y ≤ z → x ≤ z
 rises_on x y z first second = omega arith
@@ -240,8 +259,10 @@ told_ends names P (Some y) None told ends = told
 told_ends names P (Some y) (Some z) told ends = (told, ends)
 
 -- a run from a start `a`, which has come to files `b`; a round takes it to files `d`
-module _ (adapts : Bool) (p : Program) (note : AdaptiveNote) (o : Opening) (named : Option (List ℕ)) (a b d : Option Files) (k l m s t u : List ℕ → ℕ) (had mid has : Option (List ℕ)) (x y z : ℕ) (old : Standing)
-    (go : GoesOn adapts p note o named (call a b k l s t had mid x y) old) (apart : IsNoSource named p) (within : IsWithin old (call b d l m t u mid has y z)) where
+module _ (adapts : Bool) (p : Program) (note : AdaptiveNote) (o : Opening) (named : Option (List ℕ)) (a b d : Option Files) (k l m s t u : List ℕ → ℕ)
+    (had mid has : Option (List ℕ)) (x y z : ℕ) (old : Standing)
+    (go : GoesOn adapts p note o named (call a b k l s t had mid x y) old) (apart : IsNoSource named p)
+        (within : IsWithin old (call b d l m t u mid has y z)) where
   -- the files of the job's sources alone changed
   others_of_job : WhereTold b d (LeavesOthers (files_of p.sources))
   others_of_job = subst (λ (r : Program). WhereTold b d (LeavesOthers (files_of r.sources))) go.came.program within.others
@@ -250,7 +271,8 @@ module _ (adapts : Bool) (p : Program) (note : AdaptiveNote) (o : Opening) (name
   stays = record {
     fronts = told_then (TookFrontsBut (IsSavedTo named)) TookFronts (TookFrontsBut (IsSavedTo named)) a b d
         (λ v w r first second. fronts_join (IsSavedTo named) v w r first (λ name rest other left. second name rest left)) go.within.fronts within.fronts;
-    others = told_then (TookOnly (λ name. Contains (files_of p.sources) name ⊎ IsSavedTo named name)) (LeavesOthers (files_of p.sources)) (TookOnly (λ name. Contains (files_of p.sources) name ⊎ IsSavedTo named name)) a b d
+    others = told_then (TookOnly (λ name. Contains (files_of p.sources) name ⊎ IsSavedTo named name)) (LeavesOthers (files_of p.sources))
+        (TookOnly (λ name. Contains (files_of p.sources) name ⊎ IsSavedTo named name)) a b d
         (λ v w r first second name other. second name (λ found. other (inl found)) ∙ first name other) go.within.others others_of_job;
     rise = λ n. rises_on (k n) (l n) (m n) (go.within.rise n) (within.rise n);
   }
@@ -263,9 +285,11 @@ module _ (adapts : Bool) (p : Program) (note : AdaptiveNote) (o : Opening) (name
   put = put_behind p go.came.done old.held.border (held old.state)
 
   leaves_on : WhereTold a d (LeavesPut named [] put)
-  leaves_on = told_then (LeavesPut named [] put) (LeavesOthers (files_of p.sources)) (LeavesPut named [] put) a b d (λ v w r leaves others. round_keeps p named put v w r apart leaves others) go.leaves others_of_job
+  leaves_on = told_then (LeavesPut named [] put) (LeavesOthers (files_of p.sources)) (LeavesPut named [] put) a b d
+      (λ v w r leaves others. round_keeps p named put v w r apart leaves others) go.leaves others_of_job
 
-  put_was : (ran : List (List (List Item))) (before : ℕ → List Next) → ran ≡ go.came.done → IsStateUpTo p o.border o.cells old.held.border before (held old.state)
+  put_was : (ran : List (List (List Item))) (before : ℕ → List Next) → ran ≡ go.came.done
+      → IsStateUpTo p o.border o.cells old.held.border before (held old.state)
       → put ≡ put_by p o ran old.held.border before
   put_was ran before same state = put_is p o go.came.done ran old.held.border before (held old.state) same state
 
@@ -273,14 +297,16 @@ module _ (adapts : Bool) (p : Program) (note : AdaptiveNote) (o : Opening) (name
   still : has ≡ mid → WhereTold had has (AppendsAll go.written)
   still nothing = subst (λ (out : Option (List ℕ)). WhereTold had out (AppendsAll go.written)) (sym nothing) go.wrote
 
-  ran_to_defect : Laws o → (fault : SourceFault) → IsSourceFault old.held b d (SourceDefect fault) → has ≡ mid → RanToDefect p o named (call a d k m s u had has x z) fault
+  ran_to_defect : Laws o → (fault : SourceFault) → IsSourceFault old.held b d (SourceDefect fault) → has ≡ mid
+      → RanToDefect p o named (call a d k m s u had has x z) fault
   ran_to_defect laws fault met nothing = record {
     source = (laws.defect p rows_in_round a b d old go.written fault (omega arith) go.came met).0;
     text = go.written;
     wrote = still nothing;
     met = told_weaker
         (λ was is. ((ran : RanFrom p rows_in_round o.border o.cells (lines_in p was) old.held.border go.written) × (ran.done ≡ go.came.done)
-        × IsStateUpTo p o.border o.cells old.held.border ran.before (held old.state) × IsRoundFault p rows_in_round old.held.border (lines_in p was) ran.before fault)
+        × IsStateUpTo p o.border o.cells old.held.border ran.before (held old.state)
+            × IsRoundFault p rows_in_round old.held.border (lines_in p was) ran.before fault)
         × LeavesPut named [] put was is)
         (λ left now. (put' : Option (List ℕ)) × MeetsDefect p o (lines_in p left) go.written put' fault × LeavesPut named [] put' left now) a d
         (λ was is h. (put, record { border = old.held.border; ran = h.0.0; saved = put_was h.0.0.done h.0.0.before h.0.1 h.0.2; meets = h.0.3 }, h.1))
@@ -297,7 +323,8 @@ module _ (adapts : Bool) (p : Program) (note : AdaptiveNote) (o : Opening) (name
         (λ left now. (put' : Option (List ℕ)) × HaveWritten p o (lines_in p left) go.written put' × LeavesPut named [] put' left now) a d
         (λ was is h. (put, record { border = old.held.border; ran = h.0.0; saved = put_was h.0.0.done h.0.0.before h.0.1 h.0.2 }, h.1))
         (told_both _ (LeavesPut named [] put) a d
-        (told_then _ TookFronts _ a b d (λ was is now ran fronts. ran) (laws.state p rows_in_round a b old go.written (omega arith) go.came) within.fronts) leaves_on);
+        (told_then _ TookFronts _ a b d (λ was is now ran fronts. ran) (laws.state p rows_in_round a b old go.written (omega arith) go.came) within.fronts)
+            leaves_on);
   }
 
   one_rose : OneRose (files_of old.held.program.sources) l m → OneRose (files_of p.sources) k m
@@ -310,17 +337,22 @@ module _ (adapts : Bool) (p : Program) (note : AdaptiveNote) (o : Opening) (name
 
   -- the report of the next round
   reports_next : Laws o → (end : Border) (now : ℕ → List Next) → IsRoundOf old b d end go.came.before now
-      → WhereTold a d (λ left after. (put' : Option (List ℕ)) × ReportsNext p o (lines_in p left) go.written put' (round_report old end now) × LeavesPut named [] put' left after)
+      → WhereTold a d (λ left after. (put' : Option (List ℕ)) × ReportsNext p o (lines_in p left) go.written put' (round_report old end now)
+          × LeavesPut named [] put' left after)
   reports_next laws end now round = told_weaker
       (λ was is. ((ran : RanFrom p rows_in_round o.border o.cells (lines_in p was) old.held.border go.written) × (ran.done ≡ go.came.done)
       × IsStateUpTo p o.border o.cells old.held.border ran.before (held old.state)
-      × WouldWriteFrom p rows_in_round o.border o.cells (lines_in p was) old.held.border ran.before now end (go.written ++ round_report old end now)) × LeavesPut named [] put was is)
-      (λ left after. (put' : Option (List ℕ)) × ReportsNext p o (lines_in p left) go.written put' (round_report old end now) × LeavesPut named [] put' left after) a d
-      (λ was is h. (put, record { border = old.held.border; ran = h.0.0; saved = put_was h.0.0.done h.0.0.before h.0.1 h.0.2; end = end; now = now; next = h.0.3 }, h.1))
+      × WouldWriteFrom p rows_in_round o.border o.cells (lines_in p was) old.held.border ran.before now end (go.written ++ round_report old end now))
+          × LeavesPut named [] put was is)
+      (λ left after. (put' : Option (List ℕ)) × ReportsNext p o (lines_in p left) go.written put' (round_report old end now)
+          × LeavesPut named [] put' left after) a d
+      (λ was is h. (put, record { border = old.held.border; ran = h.0.0; saved = put_was h.0.0.done h.0.0.before h.0.1 h.0.2; end = end; now = now; next =
+          h.0.3 }, h.1))
       (told_both _ (LeavesPut named [] put) a d (laws.next p rows_in_round a b d old go.written end now (omega arith) go.came round) leaves_on)
 
   ran_into : Laws o
-      → ((before : ℕ → List Next) → AreHeldBehind old.held before → (end : Border) × (now : ℕ → List Next) × IsRoundOf old b d end before now × WhereTold mid has (AppendsPart (round_report old end now)))
+      → ((before : ℕ → List Next) → AreHeldBehind old.held before → (end : Border) × (now : ℕ → List Next) × IsRoundOf old b d end before now
+          × WhereTold mid has (AppendsPart (round_report old end now)))
       → RanInto p o named (call a d k m s u had has x z)
   ran_into laws part =
       let round = part go.came.before go.came.behind in
@@ -342,13 +374,15 @@ module _ (adapts : Bool) (p : Program) (note : AdaptiveNote) (o : Opening) (name
   ends_halted laws NoMemory is = (ran_some laws (is.nothing (λ e. cc)), stays)
 
   -- ---- the put behind a round that was run
-  module _ (e : Option Files) (n w : List ℕ → ℕ) (note' : AdaptiveNote) (new : Standing) (said : Option Said) (end : Border) (run : IsRun note note' old new said (call b d l m t u mid has y z) end)
+  module _ (e : Option Files) (n w : List ℕ → ℕ) (note' : AdaptiveNote) (new : Standing) (said : Option Said) (end : Border)
+      (run : IsRun note note' old new said (call b d l m t u mid has y z) end)
       (kept : WhereTold d e (TookOnly (IsSavedTo named))) (takes : SameCounts m n) where
     stays_put : StaysWithin p named (call a e k n s w had has x z)
     stays_put = record {
       fronts = told_then (TookFrontsBut (IsSavedTo named)) (TookOnly (IsSavedTo named)) (TookFrontsBut (IsSavedTo named)) a d e
           (λ v r f first second. fronts_join (IsSavedTo named) v r f first (fronts_of_only (IsSavedTo named) r f second)) stays.fronts kept;
-      others = told_then (TookOnly (λ name. Contains (files_of p.sources) name ⊎ IsSavedTo named name)) (TookOnly (IsSavedTo named)) (TookOnly (λ name. Contains (files_of p.sources) name ⊎ IsSavedTo named name)) a d e
+      others = told_then (TookOnly (λ name. Contains (files_of p.sources) name ⊎ IsSavedTo named name)) (TookOnly (IsSavedTo named))
+          (TookOnly (λ name. Contains (files_of p.sources) name ⊎ IsSavedTo named name)) a d e
           (λ v r f first second name other. second name (λ saved. other (inr saved)) ∙ first name other) stays.others kept;
       rise = λ name. subst (λ (count : ℕ). k name ≤ count) (sym (takes name)) (stays.rise name);
     }
@@ -364,7 +398,8 @@ module _ (adapts : Bool) (p : Program) (note : AdaptiveNote) (o : Opening) (name
     is_round = record {
       round = told_weaker
           (λ was is. (whole : ℕ → List Next) → AreInAll old.held go.came.before was whole
-          → IsRound old.held.program old.held.rows old.held.border whole go.came.before its_run.0.fills.now end × AreInAll new.held its_run.0.fills.now is whole)
+          → IsRound old.held.program old.held.rows old.held.border whole go.came.before its_run.0.fills.now end
+              × AreInAll new.held its_run.0.fills.now is whole)
           (λ was is. (whole : ℕ → List Next) → AreInAll old.held go.came.before was whole
           → IsRound old.held.program old.held.rows old.held.border whole go.came.before its_run.0.fills.now end) b d
           (λ was is fills whole all. (fills whole all).0) its_run.0.fills.round;
@@ -380,9 +415,11 @@ module _ (adapts : Bool) (p : Program) (note : AdaptiveNote) (o : Opening) (name
       saves = saves;
       wrote = wrote_more;
       round = told_then
-          (λ left after. (put' : Option (List ℕ)) × ReportsNext p o (lines_in p left) go.written put' (round_report old end its_run.0.fills.now) × LeavesPut named [] put' left after)
+          (λ left after. (put' : Option (List ℕ)) × ReportsNext p o (lines_in p left) go.written put' (round_report old end its_run.0.fills.now)
+              × LeavesPut named [] put' left after)
           (λ r f. (v : Files) (other : Option (List ℕ)) → LeavesPut named [] other v r → Left other v f)
-          (λ left after. (put' : Option (List ℕ)) × ReportsNext p o (lines_in p left) go.written put' (round_report old end its_run.0.fills.now) × Left put' left after) a d e
+          (λ left after. (put' : Option (List ℕ)) × ReportsNext p o (lines_in p left) go.written put' (round_report old end its_run.0.fills.now)
+              × Left put' left after) a d e
           (λ v r f next left. (next.0, next.1, left v next.0 next.2)) (reports_next laws end its_run.0.fills.now is_round) leaves;
     }
 
@@ -439,7 +476,8 @@ module _ (adapts : Bool) (p : Program) (note : AdaptiveNote) (o : Opening) (name
                 ∙ sym (laws.one_more (no_counts p) go.came.done lists)
                 ∙ ap (grown_in_turn (no_counts p)) (sym (still_on.1 ∙ on.1));
             wrote = wrote_then go.written (round_report old (At time) runs.0.fills.now) had mid has go.wrote runs.1;
-            leaves = told_then (LeavesPut named [] put) (PutsAt named bytes) (LeavesPut named [] (put_behind p still_on.0.done new.held.border (held new.state))) a d e
+            leaves = told_then (LeavesPut named [] put) (PutsAt named bytes)
+                (LeavesPut named [] (put_behind p still_on.0.done new.held.border (held new.state))) a d e
                 (λ v r f first second. put_leaves named (put_behind p still_on.0.done new.held.border (held new.state)) bytes v r f put_now second)
                 leaves_on (subst (λ (b' : Border). WhereTold d e (PutsAt named (save p (border_at b') (held new.state)))) at its_puts);
             within = stays_put;
@@ -456,13 +494,16 @@ module _ (adapts : Bool) (p : Program) (note : AdaptiveNote) (o : Opening) (name
           told_weaker (λ was is. grown note.counts (round_lists old Closed runs.0.fills.now) ≡ grown (no_counts p) (all_lists p o was))
           (λ was is. note'.counts ≡ grown (no_counts p) (all_lists p o was)) a d
           (λ was is all. runs.2 (go.adapting ∙ follows) ∙ all)
-          (laws.counts p rows_in_round o.border o.cells a b d old new go.written (no_counts p) note.counts (omega arith) (record { came = go.came; counts' = go.counted follows }) runs.0) in
+          (laws.counts p rows_in_round o.border o.cells a b d old new go.written (no_counts p) note.counts (omega arith)
+              (record { came = go.came; counts' = go.counted follows }) runs.0) in
           record {
             may_say = says.may_say;
-            told = plan_told adapts p o note'.counts (line_said said) (TookFrontsBut (IsSavedTo named)) (TookOnly (IsSavedTo named)) a d e stays_put.fronts kept counted says.is;
+            told = plan_told adapts p o note'.counts (line_said said) (TookFrontsBut (IsSavedTo named))
+                (TookOnly (IsSavedTo named)) a d e stays_put.fronts kept counted says.is;
           }
 
-      pub ran_all : Laws o → end ≡ Closed → AreClosed new.held → EndsRounds adapts p o named (call a e k n s w had has x z) (Ok said) × StaysWithin p named (call a e k n s w had has x z)
+      pub ran_all : Laws o → end ≡ Closed → AreClosed new.held → EndsRounds adapts p o named (call a e k n s w had has x z) (Ok said)
+          × StaysWithin p named (call a e k n s w had has x z)
       ran_all laws at closed =
           let runs = subst (WritesRound note note' old new b d mid has go.came.before) at its_run in
           let stands = subst (λ (b' : Border). StandsBehind old.held new.held b') at run.stands in
@@ -484,7 +525,8 @@ module _ (adapts : Bool) (p : Program) (note : AdaptiveNote) (o : Opening) (name
                   saved = λ name saved. put_here bytes name r f saved second.1 ∙ ap (λ cells. Some (save p greatest_border cells)) first.0.state;
                 })
                 (told_ends (files_of p.sources) (λ was is. HasRunFrom p o.border o.cells was new text) a d whole.1 whole.0)
-                (told_both (TookOnly (IsSavedTo named)) (PutsAt named bytes) d e kept (subst (λ (b' : Border). WhereTold d e (PutsAt named (save p (border_at b') (held new.state)))) at its_puts));
+                (told_both (TookOnly (IsSavedTo named)) (PutsAt named bytes) d e kept
+                    (subst (λ (b' : Border). WhereTold d e (PutsAt named (save p (border_at b') (held new.state)))) at its_puts));
           } in
           ((ran, says_plan laws at), stays_put)
         where
@@ -505,7 +547,8 @@ pub still_named : {A B : Type 0} (f : A → B) (o : Option A) → o ≢ None →
 still_named f None other e = other refl
 still_named f (Some x) other e = absurd (cc)
 
-pub laws_of : ((border : Option ℕ) (cells : Contents) → LawOfGoingOnFrom border cells) → ((border : Option ℕ) (cells : Contents) → LawOfTextAndState border cells)
+pub laws_of : ((border : Option ℕ) (cells : Contents) → LawOfGoingOnFrom border cells)
+    → ((border : Option ℕ) (cells : Contents) → LawOfTextAndState border cells)
     → ((border : Option ℕ) (cells : Contents) → LawOfNextTextAndState border cells) → ((border : Option ℕ) (cells : Contents) → LawOfLastFrom border cells)
     → ((border : Option ℕ) (cells : Contents) → LawOfDefectFrom border cells) → ((border : Option ℕ) (cells : Contents) → LawOfDefectAndState border cells)
     → ((border : Option ℕ) (cells : Contents) → LawOfOtherNames border cells) → OneMoreInTurn → LawOfLastCounts → (o : Opening) → Laws o

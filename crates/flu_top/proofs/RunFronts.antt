@@ -43,7 +43,8 @@ appends_more text more rest whole old new is wrote =
     let n = wrote.0 in
     let few : n ≤ length more = omega (arith, wrote.1) in
     let front : take (length text + n) whole ≡ text ++ take n more =
-    ap (take (length text + n)) (is ∙ append_assoc text more rest) ∙ take-append-add text (more ++ rest) n ∙ ap (λ bytes. text ++ bytes) (take-append-le n more rest few) in
+    ap (take (length text + n)) (is ∙ append_assoc text more rest) ∙ take-append-add text (more ++ rest) n
+        ∙ ap (λ bytes. text ++ bytes) (take-append-le n more rest few) in
     (length text + n, wrote.2 ∙ append_assoc old text (take n more) ∙ ap (λ bytes. old ++ bytes) (sym front))
 
 -- ---- a run
@@ -172,18 +173,21 @@ module _ (jobs : JobsAreGrammar) (fronts : ReportFronts) (nexts : NextReportFron
       let front = front_of q met.opening met.met.border text found.0 met.met.ran in
       front_written q met.opening text front.0 had has found.0 met.starts front.1 wrote
 
-  done_written : (a b : Option Contents) (had has : Option (List ℕ)) (line : List ℕ) → a ≡ Some left → WhereTold a b (IsDone whole had has line) → HasFront whole job left had has
+  done_written : (a b : Option Contents) (had has : Option (List ℕ)) (line : List ℕ) → a ≡ Some left → WhereTold a b (IsDone whole had has line)
+      → HasFront whole job left had has
   done_written a b had has line told done =
       let found = (of_told (IsDone whole had has line) left a b told done).1 in
       let writes = found.3 in
       let starts : StartsFrom whole left found.0 writes.0 = record { apart = found.2.good.start.1.apart; opens = writes.1 } in
       front_written found.0 writes.0 found.1 [] had has found.2.good.has starts (sym writes.2 ∙ sym (append-nil found.1)) found.5
 
-  rounds_or_nothing : (a b : Option Contents) (had has : Option (List ℕ)) → a ≡ Some left → WroteSome InRounds whole a b had has → HasFront whole job left had has
+  rounds_or_nothing : (a b : Option Contents) (had has : Option (List ℕ)) → a ≡ Some left → WroteSome InRounds whole a b had has
+      → HasFront whole job left had has
   rounds_or_nothing a b had has told (inl none) = nothing had has none.nothing
   rounds_or_nothing a b had has told (inr wrote) = some_written a b had has told wrote
 
-  memory_written : (a b : Option Contents) (had has : Option (List ℕ)) → a ≡ Some left → WroteForMemory InRounds whole a b had has → HasFront whole job left had has
+  memory_written : (a b : Option Contents) (had has : Option (List ℕ)) → a ≡ Some left → WroteForMemory InRounds whole a b had has
+      → HasFront whole job left had has
   memory_written a b had has told (inl some) = rounds_or_nothing a b had has told some
   memory_written a b had has told (inr wrote) = unsaved_written (Leaves whole) a b had has told wrote
 

@@ -1,5 +1,6 @@
 -- What a run has read before its rounds, what refuses it there, and how its rounds end its command.
-use Rattle.std.proofs.Common.{◌≡◌, refl, sym, ap, ◌∙◌, subst, ℕ, Bool, true, false, ◌≤◌, List, [], ◌∷◌, ◌++◌, Option, Some, None, Result, Ok, Err, inl, inr, ◌⊎◌, arith, append_assoc}
+use Rattle.std.proofs.Common.{◌≡◌, refl, sym, ap, ◌∙◌, subst, ℕ, Bool, true, false, ◌≤◌, List, [], ◌∷◌, ◌++◌, Option, Some, None, Result, Ok, Err, inl, inr}
+use Rattle.std.proofs.Common.{◌⊎◌, arith, append_assoc}
 use Rattle.std.specs.Prelude.{Contains, IfErr, IfSome}
 use Rattle.std.proofs.lemmas.Result.{IfErr-weaker}
 use Rattle.std.proofs.lemmas.List.Elements.{Contains-append_cases, Contains-append_left, Contains-append_right}
@@ -40,7 +41,8 @@ use Rattle.flu_top.specs.Products.{line_said, MaySay}
 use Rattle.flu_top.specs.Ready.{AreTextsRead, IsReady}
 use Rattle.flu_top.specs.Reading.{InRounds, HaveWritten, MeetsDefect, ReportsNext, greatest_border, lines_behind}
 use Rattle.flu_top.specs.Refusing.{IsRefusal}
-use Rattle.flu_top.specs.Running.{IsBegun, IsOpened, IsOpeningRefusal, IsSavedTo, StaysWithin, IsAllRun, RanAll, RanToDefect, RanSome, RanInto, RanUnsaved, IsRoundsRefusal, EndsRounds, EndsRun}
+use Rattle.flu_top.specs.Running.{IsBegun, IsOpened, IsOpeningRefusal, IsSavedTo, StaysWithin, IsAllRun, RanAll, RanToDefect, RanSome, RanInto, RanUnsaved}
+use Rattle.flu_top.specs.Running.{IsRoundsRefusal, EndsRounds, EndsRun}
 use Rattle.flu_top.specs.Running.{IsPlanSaid, MaySayPlan, SaysPlan}
 use Rattle.flu_top.specs.Starting.{AreNoSources, CanStart, HasBadCheckpoint, StartsFrom, IsSameName, Saves, Resumes, Leaves, LeavesPut, LeavesAnything}
 use Rattle.flu_top.specs.Taking.{TookOnly, TookFrontsBut}
@@ -62,7 +64,8 @@ texts_then first second x y z one two = record {
     | inr late ↦ two.ends name late
   ];
   others = λ name missing.
-      two.others name (λ found. missing (Contains-append_right first second name found)) ∙ one.others name (λ found. missing (Contains-append_left first second name found));
+      two.others name (λ found. missing (Contains-append_right first second name found))
+          ∙ one.others name (λ found. missing (Contains-append_left first second name found));
 }
 
 others_then : (first second : List (List ℕ)) (x y z : Contents) → LeavesOthers first x y → LeavesOthers second y z → LeavesOthers (first ++ second) x z
@@ -76,7 +79,8 @@ none_put None texts x y fronts others = tt
 none_put (Some name) texts x y fronts others = record { end = λ rest is. fronts name rest is; unread = λ missing. others name missing }
 
 -- what was put behind the texts
-put_behind_texts : (named put : Option (List ℕ)) (texts : List (List ℕ)) (x y z : Contents) → TookFronts x y → LeavesOthers texts x y → LeavesPut named [] put y z → LeavesPut named texts put x z
+put_behind_texts : (named put : Option (List ℕ)) (texts : List (List ℕ)) (x y z : Contents) → TookFronts x y → LeavesOthers texts x y
+    → LeavesPut named [] put y z → LeavesPut named texts put x z
 put_behind_texts None put texts x y z fronts others leaves = tt
 put_behind_texts (Some name) None texts x y z fronts others leaves = record {
   end = λ rest is.
@@ -90,28 +94,37 @@ put_behind_texts (Some name) (Some bytes) texts x y z fronts others leaves = lea
 -- ---- a run reads its job and its plan as `valid` does, where it names a plan
 -- those are all names that `valid` reads
 valid_reads : (job plan : List ℕ) (left : Option Contents) (name : List ℕ) → IsReadName left (Valid job plan) name → Contains (job ∷ plan ∷ []) name
-valid_reads job plan left name (inl same) = subst (λ (wanted : WantedJob). Contains (job_files wanted ++ plan ∷ []) name) (sym same) (contains_here name (plan ∷ []))
-valid_reads job plan left name (inr (inl found)) = contains_later job name (plan ∷ []) (one_contains plan name (let same : plan ≡ name = let e = found.named in cc in sym same))
+valid_reads job plan left name (inl same) = subst (λ (wanted : WantedJob). Contains (job_files wanted ++ plan ∷ []) name) (sym same)
+    (contains_here name (plan ∷ []))
+valid_reads job plan left name (inr (inl found)) = contains_later job name (plan ∷ [])
+    (one_contains plan name (let same : plan ≡ name = let e = found.named in cc in sym same))
 valid_reads job plan left name (inr (inr (inl checkpoint))) = absurd (let e = checkpoint.named in cc)
 valid_reads job plan left name (inr (inr (inr (inl source)))) = absurd (none_among name source.named)
 valid_reads job plan left name (inr (inr (inr (inr trace)))) = absurd (let e = trace.named in cc)
 
-pub others_as_valid : (job plan : List ℕ) (named : Option (List ℕ)) (a b : Option Contents) → named ≡ Some plan → WhereTold a b (TookOnly (IsReadName a (Valid job plan))) → WhereTold a b (LeavesOthers (job ∷ if_named named))
+pub others_as_valid : (job plan : List ℕ) (named : Option (List ℕ)) (a b : Option Contents) → named ≡ Some plan
+    → WhereTold a b (TookOnly (IsReadName a (Valid job plan))) → WhereTold a b (LeavesOthers (job ∷ if_named named))
 others_as_valid job plan named a b is only = subst (λ (o : Option (List ℕ)). WhereTold a b (LeavesOthers (job ∷ if_named o))) (sym is)
-    (told_weaker (TookOnly (IsReadName a (Valid job plan))) (LeavesOthers (job ∷ plan ∷ [])) a b (λ x y took name missing. took name (λ read. missing (valid_reads job plan a name read))) only)
+    (told_weaker (TookOnly (IsReadName a (Valid job plan))) (LeavesOthers (job ∷ plan ∷ [])) a b
+        (λ x y took name missing. took name (λ read. missing (valid_reads job plan a name read))) only)
 
-pub run_only_as_valid : (job plan : List ℕ) (named : Option (List ℕ)) (a b : Option Contents) → named ≡ Some plan → WhereTold a b (TookOnly (IsReadName a (Valid job plan)))
+pub run_only_as_valid : (job plan : List ℕ) (named : Option (List ℕ)) (a b : Option Contents) → named ≡ Some plan
+    → WhereTold a b (TookOnly (IsReadName a (Valid job plan)))
     → (options : RunOptions) → WhereTold a b (TookOnly (IsReadName a (Run job named options)))
 run_only_as_valid job plan named a b is only options = subst (λ (o : Option (List ℕ)). WhereTold a b (TookOnly (IsReadName a (Run job o options)))) (sym is)
     (only_as_valid (Run job (Some plan) options) job plan a b (run_reads job plan options) only)
 
-pub run_refused_as_valid : {T : Type 0} (r : Result T Refusal) (job plan : List ℕ) (named : Option (List ℕ)) (a b : Option Contents) (k m : List ℕ → ℕ) → named ≡ Some plan → IfErr r (IsRefusal (Valid job plan) a b k m)
+pub run_refused_as_valid : {T : Type 0} (r : Result T Refusal) (job plan : List ℕ) (named : Option (List ℕ)) (a b : Option Contents) (k m : List ℕ → ℕ)
+    → named ≡ Some plan → IfErr r (IsRefusal (Valid job plan) a b k m)
     → IfErr r (λ (refusal : Refusal). (options : RunOptions) → IsRefusal (Run job named options) a b k m refusal)
-run_refused_as_valid r job plan named a b k m is refused = subst (λ (o : Option (List ℕ)). IfErr r (λ (refusal : Refusal). (options : RunOptions) → IsRefusal (Run job o options) a b k m refusal)) (sym is)
-    (IfErr-weaker r _ _ (λ refusal why options. refusal_as_valid (Run job (Some plan) options) job plan a b k m refusal (run_reads job plan options) why) refused)
+run_refused_as_valid r job plan named a b k m is refused = subst (λ (o : Option (List ℕ)). IfErr r (λ (refusal : Refusal). (options : RunOptions)
+    → IsRefusal (Run job o options) a b k m refusal)) (sym is)
+    (IfErr-weaker r _ _ (λ refusal why options. refusal_as_valid (Run job (Some plan) options) job plan a b k m refusal (run_reads job plan options) why)
+        refused)
 
 -- where it names none its job alone is read
-pub begun_alone : (job : List ℕ) (p q : Program) (a b : Option Contents) → q ≡ p → WhereTold a b (IsJobRead job p) → WhereTold a b (TakesFrom job) → WhereTold a b (IsBegun job None q)
+pub begun_alone : (job : List ℕ) (p q : Program) (a b : Option Contents) → q ≡ p → WhereTold a b (IsJobRead job p) → WhereTold a b (TakesFrom job)
+    → WhereTold a b (IsBegun job None q)
 begun_alone job p q a b same read taken = subst (λ (r : Program). WhereTold a b (IsBegun job None r)) (sym same)
     (told_weaker (λ x y. IsJobRead job p x y × TakesFrom job x y) (IsBegun job None p) a b
     (λ x y first. record { has = first.0.has; its_plan = λ name named. absurd (cc); texts = one_text job x y first.0.end first.1 })
@@ -119,18 +132,24 @@ begun_alone job p q a b same read taken = subst (λ (r : Program). WhereTold a b
 
 -- ---- a run that has read its job and its plan
 -- a name that it saves to is as before
-pub as_before : (job : List ℕ) (plan : Option (List ℕ)) (options : RunOptions) (a b : Option Contents) → WhereTold a b TookFronts → WhereTold a b (LeavesOthers (job ∷ if_named plan)) → WhereTold a b (Leaves (Run job plan options) None)
-as_before job plan options a b fronts others = told_weaker (λ x y. TookFronts x y × LeavesOthers (job ∷ if_named plan) x y) (Leaves (Run job plan options) None) a b
+pub as_before : (job : List ℕ) (plan : Option (List ℕ)) (options : RunOptions) (a b : Option Contents) → WhereTold a b TookFronts
+    → WhereTold a b (LeavesOthers (job ∷ if_named plan)) → WhereTold a b (Leaves (Run job plan options) None)
+as_before job plan options a b fronts others = told_weaker (λ x y. TookFronts x y × LeavesOthers (job ∷ if_named plan) x y)
+    (Leaves (Run job plan options) None) a b
     (λ x y both. none_put options.save (texts_named (Run job plan options)) x y both.0
     (λ name missing. both.1 name (λ found. missing (Contains-append_left (job ∷ if_named plan) (if_named options.resume) name found))))
     (told_both TookFronts (LeavesOthers (job ∷ if_named plan)) a b fronts others)
 
-pub as_before_opening : (job : List ℕ) (plan : Option (List ℕ)) (options : RunOptions) (a b d : Option Contents) → WhereTold a b TookFronts → WhereTold a b (LeavesOthers (job ∷ if_named plan))
+pub as_before_opening : (job : List ℕ) (plan : Option (List ℕ)) (options : RunOptions) (a b d : Option Contents) → WhereTold a b TookFronts
+    → WhereTold a b (LeavesOthers (job ∷ if_named plan))
     → WhereTold b d TookFronts → WhereTold b d (LeavesOthers (if_named options.resume)) → WhereTold a d (Leaves (Run job plan options) None)
 as_before_opening job plan options a b d fronts others fronts' others' =
-    told_then (λ x y. TookFronts x y × LeavesOthers (job ∷ if_named plan) x y) (λ y z. TookFronts y z × LeavesOthers (if_named options.resume) y z) (Leaves (Run job plan options) None) a b d
-    (λ x y z first second. none_put options.save (texts_named (Run job plan options)) x z (fronts_then (Some x) (Some y) (Some z) first.0 second.0) (others_then (job ∷ if_named plan) (if_named options.resume) x y z first.1 second.1))
-    (told_both TookFronts (LeavesOthers (job ∷ if_named plan)) a b fronts others) (told_both TookFronts (LeavesOthers (if_named options.resume)) b d fronts' others')
+    told_then (λ x y. TookFronts x y × LeavesOthers (job ∷ if_named plan) x y) (λ y z. TookFronts y z × LeavesOthers (if_named options.resume) y z)
+        (Leaves (Run job plan options) None) a b d
+    (λ x y z first second. none_put options.save (texts_named (Run job plan options)) x z (fronts_then (Some x) (Some y) (Some z) first.0 second.0)
+        (others_then (job ∷ if_named plan) (if_named options.resume) x y z first.1 second.1))
+    (told_both TookFronts (LeavesOthers (job ∷ if_named plan)) a b fronts others)
+        (told_both TookFronts (LeavesOthers (if_named options.resume)) b d fronts' others')
 
 module _ (job : List ℕ) (plan : Option (List ℕ)) (options : RunOptions) (p : Program) (a b : Option Contents) where
   may_be_begun : IsAccepted p → WhereTold a b (IsBegun job plan p) → MayBeJob a (Run job plan options) p
@@ -149,7 +168,8 @@ module _ (job : List ℕ) (plan : Option (List ℕ)) (options : RunOptions) (p :
     name = (names_it same).0;
     named = (names_it same).1;
     accepted = λ asked. accepted;
-    first = told_weaker (IsBegun job plan p) (λ left _. HasJob (Named job) left p × HasPlanAsked (Run job plan options) left p × IsSameName (Run job plan options) p number) a b
+    first = told_weaker (IsBegun job plan p) (λ left _. HasJob (Named job) left p × HasPlanAsked (Run job plan options) left p
+        × IsSameName (Run job plan options) p number) a b
         (λ x y first. (first.has, first.its_plan, same)) begun;
   }
     where
@@ -158,7 +178,8 @@ module _ (job : List ℕ) (plan : Option (List ℕ)) (options : RunOptions) (p :
       names_it (Resumes others file) = (file.0.file, inr file.2)
 
   -- the checkpoint that it is resumed from could not be read, or has a fault
-  pub opening_refuses : (d : Option Contents) (k l m : List ℕ → ℕ) → IsAccepted p → AreNoSources (Run job plan options) p → WhereTold a b (IsBegun job plan p) → ((n : List ℕ) → k n ≤ l n) → (refusal : Refusal)
+  pub opening_refuses : (d : Option Contents) (k l m : List ℕ → ℕ) → IsAccepted p → AreNoSources (Run job plan options) p
+      → WhereTold a b (IsBegun job plan p) → ((n : List ℕ) → k n ≤ l n) → (refusal : Refusal)
       → IsOpeningRefusal options.resume p b d l m refusal → IsRefusal (Run job plan options) a d k m refusal
   opening_refuses d k l m accepted apart begun rise (refusals.BadWords bad) is = is
   opening_refuses d k l m accepted apart begun rise (refusals.JobFault fault) is = absurd is
@@ -202,9 +223,11 @@ module _ (job : List ℕ) (plan : Option (List ℕ)) (options : RunOptions) (p :
       → WhereTold a b (TookOnly (IsReadName a (Run job plan options))) → WhereTold b d (LeavesOthers (if_named options.resume))
       → WhereTold a d (TookOnly (λ name. IsReadName a (Run job plan options) name ⊎ IsPutAt (Run job plan options) status name))
   only_opening d status accepted apart begun only others =
-      told_then (TookOnly (IsReadName a (Run job plan options))) (LeavesOthers (if_named options.resume)) (TookOnly (λ name. IsReadName a (Run job plan options) name ⊎ IsPutAt (Run job plan options) status name)) a b d
+      told_then (TookOnly (IsReadName a (Run job plan options))) (LeavesOthers (if_named options.resume))
+          (TookOnly (λ name. IsReadName a (Run job plan options) name ⊎ IsPutAt (Run job plan options) status name)) a b d
       (λ x y z first second name unread.
-      second name (λ found. unread (inl (inr (inr (inl (record { p = p; job = may_be_begun accepted begun; apart = apart; named = name_given options.resume name found }))))))
+      second name (λ found. unread (inl (inr (inr (inl (record { p = p; job = may_be_begun accepted begun; apart = apart; named =
+          name_given options.resume name found }))))))
       ∙ first name (λ read. unread (inl read))) only others
 
 -- ---- a run that has read all of its texts
@@ -214,55 +237,67 @@ pub record IsStarted (job : List ℕ) (plan : Option (List ℕ)) (options : RunO
   pub starts : StartsFrom (Run job plan options) old p o
   pub fronts : TookFronts old new
 
-opens_behind : (resume : Option (List ℕ)) (texts : List (List ℕ)) (p : Program) (o : Opening) (x y : Contents) → emptied_each texts x ≡ y → Opens resume [] y p o → Opens resume texts x p o
+opens_behind : (resume : Option (List ℕ)) (texts : List (List ℕ)) (p : Program) (o : Opening) (x y : Contents) → emptied_each texts x ≡ y
+    → Opens resume [] y p o → Opens resume texts x p o
 opens_behind None texts p o x y behind opens = opens
 opens_behind (Some name) texts p o x y behind opens = subst (λ (left : Contents). OpensAt p (bytes_left left name) o) (sym behind) opens
 
-pub is_started : (job : List ℕ) (plan : Option (List ℕ)) (options : RunOptions) (p : Program) (o : Opening) (a b d : Option Contents) → AreNoSources (Run job plan options) p
-    → WhereTold a b (IsBegun job plan p) → WhereTold a b TookFronts → WhereTold b d (IsOpened options.resume p o) → WhereTold b d TookFronts → WhereTold a d (IsStarted job plan options p o)
+pub is_started : (job : List ℕ) (plan : Option (List ℕ)) (options : RunOptions) (p : Program) (o : Opening) (a b d : Option Contents)
+    → AreNoSources (Run job plan options) p
+    → WhereTold a b (IsBegun job plan p) → WhereTold a b TookFronts → WhereTold b d (IsOpened options.resume p o) → WhereTold b d TookFronts
+        → WhereTold a d (IsStarted job plan options p o)
 is_started job plan options p o a b d apart begun fronts opened fronts' =
     told_then (λ x y. IsBegun job plan p x y × TookFronts x y) (λ y z. IsOpened options.resume p o y z × TookFronts y z) (IsStarted job plan options p o) a b d
     (λ x y z first second. record {
-      ready = record { has = first.0.has; plan = first.0.its_plan; texts = texts_then (job ∷ if_named plan) (if_named options.resume) x y z first.0.texts second.0.texts };
+      ready = record { has = first.0.has; plan = first.0.its_plan; texts =
+          texts_then (job ∷ if_named plan) (if_named options.resume) x y z first.0.texts second.0.texts };
       starts = record { apart = apart; opens = opens_behind options.resume (job ∷ if_named plan) p o x y first.0.texts.behind second.0.opens };
       fronts = fronts_then (Some x) (Some y) (Some z) first.1 second.1;
     })
     (told_both (IsBegun job plan p) TookFronts a b begun fronts) (told_both (IsOpened options.resume p o) TookFronts b d opened fronts')
 
 -- where a checkpoint could not be put, this is what refuses the run
-pub refused_unsaved : (adapts : Bool) (p : Program) (o : Opening) (named : Option (List ℕ)) (c : Call) (fault : PutFault) → EndsRounds adapts p o named c (Err (Unsaved fault))
+pub refused_unsaved : (adapts : Bool) (p : Program) (o : Opening) (named : Option (List ℕ)) (c : Call) (fault : PutFault)
+    → EndsRounds adapts p o named c (Err (Unsaved fault))
     → IsRoundsRefusal p o named c (refusal_of_put fault)
 refused_unsaved adapts p o named c Failed is = is
 refused_unsaved adapts p o named c NoMemoryToPut is = inr is
 
 -- ---- what is said
 -- what is said of the counts of all events is what the command says
-says_line : (adapts : Bool) (texts : List (List ℕ)) (resume : Option (List ℕ)) (p : Program) (o : Opening) (left : Contents) (line : List ℕ) → Opens resume texts left p o
+says_line : (adapts : Bool) (texts : List (List ℕ)) (resume : Option (List ℕ)) (p : Program) (o : Opening) (left : Contents) (line : List ℕ)
+    → Opens resume texts left p o
     → IsPlanSaid adapts p (grown (no_counts p) (lists_from o (texts ++ if_named resume) left p)) line → IsLine (plan_said adapts texts resume) left p line
 says_line false texts resume p o left line opens is = is
 says_line true texts resume p o left line opens is = (o, opens, is)
 
-may_say_line : (adapts : Bool) (texts : List (List ℕ)) (resume : Option (List ℕ)) (said : Option Said) → MaySayPlan adapts said → MaySay (plan_said adapts texts resume) said
+may_say_line : (adapts : Bool) (texts : List (List ℕ)) (resume : Option (List ℕ)) (said : Option Said) → MaySayPlan adapts said
+    → MaySay (plan_said adapts texts resume) said
 may_say_line false texts resume said is = is
 may_say_line true texts resume None is = is
 may_say_line true texts resume (Some said) is = is
 
 -- ---- the rounds of a run, behind its texts
-module _ (job : List ℕ) (plan : Option (List ℕ)) (options : RunOptions) (p : Program) (o : Opening) (a b d : Option Contents) (k l m s t u : List ℕ → ℕ) (had has : Option (List ℕ)) (x z : ℕ)
-    (accepted : IsAccepted p) (apart : AreNoSources (Run job plan options) p) (started : WhereTold a b (IsStarted job plan options p o)) (rise : (n : List ℕ) → k n ≤ l n) (puts : SameCounts s t)
+module _ (job : List ℕ) (plan : Option (List ℕ)) (options : RunOptions) (p : Program) (o : Opening) (a b d : Option Contents) (k l m s t u : List ℕ → ℕ)
+    (had has : Option (List ℕ)) (x z : ℕ)
+    (accepted : IsAccepted p) (apart : AreNoSources (Run job plan options) p) (started : WhereTold a b (IsStarted job plan options p o)) (rise : (n : List ℕ)
+        → k n ≤ l n) (puts : SameCounts s t)
     (within : StaysWithin p options.save (call b d l m t u had has x z)) where
   -- the lines of the sources behind the texts
   lines_same : (v w : Contents) → IsStarted job plan options p o v w → lines_in p w ≡ lines_behind (texts_named (Run job plan options)) v p
   lines_same v w first = ap (lines_in p) (sym first.ready.texts.behind)
 
   -- what is left under the name that it saves to
-  leaves_behind : (put : Option (List ℕ)) (v w r : Contents) → IsStarted job plan options p o v w → LeavesPut options.save [] put w r → Leaves (Run job plan options) put v r
-  leaves_behind put v w r first leaves = put_behind_texts options.save put (texts_named (Run job plan options)) v w r first.fronts first.ready.texts.others leaves
+  leaves_behind : (put : Option (List ℕ)) (v w r : Contents) → IsStarted job plan options p o v w → LeavesPut options.save [] put w r
+      → Leaves (Run job plan options) put v r
+  leaves_behind put v w r first leaves = put_behind_texts options.save put
+      (texts_named (Run job plan options)) v w r first.fronts first.ready.texts.others leaves
 
   -- the names of its texts and sources were read to their ends, but for one that it saves to
   ends_behind : (v w r : Contents) → IsStarted job plan options p o v w → ((name : List ℕ) → Contains (files_of p.sources) name → r name ≡ Some [])
       → TookOnly (λ name. Contains (files_of p.sources) name ⊎ IsSavedTo options.save name) w r
-      → (name : List ℕ) → Contains (texts_named (Run job plan options) ++ sources_read (Run job plan options) p) name → IsNotSaved (Run job plan options) name → r name ≡ Some []
+      → (name : List ℕ) → Contains (texts_named (Run job plan options) ++ sources_read (Run job plan options) p) name
+          → IsNotSaved (Run job plan options) name → r name ≡ Some []
   ends_behind v w r first ends only name found unsaved = elim (Contains-append_cases (texts_named (Run job plan options)) (files_of p.sources) name found) [
     | inr source ↦ ends name source
     | inl text ↦ elim (among (files_of p.sources) name) [
@@ -272,11 +307,13 @@ module _ (job : List ℕ) (plan : Option (List ℕ)) (options : RunOptions) (p :
   ]
 
   -- all events are those of the sources behind the texts
-  says_behind : (said : Option Said) (v w : Contents) → IsStarted job plan options p o v w → IsPlanSaid options.adapt p (grown (no_counts p) (lists_above o.border (lists_of p w))) (line_said said)
+  says_behind : (said : Option Said) (v w : Contents) → IsStarted job plan options p o v w
+      → IsPlanSaid options.adapt p (grown (no_counts p) (lists_above o.border (lists_of p w))) (line_said said)
       → IsLine (plan_said options.adapt (job ∷ if_named plan) options.resume) v p (line_said said)
   unfolding lists_behind
   says_behind said v w first is = says_line options.adapt (job ∷ if_named plan) options.resume p o v (line_said said) first.starts.opens
-      (subst (λ (left : Contents). IsPlanSaid options.adapt p (grown (no_counts p) (lists_above o.border (lists_of p left))) (line_said said)) (sym first.ready.texts.behind) is)
+      (subst (λ (left : Contents). IsPlanSaid options.adapt p (grown (no_counts p) (lists_above o.border (lists_of p left))) (line_said said))
+          (sym first.ready.texts.behind) is)
 
   all_read : (said : Option Said) → RanAll p o options.save (call b d l m t u had has x z) → SaysPlan options.adapt p o said (call b d l m t u had has x z)
       → HasAll (call a d k m s u had has x z) (Run job plan options) said
@@ -302,17 +339,20 @@ module _ (job : List ℕ) (plan : Option (List ℕ)) (options : RunOptions) (p :
             saved = λ name named. (
               o,
               first.starts,
-              second.0.saved name named ∙ ap (λ (left : Contents). Some (save p greatest_border (final_state p o.cells (lists_above o.border (lists_of p left))))) (sym first.ready.texts.behind),
+              second.0.saved name named ∙ ap (λ (left : Contents). Some
+                  (save p greatest_border (final_state p o.cells (lists_above o.border (lists_of p left))))) (sym first.ready.texts.behind),
             );
           },
-          (o, first.starts.opens, second.0.is ∙ ap (λ (left : Contents). report p (final_outputs p o.cells (lists_above o.border (lists_of p left)))) (sym first.ready.texts.behind)),
+          (o, first.starts.opens, second.0.is ∙ ap (λ (left : Contents). report p (final_outputs p o.cells (lists_above o.border (lists_of p left))))
+              (sym first.ready.texts.behind)),
           says_behind said v w first second.1.1,
           ran.wrote,
         )) started
         (told_both (IsAllRun p o options.save ran.text)
         (λ v w. TookOnly (λ name. Contains (files_of p.sources) name ⊎ IsSavedTo options.save name) v w
         × IsPlanSaid options.adapt p (grown (no_counts p) (lists_above o.border (lists_of p v))) (line_said said)) b d ran.all
-        (told_both (TookOnly (λ name. Contains (files_of p.sources) name ⊎ IsSavedTo options.save name)) (λ v w. IsPlanSaid options.adapt p (grown (no_counts p) (lists_above o.border (lists_of p v))) (line_said said)) b d
+        (told_both (TookOnly (λ name. Contains (files_of p.sources) name ⊎ IsSavedTo options.save name))
+            (λ v w. IsPlanSaid options.adapt p (grown (no_counts p) (lists_above o.border (lists_of p v))) (line_said said)) b d
         within.others says.told));
     may_say = may_say_line options.adapt (job ∷ if_named plan) options.resume said says.may_say;
   }
@@ -325,7 +365,8 @@ module _ (job : List ℕ) (plan : Option (List ℕ)) (options : RunOptions) (p :
       asked = refl;
       accepted = λ asked. accepted;
       source = ran.source;
-      first = told_then (IsStarted job plan options p o) (λ v w. (put : Option (List ℕ)) × MeetsDefect p o (lines_in p v) ran.text put fault × LeavesPut options.save [] put v w)
+      first = told_then (IsStarted job plan options p o) (λ v w. (put : Option (List ℕ)) × MeetsDefect p o (lines_in p v) ran.text put fault
+          × LeavesPut options.save [] put v w)
           (λ left now. HasJob (Named job) left p × HasPlanAsked (Run job plan options) left p × CanStart (Run job plan options) left p
           × IsMet InRounds (Run job plan options) left now p ran.text fault) a b d
           (λ v w r first second. (
@@ -350,9 +391,11 @@ module _ (job : List ℕ) (plan : Option (List ℕ)) (options : RunOptions) (p :
     text = ran.text;
     accepted = λ asked. accepted;
     wrote = ran.wrote;
-    rounds = told_then (IsStarted job plan options p o) (λ v w. (put : Option (List ℕ)) × HaveWritten p o (lines_in p v) ran.text put × LeavesPut options.save [] put v w)
+    rounds = told_then (IsStarted job plan options p o) (λ v w. (put : Option (List ℕ)) × HaveWritten p o (lines_in p v) ran.text put
+        × LeavesPut options.save [] put v w)
         (λ left now. HasJob (Named job) left p × HasPlanAsked (Run job plan options) left p × ((o' : Opening) × StartsFrom (Run job plan options) left p o'
-        × ((put : Option (List ℕ)) × HaveWritten p o' (lines_behind (texts_named (Run job plan options)) left p) ran.text put × Leaves (Run job plan options) put left now))) a b d
+        × ((put : Option (List ℕ)) × HaveWritten p o' (lines_behind (texts_named (Run job plan options)) left p) ran.text put
+            × Leaves (Run job plan options) put left now))) a b d
         (λ v w r first second. (
           first.ready.has,
           first.ready.plan,
@@ -375,9 +418,11 @@ module _ (job : List ℕ) (plan : Option (List ℕ)) (options : RunOptions) (p :
     more = ran.more;
     accepted = λ asked. accepted;
     wrote = ran.wrote;
-    round = told_then (IsStarted job plan options p o) (λ v w. (put : Option (List ℕ)) × ReportsNext p o (lines_in p v) ran.text put ran.more × LeavesPut options.save [] put v w)
+    round = told_then (IsStarted job plan options p o) (λ v w. (put : Option (List ℕ)) × ReportsNext p o (lines_in p v) ran.text put ran.more
+        × LeavesPut options.save [] put v w)
         (λ left now. HasJob (Named job) left p × HasPlanAsked (Run job plan options) left p × ((o' : Opening) × StartsFrom (Run job plan options) left p o'
-        × ((put : Option (List ℕ)) × ReportsNext p o' (lines_behind (texts_named (Run job plan options)) left p) ran.text put ran.more × Leaves (Run job plan options) put left now))) a b d
+        × ((put : Option (List ℕ)) × ReportsNext p o' (lines_behind (texts_named (Run job plan options)) left p) ran.text put ran.more
+            × Leaves (Run job plan options) put left now))) a b d
         (λ v w r first second. (
           first.ready.has,
           first.ready.plan,
@@ -405,7 +450,8 @@ module _ (job : List ℕ) (plan : Option (List ℕ)) (options : RunOptions) (p :
     wrote = ran.wrote;
     round = told_then (IsStarted job plan options p o) (λ v w. (put : Option (List ℕ)) × ReportsNext p o (lines_in p v) ran.text put ran.more × Left put v w)
         (λ left now. HasJob (Named job) left p × HasPlanAsked (Run job plan options) left p × ((o' : Opening) × StartsFrom (Run job plan options) left p o'
-        × ((put : Option (List ℕ)) × ReportsNext p o' (lines_behind (texts_named (Run job plan options)) left p) ran.text put ran.more × Left' put left now))) a b d
+        × ((put : Option (List ℕ)) × ReportsNext p o' (lines_behind (texts_named (Run job plan options)) left p) ran.text put ran.more
+            × Left' put left now))) a b d
         (λ v w r first second. (
           first.ready.has,
           first.ready.plan,
@@ -425,7 +471,8 @@ module _ (job : List ℕ) (plan : Option (List ℕ)) (options : RunOptions) (p :
   start_told : IfSome a (λ contents. CanStart (Run job plan options) contents p)
   start_told = by_told a b started
     where
-      by_told : (a' b' : Option Contents) → WhereTold a' b' (IsStarted job plan options p o) → IfSome a' (λ contents. CanStart (Run job plan options) contents p)
+      by_told : (a' b' : Option Contents) → WhereTold a' b' (IsStarted job plan options p o)
+          → IfSome a' (λ contents. CanStart (Run job plan options) contents p)
       by_told None b' told = tt
       by_told (Some v) None told = absurd told
       by_told (Some v) (Some w) told = (o, told.starts)
@@ -436,7 +483,8 @@ module _ (job : List ℕ) (plan : Option (List ℕ)) (options : RunOptions) (p :
   source_read : (name : List ℕ) → Contains (files_of p.sources) name → IsReadName a (Run job plan options) name
   source_read name found = source_name_is_read (Run job plan options) p a b refl (λ asked. accepted) apart start_told is_ready name found
 
-  refused_in_rounds : (refusal : Refusal) → IsRoundsRefusal p o options.save (call b d l m t u had has x z) refusal → IsStopped (call a d k m s u had has x z) (Run job plan options) refusal
+  refused_in_rounds : (refusal : Refusal) → IsRoundsRefusal p o options.save (call b d l m t u had has x z) refusal
+      → IsStopped (call a d k m s u had has x z) (Run job plan options) refusal
   refused_in_rounds (refusals.BadWords bad) is = is
   refused_in_rounds (refusals.JobFault fault) is = absurd is
   refused_in_rounds (refusals.Conflict fault) is = absurd is
@@ -461,12 +509,14 @@ module _ (job : List ℕ) (plan : Option (List ℕ)) (options : RunOptions) (p :
       }
   refused_in_rounds (refusals.TraceFault fault) is = absurd is
 
-  pub ends_run : (result : Result (Option Said) Refusal) → EndsRun options.adapt p o options.save (call b d l m t u had has x z) result → IsEnding (call a d k m s u had has x z) (Run job plan options) result
+  pub ends_run : (result : Result (Option Said) Refusal) → EndsRun options.adapt p o options.save (call b d l m t u had has x z) result
+      → IsEnding (call a d k m s u had has x z) (Run job plan options) result
   ends_run (Ok said) is = all_read said is.0 is.1
   ends_run (Err refusal) is = refused_in_rounds refusal is
 
   -- ---- the names that it reads and puts
-  may_put : (result : Result (Option Said) Refusal) → EndsRun options.adapt p o options.save (call b d l m t u had has x z) result → Contains (0 ∷ 6 ∷ 7 ∷ 8 ∷ 9 ∷ 12 ∷ []) (status_after result)
+  may_put : (result : Result (Option Said) Refusal) → EndsRun options.adapt p o options.save (call b d l m t u had has x z) result
+      → Contains (0 ∷ 6 ∷ 7 ∷ 8 ∷ 9 ∷ 12 ∷ []) (status_after result)
   may_put (Ok said) is = (0, omega arith, refl)
   may_put (Err (refusals.BadWords bad)) is = absurd is
   may_put (Err (refusals.JobFault fault)) is = absurd is
@@ -480,8 +530,10 @@ module _ (job : List ℕ) (plan : Option (List ℕ)) (options : RunOptions) (p :
   may_put (Err refusals.PutFault) is = (5, omega arith, refl)
   may_put (Err (refusals.TraceFault fault)) is = absurd is
 
-  pub run_fronts : (result : Result (Option Said) Refusal) → EndsRun options.adapt p o options.save (call b d l m t u had has x z) result → WhereTold a d (TookFrontsBut (IsPutAt (Run job plan options) (status_after result)))
-  run_fronts result is = told_then (IsStarted job plan options p o) (TookFrontsBut (IsSavedTo options.save)) (TookFrontsBut (IsPutAt (Run job plan options) (status_after result))) a b d
+  pub run_fronts : (result : Result (Option Said) Refusal) → EndsRun options.adapt p o options.save (call b d l m t u had has x z) result
+      → WhereTold a d (TookFrontsBut (IsPutAt (Run job plan options) (status_after result)))
+  run_fronts result is = told_then (IsStarted job plan options p o) (TookFrontsBut (IsSavedTo options.save))
+      (TookFrontsBut (IsPutAt (Run job plan options) (status_after result))) a b d
       (λ v w r first second name rest other left.
       let later = second name rest (λ saved. other (saved, may_put result is)) left in
       let early = first.fronts name (later.0 ++ rest) later.1 in
@@ -493,4 +545,5 @@ module _ (job : List ℕ) (plan : Option (List ℕ)) (options : RunOptions) (p :
       (TookOnly (λ name. IsReadName a (Run job plan options) name ⊎ IsPutAt (Run job plan options) (status_after result) name)) a b d
       (λ v w r first second name unread.
       second name (λ either. elim either [ inl source ↦ unread (inl (source_read name source)) | inr saved ↦ unread (inr (saved, may_put result is)) ])
-      ∙ first.ready.texts.others name (λ found. unread (inl (text_is_read (Run job plan options) p a b (λ asked. accepted) apart is_ready name found)))) started within.others
+      ∙ first.ready.texts.others name (λ found. unread (inl (text_is_read (Run job plan options) p a b (λ asked. accepted) apart is_ready name found))))
+          started within.others

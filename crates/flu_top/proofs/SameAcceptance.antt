@@ -17,10 +17,13 @@ use Rattle.flu_model.specs.declared.jobs.Kind.{Kind}
 use Rattle.flu_model.specs.declared.jobs.Program.{Program}
 use Rattle.flu_model.specs.declared.jobs.Source.{Source}
 use Rattle.flu_model.specs.declared.modes.Mode.{Mode}
-use Rattle.flu_model.specs.Erasure.{Term, Literal, EventValue, EventKey, EventTime, CellRead, CellHeld, Negative, Negation, Operation, term_of, PlainAct, Adding, Raising, Setting, Clearing, Emitting, Flushing, plain_act, PlainAction, plain_action, PlainKind, plain_kind, Job, IsSameJob}
+use Rattle.flu_model.specs.Erasure.{Term, Literal, EventValue, EventKey, EventTime, CellRead, CellHeld, Negative, Negation, Operation, term_of, PlainAct}
+use Rattle.flu_model.specs.Erasure.{Adding, Raising, Setting, Clearing, Emitting, Flushing, plain_act, PlainAction, plain_action, PlainKind, plain_kind, Job}
+use Rattle.flu_model.specs.Erasure.{IsSameJob}
 use Rattle.flu_model.specs.Itags.{ties_tags}
 use Rattle.flu_model.specs.Listing.{itags_of_sources}
-use Rattle.flu_model.specs.Modes.{means, expr_reads, guard_reads, piece_reads, act_reads, action_reads, act_overwrites, act_adds, act_raises, mode_from, mode_among, mode_of, modes_conflict, IsInUniverse, IsAccepted}
+use Rattle.flu_model.specs.Modes.{means, expr_reads, guard_reads, piece_reads, act_reads, action_reads, act_overwrites, act_adds, act_raises, mode_from}
+use Rattle.flu_model.specs.Modes.{mode_among, mode_of, modes_conflict, IsInUniverse, IsAccepted}
 use Rattle.flu_model.specs.Updates.{actions_of}
 
 -- ---- the mode of a tag depends on its kind as plain data
@@ -124,7 +127,8 @@ unfolding plain_action_reads
 reads-plain key c a = λ i. reads-guard key c a.guard i || reads-act key c a.act i
 
 -- a test of the actions is one of the plain actions
-any-plain : (test : Action → Bool) (plain : PlainAction → Bool) → ((a : Action) → test a ≡ plain (plain_action a)) → (all : List Action) → list_any test all ≡ list_any plain (map plain_action all)
+any-plain : (test : Action → Bool) (plain : PlainAction → Bool) → ((a : Action) → test a ≡ plain (plain_action a)) → (all : List Action)
+    → list_any test all ≡ list_any plain (map plain_action all)
 any-plain test plain same all = ap (λ f. list_any f all) (fun_ext same) ∙ sym (list_any-map plain plain_action all)
 
 plain_mode : ℕ → ℕ → Cell → Option PlainKind → Mode
@@ -133,7 +137,8 @@ plain_mode version key c (Some k) =
     mode_from version (list_any (plain_action_reads key c) k.actions) (list_any (λ (a : PlainAction). plain_act_overwrites key c a.act) k.actions)
     (list_any (λ (a : PlainAction). plain_act_adds key c a.act) k.actions) (list_any (λ (a : PlainAction). plain_act_raises key c a.act) k.actions)
 
-mode-plain : (version key : ℕ) (c : Cell) (kind : Option Kind) → mode_among version (actions_of kind) key c ≡ plain_mode version key c (option_map plain_kind kind)
+mode-plain : (version key : ℕ) (c : Cell) (kind : Option Kind) → mode_among version (actions_of kind) key c
+    ≡ plain_mode version key c (option_map plain_kind kind)
 unfolding plain_mode
 mode-plain version key c None = refl
 mode-plain version key c (Some k) =
@@ -143,8 +148,10 @@ mode-plain version key c (Some k) =
     let raises = any-plain (λ a. act_raises key c a.act) (λ a. plain_act_raises key c a.act) (λ a. raises-act key c a.act) k.actions in
     λ i. mode_from version (reads i) (overwrites i) (adds i) (raises i)
 
-mode_by_plain : (version : ℕ) (kinds : List Kind) (t : Tag) (c : Cell) → mode_among version (actions_of (slice_get kinds t.kind)) t.key c ≡ plain_mode version t.key c (slice_get (map plain_kind kinds) t.kind)
-mode_by_plain version kinds t c = mode-plain version t.key c (slice_get kinds t.kind) ∙ ap (plain_mode version t.key c) (sym (slice_get-map plain_kind kinds t.kind))
+mode_by_plain : (version : ℕ) (kinds : List Kind) (t : Tag) (c : Cell)
+    → mode_among version (actions_of (slice_get kinds t.kind)) t.key c ≡ plain_mode version t.key c (slice_get (map plain_kind kinds) t.kind)
+mode_by_plain version kinds t c = mode-plain version t.key c (slice_get kinds t.kind)
+    ∙ ap (plain_mode version t.key c) (sym (slice_get-map plain_kind kinds t.kind))
 
 same_mode : (p q : Program) (t : Tag) (c : Cell) → IsSameJob p q → mode_of p t c ≡ mode_of q t c
 same_mode p q t c same =
@@ -158,4 +165,5 @@ same_universe p q t same = subst (λ (ss : List Source). (n : ℕ) × Contains (
 pub same_accepted : (p q : Program) → IsSameJob p q → IsAccepted p → IsAccepted q
 same_accepted p q same accepted a b c in_a in_b conflict =
     ap (λ (ds : List Depend). list_any (ties_tags a b) ds) (ap (λ j. j.depends) (sym same))
-    ∙ accepted a b c (same_universe p q a same in_a) (same_universe p q b same in_b) ((λ i. modes_conflict (same_mode p q a c same i) (same_mode p q b c same i)) ∙ conflict)
+    ∙ accepted a b c (same_universe p q a same in_a) (same_universe p q b same in_b)
+        ((λ i. modes_conflict (same_mode p q a c same i) (same_mode p q b c same i)) ∙ conflict)

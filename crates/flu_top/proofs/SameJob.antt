@@ -23,7 +23,8 @@ use Rattle.flu_streams.specs.declared.faults.Why.{Why}
 use Rattle.flu_streams.specs.declared.faults.Why.TheVariants.{BadRow, UnknownTag, AfterEnd}
 use Rattle.flu_streams.specs.Before.{each_with_before, first_some}
 use Rattle.flu_streams.specs.Tags.{kind_named, key_named, tag_named, place_named, has_its_value, value_fits, width}
-use Rattle.flu_streams.specs.Tests.{where_true, test_tag, test_value, test_time, test_items, tests, defect_of, first_defect, has_ended, times_of, items_of, rows_of}
+use Rattle.flu_streams.specs.Tests.{where_true, test_tag, test_value, test_time, test_items, tests, defect_of, first_defect, has_ended, times_of, items_of}
+use Rattle.flu_streams.specs.Tests.{rows_of}
 use Rattle.flu_streams.specs.Good.{fault_of_source, items_held, first_fault}
 use Rattle.flu_lemmas.proofs.Places.{position-map}
 use Rattle.flu_streams.specs.Rounds.{row_fault, line_defect, defect_in}
@@ -49,10 +50,13 @@ tag_of_plain kinds name key = option_and_then (λ number. tag_at number key (sli
 tag_plain : (kinds : List Kind) (name : List ℕ) (key : Option ℕ) → tag_named kinds name key ≡ tag_of_plain (map plain_kind kinds) name key
 unfolding tag_of_plain tag_at
 tag_plain kinds name key =
-    ap (λ o. option_and_then (λ number. option_and_then (λ (kind : Kind). option_and_then (λ n. Some (tag number n)) (key_named kind.keyed key)) (slice_get kinds number)) o) (kind_plain kinds name)
-    ∙ ap (λ f. option_and_then f (kind_of_plain (map plain_kind kinds) name)) (fun_ext (λ number. at number (slice_get kinds number) ∙ ap (tag_at number key) (sym (slice_get-map plain_kind kinds number))))
+    ap (λ o. option_and_then (λ number. option_and_then (λ (kind : Kind). option_and_then (λ n. Some (tag number n)) (key_named kind.keyed key))
+        (slice_get kinds number)) o) (kind_plain kinds name)
+    ∙ ap (λ f. option_and_then f (kind_of_plain (map plain_kind kinds) name))
+        (fun_ext (λ number. at number (slice_get kinds number) ∙ ap (tag_at number key) (sym (slice_get-map plain_kind kinds number))))
   where
-    at : (number : ℕ) (o : Option Kind) → option_and_then (λ (kind : Kind). option_and_then (λ n. Some (tag number n)) (key_named kind.keyed key)) o ≡ tag_at number key (option_map plain_kind o)
+    at : (number : ℕ) (o : Option Kind) → option_and_then (λ (kind : Kind). option_and_then (λ n. Some (tag number n)) (key_named kind.keyed key)) o
+        ≡ tag_at number key (option_map plain_kind o)
     at number None = refl
     at number (Some kind) = refl
 
@@ -60,7 +64,8 @@ fits_at : Option ℤ → Option PlainKind → Bool
 fits_at value None = false
 fits_at value (Some kind) = if kind.has_value then is_some value else is_none value
 
-fits_plain : (kinds : List Kind) (name : List ℕ) (value : Option ℤ) → value_fits kinds name value ≡ fits_at value (option_and_then (λ number. slice_get (map plain_kind kinds) number) (kind_of_plain (map plain_kind kinds) name))
+fits_plain : (kinds : List Kind) (name : List ℕ) (value : Option ℤ) → value_fits kinds name value
+    ≡ fits_at value (option_and_then (λ number. slice_get (map plain_kind kinds) number) (kind_of_plain (map plain_kind kinds) name))
 unfolding fits_at
 fits_plain kinds name value =
     ap (λ o. has_its_value (option_and_then (λ number. slice_get kinds number) o) value) (kind_plain kinds name)
@@ -74,29 +79,37 @@ fits_plain kinds name value =
     at None = refl
     at (Some kind) = refl
 
-    inside : (o : Option ℕ) → option_map plain_kind (option_and_then (λ number. slice_get kinds number) o) ≡ option_and_then (λ number. option_map plain_kind (slice_get kinds number)) o
+    inside : (o : Option ℕ) → option_map plain_kind (option_and_then (λ number. slice_get kinds number) o)
+        ≡ option_and_then (λ number. option_map plain_kind (slice_get kinds number)) o
     inside None = refl
     inside (Some number) = refl
 
 -- ---- so do the tests, and the first defect
-same_place : (kinds others : List Kind) (s : Source) (name : List ℕ) (key : Option ℕ) → map plain_kind kinds ≡ map plain_kind others → place_named kinds s name key ≡ place_named others s name key
+same_place : (kinds others : List Kind) (s : Source) (name : List ℕ) (key : Option ℕ) → map plain_kind kinds ≡ map plain_kind others
+    → place_named kinds s name key ≡ place_named others s name key
 same_place kinds others s name key alike =
     ap (λ o. option_and_then (λ t. position (is_same_tag t) (tags_of_source s)) o)
     (tag_plain kinds name key ∙ (ap (λ ks. tag_of_plain ks name key) alike ∙ sym (tag_plain others name key)))
 
-same_fits : (kinds others : List Kind) (name : List ℕ) (value : Option ℤ) → map plain_kind kinds ≡ map plain_kind others → value_fits kinds name value ≡ value_fits others name value
+same_fits : (kinds others : List Kind) (name : List ℕ) (value : Option ℤ) → map plain_kind kinds ≡ map plain_kind others
+    → value_fits kinds name value ≡ value_fits others name value
 same_fits kinds others name value alike =
     fits_plain kinds name value
-    ∙ (ap (λ (ks : List PlainKind). fits_at value (option_and_then (λ number. slice_get ks number) (kind_of_plain ks name))) alike ∙ sym (fits_plain others name value))
+    ∙ (ap (λ (ks : List PlainKind). fits_at value (option_and_then (λ number. slice_get ks number) (kind_of_plain ks name))) alike
+        ∙ sym (fits_plain others name value))
 
-same_tests : (kinds others : List Kind) (s : Source) (ended : Bool) (earlier : List ℕ) (held : ℕ) (row : Row) → map plain_kind kinds ≡ map plain_kind others → tests kinds s ended earlier held row ≡ tests others s ended earlier held row
+same_tests : (kinds others : List Kind) (s : Source) (ended : Bool) (earlier : List ℕ) (held : ℕ) (row : Row) → map plain_kind kinds ≡ map plain_kind others
+    → tests kinds s ended earlier held row ≡ tests others s ended earlier held row
 same_tests kinds others s ended earlier held (Event time name key value) alike =
-    ap (λ o. where_true ended AfterEnd ∷ where_true (is_none o) UnknownTag ∷ test_value kinds (Event time name key value) ∷ test_time s.slack earlier (Event time name key value) ∷ test_items (width s) held (Event time name key value) ∷ []) (same_place kinds others s name key alike)
-    ∙ ap (λ b. where_true ended AfterEnd ∷ test_tag others s (Event time name key value) ∷ where_true (not b) BadRow ∷ test_time s.slack earlier (Event time name key value) ∷ test_items (width s) held (Event time name key value) ∷ []) (same_fits kinds others name value alike)
+    ap (λ o. where_true ended AfterEnd ∷ where_true (is_none o) UnknownTag ∷ test_value kinds (Event time name key value) ∷ test_time s.slack earlier
+        (Event time name key value) ∷ test_items (width s) held (Event time name key value) ∷ []) (same_place kinds others s name key alike)
+    ∙ ap (λ b. where_true ended AfterEnd ∷ test_tag others s (Event time name key value) ∷ where_true (not b) BadRow ∷ test_time s.slack earlier
+        (Event time name key value) ∷ test_items (width s) held (Event time name key value) ∷ []) (same_fits kinds others name value alike)
 same_tests kinds others s ended earlier held (Beat time) alike = refl
 same_tests kinds others s ended earlier held End alike = refl
 
-same_defect : (kinds others : List Kind) (s : Source) (held : ℕ) (read : List Next) (next : Next) → map plain_kind kinds ≡ map plain_kind others → defect_of kinds s held read next ≡ defect_of others s held read next
+same_defect : (kinds others : List Kind) (s : Source) (held : ℕ) (read : List Next) (next : Next) → map plain_kind kinds ≡ map plain_kind others
+    → defect_of kinds s held read next ≡ defect_of others s held read next
 same_defect kinds others s held read (RowNext line row) alike =
     ap (λ ts. option_map (λ why. (line, why)) (first_some (λ (test : Option Why). test) ts))
     (same_tests kinds others s (has_ended (rows_of read)) (times_of (rows_of read)) (held + items_of (width s) (rows_of read)) row alike)
@@ -104,53 +117,66 @@ same_defect kinds others s held read (Bad line) alike = refl
 same_defect kinds others s held read TooManyLines alike = refl
 same_defect kinds others s held read (Done lines) alike = refl
 
-same_first_defect : (kinds others : List Kind) (s : Source) (held : ℕ) (bytes : List ℕ) → map plain_kind kinds ≡ map plain_kind others → first_defect kinds s held bytes ≡ first_defect others s held bytes
+same_first_defect : (kinds others : List Kind) (s : Source) (held : ℕ) (bytes : List ℕ) → map plain_kind kinds ≡ map plain_kind others
+    → first_defect kinds s held bytes ≡ first_defect others s held bytes
 same_first_defect kinds others s held bytes alike =
     ap (λ f. first_some f (each_with_before (read_file bytes))) (fun_ext (λ (e : List Next × Next). same_defect kinds others s held e.0 e.1 alike))
 
-same_source_fault : (kinds others : List Kind) (left : Contents) (earlier : List Source) (s : Source) → map plain_kind kinds ≡ map plain_kind others → fault_of_source kinds left earlier s ≡ fault_of_source others left earlier s
+same_source_fault : (kinds others : List Kind) (left : Contents) (earlier : List Source) (s : Source) → map plain_kind kinds ≡ map plain_kind others
+    → fault_of_source kinds left earlier s ≡ fault_of_source others left earlier s
 same_source_fault kinds others left earlier s alike =
-    ap (option_map (λ (d : ℕ × Why). record { source = length earlier; row = d.0; why = d.1 })) (same_first_defect kinds others s (items_held left earlier) (bytes_left left s.file) alike)
+    ap (option_map (λ (d : ℕ × Why). record { source = length earlier; row = d.0; why = d.1 }))
+        (same_first_defect kinds others s (items_held left earlier) (bytes_left left s.file) alike)
 
 same_first_fault : (p q : Program) (left : Contents) → IsSameJob p q → first_fault p left ≡ first_fault q left
 same_first_fault p q left same =
     ap (λ (ss : List Source). first_some (λ e. fault_of_source p.kinds left e.0 e.1) (each_with_before ss)) (ap (λ j. j.sources) same)
-    ∙ ap (λ f. first_some f (each_with_before q.sources)) (fun_ext (λ (e : List Source × Source). same_source_fault p.kinds q.kinds left e.0 e.1 (ap (λ j. j.kinds) same)))
+    ∙ ap (λ f. first_some f (each_with_before q.sources)) (fun_ext (λ (e : List Source × Source). same_source_fault p.kinds q.kinds left e.0 e.1
+        (ap (λ j. j.kinds) same)))
 
 same_fault : (texts : List (List ℕ)) (left : Contents) (p q : Program) → IsSameJob p q → fault_behind texts left p ≡ fault_behind texts left q
 unfolding fault_behind
 same_fault texts left p q same = same_first_fault p q (emptied_each texts left) same
 
 -- ---- and the same defects in rounds
-same_row_fault : (kinds others : List Kind) (s : Source) (ended : Bool) (earlier : List ℕ) (row : Row) → map plain_kind kinds ≡ map plain_kind others → row_fault kinds s ended earlier row ≡ row_fault others s ended earlier row
+same_row_fault : (kinds others : List Kind) (s : Source) (ended : Bool) (earlier : List ℕ) (row : Row) → map plain_kind kinds ≡ map plain_kind others
+    → row_fault kinds s ended earlier row ≡ row_fault others s ended earlier row
 same_row_fault kinds others s ended earlier (Event time name key value) alike =
-    ap (λ o. first_some (λ (test : Option Why). test) (where_true ended AfterEnd ∷ where_true (is_none o) UnknownTag ∷ test_value kinds (Event time name key value) ∷ test_time s.slack earlier (Event time name key value) ∷ [])) (same_place kinds others s name key alike)
-    ∙ ap (λ b. first_some (λ (test : Option Why). test) (where_true ended AfterEnd ∷ test_tag others s (Event time name key value) ∷ where_true (not b) BadRow ∷ test_time s.slack earlier (Event time name key value) ∷ [])) (same_fits kinds others name value alike)
+    ap (λ o. first_some (λ (test : Option Why). test) (where_true ended AfterEnd ∷ where_true (is_none o) UnknownTag ∷ test_value kinds
+        (Event time name key value) ∷ test_time s.slack earlier (Event time name key value) ∷ [])) (same_place kinds others s name key alike)
+    ∙ ap (λ b. first_some (λ (test : Option Why). test) (where_true ended AfterEnd ∷ test_tag others s (Event time name key value) ∷ where_true
+        (not b) BadRow ∷ test_time s.slack earlier (Event time name key value) ∷ [])) (same_fits kinds others name value alike)
 same_row_fault kinds others s ended earlier (Beat time) alike = refl
 same_row_fault kinds others s ended earlier End alike = refl
 
-same_line_defect : (kinds others : List Kind) (s : Source) (read : List Next) (next : Next) → map plain_kind kinds ≡ map plain_kind others → line_defect kinds s read next ≡ line_defect others s read next
+same_line_defect : (kinds others : List Kind) (s : Source) (read : List Next) (next : Next) → map plain_kind kinds ≡ map plain_kind others
+    → line_defect kinds s read next ≡ line_defect others s read next
 same_line_defect kinds others s read (RowNext line row) alike =
     ap (option_map (λ (why : Why). (line, why))) (same_row_fault kinds others s (has_ended (rows_of read)) (times_of (rows_of read)) row alike)
 same_line_defect kinds others s read (Bad line) alike = refl
 same_line_defect kinds others s read TooManyLines alike = refl
 same_line_defect kinds others s read (Done lines) alike = refl
 
-same_defect_in : (kinds others : List Kind) (s : Source) (lines : List Next) → map plain_kind kinds ≡ map plain_kind others → defect_in kinds s lines ≡ defect_in others s lines
-same_defect_in kinds others s lines alike = ap (λ f. first_some f (each_with_before lines)) (fun_ext (λ (e : List Next × Next). same_line_defect kinds others s e.0 e.1 alike))
+same_defect_in : (kinds others : List Kind) (s : Source) (lines : List Next) → map plain_kind kinds ≡ map plain_kind others
+    → defect_in kinds s lines ≡ defect_in others s lines
+same_defect_in kinds others s lines alike = ap (λ f. first_some f (each_with_before lines))
+    (fun_ext (λ (e : List Next × Next). same_line_defect kinds others s e.0 e.1 alike))
 
 same_lines : (texts : List (List ℕ)) (left : Contents) (p q : Program) (i : ℕ) → IsSameJob p q → lines_behind texts left q i ≡ lines_behind texts left p i
 same_lines texts left p q i same =
-    ap (λ (ss : List Source). option_map_or (λ (s : Source). read_file (bytes_left (emptied_each texts left) s.file)) (slice_get ss i) []) (sym (ap (λ j. j.sources) same))
+    ap (λ (ss : List Source). option_map_or (λ (s : Source). read_file (bytes_left (emptied_each texts left) s.file)) (slice_get ss i) [])
+        (sym (ap (λ j. j.sources) same))
 
-same_sound : (texts : List (List ℕ)) (left : Contents) (p q : Program) → IsSameJob p q → AreSound p (lines_behind texts left p) → AreSound q (lines_behind texts left q)
+same_sound : (texts : List (List ℕ)) (left : Contents) (p q : Program) → IsSameJob p q → AreSound p (lines_behind texts left p)
+    → AreSound q (lines_behind texts left q)
 same_sound texts left p q same sound = λ i s e.
     ap (defect_in q.kinds s) (same_lines texts left p q i same)
     ∙ (same_defect_in q.kinds p.kinds s (lines_behind texts left p i) (sym (ap (λ j. j.kinds) same))
     ∙ sound i s (ap (λ (ss : List Source). slice_get ss i) (ap (λ j. j.sources) same) ∙ e))
 
 -- good sources of one are good sources of the other
-pub same_good : (reading : Reading) (texts : List (List ℕ)) (left : Contents) (p q : Program) → IsSameJob p q → AreSourcesGood reading texts left p → AreSourcesGood reading texts left q
+pub same_good : (reading : Reading) (texts : List (List ℕ)) (left : Contents) (p q : Program) → IsSameJob p q → AreSourcesGood reading texts left p
+    → AreSourcesGood reading texts left q
 same_good Unread texts left p q same good = good
 same_good Whole texts left p q same good = sym (same_fault texts left p q same) ∙ good
 same_good InRounds texts left p q same good = same_sound texts left p q same good

@@ -1,5 +1,6 @@
 -- A job's text is read, and then its sources.
-use Rattle.std.proofs.Common.{◌≡◌, ◌≢◌, refl, sym, ap, ◌∙◌, subst, ℕ, ◌≤◌, List, [], ◌∷◌, Bool, true, false, Option, Some, None, inl, inr, ◌⊎◌, zero, suc, if◌then◌else◌, arith}
+use Rattle.std.proofs.Common.{◌≡◌, ◌≢◌, refl, sym, ap, ◌∙◌, subst, ℕ, ◌≤◌, List, [], ◌∷◌, Bool, true, false, Option, Some, None, inl, inr, ◌⊎◌, zero, suc}
+use Rattle.std.proofs.Common.{if◌then◌else◌, arith}
 use Rattle.std.specs.Prelude.{Contains, IsTrue, IfSome, is_some, option_map, ◌++◌}
 use Rattle.std.specs.Str.{bytes_eq}
 use Rattle.std.proofs.Math.Path.{fun_ext}
@@ -25,7 +26,8 @@ use Rattle.flu_top.specs.Taking.{TookOnly}
 use Rattle.flu_top.specs.Behind.{WantedJob, Named, Fixed, HasJob, job_files, emptied, fault_behind, report_behind}
 use Rattle.flu_top.specs.Openings.{Opens, fresh}
 use Rattle.flu_top.specs.Reading.{Reading, Whole, is_read, AreSourcesGood}
-use Rattle.flu_top.specs.Wants.{job_wanted, plan_named, save_named, resume_named, trace_named, asks_accepted, how_read, reads_sources, if_named, job_and_plan_named, texts_named, sources_read, Writes}
+use Rattle.flu_top.specs.Wants.{job_wanted, plan_named, save_named, resume_named, trace_named, asks_accepted, how_read, reads_sources, if_named}
+use Rattle.flu_top.specs.Wants.{job_and_plan_named, texts_named, sources_read, Writes}
 use Rattle.flu_top.specs.Starting.{AreNoSources, CanStart}
 use Rattle.flu_top.specs.Done.{HasPlanAsked, IsGood, IsTraceRead, HasSaved, IsRead, Says, MayHaveJob, MayBeJob, IsReadName, IsWritten}
 use Rattle.flu_top.specs.Ready.{AreTextsRead, IsReady}
@@ -34,6 +36,7 @@ use Rattle.flu_top.specs.Causes.{IsJobRead, HasJobFault, IsMet, HasSourceFault}
 use Rattle.flu_top.specs.Folding.{AreSourcesRead, IsReported, IsReportRefusal}
 use Rattle.flu_top.specs.Replays.{StaysEnded}
 use Rattle.flu_top.specs.Refusing.{IsRefusal}
+use Rattle.flu_top.proofs.Commands.{not_named}
 
 -- ---- names
 pub only_one : (one name : List ℕ) → Contains (one ∷ []) name → one ≡ name
@@ -53,7 +56,8 @@ among (other ∷ names) name = by_test (bytes_eq other name) refl (among names n
     by_rest apart (inr missing) =
         inr (λ found. elim (Contains-append_cases (other ∷ []) names name found) [ inl one ↦ apart (only_one other name one) | inr more ↦ missing more ])
 
-    by_test : (b : Bool) → bytes_eq other name ≡ b → Contains names name ⊎ (Contains names name → ⊥) → Contains (other ∷ names) name ⊎ (Contains (other ∷ names) name → ⊥)
+    by_test : (b : Bool) → bytes_eq other name ≡ b → Contains names name ⊎ (Contains names name → ⊥)
+        → Contains (other ∷ names) name ⊎ (Contains (other ∷ names) name → ⊥)
     by_test true t rest = inl (0, omega arith, (bytes_eq-Decides other name).0 t)
     by_test false f rest = by_rest (λ same. false≢true (sym f ∙ (bytes_eq-Decides other name).1 same)) rest
 
@@ -70,9 +74,6 @@ pub record NamesNoCheckpoint (command : Command) : Type 0 where
   pub save : save_named command ≡ None
   pub resume : resume_named command ≡ None
 
-not_named : (o : Option (List ℕ)) (name : List ℕ) → o ≡ None → o ≡ Some name → ⊥
-not_named o name none named = let e = sym none ∙ named in cc
-
 pub no_sources : (command : Command) (p : Program) → NamesNoCheckpoint command → AreNoSources command p
 no_sources command p none = record {
   save = λ name named. absurd (not_named (save_named command) name none.save named);
@@ -82,7 +83,8 @@ no_sources command p none = record {
 -- it starts fresh
 pub can_start : (command : Command) (left : Contents) (p : Program) → NamesNoCheckpoint command → CanStart command left p
 can_start command left p none =
-    (fresh, record { apart = no_sources command p none; opens = subst (λ (o : Option (List ℕ)). Opens o (job_and_plan_named command) left p fresh) (sym none.resume) refl })
+    (fresh, record { apart = no_sources command p none; opens = subst (λ (o : Option (List ℕ)). Opens o (job_and_plan_named command) left p fresh)
+        (sym none.resume) refl })
 
 -- it saved nothing
 pub has_saved : (command : Command) (p : Program) (x z : Contents) → NamesNoCheckpoint command → HasSaved command p x z
@@ -105,10 +107,12 @@ may_have_ready command p (Some x) None ready = absurd ready
 may_have_ready command p (Some x) (Some y) ready = ready.has
 
 -- the job that was read may be the command's
-pub may_be_ready : (command : Command) (p : Program) (a b : Option Contents) → (IsTrue (asks_accepted command) → IsAccepted p) → WhereTold a b (IsReady command p) → MayBeJob a command p
+pub may_be_ready : (command : Command) (p : Program) (a b : Option Contents) → (IsTrue (asks_accepted command) → IsAccepted p)
+    → WhereTold a b (IsReady command p) → MayBeJob a command p
 may_be_ready command p a b accepted ready = record { has = may_have_ready command p a b ready; accepted = accepted }
 
-pub source_is_read : (command : Command) (p : Program) (name : List ℕ) → IsTrue (reads_sources command) → Contains (files_of p.sources) name → Contains (sources_read command p) name
+pub source_is_read : (command : Command) (p : Program) (name : List ℕ) → IsTrue (reads_sources command) → Contains (files_of p.sources) name
+    → Contains (sources_read command p) name
 source_is_read command p name reads found = subst (λ (b : Bool). Contains (if b then files_of p.sources else []) name) (sym reads) found
 
 pub may_have : (job : List ℕ) (p : Program) (a b : Option Contents) → WhereTold a b (IsJobRead job p) → MayHaveJob a (Named job) p
@@ -116,22 +120,29 @@ may_have job p None b read = tt
 may_have job p (Some x) None read = absurd read
 may_have job p (Some x) (Some y) read = read.has
 
-pub only_job : (command : Command) (job : List ℕ) (a b : Option Contents) → job_wanted command ≡ Named job → WhereTold a b (TakesFrom job) → WhereTold a b (TookOnly (IsReadName a command))
+pub only_job : (command : Command) (job : List ℕ) (a b : Option Contents) → job_wanted command ≡ Named job → WhereTold a b (TakesFrom job)
+    → WhereTold a b (TookOnly (IsReadName a command))
 only_job command job a b named taken =
-    told_weaker (TakesFrom job) (TookOnly (IsReadName a command)) a b (λ x y took name unread. took.others name (λ same. unread (inl (named ∙ ap Named (sym same))))) taken
+    told_weaker (TakesFrom job) (TookOnly (IsReadName a command)) a b (λ x y took name unread. took.others name
+        (λ same. unread (inl (named ∙ ap Named (sym same))))) taken
 
-pub text_is_read : (command : Command) (p : Program) (a b : Option Contents) → (IsTrue (asks_accepted command) → IsAccepted p) → AreNoSources command p → WhereTold a b (IsReady command p)
+pub text_is_read : (command : Command) (p : Program) (a b : Option Contents) → (IsTrue (asks_accepted command) → IsAccepted p) → AreNoSources command p
+    → WhereTold a b (IsReady command p)
     → (name : List ℕ) → Contains (texts_named command) name → IsReadName a command name
-text_is_read command p a b accepted apart ready name found = elim (Contains-append_cases (job_and_plan_named command) (if_named (resume_named command)) name found) [
+text_is_read command p a b accepted apart ready name found = elim (Contains-append_cases (job_and_plan_named command)
+    (if_named (resume_named command)) name found) [
   | inl text ↦ elim (Contains-append_cases (job_files (job_wanted command)) (if_named (plan_named command)) name text) [
     | inl job ↦ inl (job_file (job_wanted command) name job)
     | inr plan ↦ inr (inl (record { p = p; job = may_be_ready command p a b accepted ready; named = name_given (plan_named command) name plan }))
   ]
-  | inr checkpoint ↦ inr (inr (inl (record { p = p; job = may_be_ready command p a b accepted ready; apart = apart; named = name_given (resume_named command) name checkpoint })))
+  | inr checkpoint ↦ inr (inr (inl (record { p = p; job = may_be_ready command p a b accepted ready; apart = apart; named =
+      name_given (resume_named command) name checkpoint })))
 ]
 
-pub source_name_is_read : (command : Command) (p : Program) (a b : Option Contents) → IsTrue (reads_sources command) → (IsTrue (asks_accepted command) → IsAccepted p) → AreNoSources command p
-    → IfSome a (λ contents. CanStart command contents p) → WhereTold a b (IsReady command p) → (name : List ℕ) → Contains (files_of p.sources) name → IsReadName a command name
+pub source_name_is_read : (command : Command) (p : Program) (a b : Option Contents) → IsTrue (reads_sources command)
+    → (IsTrue (asks_accepted command) → IsAccepted p) → AreNoSources command p
+    → IfSome a (λ contents. CanStart command contents p) → WhereTold a b (IsReady command p) → (name : List ℕ) → Contains (files_of p.sources) name
+        → IsReadName a command name
 source_name_is_read command p a b reads accepted apart start ready name found = inr (inr (inr (inl (record {
   p = p;
   job = may_be_ready command p a b accepted ready;
@@ -145,7 +156,8 @@ pub start_told : (command : Command) (p : Program) (a : Option Contents) → Nam
 start_told command p None none = tt
 start_told command p (Some x) none = can_start command x p none
 
-pub only_ready : (command : Command) (p : Program) (a b c : Option Contents) → NamesNoCheckpoint command → IsTrue (reads_sources command) → (IsTrue (asks_accepted command) → IsAccepted p)
+pub only_ready : (command : Command) (p : Program) (a b c : Option Contents) → NamesNoCheckpoint command → IsTrue (reads_sources command)
+    → (IsTrue (asks_accepted command) → IsAccepted p)
     → WhereTold a b (IsReady command p) → WhereTold b c (LeavesOthers (files_of p.sources)) → WhereTold a c (TookOnly (IsReadName a command))
 only_ready command p a b c none reads accepted ready others =
     let apart = no_sources command p none in
@@ -155,14 +167,17 @@ only_ready command p a b c none reads accepted ready others =
     ∙ first.texts.others name (λ found. unread (text_is_read command p a b accepted apart ready name found))) ready others
 
 -- ---- the report of a job
-pub is_reported : (p : Program) (report : List ℕ) (lists : List (List Item)) (a b : Option Contents) → WhereTold a b (λ old _. AreGood p old) → WhereTold a b (λ old _. lists ≡ lists_of p old) → AreReadOut (files_of p.sources) b → report ≡ reports.report p (final_outputs p nothing_held lists) → WhereTold a b (IsReported p report)
+pub is_reported : (p : Program) (report : List ℕ) (lists : List (List Item)) (a b : Option Contents) → WhereTold a b (λ old _. AreGood p old)
+    → WhereTold a b (λ old _. lists ≡ lists_of p old) → AreReadOut (files_of p.sources) b → report ≡ reports.report p (final_outputs p nothing_held lists)
+    → WhereTold a b (IsReported p report)
 is_reported p report lists None None good are ends is = tt
 is_reported p report lists None (Some y) good are ends is = good
 is_reported p report lists (Some x) None good are ends is = good
 is_reported p report lists (Some x) (Some y) good are ends is =
     record { read = record { good = good; ends = ends }; is = is ∙ ap (λ ls. reports.report p (final_outputs p nothing_held ls)) are }
 
-pub sources_are_read : (p : Program) (a b : Option Contents) → WhereTold a b (λ old _. AreGood p old) → AreReadOut (files_of p.sources) b → WhereTold a b (AreSourcesRead p)
+pub sources_are_read : (p : Program) (a b : Option Contents) → WhereTold a b (λ old _. AreGood p old) → AreReadOut (files_of p.sources) b
+    → WhereTold a b (AreSourcesRead p)
 sources_are_read p None None good ends = tt
 sources_are_read p None (Some y) good ends = good
 sources_are_read p (Some x) None good ends = good
@@ -177,10 +192,12 @@ pub emptied_is : (text : List ℕ) (old new : Contents) → new text ≡ Some []
 unfolding emptied
 emptied_is text old new end taken = fun_ext (λ name. by_test name (bytes_eq name text) refl)
   where
-    by_test : (name : List ℕ) (b : Bool) → bytes_eq name text ≡ b → (if bytes_eq name text then option_map {U = List ℕ} (λ (bytes : List ℕ). []) (old name) else old name) ≡ new name
+    by_test : (name : List ℕ) (b : Bool) → bytes_eq name text ≡ b → (if bytes_eq name text then option_map {U = List ℕ} (λ (bytes : List ℕ). [])
+        (old name) else old name) ≡ new name
     by_test name true t =
         let same : name ≡ text = (bytes_eq-Decides name text).0 t in
-        rw t (ap (λ n. option_map {U = List ℕ} (λ (bytes : List ℕ). []) (old n)) same ∙ (emptied_some (old text) (sym (ap is_some end) ∙ taken.there) ∙ (sym end ∙ sym (ap new same))))
+        rw t (ap (λ n. option_map {U = List ℕ} (λ (bytes : List ℕ). []) (old n)) same
+            ∙ (emptied_some (old text) (sym (ap is_some end) ∙ taken.there) ∙ (sym end ∙ sym (ap new same))))
     by_test name false f = rw f (sym (taken.others name (λ same. false≢true (sym f ∙ (bytes_eq-Decides name text).1 same))))
 
 -- ---- the texts that are read
@@ -191,12 +208,14 @@ one_text text x y end taken = record {
   others = λ name missing. taken.others name (λ same. missing (0, omega arith, sym same));
 }
 
-pub two_texts : (first second : List ℕ) (x y z : Contents) → AreTextsRead (first ∷ []) x y → z second ≡ Some [] → TakesFrom second y z → AreTextsRead (first ∷ second ∷ []) x z
+pub two_texts : (first second : List ℕ) (x y z : Contents) → AreTextsRead (first ∷ []) x y → z second ≡ Some [] → TakesFrom second y z
+    → AreTextsRead (first ∷ second ∷ []) x z
 two_texts first second x y z read end taken = record {
   behind = ap (emptied second) read.behind ∙ emptied_is second y z end taken;
   ends = λ name found. by_name name (Contains-append_cases (first ∷ []) (second ∷ []) name found) (same_or_apart name second);
   others = λ name missing.
-      taken.others name (λ same. missing (1, omega arith, sym same)) ∙ read.others name (λ found. missing (Contains-append_left (first ∷ []) (second ∷ []) name found));
+      taken.others name (λ same. missing (1, omega arith, sym same)) ∙ read.others name
+          (λ found. missing (Contains-append_left (first ∷ []) (second ∷ []) name found));
 }
   where
     by_name : (name : List ℕ) → Contains (first ∷ []) name ⊎ Contains (second ∷ []) name → (name ≡ second) ⊎ (name ≢ second) → z name ≡ Some []
@@ -222,7 +241,8 @@ unfolding fault_behind
 none_behind command p x y ready = ap (first_fault p) ready.texts.behind
 
 -- what was read to its end before some names stays so
-pub stays_ended : (names : List (List ℕ)) (y z : Contents) → ((name : List ℕ) → Contains names name → z name ≡ Some []) → LeavesOthers names y z → StaysEnded y z
+pub stays_ended : (names : List (List ℕ)) (y z : Contents) → ((name : List ℕ) → Contains names name → z name ≡ Some []) → LeavesOthers names y z
+    → StaysEnded y z
 stays_ended names y z ends others name end = elim (among names name) [ inl found ↦ ends name found | inr missing ↦ others name missing ∙ end ]
 
 -- the texts of a command and its sources were read to their ends
@@ -236,7 +256,8 @@ ends_at command p x y z reads first sources stays name found = by_name name (Con
     by_name name (inr found) = sources name (subst (λ (b : Bool). Contains (if b then files_of p.sources else []) name) reads found)
 
 -- a command whose texts are read before its sources, and a trace behind them
-pub good_at : (command : Command) (p : Program) (x y : Contents) → how_read command ≡ Whole → (IsTrue (asks_accepted command) → IsAccepted p) → NamesNoCheckpoint command
+pub good_at : (command : Command) (p : Program) (x y : Contents) → how_read command ≡ Whole → (IsTrue (asks_accepted command) → IsAccepted p)
+    → NamesNoCheckpoint command
     → IsReady command p x y → first_fault p y ≡ None → IsGood command x p
 good_at command p x y whole accepted none first good = record {
   has = first.has;
@@ -250,7 +271,8 @@ good_at command p x y whole accepted none first good = record {
 pub no_trace_read : (command : Command) (p : Program) (x z : Contents) → trace_named command ≡ None → IsTraceRead command p x z
 no_trace_read command p x z untraced trace named = absurd (not_named (trace_named command) trace untraced named)
 
-pub read_at : (command : Command) (p : Program) (x y z : Contents) → how_read command ≡ Whole → (IsTrue (asks_accepted command) → IsAccepted p) → NamesNoCheckpoint command
+pub read_at : (command : Command) (p : Program) (x y z : Contents) → how_read command ≡ Whole → (IsTrue (asks_accepted command) → IsAccepted p)
+    → NamesNoCheckpoint command
     → IsReady command p x y → AreSourcesRead p y z → StaysEnded y z → IsTraceRead command p x z → IsRead command p x z
 read_at command p x y z whole accepted none first read stays trace = record {
   good = good_at command p x y whole accepted none first read.good;
@@ -260,27 +282,33 @@ read_at command p x y z whole accepted none first read stays trace = record {
 }
 
 -- the report of a job whose texts were read before its sources
-pub report_at : (command : Command) (p : Program) (report : List ℕ) (x y z : Contents) → IsReady command p x y → IsReported p report y z → report ≡ report_behind (texts_named command) x p
+pub report_at : (command : Command) (p : Program) (report : List ℕ) (x y z : Contents) → IsReady command p x y → IsReported p report y z
+    → report ≡ report_behind (texts_named command) x p
 unfolding report_behind
-report_at command p report x y z first second = second.is ∙ ap (λ left. reports.report p (final_outputs p nothing_held (lists_of p left))) (sym first.texts.behind)
+report_at command p report x y z first second = second.is ∙ ap (λ left. reports.report p (final_outputs p nothing_held (lists_of p left)))
+    (sym first.texts.behind)
 
 -- the command writes the report of its job, and says nothing
 abbrev pub WritesReport : Command → Type 0
 WritesReport command =
     (left : Contents) (p : Program) (text : List ℕ) → text ≡ report_behind (texts_named command) left p → Writes command left p text × Says command left p []
 
-pub is_reported_behind : (command : Command) (p : Program) (report : List ℕ) (a b c : Option Contents) → how_read command ≡ Whole → (IsTrue (asks_accepted command) → IsAccepted p) → trace_named command ≡ None
-    → NamesNoCheckpoint command → WritesReport command → WhereTold a b (IsReady command p) → WhereTold b c (LeavesOthers (files_of p.sources)) → WhereTold b c (IsReported p report) → WhereTold a c (IsWritten command report [])
+pub is_reported_behind : (command : Command) (p : Program) (report : List ℕ) (a b c : Option Contents) → how_read command ≡ Whole
+    → (IsTrue (asks_accepted command) → IsAccepted p) → trace_named command ≡ None
+    → NamesNoCheckpoint command → WritesReport command → WhereTold a b (IsReady command p) → WhereTold b c (LeavesOthers (files_of p.sources))
+        → WhereTold b c (IsReported p report) → WhereTold a c (IsWritten command report [])
 is_reported_behind command p report a b c whole accepted untraced none writes ready others reported =
     told_then (IsReady command p) (λ y z. IsReported p report y z × LeavesOthers (files_of p.sources) y z) (IsWritten command report []) a b c
     (λ x y z first second.
     let both = writes x p report (report_at command p report x y z first second.0) in
     let read = second.0.read in
-    (p, read_at command p x y z whole accepted none first read (stays_ended (files_of p.sources) y z read.ends second.1) (no_trace_read command p x z untraced), both.0, both.1))
+    (p, read_at command p x y z whole accepted none first read (stays_ended (files_of p.sources) y z read.ends second.1)
+        (no_trace_read command p x z untraced), both.0, both.1))
     ready (told_both (IsReported p report) (LeavesOthers (files_of p.sources)) b c reported others)
 
 -- ---- what refuses a job
-pub job_refusal : (command : Command) (job : List ℕ) (a b : Option Contents) (before now : List ℕ → ℕ) (refusal : Refusal) → job_wanted command ≡ Named job → IsJobRefusal job a b before now refusal → IsRefusal command a b before now refusal
+pub job_refusal : (command : Command) (job : List ℕ) (a b : Option Contents) (before now : List ℕ → ℕ) (refusal : Refusal) → job_wanted command ≡ Named job
+    → IsJobRefusal job a b before now refusal → IsRefusal command a b before now refusal
 job_refusal command job a b before now (refusals.BadWords bad) named is = is
 job_refusal command job a b before now (refusals.JobFault fault) named is = subst (λ (wanted : WantedJob). HasJobFault wanted a b fault) (sym named) is
 job_refusal command job a b before now (refusals.Conflict fault) named is = absurd is
@@ -294,7 +322,8 @@ job_refusal command job a b before now refusals.PutFault named is = is
 job_refusal command job a b before now (refusals.TraceFault fault) named is = absurd is
 
 pub report_refusal : (command : Command) (p : Program) (a b c : Option Contents) (k l m : List ℕ → ℕ) (refusal : Refusal) → how_read command ≡ Whole
-    → (IsTrue (asks_accepted command) → IsAccepted p) → NamesNoCheckpoint command → WhereTold a b (IsReady command p) → ((n : List ℕ) → k n ≤ l n) → IsReportRefusal p b c l m refusal → IsRefusal command a c k m refusal
+    → (IsTrue (asks_accepted command) → IsAccepted p) → NamesNoCheckpoint command → WhereTold a b (IsReady command p) → ((n : List ℕ) → k n ≤ l n)
+        → IsReportRefusal p b c l m refusal → IsRefusal command a c k m refusal
 report_refusal command p a b c k l m (refusals.BadWords bad) reads accepted none ready rise is = is
 report_refusal command p a b c k l m (refusals.JobFault fault) reads accepted none ready rise is = absurd is
 report_refusal command p a b c k l m (refusals.Conflict fault) reads accepted none ready rise is = absurd is
@@ -306,11 +335,14 @@ report_refusal command p a b c k l m (refusals.SourceFault q fault) whole accept
       accepted = accepted;
       source = is.source;
       first = told_then (IsReady command p) (λ left _. first_fault p left ≡ Some fault)
-          (λ left now. HasJob (job_wanted command) left p × HasPlanAsked command left p × CanStart command left p × IsMet (how_read command) command left now p [] fault) a b c
-          (λ x y z first e. (first.has, first.plan, can_start command x p none, subst (λ (r : Reading). IsMet r command x z p [] fault) (sym whole) (none_behind command p x y first ∙ e))) ready is.first;
+          (λ left now. HasJob (job_wanted command) left p × HasPlanAsked command left p × CanStart command left p
+              × IsMet (how_read command) command left now p [] fault) a b c
+          (λ x y z first e. (first.has, first.plan, can_start command x p none, subst (λ (r : Reading). IsMet r command x z p [] fault) (sym whole)
+              (none_behind command p x y first ∙ e))) ready is.first;
     }
 report_refusal command p a b c k l m refusals.ReadFault whole accepted none ready rise is =
-    (is.0, source_name_is_read command p a b (ap is_read whole) accepted (no_sources command p none) (start_told command p a none) ready is.0 is.1, rose_behind (k is.0) (l is.0) (m is.0) (rise is.0) is.2)
+    (is.0, source_name_is_read command p a b (ap is_read whole) accepted (no_sources command p none)
+        (start_told command p a none) ready is.0 is.1, rose_behind (k is.0) (l is.0) (m is.0) (rise is.0) is.2)
 report_refusal command p a b c k l m refusals.WriteFault reads accepted none ready rise is = is
 report_refusal command p a b c k l m refusals.NoMemory reads accepted none ready rise is = tt
 report_refusal command p a b c k l m (refusals.SaveDefect defect) reads accepted none ready rise is = absurd is

@@ -79,7 +79,8 @@ same_name_stops command left p number (Saves is) start = not_apart (save_named c
 same_name_stops command left p number (Resumes other is) start = not_apart (resume_named command) p number is start.1.apart.resume
 
 -- bytes with a fault are no checkpoint, so that a command that is resumed from them can't start
-pub bad_checkpoint_stops : LawOfFaults → (command : Command) (left : Files) (p : Program) (fault : SaveFault) → HasBadCheckpoint command left p fault → ¬ CanStart command left p
+pub bad_checkpoint_stops : LawOfFaults → (command : Command) (left : Files) (p : Program) (fault : SaveFault) → HasBadCheckpoint command left p fault
+    → ¬ CanStart command left p
 bad_checkpoint_stops none command left p fault bad start =
     let texts = job_and_plan_named command in
     let opens : OpensAt p (bytes_left (emptied_each texts left) bad.name) start.0 =

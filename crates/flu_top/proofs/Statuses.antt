@@ -11,7 +11,8 @@ use Rattle.flu_top.specs.declared.refusals.SaveDefect.{SaveDefect}
 use Rattle.flu_trace.specs.declared.faults.ReplayFault.{ReplayFault}
 use Rattle.flu_words.specs.Words.{Command, Fold, Check, Valid, Plan, Run, Simulate, Replay, Demo, command_in}
 use Rattle.flu_top.specs.Reading.{Reading, Unread, Whole, InRounds}
-use Rattle.flu_top.specs.Wants.{Saying, Nothing, Line, want, job_wanted, if_named, how_read, save_named, says_nothing, is_nothing, Writes, IsObservedText, IsSomePlanText}
+use Rattle.flu_top.specs.Wants.{Saying, Nothing, Line, want, job_wanted, if_named, how_read, save_named, says_nothing, is_nothing, Writes, IsObservedText}
+use Rattle.flu_top.specs.Wants.{IsSomePlanText}
 use Rattle.flu_top.specs.Starting.{Leaves, LeavesAnything}
 use Rattle.flu_top.specs.Done.{IsDone, WhereKnown, Wrote, WroteSome, WroteUnsaved, WroteForMemory, WroteForPut, WrotePart}
 use Rattle.flu_top.specs.Causes.{HasJobFault, HasConflict, HasPlanDefect, HasSaveDefect, HasSourceFault, HasTraceFault}
@@ -21,12 +22,15 @@ use Rattle.flu_top.specs.Behind.{Named, HasJob}
 use Rattle.flu_outside.specs.Outside.{Contents, WhereTold}
 use Rattle.flu_outside.specs.Writing.{AppendsAll}
 use Rattle.flu_lemmas.proofs.Told.{told_weaker}
-use Rattle.flu_top.specs.Lines.{bad_words_line, job_fault_line, conflict_line, plan_defect_line, source_fault_line, read_fault_line, write_fault_line, no_memory_line, save_defect_line, put_fault_line, trace_fault_line}
+use Rattle.flu_top.specs.Lines.{bad_words_line, job_fault_line, conflict_line, plan_defect_line, source_fault_line, read_fault_line, write_fault_line}
+use Rattle.flu_top.specs.Lines.{no_memory_line, save_defect_line, put_fault_line, trace_fault_line}
 use Rattle.flu_top.specs.Outcome.{Outside, Said, Hears, Refused, Outcome}
 use Rattle.flu_top.specs.Outcome as cases
+use Rattle.flu_top.proofs.Commands.{same_command, no_command}
 
 pub at_0 : (words : List (List ℕ)) (old new : Outside) (status : ℕ) → Outcome words old new status → status ≡ 0
-    → (command : Command) × (line : List ℕ) × (command_in words ≡ Ok command) × WhereKnown (job_wanted command) old.left new.left (IsDone command old.out new.out line) × Hears (want command).says old new line
+    → (command : Command) × (line : List ℕ) × (command_in words ≡ Ok command)
+        × WhereKnown (job_wanted command) old.left new.left (IsDone command old.out new.out line) × Hears (want command).says old new line
 at_0 words old new status (cases.Done is command word line done heard) e = (command, line, word, done, heard)
 at_0 words old new status (cases.BadWords is at word files refused) e = absurd (omega (arith, is, e))
 at_0 words old new status (cases.BadJob is command word fault has refused) e = absurd (omega (arith, is, e))
@@ -40,7 +44,8 @@ at_0 words old new status (cases.BadSave is command word defect has refused) e =
 at_0 words old new status (cases.PutFailed is command word some said) e = absurd (omega (arith, is, e))
 at_0 words old new status (cases.BadTrace is command word fault has refused) e = absurd (omega (arith, is, e))
 
-pub at_2 : (words : List (List ℕ)) (old new : Outside) (status : ℕ) → Outcome words old new status → status ≡ 2 → (at : ℕ) × (command_in words ≡ Err at) × (new.left ≡ old.left) × Refused old new (bad_words_line at)
+pub at_2 : (words : List (List ℕ)) (old new : Outside) (status : ℕ) → Outcome words old new status → status ≡ 2
+    → (at : ℕ) × (command_in words ≡ Err at) × (new.left ≡ old.left) × Refused old new (bad_words_line at)
 at_2 words old new status (cases.Done is command word line done heard) e = absurd (omega (arith, is, e))
 at_2 words old new status (cases.BadWords is at word files refused) e = (at, word, files, refused)
 at_2 words old new status (cases.BadJob is command word fault has refused) e = absurd (omega (arith, is, e))
@@ -54,7 +59,9 @@ at_2 words old new status (cases.BadSave is command word defect has refused) e =
 at_2 words old new status (cases.PutFailed is command word some said) e = absurd (omega (arith, is, e))
 at_2 words old new status (cases.BadTrace is command word fault has refused) e = absurd (omega (arith, is, e))
 
-pub at_3 : (words : List (List ℕ)) (old new : Outside) (status : ℕ) → Outcome words old new status → status ≡ 3 → (command : Command) × (fault : JobFault) × (command_in words ≡ Ok command) × HasJobFault (job_wanted command) old.left new.left fault × Refused old new (job_fault_line fault)
+pub at_3 : (words : List (List ℕ)) (old new : Outside) (status : ℕ) → Outcome words old new status → status ≡ 3
+    → (command : Command) × (fault : JobFault) × (command_in words ≡ Ok command) × HasJobFault (job_wanted command) old.left new.left fault
+    × Refused old new (job_fault_line fault)
 at_3 words old new status (cases.Done is command word line done heard) e = absurd (omega (arith, is, e))
 at_3 words old new status (cases.BadWords is at word files refused) e = absurd (omega (arith, is, e))
 at_3 words old new status (cases.BadJob is command word fault has refused) e = (command, fault, word, has, refused)
@@ -68,7 +75,9 @@ at_3 words old new status (cases.BadSave is command word defect has refused) e =
 at_3 words old new status (cases.PutFailed is command word some said) e = absurd (omega (arith, is, e))
 at_3 words old new status (cases.BadTrace is command word fault has refused) e = absurd (omega (arith, is, e))
 
-pub at_4 : (words : List (List ℕ)) (old new : Outside) (status : ℕ) → Outcome words old new status → status ≡ 4 → (command : Command) × (fault : CheckFault) × (command_in words ≡ Ok command) × HasConflict command old.left new.left fault × Refused old new (conflict_line fault)
+pub at_4 : (words : List (List ℕ)) (old new : Outside) (status : ℕ) → Outcome words old new status → status ≡ 4
+    → (command : Command) × (fault : CheckFault) × (command_in words ≡ Ok command) × HasConflict command old.left new.left fault
+    × Refused old new (conflict_line fault)
 at_4 words old new status (cases.Done is command word line done heard) e = absurd (omega (arith, is, e))
 at_4 words old new status (cases.BadWords is at word files refused) e = absurd (omega (arith, is, e))
 at_4 words old new status (cases.BadJob is command word fault has refused) e = absurd (omega (arith, is, e))
@@ -82,7 +91,9 @@ at_4 words old new status (cases.BadSave is command word defect has refused) e =
 at_4 words old new status (cases.PutFailed is command word some said) e = absurd (omega (arith, is, e))
 at_4 words old new status (cases.BadTrace is command word fault has refused) e = absurd (omega (arith, is, e))
 
-pub at_5 : (words : List (List ℕ)) (old new : Outside) (status : ℕ) → Outcome words old new status → status ≡ 5 → (command : Command) × (defect : PlanDefect) × (command_in words ≡ Ok command) × HasPlanDefect command old.left new.left defect × Refused old new (plan_defect_line defect)
+pub at_5 : (words : List (List ℕ)) (old new : Outside) (status : ℕ) → Outcome words old new status → status ≡ 5
+    → (command : Command) × (defect : PlanDefect) × (command_in words ≡ Ok command) × HasPlanDefect command old.left new.left defect
+    × Refused old new (plan_defect_line defect)
 at_5 words old new status (cases.Done is command word line done heard) e = absurd (omega (arith, is, e))
 at_5 words old new status (cases.BadWords is at word files refused) e = absurd (omega (arith, is, e))
 at_5 words old new status (cases.BadJob is command word fault has refused) e = absurd (omega (arith, is, e))
@@ -96,7 +107,10 @@ at_5 words old new status (cases.BadSave is command word defect has refused) e =
 at_5 words old new status (cases.PutFailed is command word some said) e = absurd (omega (arith, is, e))
 at_5 words old new status (cases.BadTrace is command word fault has refused) e = absurd (omega (arith, is, e))
 
-pub at_6 : (words : List (List ℕ)) (old new : Outside) (status : ℕ) → Outcome words old new status → status ≡ 6 → (command : Command) × (p : Program) × (fault : SourceFault) × (text : List ℕ) × (command_in words ≡ Ok command) × HasSourceFault command old.left new.left p fault text × Wrote (how_read command) text old.out new.out × Said old new (source_fault_line (source_name p fault.source) fault.row fault.why)
+pub at_6 : (words : List (List ℕ)) (old new : Outside) (status : ℕ) → Outcome words old new status → status ≡ 6
+    → (command : Command) × (p : Program) × (fault : SourceFault) × (text : List ℕ) × (command_in words ≡ Ok command)
+    × HasSourceFault command old.left new.left p fault text × Wrote (how_read command) text old.out new.out
+    × Said old new (source_fault_line (source_name p fault.source) fault.row fault.why)
 at_6 words old new status (cases.Done is command word line done heard) e = absurd (omega (arith, is, e))
 at_6 words old new status (cases.BadWords is at word files refused) e = absurd (omega (arith, is, e))
 at_6 words old new status (cases.BadJob is command word fault has refused) e = absurd (omega (arith, is, e))
@@ -110,7 +124,9 @@ at_6 words old new status (cases.BadSave is command word defect has refused) e =
 at_6 words old new status (cases.PutFailed is command word some said) e = absurd (omega (arith, is, e))
 at_6 words old new status (cases.BadTrace is command word fault has refused) e = absurd (omega (arith, is, e))
 
-pub at_7 : (words : List (List ℕ)) (old new : Outside) (status : ℕ) → Outcome words old new status → status ≡ 7 → (command : Command) × (command_in words ≡ Ok command) × WroteSome (how_read command) command old.left new.left old.out new.out × Said old new read_fault_line
+pub at_7 : (words : List (List ℕ)) (old new : Outside) (status : ℕ) → Outcome words old new status → status ≡ 7
+    → (command : Command) × (command_in words ≡ Ok command) × WroteSome (how_read command) command old.left new.left old.out new.out
+    × Said old new read_fault_line
 at_7 words old new status (cases.Done is command word line done heard) e = absurd (omega (arith, is, e))
 at_7 words old new status (cases.BadWords is at word files refused) e = absurd (omega (arith, is, e))
 at_7 words old new status (cases.BadJob is command word fault has refused) e = absurd (omega (arith, is, e))
@@ -124,7 +140,9 @@ at_7 words old new status (cases.BadSave is command word defect has refused) e =
 at_7 words old new status (cases.PutFailed is command word some said) e = absurd (omega (arith, is, e))
 at_7 words old new status (cases.BadTrace is command word fault has refused) e = absurd (omega (arith, is, e))
 
-pub at_8 : (words : List (List ℕ)) (old new : Outside) (status : ℕ) → Outcome words old new status → status ≡ 8 → (command : Command) × (command_in words ≡ Ok command) × WrotePart (how_read command) command old.left new.left old.out new.out × Said old new write_fault_line
+pub at_8 : (words : List (List ℕ)) (old new : Outside) (status : ℕ) → Outcome words old new status → status ≡ 8
+    → (command : Command) × (command_in words ≡ Ok command) × WrotePart (how_read command) command old.left new.left old.out new.out
+    × Said old new write_fault_line
 at_8 words old new status (cases.Done is command word line done heard) e = absurd (omega (arith, is, e))
 at_8 words old new status (cases.BadWords is at word files refused) e = absurd (omega (arith, is, e))
 at_8 words old new status (cases.BadJob is command word fault has refused) e = absurd (omega (arith, is, e))
@@ -138,7 +156,9 @@ at_8 words old new status (cases.BadSave is command word defect has refused) e =
 at_8 words old new status (cases.PutFailed is command word some said) e = absurd (omega (arith, is, e))
 at_8 words old new status (cases.BadTrace is command word fault has refused) e = absurd (omega (arith, is, e))
 
-pub at_9 : (words : List (List ℕ)) (old new : Outside) (status : ℕ) → Outcome words old new status → status ≡ 9 → (command : Command) × (command_in words ≡ Ok command) × WroteForMemory (how_read command) command old.left new.left old.out new.out × Said old new no_memory_line
+pub at_9 : (words : List (List ℕ)) (old new : Outside) (status : ℕ) → Outcome words old new status → status ≡ 9
+    → (command : Command) × (command_in words ≡ Ok command) × WroteForMemory (how_read command) command old.left new.left old.out new.out
+    × Said old new no_memory_line
 at_9 words old new status (cases.Done is command word line done heard) e = absurd (omega (arith, is, e))
 at_9 words old new status (cases.BadWords is at word files refused) e = absurd (omega (arith, is, e))
 at_9 words old new status (cases.BadJob is command word fault has refused) e = absurd (omega (arith, is, e))
@@ -152,7 +172,9 @@ at_9 words old new status (cases.BadSave is command word defect has refused) e =
 at_9 words old new status (cases.PutFailed is command word some said) e = absurd (omega (arith, is, e))
 at_9 words old new status (cases.BadTrace is command word fault has refused) e = absurd (omega (arith, is, e))
 
-pub at_11 : (words : List (List ℕ)) (old new : Outside) (status : ℕ) → Outcome words old new status → status ≡ 11 → (command : Command) × (defect : SaveDefect) × (command_in words ≡ Ok command) × HasSaveDefect command old.left new.left defect × Refused old new (save_defect_line defect)
+pub at_11 : (words : List (List ℕ)) (old new : Outside) (status : ℕ) → Outcome words old new status → status ≡ 11
+    → (command : Command) × (defect : SaveDefect) × (command_in words ≡ Ok command) × HasSaveDefect command old.left new.left defect
+    × Refused old new (save_defect_line defect)
 at_11 words old new status (cases.Done is command word line done heard) e = absurd (omega (arith, is, e))
 at_11 words old new status (cases.BadWords is at word files refused) e = absurd (omega (arith, is, e))
 at_11 words old new status (cases.BadJob is command word fault has refused) e = absurd (omega (arith, is, e))
@@ -166,7 +188,8 @@ at_11 words old new status (cases.BadSave is command word defect has refused) e 
 at_11 words old new status (cases.PutFailed is command word some said) e = absurd (omega (arith, is, e))
 at_11 words old new status (cases.BadTrace is command word fault has refused) e = absurd (omega (arith, is, e))
 
-pub at_12 : (words : List (List ℕ)) (old new : Outside) (status : ℕ) → Outcome words old new status → status ≡ 12 → (command : Command) × (command_in words ≡ Ok command) × WroteForPut command old.left new.left old.out new.out × Said old new put_fault_line
+pub at_12 : (words : List (List ℕ)) (old new : Outside) (status : ℕ) → Outcome words old new status → status ≡ 12
+    → (command : Command) × (command_in words ≡ Ok command) × WroteForPut command old.left new.left old.out new.out × Said old new put_fault_line
 at_12 words old new status (cases.Done is command word line done heard) e = absurd (omega (arith, is, e))
 at_12 words old new status (cases.BadWords is at word files refused) e = absurd (omega (arith, is, e))
 at_12 words old new status (cases.BadJob is command word fault has refused) e = absurd (omega (arith, is, e))
@@ -180,7 +203,9 @@ at_12 words old new status (cases.BadSave is command word defect has refused) e 
 at_12 words old new status (cases.PutFailed is command word some said) e = (command, word, some, said)
 at_12 words old new status (cases.BadTrace is command word fault has refused) e = absurd (omega (arith, is, e))
 
-pub at_13 : (words : List (List ℕ)) (old new : Outside) (status : ℕ) → Outcome words old new status → status ≡ 13 → (command : Command) × (fault : ReplayFault) × (command_in words ≡ Ok command) × HasTraceFault command old.left new.left fault × Refused old new (trace_fault_line fault)
+pub at_13 : (words : List (List ℕ)) (old new : Outside) (status : ℕ) → Outcome words old new status → status ≡ 13
+    → (command : Command) × (fault : ReplayFault) × (command_in words ≡ Ok command) × HasTraceFault command old.left new.left fault
+    × Refused old new (trace_fault_line fault)
 at_13 words old new status (cases.Done is command word line done heard) e = absurd (omega (arith, is, e))
 at_13 words old new status (cases.BadWords is at word files refused) e = absurd (omega (arith, is, e))
 at_13 words old new status (cases.BadJob is command word fault has refused) e = absurd (omega (arith, is, e))
@@ -195,7 +220,8 @@ at_13 words old new status (cases.PutFailed is command word some said) e = absur
 at_13 words old new status (cases.BadTrace is command word fault has refused) e = (command, fault, word, has, refused)
 
 -- ---- what holds at more than one status
-pub known_status : (words : List (List ℕ)) (old new : Outside) (status : ℕ) → Outcome words old new status → Contains (0 ∷ 2 ∷ 3 ∷ 4 ∷ 5 ∷ 6 ∷ 7 ∷ 8 ∷ 9 ∷ 11 ∷ 12 ∷ 13 ∷ []) status
+pub known_status : (words : List (List ℕ)) (old new : Outside) (status : ℕ) → Outcome words old new status
+    → Contains (0 ∷ 2 ∷ 3 ∷ 4 ∷ 5 ∷ 6 ∷ 7 ∷ 8 ∷ 9 ∷ 11 ∷ 12 ∷ 13 ∷ []) status
 known_status words old new status (cases.Done is command word line done heard) = (0, omega arith, sym is)
 known_status words old new status (cases.BadWords is at word files refused) = (1, omega arith, sym is)
 known_status words old new status (cases.BadJob is command word fault has refused) = (2, omega arith, sym is)
@@ -215,7 +241,8 @@ wrote_unread Unread text had has other wrote = wrote
 wrote_unread Whole text had has other wrote = wrote
 wrote_unread InRounds text had has other wrote = absurd (other refl)
 
-some_unread : (reading : Reading) (command : Command) (a b : Option Contents) (had has : Option (List ℕ)) → reading ≢ InRounds → WroteSome reading command a b had has → has ≡ had
+some_unread : (reading : Reading) (command : Command) (a b : Option Contents) (had has : Option (List ℕ)) → reading ≢ InRounds
+    → WroteSome reading command a b had has → has ≡ had
 some_unread Unread command a b had has other some = some
 some_unread Whole command a b had has other some = some
 some_unread InRounds command a b had has other some = absurd (other refl)
@@ -231,10 +258,12 @@ saves_nothing (Simulate job plan seed trace) other = refl
 saves_nothing (Replay job plan trace) other = refl
 saves_nothing (Demo n seed) other = refl
 
-unsaved_in_rounds : (Left : Option (List ℕ) → Contents → Contents → Type 0) (command : Command) (a b : Option Contents) (had has : Option (List ℕ)) → how_read command ≢ InRounds → WroteUnsaved Left command a b had has → ⊥
+unsaved_in_rounds : (Left : Option (List ℕ) → Contents → Contents → Type 0) (command : Command) (a b : Option Contents) (had has : Option (List ℕ))
+    → how_read command ≢ InRounds → WroteUnsaved Left command a b had has → ⊥
 unsaved_in_rounds Left command a b had has other wrote = wrote.saves (saves_nothing command other)
 
-memory_unread : (command : Command) (a b : Option Contents) (had has : Option (List ℕ)) → how_read command ≢ InRounds → WroteForMemory (how_read command) command a b had has → has ≡ had
+memory_unread : (command : Command) (a b : Option Contents) (had has : Option (List ℕ)) → how_read command ≢ InRounds
+    → WroteForMemory (how_read command) command a b had has → has ≡ had
 memory_unread command a b had has other (inl some) = some_unread (how_read command) command a b had has other some
 memory_unread command a b had has other (inr wrote) = absurd (unsaved_in_rounds (Leaves command) command a b had has other wrote)
 
@@ -245,12 +274,16 @@ nothing_written words old new status (cases.BadWords is at word files refused) d
 nothing_written words old new status (cases.BadJob is command word fault has refused) done' other apart = refused.nothing
 nothing_written words old new status (cases.Conflicts is command word fault has refused) done' other apart = refused.nothing
 nothing_written words old new status (cases.BadPlan is command word defect has refused) done' other apart = refused.nothing
-nothing_written words old new status (cases.BadSource is command word p fault text has wrote said) done' other apart = wrote_unread (how_read command) text old.out new.out (apart command word) wrote
-nothing_written words old new status (cases.ReadFailed is command word some said) done' other apart = some_unread (how_read command) command old.left new.left old.out new.out (apart command word) some
+nothing_written words old new status (cases.BadSource is command word p fault text has wrote said) done' other apart =
+    wrote_unread (how_read command) text old.out new.out (apart command word) wrote
+nothing_written words old new status (cases.ReadFailed is command word some said) done' other apart =
+    some_unread (how_read command) command old.left new.left old.out new.out (apart command word) some
 nothing_written words old new status (cases.WriteFailed is command word partly said) done' other apart = absurd (other is)
-nothing_written words old new status (cases.NoMemory is command word some said) done' other apart = memory_unread command old.left new.left old.out new.out (apart command word) some
+nothing_written words old new status (cases.NoMemory is command word some said) done' other apart =
+    memory_unread command old.left new.left old.out new.out (apart command word) some
 nothing_written words old new status (cases.BadSave is command word defect has refused) done' other apart = refused.nothing
-nothing_written words old new status (cases.PutFailed is command word some said) done' other apart = absurd (unsaved_in_rounds LeavesAnything command old.left new.left old.out new.out (apart command word) some)
+nothing_written words old new status (cases.PutFailed is command word some said) done' other apart =
+    absurd (unsaved_in_rounds LeavesAnything command old.left new.left old.out new.out (apart command word) some)
 nothing_written words old new status (cases.BadTrace is command word fault has refused) done' other apart = refused.nothing
 
 -- a status below 6, or 11, or 13, is none of the others
@@ -266,24 +299,28 @@ refused_unwritten words old new status (cases.BadWords is at word files refused)
 refused_unwritten words old new status (cases.BadJob is command word fault has refused) done' low = refused.nothing
 refused_unwritten words old new status (cases.Conflicts is command word fault has refused) done' low = refused.nothing
 refused_unwritten words old new status (cases.BadPlan is command word defect has refused) done' low = refused.nothing
-refused_unwritten words old new status (cases.BadSource is command word p fault text has wrote said) done' low = absurd (none_of_those 6 status (omega arith) (λ e. omega (arith, e)) (λ e. omega (arith, e)) is low)
-refused_unwritten words old new status (cases.ReadFailed is command word some said) done' low = absurd (none_of_those 7 status (omega arith) (λ e. omega (arith, e)) (λ e. omega (arith, e)) is low)
-refused_unwritten words old new status (cases.WriteFailed is command word partly said) done' low = absurd (none_of_those 8 status (omega arith) (λ e. omega (arith, e)) (λ e. omega (arith, e)) is low)
-refused_unwritten words old new status (cases.NoMemory is command word some said) done' low = absurd (none_of_those 9 status (omega arith) (λ e. omega (arith, e)) (λ e. omega (arith, e)) is low)
+refused_unwritten words old new status (cases.BadSource is command word p fault text has wrote said) done' low =
+    absurd (none_of_those 6 status (omega arith) (λ e. omega (arith, e)) (λ e. omega (arith, e)) is low)
+refused_unwritten words old new status (cases.ReadFailed is command word some said) done' low =
+    absurd (none_of_those 7 status (omega arith) (λ e. omega (arith, e)) (λ e. omega (arith, e)) is low)
+refused_unwritten words old new status (cases.WriteFailed is command word partly said) done' low =
+    absurd (none_of_those 8 status (omega arith) (λ e. omega (arith, e)) (λ e. omega (arith, e)) is low)
+refused_unwritten words old new status (cases.NoMemory is command word some said) done' low =
+    absurd (none_of_those 9 status (omega arith) (λ e. omega (arith, e)) (λ e. omega (arith, e)) is low)
 refused_unwritten words old new status (cases.BadSave is command word defect has refused) done' low = refused.nothing
-refused_unwritten words old new status (cases.PutFailed is command word some said) done' low = absurd (none_of_those 12 status (omega arith) (λ e. omega (arith, e)) (λ e. omega (arith, e)) is low)
+refused_unwritten words old new status (cases.PutFailed is command word some said) done' low =
+    absurd (none_of_those 12 status (omega arith) (λ e. omega (arith, e)) (λ e. omega (arith, e)) is low)
 refused_unwritten words old new status (cases.BadTrace is command word fault has refused) done' low = refused.nothing
 
 -- words that are no command have status 2, and no others
-pub no_command : (words : List (List ℕ)) (command : Command) (at : ℕ) → command_in words ≡ Ok command → command_in words ≡ Err at → ⊥
-no_command words command at is bad = let e = sym is ∙ bad in cc
-
 same_place : (words : List (List ℕ)) (a b : ℕ) → command_in words ≡ Err a → command_in words ≡ Err b → a ≡ b
 same_place words a b first second = let e = sym first ∙ second in cc
 
-pub of_no_command : (words : List (List ℕ)) (old new : Outside) (status : ℕ) → Outcome words old new status → (at : ℕ) → command_in words ≡ Err at → (status ≡ 2) × Said old new (bad_words_line at)
+pub of_no_command : (words : List (List ℕ)) (old new : Outside) (status : ℕ) → Outcome words old new status → (at : ℕ) → command_in words ≡ Err at
+    → (status ≡ 2) × Said old new (bad_words_line at)
 of_no_command words old new status (cases.Done is command word line done heard) place bad = absurd (no_command words command place word bad)
-of_no_command words old new status (cases.BadWords is at word files refused) place bad = (is, subst (λ n. Said old new (bad_words_line n)) (same_place words at place word bad) refused.said)
+of_no_command words old new status (cases.BadWords is at word files refused) place bad =
+    (is, subst (λ n. Said old new (bad_words_line n)) (same_place words at place word bad) refused.said)
 of_no_command words old new status (cases.BadJob is command word fault has refused) place bad = absurd (no_command words command place word bad)
 of_no_command words old new status (cases.Conflicts is command word fault has refused) place bad = absurd (no_command words command place word bad)
 of_no_command words old new status (cases.BadPlan is command word defect has refused) place bad = absurd (no_command words command place word bad)
@@ -295,14 +332,12 @@ of_no_command words old new status (cases.BadSave is command word defect has ref
 of_no_command words old new status (cases.PutFailed is command word some said) place bad = absurd (no_command words command place word bad)
 of_no_command words old new status (cases.BadTrace is command word fault has refused) place bad = absurd (no_command words command place word bad)
 
-pub bad_words_exactly : (words : List (List ℕ)) (old new : Outside) (status : ℕ) → Outcome words old new status → (status ≡ 2) ↔ ((at : ℕ) × (command_in words ≡ Err at))
+pub bad_words_exactly : (words : List (List ℕ)) (old new : Outside) (status : ℕ) → Outcome words old new status
+    → (status ≡ 2) ↔ ((at : ℕ) × (command_in words ≡ Err at))
 bad_words_exactly words old new status outcome =
     (λ is. let found = at_2 words old new status outcome is in (found.0, found.1), λ bad. (of_no_command words old new status outcome bad.0 bad.1).0)
 
 -- ---- what is said where a command is done
-pub same_command : (words : List (List ℕ)) (a b : Command) → command_in words ≡ Ok a → command_in words ≡ Ok b → a ≡ b
-same_command words a b first second = let e = sym first ∙ second in cc
-
 heard_nothing : (says : Saying) (old new : Outside) (line : List ℕ) → IsTrue (is_nothing says) → Hears says old new line → new.err ≡ old.err
 heard_nothing Nothing old new line nothing heard = heard
 heard_nothing (Line Is IsForm) old new line nothing heard = absurd (false≢true nothing)
@@ -314,15 +349,18 @@ quiet_at_0 words old new status outcome is command word nothing =
     let same = same_command words command found.0 word found.2 in
     heard_nothing (want found.0).says old new found.1 (subst (λ (d : Command). IsTrue (says_nothing d)) same nothing) found.4
 
-pub heard_at_0 : (words : List (List ℕ)) (old new : Outside) (status : ℕ) → Outcome words old new status → status ≡ 0 → (job plan : List ℕ) (seed : ℕ) (trace : Bool) → command_in words ≡ Ok (Simulate job plan seed trace)
-    → (line : List ℕ) × IsStepLine line × Said old new line × WhereTold old.left new.left (λ left _. (p : Program) × HasJob (Named job) left p × IsLineOfRun job plan seed left p line)
+pub heard_at_0 : (words : List (List ℕ)) (old new : Outside) (status : ℕ) → Outcome words old new status → status ≡ 0
+    → (job plan : List ℕ) (seed : ℕ) (trace : Bool) → command_in words ≡ Ok (Simulate job plan seed trace)
+    → (line : List ℕ) × IsStepLine line × Said old new line × WhereTold old.left new.left
+        (λ left _. (p : Program) × HasJob (Named job) left p × IsLineOfRun job plan seed left p line)
 heard_at_0 words old new status outcome is job plan seed trace word =
     let found = at_0 words old new status outcome is in
     let line = found.1 in
     let same = same_command words found.0 (Simulate job plan seed trace) found.2 word in
     let done = subst (λ (d : Command). WhereKnown (job_wanted d) old.left new.left (IsDone d old.out new.out line)) same found.3 in
     let heard = subst (λ (d : Command). Hears (want d).says old new line) same found.4 in
-    let told = told_weaker (IsDone (Simulate job plan seed trace) old.out new.out line) (λ left _. (p : Program) × HasJob (Named job) left p × IsLineOfRun job plan seed left p line) old.left new.left
+    let told = told_weaker (IsDone (Simulate job plan seed trace) old.out new.out line)
+        (λ left _. (p : Program) × HasJob (Named job) left p × IsLineOfRun job plan seed left p line) old.left new.left
     (λ x y d. (d.0, d.2.good.has, d.4)) done in
     (line, heard.0, heard.1, told)
 
@@ -330,7 +368,8 @@ pub adapted_at_0 : (words : List (List ℕ)) (old new : Outside) (status : ℕ) 
     → (job : List ℕ) (plan save resume : Option (List ℕ)) → command_in words ≡ Ok (Run job plan (record { adapt = true; save = save; resume = resume }))
     → (line : List ℕ) × IsSomePlanText line × Said old new line
     × WhereTold old.left new.left (λ left _. (p : Program) × HasJob (Named job) left p
-    × ((text : List ℕ) × Writes (Run job plan (record { adapt = false; save = save; resume = resume })) left p text × WhereTold old.out new.out (AppendsAll text))
+    × ((text : List ℕ) × Writes (Run job plan (record { adapt = false; save = save; resume = resume })) left p text
+        × WhereTold old.out new.out (AppendsAll text))
     × IsObservedText (job ∷ if_named plan) resume left p line)
 adapted_at_0 words old new status outcome is job plan save resume word =
     let whole = Run job plan (record { adapt = true; save = save; resume = resume }) in
@@ -340,6 +379,7 @@ adapted_at_0 words old new status outcome is job plan save resume word =
     let done = subst (λ (d : Command). WhereKnown (job_wanted d) old.left new.left (IsDone d old.out new.out line)) same found.3 in
     let heard = subst (λ (d : Command). Hears (want d).says old new line) same found.4 in
     let told = told_weaker (IsDone whole old.out new.out line) (λ left _. (p : Program) × HasJob (Named job) left p
-    × ((text : List ℕ) × Writes (Run job plan (record { adapt = false; save = save; resume = resume })) left p text × WhereTold old.out new.out (AppendsAll text))
+    × ((text : List ℕ) × Writes (Run job plan (record { adapt = false; save = save; resume = resume })) left p text
+        × WhereTold old.out new.out (AppendsAll text))
     × IsObservedText (job ∷ if_named plan) resume left p line) old.left new.left (λ x y d. (d.0, d.2.good.has, (d.1, d.3, d.5), d.4)) done in
     (line, heard.0, heard.1, told)

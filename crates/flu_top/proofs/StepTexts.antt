@@ -26,4 +26,5 @@ pub good_lines : (k : Content) (steps : List Step) → AllByRecursion (IsPossibl
 good_lines k steps possible = all_map (IsPossible k) (λ s. IsLineOf s (line_of s)) steps (λ s one. record { number = small_number k s one; is = refl }) possible
 
 pub small_numbers : (k : Content) (steps : List Step) → AllByRecursion (IsPossible k) steps → All (λ s. number_of s < 1000) steps
-small_numbers k steps possible = All-from_recursion (λ s. number_of s < 1000) steps (all_map (IsPossible k) (λ s. number_of s < 1000) steps (small_number k) possible)
+small_numbers k steps possible = All-from_recursion (λ s. number_of s < 1000) steps
+    (all_map (IsPossible k) (λ s. number_of s < 1000) steps (small_number k) possible)

@@ -53,7 +53,8 @@ is_ready job plan p nodes a b c read taken found also valid =
     (λ x y z first second. ready_at job plan p nodes x y z valid first second)
     (told_both (IsJobRead job p) (TakesFrom job) a b read taken) (told_both (IsPlanRead p plan nodes) (TakesFrom plan) b c found also)
 
-pub has_nodes : (job plan : List ℕ) (p : Program) (nodes : List Node) (a b c : Option Contents) → WhereTold a b (IsJobRead job p) → WhereTold a b (TakesFrom job)
+pub has_nodes : (job plan : List ℕ) (p : Program) (nodes : List Node) (a b c : Option Contents) → WhereTold a b (IsJobRead job p)
+    → WhereTold a b (TakesFrom job)
     → WhereTold b c (IsPlanRead p plan nodes) → WhereTold a c (HasNodes job plan p nodes)
 has_nodes job plan p nodes a b c read taken found =
     told_then (λ x y. IsJobRead job p x y × TakesFrom job x y) (IsPlanRead p plan nodes) (HasNodes job plan p nodes) a b c
@@ -65,7 +66,8 @@ validated_at : (job plan : List ℕ) (p : Program) (nodes : List Node) (text : L
 validated_at job plan p nodes text x z accepted is both = (
   p,
   record {
-    good = record { has = both.0.has; accepted = λ asked. accepted; plan = both.0.plan; start = can_start (Valid job plan) x p (record { save = refl; resume = refl }); sources = tt };
+    good = record { has = both.0.has; accepted = λ asked. accepted; plan = both.0.plan; start =
+        can_start (Valid job plan) x p (record { save = refl; resume = refl }); sources = tt };
     ends = λ name found apart. both.0.texts.ends name found;
     trace = λ trace named. absurd (cc);
     saved = has_saved (Valid job plan) p x z (record { save = refl; resume = refl });
@@ -74,7 +76,8 @@ validated_at job plan p nodes text x z accepted is both = (
   refl,
 )
 
-pub is_validated : (job plan : List ℕ) (p : Program) (nodes : List Node) (text : List ℕ) (a c : Option Contents) → IsAccepted p → WhereTold a c (IsReady (Valid job plan) p)
+pub is_validated : (job plan : List ℕ) (p : Program) (nodes : List Node) (text : List ℕ) (a c : Option Contents) → IsAccepted p
+    → WhereTold a c (IsReady (Valid job plan) p)
     → WhereTold a c (HasNodes job plan p nodes) → text ≡ printed p nodes → WhereTold a c (IsWritten (Valid job plan) text [])
 is_validated job plan p nodes text a c accepted ready found is =
     told_weaker (λ x z. IsReady (Valid job plan) p x z × HasNodes job plan p nodes x z) (IsWritten (Valid job plan) text []) a c
@@ -82,9 +85,11 @@ is_validated job plan p nodes text a c accepted ready found is =
 
 -- the plan's name is one that is read
 plan_name : (job plan : List ℕ) (p : Program) (a b : Option Contents) → WhereTold a b (IsJobRead job p) → IsAccepted p → IsReadName a (Valid job plan) plan
-plan_name job plan p a b read accepted = inr (inl (record { p = p; job = record { has = may_have job p a b read; accepted = λ asked. accepted }; named = refl }))
+plan_name job plan p a b read accepted = inr (inl (record { p = p; job = record { has = may_have job p a b read; accepted = λ asked. accepted }; named =
+    refl }))
 
-pub only_with_plan : (job plan : List ℕ) (p : Program) (a b c : Option Contents) → WhereTold a b (IsJobRead job p) → WhereTold a b (TakesFrom job) → IsAccepted p → WhereTold b c (TakesFrom plan) → WhereTold a c (TookOnly (IsReadName a (Valid job plan)))
+pub only_with_plan : (job plan : List ℕ) (p : Program) (a b c : Option Contents) → WhereTold a b (IsJobRead job p) → WhereTold a b (TakesFrom job)
+    → IsAccepted p → WhereTold b c (TakesFrom plan) → WhereTold a c (TookOnly (IsReadName a (Valid job plan)))
 only_with_plan job plan p a b c read taken accepted also =
     told_then (TakesFrom job) (TakesFrom plan) (TookOnly (IsReadName a (Valid job plan))) a b c
     (λ x y z took more name unread.
@@ -92,7 +97,9 @@ only_with_plan job plan p a b c read taken accepted also =
     ∙ took.others name (λ same. unread (inl (ap Named (sym same))))) taken also
 
 -- ---- what refuses a plan
-pub text_refusal : (job plan : List ℕ) (p : Program) (a b c : Option Contents) (k l m : List ℕ → ℕ) (refusal : Refusal) → WhereTold a b (IsJobRead job p) → WhereTold a b (TakesFrom job) → ((n : List ℕ) → k n ≤ l n) → IsAccepted p → IsTextRefusal p plan b c l m refusal → IsRefusal (Valid job plan) a c k m refusal
+pub text_refusal : (job plan : List ℕ) (p : Program) (a b c : Option Contents) (k l m : List ℕ → ℕ) (refusal : Refusal) → WhereTold a b (IsJobRead job p)
+    → WhereTold a b (TakesFrom job) → ((n : List ℕ) → k n ≤ l n) → IsAccepted p → IsTextRefusal p plan b c l m refusal
+    → IsRefusal (Valid job plan) a c k m refusal
 text_refusal job plan p a b c k l m (refusals.BadWords bad) read taken rise accepted is = is
 text_refusal job plan p a b c k l m (refusals.JobFault fault) read taken rise accepted is = absurd is
 text_refusal job plan p a b c k l m (refusals.Conflict fault) read taken rise accepted is = absurd is
@@ -102,7 +109,8 @@ text_refusal job plan p a b c k l m (refusals.PlanDefect (defects.Text fault)) r
   asked = refl;
   accepted = accepted;
   is_fault = is.is_fault;
-  first = told_then (λ x y. IsJobRead job p x y × TakesFrom job x y) (λ left _. plan_in p (bytes_left left plan) ≡ Err fault) (λ left _. HasJob (Named job) left p × (plan_in p (plan_behind (Named job) plan left) ≡ Err fault)) a b c
+  first = told_then (λ x y. IsJobRead job p x y × TakesFrom job x y) (λ left _. plan_in p (bytes_left left plan) ≡ Err fault)
+      (λ left _. HasJob (Named job) left p × (plan_in p (plan_behind (Named job) plan left) ≡ Err fault)) a b c
       (λ x y z first e. (first.0.has, ap (plan_in p) (plan_at job plan p x y first) ∙ e)) (told_both (IsJobRead job p) (TakesFrom job) a b read taken) is.first;
 }
 text_refusal job plan p a b c k l m (refusals.PlanDefect (defects.Invalid checked fault)) read taken rise accepted is = absurd is
@@ -115,7 +123,9 @@ text_refusal job plan p a b c k l m (refusals.SaveDefect defect) read taken rise
 text_refusal job plan p a b c k l m refusals.PutFault read taken rise accepted is = is
 text_refusal job plan p a b c k l m (refusals.TraceFault fault) read taken rise accepted is = absurd is
 
-pub valid_refusal : (job plan : List ℕ) (checked : Checked) (nodes : List Node) (a b c : Option Contents) (k m : List ℕ → ℕ) (refusal : Refusal) → WhereTold a b (IsJobRead job (program_of checked)) → WhereTold a b (TakesFrom job) → IsAccepted (program_of checked) → WhereTold b c (IsPlanRead (program_of checked) plan nodes) → IsValidRefusal checked nodes refusal → IsRefusal (Valid job plan) a c k m refusal
+pub valid_refusal : (job plan : List ℕ) (checked : Checked) (nodes : List Node) (a b c : Option Contents) (k m : List ℕ → ℕ) (refusal : Refusal)
+    → WhereTold a b (IsJobRead job (program_of checked)) → WhereTold a b (TakesFrom job) → IsAccepted (program_of checked)
+    → WhereTold b c (IsPlanRead (program_of checked) plan nodes) → IsValidRefusal checked nodes refusal → IsRefusal (Valid job plan) a c k m refusal
 valid_refusal job plan checked nodes a b c k m (refusals.BadWords bad) read taken accepted found is = is
 valid_refusal job plan checked nodes a b c k m (refusals.JobFault fault) read taken accepted found is = absurd is
 valid_refusal job plan checked nodes a b c k m (refusals.Conflict fault) read taken accepted found is = absurd is
@@ -128,8 +138,10 @@ valid_refusal job plan checked nodes a b c k m (refusals.PlanDefect (defects.Inv
       asked = refl;
       accepted = accepted;
       invalid = is.2;
-      text = told_then (λ x y. IsJobRead job (program_of checked) x y × TakesFrom job x y) (IsPlanRead (program_of checked) plan nodes) (λ left _. HasJob (Named job) left (program_of checked) × HasPlan (Named job) plan left (program_of checked) nodes) a b c
-          (λ x y z first second. (first.0.has, has_plan_at job plan (program_of checked) nodes x y first second.has)) (told_both (IsJobRead job (program_of checked)) (TakesFrom job) a b read taken) found;
+      text = told_then (λ x y. IsJobRead job (program_of checked) x y × TakesFrom job x y) (IsPlanRead (program_of checked) plan nodes)
+          (λ left _. HasJob (Named job) left (program_of checked) × HasPlan (Named job) plan left (program_of checked) nodes) a b c
+          (λ x y z first second. (first.0.has, has_plan_at job plan (program_of checked) nodes x y first second.has))
+              (told_both (IsJobRead job (program_of checked)) (TakesFrom job) a b read taken) found;
     })
 valid_refusal job plan checked nodes a b c k m (refusals.SourceFault q fault) read taken accepted found is = absurd is
 valid_refusal job plan checked nodes a b c k m refusals.ReadFault read taken accepted found is = absurd is

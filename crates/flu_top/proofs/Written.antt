@@ -1,5 +1,6 @@
 -- Bytes that are written one after another.
-use Rattle.std.proofs.Common.{◌≡◌, sym, ap, ◌∙◌, ℕ, ◌+◌, ◌-◌, ◌≤◌, List, [], ◌∷◌, ◌++◌, length, get_or, map, take, drop, Option, Result, Ok, Err, subst, arith, append-nil, append_assoc, length-append, refl}
+use Rattle.std.proofs.Common.{◌≡◌, sym, ap, ◌∙◌, ℕ, ◌+◌, ◌-◌, ◌≤◌, List, [], ◌∷◌, ◌++◌, length, get_or, map, take, drop, Option, Result, Ok, Err, subst}
+use Rattle.std.proofs.Common.{arith, append-nil, append_assoc, length-append, refl}
 use Rattle.std.proofs.Math.Seq.{take-append-add}
 use Rattle.std.specs.List.{concat}
 use Rattle.std.proofs.lemmas.List.{take_all, take-append-le}
@@ -35,7 +36,8 @@ pub writes_none : (x : Option (List ℕ)) (k : ℕ) → Writes [] x x k k (Ok tt
 writes_none x k = record { all = told_same (AppendsAll []) x (λ l. sym (append-nil l)); quiet = refl; part = tt; failed = tt; counts = omega arith }
 
 -- the first bytes of a line were not all written, and the call answers the failure
-pub writes_front : (a b line : List ℕ) (x y : Option (List ℕ)) (k l : ℕ) (f : Failed) (r : Result (Unit {0}) Failed) → a ++ b ≡ line → IsErr r → Writes a x y k l (Err f) → Writes line x y k l r
+pub writes_front : (a b line : List ℕ) (x y : Option (List ℕ)) (k l : ℕ) (f : Failed) (r : Result (Unit {0}) Failed) → a ++ b ≡ line → IsErr r
+    → Writes a x y k l (Err f) → Writes line x y k l r
 writes_front a b line x y k l f (Ok u) is failed w = absurd cc
 writes_front a b line x y k l f (Err g) is failed w =
     subst (λ bytes. Writes bytes x y k l (Err g)) is record {
@@ -47,7 +49,8 @@ writes_front a b line x y k l f (Err g) is failed w =
     }
 
 -- all of the first bytes were written, and then others
-pub writes_more : (a b : List ℕ) (x y z : Option (List ℕ)) (k l m : ℕ) (r : Result (Unit {0}) Failed) → Writes a x y k l (Ok tt) → Writes b y z l m r → Writes (a ++ b) x z k m r
+pub writes_more : (a b : List ℕ) (x y z : Option (List ℕ)) (k l m : ℕ) (r : Result (Unit {0}) Failed) → Writes a x y k l (Ok tt) → Writes b y z l m r
+    → Writes (a ++ b) x z k m r
 writes_more a b x y z k l m (Ok u) w v = record {
   all = told_then (AppendsAll a) (AppendsAll b) (AppendsAll (a ++ b)) x y z (all_of_both a b) w.all v.all;
   quiet = v.quiet ∙ w.quiet;
@@ -64,7 +67,8 @@ writes_more a b x y z k l m (Err f) w v = record {
 }
 
 -- the bytes of the first of some pieces, and those of the others
-pub pieces_split : {T : Type 0} (bytes : T → List ℕ) (ps : List T) (d : T) → 1 ≤ length ps → bytes (get_or ps 0 d) ++ concat (map bytes (take (length ps - 1) (drop 1 ps))) ≡ concat (map bytes ps)
+pub pieces_split : {T : Type 0} (bytes : T → List ℕ) (ps : List T) (d : T) → 1 ≤ length ps
+    → bytes (get_or ps 0 d) ++ concat (map bytes (take (length ps - 1) (drop 1 ps))) ≡ concat (map bytes ps)
 pieces_split bytes [] d some = absurd (omega arith)
 pieces_split {T} bytes (p ∷ ps) d some = ap (λ (l : List T). bytes p ++ concat (map bytes l)) (take_all (length (p ∷ ps) - 1) ps (omega arith))
 
@@ -73,11 +77,13 @@ pub counted_pieces : (word digits text : List ℕ) (n : ℕ) → word ≡ text �
 counted_pieces word digits text n is are = (λ i. is i ++ (are i ++ [])) ∙ ap (λ l. text ++ l) (append-nil (decimal n))
 
 -- pieces that make up a line
-pub writes_as : (pieces line : List ℕ) (x y : Option (List ℕ)) (k l : ℕ) (r : Result (Unit {0}) Failed) → pieces ≡ line → Writes pieces x y k l r → Writes line x y k l r
+pub writes_as : (pieces line : List ℕ) (x y : Option (List ℕ)) (k l : ℕ) (r : Result (Unit {0}) Failed) → pieces ≡ line → Writes pieces x y k l r
+    → Writes line x y k l r
 writes_as pieces line x y k l r same w = subst (λ bytes. Writes bytes x y k l r) same w
 
 -- the first bytes of a line were all written, and then the others
-pub writes_both : (a b line : List ℕ) (x y z : Option (List ℕ)) (k l m : ℕ) (r : Result (Unit {0}) Failed) → a ++ b ≡ line → Writes a x y k l (Ok tt) → Writes b y z l m r → Writes line x z k m r
+pub writes_both : (a b line : List ℕ) (x y z : Option (List ℕ)) (k l m : ℕ) (r : Result (Unit {0}) Failed) → a ++ b ≡ line → Writes a x y k l (Ok tt)
+    → Writes b y z l m r → Writes line x z k m r
 writes_both a b line x y z k l m r is w v = writes_as (a ++ b) line x z k m r is (writes_more a b x y z k l m r w v)
 
 -- ---- pieces that make up a line
@@ -105,7 +111,8 @@ place_line head fault digits place is = named_place_line head fault digits (deci
 abbrev pub limit_pieces : List ℕ → List ℕ → List ℕ → List ℕ
 limit_pieces head word digits = head ++ (codes "over limit " ++ (word ++ (codes " " ++ (digits ++ codes "\n"))))
 
-pub limit_line : (head word digits : List ℕ) (what : What) (count : ℕ) → word ≡ what_word what → digits ≡ decimal count → limit_pieces head word digits ≡ fault_line head (limit_text what count)
+pub limit_line : (head word digits : List ℕ) (what : What) (count : ℕ) → word ≡ what_word what → digits ≡ decimal count
+    → limit_pieces head word digits ≡ fault_line head (limit_text what count)
 limit_line head word digits what count is are =
     (λ i. limit_pieces head (is i) (are i))
     ∙ (ap (λ l. head ++ l) (joined_4 (codes "over limit ") (what_word what) (codes " ") (decimal count) (codes "\n"))
@@ -122,14 +129,18 @@ trace_line_of digits why line is = ap (λ d. trace_pieces d why) is ∙ joined_4
 abbrev pub row_pieces : List ℕ → List ℕ → List ℕ → List ℕ
 row_pieces name digits rest = codes "flumina: source " ++ (name ++ (codes " row " ++ (digits ++ rest)))
 
-pub row_line_of : (name source digits why : List ℕ) (row : ℕ) → source ≡ name → digits ≡ decimal row → row_pieces source digits (codes ": " ++ (why ++ codes "\n")) ≡ row_line name row why
+pub row_line_of : (name source digits why : List ℕ) (row : ℕ) → source ≡ name → digits ≡ decimal row
+    → row_pieces source digits (codes ": " ++ (why ++ codes "\n")) ≡ row_line name row why
 row_line_of name source digits why row is are =
-    (λ i. row_pieces (is i) (are i) (codes ": " ++ (why ++ codes "\n"))) ∙ joined_6 (codes "flumina: source ") name (codes " row ") (decimal row) (codes ": ") why (codes "\n")
+    (λ i. row_pieces (is i) (are i) (codes ": " ++ (why ++ codes "\n")))
+        ∙ joined_6 (codes "flumina: source ") name (codes " row ") (decimal row) (codes ": ") why (codes "\n")
 
 abbrev pub disordered_pieces : List ℕ → List ℕ → List ℕ → List ℕ → List ℕ
 disordered_pieces name digits last got = row_pieces name digits (codes ": disordered, last " ++ (last ++ (codes ", got " ++ (got ++ codes "\n"))))
 
-pub disordered_line : (name source digits last_digits got_digits : List ℕ) (row last got : ℕ) → source ≡ name → digits ≡ decimal row → last_digits ≡ decimal last → got_digits ≡ decimal got → disordered_pieces source digits last_digits got_digits ≡ source_fault_line name row (Disordered last got)
+pub disordered_line : (name source digits last_digits got_digits : List ℕ) (row last got : ℕ) → source ≡ name → digits ≡ decimal row
+    → last_digits ≡ decimal last → got_digits ≡ decimal got → disordered_pieces source digits last_digits got_digits
+    ≡ source_fault_line name row (Disordered last got)
 disordered_line name source digits last_digits got_digits row last got is are lasts gots =
     (λ i. disordered_pieces source digits (lasts i) (gots i))
     ∙ (ap (λ l. row_pieces source digits (codes ": " ++ l)) (joined_4 (codes "disordered, last ") (decimal last) (codes ", got ") (decimal got) (codes "\n"))
@@ -138,6 +149,7 @@ disordered_line name source digits last_digits got_digits row last got is are la
 abbrev pub too_many_pieces : List ℕ → List ℕ → List ℕ → List ℕ
 too_many_pieces name digits count = row_pieces name digits (codes ": too many, " ++ (count ++ codes "\n"))
 
-pub too_many_line : (name source digits count_digits : List ℕ) (row count : ℕ) → source ≡ name → digits ≡ decimal row → count_digits ≡ decimal count → too_many_pieces source digits count_digits ≡ source_fault_line name row (TooMany count)
+pub too_many_line : (name source digits count_digits : List ℕ) (row count : ℕ) → source ≡ name → digits ≡ decimal row → count_digits ≡ decimal count
+    → too_many_pieces source digits count_digits ≡ source_fault_line name row (TooMany count)
 too_many_line name source digits count_digits row count is are counts =
     ap (too_many_pieces source digits) counts ∙ row_line_of name source digits (codes "too many, " ++ decimal count) row is are

@@ -15,11 +15,13 @@ conflict_head a b c = by_parts (codes "flumina: conflict: ") (codes " and ") (co
     by_parts : (h s t e : List ℕ) → h ++ ((a ++ s) ++ ((b ++ t) ++ (c ++ e))) ≡ h ++ a ++ s ++ b ++ t ++ c ++ e
     by_parts h s t e = simp append_assoc
 
-pub conflict_first : (a b c : List ℕ) → (codes "flumina: conflict: " ++ (a ++ codes " and ")) ++ ((b ++ codes " on ") ++ (c ++ codes "\n")) ≡ conflict_text a b c
+pub conflict_first : (a b c : List ℕ) → (codes "flumina: conflict: " ++ (a ++ codes " and ")) ++ ((b ++ codes " on ") ++ (c ++ codes "\n"))
+    ≡ conflict_text a b c
 conflict_first a b c = by_parts (codes "flumina: conflict: ") (codes " and ") (codes " on ") (codes "\n")
   where
     by_parts : (h s t e : List ℕ) → (h ++ (a ++ s)) ++ ((b ++ t) ++ (c ++ e)) ≡ h ++ a ++ s ++ b ++ t ++ c ++ e
     by_parts h s t e = simp append_assoc
 
-pub conflict_second : (a b c : List ℕ) → ((codes "flumina: conflict: " ++ (a ++ codes " and ")) ++ (b ++ codes " on ")) ++ (c ++ codes "\n") ≡ conflict_text a b c
+pub conflict_second : (a b c : List ℕ) → ((codes "flumina: conflict: " ++ (a ++ codes " and ")) ++ (b ++ codes " on ")) ++ (c ++ codes "\n")
+    ≡ conflict_text a b c
 conflict_second a b c = in_four (codes "flumina: conflict: ") a (codes " and ") b (codes " on ") c (codes "\n")

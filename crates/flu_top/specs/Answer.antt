@@ -20,7 +20,8 @@ use Rattle.flu_top.specs.declared.refusals.Refusal.TheVariants as refusals
 use Rattle.flu_top.specs.Jobs.{program_read}
 use Rattle.flu_top.specs.Names.{source_name}
 use Rattle.flu_top.specs.Products.{line_of_said}
-use Rattle.flu_top.specs.Lines.{bad_words_line, job_fault_line, conflict_line, plan_defect_line, source_fault_line, read_fault_line, write_fault_line, no_memory_line, save_defect_line, put_fault_line, trace_fault_line, IsSaid}
+use Rattle.flu_top.specs.Lines.{bad_words_line, job_fault_line, conflict_line, plan_defect_line, source_fault_line, read_fault_line, write_fault_line}
+use Rattle.flu_top.specs.Lines.{no_memory_line, save_defect_line, put_fault_line, trace_fault_line, IsSaid}
 
 abbrev pub status_of : Refusal → ℕ
 status_of (refusals.BadWords bad) = 2

@@ -69,7 +69,8 @@ pub record HasPlanFault (command : Command) (old new : Option Contents) (fault :
   pub asked : plan_named command ≡ Some plan
   pub accepted : IsAccepted program
   pub is_fault : fault ≢ plans.NoMemory
-  pub first : WhereTold old new (λ left _. HasJob (job_wanted command) left program × IsFirstTextFault program (plan_behind (job_wanted command) plan left) fault)
+  pub first : WhereTold old new (λ left _. HasJob (job_wanted command) left program
+      × IsFirstTextFault program (plan_behind (job_wanted command) plan left) fault)
 
 -- the plan is not valid for the job, and this is the first thing that keeps it from that
 pub record IsInvalid (p : Program) (nodes : List Node) (why : Invalid) : Type 0 where
@@ -102,7 +103,8 @@ pub record HasStartDefect (command : Command) (old new : Option Contents) (p : P
 -- what keeps a run from its start: a name that it saves to or is resumed from is that of a source's file; or the checkpoint that it is
 -- resumed from has this first fault
 abbrev pub HasSaveDefect : Command → Option Contents → Option Contents → SaveDefect → Type 0
-HasSaveDefect command old new (saves.SameName checked number) = HasStartDefect command old new (program_of checked) (λ left. IsSameName command (program_of checked) number)
+HasSaveDefect command old new (saves.SameName checked number) = HasStartDefect command old new (program_of checked)
+    (λ left. IsSameName command (program_of checked) number)
 HasSaveDefect command old new (saves.Checkpoint fault) = (p : Program) × HasStartDefect command old new p (λ left. HasBadCheckpoint command left p fault)
 
 -- ---- the sources
@@ -127,7 +129,8 @@ pub record HasSourceFault (command : Command) (old new : Option Contents) (p : P
   pub asked : IsTrue (reads_sources command)
   pub accepted : IsTrue (asks_accepted command) → IsAccepted p
   pub source : fault.source < length p.sources
-  pub first : WhereTold old new (λ left now. HasJob (job_wanted command) left p × HasPlanAsked command left p × CanStart command left p × IsMet (how_read command) command left now p text fault)
+  pub first : WhereTold old new (λ left now. HasJob (job_wanted command) left p × HasPlanAsked command left p × CanStart command left p
+      × IsMet (how_read command) command left now p text fault)
 
 -- ---- the trace
 -- the command names a trace, nothing refuses it before that, and the trace has the ending that this fault tells

@@ -12,7 +12,8 @@ use Rattle.flu_words.specs.Words.{Command, command_in}
 use Rattle.flu_top.specs.Behind.{WantedJob, Named, Fixed, HasJob, HasPlan}
 use Rattle.flu_top.specs.Openings.{Opening, state_from}
 use Rattle.flu_top.specs.Reading.{Reading, Unread, Whole, InRounds, AreSourcesGood, HaveWritten, ReportsNext, greatest_border, lines_behind}
-use Rattle.flu_top.specs.Wants.{Saying, Nothing, Line, want, job_wanted, plan_named, save_named, resume_named, trace_named, asks_accepted, how_read, texts_named, sources_read, Writes, IsNotSaved}
+use Rattle.flu_top.specs.Wants.{Saying, Nothing, Line, want, job_wanted, plan_named, save_named, resume_named, trace_named, asks_accepted, how_read}
+use Rattle.flu_top.specs.Wants.{texts_named, sources_read, Writes, IsNotSaved}
 use Rattle.flu_top.specs.Starting.{AreNoSources, StartsFrom, CanStart, Leaves, LeavesAnything}
 use Rattle.flu_top.specs.Replaying.{ReplaysTo}
 
@@ -110,7 +111,8 @@ WroteSome InRounds command old new had has = WroteNone command old new had has �
 
 -- ONE ROUND MORE was written than is saved: behind what the rounds up to some one wrote stands the report of the next one, and of what
 -- is left under the name that the command saves to this holds of what those up to that one put
-pub record WroteUnsaved (Left : Option (List ℕ) → Contents → Contents → Type 0) (command : Command) (old new : Option Contents) (had has : Option (List ℕ)) : Type 0 where
+pub record WroteUnsaved (Left : Option (List ℕ) → Contents → Contents → Type 0) (command : Command) (old new : Option Contents)
+    (had has : Option (List ℕ)) : Type 0 where
   pub p : Program
   pub text : List ℕ
   pub more : List ℕ

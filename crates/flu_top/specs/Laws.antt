@@ -26,20 +26,24 @@ use Rattle.flu_top.specs.Reading.{InRounds, HasDefect}
 use Rattle.flu_top.specs.Replaying.{CanOnlyComplete}
 use Rattle.flu_top.specs.TextFaults.{IsFirstJobFault}
 use Rattle.flu_top.specs.Starting.{StartsFrom, CanStart}
-use Rattle.flu_top.specs.Wants.{want, job_wanted, plan_named, if_named, asks_accepted, how_read, says_nothing, texts_named, Writes, IsObservedText, IsSomePlanText}
-use Rattle.flu_top.specs.Done.{HasValidPlan, HasPlanAsked, IsGood, IsDone, WhereKnown, Wrote, WroteSome, WroteForMemory, WroteForPut, WrotePart, IsReadBy, IsSavedBy, MayBePut}
+use Rattle.flu_top.specs.Wants.{want, job_wanted, plan_named, if_named, asks_accepted, how_read, says_nothing, texts_named, Writes, IsObservedText}
+use Rattle.flu_top.specs.Wants.{IsSomePlanText}
+use Rattle.flu_top.specs.Done.{HasValidPlan, HasPlanAsked, IsGood, IsDone, WhereKnown, Wrote, WroteSome, WroteForMemory, WroteForPut, WrotePart, IsReadBy}
+use Rattle.flu_top.specs.Done.{IsSavedBy, MayBePut}
 use Rattle.flu_top.specs.Causes.{HasJobFault, HasConflict, HasPlanDefect, HasSaveDefect, HasSourceFault, HasTraceFault}
 use Rattle.flu_top.specs.Names.{source_name}
 use Rattle.flu_top.specs.Simulating.{IsLineOfRun, IsStepLine}
 use Rattle.flu_top.specs.Demos.{demo_job, demo_summary}
-use Rattle.flu_top.specs.Lines.{bad_words_line, job_fault_line, conflict_line, plan_defect_line, source_fault_line, read_fault_line, write_fault_line, no_memory_line, save_defect_line, put_fault_line, trace_fault_line}
+use Rattle.flu_top.specs.Lines.{bad_words_line, job_fault_line, conflict_line, plan_defect_line, source_fault_line, read_fault_line, write_fault_line}
+use Rattle.flu_top.specs.Lines.{no_memory_line, save_defect_line, put_fault_line, trace_fault_line}
 use Rattle.flu_top.specs.Outcome.{Outside, Said, Hears, Outcome, ReadOnly, Faults, FaultsFirst, HasFaultyTrace, CallsFor, NothingFailed, Completes}
 
 -- ---- the statuses
 -- the status is one of these
 abbrev pub KnownStatuses : Type 0
 KnownStatuses =
-    (words : List (List ℕ)) (old new : Outside) (status : ℕ) → Outcome words old new status → Contains (0 ∷ 2 ∷ 3 ∷ 4 ∷ 5 ∷ 6 ∷ 7 ∷ 8 ∷ 9 ∷ 11 ∷ 12 ∷ 13 ∷ []) status
+    (words : List (List ℕ)) (old new : Outside) (status : ℕ) → Outcome words old new status
+        → Contains (0 ∷ 2 ∷ 3 ∷ 4 ∷ 5 ∷ 6 ∷ 7 ∷ 8 ∷ 9 ∷ 11 ∷ 12 ∷ 13 ∷ []) status
 
 -- status 0: all that the command reads was read to its end, out got what it writes, and err what it says
 abbrev pub DoneIsDone : Type 0
@@ -71,7 +75,8 @@ AdaptedPlanIsHeard =
     → (job : List ℕ) (plan save resume : Option (List ℕ)) → command_in words ≡ Ok (Run job plan (record { adapt = true; save = save; resume = resume }))
     → (line : List ℕ) × IsSomePlanText line × Said old new line
     × WhereTold old.left new.left (λ left _. (p : Program) × HasJob (Named job) left p
-    × ((text : List ℕ) × Writes (Run job plan (record { adapt = false; save = save; resume = resume })) left p text × WhereTold old.out new.out (AppendsAll text))
+    × ((text : List ℕ) × Writes (Run job plan (record { adapt = false; save = save; resume = resume })) left p text
+        × WhereTold old.out new.out (AppendsAll text))
     × IsObservedText (job ∷ if_named plan) resume left p line)
 
 -- status 2 comes exactly where the words are no command
@@ -149,7 +154,8 @@ ReadFaultLine =
 -- status 8: out's count rose
 abbrev pub WriteFaultRose : Type 0
 WriteFaultRose =
-    (words : List (List ℕ)) (left : Option Contents) (before now : Faults) (status : ℕ) → FaultsFirst words left before now status → status ≡ 8 → Rose before.out now.out
+    (words : List (List ℕ)) (left : Option Contents) (before now : Faults) (status : ℕ) → FaultsFirst words left before now status → status ≡ 8
+        → Rose before.out now.out
 
 -- status 8: out got a front of what the command writes, which is not all of it. All was read; or, in rounds, what those up to some one
 -- wrote stands there, and fewer than all bytes of the next one's report
@@ -229,7 +235,8 @@ abbrev pub ResumedRunsGoOn : Type 0
 ResumedRunsGoOn =
     (p : Program) (lists : List (List Item)) (t : ℕ)
     → report p (final_outputs p nothing_held lists)
-    ≡ report p (final_outputs p nothing_held (up_to t lists)) ++ report p (final_outputs p (final_state p nothing_held (up_to t lists)) (lists_above (Some t) lists))
+    ≡ report p (final_outputs p nothing_held (up_to t lists)) ++ report p
+        (final_outputs p (final_state p nothing_held (up_to t lists)) (lists_above (Some t) lists))
 
 -- ---- demo
 -- `demo` reads no file

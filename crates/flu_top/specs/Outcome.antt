@@ -20,7 +20,8 @@ use Rattle.flu_top.specs.TextFaults.{IsFirstJobFault}
 use Rattle.flu_top.specs.Wants.{Saying, Nothing, Line, want, save_named, texts_named}
 use Rattle.flu_top.specs.Starting.{CanStart}
 use Rattle.flu_top.specs.Replaying.{ReplaysTo, CanOnlyComplete, CanNotComplete}
-use Rattle.flu_top.specs.Done.{HasValidPlan, HasPlanAsked, IsGood, IsDone, WhereKnown, Wrote, WroteSome, WroteForMemory, WroteForPut, WrotePart, IsReadName, IsReadBy, IsSavedBy, MayBePut}
+use Rattle.flu_top.specs.Done.{HasValidPlan, HasPlanAsked, IsGood, IsDone, WhereKnown, Wrote, WroteSome, WroteForMemory, WroteForPut, WrotePart, IsReadName}
+use Rattle.flu_top.specs.Done.{IsReadBy, IsSavedBy, MayBePut}
 use Rattle.flu_top.specs.Causes.{HasJobFault, HasConflict, HasPlanDefect, HasSaveDefect, HasSourceFault, HasTraceFault}
 use Rattle.flu_top.specs.Names.{source_name}
 use Rattle.flu_top.specs.Lines.{IsSaid, bad_words_line, job_fault_line, conflict_line, plan_defect_line, source_fault_line}

@@ -1,5 +1,6 @@
 -- How the rounds of a job's sources end, what they have written, what they have put, and what is said of them.
-use Rattle.std.specs.Prelude.{◌≡◌, ◌≢◌, ◌<◌, ◌-◌, ◌+◌, ◌^◌, ◌≤◌, ◌++◌, ◌⊎◌, ℕ, Bool, true, false, List, [], ◌∷◌, length, Option, Some, None, option_map, Result, Ok, Err, Contains, IsTrue, ⊤}
+use Rattle.std.specs.Prelude.{◌≡◌, ◌≢◌, ◌<◌, ◌-◌, ◌+◌, ◌^◌, ◌≤◌, ◌++◌, ◌⊎◌, ℕ, Bool, true, false, List, [], ◌∷◌, length, Option, Some, None, option_map}
+use Rattle.std.specs.Prelude.{Result, Ok, Err, Contains, IsTrue, ⊤}
 use Rattle.std.specs.Option.{option_map_or}
 use Rattle.flu_outside.specs.declared.files.PutFault.TheVariants.{Failed, NoMemory as NoMemoryToPut}
 use Rattle.flu_outside.specs.Outside.{Contents as Files, WhereTold, Rose, Puts, SameLeft, SameCounts}
@@ -190,20 +191,23 @@ pub record RanToDefect (p : Program) (o : Opening) (named : Option (List ℕ)) (
   pub source : fault.source < length p.sources
   pub text : List ℕ
   pub wrote : WhereTold c.taken c.taken_after (AppendsAll text)
-  pub met : WhereTold c.left c.left_after (λ left now. (put : Option (List ℕ)) × MeetsDefect p o (lines_in p left) text put fault × LeavesPut named [] put left now)
+  pub met : WhereTold c.left c.left_after (λ left now. (put : Option (List ℕ)) × MeetsDefect p o (lines_in p left) text put fault
+      × LeavesPut named [] put left now)
 
 -- what the rounds up to some one wrote stands in out, and what they put under the name that is saved to
 pub record RanSome (p : Program) (o : Opening) (named : Option (List ℕ)) (c : Call) : Type 0 where
   pub text : List ℕ
   pub wrote : WhereTold c.taken c.taken_after (AppendsAll text)
-  pub rounds : WhereTold c.left c.left_after (λ left now. (put : Option (List ℕ)) × HaveWritten p o (lines_in p left) text put × LeavesPut named [] put left now)
+  pub rounds : WhereTold c.left c.left_after (λ left now. (put : Option (List ℕ)) × HaveWritten p o (lines_in p left) text put
+      × LeavesPut named [] put left now)
 
 -- and a front of the next one's report
 pub record RanInto (p : Program) (o : Opening) (named : Option (List ℕ)) (c : Call) : Type 0 where
   pub text : List ℕ
   pub more : List ℕ
   pub wrote : WhereTold c.taken c.taken_after (AppendsInto text more)
-  pub round : WhereTold c.left c.left_after (λ left now. (put : Option (List ℕ)) × ReportsNext p o (lines_in p left) text put more × LeavesPut named [] put left now)
+  pub round : WhereTold c.left c.left_after (λ left now. (put : Option (List ℕ)) × ReportsNext p o (lines_in p left) text put more
+      × LeavesPut named [] put left now)
 
 -- or all of it, and its checkpoint could not be put: this holds of what is left under the name that is saved to, by what was put there
 -- before

@@ -1,4 +1,5 @@
-use Rattle.flu_top.proofs.LawsOfOutcome.{good_law, refused_job_law, refused_conflict_law, refused_plan_law, refused_start_law, refused_source_law, refused_trace_law}
+use Rattle.flu_top.proofs.LawsOfOutcome.{good_law, refused_job_law, refused_conflict_law, refused_plan_law, refused_start_law, refused_source_law}
+use Rattle.flu_top.proofs.LawsOfOutcome.{refused_trace_law}
 use Rattle.flu_top.proofs.laws.of_completeness.Goals as goal
 
 pub returns-clause-completes : goal.returns-clause-completes

@@ -1,4 +1,5 @@
-use Rattle.flu_top.proofs.LawsOfOutcome.{read_fault_law, read_fault_line_law, write_fault_law, partial_law, write_fault_line_law, put_fault_law, put_fault_round_law, no_memory_line_law}
+use Rattle.flu_top.proofs.LawsOfOutcome.{read_fault_law, read_fault_line_law, write_fault_law, partial_law, write_fault_line_law, put_fault_law}
+use Rattle.flu_top.proofs.LawsOfOutcome.{put_fault_round_law, no_memory_line_law}
 use Rattle.flu_top.proofs.laws.of_faults.Goals as goal
 
 pub returns-clause-read_fault : goal.returns-clause-read_fault

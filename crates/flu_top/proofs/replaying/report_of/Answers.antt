@@ -20,8 +20,10 @@ returns-clause-replayed g c =
     let p = program_of c.args.planned.checked in
     let left = g.F.Files.left in
     let lists = listed c.in-Ok.streams in
-    replayed_behind p (plan_of c.args.planned.valid).nodes lists c.args.trace.now (left c.args.files.now) (left c.streams_of.new.files) (left c.net_report.new.files) c.net_report.result
-    (are_read p lists _ _ c.in-Ok.ensures.good c.in-Ok.ensures.lists c.in-Ok.ensures.read_out c.streams_of.ensures.others) c.net_report.ensures.report c.net_report.ensures.complete c.net_report.ensures.end c.net_report.ensures.taken
+    replayed_behind p (plan_of c.args.planned.valid).nodes lists c.args.trace.now (left c.args.files.now) (left c.streams_of.new.files)
+        (left c.net_report.new.files) c.net_report.result
+    (are_read p lists _ _ c.in-Ok.ensures.good c.in-Ok.ensures.lists c.in-Ok.ensures.read_out c.streams_of.ensures.others) c.net_report.ensures.report
+        c.net_report.ensures.complete c.net_report.ensures.end c.net_report.ensures.taken
 
 pub returns-clause-stays : goal.returns-clause-stays
 returns-clause-stays g c =
@@ -29,7 +31,8 @@ returns-clause-stays g c =
     let left = g.F.Files.left in
     let lists = listed c.in-Ok.streams in
     stays_behind p lists c.args.trace.now (left c.args.files.now) (left c.streams_of.new.files) (left c.net_report.new.files) c.net_report.result
-    (are_read p lists _ _ c.in-Ok.ensures.good c.in-Ok.ensures.lists c.in-Ok.ensures.read_out c.streams_of.ensures.others) c.net_report.ensures.end c.net_report.ensures.taken
+    (are_read p lists _ _ c.in-Ok.ensures.good c.in-Ok.ensures.lists c.in-Ok.ensures.read_out c.streams_of.ensures.others) c.net_report.ensures.end
+        c.net_report.ensures.taken
 
 pub returns-clause-refused : goal.returns-clause-refused
 returns-clause-refused g c =
@@ -38,9 +41,11 @@ returns-clause-refused g c =
     let faults = g.F.Files.faults in
     let lists = listed c.in-Ok.streams in
     IfErr-weaker c.net_report.result _ _
-    (λ refusal refused. behind_refusal p (plan_of c.args.planned.valid).nodes lists c.args.trace.now (left c.args.files.now) (left c.streams_of.new.files) (left c.net_report.new.files)
+    (λ refusal refused. behind_refusal p (plan_of c.args.planned.valid).nodes lists c.args.trace.now (left c.args.files.now) (left c.streams_of.new.files)
+        (left c.net_report.new.files)
     (faults c.args.files.now) (faults c.streams_of.new.files) (faults c.net_report.new.files) refusal
-    (are_read p lists _ _ c.in-Ok.ensures.good c.in-Ok.ensures.lists c.in-Ok.ensures.read_out c.streams_of.ensures.others) c.net_report.ensures.taken c.streams_of.ensures.rise refused)
+    (are_read p lists _ _ c.in-Ok.ensures.good c.in-Ok.ensures.lists c.in-Ok.ensures.read_out c.streams_of.ensures.others) c.net_report.ensures.taken
+        c.streams_of.ensures.rise refused)
     c.net_report.ensures.refused
 
 pub returns-clause-fronts : goal.returns-clause-fronts
@@ -50,4 +55,5 @@ pub returns-clause-only : goal.returns-clause-only
 returns-clause-only g c =
     let p = program_of c.args.planned.checked in
     let lists = listed c.in-Ok.streams in
-    only_of_both p lists c.args.trace.now _ _ _ (are_read p lists _ _ c.in-Ok.ensures.good c.in-Ok.ensures.lists c.in-Ok.ensures.read_out c.streams_of.ensures.others) c.net_report.ensures.taken
+    only_of_both p lists c.args.trace.now _ _ _ (are_read p lists _ _ c.in-Ok.ensures.good c.in-Ok.ensures.lists c.in-Ok.ensures.read_out
+        c.streams_of.ensures.others) c.net_report.ensures.taken

@@ -8,14 +8,16 @@ use Rattle.flu_adaptive.proofs.adaptive.Adaptive.batch.Goals as goal
 pub observed_plan-requires : goal.observed_plan-requires
 observed_plan-requires g c =
     let a = c.self.inside in
-    grown_each (count_of_itags (program_of a.checked.now)) a.counts.items c.as_slice.result.now (listed c.args.s.now) c.self.invariant.0.one_each (c.as_slice.ensures.value ∙ c.count_events.ensures)
+    grown_each (count_of_itags (program_of a.checked.now)) a.counts.items c.as_slice.result.now (listed c.args.s.now) c.self.invariant.0.one_each
+        (c.as_slice.ensures.value ∙ c.count_events.ensures)
 
 pub invariant_of-self-in_err-anew : goal.invariant_of-self-in_err-anew
 invariant_of-self-in_err-anew g c =
     let a = c.self.inside in (
       record {
         valid = c.self.invariant.0.valid;
-        one_each = grown_each (count_of_itags (program_of a.checked.now)) a.counts.items c.count_events.new.counts.items (listed c.args.s.now) c.self.invariant.0.one_each c.count_events.ensures;
+        one_each = grown_each (count_of_itags (program_of a.checked.now)) a.counts.items c.count_events.new.counts.items
+            (listed c.args.s.now) c.self.invariant.0.one_each c.count_events.ensures;
       },
       refl,
       c.batch-ran.new.self.same_job ∙ ap program_of (c.batch-ran.ensures.same ∙ c.new-engine.ensures),
@@ -26,7 +28,8 @@ invariant_of-self-2 g c =
     let a = c.self.inside in (
       record {
         valid = c.in_ok-anew.ensures.of;
-        one_each = grown_each (count_of_itags (program_of a.checked.now)) a.counts.items c.count_events.new.counts.items (listed c.args.s.now) c.self.invariant.0.one_each c.count_events.ensures;
+        one_each = grown_each (count_of_itags (program_of a.checked.now)) a.counts.items c.count_events.new.counts.items
+            (listed c.args.s.now) c.self.invariant.0.one_each c.count_events.ensures;
       },
       refl,
       c.batch-ran.new.self.same_job ∙ ap program_of (c.batch-ran.ensures.same ∙ c.new-engine.ensures),
