@@ -36,7 +36,7 @@ counted_own : (i low : ℕ) (items : List Item) → is_stream_from i low items �
 counted_own i low [] e = refl
 counted_own i low (EventItem x ∷ items) e =
     let rest : count_of_itag (events_of items) i ≡ length (events_of items) =
-        counted_own i (x.time + 1) items (and_right ((x.itag.0 == i) && nat_le low x.time) (is_stream_from i (x.time + 1) items) e) in
+    counted_own i (x.time + 1) items (and_right ((x.itag.0 == i) && nat_le low x.time) (is_stream_from i (x.time + 1) items) e) in
     let here = count_by-cons (of_itag i) x (events_of items) true (same_itag x i _ _ e) in
     omega (arith, here, rest)
 counted_own i low (Beat t ∷ items) e = counted_own i (t + 1) items (and_right _ _ e)
@@ -47,7 +47,7 @@ counted_other : (i j low : ℕ) (items : List Item) → (j ≡ i → ⊥) → is
 counted_other i j low [] apart e = refl
 counted_other i j low (EventItem x ∷ items) apart e =
     let rest : count_of_itag (events_of items) i ≡ 0 = counted_other i j (x.time + 1) items apart
-        (and_right ((x.itag.0 == j) && nat_le low x.time) (is_stream_from j (x.time + 1) items) e) in
+    (and_right ((x.itag.0 == j) && nat_le low x.time) (is_stream_from j (x.time + 1) items) e) in
     let here = count_by-cons (of_itag i) x (events_of items) false (other_itag i j x.itag.0 (same_itag x j _ _ e) apart) in
     omega (arith, here, rest)
 counted_other i j low (Beat t ∷ items) apart e = counted_other i j (t + 1) items apart (and_right _ _ e)

@@ -11,7 +11,7 @@ use Rattle.flu_streams.specs.Counts.{count_of_itag, counted_on, grown_by, grown}
 -- counts that have grown are known by their places
 pub grown_places : (itag : ℕ) (counts new : List ℕ) (events : List Event) → length new ≡ length counts
     → ((k : ℕ) → k < length counts → slice_index new k ≡ counted_on (slice_index counts k) (count_of_itag events (itag + k)))
-        → new ≡ grown_by itag counts events
+    → new ≡ grown_by itag counts events
 grown_places itag [] [] events long each = refl
 grown_places itag [] (n ∷ new) events long each = absurd (omega arith)
 grown_places itag (count ∷ counts) [] events long each = absurd (omega arith)
@@ -20,7 +20,7 @@ grown_places itag (count ∷ counts) (n ∷ new) events long each =
     let here : n ≡ counted_on count (count_of_itag events itag) = each 0 (omega arith) ∙ ap (λ i. counted_on count (count_of_itag events i)) first in
     let rest : new ≡ grown_by (suc itag) counts events =
     grown_places (suc itag) counts new events (omega arith) (λ k lt. each (suc k) (omega arith)
-        ∙ ap (λ i. counted_on (slice_index counts k) (count_of_itag events i)) (omega arith)) in
+    ∙ ap (λ i. counted_on (slice_index counts k) (count_of_itag events i)) (omega arith)) in
     λ i. here i ∷ rest i
 
 length-grown : (itag : ℕ) (counts : List ℕ) (events : List Event) → length (grown_by itag counts events) ≡ length counts
@@ -58,4 +58,4 @@ one_more number events old now count more grew lt is many = record {
 pub all_grown : (number : ℕ) (events : List Event) (old now : List ℕ) → HaveGrownTo number events old now → number ≡ length old → now ≡ grown_by 0 old events
 all_grown number events old now grew all =
     grown_places 0 old now events grew.len (λ k lt. grew.done k (omega (arith, lt, all))
-        ∙ ap (λ i. counted_on (slice_index old k) (count_of_itag events i)) (omega arith))
+    ∙ ap (λ i. counted_on (slice_index old k) (count_of_itag events i)) (omega arith))

@@ -45,9 +45,13 @@ fault_of_whole p name bytes f.NoMemory x y whole is = tt
 has_fault : (p : Program) (name bytes : List ℕ) (fault : SaveFault) (a b : Option Contents) → fault ≢ f.NoMemory
     → WhereTold a b (TookWhole name most_bytes bytes) → IsFaultOf p bytes fault
     → (name' : List ℕ) × (Some name ≡ Some name') × (fault ≢ f.NoMemory) × WhereTold a b (λ left _. IsFaultOf p (bytes_left left name') fault)
-has_fault p name bytes fault a b other whole is =
-    (name, refl, other, told_weaker (TookWhole name most_bytes bytes) (λ left _. IsFaultOf p (bytes_left left name) fault) a b
-        (λ x y w. fault_of_whole p name bytes fault x y w is) whole)
+has_fault p name bytes fault a b other whole is = (
+  name,
+  refl,
+  other,
+  told_weaker (TookWhole name most_bytes bytes) (λ left _. IsFaultOf p (bytes_left left name) fault) a b
+      (λ x y w. fault_of_whole p name bytes fault x y w is) whole,
+)
 
 pub checkpoint_is_refused : (p : Program) (name bytes : List ℕ) (fault : SaveFault) (a b : Option Contents) (before now : List ℕ → ℕ)
     → WhereTold a b (TookWhole name most_bytes bytes) → IsFaultOf p bytes fault
@@ -115,12 +119,12 @@ no_file (x ∷ xs) name none found = by_test (has_file name x) refl (contains_ca
         → (position (has_file name) xs ≡ None → ¬ Contains (files_of xs) name) → ⊥
     by_test true here either later = not_both 0
         (sym (ap (λ (b : Bool). cond b (Some 0) (option_map (λ (i : ℕ). i + 1) (position (has_file name) xs))) here)
-            ∙ sym (position-cons (has_file name) x xs) ∙ none)
+        ∙ sym (position-cons (has_file name) x xs) ∙ none)
     by_test false other (inl same) later = false≢true (sym other ∙ (bytes_eq-Decides x.file name).1 same)
     by_test false other (inr among) later =
         later (rest_none (position (has_file name) xs)
         (sym (ap (λ (b : Bool). cond b (Some 0) (option_map (λ (i : ℕ). i + 1) (position (has_file name) xs))) other)
-            ∙ sym (position-cons (has_file name) x xs) ∙ none)) among
+        ∙ sym (position-cons (has_file name) x xs) ∙ none)) among
 
 -- the source of the name that a run is resumed from, where it saves to that of none
 pub resumed_name : (r : Option ℕ) (p : Program) (options : RunOptions) → IsNoSource options.save p → IfSome r (IsFileOf options.resume p)

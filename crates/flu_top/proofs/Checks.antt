@@ -21,8 +21,14 @@ is_checked job p text a b read checked =
     told_weaker (IsJobRead job p) (IsWritten (Check job) text []) a b (λ x y whole. (
       p,
       record {
-        good = record { has = whole.has; accepted = λ asked. checked.accepted; plan = λ plan named. absurd (cc); start =
-            can_start (Check job) x p (record { save = refl; resume = refl }); sources = tt };
+        good = record {
+          has = whole.has;
+          accepted = λ asked. checked.accepted;
+          plan = λ plan named. absurd (cc);
+          start =
+              can_start (Check job) x p (record { save = refl; resume = refl });
+          sources = tt;
+        };
         ends = λ name found apart. ap y (sym (only_one job name found)) ∙ whole.end;
         trace = λ trace named. absurd (cc);
         saved = has_saved (Check job) p x y (record { save = refl; resume = refl });

@@ -35,7 +35,7 @@ use Rattle.flu_top.specs.Replaying.{ReplaysTo, CanOnlyComplete}
 use Rattle.flu_top.specs.Causes.{IsJobRead, HasJobFault, HasConflict, HasPlanDefect, HasSaveDefect, IsMet, HasSourceFault, HasTraceFault}
 use Rattle.flu_top.specs.Outcome.{Outside, Outcome, Faults, FaultsFirst, HasFaultyTrace, CallsFor, NothingFailed, Completes}
 use Rattle.flu_top.specs.Outcome as cases
-use Rattle.flu_top.proofs.Commands.{same_command, no_command}
+use Rattle.flu_top.proofs.OneCommand.{same_command, no_command}
 use Rattle.flu_top.proofs.Defects.{good_or_bad, met_defect}
 use Rattle.flu_top.proofs.SameJob.{same_good}
 use Rattle.flu_top.proofs.SameAcceptance.{same_accepted}
@@ -97,7 +97,7 @@ module _ (laws : LawsBelow) where
       → AreSourcesGood (how_read command) (texts_named command) left p → HasDefect (how_read command) (texts_named command) left q → ⊥
   no_defect command left p q first second good bad =
       good_or_bad (how_read command) (texts_named command) left q (same_good (how_read command) (texts_named command) left p q
-          (same_job laws.jobs (job_wanted command) left p q first second) good) bad
+      (same_job laws.jobs (job_wanted command) left p q first second) good) bad
 
   accepted_of_text : (job : WantedJob) (left : Contents) (p q : Program) → HasJob job left p → HasJob job left q → IsAccepted p → IsAccepted q
   accepted_of_text job left p q first second = same_accepted p q (same_job laws.jobs job left p q first second)
@@ -268,7 +268,7 @@ module _ (laws : LawsBelow) where
       settled a 6 ((leads command left a first).source p accepted has valid start bad) (λ e. omega (arith, e)) ∙ sym is
   one_status command left a b first (cases.FaultyTrace is faulty) =
       settled a 13 ((leads command left a first).trace faulty.p faulty.trace faulty.ending faulty.named faulty.good faulty.ends
-          (other_ending command left faulty)) (λ e. omega (arith, e)) ∙ sym is
+      (other_ending command left faulty)) (λ e. omega (arith, e)) ∙ sym is
 
   -- ---- the outcome
   -- what each outcome shows of the files
@@ -276,25 +276,25 @@ module _ (laws : LawsBelow) where
       → Leads wanted command left → HasPlanDefect command old new defect → IsStatus wanted 5
   by_defect wanted command left old new (defects.Text fault) told leads why =
       let found = of_told (λ old _. HasJob (job_wanted command) old why.program
-          × (plan_in why.program (plan_behind (job_wanted command) why.plan old) ≡ Err fault)) left old new told why.first in
+      × (plan_in why.program (plan_behind (job_wanted command) why.plan old) ≡ Err fault)) left old new told why.first in
       leads.plan why.plan why.program why.asked why.accepted found.1.0 (faulty_text (job_wanted command) why.plan left why.program fault found.1.1)
   by_defect wanted command left old new (defects.Invalid checked fault) told leads why =
       let found = of_told (λ old _. HasJob (job_wanted command) old (program_of checked)
-          × HasPlan (job_wanted command) why.plan old (program_of checked) fault.plan.nodes) left old new told why.text in
+      × HasPlan (job_wanted command) why.plan old (program_of checked) fault.plan.nodes) left old new told why.text in
       leads.plan why.plan (program_of checked) why.asked why.accepted found.1.0
-          (invalid_plan (job_wanted command) why.plan left (program_of checked) fault.plan.nodes why.invalid.refused found.1.1)
+      (invalid_plan (job_wanted command) why.plan left (program_of checked) fault.plan.nodes why.invalid.refused found.1.1)
 
   by_start : (wanted : ℕ) (command : Command) (left : Contents) (old new : Option Contents) (defect : SaveDefect) → old ≡ Some left
       → Leads wanted command left → HasSaveDefect command old new defect → IsStatus wanted 11
   by_start wanted command left old new (starts.SameName checked number) told leads why =
       let p = program_of checked in
       let found = (of_told (λ old _. HasJob (job_wanted command) old p × HasPlanAsked command old p × IsSameName command p number) left old new told
-          why.first).1 in
+      why.first).1 in
       leads.start p why.accepted found.0 found.1 (same_name_stops command left p number found.2)
   by_start wanted command left old new (starts.Checkpoint fault) told leads why =
       let p = why.0 in
       let found = (of_told (λ old _. HasJob (job_wanted command) old p × HasPlanAsked command old p × HasBadCheckpoint command old p fault) left old new told
-          why.1.first).1 in
+      why.1.first).1 in
       leads.start p why.1.accepted found.0 found.1 (bad_checkpoint_stops laws.saves command left p fault found.2)
 
   by_case : (words : List (List ℕ)) (old new : Outside) (before now : Faults) (status wanted : ℕ) (command : Command) (left : Contents)
@@ -312,13 +312,13 @@ module _ (laws : LawsBelow) where
       let same = same_command words other command also word in
       let has = subst (λ (d : Command). HasJobFault (job_wanted d) old.left new.left fault) same why in
       subst (IsStatus wanted) (sym is) (leads.job has.name fault has.named
-          (of_told (λ old _. job_in (bytes_left old has.name) ≡ Err fault) left old.left new.left told has.first).1)
+      (of_told (λ old _. job_in (bytes_left old has.name) ≡ Err fault) left old.left new.left told has.first).1)
   by_case words old new before now status wanted command left (cases.Conflicts is other also fault why refused) faults word told nothing leads =
       let same = same_command words other command also word in
       let has = subst (λ (d : Command). HasConflict d old.left new.left fault) same why in
       let read = of_told (IsJobRead has.name fault.program) left old.left new.left told has.job in
       subst (IsStatus wanted) (sym is) (leads.conflict fault.program has.asked has.conflict.refused
-          (subst (λ (job : WantedJob). HasJob job left fault.program) (sym has.named) read.1.has))
+      (subst (λ (job : WantedJob). HasJob job left fault.program) (sym has.named) read.1.has))
   by_case words old new before now status wanted command left (cases.BadPlan is other also defect why refused) faults word told nothing leads =
       let same = same_command words other command also word in
       let has = subst (λ (d : Command). HasPlanDefect d old.left new.left defect) same why in
@@ -327,7 +327,7 @@ module _ (laws : LawsBelow) where
       let same = same_command words other command also word in
       let has = subst (λ (d : Command). HasSourceFault d old.left new.left p fault text) same why in
       let found = of_told (λ old new. HasJob (job_wanted command) old p × HasPlanAsked command old p × CanStart command old p
-          × IsMet (how_read command) command old new p text fault) left old.left new.left told has.first in
+      × IsMet (how_read command) command old new p text fault) left old.left new.left told has.first in
       subst (IsStatus wanted) (sym is)
       (leads.source p has.accepted found.1.0 found.1.1 found.1.2 (met_defect laws.meeting (how_read command) command left found.0 p text fault found.1.3))
   by_case words old new before now status wanted command left (cases.ReadFailed is other also some said) faults word told nothing leads =

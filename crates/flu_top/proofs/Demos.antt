@@ -24,8 +24,14 @@ use Rattle.flu_top.proofs.Sequence.{none_among, can_start, has_saved}
 
 pub is_demo_job : (p : Program) → IsDemoJob p → job_of p ≡ demo_job
 is_demo_job p demo =
-    λ i. record { version = demo.version i; families = demo.families i; kinds = map plain_kind (demo.kinds i); depends = demo.depends i; sources =
-        demo.sources i }
+    λ i. record {
+      version = demo.version i;
+      families = demo.families i;
+      kinds = map plain_kind (demo.kinds i);
+      depends = demo.depends i;
+      sources =
+          demo.sources i;
+    }
 
 -- the summary of the report of the streams
 pub is_summary : (n seed events : ℕ) (p : Program) (lists : List (List Item)) (report text : List ℕ) → lists ≡ demo_lists n seed
@@ -43,8 +49,14 @@ pub is_shown : (n seed : ℕ) (p : Program) (text : List ℕ) (left : Contents) 
 is_shown n seed p text left demo accepted is = (
   p,
   record {
-    good = record { has = is_demo_job p demo; accepted = λ asked. accepted; plan = λ plan named. absurd (cc); start =
-        can_start (Demo n seed) left p (record { save = refl; resume = refl }); sources = tt };
+    good = record {
+      has = is_demo_job p demo;
+      accepted = λ asked. accepted;
+      plan = λ plan named. absurd (cc);
+      start =
+          can_start (Demo n seed) left p (record { save = refl; resume = refl });
+      sources = tt;
+    };
     ends = λ name found apart. absurd (none_among name found);
     trace = λ trace named. absurd (cc);
     saved = has_saved (Demo n seed) p left left (record { save = refl; resume = refl });

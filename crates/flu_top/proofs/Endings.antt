@@ -64,8 +64,11 @@ stopped c command (refusals.Conflict fault) why leaves nothing = (why, nothing)
 stopped c command (refusals.PlanDefect defect) why leaves nothing = (why, nothing)
 stopped c command (refusals.SourceFault job fault) why leaves nothing =
     record { text = []; why = why; wrote = wrote_none (how_read command) c.taken c.taken_after nothing }
-stopped c command refusals.ReadFault why leaves nothing = record { why = why; wrote =
-    some_none (how_read command) command c.left c.left_after c.taken c.taken_after leaves nothing }
+stopped c command refusals.ReadFault why leaves nothing = record {
+  why = why;
+  wrote =
+      some_none (how_read command) command c.left c.left_after c.taken c.taken_after leaves nothing;
+}
 stopped c command refusals.WriteFault why leaves nothing = absurd why
 stopped c command refusals.NoMemory why leaves nothing = inl (some_none (how_read command) command c.left c.left_after c.taken c.taken_after leaves nothing)
 stopped c command (refusals.SaveDefect defect) why leaves nothing = (why, nothing)
@@ -89,7 +92,7 @@ put_part c command product refusal other written is = subst (IsStopped c command
   rose = is.rose;
   partly = part_of_all (how_read command) command c.left c.left_after c.taken c.taken_after other
       (known_weaker (job_wanted command) (IsWritten command product.text (line_said product.says))
-          (IsPartlyDone command c.taken c.taken_after) c.left c.left_after
+      (IsPartlyDone command c.taken c.taken_after) c.left c.left_after
       (λ x y w. (w.0, product.text, w.1, w.2, is.part)) written);
 })
 
@@ -150,10 +153,10 @@ fronts_wider words command status a b is fronts =
 
 pub only_wider : (words : List (List ℕ)) (command : Command) (status : ℕ) (a b : Option Contents) → command_in words ≡ Ok command
     → WhereTold a b (TookOnly (λ name. IsReadName a command name ⊎ IsPutAt command status name))
-        → WhereTold a b (TookOnly (λ name. IsReadBy words a name ⊎ MayBePut words status name))
+    → WhereTold a b (TookOnly (λ name. IsReadBy words a name ⊎ MayBePut words status name))
 only_wider words command status a b is only =
     told_weaker (TookOnly (λ name. IsReadName a command name ⊎ IsPutAt command status name))
-        (TookOnly (λ name. IsReadBy words a name ⊎ MayBePut words status name)) a b
+    (TookOnly (λ name. IsReadBy words a name ⊎ MayBePut words status name)) a b
     (λ x y took name untouched. took name (λ touched. untouched (elim touched [ inl read ↦ inl (command, is, read) | inr put ↦ inr (command, is, put) ]))) only
 
 -- ---- which ending has a status

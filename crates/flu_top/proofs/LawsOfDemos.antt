@@ -17,7 +17,7 @@ use Rattle.flu_top.specs.Done.{IsDone, WhereKnown, WroteForPut, IsReadName}
 use Rattle.flu_top.specs.Laws.{DemoReadsNothing, DemoStatuses, DemoIsDone}
 use Rattle.flu_top.specs.Outcome as cases
 use Rattle.flu_top.specs.Wants.{job_wanted, save_named, resume_named}
-use Rattle.flu_top.proofs.Commands.{same_command, no_command, not_named}
+use Rattle.flu_top.proofs.OneCommand.{same_command, no_command, not_named}
 use Rattle.flu_top.proofs.Statuses.{at_0}
 
 fixed_has_no_name : (job : Job) (name : List ℕ) → Fixed job ≡ Named name → ⊥
@@ -57,7 +57,7 @@ statuses_law words old new status before now (cases.Conflicts is command also fa
     absurd (fixed_has_no_name demo_job why.name why.named)
 statuses_law words old new status before now (cases.BadPlan is command also defect has refused) faults n seed word =
     absurd (no_defect n seed old.left new.left defect (subst (λ (d : Command). HasPlanDefect d old.left new.left defect)
-        (same_command words command (Demo n seed) also word) has))
+    (same_command words command (Demo n seed) also word) has))
 statuses_law words old new status before now (cases.BadSource is command also p fault text has wrote said) faults n seed word =
     let why = subst (λ (d : Command). HasSourceFault d old.left new.left p fault text) (same_command words command (Demo n seed) also word) has in
     absurd (false≢true why.asked)
@@ -67,7 +67,7 @@ statuses_law words old new status before now (cases.WriteFailed is command also 
 statuses_law words old new status before now (cases.NoMemory is command also some said) faults n seed word = (2, omega arith, sym is)
 statuses_law words old new status before now (cases.BadSave is command also defect has refused) faults n seed word =
     absurd (no_save_defect n seed old.left new.left defect (subst (λ (d : Command). HasSaveDefect d old.left new.left defect)
-        (same_command words command (Demo n seed) also word) has))
+    (same_command words command (Demo n seed) also word) has))
 statuses_law words old new status before now (cases.PutFailed is command also some said) faults n seed word =
     absurd ((subst (λ (d : Command). WroteForPut d old.left new.left old.out new.out) (same_command words command (Demo n seed) also word) some).saves refl)
 statuses_law words old new status before now (cases.BadTrace is command also fault has refused) faults n seed word =

@@ -108,7 +108,7 @@ fronts_law words old new status read none =
 pub only_law : NoOtherIsRead
 only_law words old new status read =
     told_weaker (TookOnly (λ name. IsReadBy words old name ⊎ MayBePut words status name))
-        (TookOnly (λ name. IsReadBy words old name ⊎ IsSavedBy words name)) old new
+    (TookOnly (λ name. IsReadBy words old name ⊎ IsSavedBy words name)) old new
     (λ x y took name other. took name (λ either. other (saved_if_put name either))) read.only
   where
     saved_if_put : (name : List ℕ) → IsReadBy words old name ⊎ MayBePut words status name → IsReadBy words old name ⊎ IsSavedBy words name

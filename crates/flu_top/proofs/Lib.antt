@@ -1,4 +1,4 @@
-pub mod Commands
+pub mod OneCommand
 pub mod Written
 pub mod WrittenConflicts
 pub mod WrittenPlans

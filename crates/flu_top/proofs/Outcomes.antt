@@ -62,7 +62,7 @@ outcome_of words c err err_after count count_after ended ends heard = elim ends.
         → IsHeard ended err err_after count count_after → Outcome words (before c err count) (behind c err_after count_after) (status_after ended)
     by_ended command word (Ok said) ending heard =
         cases.Done refl command word (line_said said) ending.done (hears (want command).says said (before c err count)
-            (behind c err_after count_after) ending.may_say heard)
+        (behind c err_after count_after) ending.may_say heard)
     by_ended command word (Err refusal) ending heard = by_refusal command word refusal ending heard
 
 pub faults_of : (words : List (List ℕ)) (c : Call) (ended : Result (Option Said) Refusal) → Ends words c ended

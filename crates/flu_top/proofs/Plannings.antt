@@ -15,8 +15,14 @@ is_planned job depth p text a b read planned =
     told_weaker (IsJobRead job p) (IsWritten (Plan job depth) text []) a b (λ x y whole. (
       p,
       record {
-        good = record { has = whole.has; accepted = λ asked. planned.accepted; plan = λ plan named. absurd (cc); start =
-            can_start (Plan job depth) x p (record { save = refl; resume = refl }); sources = tt };
+        good = record {
+          has = whole.has;
+          accepted = λ asked. planned.accepted;
+          plan = λ plan named. absurd (cc);
+          start =
+              can_start (Plan job depth) x p (record { save = refl; resume = refl });
+          sources = tt;
+        };
         ends = λ name found apart. ap y (sym (only_one job name found)) ∙ whole.end;
         trace = λ trace named. absurd (cc);
         saved = has_saved (Plan job depth) p x y (record { save = refl; resume = refl });

@@ -103,14 +103,14 @@ on_net p nodes lists trace k a b ending of replayed =
 pub told_on_net : (p : Program) (nodes : List Node) (lists : List (List Item)) (trace : List ℕ) (k : Content) (a b : Option Contents) (told : Option Ending)
     → setting_of k ≡ from_nothing p nodes lists
     → IfSome told (λ ending. WhereTold a b (λ left _. IsReplayed k (bytes_left left trace) ending))
-        → IfSome told (λ ending. WhereTold a b (λ left _. EndsOnNet p nodes lists (bytes_left left trace) ending))
+    → IfSome told (λ ending. WhereTold a b (λ left _. EndsOnNet p nodes lists (bytes_left left trace) ending))
 told_on_net p nodes lists trace k a b None of replayed = tt
 told_on_net p nodes lists trace k a b (Some ending) of replayed = on_net p nodes lists trace k a b ending of replayed
 
 pub net_refusal : (p : Program) (nodes : List Node) (lists : List (List Item)) (trace : List ℕ) (a b : Option Contents) (before now : List ℕ → ℕ)
     (fault : ReplayFault)
     → IfSome (ending_of fault) (λ ending. WhereTold a b (λ left _. EndsOnNet p nodes lists (bytes_left left trace) ending))
-        → (fault ≡ traces.ReadFault → Rose (before trace) (now trace))
+    → (fault ≡ traces.ReadFault → Rose (before trace) (now trace))
     → IsNetRefusal p nodes lists trace a b before now (refusal_of_replay fault)
 net_refusal p nodes lists trace a b before now (traces.Bad line) ends rose = (_, refl, ends)
 net_refusal p nodes lists trace a b before now (traces.NotEnabled line) ends rose = (_, refl, ends)
@@ -145,7 +145,7 @@ trace_stays trace y z end taken name ended = elim (same_or_apart name trace) [ i
 pub replayed_behind : (p : Program) (nodes : List Node) (lists : List (List Item)) (trace : List ℕ) (a b c : Option Contents)
     (result : Result (List ℕ) Refusal) → WhereTold a b (AreRead p lists)
     → IfOk result (λ (text : List ℕ). text ≡ report p (final_outputs p nothing_held lists))
-        → OnOk result (WhereTold b c (λ left _. EndsOnNet p nodes lists (bytes_left left trace) Complete))
+    → OnOk result (WhereTold b c (λ left _. EndsOnNet p nodes lists (bytes_left left trace) Complete))
     → OnOk result (IsReadOut trace c) → WhereTold b c (TakesFrom trace) → IfOk result (λ (text : List ℕ). WhereTold a c (IsReplayDone p nodes trace text))
 replayed_behind p nodes lists trace a b c (Err refusal) read is complete end taken = tt
 replayed_behind p nodes lists trace None None None (Ok text) read is complete end taken = tt
@@ -178,7 +178,7 @@ pub only_of_sources : (p : Program) (trace : List ℕ) (a b : Option Contents) �
     → WhereTold a b (λ x z. TookOnly (IsReadIn p trace x) x z)
 only_of_sources p trace a b others =
     told_weaker (LeavesOthers (files_of p.sources)) (λ x z. TookOnly (IsReadIn p trace x) x z) a b
-        (λ x z left name unread. left name (λ found. unread (inl found))) others
+    (λ x z left name unread. left name (λ found. unread (inl found))) others
 
 pub only_of_both : (p : Program) (lists : List (List Item)) (trace : List ℕ) (a b c : Option Contents) → WhereTold a b (AreRead p lists)
     → WhereTold b c (TakesFrom trace)
@@ -191,15 +191,18 @@ only_of_both p lists trace a b c read taken =
 pub behind_refusal : (p : Program) (nodes : List Node) (lists : List (List Item)) (trace : List ℕ) (a b c : Option Contents) (k l m : List ℕ → ℕ)
     (refusal : Refusal)
     → WhereTold a b (AreRead p lists) → WhereTold b c (TakesFrom trace) → ((n : List ℕ) → k n ≤ l n) → IsNetRefusal p nodes lists trace b c l m refusal
-        → IsReplayRefusal p nodes trace a c k m refusal
+    → IsReplayRefusal p nodes trace a c k m refusal
 behind_refusal p nodes lists trace a b c k l m (refusals.BadWords bad) read taken rise is = is
 behind_refusal p nodes lists trace a b c k l m (refusals.JobFault fault) read taken rise is = is
 behind_refusal p nodes lists trace a b c k l m (refusals.Conflict fault) read taken rise is = is
 behind_refusal p nodes lists trace a b c k l m (refusals.PlanDefect defect) read taken rise is = is
 behind_refusal p nodes lists trace a b c k l m (refusals.SourceFault job fault) read taken rise is = absurd is
 behind_refusal p nodes lists trace a b c k l m refusals.ReadFault read taken rise is =
-    inr (told_then (AreRead p lists) (TakesFrom trace) (λ left _. first_fault p left ≡ None) a b c (λ x y z first second. first.0) read taken, rose_behind
-        (k trace) (l trace) (m trace) (rise trace) is)
+    inr (
+      told_then (AreRead p lists) (TakesFrom trace) (λ left _. first_fault p left ≡ None) a b c (λ x y z first second. first.0) read taken,
+      rose_behind
+          (k trace) (l trace) (m trace) (rise trace) is,
+    )
 behind_refusal p nodes lists trace a b c k l m refusals.WriteFault read taken rise is = is
 behind_refusal p nodes lists trace a b c k l m refusals.NoMemory read taken rise is = tt
 behind_refusal p nodes lists trace a b c k l m (refusals.SaveDefect defect) read taken rise is = absurd is
@@ -238,7 +241,7 @@ module _ (job plan trace : List ℕ) (p : Program) (nodes : List Node) (a b c : 
       → WhereTold a c (IsWritten (Replay job plan trace) text [])
   is_replayed text done stays =
       told_then (λ x y. IsReady (Replay job plan trace) p x y × HasNodes job plan p nodes x y) (λ y z. IsReplayDone p nodes trace text y z × StaysEnded y z)
-          (IsWritten (Replay job plan trace) text []) a b c
+      (IsWritten (Replay job plan trace) text []) a b c
       (λ x y z first second. (
         p,
         read_at (Replay job plan trace) p x y z refl (λ asked. accepted) (no_checkpoint job plan trace) first.0 second.0.reported.read second.1
@@ -247,7 +250,7 @@ module _ (job plan trace : List ℕ) (p : Program) (nodes : List Node) (a b c : 
         refl,
       ))
       (told_both (IsReady (Replay job plan trace) p) (HasNodes job plan p nodes) a b ready found)
-          (told_both (IsReplayDone p nodes trace text) StaysEnded b c done stays)
+      (told_both (IsReplayDone p nodes trace text) StaysEnded b c done stays)
 
   pub replayed : (result : Result (List ℕ) Refusal) → IfOk result (λ (text : List ℕ). WhereTold b c (IsReplayDone p nodes trace text))
       → OnOk result (WhereTold b c StaysEnded)
@@ -294,8 +297,11 @@ module _ (job plan trace : List ℕ) (p : Program) (nodes : List Node) (a b c : 
     first = told_then (λ x y. IsReady (Replay job plan trace) p x y × HasNodes job plan p nodes x y)
         (λ left _. (first_fault p left ≡ None) × EndsBehind p nodes trace left is.0)
         (λ left _. IsGood (Replay job plan trace) left p × ReplaysTo (Replay job plan trace) trace left p is.0) a b c
-        (λ x y z first second. (good_at (Replay job plan trace) p x y refl (λ asked. accepted)
-            (no_checkpoint job plan trace) first.0 second.0, replays_at x y is.0 first.0 first.1 second.1))
+        (λ x y z first second. (
+          good_at (Replay job plan trace) p x y refl (λ asked. accepted)
+              (no_checkpoint job plan trace) first.0 second.0,
+          replays_at x y is.0 first.0 first.1 second.1,
+        ))
         (told_both (IsReady (Replay job plan trace) p) (HasNodes job plan p nodes) a b ready found) is.2;
   }
 
@@ -309,7 +315,7 @@ only_replayed job plan trace p (Some x) None c accepted ready only = absurd read
 only_replayed job plan trace p (Some x) (Some y) None accepted ready only = only
 only_replayed job plan trace p (Some x) (Some y) (Some z) accepted ready only = λ name unread.
     only name (λ found. unread (behind name found)) ∙ ready.texts.others name
-        (λ found. unread (text_is_read (Replay job plan trace) p (Some x) (Some y) (λ asked. accepted) apart ready name found))
+    (λ found. unread (text_is_read (Replay job plan trace) p (Some x) (Some y) (λ asked. accepted) apart ready name found))
   where
     apart : AreNoSources (Replay job plan trace) p
     apart = no_sources (Replay job plan trace) p (no_checkpoint job plan trace)

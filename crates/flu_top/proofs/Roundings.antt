@@ -127,7 +127,7 @@ plan_told false p o counts line P Q a d e all later counted is = told_weaker P
     (λ left now. IsPlanSaid false p (grown (no_counts p) (all_lists p o left)) line) a e (λ v f known. is) all
 plan_told true p o counts line P Q a d e all later counted is =
     told_then (λ was is. counts ≡ grown (no_counts p) (all_lists p o was)) Q
-        (λ left now. IsPlanSaid true p (grown (no_counts p) (all_lists p o left)) line) a d e
+    (λ left now. IsPlanSaid true p (grown (no_counts p) (all_lists p o left)) line) a d e
     (λ v r f same known. subst (λ (ns : List ℕ). IsPlanSaid true p ns line) same is) (counted refl) later
 
 -- what is said of the counts of an engine is said of those of its job
@@ -165,7 +165,7 @@ nothing_put (Some name) (Some bytes) left none = absurd (cc)
 pub rounds_start : (adapts : Bool) (p : Program) (note : AdaptiveNote) (o : Opening) (named : Option (List ℕ)) (a : Option Files) (k s : List ℕ → ℕ)
     (had : Option (List ℕ)) (x : ℕ) (now : Standing)
     → LawOfBeginningFrom o.border o.cells → program_of note.checked ≡ p → note.adapts ≡ adapts → note.counts ≡ no_counts p
-        → IsFirstFrom p rows_in_round o.border o.cells now
+    → IsFirstFrom p rows_in_round o.border o.cells now
     → GoesOn adapts p note o named (call a a k k s s had had x x) now
 rounds_start adapts p note o named a k s had x now beginning engine adapting none first =
     let begun = beginning p rows_in_round a now first in
@@ -179,7 +179,7 @@ rounds_start adapts p note o named a k s had x now beginning engine adapting non
       wrote = told_same (AppendsAll []) had (λ bytes. sym (append-nil bytes));
       leaves = told_same (LeavesPut named [] (put_behind p begun.0.done now.held.border (held now.state))) a
           (λ left. nothing_put named (put_behind p begun.0.done now.held.border (held now.state)) left
-              (ap (λ done. put_behind p done now.held.border (held now.state)) begun.1));
+          (ap (λ done. put_behind p done now.held.border (held now.state)) begun.1));
       within = stays_at_start p named a k s had x;
       quiet = refl;
       puts = λ n. refl;
@@ -198,8 +198,17 @@ some_at_start none p o named a k s had x = (
     wrote = told_same (AppendsAll []) had (λ bytes. sym (append-nil bytes));
     rounds = told_same (λ left now. (put : Option (List ℕ)) × HaveWritten p o (lines_in p left) [] put × LeavesPut named [] put left now) a (λ left. (
       None,
-      record { border = o.border; ran = record { done = []; before = λ i. []; comes = Starts (λ i. []) (λ i. refl); text =
-          start_text none p o.border o.cells }; saved = refl },
+      record {
+        border = o.border;
+        ran = record {
+          done = [];
+          before = λ i. [];
+          comes = Starts (λ i. []) (λ i. refl);
+          text =
+              start_text none p o.border o.cells;
+        };
+        saved = refl;
+      },
       nothing_put named None left refl,
     ));
   },
@@ -237,7 +246,7 @@ pub record IsHalted (old : Standing) (c : Call) (f : RoundsFault) : Type 0 where
   pub nothing : f ≢ WriteFault → c.taken_after ≡ c.taken
   pub part : f ≡ WriteFault → (before : ℕ → List Next) → AreHeldBehind old.held before
       → (end : Border) × (now : ℕ → List Next) × IsRoundOf old c.left c.left_after end before now
-          × WhereTold c.taken c.taken_after (AppendsPart (round_report old end now))
+      × WhereTold c.taken c.taken_after (AppendsPart (round_report old end now))
   pub failed : f ≡ WriteFault → Rose c.count c.count_after
   pub cause : f ≡ ReadFault → OneRose (files_of old.held.program.sources) c.counts c.counts_after
 
@@ -245,7 +254,7 @@ wrote_then : (text more : List ℕ) (a b d : Option (List ℕ)) → WhereTold a 
     → WhereTold a d (AppendsAll (text ++ more))
 wrote_then text more a b d first second =
     told_then (AppendsAll text) (AppendsAll more) (AppendsAll (text ++ more)) a b d
-        (λ x y z e f. f ∙ ap (λ bytes. bytes ++ more) e ∙ append_assoc x text more) first second
+    (λ x y z e f. f ∙ ap (λ bytes. bytes ++ more) e ∙ append_assoc x text more) first second
 
 rises_on : (x y z : ℕ) → x ≤ y → y ≤ z → x ≤ z
 rises_on x y z first second = omega arith
@@ -262,7 +271,7 @@ told_ends names P (Some y) (Some z) told ends = (told, ends)
 module _ (adapts : Bool) (p : Program) (note : AdaptiveNote) (o : Opening) (named : Option (List ℕ)) (a b d : Option Files) (k l m s t u : List ℕ → ℕ)
     (had mid has : Option (List ℕ)) (x y z : ℕ) (old : Standing)
     (go : GoesOn adapts p note o named (call a b k l s t had mid x y) old) (apart : IsNoSource named p)
-        (within : IsWithin old (call b d l m t u mid has y z)) where
+    (within : IsWithin old (call b d l m t u mid has y z)) where
   -- the files of the job's sources alone changed
   others_of_job : WhereTold b d (LeavesOthers (files_of p.sources))
   others_of_job = subst (λ (r : Program). WhereTold b d (LeavesOthers (files_of r.sources))) go.came.program within.others
@@ -306,7 +315,7 @@ module _ (adapts : Bool) (p : Program) (note : AdaptiveNote) (o : Opening) (name
     met = told_weaker
         (λ was is. ((ran : RanFrom p rows_in_round o.border o.cells (lines_in p was) old.held.border go.written) × (ran.done ≡ go.came.done)
         × IsStateUpTo p o.border o.cells old.held.border ran.before (held old.state)
-            × IsRoundFault p rows_in_round old.held.border (lines_in p was) ran.before fault)
+        × IsRoundFault p rows_in_round old.held.border (lines_in p was) ran.before fault)
         × LeavesPut named [] put was is)
         (λ left now. (put' : Option (List ℕ)) × MeetsDefect p o (lines_in p left) go.written put' fault × LeavesPut named [] put' left now) a d
         (λ was is h. (put, record { border = old.held.border; ran = h.0.0; saved = put_was h.0.0.done h.0.0.before h.0.1 h.0.2; meets = h.0.3 }, h.1))
@@ -324,7 +333,7 @@ module _ (adapts : Bool) (p : Program) (note : AdaptiveNote) (o : Opening) (name
         (λ was is h. (put, record { border = old.held.border; ran = h.0.0; saved = put_was h.0.0.done h.0.0.before h.0.1 h.0.2 }, h.1))
         (told_both _ (LeavesPut named [] put) a d
         (told_then _ TookFronts _ a b d (λ was is now ran fronts. ran) (laws.state p rows_in_round a b old go.written (omega arith) go.came) within.fronts)
-            leaves_on);
+        leaves_on);
   }
 
   one_rose : OneRose (files_of old.held.program.sources) l m → OneRose (files_of p.sources) k m
@@ -338,21 +347,32 @@ module _ (adapts : Bool) (p : Program) (note : AdaptiveNote) (o : Opening) (name
   -- the report of the next round
   reports_next : Laws o → (end : Border) (now : ℕ → List Next) → IsRoundOf old b d end go.came.before now
       → WhereTold a d (λ left after. (put' : Option (List ℕ)) × ReportsNext p o (lines_in p left) go.written put' (round_report old end now)
-          × LeavesPut named [] put' left after)
+      × LeavesPut named [] put' left after)
   reports_next laws end now round = told_weaker
       (λ was is. ((ran : RanFrom p rows_in_round o.border o.cells (lines_in p was) old.held.border go.written) × (ran.done ≡ go.came.done)
       × IsStateUpTo p o.border o.cells old.held.border ran.before (held old.state)
       × WouldWriteFrom p rows_in_round o.border o.cells (lines_in p was) old.held.border ran.before now end (go.written ++ round_report old end now))
-          × LeavesPut named [] put was is)
+      × LeavesPut named [] put was is)
       (λ left after. (put' : Option (List ℕ)) × ReportsNext p o (lines_in p left) go.written put' (round_report old end now)
-          × LeavesPut named [] put' left after) a d
-      (λ was is h. (put, record { border = old.held.border; ran = h.0.0; saved = put_was h.0.0.done h.0.0.before h.0.1 h.0.2; end = end; now = now; next =
-          h.0.3 }, h.1))
+      × LeavesPut named [] put' left after) a d
+      (λ was is h. (
+        put,
+        record {
+          border = old.held.border;
+          ran = h.0.0;
+          saved = put_was h.0.0.done h.0.0.before h.0.1 h.0.2;
+          end = end;
+          now = now;
+          next =
+              h.0.3;
+        },
+        h.1,
+      ))
       (told_both _ (LeavesPut named [] put) a d (laws.next p rows_in_round a b d old go.written end now (omega arith) go.came round) leaves_on)
 
   ran_into : Laws o
       → ((before : ℕ → List Next) → AreHeldBehind old.held before → (end : Border) × (now : ℕ → List Next) × IsRoundOf old b d end before now
-          × WhereTold mid has (AppendsPart (round_report old end now)))
+      × WhereTold mid has (AppendsPart (round_report old end now)))
       → RanInto p o named (call a d k m s u had has x z)
   ran_into laws part =
       let round = part go.came.before go.came.behind in
@@ -399,7 +419,7 @@ module _ (adapts : Bool) (p : Program) (note : AdaptiveNote) (o : Opening) (name
       round = told_weaker
           (λ was is. (whole : ℕ → List Next) → AreInAll old.held go.came.before was whole
           → IsRound old.held.program old.held.rows old.held.border whole go.came.before its_run.0.fills.now end
-              × AreInAll new.held its_run.0.fills.now is whole)
+          × AreInAll new.held its_run.0.fills.now is whole)
           (λ was is. (whole : ℕ → List Next) → AreInAll old.held go.came.before was whole
           → IsRound old.held.program old.held.rows old.held.border whole go.came.before its_run.0.fills.now end) b d
           (λ was is fills whole all. (fills whole all).0) its_run.0.fills.round;
@@ -416,10 +436,10 @@ module _ (adapts : Bool) (p : Program) (note : AdaptiveNote) (o : Opening) (name
       wrote = wrote_more;
       round = told_then
           (λ left after. (put' : Option (List ℕ)) × ReportsNext p o (lines_in p left) go.written put' (round_report old end its_run.0.fills.now)
-              × LeavesPut named [] put' left after)
+          × LeavesPut named [] put' left after)
           (λ r f. (v : Files) (other : Option (List ℕ)) → LeavesPut named [] other v r → Left other v f)
           (λ left after. (put' : Option (List ℕ)) × ReportsNext p o (lines_in p left) go.written put' (round_report old end its_run.0.fills.now)
-              × Left put' left after) a d e
+          × Left put' left after) a d e
           (λ v r f next left. (next.0, next.1, left v next.0 next.2)) (reports_next laws end its_run.0.fills.now is_round) leaves;
     }
 
@@ -495,7 +515,7 @@ module _ (adapts : Bool) (p : Program) (note : AdaptiveNote) (o : Opening) (name
           (λ was is. note'.counts ≡ grown (no_counts p) (all_lists p o was)) a d
           (λ was is all. runs.2 (go.adapting ∙ follows) ∙ all)
           (laws.counts p rows_in_round o.border o.cells a b d old new go.written (no_counts p) note.counts (omega arith)
-              (record { came = go.came; counts' = go.counted follows }) runs.0) in
+          (record { came = go.came; counts' = go.counted follows }) runs.0) in
           record {
             may_say = says.may_say;
             told = plan_told adapts p o note'.counts (line_said said) (TookFrontsBut (IsSavedTo named))
@@ -526,7 +546,7 @@ module _ (adapts : Bool) (p : Program) (note : AdaptiveNote) (o : Opening) (name
                 })
                 (told_ends (files_of p.sources) (λ was is. HasRunFrom p o.border o.cells was new text) a d whole.1 whole.0)
                 (told_both (TookOnly (IsSavedTo named)) (PutsAt named bytes) d e kept
-                    (subst (λ (b' : Border). WhereTold d e (PutsAt named (save p (border_at b') (held new.state)))) at its_puts));
+                (subst (λ (b' : Border). WhereTold d e (PutsAt named (save p (border_at b') (held new.state)))) at its_puts));
           } in
           ((ran, says_plan laws at), stays_put)
         where

@@ -26,7 +26,7 @@ use Rattle.flu_top.specs.Outcome as cases
 use Rattle.flu_top.specs.Laws.{RunsWriteFronts, FreshRunsReportTheFold, ResumedRunsGoOn}
 use Rattle.flu_top.proofs.Completeness.{same_job}
 use Rattle.flu_top.proofs.SameJob.{same_good}
-use Rattle.flu_top.proofs.Statuses.{same_command, no_command}
+use Rattle.flu_top.proofs.OneCommand.{same_command, no_command}
 
 -- ---- bytes
 -- a front of a text stands behind what was there
@@ -44,7 +44,7 @@ appends_more text more rest whole old new is wrote =
     let few : n ≤ length more = omega (arith, wrote.1) in
     let front : take (length text + n) whole ≡ text ++ take n more =
     ap (take (length text + n)) (is ∙ append_assoc text more rest) ∙ take-append-add text (more ++ rest) n
-        ∙ ap (λ bytes. text ++ bytes) (take-append-le n more rest few) in
+    ∙ ap (λ bytes. text ++ bytes) (take-append-le n more rest few) in
     (length text + n, wrote.2 ∙ append_assoc old text (take n more) ∙ ap (λ bytes. old ++ bytes) (sym front))
 
 -- ---- a run

@@ -31,14 +31,14 @@ use Rattle.flu_top.specs.Running.{SaysCounts}
 pub outputs_report : (p q r : Program) (opening : Contents) (lists : List (List Item)) (outs : List Out) (text : List ℕ) → q ≡ p → r ≡ p
     → opening ≡ nothing_held
     → IsPermutation (final_outputs q opening lists) outs → ((others : List Out) → IsPermutation outs others → report r others ≡ text)
-        → text ≡ report p (final_outputs p nothing_held lists)
+    → text ≡ report p (final_outputs p nothing_held lists)
 outputs_report p q r opening lists outs text same also start shuffled order =
     sym (order (final_outputs q opening lists) (IsPermutation-sym _ outs shuffled)) ∙ (λ i. report (also i) (final_outputs (same i) (start i) lists))
 
 pub run_report : (p q : Program) (k : Content) (s : Streams) (outs : List Out) (text : List ℕ) → job_in_case k ≡ p → q ≡ p → held k.opening ≡ nothing_held
     → k.streams ≡ s
     → IsPermutation (final_outputs (job_in_case k) (held k.opening) (listed k.streams)) outs
-        → ((others : List Out) → IsPermutation outs others → report q others ≡ text)
+    → ((others : List Out) → IsPermutation outs others → report q others ≡ text)
     → text ≡ report p (final_outputs p nothing_held (listed s))
 run_report p q k s outs text same also start streams shuffled order =
     outputs_report p (job_in_case k) q (held k.opening) (listed k.streams) outs text same also start shuffled order
@@ -51,7 +51,7 @@ pub round_of_halves : (p : Program) (old new : Standing) (left left' : Option Fi
     → AppendsReport p outs had has
     → (before : ℕ → List Next) → AreHeldBehind old.held before
     → (runs : Runs old new left left' end before) × WhereTold had has (AppendsAll (round_report old end runs.fills.now))
-        × (rows ≡ round_lists old end runs.fills.now)
+    × (rows ≡ round_lists old end runs.fills.now)
 round_of_halves p old new left left' end opening state rows outs had has job began ran is wrote before behind =
     let filled = began.filled before behind in (
       record {

@@ -65,7 +65,7 @@ texts_then first second x y z one two = record {
   ];
   others = λ name missing.
       two.others name (λ found. missing (Contains-append_right first second name found))
-          ∙ one.others name (λ found. missing (Contains-append_left first second name found));
+      ∙ one.others name (λ found. missing (Contains-append_left first second name found));
 }
 
 others_then : (first second : List (List ℕ)) (x y z : Contents) → LeavesOthers first x y → LeavesOthers second y z → LeavesOthers (first ++ second) x z
@@ -106,7 +106,7 @@ pub others_as_valid : (job plan : List ℕ) (named : Option (List ℕ)) (a b : O
     → WhereTold a b (TookOnly (IsReadName a (Valid job plan))) → WhereTold a b (LeavesOthers (job ∷ if_named named))
 others_as_valid job plan named a b is only = subst (λ (o : Option (List ℕ)). WhereTold a b (LeavesOthers (job ∷ if_named o))) (sym is)
     (told_weaker (TookOnly (IsReadName a (Valid job plan))) (LeavesOthers (job ∷ plan ∷ [])) a b
-        (λ x y took name missing. took name (λ read. missing (valid_reads job plan a name read))) only)
+    (λ x y took name missing. took name (λ read. missing (valid_reads job plan a name read))) only)
 
 pub run_only_as_valid : (job plan : List ℕ) (named : Option (List ℕ)) (a b : Option Contents) → named ≡ Some plan
     → WhereTold a b (TookOnly (IsReadName a (Valid job plan)))
@@ -120,7 +120,7 @@ pub run_refused_as_valid : {T : Type 0} (r : Result T Refusal) (job plan : List 
 run_refused_as_valid r job plan named a b k m is refused = subst (λ (o : Option (List ℕ)). IfErr r (λ (refusal : Refusal). (options : RunOptions)
     → IsRefusal (Run job o options) a b k m refusal)) (sym is)
     (IfErr-weaker r _ _ (λ refusal why options. refusal_as_valid (Run job (Some plan) options) job plan a b k m refusal (run_reads job plan options) why)
-        refused)
+    refused)
 
 -- where it names none its job alone is read
 pub begun_alone : (job : List ℕ) (p q : Program) (a b : Option Contents) → q ≡ p → WhereTold a b (IsJobRead job p) → WhereTold a b (TakesFrom job)
@@ -145,11 +145,11 @@ pub as_before_opening : (job : List ℕ) (plan : Option (List ℕ)) (options : R
     → WhereTold b d TookFronts → WhereTold b d (LeavesOthers (if_named options.resume)) → WhereTold a d (Leaves (Run job plan options) None)
 as_before_opening job plan options a b d fronts others fronts' others' =
     told_then (λ x y. TookFronts x y × LeavesOthers (job ∷ if_named plan) x y) (λ y z. TookFronts y z × LeavesOthers (if_named options.resume) y z)
-        (Leaves (Run job plan options) None) a b d
+    (Leaves (Run job plan options) None) a b d
     (λ x y z first second. none_put options.save (texts_named (Run job plan options)) x z (fronts_then (Some x) (Some y) (Some z) first.0 second.0)
-        (others_then (job ∷ if_named plan) (if_named options.resume) x y z first.1 second.1))
+    (others_then (job ∷ if_named plan) (if_named options.resume) x y z first.1 second.1))
     (told_both TookFronts (LeavesOthers (job ∷ if_named plan)) a b fronts others)
-        (told_both TookFronts (LeavesOthers (if_named options.resume)) b d fronts' others')
+    (told_both TookFronts (LeavesOthers (if_named options.resume)) b d fronts' others')
 
 module _ (job : List ℕ) (plan : Option (List ℕ)) (options : RunOptions) (p : Program) (a b : Option Contents) where
   may_be_begun : IsAccepted p → WhereTold a b (IsBegun job plan p) → MayBeJob a (Run job plan options) p
@@ -224,10 +224,15 @@ module _ (job : List ℕ) (plan : Option (List ℕ)) (options : RunOptions) (p :
       → WhereTold a d (TookOnly (λ name. IsReadName a (Run job plan options) name ⊎ IsPutAt (Run job plan options) status name))
   only_opening d status accepted apart begun only others =
       told_then (TookOnly (IsReadName a (Run job plan options))) (LeavesOthers (if_named options.resume))
-          (TookOnly (λ name. IsReadName a (Run job plan options) name ⊎ IsPutAt (Run job plan options) status name)) a b d
+      (TookOnly (λ name. IsReadName a (Run job plan options) name ⊎ IsPutAt (Run job plan options) status name)) a b d
       (λ x y z first second name unread.
-      second name (λ found. unread (inl (inr (inr (inl (record { p = p; job = may_be_begun accepted begun; apart = apart; named =
-          name_given options.resume name found }))))))
+      second name (λ found. unread (inl (inr (inr (inl (record {
+        p = p;
+        job = may_be_begun accepted begun;
+        apart = apart;
+        named =
+            name_given options.resume name found;
+      }))))))
       ∙ first name (λ read. unread (inl read))) only others
 
 -- ---- a run that has read all of its texts
@@ -245,12 +250,16 @@ opens_behind (Some name) texts p o x y behind opens = subst (λ (left : Contents
 pub is_started : (job : List ℕ) (plan : Option (List ℕ)) (options : RunOptions) (p : Program) (o : Opening) (a b d : Option Contents)
     → AreNoSources (Run job plan options) p
     → WhereTold a b (IsBegun job plan p) → WhereTold a b TookFronts → WhereTold b d (IsOpened options.resume p o) → WhereTold b d TookFronts
-        → WhereTold a d (IsStarted job plan options p o)
+    → WhereTold a d (IsStarted job plan options p o)
 is_started job plan options p o a b d apart begun fronts opened fronts' =
     told_then (λ x y. IsBegun job plan p x y × TookFronts x y) (λ y z. IsOpened options.resume p o y z × TookFronts y z) (IsStarted job plan options p o) a b d
     (λ x y z first second. record {
-      ready = record { has = first.0.has; plan = first.0.its_plan; texts =
-          texts_then (job ∷ if_named plan) (if_named options.resume) x y z first.0.texts second.0.texts };
+      ready = record {
+        has = first.0.has;
+        plan = first.0.its_plan;
+        texts =
+            texts_then (job ∷ if_named plan) (if_named options.resume) x y z first.0.texts second.0.texts;
+      };
       starts = record { apart = apart; opens = opens_behind options.resume (job ∷ if_named plan) p o x y first.0.texts.behind second.0.opens };
       fronts = fronts_then (Some x) (Some y) (Some z) first.1 second.1;
     })
@@ -281,7 +290,7 @@ may_say_line true texts resume (Some said) is = is
 module _ (job : List ℕ) (plan : Option (List ℕ)) (options : RunOptions) (p : Program) (o : Opening) (a b d : Option Contents) (k l m s t u : List ℕ → ℕ)
     (had has : Option (List ℕ)) (x z : ℕ)
     (accepted : IsAccepted p) (apart : AreNoSources (Run job plan options) p) (started : WhereTold a b (IsStarted job plan options p o)) (rise : (n : List ℕ)
-        → k n ≤ l n) (puts : SameCounts s t)
+    → k n ≤ l n) (puts : SameCounts s t)
     (within : StaysWithin p options.save (call b d l m t u had has x z)) where
   -- the lines of the sources behind the texts
   lines_same : (v w : Contents) → IsStarted job plan options p o v w → lines_in p w ≡ lines_behind (texts_named (Run job plan options)) v p
@@ -297,7 +306,7 @@ module _ (job : List ℕ) (plan : Option (List ℕ)) (options : RunOptions) (p :
   ends_behind : (v w r : Contents) → IsStarted job plan options p o v w → ((name : List ℕ) → Contains (files_of p.sources) name → r name ≡ Some [])
       → TookOnly (λ name. Contains (files_of p.sources) name ⊎ IsSavedTo options.save name) w r
       → (name : List ℕ) → Contains (texts_named (Run job plan options) ++ sources_read (Run job plan options) p) name
-          → IsNotSaved (Run job plan options) name → r name ≡ Some []
+      → IsNotSaved (Run job plan options) name → r name ≡ Some []
   ends_behind v w r first ends only name found unsaved = elim (Contains-append_cases (texts_named (Run job plan options)) (files_of p.sources) name found) [
     | inr source ↦ ends name source
     | inl text ↦ elim (among (files_of p.sources) name) [
@@ -313,7 +322,7 @@ module _ (job : List ℕ) (plan : Option (List ℕ)) (options : RunOptions) (p :
   unfolding lists_behind
   says_behind said v w first is = says_line options.adapt (job ∷ if_named plan) options.resume p o v (line_said said) first.starts.opens
       (subst (λ (left : Contents). IsPlanSaid options.adapt p (grown (no_counts p) (lists_above o.border (lists_of p left))) (line_said said))
-          (sym first.ready.texts.behind) is)
+      (sym first.ready.texts.behind) is)
 
   all_read : (said : Option Said) → RanAll p o options.save (call b d l m t u had has x z) → SaysPlan options.adapt p o said (call b d l m t u had has x z)
       → HasAll (call a d k m s u had has x z) (Run job plan options) said
@@ -343,8 +352,12 @@ module _ (job : List ℕ) (plan : Option (List ℕ)) (options : RunOptions) (p :
                   (save p greatest_border (final_state p o.cells (lists_above o.border (lists_of p left))))) (sym first.ready.texts.behind),
             );
           },
-          (o, first.starts.opens, second.0.is ∙ ap (λ (left : Contents). report p (final_outputs p o.cells (lists_above o.border (lists_of p left))))
-              (sym first.ready.texts.behind)),
+          (
+            o,
+            first.starts.opens,
+            second.0.is ∙ ap (λ (left : Contents). report p (final_outputs p o.cells (lists_above o.border (lists_of p left))))
+                (sym first.ready.texts.behind),
+          ),
           says_behind said v w first second.1.1,
           ran.wrote,
         )) started
@@ -352,7 +365,7 @@ module _ (job : List ℕ) (plan : Option (List ℕ)) (options : RunOptions) (p :
         (λ v w. TookOnly (λ name. Contains (files_of p.sources) name ⊎ IsSavedTo options.save name) v w
         × IsPlanSaid options.adapt p (grown (no_counts p) (lists_above o.border (lists_of p v))) (line_said said)) b d ran.all
         (told_both (TookOnly (λ name. Contains (files_of p.sources) name ⊎ IsSavedTo options.save name))
-            (λ v w. IsPlanSaid options.adapt p (grown (no_counts p) (lists_above o.border (lists_of p v))) (line_said said)) b d
+        (λ v w. IsPlanSaid options.adapt p (grown (no_counts p) (lists_above o.border (lists_of p v))) (line_said said)) b d
         within.others says.told));
     may_say = may_say_line options.adapt (job ∷ if_named plan) options.resume said says.may_say;
   }
@@ -395,7 +408,7 @@ module _ (job : List ℕ) (plan : Option (List ℕ)) (options : RunOptions) (p :
         × LeavesPut options.save [] put v w)
         (λ left now. HasJob (Named job) left p × HasPlanAsked (Run job plan options) left p × ((o' : Opening) × StartsFrom (Run job plan options) left p o'
         × ((put : Option (List ℕ)) × HaveWritten p o' (lines_behind (texts_named (Run job plan options)) left p) ran.text put
-            × Leaves (Run job plan options) put left now))) a b d
+        × Leaves (Run job plan options) put left now))) a b d
         (λ v w r first second. (
           first.ready.has,
           first.ready.plan,
@@ -422,7 +435,7 @@ module _ (job : List ℕ) (plan : Option (List ℕ)) (options : RunOptions) (p :
         × LeavesPut options.save [] put v w)
         (λ left now. HasJob (Named job) left p × HasPlanAsked (Run job plan options) left p × ((o' : Opening) × StartsFrom (Run job plan options) left p o'
         × ((put : Option (List ℕ)) × ReportsNext p o' (lines_behind (texts_named (Run job plan options)) left p) ran.text put ran.more
-            × Leaves (Run job plan options) put left now))) a b d
+        × Leaves (Run job plan options) put left now))) a b d
         (λ v w r first second. (
           first.ready.has,
           first.ready.plan,
@@ -451,7 +464,7 @@ module _ (job : List ℕ) (plan : Option (List ℕ)) (options : RunOptions) (p :
     round = told_then (IsStarted job plan options p o) (λ v w. (put : Option (List ℕ)) × ReportsNext p o (lines_in p v) ran.text put ran.more × Left put v w)
         (λ left now. HasJob (Named job) left p × HasPlanAsked (Run job plan options) left p × ((o' : Opening) × StartsFrom (Run job plan options) left p o'
         × ((put : Option (List ℕ)) × ReportsNext p o' (lines_behind (texts_named (Run job plan options)) left p) ran.text put ran.more
-            × Left' put left now))) a b d
+        × Left' put left now))) a b d
         (λ v w r first second. (
           first.ready.has,
           first.ready.plan,
@@ -546,4 +559,4 @@ module _ (job : List ℕ) (plan : Option (List ℕ)) (options : RunOptions) (p :
       (λ v w r first second name unread.
       second name (λ either. elim either [ inl source ↦ unread (inl (source_read name source)) | inr saved ↦ unread (inr (saved, may_put result is)) ])
       ∙ first.ready.texts.others name (λ found. unread (inl (text_is_read (Run job plan options) p a b (λ asked. accepted) apart is_ready name found))))
-          started within.others
+      started within.others

@@ -166,4 +166,4 @@ pub same_accepted : (p q : Program) → IsSameJob p q → IsAccepted p → IsAcc
 same_accepted p q same accepted a b c in_a in_b conflict =
     ap (λ (ds : List Depend). list_any (ties_tags a b) ds) (ap (λ j. j.depends) (sym same))
     ∙ accepted a b c (same_universe p q a same in_a) (same_universe p q b same in_b)
-        ((λ i. modes_conflict (same_mode p q a c same i) (same_mode p q b c same i)) ∙ conflict)
+    ((λ i. modes_conflict (same_mode p q a c same i) (same_mode p q b c same i)) ∙ conflict)

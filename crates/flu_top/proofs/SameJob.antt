@@ -51,9 +51,9 @@ tag_plain : (kinds : List Kind) (name : List ℕ) (key : Option ℕ) → tag_nam
 unfolding tag_of_plain tag_at
 tag_plain kinds name key =
     ap (λ o. option_and_then (λ number. option_and_then (λ (kind : Kind). option_and_then (λ n. Some (tag number n)) (key_named kind.keyed key))
-        (slice_get kinds number)) o) (kind_plain kinds name)
+    (slice_get kinds number)) o) (kind_plain kinds name)
     ∙ ap (λ f. option_and_then f (kind_of_plain (map plain_kind kinds) name))
-        (fun_ext (λ number. at number (slice_get kinds number) ∙ ap (tag_at number key) (sym (slice_get-map plain_kind kinds number))))
+    (fun_ext (λ number. at number (slice_get kinds number) ∙ ap (tag_at number key) (sym (slice_get-map plain_kind kinds number))))
   where
     at : (number : ℕ) (o : Option Kind) → option_and_then (λ (kind : Kind). option_and_then (λ n. Some (tag number n)) (key_named kind.keyed key)) o
         ≡ tag_at number key (option_map plain_kind o)
@@ -96,15 +96,15 @@ same_fits : (kinds others : List Kind) (name : List ℕ) (value : Option ℤ) �
 same_fits kinds others name value alike =
     fits_plain kinds name value
     ∙ (ap (λ (ks : List PlainKind). fits_at value (option_and_then (λ number. slice_get ks number) (kind_of_plain ks name))) alike
-        ∙ sym (fits_plain others name value))
+    ∙ sym (fits_plain others name value))
 
 same_tests : (kinds others : List Kind) (s : Source) (ended : Bool) (earlier : List ℕ) (held : ℕ) (row : Row) → map plain_kind kinds ≡ map plain_kind others
     → tests kinds s ended earlier held row ≡ tests others s ended earlier held row
 same_tests kinds others s ended earlier held (Event time name key value) alike =
     ap (λ o. where_true ended AfterEnd ∷ where_true (is_none o) UnknownTag ∷ test_value kinds (Event time name key value) ∷ test_time s.slack earlier
-        (Event time name key value) ∷ test_items (width s) held (Event time name key value) ∷ []) (same_place kinds others s name key alike)
+    (Event time name key value) ∷ test_items (width s) held (Event time name key value) ∷ []) (same_place kinds others s name key alike)
     ∙ ap (λ b. where_true ended AfterEnd ∷ test_tag others s (Event time name key value) ∷ where_true (not b) BadRow ∷ test_time s.slack earlier
-        (Event time name key value) ∷ test_items (width s) held (Event time name key value) ∷ []) (same_fits kinds others name value alike)
+    (Event time name key value) ∷ test_items (width s) held (Event time name key value) ∷ []) (same_fits kinds others name value alike)
 same_tests kinds others s ended earlier held (Beat time) alike = refl
 same_tests kinds others s ended earlier held End alike = refl
 
@@ -126,13 +126,13 @@ same_source_fault : (kinds others : List Kind) (left : Contents) (earlier : List
     → fault_of_source kinds left earlier s ≡ fault_of_source others left earlier s
 same_source_fault kinds others left earlier s alike =
     ap (option_map (λ (d : ℕ × Why). record { source = length earlier; row = d.0; why = d.1 }))
-        (same_first_defect kinds others s (items_held left earlier) (bytes_left left s.file) alike)
+    (same_first_defect kinds others s (items_held left earlier) (bytes_left left s.file) alike)
 
 same_first_fault : (p q : Program) (left : Contents) → IsSameJob p q → first_fault p left ≡ first_fault q left
 same_first_fault p q left same =
     ap (λ (ss : List Source). first_some (λ e. fault_of_source p.kinds left e.0 e.1) (each_with_before ss)) (ap (λ j. j.sources) same)
     ∙ ap (λ f. first_some f (each_with_before q.sources)) (fun_ext (λ (e : List Source × Source). same_source_fault p.kinds q.kinds left e.0 e.1
-        (ap (λ j. j.kinds) same)))
+    (ap (λ j. j.kinds) same)))
 
 same_fault : (texts : List (List ℕ)) (left : Contents) (p q : Program) → IsSameJob p q → fault_behind texts left p ≡ fault_behind texts left q
 unfolding fault_behind
@@ -143,9 +143,9 @@ same_row_fault : (kinds others : List Kind) (s : Source) (ended : Bool) (earlier
     → row_fault kinds s ended earlier row ≡ row_fault others s ended earlier row
 same_row_fault kinds others s ended earlier (Event time name key value) alike =
     ap (λ o. first_some (λ (test : Option Why). test) (where_true ended AfterEnd ∷ where_true (is_none o) UnknownTag ∷ test_value kinds
-        (Event time name key value) ∷ test_time s.slack earlier (Event time name key value) ∷ [])) (same_place kinds others s name key alike)
+    (Event time name key value) ∷ test_time s.slack earlier (Event time name key value) ∷ [])) (same_place kinds others s name key alike)
     ∙ ap (λ b. first_some (λ (test : Option Why). test) (where_true ended AfterEnd ∷ test_tag others s (Event time name key value) ∷ where_true
-        (not b) BadRow ∷ test_time s.slack earlier (Event time name key value) ∷ [])) (same_fits kinds others name value alike)
+    (not b) BadRow ∷ test_time s.slack earlier (Event time name key value) ∷ [])) (same_fits kinds others name value alike)
 same_row_fault kinds others s ended earlier (Beat time) alike = refl
 same_row_fault kinds others s ended earlier End alike = refl
 
@@ -165,7 +165,7 @@ same_defect_in kinds others s lines alike = ap (λ f. first_some f (each_with_be
 same_lines : (texts : List (List ℕ)) (left : Contents) (p q : Program) (i : ℕ) → IsSameJob p q → lines_behind texts left q i ≡ lines_behind texts left p i
 same_lines texts left p q i same =
     ap (λ (ss : List Source). option_map_or (λ (s : Source). read_file (bytes_left (emptied_each texts left) s.file)) (slice_get ss i) [])
-        (sym (ap (λ j. j.sources) same))
+    (sym (ap (λ j. j.sources) same))
 
 same_sound : (texts : List (List ℕ)) (left : Contents) (p q : Program) → IsSameJob p q → AreSound p (lines_behind texts left p)
     → AreSound q (lines_behind texts left q)

@@ -35,7 +35,7 @@ kinds_alike : (kinds others : List Kind) (name : List ℕ) → map plain_kind ki
 kinds_alike kinds others name alike =
     sym (position-map (λ (k : PlainKind). is_same_text name k.name) plain_kind kinds)
     ∙ (ap (λ (ks : List PlainKind). position (λ (k : PlainKind). is_same_text name k.name) ks) alike
-        ∙ position-map (λ (k : PlainKind). is_same_text name k.name) plain_kind others)
+    ∙ position-map (λ (k : PlainKind). is_same_text name k.name) plain_kind others)
 
 same_kind : (p q : Program) (text : List ℕ) (s : Option WrittenSpan) → IsSameJob p q → kind_of p text s ≡ kind_of q text s
 same_kind p q text None same = refl
@@ -51,7 +51,7 @@ same_pred : (p q : Program) (text : List ℕ) (w : WrittenPred) → IsSameJob p 
 unfolding pred_of
 same_pred p q text w same =
     λ i. same_kind p q text w.kind same i >>= λ kind. same_source p q text w.source same i >>=
-        λ source. Ok (record { kind = kind; keys = w.keys; source = source })
+    λ source. Ok (record { kind = kind; keys = w.keys; source = source })
 
 same_node : (p q : Program) (text : List ℕ) (names : List (List ℕ)) (w : WrittenNode) → IsSameJob p q → node_of p text names w ≡ node_of q text names w
 unfolding node_of
@@ -69,7 +69,7 @@ pub same_plan : (p q : Program) (bytes : List ℕ) → IsSameJob p q → plan_in
 unfolding plan_in
 same_plan p q bytes same =
     ap (λ find. unless (nat_le (length bytes) 1048576) (f.OverLimit Bytes 1048577) >> (text_in bytes >>= λ text. tokens_in text >>=
-        λ ts. written_in (length text) ts >>= λ written. find text written))
+    λ ts. written_in (length text) ts >>= λ written. find text written))
     (fun_ext (λ (text : List ℕ). fun_ext (λ (written : List WrittenNode). same_resolved p q text written same)))
 
 -- ---- the nodes own the same itags
@@ -86,7 +86,7 @@ same_keyed : (kinds others : List Kind) (kind : ℕ) → map plain_kind kinds �
 same_keyed kinds others kind alike =
     keyed-plain (slice_get kinds kind)
     ∙ (ap keyed_plain (sym (slice_get-map plain_kind kinds kind) ∙ (ap (λ (ks : List PlainKind). slice_get ks kind) alike
-        ∙ slice_get-map plain_kind others kind)) ∙ sym (keyed-plain (slice_get others kind)))
+    ∙ slice_get-map plain_kind others kind)) ∙ sym (keyed-plain (slice_get others kind)))
 
 same_kinds : (kinds others : List Kind) (kind : Option ℕ) (keys : Keys) (t : Tag) → map plain_kind kinds ≡ map plain_kind others
     → kind_matches kinds kind keys t ≡ kind_matches others kind keys t
@@ -100,9 +100,9 @@ itag_at sources i = slice_index_or (itags_of_sources 0 sources) i.0 (tag 0 0, 0)
 same_matches : (p q : Program) (pred : Pred) (i : Itag) → IsSameJob p q → matches p pred i ≡ matches q pred i
 same_matches p q pred i same =
     ap (λ b. b && source_matches pred.source (itag_at p.sources i).1) (same_kinds p.kinds q.kinds pred.kind pred.keys (itag_at p.sources i).0
-        (ap (λ j. j.kinds) same))
+    (ap (λ j. j.kinds) same))
     ∙ ap (λ (ss : List Source). kind_matches q.kinds pred.kind pred.keys (itag_at ss i).0 && source_matches pred.source (itag_at ss i).1)
-        (ap (λ j. j.sources) same)
+    (ap (λ j. j.sources) same)
 
 same_node_owns : (p q : Program) (i : Itag) (node : Node) → IsSameJob p q → node_owns p i node ≡ node_owns q i node
 same_node_owns p q i node same = ap (λ test. list_any test node.preds) (fun_ext (λ (pred : Pred). same_matches p q pred i same))
@@ -127,7 +127,7 @@ same_valid p q nodes same valid = record {
   one_owner = λ i lt. ap (λ test. count_by test nodes) (sym (fun_ext (λ (node : Node). same_node_owns p q i node same))) ∙ valid.one_owner i (back i lt);
   independent = λ a b i j lt_i lt_j of_i of_j apart.
       sym (same_dependent p q i j same) ∙ valid.independent a b i j (back i lt_i) (back j lt_j) (same_owns p q nodes a i same ∙ of_i)
-          (same_owns p q nodes b j same ∙ of_j) apart;
+      (same_owns p q nodes b j same ∙ of_j) apart;
 }
   where
     back : (i : Itag) → i.0 < count_of_itags q → i.0 < count_of_itags p

@@ -36,7 +36,7 @@ use Rattle.flu_top.specs.Causes.{IsJobRead, HasJobFault, IsMet, HasSourceFault}
 use Rattle.flu_top.specs.Folding.{AreSourcesRead, IsReported, IsReportRefusal}
 use Rattle.flu_top.specs.Replays.{StaysEnded}
 use Rattle.flu_top.specs.Refusing.{IsRefusal}
-use Rattle.flu_top.proofs.Commands.{not_named}
+use Rattle.flu_top.proofs.OneCommand.{not_named}
 
 -- ---- names
 pub only_one : (one name : List ℕ) → Contains (one ∷ []) name → one ≡ name
@@ -82,9 +82,14 @@ no_sources command p none = record {
 
 -- it starts fresh
 pub can_start : (command : Command) (left : Contents) (p : Program) → NamesNoCheckpoint command → CanStart command left p
-can_start command left p none =
-    (fresh, record { apart = no_sources command p none; opens = subst (λ (o : Option (List ℕ)). Opens o (job_and_plan_named command) left p fresh)
-        (sym none.resume) refl })
+can_start command left p none = (
+  fresh,
+  record {
+    apart = no_sources command p none;
+    opens = subst (λ (o : Option (List ℕ)). Opens o (job_and_plan_named command) left p fresh)
+        (sym none.resume) refl;
+  },
+)
 
 -- it saved nothing
 pub has_saved : (command : Command) (p : Program) (x z : Contents) → NamesNoCheckpoint command → HasSaved command p x z
@@ -124,25 +129,30 @@ pub only_job : (command : Command) (job : List ℕ) (a b : Option Contents) → 
     → WhereTold a b (TookOnly (IsReadName a command))
 only_job command job a b named taken =
     told_weaker (TakesFrom job) (TookOnly (IsReadName a command)) a b (λ x y took name unread. took.others name
-        (λ same. unread (inl (named ∙ ap Named (sym same))))) taken
+    (λ same. unread (inl (named ∙ ap Named (sym same))))) taken
 
 pub text_is_read : (command : Command) (p : Program) (a b : Option Contents) → (IsTrue (asks_accepted command) → IsAccepted p) → AreNoSources command p
     → WhereTold a b (IsReady command p)
     → (name : List ℕ) → Contains (texts_named command) name → IsReadName a command name
 text_is_read command p a b accepted apart ready name found = elim (Contains-append_cases (job_and_plan_named command)
     (if_named (resume_named command)) name found) [
-  | inl text ↦ elim (Contains-append_cases (job_files (job_wanted command)) (if_named (plan_named command)) name text) [
-    | inl job ↦ inl (job_file (job_wanted command) name job)
-    | inr plan ↦ inr (inl (record { p = p; job = may_be_ready command p a b accepted ready; named = name_given (plan_named command) name plan }))
-  ]
-  | inr checkpoint ↦ inr (inr (inl (record { p = p; job = may_be_ready command p a b accepted ready; apart = apart; named =
-      name_given (resume_named command) name checkpoint })))
-]
+      | inl text ↦ elim (Contains-append_cases (job_files (job_wanted command)) (if_named (plan_named command)) name text) [
+        | inl job ↦ inl (job_file (job_wanted command) name job)
+        | inr plan ↦ inr (inl (record { p = p; job = may_be_ready command p a b accepted ready; named = name_given (plan_named command) name plan }))
+      ]
+      | inr checkpoint ↦ inr (inr (inl (record {
+        p = p;
+        job = may_be_ready command p a b accepted ready;
+        apart = apart;
+        named =
+            name_given (resume_named command) name checkpoint;
+      })))
+    ]
 
 pub source_name_is_read : (command : Command) (p : Program) (a b : Option Contents) → IsTrue (reads_sources command)
     → (IsTrue (asks_accepted command) → IsAccepted p) → AreNoSources command p
     → IfSome a (λ contents. CanStart command contents p) → WhereTold a b (IsReady command p) → (name : List ℕ) → Contains (files_of p.sources) name
-        → IsReadName a command name
+    → IsReadName a command name
 source_name_is_read command p a b reads accepted apart start ready name found = inr (inr (inr (inl (record {
   p = p;
   job = may_be_ready command p a b accepted ready;
@@ -197,7 +207,7 @@ emptied_is text old new end taken = fun_ext (λ name. by_test name (bytes_eq nam
     by_test name true t =
         let same : name ≡ text = (bytes_eq-Decides name text).0 t in
         rw t (ap (λ n. option_map {U = List ℕ} (λ (bytes : List ℕ). []) (old n)) same
-            ∙ (emptied_some (old text) (sym (ap is_some end) ∙ taken.there) ∙ (sym end ∙ sym (ap new same))))
+        ∙ (emptied_some (old text) (sym (ap is_some end) ∙ taken.there) ∙ (sym end ∙ sym (ap new same))))
     by_test name false f = rw f (sym (taken.others name (λ same. false≢true (sym f ∙ (bytes_eq-Decides name text).1 same))))
 
 -- ---- the texts that are read
@@ -215,7 +225,7 @@ two_texts first second x y z read end taken = record {
   ends = λ name found. by_name name (Contains-append_cases (first ∷ []) (second ∷ []) name found) (same_or_apart name second);
   others = λ name missing.
       taken.others name (λ same. missing (1, omega arith, sym same)) ∙ read.others name
-          (λ found. missing (Contains-append_left (first ∷ []) (second ∷ []) name found));
+      (λ found. missing (Contains-append_left (first ∷ []) (second ∷ []) name found));
 }
   where
     by_name : (name : List ℕ) → Contains (first ∷ []) name ⊎ Contains (second ∷ []) name → (name ≡ second) ⊎ (name ≢ second) → z name ≡ Some []
@@ -296,14 +306,18 @@ WritesReport command =
 pub is_reported_behind : (command : Command) (p : Program) (report : List ℕ) (a b c : Option Contents) → how_read command ≡ Whole
     → (IsTrue (asks_accepted command) → IsAccepted p) → trace_named command ≡ None
     → NamesNoCheckpoint command → WritesReport command → WhereTold a b (IsReady command p) → WhereTold b c (LeavesOthers (files_of p.sources))
-        → WhereTold b c (IsReported p report) → WhereTold a c (IsWritten command report [])
+    → WhereTold b c (IsReported p report) → WhereTold a c (IsWritten command report [])
 is_reported_behind command p report a b c whole accepted untraced none writes ready others reported =
     told_then (IsReady command p) (λ y z. IsReported p report y z × LeavesOthers (files_of p.sources) y z) (IsWritten command report []) a b c
     (λ x y z first second.
     let both = writes x p report (report_at command p report x y z first second.0) in
-    let read = second.0.read in
-    (p, read_at command p x y z whole accepted none first read (stays_ended (files_of p.sources) y z read.ends second.1)
-        (no_trace_read command p x z untraced), both.0, both.1))
+    let read = second.0.read in (
+      p,
+      read_at command p x y z whole accepted none first read (stays_ended (files_of p.sources) y z read.ends second.1)
+          (no_trace_read command p x z untraced),
+      both.0,
+      both.1,
+    ))
     ready (told_both (IsReported p report) (LeavesOthers (files_of p.sources)) b c reported others)
 
 -- ---- what refuses a job
@@ -323,7 +337,7 @@ job_refusal command job a b before now (refusals.TraceFault fault) named is = ab
 
 pub report_refusal : (command : Command) (p : Program) (a b c : Option Contents) (k l m : List ℕ → ℕ) (refusal : Refusal) → how_read command ≡ Whole
     → (IsTrue (asks_accepted command) → IsAccepted p) → NamesNoCheckpoint command → WhereTold a b (IsReady command p) → ((n : List ℕ) → k n ≤ l n)
-        → IsReportRefusal p b c l m refusal → IsRefusal command a c k m refusal
+    → IsReportRefusal p b c l m refusal → IsRefusal command a c k m refusal
 report_refusal command p a b c k l m (refusals.BadWords bad) reads accepted none ready rise is = is
 report_refusal command p a b c k l m (refusals.JobFault fault) reads accepted none ready rise is = absurd is
 report_refusal command p a b c k l m (refusals.Conflict fault) reads accepted none ready rise is = absurd is
@@ -336,13 +350,21 @@ report_refusal command p a b c k l m (refusals.SourceFault q fault) whole accept
       source = is.source;
       first = told_then (IsReady command p) (λ left _. first_fault p left ≡ Some fault)
           (λ left now. HasJob (job_wanted command) left p × HasPlanAsked command left p × CanStart command left p
-              × IsMet (how_read command) command left now p [] fault) a b c
-          (λ x y z first e. (first.has, first.plan, can_start command x p none, subst (λ (r : Reading). IsMet r command x z p [] fault) (sym whole)
-              (none_behind command p x y first ∙ e))) ready is.first;
+          × IsMet (how_read command) command left now p [] fault) a b c
+          (λ x y z first e. (
+            first.has,
+            first.plan,
+            can_start command x p none,
+            subst (λ (r : Reading). IsMet r command x z p [] fault) (sym whole)
+                (none_behind command p x y first ∙ e),
+          )) ready is.first;
     }
-report_refusal command p a b c k l m refusals.ReadFault whole accepted none ready rise is =
-    (is.0, source_name_is_read command p a b (ap is_read whole) accepted (no_sources command p none)
-        (start_told command p a none) ready is.0 is.1, rose_behind (k is.0) (l is.0) (m is.0) (rise is.0) is.2)
+report_refusal command p a b c k l m refusals.ReadFault whole accepted none ready rise is = (
+  is.0,
+  source_name_is_read command p a b (ap is_read whole) accepted (no_sources command p none)
+      (start_told command p a none) ready is.0 is.1,
+  rose_behind (k is.0) (l is.0) (m is.0) (rise is.0) is.2,
+)
 report_refusal command p a b c k l m refusals.WriteFault reads accepted none ready rise is = is
 report_refusal command p a b c k l m refusals.NoMemory reads accepted none ready rise is = tt
 report_refusal command p a b c k l m (refusals.SaveDefect defect) reads accepted none ready rise is = absurd is

@@ -64,7 +64,7 @@ HasRun trace p nodes seed text steps y z =
 has_run : (trace : Bool) (p : Program) (nodes : List Node) (seed : ℕ) (text : List ℕ) (steps : DrawnSteps) (b c : Option Contents)
     → WhereTold b c (AreSourcesRead p)
     → WhereTold b c (λ y _. IsTextOn trace p nodes (lists_of p y) seed text) → WhereTold b c (λ y _. AreDrawn p nodes (lists_of p y) seed steps)
-        → WhereTold b c (LeavesOthers (files_of p.sources))
+    → WhereTold b c (LeavesOthers (files_of p.sources))
     → WhereTold b c (HasRun trace p nodes seed text steps)
 has_run trace p nodes seed text steps None None read is drawn others = tt
 has_run trace p nodes seed text steps None (Some z) read is drawn others = read
@@ -75,11 +75,11 @@ pub is_simulated : (job plan : List ℕ) (seed : ℕ) (trace : Bool) (p : Progra
     (a b c : Option Contents) → IsAccepted p
     → WhereTold a b (IsReady (Simulate job plan seed trace) p) → WhereTold a b (HasNodes job plan p nodes) → WhereTold b c (AreSourcesRead p)
     → WhereTold b c (λ y _. IsTextOn trace p nodes (lists_of p y) seed text) → WhereTold b c (λ y _. AreDrawn p nodes (lists_of p y) seed steps)
-        → WhereTold b c (LeavesOthers (files_of p.sources))
+    → WhereTold b c (LeavesOthers (files_of p.sources))
     → WhereTold a c (IsWritten (Simulate job plan seed trace) text (step_line steps))
 is_simulated job plan seed trace p nodes text steps a b c accepted ready found read is drawn others =
     told_then (λ x y. IsReady (Simulate job plan seed trace) p x y × HasNodes job plan p nodes x y) (HasRun trace p nodes seed text steps)
-        (IsWritten (Simulate job plan seed trace) text (step_line steps)) a b c
+    (IsWritten (Simulate job plan seed trace) text (step_line steps)) a b c
     (λ x y z first second. (
       p,
       read_at (Simulate job plan seed trace) p x y z refl (λ asked. accepted) (record { save = refl; resume = refl }) first.0 second.0
@@ -89,7 +89,7 @@ is_simulated job plan seed trace p nodes text steps a b c accepted ready found r
       line_at job plan seed trace p nodes steps x y first.0 first.1 second.2,
     ))
     (told_both (IsReady (Simulate job plan seed trace) p) (HasNodes job plan p nodes) a b ready found)
-        (has_run trace p nodes seed text steps b c read is drawn others)
+    (has_run trace p nodes seed text steps b c read is drawn others)
 
 -- ---- the case of a run from the empty state
 pub case_from_nothing : (checked : Checked) (valid : ValidPlan) (s : Streams) (k : Content) → k.checked ≡ checked → k.valid ≡ valid → k.streams ≡ s

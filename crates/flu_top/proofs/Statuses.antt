@@ -26,11 +26,11 @@ use Rattle.flu_top.specs.Lines.{bad_words_line, job_fault_line, conflict_line, p
 use Rattle.flu_top.specs.Lines.{no_memory_line, save_defect_line, put_fault_line, trace_fault_line}
 use Rattle.flu_top.specs.Outcome.{Outside, Said, Hears, Refused, Outcome}
 use Rattle.flu_top.specs.Outcome as cases
-use Rattle.flu_top.proofs.Commands.{same_command, no_command}
+use Rattle.flu_top.proofs.OneCommand.{same_command, no_command}
 
 pub at_0 : (words : List (List ℕ)) (old new : Outside) (status : ℕ) → Outcome words old new status → status ≡ 0
     → (command : Command) × (line : List ℕ) × (command_in words ≡ Ok command)
-        × WhereKnown (job_wanted command) old.left new.left (IsDone command old.out new.out line) × Hears (want command).says old new line
+    × WhereKnown (job_wanted command) old.left new.left (IsDone command old.out new.out line) × Hears (want command).says old new line
 at_0 words old new status (cases.Done is command word line done heard) e = (command, line, word, done, heard)
 at_0 words old new status (cases.BadWords is at word files refused) e = absurd (omega (arith, is, e))
 at_0 words old new status (cases.BadJob is command word fault has refused) e = absurd (omega (arith, is, e))
@@ -352,7 +352,7 @@ quiet_at_0 words old new status outcome is command word nothing =
 pub heard_at_0 : (words : List (List ℕ)) (old new : Outside) (status : ℕ) → Outcome words old new status → status ≡ 0
     → (job plan : List ℕ) (seed : ℕ) (trace : Bool) → command_in words ≡ Ok (Simulate job plan seed trace)
     → (line : List ℕ) × IsStepLine line × Said old new line × WhereTold old.left new.left
-        (λ left _. (p : Program) × HasJob (Named job) left p × IsLineOfRun job plan seed left p line)
+    (λ left _. (p : Program) × HasJob (Named job) left p × IsLineOfRun job plan seed left p line)
 heard_at_0 words old new status outcome is job plan seed trace word =
     let found = at_0 words old new status outcome is in
     let line = found.1 in
@@ -360,7 +360,7 @@ heard_at_0 words old new status outcome is job plan seed trace word =
     let done = subst (λ (d : Command). WhereKnown (job_wanted d) old.left new.left (IsDone d old.out new.out line)) same found.3 in
     let heard = subst (λ (d : Command). Hears (want d).says old new line) same found.4 in
     let told = told_weaker (IsDone (Simulate job plan seed trace) old.out new.out line)
-        (λ left _. (p : Program) × HasJob (Named job) left p × IsLineOfRun job plan seed left p line) old.left new.left
+    (λ left _. (p : Program) × HasJob (Named job) left p × IsLineOfRun job plan seed left p line) old.left new.left
     (λ x y d. (d.0, d.2.good.has, d.4)) done in
     (line, heard.0, heard.1, told)
 
@@ -369,7 +369,7 @@ pub adapted_at_0 : (words : List (List ℕ)) (old new : Outside) (status : ℕ) 
     → (line : List ℕ) × IsSomePlanText line × Said old new line
     × WhereTold old.left new.left (λ left _. (p : Program) × HasJob (Named job) left p
     × ((text : List ℕ) × Writes (Run job plan (record { adapt = false; save = save; resume = resume })) left p text
-        × WhereTold old.out new.out (AppendsAll text))
+    × WhereTold old.out new.out (AppendsAll text))
     × IsObservedText (job ∷ if_named plan) resume left p line)
 adapted_at_0 words old new status outcome is job plan save resume word =
     let whole = Run job plan (record { adapt = true; save = save; resume = resume }) in
@@ -380,6 +380,6 @@ adapted_at_0 words old new status outcome is job plan save resume word =
     let heard = subst (λ (d : Command). Hears (want d).says old new line) same found.4 in
     let told = told_weaker (IsDone whole old.out new.out line) (λ left _. (p : Program) × HasJob (Named job) left p
     × ((text : List ℕ) × Writes (Run job plan (record { adapt = false; save = save; resume = resume })) left p text
-        × WhereTold old.out new.out (AppendsAll text))
+    × WhereTold old.out new.out (AppendsAll text))
     × IsObservedText (job ∷ if_named plan) resume left p line) old.left new.left (λ x y d. (d.0, d.2.good.has, (d.1, d.3, d.5), d.4)) done in
     (line, heard.0, heard.1, told)

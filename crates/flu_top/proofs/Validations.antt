@@ -66,8 +66,14 @@ validated_at : (job plan : List ℕ) (p : Program) (nodes : List Node) (text : L
 validated_at job plan p nodes text x z accepted is both = (
   p,
   record {
-    good = record { has = both.0.has; accepted = λ asked. accepted; plan = both.0.plan; start =
-        can_start (Valid job plan) x p (record { save = refl; resume = refl }); sources = tt };
+    good = record {
+      has = both.0.has;
+      accepted = λ asked. accepted;
+      plan = both.0.plan;
+      start =
+          can_start (Valid job plan) x p (record { save = refl; resume = refl });
+      sources = tt;
+    };
     ends = λ name found apart. both.0.texts.ends name found;
     trace = λ trace named. absurd (cc);
     saved = has_saved (Valid job plan) p x z (record { save = refl; resume = refl });
@@ -85,8 +91,12 @@ is_validated job plan p nodes text a c accepted ready found is =
 
 -- the plan's name is one that is read
 plan_name : (job plan : List ℕ) (p : Program) (a b : Option Contents) → WhereTold a b (IsJobRead job p) → IsAccepted p → IsReadName a (Valid job plan) plan
-plan_name job plan p a b read accepted = inr (inl (record { p = p; job = record { has = may_have job p a b read; accepted = λ asked. accepted }; named =
-    refl }))
+plan_name job plan p a b read accepted = inr (inl (record {
+  p = p;
+  job = record { has = may_have job p a b read; accepted = λ asked. accepted };
+  named =
+      refl;
+}))
 
 pub only_with_plan : (job plan : List ℕ) (p : Program) (a b c : Option Contents) → WhereTold a b (IsJobRead job p) → WhereTold a b (TakesFrom job)
     → IsAccepted p → WhereTold b c (TakesFrom plan) → WhereTold a c (TookOnly (IsReadName a (Valid job plan)))
@@ -141,7 +151,7 @@ valid_refusal job plan checked nodes a b c k m (refusals.PlanDefect (defects.Inv
       text = told_then (λ x y. IsJobRead job (program_of checked) x y × TakesFrom job x y) (IsPlanRead (program_of checked) plan nodes)
           (λ left _. HasJob (Named job) left (program_of checked) × HasPlan (Named job) plan left (program_of checked) nodes) a b c
           (λ x y z first second. (first.0.has, has_plan_at job plan (program_of checked) nodes x y first second.has))
-              (told_both (IsJobRead job (program_of checked)) (TakesFrom job) a b read taken) found;
+          (told_both (IsJobRead job (program_of checked)) (TakesFrom job) a b read taken) found;
     })
 valid_refusal job plan checked nodes a b c k m (refusals.SourceFault q fault) read taken accepted found is = absurd is
 valid_refusal job plan checked nodes a b c k m refusals.ReadFault read taken accepted found is = absurd is

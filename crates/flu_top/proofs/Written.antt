@@ -133,7 +133,7 @@ pub row_line_of : (name source digits why : List ℕ) (row : ℕ) → source ≡
     → row_pieces source digits (codes ": " ++ (why ++ codes "\n")) ≡ row_line name row why
 row_line_of name source digits why row is are =
     (λ i. row_pieces (is i) (are i) (codes ": " ++ (why ++ codes "\n")))
-        ∙ joined_6 (codes "flumina: source ") name (codes " row ") (decimal row) (codes ": ") why (codes "\n")
+    ∙ joined_6 (codes "flumina: source ") name (codes " row ") (decimal row) (codes ": ") why (codes "\n")
 
 abbrev pub disordered_pieces : List ℕ → List ℕ → List ℕ → List ℕ → List ℕ
 disordered_pieces name digits last got = row_pieces name digits (codes ": disordered, last " ++ (last ++ (codes ", got " ++ (got ++ codes "\n"))))

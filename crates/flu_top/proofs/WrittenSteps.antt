@@ -24,6 +24,6 @@ pub step_line_of : (s : DrawnSteps) (mark : ℕ) → mark ≡ s.mark → step_pi
 step_line_of s mark is =
     ap (λ m. step_pieces s m ++ codes "\n") is
     ∙ joined_16 (codes "steps arrive ") (decimal s.counts.arrive) (codes " handle ") (decimal s.counts.handle) (codes " ask ") (decimal s.counts.ask)
-        (codes " take ") (decimal s.counts.take)
+    (codes " take ") (decimal s.counts.take)
     (codes " give ") (decimal s.counts.give) (codes " hold ") (decimal s.counts.hold) (codes " lend ") (decimal s.counts.lend) (codes " mark ")
-        (decimal s.mark) (codes "\n")
+    (decimal s.mark) (codes "\n")

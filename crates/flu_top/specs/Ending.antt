@@ -30,8 +30,19 @@ pub record Call : Type 0 where
 abbrev pub call : Option Contents → Option Contents → (List ℕ → ℕ) → (List ℕ → ℕ) → (List ℕ → ℕ) → (List ℕ → ℕ) → Option (List ℕ) → Option (List ℕ) → ℕ → ℕ
     → Call
 call left left_after counts counts_after puts puts_after taken taken_after count count_after =
-    record { left = left; left_after = left_after; counts = counts; counts_after = counts_after; puts = puts; puts_after = puts_after; taken =
-        taken; taken_after = taken_after; count = count; count_after = count_after }
+    record {
+      left = left;
+      left_after = left_after;
+      counts = counts;
+      counts_after = counts_after;
+      puts = puts;
+      puts_after = puts_after;
+      taken =
+          taken;
+      taken_after = taken_after;
+      count = count;
+      count_after = count_after;
+    }
 
 -- nothing was written to out
 abbrev pub WroteNothing : Call → Type 0

@@ -43,7 +43,7 @@ use Rattle.flu_top.specs.Outcome.{Outside, Said, Hears, Outcome, ReadOnly, Fault
 abbrev pub KnownStatuses : Type 0
 KnownStatuses =
     (words : List (List ℕ)) (old new : Outside) (status : ℕ) → Outcome words old new status
-        → Contains (0 ∷ 2 ∷ 3 ∷ 4 ∷ 5 ∷ 6 ∷ 7 ∷ 8 ∷ 9 ∷ 11 ∷ 12 ∷ 13 ∷ []) status
+    → Contains (0 ∷ 2 ∷ 3 ∷ 4 ∷ 5 ∷ 6 ∷ 7 ∷ 8 ∷ 9 ∷ 11 ∷ 12 ∷ 13 ∷ []) status
 
 -- status 0: all that the command reads was read to its end, out got what it writes, and err what it says
 abbrev pub DoneIsDone : Type 0
@@ -76,7 +76,7 @@ AdaptedPlanIsHeard =
     → (line : List ℕ) × IsSomePlanText line × Said old new line
     × WhereTold old.left new.left (λ left _. (p : Program) × HasJob (Named job) left p
     × ((text : List ℕ) × Writes (Run job plan (record { adapt = false; save = save; resume = resume })) left p text
-        × WhereTold old.out new.out (AppendsAll text))
+    × WhereTold old.out new.out (AppendsAll text))
     × IsObservedText (job ∷ if_named plan) resume left p line)
 
 -- status 2 comes exactly where the words are no command
@@ -155,7 +155,7 @@ ReadFaultLine =
 abbrev pub WriteFaultRose : Type 0
 WriteFaultRose =
     (words : List (List ℕ)) (left : Option Contents) (before now : Faults) (status : ℕ) → FaultsFirst words left before now status → status ≡ 8
-        → Rose before.out now.out
+    → Rose before.out now.out
 
 -- status 8: out got a front of what the command writes, which is not all of it. All was read; or, in rounds, what those up to some one
 -- wrote stands there, and fewer than all bytes of the next one's report
@@ -236,7 +236,7 @@ ResumedRunsGoOn =
     (p : Program) (lists : List (List Item)) (t : ℕ)
     → report p (final_outputs p nothing_held lists)
     ≡ report p (final_outputs p nothing_held (up_to t lists)) ++ report p
-        (final_outputs p (final_state p nothing_held (up_to t lists)) (lists_above (Some t) lists))
+    (final_outputs p (final_state p nothing_held (up_to t lists)) (lists_above (Some t) lists))
 
 -- ---- demo
 -- `demo` reads no file

@@ -119,7 +119,7 @@ job_fault_line fault = job_line (job_fault_text fault)
 abbrev pub conflict_line : CheckFault → List ℕ
 conflict_line fault =
     codes "flumina: conflict: " ++ text_of_tag fault.program fault.a ++ codes " and " ++ text_of_tag fault.program fault.b ++ codes " on " ++ text_of_cell
-        fault.program fault.cell ++ codes "\n"
+    fault.program fault.cell ++ codes "\n"
 
 -- the line of what is wrong with a plan
 abbrev pub plan_line : List ℕ → List ℕ

@@ -12,8 +12,14 @@ loop-number-preserved c =
     let lists = listed c.args.s.now in
     let number = c.loop-number.number in
     let counts = c.loop-number.counts.items in
-    let lt : number < length counts = omega (arith, c.loop-number-test.true, c.itag_count-number-end.ensures, c.requires.one_each,
-        c.loop-number.invariant.len, c.args.counts.now.ok) in
+    let lt : number < length counts = omega (
+      arith,
+      c.loop-number-test.true,
+      c.itag_count-number-end.ensures,
+      c.requires.one_each,
+      c.loop-number.invariant.len,
+      c.args.counts.now.ok,
+    ) in
     let was = c.index_mut-count.ensures.value ∙ get_or_default counts number c.index_mut-count.result.now 0 lt in
     one_more number (merged lists) c.args.counts.now.items counts c.saturating_add.result c.event_count-events.result c.loop-number.invariant lt
     (c.saturating_add.ensures ∙ ap (λ count. counted_on count c.event_count-events.result) was)

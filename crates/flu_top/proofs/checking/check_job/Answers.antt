@@ -9,12 +9,12 @@ use Rattle.flu_top.proofs.checking.check_job.Goals as goal
 pub returns-in-Ok-clause-written : goal.returns-in-Ok-clause-written
 returns-in-Ok-clause-written g c =
     IfOk-weaker c.normal_form_of.result _ _ (λ text checked. is_checked c.args.job.now c.in-Ok.program text _ _ c.in-Ok.ensures.read checked)
-        c.normal_form_of.ensures.checked
+    c.normal_form_of.ensures.checked
 
 pub returns-in-Ok-clause-refused : goal.returns-in-Ok-clause-refused
 returns-in-Ok-clause-refused g c =
     IfErr-weaker c.normal_form_of.result _ _ (λ refusal refused. check_refusal
-        (Check c.args.job.now) c.args.job.now c.in-Ok.program _ _ _ _ refusal refl refl c.in-Ok.ensures.read refused) c.normal_form_of.ensures.refused
+    (Check c.args.job.now) c.args.job.now c.in-Ok.program _ _ _ _ refusal refl refl c.in-Ok.ensures.read refused) c.normal_form_of.ensures.refused
 
 pub returns-in-Ok-clause-fronts : goal.returns-in-Ok-clause-fronts
 returns-in-Ok-clause-fronts g c = fronts_at c.args.job.now _ _ c.in-Ok.ensures.taken

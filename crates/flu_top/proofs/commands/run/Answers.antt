@@ -12,64 +12,64 @@ use Rattle.flu_top.proofs.commands.run.Goals as goal
 pub returns-in-Fold-clause-ends : goal.returns-in-Fold-clause-ends
 returns-in-Fold-clause-ends g c =
     ends_text (call (g.F.Files.left c.args.files.now) (g.F.Files.left c.fold_job.new.files) (g.F.Files.faults c.args.files.now)
-        (g.F.Files.faults c.fold_job.new.files) (g.F.Files.put_faults c.args.files.now) (g.F.Files.put_faults c.fold_job.new.files)
-        (g.K.Sink.taken c.args.out.now) (g.K.Sink.taken c.put_text.new.out) (g.K.Sink.faults c.args.out.now) (g.K.Sink.faults c.put_text.new.out))
+    (g.F.Files.faults c.fold_job.new.files) (g.F.Files.put_faults c.args.files.now) (g.F.Files.put_faults c.fold_job.new.files)
+    (g.K.Sink.taken c.args.out.now) (g.K.Sink.taken c.put_text.new.out) (g.K.Sink.faults c.args.out.now) (g.K.Sink.faults c.put_text.new.out))
     (plain_command c.args.command) (Fold c.in-Fold.job.now) c.fold_job.result c.put_text.result (ap plain_command c.in-Fold.is)
-        (λ e. cc) refl c.fold_job.ensures.written c.fold_job.ensures.refused c.put_text.ensures
+    (λ e. cc) refl c.fold_job.ensures.written c.fold_job.ensures.refused c.put_text.ensures
 
 pub returns-in-Check-clause-ends : goal.returns-in-Check-clause-ends
 returns-in-Check-clause-ends g c =
     ends_text (call (g.F.Files.left c.args.files.now) (g.F.Files.left c.check_job.new.files) (g.F.Files.faults c.args.files.now)
-        (g.F.Files.faults c.check_job.new.files) (g.F.Files.put_faults c.args.files.now) (g.F.Files.put_faults c.check_job.new.files)
-        (g.K.Sink.taken c.args.out.now) (g.K.Sink.taken c.put_text-in-Check.new.out) (g.K.Sink.faults c.args.out.now)
-        (g.K.Sink.faults c.put_text-in-Check.new.out))
+    (g.F.Files.faults c.check_job.new.files) (g.F.Files.put_faults c.args.files.now) (g.F.Files.put_faults c.check_job.new.files)
+    (g.K.Sink.taken c.args.out.now) (g.K.Sink.taken c.put_text-in-Check.new.out) (g.K.Sink.faults c.args.out.now)
+    (g.K.Sink.faults c.put_text-in-Check.new.out))
     (plain_command c.args.command) (Check c.in-Check.job.now) c.check_job.result c.put_text-in-Check.result (ap plain_command c.in-Check.is)
-        (λ e. cc) refl c.check_job.ensures.written c.check_job.ensures.refused c.put_text-in-Check.ensures
+    (λ e. cc) refl c.check_job.ensures.written c.check_job.ensures.refused c.put_text-in-Check.ensures
 
 pub returns-in-Valid-clause-ends : goal.returns-in-Valid-clause-ends
 returns-in-Valid-clause-ends g c =
     ends_text (call (g.F.Files.left c.args.files.now) (g.F.Files.left c.valid_plan.new.files) (g.F.Files.faults c.args.files.now)
-        (g.F.Files.faults c.valid_plan.new.files) (g.F.Files.put_faults c.args.files.now) (g.F.Files.put_faults c.valid_plan.new.files)
-        (g.K.Sink.taken c.args.out.now) (g.K.Sink.taken c.put_text-in-Valid.new.out) (g.K.Sink.faults c.args.out.now)
-        (g.K.Sink.faults c.put_text-in-Valid.new.out))
+    (g.F.Files.faults c.valid_plan.new.files) (g.F.Files.put_faults c.args.files.now) (g.F.Files.put_faults c.valid_plan.new.files)
+    (g.K.Sink.taken c.args.out.now) (g.K.Sink.taken c.put_text-in-Valid.new.out) (g.K.Sink.faults c.args.out.now)
+    (g.K.Sink.faults c.put_text-in-Valid.new.out))
     (plain_command c.args.command) (Valid c.in-Valid.job.now c.in-Valid.plan.now) c.valid_plan.result c.put_text-in-Valid.result
-        (ap plain_command c.in-Valid.is) (λ e. cc) refl c.valid_plan.ensures.written c.valid_plan.ensures.refused c.put_text-in-Valid.ensures
+    (ap plain_command c.in-Valid.is) (λ e. cc) refl c.valid_plan.ensures.written c.valid_plan.ensures.refused c.put_text-in-Valid.ensures
 
 pub returns-in-Plan-clause-ends : goal.returns-in-Plan-clause-ends
 returns-in-Plan-clause-ends g c =
     ends_text (call (g.F.Files.left c.args.files.now) (g.F.Files.left c.plan_job.new.files) (g.F.Files.faults c.args.files.now)
-        (g.F.Files.faults c.plan_job.new.files) (g.F.Files.put_faults c.args.files.now) (g.F.Files.put_faults c.plan_job.new.files)
-        (g.K.Sink.taken c.args.out.now) (g.K.Sink.taken c.put_text-in-Plan.new.out) (g.K.Sink.faults c.args.out.now)
-        (g.K.Sink.faults c.put_text-in-Plan.new.out))
+    (g.F.Files.faults c.plan_job.new.files) (g.F.Files.put_faults c.args.files.now) (g.F.Files.put_faults c.plan_job.new.files)
+    (g.K.Sink.taken c.args.out.now) (g.K.Sink.taken c.put_text-in-Plan.new.out) (g.K.Sink.faults c.args.out.now)
+    (g.K.Sink.faults c.put_text-in-Plan.new.out))
     (plain_command c.args.command) (Plan c.in-Plan.job.now c.in-Plan.depth.levels) c.plan_job.result c.put_text-in-Plan.result
-        (ap plain_command c.in-Plan.is) (λ e. cc) refl c.plan_job.ensures.written c.plan_job.ensures.refused c.put_text-in-Plan.ensures
+    (ap plain_command c.in-Plan.is) (λ e. cc) refl c.plan_job.ensures.written c.plan_job.ensures.refused c.put_text-in-Plan.ensures
 
 pub returns-in-Simulate-clause-ends : goal.returns-in-Simulate-clause-ends
 returns-in-Simulate-clause-ends g c =
     ends_product (call (g.F.Files.left c.args.files.now) (g.F.Files.left c.simulate_planned.new.files) (g.F.Files.faults c.args.files.now)
-        (g.F.Files.faults c.simulate_planned.new.files) (g.F.Files.put_faults c.args.files.now) (g.F.Files.put_faults c.simulate_planned.new.files)
-        (g.K.Sink.taken c.args.out.now) (g.K.Sink.taken c.put.new.out) (g.K.Sink.faults c.args.out.now) (g.K.Sink.faults c.put.new.out))
+    (g.F.Files.faults c.simulate_planned.new.files) (g.F.Files.put_faults c.args.files.now) (g.F.Files.put_faults c.simulate_planned.new.files)
+    (g.K.Sink.taken c.args.out.now) (g.K.Sink.taken c.put.new.out) (g.K.Sink.faults c.args.out.now) (g.K.Sink.faults c.put.new.out))
     (plain_command c.args.command) (Simulate c.in-Simulate.job.now c.in-Simulate.plan.now c.in-Simulate.seed.number c.in-Simulate.trace)
-        c.simulate_planned.result c.put.result (ap plain_command c.in-Simulate.is) (λ e. cc)
+    c.simulate_planned.result c.put.result (ap plain_command c.in-Simulate.is) (λ e. cc)
     c.simulate_planned.ensures.written c.simulate_planned.ensures.says c.simulate_planned.ensures.refused c.put.ensures
 
 pub returns-in-Replay-clause-ends : goal.returns-in-Replay-clause-ends
 returns-in-Replay-clause-ends g c =
     ends_text (call (g.F.Files.left c.args.files.now) (g.F.Files.left c.replay_planned.new.files) (g.F.Files.faults c.args.files.now)
-        (g.F.Files.faults c.replay_planned.new.files) (g.F.Files.put_faults c.args.files.now) (g.F.Files.put_faults c.replay_planned.new.files)
-        (g.K.Sink.taken c.args.out.now) (g.K.Sink.taken c.put_text-in-Replay.new.out) (g.K.Sink.faults c.args.out.now)
-        (g.K.Sink.faults c.put_text-in-Replay.new.out))
+    (g.F.Files.faults c.replay_planned.new.files) (g.F.Files.put_faults c.args.files.now) (g.F.Files.put_faults c.replay_planned.new.files)
+    (g.K.Sink.taken c.args.out.now) (g.K.Sink.taken c.put_text-in-Replay.new.out) (g.K.Sink.faults c.args.out.now)
+    (g.K.Sink.faults c.put_text-in-Replay.new.out))
     (plain_command c.args.command) (Replay c.in-Replay.job.now c.in-Replay.plan.now c.in-Replay.trace.now) c.replay_planned.result
-        c.put_text-in-Replay.result (ap plain_command c.in-Replay.is) (λ e. cc) refl c.replay_planned.ensures.written c.replay_planned.ensures.refused
-        c.put_text-in-Replay.ensures
+    c.put_text-in-Replay.result (ap plain_command c.in-Replay.is) (λ e. cc) refl c.replay_planned.ensures.written c.replay_planned.ensures.refused
+    c.put_text-in-Replay.ensures
 
 pub returns-in-Demo-clause-ends : goal.returns-in-Demo-clause-ends
 returns-in-Demo-clause-ends g c =
     ends_product (call (g.F.Files.left c.args.files.now) (g.F.Files.left c.args.files.now) (g.F.Files.faults c.args.files.now)
-        (g.F.Files.faults c.args.files.now) (g.F.Files.put_faults c.args.files.now) (g.F.Files.put_faults c.args.files.now) (g.K.Sink.taken c.args.out.now)
-        (g.K.Sink.taken c.put-in-Demo.new.out) (g.K.Sink.faults c.args.out.now) (g.K.Sink.faults c.put-in-Demo.new.out))
+    (g.F.Files.faults c.args.files.now) (g.F.Files.put_faults c.args.files.now) (g.F.Files.put_faults c.args.files.now) (g.K.Sink.taken c.args.out.now)
+    (g.K.Sink.taken c.put-in-Demo.new.out) (g.K.Sink.faults c.args.out.now) (g.K.Sink.faults c.put-in-Demo.new.out))
     (plain_command c.args.command) (Demo c.in-Demo.n.count c.in-Demo.seed.number) c.demo.result c.put-in-Demo.result (ap plain_command c.in-Demo.is)
-        (λ e. cc) c.demo.ensures.written c.demo.ensures.says
+    (λ e. cc) c.demo.ensures.written c.demo.ensures.says
     (refused_anyhow c.in-Demo.n.count c.in-Demo.seed.number c.demo.result _ _ _ _ c.demo.ensures.refused) c.put-in-Demo.ensures
 
 pub returns-in-Fold-clause-fronts : goal.returns-in-Fold-clause-fronts
@@ -119,5 +119,5 @@ pub returns-in-Run-clause-only : goal.returns-in-Run-clause-only
 returns-in-Run-clause-only g c =
     let left = g.F.Files.left c.args.files.now in
     subst (λ (d : Command). WhereTold left (g.F.Files.left c.run_job.new.files)
-        (TookOnly (λ name. IsReadName left d name ⊎ IsPutAt d (status_after c.run_job.result) name))) (sym (ap plain_command c.in-Run.is))
+    (TookOnly (λ name. IsReadName left d name ⊎ IsPutAt d (status_after c.run_job.result) name))) (sym (ap plain_command c.in-Run.is))
     c.run_job.ensures.only

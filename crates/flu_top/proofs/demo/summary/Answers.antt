@@ -7,5 +7,5 @@ pub returns : goal.returns
 returns c =
     c.of.ensures ∙ c.in_ok-text.ensures.ok
     ∙ ap (λ (lines : ℕ). codes "demo events " ++ (decimal c.args.events ++
-        (codes " lines " ++ (decimal lines ++ (codes " bytes " ++ (decimal (length c.args.report.now) ++ codes "\n"))))))
+    (codes " lines " ++ (decimal lines ++ (codes " bytes " ++ (decimal (length c.args.report.now) ++ codes "\n"))))))
     (c.lines_in-lines.ensures ∙ ap lines_in c.as_bytes.ensures.value)

@@ -2,5 +2,10 @@ use Rattle.flu_top.proofs.LawsOfOutcome.{completes_law}
 use Rattle.flu_top.proofs.laws.completes_by_faults.Goals as goal
 
 pub returns : goal.returns
-returns c = completes_law (record { jobs = c.jobs_are_grammar.ensures; plans = c.plans_are_grammar.ensures; meeting =
-    c.rounds_meet_what_is_there.ensures.meeting; saves = c.faults_are_no_checkpoints.ensures })
+returns c = completes_law (record {
+  jobs = c.jobs_are_grammar.ensures;
+  plans = c.plans_are_grammar.ensures;
+  meeting =
+      c.rounds_meet_what_is_there.ensures.meeting;
+  saves = c.faults_are_no_checkpoints.ensures;
+})

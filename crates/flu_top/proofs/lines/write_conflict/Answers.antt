@@ -12,7 +12,7 @@ returns-in_err-write_all g c =
     let b = text_of_tag p c.args.fault.now.b in
     let on = text_of_cell p c.args.fault.now.cell in
     writes_front (codes "flumina: conflict: ") ((a ++ codes " and ") ++ ((b ++ codes " on ") ++ (on ++ codes "\n")))
-        (conflict_text a b on) _ _ _ _ _ c.from_residual.result
+    (conflict_text a b on) _ _ _ _ _ c.from_residual.result
     (conflict_head a b on) c.from_residual.ensures.0 c.in_err-write_all.ensures
 
 pub returns-in_err-write_tag : goal.returns-in_err-write_tag
@@ -22,7 +22,7 @@ returns-in_err-write_tag g c =
     let b = text_of_tag p c.args.fault.now.b in
     let on = text_of_cell p c.args.fault.now.cell in
     writes_front (codes "flumina: conflict: " ++ (a ++ codes " and ")) ((b ++ codes " on ") ++ (on ++ codes "\n"))
-        (conflict_text a b on) _ _ _ _ _ c.from_residual-in_err-write_tag.result
+    (conflict_text a b on) _ _ _ _ _ c.from_residual-in_err-write_tag.result
     (conflict_first a b on) c.from_residual-in_err-write_tag.ensures.0
     (writes_more (codes "flumina: conflict: ") (a ++ codes " and ") _ _ _ _ _ _ _ c.in_ok-write_all.ensures c.in_err-write_tag.ensures)
 
@@ -33,11 +33,11 @@ returns-in_err-write_tag-2 g c =
     let b = text_of_tag p c.args.fault.now.b in
     let on = text_of_cell p c.args.fault.now.cell in
     writes_front ((codes "flumina: conflict: " ++ (a ++ codes " and ")) ++ (b ++ codes " on ")) (on ++ codes "\n")
-        (conflict_text a b on) _ _ _ _ _ c.from_residual-in_err-write_tag-2.result
+    (conflict_text a b on) _ _ _ _ _ c.from_residual-in_err-write_tag-2.result
     (conflict_second a b on) c.from_residual-in_err-write_tag-2.ensures.0
     (writes_more (codes "flumina: conflict: " ++ (a ++ codes " and ")) (b ++ codes " on ") _ _ _ _ _ _ _
     (writes_more (codes "flumina: conflict: ") (a ++ codes " and ") _ _ _ _ _ _ _ c.in_ok-write_all.ensures c.in_ok-write_tag.ensures)
-        c.in_err-write_tag-2.ensures)
+    c.in_err-write_tag-2.ensures)
 
 pub returns : goal.returns
 returns g c =
@@ -46,9 +46,9 @@ returns g c =
     let b = text_of_tag p c.args.fault.now.b in
     let on = text_of_cell p c.args.fault.now.cell in
     writes_both ((codes "flumina: conflict: " ++ (a ++ codes " and ")) ++ (b ++ codes " on ")) (on ++ codes "\n")
-        (conflict_text a b on) _ _ _ _ _ _ c.write_cell.result
+    (conflict_text a b on) _ _ _ _ _ _ c.write_cell.result
     (conflict_second a b on)
     (writes_more (codes "flumina: conflict: " ++ (a ++ codes " and ")) (b ++ codes " on ") _ _ _ _ _ _ _
     (writes_more (codes "flumina: conflict: ") (a ++ codes " and ") _ _ _ _ _ _ _ c.in_ok-write_all.ensures c.in_ok-write_tag.ensures)
-        c.in_ok-write_tag-2.ensures)
+    c.in_ok-write_tag-2.ensures)
     c.write_cell.ensures

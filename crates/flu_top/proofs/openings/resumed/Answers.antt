@@ -27,7 +27,7 @@ returns-in_err-saved-clause-refused g c =
     c.from_residual-in_err-saved.result (refusal_of_save fault)
     (err_from_is_err_and c.from_residual-in_err-saved.result c.from_residual-in_err-saved.ensures.1)
     (checkpoint_is_refused p name c.in_ok-bytes.bytes.items fault _ _ (faults c.args.files.now)
-        (faults c.read_whole.new.files) c.in_ok-bytes.ensures.whole fails)
+    (faults c.read_whole.new.files) c.in_ok-bytes.ensures.whole fails)
 
 pub returns-in_err-saved-clause-fronts : goal.returns-in_err-saved-clause-fronts
 returns-in_err-saved-clause-fronts g c = fronts_at c.args.name.now _ _ c.read_whole.ensures.taken

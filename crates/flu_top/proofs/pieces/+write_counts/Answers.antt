@@ -12,7 +12,7 @@ returns g t c =
     let others = concat (map bytes (take (length counts - 1) (drop 1 counts))) in
     let written = writes_as _ (bytes first) _ _ _ _ (Ok tt)
     (counted_pieces c.as_bytes-word.result.now c.as_bytes-digits.result.now first.0.now first.1 c.as_bytes-word.ensures.value
-        (c.as_bytes-digits.ensures.value ∙ c.format.ensures.text))
+    (c.as_bytes-digits.ensures.value ∙ c.format.ensures.text))
     c.in_ok-write_pieces.ensures in
     writes_as _ _ _ _ _ _ c.write_counts.result (pieces_split bytes counts _ c.in-len1-up.len_at_least)
     (writes_more (bytes first) others _ _ _ _ _ _ c.write_counts.result written c.write_counts.ensures)

@@ -10,15 +10,15 @@ returns-in_err-write_itag g c =
     let itag = itag_text c.args.program.now c.args.itag in
     let node = node_name c.args.plan.now.nodes c.args.node in
     writes_front (itag ++ codes " at ") (c.as_bytes-name.result.now ++ (c.args.behind.now ++ []))
-        ((itag ++ codes " at " ++ node) ++ c.args.behind.now) _ _ _ _ _ c.from_residual.result
+    ((itag ++ codes " at " ++ node) ++ c.args.behind.now) _ _ _ _ _ c.from_residual.result
     (owned_steps itag c.as_bytes-name.result.now node c.args.behind.now (c.as_bytes-name.ensures.value ∙ c.node_name.ensures)) c.from_residual.ensures.0
-        c.in_err-write_itag.ensures
+    c.in_err-write_itag.ensures
 
 pub returns : goal.returns
 returns g c =
     let itag = itag_text c.args.program.now c.args.itag in
     let node = node_name c.args.plan.now.nodes c.args.node in
     writes_both (itag ++ codes " at ") (c.as_bytes-name.result.now ++ (c.args.behind.now ++ []))
-        ((itag ++ codes " at " ++ node) ++ c.args.behind.now) _ _ _ _ _ _ c.write_pieces.result
+    ((itag ++ codes " at " ++ node) ++ c.args.behind.now) _ _ _ _ _ _ c.write_pieces.result
     (owned_steps itag c.as_bytes-name.result.now node c.args.behind.now (c.as_bytes-name.ensures.value ∙ c.node_name.ensures)) c.in_ok-write_itag.ensures
-        c.write_pieces.ensures
+    c.write_pieces.ensures

@@ -15,7 +15,7 @@ returns-in_err-write_all g c =
     let second = c.as_bytes-second.result.now in
     let line = plan_line (itag ++ codes " has two owners, " ++ a ++ codes " and " ++ b) in
     writes_front (codes "flumina: plan: ") ((itag ++ codes " has two owners, ") ++ (first ++ (codes " and " ++ (second ++ codes "\n")))) line _ _ _ _ _
-        c.from_residual.result
+    c.from_residual.result
     (twice_steps itag first second a b (c.as_bytes-first.ensures.value ∙ c.node_name.ensures) (c.as_bytes-second.ensures.value ∙ c.node_name-2.ensures))
     c.from_residual.ensures.0 c.in_err-write_all.ensures
 
@@ -28,7 +28,7 @@ returns-in_err-write_itag g c =
     let second = c.as_bytes-second.result.now in
     let line = plan_line (itag ++ codes " has two owners, " ++ a ++ codes " and " ++ b) in
     writes_front (codes "flumina: plan: " ++ (itag ++ codes " has two owners, "))
-        (first ++ (codes " and " ++ (second ++ codes "\n"))) line _ _ _ _ _ c.from_residual-in_err-write_itag.result
+    (first ++ (codes " and " ++ (second ++ codes "\n"))) line _ _ _ _ _ c.from_residual-in_err-write_itag.result
     (first_two (codes "flumina: plan: ") (itag ++ codes " has two owners, ") (first ++ (codes " and " ++ (second ++ codes "\n"))) line
     (twice_steps itag first second a b (c.as_bytes-first.ensures.value ∙ c.node_name.ensures) (c.as_bytes-second.ensures.value ∙ c.node_name-2.ensures)))
     c.from_residual-in_err-write_itag.ensures.0
@@ -43,8 +43,8 @@ returns g c =
     let second = c.as_bytes-second.result.now in
     let line = plan_line (itag ++ codes " has two owners, " ++ a ++ codes " and " ++ b) in
     writes_both (codes "flumina: plan: " ++ (itag ++ codes " has two owners, "))
-        (first ++ (codes " and " ++ (second ++ codes "\n"))) line _ _ _ _ _ _ c.write_pieces.result
+    (first ++ (codes " and " ++ (second ++ codes "\n"))) line _ _ _ _ _ _ c.write_pieces.result
     (first_two (codes "flumina: plan: ") (itag ++ codes " has two owners, ") (first ++ (codes " and " ++ (second ++ codes "\n"))) line
     (twice_steps itag first second a b (c.as_bytes-first.ensures.value ∙ c.node_name.ensures) (c.as_bytes-second.ensures.value ∙ c.node_name-2.ensures)))
     (writes_more (codes "flumina: plan: ") (itag ++ codes " has two owners, ") _ _ _ _ _ _ _ c.in_ok-write_all.ensures c.in_ok-write_itag.ensures)
-        c.write_pieces.ensures
+    c.write_pieces.ensures

@@ -24,12 +24,12 @@ returns-in-Err-plan_of-clause-refused g c =
     let faults = g.F.Files.faults in
     let p = program_of c.in-Ok-accepted.checked in
     let read = subst (λ q. WhereTold (left c.args.files.now) (left c.program_of.new.files) (IsJobRead c.args.job.now q))
-        (sym c.in-Ok-accepted.ensures.same) c.in-Ok.ensures.read in
+    (sym c.in-Ok-accepted.ensures.same) c.in-Ok.ensures.read in
     let refused = subst (λ q. IsTextRefusal q c.args.plan.now (left c.program_of.new.files) (left c.plan_of.new.files) (faults c.program_of.new.files)
-        (faults c.plan_of.new.files) c.in-Err-plan_of.refusal) c.program.ensures c.in-Err-plan_of.ensures.refused in
+    (faults c.plan_of.new.files) c.in-Err-plan_of.refusal) c.program.ensures c.in-Err-plan_of.ensures.refused in
     text_refusal c.args.job.now c.args.plan.now p (left c.args.files.now) (left c.program_of.new.files) (left c.plan_of.new.files) (faults c.args.files.now)
-        (faults c.program_of.new.files) (faults c.plan_of.new.files) c.in-Err-plan_of.refusal read c.in-Ok.ensures.taken c.in-Ok.ensures.counts
-        c.in-Ok-accepted.ensures.accepted refused
+    (faults c.program_of.new.files) (faults c.plan_of.new.files) c.in-Err-plan_of.refusal read c.in-Ok.ensures.taken c.in-Ok.ensures.counts
+    c.in-Ok-accepted.ensures.accepted refused
 
 pub returns-in-Err-plan_of-clause-fronts : goal.returns-in-Err-plan_of-clause-fronts
 returns-in-Err-plan_of-clause-fronts g c = fronts_then _ _ _ (fronts_at c.args.job.now _ _ c.in-Ok.ensures.taken)
@@ -39,9 +39,9 @@ pub returns-in-Err-plan_of-clause-only : goal.returns-in-Err-plan_of-clause-only
 returns-in-Err-plan_of-clause-only g c =
     let left = g.F.Files.left in
     let read = subst (λ q. WhereTold (left c.args.files.now) (left c.program_of.new.files) (IsJobRead c.args.job.now q))
-        (sym c.in-Ok-accepted.ensures.same) c.in-Ok.ensures.read in
+    (sym c.in-Ok-accepted.ensures.same) c.in-Ok.ensures.read in
     only_with_plan c.args.job.now c.args.plan.now (program_of c.in-Ok-accepted.checked) _ _ _ read c.in-Ok.ensures.taken c.in-Ok-accepted.ensures.accepted
-        c.in-Err-plan_of.ensures.taken
+    c.in-Err-plan_of.ensures.taken
 
 pub returns-in-Ok-validate-clause-fronts : goal.returns-in-Ok-validate-clause-fronts
 returns-in-Ok-validate-clause-fronts g c = fronts_then _ _ _ (fronts_at c.args.job.now _ _ c.in-Ok.ensures.taken)
@@ -51,9 +51,9 @@ pub returns-in-Ok-validate-clause-only : goal.returns-in-Ok-validate-clause-only
 returns-in-Ok-validate-clause-only g c =
     let left = g.F.Files.left in
     let read = subst (λ q. WhereTold (left c.args.files.now) (left c.program_of.new.files) (IsJobRead c.args.job.now q))
-        (sym c.in-Ok-accepted.ensures.same) c.in-Ok.ensures.read in
+    (sym c.in-Ok-accepted.ensures.same) c.in-Ok.ensures.read in
     only_with_plan c.args.job.now c.args.plan.now (program_of c.in-Ok-accepted.checked) _ _ _ read c.in-Ok.ensures.taken c.in-Ok-accepted.ensures.accepted
-        c.in-Ok-plan_of.ensures.taken
+    c.in-Ok-plan_of.ensures.taken
 
 pub returns-in-Err-validate-clause-fronts : goal.returns-in-Err-validate-clause-fronts
 returns-in-Err-validate-clause-fronts g c = fronts_then _ _ _ (fronts_at c.args.job.now _ _ c.in-Ok.ensures.taken)
@@ -63,9 +63,9 @@ pub returns-in-Err-validate-clause-only : goal.returns-in-Err-validate-clause-on
 returns-in-Err-validate-clause-only g c =
     let left = g.F.Files.left in
     let read = subst (λ q. WhereTold (left c.args.files.now) (left c.program_of.new.files) (IsJobRead c.args.job.now q))
-        (sym c.in-Ok-accepted.ensures.same) c.in-Ok.ensures.read in
+    (sym c.in-Ok-accepted.ensures.same) c.in-Ok.ensures.read in
     only_with_plan c.args.job.now c.args.plan.now (program_of c.in-Ok-accepted.checked) _ _ _ read c.in-Ok.ensures.taken c.in-Ok-accepted.ensures.accepted
-        c.in-Ok-plan_of.ensures.taken
+    c.in-Ok-plan_of.ensures.taken
 
 pub returns-in-Ok-validate-clause-ready : goal.returns-in-Ok-validate-clause-ready
 returns-in-Ok-validate-clause-ready g c =
@@ -73,9 +73,9 @@ returns-in-Ok-validate-clause-ready g c =
     let p = program_of c.in-Ok-accepted.checked in
     let nodes = c.in-Ok-plan_of.found.nodes in
     let read = subst (λ q. WhereTold (left c.args.files.now) (left c.program_of.new.files) (IsJobRead c.args.job.now q))
-        (sym c.in-Ok-accepted.ensures.same) c.in-Ok.ensures.read in
+    (sym c.in-Ok-accepted.ensures.same) c.in-Ok.ensures.read in
     let found = subst (λ q. WhereTold (left c.program_of.new.files) (left c.plan_of.new.files) (IsPlanRead q c.args.plan.now nodes)) c.program.ensures
-        c.in-Ok-plan_of.ensures.read in
+    c.in-Ok-plan_of.ensures.read in
     let valid = subst (λ x. IsValid p x.nodes) c.in-Ok-validate.ensures.plan c.in-Ok-validate.ensures.of.valid in
     is_ready c.args.job.now c.args.plan.now p nodes _ _ _ read c.in-Ok.ensures.taken found c.in-Ok-plan_of.ensures.taken valid
 
@@ -85,11 +85,11 @@ returns-in-Ok-validate-clause-nodes g c =
     let p = program_of c.in-Ok-accepted.checked in
     let nodes = c.in-Ok-plan_of.found.nodes in
     let read = subst (λ q. WhereTold (left c.args.files.now) (left c.program_of.new.files) (IsJobRead c.args.job.now q))
-        (sym c.in-Ok-accepted.ensures.same) c.in-Ok.ensures.read in
+    (sym c.in-Ok-accepted.ensures.same) c.in-Ok.ensures.read in
     let found = subst (λ q. WhereTold (left c.program_of.new.files) (left c.plan_of.new.files) (IsPlanRead q c.args.plan.now nodes)) c.program.ensures
-        c.in-Ok-plan_of.ensures.read in
+    c.in-Ok-plan_of.ensures.read in
     subst (λ x. WhereTold (left c.args.files.now) (left c.plan_of.new.files) (HasNodes c.args.job.now c.args.plan.now p x.nodes))
-        (sym c.in-Ok-validate.ensures.plan)
+    (sym c.in-Ok-validate.ensures.plan)
     (has_nodes c.args.job.now c.args.plan.now p nodes _ _ _ read c.in-Ok.ensures.taken found)
 
 pub returns-in-Err-validate-clause-refused : goal.returns-in-Err-validate-clause-refused
@@ -100,11 +100,17 @@ returns-in-Err-validate-clause-refused g c =
     let nodes = c.in-Ok-plan_of.found.nodes in
     let fault = c.in-Err-validate.fault in
     let read = subst (λ q. WhereTold (left c.args.files.now) (left c.program_of.new.files) (IsJobRead c.args.job.now q))
-        (sym c.in-Ok-accepted.ensures.same) c.in-Ok.ensures.read in
+    (sym c.in-Ok-accepted.ensures.same) c.in-Ok.ensures.read in
     let found = subst (λ q. WhereTold (left c.program_of.new.files) (left c.plan_of.new.files) (IsPlanRead q c.args.plan.now nodes)) c.program.ensures
-        c.in-Ok-plan_of.ensures.read in
+    c.in-Ok-plan_of.ensures.read in
     valid_refusal c.args.job.now c.args.plan.now checked nodes (left c.args.files.now) (left c.program_of.new.files) (left c.plan_of.new.files)
-        (faults c.args.files.now) (faults c.plan_of.new.files)
-    (refusals.PlanDefect (defects.Invalid checked fault)) read c.in-Ok.ensures.taken c.in-Ok-accepted.ensures.accepted found
-    (refl, ap (λ x. x.nodes) c.in-Err-validate.ensures.back, record { refused = λ valid. false≢true (c.in-Err-validate.ensures.valid.1 valid); first =
-        c.in-Err-validate.ensures.fault })
+    (faults c.args.files.now) (faults c.plan_of.new.files)
+    (refusals.PlanDefect (defects.Invalid checked fault)) read c.in-Ok.ensures.taken c.in-Ok-accepted.ensures.accepted found (
+      refl,
+      ap (λ x. x.nodes) c.in-Err-validate.ensures.back,
+      record {
+        refused = λ valid. false≢true (c.in-Err-validate.ensures.valid.1 valid);
+        first =
+            c.in-Err-validate.ensures.fault;
+      },
+    )

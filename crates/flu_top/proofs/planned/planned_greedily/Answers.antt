@@ -11,4 +11,4 @@ plan-requires-clause-one_each c =
 pub plan-requires-clause-small : goal.plan-requires-clause-small
 plan-requires-clause-small c =
     subst (λ (rates : List ℕ). EachIndex rates (λ k. slice_index rates k ≤ 2 ^ 40))
-        (sym (c.deref.ensures.value ∙ (c.in_ok-rates.ensures ∙ ap source_rates c.program.ensures))) (rates_are_small _)
+    (sym (c.deref.ensures.value ∙ (c.in_ok-rates.ensures ∙ ap source_rates c.program.ensures))) (rates_are_small _)

@@ -10,13 +10,13 @@ use Rattle.flu_top.proofs.planning.plan_job.Goals as goal
 pub returns-in-Ok-clause-written : goal.returns-in-Ok-clause-written
 returns-in-Ok-clause-written g c =
     IfOk-weaker c.plan_text.result _ _ (λ text planned. is_planned c.args.job.now c.args.depth.levels c.in-Ok.program text _ _ c.in-Ok.ensures.read planned)
-        c.plan_text.ensures.planned
+    c.plan_text.ensures.planned
 
 pub returns-in-Ok-clause-refused : goal.returns-in-Ok-clause-refused
 returns-in-Ok-clause-refused g c =
     IfErr-weaker c.plan_text.result _ _ (λ refusal refused. check_refusal
-        (Plan c.args.job.now c.args.depth.levels) c.args.job.now c.in-Ok.program _ _ _ _ refusal refl refl c.in-Ok.ensures.read refused)
-        c.plan_text.ensures.refused
+    (Plan c.args.job.now c.args.depth.levels) c.args.job.now c.in-Ok.program _ _ _ _ refusal refl refl c.in-Ok.ensures.read refused)
+    c.plan_text.ensures.refused
 
 pub returns-in-Ok-clause-fronts : goal.returns-in-Ok-clause-fronts
 returns-in-Ok-clause-fronts g c = fronts_at c.args.job.now _ _ c.in-Ok.ensures.taken

@@ -24,4 +24,4 @@ returns-in_err-found-clause-refused g c =
 pub returns-clause-read : goal.returns-clause-read
 returns-clause-read g c =
     plan_is_read c.plans_are_grammar.ensures c.args.program.now c.args.plan.now c.in_ok-bytes.bytes.items c.in_ok-found.found.nodes _ _
-        c.in_ok-bytes.ensures.whole (sym (ap (plan_in c.args.program.now) c.deref.ensures.value) ∙ c.in_ok-found.ensures)
+    c.in_ok-bytes.ensures.whole (sym (ap (plan_in c.args.program.now) c.deref.ensures.value) ∙ c.in_ok-found.ensures)

@@ -22,4 +22,4 @@ returns-in_err-program-clause-refused g c =
 pub returns-clause-read : goal.returns-clause-read
 returns-clause-read g c =
     job_is_read c.jobs_are_grammar.ensures c.args.job.now c.in_ok-bytes.bytes.items c.in_ok-program.program _ _ c.in_ok-bytes.ensures.whole
-        (sym (ap job_in c.deref.ensures.value) ∙ c.in_ok-program.ensures)
+    (sym (ap job_in c.deref.ensures.value) ∙ c.in_ok-program.ensures)

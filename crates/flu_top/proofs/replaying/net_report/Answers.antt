@@ -33,21 +33,21 @@ returns-in_err-outs-clause-refused g c =
     (net_refusal p nodes lists trace (left c.args.files.now) (left c.replay.new.files) (faults c.args.files.now) (faults c.replay.new.files) fault
     (told_on_net p nodes lists trace k (left c.args.files.now) (left c.replay.new.files) (ending_of fault)
     (case_from_nothing c.args.planned.now.checked c.args.planned.now.valid c.args.streams.now k c.in_ok-case.ensures.checked c.in_ok-case.ensures.valid
-        c.in_ok-case.ensures.streams
+    c.in_ok-case.ensures.streams
     (ap held c.in_ok-case.ensures.opening ∙ c.new.ensures)) c.in_err-outs.ensures.faults)
     (λ same. c.in_err-outs.ensures.cause (ap Err same)))
 
 pub returns-clause-report : goal.returns-clause-report
 returns-clause-report g c =
     run_report (program_of c.args.planned.now.checked) c.program-program.result.now c.in_ok-case.case c.args.streams.now c.in_ok-outs.outs c.in_ok-text.text
-        (ap program_of c.in_ok-case.ensures.checked)
+    (ap program_of c.in_ok-case.ensures.checked)
     c.program-program.ensures (ap held c.in_ok-case.ensures.opening ∙ c.new.ensures) c.in_ok-case.ensures.streams c.in_ok-outs.ensures.outputs
-        c.in_ok-text.ensures.order
+    c.in_ok-text.ensures.order
 
 pub returns-clause-complete : goal.returns-clause-complete
 returns-clause-complete g c =
     on_net (program_of c.args.planned.now.checked) (plan_of c.args.planned.now.valid).nodes
-        (listed c.args.streams.now) c.args.trace.now c.in_ok-case.case _ _ Complete
+    (listed c.args.streams.now) c.args.trace.now c.in_ok-case.case _ _ Complete
     (case_from_nothing c.args.planned.now.checked c.args.planned.now.valid c.args.streams.now c.in_ok-case.case c.in_ok-case.ensures.checked
-        c.in_ok-case.ensures.valid c.in_ok-case.ensures.streams
+    c.in_ok-case.ensures.valid c.in_ok-case.ensures.streams
     (ap held c.in_ok-case.ensures.opening ∙ c.new.ensures)) c.in_ok-outs.ensures.complete

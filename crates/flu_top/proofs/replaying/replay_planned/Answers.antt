@@ -30,9 +30,9 @@ returns-clause-written g c =
     let p = program_of c.in-Ok.planned.checked in
     let left = g.F.Files.left in
     let ready = ready_as_valid (Replay job plan trace) job plan p (left c.args.files.now) (left c.planned_by.new.files)
-        (replay_reads job plan trace) refl c.in-Ok.ensures.ready in
+    (replay_reads job plan trace) refl c.in-Ok.ensures.ready in
     replayed job plan trace p (plan_of c.in-Ok.planned.valid).nodes (left c.args.files.now) (left c.planned_by.new.files)
-        (left c.report_of.new.files) c.in-Ok.ensures.accepted ready c.in-Ok.ensures.nodes
+    (left c.report_of.new.files) c.in-Ok.ensures.accepted ready c.in-Ok.ensures.nodes
     c.report_of.result c.report_of.ensures.replayed c.report_of.ensures.stays
 
 pub returns-clause-refused : goal.returns-clause-refused
@@ -44,10 +44,10 @@ returns-clause-refused g c =
     let left = g.F.Files.left in
     let faults = g.F.Files.faults in
     let ready = ready_as_valid (Replay job plan trace) job plan p (left c.args.files.now) (left c.planned_by.new.files)
-        (replay_reads job plan trace) refl c.in-Ok.ensures.ready in
+    (replay_reads job plan trace) refl c.in-Ok.ensures.ready in
     IfErr-weaker c.report_of.result _ _
     (λ refusal refused. replay_refusal job plan trace p (plan_of c.in-Ok.planned.valid).nodes (left c.args.files.now) (left c.planned_by.new.files)
-        (left c.report_of.new.files) c.in-Ok.ensures.accepted ready c.in-Ok.ensures.nodes
+    (left c.report_of.new.files) c.in-Ok.ensures.accepted ready c.in-Ok.ensures.nodes
     (faults c.args.files.now) (faults c.planned_by.new.files) (faults c.report_of.new.files) refusal c.in-Ok.ensures.counts refused)
     c.report_of.ensures.refused
 
@@ -61,4 +61,4 @@ returns-clause-only g c =
     let trace = c.args.trace.now in
     let p = program_of c.in-Ok.planned.checked in
     only_replayed job plan trace p _ _ _ c.in-Ok.ensures.accepted (ready_as_valid (Replay job plan trace) job plan p _ _
-        (replay_reads job plan trace) refl c.in-Ok.ensures.ready) c.report_of.ensures.only
+    (replay_reads job plan trace) refl c.in-Ok.ensures.ready) c.report_of.ensures.only

@@ -21,9 +21,9 @@ returns-clause-replayed g c =
     let left = g.F.Files.left in
     let lists = listed c.in-Ok.streams in
     replayed_behind p (plan_of c.args.planned.valid).nodes lists c.args.trace.now (left c.args.files.now) (left c.streams_of.new.files)
-        (left c.net_report.new.files) c.net_report.result
+    (left c.net_report.new.files) c.net_report.result
     (are_read p lists _ _ c.in-Ok.ensures.good c.in-Ok.ensures.lists c.in-Ok.ensures.read_out c.streams_of.ensures.others) c.net_report.ensures.report
-        c.net_report.ensures.complete c.net_report.ensures.end c.net_report.ensures.taken
+    c.net_report.ensures.complete c.net_report.ensures.end c.net_report.ensures.taken
 
 pub returns-clause-stays : goal.returns-clause-stays
 returns-clause-stays g c =
@@ -32,7 +32,7 @@ returns-clause-stays g c =
     let lists = listed c.in-Ok.streams in
     stays_behind p lists c.args.trace.now (left c.args.files.now) (left c.streams_of.new.files) (left c.net_report.new.files) c.net_report.result
     (are_read p lists _ _ c.in-Ok.ensures.good c.in-Ok.ensures.lists c.in-Ok.ensures.read_out c.streams_of.ensures.others) c.net_report.ensures.end
-        c.net_report.ensures.taken
+    c.net_report.ensures.taken
 
 pub returns-clause-refused : goal.returns-clause-refused
 returns-clause-refused g c =
@@ -42,10 +42,10 @@ returns-clause-refused g c =
     let lists = listed c.in-Ok.streams in
     IfErr-weaker c.net_report.result _ _
     (λ refusal refused. behind_refusal p (plan_of c.args.planned.valid).nodes lists c.args.trace.now (left c.args.files.now) (left c.streams_of.new.files)
-        (left c.net_report.new.files)
+    (left c.net_report.new.files)
     (faults c.args.files.now) (faults c.streams_of.new.files) (faults c.net_report.new.files) refusal
     (are_read p lists _ _ c.in-Ok.ensures.good c.in-Ok.ensures.lists c.in-Ok.ensures.read_out c.streams_of.ensures.others) c.net_report.ensures.taken
-        c.streams_of.ensures.rise refused)
+    c.streams_of.ensures.rise refused)
     c.net_report.ensures.refused
 
 pub returns-clause-fronts : goal.returns-clause-fronts
@@ -56,4 +56,4 @@ returns-clause-only g c =
     let p = program_of c.args.planned.checked in
     let lists = listed c.in-Ok.streams in
     only_of_both p lists c.args.trace.now _ _ _ (are_read p lists _ _ c.in-Ok.ensures.good c.in-Ok.ensures.lists c.in-Ok.ensures.read_out
-        c.streams_of.ensures.others) c.net_report.ensures.taken
+    c.streams_of.ensures.others) c.net_report.ensures.taken

@@ -29,7 +29,7 @@ returns-in-None-clause-refused g c =
     let faults = g.F.Files.faults in
     subst (λ (o : Option (List ℕ)). IfErr c.greedily.result (λ (refusal : Refusal). (options : RunOptions)
     → IsRefusal (Run c.args.job.now o options) (left c.args.files.now) (left c.greedily.new.files) (faults c.args.files.now)
-        (faults c.greedily.new.files) refusal))
+    (faults c.greedily.new.files) refusal))
     (sym (ap (option_map (λ name. name.now)) c.in-None.is)) c.greedily.ensures.refused
 
 pub returns-in-None-clause-fronts : goal.returns-in-None-clause-fronts

@@ -18,13 +18,13 @@ returns-in_err-finish-clause-part g c = λ failed.
     let job = program_of c.args.engine.now.checked in
     let begun = c.in_ok-border.field-0 in
     c.halves_make_a_round.ensures.part job c.args.rounds.now c.begin.new.self.held (g.F.Files.left c.args.files.now)
-        (g.F.Files.left c.begin.new.files) begun.border begun.opening c.in_ok-state.state (listed begun.rows)
+    (g.F.Files.left c.begin.new.files) begun.border begun.opening c.in_ok-state.state (listed begun.rows)
     c.in_ok-state.outs (g.K.Sink.taken c.args.out.now) (g.K.Sink.taken c.finish.new.out)
     c.requires.program c.in_ok-border.ensures.rows (record { state' = c.in_ok-state.ensures.state; outs' = c.in_ok-state.ensures.outputs })
     (subst (λ (p : Program). AppendsPartOfReport p c.in_ok-state.outs (g.K.Sink.taken c.args.out.now) (g.K.Sink.taken c.finish.new.out))
-        (c.program-program.ensures ∙ ap program_of c.checked.ensures)
+    (c.program-program.ensures ∙ ap program_of c.checked.ensures)
     (c.finish.ensures.part (c.in_err-finish.was ∙ ap Err (sym (subst (λ (r : Result Border RoundsFault). IsErrAnd r
-        (λ (f : RoundsFault). f ≡ c.in_err-finish.field-0.0)) failed c.from_residual-in_err-finish.ensures.1)))))
+    (λ (f : RoundsFault). f ≡ c.in_err-finish.field-0.0)) failed c.from_residual-in_err-finish.ensures.1)))))
 
 pub returns-clause-written : goal.returns-clause-written
 returns-clause-written g c before behind =
@@ -35,10 +35,10 @@ returns-clause-written g c before behind =
     let round = round_of_halves job c.args.rounds.now c.finish.new.self left left' begun.border begun.opening c.in_ok-state.state (listed begun.rows)
     c.in_ok-state.outs (g.K.Sink.taken c.args.out.now) (g.K.Sink.taken c.finish.new.out)
     c.requires.program (subst (λ (h : Holding). Begins c.args.rounds.now h left left' begun.border begun.opening (listed begun.rows))
-        (sym c.finish.ensures.held) c.in_ok-border.ensures.rows)
+    (sym c.finish.ensures.held) c.in_ok-border.ensures.rows)
     (record { state' = c.in_ok-state.ensures.state; outs' = c.in_ok-state.ensures.outputs }) c.in_ok-finish.ensures.state
     (subst (λ (p : Program). AppendsReport p c.in_ok-state.outs (g.K.Sink.taken c.args.out.now) (g.K.Sink.taken c.finish.new.out))
-        (c.program-program.ensures ∙ ap program_of c.checked.ensures)
+    (c.program-program.ensures ∙ ap program_of c.checked.ensures)
     c.in_ok-finish.ensures.written) before behind in
     (round.0, round.1, λ follows. c.in_ok-state.ensures.counts follows ∙ ap (grown c.args.engine.now.counts) round.2)
 

@@ -21,12 +21,12 @@ returns-in_err-engine-clause-ends g c =
     let taken = g.K.Sink.taken in
     let count = g.K.Sink.faults in
     let k = call (left c.args.files.now) (left c.args.files.now) (counts c.args.files.now) (counts c.args.files.now) (puts c.args.files.now)
-        (puts c.args.files.now)
+    (puts c.args.files.now)
     (taken c.args.out.now) (taken c.args.out.now) (count c.args.out.now) (count c.args.out.now) in
     subst (EndsRounds c.args.adapts p o named k) (sym (given_err c.from_residual.result c.in_err-engine.field-0.0 c.from_residual.ensures.1
-        ∙ ap Err c.in_err-engine.ensures.no_memory))
+    ∙ ap Err c.in_err-engine.ensures.no_memory))
     (some_at_start c.rounds_are_folded_in_turn.ensures.none p o named (left c.args.files.now) (counts c.args.files.now) (puts c.args.files.now)
-        (taken c.args.out.now) (count c.args.out.now)).0
+    (taken c.args.out.now) (count c.args.out.now)).0
 
 pub returns-in_err-rounds-clause-ends : goal.returns-in_err-rounds-clause-ends
 returns-in_err-rounds-clause-ends g c =
@@ -39,12 +39,12 @@ returns-in_err-rounds-clause-ends g c =
     let taken = g.K.Sink.taken in
     let count = g.K.Sink.faults in
     let k = call (left c.args.files.now) (left c.args.files.now) (counts c.args.files.now) (counts c.args.files.now) (puts c.args.files.now)
-        (puts c.args.files.now)
+    (puts c.args.files.now)
     (taken c.args.out.now) (taken c.args.out.now) (count c.args.out.now) (count c.args.out.now) in
     subst (EndsRounds c.args.adapts p o named k) (sym (given_err c.from_residual-in_err-rounds.result c.in_err-rounds.field-0.0
-        c.from_residual-in_err-rounds.ensures.1 ∙ ap Err c.in_err-rounds.ensures.no_memory))
+    c.from_residual-in_err-rounds.ensures.1 ∙ ap Err c.in_err-rounds.ensures.no_memory))
     (some_at_start c.rounds_are_folded_in_turn.ensures.none p o named (left c.args.files.now) (counts c.args.files.now) (puts c.args.files.now)
-        (taken c.args.out.now) (count c.args.out.now)).0
+    (taken c.args.out.now) (count c.args.out.now)).0
 
 pub loop-said-init : goal.loop-said-init
 loop-said-init g c =
@@ -57,9 +57,9 @@ loop-said-init g c =
     let taken = g.K.Sink.taken in
     let count = g.K.Sink.faults in
     rounds_start c.args.adapts p c.in_ok-engine.engine o named (left c.args.files.now) (counts c.args.files.now) (puts c.args.files.now)
-        (taken c.args.out.now) (count c.args.out.now)
+    (taken c.args.out.now) (count c.args.out.now)
     c.in_ok-rounds.rounds (c.resumed_runs_go_on.ensures.beginning o.border o.cells)
-        (ap program_of c.in_ok-engine.ensures.checked) c.in_ok-engine.ensures.adapts c.in_ok-engine.ensures.counts
+    (ap program_of c.in_ok-engine.ensures.checked) c.in_ok-engine.ensures.adapts c.in_ok-engine.ensures.counts
     (subst (λ (q : Program). IsFirstFrom q rows_in_round o.border o.cells c.in_ok-rounds.rounds) c.program.ensures c.in_ok-rounds.ensures.first)
 
 pub returns-in_err-saved_round-clause-ends : goal.returns-in_err-saved_round-clause-ends
@@ -73,12 +73,12 @@ returns-in_err-saved_round-clause-ends g c =
     let taken = g.K.Sink.taken in
     let count = g.K.Sink.faults in
     let whole = call (left c.args.files.now) (left c.saved_round.new.files) (counts c.args.files.now) (counts c.saved_round.new.files)
-        (puts c.args.files.now) (puts c.saved_round.new.files)
+    (puts c.args.files.now) (puts c.saved_round.new.files)
     (taken c.args.out.now) (taken c.saved_round.new.out) (count c.args.out.now) (count c.saved_round.new.out) in
     subst (EndsRounds c.args.adapts p o named whole) (sym (given_err c.from_residual-in_err-saved_round.result c.in_err-saved_round.field-0.0
-        c.from_residual-in_err-saved_round.ensures.1))
+    c.from_residual-in_err-saved_round.ensures.1))
     (c.in_err-saved_round.ensures.steps c.args.adapts p o (left c.args.files.now) (counts c.args.files.now) (puts c.args.files.now) (taken c.args.out.now)
-        (count c.args.out.now) c.requires.apart c.loop-said.invariant).0
+    (count c.args.out.now) c.requires.apart c.loop-said.invariant).0
 
 pub returns-in_err-saved_round-clause-within : goal.returns-in_err-saved_round-clause-within
 returns-in_err-saved_round-clause-within g c =
@@ -91,7 +91,7 @@ returns-in_err-saved_round-clause-within g c =
     let taken = g.K.Sink.taken in
     let count = g.K.Sink.faults in
     (c.in_err-saved_round.ensures.steps c.args.adapts p o (left c.args.files.now) (counts c.args.files.now) (puts c.args.files.now) (taken c.args.out.now)
-        (count c.args.out.now) c.requires.apart c.loop-said.invariant).1
+    (count c.args.out.now) c.requires.apart c.loop-said.invariant).1
 
 pub returns-clause-ends : goal.returns-clause-ends
 returns-clause-ends g c =
@@ -104,12 +104,12 @@ returns-clause-ends g c =
     let taken = g.K.Sink.taken in
     let count = g.K.Sink.faults in
     let whole = call (left c.args.files.now) (left c.saved_round.new.files) (counts c.args.files.now) (counts c.saved_round.new.files)
-        (puts c.args.files.now) (puts c.saved_round.new.files)
+    (puts c.args.files.now) (puts c.saved_round.new.files)
     (taken c.args.out.now) (taken c.saved_round.new.out) (count c.args.out.now) (count c.saved_round.new.out) in
     let closed = closed_is c.in_ok-saved_round.field-0 c.in_default.not-At in
     (subst (λ (b : Border). Steps c.args.adapts p c.saved_round.new.engine o named whole c.saved_round.new.rounds c.saved_round.new.said (Ok b)) closed
     (c.in_ok-saved_round.ensures.steps c.args.adapts p o (left c.args.files.now) (counts c.args.files.now) (puts c.args.files.now) (taken c.args.out.now)
-        (count c.args.out.now) c.requires.apart c.loop-said.invariant)).0
+    (count c.args.out.now) c.requires.apart c.loop-said.invariant)).0
 
 pub returns-clause-within : goal.returns-clause-within
 returns-clause-within g c =
@@ -122,9 +122,9 @@ returns-clause-within g c =
     let taken = g.K.Sink.taken in
     let count = g.K.Sink.faults in
     let whole = call (left c.args.files.now) (left c.saved_round.new.files) (counts c.args.files.now) (counts c.saved_round.new.files)
-        (puts c.args.files.now) (puts c.saved_round.new.files)
+    (puts c.args.files.now) (puts c.saved_round.new.files)
     (taken c.args.out.now) (taken c.saved_round.new.out) (count c.args.out.now) (count c.saved_round.new.out) in
     let closed = closed_is c.in_ok-saved_round.field-0 c.in_default.not-At in
     (subst (λ (b : Border). Steps c.args.adapts p c.saved_round.new.engine o named whole c.saved_round.new.rounds c.saved_round.new.said (Ok b)) closed
     (c.in_ok-saved_round.ensures.steps c.args.adapts p o (left c.args.files.now) (counts c.args.files.now) (puts c.args.files.now) (taken c.args.out.now)
-        (count c.args.out.now) c.requires.apart c.loop-said.invariant)).1
+    (count c.args.out.now) c.requires.apart c.loop-said.invariant)).1

@@ -8,7 +8,7 @@ abbrev pub invariant-loop-said : goal.invariant-loop-said
 invariant-loop-said g l =
     GoesOn l.fn.adapts (program_of l.fn.checked) l.engine (plain_opening l.fn.opening) (option_map (λ name. name.now) l.fn.save)
     (call (g.F.Files.left l.fn.files) (g.F.Files.left l.files) (g.F.Files.faults l.fn.files) (g.F.Files.faults l.files) (g.F.Files.put_faults l.fn.files)
-        (g.F.Files.put_faults l.files)
+    (g.F.Files.put_faults l.files)
     (g.K.Sink.taken l.fn.out) (g.K.Sink.taken l.out) (g.K.Sink.faults l.fn.out) (g.K.Sink.faults l.out))
     l.rounds
 

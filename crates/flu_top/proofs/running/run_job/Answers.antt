@@ -24,9 +24,9 @@ returns-in-Err-clause-ends g c =
     let taken = g.K.Sink.taken in
     let count = g.K.Sink.faults in
     stopped (call (left c.args.files.now) (left c.planned_for.new.files) (counts c.args.files.now) (counts c.planned_for.new.files) (puts c.args.files.now)
-        (puts c.planned_for.new.files)
+    (puts c.planned_for.new.files)
     (taken c.args.out.now) (taken c.args.out.now) (count c.args.out.now) (count c.args.out.now)) (Run job plan options) c.in-Err.refusal
-        (c.in-Err.ensures.refused options)
+    (c.in-Err.ensures.refused options)
     (λ how. as_before job plan options (left c.args.files.now) (left c.planned_for.new.files) c.in-Err.ensures.fronts c.in-Err.ensures.others) refl
 
 pub returns-in-Err-clause-only : goal.returns-in-Err-clause-only
@@ -52,9 +52,11 @@ returns-in-Some-clause-ends g c =
     let taken = g.K.Sink.taken in
     let count = g.K.Sink.faults in
     let p = program_of c.in-Ok.planned.checked in
-    let same = subst (λ (q : Program). IsSameName (Run job plan options) q c.in-Some.number) c.program.ensures (c.in-Some.ensures.found job plan) in
-    (same_name_refuses job plan options p (left c.args.files.now) (left c.planned_for.new.files) c.in-Ok.ensures.accepted c.in-Ok.ensures.begun
-        c.in-Some.number same, refl)
+    let same = subst (λ (q : Program). IsSameName (Run job plan options) q c.in-Some.number) c.program.ensures (c.in-Some.ensures.found job plan) in (
+      same_name_refuses job plan options p (left c.args.files.now) (left c.planned_for.new.files) c.in-Ok.ensures.accepted c.in-Ok.ensures.begun
+          c.in-Some.number same,
+      refl,
+    )
 
 pub returns-in-Some-clause-only : goal.returns-in-Some-clause-only
 returns-in-Some-clause-only g c =
@@ -80,18 +82,18 @@ returns-in-Err-opening_of-clause-ends g c =
     let count = g.K.Sink.faults in
     let p = program_of c.in-Ok.planned.checked in
     let apart = subst (AreNoSources (Run job plan options)) c.program.ensures
-        (c.same_name.ensures.none (no_number c.same_name.result c.in_default.not-Some) job plan) in
+    (c.same_name.ensures.none (no_number c.same_name.result c.in_default.not-Some) job plan) in
     let why = subst (λ (q : Program). IsOpeningRefusal options.resume q (left c.planned_for.new.files) (left c.opening_of.new.files)
-        (counts c.planned_for.new.files) (counts c.opening_of.new.files) c.in-Err-opening_of.refusal)
+    (counts c.planned_for.new.files) (counts c.opening_of.new.files) c.in-Err-opening_of.refusal)
     c.program-2.ensures c.in-Err-opening_of.ensures.refused in
     stopped (call (left c.args.files.now) (left c.opening_of.new.files) (counts c.args.files.now) (counts c.opening_of.new.files) (puts c.args.files.now)
-        (puts c.opening_of.new.files)
+    (puts c.opening_of.new.files)
     (taken c.args.out.now) (taken c.args.out.now) (count c.args.out.now) (count c.args.out.now)) (Run job plan options) c.in-Err-opening_of.refusal
     (opening_refuses job plan options p (left c.args.files.now) (left c.planned_for.new.files) (left c.opening_of.new.files) (counts c.args.files.now)
-        (counts c.planned_for.new.files) (counts c.opening_of.new.files)
+    (counts c.planned_for.new.files) (counts c.opening_of.new.files)
     c.in-Ok.ensures.accepted apart c.in-Ok.ensures.begun c.in-Ok.ensures.counts c.in-Err-opening_of.refusal why)
     (λ how. as_before_opening job plan options (left c.args.files.now) (left c.planned_for.new.files)
-        (left c.opening_of.new.files) c.in-Ok.ensures.fronts c.in-Ok.ensures.others c.in-Err-opening_of.ensures.fronts c.in-Err-opening_of.ensures.others) refl
+    (left c.opening_of.new.files) c.in-Ok.ensures.fronts c.in-Ok.ensures.others c.in-Err-opening_of.ensures.fronts c.in-Err-opening_of.ensures.others) refl
 
 pub returns-in-Err-opening_of-clause-fronts : goal.returns-in-Err-opening_of-clause-fronts
 returns-in-Err-opening_of-clause-fronts g c = fronts_of_all _ _ _ (fronts_then _ _ _ c.in-Ok.ensures.fronts c.in-Err-opening_of.ensures.fronts)
@@ -108,9 +110,9 @@ returns-in-Err-opening_of-clause-only g c =
     let count = g.K.Sink.faults in
     let p = program_of c.in-Ok.planned.checked in
     let apart = subst (AreNoSources (Run job plan options)) c.program.ensures
-        (c.same_name.ensures.none (no_number c.same_name.result c.in_default.not-Some) job plan) in
+    (c.same_name.ensures.none (no_number c.same_name.result c.in_default.not-Some) job plan) in
     only_opening job plan options p (left c.args.files.now) (left c.planned_for.new.files)
-        (left c.opening_of.new.files) _ c.in-Ok.ensures.accepted apart c.in-Ok.ensures.begun (c.in-Ok.ensures.only options) c.in-Err-opening_of.ensures.others
+    (left c.opening_of.new.files) _ c.in-Ok.ensures.accepted apart c.in-Ok.ensures.begun (c.in-Ok.ensures.only options) c.in-Err-opening_of.ensures.others
 
 pub run_in_rounds-requires-clause-apart : goal.run_in_rounds-requires-clause-apart
 run_in_rounds-requires-clause-apart g c κs within =
@@ -124,7 +126,7 @@ run_in_rounds-requires-clause-apart g c κs within =
     let count = g.K.Sink.faults in
     let p = program_of c.in-Ok.planned.checked in
     let apart = subst (AreNoSources (Run job plan options)) c.program.ensures
-        (c.same_name.ensures.none (no_number c.same_name.result c.in_default.not-Some) job plan) in
+    (c.same_name.ensures.none (no_number c.same_name.result c.in_default.not-Some) job plan) in
     apart.save
 
 pub returns-clause-ends : goal.returns-clause-ends
@@ -139,18 +141,18 @@ returns-clause-ends g c =
     let count = g.K.Sink.faults in
     let p = program_of c.in-Ok.planned.checked in
     let apart = subst (AreNoSources (Run job plan options)) c.program.ensures
-        (c.same_name.ensures.none (no_number c.same_name.result c.in_default.not-Some) job plan) in
+    (c.same_name.ensures.none (no_number c.same_name.result c.in_default.not-Some) job plan) in
     let o = plain_opening c.in-Ok-opening_of.opening in
     let opened = subst (λ (q : Program). WhereTold (left c.planned_for.new.files) (left c.opening_of.new.files) (IsOpened options.resume q o))
-        c.program-2.ensures c.in-Ok-opening_of.ensures.opened in
+    c.program-2.ensures c.in-Ok-opening_of.ensures.opened in
     let started = is_started job plan options p o (left c.args.files.now) (left c.planned_for.new.files)
-        (left c.opening_of.new.files) apart c.in-Ok.ensures.begun c.in-Ok.ensures.fronts opened c.in-Ok-opening_of.ensures.fronts in
+    (left c.opening_of.new.files) apart c.in-Ok.ensures.begun c.in-Ok.ensures.fronts opened c.in-Ok-opening_of.ensures.fronts in
     ends_run job plan options p o (left c.args.files.now) (left c.opening_of.new.files) (left c.run_in_rounds.new.files) (counts c.args.files.now)
-        (counts c.opening_of.new.files) (counts c.run_in_rounds.new.files)
+    (counts c.opening_of.new.files) (counts c.run_in_rounds.new.files)
     (puts c.args.files.now) (puts c.opening_of.new.files) (puts c.run_in_rounds.new.files) (taken c.args.out.now) (taken c.run_in_rounds.new.out)
-        (count c.args.out.now) (count c.run_in_rounds.new.out)
+    (count c.args.out.now) (count c.run_in_rounds.new.out)
     c.in-Ok.ensures.accepted apart started (λ n. omega (arith, c.in-Ok.ensures.counts n, c.in-Ok-opening_of.ensures.counts n))
-        (λ n. c.in-Ok-opening_of.ensures.puts n ∙ c.in-Ok.ensures.puts n)
+    (λ n. c.in-Ok-opening_of.ensures.puts n ∙ c.in-Ok.ensures.puts n)
     c.run_in_rounds.ensures.within c.run_in_rounds.result c.run_in_rounds.ensures.ends
 
 pub returns-clause-fronts : goal.returns-clause-fronts
@@ -165,18 +167,18 @@ returns-clause-fronts g c =
     let count = g.K.Sink.faults in
     let p = program_of c.in-Ok.planned.checked in
     let apart = subst (AreNoSources (Run job plan options)) c.program.ensures
-        (c.same_name.ensures.none (no_number c.same_name.result c.in_default.not-Some) job plan) in
+    (c.same_name.ensures.none (no_number c.same_name.result c.in_default.not-Some) job plan) in
     let o = plain_opening c.in-Ok-opening_of.opening in
     let opened = subst (λ (q : Program). WhereTold (left c.planned_for.new.files) (left c.opening_of.new.files) (IsOpened options.resume q o))
-        c.program-2.ensures c.in-Ok-opening_of.ensures.opened in
+    c.program-2.ensures c.in-Ok-opening_of.ensures.opened in
     let started = is_started job plan options p o (left c.args.files.now) (left c.planned_for.new.files)
-        (left c.opening_of.new.files) apart c.in-Ok.ensures.begun c.in-Ok.ensures.fronts opened c.in-Ok-opening_of.ensures.fronts in
+    (left c.opening_of.new.files) apart c.in-Ok.ensures.begun c.in-Ok.ensures.fronts opened c.in-Ok-opening_of.ensures.fronts in
     run_fronts job plan options p o (left c.args.files.now) (left c.opening_of.new.files) (left c.run_in_rounds.new.files) (counts c.args.files.now)
-        (counts c.opening_of.new.files) (counts c.run_in_rounds.new.files)
+    (counts c.opening_of.new.files) (counts c.run_in_rounds.new.files)
     (puts c.args.files.now) (puts c.opening_of.new.files) (puts c.run_in_rounds.new.files) (taken c.args.out.now) (taken c.run_in_rounds.new.out)
-        (count c.args.out.now) (count c.run_in_rounds.new.out)
+    (count c.args.out.now) (count c.run_in_rounds.new.out)
     c.in-Ok.ensures.accepted apart started (λ n. omega (arith, c.in-Ok.ensures.counts n, c.in-Ok-opening_of.ensures.counts n))
-        (λ n. c.in-Ok-opening_of.ensures.puts n ∙ c.in-Ok.ensures.puts n)
+    (λ n. c.in-Ok-opening_of.ensures.puts n ∙ c.in-Ok.ensures.puts n)
     c.run_in_rounds.ensures.within c.run_in_rounds.result c.run_in_rounds.ensures.ends
 
 pub returns-clause-only : goal.returns-clause-only
@@ -191,16 +193,16 @@ returns-clause-only g c =
     let count = g.K.Sink.faults in
     let p = program_of c.in-Ok.planned.checked in
     let apart = subst (AreNoSources (Run job plan options)) c.program.ensures
-        (c.same_name.ensures.none (no_number c.same_name.result c.in_default.not-Some) job plan) in
+    (c.same_name.ensures.none (no_number c.same_name.result c.in_default.not-Some) job plan) in
     let o = plain_opening c.in-Ok-opening_of.opening in
     let opened = subst (λ (q : Program). WhereTold (left c.planned_for.new.files) (left c.opening_of.new.files) (IsOpened options.resume q o))
-        c.program-2.ensures c.in-Ok-opening_of.ensures.opened in
+    c.program-2.ensures c.in-Ok-opening_of.ensures.opened in
     let started = is_started job plan options p o (left c.args.files.now) (left c.planned_for.new.files)
-        (left c.opening_of.new.files) apart c.in-Ok.ensures.begun c.in-Ok.ensures.fronts opened c.in-Ok-opening_of.ensures.fronts in
+    (left c.opening_of.new.files) apart c.in-Ok.ensures.begun c.in-Ok.ensures.fronts opened c.in-Ok-opening_of.ensures.fronts in
     run_only job plan options p o (left c.args.files.now) (left c.opening_of.new.files) (left c.run_in_rounds.new.files) (counts c.args.files.now)
-        (counts c.opening_of.new.files) (counts c.run_in_rounds.new.files)
+    (counts c.opening_of.new.files) (counts c.run_in_rounds.new.files)
     (puts c.args.files.now) (puts c.opening_of.new.files) (puts c.run_in_rounds.new.files) (taken c.args.out.now) (taken c.run_in_rounds.new.out)
-        (count c.args.out.now) (count c.run_in_rounds.new.out)
+    (count c.args.out.now) (count c.run_in_rounds.new.out)
     c.in-Ok.ensures.accepted apart started (λ n. omega (arith, c.in-Ok.ensures.counts n, c.in-Ok-opening_of.ensures.counts n))
-        (λ n. c.in-Ok-opening_of.ensures.puts n ∙ c.in-Ok.ensures.puts n)
+    (λ n. c.in-Ok-opening_of.ensures.puts n ∙ c.in-Ok.ensures.puts n)
     c.run_in_rounds.ensures.within c.run_in_rounds.result c.run_in_rounds.ensures.ends

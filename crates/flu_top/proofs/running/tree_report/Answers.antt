@@ -18,5 +18,5 @@ returns g c =
     let p = program_of c.args.planned.now.checked in
     IfOk-weaker c.report_text.result _ _
     (λ text order. outputs_report p _ c.program.result.now (held c.new.result)
-        (listed c.args.streams.now) c.in_ok-outs.outs text c.engine_of-engine.ensures c.program.ensures c.new.ensures c.in_ok-outs.ensures.outputs order)
+    (listed c.args.streams.now) c.in_ok-outs.outs text c.engine_of-engine.ensures c.program.ensures c.new.ensures c.in_ok-outs.ensures.outputs order)
     c.report_text.ensures.order

@@ -11,7 +11,7 @@ use Rattle.flu_top.proofs.simulating.net_text.Goals as goal
 pub returns-then-traced-clause-text : goal.returns-then-traced-clause-text
 returns-then-traced-clause-text c =
     subst (λ (b : Bool). IsTextOn b (program_of c.args.planned.now.checked) (plan_of c.args.planned.now.valid).nodes
-        (listed c.args.streams.now) c.args.seed.number c.in_ok-lines.lines) (sym c.if-traced.true)
+    (listed c.args.streams.now) c.args.seed.number c.in_ok-lines.lines) (sym c.if-traced.true)
     record {
       case = c.in_ok-case.case;
       of = case_from_nothing c.args.planned.now.checked c.args.planned.now.valid c.args.streams.now c.in_ok-case.case c.in_ok-case.ensures.checked
@@ -32,11 +32,11 @@ returns-then-traced-clause-drawn c = record {
 pub returns-clause-text : goal.returns-clause-text
 returns-clause-text c =
     subst (λ (b : Bool). IsTextOn b (program_of c.args.planned.now.checked) (plan_of c.args.planned.now.valid).nodes
-        (listed c.args.streams.now) c.args.seed.number c.in_ok-text.text) (sym c.if-traced.false)
+    (listed c.args.streams.now) c.args.seed.number c.in_ok-text.text) (sym c.if-traced.false)
     (run_report (program_of c.args.planned.now.checked) c.program-program.result.now c.in_ok-case.case c.args.streams.now c.in_ok-run.run'.outs
-        c.in_ok-text.text (ap program_of c.in_ok-case.ensures.checked)
+    c.in_ok-text.text (ap program_of c.in_ok-case.ensures.checked)
     c.program-program.ensures (ap held c.in_ok-case.ensures.opening ∙ c.new.ensures) c.in_ok-case.ensures.streams c.in_ok-run.ensures.outputs
-        c.in_ok-text.ensures.order)
+    c.in_ok-text.ensures.order)
 
 pub returns-clause-drawn : goal.returns-clause-drawn
 returns-clause-drawn c = record {

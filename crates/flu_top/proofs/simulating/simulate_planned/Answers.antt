@@ -14,7 +14,7 @@ returns-in-Err-clause-refused g c =
     let plan = c.args.plan.now in
     let seed = c.args.seed.number in
     refusal_as_valid (Simulate job plan seed c.args.traced) job plan _ _ _ _ c.in-Err.refusal
-        (simulation_reads job plan seed c.args.traced) c.in-Err.ensures.refused
+    (simulation_reads job plan seed c.args.traced) c.in-Err.ensures.refused
 
 pub returns-in-Err-clause-only : goal.returns-in-Err-clause-only
 returns-in-Err-clause-only g c =
@@ -30,9 +30,9 @@ returns-in-Ok-text_of-clause-written g c =
     let seed = c.args.seed.number in
     let p = program_of c.in-Ok.planned.checked in
     let ready = ready_as_valid (Simulate job plan seed c.args.traced) job plan p _ _
-        (simulation_reads job plan seed c.args.traced) refl c.in-Ok.ensures.ready in
+    (simulation_reads job plan seed c.args.traced) refl c.in-Ok.ensures.ready in
     is_simulated job plan seed c.args.traced p (plan_of c.in-Ok.planned.valid).nodes c.in-Ok-text_of.text c.in-Ok-text_of.steps _ _ _
-        c.in-Ok.ensures.accepted ready c.in-Ok.ensures.nodes
+    c.in-Ok.ensures.accepted ready c.in-Ok.ensures.nodes
     c.in-Ok-text_of.ensures.read c.in-Ok-text_of.ensures.text c.in-Ok-text_of.ensures.drawn c.text_of.ensures.others
 
 pub returns-in-Ok-text_of-clause-fronts : goal.returns-in-Ok-text_of-clause-fronts
@@ -45,8 +45,8 @@ returns-in-Ok-text_of-clause-only g c =
     let seed = c.args.seed.number in
     let p = program_of c.in-Ok.planned.checked in
     only_ready (Simulate job plan seed c.args.traced) p _ _ _ (record { save = refl; resume = refl }) refl (λ asked. c.in-Ok.ensures.accepted)
-        (ready_as_valid (Simulate job plan seed c.args.traced) job plan p _ _ (simulation_reads job plan seed c.args.traced) refl c.in-Ok.ensures.ready)
-        c.text_of.ensures.others
+    (ready_as_valid (Simulate job plan seed c.args.traced) job plan p _ _ (simulation_reads job plan seed c.args.traced) refl c.in-Ok.ensures.ready)
+    c.text_of.ensures.others
 
 pub returns-in-Err-text_of-clause-refused : goal.returns-in-Err-text_of-clause-refused
 returns-in-Err-text_of-clause-refused g c =
@@ -57,10 +57,10 @@ returns-in-Err-text_of-clause-refused g c =
     let left = g.F.Files.left in
     let faults = g.F.Files.faults in
     let ready = ready_as_valid (Simulate job plan seed c.args.traced) job plan p (left c.args.files.now) (left c.planned_by.new.files)
-        (simulation_reads job plan seed c.args.traced) refl c.in-Ok.ensures.ready in
+    (simulation_reads job plan seed c.args.traced) refl c.in-Ok.ensures.ready in
     report_refusal (Simulate job plan seed c.args.traced) p (left c.args.files.now) (left c.planned_by.new.files) (left c.text_of.new.files)
     (faults c.args.files.now) (faults c.planned_by.new.files) (faults c.text_of.new.files) c.in-Err-text_of.refusal refl (λ asked. c.in-Ok.ensures.accepted)
-        (record { save = refl; resume = refl }) ready c.in-Ok.ensures.counts
+    (record { save = refl; resume = refl }) ready c.in-Ok.ensures.counts
     c.in-Err-text_of.ensures.refused
 
 pub returns-in-Err-text_of-clause-fronts : goal.returns-in-Err-text_of-clause-fronts
@@ -73,5 +73,5 @@ returns-in-Err-text_of-clause-only g c =
     let seed = c.args.seed.number in
     let p = program_of c.in-Ok.planned.checked in
     only_ready (Simulate job plan seed c.args.traced) p _ _ _ (record { save = refl; resume = refl }) refl (λ asked. c.in-Ok.ensures.accepted)
-        (ready_as_valid (Simulate job plan seed c.args.traced) job plan p _ _ (simulation_reads job plan seed c.args.traced) refl c.in-Ok.ensures.ready)
-        c.text_of.ensures.others
+    (ready_as_valid (Simulate job plan seed c.args.traced) job plan p _ _ (simulation_reads job plan seed c.args.traced) refl c.in-Ok.ensures.ready)
+    c.text_of.ensures.others

@@ -12,14 +12,19 @@ returns-clause-outcome g c =
 pub returns-clause-read : goal.returns-clause-read
 returns-clause-read g c =
     subst (ReadOnly (map string_bytes c.args.words.now) _ _) (sym c.answer.ensures.status)
-        (record { fronts = c.do_words-ended.ensures.fronts; only = c.do_words-ended.ensures.only })
+    (record { fronts = c.do_words-ended.ensures.fronts; only = c.do_words-ended.ensures.only })
 
 pub returns-clause-faults : goal.returns-clause-faults
 returns-clause-faults g c =
     subst (FaultsFirst (map string_bytes c.args.words.now) _ _ _) (sym c.answer.ensures.status)
-        (faults_of _ _ c.do_words-ended.result c.do_words-ended.ensures.ends)
+    (faults_of _ _ c.do_words-ended.result c.do_words-ended.ensures.ends)
 
 pub returns-clause-completes : goal.returns-clause-completes
-returns-clause-completes g c = completes_of (record { jobs = c.jobs_are_grammar.ensures; plans = c.plans_are_grammar.ensures; meeting =
-    c.rounds_meet_what_is_there.ensures.meeting; saves = c.faults_are_no_checkpoints.ensures }) _ _ _ _ _ _ (returns-clause-outcome g c)
+returns-clause-completes g c = completes_of (record {
+  jobs = c.jobs_are_grammar.ensures;
+  plans = c.plans_are_grammar.ensures;
+  meeting =
+      c.rounds_meet_what_is_there.ensures.meeting;
+  saves = c.faults_are_no_checkpoints.ensures;
+}) _ _ _ _ _ _ (returns-clause-outcome g c)
     (returns-clause-faults g c)

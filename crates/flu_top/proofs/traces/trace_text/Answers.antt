@@ -10,7 +10,7 @@ use Rattle.flu_top.proofs.traces.trace_text.Goals as goal
 pub lines_of-requires : goal.lines_of-requires
 lines_of-requires c =
     subst (λ (steps : List Step). All (λ s. number_of s < 1000) steps) (sym c.as_slice.ensures.value)
-        (small_numbers c.args.case.now c.in_ok-steps.steps.items c.in_ok-steps.ensures.possible)
+    (small_numbers c.args.case.now c.in_ok-steps.steps.items c.in_ok-steps.ensures.possible)
 
 pub returns : goal.returns
 returns c =

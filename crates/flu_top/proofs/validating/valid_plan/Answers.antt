@@ -12,7 +12,7 @@ returns-in-Ok-clause-written g c =
     let planned = c.in-Ok.planned in
     IfOk-weaker c.normal_form_of.result _ _
     (λ text is. is_validated c.args.job.now c.args.plan.now (program_of planned.checked)
-        (plan_of planned.valid).nodes text _ _ c.in-Ok.ensures.accepted c.in-Ok.ensures.ready c.in-Ok.ensures.nodes is)
+    (plan_of planned.valid).nodes text _ _ c.in-Ok.ensures.accepted c.in-Ok.ensures.ready c.in-Ok.ensures.nodes is)
     c.normal_form_of.ensures.is
 
 pub returns-in-Ok-clause-refused : goal.returns-in-Ok-clause-refused
@@ -21,5 +21,5 @@ returns-in-Ok-clause-refused g c =
     let faults = g.F.Files.faults in
     IfErr-weaker c.normal_form_of.result _ _
     (λ refusal none. subst (IsRefusal (Valid c.args.job.now c.args.plan.now) (left c.args.files.now) (left c.planned_by.new.files) (faults c.args.files.now)
-        (faults c.planned_by.new.files)) (sym none) tt)
+    (faults c.planned_by.new.files)) (sym none) tt)
     c.normal_form_of.ensures.refused

@@ -9,7 +9,7 @@ pub observed_plan-requires : goal.observed_plan-requires
 observed_plan-requires g c =
     let a = c.self.inside in
     grown_each (count_of_itags (program_of a.checked.now)) a.counts.items c.as_slice.result.now (listed c.args.s.now) c.self.invariant.0.one_each
-        (c.as_slice.ensures.value ∙ c.count_events.ensures)
+    (c.as_slice.ensures.value ∙ c.count_events.ensures)
 
 pub invariant_of-self-in_err-anew : goal.invariant_of-self-in_err-anew
 invariant_of-self-in_err-anew g c =
