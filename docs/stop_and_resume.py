@@ -6,12 +6,14 @@ checkpoint: what is written before and after is together the report of the whole
 
 A run is stopped behind a round by sources that have one row more than the rounds up to it need, and no `end`: its status is 6, and
 what it wrote and saved is that of these rounds. It is stopped from outside by SIGKILL, KILLS times (20 where none are asked for),
-after a time that is drawn; then what the report has behind the checkpoint's border is thrown away, as docs/GUIDE.md tells. It ends
-with status 1 at the first answer that is not as it should be, and else prints how often it stopped and resumed."""
+after a time that is drawn; then the commands of docs/GUIDE.md, "Stopping and going on", are run as they stand there: those that
+throw away what the report has behind the checkpoint's border, and the one that goes on. It ends with status 1 at the first answer
+that is not as it should be, and else prints how often it stopped and resumed."""
 
 import json
 import os
 import random
+import re
 import subprocess
 import sys
 import tempfile
@@ -27,6 +29,7 @@ on view: add views[key] value; raise most[key] value
 on tick: flush views "page {key}: {cell}"; flush most "most of {key}: {cell}"
 """
 PAGES = 20
+START = 1_772_438_700_000_000_000  # nanoseconds: more than awk's numbers tell apart
 ROWS = 50_000
 ROUND = 4_096
 
@@ -40,8 +43,8 @@ def rows(draw):
     """The rows of each source: views at rising times, and a tick after each 100 time units."""
     made = {}
     for name, first in (("a.csv", 1), ("b.csv", 2)):
-        made[name] = [f"{first + 2 * i},view[{draw.randrange(PAGES)}],{draw.randrange(-5, 50)}" for i in range(ROWS)]
-    made["t.csv"] = [f"{100 * (i + 1)},tick" for i in range(2 * ROWS // 100)]
+        made[name] = [f"{START + first + 2 * i},view[{draw.randrange(PAGES)}],{draw.randrange(-5, 50)}" for i in range(ROWS)]
+    made["t.csv"] = [f"{START + 100 * (i + 1)},tick" for i in range(2 * ROWS // 100)]
     return made
 
 
@@ -55,12 +58,12 @@ def write(folder, made, count=None):
 
 
 def run(program, folder, *options):
-    done = subprocess.run([program, "run", "views.job", *options], cwd=folder, capture_output=True)
+    done = subprocess.run([program, "run", "rides.job", *options], cwd=folder, capture_output=True)
     return done.returncode, done.stdout, done.stderr.decode()
 
 
 def border_of(folder):
-    with open(f"{folder}/save") as it:
+    with open(f"{folder}/rides.save") as it:
         return json.load(it)["border"]
 
 
@@ -69,25 +72,30 @@ def need(holds, what):
         sys.exit(f"not as it should be: {what}")
 
 
-def before(text, border):
-    """The lines of a report up to a border; a last line that was cut is none."""
-    lines = text.split(b"\n")[:-1]
-    return b"".join(line + b"\n" for line in lines if int(line.split(b",")[0]) <= border)
+def told():
+    """What docs/GUIDE.md tells to do: the commands that cut the report, and the one that goes on."""
+    with open(os.path.join(os.path.dirname(os.path.abspath(__file__)), "GUIDE.md")) as it:
+        page = re.search(r"^## Stopping and going on$(.*?)^## ", it.read(), re.M | re.S)[1]
+    blocks = [block.replace("\n    ", "\n").strip() for block in re.findall(r"\n\n((?:    .*\n)+)", page)]
+    cut = [block for block in blocks if "rides.save)" in block]
+    on = [block for block in blocks if "--resume" in block]
+    need(len(cut) == 1 and len(on) == 1, "the commands of the guide")
+    return cut[0], on[0]
 
 
 def behind_each_round(program, folder, made, whole):
     stops = 0
     for count in range(0, ROWS + ROUND, ROUND):
         write(folder, made, count + 1)
-        status, first, line = run(program, folder, "--save", "save")
+        status, first, line = run(program, folder, "--save", "rides.save")
         need(status == 6, f"status {status} of a run over {count} rows: {line}")
         write(folder, made)
-        options = ["--resume", "save"] if os.path.exists(f"{folder}/save") else []
-        status, second, line = run(program, folder, "--save", "save", *options)
+        options = ["--resume", "rides.save"] if os.path.exists(f"{folder}/rides.save") else []
+        status, second, line = run(program, folder, "--save", "rides.save", *options)
         need(status == 0, f"status {status} of the run that goes on behind {count} rows: {line}")
         need(first + second == whole, f"the reports before and after {count} rows are not the whole")
         need(border_of(folder) == 2**63 - 1, "the border of the last checkpoint")
-        os.remove(f"{folder}/save")
+        os.remove(f"{folder}/rides.save")
         stops += 1
     return stops
 
@@ -97,23 +105,25 @@ def killed(program, folder, made, whole, times, draw):
     began = time.monotonic()
     run(program, folder)
     takes = time.monotonic() - began
+    path = dict(os.environ, PATH=f"{os.path.dirname(program)}:{os.environ['PATH']}")
+    cut, on = told()
     stopped = 0
+    resumed = 0
     for _ in range(times):
-        if os.path.exists(f"{folder}/save"):
-            os.remove(f"{folder}/save")
-        with open(f"{folder}/report", "wb") as out:
-            child = subprocess.Popen([program, "run", "views.job", "--save", "save"], cwd=folder, stdout=out)
+        if os.path.exists(f"{folder}/rides.save"):
+            os.remove(f"{folder}/rides.save")
+        with open(f"{folder}/report.csv", "wb") as out:
+            child = subprocess.Popen([program, "run", "rides.job", "--save", "rides.save"], cwd=folder, stdout=out)
             time.sleep(draw.random() * takes)
             child.kill()
             stopped += child.wait() != 0
-        with open(f"{folder}/report", "rb") as it:
-            text = it.read()
-        options = ["--resume", "save"] if os.path.exists(f"{folder}/save") else []
-        kept = before(text, border_of(folder)) if options else b""
-        status, second, line = run(program, folder, *options)
-        need(status == 0, f"status {status} of the run that goes on behind a kill: {line}")
-        need(kept + second == whole, "the reports before and after a kill are not the whole")
-    return stopped
+        if os.path.exists(f"{folder}/rides.save"):
+            done = subprocess.run(["sh", "-c", f"{cut}\n{on}"], cwd=folder, env=path, capture_output=True)
+            need(done.returncode == 0, f"status {done.returncode} of the run that goes on behind a kill: {done.stderr}")
+            with open(f"{folder}/report.csv", "rb") as it:
+                need(it.read() == whole, "the reports before and after a kill are not the whole")
+            resumed += 1
+    return stopped, resumed
 
 
 def main():
@@ -122,14 +132,15 @@ def main():
     draw = random.Random(1)
     with tempfile.TemporaryDirectory() as folder:
         made = rows(draw)
-        with open(f"{folder}/views.job", "w") as it:
+        with open(f"{folder}/rides.job", "w") as it:
             it.write(job())
         write(folder, made)
         status, whole, line = run(program, folder)
         need(status == 0 and whole, f"status {status} of the whole run: {line}")
         rounds = behind_each_round(program, folder, made, whole)
-        kills = killed(program, folder, made, whole, times, draw)
-        print(f"{len(whole)} bytes of report; stopped behind {rounds} rounds and {kills} of {times} times from outside, and resumed each time")
+        kills, resumed = killed(program, folder, made, whole, times, draw)
+        print(f"{len(whole)} bytes of report; stopped behind {rounds} rounds, and resumed each time")
+        print(f"stopped {kills} of {times} times from outside, and {resumed} times resumed from a checkpoint")
 
 
 main()
