@@ -1,3 +1,5 @@
+mod stopped;
+
 use crate::{help, run};
 use std::fs;
 use std::test::Fail;

@@ -16,11 +16,14 @@ const ROWS: u64 = 5000;
 /// The report of the first round, whose border is the time of the first source's 4,096th row.
 pub const FIRST: &str = "4000,read,count 4000\n";
 
+/// The report of the second round.
+pub const SECOND: &str = "5000,read,count 1000\n";
+
 /// The report of all rounds.
-const ALL: &str = "4000,read,count 4000\n5000,read,count 1000\n";
+pub const ALL: &str = "4000,read,count 4000\n5000,read,count 1000\n";
 
 /// The rows of the source that reads.
-const READS: &str = "4000,read\n5000,read\nend\n";
+pub const READS: &str = "4000,read\n5000,read\nend\n";
 
 /// Calls over a first source with so many rows: what stands behind them, the rows of the source that reads, the take and the write
 /// to out that fail, how many bytes each moves at most, and what each call answers and leaves.

@@ -1,7 +1,7 @@
 //! Calls of `run` with `--save` and `--resume`: what they answer, and what stands under the name that is saved to.
 
 use super::jobs::{COUNTED, END, REPORT};
-use super::rounds::{DISORDERED, FIRST, SAME_TIME, adds};
+use super::rounds::{ALL, DISORDERED, FIRST, READS, SAME_TIME, SECOND, adds};
 use super::scripts::play;
 use super::{SOUND, Settings, Words, add_all, assert_left, call, call_with, files_of, put};
 use flu_outside::{MemFiles, TakeFault, read_whole};
@@ -159,20 +159,43 @@ fn a_whole_run_is_resumed(rt: HostRuntime) -> Result<(), Fail> {
     Ok(())
 }
 
+/// The files of the count, of which the first source has more rows than a round takes, and this behind them; and the rows that read.
+fn two_rounds(alloc: Global, behind: &str, reads: &str) -> Result<MemFiles, AllocError> {
+    let mut source = adds(alloc)?;
+    source.push_str(behind)?;
+    let mut files = files_of(alloc, COUNTED)?;
+    put(alloc, &mut files, "a.csv", &source)?;
+    put(alloc, &mut files, "b.csv", END)?;
+    put(alloc, &mut files, "c.csv", reads)?;
+    Ok(files)
+}
+
 /// The checkpoint of the first round, whose border is the time of the first source's 4,096th row, is left where the second one meets a
 /// defect.
 #[test]
 fn the_checkpoint_before_a_defect_is_left(rt: HostRuntime) -> Result<(), Fail> {
     let alloc = rt.alloc();
-    let mut source = adds(alloc)?;
-    source.push_str(SAME_TIME)?;
-    let mut files = files_of(alloc, COUNTED)?;
-    put(alloc, &mut files, "a.csv", &source)?;
-    put(alloc, &mut files, "b.csv", END)?;
-    put(alloc, &mut files, "c.csv", "4000,read\nend\n")?;
+    let mut files = two_rounds(alloc, SAME_TIME, "4000,read\nend\n")?;
     let left = call(&rt, alloc, "run J P --save s", &mut files, &OpenGate)?;
     assert_left(&rt, &left, 6, FIRST.as_bytes(), DISORDERED);
     let saved = left_of(alloc, &mut files, "s")?;
     assert!(&rt; saved.starts_with(b"{\"border\":4096,\"cells\":[[\"count\",0,\"96\"]],\"job\":"));
+    Ok(())
+}
+
+/// A round whose checkpoint could not be put is run again by a run that is resumed: the border tells that its lines come twice.
+#[test]
+fn a_round_that_was_not_saved_is_run_again(rt: HostRuntime) -> Result<(), Fail> {
+    let alloc = rt.alloc();
+    let mut files = two_rounds(alloc, END, READS)?;
+    files.fail_put(2)?;
+    let left = call(&rt, alloc, "run J P --save s", &mut files, &OpenGate)?;
+    assert_left(&rt, &left, 12, ALL.as_bytes(), "flumina: save fault");
+    let saved = left_of(alloc, &mut files, "s")?;
+    assert!(&rt; saved.starts_with(b"{\"border\":4096,"));
+    let mut files = two_rounds(alloc, END, READS)?;
+    files.add("s", saved)?;
+    let left = call(&rt, alloc, "run J P --resume s", &mut files, &OpenGate)?;
+    assert_left(&rt, &left, 0, SECOND.as_bytes(), "");
     Ok(())
 }
