@@ -66,7 +66,7 @@ began = time.monotonic()
 value = json.loads(text)
 read = time.monotonic()
 json.dumps(value, separators=(",", ":"))
-print(f"{read - began:.2f} {time.monotonic() - read:.2f}")
+print(f"{read - began:.4f} {time.monotonic() - read:.4f}")
 PYTHON
 }
 

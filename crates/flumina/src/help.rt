@@ -39,7 +39,7 @@ docs/LANGUAGE.md describes jobs, rows and lines, docs/TREE.md plans, docs/GUIDE.
 /// The answer to `--version`: the version, and the line that `rt version` writes for the kit that proves this text. README and
 /// `docs/TRUST.md` have the same line, and `docs/DECISIONS.md` says how they are compared.
 pub const VERSION: &str = "flumina 0.1.0
-rattle-kit-13b logic dac8208d650f15bf
+rattle-kit-13f logic dac8208d650f15bf
 ";
 
 /// What is to be written where `--help` or `--version` is the only word.
