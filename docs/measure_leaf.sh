@@ -3,7 +3,7 @@
 # greedy plan of 15 nodes; one leaf gets 1,000,000 events of its three itags, one after another, and the others none. Run at the top of
 # the repository, where `rt ci` or `rt run` has built the program, and with valgrind: docs/measure_leaf.sh [EVENTS]. It takes some
 # minutes. Each line has the instructions of a function with what it calls, for each event; the last one has how many times those of
-# `update` the worker's `can_handle` and `handle` take together.
+# `update` the worker's `can_handle` and `handle` take together, and a turn of the leaf in all.
 set -eu
 program=${PROGRAM:-$PWD/crates/flumina/out/flumina}
 events=${1:-1000000}
@@ -37,5 +37,7 @@ valgrind --tool=callgrind --callgrind-out-file=callgrind.out "$program" run leaf
 "$program" fold leaf.job | cmp - report.txt
 callgrind_annotate --inclusive=yes --threshold=100 callgrind.out > functions.txt
 line() { awk -v events="$events" -v name="$1" 'index($0, name) { gsub(",", "", $1); print $1 / events; exit }' functions.txt; }
-for name in update Worker::can_handle Worker::handle; do printf '%-22s %s\n' "$name" "$(line "$name")"; done
-cp functions.txt "${FUNCTIONS:-/dev/null}"
+for name in updates::update Worker::can_handle Worker::handle leaf::turn; do printf '%-20s %.0f\n' "$name" "$(line "$name")"; done
+awk -v update="$(line updates::update)" -v can="$(line Worker::can_handle)" -v handle="$(line Worker::handle)" -v turn="$(line leaf::turn)" 'BEGIN {
+    printf "can_handle and handle take %.2f times update, a turn %.2f\n", (can + handle) / update, turn / update
+}'

@@ -3,7 +3,7 @@
 
 At the top of the repository, where `rt ci` or `rt run` has built the program, and with a C compiler:
 
-    docs/refused_growth.py [--program FILE] [--jobs WORD,..] [--rows N]
+    docs/refused_growth.py [--program FILE] [--jobs WORD,..] [--calls NAME;..] [--rows N]
 
 A call is made once with ample memory, and then once for each of its growths, with that growth alone refused: the first, the second
 and so on, up to the number that the call does not reach. A small library, which is loaded before the C library, counts the calls of
@@ -211,6 +211,8 @@ def larger(count):
 CALLS = {
     "fold": ["fold", "job"], "check": ["check", "job"], "valid": ["valid", "job", "plan"], "plan": ["plan", "job"],
     "simulate": ["simulate", "job", "plan", "1"], "run": ["run", "job", "plan"], "run, greedy": ["run", "job"],
+    "run, adapted": ["run", "job", "--adapt"], "run, saved": ["run", "job", "plan", "--save", "saved{refused}"],
+    "run, resumed": ["run", "job", "plan", "--resume", "seen"],
 }
 
 
@@ -224,7 +226,20 @@ class Answer:
         return self.status, self.out, self.err
 
 
+def checkpoint(at):
+    """Puts a checkpoint of the border 2 under `seen`, with what the cells hold at the end of a run, where the job and its sources let it run."""
+    subprocess.run([PROGRAM, "run", "job", "--save", "seen"], cwd=at, stdin=subprocess.DEVNULL, capture_output=True, timeout=60)
+    seen = os.path.join(at, "seen")
+    if os.path.exists(seen):
+        with open(seen) as it:
+            text = it.read()
+        with open(seen, "w") as it:
+            it.write(text.replace('{"border":9223372036854775807,', '{"border":2,'))
+
+
 def call(words, at, refused=0):
+    # (calls run side by side in one folder, so each saves to a name of its own)
+    words = [word.replace("{refused}", str(refused)) for word in words]
     reads, writes = os.pipe()
     env = {"LD_PRELOAD": LIBRARY, "REFUSED_GROWTH": str(refused), "REFUSED_GROWTH_FD": str(writes)}
     try:
@@ -264,7 +279,7 @@ class Row:
 
     def sweep(self, pool, words, at, title):
         ample = call(words, at)
-        if ample.growths is None or ample.status not in range(9):
+        if ample.growths is None or ample.status not in (*range(9), 11):
             self.wrong.append(f"{title}: status {ample.status} with ample memory")
             return
         self.calls += 1
@@ -290,6 +305,7 @@ def main():
     reader = argparse.ArgumentParser(description="Refuses each growth of memory once.")
     reader.add_argument("--program", default="crates/flumina/out/flumina")
     reader.add_argument("--jobs", help="only those rows and jobs whose name has one of these words")
+    reader.add_argument("--calls", help="only those calls, by their names in the table, with a semicolon between two")
     reader.add_argument("--rows", type=int, default=120, help="how many rows a source of a larger job has")
     given = reader.parse_args()
     PROGRAM = os.path.abspath(given.program)
@@ -305,6 +321,8 @@ def main():
         total = 0
         for title, jobs in groups:
             for command, words in CALLS.items():
+                if given.calls and command not in given.calls.split(";"):
+                    continue
                 row = Row()
                 for name, files in jobs.items():
                     if given.jobs and not any(word in name for word in given.jobs.split(",")):
@@ -313,6 +331,7 @@ def main():
                         for file, text in files.items():
                             with open(os.path.join(at, file), "w", newline="") as it:
                                 it.write(text)
+                        checkpoint(at)
                         row.sweep(pool, words, at, f"{name}, {command}")
                 if row.calls:
                     print(f"| {title} | `{command}` | {row.calls} | {row.growths} | {row.wanting} | {row.silent} | {row.parts} | {row.same} | {len(row.wrong)} |", flush=True)
