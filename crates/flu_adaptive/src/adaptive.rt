@@ -60,7 +60,8 @@ impl<'a, G: Gate, R, B: Engine<R>> Model for Adaptive<'a, G, R, B> {
 
     ghost view = { λ a. record { checked = a.checked.now; valid = a.valid; counts = a.counts.items; adapts = a.adapts } };
 
-    ghost invariant = { λ a. HasItsPlan (record { checked = a.checked.now; valid = a.valid; counts = a.counts.items; adapts = a.adapts }) × IsSome a.backup × IfSome a.backup (λ b. B.program_of b ≡ program_of a.checked.now) };
+    ghost invariant = { λ a. HasItsPlan (record { checked = a.checked.now; valid = a.valid; counts = a.counts.items; adapts = a.adapts }) × IsSome a.backup
+        × IfSome a.backup (λ b. B.program_of b ≡ program_of a.checked.now) };
 }
 
 impl<'a, G: Gate, R, B: Engine<R> + Drop> Adaptive<'a, G, R, B> {

@@ -29,7 +29,8 @@ impl Model for Feeder {
 
     ghost view = { λ f. record { limits = f.place.me.0.limits; counts = f.place.me.0.counts } };
 
-    ghost invariant = { λ f. IsPlaced (arc_value f.words).shared.table_id f.place.table_id f.place.me × (f.place.me.0.feeds ≡ true) × (f.counts.items ≡ f.place.me.0.counts) };
+    ghost invariant = { λ f. IsPlaced (arc_value f.words).shared.table_id f.place.table_id f.place.me × (f.place.me.0.feeds ≡ true)
+        × (f.counts.items ≡ f.place.me.0.counts) };
 }
 
 /// An end that looks. Contracts see it as the limits, for each itag the number that it found last, and how many looks it took.

@@ -110,7 +110,8 @@ contents-far_with near far then c w is changed = λ i d. at d i
     at d =
         elim (is_near d) as (λ b. is_near d ≡ b → contents_of near then d ≡ with_worth (contents_of near far) c w d) [
           | true ↦ λ near_d.
-              contents-near near then d near_d ∙ sym (contents-near near far d near_d) ∙ ap (λ b. cond b w (contents_of near far d)) (sym (apart_far c d is near_d))
+              contents-near near then d near_d ∙ sym (contents-near near far d near_d)
+              ∙ ap (λ b. cond b w (contents_of near far d)) (sym (apart_far c d is near_d))
           | false ↦ λ far_d.
               contents-far near then d far_d ∙ ap (λ s. s d) changed ∙ ap (cond (is_same_cell d c) w) (sym (contents-far near far d far_d))
         ] refl
@@ -132,7 +133,8 @@ contents-same near then far far_then e f = λ i c. cond (is_near c) (cond (is_ne
 pub far_alone-same : (far then : BTreeMap Cell Worth) → far_held then ≡ far_held far → HasFarAlone far → HasFarAlone then
 far_alone-same far then same alone c w e = alone c w (sym (ap (λ s. s c) same) ∙ e)
 
-pub contents-none : (near : Dense Worth) (far : BTreeMap Cell Worth) → ((s : ℕ) → value_at near s ≡ None) → far_held far ≡ nothing_held → contents_of near far ≡ nothing_held
+pub contents-none : (near : Dense Worth) (far : BTreeMap Cell Worth) → ((s : ℕ) → value_at near s ≡ None) → far_held far ≡ nothing_held
+    → contents_of near far ≡ nothing_held
 contents-none near far e f = λ i c. at c i
   where
     at : (c : Cell) → contents_of near far c ≡ None
@@ -150,7 +152,8 @@ near_part near far c w e =
       | false ↦ λ is. let none : near_held near c ≡ None = near_held-far near c is in cc
     ] refl
 
-pub far_part : (near : Dense Worth) (far : BTreeMap Cell Worth) → HasFarAlone far → (c : Cell) (w : Worth) → far_held far c ≡ Some w → contents_of near far c ≡ Some w
+pub far_part : (near : Dense Worth) (far : BTreeMap Cell Worth) → HasFarAlone far → (c : Cell) (w : Worth) → far_held far c ≡ Some w
+    → contents_of near far c ≡ Some w
 far_part near far alone c w e = contents-far near far c (alone c w e) ∙ e
 
 pub none_of : (o : Option Worth) → ((w : Worth) → o ≡ Some w → ⊥) → o ≡ None
@@ -162,14 +165,17 @@ pub far_none : (far : BTreeMap Cell Worth) (c : Cell) → HasFarAlone far → is
 far_none far c alone is = none_of (far_held far c) (λ w e. not_both (is_near c) is (alone c w e))
 
 pub near_nothing : (near : Dense Worth) (far : BTreeMap Cell Worth) → contents_of near far ≡ nothing_held → near_held near ≡ nothing_held
-near_nothing near far none = λ i c. none_of (near_held near c) (λ w e. let is : contents_of near far c ≡ Some w = near_part near far c w e in let never : contents_of near far c ≡ None = ap (λ s. s c) none in cc) i
+near_nothing near far none = λ i c. none_of (near_held near c)
+    (λ w e. let is : contents_of near far c ≡ Some w = near_part near far c w e in let never : contents_of near far c ≡ None = ap (λ s. s c) none in cc) i
 
 pub far_nothing : (near : Dense Worth) (far : BTreeMap Cell Worth) → HasFarAlone far → contents_of near far ≡ nothing_held → far_held far ≡ nothing_held
 far_nothing near far alone none =
-    λ i c. none_of (far_held far c) (λ w e. let is : contents_of near far c ≡ Some w = far_part near far alone c w e in let never : contents_of near far c ≡ None = ap (λ s. s c) none in cc) i
+    λ i c. none_of (far_held far c) (λ w e. let is : contents_of near far c ≡ Some w = far_part near far alone c w e in
+    let never : contents_of near far c ≡ None = ap (λ s. s c) none in cc) i
 
 -- a join with both parts, one after the other, is the join with the whole
-pub join-parts : (s : Contents) (near : Dense Worth) (far : BTreeMap Cell Worth) → HasFarAlone far → join (join s (near_held near)) (far_held far) ≡ join s (contents_of near far)
+pub join-parts : (s : Contents) (near : Dense Worth) (far : BTreeMap Cell Worth) → HasFarAlone far
+    → join (join s (near_held near)) (far_held far) ≡ join s (contents_of near far)
 join-parts s near far alone = λ i c. at c i
   where
     at : (c : Cell) → join (join s (near_held near)) (far_held far) c ≡ join s (contents_of near far) c
@@ -179,7 +185,8 @@ join-parts s near far alone = λ i c. at c i
               ap (joined_worth (joined_worth (s c) (near_held near c))) (far_none far c alone is) ∙ joined-none (joined_worth (s c) (near_held near c))
               ∙ ap (joined_worth (s c)) (sym (contents-near near far c is))
           | false ↦ λ is.
-              ap (λ w. joined_worth (joined_worth (s c) w) (far_held far c)) (near_held-far near c is) ∙ ap (λ w. joined_worth w (far_held far c)) (joined-none (s c))
+              ap (λ w. joined_worth (joined_worth (s c) w) (far_held far c)) (near_held-far near c is)
+              ∙ ap (λ w. joined_worth w (far_held far c)) (joined-none (s c))
               ∙ ap (joined_worth (s c)) (sym (contents-far near far c is))
         ] refl
 
@@ -260,7 +267,8 @@ err_anyway (Ok x) p = tt
 err_anyway (Err e) p = p
 
 -- ---- the keys of a family, one after another
-pub by_part : (near : Dense Worth) (far : BTreeMap Cell Worth) (c : Cell) → (is_near c ≡ true → contents_of near far c ≡ None) → (is_near c ≡ false → far_held far c ≡ None)
+pub by_part : (near : Dense Worth) (far : BTreeMap Cell Worth) (c : Cell) → (is_near c ≡ true → contents_of near far c ≡ None)
+    → (is_near c ≡ false → far_held far c ≡ None)
     → contents_of near far c ≡ None
 by_part near far c in_table in_map =
     elim (is_near c) as (λ b. is_near c ≡ b → contents_of near far c ≡ None) [
@@ -301,7 +309,8 @@ clear_below-more s then family from key changed before between c same lt =
       | false ↦ λ e. omega (arith, eqb-false c.key key e, lt)
     ] refl
 
-pub all_clear : (s : Contents) (family from : ℕ) → IsClearBelow s family from → ((j : ℕ) → from ≤ j → s (cell family j) ≡ None) → (c : Cell) → c.family ≡ family → s c ≡ None
+pub all_clear : (s : Contents) (family from : ℕ) → IsClearBelow s family from → ((j : ℕ) → from ≤ j → s (cell family j) ≡ None) → (c : Cell) → c.family ≡ family
+    → s c ≡ None
 all_clear s family from before behind c same =
     elim (nat_lt c.key from) as (λ b. nat_lt c.key from ≡ b → s c ≡ None) [
       | true ↦ λ below. before c same (true_lt c.key from below)

@@ -200,17 +200,21 @@ last_key f c same high =
 of_ends : (m : BTreeMap Cell Worth) (f from : ℕ) (first last : Cell) (es : List (Cell × Worth)) → first ≡ cell f from → last ≡ cell f 65535
     → IsRangeOf cell_cmp (Included first) (Included last) m es → IsRangeOf cell_cmp (Included (cell f from)) (Included (cell f 65535)) m es
 of_ends m f from first last es is_first is_last r =
-    subst (λ d. IsRangeOf cell_cmp (Included (cell f from)) (Included d) m es) is_last (subst (λ d. IsRangeOf cell_cmp (Included d) (Included last) m es) is_first r)
+    subst (λ d. IsRangeOf cell_cmp (Included (cell f from)) (Included d) m es) is_last
+    (subst (λ d. IsRangeOf cell_cmp (Included d) (Included last) m es) is_first r)
 
 pub none_there : (m : BTreeMap Cell Worth) (f from : ℕ) (first last : Cell) (es : List (Cell × Worth)) → first ≡ cell f from → last ≡ cell f 65535
     → IsRangeOf cell_cmp (Included first) (Included last) m es → es ≡ [] → (j : ℕ) → from ≤ j → j < key_count → far_held m (cell f j) ≡ None
-none_there m f from first last es is_first is_last r none j le lt = (of_ends m f from first last es is_first is_last r).5 none (cell f j) (within_ends f from j le lt)
+none_there m f from first last es is_first is_last r none j le lt =
+    (of_ends m f from first last es is_first is_last r).5 none (cell f j) (within_ends f from j le lt)
 
-pub none_before_first : (m : BTreeMap Cell Worth) (f from : ℕ) (first last : Cell) (es rest : List (Cell × Worth)) (e : Cell × Worth) → first ≡ cell f from → last ≡ cell f 65535
+pub none_before_first : (m : BTreeMap Cell Worth) (f from : ℕ) (first last : Cell) (es rest : List (Cell × Worth)) (e : Cell × Worth) → first ≡ cell f from
+    → last ≡ cell f 65535
     → IsRangeOf cell_cmp (Included first) (Included last) m es → es ≡ e ∷ rest → (j : ℕ) → from ≤ j → j < e.0.key → far_held m (cell f j) ≡ None
 none_before_first m f from first last es rest e is_first is_last r there j le before =
     let range = of_ends m f from first last es is_first is_last r in
-    let at : IsEntryInRange cell_cmp (Included (cell f from)) (Included (cell f 65535)) m e = subst (λ xs. IfSome (slice_get xs 0) (IsEntryInRange cell_cmp (Included (cell f from)) (Included (cell f 65535)) m)) there range.1 in
+    let at : IsEntryInRange cell_cmp (Included (cell f from)) (Included (cell f 65535)) m e =
+    subst (λ xs. IfSome (slice_get xs 0) (IsEntryInRange cell_cmp (Included (cell f from)) (Included (cell f 65535)) m)) there range.1 in
     let same : e.0.family ≡ f = in_family f from e.0 at.0.0 at.0.1 in
     let lt : j < key_count = omega (arith, before, last_key f e.0 same at.0.1) in
     let gt : is_gt (cell_cmp e.0 (cell f j)) ≡ true = after e.0 (cell f j) same before in

@@ -1,13 +1,16 @@
 //! A state, which holds a value in each cell that is not neutral (`docs/MODEL.md`).
 
 ghost use Rattle.std.specs.BTreeMap as tree;
-ghost use Rattle.std.specs.Prelude.{◌≡◌, ◌+◌, ◌*◌, ◌<◌, ◌≤◌, ◌==◌, ◌&&◌, ℕ, map, not, true, false, is_some, Some, None, OnOk, OnErr, IfOk, IsOk, IsSome, IfSome, IfNone};
+ghost use Rattle.std.specs.Prelude.{◌≡◌, ◌+◌, ◌*◌, ◌<◌, ◌≤◌, ◌==◌, ◌&&◌, ℕ, map, not, true, false, is_some, Some, None, OnOk, OnErr, IfOk, IsOk, IsSome};
+ghost use Rattle.std.specs.Prelude.{IfSome, IfNone};
 ghost use Rattle.std.specs.List.{filter};
-ghost use Rattle.flu_model.specs.Contents.{cell, is_same_cell, nothing_held, with_worth, held_sum, added, raised, held_keys, key_count, without_family, join, joined_worth};
+ghost use Rattle.flu_model.specs.Contents.{cell, is_same_cell, nothing_held, with_worth, held_sum, added, raised, held_keys, key_count, without_family, join};
+ghost use Rattle.flu_model.specs.Contents.{joined_worth};
 ghost use Rattle.flu_model.specs.Order.{cell_cmp};
 ghost use Rattle.flu_dense.specs.Holding.{value_at};
 ghost use Rattle.flu_dense.specs.Values.{with_value};
-ghost use Rattle.flu_cells.specs.Entries.{is_near, slot_of, slot_keys, near_held, far_held, contents_of, overlay, IsWithoutNeutral, HasKeysInRange, HasFarAlone, IsWorthKept, entries_of_family};
+ghost use Rattle.flu_cells.specs.Entries.{is_near, slot_of, slot_keys, near_held, far_held, contents_of, overlay, IsWithoutNeutral, HasKeysInRange};
+ghost use Rattle.flu_cells.specs.Entries.{HasFarAlone, IsWorthKept, entries_of_family};
 
 use crate::sets::CellSet;
 use flu_dense::Dense;

@@ -41,7 +41,8 @@ tags_tie a b e =
     λ i. record { kind = both.0 i; key = both.1 i }
 
 faults_total : IsTotalOrder (λ (x y : Fault). fault_cmp x.a x.b x.cell y.a y.b y.cell)
-faults_total = then_total (on_total (λ (f : Fault). f.a) tags_total) (then_total (on_total (λ (f : Fault). f.b) tags_total) (on_total (λ (f : Fault). f.cell) cells_total))
+faults_total =
+    then_total (on_total (λ (f : Fault). f.a) tags_total) (then_total (on_total (λ (f : Fault). f.b) tags_total) (on_total (λ (f : Fault). f.cell) cells_total))
 
 faults_rank : IsStrictWeakOrder is_fault_before
 faults_rank = ranks_by faults_total (λ f. f)
@@ -108,12 +109,14 @@ not_sought p a b found good e c f =
 pub sought_keeps : (p : Program) (a b : Tag) (c : Cell) (found : Option Fault) → is_sought p a b found ≡ true
     → KeepsPassed found (Some (record { a = a; b = b; cell = c }))
 sought_keeps p a b c found e x passed =
-    at_found found (and_right (not (is_tag_before b a)) (is_pair_before a b found) (and_left (not (is_tag_before b a) && is_pair_before a b found) (not (is_dependent p a b)) e)) passed
+    at_found found (and_right (not (is_tag_before b a)) (is_pair_before a b found)
+    (and_left (not (is_tag_before b a) && is_pair_before a b found) (not (is_dependent p a b)) e)) passed
   where
     at_found : (o : Option Fault) → is_pair_before a b o ≡ true → IsPassed o x → IsPassed (Some (record { a = a; b = b; cell = c })) x
     at_found None before passed = elim passed [ ]
     at_found (Some f) before (Passed not_before) =
-        Passed (faults_rank.chain x f (record { a = a; b = b; cell = c }) not_before (faults_rank.one_way (record { a = a; b = b; cell = c }) f (earlier_pair (tag_cmp a f.a) (tag_cmp b f.b) (cell_cmp c f.cell) before)))
+        Passed (faults_rank.chain x f (record { a = a; b = b; cell = c }) not_before
+        (faults_rank.one_way (record { a = a; b = b; cell = c }) f (earlier_pair (tag_cmp a f.a) (tag_cmp b f.b) (cell_cmp c f.cell) before)))
 
 pub first_passes : (p : Program) (a b : Tag) (c : Cell) → IsFirstConflict p a b c → PassesPair p a b (Some (record { a = a; b = b; cell = c }))
 first_passes p a b c first d f = Passed (same_tags a b d c ∙ first.first d f.conflict)
@@ -137,7 +140,8 @@ passes p found all a b c f =
     let one : HasItag p a = listed_has_itag p a f.a_listed in
     let two : HasItag p b = listed_has_itag p b f.b_listed in
     subst (λ (t : Tag). IsCheckFault p t b c → IsPassed found (record { a = t; b = b; cell = c })) one.is
-    (subst (λ (t : Tag). IsCheckFault p (tag_at p one.number) t c → IsPassed found (record { a = tag_at p one.number; b = t; cell = c })) two.is (all one.number one.in_range two.number two.in_range c))
+    (subst (λ (t : Tag). IsCheckFault p (tag_at p one.number) t c → IsPassed found (record { a = tag_at p one.number; b = t; cell = c })) two.is
+    (all one.number one.in_range two.number two.in_range c))
     f
 
 pub passed_is_first : (p : Program) (found : Option Fault) → IfSome found (IsFound p) → AllPassed p found

@@ -10,7 +10,8 @@ use Rattle.flu_dense.specs.declared.mask.Mask.{Mask}
 use Rattle.flu_dense.specs.Masks.{has}
 use Rattle.flu_dense.specs.Rows.{held_at, HasValues}
 use Rattle.flu_dense.specs.Values.{with_value}
-use Rattle.flu_dense.proofs.ListLemmas.{slice_get-set_same, slice_get-set_other, slice_get-append}
+use Rattle.flu_lemmas.proofs.Replaced.{slice_get-set_same, slice_get-set_other}
+use Rattle.flu_dense.proofs.ListLemmas.{slice_get-append}
 
 pub not_held : {V : Type 0} (m : Mask) (vs : List V) (k : ℕ) → has m k ≡ false → held_at m vs k ≡ None
 not_held m vs k e = ap (λ b. cond b (slice_get vs k) None) e

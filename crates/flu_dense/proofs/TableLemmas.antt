@@ -1,5 +1,6 @@
 -- What a table holds, as its rows change.
-use Rattle.std.proofs.Common.{◌≡◌, ◌<◌, ◌≤◌, ◌≢◌, ◌++◌, ◌+◌, ◌*◌, ◌/◌, ◌%◌, ℕ, true, false, cond, Option, Some, None, List, [], ◌∷◌, length, set, refl, sym, ap, subst, ◌∙◌, arith}
+use Rattle.std.proofs.Common.{◌≡◌, ◌<◌, ◌≤◌, ◌≢◌, ◌++◌, ◌+◌, ◌*◌, ◌/◌, ◌%◌, ℕ, true, false, cond, Option, Some, None, List, [], ◌∷◌, length, set, refl, sym, ap}
+use Rattle.std.proofs.Common.{subst, ◌∙◌, arith}
 use Rattle.std.specs.Prelude.{◌==◌, nat_lt, slice_get, is_some, IsSome}
 use Rattle.std.proofs.Math.ListN.{length-append}
 use Rattle.std.proofs.lemmas.Bool.{eqb-false, ne_eqb, ltb-false}
@@ -10,7 +11,8 @@ use Rattle.flu_lemmas.proofs.Tests.{true_eq, true_lt}
 use Rattle.flu_dense.specs.declared.row.Row.{Row}
 use Rattle.flu_dense.specs.Tables.{value_in, value_in_row, value_of, HasSlotsInRange}
 use Rattle.flu_dense.specs.Values.{with_value}
-use Rattle.flu_dense.proofs.ListLemmas.{slice_get-set_same, slice_get-set_other, slice_get-append}
+use Rattle.flu_lemmas.proofs.Replaced.{slice_get-set_same, slice_get-set_other}
+use Rattle.flu_dense.proofs.ListLemmas.{slice_get-append}
 
 -- ---- numbers of slots
 same_slot : (s t : ℕ) → s / 64 ≡ t / 64 → (s % 64 == t % 64) ≡ (s == t)
@@ -46,8 +48,10 @@ other_row : {V : Type 0} (rows : List (Row V)) (slot s : ℕ) (then : Row V) →
 unfolding value_of
 other_row rows slot s then other = ap (λ o. value_in_row o (s % 64)) (slice_get-set_other rows (slot / 64) (s / 64) then other)
 
-pub row_changed : {V : Type 0} (rows : List (Row V)) (slot : ℕ) (row then : Row V) (v : Option V) → slice_get rows (slot / 64) ≡ Some row → slot / 64 < length rows
-    → ((j : ℕ) → j < 64 → value_in then j ≡ with_value (value_in row) (slot % 64) v j) → value_of (set rows (slot / 64) then) ≡ with_value (value_of rows) slot v
+pub row_changed : {V : Type 0} (rows : List (Row V)) (slot : ℕ) (row then : Row V) (v : Option V) → slice_get rows (slot / 64) ≡ Some row
+    → slot / 64 < length rows
+    → ((j : ℕ) → j < 64 → value_in then j ≡ with_value (value_in row) (slot % 64) v j)
+    → value_of (set rows (slot / 64) then) ≡ with_value (value_of rows) slot v
 row_changed {V} rows slot row then v is lt changed = λ i s. at s i
   where
     at : (s : ℕ) → value_of (set rows (slot / 64) then) s ≡ with_value (value_of rows) slot v s
@@ -133,7 +137,8 @@ none_in_row rows at top s row is small none le lt =
     let here = in_row_from at s le (omega arith) in
     with_row rows s row (ap (slice_get rows) here.0 ∙ is) ∙ none (s % 64) here.1 (omega (arith, here.0))
 
-pub none_before : (P : ℕ → Type 0) (from at top : ℕ) → ((k : ℕ) → from ≤ k → k < at → P k) → ((k : ℕ) → at ≤ k → k < top → P k) → (k : ℕ) → from ≤ k → k < top → P k
+pub none_before : (P : ℕ → Type 0) (from at top : ℕ) → ((k : ℕ) → from ≤ k → k < at → P k) → ((k : ℕ) → at ≤ k → k < top → P k) → (k : ℕ) → from ≤ k → k < top
+    → P k
 none_before P from at top before here k le lt =
     elim (nat_lt k at) as (λ b. nat_lt k at ≡ b → P k) [
       | true ↦ λ e. before k le (true_lt k at e)
@@ -153,7 +158,8 @@ row_copied rows copies more i row copy is here same count before s lt =
           row_before copies copy s (omega (arith, below, count)) ∙ before s below
     ] refl
 
-pub rows_copied : {V : Type 0} (rows copies : List (Row V)) (i : ℕ) → length rows ≤ i → length copies ≡ i → ((s : ℕ) → s / 64 < i → value_of copies s ≡ value_of rows s)
+pub rows_copied : {V : Type 0} (rows copies : List (Row V)) (i : ℕ) → length rows ≤ i → length copies ≡ i
+    → ((s : ℕ) → s / 64 < i → value_of copies s ≡ value_of rows s)
     → value_of copies ≡ value_of rows
 rows_copied rows copies i le count same = λ j s. at s j
   where
@@ -165,8 +171,10 @@ rows_copied rows copies i le count same = λ j s. at s j
               past_rows copies s (omega (arith, count, past)) ∙ sym (past_rows rows s (omega (arith, le, past)))
         ] refl
 
-pub found_in_row : {V : Type 0} (rows : List (Row V)) (at place : ℕ) (row : Row V) → slice_get rows (at / 64) ≡ Some row → place < 64 → IsSome (value_in row place)
+pub found_in_row : {V : Type 0} (rows : List (Row V)) (at place : ℕ) (row : Row V) → slice_get rows (at / 64) ≡ Some row → place < 64
+    → IsSome (value_in row place)
     → IsSome (value_of rows (at / 64 * 64 + place))
 found_in_row {V} rows at place row is lt some =
     subst IsSome
-    (sym (with_row rows (at / 64 * 64 + place) row (ap (slice_get rows) (row_of (at / 64) place lt) ∙ is) ∙ ap (value_in row) (place_of (at / 64) place lt))) some
+    (sym (with_row rows (at / 64 * 64 + place) row (ap (slice_get rows) (row_of (at / 64) place lt) ∙ is) ∙ ap (value_in row) (place_of (at / 64) place lt)))
+    some

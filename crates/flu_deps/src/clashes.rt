@@ -6,7 +6,8 @@ ghost use Rattle.flu_model.specs.Itags.{count_of_itags, tag_of_itag};
 ghost use Rattle.flu_model.specs.Rules.{tag_fits};
 ghost use Rattle.flu_deps.specs.Conflicts.{NeverConflict};
 ghost use Rattle.flu_deps.specs.LoopVisits.{has, action_all};
-ghost use Rattle.flu_deps.specs.LoopClashes.{kind_actions, marked_test, met_test, HasTags, IsFixedNoted, IsDone, AreDone, KeepsClashes, FindsClashes, may_clash};
+ghost use Rattle.flu_deps.specs.LoopClashes.{kind_actions, marked_test, met_test, HasTags, IsFixedNoted, IsDone, AreDone, KeepsClashes, FindsClashes};
+ghost use Rattle.flu_deps.specs.LoopClashes.{may_clash};
 
 use crate::visits::{Class, Marks, Meeting, Visit, has, with};
 use flu_model::{Itag, KEY_COUNT, Program, Tag, actions_of, itag_count, tag_of};

@@ -5,7 +5,8 @@ ghost use Rattle.flu_model.specs.Modes as modes;
 ghost use Rattle.flu_model.specs.Rules.{tag_fits};
 ghost use Rattle.flu_model.specs.Sorts.{is_cell_of};
 ghost use Rattle.flu_deps.specs.Conflicts.{conflicts_on, IsFirstConflict, NeverConflict};
-ghost use Rattle.flu_deps.specs.LoopNamed.{expr_cells, guard_cells, piece_cells, pieces_cells, act_cells, action_cells, actions_cells, is_before_best, better, best_among};
+ghost use Rattle.flu_deps.specs.LoopNamed.{expr_cells, guard_cells, piece_cells, pieces_cells, act_cells, action_cells, actions_cells, is_before_best, better};
+ghost use Rattle.flu_deps.specs.LoopNamed.{best_among};
 
 use crate::modes::mode;
 use flu_model::{Act, Action, Cell, Expr, Mode, Piece, Program, Tag, actions_of, cell_of};

@@ -47,7 +47,16 @@ impl<'a> Model for Case<'a> {
 
     ghost coded = { Prim.hlevel (codes, e.the_row.coded) };
 
-    ghost view = { λ a. record { checked = a.checked.now; valid = a.valid.now; streams = a.streams.now; opening = a.opening; of_job = a.of_job; one_each = a.one_each; opening_sorts = a.opening_sorts } };
+    ghost view = { λ a. record {
+      checked = a.checked.now;
+      valid = a.valid.now;
+      streams = a.streams.now;
+      opening = a.opening;
+      of_job = a.of_job;
+      one_each =
+          a.one_each;
+      opening_sorts = a.opening_sorts;
+    } };
 }
 
 impl<'a> Case<'a> {

@@ -14,7 +14,8 @@ use std::alloc::AllocError;
 
 /// Adds the cells that a tag's actions read, but those of another set.
 pub fn add_reads(set: &mut CellSet, unless: &CellSet, p: &Program, t: Tag) -> Result<(), AllocError>
-    ensures { OnOk result (GrowsBy set.old set.new (λ c. not (is_in unless.now c) && list_any (modes.action_reads t.key c) (updates.actions_of (slice_get p.now.kinds t.kind)))) }
+    ensures { OnOk result (GrowsBy set.old set.new (λ c. not (is_in unless.now c)
+        && list_any (modes.action_reads t.key c) (updates.actions_of (slice_get p.now.kinds t.kind)))) }
 {
     read_by_actions(set, unless, actions_of(p, t), t.key)
 }

@@ -3,10 +3,12 @@
 
 ghost use Rattle.flu_fork.specs.LawsBelow.{LawsBelow};
 ghost use Rattle.flu_fork.specs.Completing.{LeavesBringAll, LastOnesArePaired, JoinsBringAll};
-ghost use Rattle.flu_fork.specs.Laws.{NothingIsCopied, NeededIsBase, BaseIsNotAway, CopiesAreOnlyRead, FittingHasSorts, OpeningFits, ForksFit, JoinsFit, CentralLaw};
+ghost use Rattle.flu_fork.specs.Laws.{NothingIsCopied, NeededIsBase, BaseIsNotAway, CopiesAreOnlyRead, FittingHasSorts, OpeningFits, ForksFit, JoinsFit};
+ghost use Rattle.flu_fork.specs.Laws.{CentralLaw};
 ghost use Rattle.flu_fork.specs.Kin.{ItagsAreOfNodes, ItagsAreOfKids, ItagsAreOfTheRoot};
 ghost use Rattle.flu_fork.specs.Places.{EventsHaveMoments, MomentsAreEvents, EventsAreKnown};
-ghost use Rattle.flu_fork.specs.Serving.{LentIsOnLoan, LoansArePaired, JoinsServe, JoinsGrow, ClearIsJustBefore, JustBeforeAtLeaf, JustBeforeAtInner, JustBeforeIsExact, LeavesServe, ContentsAreSettings};
+ghost use Rattle.flu_fork.specs.Serving.{LentIsOnLoan, LoansArePaired, JoinsServe, JoinsGrow, ClearIsJustBefore, JustBeforeAtLeaf, JustBeforeAtInner};
+ghost use Rattle.flu_fork.specs.Serving.{JustBeforeIsExact, LeavesServe, ContentsAreSettings};
 ghost use Rattle.flu_fork.specs.Streams.{PrefixesAgree, ExactnessAgrees};
 ghost use Rattle.flu_fork.specs.Walks.{WalksFit, WalksCount, LeftIsServed, OthersAreNotServed};
 ghost use Rattle.flu_fork.specs.Texts.{NoTexts, TextsAreOfTheSet, TextsGrow, TextsOfThree, TextsEnd, StatesEnd, OutputsAreOfMoments};

@@ -38,5 +38,13 @@ impl Model for CaseNote {
 
     ghost coded = { Prim.hlevel (codes, e.the_row.coded) };
 
-    ghost view = { λ n. record { checked = n.checked.value; valid = n.valid.value; streams = n.streams.value; opening = n.opening.value; of_job = n.of_job; one_each = n.one_each; opening_sorts = n.opening_sorts } };
+    ghost view = { λ n. record {
+      checked = n.checked.value;
+      valid = n.valid.value;
+      streams = n.streams.value;
+      opening = n.opening.value;
+      of_job = n.of_job;
+      one_each = n.one_each;
+      opening_sorts = n.opening_sorts;
+    } };
 }

@@ -60,7 +60,8 @@ pub fn fork(alloc: Global, case: &Case, node: u32, lot: Lot) -> Result<(Lot, Lot
 /// The two parts of a lot where the cells of one set go to the right one, and those of another set, of these, stay in the left
 /// one as well.
 pub(crate) fn part(alloc: Global, right: &Right, lot: Lot) -> Result<(Lot, Lot), AllocError>
-    ensures left { IfOk result (λ parts. held parts.0.state ≡ contents.join (outside right.now.needed (held lot.state)) (within right.now.copied (held parts.1.state))) }
+    ensures left { IfOk result (λ parts. held parts.0.state ≡ contents.join (outside right.now.needed (held lot.state))
+        (within right.now.copied (held parts.1.state))) }
     ensures right { IfOk result (λ parts. held parts.1.state ≡ within right.now.needed (held lot.state)) }
     ensures counts { IfOk result (HasCounts lot) }
 {

@@ -180,7 +180,8 @@ fn read_below(
     written: &CellSet,
 ) -> Result<CellSet, AllocError>
     requires { IsValidFor p.now v.now }
-    ensures { IfOk result (λ set. (c : Cell) → is_in set c ≡ list_any (λ i. below p.now (plan_of v.now).nodes w i && (not (is_in written.now c) && reads_by p.now i c)) (range_with_len 0 (count_of_itags p.now))) }
+    ensures { IfOk result (λ set. (c : Cell) → is_in set c ≡ list_any
+        (λ i. below p.now (plan_of v.now).nodes w i && (not (is_in written.now c) && reads_by p.now i c)) (range_with_len 0 (count_of_itags p.now))) }
 {
     let mut set = CellSet::new(alloc);
     for i in 0..itag_count(p) {

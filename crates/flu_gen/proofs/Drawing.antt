@@ -1,5 +1,6 @@
 -- Draws, items and lists that grow by one.
-use Rattle.std.proofs.Common.{◌≡◌, ◌+◌, ◌%◌, ◌<◌, ℕ, suc, Vec, Global, zero-add, Bool, true, false, List, [], ◌∷◌, ◌++◌, length, get_or, take, map, filter, cond, refl, sym, ap, ◌∙◌, arith}
+use Rattle.std.proofs.Common.{◌≡◌, ◌+◌, ◌%◌, ◌<◌, ℕ, suc, Vec, Global, zero-add, Bool, true, false, List, [], ◌∷◌, ◌++◌, length, get_or, take, map, filter}
+use Rattle.std.proofs.Common.{cond, refl, sym, ap, ◌∙◌, arith}
 use Rattle.std.specs.Prelude.{◌==◌}
 use Rattle.std.specs.List.{range_with_len}
 use Rattle.std.proofs.lemmas.List.{map-append}

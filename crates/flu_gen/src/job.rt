@@ -1,7 +1,8 @@
 //! The job of a demo.
 
 ghost use Rattle.std.specs.Prelude.{◌≡◌, ◌∷◌, [], IfOk};
-ghost use Rattle.flu_gen.specs.DemoJob.{demo_families, view_actions, update_actions, tick_actions, always, of_key, keyed_kind, demo_kinds, depend, demo_depends, ten_keys, source, demo_sources, IsDemoJob};
+ghost use Rattle.flu_gen.specs.DemoJob.{demo_families, view_actions, update_actions, tick_actions, always, of_key, keyed_kind, demo_kinds, depend};
+ghost use Rattle.flu_gen.specs.DemoJob.{demo_depends, ten_keys, source, demo_sources, IsDemoJob};
 
 use flu_model::{
     Act, Action, At, CellRef, Depend, Expr, Family, Keys, Kind, List, Name, Piece, Program, Sort,

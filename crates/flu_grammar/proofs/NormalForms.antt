@@ -1,6 +1,7 @@
 -- The normal form of the job of a text is short: an expression is printed with a few bytes for each of its tokens, and all else has the
 -- bounds that the rules of a job give.
-use Rattle.std.proofs.Common.{◌≡◌, ◌<◌, ◌≤◌, ◌+◌, ◌*◌, ◌^◌, ◌-◌, ℕ, suc, ℤ, pos, negsuc, Bool, true, false, cond, Option, Some, None, List, [], ◌∷◌, ◌++◌, map, length, refl, sym, ap, subst, ◌∙◌, arith, length-append}
+use Rattle.std.proofs.Common.{◌≡◌, ◌<◌, ◌≤◌, ◌+◌, ◌*◌, ◌^◌, ◌-◌, ℕ, suc, ℤ, pos, negsuc, Bool, true, false, cond, Option, Some, None, List, [], ◌∷◌, ◌++◌, map}
+use Rattle.std.proofs.Common.{length, refl, sym, ap, subst, ◌∙◌, arith, length-append}
 use Rattle.std.specs.Prelude.{nat_lt, nat_le, ◌==◌, ◌&&◌, slice_get, codes, option_map, ⊤}
 use Rattle.std.specs.Fmt.{decimal, signed_decimal}
 use Rattle.std.specs.List.{list_all, flat_map, All}
@@ -15,7 +16,7 @@ use Rattle.flu_lemmas.specs.Totals.{total}
 use Rattle.flu_lemmas.proofs.Elements.{passes_at}
 use Rattle.flu_lemmas.proofs.NoTotal.{total_none}
 use Rattle.flu_lemmas.proofs.Tests.{and_left, and_right, true_lt, true_le}
-use Rattle.flu_lemmas.proofs.Totals.{total-flat_map}
+use Rattle.flu_lemmas.proofs.Totals.{total-flat_map, total-plus}
 use Rattle.flu_names.specs.Names.{is_name}
 use Rattle.flu_model.specs.declared.events.Tag.{Tag}
 use Rattle.flu_model.specs.declared.jobs.At.{At}
@@ -39,9 +40,11 @@ use Rattle.flu_model.specs.declared.jobs.Sort.TheVariants as sort
 use Rattle.flu_model.specs.declared.jobs.Source.{Source}
 use Rattle.flu_model.specs.declared.jobs.TagRef.{TagRef}
 use Rattle.flu_model.specs.Contents.{key_count}
-use Rattle.flu_model.specs.Erasure.{Term, Literal, EventValue, EventKey, EventTime, CellRead, CellHeld, Negative, Negation, Operation, term_of, PlainAct, Adding, Raising, Setting, Clearing, Emitting, Flushing, plain_act, PlainAction, plain_action, PlainKind, plain_kind}
+use Rattle.flu_model.specs.Erasure.{Term, Literal, EventValue, EventKey, EventTime, CellRead, CellHeld, Negative, Negation, Operation, term_of, PlainAct}
+use Rattle.flu_model.specs.Erasure.{Adding, Raising, Setting, Clearing, Emitting, Flushing, plain_act, PlainAction, plain_action, PlainKind, plain_kind}
 use Rattle.flu_model.specs.Listing.{tag, listed_keys, listed_tags, tags_of_source, itags_of_sources}
-use Rattle.flu_model.specs.Rules.{family_fits, ref_fits, ref_has_sort, is_literal, expr_fits, height, is_good_expr, is_short, flush_template_fits, is_keyed, act_fits, guard_fits, action_fits, kind_fits, keys_fit, listed_kind_fits, tag_ref_fits, is_file_text, source_fits}
+use Rattle.flu_model.specs.Rules.{family_fits, ref_fits, ref_has_sort, is_literal, expr_fits, height, is_good_expr, is_short, flush_template_fits, is_keyed}
+use Rattle.flu_model.specs.Rules.{act_fits, guard_fits, action_fits, kind_fits, keys_fit, listed_kind_fits, tag_ref_fits, is_file_text, source_fits}
 use Rattle.flu_model.specs.Templates.{family_name, written_key, written_cell, written_template}
 use Rattle.flu_text.specs.declared.words.Token.{Token}
 use Rattle.flu_text.specs.Grammar.{LeadsTo, IsSpan}
@@ -56,9 +59,11 @@ use Rattle.flu_syntax.specs.Grammar.{op_word, cell_signs, spelled, deed_signs, g
 use Rattle.flu_layout.specs.Laid.{line_end, quoted}
 use Rattle.flu_layout.specs.Lists.{separated, keys_text}
 use Rattle.flu_layout.specs.Spelling.{name_of}
-use Rattle.flu_parse.specs.Printing.{op_text, term_text, act_text, guard_text, action_text, version_line, keyed_text, sort_text, cell_line, value_text, tag_line, kind_name, same_text, depends_line, actions_line, on_line, tag_text, slack_text, source_head, source_line}
+use Rattle.flu_parse.specs.Printing.{op_text, term_text, act_text, guard_text, action_text, version_line, keyed_text, sort_text, cell_line, value_text}
+use Rattle.flu_parse.specs.Printing.{tag_line, kind_name, same_text, depends_line, actions_line, on_line, tag_text, slack_text, source_head, source_line}
 use Rattle.flu_grammar.specs.Means.{AllDiffer, IfWritten}
-use Rattle.flu_grammar.specs.Terms.{MeansTerm, means_number, means_value, means_key, means_time, means_read, means_held, means_inside, means_negative, means_negation, means_operation, MeansExpression}
+use Rattle.flu_grammar.specs.Terms.{MeansTerm, means_number, means_value, means_key, means_time, means_read, means_held, means_inside, means_negative}
+use Rattle.flu_grammar.specs.Terms.{means_negation, means_operation, MeansExpression}
 use Rattle.flu_grammar.specs.Actions.{MeansDeed, means_add, means_raise, means_set, means_clear, means_emit, means_flush, MeansAction}
 use Rattle.flu_grammar.specs.Declared.{DeclaredKind, kinds_in, actions_in}
 use Rattle.flu_grammar.specs.Jobs.{MeansDeclaredKind}
@@ -100,10 +105,6 @@ separated_few mark text (x ∷ xs) = omega (arith, length-append (text x) (flat_
     others : (ys : List _) → length (flat_map (λ y. mark ++ text y) ys) ≤ total (λ y. length mark + length (text y)) ys
     others [] = omega arith
     others (y ∷ ys) = omega (arith, length-append (mark ++ text y) (flat_map (λ z. mark ++ text z) ys), length-append mark (text y), others ys)
-
-total_sum : {X : Type 0} (f g : X → ℕ) (xs : List X) → total (λ x. f x + g x) xs ≡ total f xs + total g xs
-total_sum f g [] = refl
-total_sum f g (x ∷ xs) = omega (arith, total_sum f g xs)
 
 -- ---- names and numbers
 name_few : (name : List ℕ) → is_name name ≡ true → length name ≤ 32
@@ -200,7 +201,8 @@ module _ (families : List Family) (named : list_all (λ (f : Family). is_name f.
           six_long (term_text families a) (codes " ") (op_text o) (codes " ") (term_text families b) (codes ")"),
         )
 
-    expression_few : (e : Tree) (t : Term) → MeansExpression text families keyed has_value e t → SmallTerm t → length (term_text families t) ≤ 23 * length (spelled e) + 16
+    expression_few : (e : Tree) (t : Term) → MeansExpression text families keyed has_value e t → SmallTerm t
+        → length (term_text families t) ≤ 23 * length (spelled e) + 16
     expression_few e t is small = term_few is.means small
 
     -- ---- actions
@@ -220,10 +222,12 @@ module _ (families : List Family) (named : list_all (λ (f : Family). is_name f.
     good_term e good = small_term keyed has_value e (and_left (expr_fits families keyed has_value e) (nat_le (height e) 32) good)
 
     -- an action of a cell and an expression
-    cell_fits : (r : CellRef) (sort : Sort) (e : Expr) → ref_fits families keyed r && ref_has_sort families sort r && is_good_expr families keyed has_value e ≡ true
+    cell_fits : (r : CellRef) (sort : Sort) (e : Expr) → ref_fits families keyed r && ref_has_sort families sort r
+        && is_good_expr families keyed has_value e ≡ true
         → (length (written_cell families r) ≤ 39) × SmallTerm (term_of e)
     cell_fits r sort e fits = (
-      cell_few keyed r (and_left (ref_fits families keyed r) (ref_has_sort families sort r) (and_left (ref_fits families keyed r && ref_has_sort families sort r) (is_good_expr families keyed has_value e) fits)),
+      cell_few keyed r (and_left (ref_fits families keyed r) (ref_has_sort families sort r)
+          (and_left (ref_fits families keyed r && ref_has_sort families sort r) (is_good_expr families keyed has_value e) fits)),
       good_term e (and_right (ref_fits families keyed r && ref_has_sort families sort r) (is_good_expr families keyed has_value e) fits),
     )
 
@@ -234,7 +238,8 @@ module _ (families : List Family) (named : list_all (λ (f : Family). is_name f.
     small_act (Clear r) fits = cell_few keyed r fits
     small_act (Emit ps) fits = true_le (length (written_template families ps)) 256 (and_right _ (is_short (written_template families ps)) fits)
     small_act (Flush f ps) fits =
-        true_le (length (written_template families ps)) 256 (and_right _ (is_short (written_template families ps)) (and_right (is_keyed (slice_get families f)) (flush_template_fits families has_value ps) fits))
+        true_le (length (written_template families ps)) 256 (and_right _ (is_short (written_template families ps))
+        (and_right (is_keyed (slice_get families f)) (flush_template_fits families has_value ps) fits))
 
     small_guard : (o : Option Expr) → guard_fits families keyed has_value o ≡ true → SmallGuard (option_map term_of o)
     small_guard None fits = tt
@@ -276,11 +281,14 @@ module _ (families : List Family) (named : list_all (λ (f : Family). is_name f.
     guard_few (Some e) None means small = absurd means
     guard_few (Some e) (Some t) means small = omega (arith, expression_few e t means small)
 
-    action_few : (written : Action) (a : JobAction) → MeansAction text families keyed has_value written (plain_action a) → action_fits families keyed has_value a ≡ true
+    action_few : (written : Action) (a : JobAction) → MeansAction text families keyed has_value written (plain_action a)
+        → action_fits families keyed has_value a ≡ true
         → length (action_text families (plain_action a)) ≤ 23 * length (action_signs written) + 319
     action_few written a means fits =
-        let act = act_few written.at means.act (small_act a.act (and_left (act_fits families keyed has_value a.act) (guard_fits families keyed has_value a.guard) fits)) in
-        let guard = guard_few written.guard (option_map term_of a.guard) means.guard (small_guard a.guard (and_right (act_fits families keyed has_value a.act) (guard_fits families keyed has_value a.guard) fits)) in
+        let act = act_few written.at means.act (small_act a.act
+        (and_left (act_fits families keyed has_value a.act) (guard_fits families keyed has_value a.guard) fits)) in
+        let guard = guard_few written.guard (option_map term_of a.guard) means.guard
+        (small_guard a.guard (and_right (act_fits families keyed has_value a.act) (guard_fits families keyed has_value a.guard) fits)) in
         omega (
           arith,
           act,
@@ -338,13 +346,16 @@ module _ (text : List ℕ) where
   one_kind name actions (k ∷ ks) differ = by_test (bytes_eq name k.name) refl (one_kind name actions ks (differ_tail k.name (map declared_name ks) differ))
     where
       by_test : (b : Bool) → bytes_eq name k.name ≡ b
-          → total (λ (j : DeclaredKind). total (λ (a : Action). length (action_signs a)) (cond (bytes_eq name j.name) actions [])) ks ≤ total (λ (a : Action). length (action_signs a)) actions
-          → total (λ (a : Action). length (action_signs a)) (cond b actions []) + total (λ (j : DeclaredKind). total (λ (a : Action). length (action_signs a)) (cond (bytes_eq name j.name) actions [])) ks
+          → total (λ (j : DeclaredKind). total (λ (a : Action). length (action_signs a)) (cond (bytes_eq name j.name) actions [])) ks ≤ total
+          (λ (a : Action). length (action_signs a)) actions
+          → total (λ (a : Action). length (action_signs a)) (cond b actions []) + total
+          (λ (j : DeclaredKind). total (λ (a : Action). length (action_signs a)) (cond (bytes_eq name j.name) actions [])) ks
           ≤ total (λ (a : Action). length (action_signs a)) actions
       by_test false e more = omega (arith, more)
       by_test true e more =
           let none : total (λ (j : DeclaredKind). total (λ (a : Action). length (action_signs a)) (cond (bytes_eq name j.name) actions [])) ks ≡ 0 =
-          total_none (λ (j : DeclaredKind). total (λ (a : Action). length (action_signs a)) (cond (bytes_eq name j.name) actions [])) ks (λ i j at. other i j at (bytes_eq name j.name) refl) in
+          total_none (λ (j : DeclaredKind). total (λ (a : Action). length (action_signs a)) (cond (bytes_eq name j.name) actions [])) ks
+          (λ i j at. other i j at (bytes_eq name j.name) refl) in
           omega (arith, none)
         where
           other : (i : ℕ) (j : DeclaredKind) → slice_get ks i ≡ Some j → (c : Bool) → bytes_eq name j.name ≡ c
@@ -376,13 +387,15 @@ module _ (text : List ℕ) where
         one_declaration ks differ y,
         all_declarations ks differ ds,
         length-append (declaration_signs y) (flat_map declaration_signs ds),
-        total_sum (λ (k : DeclaredKind). size_of text k.name y) (λ (k : DeclaredKind). total (size_of text k.name) ds) ks,
+        total-plus (λ (k : DeclaredKind). size_of text k.name y) (λ (k : DeclaredKind). total (size_of text k.name) ds) ks,
       )
 
   -- the lines of all kinds
-  kinds_few : (families : List Family) (named : list_all (λ (f : Family). is_name f.name) families ≡ true) (ds : Declarations) (declared : List DeclaredKind) (ks : List Kind)
+  kinds_few : (families : List Family) (named : list_all (λ (f : Family). is_name f.name) families ≡ true) (ds : Declarations) (declared : List DeclaredKind)
+      (ks : List Kind)
       → Pairs (MeansDeclaredKind text families ds) declared (map plain_kind ks) → list_all (kind_fits families) ks ≡ true
-      → length (flat_map (on_line families) (map plain_kind ks)) ≤ 23 * total (λ (k : DeclaredKind). total (size_of text k.name) ds) declared + 10310 * length ks
+      → length (flat_map (on_line families) (map plain_kind ks)) ≤ 23 * total
+      (λ (k : DeclaredKind). total (size_of text k.name) ds) declared + 10310 * length ks
   kinds_few families named ds [] [] means fits = omega arith
   kinds_few families named ds [] (k ∷ ks) means fits = absurd means
   kinds_few families named ds (x ∷ xs) [] means fits = absurd means
@@ -393,9 +406,11 @@ module _ (text : List ℕ) where
       let name = name_few k.name (and_left (is_name k.name) (nat_le (length k.actions) 32) front) in
       let count = true_le (length k.actions) 32 (and_right (is_name k.name) (nat_le (length k.actions) 32) front) in
       let is = means.0 in
-      let actions = subst (λ (b : Bool). Pairs (MeansAction text families b x.has_value) (flat_map (actions_in text x.name) ds) (map plain_action k.actions)) (sym is.keyed)
+      let actions = subst (λ (b : Bool). Pairs (MeansAction text families b x.has_value) (flat_map (actions_in text x.name) ds) (map plain_action k.actions))
+      (sym is.keyed)
       is.actions in
-      let actions' = subst (λ (b : Bool). Pairs (MeansAction text families k.keyed b) (flat_map (actions_in text x.name) ds) (map plain_action k.actions)) (sym is.has_value) actions in
+      let actions' = subst (λ (b : Bool). Pairs (MeansAction text families k.keyed b) (flat_map (actions_in text x.name) ds) (map plain_action k.actions))
+      (sym is.has_value) actions in
       let here = actions_few families named text k.keyed k.has_value (flat_map (actions_in text x.name) ds) k.actions actions' all in
       let size = total-flat_map (λ (a : Action). length (action_signs a)) (actions_in text x.name) ds in
       let line = line_few families named k.name (map plain_action k.actions) name in
@@ -500,7 +515,12 @@ module _ (p : Program) where
       by None e = absurd (let none : listed_kind_fits None t.keys ≡ true = subst (λ o. listed_kind_fits o t.keys ≡ true) e fits in cc)
       by (Some k) e =
           let here : keys_fit k.keyed t.keys ≡ true = subst (λ o. listed_kind_fits o t.keys ≡ true) e fits in (
-            omega (arith, kind_name_few t.kind, keys_few k.keyed t.keys here, length-append (kind_name (slice_get (map plain_kind p.kinds) t.kind)) (keys_text t.keys)),
+            omega (
+              arith,
+              kind_name_few t.kind,
+              keys_few k.keyed t.keys here,
+              length-append (kind_name (slice_get (map plain_kind p.kinds) t.kind)) (keys_text t.keys),
+            ),
             omega (arith, many k.keyed t.keys here, length-map (listed_keys t.keys) (λ (n : ℕ). tag t.kind n)),
           )
 
@@ -524,16 +544,20 @@ module _ (p : Program) where
 
   source_few : (s : Source) → source_fits p.kinds s ≡ true → length (source_line (map plain_kind p.kinds) s) ≤ 331 + 48 * length (tags_of_source s)
   source_few s fits =
-      let five = and_left (is_name s.name && is_file_text s.file && nat_le s.rate 1000000000 && nat_le s.slack 60000 && nat_lt 0 (length s.tags) && list_all (tag_ref_fits p.kinds) s.tags) _ fits in
-      let tags = and_right (is_name s.name && is_file_text s.file && nat_le s.rate 1000000000 && nat_le s.slack 60000 && nat_lt 0 (length s.tags)) (list_all (tag_ref_fits p.kinds) s.tags) five in
+      let five = and_left (is_name s.name && is_file_text s.file && nat_le s.rate 1000000000 && nat_le s.slack 60000 && nat_lt 0 (length s.tags)
+      && list_all (tag_ref_fits p.kinds) s.tags) _ fits in
+      let tags = and_right (is_name s.name && is_file_text s.file && nat_le s.rate 1000000000 && nat_le s.slack 60000 && nat_lt 0 (length s.tags))
+      (list_all (tag_ref_fits p.kinds) s.tags) five in
       let four = and_left (is_name s.name && is_file_text s.file && nat_le s.rate 1000000000 && nat_le s.slack 60000) (nat_lt 0 (length s.tags))
-      (and_left (is_name s.name && is_file_text s.file && nat_le s.rate 1000000000 && nat_le s.slack 60000 && nat_lt 0 (length s.tags)) (list_all (tag_ref_fits p.kinds) s.tags) five) in
+      (and_left (is_name s.name && is_file_text s.file && nat_le s.rate 1000000000 && nat_le s.slack 60000 && nat_lt 0 (length s.tags))
+      (list_all (tag_ref_fits p.kinds) s.tags) five) in
       let slack = true_le s.slack 60000 (and_right (is_name s.name && is_file_text s.file && nat_le s.rate 1000000000) (nat_le s.slack 60000) four) in
       let three = and_left (is_name s.name && is_file_text s.file && nat_le s.rate 1000000000) (nat_le s.slack 60000) four in
       let rate = true_le s.rate 1000000000 (and_right (is_name s.name && is_file_text s.file) (nat_le s.rate 1000000000) three) in
       let two = and_left (is_name s.name && is_file_text s.file) (nat_le s.rate 1000000000) three in
       let name = name_few s.name (and_left (is_name s.name) (is_file_text s.file) two) in
-      let file = true_le (length s.file) 256 (and_right (nat_lt 0 (length s.file)) (is_short s.file) (and_left (nat_lt 0 (length s.file) && is_short s.file) _ (and_right (is_name s.name) (is_file_text s.file) two))) in
+      let file = true_le (length s.file) 256 (and_right (nat_lt 0 (length s.file)) (is_short s.file)
+      (and_left (nat_lt 0 (length s.file) && is_short s.file) _ (and_right (is_name s.name) (is_file_text s.file) two))) in
       let items = separated (codes ", ") (tag_text (map plain_kind p.kinds)) s.tags in
       let listed = separated_few (codes ", ") (tag_text (map plain_kind p.kinds)) s.tags in
       let few = tags_few s.tags tags in
@@ -576,7 +600,12 @@ module _ (p : Program) where
   depends_lines_few : (ys : List Depend) → length (flat_map (depends_line (map plain_kind p.kinds)) ys) ≤ 79 * length ys
   depends_lines_few [] = omega arith
   depends_lines_few (y ∷ ys) =
-      omega (arith, depends_line_few y, depends_lines_few ys, length-append (depends_line (map plain_kind p.kinds) y) (flat_map (depends_line (map plain_kind p.kinds)) ys))
+      omega (
+        arith,
+        depends_line_few y,
+        depends_lines_few ys,
+        length-append (depends_line (map plain_kind p.kinds) y) (flat_map (depends_line (map plain_kind p.kinds)) ys),
+      )
 
 -- ---- the whole
 pub normal_form_is_short : EachIsSpan → NormalFormIsShort

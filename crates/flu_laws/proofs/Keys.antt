@@ -1,10 +1,11 @@
 -- The keys of tags and of the cells that references mean are in range.
 use Rattle.std.proofs.Common.{◌≡◌, ◌≤◌, ◌+◌, ◌-◌, ◌<◌, ℕ, zero, suc, Bool, true, false, Option, Some, None, List, [], ◌∷◌, map, get_or, refl, ◌∙◌, arith}
 use Rattle.std.specs.Prelude.{nat_lt, nat_le, ◌==◌, ◌&&◌, ◌||◌, not, slice_get}
-use Rattle.std.specs.List.{list_all, flat_map, range_with_len}
+use Rattle.std.specs.List.{list_all, flat_map}
 use Rattle.std.proofs.lemmas.Bool.{or_left}
 use Rattle.std.proofs.lemmas.List.Folds.{list_all-append, list_all-map}
-use Rattle.flu_lemmas.proofs.Tests.{and_left, and_right, both, lt_true, true_lt, true_le}
+use Rattle.flu_lemmas.proofs.Ranges.{all_below}
+use Rattle.flu_lemmas.proofs.Tests.{and_left, and_right, both, true_lt, true_le}
 use Rattle.flu_model.specs.declared.events.Itag.{Itag}
 use Rattle.flu_model.specs.declared.events.Tag.{Tag}
 use Rattle.flu_model.specs.declared.jobs.At.{At}
@@ -25,17 +26,13 @@ use Rattle.flu_model.specs.Rules.{keys_fit, listed_kind_fits, tag_ref_fits, sour
 use Rattle.flu_model.specs.Sorts.{key_is_in, is_cell_of}
 
 -- ---- tags
-range_below : (lo n b : ℕ) → lo + n ≤ b → list_all (λ k. nat_lt k b) (range_with_len lo n) ≡ true
-range_below lo zero b le = refl
-range_below lo (suc n) b le = both (nat_lt lo b) _ (lt_true lo b (omega arith)) (range_below (lo + 1) n b (omega arith))
-
 keys_below : (keyed : Bool) (keys : Keys) → keys_fit keyed keys ≡ true → list_all (λ k. nat_lt k key_count) (listed_keys keys) ≡ true
 keys_below keyed AloneKeys e = refl
 keys_below keyed (One k) e = both (nat_lt k key_count) true (and_right keyed (nat_lt k key_count) e) refl
 keys_below keyed (Range lo hi) e =
     let last : hi < key_count = true_lt hi key_count (and_right (keyed && nat_le lo hi) (nat_lt hi key_count) e) in
     let rises : lo ≤ hi = true_le lo hi (and_right keyed (nat_le lo hi) (and_left (keyed && nat_le lo hi) (nat_lt hi key_count) e)) in
-    range_below lo (hi + 1 - lo) key_count (omega (arith, last, rises))
+    all_below lo (hi + 1 - lo) key_count (omega (arith, last, rises))
 
 listed_below : (o : Option Kind) (keys : Keys) → listed_kind_fits o keys ≡ true → list_all (λ k. nat_lt k key_count) (listed_keys keys) ≡ true
 listed_below None keys e = cc

@@ -6,7 +6,8 @@ ghost use Rattle.flu_laws.specs.Consistency.{UpdatesLeft, UpdatesRight, Commutes
 ghost use Rattle.flu_laws.specs.Lawful.{AcceptanceByUses, AcceptedIsLawful, DependencyTurns};
 ghost use Rattle.flu_laws.specs.Lots.{CentralLaw};
 ghost use Rattle.flu_laws.specs.Spans.{MomentsAreOfEvents, PlacesRise, SpansAddUp, UpdatesInPlace};
-ghost use Rattle.flu_laws.specs.Updating.{TextsAreLocal, CellsAreLocal, ChangesAreLocal, UpdatesAreChanges, KeepsSorts, FoldKeepsSorts, UnwrittenKeeps, ChangesKeepSorts, ChangesMix};
+ghost use Rattle.flu_laws.specs.Updating.{TextsAreLocal, CellsAreLocal, ChangesAreLocal, UpdatesAreChanges, KeepsSorts, FoldKeepsSorts, UnwrittenKeeps};
+ghost use Rattle.flu_laws.specs.Updating.{ChangesKeepSorts, ChangesMix};
 ghost use Rattle.flu_laws.specs.Versions.{NothingIsShared, OwnsWhatItReads, ConflictsWithoutRead};
 ghost use Rattle.flu_laws.specs.Uses.{NeedsByActions, WritesByActions};
 ghost use Rattle.flu_model.specs.Modes.{IsAccepted};

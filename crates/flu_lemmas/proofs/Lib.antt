@@ -8,6 +8,7 @@ pub mod Elements
 pub mod InTime
 pub mod Items
 pub mod Late
+pub mod Lines
 pub mod Listed
 pub mod Loops
 pub mod Mapped

@@ -1,5 +1,6 @@
 -- One piece of taking after another.
-use Rattle.std.proofs.Common.{◌≡◌, ◌≢◌, inl, inr, ℕ, ◌≤◌, ◌+◌, ◌-◌, ◌^◌, min, List, [], ◌++◌, Bool, true, false, Option, Some, None, refl, sym, ap, ◌∙◌, append_assoc, arith}
+use Rattle.std.proofs.Common.{◌≡◌, ◌≢◌, inl, inr, ℕ, ◌≤◌, ◌+◌, ◌-◌, ◌^◌, min, List, [], ◌++◌, Bool, true, false, Option, Some, None, refl, sym, ap, ◌∙◌}
+use Rattle.std.proofs.Common.{append_assoc, arith}
 use Rattle.std.specs.Prelude.{is_some, unwrap_or}
 use Rattle.std.specs.Str.{bytes_eq}
 use Rattle.std.proofs.lemmas.Bool.{false≢true}
@@ -54,7 +55,8 @@ pub fronts_then : (a b c : Option Contents) → WhereTold a b TookFronts → Whe
 fronts_then a b c p q = told_then TookFronts TookFronts TookFronts a b c fronts_join p q
 
 -- ---- the bytes that are held
-pub kept_then : (name held mid now : List ℕ) (a b c : Option Contents) → WhereTold a b (KeepsBytes name held mid) → WhereTold b c (KeepsBytes name mid now) → WhereTold a c (KeepsBytes name held now)
+pub kept_then : (name held mid now : List ℕ) (a b c : Option Contents) → WhereTold a b (KeepsBytes name held mid) → WhereTold b c (KeepsBytes name mid now)
+    → WhereTold a c (KeepsBytes name held now)
 kept_then name held mid now a b c p q = told_then (KeepsBytes name held mid) (KeepsBytes name mid now) (KeepsBytes name held now) a b c (λ x y z h k. k ∙ h) p q
 
 -- ---- the counts
@@ -77,7 +79,8 @@ apart_still name n a b t apart =
 pub no_counts : (name : List ℕ) (a : Option Contents) (x : List ℕ → ℕ) → CountsOf a name x x
 no_counts name a x = record { rise = λ n. omega arith; apart = λ n apart. refl }
 
-pub counts_then : (name : List ℕ) (a b : Option Contents) (x y z : List ℕ → ℕ) → WhereTold a b (TakesFrom name) → CountsOf a name x y → CountsOf b name y z → CountsOf a name x z
+pub counts_then : (name : List ℕ) (a b : Option Contents) (x y z : List ℕ → ℕ) → WhereTold a b (TakesFrom name) → CountsOf a name x y → CountsOf b name y z
+    → CountsOf a name x z
 counts_then name a b x y z t p q = record {
   rise = λ n. omega (arith, p.rise n, q.rise n);
   apart = λ n apart. q.apart n (apart_still name n a b t apart) ∙ p.apart n apart;

@@ -26,7 +26,8 @@ not_none n e = cc
 pub counted_stands : {X : Type 0} (p : X → Bool) (xs : List X) → count_by p xs ≡ 1 → position p xs ≡ None → ⊥
 counted_stands p xs one none =
     elim (cases_lt (position_or_len p xs) (length xs)) [
-      | inl lt ↦ absurd (not_none (position_or_len p xs) (sym (ap (λ b. cond b (Some (position_or_len p xs)) None) (lt_true (position_or_len p xs) (length xs) lt)) ∙ none))
+      | inl lt ↦ absurd (not_none (position_or_len p xs)
+          (sym (ap (λ b. cond b (Some (position_or_len p xs)) None) (lt_true (position_or_len p xs) (length xs) lt)) ∙ none))
       | inr le ↦ (let nothing = none_counted p xs le in omega arith)
     ]
 
@@ -50,7 +51,8 @@ some_counted p (y ∷ ys) (suc w) x e pass =
     omega arith
 
 -- where one element alone passes, the first that passes is any that does
-pub position_of_one : {X : Type 0} (p : X → Bool) (xs : List X) (w : ℕ) (x : X) → count_by p xs ≡ 1 → slice_get xs w ≡ Some x → p x ≡ true → position p xs ≡ Some w
+pub position_of_one : {X : Type 0} (p : X → Bool) (xs : List X) (w : ℕ) (x : X) → count_by p xs ≡ 1 → slice_get xs w ≡ Some x → p x ≡ true
+    → position p xs ≡ Some w
 position_of_one p [] w x one e pass = cc
 position_of_one p (y ∷ ys) zero x one e pass =
     let same : y ≡ x = cc in

@@ -1,5 +1,6 @@
 -- The front of a list that passes a test, what is found in a list, and choices.
-use Rattle.std.proofs.Common.{◌≡◌, ℕ, suc, ◌+◌, ◌<◌, ◌≤◌, Bool, true, false, cond, List, [], ◌∷◌, ◌++◌, length, get_or, take, drop, Option, Some, None, refl, sym, subst, ◌⊎◌, inl, inr, ◌∙◌, ap, add-zero, add-one, arith}
+use Rattle.std.proofs.Common.{◌≡◌, ℕ, suc, ◌+◌, ◌<◌, ◌≤◌, Bool, true, false, cond, List, [], ◌∷◌, ◌++◌, length, get_or, take, drop, Option, Some, None, refl}
+use Rattle.std.proofs.Common.{sym, subst, ◌⊎◌, inl, inr, ◌∙◌, ap, add-zero, add-one, arith}
 use Rattle.std.specs.Prelude.{option_map}
 use Rattle.flu_lemmas.proofs.Tests.{and_left, and_right}
 use Rattle.std.specs.List.{AllPass, list_all, prefix_len, find}
@@ -77,7 +78,8 @@ pub drop_one_more : (bytes : List ℕ) (n b : ℕ) (rest : List ℕ) → drop n 
 drop_one_more bytes n b rest e =
     let len : length (drop n bytes) ≡ length (b ∷ rest) = ap length e in
     let lt : n < length bytes = omega (arith, length-drop n bytes, len) in
-    let read : get_or bytes n 0 ≡ b = ap (λ (k : ℕ). get_or bytes k 0) (sym (add-zero n)) ∙ sym (get_or-drop n bytes 0 0) ∙ ap (λ (xs : List ℕ). get_or xs 0 0) e in
+    let read : get_or bytes n 0 ≡ b =
+    ap (λ (k : ℕ). get_or bytes k 0) (sym (add-zero n)) ∙ sym (get_or-drop n bytes 0 0) ∙ ap (λ (xs : List ℕ). get_or xs 0 0) e in
     let at_n : drop n bytes ≡ get_or bytes n 0 ∷ drop (suc n) bytes = drop-cons bytes n 0 lt in
     let both : get_or bytes n 0 ∷ drop (suc n) bytes ≡ b ∷ rest = sym at_n ∙ e in
     let rest_is : drop (suc n) bytes ≡ rest = cc in

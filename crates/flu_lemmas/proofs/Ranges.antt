@@ -1,9 +1,9 @@
 -- Tests of some or of all of a run of numbers, and what such a run contains.
 use Rattle.std.proofs.Common.{◌≡◌, ◌+◌, ◌<◌, ◌≤◌, ℕ, zero, suc, Bool, true, false, ◌∷◌, ◌++◌, map, inl, inr, refl, sym, ap, subst, ◌∙◌, arith}
-use Rattle.std.specs.Prelude.{◌&&◌, ◌||◌, not, Contains}
+use Rattle.std.specs.Prelude.{nat_lt, ◌&&◌, ◌||◌, not, Contains}
 use Rattle.std.specs.List.{list_all, list_any, range_with_len}
 use Rattle.std.proofs.lemmas.Bool.{cases_eq, or_cases, or_left, or_right, or_from}
-use Rattle.flu_lemmas.proofs.Tests.{and_left, and_right, both}
+use Rattle.flu_lemmas.proofs.Tests.{and_left, and_right, both, lt_true}
 use Rattle.flu_lemmas.proofs.Booleans.{or_assoc, or_false, or_false_left, or_false_right, not_or}
 use Rattle.flu_lemmas.proofs.Containing.{contains_here, contains_later, contains_cases, contains_none}
 
@@ -107,3 +107,7 @@ range_append lo (suc m) n =
 pub map_range_alike : {X : Type 0} (f g : ℕ → X) (lo n : ℕ) → ((i : ℕ) → i < lo + n → f i ≡ g i) → map f (range_with_len lo n) ≡ map g (range_with_len lo n)
 map_range_alike f g lo zero alike = refl
 map_range_alike f g lo (suc n) alike = λ k. alike lo (omega arith) k ∷ map_range_alike f g (lo + 1) n (λ i lt. alike i (omega arith)) k
+
+pub all_below : (lo n b : ℕ) → lo + n ≤ b → list_all (λ k. nat_lt k b) (range_with_len lo n) ≡ true
+all_below lo zero b le = refl
+all_below lo (suc n) b le = both (nat_lt lo b) _ (lt_true lo b (omega arith)) (all_below (lo + 1) n b (omega arith))

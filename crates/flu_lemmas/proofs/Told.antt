@@ -2,7 +2,8 @@
 use Rattle.std.proofs.Common.{◌≡◌, subst, Option, Some, None}
 use Rattle.flu_lemmas.specs.Told.{WhereTold}
 
-pub told_then : {A : Type 0} (P Q R : A → A → Type 0) (a b c : Option A) → ((x y z : A) → P x y → Q y z → R x z) → WhereTold a b P → WhereTold b c Q → WhereTold a c R
+pub told_then : {A : Type 0} (P Q R : A → A → Type 0) (a b c : Option A) → ((x y z : A) → P x y → Q y z → R x z) → WhereTold a b P → WhereTold b c Q
+    → WhereTold a c R
 told_then P Q R None None None join p q = tt
 told_then P Q R None None (Some z) join p q = absurd q
 told_then P Q R None (Some y) c join p q = absurd p

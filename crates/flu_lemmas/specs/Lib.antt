@@ -8,3 +8,4 @@ pub mod Totals
 pub mod Told
 pub mod Named
 pub mod Late
+pub mod Lines

@@ -1,10 +1,12 @@
 //! The two ends of a link.
 
-ghost use Rattle.std.specs.Prelude.{◌≡◌, ◌≢◌, ◌⊎◌, ℕ, ◌+◌, ◌≤◌, true, false, if◌then◌else◌, Some, None, IfOk, OnOk, IsOk, IfErr, IfSome, OnSome, IfNone, IsSome, slice_index};
+ghost use Rattle.std.specs.Prelude.{◌≡◌, ◌≢◌, ◌⊎◌, ℕ, ◌+◌, ◌≤◌, true, false, if◌then◌else◌, Some, None, IfOk, OnOk, IsOk, IfErr, IfSome, OnSome, IfNone};
+ghost use Rattle.std.specs.Prelude.{IsSome, slice_index};
 ghost use Rattle.flu_fork.specs.declared.lots.Ask.{Ask as AskNote};
 ghost use Rattle.flu_fork.specs.Lots.{LotFits};
 ghost use Rattle.flu_fork.specs.Serving.{AsksAbove, GrownFrom, Served};
-ghost use Rattle.flu_link.specs.Notes.{phase_lent, phase_held, phase_asked, phase_given, upper_start, lower_start, found_below, after_ask, after_take, after_lend, found_above, after_hold, after_asked, after_give};
+ghost use Rattle.flu_link.specs.Notes.{phase_lent, phase_held, phase_asked, phase_given, upper_start, lower_start, found_below, after_ask, after_take};
+ghost use Rattle.flu_link.specs.Notes.{after_lend, found_above, after_hold, after_asked, after_give};
 ghost use Rattle.flu_link.specs.Ends.{Closes};
 
 use crate::notes::{ASKED, Board, GIVEN, HELD, LENT, Place};
@@ -44,7 +46,8 @@ impl Model for Upper {
 
     ghost view = { λ u. upper_note u.place.table_id (upper_or (upper_seat (arc_value u.board).shared.key.0 (arc_value u.board).shared.key.1) u.place.me.0) };
 
-    ghost invariant = { λ u. IsUpper (upper_seat (arc_value u.board).shared.key.0 (arc_value u.board).shared.key.1) (arc_value u.board).shared.table_id u.place.table_id u.place.me };
+    ghost invariant = { λ u. IsUpper (upper_seat (arc_value u.board).shared.key.0 (arc_value u.board).shared.key.1)
+        (arc_value u.board).shared.table_id u.place.table_id u.place.me };
 }
 
 /// The end of the worker below. It holds lots and gives them back when asked.
@@ -72,7 +75,8 @@ impl Model for Lower {
 
     ghost view = { λ l. lower_note l.place.table_id (lower_or (lower_seat (arc_value l.board).shared.key.0 (arc_value l.board).shared.key.1) l.place.me.0) };
 
-    ghost invariant = { λ l. IsLower (lower_seat (arc_value l.board).shared.key.0 (arc_value l.board).shared.key.1) (arc_value l.board).shared.table_id l.place.table_id l.place.me };
+    ghost invariant = { λ l. IsLower (lower_seat (arc_value l.board).shared.key.0 (arc_value l.board).shared.key.1)
+        (arc_value l.board).shared.table_id l.place.table_id l.place.me };
 }
 
 /// A link to this node, with nothing in it. Its phase is Given, so a lot is lent next.
@@ -182,7 +186,8 @@ impl Lower {
         ensures fits { IfSome result (LotFits self.old.case self.old.lower) }
         ensures grown { IfSome result (λ lot. GrownFrom self.old.case self.old.lower self.old.given lot.upto) }
         ensures not_yet { IfNone result ((self.new ≡ found_above self.old self.new.phase) × (self.new.phase ≢ phase_lent)) }
-        ensures still { IfNone result (phase_held ≤ self.old.phase → self.old.phase ≤ phase_asked → (phase_held ≤ self.new.phase) × (self.new.phase ≤ phase_asked)) }
+        ensures still { IfNone result (phase_held ≤ self.old.phase → self.old.phase ≤ phase_asked → (phase_held ≤ self.new.phase)
+            × (self.new.phase ≤ phase_asked)) }
     {
         let shared = &self.board.shared;
         if shared.load::<Hold>(&mut self.place, 0) != LENT {
@@ -200,7 +205,8 @@ impl Lower {
         ensures next { IfSome result (λ y. y.index ≡ slice_index self.old.held.upto y.itag.0) }
         ensures sure { self.old.phase ≡ phase_asked → IsSome result }
         ensures not_yet { IfNone result ((self.new ≡ found_above self.old self.new.phase) × (self.new.phase ≢ phase_asked)) }
-        ensures still { IfNone result (phase_held ≤ self.old.phase → self.old.phase ≤ phase_asked → (phase_held ≤ self.new.phase) × (self.new.phase ≤ phase_asked)) }
+        ensures still { IfNone result (phase_held ≤ self.old.phase → self.old.phase ≤ phase_asked → (phase_held ≤ self.new.phase)
+            × (self.new.phase ≤ phase_asked)) }
     {
         let shared = &self.board.shared;
         if shared.load::<PeekLow>(&mut self.place, 0) != ASKED {

@@ -1,6 +1,7 @@
 //! What each step on the table tells.
 
-ghost use Rattle.flu_link.specs.Steps.{looks_up, fetches, stores_itag, stores_index, asks, lends, stops_up, sees_stop_up, looks_low, holds, replies, stores_held, gives_lot, sees_itag, sees_index, stops_low, sees_stop_low, ends};
+ghost use Rattle.flu_link.specs.Steps.{looks_up, fetches, stores_itag, stores_index, asks, lends, stops_up, sees_stop_up, looks_low, holds, replies};
+ghost use Rattle.flu_link.specs.Steps.{stores_held, gives_lot, sees_itag, sees_index, stops_low, sees_stop_low, ends};
 ghost use Rattle.flu_link.specs.Seats.{upper_side, lower_side, both_sides};
 ghost use Rattle.flu_link.specs.declared.notes.View.TheVariants.{Closed};
 

@@ -66,7 +66,8 @@ makes_case (Lend w side) old new does = does.step.case
 run_possible : (k : Content) (seed : ℕ) (n : NetNote) (done : List Step) (x : ℕ) (steps : StepCounts) (mark : ℕ) → Reaches k seed n done x steps mark
     → (n.case ≡ k) × AllByRecursion (IsPossible k) done
 run_possible k seed n done x steps mark (begun start) = (start.case, tt)
-run_possible k seed n done x steps mark (made {old = old} {new = new} {done = before} {x = y} {place = place} {s = s} {steps = so_far} {mark = m} run drawn does) =
+run_possible k seed n done x steps mark (made {old = old} {new = new} {done = before} {x = y} {place = place} {s = s} {steps = so_far} {mark = m} run drawn
+    does) =
     let earlier = run_possible k seed old before y so_far m run in (
       makes_case s old new does ∙ earlier.0,
       all_push (IsPossible k) before s earlier.1 (subst (λ c. IsPossible c s) earlier.0 (drawn_possible old place s drawn.is)),

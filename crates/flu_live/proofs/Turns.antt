@@ -1,5 +1,6 @@
 -- What a step keeps of a net, and what it adds to the counts.
-use Rattle.std.proofs.Common.{◌≡◌, ◌+◌, ◌^◌, ◌<◌, ◌≤◌, ℕ, true, false, Option, Some, None, List, [], ◌∷◌, ◌++◌, length, get_or, refl, sym, ap, subst, ◌∙◌, arith}
+use Rattle.std.proofs.Common.{◌≡◌, ◌+◌, ◌^◌, ◌<◌, ◌≤◌, ℕ, true, false, Option, Some, None, List, [], ◌∷◌, ◌++◌, length, get_or, refl, sym, ap, subst, ◌∙◌}
+use Rattle.std.proofs.Common.{arith}
 use Rattle.flu_draw.specs.Draws.{next_draw}
 use Rattle.flu_fork.specs.declared.content.Content.{Content}
 use Rattle.flu_net.specs.declared.steps.Step.{Step}
@@ -86,7 +87,8 @@ made_one k old new place s way seed last small drawn does case stays left kept s
       done = way.done ++ s ∷ [];
       kept = one_kept way.done s (kept_in old.kept) (kept_in new.kept) kept way.kept;
       run =
-          as_is k old.seed new.seed new.net (way.done ++ s ∷ []) (next_draw old.last) new.last (counting s old.steps) new.steps (marked old.mark place) new.mark (sym seed)
+          as_is k old.seed new.seed new.net (way.done ++ s ∷ []) (next_draw old.last) new.last (counting s old.steps) new.steps (marked old.mark place) new.mark
+          (sym seed)
           (sym last) (sym steps) (sym mark)
           (made way.run (subst (λ x. IsDrawn old.net x place s) last drawn) does);
       small = small;

@@ -1,6 +1,7 @@
 //! What holds of passing and waiting. Each law is the contract of a function that does nothing.
 
-ghost use Rattle.flu_mail.specs.Laws.{PassingClears, PassingStays, PassingIsExact, PassingOthersIsExact, ReadyStays, ReadyToServeStays, ReadyClears, ServingClears, ReadyWhenClear, ServingWhenClear, SeenEventsStand, EventsAreItems};
+ghost use Rattle.flu_mail.specs.Laws.{PassingClears, PassingStays, PassingIsExact, PassingOthersIsExact, ReadyStays, ReadyToServeStays, ReadyClears};
+ghost use Rattle.flu_mail.specs.Laws.{ServingClears, ReadyWhenClear, ServingWhenClear, SeenEventsStand, EventsAreItems};
 
 /// Where the seen items of an itag let an event pass, no event of the itag that is not counted, seen or not, is before it.
 pub fn passing_clears()

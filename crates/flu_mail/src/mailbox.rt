@@ -1,6 +1,7 @@
 //! Mailboxes.
 
-ghost use Rattle.std.specs.Prelude.{◌≡◌, ◌<◌, ◌≤◌, ◌+◌, ℕ, true, [], List, Some, IfOk, IfSome, length, replicate, slice_index, slice_index_or, slice_set, if◌then◌else◌};
+ghost use Rattle.std.specs.Prelude.{◌≡◌, ◌<◌, ◌≤◌, ◌+◌, ℕ, true, [], List, Some, IfOk, IfSome, length, replicate, slice_index, slice_index_or, slice_set};
+ghost use Rattle.std.specs.Prelude.{if◌then◌else◌};
 ghost use Rattle.std.specs.List.{list_any, AllByRecursion};
 ghost use Rattle.flu_model.specs.declared.jobs.Program.{Program};
 ghost use Rattle.flu_model.specs.declared.plans.Node.{Node};
@@ -169,7 +170,8 @@ impl Mailbox {
     pub fn ready_to_serve(&self, t: &Tables, s: &Streams, y: &Event) -> bool
         requires over { IsOver (listed s.now) self.now }
         requires at { IsAt (program_in t.now) (nodes_in t.now) self.now }
-        ensures { result ≡ is_ready_to_serve (program_in t.now) (nodes_in t.now) (listed s.now) (node_of self.now) (seen_of self.now) (counts_of self.now) y.now }
+        ensures { result ≡ is_ready_to_serve (program_in t.now) (nodes_in t.now) (listed s.now) (node_of self.now) (seen_of self.now)
+            (counts_of self.now) y.now }
     {
         !self.is_held_up(t, s, Purpose::Serve, y, t.own(self.node))
     }
@@ -246,8 +248,10 @@ impl Mailbox {
         requires at { IsAt (program_in t.now) (nodes_in t.now) self.old }
         requires one_each { length counts.now ≡ length (counts_of self.old) }
         requires forward { (i : ℕ) → i < length counts.now → is_above t.now self.old i ≡ true → slice_index (counts_of self.old) i ≤ slice_index counts.now i }
-        requires there { (i : ℕ) → i < length counts.now → is_above t.now self.old i ≡ true → slice_index counts.now i ≤ length (events_of (slice_index_or (listed s.now) i [])) }
-        ensures counts { (i : ℕ) → slice_index (counts_of self.new) i ≡ (if is_above t.now self.old i then slice_index counts.now i else slice_index (counts_of self.old) i) }
+        requires there { (i : ℕ) → i < length counts.now → is_above t.now self.old i ≡ true
+            → slice_index counts.now i ≤ length (events_of (slice_index_or (listed s.now) i [])) }
+        ensures counts { (i : ℕ) → slice_index (counts_of self.new)
+            i ≡ (if is_above t.now self.old i then slice_index counts.now i else slice_index (counts_of self.old) i) }
         ensures seen { seen_of self.new ≡ seen_of self.old }
         ensures node { node_of self.new ≡ node_of self.old }
         ensures at { (p : Program) (nodes : List Node) → IsAt p nodes self.old → IsAt p nodes self.new }

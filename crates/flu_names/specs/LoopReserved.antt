@@ -28,7 +28,8 @@ begins_longer first second third fourth =
     if first == 108 then (((second == 97) && (third == 115) && (fourth == 116))) else
     if first == 110 then (((second == 111) && (third == 110) && (fourth == 101)) || ((second == 111) && (third == 100) && (fourth == 101))) else
     if first == 114 then (((second == 97) && (third == 116) && (fourth == 101)) || ((second == 97) && (third == 105) && (fourth == 115))) else
-    if first == 115 then (((second == 111) && (third == 117) && (fourth == 114)) || ((second == 97) && (third == 109) && (fourth == 101)) || ((second == 108) && (third == 97) && (fourth == 99))) else
+    if first == 115 then (((second == 111) && (third == 117) && (fourth == 114)) || ((second == 97) && (third == 109) && (fourth == 101))
+    || ((second == 108) && (third == 97) && (fourth == 99))) else
     if first == 116 then (((second == 105) && (third == 109) && (fourth == 101))) else
     if first == 118 then (((second == 97) && (third == 108) && (fourth == 117)) || ((second == 101) && (third == 114) && (fourth == 115))) else
     if first == 119 then (((second == 104) && (third == 101) && (fourth == 110))) else

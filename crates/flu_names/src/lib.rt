@@ -5,7 +5,8 @@
 ghost use Rattle.std.specs.Prelude.{◌≡◌};
 ghost use Rattle.std.specs.List.{list_all, list_any};
 ghost use Rattle.std.specs.Str.{bytes_eq};
-ghost use Rattle.flu_names.specs.Names.{is_name_start, is_name_byte, is_text_byte, begins_as_name, is_reserved, is_name, reserved_spelling, reserved_words, reserved_of};
+ghost use Rattle.flu_names.specs.Names.{is_name_start, is_name_byte, is_text_byte, begins_as_name, is_reserved, is_name, reserved_spelling, reserved_words};
+ghost use Rattle.flu_names.specs.Names.{reserved_of};
 ghost use Rattle.flu_names.specs.LoopReserved.{may_be_reserved, is_pair, is_triple, begins_longer};
 
 mod reserved;

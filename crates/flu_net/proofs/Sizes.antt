@@ -5,14 +5,14 @@ use Rattle.std.specs.List.{range_with_len}
 use Rattle.std.proofs.lemmas.List.FromFn.{length-range_with_len}
 use Rattle.std.proofs.lemmas.List.Sums.{count_by-le-length}
 use Rattle.flu_lemmas.proofs.Tests.{false_if_not, true_eq}
-use Rattle.flu_lemmas.proofs.Totals.{sum_by-total}
+use Rattle.flu_lemmas.proofs.Totals.{sum_by-total, total-plus}
 use Rattle.flu_lemmas.specs.Totals.{total}
 use Rattle.flu_model.specs.declared.plans.Node.{Node}
 use Rattle.flu_model.specs.Owners.{is_within}
 use Rattle.flu_deps.specs.Owned.{kids_at}
 use Rattle.flu_deps.specs.Trees.{AreKids, HasSubtrees, IsOrdered, NodesAreOrdered, SubtreesAreOfChildren}
 use Rattle.flu_net.specs.Measure.{size}
-use Rattle.flu_net.proofs.Sums.{once_in_run, total_le, total_plus}
+use Rattle.flu_net.proofs.Sums.{once_in_run, total_le}
 
 -- the laws of subtrees
 pub record TreesBelow : Type 0 where
@@ -64,8 +64,8 @@ module _ (nodes : List Node) (order : IsOrdered nodes) where
   size_kids trees w l r under are lt =
       let once = once_in_run (length nodes) w lt in
       let all = total_le (λ v. cond (v == w) 1 0 + (is_in l v + is_in r v)) (is_in w) 0 (length nodes) (λ v high. three v (omega arith)) in
-      let two = total_plus (λ v. cond (v == w) 1 0) (λ v. is_in l v + is_in r v) (range_with_len 0 (length nodes)) in
-      let kids_two = total_plus (is_in l) (is_in r) (range_with_len 0 (length nodes)) in
+      let two = total-plus (λ v. cond (v == w) 1 0) (λ v. is_in l v + is_in r v) (range_with_len 0 (length nodes)) in
+      let kids_two = total-plus (is_in l) (is_in r) (range_with_len 0 (length nodes)) in
       let at_w = size_total w in
       let at_l = size_total l in
       let at_r = size_total r in

@@ -17,10 +17,6 @@ pub total_map : {X Y : Type 0} (f : Y → ℕ) (g : X → Y) (xs : List X) → t
 total_map f g [] = refl
 total_map f g (x ∷ xs) = ap (λ n. f (g x) + n) (total_map f g xs)
 
-pub total_plus : {X : Type 0} (f g : X → ℕ) (xs : List X) → total (λ x. f x + g x) xs ≡ total f xs + total g xs
-total_plus f g [] = omega arith
-total_plus f g (x ∷ xs) = let rest = total_plus f g xs in omega arith
-
 -- ---- over a run of numbers
 pub total_le : (f g : ℕ → ℕ) (lo n : ℕ) → ((i : ℕ) → i < lo + n → f i ≤ g i) → total f (range_with_len lo n) ≤ total g (range_with_len lo n)
 total_le f g lo zero le = omega arith

@@ -102,8 +102,8 @@ pub record Ties (k : Content) (seen : List ℕ) (workers : List WorkerNote) (edg
   pub lets : (s : Side) (w l r : ℕ) (n c : WorkerNote) (e : Edge) → kids k w ≡ Some (l, r) → slice_get workers w ≡ Some n
       → slice_get edges (at_side s l r) ≡ Some e → slice_get workers (at_side s l r) ≡ Some c → Lets s n e c
 
--- a worker with the edge above it: what it keeps as its target, and is of an itag above it, is asked over this edge; its lot is not lost; and the root has its lot,
--- or parts of it are out
+-- a worker with the edge above it: what it keeps as its target, and is of an itag above it, is asked over this edge; its lot is not lost;
+-- and the root has its lot, or parts of it are out
 pub record Stands (w : ℕ) (n : WorkerNote) (e : Edge) : Type 0 where
   pub asked : (y : Ask) → n.kept ≡ Some y → above_of n y.itag.0 ≡ true → e ≡ Asked y
   pub sound : is_lost n.hand ≡ false

@@ -1,5 +1,6 @@
 -- What objects in memory answer, call by call, and the law that these are any answers at all.
-use Rattle.std.specs.Prelude.{◌≡◌, ℕ, ◌+◌, ◌-◌, ◌^◌, ◌<◌, ◌≤◌, min, Bool, true, false, not, ◌&&◌, nat_le, List, [], ◌∷◌, length, take, Option, Some, None, is_some, unwrap_or, IfSome, Result, Ok, Err, ⊤, bytes_eq, if◌then◌else◌}
+use Rattle.std.specs.Prelude.{◌≡◌, ℕ, ◌+◌, ◌-◌, ◌^◌, ◌<◌, ◌≤◌, min, Bool, true, false, not, ◌&&◌, nat_le, List, [], ◌∷◌, length, take, Option, Some, None}
+use Rattle.std.specs.Prelude.{is_some, unwrap_or, IfSome, Result, Ok, Err, ⊤, bytes_eq, if◌then◌else◌}
 use Rattle.std.specs.List.{flat_map, AllByRecursion}
 use Rattle.flu_lemmas.specs.Named.{bytes_left}
 use Rattle.flu_lemmas.specs.Totals.{total}

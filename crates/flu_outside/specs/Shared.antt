@@ -5,10 +5,12 @@ use Rattle.std.specs.Option.{option_map_or}
 use Rattle.flu_outside.specs.Outside.{ShareOneCount}
 
 -- where nothing is found, the count is the one beside it
-absent_count : {X : Type 0} (rest : X → List ℕ) (count : X → ℕ) (missing : ℕ) (found : Option X) → ¬ IsSome (option_map rest found) → option_map_or count found missing ≡ missing
+absent_count : {X : Type 0} (rest : X → List ℕ) (count : X → ℕ) (missing : ℕ) (found : Option X) → ¬ IsSome (option_map rest found)
+    → option_map_or count found missing ≡ missing
 absent_count rest count missing None absent = refl
 absent_count rest count missing (Some x) absent = absurd (absent refl)
 
-pub share_one_count : {X : Type 0} (rest : X → List ℕ) (count : X → ℕ) (missing : ℕ) (found : List ℕ → Option X) → ShareOneCount (Some (λ n. option_map rest (found n))) (λ n. option_map_or count (found n) missing)
+pub share_one_count : {X : Type 0} (rest : X → List ℕ) (count : X → ℕ) (missing : ℕ) (found : List ℕ → Option X)
+    → ShareOneCount (Some (λ n. option_map rest (found n))) (λ n. option_map_or count (found n) missing)
 share_one_count rest count missing found a b no_a no_b = absent_count rest count missing (found a) no_a
     ∙ sym (absent_count rest count missing (found b) no_b)

@@ -147,7 +147,8 @@ impl MemFiles {
 }
 
 impl Files for MemFiles {
-    ghost use Rattle.std.specs.Prelude.{◌≡◌, ◌≢◌, ◌<◌, ◌≤◌, ◌+◌, ◌-◌, ◌^◌, List, ℕ, [], length, min, Some, IfOk, OnOk, OnErr, IfErr, IsErrOf, IsSome, is_ok, true, false, is_some, not, ◌&&◌, unwrap_or};
+    ghost use Rattle.std.specs.Prelude.{◌≡◌, ◌≢◌, ◌<◌, ◌≤◌, ◌+◌, ◌-◌, ◌^◌, List, ℕ, [], length, min, Some, IfOk, OnOk, OnErr, IfErr, IsErrOf, IsSome, is_ok};
+    ghost use Rattle.std.specs.Prelude.{true, false, is_some, not, ◌&&◌, unwrap_or};
     ghost use Rattle.flu_outside.specs.Outside.{Rose, Takes, Puts, OthersStay, SameLeft, SameCounts, CountApart};
     ghost use Rattle.std.specs.BTreeMap.{get_by_text};
     ghost use Rattle.flu_outside.specs.Shared.{share_one_count};

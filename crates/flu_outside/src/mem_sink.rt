@@ -110,7 +110,8 @@ impl Sink for MemSink {
         ensures counts { count_of self.old ≤ count_of self.new }
 
         // It fails exactly where the call is set to fail or the piece has no room, and takes a whole piece.
-        ensures succeeds { is_ok result ≡ (not (next_fails (calls_of self.old)) && nat_le (length (taken_of self.old) + min (length bytes.now) (calls_of self.old).piece) (room_of self.old)) }
+        ensures succeeds { is_ok result ≡ (not (next_fails (calls_of self.old))
+            && nat_le (length (taken_of self.old) + min (length bytes.now) (calls_of self.old).piece) (room_of self.old)) }
         ensures amount { IfOk result (λ n. n ≡ min (length bytes.now) (calls_of self.old).piece) }
         ensures raised { OnErr result (count_of self.new ≡ min (count_of self.old + 1) (2 ^ 64 - 1)) }
         ensures room { room_of self.new ≡ room_of self.old }

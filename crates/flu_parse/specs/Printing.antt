@@ -11,7 +11,8 @@ use Rattle.flu_model.specs.declared.jobs.Op.TheVariants as op
 use Rattle.flu_model.specs.declared.jobs.Depend.{Depend}
 use Rattle.flu_model.specs.declared.jobs.TagRef.{TagRef}
 use Rattle.flu_model.specs.declared.jobs.Source.{Source}
-use Rattle.flu_model.specs.Erasure.{Term, Literal, EventValue, EventKey, EventTime, CellRead, CellHeld, Negative, Negation, Operation, PlainAct, Adding, Raising, Setting, Clearing, Emitting, Flushing, PlainAction, PlainKind, Job}
+use Rattle.flu_model.specs.Erasure.{Term, Literal, EventValue, EventKey, EventTime, CellRead, CellHeld, Negative, Negation, Operation, PlainAct, Adding}
+use Rattle.flu_model.specs.Erasure.{Raising, Setting, Clearing, Emitting, Flushing, PlainAction, PlainKind, Job}
 use Rattle.flu_model.specs.Templates.{family_name, written_cell, written_template}
 use Rattle.flu_layout.specs.Laid.{line_end, quoted}
 use Rattle.flu_layout.specs.Lists.{separated, keys_text}

@@ -106,7 +106,8 @@ fn add_action(
     done: &mut Vec<Action>,
     written: &WrittenAction,
 ) -> Result<(), JobFault>
-    ensures { Gives (λ unit. map plain_action done.new.items) result (with_action text.now (naming names.now) under (map plain_action done.old.items) (action_seen written.now)) }
+    ensures { Gives (λ unit. map plain_action done.new.items) result
+        (with_action text.now (naming names.now) under (map plain_action done.old.items) (action_seen written.now)) }
 {
     if done.len() >= MOST_ACTIONS {
         return Err(JobFault::OverLimit {

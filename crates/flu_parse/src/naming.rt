@@ -5,7 +5,8 @@ ghost use Rattle.std.specs.List.{list_any};
 ghost use Rattle.std.specs.Str.{bytes_eq};
 ghost use Rattle.flu_syntax.specs.Tree.{declaration_of};
 ghost use Rattle.flu_parse.specs.Faults.{Gives};
-ghost use Rattle.flu_parse.specs.Naming.{naming, no_names, look_up, is_declared, fresh_name, with_family, with_kind, with_source, declare, naming_of, family_of, kind_of};
+ghost use Rattle.flu_parse.specs.Naming.{naming, no_names, look_up, is_declared, fresh_name, with_family, with_kind, with_source, declare, naming_of};
+ghost use Rattle.flu_parse.specs.Naming.{family_of, kind_of};
 
 use crate::faults::JobFault;
 use crate::names::{FamilyHead, KindHead, Names};

@@ -5,7 +5,8 @@ ghost use Rattle.std.specs.List.{flat_map};
 ghost use Rattle.std.specs.String.{string_bytes};
 ghost use Rattle.flu_model.specs.Erasure.{job_of, plain_kind};
 ghost use Rattle.flu_layout.specs.Lists.{separated};
-ghost use Rattle.flu_parse.specs.Printing.{version_line, sort_text, keyed_text, cell_line, value_text, tag_line, kind_name, same_text, depends_line, on_line, tag_text, slack_text, source_head, source_line, normal_form};
+ghost use Rattle.flu_parse.specs.Printing.{version_line, sort_text, keyed_text, cell_line, value_text, tag_line, kind_name, same_text, depends_line, on_line};
+ghost use Rattle.flu_parse.specs.Printing.{tag_text, slack_text, source_head, source_line, normal_form};
 ghost use Rattle.flu_parse.specs.Reading.{job_in};
 
 use crate::laws::printed_is_read;

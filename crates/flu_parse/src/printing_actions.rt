@@ -53,7 +53,8 @@ fn add_writing(
     cell: CellRef,
     amount: &Expr,
 ) -> Result<(), AllocError>
-    ensures { OnOk result (string_bytes text.new ≡ string_bytes text.old ++ verb.now ++ written_cell families.now cell ++ codes " " ++ term_text families.now (term_of amount.now)) }
+    ensures { OnOk result (string_bytes text.new ≡ string_bytes text.old ++ verb.now ++ written_cell families.now cell ++ codes " "
+        ++ term_text families.now (term_of amount.now)) }
 {
     text.push_str(verb)?;
     add_cell(text, families, cell)?;

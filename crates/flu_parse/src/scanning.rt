@@ -35,7 +35,8 @@ fn scan_byte(
     byte: u8,
 ) -> Result<bool, AllocError>
     requires { place < length text.now }
-    ensures { IfOk result (λ goes_on. Steps goes_on (scan_of scanner.old) (scan_of scanner.new) (scan_byte (field_at text.now in_flush) (scan_of scanner.old) place byte)) }
+    ensures { IfOk result (λ goes_on. Steps goes_on (scan_of scanner.old) (scan_of scanner.new)
+        (scan_byte (field_at text.now in_flush) (scan_of scanner.old) place byte)) }
 {
     if scanner.in_field {
         if byte != b'}' {

@@ -224,7 +224,8 @@ not_none [] q e = absurd cc
 not_none (p ∷ preds) q e = absurd cc
 
 -- the turn behind a whole predicate, which the next token ends
-closed_took : (nodes : List WrittenNode) (nm kind : WrittenSpan) (preds : List WrittenPred) (ks : WrittenKeys) (s : Stage) (t : Token) (k : Terminal) (u : Turn) → Good nodes preds s → Said k t.word
+closed_took : (nodes : List WrittenNode) (nm kind : WrittenSpan) (preds : List WrittenPred) (ks : WrittenKeys) (s : Stage) (t : Token) (k : Terminal) (u : Turn)
+    → Good nodes preds s → Said k t.word
     → open_signs nm preds s ≡ before_pred nm preds ++ (name kind ++ keys_signs ks)
     → end_step (with_pred (turn nodes nm preds s) (pred (Some kind) ks None)) t k ≡ Ok u → Took (history nodes nm preds s) t u
 closed_took nodes nm kind preds ks s t k u good word is e =
@@ -455,7 +456,8 @@ node_some : (nodes : List WrittenNode) (n : WrittenNode) → nodes ++ n ∷ [] �
 node_some [] n e = absurd cc
 node_some (p ∷ nodes) n e = absurd cc
 
-ends_with : (nodes : List WrittenNode) (nm : WrittenSpan) (preds : List WrittenPred) (kids : Option (WrittenSpan × WrittenSpan)) (signs : List Sign) (all : List WrittenNode) → AreNodes nodes → ArePreds preds → signs ≡ head nm ++ (all_preds preds ++ kids_signs kids)
+ends_with : (nodes : List WrittenNode) (nm : WrittenSpan) (preds : List WrittenPred) (kids : Option (WrittenSpan × WrittenSpan)) (signs : List Sign)
+    (all : List WrittenNode) → AreNodes nodes → ArePreds preds → signs ≡ head nm ++ (all_preds preds ++ kids_signs kids)
     → (let r : Found (List WrittenNode) = Ok (nodes ++ node_with nm preds kids ∷ []) in let v : Found (List WrittenNode) = Ok all in r ≡ v)
     → Ends (plan_signs nodes ++ signs) all
 unfolding node_with

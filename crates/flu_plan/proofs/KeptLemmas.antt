@@ -1,5 +1,6 @@
 -- What is read as a plan keeps the rules of plans.
-use Rattle.std.proofs.Common.{◌≡◌, ℕ, zero, suc, ◌+◌, ◌<◌, ◌≤◌, Bool, true, List, [], ◌∷◌, ◌++◌, map, length, take, get_or, Option, Some, None, Ok, refl, sym, ap, subst, ◌∙◌, arith}
+use Rattle.std.proofs.Common.{◌≡◌, ℕ, zero, suc, ◌+◌, ◌<◌, ◌≤◌, Bool, true, List, [], ◌∷◌, ◌++◌, map, length, take, get_or, Option, Some, None, Ok, refl, sym}
+use Rattle.std.proofs.Common.{ap, subst, ◌∙◌, arith}
 use Rattle.std.specs.Prelude.{nat_le, nat_lt, slice_get, sum_by}
 use Rattle.std.specs.List.{list_all, flat_map}
 use Rattle.std.proofs.lemmas.List.{append-nil, length-map, length-append, length_push, take_all}
@@ -39,7 +40,8 @@ use Rattle.flu_lemmas.proofs.Loops.{bind_ok, then_ok, each-got, both_pass}
 use Rattle.flu_plan.proofs.Distinct.{In, Distinct, in_head, in_tail, distinct_head, distinct_tail, distinct_map, are_distinct-from, sum_below}
 use Rattle.flu_plan.proofs.LimitLemmas.{Within, within, passed}
 use Rattle.flu_plan.proofs.ShapeLemmas.{preorder-few}
-use Rattle.flu_plan.proofs.Resolved.{Known, nodes_known, name_drafted, children_differ, unless_ok, bytes_is}
+use Rattle.flu_lemmas.proofs.Bytes.{bytes_is}
+use Rattle.flu_plan.proofs.Resolved.{Known, nodes_known, name_drafted, children_differ, unless_ok}
 use Rattle.flu_plan.proofs.Spreads.{Spread, spread-start}
 use Rattle.flu_plan.proofs.Trees.{ids, root_first, walked-all, subtrees, deep}
 

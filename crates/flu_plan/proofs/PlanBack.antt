@@ -1,5 +1,6 @@
 -- The drafts of a plan's nodes are planned as that plan.
-use Rattle.std.proofs.Common.{◌≡◌, inl, inr, ℕ, zero, suc, ◌+◌, ◌<◌, ◌≤◌, Bool, true, false, cond, List, [], ◌∷◌, ◌++◌, map, length, Option, Some, None, Ok, refl, sym, ap, subst, ◌∙◌, append_assoc, arith}
+use Rattle.std.proofs.Common.{◌≡◌, inl, inr, ℕ, zero, suc, ◌+◌, ◌<◌, ◌≤◌, Bool, true, false, cond, List, [], ◌∷◌, ◌++◌, map, length, Option, Some, None, Ok}
+use Rattle.std.proofs.Common.{refl, sym, ap, subst, ◌∙◌, append_assoc, arith}
 use Rattle.std.specs.Prelude.{not, ◌&&◌, ◌||◌, ◌==◌, nat_le, slice_get}
 use Rattle.std.specs.List.{list_all, list_any, flat_map}
 use Rattle.std.proofs.lemmas.List.{append-nil, length-map}
@@ -14,12 +15,14 @@ use Rattle.flu_plan.specs.declared.fault.PlanFault.TheVariants as f
 use Rattle.flu_plan.specs.declared.drafts.DraftNode.{DraftNode}
 use Rattle.flu_plan.specs.declared.drafts.Visit.{Visit}
 use Rattle.flu_plan.specs.Faults.{◌>>=◌, ◌>>◌, unless, each}
-use Rattle.flu_plan.specs.Shape.{name_at, with_child, with_kids as note_kids, with_kids_of, kids_at, visit, with_visits, walk, preorder, is_met, below, all_below}
+use Rattle.flu_plan.specs.Shape.{name_at, with_child, with_kids as note_kids, with_kids_of, kids_at, visit, with_visits, walk, preorder, is_met, below}
+use Rattle.flu_plan.specs.Shape.{all_below}
 use Rattle.flu_plan.specs.Limits.{keys_of_node, keys_of_nodes, predicates, are_shallow, within_limits}
 use Rattle.flu_plan.specs.Numbering.{planned_pred, planned_kids, planned_node, planned_found, planned_at, planned, number_of}
 use Rattle.flu_plan.specs.Reading.{tree_in}
 use Rattle.flu_plan.specs.Kept.{KeepsRules}
-use Rattle.flu_plan.proofs.Distinct.{In, Distinct, in_nil, in_head, in_tail, in_cases, in_left, in_right, in_middle, distinct_none, distinct_cons, distinct_head, distinct_tail, distinct_middle, distinct_apart, found_in}
+use Rattle.flu_plan.proofs.Distinct.{In, Distinct, in_nil, in_head, in_tail, in_cases, in_left, in_right, in_middle, distinct_none, distinct_cons}
+use Rattle.flu_plan.proofs.Distinct.{distinct_head, distinct_tail, distinct_middle, distinct_apart, found_in}
 use Rattle.flu_plan.proofs.ShapeLemmas.{below-met, walk-zero, walk-one}
 use Rattle.flu_plan.proofs.Resolved.{kid_list, children}
 use Rattle.flu_plan.proofs.Trees.{ids}

@@ -1,5 +1,6 @@
 -- The text of a plan is read as the nodes that were printed.
-use Rattle.std.proofs.Common.{◌≡◌, ◌≢◌, ◌<◌, ◌+◌, ℕ, zero, suc, pos, Bool, true, false, ◌&&◌, cond, List, [], ◌∷◌, map, length, Option, Some, None, Ok, refl, sym, ap, subst, ◌∙◌, arith}
+use Rattle.std.proofs.Common.{◌≡◌, ◌≢◌, ◌<◌, ◌+◌, ℕ, zero, suc, pos, Bool, true, false, ◌&&◌, cond, List, [], ◌∷◌, map, length, Option, Some, None, Ok, refl}
+use Rattle.std.proofs.Common.{sym, ap, subst, ◌∙◌, arith}
 use Rattle.std.specs.Prelude.{nat_lt, not, is_some, slice_get}
 use Rattle.std.specs.List.{list_all, position, position_or_len}
 use Rattle.std.specs.Str.{bytes_eq}
@@ -47,7 +48,7 @@ use Rattle.flu_plan.specs.Printing.{name_of_kind, name_of_source, name_of_child}
 use Rattle.flu_plan.proofs.Finds.{Pairs, collects_all}
 use Rattle.flu_plan.proofs.NameLemmas.{position_by_bytes}
 use Rattle.flu_plan.proofs.Distinct.{In, Distinct, in_head, in_tail, distinct_head, distinct_tail}
-use Rattle.flu_plan.proofs.Resolved.{bytes_itself, bytes_is}
+use Rattle.flu_lemmas.proofs.Bytes.{bytes_itself, bytes_is}
 use Rattle.flu_plan.proofs.PlanWords.{behind_keys, source_words, words_of, pred_words, kids_words, preds_words, node_words, pred_ok, kids_ok, node_ok}
 
 -- ---- names are found at their own places

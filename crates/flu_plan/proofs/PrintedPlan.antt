@@ -1,5 +1,6 @@
 -- The text of a plan is read as that plan.
-use Rattle.std.proofs.Common.{◌≡◌, ◌<◌, ◌≤◌, ℕ, true, ◌&&◌, List, [], ◌∷◌, ◌++◌, map, length, Option, Some, None, Ok, refl, sym, ap, subst, ◌∙◌, append_assoc, arith}
+use Rattle.std.proofs.Common.{◌≡◌, ◌<◌, ◌≤◌, ℕ, true, ◌&&◌, List, [], ◌∷◌, ◌++◌, map, length, Option, Some, None, Ok, refl, sym, ap, subst, ◌∙◌, append_assoc}
+use Rattle.std.proofs.Common.{arith}
 use Rattle.std.specs.Prelude.{not, nat_le, nat_lt, slice_get}
 use Rattle.std.specs.List.{list_all, list_any}
 use Rattle.std.specs.Str.{IsUtf8, bytes_eq}
@@ -37,7 +38,8 @@ use Rattle.flu_plan.specs.Laws.{PrintedIsRead}
 use Rattle.flu_plan.proofs.Finds.{collects_all}
 use Rattle.flu_plan.proofs.Distinct.{In, Distinct, in_head, in_tail, in_left, in_right, distinct_front, distinct_back, distinct_apart, distinct_from, found_in}
 use Rattle.flu_plan.proofs.ReadingLemmas.{text_in-utf8}
-use Rattle.flu_plan.proofs.Resolved.{bytes_itself, bytes_is, kid_list, name_written}
+use Rattle.flu_lemmas.proofs.Bytes.{bytes_itself, bytes_is}
+use Rattle.flu_plan.proofs.Resolved.{kid_list, name_written}
 use Rattle.flu_plan.proofs.Spelled.{found_if_spelled}
 use Rattle.flu_plan.proofs.PlanWords.{NamesFit, pred_ok, kids_ok, node_ok, plan_words, plan_layout, plan_laid}
 use Rattle.flu_plan.proofs.PlanRead.{NamesDiffer, NodeIs, read_all, nodes_found}

@@ -1,11 +1,12 @@
 -- What is known of nodes whose names are looked up.
-use Rattle.std.proofs.Common.{◌≡◌, ℕ, zero, suc, ◌<◌, Bool, true, false, List, [], ◌∷◌, ◌++◌, map, length, Option, Some, None, Ok, refl, sym, ap, subst, ◌∙◌, append_assoc}
+use Rattle.std.proofs.Common.{◌≡◌, ℕ, zero, suc, ◌<◌, Bool, true, false, List, [], ◌∷◌, ◌++◌, map, length, Option, Some, None, Ok, refl, sym, ap, subst, ◌∙◌}
+use Rattle.std.proofs.Common.{append_assoc}
 use Rattle.std.specs.Prelude.{not, ◌==◌}
 use Rattle.std.specs.List.{list_any, flat_map, position}
 use Rattle.std.specs.Str.{bytes_eq}
 use Rattle.std.proofs.lemmas.List.{append-nil, length-map}
 use Rattle.std.proofs.lemmas.List.Quantifiers.{position-Some}
-use Rattle.std.proofs.lemmas.Slice.Eq.{bytes_eq-Decides}
+use Rattle.flu_lemmas.proofs.Bytes.{bytes_itself}
 use Rattle.flu_lemmas.proofs.Searches.{eq_true}
 use Rattle.flu_model.specs.declared.jobs.Program.{Program}
 use Rattle.flu_text.specs.declared.written.WrittenSpan.{WrittenSpan}
@@ -36,12 +37,6 @@ absent same itself x xs e h =
     let yes = in_found same itself x xs h in let no = not_found (list_any (same x) xs) e in let bad : true ≡ false = sym yes ∙ no in (cc)
 
 -- ---- names
-
-pub bytes_itself : (x : List ℕ) → bytes_eq x x ≡ true
-bytes_itself x = (bytes_eq-Decides x x).1 refl
-
-pub bytes_is : (x y : List ℕ) → bytes_eq x y ≡ true → x ≡ y
-bytes_is x y e = (bytes_eq-Decides x y).0 e
 
 abbrev pub name_written : List ℕ → WrittenNode → List ℕ
 name_written text w = name_of text w.name

@@ -185,7 +185,8 @@ record PredRead (end : ℕ) (u : Turn) (tokens : List Token) (nodes : List Writt
   ends : PredEnd last nodes name preds
 
 -- the source behind `@`
-source_read : (end : ℕ) (u : Turn) (tokens : List Token) (nodes : List WrittenNode) (nm source : WrittenSpan) (kind : Option WrittenSpan) (ks : WrittenKeys) (preds : List WrittenPred) (more : List Sign)
+source_read : (end : ℕ) (u : Turn) (tokens : List Token) (nodes : List WrittenNode) (nm source : WrittenSpan) (kind : Option WrittenSpan) (ks : WrittenKeys)
+    (preds : List WrittenPred) (more : List Sign)
     → AreSigns (Any (w.Mark m.At) ∷ (name source ++ more)) tokens → ((t : Token) → stage_step u t k.At u.stage ≡ Ok (turn nodes nm preds (stage.At kind ks)))
     → PredRead end u tokens nodes nm (preds ++ pred kind ks (Some source) ∷ []) more
 source_read end u tokens nodes nm source kind ks preds more h takes =
@@ -201,7 +202,8 @@ source_read end u tokens nodes nm source kind ks preds more h takes =
     }
 
 -- what stands behind a kind and its keys
-kind_read : (end : ℕ) (u v : Turn) (tokens : List Token) (nodes : List WrittenNode) (nm kind : WrittenSpan) (ks : WrittenKeys) (source : Option WrittenSpan) (preds : List WrittenPred) (more : List Sign)
+kind_read : (end : ℕ) (u v : Turn) (tokens : List Token) (nodes : List WrittenNode) (nm kind : WrittenSpan) (ks : WrittenKeys) (source : Option WrittenSpan)
+    (preds : List WrittenPred) (more : List Sign)
     → LeadsTo end u tokens v (source_signs source ++ more) → PredEnd v nodes nm (preds ++ pred (Some kind) ks None ∷ [])
     → ((t : Token) → stage_step v t k.At v.stage ≡ Ok (turn nodes nm preds (stage.At (Some kind) ks)))
     → PredRead end u tokens nodes nm (preds ++ pred (Some kind) ks source ∷ []) more
@@ -210,7 +212,8 @@ kind_read end u v tokens nodes nm kind ks (Some source) preds more first ends ta
     let second = source_read end v first.0 nodes nm source (Some kind) ks preds more first.1 takes in
     record { last = second.last; leads = on_to end u v second.last tokens (source_signs (Some source) ++ more) more first second.leads; ends = second.ends }
 
-kinds_read : (end : ℕ) (u : Turn) (tokens : List Token) (nodes : List WrittenNode) (nm kind : WrittenSpan) (ks : WrittenKeys) (source : Option WrittenSpan) (preds : List WrittenPred) (more : List Sign)
+kinds_read : (end : ℕ) (u : Turn) (tokens : List Token) (nodes : List WrittenNode) (nm kind : WrittenSpan) (ks : WrittenKeys) (source : Option WrittenSpan)
+    (preds : List WrittenPred) (more : List Sign)
     → Wants u nodes nm preds → AreSigns (name kind ++ (keys_signs ks ++ (source_signs source ++ more))) tokens
     → PredRead end u tokens nodes nm (preds ++ pred (Some kind) ks source ∷ []) more
 kinds_read end u tokens nodes nm kind keys.Alone source preds more wants h =
@@ -255,7 +258,8 @@ kinds_read end u tokens nodes nm kind (keys.Range low high) source preds more wa
     let one = on_to end u (next kind) close tokens (keys_signs (keys.Range low high) ++ behind) behind a two in
     kind_read end u close tokens nodes nm kind (keys.Range low high) source preds more one (end-close nodes nm kind preds (keys.Range low high)) (λ t. refl)
 
-pred_read : (end : ℕ) (u : Turn) (tokens : List Token) (nodes : List WrittenNode) (nm : WrittenSpan) (kind : Option WrittenSpan) (ks : WrittenKeys) (source : Option WrittenSpan) (preds : List WrittenPred) (more : List Sign)
+pred_read : (end : ℕ) (u : Turn) (tokens : List Token) (nodes : List WrittenNode) (nm : WrittenSpan) (kind : Option WrittenSpan) (ks : WrittenKeys)
+    (source : Option WrittenSpan) (preds : List WrittenPred) (more : List Sign)
     → Wants u nodes nm preds → HasPart kind ks source → AreSigns (pred_signs (pred kind ks source) ++ more) tokens
     → PredRead end u tokens nodes nm (preds ++ pred kind ks source ∷ []) more
 pred_read end u tokens nodes nm None ks None preds more wants part h = let none : false ≡ true = part.1 in absurd cc
@@ -316,7 +320,8 @@ record NodesRead (end : ℕ) (u : Turn) (tokens : List Token) (nodes : List Writ
   leads : LeadsTo end u tokens last more
   after : After last nodes
 
-kids_read : (end : ℕ) (u : Turn) (tokens : List Token) (nodes : List WrittenNode) (nm : WrittenSpan) (preds : List WrittenPred) (kids : Option (WrittenSpan × WrittenSpan)) (more : List Sign)
+kids_read : (end : ℕ) (u : Turn) (tokens : List Token) (nodes : List WrittenNode) (nm : WrittenSpan) (preds : List WrittenPred)
+    (kids : Option (WrittenSpan × WrittenSpan)) (more : List Sign)
     → NodeEnd u nodes nm preds → AreSigns (kids_signs kids ++ more) tokens
     → NodesRead end u tokens (nodes ++ record { name = nm; preds = preds; kids = kids } ∷ []) more
 kids_read end u tokens nodes nm preds None more ends h = record { last = u; leads = (tokens, h, refl); after = ends.after }

@@ -1,9 +1,11 @@
 -- The nodes that are met below the root, where no node is a child twice.
-use Rattle.std.proofs.Common.{◌≡◌, ◌⊎◌, inl, inr, ℕ, zero, suc, ◌<◌, ◌≤◌, List, [], ◌∷◌, ◌++◌, length, Option, Some, None, refl, sym, ap, subst, append_assoc, arith}
+use Rattle.std.proofs.Common.{◌≡◌, ◌⊎◌, inl, inr, ℕ, zero, suc, ◌<◌, ◌≤◌, List, [], ◌∷◌, ◌++◌, length, Option, Some, None, refl, sym, ap, subst, append_assoc}
+use Rattle.std.proofs.Common.{arith}
 use Rattle.std.proofs.lemmas.List.{length-append}
 use Rattle.flu_plan.specs.declared.drafts.DraftNode.{DraftNode}
 use Rattle.flu_plan.specs.Shape.{kids_at}
-use Rattle.flu_plan.proofs.Distinct.{In, Distinct, in_nil, in_head, in_tail, in_cases, in_left, in_right, in_middle, distinct_none, distinct_cons, distinct_head, distinct_tail, distinct_middle, distinct_front, distinct_back, distinct_apart, few_below}
+use Rattle.flu_plan.proofs.Distinct.{In, Distinct, in_nil, in_head, in_tail, in_cases, in_left, in_right, in_middle, distinct_none, distinct_cons}
+use Rattle.flu_plan.proofs.Distinct.{distinct_head, distinct_tail, distinct_middle, distinct_front, distinct_back, distinct_apart, few_below}
 use Rattle.flu_plan.proofs.Resolved.{KidsBelow, Known, kid_list, kids_of_draft, children}
 
 abbrev pub kids_list_at : List DraftNode → ℕ → List ℕ

@@ -3,7 +3,9 @@
 ghost use Rattle.std.specs.Prelude.{◌≡◌, ◌++◌, ◌∷◌, [], OnOk, OnErr};
 ghost use Rattle.flu_text.specs.Signs.{span_of, number_of};
 ghost use Rattle.flu_plan.specs.Faults.{Gives, each};
-ghost use Rattle.flu_plan.specs.Machine.{turn_of, goes, pred, with_pred, with_node, start_step, node_step, name_step, end_step, comma_step, colon_step, kind_step, open_step, low_step, dots_step, high_step, close_step, at_step, arrow_step, left_step, right_step, step, ended, written_in};
+ghost use Rattle.flu_plan.specs.Machine.{turn_of, goes, pred, with_pred, with_node, start_step, node_step, name_step, end_step, comma_step, colon_step};
+ghost use Rattle.flu_plan.specs.Machine.{kind_step, open_step, low_step, dots_step, high_step, close_step, at_step, arrow_step, left_step, right_step, step};
+ghost use Rattle.flu_plan.specs.Machine.{ended, written_in};
 
 use crate::fault::PlanFault;
 use crate::terminals::{Terminal, terminal_of};

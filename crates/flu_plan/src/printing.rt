@@ -4,7 +4,8 @@ ghost use Rattle.std.specs.Prelude.{◌≡◌, ℕ, List, ◌++◌, OnOk, IfOk, 
 ghost use Rattle.std.specs.List.{flat_map};
 ghost use Rattle.std.specs.String.{string_bytes};
 ghost use Rattle.flu_layout.specs.Lists.{separated};
-ghost use Rattle.flu_plan.specs.Printing.{name_of_kind, name_of_source, name_of_child, kind_text, source_text, pred_text, preds_text, kids_text, node_line, printed, has_text};
+ghost use Rattle.flu_plan.specs.Printing.{name_of_kind, name_of_source, name_of_child, kind_text, source_text, pred_text, preds_text, kids_text, node_line};
+ghost use Rattle.flu_plan.specs.Printing.{printed, has_text};
 ghost use Rattle.flu_plan.specs.Reading.{plan_in};
 
 use crate::laws::{plans_have_text, printed_is_read};

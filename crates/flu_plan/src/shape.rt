@@ -3,7 +3,8 @@
 ghost use Rattle.std.specs.Prelude.{◌≡◌, ℕ, ◌==◌, ◌+◌, ◌++◌, ◌∷◌, [], ◌<◌, ◌≤◌, ◌^◌, IfOk, OnOk, OnErr, length, reverse, slice_get, false, MatchOption};
 ghost use Rattle.std.specs.List.{list_any, list_all};
 ghost use Rattle.flu_plan.specs.Faults.{Gives};
-ghost use Rattle.flu_plan.specs.Shape.{name_at, with_child, with_kids, with_kids_of, children_of, kids_at, visit, with_visits, walk, preorder, is_met, below, all_below};
+ghost use Rattle.flu_plan.specs.Shape.{name_at, with_child, with_kids, with_kids_of, children_of, kids_at, visit, with_visits, walk, preorder, is_met, below};
+ghost use Rattle.flu_plan.specs.Shape.{all_below};
 
 use crate::drafts::{DraftNode, Visit};
 use crate::fault::PlanFault;

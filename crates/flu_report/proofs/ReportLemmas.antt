@@ -15,7 +15,8 @@ use Rattle.flu_model.specs.declared.jobs.Program.{Program}
 use Rattle.flu_model.specs.Reports.{Line, line_of, line_cmp, line_bytes, IsReport, report}
 
 line_cmp-total : IsTotalOrder line_cmp
-line_cmp-total = then_total (on_total (λ (l : Line). l.time) nat_cmp_total) (then_total (on_total (λ (l : Line). l.tag) nat_list_cmp_total) (on_total (λ (l : Line). l.text) nat_list_cmp_total))
+line_cmp-total = then_total (on_total (λ (l : Line). l.time) nat_cmp_total)
+    (then_total (on_total (λ (l : Line). l.tag) nat_list_cmp_total) (on_total (λ (l : Line). l.text) nat_list_cmp_total))
 
 -- lines that compare equal are equal
 same_line : (a b : Line) → line_cmp a b ≡ Equal → a ≡ b

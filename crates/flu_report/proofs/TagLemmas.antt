@@ -18,14 +18,17 @@ same_tag a b e =
     let key : a.key ≡ b.key = nat_cmp-IsAntisymmetric a.key b.key parts.1 in
     λ i. record { kind = kind i; key = key i }
 
-pub texts_more : (p : Program) (old new : BTreeMap Tag (List ℕ)) (tag : Tag) → HasTexts p old → Updates tag_cmp old new tag (Some (text_of_tag p tag)) → HasTexts p new
+pub texts_more : (p : Program) (old new : BTreeMap Tag (List ℕ)) (tag : Tag) → HasTexts p old → Updates tag_cmp old new tag (Some (text_of_tag p tag))
+    → HasTexts p new
 texts_more p old new tag texts more = λ t.
     elim (is_eq (tag_cmp tag t)) as (λ b. is_eq (tag_cmp tag t) ≡ b → IfSome (get tag_cmp new t) (λ text. text ≡ text_of_tag p t)) [
-      | true ↦ λ e. subst (λ o. IfSome o (λ text. text ≡ text_of_tag p t)) (sym (more.0 t ∙ ap (λ b. cond b (Some (text_of_tag p tag)) (get tag_cmp old t)) e)) (ap (text_of_tag p) (same_tag tag t e))
+      | true ↦ λ e. subst (λ o. IfSome o (λ text. text ≡ text_of_tag p t)) (sym (more.0 t ∙ ap (λ b. cond b (Some (text_of_tag p tag)) (get tag_cmp old t)) e))
+          (ap (text_of_tag p) (same_tag tag t e))
       | false ↦ λ e. subst (λ o. IfSome o (λ text. text ≡ text_of_tag p t)) (sym (more.2 t e)) (texts t)
     ] refl
 
-pub stays_there : (old new : BTreeMap Tag (List ℕ)) (tag : Tag) (text : List ℕ) → Updates tag_cmp old new tag (Some text) → (q : Tag) → IsSome (get tag_cmp old q) → IsSome (get tag_cmp new q)
+pub stays_there : (old new : BTreeMap Tag (List ℕ)) (tag : Tag) (text : List ℕ) → Updates tag_cmp old new tag (Some text) → (q : Tag)
+    → IsSome (get tag_cmp old q) → IsSome (get tag_cmp new q)
 stays_there old new tag text more q there =
     elim (is_eq (tag_cmp tag q)) as (λ b. is_eq (tag_cmp tag q) ≡ b → IsSome (get tag_cmp new q)) [
       | true ↦ λ e. subst (λ o. IsSome o) (sym (more.0 q ∙ ap (λ b. cond b (Some text) (get tag_cmp old q)) e)) refl

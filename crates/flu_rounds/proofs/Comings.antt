@@ -17,9 +17,11 @@ use Rattle.flu_streams.specs.declared.faults.SourceFault.{SourceFault}
 use Rattle.flu_streams.specs.Files.{files_of, AreReadOut}
 use Rattle.flu_streams.specs.Good.{lists_of}
 use Rattle.flu_streams.specs.Holding.{Holding, unread, AreHeldBehind, AreInAll, ClosedAreReadOut, LawOfStart, LawOfEnds}
-use Rattle.flu_streams.specs.Rounds.{ComesFrom, Starts, GoesOn, IsRound, IsRoundFault, defect_in, lists_between, state_in_turn, reports_in_turn, LinesIn, LawOfRounds, LawOfNoRows, LawOfLastRound, LawOfLastAbove}
+use Rattle.flu_streams.specs.Rounds.{ComesFrom, Starts, GoesOn, IsRound, IsRoundFault, defect_in, lists_between, state_in_turn, reports_in_turn, LinesIn}
+use Rattle.flu_streams.specs.Rounds.{LawOfRounds, LawOfNoRows, LawOfLastRound, LawOfLastAbove}
 use Rattle.flu_rounds.specs.Standing.{Standing, round_report}
-use Rattle.flu_rounds.specs.Coming.{lines_in, text_up_from, lists_above, RanFrom, WouldWriteFrom, AreSound, HasRunFrom, LawOfBeginningFrom, LawOfGoingOnFrom, LawOfTextFrom, LawOfNextTextFrom, LawOfLastFrom, LawOfDefectFrom}
+use Rattle.flu_rounds.specs.Coming.{lines_in, text_up_from, lists_above, RanFrom, WouldWriteFrom, AreSound, HasRunFrom, LawOfBeginningFrom, LawOfGoingOnFrom}
+use Rattle.flu_rounds.specs.Coming.{LawOfTextFrom, LawOfNextTextFrom, LawOfLastFrom, LawOfDefectFrom}
 
 -- ---- one round more
 state_more : (p : Program) (s : Contents) (done : List (List (List Item))) (lists : List (List Item))
@@ -32,7 +34,8 @@ reports_more : (p : Program) (s : Contents) (done : List (List (List Item))) (li
 reports_more p s [] lists = append-nil (report p (final_outputs p s lists))
 reports_more p s (l ∷ done) lists =
     ap (λ rest. report p (final_outputs p s l) ++ rest) (reports_more p (final_state p s l) done lists)
-    ∙ sym (append_assoc (report p (final_outputs p s l)) (reports_in_turn p (final_state p s l) done) (report p (final_outputs p (state_in_turn p (final_state p s l) done) lists)))
+    ∙ sym (append_assoc (report p (final_outputs p s l)) (reports_in_turn p (final_state p s l) done)
+    (report p (final_outputs p (state_in_turn p (final_state p s l) done) lists)))
 
 -- a round's report behind those of the rounds before it
 pub report_behind : (p : Program) (opening : Contents) (old : Standing) (done : List (List (List Item))) (written : List ℕ) (end : Border) (now : ℕ → List Next)
@@ -81,7 +84,8 @@ law_of_beginning start border opening p rows left now first = let s = start p ro
     state = first.state';
     wrote = refl;
     ended = subst (λ (h : Holding). ClosedAreReadOut h left) (sym first.held') (s.ended left);
-    told = subst (λ (h : Holding). WhereTold left left (λ was is. ComesFrom p rows (lines_in p was) border [] h.border (λ i. []) × AreInAll h (λ i. []) is (lines_in p was))) (sym first.held')
+    told = subst (λ (h : Holding). WhereTold left left
+        (λ was is. ComesFrom p rows (lines_in p was) border [] h.border (λ i. []) × AreInAll h (λ i. []) is (lines_in p was))) (sym first.held')
         (told_same (λ was is. ComesFrom p rows (lines_in p was) border [] border (λ i. []) × AreInAll (unread p rows border) (λ i. []) is (lines_in p was)) left
         (λ was. (Starts (λ i. []) (λ i. refl), s.all was (lines_in p was) (lines_are_in p was))));
   },
@@ -90,7 +94,8 @@ law_of_beginning start border opening p rows left now first = let s = start p ro
 
 -- what is told of a standing
 abbrev pub Stands : Program → ℕ → Option ℕ → List (List (List Item)) → (ℕ → List Next) → Standing → Files → Files → Type 0
-Stands p rows border done before now was is = ComesFrom p rows (lines_in p was) border done now.held.border before × AreInAll now.held before is (lines_in p was)
+Stands p rows border done before now was is =
+    ComesFrom p rows (lines_in p was) border done now.held.border before × AreInAll now.held before is (lines_in p was)
 
 pub law_of_going_on : (border : Option ℕ) (opening : Contents) → LawOfGoingOnFrom border opening
 law_of_going_on border opening p rows start left left' old new written t came runs stands ended =
@@ -106,11 +111,13 @@ law_of_going_on border opening p rows start left left' old new written t came ru
         wrote = report_behind p opening old came.done written (At t) now came.program came.state came.wrote;
         ended = ended came.ended;
         told = told_then (Stands p rows border came.done came.before old)
-            (λ mid is. (whole : ℕ → List Next) → AreInAll old.held came.before mid whole → IsRound old.held.program old.held.rows old.held.border whole came.before now (At t) × AreInAll new.held now is whole)
+            (λ mid is. (whole : ℕ → List Next) → AreInAll old.held came.before mid whole
+            → IsRound old.held.program old.held.rows old.held.border whole came.before now (At t) × AreInAll new.held now is whole)
             (Stands p rows border (came.done ++ lists ∷ []) now new) start left left'
             (λ was mid is stood fills.
             let f = fills (lines_in p was) stood.1 in
-            let round = same_round p old.held.program rows old.held.rows old.held.border (lines_in p was) came.before now (At t) came.program came.number f.0 in (
+            let round = same_round p old.held.program rows old.held.rows old.held.border (lines_in p was) came.before now (At t)
+            came.program came.number f.0 in (
               subst (λ (b : Option ℕ). ComesFrom p rows (lines_in p was) border (came.done ++ lists ∷ []) b now) (sym stands.border)
                   (GoesOn came.done old.held.border came.before now t stood.0 round),
               f.1,
@@ -146,11 +153,13 @@ law_of_text law none border opening p rows start left now written one came =
 pub law_of_next_text : LawOfRounds → LawOfNoRows → (border : Option ℕ) (opening : Contents) → LawOfNextTextFrom border opening
 law_of_next_text law none border opening p rows start left left' old written end now one came is_round =
     told_then (Stands p rows border came.done came.before old)
-    (λ mid is. (whole : ℕ → List Next) → AreInAll old.held came.before mid whole → IsRound old.held.program old.held.rows old.held.border whole came.before now end)
+    (λ mid is. (whole : ℕ → List Next) → AreInAll old.held came.before mid whole
+    → IsRound old.held.program old.held.rows old.held.border whole came.before now end)
     (λ was is. (r : RanFrom p rows border opening (lines_in p was) old.held.border written)
     × WouldWriteFrom p rows border opening (lines_in p was) old.held.border r.before now end (written ++ round_report old end now)) start left left'
     (λ was mid is stood rounds.
-    let round = same_round p old.held.program rows old.held.rows old.held.border (lines_in p was) came.before now end came.program came.number (rounds (lines_in p was) stood.1) in (
+    let round = same_round p old.held.program rows old.held.rows old.held.border (lines_in p was) came.before now end came.program came.number
+    (rounds (lines_in p was) stood.1) in (
       ran law none p rows border opening (lines_in p was) came.done old.held.border came.before written one stood.0 came.wrote,
       record {
         round = round;
@@ -179,7 +188,8 @@ law_of_last law last later ends border opening p rows start left left' old new w
     let out = ends new.held now left' runs.fills.behind closed (ended came.ended) in (
       subst (λ (q : Program). AreReadOut (files_of q.sources) left') (stands.program ∙ came.program) out,
       told_then (Stands p rows border came.done came.before old)
-          (λ mid is. (whole : ℕ → List Next) → AreInAll old.held came.before mid whole → IsRound old.held.program old.held.rows old.held.border whole came.before now Closed × AreInAll new.held now is whole)
+          (λ mid is. (whole : ℕ → List Next) → AreInAll old.held came.before mid whole
+          → IsRound old.held.program old.held.rows old.held.border whole came.before now Closed × AreInAll new.held now is whole)
           (λ was is. HasRunFrom p border opening was new (written ++ round_report old Closed now)) start left left'
           (λ was mid is stood fills.
           let f = fills (lines_in p was) stood.1 in
@@ -188,7 +198,8 @@ law_of_last law last later ends border opening p rows start left left' old new w
           let all = last_events last later p rows border old.held.border (lines_in p was) came.before now was (lines_are_in p was) round in
           record {
             sound = sound_at p rows old.held.border (lines_in p was) came.before now round;
-            state = runs.state ∙ state_behind p opening old came.done Closed now came.program came.state ∙ folds.state ∙ ap (λ events. state_after p opening events) all;
+            state = runs.state ∙ state_behind p opening old came.done Closed now came.program came.state ∙ folds.state
+                ∙ ap (λ events. state_after p opening events) all;
             text = report_behind p opening old came.done written Closed now came.program came.state came.wrote ∙ folds.reports
                 ∙ ap (λ events. report p (outputs_of p opening events)) all;
           })
@@ -199,11 +210,14 @@ pub law_of_defect : LawOfRounds → LawOfNoRows → (border : Option ℕ) (openi
 law_of_defect law none border opening p rows start left left' old written f one came fault = (
   subst (λ (q : Program). f.source < length q.sources) came.program fault.0,
   told_then (Stands p rows border came.done came.before old)
-      (λ mid is. (whole : ℕ → List Next) → AreInAll old.held came.before mid whole → IsRoundFault old.held.program old.held.rows old.held.border whole came.before f)
-      (λ was is. (r : RanFrom p rows border opening (lines_in p was) old.held.border written) × IsRoundFault p rows old.held.border (lines_in p was) r.before f) start left left'
+      (λ mid is. (whole : ℕ → List Next) → AreInAll old.held came.before mid whole
+      → IsRoundFault old.held.program old.held.rows old.held.border whole came.before f)
+      (λ was is. (r : RanFrom p rows border opening (lines_in p was) old.held.border written) × IsRoundFault p rows old.held.border (lines_in p was) r.before f)
+      start left left'
       (λ was mid is stood meets. (
         ran law none p rows border opening (lines_in p was) came.done old.held.border came.before written one stood.0 came.wrote,
-        same_defect p old.held.program rows old.held.rows old.held.border (lines_in p was) came.before f came.program came.number (meets (lines_in p was) stood.1),
+        same_defect p old.held.program rows old.held.rows old.held.border (lines_in p was) came.before f came.program came.number
+            (meets (lines_in p was) stood.1),
       ))
       came.told (fault.1 came.before came.behind),
 )

@@ -37,7 +37,8 @@ law_of_last_counts law last later p rows border opening start left left' old new
     let came = counted.came in
     let now = runs.fills.now in
     told_then (Stands p rows border came.done came.before old)
-    (λ mid is. (whole : ℕ → List Next) → AreInAll old.held came.before mid whole → IsRound old.held.program old.held.rows old.held.border whole came.before now Closed × AreInAll new.held now is whole)
+    (λ mid is. (whole : ℕ → List Next) → AreInAll old.held came.before mid whole
+    → IsRound old.held.program old.held.rows old.held.border whole came.before now Closed × AreInAll new.held now is whole)
     (λ was is. grown counts (round_lists old Closed now) ≡ grown first (lists_above border (lists_of p was))) start left left'
     (λ was mid is stood fills.
     let f = fills (lines_in p was) stood.1 in

@@ -21,11 +21,14 @@ use Rattle.flu_rounds.specs.Halves.{Begins, LawOfHalves, LawOfHalf}
 -- what a refill read is what the cut leaves read
 fills_cut : (old mid new : Holding) (left left' : Option Files) (end : Border) (before : ℕ → List Next)
     → (fills : Fills old mid left left' end before) → Cuts mid new end
-    → WhereTold left left' (λ was is. (whole : ℕ → List Next) → AreInAll old before was whole → IsRound old.program old.rows old.border whole before fills.now end × AreInAll new fills.now is whole)
+    → WhereTold left left' (λ was is. (whole : ℕ → List Next) → AreInAll old before was whole
+    → IsRound old.program old.rows old.border whole before fills.now end × AreInAll new fills.now is whole)
 fills_cut old mid new left left' end before fills cuts =
     told_weaker
-    (λ was is. (whole : ℕ → List Next) → AreInAll old before was whole → IsRound old.program old.rows old.border whole before fills.now end × AreInAll mid fills.now is whole)
-    (λ was is. (whole : ℕ → List Next) → AreInAll old before was whole → IsRound old.program old.rows old.border whole before fills.now end × AreInAll new fills.now is whole)
+    (λ was is. (whole : ℕ → List Next) → AreInAll old before was whole → IsRound old.program old.rows old.border whole before fills.now end
+    × AreInAll mid fills.now is whole)
+    (λ was is. (whole : ℕ → List Next) → AreInAll old before was whole → IsRound old.program old.rows old.border whole before fills.now end
+    × AreInAll new fills.now is whole)
     left left' (λ was is f whole all. let k = f whole all in (k.0, cuts.still' fills.now whole is k.1)) fills.round
 
 pub begins : (inside old : Standing) (p : Program) (left left' : Option Files) (end : Border) (mid new : Holding) (opening : State) (rows : List (List Item))
@@ -66,8 +69,10 @@ law_of_half p old new left left' end opening state rows outs had has job began r
       fills.now,
       record {
         round = told_weaker
-            (λ was is. (whole : ℕ → List Next) → AreInAll old.held before was whole → IsRound old.held.program old.held.rows old.held.border whole before fills.now end × AreInAll new fills.now is whole)
-            (λ was is. (whole : ℕ → List Next) → AreInAll old.held before was whole → IsRound old.held.program old.held.rows old.held.border whole before fills.now end)
+            (λ was is. (whole : ℕ → List Next) → AreInAll old.held before was whole
+            → IsRound old.held.program old.held.rows old.held.border whole before fills.now end × AreInAll new fills.now is whole)
+            (λ was is. (whole : ℕ → List Next) → AreInAll old.held before was whole
+            → IsRound old.held.program old.held.rows old.held.border whole before fills.now end)
             left left' (λ was is g whole all. (g whole all).0) fills.round;
       },
       subst (λ (bytes : List ℕ). WhereTold had has (AppendsPart bytes)) (text_is p old end opening rows fills.now job began.state filled.1)

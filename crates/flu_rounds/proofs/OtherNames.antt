@@ -30,7 +30,8 @@ held_among h lines behind i source is =
     let count = behind.count in
     let lt = slice_get_within h.sources i source is in
     let there = slice_get-there h.program.sources i (omega (arith, count, lt)) in
-    subst (λ name. Contains (files_of h.program.sources) name) (sym (behind.each i there.0 source there.1 is).file) (file_among h.program.sources i there.0 there.1)
+    subst (λ name. Contains (files_of h.program.sources) name) (sym (behind.each i there.0 source there.1 is).file)
+    (file_among h.program.sources i there.0 there.1)
 
 still_same : (source : HeldSource) (was is : Files) → is source.place.file ≡ was source.place.file → still source is ≡ still source was
 still_same source was is same =
@@ -40,7 +41,8 @@ still_same source was is same =
 abbrev KeepsFiles : List (List ℕ) → Files → Files → Type 0
 KeepsFiles names was is = (name : List ℕ) → Contains names name → is name ≡ was name
 
-read_out_same : (names : List (List ℕ)) (name : List ℕ) (a b : Option Files) → Contains names name → WhereTold a b (KeepsFiles names) → IsReadOut name a → IsReadOut name b
+read_out_same : (names : List (List ℕ)) (name : List ℕ) (a b : Option Files) → Contains names name → WhereTold a b (KeepsFiles names) → IsReadOut name a
+    → IsReadOut name b
 read_out_same names name None None among keeps out = tt
 read_out_same names name None (Some y) among keeps out = absurd keeps
 read_out_same names name (Some x) None among keeps out = absurd keeps
@@ -48,7 +50,8 @@ read_out_same names name (Some x) (Some y) among keeps out = keeps name among �
 
 pub law_of_other_names : (border : Option ℕ) (opening : Contents) → LawOfOtherNames border opening
 law_of_other_names border opening p rows start left left' now written came keeps =
-    let among = λ (i : ℕ) (source : HeldSource) (is : slice_get now.held.sources i ≡ Some source). subst (λ (q : Program). Contains (files_of q.sources) source.place.file) came.program (held_among now.held came.before came.behind i source is) in (
+    let among = λ (i : ℕ) (source : HeldSource) (is : slice_get now.held.sources i ≡ Some source). subst
+    (λ (q : Program). Contains (files_of q.sources) source.place.file) came.program (held_among now.held came.before came.behind i source is) in (
       record {
         program = came.program;
         number = came.number;
@@ -58,10 +61,12 @@ law_of_other_names border opening p rows start left left' now written came keeps
         state = came.state;
         wrote = came.wrote;
         ended = λ i source is closed. read_out_same (files_of p.sources) source.place.file left left' (among i source is) keeps (came.ended i source is closed);
-        told = told_then (Stands p rows border came.done came.before now) (KeepsFiles (files_of p.sources)) (Stands p rows border came.done came.before now) start left left'
+        told = told_then (Stands p rows border came.done came.before now) (KeepsFiles (files_of p.sources))
+            (Stands p rows border came.done came.before now) start left left'
             (λ was mid is stood same. (
               stood.0,
-              λ i source at. stood.1 i source at ∙ ap (λ rest. came.before i ++ rest) (sym (still_same source mid is (same source.place.file (among i source at)))),
+              λ i source at. stood.1 i source at ∙ ap (λ rest. came.before i ++ rest)
+                  (sym (still_same source mid is (same source.place.file (among i source at)))),
             ))
             came.told keeps;
       },

@@ -40,6 +40,7 @@ module _ (fronts : LawOfFronts) (later : LawOfFrontsAbove) where
       (front.0, front.1 ∙ ap (λ bytes. bytes ++ front.0) (sym next.text))
   law_of_next_report_fronts last last_above border opening p rows left above text more now Closed one sound ran next = (
     [],
-    ap (λ events. report p (outputs_of p opening events)) (sym (last_events last last_above p rows border above (lines_in p left) ran.before now left (lines_are_in p left) next.round))
+    ap (λ events. report p (outputs_of p opening events))
+        (sym (last_events last last_above p rows border above (lines_in p left) ran.before now left (lines_are_in p left) next.round))
         ∙ sym next.text ∙ sym (append-nil more),
   )

@@ -11,7 +11,8 @@ use Rattle.flu_streams.specs.declared.border.Border.TheVariants.{At}
 use Rattle.flu_streams.specs.Holding.{AreInAll}
 use Rattle.flu_streams.specs.Rounds.{ComesFrom, Starts, GoesOn, IsRound, IsRoundFault, lists_between, state_in_turn, LawOfRounds, LawOfNoRows}
 use Rattle.flu_rounds.specs.Standing.{round_report}
-use Rattle.flu_rounds.specs.Coming.{lines_in, RanFrom, WouldWriteFrom, IsStateUpTo, LawOfTextAndState, LawOfNextTextAndState, LawOfNextState, LawOfDefectAndState}
+use Rattle.flu_rounds.specs.Coming.{lines_in, RanFrom, WouldWriteFrom, IsStateUpTo, LawOfTextAndState, LawOfNextTextAndState, LawOfNextState}
+use Rattle.flu_rounds.specs.Coming.{LawOfDefectAndState}
 use Rattle.flu_rounds.proofs.Comings.{Stands, ran, report_behind, state_behind, same_round, same_defect}
 
 module _ (law : LawOfRounds) (none : LawOfNoRows) (border : Option ℕ) (opening : Contents) where
@@ -21,7 +22,8 @@ module _ (law : LawOfRounds) (none : LawOfNoRows) (border : Option ℕ) (opening
       subst (λ (o : Option ℕ). opening ≡ final_state p opening (lists_between p o (At t) reads)) (sym is) (none p opening t reads).state
   state_of_come p rows whole done above before one (GoesOn done' above' before' now b came round) t is =
       let same : b ≡ t = cc in
-      (law p opening rows whole border done' above' before' now (At b) one came round).state ∙ ap (λ n. final_state p opening (lists_between p border (At n) now)) same
+      (law p opening rows whole border done' above' before' now (At b) one came round).state
+      ∙ ap (λ n. final_state p opening (lists_between p border (At n) now)) same
 
   -- the state of a standing, which was come to so
   state_stands : (p : Program) (rows : ℕ) (whole : ℕ → List Next) (done : List (List (List Item))) (above : Option ℕ) (before : ℕ → List Next) (s : Contents)
@@ -31,7 +33,8 @@ module _ (law : LawOfRounds) (none : LawOfNoRows) (border : Option ℕ) (opening
   pub law_of_text_and_state : LawOfTextAndState border opening
   law_of_text_and_state p rows start left now written one came =
       told_weaker (Stands p rows border came.done came.before now)
-      (λ was is. (r : RanFrom p rows border opening (lines_in p was) now.held.border written) × (r.done ≡ came.done) × IsStateUpTo p border opening now.held.border r.before (held now.state)) start left
+      (λ was is. (r : RanFrom p rows border opening (lines_in p was) now.held.border written) × (r.done ≡ came.done)
+      × IsStateUpTo p border opening now.held.border r.before (held now.state)) start left
       (λ was is stood. (
         ran law none p rows border opening (lines_in p was) came.done now.held.border came.before written one stood.0 came.wrote,
         refl,
@@ -42,11 +45,14 @@ module _ (law : LawOfRounds) (none : LawOfNoRows) (border : Option ℕ) (opening
   pub law_of_next_text_and_state : LawOfNextTextAndState border opening
   law_of_next_text_and_state p rows start left left' old written end now one came is_round =
       told_then (Stands p rows border came.done came.before old)
-      (λ mid is. (whole : ℕ → List Next) → AreInAll old.held came.before mid whole → IsRound old.held.program old.held.rows old.held.border whole came.before now end)
-      (λ was is. (r : RanFrom p rows border opening (lines_in p was) old.held.border written) × (r.done ≡ came.done) × IsStateUpTo p border opening old.held.border r.before (held old.state)
+      (λ mid is. (whole : ℕ → List Next) → AreInAll old.held came.before mid whole
+      → IsRound old.held.program old.held.rows old.held.border whole came.before now end)
+      (λ was is. (r : RanFrom p rows border opening (lines_in p was) old.held.border written) × (r.done ≡ came.done)
+      × IsStateUpTo p border opening old.held.border r.before (held old.state)
       × WouldWriteFrom p rows border opening (lines_in p was) old.held.border r.before now end (written ++ round_report old end now)) start left left'
       (λ was mid is stood rounds.
-      let round = same_round p old.held.program rows old.held.rows old.held.border (lines_in p was) came.before now end came.program came.number (rounds (lines_in p was) stood.1) in (
+      let round = same_round p old.held.program rows old.held.rows old.held.border (lines_in p was) came.before now end came.program came.number
+      (rounds (lines_in p was) stood.1) in (
         ran law none p rows border opening (lines_in p was) came.done old.held.border came.before written one stood.0 came.wrote,
         refl,
         state_stands p rows (lines_in p was) came.done old.held.border came.before (held old.state) one stood.0 came.state,
@@ -62,10 +68,12 @@ module _ (law : LawOfRounds) (none : LawOfNoRows) (border : Option ℕ) (opening
   law_of_next_state p rows start left left' old new written t one came runs =
       let now = runs.fills.now in
       told_then (Stands p rows border came.done came.before old)
-      (λ mid is. (whole : ℕ → List Next) → AreInAll old.held came.before mid whole → IsRound old.held.program old.held.rows old.held.border whole came.before now (At t) × AreInAll new.held now is whole)
+      (λ mid is. (whole : ℕ → List Next) → AreInAll old.held came.before mid whole
+      → IsRound old.held.program old.held.rows old.held.border whole came.before now (At t) × AreInAll new.held now is whole)
       (λ was is. held new.state ≡ final_state p opening (lists_between p border (At t) now)) start left left'
       (λ was mid is stood fills.
-      let round = same_round p old.held.program rows old.held.rows old.held.border (lines_in p was) came.before now (At t) came.program came.number (fills (lines_in p was) stood.1).0 in
+      let round = same_round p old.held.program rows old.held.rows old.held.border (lines_in p was) came.before now (At t) came.program came.number
+      (fills (lines_in p was) stood.1).0 in
       runs.state ∙ state_behind p opening old came.done (At t) now came.program came.state
       ∙ (law p opening rows (lines_in p was) border came.done old.held.border came.before now (At t) one stood.0 round).state)
       came.told runs.fills.round
@@ -73,13 +81,16 @@ module _ (law : LawOfRounds) (none : LawOfNoRows) (border : Option ℕ) (opening
   pub law_of_defect_and_state : LawOfDefectAndState border opening
   law_of_defect_and_state p rows start left left' old written f one came fault =
       told_then (Stands p rows border came.done came.before old)
-      (λ mid is. (whole : ℕ → List Next) → AreInAll old.held came.before mid whole → IsRoundFault old.held.program old.held.rows old.held.border whole came.before f)
-      (λ was is. (r : RanFrom p rows border opening (lines_in p was) old.held.border written) × (r.done ≡ came.done) × IsStateUpTo p border opening old.held.border r.before (held old.state)
+      (λ mid is. (whole : ℕ → List Next) → AreInAll old.held came.before mid whole
+      → IsRoundFault old.held.program old.held.rows old.held.border whole came.before f)
+      (λ was is. (r : RanFrom p rows border opening (lines_in p was) old.held.border written) × (r.done ≡ came.done)
+      × IsStateUpTo p border opening old.held.border r.before (held old.state)
       × IsRoundFault p rows old.held.border (lines_in p was) r.before f) start left left'
       (λ was mid is stood meets. (
         ran law none p rows border opening (lines_in p was) came.done old.held.border came.before written one stood.0 came.wrote,
         refl,
         state_stands p rows (lines_in p was) came.done old.held.border came.before (held old.state) one stood.0 came.state,
-        same_defect p old.held.program rows old.held.rows old.held.border (lines_in p was) came.before f came.program came.number (meets (lines_in p was) stood.1),
+        same_defect p old.held.program rows old.held.rows old.held.border (lines_in p was) came.before f came.program came.number
+            (meets (lines_in p was) stood.1),
       ))
       came.told (fault.1 came.before came.behind)

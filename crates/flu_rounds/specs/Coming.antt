@@ -16,13 +16,15 @@ use Rattle.flu_streams.specs.Good.{lists_of}
 use Rattle.flu_streams.specs.Rounds.{ComesFrom, IsRoundFault, lists_between, reports_in_turn, state_in_turn}
 use Rattle.flu_streams.specs.Holding.{AreHeldBehind, AreInAll, ClosedAreReadOut, AreClosed}
 use Rattle.flu_rounds.specs.declared.faults.RoundsFault.TheVariants.{Source as SourceDefect}
-pub use Rattle.flu_rounds.specs.Written.{AreSound, RanFrom, RanTo, WouldWriteFrom, WouldWrite, lines_in, lists_above, text_from, text_up_from, text_until, text_up_to}
+pub use Rattle.flu_rounds.specs.Written.{AreSound, RanFrom, RanTo, WouldWriteFrom, WouldWrite, lines_in, lists_above, text_from, text_up_from, text_until}
+pub use Rattle.flu_rounds.specs.Written.{text_up_to}
 use Rattle.flu_rounds.specs.Standing.{Standing, Runs, IsRoundOf, IsSourceFault, StandsBehind, IsFirstFrom, round_report}
 
 -- ---- a run over files
 -- A RUN HAS COME TO A STANDING, above a border, where there is one, and from a state: what is held and the state are those behind the
 -- rounds since its start, each of which was a round of the lines that the files had then; and this was written
-pub record CameFrom (p : Program) (rows : ℕ) (border : Option ℕ) (opening : Contents) (start left : Option Files) (now : Standing) (written : List ℕ) : Type 0 where
+pub record CameFrom (p : Program) (rows : ℕ) (border : Option ℕ) (opening : Contents) (start left : Option Files) (now : Standing)
+    (written : List ℕ) : Type 0 where
   pub program : now.held.program ≡ p
   pub number : now.held.rows ≡ rows
   pub done : List (List (List Item))
@@ -31,7 +33,8 @@ pub record CameFrom (p : Program) (rows : ℕ) (border : Option ℕ) (opening : 
   pub state : held now.state ≡ state_in_turn p opening done
   pub wrote : written ≡ reports_in_turn p opening done
   pub ended : ClosedAreReadOut now.held left
-  pub told : WhereTold start left (λ was is. ComesFrom p rows (lines_in p was) border done now.held.border before × AreInAll now.held before is (lines_in p was))
+  pub told : WhereTold start left (λ was is. ComesFrom p rows (lines_in p was) border done now.held.border before
+      × AreInAll now.held before is (lines_in p was))
 
 -- from the first row on, and from the empty state
 abbrev pub CameTo : Program → ℕ → Option Files → Option Files → Standing → List ℕ → Type 0
@@ -117,7 +120,8 @@ LawOfLastFrom border opening =
     → (came : CameFrom p rows border opening start left old written)
     → (runs : Runs old new left left' Closed came.before) → StandsBehind old.held new.held Closed
     → (ClosedAreReadOut old.held left → ClosedAreReadOut new.held left') → AreClosed new.held
-    → AreReadOut (files_of p.sources) left' × WhereTold start left' (λ was is. HasRunFrom p border opening was new (written ++ round_report old Closed runs.fills.now))
+    → AreReadOut (files_of p.sources) left' × WhereTold start left'
+    (λ was is. HasRunFrom p border opening was new (written ++ round_report old Closed runs.fills.now))
 
 -- LAW OF A DEFECT: it is met by the run of the lines, behind the rounds so far
 abbrev pub LawOfDefectFrom : Option ℕ → Contents → Type 0
@@ -162,7 +166,8 @@ LawOfReportFronts border opening =
 -- LAW OF NEXT FRONTS: and so it is with the report of a round more
 abbrev pub LawOfNextReportFronts : Option ℕ → Contents → Type 0
 LawOfNextReportFronts border opening =
-    (p : Program) (rows : ℕ) (left : Files) (above : Option ℕ) (text more : List ℕ) (now : ℕ → List Next) (end : Border) → 1 ≤ rows → AreSound p (lines_in p left)
+    (p : Program) (rows : ℕ) (left : Files) (above : Option ℕ) (text more : List ℕ) (now : ℕ → List Next) (end : Border) → 1 ≤ rows
+    → AreSound p (lines_in p left)
     → (ran : RanFrom p rows border opening (lines_in p left) above text)
     → WouldWriteFrom p rows border opening (lines_in p left) above ran.before now end more → IsFrontOfReport p border opening left more
 

@@ -12,7 +12,8 @@ use Rattle.flu_rounds.specs.Standing.{Standing, Runs, StandsBehind, IsFirstFrom,
 
 -- A RUN HAS COUNTED ITS EVENTS: it has come to a standing, and the counts are those of its start, grown by the lists of its rounds in
 -- turn
-pub record CountedFrom (p : Program) (rows : ℕ) (border : Option ℕ) (opening : Contents) (start left : Option Files) (now : Standing) (written : List ℕ) (first counts : List ℕ) : Type 0 where
+pub record CountedFrom (p : Program) (rows : ℕ) (border : Option ℕ) (opening : Contents) (start left : Option Files) (now : Standing) (written : List ℕ)
+    (first counts : List ℕ) : Type 0 where
   pub came : CameFrom p rows border opening start left now written
   pub counts' : counts ≡ grown_in_turn first came.done
 
@@ -25,17 +26,20 @@ LawOfFirstCounts =
 -- a round with a border grows the counts by its lists
 abbrev pub LawOfNextCounts : Type 0
 LawOfNextCounts =
-    (p : Program) (rows : ℕ) (border : Option ℕ) (opening : Contents) (start left left' : Option Files) (old new : Standing) (written first counts : List ℕ) (t : ℕ)
+    (p : Program) (rows : ℕ) (border : Option ℕ) (opening : Contents) (start left left' : Option Files) (old new : Standing) (written first counts : List ℕ)
+    (t : ℕ)
     → (counted : CountedFrom p rows border opening start left old written first counts)
     → (runs : Runs old new left left' (At t) counted.came.before)
     → StandsBehind old.held new.held (At t)
     → (ClosedAreReadOut old.held left → ClosedAreReadOut new.held left')
-    → CountedFrom p rows border opening start left' new (written ++ round_report old (At t) runs.fills.now) first (grown counts (round_lists old (At t) runs.fills.now))
+    → CountedFrom p rows border opening start left' new (written ++ round_report old (At t) runs.fills.now) first
+    (grown counts (round_lists old (At t) runs.fills.now))
 
 -- behind the last round the events of all rows above the run's start were counted
 abbrev pub LawOfLastCounts : Type 0
 LawOfLastCounts =
-    (p : Program) (rows : ℕ) (border : Option ℕ) (opening : Contents) (start left left' : Option Files) (old new : Standing) (written first counts : List ℕ) → 1 ≤ rows
+    (p : Program) (rows : ℕ) (border : Option ℕ) (opening : Contents) (start left left' : Option Files) (old new : Standing) (written first counts : List ℕ)
+    → 1 ≤ rows
     → (counted : CountedFrom p rows border opening start left old written first counts)
     → (runs : Runs old new left left' Closed counted.came.before)
     → WhereTold start left' (λ was is. grown counts (round_lists old Closed runs.fills.now) ≡ grown first (lists_above border (lists_of p was)))

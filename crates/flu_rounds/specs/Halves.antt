@@ -36,7 +36,8 @@ AppendsPartOfReport p outs had has = (others : List Out) → IsPermutation outs 
 -- LAW OF HALVES: both make a round
 abbrev pub LawOfHalves : Type 0
 LawOfHalves =
-    (p : Program) (old new : Standing) (left left' : Option Files) (end : Border) (opening state : State) (rows : List (List Item)) (outs : List Out) (had has : Option (List ℕ))
+    (p : Program) (old new : Standing) (left left' : Option Files) (end : Border) (opening state : State) (rows : List (List Item)) (outs : List Out)
+    (had has : Option (List ℕ))
     → p ≡ old.held.program → Begins old new.held left left' end opening rows → AreRun p opening rows state outs → held new.state ≡ held state
     → AppendsReport p outs had has
     → (before : ℕ → List Next) → AreHeldBehind old.held before
@@ -45,7 +46,8 @@ LawOfHalves =
 -- LAW OF A HALF: where the second one fails, a front of the round's report was written
 abbrev pub LawOfHalf : Type 0
 LawOfHalf =
-    (p : Program) (old : Standing) (new : Holding) (left left' : Option Files) (end : Border) (opening state : State) (rows : List (List Item)) (outs : List Out) (had has : Option (List ℕ))
+    (p : Program) (old : Standing) (new : Holding) (left left' : Option Files) (end : Border) (opening state : State) (rows : List (List Item))
+    (outs : List Out) (had has : Option (List ℕ))
     → p ≡ old.held.program → Begins old new left left' end opening rows → AreRun p opening rows state outs
     → AppendsPartOfReport p outs had has
     → (before : ℕ → List Next) → AreHeldBehind old.held before

@@ -45,7 +45,8 @@ text_up_to p above lines = text_up_from p None nothing_held above lines
 
 -- THE RUN OF THESE LINES above a border and from a state COMES TO ANOTHER BORDER, by rounds one after another, and this is written by
 -- then
-pub record RanFrom (p : Program) (rows : ℕ) (border : Option ℕ) (opening : Contents) (whole : ℕ → List Next) (above : Option ℕ) (written : List ℕ) : Type 0 where
+pub record RanFrom (p : Program) (rows : ℕ) (border : Option ℕ) (opening : Contents) (whole : ℕ → List Next) (above : Option ℕ)
+    (written : List ℕ) : Type 0 where
   pub done : List (List (List Item))
   pub before : ℕ → List Next
   pub comes : ComesFrom p rows whole border done above before
@@ -55,7 +56,8 @@ abbrev pub RanTo : Program → ℕ → (ℕ → List Next) → Option ℕ → Li
 RanTo p rows whole above written = RanFrom p rows None nothing_held whole above written
 
 -- A ROUND MORE of the lines, behind which this is written
-pub record WouldWriteFrom (p : Program) (rows : ℕ) (border : Option ℕ) (opening : Contents) (whole : ℕ → List Next) (above : Option ℕ) (before now : ℕ → List Next) (end : Border) (written : List ℕ) : Type 0 where
+pub record WouldWriteFrom (p : Program) (rows : ℕ) (border : Option ℕ) (opening : Contents) (whole : ℕ → List Next) (above : Option ℕ)
+    (before now : ℕ → List Next) (end : Border) (written : List ℕ) : Type 0 where
   pub round : IsRound p rows above whole before now end
   pub text : written ≡ text_from p border opening end now
 

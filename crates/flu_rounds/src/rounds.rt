@@ -153,7 +153,8 @@ impl Rounds {
         ensures counts { CountsOfNames (F.left files.old) (files_of self.old.held.program.sources) (F.faults files.old) (F.faults files.new) }
         ensures quiet { result ≢ Err RoundsFault.ReadFault → SameCounts (F.faults files.old) (F.faults files.new) }
         ensures puts { SameCounts (F.put_faults files.old) (F.put_faults files.new) }
-        ensures hides { IsErrOf result RoundsFault.ReadFault → (before : ℕ → List Next) → AreHeldBehind self.old.held before → HidesNoRoundFault self.old.held (F.left files.old) (F.left files.new) before }
+        ensures hides { IsErrOf result RoundsFault.ReadFault → (before : ℕ → List Next) → AreHeldBehind self.old.held before
+            → HidesNoRoundFault self.old.held (F.left files.old) (F.left files.new) before }
         ensures cause { IsErrOf result RoundsFault.ReadFault → OneRose (files_of self.old.held.program.sources) (F.faults files.old) (F.faults files.new) }
     {
         let Begun {
@@ -200,7 +201,8 @@ impl Rounds {
         ensures counts { CountsOfNames (F.left files.old) (files_of p.now.sources) (F.faults files.old) (F.faults files.new) }
         ensures quiet { result ≢ Err RoundsFault.ReadFault → SameCounts (F.faults files.old) (F.faults files.new) }
         ensures puts { SameCounts (F.put_faults files.old) (F.put_faults files.new) }
-        ensures hides { IsErrOf result RoundsFault.ReadFault → (before : ℕ → List Next) → AreHeldBehind self.old.held before → HidesNoRoundFault self.old.held (F.left files.old) (F.left files.new) before }
+        ensures hides { IsErrOf result RoundsFault.ReadFault → (before : ℕ → List Next) → AreHeldBehind self.old.held before
+            → HidesNoRoundFault self.old.held (F.left files.old) (F.left files.new) before }
         ensures cause { IsErrOf result RoundsFault.ReadFault → OneRose (files_of p.now.sources) (F.faults files.old) (F.faults files.new) }
     {
         let above = self.held.border();

@@ -1,6 +1,5 @@
 pub mod NameBytes
 pub mod RecordFields
-pub mod Cuts
 pub mod Alone
 pub mod Scanning
 pub mod FieldCuts

@@ -85,7 +85,8 @@ impl Rows {
     /// What a call gives after one that answered anything but a row is not promised to be of use.
     pub fn next_row<F: Files>(&mut self, files: &mut F) -> Result<Next, RowsFault>
         // What was still to be read is what comes next, and behind it what is still to be read now.
-        ensures told { IfOk result (λ next. WhereTold (F.left files.old) (F.left files.new) (λ old new. ahead self.old old ≡ then_behind next (ahead self.new new))) }
+        ensures told { IfOk result (λ next. WhereTold (F.left files.old) (F.left files.new)
+            (λ old new. ahead self.old old ≡ then_behind next (ahead self.new new))) }
         ensures end { IfOk result (λ next. OnDone next (IsReadOut self.old.file (F.left files.new))) }
         ensures range { IfOk result NextInRange }
         ensures lines { IfOk result (CountsLines self.old.lines self.new.lines) }
@@ -101,7 +102,8 @@ impl Rows {
 
         // A read fault is told only where it hides nothing that was taken: all that was still to be read still is, and what was
         // taken and not read has no line feed, and no more bytes than a line may have.
-        ensures kept { IsErrOf result RowsFault.ReadFault → WhereTold (F.left files.old) (F.left files.new) (λ old new. ahead self.old old ≡ ahead self.new new) }
+        ensures kept { IsErrOf result RowsFault.ReadFault → WhereTold (F.left files.old) (F.left files.new)
+            (λ old new. ahead self.old old ≡ ahead self.new new) }
         ensures undecided { IsErrOf result RowsFault.ReadFault → IsUndecided self.new.taken }
     {
         loop {
@@ -126,7 +128,8 @@ struct Hold {
 impl Hold {
     // Reads one line.
     fn read_line<F: Files>(&mut self, file: &str, files: &mut F) -> Result<Step, RowsFault>
-        ensures told { IfOk result (λ step. WhereTold (F.left files.old) (F.left files.new) (ReadsStep file.now self.old.lines (self.old.run ++ self.old.held) self.new.lines (self.new.run ++ self.new.held) step)) }
+        ensures told { IfOk result (λ step. WhereTold (F.left files.old) (F.left files.new)
+            (ReadsStep file.now self.old.lines (self.old.run ++ self.old.held) self.new.lines (self.new.run ++ self.new.held) step)) }
         ensures end { IfOk result (λ step. StepOnDone step (IsReadOut file.now (F.left files.new))) }
         ensures range { IfOk result StepInRange }
         ensures lines { IfOk result (StepCounts self.old.lines self.new.lines) }
@@ -135,7 +138,8 @@ impl Hold {
         ensures quiet { result ≢ Err RowsFault.ReadFault → SameCounts (F.faults files.old) (F.faults files.new) }
         ensures puts { SameCounts (F.put_faults files.old) (F.put_faults files.new) }
         ensures cause { IsErrOf result RowsFault.ReadFault → Rose (F.faults files.old file.now) (F.faults files.new file.now) }
-        ensures kept { IsErrOf result RowsFault.ReadFault → WhereTold (F.left files.old) (F.left files.new) (ReadsStep file.now self.old.lines (self.old.run ++ self.old.held) self.new.lines (self.new.run ++ self.new.held) Step.Skip) }
+        ensures kept { IsErrOf result RowsFault.ReadFault → WhereTold (F.left files.old) (F.left files.new)
+            (ReadsStep file.now self.old.lines (self.old.run ++ self.old.held) self.new.lines (self.new.run ++ self.new.held) Step.Skip) }
         ensures undecided { IsErrOf result RowsFault.ReadFault → IsUndecided (self.new.run ++ self.new.held) }
     {
         let Ok(found) = self.run.next(&mut self.row) else {
@@ -159,7 +163,8 @@ impl Hold {
         requires found { StartsWithRow self.old.held row size }
         requires range { IsInRange row }
         requires none { self.old.run ≡ [] }
-        ensures told { (coming : List ℕ) → read_bytes self.old.lines (self.old.held ++ coming) ≡ step_behind result (read_bytes self.new.lines (self.new.run ++ self.new.held ++ coming)) }
+        ensures told { (coming : List ℕ) → read_bytes self.old.lines (self.old.held ++ coming) ≡ step_behind result
+            (read_bytes self.new.lines (self.new.run ++ self.new.held ++ coming)) }
         ensures end { StepOnDone result ⊥ }
         ensures range { StepInRange result }
         ensures lines { StepCounts self.old.lines self.new.lines result }

@@ -14,16 +14,20 @@ use Rattle.flu_lemmas.proofs.Searches.{list_any-map, rest_whole}
 -- a name is one of all where a family, a kind or a source has it
 pub declared : (name : List ℕ) (families : List Family) (kinds : List Kind) (sources : List Source)
     → list_any (is_same_text name) (names_of families kinds sources)
-    ≡ (list_any (λ family. is_same_text name family.name) families || list_any (λ kind. is_same_text name kind.name) kinds || list_any (λ source. is_same_text name source.name) sources)
+    ≡ (list_any (λ family. is_same_text name family.name) families || list_any (λ kind. is_same_text name kind.name) kinds
+    || list_any (λ source. is_same_text name source.name) sources)
 declared name families kinds sources =
     let family_names = map (λ (f : Family). f.name) families in
     let kind_names = map (λ (k : Kind). k.name) kinds in
     let source_names = map (λ (s : Source). s.name) sources in
     list_any-append (is_same_text name) (family_names ++ kind_names) source_names
     ∙ ap (λ b. b || list_any (is_same_text name) source_names) (list_any-append (is_same_text name) family_names kind_names)
-    ∙ ap (λ b. b || list_any (is_same_text name) kind_names || list_any (is_same_text name) source_names) (list_any-map (is_same_text name) (λ (f : Family). f.name) families)
-    ∙ ap (λ b. list_any (λ (f : Family). is_same_text name f.name) families || b || list_any (is_same_text name) source_names) (list_any-map (is_same_text name) (λ (k : Kind). k.name) kinds)
-    ∙ ap (λ b. list_any (λ (f : Family). is_same_text name f.name) families || list_any (λ (k : Kind). is_same_text name k.name) kinds || b) (list_any-map (is_same_text name) (λ (s : Source). s.name) sources)
+    ∙ ap (λ b. b || list_any (is_same_text name) kind_names || list_any (is_same_text name) source_names)
+    (list_any-map (is_same_text name) (λ (f : Family). f.name) families)
+    ∙ ap (λ b. list_any (λ (f : Family). is_same_text name f.name) families || b || list_any (is_same_text name) source_names)
+    (list_any-map (is_same_text name) (λ (k : Kind). k.name) kinds)
+    ∙ ap (λ b. list_any (λ (f : Family). is_same_text name f.name) families || list_any (λ (k : Kind). is_same_text name k.name) kinds || b)
+    (list_any-map (is_same_text name) (λ (s : Source). s.name) sources)
 
 -- the list from a place on: what stands there, and the rest, as a slice from the next place gives it
 pub from_place : {X : Type 0} (xs : List X) (i : ℕ) (x : X) → i < length xs → x ≡ get_or xs i x → drop i xs ≡ x ∷ take (length xs - (i + 1)) (drop (i + 1) xs)
@@ -32,7 +36,8 @@ from_place xs i x lt is = drop_more xs i x lt ∙ ap (λ y. y ∷ drop (i + 1) x
 pub families_step : (families : List Family) (kinds : List Kind) (sources : List Source) (i : ℕ) (family : Family) (name : List ℕ) → i < length families
     → family ≡ get_or families i family → name ≡ family.name
     → have_own_names (drop i families) kinds sources
-    ≡ (not (list_any (is_same_text name) (names_of (take (length families - (i + 1)) (drop (i + 1) families)) kinds sources)) && have_own_names (drop (i + 1) families) kinds sources)
+    ≡ (not (list_any (is_same_text name) (names_of (take (length families - (i + 1)) (drop (i + 1) families)) kinds sources))
+    && have_own_names (drop (i + 1) families) kinds sources)
 families_step families kinds sources i family name lt is named =
     let rest = take (length families - (i + 1)) (drop (i + 1) families) in
     ap (λ fs. have_own_names fs kinds sources) (from_place families i family lt is)
@@ -42,7 +47,8 @@ families_step families kinds sources i family name lt is named =
 pub kinds_step : (kinds : List Kind) (sources : List Source) (i : ℕ) (kind : Kind) (name : List ℕ) → i < length kinds → kind ≡ get_or kinds i kind
     → name ≡ kind.name
     → have_own_names [] (drop i kinds) sources
-    ≡ (not (list_any (is_same_text name) (names_of [] (take (length kinds - (i + 1)) (drop (i + 1) kinds)) sources)) && have_own_names [] (drop (i + 1) kinds) sources)
+    ≡ (not (list_any (is_same_text name) (names_of [] (take (length kinds - (i + 1)) (drop (i + 1) kinds)) sources))
+    && have_own_names [] (drop (i + 1) kinds) sources)
 kinds_step kinds sources i kind name lt is named =
     let rest = take (length kinds - (i + 1)) (drop (i + 1) kinds) in
     ap (λ ks. have_own_names [] ks sources) (from_place kinds i kind lt is)
@@ -52,7 +58,8 @@ kinds_step kinds sources i kind name lt is named =
 pub sources_step : (sources : List Source) (i : ℕ) (source : Source) (name : List ℕ) → i < length sources → source ≡ get_or sources i source
     → name ≡ source.name
     → have_own_names [] [] (drop i sources)
-    ≡ (not (list_any (is_same_text name) (names_of [] [] (take (length sources - (i + 1)) (drop (i + 1) sources)))) && have_own_names [] [] (drop (i + 1) sources))
+    ≡ (not (list_any (is_same_text name) (names_of [] [] (take (length sources - (i + 1)) (drop (i + 1) sources))))
+    && have_own_names [] [] (drop (i + 1) sources))
 sources_step sources i source name lt is named =
     let rest = take (length sources - (i + 1)) (drop (i + 1) sources) in
     ap (λ ss. have_own_names [] [] ss) (from_place sources i source lt is)

@@ -1,5 +1,6 @@
 -- Which tags two parts of a source's list have in common.
-use Rattle.std.proofs.Common.{◌≡◌, ◌+◌, ◌-◌, ℕ, zero, suc, Bool, true, false, List, [], ◌∷◌, ◌++◌, map, refl, ap, ◌∙◌, sym, arith, ◌<◌, length, take, drop, get_or}
+use Rattle.std.proofs.Common.{◌≡◌, ◌+◌, ◌-◌, ℕ, zero, suc, Bool, true, false, List, [], ◌∷◌, ◌++◌, map, refl, ap, ◌∙◌, sym, arith, ◌<◌, length, take, drop}
+use Rattle.std.proofs.Common.{get_or}
 use Rattle.std.specs.Prelude.{nat_lt, nat_le, ◌==◌, ◌&&◌, ◌||◌, not, max, min}
 use Rattle.std.specs.List.{list_any, range_with_len, flat_map}
 use Rattle.std.proofs.lemmas.Grind.{common_steps}
@@ -16,7 +17,8 @@ use Rattle.flu_lemmas.proofs.Distinct.{distinct-append}
 use Rattle.flu_lemmas.proofs.Tests.{false_if_not, true_eq}
 use Rattle.flu_rules.specs.Keys.{first_key, last_key}
 use Rattle.flu_rules.specs.Keys.{share_tag as both_list}
-use Rattle.flu_lemmas.proofs.Searches.{eq_true, rest_whole, list_any-map, list_any_never, list_any_or, list_any_and, list_any_within, list_any-range, ranges_meet}
+use Rattle.flu_lemmas.proofs.Searches.{eq_true, rest_whole, list_any-map, list_any_never, list_any_or, list_any_and, list_any_within, list_any-range}
+use Rattle.flu_lemmas.proofs.Searches.{ranges_meet}
 use Rattle.flu_rules.proofs.DistinctLemmas.{from_place}
 
 in_one : (j k : ℕ) → ((j == k) || false) ≡ (nat_le k j && nat_le j k)
@@ -51,10 +53,12 @@ tag_is_listed kind j r =
     ∙ ap (λ b. (kind == r.kind) && b) (is_listed j r.keys)
 
 pub share_tag : (a b : TagRef)
-    → list_any (λ t. list_any (is_same_tag t) (listed_tags b)) (listed_tags a) ≡ ((a.kind == b.kind) && nat_le (max (first_key a.keys) (first_key b.keys)) (min (last_key a.keys) (last_key b.keys)))
+    → list_any (λ t. list_any (is_same_tag t) (listed_tags b))
+    (listed_tags a) ≡ ((a.kind == b.kind) && nat_le (max (first_key a.keys) (first_key b.keys)) (min (last_key a.keys) (last_key b.keys)))
 share_tag a b =
     list_any-map (λ t. list_any (is_same_tag t) (listed_tags b)) (λ k. tag a.kind k) (listed_keys a.keys)
-    ∙ list_any_within (λ k. list_any (is_same_tag (tag a.kind k)) (listed_tags b)) (λ k. (a.kind == b.kind) && (nat_le (first_key b.keys) k && nat_le k (last_key b.keys))) (listed_keys a.keys) (λ k. tag_is_listed a.kind k b)
+    ∙ list_any_within (λ k. list_any (is_same_tag (tag a.kind k)) (listed_tags b))
+    (λ k. (a.kind == b.kind) && (nat_le (first_key b.keys) k && nat_le k (last_key b.keys))) (listed_keys a.keys) (λ k. tag_is_listed a.kind k b)
     ∙ list_any_and (a.kind == b.kind) (λ k. nat_le (first_key b.keys) k && nat_le k (last_key b.keys)) (listed_keys a.keys)
     ∙ ap (λ b'. (a.kind == b.kind) && b') (keys_meet (first_key b.keys) (last_key b.keys) a.keys)
 
@@ -97,16 +101,19 @@ among_rest : (xs : List Tag) (rs : List TagRef)
     → list_any (λ t. list_any (is_same_tag t) (flat_map listed_tags rs)) xs ≡ list_any (λ r. list_any (λ t. list_any (is_same_tag t) (listed_tags r)) xs) rs
 among_rest xs [] = list_any_never xs
 among_rest xs (r ∷ rs) =
-    list_any_within (λ t. list_any (is_same_tag t) (listed_tags r ++ flat_map listed_tags rs)) (λ t. list_any (is_same_tag t) (listed_tags r) || list_any (is_same_tag t) (flat_map listed_tags rs)) xs
+    list_any_within (λ t. list_any (is_same_tag t) (listed_tags r ++ flat_map listed_tags rs))
+    (λ t. list_any (is_same_tag t) (listed_tags r) || list_any (is_same_tag t) (flat_map listed_tags rs)) xs
     (λ t. list_any-append (is_same_tag t) (listed_tags r) (flat_map listed_tags rs))
     ∙ list_any_or (λ t. list_any (is_same_tag t) (listed_tags r)) (λ t. list_any (is_same_tag t) (flat_map listed_tags rs)) xs
     ∙ ap (λ b. list_any (λ t. list_any (is_same_tag t) (listed_tags r)) xs || b) (among_rest xs rs)
 
 pub distinct_tags : (r : TagRef) (rs : List TagRef)
-    → are_distinct is_same_tag (flat_map listed_tags (r ∷ rs)) ≡ (not (list_any (λ other. list_any (λ t. list_any (is_same_tag t) (listed_tags other)) (listed_tags r)) rs) && are_distinct is_same_tag (flat_map listed_tags rs))
+    → are_distinct is_same_tag (flat_map listed_tags (r ∷ rs)) ≡ (not (list_any
+    (λ other. list_any (λ t. list_any (is_same_tag t) (listed_tags other)) (listed_tags r)) rs) && are_distinct is_same_tag (flat_map listed_tags rs))
 distinct_tags r rs =
     distinct-append is_same_tag (are_distinct is_same_tag) refl (λ t ts. refl) (listed_tags r) (flat_map listed_tags rs)
-    ∙ ap (λ b. b && not (list_any (λ t. list_any (is_same_tag t) (flat_map listed_tags rs)) (listed_tags r)) && are_distinct is_same_tag (flat_map listed_tags rs)) (listed_are_distinct r.kind r.keys)
+    ∙ ap (λ b. b && not (list_any (λ t. list_any (is_same_tag t) (flat_map listed_tags rs)) (listed_tags r))
+    && are_distinct is_same_tag (flat_map listed_tags rs)) (listed_are_distinct r.kind r.keys)
     ∙ ap (λ b. not b && are_distinct is_same_tag (flat_map listed_tags rs)) (among_rest (listed_tags r) rs)
 
 -- no tag is listed twice where no two parts share one
@@ -116,14 +123,17 @@ parts_distinct (r ∷ rs) = distinct_tags r rs ∙ ap (λ b. not (list_any (both
 
 pub tags_step : (refs : List TagRef) (i : ℕ) (r : TagRef) → i < length refs → r ≡ get_or refs i r
     → are_distinct is_same_tag (flat_map listed_tags (drop i refs))
-    ≡ (not (list_any (λ other. list_any (λ t. list_any (is_same_tag t) (listed_tags other)) (listed_tags r)) (take (length refs - (i + 1)) (drop (i + 1) refs))) && are_distinct is_same_tag (flat_map listed_tags (drop (i + 1) refs)))
+    ≡ (not (list_any (λ other. list_any (λ t. list_any (is_same_tag t) (listed_tags other)) (listed_tags r)) (take (length refs - (i + 1)) (drop (i + 1) refs)))
+    && are_distinct is_same_tag (flat_map listed_tags (drop (i + 1) refs)))
 tags_step refs i r lt is =
     let rest = take (length refs - (i + 1)) (drop (i + 1) refs) in
     ap (λ rs. are_distinct is_same_tag (flat_map listed_tags rs)) (from_place refs i r lt is)
     ∙ distinct_tags r rest
-    ∙ ap (λ rs. not (list_any (λ other. list_any (λ t. list_any (is_same_tag t) (listed_tags other)) (listed_tags r)) rest) && are_distinct is_same_tag (flat_map listed_tags rs)) (rest_whole refs (i + 1))
+    ∙ ap (λ rs. not (list_any (λ other. list_any (λ t. list_any (is_same_tag t) (listed_tags other)) (listed_tags r)) rest)
+    && are_distinct is_same_tag (flat_map listed_tags rs)) (rest_whole refs (i + 1))
 
 pub tags_step_at : (refs : List TagRef) (i : ℕ) (d : TagRef) → i < length refs
     → are_distinct is_same_tag (flat_map listed_tags (drop i refs))
-    ≡ (not (list_any (λ other. list_any (λ t. list_any (is_same_tag t) (listed_tags other)) (listed_tags (get_or refs i d))) (take (length refs - (i + 1)) (drop (i + 1) refs))) && are_distinct is_same_tag (flat_map listed_tags (drop (i + 1) refs)))
+    ≡ (not (list_any (λ other. list_any (λ t. list_any (is_same_tag t) (listed_tags other)) (listed_tags (get_or refs i d)))
+    (take (length refs - (i + 1)) (drop (i + 1) refs))) && are_distinct is_same_tag (flat_map listed_tags (drop (i + 1) refs)))
 tags_step_at refs i d lt = tags_step refs i (get_or refs i d) lt (get_or_default refs i d (get_or refs i d) lt)

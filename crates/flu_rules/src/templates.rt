@@ -3,7 +3,8 @@
 ghost use Rattle.std.specs.Prelude.{◌≡◌, ◌+◌, ◌<◌, ◌≤◌, ◌^◌, length, slice_get};
 ghost use Rattle.std.specs.Fmt.{decimal};
 ghost use Rattle.std.specs.List.{list_all};
-ghost use Rattle.flu_model.specs.Rules.{is_plain_byte, is_plain, emit_piece_fits, flush_piece_fits, are_apart, is_short, emit_template_fits, flush_template_fits};
+ghost use Rattle.flu_model.specs.Rules.{is_plain_byte, is_plain, emit_piece_fits, flush_piece_fits, are_apart, is_short, emit_template_fits};
+ghost use Rattle.flu_model.specs.Rules.{flush_template_fits};
 ghost use Rattle.flu_model.specs.Templates.{family_name, written_key, written_cell, written_piece, written_template};
 
 use crate::expressions::ref_fits;

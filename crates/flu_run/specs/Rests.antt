@@ -29,7 +29,8 @@ pub record Rests (n0 : WorkerNote) (l0 : LowerNote) (u0 v0 : UpperNote) (n : Wor
   pub finished : IsFinished n
 
 -- a worker with no event left, for an end that was given, with the ends below as they were made
-pub record Settles (k : Content) (w : ℕ) (given left_given right_given : LowerNote) (n : WorkerNote) (l : LowerNote) (u v : UpperNote) (outs : List Out) : Type 0 where
+pub record Settles (k : Content) (w : ℕ) (given left_given right_given : LowerNote) (n : WorkerNote) (l : LowerNote) (u v : UpperNote)
+    (outs : List Out) : Type 0 where
   pub case : n.case ≡ k
   pub node : n.node ≡ w
   pub same : IsSameEnd given l

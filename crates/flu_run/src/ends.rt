@@ -49,7 +49,8 @@ impl End {
     pub fn give(&mut self, lot: Lot)
         requires noted { IsSome (end_note self.old).ask }
         requires fits { LotFits (end_note self.old).case (end_note self.old).lower lot }
-        requires served { (y : AskNote) → (end_note self.old).ask ≡ Some y → Served (end_note self.old).case (end_note self.old).lower (end_note self.old).held y lot }
+        requires served { (y : AskNote) → (end_note self.old).ask ≡ Some y
+            → Served (end_note self.old).case (end_note self.old).lower (end_note self.old).held y lot }
         ensures { end_note self.new ≡ after_give (end_note self.old) lot }
     {
         match self {

@@ -53,9 +53,11 @@ pub fn run_tree<H: HasCase + Sync, G: Gate, B: Engine<R>, R: Threads + Wait + Sy
     backup: &mut B,
 ) -> Result<(State, Outs), AllocError>
     requires { B.program_of backup.old ≡ job (H.content case.now) }
-    ensures state { IfOk result (λ r. held r.0 ≡ final_state (job (H.content case.now)) (held (H.content case.now).opening) (listed (H.content case.now).streams)) }
+    ensures state { IfOk result (λ r. held r.0 ≡ final_state (job (H.content case.now)) (held (H.content case.now).opening)
+        (listed (H.content case.now).streams)) }
     ensures sorts { IfOk result (λ r. IsStateOf (job (H.content case.now)).families (held r.0)) }
-    ensures outputs { IfOk result (λ r. IsPermutation (final_outputs (job (H.content case.now)) (held (H.content case.now).opening) (listed (H.content case.now).streams)) r.1) }
+    ensures outputs { IfOk result (λ r. IsPermutation (final_outputs (job (H.content case.now)) (held (H.content case.now).opening)
+        (listed (H.content case.now).streams)) r.1) }
     ensures same { B.program_of backup.new ≡ B.program_of backup.old }
 {
     match run_all(rt, alloc, case, gate) {
@@ -126,13 +128,15 @@ fn started<H: HasCase + Sync, G: Gate, R: Threads + Wait + Sync>(
         thread::scope_env(),
         rt,
         move |scope| -> Ended
-            requires { IsSync R.row × IsSync H.row × IsSync G.row × StartsAt (H.content holder.now) 0 (end_note top) × WatchesFrom (H.content holder.now) watch × (from.0.value ≡ top) × (feeder.counts ≡ zeros feeder.limits) × (left.items ≡ feeder.limits) × (vec_len left ≡ itags) }
+            requires { IsSync R.row × IsSync H.row × IsSync G.row × StartsAt (H.content holder.now) 0 (end_note top) × WatchesFrom (H.content holder.now) watch
+                × (from.0.value ≡ top) × (feeder.counts ≡ zeros feeder.limits) × (left.items ≡ feeder.limits) × (vec_len left ≡ itags) }
             ensures { Keeps (end_note top) result }
         {
             let Ok(root) = scope.spawn_with(
                 from,
                 move || -> Ended
-                    requires { IsSync R.row × IsSync H.row × IsSync G.row × StartsAt (H.content holder.now) 0 (end_note top) × WatchesFrom (H.content holder.now) watch }
+                    requires { IsSync R.row × IsSync H.row × IsSync G.row × StartsAt (H.content holder.now) 0 (end_note top)
+                        × WatchesFrom (H.content holder.now) watch }
                     ensures { Keeps (end_note top) result }
                 { subtree(rt, alloc, holder, gate, parkers, 0, top, watch) },
             ) else {
@@ -150,7 +154,8 @@ fn taken<H: HasCase>(holder: &H, done: Done) -> (State, Outs)
     requires { IsWhole (H.content holder.now) done.lot done.outs }
     ensures state { held result.0 ≡ final_state (job (H.content holder.now)) (held (H.content holder.now).opening) (listed (H.content holder.now).streams) }
     ensures sorts { IsStateOf (job (H.content holder.now)).families (held result.0) }
-    ensures outputs { IsPermutation (final_outputs (job (H.content holder.now)) (held (H.content holder.now).opening) (listed (H.content holder.now).streams)) result.1 }
+    ensures outputs { IsPermutation (final_outputs (job (H.content holder.now)) (held (H.content holder.now).opening) (listed (H.content holder.now).streams))
+        result.1 }
 {
     laws_below();
     let _holder = holder;
@@ -167,9 +172,11 @@ fn backed_up<H: HasCase, B: Engine<R>, R>(
     backup: &mut B,
 ) -> Result<(State, Outs), AllocError>
     requires { B.program_of backup.old ≡ job (H.content holder.now) }
-    ensures state { IfOk result (λ r. held r.0 ≡ final_state (job (H.content holder.now)) (held (H.content holder.now).opening) (listed (H.content holder.now).streams)) }
+    ensures state { IfOk result (λ r. held r.0 ≡ final_state (job (H.content holder.now)) (held (H.content holder.now).opening)
+        (listed (H.content holder.now).streams)) }
     ensures sorts { IfOk result (λ r. IsStateOf (job (H.content holder.now)).families (held r.0)) }
-    ensures outputs { IfOk result (λ r. IsPermutation (final_outputs (job (H.content holder.now)) (held (H.content holder.now).opening) (listed (H.content holder.now).streams)) r.1) }
+    ensures outputs { IfOk result (λ r. IsPermutation (final_outputs (job (H.content holder.now)) (held (H.content holder.now).opening)
+        (listed (H.content holder.now).streams)) r.1) }
     ensures same { B.program_of backup.new ≡ B.program_of backup.old }
 {
     laws_below();

@@ -58,7 +58,8 @@ fn settle<H: HasCase>(
 ) -> Ended
     requires there { node < length (nodes (H.content holder.now)) }
     requires inner { IsSome (kids (H.content holder.now) node) }
-    requires rest { IfOk rest (λ r. Settles (H.content holder.now) node (end_note given.0.value) (end_note given.1.value) (end_note given.2.value) r.worker (end_note r.end) r.left r.right r.outs) }
+    requires rest { IfOk rest (λ r. Settles (H.content holder.now) node (end_note given.0.value) (end_note given.1.value) (end_note given.2.value) r.worker
+        (end_note r.end) r.left r.right r.outs) }
     requires left { Keeps (end_note given.1.value) left }
     requires right { Keeps (end_note given.2.value) right }
     ensures { Keeps (end_note given.0.value) result }
@@ -83,7 +84,8 @@ fn settle_left<H: HasCase>(
 ) -> Ended
     requires there { node < length (nodes (H.content holder.now)) }
     requires inner { IsSome (kids (H.content holder.now) node) }
-    requires rest { Settles (H.content holder.now) node (end_note given.0.value) (end_note given.1.value) (end_note given.2.value) rest.worker (end_note rest.end) rest.left rest.right rest.outs }
+    requires rest { Settles (H.content holder.now) node (end_note given.0.value) (end_note given.1.value) (end_note given.2.value) rest.worker
+        (end_note rest.end) rest.left rest.right rest.outs }
     requires left { Keeps (end_note given.1.value) left }
     requires right { Keeps (end_note given.2.value) right }
     ensures { Keeps (end_note given.0.value) result }
@@ -109,7 +111,8 @@ fn settle_right<H: HasCase>(
 ) -> Ended
     requires there { node < length (nodes (H.content holder.now)) }
     requires inner { IsSome (kids (H.content holder.now) node) }
-    requires rest { Settles (H.content holder.now) node (end_note given.0.value) (end_note given.1.value) (end_note given.2.value) rest.worker (end_note rest.end) rest.left rest.right rest.outs }
+    requires rest { Settles (H.content holder.now) node (end_note given.0.value) (end_note given.1.value) (end_note given.2.value) rest.worker
+        (end_note rest.end) rest.left rest.right rest.outs }
     requires left { IsDone (end_note given.1.value) (end_note left.end) left.lot left.outs }
     requires right { Keeps (end_note given.2.value) right }
     ensures { Keeps (end_note given.0.value) result }
@@ -218,7 +221,8 @@ fn prepare<H: HasCase>(
     requires watches { WatchesFrom (H.content holder.now) watch }
     requires kids { kids (H.content holder.now) at.0 ≡ Some (at.1, at.2) }
     ensures given { IfSome result (λ r. r.given.0.value ≡ end) }
-    ensures ready { IfSome result (λ r. IsReady (H.content holder.now) at (end_note r.given.0.value) (end_note r.given.1.value) (end_note r.given.2.value) r.worker (end_note r.end) r.left_upper r.right_upper (end_note r.left_end) (end_note r.right_end)) }
+    ensures ready { IfSome result (λ r. IsReady (H.content holder.now) at (end_note r.given.0.value) (end_note r.given.1.value)
+        (end_note r.given.2.value) r.worker (end_note r.end) r.left_upper r.right_upper (end_note r.left_end) (end_note r.right_end)) }
     ensures watch { IfSome result (λ r. WatchesFrom (H.content holder.now) r.watch) }
     ensures left_watch { IfSome result (λ r. WatchesFrom (H.content holder.now) r.left_watch) }
     ensures right_watch { IfSome result (λ r. WatchesFrom (H.content holder.now) r.right_watch) }
@@ -302,13 +306,18 @@ pub fn subtree<H: HasCase + Sync, G: Gate, R: Threads + Wait + Sync>(
         thread::scope_env(),
         rt,
         move |scope| -> Ended
-            requires { IsSync R.row × IsSync H.row × IsSync G.row × IsReady (H.content holder.now) (node, left, right) (end_note given.0.value) (end_note given.1.value) (end_note given.2.value) worker (end_note end) left_upper right_upper (end_note left_end) (end_note right_end) × WatchesFrom (H.content holder.now) watch × WatchesFrom (H.content holder.now) left_watch × WatchesFrom (H.content holder.now) right_watch × (left_from.0.value ≡ left_end) × (right_from.0.value ≡ right_end) }
+            requires { IsSync R.row × IsSync H.row × IsSync G.row
+                × IsReady (H.content holder.now) (node, left, right) (end_note given.0.value) (end_note given.1.value) (end_note given.2.value) worker
+                (end_note end) left_upper right_upper (end_note left_end) (end_note right_end) × WatchesFrom (H.content holder.now) watch
+                × WatchesFrom (H.content holder.now) left_watch × WatchesFrom (H.content holder.now) right_watch × (left_from.0.value ≡ left_end)
+                × (right_from.0.value ≡ right_end) }
             ensures { Keeps (end_note given.0.value) result }
         {
             let Ok(first) = scope.spawn_with(
                 left_from,
                 move || -> Ended
-                    requires { IsSync R.row × IsSync H.row × IsSync G.row × StartsAt (H.content holder.now) left (end_note left_end) × WatchesFrom (H.content holder.now) left_watch }
+                    requires { IsSync R.row × IsSync H.row × IsSync G.row × StartsAt (H.content holder.now) left (end_note left_end)
+                        × WatchesFrom (H.content holder.now) left_watch }
                     ensures { Keeps (end_note left_end) result }
                 { subtree(rt, alloc, holder, gate, parkers, left, left_end, left_watch) },
             ) else {
@@ -318,7 +327,8 @@ pub fn subtree<H: HasCase + Sync, G: Gate, R: Threads + Wait + Sync>(
             let Ok(second) = scope.spawn_with(
                 right_from,
                 move || -> Ended
-                    requires { IsSync R.row × IsSync H.row × IsSync G.row × StartsAt (H.content holder.now) right (end_note right_end) × WatchesFrom (H.content holder.now) right_watch }
+                    requires { IsSync R.row × IsSync H.row × IsSync G.row × StartsAt (H.content holder.now) right (end_note right_end)
+                        × WatchesFrom (H.content holder.now) right_watch }
                     ensures { Keeps (end_note right_end) result }
                 {
                     subtree(

@@ -1,5 +1,6 @@
 -- A family by its name, and the cells of a state that can be saved.
-use Rattle.std.proofs.Common.{◌≡◌, ℕ, zero, suc, ◌+◌, ◌<◌, ◌++◌, Bool, true, false, not, cond, Option, Some, None, List, [], ◌∷◌, map, length, get_or, refl, sym, ap, subst, append_assoc, arith, ◌∙◌}
+use Rattle.std.proofs.Common.{◌≡◌, ℕ, zero, suc, ◌+◌, ◌<◌, ◌++◌, Bool, true, false, not, cond, Option, Some, None, List, [], ◌∷◌, map, length, get_or, refl}
+use Rattle.std.proofs.Common.{sym, ap, subst, append_assoc, arith, ◌∙◌}
 use Rattle.std.specs.Prelude.{slice_get, option_map, IsTrue}
 use Rattle.std.specs.List.{list_any, position}
 use Rattle.std.specs.Cmp.Lexicographic.{bytes_decides}

@@ -1,5 +1,6 @@
 -- The text of a checkpoint is short, where that of its job is.
-use Rattle.std.proofs.Common.{◌≡◌, ◌<◌, ◌≤◌, ◌+◌, ◌*◌, ◌^◌, ℕ, ℤ, pos, negsuc, suc, Bool, true, false, cond, Some, List, [], ◌∷◌, ◌++◌, map, length, sym, ap, subst, arith, length-append}
+use Rattle.std.proofs.Common.{◌≡◌, ◌<◌, ◌≤◌, ◌+◌, ◌*◌, ◌^◌, ℕ, ℤ, pos, negsuc, suc, Bool, true, false, cond, Some, List, [], ◌∷◌, ◌++◌, map, length, sym, ap}
+use Rattle.std.proofs.Common.{subst, arith, length-append}
 use lib.Signed.{mag}
 use Rattle.std.specs.Prelude.{nat_lt, nat_le, slice_get, is_some, codes, ◌&&◌, ◌/◌, ◌%◌}
 use Rattle.std.specs.Char.{digit_char}
@@ -54,12 +55,14 @@ letters_few : (bytes : List ℕ) → list_all is_name_byte bytes ≡ true → le
 letters_few [] e = omega arith
 letters_few (x ∷ xs) e =
     let here = and_left (is_name_byte x) (list_all is_name_byte xs) e in
-    plain_byte x xs (length xs) (name_byte_no_quote x here) (name_byte_no_slash x here) (name_byte_above x here) (letters_few xs (and_right (is_name_byte x) (list_all is_name_byte xs) e))
+    plain_byte x xs (length xs) (name_byte_no_quote x here) (name_byte_no_slash x here) (name_byte_above x here)
+    (letters_few xs (and_right (is_name_byte x) (list_all is_name_byte xs) e))
 
 name_parts : (name : List ℕ) → is_name name ≡ true → (list_all is_name_byte name ≡ true) × (length name ≤ 32)
 name_parts name e =
     let front = and_left (begins_as_name name && list_all is_name_byte name && nat_le (length name) 32) _ e in (
-      and_right (begins_as_name name) (list_all is_name_byte name) (and_left (begins_as_name name && list_all is_name_byte name) (nat_le (length name) 32) front),
+      and_right (begins_as_name name) (list_all is_name_byte name)
+          (and_left (begins_as_name name && list_all is_name_byte name) (nat_le (length name) 32) front),
       true_le (length name) 32 (and_right (begins_as_name name && list_all is_name_byte name) (nat_le (length name) 32) front),
     )
 
@@ -136,7 +139,8 @@ module _ (p : Program) (s : Contents) (savable : IsSavable p.families s) where
       (key_below (Some saved.family) c.key saved.key)
       (subst (λ o. mag (number_held o) + 1 < 10 ^ 39) (sym w.1) (worth_small saved.family.sort w.0 saved.sort saved.width))
 
-  cells_small : (cs : List Cell) (later : Bool) → list_all (is_held s) cs ≡ true → length (items_text later (items_of (map (entry_of p.families s) cs))) ≤ 86 * length cs + 1
+  cells_small : (cs : List Cell) (later : Bool) → list_all (is_held s) cs ≡ true
+      → length (items_text later (items_of (map (entry_of p.families s) cs))) ≤ 86 * length cs + 1
   cells_small [] later held = omega arith
   cells_small (c ∷ cs) later held =
       let here = cell_small c (and_left (is_held s c) (list_all (is_held s) cs) held) in
@@ -144,8 +148,10 @@ module _ (p : Program) (s : Contents) (savable : IsSavable p.families s) where
       let long = length-append (compact_text (entry_of p.families s c)) (items_text true (items_of (map (entry_of p.families s) cs))) in
       by later here more long
     where
-      by : (b : Bool) → length (compact_text (entry_of p.families s c)) ≤ 85 → length (items_text true (items_of (map (entry_of p.families s) cs))) ≤ 86 * length cs + 1
-          → length (compact_text (entry_of p.families s c) ++ items_text true (items_of (map (entry_of p.families s) cs))) ≡ length (compact_text (entry_of p.families s c)) + length (items_text true (items_of (map (entry_of p.families s) cs)))
+      by : (b : Bool) → length (compact_text (entry_of p.families s c)) ≤ 85
+          → length (items_text true (items_of (map (entry_of p.families s) cs))) ≤ 86 * length cs + 1
+          → length (compact_text (entry_of p.families s c) ++ items_text true (items_of (map (entry_of p.families s) cs))) ≡ length
+          (compact_text (entry_of p.families s c)) + length (items_text true (items_of (map (entry_of p.families s) cs)))
           → length (items_text b (items_of (map (entry_of p.families s) (c ∷ cs)))) ≤ 86 * length (c ∷ cs) + 1
       by true here more long = omega (arith, here, more, long)
       by false here more long = omega (arith, here, more, long)

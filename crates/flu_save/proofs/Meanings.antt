@@ -65,7 +65,8 @@ module _ (p : Program) (s r : Contents) (first : IsSavable p.families s) (second
       let key : c.key ≡ d.key = cc in
       let text : signed_decimal (number_held (s c)) ≡ signed_decimal (number_held (r d)) = cc in
       let family : c.family ≡ d.family = of_some c.family d.family
-      (sym (found_at p c v here p.families (family_name (slice_get p.families c.family)) refl refl) ∙ found_at p d w there p.families (family_name (slice_get p.families c.family)) refl name) in
+      (sym (found_at p c v here p.families (family_name (slice_get p.families c.family)) refl refl)
+      ∙ found_at p d w there p.families (family_name (slice_get p.families c.family)) refl name) in
       let one : here.family ≡ there.family = of_some here.family there.family (sym here.there ∙ ap (slice_get p.families) family ∙ there.there) in (
         (λ i. record { family = family i; key = key i }),
         same_number there.family.sort v w (subst (λ (f : Family). IsWorthOf f.sort v) one here.sort) there.sort here.width there.width
@@ -78,12 +79,14 @@ module _ (p : Program) (s r : Contents) (first : IsSavable p.families s) (second
       at : (e : Cell) → among s (c ∷ cs) e ≡ among r (c ∷ ds) e
       at e = by_test (is_same_cell e c) refl
         where
-          by_test : (b : Bool) → is_same_cell e c ≡ b → cond (b || list_any (is_same_cell e) cs) (s e) None ≡ cond (b || list_any (is_same_cell e) ds) (r e) None
+          by_test : (b : Bool) → is_same_cell e c ≡ b → cond (b || list_any (is_same_cell e) cs) (s e) None ≡ cond (b || list_any (is_same_cell e) ds)
+              (r e) None
           by_test true same = ap s (same_cell e c same) ∙ here ∙ sym there ∙ sym (ap r (same_cell e c same))
           by_test false same = ap (λ f. f e) more
 
   -- so the states hold the same in the cells of the same entries
-  one_list : (cs ds : List Cell) → list_all (is_held s) cs ≡ true → list_all (is_held r) ds ≡ true → map (entry_of p.families s) cs ≡ map (entry_of p.families r) ds
+  one_list : (cs ds : List Cell) → list_all (is_held s) cs ≡ true → list_all (is_held r) ds ≡ true
+      → map (entry_of p.families s) cs ≡ map (entry_of p.families r) ds
       → among s cs ≡ among r ds
   one_list [] [] held held' same = refl
   one_list [] (d ∷ ds) held held' same = absurd cc
@@ -110,7 +113,9 @@ law_of_one_meaning p bytes t u s r first second =
     let also = save_value p u r bytes first.value second first.json in
     let parts = checkpoint_parts p t s first.value is in
     let parts' = checkpoint_parts p u r first.value also in (
-      same_border first.value t u (items_of (entries_of p.families s)) (items_of (entries_of p.families r)) (normal_form (job_of p)) (normal_form (job_of p)) parts parts',
+      same_border first.value t u (items_of (entries_of p.families s)) (items_of (entries_of p.families r)) (normal_form (job_of p))
+          (normal_form (job_of p)) parts parts',
       one_state p s r is.state also.state (same_lists (entries_of p.families s) (entries_of p.families r)
-          (same_items first.value t u (items_of (entries_of p.families s)) (items_of (entries_of p.families r)) (normal_form (job_of p)) (normal_form (job_of p)) parts parts')),
+          (same_items first.value t u (items_of (entries_of p.families s)) (items_of (entries_of p.families r)) (normal_form (job_of p))
+          (normal_form (job_of p)) parts parts')),
     )

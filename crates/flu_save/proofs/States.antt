@@ -1,5 +1,6 @@
 -- A state that is filled cell by cell from the entries of a state that can be saved.
-use Rattle.std.proofs.Common.{◌≡◌, ℕ, zero, suc, ◌+◌, ◌<◌, ◌++◌, Bool, true, false, cond, Option, Some, None, List, [], ◌∷◌, map, length, get_or, take, refl, sym, ap, subst, ◌∙◌, arith}
+use Rattle.std.proofs.Common.{◌≡◌, ℕ, zero, suc, ◌+◌, ◌<◌, ◌++◌, Bool, true, false, cond, Option, Some, None, List, [], ◌∷◌, map, length, get_or, take, refl}
+use Rattle.std.proofs.Common.{sym, ap, subst, ◌∙◌, arith}
 use Rattle.std.specs.Prelude.{slice_get, option_map, ◌&&◌, ◌||◌, ◌==◌, if◌then◌else◌, is_some}
 use Rattle.std.specs.List.{list_any, list_all, filter, flat_map, range_with_len}
 use Rattle.std.proofs.lemmas.Grind.{common_steps}
@@ -12,6 +13,7 @@ use Rattle.serde_json.specs.View.{view}
 use Rattle.serde_json.specs.declared.value.Value.{Value}
 use Rattle.flu_lemmas.proofs.Booleans.{or_true}
 use Rattle.flu_lemmas.proofs.Elements.{passes_at}
+use Rattle.flu_lemmas.proofs.Mapped.{from_mapped}
 use Rattle.flu_lemmas.proofs.Ranges.{any_in_range}
 use Rattle.flu_lemmas.proofs.Searches.{list_any-map}
 use Rattle.flu_lemmas.proofs.Tests.{and_left, and_right, both, true_eq}
@@ -24,11 +26,6 @@ use Rattle.flu_save.specs.Checkpoint.{entry_of, cells_of_family, cells_held, ent
 use Rattle.flu_save.specs.Widths.{AllHaveWordWidth}
 
 -- ---- the entries of a state, one by one
-mapped_at : {X Y : Type 0} (f : X → Y) (xs : List X) (i : ℕ) (y : Y) → slice_get (map f xs) i ≡ Some y → (x : X) × (slice_get xs i ≡ Some x) × (y ≡ f x)
-mapped_at f [] i y at = absurd cc
-mapped_at f (x ∷ xs) zero y at = (x, refl, cc)
-mapped_at f (x ∷ xs) (suc i) y at = mapped_at f xs i y at
-
 all_kept : (p : ℕ → Bool) (ks : List ℕ) → list_all p (filter p ks) ≡ true
 all_kept p [] = refl
 all_kept p (k ∷ ks) = by_test (p k) refl (all_kept p ks)
@@ -67,7 +64,7 @@ entry_at families s entries i v same lt is =
     let here : slice_get entries i ≡ Some v = slice_get-get_or entries i v lt ∙ ap Some (sym is) in
     let seen : slice_get (entries_of families s) i ≡ Some (view v) = ap (λ (ds : List Data). slice_get ds i) (sym same) ∙ slice_get-map view entries i
     ∙ ap (option_map view) here in
-    let found = mapped_at (entry_of families s) (cells_held families s) i (view v) seen in
+    let found = from_mapped (entry_of families s) (cells_held families s) i (view v) seen in
     let held = from_some (s found.0) (passes_at (is_held s) (cells_held families s) i found.0 (all_held s (range_with_len 0 (length families))) found.1) in
     record { cell = found.0; worth = held.0; there = found.1; holds = held.1; entry = found.2 }
 

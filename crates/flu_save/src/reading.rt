@@ -1,6 +1,7 @@
 //! A checkpoint that is read.
 
-ghost use Rattle.std.specs.Prelude.{◌≡◌, ◌<◌, ◌≤◌, ◌^◌, ◌⊎◌, ◌↔◌, ℕ, map, codes, option_map, option_and_then, Some, IfOk, IfErr, IfSome, IfNone, OnOk, IsTrue, MatchResult};
+ghost use Rattle.std.specs.Prelude.{◌≡◌, ◌<◌, ◌≤◌, ◌^◌, ◌⊎◌, ◌↔◌, ℕ, map, codes, option_map, option_and_then, Some, IfOk, IfErr, IfSome, IfNone, OnOk, IsTrue};
+ghost use Rattle.std.specs.Prelude.{MatchResult};
 ghost use Rattle.flu_cells.specs.Holding.{held};
 ghost use Rattle.flu_model.specs.Contents.{Contents, with_worth, key_count};
 ghost use Rattle.flu_model.specs.Erasure.{job_of};

@@ -69,7 +69,8 @@ fn push_next(
 // The next event from a place on.
 fn next_head(items: &[Item], from: usize) -> Option<Head>
     requires { from ≤ length items.now }
-    ensures next { MatchOption result (events_of (drop from items.now) ≡ []) (λ h. events_of (drop from items.now) ≡ event_at h ∷ events_of (drop h.place items.now)) }
+    ensures next { MatchOption result (events_of (drop from items.now) ≡ [])
+        (λ h. events_of (drop from items.now) ≡ event_at h ∷ events_of (drop h.place items.now)) }
     ensures within { MatchOption result (0 ≤ from) (λ h. h.place ≤ length items.now) }
 {
     for place in from..items.len() {

@@ -1,5 +1,6 @@
 -- The targets of a job's actions are in range, and what the writing calls leave.
-use Rattle.std.proofs.Common.{◌≡◌, ◌<◌, ℕ, Bool, true, Option, Some, None, Result, OnOk, List, refl, sym, ap, subst, ◌∙◌, ◌+◌, [], ◌∷◌, ◌++◌, length, drop, get_or, drop-cons, add-one, append_assoc}
+use Rattle.std.proofs.Common.{◌≡◌, ◌<◌, ℕ, Bool, true, Option, Some, None, Result, OnOk, List, refl, sym, ap, subst, ◌∙◌, ◌+◌, [], ◌∷◌, ◌++◌, length, drop}
+use Rattle.std.proofs.Common.{get_or, drop-cons, add-one, append_assoc}
 use Rattle.std.proofs.lemmas.List.{map-append}
 use Rattle.std.specs.Prelude.{nat_lt, ◌&&◌, slice_get}
 use Rattle.std.specs.List.{list_all}
@@ -25,7 +26,8 @@ use Rattle.flu_lemmas.proofs.Elements.{passes_at}
 use Rattle.flu_lemmas.proofs.Tests.{and_left, and_right, lt_true, true_lt}
 use Rattle.flu_step.specs.Targets.{is_in_range, has_target_in_range}
 
-key_in_range : (family_keyed keyed : Bool) (at : At) (key : ℕ) → key_fits family_keyed keyed at ≡ true → key < key_count → nat_lt (key_of at key) key_count ≡ true
+key_in_range : (family_keyed keyed : Bool) (at : At) (key : ℕ) → key_fits family_keyed keyed at ≡ true → key < key_count
+    → nat_lt (key_of at key) key_count ≡ true
 key_in_range family_keyed keyed Alone key e lt = refl
 key_in_range family_keyed keyed OwnKey key e lt = lt_true key key_count lt
 key_in_range family_keyed keyed (Fixed k) key e lt = and_right family_keyed (nat_lt k key_count) e
@@ -34,7 +36,8 @@ ref_in_range : (o : Option Family) (keyed : Bool) (r : CellRef) (key : ℕ) → 
 ref_in_range None keyed r key e lt = cc
 ref_in_range (Some f) keyed r key e lt = key_in_range f.keyed keyed r.at key e lt
 
-pub target_in_range : (families : List Family) (keyed has_value : Bool) (act : Act) (key : ℕ) → act_fits families keyed has_value act ≡ true → key < key_count → has_target_in_range act key ≡ true
+pub target_in_range : (families : List Family) (keyed has_value : Bool) (act : Act) (key : ℕ) → act_fits families keyed has_value act ≡ true → key < key_count
+    → has_target_in_range act key ≡ true
 target_in_range families keyed has_value (Add r e) key fits lt = ref_in_range (slice_get families r.family) keyed r key (and_left _ _ (and_left _ _ fits)) lt
 target_in_range families keyed has_value (Raise r e) key fits lt = ref_in_range (slice_get families r.family) keyed r key (and_left _ _ (and_left _ _ fits)) lt
 target_in_range families keyed has_value (Set r e) key fits lt = ref_in_range (slice_get families r.family) keyed r key (and_left _ _ (and_left _ _ fits)) lt
@@ -54,17 +57,21 @@ pub effect-drop : (families : List Family) (all : List Action) (s : Contents) (x
 effect-drop families all s x key i d lt = ap (λ rest. effect_of_actions families rest s x key) (drop-cons all i d lt) ∙ simp add-one
 
 -- one turn of the loop over the actions
-pub actions_turn : (families : List Family) (all : List Action) (s t : Contents) (x : Event) (g : Tag) (i : ℕ) (a : Action) (outs more from : List Out) (whole : Effect)
+pub actions_turn : (families : List Family) (all : List Action) (s t : Contents) (x : Event) (g : Tag) (i : ℕ) (a : Action) (outs more from : List Out)
+    (whole : Effect)
     → i < length all → a ≡ get_or all i a
     → t ≡ (effect_of_action families a s x g.key).cells
     → more ≡ outs ++ outputs_at x.time g (effect_of_action families a s x g.key).texts
-    → ((effect_of_actions families (drop i all) s x g.key).cells ≡ whole.cells) × (outs ++ outputs_at x.time g (effect_of_actions families (drop i all) s x g.key).texts ≡ from ++ outputs_at x.time g whole.texts)
-    → ((effect_of_actions families (drop (i + 1) all) t x g.key).cells ≡ whole.cells) × (more ++ outputs_at x.time g (effect_of_actions families (drop (i + 1) all) t x g.key).texts ≡ from ++ outputs_at x.time g whole.texts)
+    → ((effect_of_actions families (drop i all) s x g.key).cells ≡ whole.cells)
+    × (outs ++ outputs_at x.time g (effect_of_actions families (drop i all) s x g.key).texts ≡ from ++ outputs_at x.time g whole.texts)
+    → ((effect_of_actions families (drop (i + 1) all) t x g.key).cells ≡ whole.cells)
+    × (more ++ outputs_at x.time g (effect_of_actions families (drop (i + 1) all) t x g.key).texts ≡ from ++ outputs_at x.time g whole.texts)
 actions_turn families all s t x g i a outs more from whole lt is cells texts inv =
     let first : Effect = effect_of_action families a s x g.key in
     let others : Effect = effect_of_actions families (drop (i + 1) all) first.cells x g.key in
     let step : effect_of_actions families (drop i all) s x g.key ≡ record { cells = others.cells; texts = first.texts ++ others.texts } =
-    effect-drop families all s x g.key i a lt ∙ (λ j. let f = effect_of_action families (sym is j) s x g.key in let o = effect_of_actions families (drop (i + 1) all) f.cells x g.key in record { cells = o.cells; texts = f.texts ++ o.texts }) in (
+    effect-drop families all s x g.key i a lt ∙ (λ j. let f = effect_of_action families (sym is j) s x g.key in let o =
+    effect_of_actions families (drop (i + 1) all) f.cells x g.key in record { cells = o.cells; texts = f.texts ++ o.texts }) in (
       ap (λ u. (effect_of_actions families (drop (i + 1) all) u x g.key).cells) cells ∙ sym (ap (λ e. e.cells) step) ∙ inv.0,
       (λ j. texts j ++ outputs_at x.time g (effect_of_actions families (drop (i + 1) all) (cells j) x g.key).texts)
           ∙ append_assoc outs (outputs_at x.time g first.texts) (outputs_at x.time g others.texts)
@@ -73,10 +80,12 @@ actions_turn families all s t x g i a outs more from whole lt is cells texts inv
           ∙ inv.1,
     )
 
-pub targets_in_range : (families : List Family) (keyed has_value : Bool) (all : List Action) (key : ℕ) → list_all (action_fits families keyed has_value) all ≡ true → key < key_count → list_all (λ (a : Action). has_target_in_range a.act key) all ≡ true
+pub targets_in_range : (families : List Family) (keyed has_value : Bool) (all : List Action) (key : ℕ)
+    → list_all (action_fits families keyed has_value) all ≡ true → key < key_count → list_all (λ (a : Action). has_target_in_range a.act key) all ≡ true
 targets_in_range families keyed has_value [] key fits lt = refl
 targets_in_range families keyed has_value (a ∷ all) key fits lt =
-    ap (λ b. b && list_all (λ (a : Action). has_target_in_range a.act key) all) (target_in_range families keyed has_value a.act key (and_left _ _ (and_left _ _ fits)) lt)
+    ap (λ b. b && list_all (λ (a : Action). has_target_in_range a.act key) all)
+    (target_in_range families keyed has_value a.act key (and_left _ _ (and_left _ _ fits)) lt)
     ∙ targets_in_range families keyed has_value all key (and_right _ _ fits) lt
 
 -- the actions of a tag's kind write in range
@@ -87,7 +96,8 @@ tag_targets families kinds t fits small = of (slice_get kinds t.kind) refl
     of : (o : Option Kind) → slice_get kinds t.kind ≡ o → list_all (λ (a : Action). has_target_in_range a.act t.key) (actions_of o) ≡ true
     of None e = refl
     of (Some k) e =
-        targets_in_range families k.keyed k.has_value k.actions t.key (and_right _ _ (passes_at (kind_fits families) kinds t.kind k fits e)) (true_lt _ _ (and_right _ _ small))
+        targets_in_range families k.keyed k.has_value k.actions t.key (and_right _ _ (passes_at (kind_fits families) kinds t.kind k fits e))
+        (true_lt _ _ (and_right _ _ small))
 
 pub effect-at : (p : Program) (s : Contents) (x : Event) (t : Tag) (families : List Family) (all : List Action) → families ≡ p.families
     → all ≡ actions_of (slice_get p.kinds t.kind) → t ≡ tag_of_itag p x.itag → effect_of_actions families all s x t.key ≡ effect_of p s x

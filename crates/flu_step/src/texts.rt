@@ -34,7 +34,8 @@ pub fn text_of(alloc: Global, pieces: &[Piece], at: &Filling<'_>) -> Result<Text
 
 // One piece at the end of a text.
 fn push_piece(text: &mut String, piece: &Piece, at: &Filling<'_>) -> Result<(), AllocError>
-    ensures { OnOk result (string_bytes text.new ≡ string_bytes text.old ++ meaning.piece_text at.now.families.now piece.now (held at.now.state.now) at.now.event.now at.now.key at.now.there) }
+    ensures { OnOk result (string_bytes text.new ≡ string_bytes text.old
+        ++ meaning.piece_text at.now.families.now piece.now (held at.now.state.now) at.now.event.now at.now.key at.now.there) }
 {
     match piece {
         Piece::Plain(plain) => text.push_str(plain.as_str()),

@@ -63,7 +63,8 @@ fn do_actions(
 ) -> Result<(), AllocError>
     requires { IsTrue (list_all (λ a. has_target_in_range a.act at.now.tag.key) actions.now) }
     ensures cells { OnOk result (held s.new ≡ (effect_of_actions at.now.families.now actions.now (held s.old) at.now.event.now at.now.tag.key).cells) }
-    ensures outputs { OnOk result (outs.new ≡ outs.old ++ outputs_at at.now.event.now.time at.now.tag (effect_of_actions at.now.families.now actions.now (held s.old) at.now.event.now at.now.tag.key).texts) }
+    ensures outputs { OnOk result (outs.new ≡ outs.old
+        ++ outputs_at at.now.event.now.time at.now.tag (effect_of_actions at.now.families.now actions.now (held s.old) at.now.event.now at.now.tag.key).texts) }
 {
     for action in actions {
         do_action(alloc, at, action, s, outs)?;
@@ -81,7 +82,8 @@ fn do_action(
 ) -> Result<(), AllocError>
     requires { IsTrue (has_target_in_range action.now.act at.now.tag.key) }
     ensures cells { OnOk result (held s.new ≡ (effect_of_action at.now.families.now action.now (held s.old) at.now.event.now at.now.tag.key).cells) }
-    ensures outputs { OnOk result (outs.new ≡ outs.old ++ outputs_at at.now.event.now.time at.now.tag (effect_of_action at.now.families.now action.now (held s.old) at.now.event.now at.now.tag.key).texts) }
+    ensures outputs { OnOk result (outs.new ≡ outs.old
+        ++ outputs_at at.now.event.now.time at.now.tag (effect_of_action at.now.families.now action.now (held s.old) at.now.event.now at.now.tag.key).texts) }
 {
     if guard_holds(&action.guard, s, at.event, at.tag.key) {
         do_act(alloc, at, &action.act, s, outs)
@@ -110,7 +112,8 @@ fn do_act(
 ) -> Result<(), AllocError>
     requires { IsTrue (has_target_in_range act.now at.now.tag.key) }
     ensures cells { OnOk result (held s.new ≡ (effect_of_act at.now.families.now act.now (held s.old) at.now.event.now at.now.tag.key).cells) }
-    ensures outputs { OnOk result (outs.new ≡ outs.old ++ outputs_at at.now.event.now.time at.now.tag (effect_of_act at.now.families.now act.now (held s.old) at.now.event.now at.now.tag.key).texts) }
+    ensures outputs { OnOk result (outs.new ≡ outs.old
+        ++ outputs_at at.now.event.now.time at.now.tag (effect_of_act at.now.families.now act.now (held s.old) at.now.event.now at.now.tag.key).texts) }
 {
     let key = at.tag.key;
     match act {
@@ -166,7 +169,8 @@ fn flush(
     outs: &mut Outs,
 ) -> Result<(), AllocError>
     ensures cells { OnOk result (held s.new ≡ without_family (held s.old) family) }
-    ensures outputs { OnOk result (outs.new ≡ outs.old ++ outputs_at at.now.event.now.time at.now.tag (map (λ k. pieces_text at.now.families.now pieces.now (held s.old) at.now.event.now k (held s.old (cell family k))) (held_keys (held s.old) family))) }
+    ensures outputs { OnOk result (outs.new ≡ outs.old ++ outputs_at at.now.event.now.time at.now.tag
+        (map (λ k. pieces_text at.now.families.now pieces.now (held s.old) at.now.event.now k (held s.old (cell family k))) (held_keys (held s.old) family))) }
 {
     let keys = s.keys(family)?;
     for key in &keys {

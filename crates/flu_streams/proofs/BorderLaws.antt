@@ -123,24 +123,28 @@ folds_in_turn p opening t whole first second cut =
     early = rw cut.early (all_early is_before (λ (x : Event). nat_le x.time t) (early_first t) (late_last t) (all_events whole))
 
     late : list_all (λ (x : Event). not (nat_le x.time t)) (merged second) ≡ true
-    late = rw (cut.late ∙ (λ i. filter (λ (x : Event). later_is t x.time i) (all_events whole))) (all_late is_before (λ (x : Event). nat_le x.time t) (early_first t) (late_last t) (all_events whole))
+    late = rw (cut.late ∙ (λ i. filter (λ (x : Event). later_is t x.time i) (all_events whole)))
+        (all_late is_before (λ (x : Event). nat_le x.time t) (early_first t) (late_last t) (all_events whole))
 
 -- ---- items up to a time and later ones
 kept_events : (f : ℕ → Bool) (items : List Item)
     → events_of (filter (λ (item : Item). f (item_time item)) items) ≡ filter (λ (x : Event). f x.time) (events_of items)
 kept_events f [] = refl
 kept_events f (EventItem x ∷ items) =
-    elim (f x.time) as (λ b. events_of (cond b (EventItem x ∷ filter (λ (item : Item). f (item_time item)) items) (filter (λ (item : Item). f (item_time item)) items)) ≡ cond b (x ∷ filter (λ (y : Event). f y.time) (events_of items)) (filter (λ (y : Event). f y.time) (events_of items))) [
+    elim (f x.time) as (λ b. events_of (cond b (EventItem x ∷ filter (λ (item : Item). f (item_time item)) items) (filter (λ (item : Item). f (item_time item))
+    items)) ≡ cond b (x ∷ filter (λ (y : Event). f y.time) (events_of items)) (filter (λ (y : Event). f y.time) (events_of items))) [
       | true ↦ ap (λ l. x ∷ l) (kept_events f items)
       | false ↦ kept_events f items
     ]
 kept_events f (BeatItem t ∷ items) =
-    elim (f t) as (λ b. events_of (cond b (BeatItem t ∷ filter (λ (item : Item). f (item_time item)) items) (filter (λ (item : Item). f (item_time item)) items)) ≡ filter (λ (y : Event). f y.time) (events_of items)) [
+    elim (f t) as (λ b. events_of (cond b (BeatItem t ∷ filter (λ (item : Item). f (item_time item)) items)
+    (filter (λ (item : Item). f (item_time item)) items)) ≡ filter (λ (y : Event). f y.time) (events_of items)) [
       | true ↦ kept_events f items
       | false ↦ kept_events f items
     ]
 kept_events f (EndItem ∷ items) =
-    elim (f 0) as (λ b. events_of (cond b (EndItem ∷ filter (λ (item : Item). f (item_time item)) items) (filter (λ (item : Item). f (item_time item)) items)) ≡ filter (λ (y : Event). f y.time) (events_of items)) [
+    elim (f 0) as (λ b. events_of (cond b (EndItem ∷ filter (λ (item : Item). f (item_time item)) items) (filter (λ (item : Item). f (item_time item)) items))
+    ≡ filter (λ (y : Event). f y.time) (events_of items)) [
       | true ↦ kept_events f items
       | false ↦ kept_events f items
     ]

@@ -22,12 +22,15 @@ counted_twice count first second most = omega arith
 grown_by-append : (itag : ℕ) (counts : List ℕ) (xs ys : List Event) → grown_by itag (grown_by itag counts xs) ys ≡ grown_by itag counts (xs ++ ys)
 grown_by-append itag [] xs ys = refl
 grown_by-append itag (count ∷ counts) xs ys =
-    let here = counted_twice count (count_of_itag xs itag) (count_of_itag ys itag) (2 ^ 64 - 1) ∙ ap (counted_on count) (sym (count_of_itag-append xs ys itag)) in
+    let here = counted_twice count (count_of_itag xs itag) (count_of_itag ys itag) (2 ^ 64 - 1)
+    ∙ ap (counted_on count) (sym (count_of_itag-append xs ys itag)) in
     λ i. here i ∷ grown_by-append (suc itag) counts xs ys i
 
 -- what is cut at a time is counted in turn
-pub grown_cut : (t : ℕ) (whole first second : List (List Item)) (counts : List ℕ) → AreCutAt t whole first second → grown (grown counts first) second ≡ grown counts whole
-grown_cut t whole first second counts cut = grown_by-append 0 counts (merged first) (merged second) ∙ ap (grown_by 0 counts) (sym (merged_cut t whole first second cut))
+pub grown_cut : (t : ℕ) (whole first second : List (List Item)) (counts : List ℕ) → AreCutAt t whole first second
+    → grown (grown counts first) second ≡ grown counts whole
+grown_cut t whole first second counts cut =
+    grown_by-append 0 counts (merged first) (merged second) ∙ ap (grown_by 0 counts) (sym (merged_cut t whole first second cut))
 
 pub one_more_in_turn : OneMoreInTurn
 one_more_in_turn counts [] lists = refl
@@ -36,7 +39,8 @@ one_more_in_turn counts (l ∷ done) lists = one_more_in_turn (grown counts l) d
 pub law_of_counts : LawOfCounts
 law_of_counts p rows whole start done above before now end counts one (Starts reads none) round = refl
 law_of_counts p rows whole start done above before now end counts one (GoesOn done' above' before' mid b came was) round =
-    let so_far = one_more_in_turn counts done' (lists_between p above' (At b) mid) ∙ law_of_counts p rows whole start done' above' before' mid (At b) counts one came was in
+    let so_far = one_more_in_turn counts done' (lists_between p above' (At b) mid)
+    ∙ law_of_counts p rows whole start done' above' before' mid (At b) counts one came was in
     ap (λ c. grown c (lists_between p (Some b) end now)) so_far
     ∙ grown_cut b (lists_between p start end now) (lists_between p start (At b) mid) (lists_between p (Some b) end now) counts
     (cut_of_rounds p rows whole start done' above' before' mid now b end one came was round)

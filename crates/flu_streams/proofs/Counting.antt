@@ -1,5 +1,6 @@
 -- How many items come no later than a time.
-use Rattle.std.proofs.Common.{◌≡◌, inl, inr, ℕ, zero, suc, ◌+◌, ◌-◌, ◌<◌, ◌≤◌, Bool, true, false, cond, List, [], ◌∷◌, length, get_or, take, drop, Option, Some, None, refl, sym, ap, ◌∙◌, arith}
+use Rattle.std.proofs.Common.{◌≡◌, inl, inr, ℕ, zero, suc, ◌+◌, ◌-◌, ◌<◌, ◌≤◌, Bool, true, false, cond, List, [], ◌∷◌, length, get_or, take, drop, Option, Some}
+use Rattle.std.proofs.Common.{None, refl, sym, ap, ◌∙◌, arith}
 use Rattle.std.specs.Prelude.{nat_lt, nat_le, option_and_then, if◌then◌else◌}
 use Rattle.std.specs.List.{filter, list_all}
 use Rattle.std.proofs.lemmas.Bool.{cases_Bool}
@@ -23,7 +24,8 @@ take_passing f d (x ∷ xs) zero few passes fails =
     rw miss (take_passing f d xs zero (omega arith) (λ i lt. absurd (omega (arith, lt))) (λ i le lt. fails (suc i) (omega arith) (omega (arith, lt))))
 take_passing f d (x ∷ xs) (suc n) few passes fails =
     let hit : f x ≡ true = passes 0 (omega arith) in
-    rw hit (ap (λ l. x ∷ l) (take_passing f d xs n (omega (arith, few)) (λ i lt. passes (suc i) (omega (arith, lt))) (λ i le lt. fails (suc i) (omega (arith, le)) (omega (arith, lt)))))
+    rw hit (ap (λ l. x ∷ l) (take_passing f d xs n (omega (arith, few)) (λ i lt. passes (suc i) (omega (arith, lt)))
+    (λ i le lt. fails (suc i) (omega (arith, le)) (omega (arith, lt)))))
 
 pub drop_failing : {X : Type 0} (f : X → Bool) (d : X) (xs : List X) (n : ℕ) → n ≤ length xs → ((i : ℕ) → i < n → f (get_or xs i d) ≡ false)
     → ((i : ℕ) → n ≤ i → i < length xs → f (get_or xs i d) ≡ true) → drop n xs ≡ filter f xs
@@ -31,10 +33,12 @@ drop_failing f d [] zero few fails passes = refl
 drop_failing f d [] (suc n) few fails passes = absurd (omega (arith, few))
 drop_failing f d (x ∷ xs) zero few fails passes =
     let hit : f x ≡ true = passes 0 (omega arith) (omega arith) in
-    rw hit (ap (λ l. x ∷ l) (drop_failing f d xs zero (omega arith) (λ i lt. absurd (omega (arith, lt))) (λ i le lt. passes (suc i) (omega arith) (omega (arith, lt)))))
+    rw hit (ap (λ l. x ∷ l) (drop_failing f d xs zero (omega arith) (λ i lt. absurd (omega (arith, lt)))
+    (λ i le lt. passes (suc i) (omega arith) (omega (arith, lt)))))
 drop_failing f d (x ∷ xs) (suc n) few fails passes =
     let miss : f x ≡ false = fails 0 (omega arith) in
-    rw miss (drop_failing f d xs n (omega (arith, few)) (λ i lt. fails (suc i) (omega (arith, lt))) (λ i le lt. passes (suc i) (omega (arith, le)) (omega (arith, lt))))
+    rw miss (drop_failing f d xs n (omega (arith, few)) (λ i lt. fails (suc i) (omega (arith, lt)))
+    (λ i le lt. passes (suc i) (omega (arith, le)) (omega (arith, lt))))
 
 rises_passing : {X : Type 0} (number : X → ℕ) (f : X → Bool) (low : ℕ) (xs : List X) → RisesFrom number low xs → RisesFrom number low (filter f xs)
 rises_passing number f low [] up = tt
@@ -66,7 +70,8 @@ count_skip u x xs lt = let e : nat_le (item_time x) u ≡ false = grind (arith, 
 count_within : (u : ℕ) (items : List Item) → count_to u items ≤ length items
 count_within u [] = omega arith
 count_within u (x ∷ xs) =
-    elim (nat_le (item_time x) u) as (λ b. length (cond b (x ∷ filter (λ (item : Item). nat_le (item_time item) u) xs) (filter (λ (item : Item). nat_le (item_time item) u) xs)) ≤ suc (length xs)) [
+    elim (nat_le (item_time x) u) as (λ b. length (cond b (x ∷ filter (λ (item : Item). nat_le (item_time item) u) xs)
+    (filter (λ (item : Item). nat_le (item_time item) u) xs)) ≤ suc (length xs)) [
       | true ↦ omega (arith, count_within u xs)
       | false ↦ omega (arith, count_within u xs)
     ]
@@ -82,7 +87,8 @@ count_late u low (x ∷ xs) zero up lt late =
     let e = count_skip u x xs late ∙ count_none u (item_time x + 1) xs up.1 (omega (arith, late)) in omega (arith, e)
 count_late u low (x ∷ xs) (suc n) up lt late =
     let rest = count_late u (item_time x + 1) xs n up.1 (omega (arith, lt)) late in
-    elim (nat_le (item_time x) u) as (λ b. length (cond b (x ∷ filter (λ (item : Item). nat_le (item_time item) u) xs) (filter (λ (item : Item). nat_le (item_time item) u) xs)) ≤ suc n) [
+    elim (nat_le (item_time x) u) as (λ b. length (cond b (x ∷ filter (λ (item : Item). nat_le (item_time item) u) xs)
+    (filter (λ (item : Item). nat_le (item_time item) u) xs)) ≤ suc n) [
       | true ↦ omega (arith, rest)
       | false ↦ omega (arith, rest)
     ]
@@ -132,14 +138,16 @@ pub record IsEnough (rows slack u : ℕ) (last : Option ℕ) (items : List Item)
 pub enough_is : (rows slack u : ℕ) (last : Option ℕ) (items : List Item) → enough_of rows slack last items ≡ Some u → IsEnough rows slack u last items
 enough_is rows slack u last items e = by_time (settled slack last) refl e
   where
-    by_count : (v : ℕ) (b : Bool) → settled slack last ≡ Some v → nat_le rows (count_to v items) ≡ b → (if b then Some v else None) ≡ Some u → IsEnough rows slack u last items
+    by_count : (v : ℕ) (b : Bool) → settled slack last ≡ Some v → nat_le rows (count_to v items) ≡ b → (if b then Some v else None) ≡ Some u
+        → IsEnough rows slack u last items
     by_count v true at c e =
         let same : v ≡ u = cc in
         let le : rows ≤ count_to v items = grind (arith, nat_tests) in
         record { settles = at ∙ e; count = rw (← same) le }
     by_count v false at c e = absurd cc
 
-    by_time : (o : Option ℕ) → settled slack last ≡ o → option_and_then (λ v. if nat_le rows (count_to v items) then Some v else None) o ≡ Some u → IsEnough rows slack u last items
+    by_time : (o : Option ℕ) → settled slack last ≡ o → option_and_then (λ v. if nat_le rows (count_to v items) then Some v else None) o ≡ Some u
+        → IsEnough rows slack u last items
     by_time None at e = absurd cc
     by_time (Some v) at e = by_count v (nat_le rows (count_to v items)) at refl e
 

@@ -1,5 +1,6 @@
 -- What a cut takes out, and what it leaves.
-use Rattle.std.proofs.Common.{◌≡◌, inl, inr, ℕ, ◌+◌, ◌<◌, true, List, [], ◌∷◌, ◌++◌, length, map, set, vec_len, Vec, Option, Some, None, refl, sym, ap, subst, ◌∙◌, arith}
+use Rattle.std.proofs.Common.{◌≡◌, inl, inr, ℕ, ◌+◌, ◌<◌, true, List, [], ◌∷◌, ◌++◌, length, map, set, vec_len, Vec, Option, Some, None, refl, sym, ap, subst}
+use Rattle.std.proofs.Common.{◌∙◌, arith}
 use Rattle.std.specs.Global.{Global}
 use Rattle.std.specs.Prelude.{slice_get, nat_lt, sum_by}
 use Rattle.std.specs.List.{flat_map, filter_map, range_with_len}
@@ -42,7 +43,8 @@ use Rattle.flu_streams.proofs.HeldRows.{taken_items, left_items, items_caught}
 use Rattle.flu_streams.proofs.RoundLaws.{Exceeds}
 use Rattle.flu_streams.proofs.RoundOf.{holding, behind_at, behind_of}
 use Rattle.flu_streams.proofs.Rounding.{set_here}
-use Rattle.flu_streams.proofs.Starts.{from_mapped, to_mapped, one_there}
+use Rattle.flu_lemmas.proofs.Mapped.{from_mapped}
+use Rattle.flu_streams.proofs.Starts.{to_mapped, one_there}
 use Rattle.flu_streams.proofs.Streamings.{streams_of_range, are_streams-append}
 use Rattle.flu_streams.proofs.Taken.{for_itags, stream_of}
 
@@ -64,7 +66,8 @@ pub own_streams : (lists : Vec (Vec Item Global) Global) (first n : ℕ) (end : 
 own_streams lists first n end items len each up =
     ap (are_streams first) (lists_are lists n (own_items first end items) len each)
     ∙ streams_of_range first n (own_items first end items)
-    (λ i lt. stream_of (first + i) 0 (taken_by end items) (rising item_time 0 (taken_by end items) (still_rises (λ (item : Item). is_up_to end (item_time item)) items up)))
+    (λ i lt. stream_of (first + i) 0 (taken_by end items)
+    (rising item_time 0 (taken_by end items) (still_rises (λ (item : Item). is_up_to end (item_time item)) items up)))
 
 pub own_lists : (lists : Vec (Vec Item Global) Global) (kinds : List Kind) (s : Source) (first : ℕ) (border : Option ℕ) (end : Border)
     (lines : List Next) (h : Inlet) → vec_len lists ≡ width s
@@ -74,7 +77,8 @@ pub own_lists : (lists : Vec (Vec Item Global) Global) (kinds : List Kind) (s : 
 own_lists lists kinds s first border end lines h len each is caught =
     let rows = rows_between border end (rows_of lines) in
     lists_are lists (width s) (items_at kinds s first rows) len
-    (λ i lt. each i lt ∙ ap (λ l. filter_map (item_for (first + i)) l ++ (EndItem ∷ [])) (taken_items kinds s first border end (rows_of lines) h.items.items (items_caught kinds s first border lines (source_of h) is caught))
+    (λ i lt. each i lt ∙ ap (λ l. filter_map (item_for (first + i)) l ++ (EndItem ∷ []))
+    (taken_items kinds s first border end (rows_of lines) h.items.items (items_caught kinds s first border lines (source_of h) is caught))
     ∙ ap (λ l. l ++ (EndItem ∷ [])) (for_itags kinds s first i (in_time_order rows) lt))
 
 -- ---- the lists of all sources
@@ -91,7 +95,8 @@ lists_more p border end lines earlier s i these own size is more =
     let g = λ (e : List Source × Source). lists_of_rows p.kinds e.1 (sum_by width e.0) (rows_between border end (rows_of (lines (length e.0)))) in
     ap (λ l. l ++ own) is ∙ ap (λ l. lists_first p border end lines earlier ++ l)
     (more ∙ ap (λ (n : ℕ). lists_of_rows p.kinds s (sum_by width earlier) (rows_between border end (rows_of (lines n)))) (sym size))
-    ∙ sym (ap (flat_map g) (with_before-append [] earlier (s ∷ [])) ∙ flat_map-append g (each_with_before earlier) ((earlier, s) ∷ []) ∙ ap (λ l. lists_first p border end lines earlier ++ l) (append-nil (g (earlier, s))))
+    ∙ sym (ap (flat_map g) (with_before-append [] earlier (s ∷ [])) ∙ flat_map-append g (each_with_before earlier) ((earlier, s) ∷ [])
+    ∙ ap (λ l. lists_first p border end lines earlier ++ l) (append-nil (g (earlier, s))))
 
 pub streams_both : (these own : List (List Item)) (first : ℕ) → length these ≡ first → are_streams 0 these ≡ true → are_streams first own ≡ true
     → are_streams 0 (these ++ own) ≡ true
@@ -110,7 +115,8 @@ cut_one kinds s first t border lines old new up at caught d is = record {
   file = ap (λ place. place.file) d.rows ∙ is.file;
   sound = is.sound;
   low = Some t;
-  items = d.items ∙ left_items kinds s first border t (rows_of lines) old.items.items (exceeds border t up) (items_caught kinds s first border lines (source_of old) is caught);
+  items = d.items ∙ left_items kinds s first border t (rows_of lines) old.items.items (exceeds border t up)
+      (items_caught kinds s first border lines (source_of old) is caught);
   last = d.last ∙ is.last;
   ended = d.ended ∙ is.ended;
   settled = λ goes v e. let k = at (sym d.closed ∙ goes) v e in (k.0, ap (settled s.slack) (sym is.last) ∙ k.1, k.2);
@@ -134,7 +140,8 @@ cuts_at p rows t border stage olds news well settles caught dropped =
       stage = refl;
       behind = λ lines is. behind_of p rows (Some t) Filling news lines count (λ i s at h f.
           let old = slice_get-there olds i (rw well.count (slice_get_within p.sources i s at)) in
-          cut_one p.kinds s (first_itag p i) t border (lines i) old.0 h settles.0 (settles.1 i s at old.0 old.1) (caught i old.0 old.1) (dropped.each i old.0 h old.1 f)
+          cut_one p.kinds s (first_itag p i) t border (lines i) old.0 h settles.0 (settles.1 i s at old.0 old.1) (caught i old.0 old.1)
+          (dropped.each i old.0 h old.1 f)
           (behind_at p rows border stage olds lines is i s at old.0 old.1));
       still' = λ lines whole left all i source f.
           let k = from_mapped source_of news i source f in

@@ -34,7 +34,8 @@ module _ {X : Type 0} (before : X → X → Bool) (early : X → Bool)
   put_first x [] [] e all = refl
   put_first x [] (b ∷ vs) e all = rw (first x b e (not_true (early b) (and_left (not (early b)) _ all))) refl
   put_first x (a ∷ us) vs e all =
-      elim (before x a) as (λ t. cond t (x ∷ a ∷ (us ++ vs)) (a ∷ put_in_order before x (us ++ vs)) ≡ cond t (x ∷ a ∷ us) (a ∷ put_in_order before x us) ++ vs) [
+      elim (before x a) as (λ t. cond t (x ∷ a ∷ (us ++ vs)) (a ∷ put_in_order before x (us ++ vs))
+      ≡ cond t (x ∷ a ∷ us) (a ∷ put_in_order before x us) ++ vs) [
         | true ↦ refl
         | false ↦ ap (λ l. a ∷ l) (put_first x us vs e all)
       ]
@@ -59,7 +60,8 @@ module _ {X : Type 0} (before : X → X → Bool) (early : X → Bool)
   in_order-cut (x ∷ xs) =
       let us = filter early xs in
       let vs = filter (λ y. not (early y)) xs in
-      elim (early x) as (λ b. early x ≡ b → put_in_order before x (in_order before xs) ≡ in_order before (cond b (x ∷ us) us) ++ in_order before (cond (not b) (x ∷ vs) vs)) [
+      elim (early x) as (λ b. early x ≡ b → put_in_order before x (in_order before xs) ≡ in_order before (cond b (x ∷ us) us)
+      ++ in_order before (cond (not b) (x ∷ vs) vs)) [
         | true ↦ λ e. ap (put_in_order before x) (in_order-cut xs) ∙ put_first x (in_order before us) (in_order before vs) e (all_late xs)
         | false ↦ λ e. ap (put_in_order before x) (in_order-cut xs) ∙ put_last x (in_order before us) (in_order before vs) e (all_early xs)
       ] refl

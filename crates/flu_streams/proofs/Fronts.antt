@@ -18,7 +18,8 @@ use Rattle.flu_streams.specs.Before.{with_before, each_with_before, first_some, 
 use Rattle.flu_streams.specs.Borders.{AreCutAt, beyond}
 use Rattle.flu_streams.specs.Fronts.{LawOfFronts, LawOfFrontsAbove, LawOfMeeting}
 use Rattle.flu_streams.specs.Good.{lists_of_rows, lists_of}
-use Rattle.flu_streams.specs.Rounds.{Turn, Open, Shut, Meets, Reads, IsWithin, IsRoundAt, Starts, GoesOn, ComesFrom, LinesIn, line_defect, defect_in, rows_between, lists_between}
+use Rattle.flu_streams.specs.Rounds.{Turn, Open, Shut, Meets, Reads, IsWithin, IsRoundAt, Starts, GoesOn, ComesFrom, LinesIn, line_defect, defect_in}
+use Rattle.flu_streams.specs.Rounds.{rows_between, lists_between}
 use Rattle.flu_streams.specs.Tags.{width}
 use Rattle.flu_streams.specs.Tests.{rows_of}
 use Rattle.flu_streams.proofs.BorderLaws.{folds_in_turn, items_are_cut}
@@ -30,23 +31,28 @@ all_up_to : (kinds : List Kind) (s : Source) (rows b : ℕ) (start above : Optio
     → Reads kinds s rows above whole before mid turn → IsWithin b turn → rows_between start (At b) (rows_of whole) ≡ rows_between start (At b) (rows_of mid)
 all_up_to kinds s rows b start above whole before mid (Open u) sound reads within =
     let is = reads.stops.0.1 in
-    ap (λ l. rows_between start (At b) (rows_of l)) is ∙ nothing_later kinds s start b mid reads.stops.0.0 u (ap (defect_in kinds s) (sym is) ∙ sound) reads.stops.2 within
+    ap (λ l. rows_between start (At b) (rows_of l)) is
+    ∙ nothing_later kinds s start b mid reads.stops.0.0 u (ap (defect_in kinds s) (sym is) ∙ sound) reads.stops.2 within
 all_up_to kinds s rows b start above whole before mid Shut sound reads within = ap (λ l. rows_between start (At b) (rows_of l)) reads.stops.0
 all_up_to kinds s rows b start above whole before mid (Meets row why) sound reads within = absurd within
 
-lists_up_to : (p : Program) (rows b : ℕ) (start above : Option ℕ) (whole before mid : ℕ → List Next) → AtEach (λ i s. defect_in p.kinds s (whole i) ≡ None) p.sources
+lists_up_to : (p : Program) (rows b : ℕ) (start above : Option ℕ) (whole before mid : ℕ → List Next)
+    → AtEach (λ i s. defect_in p.kinds s (whole i) ≡ None) p.sources
     → IsRoundAt p rows above whole before mid b → lists_between p start (At b) whole ≡ lists_between p start (At b) mid
 lists_up_to p rows b start above whole before mid sound was =
     flat_same _ _ (each_with_before p.sources)
-    (all_map (λ (e : List Source × Source). rows_between start (At b) (rows_of (whole (length e.0))) ≡ rows_between start (At b) (rows_of (mid (length e.0)))) _ (each_with_before p.sources)
+    (all_map (λ (e : List Source × Source). rows_between start (At b) (rows_of (whole (length e.0))) ≡ rows_between start (At b) (rows_of (mid (length e.0)))) _
+    (each_with_before p.sources)
     (λ e same. ap (lists_of_rows p.kinds e.1 (sum_by width e.0)) same)
     (each_source (λ i s. rows_between start (At b) (rows_of (whole i)) ≡ rows_between start (At b) (rows_of (mid i))) p.sources
     (λ i s e. let h = was.each i s e in all_up_to p.kinds s rows b start above (whole i) (before i) (mid i) h.0 (sound i s e) h.1 h.2)))
 
 -- all rows above the start of a run are cut at the border that it comes to
 module _ (p : Program) (rows : ℕ) (whole : ℕ → List Next) (start : Option ℕ) (sound : AtEach (λ i s. defect_in p.kinds s (whole i) ≡ None) p.sources)
-    (exceeds : (done : List (List (List Item))) (above : Option ℕ) (before mid : ℕ → List Next) (b : ℕ) → ComesFrom p rows whole start done above before → IsRoundAt p rows above whole before mid b → Exceeds b start) where
-  cut_at : (done : List (List (List Item))) (above : Option ℕ) (before : ℕ → List Next) → ComesFrom p rows whole start done above before → (t : ℕ) → above ≡ Some t
+    (exceeds : (done : List (List (List Item))) (above : Option ℕ) (before mid : ℕ → List Next) (b : ℕ) → ComesFrom p rows whole start done above before
+    → IsRoundAt p rows above whole before mid b → Exceeds b start) where
+  cut_at : (done : List (List (List Item))) (above : Option ℕ) (before : ℕ → List Next) → ComesFrom p rows whole start done above before → (t : ℕ)
+      → above ≡ Some t
       → AreCutAt t (lists_between p start Closed whole) (lists_between p start (At t) before) (lists_between p (Some t) Closed whole)
   cut_at done above before (Starts reads none) t is =
       subst (λ (o : Option ℕ). AreCutAt t (lists_between p o Closed whole) (lists_between p o (At t) reads) (lists_between p (Some t) Closed whole)) (sym is)
@@ -55,7 +61,8 @@ module _ (p : Program) (rows : ℕ) (whole : ℕ → List Next) (start : Option 
   cut_at done above before (GoesOn done' above' before' mid b came was) t is =
       let same : b ≡ t = cc in
       let cut = between_cut p b start Closed whole (λ n e. refl) (exceeds done' above' before' mid b came was) in
-      let there = subst (λ l. AreCutAt b (lists_between p start Closed whole) l (lists_between p (Some b) Closed whole)) (lists_up_to p rows b start above' whole before' mid sound was) cut in
+      let there = subst (λ l. AreCutAt b (lists_between p start Closed whole) l (lists_between p (Some b) Closed whole))
+      (lists_up_to p rows b start above' whole before' mid sound was) cut in
       subst (λ n. AreCutAt n (lists_between p start Closed whole) (lists_between p start (At n) mid) (lists_between p (Some n) Closed whole)) same there
 
 pub law_of_fronts : LawOfFronts
@@ -66,7 +73,8 @@ law_of_fronts p opening rows whole done t before left lines sound came =
     (cut_at p rows whole None sound (λ done above before mid b comes round n e. refl) done (Some t) before came t refl))
 
 -- the events of the rows above a border are the later ones of all
-later_events : (p : Program) (start : ℕ) (whole : ℕ → List Next) (left : Files) → LinesIn p left whole → AtEach (λ i s. defect_in p.kinds s (whole i) ≡ None) p.sources
+later_events : (p : Program) (start : ℕ) (whole : ℕ → List Next) (left : Files) → LinesIn p left whole
+    → AtEach (λ i s. defect_in p.kinds s (whole i) ≡ None) p.sources
     → all_events (lists_between p (Some start) Closed whole) ≡ all_events (beyond start (lists_of p left))
 later_events p start whole left lines sound =
     (between_cut p start None Closed whole (λ n e. refl) (λ n e. refl)).late
@@ -77,7 +85,8 @@ pub law_of_fronts_above : LawOfFrontsAbove
 law_of_fronts_above p opening rows whole start done t before left one lines sound came =
     let first = lists_between p (Some start) (At t) before in
     let second = lists_between p (Some t) Closed whole in
-    let cut = cut_at p rows whole (Some start) sound (λ done above before mid b comes round. exceeds_start p rows b whole (Some start) done above before one comes (round_exceeds p rows b above whole before mid one round)) done (Some t) before came t refl in
+    let cut = cut_at p rows whole (Some start) sound (λ done above before mid b comes round. exceeds_start p rows b whole
+    (Some start) done above before one comes (round_exceeds p rows b above whole before mid one round)) done (Some t) before came t refl in
     let all = later_events p start whole left lines sound in
     folds_in_turn p opening t (beyond start (lists_of p left)) first second (record {
       early = cut.early ∙ ap (filter (λ (x : EventOf). nat_le x.time t)) all;

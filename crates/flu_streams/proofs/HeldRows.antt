@@ -1,5 +1,6 @@
 -- What is held of a source behind the lines that were read of it.
-use Rattle.std.proofs.Common.{◌≡◌, inl, inr, ℕ, ◌+◌, ◌-◌, ◌<◌, ◌≤◌, max, Bool, true, false, cond, ◌||◌, ◌&&◌, eqb, List, [], ◌∷◌, ◌++◌, length, map, Option, Some, None, refl, sym, ap, ◌∙◌, arith}
+use Rattle.std.proofs.Common.{◌≡◌, inl, inr, ℕ, ◌+◌, ◌-◌, ◌<◌, ◌≤◌, max, Bool, true, false, cond, ◌||◌, ◌&&◌, eqb, List, [], ◌∷◌, ◌++◌, length, map, Option}
+use Rattle.std.proofs.Common.{Some, None, refl, sym, ap, ◌∙◌, arith}
 use Rattle.std.specs.Prelude.{not, nat_lt, nat_le, unwrap_or, option_map}
 use Rattle.std.specs.List.{filter, list_all, list_any}
 use Rattle.std.specs.Option.{option_map_or, option_to_list}
@@ -30,21 +31,25 @@ use Rattle.flu_streams.specs.Good.{time_at, in_time_order}
 use Rattle.flu_outside.specs.Outside.{Contents}
 use Rattle.flu_streams.specs.Holding.{HeldSource, IsHeldBehind, IsUpTo, still}
 use Rattle.flu_streams.specs.Lists.{item_time, times_in}
-use Rattle.flu_streams.specs.LoopHeld.{source_of, count_to, enough_of, enough_in, without, IsShort, CatchesUp, IsCaughtUp, Stays, Drops, Comes, test_late, fault_behind, put_timed, later_of, PutsIn, IsWellAt, taken_by}
+use Rattle.flu_streams.specs.LoopHeld.{source_of, count_to, enough_of, enough_in, without, IsShort, CatchesUp, IsCaughtUp, Stays, Drops, Comes, test_late}
+use Rattle.flu_streams.specs.LoopHeld.{fault_behind, put_timed, later_of, PutsIn, IsWellAt, taken_by}
 use Rattle.flu_streams.specs.LoopIntake.{item_of}
 use Rattle.flu_streams.specs.LoopSource.{defect_behind}
 use Rattle.flu_streams.specs.Rounds.{row_fault, line_defect, settled, settled_time, is_above, is_between, rows_between, is_enough}
-use Rattle.flu_streams.specs.Tests.{rows_of, has_ended, is_end, time_in, times_of, greatest, where_true, test_tag, test_value, test_behind, test_times, test_time}
+use Rattle.flu_streams.specs.Tests.{rows_of, has_ended, is_end, time_in, times_of, greatest, where_true, test_tag, test_value, test_behind, test_times}
+use Rattle.flu_streams.specs.Tests.{test_time}
 use Rattle.flu_streams.proofs.Cutting.{not_not, later_is, all_kept}
 use Rattle.flu_streams.proofs.Counting.{enough_is, none_enough, all_late}
-use Rattle.flu_streams.proofs.RoundLaws.{or_else-none, defect_in-more, not_late, settled_is, settled_some, line_settles, Exceeds, parts_at, early_between, late_between, none_between, kept_first, kept_second}
+use Rattle.flu_streams.proofs.RoundLaws.{or_else-none, defect_in-more, not_late, settled_is, settled_some, line_settles, Exceeds, parts_at, early_between}
+use Rattle.flu_streams.proofs.RoundLaws.{late_between, none_between, kept_first, kept_second}
 use Rattle.flu_streams.proofs.Taken.{any_time, greatest-push, times_more, ended_more, rows_more, item_time-of, items_late, IsNoRow, no_row_more}
 
 -- ---- items by their times
 filter_mapped : {X Y : Type 0} (p : Y → Bool) (f : X → Y) (xs : List X) → filter p (map f xs) ≡ map f (filter (λ x. p (f x)) xs)
 filter_mapped p f [] = refl
 filter_mapped p f (x ∷ xs) =
-    elim (p (f x)) as (λ b. cond b (f x ∷ filter p (map f xs)) (filter p (map f xs)) ≡ map f (cond b (x ∷ filter (λ y. p (f y)) xs) (filter (λ y. p (f y)) xs))) [
+    elim (p (f x)) as (λ b. cond b (f x ∷ filter p (map f xs)) (filter p (map f xs))
+    ≡ map f (cond b (x ∷ filter (λ y. p (f y)) xs) (filter (λ y. p (f y)) xs))) [
       | true ↦ ap (λ l. f x ∷ l) (filter_mapped p f xs)
       | false ↦ filter_mapped p f xs
     ]
@@ -285,9 +290,11 @@ pub fault_held : (kinds : List Kind) (s : Source) (first : ℕ) (above : Option 
 fault_held kinds s first above lines h mid row is goes items last ended =
     let at : IsSettled s.slack is.low h.last = border_settled kinds s first above lines h is goes in
     let same = test_same kinds s first is.low h.last (rows_of lines) h.items (time_in row) is.items is.last at in
-    ap (λ b. first_some (λ test. test) (where_true b AfterEnd ∷ test_tag kinds s row ∷ test_value kinds row ∷ test_time s.slack (times_of (rows_of lines)) row ∷ [])) (sym (ended ∙ is.ended))
+    ap (λ b. first_some (λ test. test) (where_true b AfterEnd ∷ test_tag kinds s row ∷ test_value kinds row ∷ test_time s.slack
+    (times_of (rows_of lines)) row ∷ [])) (sym (ended ∙ is.ended))
     ∙ ap (λ o. first_some (λ test. test) (where_true mid.ended AfterEnd ∷ test_tag kinds s row ∷ test_value kinds row ∷ o ∷ []))
-    (same ∙ ap (λ l. test_late s.slack (times_in l) h.last (time_in row)) (sym items) ∙ ap (λ o. test_late s.slack (times_in mid.items.items) o (time_in row)) (sym last))
+    (same ∙ ap (λ l. test_late s.slack (times_in l) h.last (time_in row)) (sym items)
+    ∙ ap (λ o. test_late s.slack (times_in mid.items.items) o (time_in row)) (sym last))
 
 -- ---- one line more
 one_between : (above : Option ℕ) (rows : List Row) (row : Row) → ((time : ℕ) → time_in row ≡ Some time → is_above above time ≡ true) → is_end row ≡ false
@@ -500,7 +507,8 @@ behind_caught kinds s first above lines old new c is = by_items c.items
       sound = is.sound;
       low = Some t;
       items = items ∙ left_items kinds s first is.low t (rows_of lines) old.items.items
-          (exceeds_low is.low t (λ l e. low_under s.slack t l old.last at (let k = is.settled goes l e in (k.0, sym (settled_held kinds s first above lines (source_of old) is) ∙ k.1, k.2)))) is.items;
+          (exceeds_low is.low t (λ l e. low_under s.slack t l old.last at
+          (let k = is.settled goes l e in (k.0, sym (settled_held kinds s first above lines (source_of old) is) ∙ k.1, k.2)))) is.items;
       last = c.last ∙ is.last;
       ended = c.ended ∙ is.ended;
       settled = λ open' v e. settled_at v (t, at, let same : t ≡ v = some_is e in omega (arith, same));

@@ -22,13 +22,16 @@ use Rattle.flu_streams.specs.declared.held.Stage.TheVariants.{Filled}
 use Rattle.flu_streams.specs.declared.inlet.Inlet.{Inlet}
 use Rattle.flu_streams.specs.declared.source.Stop.{Stop}
 use Rattle.flu_streams.specs.declared.source.Stop.TheVariants.{Defect, ReadFault, NoMemory}
-use Rattle.flu_streams.specs.Holding.{HeldSource, AreHeldBehind, AreClosed, ClosedAreReadOut, IsNewBorder, IsRefillFault, HidesNoRoundFault, first_itag, unread_source, still}
+use Rattle.flu_streams.specs.Holding.{HeldSource, AreHeldBehind, AreClosed, ClosedAreReadOut, IsNewBorder, IsRefillFault, HidesNoRoundFault, first_itag}
+use Rattle.flu_streams.specs.Holding.{unread_source, still}
 use Rattle.flu_streams.specs.Lists.{item_time}
 use Rattle.flu_streams.specs.LoopGathering.{fault_of_stop}
-use Rattle.flu_streams.specs.LoopHeld.{source_of, IsRefilled, MeetsDefect, IsStopOf, HasRefilled, StopsAtSource, IsSettledAt, IsSettledBy, IsTurnOf, IsWellAt, AreWell, AreCaughtUp, IsWell}
+use Rattle.flu_streams.specs.LoopHeld.{source_of, IsRefilled, MeetsDefect, IsStopOf, HasRefilled, StopsAtSource, IsSettledAt, IsSettledBy, IsTurnOf, IsWellAt}
+use Rattle.flu_streams.specs.LoopHeld.{AreWell, AreCaughtUp, IsWell}
 use Rattle.flu_streams.specs.Rounds.{Reads, Meets, IsWithin, defect_in, is_above, is_enough}
 use Rattle.flu_streams.proofs.RoundOf.{told_from, at_told, choose, reads_at, turn_of, passed, holding, behind_at, all_closed, earliest_within, earliest_among}
-use Rattle.flu_streams.proofs.Starts.{from_mapped, to_mapped, one_there, fresh_at}
+use Rattle.flu_lemmas.proofs.Mapped.{from_mapped}
+use Rattle.flu_streams.proofs.Starts.{to_mapped, one_there, fresh_at}
 
 -- ---- what is held behind a refill
 -- what was done to one source
@@ -95,8 +98,11 @@ refill_caught p rows border olds news a b end well has i h f =
 
 pub refill_well : (p : Program) (rows : ℕ) (border : Option ℕ) (olds news : List Inlet) (a b : Option Contents) (end : Border)
     → AreWell p rows border olds → HasRefilled p rows olds news a b end → IsWell p rows border (Filled end) news
-refill_well p rows border olds news a b end well has =
-    (refill_keeps p rows border olds news a b end well has, refill_settles p rows border olds news a b end well has, refill_caught p rows border olds news a b end well has)
+refill_well p rows border olds news a b end well has = (
+  refill_keeps p rows border olds news a b end well has,
+  refill_settles p rows border olds news a b end well has,
+  refill_caught p rows border olds news a b end well has,
+)
 
 pub refill_out : (p : Program) (rows : ℕ) (border : Option ℕ) (stage stage' : Stage) (olds news : List Inlet) (a b : Option Contents) (end : Border)
     → AreWell p rows border olds → HasRefilled p rows olds news a b end
@@ -109,7 +115,8 @@ refill_out p rows border stage stage' olds news a b end well has was i source f 
     let file_was : one.old.rows.file ≡ s.0.file = (well.each i s.0 s.1 one.old one.was).file in
     let file_is : k.0.rows.file ≡ s.0.file = ((refill_keeps p rows border olds news a b end well has).each i s.0 s.1 k.0 k.1).file in
     let shut : one.new.closed ≡ true = ap (λ (h : Inlet). h.closed) same ∙ ap (λ (h : HeldSource). h.closed) (sym k.2) ∙ closed in
-    let out = one.done.out (λ before. subst (λ n. IsReadOut n a) file_was (was i (source_of one.old) (to_mapped source_of olds i one.old one.was) before)) shut in
+    let out = one.done.out (λ before. subst (λ n. IsReadOut n a) file_was (was i (source_of one.old) (to_mapped source_of olds i one.old one.was) before)) shut
+    in
     subst (λ n. IsReadOut n b) (sym (ap (λ (h : HeldSource). h.place.file) k.2 ∙ file_is)) out
 
 pub refill_closed : (p : Program) (rows : ℕ) (border : Option ℕ) (stage : Stage) (olds news : List Inlet) (a b : Option Contents) (end : Border)
@@ -152,7 +159,8 @@ pub refill_fault : (p : Program) (rows : ℕ) (border : Option ℕ) (stage : Sta
 refill_fault p rows border stage olds a b Q fault count told st =
     subst (IsRefillFault (holding p rows border stage olds) a b) (sym st.cause) (by_stop st.stop st.own)
   where
-    by_stop : (stop : Stop) → ((old : Inlet) → slice_get olds (length st.ends) ≡ Some old → IsStopOf p.kinds st.source (first_itag p (length st.ends)) rows old a b stop)
+    by_stop : (stop : Stop) → ((old : Inlet) → slice_get olds (length st.ends) ≡ Some old
+        → IsStopOf p.kinds st.source (first_itag p (length st.ends)) rows old a b stop)
         → IsRefillFault (holding p rows border stage olds) a b (fault_of_stop (length st.ends) stop)
     by_stop (Defect row why) own = (
       slice_get_within p.sources (length st.ends) st.source st.is,
@@ -190,7 +198,8 @@ pub refill_hides : (p : Program) (rows : ℕ) (border : Option ℕ) (stage : Sta
     → HidesNoRoundFault (holding p rows border stage olds) a b before
 refill_hides p rows border stage olds a b Q fault count told st is before behind = by_stop st.stop st.own (sym st.cause ∙ is)
   where
-    by_stop : (stop : Stop) → ((old : Inlet) → slice_get olds (length st.ends) ≡ Some old → IsStopOf p.kinds st.source (first_itag p (length st.ends)) rows old a b stop)
+    by_stop : (stop : Stop) → ((old : Inlet) → slice_get olds (length st.ends) ≡ Some old
+        → IsStopOf p.kinds st.source (first_itag p (length st.ends)) rows old a b stop)
         → fault_of_stop (length st.ends) stop ≡ ReadFaulty → HidesNoRoundFault (holding p rows border stage olds) a b before
     by_stop (Defect row why) own e = absurd cc
     by_stop NoMemory own e = absurd cc

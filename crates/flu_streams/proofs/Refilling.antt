@@ -1,5 +1,6 @@
 -- How one source is read in a round.
-use Rattle.std.proofs.Common.{◌≡◌, inl, inr, ℕ, ◌<◌, ◌≤◌, Bool, true, false, List, [], ◌∷◌, ◌++◌, length, take, Option, Some, None, refl, sym, ap, subst, ◌∙◌, append_assoc, length-append, arith}
+use Rattle.std.proofs.Common.{◌≡◌, inl, inr, ℕ, ◌<◌, ◌≤◌, Bool, true, false, List, [], ◌∷◌, ◌++◌, length, take, Option, Some, None, refl, sym, ap, subst, ◌∙◌}
+use Rattle.std.proofs.Common.{append_assoc, length-append, arith}
 use Rattle.std.specs.Prelude.{option_map, unwrap_or}
 use Rattle.std.proofs.lemmas.Bool.{cases_lt}
 use Rattle.std.proofs.lemmas.List.{append-nil, take_all, take-append-le}
@@ -20,12 +21,14 @@ use Rattle.flu_streams.specs.declared.inlet.Inlet.{Inlet}
 use Rattle.flu_streams.specs.declared.intake.RowRefusal.{RowRefusal}
 use Rattle.flu_streams.specs.declared.intake.RowRefusal.TheVariants.{Fault, NoMemory}
 use Rattle.flu_streams.specs.Holding.{HeldSource, IsHeldBehind, still}
-use Rattle.flu_streams.specs.LoopHeld.{source_of, enough_of, enough_in, IsShort, CatchesUp, fault_behind, PutsIn, IsWellAt, IsRefilling, IsRefilled, MeetsDefect, StopsBehind, IsStopOf}
+use Rattle.flu_streams.specs.LoopHeld.{source_of, enough_of, enough_in, IsShort, CatchesUp, fault_behind, PutsIn, IsWellAt, IsRefilling, IsRefilled}
+use Rattle.flu_streams.specs.LoopHeld.{MeetsDefect, StopsBehind, IsStopOf}
 use Rattle.flu_streams.specs.LoopIntake.{IsRefusal}
 use Rattle.flu_streams.specs.LoopSource.{stop_at, defect_behind}
 use Rattle.flu_streams.specs.Rounds.{settled, is_enough}
 use Rattle.flu_streams.proofs.Counting.{enough_is, above_at}
-use Rattle.flu_streams.proofs.HeldRows.{without_some, enough_held, not_enough_held, enough_still, fault_held, defect_held, behind_row, behind_end, behind_caught, well_caught, still_caught}
+use Rattle.flu_streams.proofs.HeldRows.{without_some, enough_held, not_enough_held, enough_still, fault_held, defect_held, behind_row, behind_end}
+use Rattle.flu_streams.proofs.HeldRows.{behind_caught, well_caught, still_caught}
 use Rattle.flu_streams.proofs.RoundLaws.{settled_is}
 use Rattle.flu_streams.proofs.Taken.{IsNoRow, then_last}
 
@@ -70,7 +73,8 @@ few_held kinds s first rows above before old now a b one r e =
 
 pub refilling_row : (kinds : List Kind) (s : Source) (first rows : ℕ) (old : HeldSource) (now mid new : Inlet) (a b c : Option Contents) (line : ℕ)
     (row : Row) → 1 ≤ rows
-    → ((above : Option ℕ) (before : List Next) → IsHeldBehind kinds first s above before old → IsRefilling kinds s first rows above before old (source_of now) a b)
+    → ((above : Option ℕ) (before : List Next) → IsHeldBehind kinds first s above before old
+    → IsRefilling kinds s first rows above before old (source_of now) a b)
     → now.closed ≡ false → IsShort rows s (source_of now) → mid.items.items ≡ now.items.items → mid.last ≡ now.last
     → mid.ended ≡ now.ended → mid.closed ≡ now.closed → mid.goal ≡ now.goal → mid.rows.file ≡ s.file
     → WhereTold b c (λ was is. ahead now.rows was ≡ then_behind (RowNext line row) (ahead mid.rows is)) → PutsIn kinds s first row mid new
@@ -87,7 +91,8 @@ refilling_row kinds s first rows old now mid new a b c line row one so_far goes 
       shortest = few_more (λ l. is_enough rows above s (before ++ l)) r.more next (few_held kinds s first rows above before old (source_of now) a b one r e);
       told = told_then (λ was at. still old was ≡ r.more ++ still (source_of now) at) (λ was at. ahead now.rows was ≡ then_behind next (ahead mid.rows at))
           (λ was at. still old was ≡ (r.more ++ next ∷ []) ++ still (source_of new) at) a b c
-          (λ x y z p q. p ∙ ap (λ (rest : List Next). r.more ++ rest) (still_open (source_of now) y goes ∙ q ∙ ap (λ (place : Place). next ∷ ahead place z) (sym puts.rows)
+          (λ x y z p q. p ∙ ap (λ (rest : List Next). r.more ++ rest)
+          (still_open (source_of now) y goes ∙ q ∙ ap (λ (place : Place). next ∷ ahead place z) (sym puts.rows)
           ∙ ap (λ (rest : List Next). next ∷ rest) (sym (still_open (source_of new) z still_goes)))
           ∙ sym (append_assoc r.more (next ∷ []) (still (source_of new) z))) r.told told;
     }
@@ -105,7 +110,8 @@ meets_row kinds s first rows above before old now mid a b c line row why one r g
   next = RowNext line row;
   sound = r.behind.sound;
   few = few_held kinds s first rows above before old (source_of now) a b one r e;
-  defect = ap (option_map (λ (w : Why). (line, w))) (fault_held kinds s first above (before ++ r.more) (source_of now) mid row r.behind goes items last ended ∙ fault);
+  defect = ap (option_map (λ (w : Why). (line, w))) (fault_held kinds s first above (before ++ r.more) (source_of now) mid row r.behind goes items last ended
+      ∙ fault);
   told = told_then (λ was at. still old was ≡ r.more ++ still (source_of now) at)
       (λ was at. ahead now.rows was ≡ then_behind (RowNext line row) (ahead mid.rows at))
       (λ was at. (rest : List Next) × (still old was ≡ r.more ++ (RowNext line row ∷ rest))) a b c
@@ -114,7 +120,8 @@ meets_row kinds s first rows above before old now mid a b c line row why one r g
 
 pub refused_row : (kinds : List Kind) (s : Source) (first rows : ℕ) (old now mid : Inlet) (a b c : Option Contents) (line : ℕ) (row : Row)
     (refusal : RowRefusal) → 1 ≤ rows
-    → ((above : Option ℕ) (before : List Next) → IsHeldBehind kinds first s above before (source_of old) → IsRefilling kinds s first rows above before (source_of old) (source_of now) a b)
+    → ((above : Option ℕ) (before : List Next) → IsHeldBehind kinds first s above before (source_of old)
+    → IsRefilling kinds s first rows above before (source_of old) (source_of now) a b)
     → now.closed ≡ false → IsShort rows s (source_of now) → mid.items.items ≡ now.items.items → mid.last ≡ now.last
     → mid.ended ≡ now.ended
     → WhereTold b c (λ was is. ahead now.rows was ≡ then_behind (RowNext line row) (ahead mid.rows is)) → IsRefusal (fault_behind kinds s mid row) refusal
@@ -125,7 +132,8 @@ refused_row kinds s first rows old now mid a b c line row (Fault why) one so_far
 
 pub meets_last : (kinds : List Kind) (s : Source) (first rows : ℕ) (old now : Inlet) (place : Place) (a b c : Option Contents) (next : Next)
     (row : ℕ) (why : Why) → 1 ≤ rows
-    → ((above : Option ℕ) (before : List Next) → IsHeldBehind kinds first s above before (source_of old) → IsRefilling kinds s first rows above before (source_of old) (source_of now) a b)
+    → ((above : Option ℕ) (before : List Next) → IsHeldBehind kinds first s above before (source_of old)
+    → IsRefilling kinds s first rows above before (source_of old) (source_of now) a b)
     → now.closed ≡ false → IsShort rows s (source_of now)
     → WhereTold b c (λ was is. ahead now.rows was ≡ then_behind next (ahead place is)) → IsNoRow next → defect_behind now.ended next ≡ Some (row, why)
     → (above : Option ℕ) (before : List Next) → IsHeldBehind kinds first s above before (source_of old)
@@ -141,11 +149,13 @@ meets_last kinds s first rows old now place a b c next row why one so_far goes e
       told = told_then (λ was at. still (source_of old) was ≡ r.more ++ still (source_of now) at)
           (λ was at. ahead now.rows was ≡ then_behind next (ahead place at))
           (λ was at. (rest : List Next) × (still (source_of old) was ≡ r.more ++ (next ∷ rest))) a b c
-          (λ x y z p q. ([], p ∙ ap (λ (rest : List Next). r.more ++ rest) (still_open (source_of now) y goes ∙ q ∙ then_last next (ahead place z) other))) r.told told;
+          (λ x y z p q. ([], p ∙ ap (λ (rest : List Next). r.more ++ rest) (still_open (source_of now) y goes ∙ q ∙ then_last next (ahead place z) other)))
+          r.told told;
     }
 
 pub stops_behind : (kinds : List Kind) (s : Source) (first rows : ℕ) (old now : Inlet) (place : Place) (a b c : Option Contents) → 1 ≤ rows
-    → ((above : Option ℕ) (before : List Next) → IsHeldBehind kinds first s above before (source_of old) → IsRefilling kinds s first rows above before (source_of old) (source_of now) a b)
+    → ((above : Option ℕ) (before : List Next) → IsHeldBehind kinds first s above before (source_of old)
+    → IsRefilling kinds s first rows above before (source_of old) (source_of now) a b)
     → now.closed ≡ false → IsShort rows s (source_of now) → place.file ≡ s.file → IsUndecided place.taken
     → WhereTold b c (λ was is. ahead now.rows was ≡ ahead place is)
     → (above : Option ℕ) (before : List Next) → IsHeldBehind kinds first s above before (source_of old)
@@ -166,7 +176,8 @@ stops_behind kinds s first rows old now place a b c one so_far goes e file undec
 
 -- ---- where it is done
 pub refilled_open : (kinds : List Kind) (s : Source) (first rows u : ℕ) (old now : Inlet) (a b : Option Contents) → 1 ≤ rows
-    → ((above : Option ℕ) (before : List Next) → IsHeldBehind kinds first s above before (source_of old) → IsRefilling kinds s first rows above before (source_of old) (source_of now) a b)
+    → ((above : Option ℕ) (before : List Next) → IsHeldBehind kinds first s above before (source_of old)
+    → IsRefilling kinds s first rows above before (source_of old) (source_of now) a b)
     → ((border : Option ℕ) → IsWellAt s border old → IsWellAt s border now)
     → ((old.closed ≡ true → IsReadOut s.file a) → now.closed ≡ true → IsReadOut s.file b)
     → enough_in rows s.slack (source_of now) ≡ Some u → IsRefilled kinds s first rows old now a b (At u)
@@ -176,7 +187,10 @@ refilled_open kinds s first rows u old now a b one so_far well out e =
     record {
       keeps = well;
       caught = found.0;
-      border = λ above was. (above_at above u now.items.items ((well above was).above found.0) (omega (arith, one, k.count)), omega (arith, under_last s.slack u now.last k.settles, now.range));
+      border = λ above was. (
+        above_at above u now.items.items ((well above was).above found.0) (omega (arith, one, k.count)),
+        omega (arith, under_last s.slack u now.last k.settles, now.range),
+      );
       turn = k.settles;
       out = out;
       reads = λ above before is. let r = so_far above before is in
@@ -184,7 +198,8 @@ refilled_open kinds s first rows u old now a b one so_far well out e =
     }
 
 pub refilled_shut : (kinds : List Kind) (s : Source) (first rows : ℕ) (old now : Inlet) (a b : Option Contents) → 1 ≤ rows
-    → ((above : Option ℕ) (before : List Next) → IsHeldBehind kinds first s above before (source_of old) → IsRefilling kinds s first rows above before (source_of old) (source_of now) a b)
+    → ((above : Option ℕ) (before : List Next) → IsHeldBehind kinds first s above before (source_of old)
+    → IsRefilling kinds s first rows above before (source_of old) (source_of now) a b)
     → ((border : Option ℕ) → IsWellAt s border old → IsWellAt s border now)
     → ((old.closed ≡ true → IsReadOut s.file a) → now.closed ≡ true → IsReadOut s.file b)
     → IsShort rows s (source_of now) → now.closed ≡ true → now.goal ≡ None → IsRefilled kinds s first rows old now a b Closed
@@ -199,7 +214,8 @@ refilled_shut kinds s first rows old now a b one so_far well out e closed caught
 }
 
 pub refilled_end : (kinds : List Kind) (s : Source) (first rows : ℕ) (old now shut new : Inlet) (a b c : Option Contents) (next : Next) → 1 ≤ rows
-    → ((above : Option ℕ) (before : List Next) → IsHeldBehind kinds first s above before (source_of old) → IsRefilling kinds s first rows above before (source_of old) (source_of now) a b)
+    → ((above : Option ℕ) (before : List Next) → IsHeldBehind kinds first s above before (source_of old)
+    → IsRefilling kinds s first rows above before (source_of old) (source_of now) a b)
     → ((border : Option ℕ) → IsWellAt s border old → IsWellAt s border now) → now.closed ≡ false → IsShort rows s (source_of now)
     → WhereTold b c (λ was is. ahead now.rows was ≡ then_behind next (ahead shut.rows is)) → IsNoRow next → defect_behind now.ended next ≡ None
     → IsReadOut s.file c
@@ -231,7 +247,8 @@ refilled_end kinds s first rows old now shut new a b c next one so_far well goes
               (λ was at. ahead now.rows was ≡ then_behind next (ahead shut.rows at))
               (λ was at. still (source_of old) was ≡ (r.more ++ next ∷ []) ++ still (source_of new) at) a b c
               (λ x y z p q. p ∙ ap (λ (rest : List Next). r.more ++ rest) (still_open (source_of now) y goes ∙ q ∙ then_last next (ahead shut.rows z) other)
-              ∙ sym (ap (λ (rest : List Next). (r.more ++ next ∷ []) ++ rest) (still_closed (source_of new) z now_closed) ∙ append-nil (r.more ++ next ∷ []))) r.told told;
+              ∙ sym (ap (λ (rest : List Next). (r.more ++ next ∷ []) ++ rest) (still_closed (source_of new) z now_closed) ∙ append-nil (r.more ++ next ∷ [])))
+              r.told told;
         };
         ends = (
           now_closed,

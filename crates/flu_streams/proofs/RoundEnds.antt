@@ -93,16 +93,21 @@ ends_last kinds s read (RowNext line End ∷ more) goes sound =
     )
 ends_last kinds s read (RowNext line (Event time name key value) ∷ more) goes sound =
     let next = RowNext line (Event time name key value) in
-    subst (λ l. EndsLast (rows_of l)) (sym (regroup read next more)) (ends_last kinds s (read ++ next ∷ []) more (goes_still read next goes refl) (ap (defect_in kinds s) (sym (regroup read next more)) ∙ sound))
+    subst (λ l. EndsLast (rows_of l)) (sym (regroup read next more))
+    (ends_last kinds s (read ++ next ∷ []) more (goes_still read next goes refl) (ap (defect_in kinds s) (sym (regroup read next more)) ∙ sound))
 ends_last kinds s read (RowNext line (Beat time) ∷ more) goes sound =
     let next = RowNext line (Beat time) in
-    subst (λ l. EndsLast (rows_of l)) (sym (regroup read next more)) (ends_last kinds s (read ++ next ∷ []) more (goes_still read next goes refl) (ap (defect_in kinds s) (sym (regroup read next more)) ∙ sound))
+    subst (λ l. EndsLast (rows_of l)) (sym (regroup read next more))
+    (ends_last kinds s (read ++ next ∷ []) more (goes_still read next goes refl) (ap (defect_in kinds s) (sym (regroup read next more)) ∙ sound))
 ends_last kinds s read (Bad line ∷ more) goes sound =
-    subst (λ l. EndsLast (rows_of l)) (sym (regroup read (Bad line) more)) (ends_last kinds s (read ++ Bad line ∷ []) more (goes_still read (Bad line) goes refl) (ap (defect_in kinds s) (sym (regroup read (Bad line) more)) ∙ sound))
+    subst (λ l. EndsLast (rows_of l)) (sym (regroup read (Bad line) more)) (ends_last kinds s (read ++ Bad line ∷ []) more
+    (goes_still read (Bad line) goes refl) (ap (defect_in kinds s) (sym (regroup read (Bad line) more)) ∙ sound))
 ends_last kinds s read (TooManyLines ∷ more) goes sound =
-    subst (λ l. EndsLast (rows_of l)) (sym (regroup read TooManyLines more)) (ends_last kinds s (read ++ TooManyLines ∷ []) more (goes_still read TooManyLines goes refl) (ap (defect_in kinds s) (sym (regroup read TooManyLines more)) ∙ sound))
+    subst (λ l. EndsLast (rows_of l)) (sym (regroup read TooManyLines more)) (ends_last kinds s (read ++ TooManyLines ∷ []) more
+    (goes_still read TooManyLines goes refl) (ap (defect_in kinds s) (sym (regroup read TooManyLines more)) ∙ sound))
 ends_last kinds s read (Done lines ∷ more) goes sound =
-    subst (λ l. EndsLast (rows_of l)) (sym (regroup read (Done lines) more)) (ends_last kinds s (read ++ Done lines ∷ []) more (goes_still read (Done lines) goes refl) (ap (defect_in kinds s) (sym (regroup read (Done lines) more)) ∙ sound))
+    subst (λ l. EndsLast (rows_of l)) (sym (regroup read (Done lines) more)) (ends_last kinds s (read ++ Done lines ∷ []) more
+    (goes_still read (Done lines) goes refl) (ap (defect_in kinds s) (sym (regroup read (Done lines) more)) ∙ sound))
 
 -- ---- all rows that have a time
 all_timed : (rows : List Row) → has_ended rows ≡ false → rows_between None Closed rows ≡ rows
@@ -135,7 +140,8 @@ lists_are p now left rows =
     (λ e h. timed_lists p.kinds e.1 (sum_by width e.0) (rows_of (now (length e.0))) h.1 ∙ ap (lists_of_rows p.kinds e.1 (sum_by width e.0)) h.0)
     (each_source (λ i s. (rows_of (now i) ≡ rows_in left s) × EndsLast (rows_of (now i))) p.sources rows))
 
-pub whole_lists : (p : Program) (whole : ℕ → List Next) (left : Contents) → LinesIn p left whole → AtEach (λ i s. defect_in p.kinds s (whole i) ≡ None) p.sources
+pub whole_lists : (p : Program) (whole : ℕ → List Next) (left : Contents) → LinesIn p left whole
+    → AtEach (λ i s. defect_in p.kinds s (whole i) ≡ None) p.sources
     → lists_between p None Closed whole ≡ lists_of p left
 whole_lists p whole left lines sound = lists_are p whole left (sound_rows p whole left lines sound)
 

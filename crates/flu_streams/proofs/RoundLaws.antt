@@ -1,5 +1,6 @@
 -- What rounds take: the rows up to a border come all before the later ones, and none of them is read later.
-use Rattle.std.proofs.Common.{◌≡◌, inl, inr, ◌⊎◌, ◌<◌, ◌≤◌, ◌+◌, ◌-◌, ℕ, suc, max, Bool, true, false, cond, List, [], ◌∷◌, ◌++◌, map, length, Option, Some, None, refl, sym, ap, ◌∙◌, append_assoc, length-append, arith, subst}
+use Rattle.std.proofs.Common.{◌≡◌, inl, inr, ◌⊎◌, ◌<◌, ◌≤◌, ◌+◌, ◌-◌, ℕ, suc, max, Bool, true, false, cond, List, [], ◌∷◌, ◌++◌, map, length, Option, Some}
+use Rattle.std.proofs.Common.{None, refl, sym, ap, ◌∙◌, append_assoc, length-append, arith, subst}
 use Rattle.std.specs.Prelude.{pos, not, nat_lt, nat_le, ◌==◌, ◌&&◌, ◌||◌, option_map, unwrap_or, slice_get, sum_by, if◌then◌else◌}
 use Rattle.std.specs.List.{filter, filter_map, flat_map, list_all, cons_option, range_with_len, AllByRecursion}
 use Rattle.std.specs.Option.{option_to_list, option_map_or}
@@ -34,7 +35,9 @@ use Rattle.flu_streams.specs.declared.faults.Why.{Why}
 use Rattle.flu_streams.specs.Before.{with_before, each_with_before, first_some, or_else}
 use Rattle.flu_streams.specs.Borders.{AreCutAt, FoldsInTurn}
 use Rattle.flu_streams.specs.Good.{time_at, item_in, in_time_order, items_at, lists_of_rows}
-use Rattle.flu_streams.specs.Rounds.{row_fault, line_defect, defect_in, settled, settled_time, is_above, is_up_to, is_between, rows_between, is_enough, Turn, Open, Shut, Meets, StopsAt, Reads, IsWithin, IsRoundAt, IsRound, lists_between, ComesFrom, Starts, GoesOn, state_in_turn, outputs_in_turn, reports_in_turn, GiveTheFold, LawOfRounds, LawOfNoRows}
+use Rattle.flu_streams.specs.Rounds.{row_fault, line_defect, defect_in, settled, settled_time, is_above, is_up_to, is_between, rows_between, is_enough, Turn}
+use Rattle.flu_streams.specs.Rounds.{Open, Shut, Meets, StopsAt, Reads, IsWithin, IsRoundAt, IsRound, lists_between, ComesFrom, Starts, GoesOn, state_in_turn}
+use Rattle.flu_streams.specs.Rounds.{outputs_in_turn, reports_in_turn, GiveTheFold, LawOfRounds, LawOfNoRows}
 use Rattle.flu_streams.specs.Tags.{place_named, width}
 use Rattle.flu_streams.specs.Tests.{row_in, rows_of, time_in, times_of, greatest, where_true, test_behind, test_times, test_time, test_tag, test_value}
 use Rattle.flu_streams.proofs.Befores.{with_before-append, first_some-append}
@@ -48,7 +51,8 @@ or_else-none None b e = (refl, e)
 or_else-none (Some x) b e = absurd cc
 
 pub defect_in-append : (kinds : List Kind) (s : Source) (read more : List Next)
-    → defect_in kinds s (read ++ more) ≡ or_else (defect_in kinds s read) (first_some (λ (e : List Next × Next). line_defect kinds s e.0 e.1) (with_before read more))
+    → defect_in kinds s (read ++ more) ≡ or_else (defect_in kinds s read)
+    (first_some (λ (e : List Next × Next). line_defect kinds s e.0 e.1) (with_before read more))
 defect_in-append kinds s read more =
     let f = λ (e : List Next × Next). line_defect kinds s e.0 e.1 in
     ap (first_some f) (with_before-append [] read more) ∙ first_some-append f (with_before [] read) (with_before read more)
@@ -109,8 +113,14 @@ time_settles slack u time earlier was passes = by_top (greatest earlier) refl wa
     by_top (Some last) top was passes =
         let is = settled_is slack last u was in
         let late = not_late slack time last _ _ passes in
-        let more : greatest (earlier ++ time ∷ []) ≡ Some (max last time) = greatest-push earlier time ∙ ap (λ o. Some (max (unwrap_or o 0) time)) top in
-        (omega (arith, late, is.0, is.1), (max last time - slack, rw more (settled_some slack (max last time) (omega (arith, is.0))), omega (arith, is.0, is.1)))
+        let more : greatest (earlier ++ time ∷ []) ≡ Some (max last time) = greatest-push earlier time ∙ ap (λ o. Some (max (unwrap_or o 0) time)) top in (
+          omega (arith, late, is.0, is.1),
+          (
+            max last time - slack,
+            rw more (settled_some slack (max last time) (omega (arith, is.0))),
+            omega (arith, is.0, is.1),
+          ),
+        )
 
 pub times_with : (read : List Next) (line : ℕ) (row : Row) (time : ℕ) → time_in row ≡ Some time
     → times_of (rows_of (read ++ RowNext line row ∷ [])) ≡ times_of (rows_of read) ++ time ∷ []
@@ -154,10 +164,12 @@ settles_row s read line row time u was at passes =
 pub line_settles : (kinds : List Kind) (s : Source) (read : List Next) (next : Next) (u : ℕ) → settled_time s read ≡ Some u
     → line_defect kinds s read next ≡ None → Settles s read next u
 line_settles kinds s read (RowNext line (EventRow time name key value)) u was e =
-    settles_row s read line (EventRow time name key value) time u was refl (passes_time kinds s _ _ (EventRow time name key value) (no_option (λ (why : Why). (line, why)) _ e))
+    settles_row s read line (EventRow time name key value) time u was refl
+    (passes_time kinds s _ _ (EventRow time name key value) (no_option (λ (why : Why). (line, why)) _ e))
 line_settles kinds s read (RowNext line (BeatRow time)) u was e =
     settles_row s read line (BeatRow time) time u was refl (passes_time kinds s _ _ (BeatRow time) (no_option (λ (why : Why). (line, why)) _ e))
-line_settles kinds s read (RowNext line EndRow) u was e = settles_still s read (RowNext line EndRow) u was (λ row is. let same : EndRow ≡ row = cc in ap time_in (sym same))
+line_settles kinds s read (RowNext line EndRow) u was e =
+    settles_still s read (RowNext line EndRow) u was (λ row is. let same : EndRow ≡ row = cc in ap time_in (sym same))
 line_settles kinds s read (Bad line) u was e = absurd cc
 line_settles kinds s read TooManyLines u was e = absurd cc
 line_settles kinds s read (Done lines) u was e = settles_still s read (Done lines) u was (λ row is. absurd cc)
@@ -248,7 +260,11 @@ events_timed g kinds s first place [] all = refl
 events_timed g kinds s first place (EventRow time name key value ∷ rows) all =
     let rest = events_timed g kinds s first place rows (and_right (g time) _ all) in
     elim (unwrap_or (option_map (λ n. n == place) (place_named kinds s name key)) false)
-    as (λ b. list_all (λ (x : Event). g x.time) (events_of (cons_option (if b then Some (EventItem (record { time = time; itag = record { 0 = first + place }; value = unwrap_or value (pos 0) })) else None) (filter_map (item_in kinds s first place) rows))) ≡ true) [
+    as (λ b. list_all (λ (x : Event). g x.time) (events_of (cons_option (if b then Some (EventItem (record {
+      time = time;
+      itag = record { 0 = first + place };
+      value = unwrap_or value (pos 0);
+    })) else None) (filter_map (item_in kinds s first place) rows))) ≡ true) [
       | true ↦ both (g time) _ (and_left (g time) _ all) rest
       | false ↦ rest
     ]
@@ -299,9 +315,11 @@ late_timed false false e h = refl
 late_row : (above : Option ℕ) (b : ℕ) (end : Border) → Exceeds b above → (row : Row)
     → (is_between above end row && not (nat_le (time_at row) b)) ≡ is_between (Some b) end row
 late_row above b end exceeds (EventRow time name key value) =
-    let e : not (nat_le time b) ≡ nat_lt b time = grind (arith, nat_tests) in rw e (late_timed (is_above above time) (nat_lt b time) (is_up_to end time) (exceeds time))
+    let e : not (nat_le time b) ≡ nat_lt b time = grind (arith, nat_tests) in
+    rw e (late_timed (is_above above time) (nat_lt b time) (is_up_to end time) (exceeds time))
 late_row above b end exceeds (BeatRow time) =
-    let e : not (nat_le time b) ≡ nat_lt b time = grind (arith, nat_tests) in rw e (late_timed (is_above above time) (nat_lt b time) (is_up_to end time) (exceeds time))
+    let e : not (nat_le time b) ≡ nat_lt b time = grind (arith, nat_tests) in
+    rw e (late_timed (is_above above time) (nat_lt b time) (is_up_to end time) (exceeds time))
 late_row above b end exceeds EndRow = refl
 
 -- among the rows of a round those up to a border, and the later ones
@@ -327,7 +345,8 @@ pub record PartsAt (b : ℕ) (rows first second : List Row) : Type 0 where
   pub early : list_all (λ (row : Row). nat_le (time_at row) b) (in_time_order first) ≡ true
   pub late : list_all (λ (row : Row). not (nat_le (time_at row) b)) (in_time_order second) ≡ true
 
-pub parts_at : (b : ℕ) (rows : List Row) → PartsAt b rows (filter (λ (row : Row). nat_le (time_at row) b) rows) (filter (λ (row : Row). not (nat_le (time_at row) b)) rows)
+pub parts_at : (b : ℕ) (rows : List Row) → PartsAt b rows (filter (λ (row : Row). nat_le (time_at row) b) rows)
+    (filter (λ (row : Row). not (nat_le (time_at row) b)) rows)
 parts_at b rows = record {
   order = in_order-cut (is_less time_at) (λ (row : Row). nat_le (time_at row) b) (row_first b) (row_last b) rows;
   early = all_early (is_less time_at) (λ (row : Row). nat_le (time_at row) b) (row_first b) (row_last b) rows;
@@ -338,7 +357,8 @@ pub parts_between : (above : Option ℕ) (b : ℕ) (end : Border) (rows : List R
     → PartsAt b (rows_between above end rows) (rows_between above (At b) rows) (rows_between (Some b) end rows)
 parts_between above b end rows covers exceeds =
     subst (λ first. PartsAt b (rows_between above end rows) first (rows_between (Some b) end rows)) (early_between above b end rows covers)
-    (subst (λ second. PartsAt b (rows_between above end rows) (filter (λ (row : Row). nat_le (time_at row) b) (rows_between above end rows)) second) (late_between above b end rows exceeds) (parts_at b (rows_between above end rows)))
+    (subst (λ second. PartsAt b (rows_between above end rows) (filter (λ (row : Row). nat_le (time_at row) b) (rows_between above end rows)) second)
+    (late_between above b end rows exceeds) (parts_at b (rows_between above end rows)))
 
 -- ---- the events of an itag
 pub kept_first : {X : Type 0} (g : X → Bool) (xs ys : List X) → list_all g xs ≡ true → list_all (λ x. not (g x)) ys ≡ true → filter g (xs ++ ys) ≡ xs
@@ -355,8 +375,10 @@ pub record PlaceCut (b : ℕ) (whole first second : List Item) : Type 0 where
   pub early : events_of first ≡ filter (λ (x : Event). nat_le x.time b) (events_of whole)
   pub late : events_of second ≡ filter (λ (x : Event). nat_lt b x.time) (events_of whole)
 
-place_cut : (kinds : List Kind) (s : Source) (first : ℕ) (b : ℕ) (start : Option ℕ) (end : Border) (rows : List Row) (place : ℕ) → Covers b end → Exceeds b start
-    → PlaceCut b (items_at kinds s first (rows_between start end rows) place) (items_at kinds s first (rows_between start (At b) rows) place) (items_at kinds s first (rows_between (Some b) end rows) place)
+place_cut : (kinds : List Kind) (s : Source) (first : ℕ) (b : ℕ) (start : Option ℕ) (end : Border) (rows : List Row) (place : ℕ) → Covers b end
+    → Exceeds b start
+    → PlaceCut b (items_at kinds s first (rows_between start end rows) place) (items_at kinds s first (rows_between start (At b) rows) place)
+    (items_at kinds s first (rows_between (Some b) end rows) place)
 place_cut kinds s first b start end rows place covers exceeds =
     let f = item_in kinds s first place in
     let q = rows_between start end rows in
@@ -410,7 +432,8 @@ items_in_round p reads above end e = items_at p.kinds e.1 (sum_by width e.0) (ro
 abbrev lists_in_round : Program → (ℕ → List Next) → Option ℕ → Border → List Source × Source → List (List Item)
 lists_in_round p reads above end e = lists_of_rows p.kinds e.1 (sum_by width e.0) (rows_between above end (rows_of (reads (length e.0))))
 
-place_cut_of : (p : Program) (b : ℕ) (start : Option ℕ) (end : Border) (reads : ℕ → List Next) → Covers b end → Exceeds b start → (e : List Source × Source) (i : ℕ)
+place_cut_of : (p : Program) (b : ℕ) (start : Option ℕ) (end : Border) (reads : ℕ → List Next) → Covers b end → Exceeds b start
+    → (e : List Source × Source) (i : ℕ)
     → PlaceCut b (items_in_round p reads start end e i) (items_in_round p reads start (At b) e i) (items_in_round p reads (Some b) end e i)
 place_cut_of p b start end reads covers exceeds e i = place_cut p.kinds e.1 (sum_by width e.0) b start end (rows_of (reads (length e.0))) i covers exceeds
 
@@ -419,10 +442,12 @@ pub between_cut : (p : Program) (b : ℕ) (start : Option ℕ) (end : Border) (r
     → AreCutAt b (lists_between p start end reads) (lists_between p start (At b) reads) (lists_between p (Some b) end reads)
 between_cut p b start end reads covers exceeds = record {
   early = sources_cut (λ (x : Event). nat_le x.time b) (lists_in_round p reads start (At b)) (lists_in_round p reads start end)
-      (λ e. maps_cut (λ (x : Event). nat_le x.time b) (items_in_round p reads start (At b) e) (items_in_round p reads start end e) (λ i. (place_cut_of p b start end reads covers exceeds e i).early) (range_with_len 0 (width e.1)))
+      (λ e. maps_cut (λ (x : Event). nat_le x.time b) (items_in_round p reads start (At b) e) (items_in_round p reads start end e)
+      (λ i. (place_cut_of p b start end reads covers exceeds e i).early) (range_with_len 0 (width e.1)))
       (each_with_before p.sources);
   late = sources_cut (λ (x : Event). nat_lt b x.time) (lists_in_round p reads (Some b) end) (lists_in_round p reads start end)
-      (λ e. maps_cut (λ (x : Event). nat_lt b x.time) (items_in_round p reads (Some b) end e) (items_in_round p reads start end e) (λ i. (place_cut_of p b start end reads covers exceeds e i).late) (range_with_len 0 (width e.1)))
+      (λ e. maps_cut (λ (x : Event). nat_lt b x.time) (items_in_round p reads (Some b) end e) (items_in_round p reads start end e)
+      (λ i. (place_cut_of p b start end reads covers exceeds e i).late) (range_with_len 0 (width e.1)))
       (each_with_before p.sources);
 }
 
@@ -454,7 +479,8 @@ later_border s rows b t lines one enough at = by_order (cases_lt b t)
 
     by_order : (b < t) ⊎ (t ≤ b) → b < t
     by_order (inl lt) = lt
-    by_order (inr ge) = let none : length (rows_between (Some b) (At t) (rows_of lines)) ≡ 0 = ap length (none_between b t (rows_of lines) ge) in absurd (grind (arith, nat_tests))
+    by_order (inr ge) = let none : length (rows_between (Some b) (At t) (rows_of lines)) ≡ 0 = ap length (none_between b t (rows_of lines) ge) in
+        absurd (grind (arith, nat_tests))
 
 covers_end : (p : Program) (rows b : ℕ) (whole before now : ℕ → List Next) (end : Border) → 1 ≤ rows → IsRound p rows (Some b) whole before now end
     → Covers b end
@@ -475,7 +501,8 @@ lists_keep : (p : Program) (rows b : ℕ) (start above : Option ℕ) (whole befo
     → lists_between p start (At b) now ≡ lists_between p start (At b) mid
 lists_keep p rows b start above whole before mid now end was round =
     flat_same _ _ (each_with_before p.sources)
-    (all_map (λ (e : List Source × Source). rows_between start (At b) (rows_of (now (length e.0))) ≡ rows_between start (At b) (rows_of (mid (length e.0)))) _ (each_with_before p.sources)
+    (all_map (λ (e : List Source × Source). rows_between start (At b) (rows_of (now (length e.0))) ≡ rows_between start (At b) (rows_of (mid (length e.0)))) _
+    (each_with_before p.sources)
     (λ e same. ap (lists_of_rows p.kinds e.1 (sum_by width e.0)) same)
     (each_source (λ i s. rows_between start (At b) (rows_of (now i)) ≡ rows_between start (At b) (rows_of (mid i))) p.sources
     (λ i s e. let h = was.each i s e in let k = some_reads p rows (Some b) whole mid now end round i s e in
@@ -499,7 +526,8 @@ reports_push : (p : Program) (s : Contents) (done : List (List (List Item))) (li
 reports_push p s [] lists = append-nil (report p (final_outputs p s lists))
 reports_push p s (l ∷ done) lists =
     ap (λ rest. report p (final_outputs p s l) ++ rest) (reports_push p (final_state p s l) done lists)
-    ∙ sym (append_assoc (report p (final_outputs p s l)) (reports_in_turn p (final_state p s l) done) (report p (final_outputs p (state_in_turn p (final_state p s l) done) lists)))
+    ∙ sym (append_assoc (report p (final_outputs p s l)) (reports_in_turn p (final_state p s l) done)
+    (report p (final_outputs p (state_in_turn p (final_state p s l) done) lists)))
 
 one_more : (p : Program) (opening : Contents) (done : List (List (List Item))) (first second whole : List (List Item)) → GiveTheFold p opening done first
     → FoldsInTurn p opening whole first second → GiveTheFold p opening (done ++ second ∷ []) whole
@@ -520,7 +548,8 @@ round_exceeds p rows b (Some a) whole before now one round = λ t e.
     let later = later_border round.least.1 rows a b (now round.least.0) one reads.stops.1 reads.stops.2 in
     grind (arith, nat_tests)
 
-pub exceeds_start : (p : Program) (rows t : ℕ) (whole : ℕ → List Next) (start : Option ℕ) (done : List (List (List Item))) (above : Option ℕ) (before : ℕ → List Next)
+pub exceeds_start : (p : Program) (rows t : ℕ) (whole : ℕ → List Next) (start : Option ℕ) (done : List (List (List Item))) (above : Option ℕ)
+    (before : ℕ → List Next)
     → 1 ≤ rows → ComesFrom p rows whole start done above before → Exceeds t above → Exceeds t start
 exceeds_start p rows t whole start done above before one (Starts reads none) exceeds = exceeds
 exceeds_start p rows t whole start done above before one (GoesOn done' above' before' mid b came was) exceeds =
@@ -528,8 +557,10 @@ exceeds_start p rows t whole start done above before one (GoesOn done' above' be
     exceeds_start p rows t whole start done' above' before' one came (λ u e. up u (exceeds u e))
 
 -- the rows that were read above the run's start, cut at the border of the round before
-pub cut_of_rounds : (p : Program) (rows : ℕ) (whole : ℕ → List Next) (start : Option ℕ) (done : List (List (List Item))) (above : Option ℕ) (before mid now : ℕ → List Next)
-    (b : ℕ) (end : Border) → 1 ≤ rows → ComesFrom p rows whole start done above before → IsRoundAt p rows above whole before mid b → IsRound p rows (Some b) whole mid now end
+pub cut_of_rounds : (p : Program) (rows : ℕ) (whole : ℕ → List Next) (start : Option ℕ) (done : List (List (List Item))) (above : Option ℕ)
+    (before mid now : ℕ → List Next)
+    (b : ℕ) (end : Border) → 1 ≤ rows → ComesFrom p rows whole start done above before → IsRoundAt p rows above whole before mid b
+    → IsRound p rows (Some b) whole mid now end
     → AreCutAt b (lists_between p start end now) (lists_between p start (At b) mid) (lists_between p (Some b) end now)
 cut_of_rounds p rows whole start done above before mid now b end one came was round =
     let same = lists_keep p rows b start above whole before mid now end was round in

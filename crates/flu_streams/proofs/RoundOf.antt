@@ -1,5 +1,6 @@
 -- A refill of all sources is a round.
-use Rattle.std.proofs.Common.{◌≡◌, inl, inr, ◌⊎◌, ℕ, zero, suc, ◌<◌, ◌≤◌, min, List, [], ◌∷◌, ◌++◌, length, map, Option, Some, None, refl, sym, ap, subst, ◌∙◌, append_assoc, arith}
+use Rattle.std.proofs.Common.{◌≡◌, inl, inr, ◌⊎◌, ℕ, zero, suc, ◌<◌, ◌≤◌, min, List, [], ◌∷◌, ◌++◌, length, map, Option, Some, None, refl, sym, ap, subst, ◌∙◌}
+use Rattle.std.proofs.Common.{append_assoc, arith}
 use Rattle.std.specs.Prelude.{slice_get}
 use Rattle.std.proofs.lemmas.Bool.{cases_lt}
 use Rattle.std.proofs.lemmas.List.{append-nil, length-map}
@@ -18,7 +19,8 @@ use Rattle.flu_streams.specs.declared.inlet.Inlet.{Inlet}
 use Rattle.flu_streams.specs.Holding.{HeldSource, Holding, IsHeldBehind, AreHeldBehind, Fills, first_itag, still}
 use Rattle.flu_streams.specs.LoopHeld.{source_of, earlier_of, earliest, Refills, EndsAt, AreRefilled, HasRefilled, AreBehind}
 use Rattle.flu_streams.specs.Rounds.{Turn, Open, Shut, Meets, StopsAt, Reads, IsWithin, IsPassed, IsRound}
-use Rattle.flu_streams.proofs.Starts.{from_mapped, to_mapped, one_there}
+use Rattle.flu_lemmas.proofs.Mapped.{from_mapped}
+use Rattle.flu_streams.proofs.Starts.{to_mapped, one_there}
 
 -- ---- what is told
 pub told_from : {A : Type 0} (Q P : A → A → Type 0) (a b : Option A) → WhereTold a b Q → ((x y : A) → a ≡ Some x → b ≡ Some y → P x y) → WhereTold a b P
@@ -127,7 +129,8 @@ passed (At u) = tt
 passed Closed = tt
 
 -- what was read of a source by then
-pub record IsReadAt (p : Program) (rows : ℕ) (border : Option ℕ) (before : ℕ → List Next) (olds news : List Inlet) (a b : Option Contents) (ends : List Border) (i : ℕ) (s : Source) (now : List Next) : Type 0 where
+pub record IsReadAt (p : Program) (rows : ℕ) (border : Option ℕ) (before : ℕ → List Next) (olds news : List Inlet) (a b : Option Contents) (ends : List Border)
+    (i : ℕ) (s : Source) (now : List Next) : Type 0 where
   pub end : Border
   pub old : Inlet
   pub new : Inlet
@@ -217,7 +220,13 @@ round_of p rows border before now whole olds news a b x y ends end count least e
         (read low.0 source.0 source.1).at_end low.1 in
         record {
           each = λ i s at. (turn_of (read i s at).end, reads i s at, earliest_within ends i t (read i s at).end (sym is) (read i s at).at_end);
-          least = (low.0, source.0, source.1, subst (λ o. Reads p.kinds source.0 rows border (whole low.0) (before low.0) (now low.0) (turn_of o)) same (reads low.0 source.0 source.1));
+          least = (
+            low.0,
+            source.0,
+            source.1,
+            subst (λ o. Reads p.kinds source.0 rows border (whole low.0) (before low.0) (now low.0) (turn_of o)) same
+                (reads low.0 source.0 source.1),
+          );
         }
 
 in_all_now : (p : Program) (rows : ℕ) (border : Option ℕ) (before now whole : ℕ → List Next) (olds news : List Inlet) (a b : Option Contents)
@@ -250,7 +259,8 @@ fills p rows border stage stage' olds news a b Q end count told has before behin
       behind = behind_of p rows border stage' news now (has.all.size ∙ count) (λ i s e h f.
           let r = (picked.1 i s e).0 (rw has.count (slice_get_within p.sources i s e)) in
           subst (λ l. IsHeldBehind p.kinds (first_itag p i) s border l (source_of h)) (sym r.now_is)
-          (subst (λ (g : Inlet). IsHeldBehind p.kinds (first_itag p i) s border (before i ++ r.reads.so_far.more) (source_of g)) (one_there news i r.new h r.is f) r.reads.so_far.behind));
+          (subst (λ (g : Inlet). IsHeldBehind p.kinds (first_itag p i) s border (before i ++ r.reads.so_far.more) (source_of g))
+          (one_there news i r.new h r.is f) r.reads.so_far.behind));
       round = told_from Q _ a b told (λ x y e f whole all. (
         round_of p rows border before now whole olds news a b x y has.ends end has.count has.earliest e f all picked.1,
         in_all_now p rows border before now whole olds news a b x y has.ends has.count (has.all.size ∙ count) e f all picked.1,

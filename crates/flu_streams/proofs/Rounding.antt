@@ -1,5 +1,6 @@
 -- All sources in a refill, one after another.
-use Rattle.std.proofs.Common.{◌≡◌, ◌≢◌, inl, inr, ℕ, zero, suc, ◌+◌, ◌<◌, List, [], ◌∷◌, ◌++◌, length, take, drop, get_or, set, Option, Some, None, refl, sym, ap, subst, ◌∙◌, append_assoc, arith, if◌then◌else◌}
+use Rattle.std.proofs.Common.{◌≡◌, ◌≢◌, inl, inr, ℕ, zero, suc, ◌+◌, ◌<◌, List, [], ◌∷◌, ◌++◌, length, take, drop, get_or, set, Option, Some, None, refl, sym}
+use Rattle.std.proofs.Common.{ap, subst, ◌∙◌, append_assoc, arith, if◌then◌else◌}
 use Rattle.std.specs.Prelude.{slice_get, unwrap_or}
 use Rattle.std.specs.List.{Contains}
 use Rattle.std.proofs.lemmas.List.{map-append, length-set}
@@ -217,8 +218,10 @@ others_end p i s a b c turn others taken =
     ap files_of turn.split ∙ map-append (λ (x : Source). x.file) (take i p.sources) (s ∷ drop (i + 1) p.sources)
     ∙ sym (append_assoc (files_of (take i p.sources)) (s.file ∷ []) (files_of (drop (i + 1) p.sources))) in
     subst (λ l. WhereTold a c (LeavesOthers l)) (sym names)
-    (told_then (LeavesOthers (files_of (take i p.sources))) (TakesFrom s.file) (LeavesOthers ((files_of (take i p.sources) ++ (s.file ∷ [])) ++ files_of (drop (i + 1) p.sources))) a b c
-    (λ x y z q r. leaves_wider (files_of (take i p.sources) ++ (s.file ∷ [])) (files_of (drop (i + 1) p.sources)) x z (leaves_more (files_of (take i p.sources)) s.file x y z q r)) others taken)
+    (told_then (LeavesOthers (files_of (take i p.sources))) (TakesFrom s.file)
+    (LeavesOthers ((files_of (take i p.sources) ++ (s.file ∷ [])) ++ files_of (drop (i + 1) p.sources))) a b c
+    (λ x y z q r. leaves_wider (files_of (take i p.sources) ++ (s.file ∷ [])) (files_of (drop (i + 1) p.sources)) x z
+    (leaves_more (files_of (take i p.sources)) s.file x y z q r)) others taken)
 
 -- ---- where one stops
 pub stops_at : (p : Program) (rows i : ℕ) (s : Source) (olds news : List Inlet) (mid : Inlet) (a b c : Option Contents) (ends : List Border)
@@ -238,7 +241,8 @@ stops_at p rows i s olds news mid a b c ends stop fault turn count at was others
   own = λ old e.
       let same : mid ≡ old = same_one (sym was ∙ ap (slice_get olds) (sym count) ∙ e) in
       subst (λ n. IsStopOf p.kinds s (first_itag p n) rows old a c stop) (sym count)
-      (subst (λ h. IsStopOf p.kinds s (first_itag p i) rows h a c stop) same (stop_earlier p.kinds s (first_itag p i) rows mid (files_of (take i p.sources)) a b c stop turn.apart others one));
+      (subst (λ h. IsStopOf p.kinds s (first_itag p i) rows h a c stop) same
+      (stop_earlier p.kinds s (first_itag p i) rows mid (files_of (take i p.sources)) a b c stop turn.apart others one));
 }
   where
     same_one : {X : Type 0} {x y : X} → Some x ≡ Some y → x ≡ y

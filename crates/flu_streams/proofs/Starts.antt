@@ -5,6 +5,7 @@ use Rattle.std.specs.List.{Contains}
 use Rattle.std.proofs.lemmas.Bool.{false≢true}
 use Rattle.std.proofs.lemmas.List.{length-map}
 use Rattle.std.proofs.lemmas.Option.{slice_get-map, slice_get_within}
+use Rattle.flu_lemmas.proofs.Mapped.{from_mapped}
 use Rattle.flu_lemmas.proofs.Places.{slice_get-there}
 use Rattle.flu_model.specs.declared.jobs.Source.{Source}
 use Rattle.flu_model.specs.declared.jobs.Program.{Program}
@@ -13,13 +14,6 @@ use Rattle.flu_streams.specs.Files.{files_of}
 use Rattle.flu_streams.specs.Holding.{HeldSource, IsHeldBehind, unread_source, first_itag, still, LawOfStart, LawOfEnds}
 
 -- ---- an element of a list that was made of another
-pub from_mapped : {X Y : Type 0} (f : X → Y) (xs : List X) (i : ℕ) (y : Y) → slice_get (map f xs) i ≡ Some y → (x : X) × (slice_get xs i ≡ Some x) × (y ≡ f x)
-from_mapped f xs i y e = by_place (slice_get xs i) refl (sym (slice_get-map f xs i) ∙ e)
-  where
-    by_place : (o : Option _) → slice_get xs i ≡ o → option_map f o ≡ Some y → (x : _) × (slice_get xs i ≡ Some x) × (y ≡ f x)
-    by_place None at e = absurd cc
-    by_place (Some x) at e = (x, at, let same : f x ≡ y = cc in sym same)
-
 pub to_mapped : {X Y : Type 0} (f : X → Y) (xs : List X) (i : ℕ) (x : X) → slice_get xs i ≡ Some x → slice_get (map f xs) i ≡ Some (f x)
 to_mapped f xs i x e = slice_get-map f xs i ∙ ap (option_map f) e
 

@@ -5,13 +5,16 @@ use Rattle.flu_lemmas.proofs.Tests.{and_left, and_right, both}
 use Rattle.flu_model.specs.declared.events.Item.{Item}
 use Rattle.flu_model.specs.Streaming.{is_stream_from, are_streams}
 
-streams_in_range : (number a n : ℕ) (f : ℕ → List Item) → ((place : ℕ) → a ≤ place → place < a + n → is_stream_from (number + place) 0 (f place) ≡ true) → are_streams (number + a) (map f (range_with_len a n)) ≡ true
+streams_in_range : (number a n : ℕ) (f : ℕ → List Item) → ((place : ℕ) → a ≤ place → place < a + n → is_stream_from (number + place) 0 (f place) ≡ true)
+    → are_streams (number + a) (map f (range_with_len a n)) ≡ true
 streams_in_range number a zero f all = refl
 streams_in_range number a (suc n) f all =
     let one : (number + a) + 1 ≡ number + (a + 1) = omega arith in
-    both (is_stream_from (number + a) 0 (f a)) _ (all a (omega arith) (omega arith)) (rw one (streams_in_range number (a + 1) n f (λ place le lt. all place (omega (arith, le)) (omega (arith, lt)))))
+    both (is_stream_from (number + a) 0 (f a)) _ (all a (omega arith) (omega arith))
+    (rw one (streams_in_range number (a + 1) n f (λ place le lt. all place (omega (arith, le)) (omega (arith, lt)))))
 
-pub streams_of_range : (number n : ℕ) (f : ℕ → List Item) → ((place : ℕ) → place < n → is_stream_from (number + place) 0 (f place) ≡ true) → are_streams number (map f (range_with_len 0 n)) ≡ true
+pub streams_of_range : (number n : ℕ) (f : ℕ → List Item) → ((place : ℕ) → place < n → is_stream_from (number + place) 0 (f place) ≡ true)
+    → are_streams number (map f (range_with_len 0 n)) ≡ true
 streams_of_range number n f all =
     let none : number ≡ number + 0 = omega arith in
     ap (λ k. are_streams k (map f (range_with_len 0 n))) none ∙ streams_in_range number 0 n f (λ place le lt. all place (omega (arith, lt)))

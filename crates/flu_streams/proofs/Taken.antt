@@ -1,5 +1,6 @@
 -- The rows of a source that were taken in, and its first defect.
-use Rattle.std.proofs.Common.{◌≡◌, ℕ, ◌+◌, ◌<◌, ◌≤◌, max, Bool, true, false, ◌||◌, ◌&&◌, ltb, leb, eqb, List, [], ◌∷◌, ◌++◌, map, Option, Some, None, refl, sym, ap, ◌∙◌, append_assoc, arith, vec_len, if◌then◌else◌}
+use Rattle.std.proofs.Common.{◌≡◌, ℕ, ◌+◌, ◌<◌, ◌≤◌, max, Bool, true, false, ◌||◌, ◌&&◌, ltb, leb, eqb, List, [], ◌∷◌, ◌++◌, map, Option, Some, None, refl, sym}
+use Rattle.std.proofs.Common.{ap, ◌∙◌, append_assoc, arith, vec_len, if◌then◌else◌}
 use Rattle.std.specs.Prelude.{option_map, unwrap_or, pos}
 use Rattle.std.specs.List.{filter_map, cons_option, list_any}
 use Rattle.std.specs.Option.{option_to_list}
@@ -34,7 +35,8 @@ use Rattle.flu_streams.specs.declared.intake.RowRefusal.TheVariants.{Fault, NoMe
 use Rattle.flu_streams.specs.Before.{with_before, first_some, or_else}
 use Rattle.flu_streams.specs.Lists.{items_of_list, item_time, times_in, item_for}
 use Rattle.flu_streams.specs.Tags.{place_named, width}
-use Rattle.flu_streams.specs.Tests.{row_in, rows_of, is_end, has_ended, time_in, times_of, greatest, items_in, items_of, where_true, test_behind, test_times, fault_of, defect_of, first_of, first_defect}
+use Rattle.flu_streams.specs.Tests.{row_in, rows_of, is_end, has_ended, time_in, times_of, greatest, items_in, items_of, where_true, test_behind, test_times}
+use Rattle.flu_streams.specs.Tests.{fault_of, defect_of, first_of, first_defect}
 use Rattle.flu_streams.specs.Good.{item_in, time_at, in_time_order, items_at}
 use Rattle.flu_streams.specs.LoopIntake.{IsEmpty, Inserts, TakesEnd, Takes, TakesIn, IsRefusal, SameTimes, Holds, item_of}
 use Rattle.flu_streams.specs.Faults.{WasRead}
@@ -79,11 +81,13 @@ any-push p ts t = list_any-append p ts (t ∷ []) ∙ turned (list_any p ts) (p 
     turned false true = refl
     turned false false = refl
 
-pub greatest-late : (item : Item) (items : List Item) → greatest (times_in (put_late item_time item items)) ≡ Some (max (unwrap_or (greatest (times_in items)) 0) (item_time item))
+pub greatest-late : (item : Item) (items : List Item)
+    → greatest (times_in (put_late item_time item items)) ≡ Some (max (unwrap_or (greatest (times_in items)) 0) (item_time item))
 greatest-late item [] = ap Some (omega arith)
 greatest-late item (z ∷ zs) = by_test (ltb (item_time z) (item_time item)) refl (greatest-late item zs)
   where
-    by_test : (b : Bool) → ltb (item_time z) (item_time item) ≡ b → greatest (times_in (put_late item_time item zs)) ≡ Some (max (unwrap_or (greatest (times_in zs)) 0) (item_time item))
+    by_test : (b : Bool) → ltb (item_time z) (item_time item) ≡ b
+        → greatest (times_in (put_late item_time item zs)) ≡ Some (max (unwrap_or (greatest (times_in zs)) 0) (item_time item))
         → greatest (times_in (put_late item_time item (z ∷ zs))) ≡ Some (max (unwrap_or (greatest (times_in (z ∷ zs))) 0) (item_time item))
     by_test true below rest = rw (below, rest) (ap Some (omega arith))
     by_test false above rest = rw above (ap Some (omega arith))
@@ -92,7 +96,8 @@ pub any_time : (time : ℕ) (items : List Item) → list_any (λ t. eqb t time) 
 any_time time [] = refl
 any_time time (z ∷ zs) = ap (λ b. eqb (item_time z) time || b) (any_time time zs)
 
-times_late : (rows : List Row) (time : ℕ) (item : Item) (items : List Item) → item_time item ≡ time → SameTimes (times_in items) (times_of rows) → SameTimes (times_in (put_late item_time item items)) (times_of rows ++ (time ∷ []))
+times_late : (rows : List Row) (time : ℕ) (item : Item) (items : List Item) → item_time item ≡ time → SameTimes (times_in items) (times_of rows)
+    → SameTimes (times_in (put_late item_time item items)) (times_of rows ++ (time ∷ []))
 times_late rows time item items at same = record {
   any = λ t. any_time t (put_late item_time item items) ∙ put_late-any (λ (z : Item). eqb (item_time z) t) item_time item items
       ∙ rw at (ap (λ b. eqb time t || b) (sym (any_time t items) ∙ same.any t) ∙ sym (any-push (λ u. eqb u t) (times_of rows) time));
@@ -118,8 +123,10 @@ item_time-of kinds s first (Event time name key value) = refl
 item_time-of kinds s first (Beat time) = refl
 item_time-of kinds s first End = refl
 
-pub items_late : (kinds : List Kind) (s : Source) (first : ℕ) (rows : List Row) (row : Row) → map (item_of kinds s first) (in_time_order (rows ++ (row ∷ []))) ≡ put_late item_time (item_of kinds s first row) (map (item_of kinds s first) (in_time_order rows))
-items_late kinds s first rows row = ap (map (item_of kinds s first)) (ordered_more rows row) ∙ put_late-map (item_of kinds s first) time_at item_time (item_time-of kinds s first) row (in_time_order rows)
+pub items_late : (kinds : List Kind) (s : Source) (first : ℕ) (rows : List Row) (row : Row) → map (item_of kinds s first)
+    (in_time_order (rows ++ (row ∷ []))) ≡ put_late item_time (item_of kinds s first row) (map (item_of kinds s first) (in_time_order rows))
+items_late kinds s first rows row = ap (map (item_of kinds s first)) (ordered_more rows row)
+    ∙ put_late-map (item_of kinds s first) time_at item_time (item_time-of kinds s first) row (in_time_order rows)
 
 -- ---- the list of each itag
 if_hit : (hit : Bool) (x : Item) → cons_option (if hit then Some x else None) [] ≡ option_to_list (if hit then Some x else None)
@@ -127,15 +134,19 @@ if_hit true x = refl
 if_hit false x = refl
 
 -- what an item is for an itag is what its row is
-pub for_itag : (kinds : List Kind) (s : Source) (first place : ℕ) (row : Row) → place < width s → item_for (first + place) (item_of kinds s first row) ≡ item_in kinds s first place row
+pub for_itag : (kinds : List Kind) (s : Source) (first place : ℕ) (row : Row) → place < width s
+    → item_for (first + place) (item_of kinds s first row) ≡ item_in kinds s first place row
 for_itag kinds s first place (Event time name key value) lt = by_place (place_named kinds s name key)
   where
-    by_place : (found : Option ℕ) → item_for (first + place) (EventItem (record { time = time; itag = record { 0 = first + unwrap_or found (width s) }; value = unwrap_or value (pos 0) }))
-        ≡ (if unwrap_or (option_map (λ n. eqb n place) found) false then Some (EventItem (record { time = time; itag = record { 0 = first + place }; value = unwrap_or value (pos 0) })) else None)
+    by_place : (found : Option ℕ) → item_for (first + place)
+        (EventItem (record { time = time; itag = record { 0 = first + unwrap_or found (width s) }; value = unwrap_or value (pos 0) }))
+        ≡ (if unwrap_or (option_map (λ n. eqb n place) found) false then Some
+        (EventItem (record { time = time; itag = record { 0 = first + place }; value = unwrap_or value (pos 0) })) else None)
     by_place None = let other : eqb (first + width s) (first + place) ≡ false = grind (arith, nat_tests) in rw other refl
     by_place (Some n) = by_test (eqb n place) refl
       where
-        by_test : (b : Bool) → eqb n place ≡ b → item_for (first + place) (EventItem (record { time = time; itag = record { 0 = first + n }; value = unwrap_or value (pos 0) }))
+        by_test : (b : Bool) → eqb n place ≡ b → item_for (first + place)
+            (EventItem (record { time = time; itag = record { 0 = first + n }; value = unwrap_or value (pos 0) }))
             ≡ (if eqb n place then Some (EventItem (record { time = time; itag = record { 0 = first + place }; value = unwrap_or value (pos 0) })) else None)
         by_test true same =
             let is : n ≡ place = grind (arith, nat_tests) in
@@ -146,12 +157,14 @@ for_itag kinds s first place (Event time name key value) lt = by_place (place_na
 for_itag kinds s first place (Beat time) lt = refl
 for_itag kinds s first place End lt = refl
 
-pub for_itags : (kinds : List Kind) (s : Source) (first place : ℕ) (rows : List Row) → place < width s → filter_map (item_for (first + place)) (map (item_of kinds s first) rows) ≡ filter_map (item_in kinds s first place) rows
+pub for_itags : (kinds : List Kind) (s : Source) (first place : ℕ) (rows : List Row) → place < width s
+    → filter_map (item_for (first + place)) (map (item_of kinds s first) rows) ≡ filter_map (item_in kinds s first place) rows
 for_itags kinds s first place [] lt = refl
 for_itags kinds s first place (row ∷ rows) lt = λ i. cons_option (for_itag kinds s first place row lt i) (for_itags kinds s first place rows lt i)
 
 -- the end of a source stands in no list's order
-pub items_at-end : (kinds : List Kind) (s : Source) (first place : ℕ) (rows : List Row) → items_at kinds s first (rows ++ (End ∷ [])) place ≡ filter_map (item_in kinds s first place) (in_time_order rows) ++ (EndItem ∷ [])
+pub items_at-end : (kinds : List Kind) (s : Source) (first place : ℕ) (rows : List Row)
+    → items_at kinds s first (rows ++ (End ∷ [])) place ≡ filter_map (item_in kinds s first place) (in_time_order rows) ++ (EndItem ∷ [])
 items_at-end kinds s first place rows =
     ap (λ l. filter_map (item_in kinds s first place) l ++ (EndItem ∷ [])) (ordered_more rows End ∙ put_late-zero time_at End (in_time_order rows) refl)
 
@@ -162,7 +175,8 @@ stream_lower itag low lower (EventItem x ∷ rest) le is =
     let front = and_left (eqb x.itag.0 itag && leb low x.time) (is_stream_from itag (x.time + 1) rest) is in
     let later : leb low x.time ≡ true = and_right (eqb x.itag.0 itag) (leb low x.time) front in
     let sooner : leb lower x.time ≡ true = grind (arith, nat_tests) in
-    both _ _ (both (eqb x.itag.0 itag) (leb lower x.time) (and_left (eqb x.itag.0 itag) (leb low x.time) front) sooner) (and_right (eqb x.itag.0 itag && leb low x.time) (is_stream_from itag (x.time + 1) rest) is)
+    both _ _ (both (eqb x.itag.0 itag) (leb lower x.time) (and_left (eqb x.itag.0 itag) (leb low x.time) front) sooner)
+    (and_right (eqb x.itag.0 itag && leb low x.time) (is_stream_from itag (x.time + 1) rest) is)
 stream_lower itag low lower (BeatItem t ∷ rest) le is =
     let later : leb low t ≡ true = and_left (leb low t) (is_stream_from itag (t + 1) rest) is in
     let sooner : leb lower t ≡ true = grind (arith, nat_tests) in
@@ -170,7 +184,8 @@ stream_lower itag low lower (BeatItem t ∷ rest) le is =
 stream_lower itag low lower (EndItem ∷ []) le is = refl
 stream_lower itag low lower (EndItem ∷ x ∷ rest) le is = is
 
-pub stream_of : (itag low : ℕ) (items : List Item) → RisesFrom item_time low items → is_stream_from itag low (filter_map (item_for itag) items ++ (EndItem ∷ [])) ≡ true
+pub stream_of : (itag low : ℕ) (items : List Item) → RisesFrom item_time low items
+    → is_stream_from itag low (filter_map (item_for itag) items ++ (EndItem ∷ [])) ≡ true
 stream_of itag low [] up = refl
 stream_of itag low (EventItem x ∷ rest) up = by_test (eqb x.itag.0 itag) refl (stream_of itag (x.time + 1) rest up.1)
   where
@@ -179,10 +194,12 @@ stream_of itag low (EventItem x ∷ rest) up = by_test (eqb x.itag.0 itag) refl 
     by_test true own more = rw own (both _ _ (both (eqb x.itag.0 itag) (leb low x.time) own (le_true low x.time up.0)) more)
     by_test false other more = rw other (stream_lower itag (x.time + 1) low (filter_map (item_for itag) rest ++ (EndItem ∷ [])) (omega (arith, up.0)) more)
 stream_of itag low (BeatItem t ∷ rest) up = both _ _ (le_true low t up.0) (stream_of itag (t + 1) rest up.1)
-stream_of itag low (EndItem ∷ rest) up = stream_lower itag 1 low (filter_map (item_for itag) rest ++ (EndItem ∷ [])) (omega (arith, up.0)) (stream_of itag 1 rest up.1)
+stream_of itag low (EndItem ∷ rest) up =
+    stream_lower itag 1 low (filter_map (item_for itag) rest ++ (EndItem ∷ [])) (omega (arith, up.0)) (stream_of itag 1 rest up.1)
 
 -- ---- a source of which nothing was read
-pub holds_none : (kinds : List Kind) (s : Source) (number before : ℕ) (intake : Intake) → IsEmpty number (width s) before intake → Holds kinds s number before [] intake
+pub holds_none : (kinds : List Kind) (s : Source) (number before : ℕ) (intake : Intake) → IsEmpty number (width s) before intake
+    → Holds kinds s number before [] intake
 holds_none kinds s number before intake empty = record {
   first = empty.first;
   times = record { any = λ t. rw empty.items refl; top = rw empty.items refl };
@@ -198,7 +215,8 @@ pub goes_on : (ended : Bool) (why : Why) (rest : Option Why) → or_else (where_
 goes_on true why rest e = absurd cc
 goes_on false why rest e = refl
 
-timed_more : (kinds : List Kind) (s : Source) (number before : ℕ) (rows : List Row) (row : Row) (time : ℕ) (old new : Intake) → time_in row ≡ Some time → is_end row ≡ false → has_ended rows ≡ false → Holds kinds s number before rows old
+timed_more : (kinds : List Kind) (s : Source) (number before : ℕ) (rows : List Row) (row : Row) (time : ℕ) (old new : Intake) → time_in row ≡ Some time
+    → is_end row ≡ false → has_ended rows ≡ false → Holds kinds s number before rows old
     → Inserts (item_of kinds s old.first row) (items_in (width s) row) old new → Holds kinds s number before (rows ++ (row ∷ [])) new
 timed_more kinds s number before rows row time old new at not_end goes h t =
     let still : has_ended (rows ++ (row ∷ [])) ≡ false = ended_more rows row ∙ rw (goes, not_end) refl in
@@ -212,13 +230,15 @@ timed_more kinds s number before rows row time old new at not_end goes h t =
       held = rw (items_more (width s) rows row) (omega (arith, t.held, h.held));
       len = ap (λ lists. vec_len lists) t.lists ∙ h.len;
       open' = λ e. record {
-        items = t.items ∙ ap (put_late item_time (item_of kinds s old.first row)) was.items ∙ ap (λ first. put_late item_time (item_of kinds s first row) (map (item_of kinds s number) (in_time_order rows))) h.first ∙ sym (items_late kinds s number rows row);
+        items = t.items ∙ ap (put_late item_time (item_of kinds s old.first row)) was.items ∙ ap (λ first. put_late item_time (item_of kinds s first row)
+            (map (item_of kinds s number) (in_time_order rows))) h.first ∙ sym (items_late kinds s number rows row);
         lists = λ i. ap (λ lists. items_of_list lists i) t.lists ∙ was.lists i;
       };
       closed = λ ended. absurd (not_both (has_ended (rows ++ (row ∷ []))) ended still);
     }
 
-end_more : (kinds : List Kind) (s : Source) (number before : ℕ) (rows : List Row) (old new : Intake) → has_ended rows ≡ false → Holds kinds s number before rows old → TakesEnd old new → Holds kinds s number before (rows ++ (End ∷ [])) new
+end_more : (kinds : List Kind) (s : Source) (number before : ℕ) (rows : List Row) (old new : Intake) → has_ended rows ≡ false
+    → Holds kinds s number before rows old → TakesEnd old new → Holds kinds s number before (rows ++ (End ∷ [])) new
 end_more kinds s number before rows old new goes h t =
     let ends : has_ended (rows ++ (End ∷ [])) ≡ true = ended_more rows End ∙ rw goes refl in
     let was = h.open' goes in
@@ -239,7 +259,8 @@ end_more kinds s number before rows old new goes h t =
       };
     }
 
-pub holds_more : (kinds : List Kind) (s : Source) (number before : ℕ) (rows : List Row) (row : Row) (old new : Intake) → Holds kinds s number before rows old → TakesIn kinds s row old new
+pub holds_more : (kinds : List Kind) (s : Source) (number before : ℕ) (rows : List Row) (row : Row) (old new : Intake) → Holds kinds s number before rows old
+    → TakesIn kinds s row old new
     → Holds kinds s number before (rows ++ (row ∷ [])) new
 holds_more kinds s number before rows row old new h t = by_row row (sym h.ended ∙ goes_on old.ended AfterEnd _ t.passes) t.takes
   where
@@ -257,31 +278,40 @@ first_of-behind kinds s before read rest passes =
     ap (first_some f) (with_before-append [] read rest) ∙ first_some-append f (with_before [] read) (with_before read rest)
     ∙ ap (λ o. or_else o (first_some f (with_before read rest))) passes
 
-first_of-at : (kinds : List Kind) (s : Source) (before : ℕ) (read rest : List Next) (next : Next) (defect : Option (ℕ × Why)) → first_of kinds s before read ≡ None → defect_of kinds s before read next ≡ defect
-    → first_of kinds s before (read ++ (next ∷ rest)) ≡ or_else defect (first_some (λ e. defect_of kinds s before e.0 e.1) (with_before (read ++ next ∷ []) rest))
+first_of-at : (kinds : List Kind) (s : Source) (before : ℕ) (read rest : List Next) (next : Next) (defect : Option (ℕ × Why))
+    → first_of kinds s before read ≡ None → defect_of kinds s before read next ≡ defect
+    → first_of kinds s before (read ++ (next ∷ rest)) ≡ or_else defect
+    (first_some (λ e. defect_of kinds s before e.0 e.1) (with_before (read ++ next ∷ []) rest))
 first_of-at kinds s before read rest next defect passes e =
     first_of-behind kinds s before read (next ∷ rest) passes
     ∙ ap (λ o. or_else o (first_some (λ (e : List Next × Next). defect_of kinds s before e.0 e.1) (with_before (read ++ next ∷ []) rest))) e
 
-fault_at_row : (kinds : List Kind) (s : Source) (number before : ℕ) (read : List Next) (intake : Intake) (row : Row) → Holds kinds s number before (rows_of read) intake
-    → fault_of kinds s (has_ended (rows_of read)) (times_of (rows_of read)) (before + items_of (width s) (rows_of read)) row ≡ fault_of kinds s intake.ended (times_in intake.items.items) intake.held row
-fault_at_row kinds s number before read intake row h = rw (h.ended, h.held, same_test s.slack (times_in intake.items.items) (times_of (rows_of read)) (time_in row) h.times) refl
+fault_at_row : (kinds : List Kind) (s : Source) (number before : ℕ) (read : List Next) (intake : Intake) (row : Row)
+    → Holds kinds s number before (rows_of read) intake
+    → fault_of kinds s (has_ended (rows_of read)) (times_of (rows_of read)) (before + items_of (width s) (rows_of read)) row ≡ fault_of kinds s intake.ended
+    (times_in intake.items.items) intake.held row
+fault_at_row kinds s number before read intake row h =
+    rw (h.ended, h.held, same_test s.slack (times_in intake.items.items) (times_of (rows_of read)) (time_in row) h.times) refl
 
 -- ---- a row that is taken in
 pub rows_more : (read : List Next) (line : ℕ) (row : Row) → rows_of (read ++ (RowNext line row ∷ [])) ≡ rows_of read ++ (row ∷ [])
 rows_more read line row = filter_more row_in read (RowNext line row)
 
-pub taken_more : (kinds : List Kind) (s : Source) (number before : ℕ) (read : List Next) (line : ℕ) (row : Row) (old new : Intake) → IsTakenIn kinds s number before read old → TakesIn kinds s row old new
+pub taken_more : (kinds : List Kind) (s : Source) (number before : ℕ) (read : List Next) (line : ℕ) (row : Row) (old new : Intake)
+    → IsTakenIn kinds s number before read old → TakesIn kinds s row old new
     → IsTakenIn kinds s number before (read ++ (RowNext line row ∷ [])) new
 taken_more kinds s number before read line row old new h t = record {
   holds = rw (rows_more read line row) (holds_more kinds s number before (rows_of read) row old new h.holds t);
-  passes = first_of-at kinds s before read [] (RowNext line row) None h.passes (ap (option_map (λ why. (line, why))) (fault_at_row kinds s number before read old row h.holds ∙ t.passes));
+  passes = first_of-at kinds s before read [] (RowNext line row) None h.passes
+      (ap (option_map (λ why. (line, why))) (fault_at_row kinds s number before read old row h.holds ∙ t.passes));
 }
 
-pub none_taken_in : (kinds : List Kind) (s : Source) (number before : ℕ) (intake : Intake) → IsEmpty number (width s) before intake → IsTakenIn kinds s number before [] intake
+pub none_taken_in : (kinds : List Kind) (s : Source) (number before : ℕ) (intake : Intake) → IsEmpty number (width s) before intake
+    → IsTakenIn kinds s number before [] intake
 none_taken_in kinds s number before intake empty = record { holds = holds_none kinds s number before intake empty; passes = refl }
 
-pub reading_none : (kinds : List Kind) (s : Source) (number before : ℕ) (intake : Intake) (place : Place) (a : Option Contents) → IsEmpty number (width s) before intake → place ≡ front_of s.file
+pub reading_none : (kinds : List Kind) (s : Source) (number before : ℕ) (intake : Intake) (place : Place) (a : Option Contents)
+    → IsEmpty number (width s) before intake → place ≡ front_of s.file
     → IsReading kinds s number before intake place a a
 reading_none kinds s number before intake place a empty front = record {
   read = [];
@@ -289,33 +319,43 @@ reading_none kinds s number before intake place a empty front = record {
   told = told_same (λ was now. WasRead s [] (ahead place now) was) a (λ x. rw front refl);
 }
 
-pub reading_more : (kinds : List Kind) (s : Source) (number before : ℕ) (old new : Intake) (place place' : Place) (a b c : Option Contents) (line : ℕ) (row : Row)
-    → IsReading kinds s number before old place a b → WhereTold b c (λ was now. ahead place was ≡ then_behind (RowNext line row) (ahead place' now)) → TakesIn kinds s row old new
+pub reading_more : (kinds : List Kind) (s : Source) (number before : ℕ) (old new : Intake) (place place' : Place) (a b c : Option Contents) (line : ℕ)
+    (row : Row)
+    → IsReading kinds s number before old place a b → WhereTold b c (λ was now. ahead place was ≡ then_behind (RowNext line row) (ahead place' now))
+    → TakesIn kinds s row old new
     → IsReading kinds s number before new place' a c
 reading_more kinds s number before old new place place' a b c line row reading told t =
     let read = reading.read in
     record {
       read = read ++ (RowNext line row ∷ []);
       taken = taken_more kinds s number before read line row old new reading.taken t;
-      told = told_then (λ was now. WasRead s read (ahead place now) was) (λ was now. ahead place was ≡ then_behind (RowNext line row) (ahead place' now)) (λ was now. WasRead s (read ++ (RowNext line row ∷ [])) (ahead place' now) was) a b c
+      told = told_then (λ was now. WasRead s read (ahead place now) was) (λ was now. ahead place was ≡ then_behind (RowNext line row) (ahead place' now))
+          (λ was now. WasRead s (read ++ (RowNext line row ∷ [])) (ahead place' now) was) a b c
           (λ x y z p q. p ∙ ap (λ (rest : List Next). read ++ rest) q ∙ sym (append_assoc read (RowNext line row ∷ []) (ahead place' z))) reading.told told;
     }
 
 -- ---- a row that is refused
-refused_at : (kinds : List Kind) (s : Source) (number before : ℕ) (intake : Intake) (place place' : Place) (a b c : Option Contents) (line : ℕ) (row : Row) (why : Why)
-    → IsReading kinds s number before intake place a b → WhereTold b c (λ was now. ahead place was ≡ then_behind (RowNext line row) (ahead place' now)) → fault_of kinds s intake.ended (times_in intake.items.items) intake.held row ≡ Some why
+refused_at : (kinds : List Kind) (s : Source) (number before : ℕ) (intake : Intake) (place place' : Place) (a b c : Option Contents) (line : ℕ) (row : Row)
+    (why : Why)
+    → IsReading kinds s number before intake place a b → WhereTold b c (λ was now. ahead place was ≡ then_behind (RowNext line row) (ahead place' now))
+    → fault_of kinds s intake.ended (times_in intake.items.items) intake.held row ≡ Some why
     → WhereTold a c (λ was now. first_defect kinds s before (bytes_left was s.file) ≡ Some (line, why))
 refused_at kinds s number before intake place place' a b c line row why reading told fault =
     let read = reading.read in
     let defect = ap (option_map (λ (w : Why). (line, w))) (fault_at_row kinds s number before read intake row reading.taken.holds ∙ fault) in
-    told_then (λ was now. WasRead s read (ahead place now) was) (λ was now. ahead place was ≡ then_behind (RowNext line row) (ahead place' now)) (λ was now. first_defect kinds s before (bytes_left was s.file) ≡ Some (line, why)) a b c
-    (λ x y z p q. ap (first_of kinds s before) (p ∙ ap (λ (rest : List Next). read ++ rest) q) ∙ first_of-at kinds s before read (ahead place' z) (RowNext line row) (Some (line, why)) reading.taken.passes defect) reading.told told
+    told_then (λ was now. WasRead s read (ahead place now) was) (λ was now. ahead place was ≡ then_behind (RowNext line row) (ahead place' now))
+    (λ was now. first_defect kinds s before (bytes_left was s.file) ≡ Some (line, why)) a b c
+    (λ x y z p q. ap (first_of kinds s before) (p ∙ ap (λ (rest : List Next). read ++ rest) q)
+    ∙ first_of-at kinds s before read (ahead place' z) (RowNext line row) (Some (line, why)) reading.taken.passes defect) reading.told told
 
-pub refused : (kinds : List Kind) (s : Source) (number before : ℕ) (intake : Intake) (place place' : Place) (a b c : Option Contents) (line : ℕ) (row : Row) (refusal : RowRefusal)
-    → IsReading kinds s number before intake place a b → WhereTold b c (λ was now. ahead place was ≡ then_behind (RowNext line row) (ahead place' now)) → IsRefusal (fault_of kinds s intake.ended (times_in intake.items.items) intake.held row) refusal
+pub refused : (kinds : List Kind) (s : Source) (number before : ℕ) (intake : Intake) (place place' : Place) (a b c : Option Contents) (line : ℕ) (row : Row)
+    (refusal : RowRefusal)
+    → IsReading kinds s number before intake place a b → WhereTold b c (λ was now. ahead place was ≡ then_behind (RowNext line row) (ahead place' now))
+    → IsRefusal (fault_of kinds s intake.ended (times_in intake.items.items) intake.held row) refusal
     → IsFirstDefect kinds s before a c (stop_at line refusal)
 refused kinds s number before intake place place' a b c line row NoMemory reading told fault = tt
-refused kinds s number before intake place place' a b c line row (Fault why) reading told fault = refused_at kinds s number before intake place place' a b c line row why reading told fault
+refused kinds s number before intake place place' a b c line row (Fault why) reading told fault =
+    refused_at kinds s number before intake place place' a b c line row why reading told fault
 
 -- ---- what is other row
 abbrev pub IsNoRow : Next → Type 0
@@ -327,7 +367,8 @@ then_last (Bad line) behind other = refl
 then_last TooManyLines behind other = refl
 then_last (Done lines) behind other = refl
 
-defect_at_last : (kinds : List Kind) (s : Source) (number before : ℕ) (read : List Next) (intake : Intake) (next : Next) → Holds kinds s number before (rows_of read) intake → IsNoRow next
+defect_at_last : (kinds : List Kind) (s : Source) (number before : ℕ) (read : List Next) (intake : Intake) (next : Next)
+    → Holds kinds s number before (rows_of read) intake → IsNoRow next
     → defect_of kinds s before read next ≡ defect_behind intake.ended next
 defect_at_last kinds s number before read intake (RowNext line row) h other = absurd (other line row refl)
 defect_at_last kinds s number before read intake (Bad line) h other = rw h.ended refl
@@ -347,34 +388,44 @@ no_row_more read (Bad line) other = filter_more row_in read (Bad line) ∙ appen
 no_row_more read TooManyLines other = filter_more row_in read TooManyLines ∙ append-nil (rows_of read)
 no_row_more read (Done lines) other = filter_more row_in read (Done lines) ∙ append-nil (rows_of read)
 
-pub good_end : (kinds : List Kind) (s : Source) (number before : ℕ) (intake : Intake) (place place' : Place) (a b c : Option Contents) (next : Next) → IsReading kinds s number before intake place a b
-    → WhereTold b c (λ was now. ahead place was ≡ then_behind next (ahead place' now)) → IsNoRow next → defect_behind intake.ended next ≡ None → IsGoodSource kinds s number before a c intake
+pub good_end : (kinds : List Kind) (s : Source) (number before : ℕ) (intake : Intake) (place place' : Place) (a b c : Option Contents) (next : Next)
+    → IsReading kinds s number before intake place a b
+    → WhereTold b c (λ was now. ahead place was ≡ then_behind next (ahead place' now)) → IsNoRow next → defect_behind intake.ended next ≡ None
+    → IsGoodSource kinds s number before a c intake
 good_end kinds s number before intake place place' a b c next reading told other none =
     let read = reading.read in
     record {
       read = read ++ (next ∷ []);
       taken = record {
         holds = rw (no_row_more read next other) reading.taken.holds;
-        passes = first_of-at kinds s before read [] next None reading.taken.passes (defect_at_last kinds s number before read intake next reading.taken.holds other ∙ none);
+        passes = first_of-at kinds s before read [] next None reading.taken.passes
+            (defect_at_last kinds s number before read intake next reading.taken.holds other ∙ none);
       };
       ended = (done_if_none intake.ended next other none).0;
-      told = told_then (λ was now. WasRead s read (ahead place now) was) (λ was now. ahead place was ≡ then_behind next (ahead place' now)) (λ was now. WasRead s (read ++ (next ∷ [])) [] was) a b c
-          (λ x y z p q. p ∙ ap (λ (rest : List Next). read ++ rest) (q ∙ then_last next (ahead place' z) other) ∙ sym (append-nil (read ++ (next ∷ [])))) reading.told told;
+      told = told_then (λ was now. WasRead s read (ahead place now) was) (λ was now. ahead place was ≡ then_behind next (ahead place' now))
+          (λ was now. WasRead s (read ++ (next ∷ [])) [] was) a b c
+          (λ x y z p q. p ∙ ap (λ (rest : List Next). read ++ rest) (q ∙ then_last next (ahead place' z) other) ∙ sym (append-nil (read ++ (next ∷ []))))
+          reading.told told;
     }
 
 pub at_done : (ended : Bool) (next : Next) (fact : Type 0) → IsNoRow next → defect_behind ended next ≡ None → OnDone next fact → fact
 at_done ended next fact other none h = (done_if_none ended next other none).1 fact h
 
-pub bad_end : (kinds : List Kind) (s : Source) (number before : ℕ) (intake : Intake) (place place' : Place) (a b c : Option Contents) (next : Next) (row : ℕ) (why : Why) → IsReading kinds s number before intake place a b
+pub bad_end : (kinds : List Kind) (s : Source) (number before : ℕ) (intake : Intake) (place place' : Place) (a b c : Option Contents) (next : Next) (row : ℕ)
+    (why : Why) → IsReading kinds s number before intake place a b
     → WhereTold b c (λ was now. ahead place was ≡ then_behind next (ahead place' now)) → IsNoRow next → defect_behind intake.ended next ≡ Some (row, why)
     → WhereTold a c (λ was now. first_defect kinds s before (bytes_left was s.file) ≡ Some (row, why))
 bad_end kinds s number before intake place place' a b c next row why reading told other some =
     let read = reading.read in
-    told_then (λ was now. WasRead s read (ahead place now) was) (λ was now. ahead place was ≡ then_behind next (ahead place' now)) (λ was now. first_defect kinds s before (bytes_left was s.file) ≡ Some (row, why)) a b c
-    (λ x y z p q. ap (first_of kinds s before) (p ∙ ap (λ (rest : List Next). read ++ rest) (q ∙ then_last next (ahead place' z) other)) ∙ first_of-at kinds s before read [] next (Some (row, why)) reading.taken.passes (defect_at_last kinds s number before read intake next reading.taken.holds other ∙ some)) reading.told told
+    told_then (λ was now. WasRead s read (ahead place now) was) (λ was now. ahead place was ≡ then_behind next (ahead place' now))
+    (λ was now. first_defect kinds s before (bytes_left was s.file) ≡ Some (row, why)) a b c
+    (λ x y z p q. ap (first_of kinds s before) (p ∙ ap (λ (rest : List Next). read ++ rest) (q ∙ then_last next (ahead place' z) other))
+    ∙ first_of-at kinds s before read [] next (Some (row, why)) reading.taken.passes
+    (defect_at_last kinds s number before read intake next reading.taken.holds other ∙ some)) reading.told told
 
 -- ---- a read that fails
-pub hides_none : (kinds : List Kind) (s : Source) (number before : ℕ) (intake : Intake) (place place' : Place) (a b c : Option Contents) → IsReading kinds s number before intake place a b → WhereTold b c (λ was now. ahead place was ≡ ahead place' now)
+pub hides_none : (kinds : List Kind) (s : Source) (number before : ℕ) (intake : Intake) (place place' : Place) (a b c : Option Contents)
+    → IsReading kinds s number before intake place a b → WhereTold b c (λ was now. ahead place was ≡ ahead place' now)
     → place'.file ≡ s.file → IsUndecided place'.taken → HidesNoDefect kinds s before a c
 hides_none kinds s number before intake place place' a b c reading told file undecided = record {
   read = reading.read;
@@ -382,6 +433,7 @@ hides_none kinds s number before intake place place' a b c reading told file und
   file = file;
   passes = reading.taken.passes;
   undecided = undecided;
-  told = told_then (λ was now. WasRead s reading.read (ahead place now) was) (λ was now. ahead place was ≡ ahead place' now) (λ was now. WasRead s reading.read (ahead place' now) was) a b c
+  told = told_then (λ was now. WasRead s reading.read (ahead place now) was) (λ was now. ahead place was ≡ ahead place' now)
+      (λ was now. WasRead s reading.read (ahead place' now) was) a b c
       (λ x y z p q. p ∙ ap (λ (rest : List Next). reading.read ++ rest) q) reading.told told;
 }

@@ -30,7 +30,8 @@ turn p items i s e lt is =
     let same : width (get_or p.sources i s) ≡ width s = ap width (sym here) in
     record {
       split = split;
-      apart = apart_from_earlier (take i p.sources) (drop (i + 1) p.sources) s (ap (λ sources. are_distinct is_same_text (files_of sources)) (sym split) ∙ p.own_files);
+      apart = apart_from_earlier (take i p.sources) (drop (i + 1) p.sources) s
+          (ap (λ sources. are_distinct is_same_text (files_of sources)) (sym split) ∙ p.own_files);
       size = grind (arith, common_steps);
       more = take_more p.sources i s within ∙ ap (λ (x : Source). take i p.sources ++ (x ∷ [])) (sym here);
       narrow = omega (arith, sum, same, total_width 0 p.sources, p.few_itags);

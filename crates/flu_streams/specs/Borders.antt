@@ -26,7 +26,8 @@ pub record AreCutAt (t : ℕ) (whole first second : List (List Item)) : Type 0 w
 pub record FoldsInTurn (p : Program) (opening : Contents) (whole first second : List (List Item)) : Type 0 where
   pub state : final_state p opening whole ≡ final_state p (final_state p opening first) second
   pub outputs : final_outputs p opening whole ≡ final_outputs p opening first ++ final_outputs p (final_state p opening first) second
-  pub lines : report p (final_outputs p opening whole) ≡ report p (final_outputs p opening first) ++ report p (final_outputs p (final_state p opening first) second)
+  pub lines : report p (final_outputs p opening whole) ≡ report p (final_outputs p opening first)
+      ++ report p (final_outputs p (final_state p opening first) second)
 
 -- LAW OF BORDERS: what is cut at a time is folded in turn
 abbrev pub LawOfBorders : Type 0

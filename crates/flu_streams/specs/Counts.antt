@@ -37,13 +37,15 @@ no_counts p = replicate (count_of_itags p) 0
 
 -- behind the events of other lists those of some lists more
 abbrev pub OneMoreInTurn : Type 0
-OneMoreInTurn = (counts : List ℕ) (done : List (List (List Item))) (lists : List (List Item)) → grown_in_turn counts (done ++ lists ∷ []) ≡ grown (grown_in_turn counts done) lists
+OneMoreInTurn = (counts : List ℕ) (done : List (List (List Item))) (lists : List (List Item))
+    → grown_in_turn counts (done ++ lists ∷ []) ≡ grown (grown_in_turn counts done) lists
 
 -- LAW OF COUNTS: the events of the rounds up to any one, counted round by round, are those of all rows that were read above the run's
 -- start, up to the new border
 abbrev pub LawOfCounts : Type 0
 LawOfCounts =
-    (p : Program) (rows : ℕ) (whole : ℕ → List Next) (start : Option ℕ) (done : List (List (List Item))) (above : Option ℕ) (before now : ℕ → List Next) (end : Border)
+    (p : Program) (rows : ℕ) (whole : ℕ → List Next) (start : Option ℕ) (done : List (List (List Item))) (above : Option ℕ) (before now : ℕ → List Next)
+    (end : Border)
     (counts : List ℕ)
     → 1 ≤ rows → ComesFrom p rows whole start done above before → IsRound p rows above whole before now end
     → grown (grown_in_turn counts done) (lists_between p above end now) ≡ grown counts (lists_between p start end now)

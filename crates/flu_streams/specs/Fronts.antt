@@ -26,7 +26,8 @@ LawOfFronts =
 -- of a run that starts above a border it is so with the later events
 abbrev pub LawOfFrontsAbove : Type 0
 LawOfFrontsAbove =
-    (p : Program) (opening : Contents) (rows : ℕ) (whole : ℕ → List Next) (start : ℕ) (done : List (List (List Item))) (t : ℕ) (before : ℕ → List Next) (left : Files)
+    (p : Program) (opening : Contents) (rows : ℕ) (whole : ℕ → List Next) (start : ℕ) (done : List (List (List Item))) (t : ℕ) (before : ℕ → List Next)
+    (left : Files)
     → 1 ≤ rows → LinesIn p left whole → AtEach (λ i s. defect_in p.kinds s (whole i) ≡ None) p.sources
     → ComesFrom p rows whole (Some start) done (Some t) before
     → FoldsInTurn p opening (beyond start (lists_of p left)) (lists_between p (Some start) (At t) before) (lists_between p (Some t) Closed whole)

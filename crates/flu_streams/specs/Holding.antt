@@ -1,5 +1,6 @@
 -- What is held of the sources between rounds, and behind which lines that is so (`docs/MODEL.md`, "Rounds").
-use Rattle.std.specs.Prelude.{◌≡◌, ℕ, ◌<◌, ◌≤◌, ◌^◌, Bool, true, false, Result, Ok, Option, Some, None, List, [], ◌++◌, length, map, take, slice_get, sum_by, if◌then◌else◌, ⊤}
+use Rattle.std.specs.Prelude.{◌≡◌, ℕ, ◌<◌, ◌≤◌, ◌^◌, Bool, true, false, Result, Ok, Option, Some, None, List, [], ◌++◌, length, map, take, slice_get, sum_by}
+use Rattle.std.specs.Prelude.{if◌then◌else◌, ⊤}
 use Rattle.flu_lemmas.specs.Elements.{AtEach}
 use Rattle.flu_model.specs.declared.events.Item.{Item}
 use Rattle.flu_model.specs.declared.jobs.Kind.{Kind}
@@ -146,7 +147,8 @@ pub record HidesNoRoundFault (old : Holding) (left left' : Option Contents) (bef
   pub file : place.file ≡ source.file
   pub undecided : IsUndecided place.taken
   pub told : WhereTold left left' (λ was is. (whole : ℕ → List Next) → AreInAll old before was whole
-      → AtEach (λ i s. i < at → (turn : Turn) × Reads old.program.kinds s old.rows old.border (whole i) (before i) (now i) turn × IsPassed turn) old.program.sources
+      → AtEach (λ i s. i < at → (turn : Turn) × Reads old.program.kinds s old.rows old.border (whole i) (before i) (now i) turn × IsPassed turn)
+      old.program.sources
       × (whole at ≡ now at ++ ahead place is))
 
 -- ---- a cut

@@ -1,5 +1,6 @@
 -- What is held of one source, and how it is read in a round.
-use Rattle.std.specs.Prelude.{◌≡◌, ℕ, ◌<◌, ◌≤◌, max, min, true, false, ◌||◌, nat_lt, nat_le, Option, Some, None, option_and_then, unwrap_or, List, [], ◌∷◌, ◌++◌, length, take, slice_get, if◌then◌else◌, ⊤}
+use Rattle.std.specs.Prelude.{◌≡◌, ℕ, ◌<◌, ◌≤◌, max, min, true, false, ◌||◌, nat_lt, nat_le, Option, Some, None, option_and_then, unwrap_or, List, [], ◌∷◌}
+use Rattle.std.specs.Prelude.{◌++◌, length, take, slice_get, if◌then◌else◌, ⊤}
 use Rattle.std.specs.List.{filter, list_all}
 use Rattle.flu_lemmas.specs.Elements.{AtEach}
 use Rattle.flu_lemmas.specs.Late.{put_late}
@@ -69,7 +70,8 @@ test_late slack times last (Some time) = test_behind slack times last time
 -- what a row breaks behind these items
 abbrev pub fault_behind : List Kind → Source → Inlet → Row → Option Why
 fault_behind kinds s h row =
-    first_some (λ test. test) (where_true h.ended AfterEnd ∷ test_tag kinds s row ∷ test_value kinds row ∷ test_late s.slack (times_in h.items.items) h.last (time_in row) ∷ [])
+    first_some (λ test. test) (where_true h.ended AfterEnd ∷ test_tag kinds s row ∷ test_value kinds row ∷ test_late s.slack (times_in h.items.items) h.last
+    (time_in row) ∷ [])
 
 -- an event or a heartbeat is put where its time belongs, and the end is not held
 abbrev pub put_timed : Option ℕ → Item → List Item → List Item
@@ -161,7 +163,8 @@ pub record CatchesUp (slack : ℕ) (old new : Inlet) : Type 0 where
 
 -- ---- one source in a refill
 -- what was read more of a source, behind these lines: before its last line they were not enough
-pub record IsRefilling (kinds : List Kind) (s : Source) (first rows : ℕ) (above : Option ℕ) (before : List Next) (old new : HeldSource) (left left' : Option Contents) : Type 0 where
+pub record IsRefilling (kinds : List Kind) (s : Source) (first rows : ℕ) (above : Option ℕ) (before : List Next) (old new : HeldSource)
+    (left left' : Option Contents) : Type 0 where
   pub more : List Next
   pub behind : IsHeldBehind kinds first s above (before ++ more) new
   pub shortest : (k : ℕ) → k < length more → is_enough rows above s (before ++ take k more) ≡ false
@@ -172,7 +175,8 @@ abbrev pub EndsAt : Source → ℕ → Option ℕ → List Next → HeldSource �
 EndsAt s rows above now new (At u) = (is_enough rows above s now ≡ true) × (settled_time s now ≡ Some u)
 EndsAt s rows above now new Closed = (new.closed ≡ true) × (is_enough rows above s now ≡ false)
 
-pub record Refills (kinds : List Kind) (s : Source) (first rows : ℕ) (above : Option ℕ) (before : List Next) (old new : HeldSource) (left left' : Option Contents) (end : Border) : Type 0 where
+pub record Refills (kinds : List Kind) (s : Source) (first rows : ℕ) (above : Option ℕ) (before : List Next) (old new : HeldSource)
+    (left left' : Option Contents) (end : Border) : Type 0 where
   pub so_far : IsRefilling kinds s first rows above before old new left left'
   pub ends : EndsAt s rows above (before ++ so_far.more) new end
 
@@ -191,7 +195,8 @@ pub record IsRefilled (kinds : List Kind) (s : Source) (first rows : ℕ) (old n
       → Refills kinds s first rows above before (source_of old) (source_of new) left left' end
 
 -- a defect is met behind lines that are not enough
-pub record MeetsDefect (kinds : List Kind) (s : Source) (rows : ℕ) (above : Option ℕ) (before : List Next) (old : HeldSource) (left left' : Option Contents) (row : ℕ) (why : Why) : Type 0 where
+pub record MeetsDefect (kinds : List Kind) (s : Source) (rows : ℕ) (above : Option ℕ) (before : List Next) (old : HeldSource) (left left' : Option Contents)
+    (row : ℕ) (why : Why) : Type 0 where
   pub more : List Next
   pub next : Next
   pub sound : defect_in kinds s (before ++ more) ≡ None
@@ -200,7 +205,8 @@ pub record MeetsDefect (kinds : List Kind) (s : Source) (rows : ℕ) (above : Op
   pub told : WhereTold left left' (λ was is. (rest : List Next) × (still old was ≡ more ++ next ∷ rest))
 
 -- a read fails behind lines that are not enough
-pub record StopsBehind (kinds : List Kind) (s : Source) (rows : ℕ) (above : Option ℕ) (before : List Next) (old : HeldSource) (left left' : Option Contents) : Type 0 where
+pub record StopsBehind (kinds : List Kind) (s : Source) (rows : ℕ) (above : Option ℕ) (before : List Next) (old : HeldSource)
+    (left left' : Option Contents) : Type 0 where
   pub more : List Next
   pub place : Place
   pub sound : defect_in kinds s (before ++ more) ≡ None
@@ -261,4 +267,5 @@ pub record AreDropped (time : ℕ) (olds news : List Inlet) : Type 0 where
 
 -- this is held of all sources behind these lines of each
 abbrev pub AreBehind : Program → Option ℕ → (ℕ → List Next) → List Inlet → Type 0
-AreBehind p border lines inlets = AtEach (λ i s. (h : Inlet) → slice_get inlets i ≡ Some h → IsHeldBehind p.kinds (first_itag p i) s border (lines i) (source_of h)) p.sources
+AreBehind p border lines inlets =
+    AtEach (λ i s. (h : Inlet) → slice_get inlets i ≡ Some h → IsHeldBehind p.kinds (first_itag p i) s border (lines i) (source_of h)) p.sources

@@ -1,5 +1,6 @@
 -- Rounds: what is read of each source before some of its rows are run, and up to which time these are (`docs/MODEL.md`).
-use Rattle.std.specs.Prelude.{◌≡◌, ℕ, ◌-◌, ◌<◌, ◌≤◌, Bool, true, false, ◌&&◌, nat_lt, nat_le, Option, Some, None, option_map, unwrap_or, List, [], ◌∷◌, ◌++◌, length, take, slice_get, sum_by, if◌then◌else◌, ⊤}
+use Rattle.std.specs.Prelude.{◌≡◌, ℕ, ◌-◌, ◌<◌, ◌≤◌, Bool, true, false, ◌&&◌, nat_lt, nat_le, Option, Some, None, option_map, unwrap_or, List, [], ◌∷◌, ◌++◌}
+use Rattle.std.specs.Prelude.{length, take, slice_get, sum_by, if◌then◌else◌, ⊤}
 use Rattle.std.specs.List.{filter, flat_map}
 use Rattle.std.specs.Option.{option_map_or}
 use Rattle.flu_lemmas.specs.Elements.{AtEach}

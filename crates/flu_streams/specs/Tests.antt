@@ -1,5 +1,6 @@
 -- The tests that the lines of a source are to pass, and its first defect (`docs/LANGUAGE.md`, "Rows").
-use Rattle.std.specs.Prelude.{ℕ, ℤ, ◌+◌, ◌^◌, max, Bool, true, false, not, ◌||◌, ◌==◌, nat_lt, nat_le, Option, Some, None, is_none, option_map, unwrap_or, List, [], ◌∷◌, if◌then◌else◌, sum_by}
+use Rattle.std.specs.Prelude.{ℕ, ℤ, ◌+◌, ◌^◌, max, Bool, true, false, not, ◌||◌, ◌==◌, nat_lt, nat_le, Option, Some, None, is_none, option_map, unwrap_or, List}
+use Rattle.std.specs.Prelude.{[], ◌∷◌, if◌then◌else◌, sum_by}
 use Rattle.std.specs.List.{list_any, filter_map}
 use Rattle.flu_model.specs.declared.jobs.Kind.{Kind}
 use Rattle.flu_model.specs.declared.jobs.Source.{Source}

@@ -1,13 +1,15 @@
 //! What is held of the sources from round to round.
 
-ghost use Rattle.std.specs.Prelude.{◌≡◌, ◌≢◌, ◌≤◌, ◌<◌, ◌^◌, ℕ, length, map, slice_get, vec_len, List, Option, Some, IsTrue, IfOk, IfErr, OnOk, IsErrOf, Ok, Err};
+ghost use Rattle.std.specs.Prelude.{◌≡◌, ◌≢◌, ◌≤◌, ◌<◌, ◌^◌, ℕ, length, map, slice_get, vec_len, List, Option, Some, IsTrue, IfOk, IfErr, OnOk, IsErrOf, Ok};
+ghost use Rattle.std.specs.Prelude.{Err};
 ghost use Rattle.flu_model.specs.Itags.{count_of_itags};
 ghost use Rattle.flu_model.specs.Listed.{listed};
 ghost use Rattle.flu_outside.specs.Outside.{WhereTold, SameCounts};
 ghost use Rattle.flu_outside.specs.Taking.{TookFronts};
 ghost use Rattle.flu_rows.specs.declared.rows.Next.{Next};
 ghost use Rattle.flu_streams.specs.Files.{files_of, LeavesOthers, CountsOfNames, OneRose};
-ghost use Rattle.flu_streams.specs.Holding.{fresh, unread, AreHeldBehind, ClosedAreReadOut, AreClosed, IsFilled, KeepsJob, Fills, IsNewBorder, IsRefillFault, HidesNoRoundFault, Cuts};
+ghost use Rattle.flu_streams.specs.Holding.{fresh, unread, AreHeldBehind, ClosedAreReadOut, AreClosed, IsFilled, KeepsJob, Fills, IsNewBorder, IsRefillFault};
+ghost use Rattle.flu_streams.specs.Holding.{HidesNoRoundFault, Cuts};
 ghost use Rattle.flu_lemmas.specs.Elements.{AtEach};
 ghost use Rattle.flu_model.specs.Streaming.{are_streams};
 ghost use Rattle.flu_streams.specs.Lists.{lists_in};
@@ -137,7 +139,8 @@ impl Held {
         requires program { self.old.program ≡ p.now }
         requires above { above ≡ self.old.border }
         requires stage { self.old.stage ≡ Stage.Filling }
-        ensures round { IfOk result (λ end. (before : ℕ → List Next) → AreHeldBehind self.old before → Fills self.old self.new (F.left files.old) (F.left files.new) end before) }
+        ensures round { IfOk result (λ end. (before : ℕ → List Next) → AreHeldBehind self.old before
+            → Fills self.old self.new (F.left files.old) (F.left files.new) end before) }
         ensures border { IfOk result (IsNewBorder self.old.border) }
         ensures stage { IsFilled result self.new.stage }
         ensures same { KeepsJob self.old self.new }
@@ -154,7 +157,8 @@ impl Held {
         ensures counts { CountsOfNames (F.left files.old) (files_of p.now.sources) (F.faults files.old) (F.faults files.new) }
         ensures quiet { result ≢ Err GatherFault.ReadFault → SameCounts (F.faults files.old) (F.faults files.new) }
         ensures puts { SameCounts (F.put_faults files.old) (F.put_faults files.new) }
-        ensures hides { IsErrOf result GatherFault.ReadFault → (before : ℕ → List Next) → AreHeldBehind self.old before → HidesNoRoundFault self.old (F.left files.old) (F.left files.new) before }
+        ensures hides { IsErrOf result GatherFault.ReadFault → (before : ℕ → List Next) → AreHeldBehind self.old before
+            → HidesNoRoundFault self.old (F.left files.old) (F.left files.new) before }
         ensures cause { IsErrOf result GatherFault.ReadFault → OneRose (files_of p.now.sources) (F.faults files.old) (F.faults files.new) }
     {
         self.stage = Stage::Over;
@@ -175,7 +179,8 @@ impl Held {
     pub fn cut(&mut self, alloc: Global, p: &Program, b: Border) -> Result<Streams, AllocError>
         requires program { self.old.program ≡ p.now }
         requires stage { self.old.stage ≡ Stage.Filled b }
-        ensures lists { IfOk result (λ streams. (lines : ℕ → List Next) → AreHeldBehind self.old lines → listed streams ≡ lists_between p.now self.old.border b lines) }
+        ensures lists { IfOk result (λ streams. (lines : ℕ → List Next) → AreHeldBehind self.old lines
+            → listed streams ≡ lists_between p.now self.old.border b lines) }
         ensures itags { IfOk result (λ streams. length (listed streams) ≡ count_of_itags p.now) }
         ensures cut { OnOk result (Cuts self.old self.new b) }
     {
@@ -258,7 +263,8 @@ fn lists_to(
     requires caught { AreCaughtUp inlets.now }
     ensures len { IfOk result (λ lists. vec_len lists ≡ count_of_itags p.now) }
     ensures streams { IfOk result (λ lists. IsTrue (are_streams 0 (lists_in lists))) }
-    ensures lists { IfOk result (λ lists. (border : Option ℕ) (lines : ℕ → List Next) → AreBehind p.now border lines inlets.now → lists_in lists ≡ lists_between p.now border end lines) }
+    ensures lists { IfOk result (λ lists. (border : Option ℕ) (lines : ℕ → List Next) → AreBehind p.now border lines inlets.now
+        → lists_in lists ≡ lists_between p.now border end lines) }
 {
     let mut lists = Vec::new(alloc);
     let mut number = 0;

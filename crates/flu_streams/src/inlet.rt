@@ -1,6 +1,7 @@
 //! What is held of one source from round to round.
 
-ghost use Rattle.std.specs.Prelude.{◌≡◌, ◌≢◌, ◌≤◌, ◌<◌, ◌+◌, ◌^◌, ◌++◌, ◌∷◌, [], ℕ, None, Some, length, unwrap_or, vec_len, IsTrue, OnOk, IfOk, IfErr, IsErrOf, Err};
+ghost use Rattle.std.specs.Prelude.{◌≡◌, ◌≢◌, ◌≤◌, ◌<◌, ◌+◌, ◌^◌, ◌++◌, ◌∷◌, [], ℕ, None, Some, length, unwrap_or, vec_len, IsTrue, OnOk, IfOk, IfErr, IsErrOf};
+ghost use Rattle.std.specs.Prelude.{Err};
 ghost use Rattle.std.specs.List.{filter_map};
 ghost use Rattle.flu_lemmas.specs.Late.{rises_from};
 ghost use Rattle.flu_outside.specs.Outside.{WhereTold, Rose, SameCounts};
@@ -41,7 +42,8 @@ pub(crate) struct Inlet {
 
 impl Inlet {
     ghost use Rattle.flu_streams.specs.Holding.{unread_source};
-    ghost use Rattle.flu_streams.specs.LoopHeld.{source_of, enough_in, CatchesUp, fault_behind, test_late, taken_by, PutsIn, PutsItem, DropsTo, IsRefilled, IsStopOf};
+    ghost use Rattle.flu_streams.specs.LoopHeld.{source_of, enough_in, CatchesUp, fault_behind, test_late, taken_by, PutsIn, PutsItem, DropsTo, IsRefilled};
+    ghost use Rattle.flu_streams.specs.LoopHeld.{IsStopOf};
     ghost use Rattle.flu_streams.specs.LoopIntake.{IsRefusal};
 
     /// Nothing of a source, whose rows are run from a border on, where there is one.

@@ -109,7 +109,8 @@ impl Intake {
     fn event(&mut self, slack: u64, place: u32, time: u64, value: i64) -> Result<(), RowRefusal>
         requires { place < vec_len self.old.lists }
         ensures passes { OnOk result (fault_at slack (times_in self.old.items.items) self.old.held time 1 ≡ None) }
-        ensures taken { OnOk result (Inserts (Item.Event (record { time = time; itag = record { 0 = self.old.first + place }; value = value })) 1 self.old self.new) }
+        ensures taken { OnOk result (Inserts (Item.Event (record { time = time; itag = record { 0 = self.old.first + place }; value = value })) 1 self.old
+            self.new) }
         ensures refused { IfErr result (IsRefusal (fault_at slack (times_in self.old.items.items) self.old.held time 1)) }
     {
         let event = Event {

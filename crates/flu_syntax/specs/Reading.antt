@@ -19,7 +19,10 @@ use Rattle.flu_syntax.specs.Tree.{Tree, ParenTree, Deed, Action, Declaration, De
 use Rattle.flu_text.specs.Signs.{place_of}
 use Rattle.flu_syntax.specs.Grammar.{op_level}
 use Rattle.flu_text.specs.Signs.{number_of}
-use Rattle.flu_syntax.specs.Machine.{Now, Start, CellFamily, CellKeys, CellKey, CellClose, InExpression, ActionStart, ActionEnd, DeedEnd, TagKind, TagKeys, TagMore, TagClose, TagEnd, SourceRate, SourceSlack, SourceColon, DependsHow, Actions, Tags, Context, Aim, ToWrite, Frame, ParenFrame, RightFrame, Mode, Want, Have, Done, opens, named, cell_of, tag_of, listed, source_of, acted, Verdict, Found, Unexpected, TooDeep, run, verdict, with_version}
+use Rattle.flu_syntax.specs.Machine.{Now, Start, CellFamily, CellKeys, CellKey, CellClose, InExpression, ActionStart, ActionEnd, DeedEnd, TagKind, TagKeys}
+use Rattle.flu_syntax.specs.Machine.{TagMore, TagClose, TagEnd, SourceRate, SourceSlack, SourceColon, DependsHow, Actions, Tags, Context, Aim, ToWrite, Frame}
+use Rattle.flu_syntax.specs.Machine.{ParenFrame, RightFrame, Mode, Want, Have, Done, opens, named, cell_of, tag_of, listed, source_of, acted, Verdict, Found}
+use Rattle.flu_syntax.specs.Machine.{Unexpected, TooDeep, run, verdict, with_version}
 
 -- the fault tells the verdict, unless memory is wanting
 abbrev pub Tells : {X : Type 0} → SyntaxFault → Verdict X → Type 0
@@ -94,7 +97,8 @@ ReadsExpression end opened mode tokens now rest result =
 abbrev pub Closes : {X : Type 0} → ℕ → List Token → (X → List Token) → Result X SyntaxFault → Type 0
 Closes end tokens rest (Ok x) =
     (before : Declarations) (context : Context) (t : Tree) (level at : ℕ) (frames : List Frame)
-    → run end before (InExpression context (Done t) (ParenFrame level at ∷ frames)) tokens ≡ run end before (InExpression context (Have level 6 (ParenTree at t)) frames) (rest x)
+    → run end before (InExpression context (Done t) (ParenFrame level at ∷ frames)) tokens ≡ run end before
+    (InExpression context (Have level 6 (ParenTree at t)) frames) (rest x)
 Closes end tokens rest (Err fault) =
     (before : Declarations) (context : Context) (t : Tree) (level at : ℕ) (frames : List Frame) → Tells fault
     (run end before (InExpression context (Done t) (ParenFrame level at ∷ frames)) tokens)
@@ -109,7 +113,8 @@ IsPassed low high tokens =
 abbrev pub IsTaken : ℕ → ℕ → List Token → Op → List Token → Type 0
 IsTaken low high tokens o rest =
     (end : ℕ) (before : Declarations) (context : Context) (t : Tree) (frames : List Frame)
-    → run end before (InExpression context (Have low high t) frames) tokens ≡ run end before (InExpression context (Want (op_level o + 1)) (RightFrame low o t ∷ frames)) rest
+    → run end before (InExpression context (Have low high t) frames) tokens ≡ run end before
+    (InExpression context (Want (op_level o + 1)) (RightFrame low o t ∷ frames)) rest
 
 -- what an action does; its first token stands at a place
 abbrev pub ReadsWriting : {X : Type 0} → ℕ → Verb → List Token → (X → Deed) → (X → List Token) → Result X SyntaxFault → Type 0

@@ -3,7 +3,8 @@
 ghost use Rattle.std.specs.Prelude.{◌≡◌, ◌≤◌, ◌<◌, length, map, option_map, IfOk, MatchOption};
 ghost use Rattle.flu_syntax.specs.Tree.{view, deed_of, Writes, action_of, declaration_of};
 ghost use Rattle.flu_syntax.specs.Machine.{Start, CellName, TagName, DependsFirst, OnKind, SourceName};
-ghost use Rattle.flu_syntax.specs.Reading.{ReadsWriting, ReadsDeed, ReadsGuard, ReadsAction, ReadsActions, ReadsRange, ReadsKeys, ReadsTag, ReadsTags, ReadsRate, ReadsSlack, ReadsRelation, ReadsDeclaration, IsFirst, NotFirst, TakesKeyed};
+ghost use Rattle.flu_syntax.specs.Reading.{ReadsWriting, ReadsDeed, ReadsGuard, ReadsAction, ReadsActions, ReadsRange, ReadsKeys, ReadsTag, ReadsTags};
+ghost use Rattle.flu_syntax.specs.Reading.{ReadsRate, ReadsSlack, ReadsRelation, ReadsDeclaration, IsFirst, NotFirst, TakesKeyed};
 
 use crate::cells::cell;
 use crate::expressions::expression;

@@ -61,7 +61,8 @@ pub fn take(tokens: &[Token], word: Word) -> Option<(Token, &[Token])>
 
 /// The first token, which has to be of this word, and those behind it.
 pub fn expect(tokens: &[Token], end: usize, word: Word) -> Result<(Token, &[Token]), SyntaxFault>
-    ensures front { MatchResult result (λ x. IsFirst word tokens.now x.0 x.1.now) (λ fault. (fault ≡ SyntaxFault.Unexpected (place_of end tokens.now)) × NotFirst word tokens.now) }
+    ensures front { MatchResult result (λ x. IsFirst word tokens.now x.0 x.1.now)
+        (λ fault. (fault ≡ SyntaxFault.Unexpected (place_of end tokens.now)) × NotFirst word tokens.now) }
     ensures shorter { IfOk result (λ x. length x.1.now < length tokens.now) }
 {
     match take(tokens, word) {
@@ -72,7 +73,8 @@ pub fn expect(tokens: &[Token], end: usize, word: Word) -> Result<(Token, &[Toke
 
 /// The first token, which has to be a number, and those behind it.
 pub fn number(tokens: &[Token], end: usize) -> Result<(WrittenNumber, &[Token]), SyntaxFault>
-    ensures front { MatchResult result (λ x. IsNumber tokens.now x.0 x.1.now) (λ fault. (fault ≡ SyntaxFault.Unexpected (place_of end tokens.now)) × NotNumber tokens.now) }
+    ensures front { MatchResult result (λ x. IsNumber tokens.now x.0 x.1.now)
+        (λ fault. (fault ≡ SyntaxFault.Unexpected (place_of end tokens.now)) × NotNumber tokens.now) }
     ensures shorter { IfOk result (λ x. length x.1.now < length tokens.now) }
 {
     let Some((first, rest)) = next(tokens) else {

@@ -1,5 +1,6 @@
 -- The word that is read at the front of some bytes is the one that the grammar has there.
-use Rattle.std.proofs.Common.{◌≡◌, ◌≢◌, ℕ, zero, suc, ◌+◌, ◌≤◌, ◌<◌, ◌^◌, Bool, true, false, ◌&&◌, cond, eqb, ltb, leb, List, [], ◌∷◌, ◌++◌, length, take, drop, get_or, pos, Option, Some, None, refl, sym, ap, subst, ◌∙◌, append_assoc, inl, inr, arith}
+use Rattle.std.proofs.Common.{◌≡◌, ◌≢◌, ℕ, zero, suc, ◌+◌, ◌≤◌, ◌<◌, ◌^◌, Bool, true, false, ◌&&◌, cond, eqb, ltb, leb, List, [], ◌∷◌, ◌++◌, length, take, drop}
+use Rattle.std.proofs.Common.{get_or, pos, Option, Some, None, refl, sym, ap, subst, ◌∙◌, append_assoc, inl, inr, arith}
 use Rattle.std.specs.Prelude.{option_map, unwrap_or}
 use Rattle.std.specs.Char.{is_ascii_digit}
 use Rattle.std.specs.List.{list_all, prefix_len}
@@ -20,7 +21,8 @@ use Rattle.flu_text.specs.Lexeme.{name_at, number_of, number_at, text_at, mark_o
 use Rattle.flu_text.specs.Layout.{NotFirst, makes_longer, Ends}
 use Rattle.flu_lemmas.proofs.Tests.{and_left, both}
 use Rattle.flu_lemmas.proofs.Prefixes.{within_read, chosen, mapped, list_all-prefix_len, prefix_len-longest, prefix_len-take, prefix_len_some, take_one_more}
-use Rattle.flu_text.proofs.Tables.{reserved_of-spelling, reserved_is, reserved_bytes, reserved_starts, mark_of-spelling, mark_len, mark_is, long_mark, longer_mark}
+use Rattle.flu_text.proofs.Tables.{reserved_of-spelling, reserved_is, reserved_bytes, reserved_starts, mark_of-spelling, mark_len, mark_is, long_mark}
+use Rattle.flu_text.proofs.Tables.{longer_mark}
 use Rattle.flu_text.proofs.Spelled.{starts_from_first, mark_first, spelled_is_read}
 
 -- this word takes so many bytes of the front, and no lexeme there is longer

@@ -1,5 +1,6 @@
 -- What spells a word and ends there is read as that word.
-use Rattle.std.proofs.Common.{◌≡◌, ◌≢◌, ℕ, ◌+◌, ◌≤◌, ◌<◌, ◌^◌, Bool, true, false, ◌&&◌, eqb, List, [], ◌∷◌, ◌++◌, length, drop, get_or, pos, Option, Some, None, refl, sym, ap, ◌∙◌, append_assoc, arith}
+use Rattle.std.proofs.Common.{◌≡◌, ◌≢◌, ℕ, ◌+◌, ◌≤◌, ◌<◌, ◌^◌, Bool, true, false, ◌&&◌, eqb, List, [], ◌∷◌, ◌++◌, length, drop, get_or, pos, Option, Some, None}
+use Rattle.std.proofs.Common.{refl, sym, ap, ◌∙◌, append_assoc, arith}
 use Rattle.std.specs.Prelude.{option_map, unwrap_or, not, nat_lt}
 use Rattle.std.specs.Char.{is_ascii_digit}
 use Rattle.std.specs.List.{list_all, prefix_len}
@@ -40,7 +41,8 @@ pub record IsMarkByte (b : ℕ) : Type 0 where
   pub no_comment : eqb b number_sign ≡ false
   pub ascii : b < 128
 
-mark_byte : (b : ℕ) → (not (is_name_start b) && not (is_ascii_digit b) && not (eqb b quote) && not (is_blank b) && not (eqb b number_sign) && nat_lt b 128) ≡ true → IsMarkByte b
+mark_byte : (b : ℕ) → (not (is_name_start b) && not (is_ascii_digit b) && not (eqb b quote) && not (is_blank b) && not (eqb b number_sign)
+    && nat_lt b 128) ≡ true → IsMarkByte b
 mark_byte b e =
     let a5 = and_left (not (is_name_start b) && not (is_ascii_digit b) && not (eqb b quote) && not (is_blank b) && not (eqb b number_sign)) (nat_lt b 128) e in
     let a4 = and_left (not (is_name_start b) && not (is_ascii_digit b) && not (eqb b quote) && not (is_blank b)) (not (eqb b number_sign)) a5 in

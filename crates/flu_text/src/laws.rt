@@ -1,6 +1,7 @@
 //! Laws of the lexical grammar, each the contract of a function that does nothing.
 
-ghost use Rattle.flu_text.specs.Laws.{TokensAreUnique, BadPlaceIsUnique, TokensOrBadPlace, ReadingIsTokens, ReadingIsBadPlace, EachIsToken, EachIsSpan, EachIsInside, TokensRise, LayoutIsRead, LayoutIsSpelled, NamesAreTested, ReservedIsSpelled, SignsStand};
+ghost use Rattle.flu_text.specs.Laws.{TokensAreUnique, BadPlaceIsUnique, TokensOrBadPlace, ReadingIsTokens, ReadingIsBadPlace, EachIsToken, EachIsSpan};
+ghost use Rattle.flu_text.specs.Laws.{EachIsInside, TokensRise, LayoutIsRead, LayoutIsSpelled, NamesAreTested, ReservedIsSpelled, SignsStand};
 
 /// A text has one reading: its tokens, or the first place where none begins.
 pub fn one_reading()

@@ -37,9 +37,11 @@ pub fn run<F: Files, K: Sink, G: Gate, R: Threads + Wait + Sync>(
     command: Command,
     gate: &G,
 ) -> Result<Option<Said>, Refusal>
-    ensures ends { IsEnding (call (F.left files.old) (F.left files.new) (F.faults files.old) (F.faults files.new) (F.put_faults files.old) (F.put_faults files.new) (K.taken out.old) (K.taken out.new) (K.faults out.old) (K.faults out.new)) (plain_command command.entry) result }
+    ensures ends { IsEnding (call (F.left files.old) (F.left files.new) (F.faults files.old) (F.faults files.new) (F.put_faults files.old)
+        (F.put_faults files.new) (K.taken out.old) (K.taken out.new) (K.faults out.old) (K.faults out.new)) (plain_command command.entry) result }
     ensures fronts { WhereTold (F.left files.old) (F.left files.new) (TookFrontsBut (IsPutAt (plain_command command.entry) (status_after result))) }
-    ensures only { WhereTold (F.left files.old) (F.left files.new) (TookOnly (λ name. IsReadName (F.left files.old) (plain_command command.entry) name ⊎ IsPutAt (plain_command command.entry) (status_after result) name)) }
+    ensures only { WhereTold (F.left files.old) (F.left files.new) (TookOnly
+        (λ name. IsReadName (F.left files.old) (plain_command command.entry) name ⊎ IsPutAt (plain_command command.entry) (status_after result) name)) }
 {
     match command {
         Command::Fold { job } => put_text(out, fold_job(alloc, files, job)),

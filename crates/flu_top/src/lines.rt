@@ -3,7 +3,8 @@
 ghost use Rattle.std.specs.Prelude.{◌≡◌, ◌++◌, OnOk, OnErr};
 ghost use Rattle.std.specs.Fmt.{decimal};
 ghost use Rattle.flu_outside.specs.Writing.{Writes};
-ghost use Rattle.flu_top.specs.Lines.{what_word, limit_text, bad_words_line, fault_line, job_fault_line, conflict_line, row_line, source_fault_line, save_line, save_fault_text, save_defect_line, trace_line, trace_fault_line, step_line, IsSaid};
+ghost use Rattle.flu_top.specs.Lines.{what_word, limit_text, bad_words_line, fault_line, job_fault_line, conflict_line, row_line, source_fault_line, save_line};
+ghost use Rattle.flu_top.specs.Lines.{save_fault_text, save_defect_line, trace_line, trace_fault_line, step_line, IsSaid};
 ghost use Rattle.flu_streams.specs.declared.faults.Why.{Why};
 ghost use Rattle.flu_top.specs.Answer.{line_of};
 ghost use Rattle.flu_top.specs.Products.{line_of_said};
@@ -238,7 +239,8 @@ fn write_disordered<E: Sink>(
     last: u64,
     got: u64,
 ) -> Result<(), Failed>
-    ensures { Writes (source_fault_line name.now row (Why.Disordered last got)) (E.taken err.old) (E.taken err.new) (E.faults err.old) (E.faults err.new) result }
+    ensures { Writes (source_fault_line name.now row (Why.Disordered last got)) (E.taken err.old) (E.taken err.new) (E.faults err.old)
+        (E.faults err.new) result }
 {
     let mut row_buffer = Buffer::new();
     let mut last_buffer = Buffer::new();

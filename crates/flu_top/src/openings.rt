@@ -37,8 +37,10 @@ pub fn opening_of<F: Files>(
     resume: Option<&str>,
 ) -> Result<Opening, Refusal>
     ensures opening { IfOk result (λ o. IsOpening program.now (plain_opening o)) }
-    ensures opened { IfOk result (λ o. WhereTold (F.left files.old) (F.left files.new) (IsOpened (option_map (λ name. name.now) resume.entry) program.now (plain_opening o))) }
-    ensures refused { IfErr result (IsOpeningRefusal (option_map (λ name. name.now) resume.entry) program.now (F.left files.old) (F.left files.new) (F.faults files.old) (F.faults files.new)) }
+    ensures opened { IfOk result (λ o. WhereTold (F.left files.old) (F.left files.new)
+        (IsOpened (option_map (λ name. name.now) resume.entry) program.now (plain_opening o))) }
+    ensures refused { IfErr result (IsOpeningRefusal (option_map (λ name. name.now) resume.entry) program.now (F.left files.old) (F.left files.new)
+        (F.faults files.old) (F.faults files.new)) }
     ensures fronts { WhereTold (F.left files.old) (F.left files.new) TookFronts }
     ensures others { WhereTold (F.left files.old) (F.left files.new) (LeavesOthers (if_named (option_map (λ name. name.now) resume.entry))) }
     ensures counts { (n : List ℕ) → F.faults files.old n ≤ F.faults files.new n }
@@ -62,7 +64,8 @@ fn resumed<F: Files>(
 ) -> Result<Opening, Refusal>
     ensures opening { IfOk result (λ o. IsOpening program.now (plain_opening o)) }
     ensures opened { IfOk result (λ o. WhereTold (F.left files.old) (F.left files.new) (IsOpened (Some name.now) program.now (plain_opening o))) }
-    ensures refused { IfErr result (IsOpeningRefusal (Some name.now) program.now (F.left files.old) (F.left files.new) (F.faults files.old) (F.faults files.new)) }
+    ensures refused { IfErr result (IsOpeningRefusal (Some name.now) program.now (F.left files.old) (F.left files.new) (F.faults files.old)
+        (F.faults files.new)) }
     ensures fronts { WhereTold (F.left files.old) (F.left files.new) TookFronts }
     ensures others { WhereTold (F.left files.old) (F.left files.new) (LeavesOthers (if_named (Some name.now))) }
     ensures counts { (n : List ℕ) → F.faults files.old n ≤ F.faults files.new n }
@@ -78,7 +81,8 @@ fn resumed<F: Files>(
 
 /// The source whose file has the name that a run saves to; or else that which it is resumed from.
 pub fn same_name(program: &Program, options: RunOptions<'_>) -> Option<u32>
-    ensures found { IfSome result (λ number. (job : List ℕ) (plan : Option (List ℕ)) → IsSameName (Run job plan (plain_options options.entry)) program.now number) }
+    ensures found { IfSome result (λ number. (job : List ℕ) (plan : Option (List ℕ))
+        → IsSameName (Run job plan (plain_options options.entry)) program.now number) }
     ensures none { result ≡ None → (job : List ℕ) (plan : Option (List ℕ)) → AreNoSources (Run job plan (plain_options options.entry)) program.now }
 {
     match source_with(program, options.save) {

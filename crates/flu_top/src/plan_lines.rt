@@ -46,7 +46,8 @@ fn write_plan_fault<E: Sink>(err: &mut E, fault: &PlanFault) -> Result<(), Faile
 
 // Writes the line of nodes that are no tree.
 fn write_not_a_tree<E: Sink>(err: &mut E, name: &[u8]) -> Result<(), Failed>
-    ensures { Writes (plan_line (plan_fault_text (PlanFault.NotATree name.now))) (E.taken err.old) (E.taken err.new) (E.faults err.old) (E.faults err.new) result }
+    ensures { Writes (plan_line (plan_fault_text (PlanFault.NotATree name.now))) (E.taken err.old) (E.taken err.new) (E.faults err.old)
+        (E.faults err.new) result }
 {
     write_pieces(err, &[b"flumina: plan: not a tree at ", name, b"\n"])
 }
@@ -58,7 +59,8 @@ fn write_invalid<E: Sink>(
     plan: &Plan,
     why: Invalid,
 ) -> Result<(), Failed>
-    ensures { Writes (plan_line (invalid_text program.now plan.now.nodes why)) (E.taken err.old) (E.taken err.new) (E.faults err.old) (E.faults err.new) result }
+    ensures { Writes (plan_line (invalid_text program.now plan.now.nodes why)) (E.taken err.old) (E.taken err.new) (E.faults err.old)
+        (E.faults err.new) result }
 {
     match why {
         Invalid::Unowned { itag } => write_unowned(err, program, plan, itag),
@@ -74,7 +76,8 @@ fn write_unowned<E: Sink>(
     plan: &Plan,
     itag: Itag,
 ) -> Result<(), Failed>
-    ensures { Writes (plan_line (invalid_text program.now plan.now.nodes (Invalid.Unowned itag))) (E.taken err.old) (E.taken err.new) (E.faults err.old) (E.faults err.new) result }
+    ensures { Writes (plan_line (invalid_text program.now plan.now.nodes (Invalid.Unowned itag))) (E.taken err.old) (E.taken err.new) (E.faults err.old)
+        (E.faults err.new) result }
 {
     write_all(err, PLAN)?;
     write_itag(err, program, itag, b" has no owner\n")
@@ -89,7 +92,8 @@ fn write_owned_twice<E: Sink>(
     a: u32,
     b: u32,
 ) -> Result<(), Failed>
-    ensures { Writes (plan_line (invalid_text program.now plan.now.nodes (Invalid.OwnedTwice itag a b))) (E.taken err.old) (E.taken err.new) (E.faults err.old) (E.faults err.new) result }
+    ensures { Writes (plan_line (invalid_text program.now plan.now.nodes (Invalid.OwnedTwice itag a b))) (E.taken err.old) (E.taken err.new) (E.faults err.old)
+        (E.faults err.new) result }
 {
     let first = node_name(plan, a).as_bytes();
     let second = node_name(plan, b).as_bytes();
@@ -108,7 +112,8 @@ fn write_clash<E: Sink>(
     b: u32,
     j: Itag,
 ) -> Result<(), Failed>
-    ensures { Writes (plan_line (invalid_text program.now plan.now.nodes (Invalid.Clash a i b j))) (E.taken err.old) (E.taken err.new) (E.faults err.old) (E.faults err.new) result }
+    ensures { Writes (plan_line (invalid_text program.now plan.now.nodes (Invalid.Clash a i b j))) (E.taken err.old) (E.taken err.new) (E.faults err.old)
+        (E.faults err.new) result }
 {
     write_all(err, b"flumina: plan: clash of ")?;
     write_owned(err, program, plan, i, a, b" and ")?;
@@ -124,7 +129,8 @@ fn write_owned<E: Sink>(
     node: u32,
     behind: &[u8],
 ) -> Result<(), Failed>
-    ensures { Writes (owned_text program.now plan.now.nodes itag node ++ behind.now) (E.taken err.old) (E.taken err.new) (E.faults err.old) (E.faults err.new) result }
+    ensures { Writes (owned_text program.now plan.now.nodes itag node ++ behind.now) (E.taken err.old) (E.taken err.new) (E.faults err.old)
+        (E.faults err.new) result }
 {
     let name = node_name(plan, node).as_bytes();
     write_itag(err, program, itag, b" at ")?;

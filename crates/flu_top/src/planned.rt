@@ -44,8 +44,10 @@ pub fn planned_by<F: Files>(
 ) -> Result<Planned, Refusal>
     ensures accepted { IfOk result (λ planned. IsAccepted (program_of planned.checked)) }
     ensures valid { IfOk result (λ planned. IsValidFor (program_of planned.checked) planned.valid) }
-    ensures ready { IfOk result (λ planned. WhereTold (F.left files.old) (F.left files.new) (IsReady (ValidCommand job.now plan.now) (program_of planned.checked))) }
-    ensures nodes { IfOk result (λ planned. WhereTold (F.left files.old) (F.left files.new) (HasNodes job.now plan.now (program_of planned.checked) (plan_of planned.valid).nodes)) }
+    ensures ready { IfOk result (λ planned. WhereTold (F.left files.old) (F.left files.new)
+        (IsReady (ValidCommand job.now plan.now) (program_of planned.checked))) }
+    ensures nodes { IfOk result (λ planned. WhereTold (F.left files.old) (F.left files.new)
+        (HasNodes job.now plan.now (program_of planned.checked) (plan_of planned.valid).nodes)) }
     ensures refused { IfErr result (IsRefusal (ValidCommand job.now plan.now) (F.left files.old) (F.left files.new) (F.faults files.old) (F.faults files.new)) }
     ensures fronts { WhereTold (F.left files.old) (F.left files.new) TookFronts }
     ensures only { WhereTold (F.left files.old) (F.left files.new) (TookOnly (IsReadName (F.left files.old) (ValidCommand job.now plan.now))) }
@@ -75,7 +77,8 @@ pub fn planned_greedily(alloc: Global, program: Program, depth: Depth) -> Result
     ensures same { IfOk result (λ planned. program_of planned.checked ≡ program) }
     ensures accepted { IfOk result (λ planned. IsAccepted (program_of planned.checked)) }
     ensures valid { IfOk result (λ planned. IsValidFor (program_of planned.checked) planned.valid) }
-    ensures greedy { IfOk result (λ planned. IsGreedyPlan (program_of planned.checked) (source_rates (program_of planned.checked)) depth.levels (plan_of planned.valid).nodes) }
+    ensures greedy { IfOk result (λ planned. IsGreedyPlan (program_of planned.checked) (source_rates (program_of planned.checked)) depth.levels
+        (plan_of planned.valid).nodes) }
     ensures refused { IfErr result (IsCheckRefusal program) }
 {
     let checked = match accepted(program) {

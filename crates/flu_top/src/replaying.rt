@@ -40,7 +40,8 @@ pub fn replay_planned<F: Files>(
     trace: &str,
 ) -> Result<Text, Refusal>
     ensures written { IfOk result (λ text. WhereTold (F.left files.old) (F.left files.new) (IsWritten (Replay job.now plan.now trace.now) text [])) }
-    ensures refused { IfErr result (IsRefusal (Replay job.now plan.now trace.now) (F.left files.old) (F.left files.new) (F.faults files.old) (F.faults files.new)) }
+    ensures refused { IfErr result (IsRefusal (Replay job.now plan.now trace.now) (F.left files.old) (F.left files.new) (F.faults files.old)
+        (F.faults files.new)) }
     ensures fronts { WhereTold (F.left files.old) (F.left files.new) TookFronts }
     ensures only { WhereTold (F.left files.old) (F.left files.new) (TookOnly (IsReadName (F.left files.old) (Replay job.now plan.now trace.now))) }
 {
@@ -59,9 +60,11 @@ fn report_of<F: Files>(
     trace: &str,
 ) -> Result<Text, Refusal>
     requires { IsValidFor (program_of planned.checked) planned.valid }
-    ensures replayed { IfOk result (λ text. WhereTold (F.left files.old) (F.left files.new) (IsReplayDone (program_of planned.checked) (plan_of planned.valid).nodes trace.now text)) }
+    ensures replayed { IfOk result (λ text. WhereTold (F.left files.old) (F.left files.new)
+        (IsReplayDone (program_of planned.checked) (plan_of planned.valid).nodes trace.now text)) }
     ensures stays { OnOk result (WhereTold (F.left files.old) (F.left files.new) StaysEnded) }
-    ensures refused { IfErr result (IsReplayRefusal (program_of planned.checked) (plan_of planned.valid).nodes trace.now (F.left files.old) (F.left files.new) (F.faults files.old) (F.faults files.new)) }
+    ensures refused { IfErr result (IsReplayRefusal (program_of planned.checked) (plan_of planned.valid).nodes trace.now (F.left files.old) (F.left files.new)
+        (F.faults files.old) (F.faults files.new)) }
     ensures fronts { WhereTold (F.left files.old) (F.left files.new) TookFronts }
     ensures only { WhereTold (F.left files.old) (F.left files.new) (λ old new. TookOnly (IsReadIn (program_of planned.checked) trace.now old) old new) }
 {
@@ -86,10 +89,13 @@ fn net_report<F: Files>(
 ) -> Result<Text, Refusal>
     requires valid { IsValidFor (program_of planned.now.checked) planned.now.valid }
     requires lists { length (listed streams.now) ≡ count_of_itags (program_of planned.now.checked) }
-    ensures report { IfOk result (λ text. text ≡ report (program_of planned.now.checked) (final_outputs (program_of planned.now.checked) nothing_held (listed streams.now))) }
-    ensures complete { OnOk result (WhereTold (F.left files.old) (F.left files.new) (λ old new. EndsOnNet (program_of planned.now.checked) (plan_of planned.now.valid).nodes (listed streams.now) (bytes_left old trace.now) Complete)) }
+    ensures report { IfOk result (λ text. text ≡ report (program_of planned.now.checked)
+        (final_outputs (program_of planned.now.checked) nothing_held (listed streams.now))) }
+    ensures complete { OnOk result (WhereTold (F.left files.old) (F.left files.new)
+        (λ old new. EndsOnNet (program_of planned.now.checked) (plan_of planned.now.valid).nodes (listed streams.now) (bytes_left old trace.now) Complete)) }
     ensures end { OnOk result (IsReadOut trace.now (F.left files.new)) }
-    ensures refused { IfErr result (IsNetRefusal (program_of planned.now.checked) (plan_of planned.now.valid).nodes (listed streams.now) trace.now (F.left files.old) (F.left files.new) (F.faults files.old) (F.faults files.new)) }
+    ensures refused { IfErr result (IsNetRefusal (program_of planned.now.checked) (plan_of planned.now.valid).nodes (listed streams.now) trace.now
+        (F.left files.old) (F.left files.new) (F.faults files.old) (F.faults files.new)) }
     ensures taken { WhereTold (F.left files.old) (F.left files.new) (TakesFrom trace.now) }
 {
     let program = planned.checked.program();

@@ -1,6 +1,7 @@
 //! `run JOB [PLAN] [--adapt] [--save FILE] [--resume FILE]`: the report of a run of a job's events on the tree of threads, in rounds.
 
-ghost use Rattle.std.specs.Prelude.{◌≡◌, ◌≢◌, ◌<◌, ◌≤◌, ◌⊎◌, ℕ, Bool, option_map, length, List, ◌∷◌, Option, Some, None, Ok, Err, IfOk, IfErr, OnOk, IsErrOf, IsTrue};
+ghost use Rattle.std.specs.Prelude.{◌≡◌, ◌≢◌, ◌<◌, ◌≤◌, ◌⊎◌, ℕ, Bool, option_map, length, List, ◌∷◌, Option, Some, None, Ok, Err, IfOk, IfErr, OnOk, IsErrOf};
+ghost use Rattle.std.specs.Prelude.{IsTrue};
 ghost use Rattle.flu_outside.specs.Outside.{Contents, WhereTold, Rose, SameCounts};
 ghost use Rattle.flu_outside.specs.Taking.{TakesFrom, TookFronts};
 ghost use Rattle.flu_outside.specs.Writing.{AppendsAll, AppendsPart};
@@ -86,9 +87,14 @@ pub fn run_job<F: Files, K: Sink, G: Gate, R: Threads + Wait + Sync>(
     options: RunOptions<'_>,
     gate: &G,
 ) -> Result<Option<Said>, Refusal>
-    ensures ends { IsEnding (call (F.left files.old) (F.left files.new) (F.faults files.old) (F.faults files.new) (F.put_faults files.old) (F.put_faults files.new) (K.taken out.old) (K.taken out.new) (K.faults out.old) (K.faults out.new)) (Run job.now (option_map (λ name. name.now) plan.entry) (plain_options options.entry)) result }
-    ensures fronts { WhereTold (F.left files.old) (F.left files.new) (TookFrontsBut (IsPutAt (Run job.now (option_map (λ name. name.now) plan.entry) (plain_options options.entry)) (status_after result))) }
-    ensures only { WhereTold (F.left files.old) (F.left files.new) (TookOnly (λ name. IsReadName (F.left files.old) (Run job.now (option_map (λ name. name.now) plan.entry) (plain_options options.entry)) name ⊎ IsPutAt (Run job.now (option_map (λ name. name.now) plan.entry) (plain_options options.entry)) (status_after result) name)) }
+    ensures ends { IsEnding (call (F.left files.old) (F.left files.new) (F.faults files.old) (F.faults files.new) (F.put_faults files.old)
+        (F.put_faults files.new) (K.taken out.old) (K.taken out.new) (K.faults out.old) (K.faults out.new))
+        (Run job.now (option_map (λ name. name.now) plan.entry) (plain_options options.entry)) result }
+    ensures fronts { WhereTold (F.left files.old) (F.left files.new)
+        (TookFrontsBut (IsPutAt (Run job.now (option_map (λ name. name.now) plan.entry) (plain_options options.entry)) (status_after result))) }
+    ensures only { WhereTold (F.left files.old) (F.left files.new)
+        (TookOnly (λ name. IsReadName (F.left files.old) (Run job.now (option_map (λ name. name.now) plan.entry) (plain_options options.entry)) name
+        ⊎ IsPutAt (Run job.now (option_map (λ name. name.now) plan.entry) (plain_options options.entry)) (status_after result) name)) }
 {
     let planned = match planned_for(alloc, files, job, plan) {
         Ok(planned) => planned,
@@ -123,10 +129,13 @@ fn planned_for<F: Files>(
 ) -> Result<Planned, Refusal>
     ensures accepted { IfOk result (λ planned. IsAccepted (program_of planned.checked)) }
     ensures valid { IfOk result (λ planned. IsValidFor (program_of planned.checked) planned.valid) }
-    ensures begun { IfOk result (λ planned. WhereTold (F.left files.old) (F.left files.new) (IsBegun job.now (option_map (λ name. name.now) plan.entry) (program_of planned.checked))) }
-    ensures refused { IfErr result (λ refusal. (options : PlainOptions) → IsRefusal (Run job.now (option_map (λ name. name.now) plan.entry) options) (F.left files.old) (F.left files.new) (F.faults files.old) (F.faults files.new) refusal) }
+    ensures begun { IfOk result (λ planned. WhereTold (F.left files.old) (F.left files.new)
+        (IsBegun job.now (option_map (λ name. name.now) plan.entry) (program_of planned.checked))) }
+    ensures refused { IfErr result (λ refusal. (options : PlainOptions) → IsRefusal (Run job.now (option_map (λ name. name.now) plan.entry) options)
+        (F.left files.old) (F.left files.new) (F.faults files.old) (F.faults files.new) refusal) }
     ensures fronts { WhereTold (F.left files.old) (F.left files.new) TookFronts }
-    ensures only { (options : PlainOptions) → WhereTold (F.left files.old) (F.left files.new) (TookOnly (IsReadName (F.left files.old) (Run job.now (option_map (λ name. name.now) plan.entry) options))) }
+    ensures only { (options : PlainOptions) → WhereTold (F.left files.old) (F.left files.new)
+        (TookOnly (IsReadName (F.left files.old) (Run job.now (option_map (λ name. name.now) plan.entry) options))) }
     ensures others { WhereTold (F.left files.old) (F.left files.new) (LeavesOthers (job.now ∷ if_named (option_map (λ name. name.now) plan.entry))) }
     ensures counts { (n : List ℕ) → F.faults files.old n ≤ F.faults files.new n }
     ensures puts { SameCounts (F.put_faults files.old) (F.put_faults files.new) }
@@ -142,7 +151,8 @@ fn greedily<F: Files>(alloc: Global, files: &mut F, job: &str) -> Result<Planned
     ensures accepted { IfOk result (λ planned. IsAccepted (program_of planned.checked)) }
     ensures valid { IfOk result (λ planned. IsValidFor (program_of planned.checked) planned.valid) }
     ensures begun { IfOk result (λ planned. WhereTold (F.left files.old) (F.left files.new) (IsBegun job.now None (program_of planned.checked))) }
-    ensures refused { IfErr result (λ refusal. (options : PlainOptions) → IsRefusal (Run job.now None options) (F.left files.old) (F.left files.new) (F.faults files.old) (F.faults files.new) refusal) }
+    ensures refused { IfErr result (λ refusal. (options : PlainOptions)
+        → IsRefusal (Run job.now None options) (F.left files.old) (F.left files.new) (F.faults files.old) (F.faults files.new) refusal) }
     ensures taken { WhereTold (F.left files.old) (F.left files.new) (TakesFrom job.now) }
     ensures counts { (n : List ℕ) → F.faults files.old n ≤ F.faults files.new n }
     ensures puts { SameCounts (F.put_faults files.old) (F.put_faults files.new) }
@@ -169,8 +179,12 @@ fn run_in_rounds<F: Files, K: Sink, G: Gate, R: Threads + Wait + Sync>(
     requires valid { IsValidFor (program_of planned.checked) planned.valid }
     requires opening { IsOpening (program_of planned.checked) (plain_opening opening) }
     requires apart { IsNoSource (option_map (λ name. name.now) save) (program_of planned.checked) }
-    ensures ends { EndsRun adapts (program_of planned.checked) (plain_opening opening) (option_map (λ name. name.now) save.entry) (call (F.left files.old) (F.left files.new) (F.faults files.old) (F.faults files.new) (F.put_faults files.old) (F.put_faults files.new) (K.taken out.old) (K.taken out.new) (K.faults out.old) (K.faults out.new)) result }
-    ensures within { StaysWithin (program_of planned.checked) (option_map (λ name. name.now) save.entry) (call (F.left files.old) (F.left files.new) (F.faults files.old) (F.faults files.new) (F.put_faults files.old) (F.put_faults files.new) (K.taken out.old) (K.taken out.new) (K.faults out.old) (K.faults out.new)) }
+    ensures ends { EndsRun adapts (program_of planned.checked) (plain_opening opening) (option_map (λ name. name.now) save.entry)
+        (call (F.left files.old) (F.left files.new) (F.faults files.old) (F.faults files.new) (F.put_faults files.old) (F.put_faults files.new)
+        (K.taken out.old) (K.taken out.new) (K.faults out.old) (K.faults out.new)) result }
+    ensures within { StaysWithin (program_of planned.checked) (option_map (λ name. name.now) save.entry)
+        (call (F.left files.old) (F.left files.new) (F.faults files.old) (F.faults files.new) (F.put_faults files.old) (F.put_faults files.new)
+        (K.taken out.old) (K.taken out.new) (K.faults out.old) (K.faults out.new)) }
 {
     let Planned { checked, valid } = planned;
     match rounds(
@@ -203,8 +217,12 @@ fn rounds<F: Files, K: Sink, G: Gate, R: Threads + Wait + Sync>(
     requires valid { IsValidFor (program_of checked.now) valid }
     requires opening { IsOpening (program_of checked.now) (plain_opening opening) }
     requires apart { IsNoSource (option_map (λ name. name.now) save) (program_of checked.now) }
-    ensures ends { EndsRounds adapts (program_of checked.now) (plain_opening opening) (option_map (λ name. name.now) save.entry) (call (F.left files.old) (F.left files.new) (F.faults files.old) (F.faults files.new) (F.put_faults files.old) (F.put_faults files.new) (K.taken out.old) (K.taken out.new) (K.faults out.old) (K.faults out.new)) result }
-    ensures within { StaysWithin (program_of checked.now) (option_map (λ name. name.now) save.entry) (call (F.left files.old) (F.left files.new) (F.faults files.old) (F.faults files.new) (F.put_faults files.old) (F.put_faults files.new) (K.taken out.old) (K.taken out.new) (K.faults out.old) (K.faults out.new)) }
+    ensures ends { EndsRounds adapts (program_of checked.now) (plain_opening opening) (option_map (λ name. name.now) save.entry)
+        (call (F.left files.old) (F.left files.new) (F.faults files.old) (F.faults files.new) (F.put_faults files.old) (F.put_faults files.new)
+        (K.taken out.old) (K.taken out.new) (K.faults out.old) (K.faults out.new)) result }
+    ensures within { StaysWithin (program_of checked.now) (option_map (λ name. name.now) save.entry)
+        (call (F.left files.old) (F.left files.new) (F.faults files.old) (F.faults files.new) (F.put_faults files.old) (F.put_faults files.new)
+        (K.taken out.old) (K.taken out.new) (K.faults out.old) (K.faults out.new)) }
 {
     resumed_runs_go_on();
     rounds_are_folded_in_turn();
@@ -271,9 +289,12 @@ fn saved_round<F: Files, K: Sink, G: Gate, R: Threads + Wait + Sync, B: Engine<R
 ) -> Result<Border, RunFault>
     requires program { program_of engine.old.checked ≡ rounds.old.held.program }
     requires stage { rounds.old.held.stage ≡ Stage.Filling }
-    ensures steps { (adapts : Bool) (p : Program) (o : PlainOpening) (a : Option Contents) (k s : List ℕ → ℕ) (had : Option (List ℕ)) (x : ℕ) → IsNoSource (option_map (λ name. name.now) save.entry) p
-        → GoesOn adapts p engine.old o (option_map (λ name. name.now) save.entry) (call a (F.left files.old) k (F.faults files.old) s (F.put_faults files.old) had (K.taken out.old) x (K.faults out.old)) rounds.old
-        → Steps adapts p engine.new o (option_map (λ name. name.now) save.entry) (call a (F.left files.new) k (F.faults files.new) s (F.put_faults files.new) had (K.taken out.new) x (K.faults out.new)) rounds.new said.new result }
+    ensures steps { (adapts : Bool) (p : Program) (o : PlainOpening) (a : Option Contents) (k s : List ℕ → ℕ) (had : Option (List ℕ)) (x : ℕ)
+        → IsNoSource (option_map (λ name. name.now) save.entry) p
+        → GoesOn adapts p engine.old o (option_map (λ name. name.now) save.entry)
+        (call a (F.left files.old) k (F.faults files.old) s (F.put_faults files.old) had (K.taken out.old) x (K.faults out.old)) rounds.old
+        → Steps adapts p engine.new o (option_map (λ name. name.now) save.entry) (call a (F.left files.new) k (F.faults files.new) s
+        (F.put_faults files.new) had (K.taken out.new) x (K.faults out.new)) rounds.new said.new result }
     ensures smaller { (t : ℕ) → result ≡ Ok (Border.At t) → borders_above rounds.new.held.border < borders_above rounds.old.held.border }
 {
     resumed_runs_go_on();

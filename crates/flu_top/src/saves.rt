@@ -27,7 +27,8 @@ pub fn put_checkpoint<F: Files>(
     state: &State,
 ) -> Result<(), PutFault>
     requires { IsInRange end }
-    ensures put { OnOk result (WhereTold (F.left files.old) (F.left files.new) (PutsAt (option_map (λ n. n.now) name.entry) (save program.now (border_at end) (held state.now)))) }
+    ensures put { OnOk result (WhereTold (F.left files.old) (F.left files.new)
+        (PutsAt (option_map (λ n. n.now) name.entry) (save program.now (border_at end) (held state.now)))) }
     ensures quiet { OnOk result (SameCounts (F.put_faults files.old) (F.put_faults files.new)) }
     ensures named { OnErr result (name.entry ≢ None) }
     ensures failed { IsErrOf result PutFault.Failed → PutFailed (option_map (λ n. n.now) name.entry) (F.put_faults files.old) (F.put_faults files.new) }

@@ -43,9 +43,11 @@ pub fn simulate_planned<F: Files>(
     seed: Seed,
     traced: bool,
 ) -> Result<Product, Refusal>
-    ensures written { IfOk result (λ product. WhereTold (F.left files.old) (F.left files.new) (IsWritten (Simulate job.now plan.now seed.number traced) product.text (line_said product.says))) }
+    ensures written { IfOk result (λ product. WhereTold (F.left files.old) (F.left files.new)
+        (IsWritten (Simulate job.now plan.now seed.number traced) product.text (line_said product.says))) }
     ensures says { IfOk result (λ product. MaySay (want (Simulate job.now plan.now seed.number traced)).says product.says) }
-    ensures refused { IfErr result (IsRefusal (Simulate job.now plan.now seed.number traced) (F.left files.old) (F.left files.new) (F.faults files.old) (F.faults files.new)) }
+    ensures refused { IfErr result (IsRefusal (Simulate job.now plan.now seed.number traced) (F.left files.old) (F.left files.new) (F.faults files.old)
+        (F.faults files.new)) }
     ensures fronts { WhereTold (F.left files.old) (F.left files.new) TookFronts }
     ensures only { WhereTold (F.left files.old) (F.left files.new) (TookOnly (IsReadName (F.left files.old) (Simulate job.now plan.now seed.number traced))) }
 {
@@ -72,9 +74,12 @@ fn text_of<F: Files>(
 ) -> Result<(Text, DrawnSteps), Refusal>
     requires { IsValidFor (program_of planned.checked) planned.valid }
     ensures read { OnOk result (WhereTold (F.left files.old) (F.left files.new) (AreSourcesRead (program_of planned.checked))) }
-    ensures text { IfOk result (λ both. WhereTold (F.left files.old) (F.left files.new) (λ old new. IsTextOn traced (program_of planned.checked) (plan_of planned.valid).nodes (lists_of (program_of planned.checked) old) seed.number both.0)) }
-    ensures drawn { IfOk result (λ both. WhereTold (F.left files.old) (F.left files.new) (λ old new. AreDrawn (program_of planned.checked) (plan_of planned.valid).nodes (lists_of (program_of planned.checked) old) seed.number both.1)) }
-    ensures refused { IfErr result (IsReportRefusal (program_of planned.checked) (F.left files.old) (F.left files.new) (F.faults files.old) (F.faults files.new)) }
+    ensures text { IfOk result (λ both. WhereTold (F.left files.old) (F.left files.new) (λ old new. IsTextOn traced (program_of planned.checked)
+        (plan_of planned.valid).nodes (lists_of (program_of planned.checked) old) seed.number both.0)) }
+    ensures drawn { IfOk result (λ both. WhereTold (F.left files.old) (F.left files.new)
+        (λ old new. AreDrawn (program_of planned.checked) (plan_of planned.valid).nodes (lists_of (program_of planned.checked) old) seed.number both.1)) }
+    ensures refused { IfErr result (IsReportRefusal (program_of planned.checked) (F.left files.old) (F.left files.new) (F.faults files.old)
+        (F.faults files.new)) }
     ensures fronts { WhereTold (F.left files.old) (F.left files.new) TookFronts }
     ensures others { WhereTold (F.left files.old) (F.left files.new) (LeavesOthers (files_of (program_of planned.checked).sources)) }
 {
@@ -101,7 +106,8 @@ fn net_text(
 ) -> Result<(Text, DrawnSteps), AllocError>
     requires valid { IsValidFor (program_of planned.now.checked) planned.now.valid }
     requires lists { length (listed streams.now) ≡ count_of_itags (program_of planned.now.checked) }
-    ensures text { IfOk result (λ both. IsTextOn traced (program_of planned.now.checked) (plan_of planned.now.valid).nodes (listed streams.now) seed.number both.0) }
+    ensures text { IfOk result (λ both. IsTextOn traced (program_of planned.now.checked) (plan_of planned.now.valid).nodes
+        (listed streams.now) seed.number both.0) }
     ensures drawn { IfOk result (λ both. AreDrawn (program_of planned.now.checked) (plan_of planned.now.valid).nodes (listed streams.now) seed.number both.1) }
 {
     let program = planned.checked.program();

@@ -1,4 +1,3 @@
-pub mod Cuts
 pub mod Numerals
 pub mod StepLines
 pub mod Replays

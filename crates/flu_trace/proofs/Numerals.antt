@@ -14,7 +14,10 @@ use Rattle.flu_lemmas.proofs.Tests.{and_left, and_right, both}
 tells : IsDigitsTest (λ ds. list_all is_ascii_digit ds ≡ true)
 tells = record {
   empty = refl;
-  parts = λ c cs h. (digit_in_range c (and_left (is_ascii_digit c) (list_all is_ascii_digit cs) h), and_right (is_ascii_digit c) (list_all is_ascii_digit cs) h);
+  parts = λ c cs h. (
+    digit_in_range c (and_left (is_ascii_digit c) (list_all is_ascii_digit cs) h),
+    and_right (is_ascii_digit c) (list_all is_ascii_digit cs) h,
+  );
   more = λ c cs r h. let one : is_ascii_digit c ≡ true = grind (arith, nat_tests) in both (is_ascii_digit c) (list_all is_ascii_digit cs) one h;
 }
 

@@ -89,7 +89,16 @@ valid_if_none p nodes turns counted none = record {
             let related : are_related nodes a b ≡ true = ap (are_related nodes a) (sym same) ∙ related_to_itself nodes a (omega arith) in
             not_both (are_related nodes a b) related unrelated)
         | inr other ↦ elim (cases_lt a b) [
-          | inl lt ↦ none a b i j (record { i_in_range = hi; j_in_range = hj; in_order = lt; unrelated = unrelated; first = first; second = second; dependent = dependent })
+          | inl lt ↦ none a b i j (record {
+            i_in_range = hi;
+            j_in_range = hj;
+            in_order = lt;
+            unrelated = unrelated;
+            first = first;
+            second = second;
+            dependent =
+                dependent;
+          })
           | inr le ↦ none b a j i (record {
             i_in_range = hj;
             j_in_range = hi;

@@ -1,5 +1,6 @@
 -- Owners by their places and by their count.
-use Rattle.std.proofs.Common.{◌≡◌, ◌<◌, ◌≤◌, ◌+◌, ℕ, zero, suc, Bool, true, false, cond, Some, None, List, [], ◌∷◌, length, inl, inr, refl, sym, ap, subst, ◌∙◌, arith}
+use Rattle.std.proofs.Common.{◌≡◌, ◌<◌, ◌≤◌, ◌+◌, ℕ, zero, suc, Bool, true, false, cond, Some, None, List, [], ◌∷◌, length, inl, inr, refl, sym, ap, subst, ◌∙◌}
+use Rattle.std.proofs.Common.{arith}
 use Rattle.std.specs.Prelude.{nat_lt, ◌==◌, count_by}
 use Rattle.std.specs.List.{position_or_len}
 use Rattle.std.proofs.lemmas.Bool.{cases_lt, cases_eq, ne_eqb}
@@ -57,7 +58,8 @@ no_place p i (x ∷ xs) le w = at_test (node_owns p i x) refl (no_place p i xs) 
 pub first_owner_is : (p : Program) (nodes : List Node) (i : Itag) (a : ℕ) → owner_of p nodes i ≡ Some a → IsFirstOwner p i nodes a
 first_owner_is p nodes i a e =
     elim (chosen (nat_lt (place p i nodes) (length nodes)) (Some (place p i nodes)) None (Some a) e) [
-      | inl found ↦ (let same : place p i nodes ≡ a = inside (place p i nodes) a found.1 in let lt = true_lt (place p i nodes) (length nodes) found.0 in at_place p i nodes a same (omega arith))
+      | inl found ↦ (let same : place p i nodes ≡ a = inside (place p i nodes) a found.1 in let lt = true_lt (place p i nodes) (length nodes) found.0 in
+          at_place p i nodes a same (omega arith))
       | inr none ↦ absurd (not_none a none.1)
     ]
   where

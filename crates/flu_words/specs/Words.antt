@@ -27,7 +27,8 @@ pub data Command : Type 0 where
 
 -- a run's options without where their names lie in memory
 abbrev pub plain_options : NamedOptions → RunOptions
-plain_options options = record { adapt = options.adapt; save = option_map (λ name. name.now) options.save; resume = option_map (λ name. name.now) options.resume }
+plain_options options =
+    record { adapt = options.adapt; save = option_map (λ name. name.now) options.save; resume = option_map (λ name. name.now) options.resume }
 
 -- a command without where its names lie in memory
 abbrev pub plain_command : NamedCommand → Command

@@ -1,7 +1,9 @@
 //! The words of a command.
 
 ghost use Rattle.std.specs.Prelude.{◌≡◌, ◌<◌, ◌≤◌, ◌+◌, MatchResult, IfOk, Ok, Err, map, option_map, string_bytes};
-ghost use Rattle.flu_words.specs.Words.{command_in, plain_command, plain_options, job_alone, job_and_plan, job_and_depth, run_command, plan_and_rest, run_options, adapt_and_rest, file_after, is_other_file, depth_after, trace_after, seed_alone, both_and_rest, simulation, replay, demo, is_file_name};
+ghost use Rattle.flu_words.specs.Words.{command_in, plain_command, plain_options, job_alone, job_and_plan, job_and_depth, run_command, plan_and_rest};
+ghost use Rattle.flu_words.specs.Words.{run_options, adapt_and_rest, file_after, is_other_file, depth_after, trace_after, seed_alone, both_and_rest};
+ghost use Rattle.flu_words.specs.Words.{simulation, replay, demo, is_file_name};
 
 use crate::numbers::{Depth, Draws, Seed, USUAL_DEPTH, depth_of, draws_of, seed_of};
 
@@ -234,7 +236,8 @@ fn file_after<'a>(
 ) -> Result<(Option<&'a str>, usize, &'a [String]), BadWords>
     requires { at ≤ 6 }
     ensures value { MatchResult result
-        (λ begun. file_after option.now job.now (option_map (λ name. name.now) plan.entry) at (map string_bytes words.now) ≡ Ok (option_map (λ name. name.now) begun.0, begun.1, map string_bytes begun.2.now))
+        (λ begun. file_after option.now job.now (option_map (λ name. name.now) plan.entry) at (map string_bytes words.now) ≡ Ok
+        (option_map (λ name. name.now) begun.0, begun.1, map string_bytes begun.2.now))
         (λ bad. file_after option.now job.now (option_map (λ name. name.now) plan.entry) at (map string_bytes words.now) ≡ Err bad.at) }
     ensures near { IfOk result (λ begun. begun.1 ≤ at + 2) }
 {

@@ -8,7 +8,8 @@ ghost use Rattle.flu_model.specs.Owners.{owns};
 ghost use Rattle.flu_fork.specs.Lots.{job, nodes};
 ghost use Rattle.flu_mail.specs.Mailboxes.{counts_of};
 ghost use Rattle.flu_worker.specs.Hands.{is_whole, is_down};
-ghost use Rattle.flu_worker.specs.Choosing.{sight_at, own_itags, above_itags, next_at, takes, if_ready, event_of, serves, earlier, least_next, least_ready, ask_for, if_own, if_serves, is_same_ask, first_some, new_target, next_by, target_by, gives_by};
+ghost use Rattle.flu_worker.specs.Choosing.{sight_at, own_itags, above_itags, next_at, takes, if_ready, event_of, serves, earlier, least_next, least_ready};
+ghost use Rattle.flu_worker.specs.Choosing.{ask_for, if_own, if_serves, is_same_ask, first_some, new_target, next_by, target_by, gives_by};
 ghost use Rattle.flu_worker.specs.Sights.{IsMailFor, comes_first, comes_before, due_of, earlier_due, first_due};
 
 use crate::hand::Hand;

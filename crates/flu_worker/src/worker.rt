@@ -1,12 +1,14 @@
 //! The worker.
 
-ghost use Rattle.std.specs.Prelude.{◌≡◌, ◌<◌, ◌≤◌, ◌↔◌, ℕ, Some, [], false, true, is_some, length, slice_index, slice_index_or, slice_set, IfOk, OnOk, IsSome, IfSome};
+ghost use Rattle.std.specs.Prelude.{◌≡◌, ◌<◌, ◌≤◌, ◌↔◌, ℕ, Some, [], false, true, is_some, length, slice_index, slice_index_or, slice_set, IfOk, OnOk, IsSome};
+ghost use Rattle.std.specs.Prelude.{IfSome};
 ghost use Rattle.flu_model.specs.Listed.{listed};
 ghost use Rattle.flu_fork.specs.declared.lots.Ask.{Ask as AskNote};
 ghost use Rattle.flu_fork.specs.Lots.{job, nodes, kids, LotFits};
 ghost use Rattle.flu_fork.specs.Serving.{AsksAbove, GrownFrom, Served};
 ghost use Rattle.flu_worker.specs.declared.hand.Side.TheVariants.{Left, Right};
-ghost use Rattle.flu_worker.specs.Calls.{IsNew, HoldsLot, GivesLot, HandlesEvent, CountsEvent, LendsPart, IsFitPart, TakesPart, IsWholeState, IsWholeLot, KeepsTarget, IsAskable, HasDoneAll, IsFinished};
+ghost use Rattle.flu_worker.specs.Calls.{IsNew, HoldsLot, GivesLot, HandlesEvent, CountsEvent, LendsPart, IsFitPart, TakesPart, IsWholeState, IsWholeLot};
+ghost use Rattle.flu_worker.specs.Calls.{KeepsTarget, IsAskable, HasDoneAll, IsFinished};
 ghost use Rattle.flu_worker.specs.Hands.{is_open, is_whole, may_lend, may_take, at_side};
 ghost use Rattle.flu_worker.specs.Notes.{lent_to};
 ghost use Rattle.flu_worker.specs.Choosing.{may_give, next_of, target_of};
@@ -69,9 +71,39 @@ impl Model for Worker {
 
     ghost coded = { Prim.hlevel (codes, e.the_row.coded) };
 
-    ghost view = { λ w. record { case = w.case; node = w.node; hand = hand_of w.holding; kept = w.kept; seen = seen_of w.mail; counts = counts_of w.mail; held = record { since = w.held_since.value; upto = w.held_upto.value }; given = w.given.value; lent_left = record { since = w.left_since.value; upto = w.left_upto.value }; lent_right = record { since = w.right_since.value; upto = w.right_upto.value }; taken_left = w.taken_left.value; taken_right = w.taken_right.value } };
+    ghost view = { λ w. record {
+      case = w.case;
+      node = w.node;
+      hand = hand_of w.holding;
+      kept = w.kept;
+      seen = seen_of w.mail;
+      counts = counts_of w.mail;
+      held =
+          record { since = w.held_since.value; upto = w.held_upto.value };
+      given = w.given.value;
+      lent_left =
+          record { since = w.left_since.value; upto = w.left_upto.value };
+      lent_right = record { since = w.right_since.value; upto = w.right_upto.value };
+      taken_left = w.taken_left.value;
+      taken_right = w.taken_right.value;
+    } };
 
-    ghost invariant = { λ w. Rule (record { case = w.case; node = w.node; hand = hand_of w.holding; kept = w.kept; seen = seen_of w.mail; counts = counts_of w.mail; held = record { since = w.held_since.value; upto = w.held_upto.value }; given = w.given.value; lent_left = record { since = w.left_since.value; upto = w.left_upto.value }; lent_right = record { since = w.right_since.value; upto = w.right_upto.value }; taken_left = w.taken_left.value; taken_right = w.taken_right.value }) w.mail w.holding };
+    ghost invariant = { λ w. Rule (record {
+      case = w.case;
+      node = w.node;
+      hand = hand_of w.holding;
+      kept = w.kept;
+      seen = seen_of w.mail;
+      counts = counts_of w.mail;
+      held =
+          record { since = w.held_since.value; upto = w.held_upto.value };
+      given = w.given.value;
+      lent_left =
+          record { since = w.left_since.value; upto = w.left_upto.value };
+      lent_right = record { since = w.right_since.value; upto = w.right_upto.value };
+      taken_left = w.taken_left.value;
+      taken_right = w.taken_right.value;
+    }) w.mail w.holding };
 }
 
 impl Worker {
@@ -338,7 +370,8 @@ impl Worker {
         requires may { may_take side self.old.hand ≡ true }
         requires kept { IsSome self.old.kept }
         requires fits { (l r : ℕ) → kids self.old.case self.old.node ≡ Some (l, r) → LotFits self.old.case (at_side side l r) lot }
-        requires served { (l r : ℕ) (y : AskNote) → kids self.old.case self.old.node ≡ Some (l, r) → self.old.kept ≡ Some y → Served self.old.case (at_side side l r) (lent_to side self.old) y lot }
+        requires served { (l r : ℕ) (y : AskNote) → kids self.old.case self.old.node ≡ Some (l, r) → self.old.kept ≡ Some y
+            → Served self.old.case (at_side side l r) (lent_to side self.old) y lot }
         ensures { OnOk result (TakesPart side lot self.old self.new) }
     {
         match side {
@@ -353,7 +386,8 @@ impl Worker {
         requires may { may_take Left self.old.hand ≡ true }
         requires kept { IsSome self.old.kept }
         requires fits { (l r : ℕ) → kids self.old.case self.old.node ≡ Some (l, r) → LotFits self.old.case l lot }
-        requires served { (l r : ℕ) (y : AskNote) → kids self.old.case self.old.node ≡ Some (l, r) → self.old.kept ≡ Some y → Served self.old.case l self.old.lent_left y lot }
+        requires served { (l r : ℕ) (y : AskNote) → kids self.old.case self.old.node ≡ Some (l, r) → self.old.kept ≡ Some y
+            → Served self.old.case l self.old.lent_left y lot }
         ensures { OnOk result (TakesPart Left lot self.old self.new) }
     {
         laws_below();
@@ -373,7 +407,8 @@ impl Worker {
         requires may { may_take Right self.old.hand ≡ true }
         requires kept { IsSome self.old.kept }
         requires fits { (l r : ℕ) → kids self.old.case self.old.node ≡ Some (l, r) → LotFits self.old.case r lot }
-        requires served { (l r : ℕ) (y : AskNote) → kids self.old.case self.old.node ≡ Some (l, r) → self.old.kept ≡ Some y → Served self.old.case r self.old.lent_right y lot }
+        requires served { (l r : ℕ) (y : AskNote) → kids self.old.case self.old.node ≡ Some (l, r) → self.old.kept ≡ Some y
+            → Served self.old.case r self.old.lent_right y lot }
         ensures { OnOk result (TakesPart Right lot self.old self.new) }
     {
         laws_below();

@@ -1,5 +1,6 @@
 -- What is read keeps the rules of the language, all of them.
-use Rattle.std.proofs.Common.{◌≡◌, ℕ, zero, suc, ◌+◌, ◌≤◌, Bool, true, false, List, [], ◌∷◌, ◌++◌, map, length, Option, Some, None, Ok, Err, refl, sym, ap, subst, ◌∙◌, add-zero, arith}
+use Rattle.std.proofs.Common.{◌≡◌, ℕ, zero, suc, ◌+◌, ◌≤◌, Bool, true, false, List, [], ◌∷◌, ◌++◌, map, length, Option, Some, None, Ok, Err, refl, sym, ap}
+use Rattle.std.proofs.Common.{subst, ◌∙◌, add-zero, arith}
 use Rattle.std.specs.Prelude.{◌&&◌, ◌||◌, ◌==◌, not, nat_lt, nat_le, slice_get, option_map}
 use Rattle.std.specs.List.{list_all, list_any, flat_map, AllByRecursion}
 use Rattle.std.specs.Str.{IsUtf8, is_utf8}
@@ -48,12 +49,14 @@ use Rattle.flu_parse.specs.declared.names.KindHead.{KindHead}
 use Rattle.flu_parse.specs.Naming.{Naming, naming_of, look_up, known}
 use Rattle.flu_parse.specs.Actions.{resolved_actions}
 use Rattle.flu_parse.specs.Listings.{Listed, tags_of, rate_of, slack_of, file_of}
-use Rattle.flu_parse.specs.Resolving.{Drafted, same_of, with_depend, with_actions, with_on, with_source, with_declaration, family, idle_kind, first_draft, draft_of, version_of, job_with, resolved}
+use Rattle.flu_parse.specs.Resolving.{Drafted, same_of, with_depend, with_actions, with_on, with_source, with_declaration, family, idle_kind, first_draft}
+use Rattle.flu_parse.specs.Resolving.{draft_of, version_of, job_with, resolved}
 use Rattle.flu_parse.specs.Reading.{text_in, found_tokens, tokens_in, found_job, written_in, job_in}
 use Rattle.flu_parse.specs.Laws.{JobsKeepRules}
 use Rattle.flu_parse.proofs.Distinct.{distinct_with}
 use Rattle.flu_parse.proofs.Looks.{passed}
-use Rattle.flu_parse.proofs.Kept.Plain.{plain_action_fits, plain_kind_fits, kinds-plain, keyed_at, ties_kinds, is_source, keyed_kinds, depends-plain, sources-plain}
+use Rattle.flu_parse.proofs.Kept.Plain.{plain_action_fits, plain_kind_fits, kinds-plain, keyed_at, ties_kinds, is_source, keyed_kinds, depends-plain}
+use Rattle.flu_parse.proofs.Kept.Plain.{sources-plain}
 use Rattle.flu_parse.proofs.Kept.Names.{NamesKeep, kind_number, at_number, names_in, depends_in, sources_in, naming_counts, naming_lists, names_kept}
 use Rattle.flu_parse.proofs.Kept.Terms.{was_known, families_of}
 use Rattle.flu_parse.proofs.Kept.Actions.{actions_kept}

@@ -1,5 +1,6 @@
 -- The names of a job that is read keep the rules: they are names, no two are the same, and they are not too many.
-use Rattle.std.proofs.Common.{◌≡◌, ℕ, suc, ◌+◌, ◌<◌, ◌≤◌, Bool, true, false, List, [], ◌∷◌, ◌++◌, map, length, Some, None, Ok, refl, sym, ap, subst, ◌∙◌, append_assoc, add-zero, arith}
+use Rattle.std.proofs.Common.{◌≡◌, ℕ, suc, ◌+◌, ◌<◌, ◌≤◌, Bool, true, false, List, [], ◌∷◌, ◌++◌, map, length, Some, None, Ok, refl, sym, ap, subst, ◌∙◌}
+use Rattle.std.proofs.Common.{append_assoc, add-zero, arith}
 use Rattle.std.specs.Prelude.{◌||◌, not, slice_get, if◌then◌else◌}
 use Rattle.std.specs.List.{list_any, list_all, flat_map, AllByRecursion}
 use Rattle.std.specs.Str.{bytes_eq}
@@ -163,7 +164,8 @@ module _ (text : List ℕ) where
         free.0,
         r.0,
         ap
-            (λ (name : List ℕ). record n { families = n.families ++ (name, record { number = length n.families; keyed = keyed; sort = sort }) ∷ [] }) free.1 ∙ cc,
+            (λ (name : List ℕ). record n { families = n.families ++ (name, record { number = length n.families; keyed = keyed; sort = sort }) ∷ [] }) free.1
+            ∙ cc,
       )
 
   added_kind : (n : Naming) (s : WrittenSpan) (keyed has_value : Bool) (m : Naming) → with_kind text n s keyed has_value ≡ Ok m
@@ -177,7 +179,8 @@ module _ (text : List ℕ) where
         free.0,
         r.0,
         ap
-            (λ (name : List ℕ). record n { kinds = n.kinds ++ (name, record { number = length n.kinds; keyed = keyed; has_value = has_value }) ∷ [] }) free.1 ∙ cc,
+            (λ (name : List ℕ). record n { kinds = n.kinds ++ (name, record { number = length n.kinds; keyed = keyed; has_value = has_value }) ∷ [] }) free.1
+            ∙ cc,
       )
 
   added_source : (n : Naming) (s : WrittenSpan) (m : Naming) → with_source text n s ≡ Ok m

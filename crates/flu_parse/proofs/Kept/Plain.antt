@@ -19,9 +19,12 @@ use Rattle.flu_model.specs.declared.jobs.TagRef.{TagRef}
 use Rattle.flu_model.specs.declared.jobs.Source.{Source}
 use Rattle.flu_model.specs.declared.jobs.Sort.TheVariants.{Sum, Max, Last}
 use Rattle.flu_names.specs.Names.{is_name}
-use Rattle.flu_model.specs.Rules.{is_literal, ref_fits, ref_has_sort, expr_fits, height, is_good_expr, emit_template_fits, flush_template_fits, is_keyed, act_fits, guard_fits, action_fits, kind_fits, kind_is_keyed, depend_fits, keys_fit, listed_kind_fits, tag_ref_fits, is_file_text, is_same_tag, are_distinct, source_fits}
+use Rattle.flu_model.specs.Rules.{is_literal, ref_fits, ref_has_sort, expr_fits, height, is_good_expr, emit_template_fits, flush_template_fits, is_keyed}
+use Rattle.flu_model.specs.Rules.{act_fits, guard_fits, action_fits, kind_fits, kind_is_keyed, depend_fits, keys_fit, listed_kind_fits, tag_ref_fits}
+use Rattle.flu_model.specs.Rules.{is_file_text, is_same_tag, are_distinct, source_fits}
 use Rattle.flu_model.specs.Listing.{tags_of_source}
-use Rattle.flu_model.specs.Erasure.{Term, Literal, EventValue, EventKey, EventTime, CellRead, CellHeld, Negative, Negation, Operation, PlainAct, Adding, Raising, Setting, Clearing, Emitting, Flushing, PlainAction, PlainKind, term_of, plain_act, plain_action, plain_kind}
+use Rattle.flu_model.specs.Erasure.{Term, Literal, EventValue, EventKey, EventTime, CellRead, CellHeld, Negative, Negation, Operation, PlainAct, Adding}
+use Rattle.flu_model.specs.Erasure.{Raising, Setting, Clearing, Emitting, Flushing, PlainAction, PlainKind, term_of, plain_act, plain_action, plain_kind}
 
 module _ (families : List Family) (keyed has_value : Bool) where
   abbrev pub term_fits : Term → Bool

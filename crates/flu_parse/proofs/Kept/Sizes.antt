@@ -1,5 +1,6 @@
 -- How much of its text each piece of a template takes, at the least.
-use Rattle.std.proofs.Common.{◌≡◌, ◌≤◌, ◌+◌, ◌-◌, ◌^◌, ℕ, pos, Bool, true, false, ◌&&◌, List, [], ◌∷◌, ◌++◌, length, drop, Option, Some, None, inl, inr, refl, ap, subst, ◌∙◌, arith}
+use Rattle.std.proofs.Common.{◌≡◌, ◌≤◌, ◌+◌, ◌-◌, ◌^◌, ℕ, pos, Bool, true, false, ◌&&◌, List, [], ◌∷◌, ◌++◌, length, drop, Option, Some, None, inl, inr, refl}
+use Rattle.std.proofs.Common.{ap, subst, ◌∙◌, arith}
 use Rattle.std.specs.Prelude.{nat_lt, nat_le, ◌==◌, slice_range, option_map, position, codes, if◌then◌else◌}
 use Rattle.std.specs.Char.{is_ascii_digit}
 use Rattle.std.specs.Fmt.{decimal}
@@ -25,7 +26,8 @@ use Rattle.flu_syntax.specs.declared.tree.WrittenKey.TheVariants as k
 use Rattle.flu_layout.specs.Spelling.{inside, written_value}
 use Rattle.flu_parse.specs.declared.pieces.WrittenPiece.{WrittenPiece}
 use Rattle.flu_parse.specs.declared.pieces.WrittenPiece.TheVariants as p
-use Rattle.flu_parse.specs.Templates.{close_brace, open_brace, is_open_bracket, span, digits_at, key_at, ref_with, ref_at, field_at, braced, Scan, with_plain, with_piece, scan_byte, continued, end_of_scan, scan, scan_start, template_at}
+use Rattle.flu_parse.specs.Templates.{close_brace, open_brace, is_open_bracket, span, digits_at, key_at, ref_with, ref_at, field_at, braced, Scan, with_plain}
+use Rattle.flu_parse.specs.Templates.{with_piece, scan_byte, continued, end_of_scan, scan, scan_start, template_at}
 
 -- ---- how much of a text a piece takes at least, and is written in at most
 

@@ -1,5 +1,6 @@
 -- Templates that are read keep the rules: plain pieces are as long as they can be and never empty, and fields fit their kind.
-use Rattle.std.proofs.Common.{◌≡◌, ℕ, ◌+◌, ◌-◌, ◌<◌, ◌≤◌, Bool, true, false, List, [], ◌∷◌, ◌++◌, map, length, take, drop, get_or, Option, Some, None, Ok, inl, inr, refl, sym, ap, subst, ◌∙◌, append_assoc, arith}
+use Rattle.std.proofs.Common.{◌≡◌, ℕ, ◌+◌, ◌-◌, ◌<◌, ◌≤◌, Bool, true, false, List, [], ◌∷◌, ◌++◌, map, length, take, drop, get_or, Option, Some, None, Ok, inl}
+use Rattle.std.proofs.Common.{inr, refl, sym, ap, subst, ◌∙◌, append_assoc, arith}
 use Rattle.std.specs.Prelude.{◌&&◌, ◌==◌, not, nat_lt, if◌then◌else◌, option_map, position, codes, slice_range}
 use Rattle.std.specs.List.{list_all, AllByRecursion}
 use Rattle.std.specs.Str.{IsUtf8, IsCharBoundary, bytes_eq}
@@ -15,7 +16,8 @@ use Rattle.flu_lemmas.proofs.Spans.{spelled_slice}
 use Rattle.flu_model.specs.declared.jobs.Family.{Family}
 use Rattle.flu_model.specs.declared.jobs.Piece.{Piece}
 use Rattle.flu_model.specs.declared.jobs.Piece.TheVariants as piece
-use Rattle.flu_model.specs.Rules.{is_plain_byte, is_plain, emit_piece_fits, flush_piece_fits, follows_plain, are_apart, is_short, emit_template_fits, flush_template_fits}
+use Rattle.flu_model.specs.Rules.{is_plain_byte, is_plain, emit_piece_fits, flush_piece_fits, follows_plain, are_apart, is_short, emit_template_fits}
+use Rattle.flu_model.specs.Rules.{flush_template_fits}
 use Rattle.flu_model.specs.Templates.{written_template}
 use Rattle.flu_names.specs.Names.{is_name, is_text_byte}
 use Rattle.flu_text.specs.declared.written.WrittenSpan.{WrittenSpan}
@@ -30,7 +32,9 @@ use Rattle.flu_parse.specs.declared.pieces.WrittenPiece.TheVariants as p
 use Rattle.flu_parse.specs.Faults.{Found, each}
 use Rattle.flu_parse.specs.Naming.{Naming, look_up, known}
 use Rattle.flu_parse.specs.Cells.{brackets_fit, at_of}
-use Rattle.flu_parse.specs.Templates.{open_brace, close_brace, is_open_bracket, span, key_at, ref_with, ref_at, field_at, braced, Scan, with_plain, with_piece, scan_byte, continued, end_of_scan, scan, scan_start, template_at, known_names, own_key_fits, read_fits, piece_fits, piece_of, pieces_of, template_of}
+use Rattle.flu_parse.specs.Templates.{open_brace, close_brace, is_open_bracket, span, key_at, ref_with, ref_at, field_at, braced, Scan, with_plain, with_piece}
+use Rattle.flu_parse.specs.Templates.{scan_byte, continued, end_of_scan, scan, scan_start, template_at, known_names, own_key_fits, read_fits, piece_fits}
+use Rattle.flu_parse.specs.Templates.{piece_of, pieces_of, template_of}
 use Rattle.flu_parse.proofs.Looks.{passed}
 use Rattle.flu_parse.proofs.Kept.Names.{Numbered, family_number}
 use Rattle.flu_parse.proofs.Kept.Terms.{was_known, at_kept, families_of, ref_kept}

@@ -1,5 +1,6 @@
 -- The declarations of a printed job, looked at again, make that job.
-use Rattle.std.proofs.Common.{◌≡◌, ◌≤◌, ◌+◌, ℕ, pos, Bool, true, false, ◌||◌, List, [], ◌∷◌, ◌++◌, map, length, Some, Ok, refl, sym, ap, subst, ◌∙◌, append_assoc, length-append, arith}
+use Rattle.std.proofs.Common.{◌≡◌, ◌≤◌, ◌+◌, ℕ, pos, Bool, true, false, ◌||◌, List, [], ◌∷◌, ◌++◌, map, length, Some, Ok, refl, sym, ap, subst, ◌∙◌}
+use Rattle.std.proofs.Common.{append_assoc, length-append, arith}
 use Rattle.std.specs.Prelude.{nat_lt, nat_le, not, ◌==◌, slice_get}
 use Rattle.std.specs.List.{list_all, list_any}
 use Rattle.std.specs.Str.{IsUtf8}
@@ -211,7 +212,8 @@ module _ (whole : List ℕ) (utf8 : IsUtf8 whole) (n : Naming) where
         let other : (i == j) ≡ false = grind (arith, common_steps) in
         list_any-append (λ g. g == j) given (i ∷ []) ∙ ap (λ b. b || ((i == j) || false)) (free j (omega arith)) ∙ ap (λ b. b || false) other
 
-    one_on : (done : List PlainKind) (k : PlainKind) (rest : List PlainKind) (d : Drafted) (given : List ℕ) (actions : List PlainAction) (here more : List Declaration)
+    one_on : (done : List PlainKind) (k : PlainKind) (rest : List PlainKind) (d : Drafted) (given : List ℕ) (actions : List PlainAction)
+        (here more : List Declaration)
         → k.actions ≡ actions → length actions ≤ 32
         → slice_get kinds (length done) ≡ Some k → Free (length done) given → ActionsAre whole utf8 families names n known_families
         (kind_head (length done) k) k.name actions here

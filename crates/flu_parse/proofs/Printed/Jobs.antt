@@ -1,5 +1,6 @@
 -- The normal form of a job is read as that job.
-use Rattle.std.proofs.Common.{◌≡◌, ◌≤◌, ◌+◌, ℕ, pos, Bool, true, false, Option, None, List, [], ◌∷◌, ◌++◌, map, length, Some, Ok, refl, sym, ap, subst, ◌∙◌, append_assoc, arith}
+use Rattle.std.proofs.Common.{◌≡◌, ◌≤◌, ◌+◌, ℕ, pos, Bool, true, false, Option, None, List, [], ◌∷◌, ◌++◌, map, length, Some, Ok, refl, sym, ap, subst, ◌∙◌}
+use Rattle.std.proofs.Common.{append_assoc, arith}
 use Rattle.std.specs.Prelude.{◌==◌, if◌then◌else◌}
 use Rattle.std.specs.List.{list_all}
 use Rattle.std.specs.Str.{IsUtf8}
@@ -41,8 +42,10 @@ use Rattle.flu_parse.proofs.Printed.Words.{version_words, cell_line_words, tag_l
 use Rattle.flu_parse.proofs.Printed.LaidLines.{names_of_kinds, job_laid}
 use Rattle.flu_parse.proofs.Printed.ReadTerms.{family_head, FamiliesKnown}
 use Rattle.flu_parse.proofs.Printed.ReadTags.{kind_head, KindsKnown}
-use Rattle.flu_parse.proofs.Printed.ReadLines.{Lines, CellIs, TagIs, DependsIs, SourceIs, Ons, declarations-append, read_lines, read_cell_line, read_tag_line, read_depends_line, read_ons, read_source_line}
-use Rattle.flu_parse.proofs.Printed.Names.{family_heads, kind_heads, naming_of_job, own_head, Left, all_fresh, declare_cells, declare_tags, declare_depends, declare_ons, declare_sources, counted}
+use Rattle.flu_parse.proofs.Printed.ReadLines.{Lines, CellIs, TagIs, DependsIs, SourceIs, Ons, declarations-append, read_lines, read_cell_line, read_tag_line}
+use Rattle.flu_parse.proofs.Printed.ReadLines.{read_depends_line, read_ons, read_source_line}
+use Rattle.flu_parse.proofs.Printed.Names.{family_heads, kind_heads, naming_of_job, own_head, Left, all_fresh, declare_cells, declare_tags, declare_depends}
+use Rattle.flu_parse.proofs.Printed.Names.{declare_ons, declare_sources, counted}
 use Rattle.flu_parse.proofs.Printed.Drafts.{without_actions, itags_counted, total_itags, skip_cells, skip_tags, add_depends, add_ons, add_sources}
 
 families_back : (i : ℕ) (fs : List Family) → map family (family_heads i fs) ≡ fs

@@ -15,7 +15,8 @@ use Rattle.flu_model.specs.declared.jobs.Family.{Family}
 use Rattle.flu_model.specs.declared.jobs.CellRef.{CellRef}
 use Rattle.flu_model.specs.declared.jobs.Piece.{Piece}
 use Rattle.flu_model.specs.Erasure.{Term, PlainAct, Adding, Raising, Setting, Clearing, Emitting, Flushing, PlainAction}
-use Rattle.flu_model.specs.Rules.{is_keyed, ref_fits, ref_has_sort, emit_piece_fits, flush_piece_fits, are_apart, is_short, emit_template_fits, flush_template_fits}
+use Rattle.flu_model.specs.Rules.{is_keyed, ref_fits, ref_has_sort, emit_piece_fits, flush_piece_fits, are_apart, is_short, emit_template_fits}
+use Rattle.flu_model.specs.Rules.{flush_template_fits}
 use Rattle.flu_model.specs.Templates.{family_name, written_template}
 use Rattle.flu_layout.specs.Laid.{blank, reserved, AreLaid, laid_name, laid_reserved, laid_text, Follows}
 use Rattle.flu_parse.proofs.Kept.Plain.{term_fits, term_height, is_good_term, plain_act_fits, plain_guard_fits, plain_action_fits}

@@ -1,5 +1,6 @@
 -- The laying out of declarations, and of a whole job.
-use Rattle.std.proofs.Common.{◌≡◌, ◌<◌, ◌≤◌, ◌^◌, ℕ, zero, suc, pos, Bool, true, false, ◌&&◌, ◌||◌, List, [], ◌∷◌, length, Option, Some, None, refl, ap, ◌∙◌, arith}
+use Rattle.std.proofs.Common.{◌≡◌, ◌<◌, ◌≤◌, ◌^◌, ℕ, zero, suc, pos, Bool, true, false, ◌&&◌, ◌||◌, List, [], ◌∷◌, length, Option, Some, None, refl, ap, ◌∙◌}
+use Rattle.std.proofs.Common.{arith}
 use Rattle.std.specs.Prelude.{nat_le, nat_lt, not, ◌==◌, if◌then◌else◌, slice_get}
 use Rattle.std.specs.List.{list_all}
 use Rattle.flu_lemmas.proofs.Booleans.{three_left, three_middle, three_right}
@@ -22,13 +23,16 @@ use Rattle.flu_model.specs.Listing.{tags_of_source}
 use Rattle.flu_model.specs.Erasure.{PlainAction, PlainKind, Job}
 use Rattle.flu_model.specs.PlanRules.{are_small_keys}
 use Rattle.flu_model.specs.Rules.{keys_fit, is_file_text, are_distinct, is_same_tag}
-use Rattle.flu_layout.specs.Laid.{blank, line_end, reserved, name, number, EndsName, AreLaid, laid_none, laid_name, laid_reserved, laid_number, laid_text, laid_mark, laid_spaced, Follows}
+use Rattle.flu_layout.specs.Laid.{blank, line_end, reserved, name, number, EndsName, AreLaid, laid_none, laid_name, laid_reserved, laid_number, laid_text}
+use Rattle.flu_layout.specs.Laid.{laid_mark, laid_spaced, Follows}
 use Rattle.flu_layout.specs.Lists.{between, behind_kind, keys_words}
 use Rattle.flu_layout.specs.Laws.{KeysAreLaid}
 use Rattle.flu_parse.specs.Printing.{kind_name}
 use Rattle.flu_parse.proofs.Kept.Plain.{plain_action_fits, plain_kind_fits}
 use Rattle.flu_parse.proofs.Printed.Rules.{plain_kind_is_keyed, plain_depend_fits, plain_listed_fits, plain_tag_fits, plain_source_fits, JobFits}
-use Rattle.flu_parse.proofs.Printed.Words.{action_words, version_words, keyed_words, sort_reserved, cell_line_words, value_reserved, tag_line_words, behind_depends, same_words, depends_line_words, actions_words, on_line_words, tag_words, listed_words, behind_rate, slack_words, source_line_words, job_words}
+use Rattle.flu_parse.proofs.Printed.Words.{action_words, version_words, keyed_words, sort_reserved, cell_line_words, value_reserved, tag_line_words}
+use Rattle.flu_parse.proofs.Printed.Words.{behind_depends, same_words, depends_line_words, actions_words, on_line_words, tag_words, listed_words, behind_rate}
+use Rattle.flu_parse.proofs.Printed.Words.{slack_words, source_line_words, job_words}
 use Rattle.flu_parse.proofs.Printed.LaidActions.{laid_action}
 
 laid_keyed : (keyed : Bool) (rest : List Laid) → AreLaid rest → AreLaid (keyed_words keyed rest)

@@ -1,5 +1,6 @@
 -- Actions of the normal form are read as what was printed.
-use Rattle.std.proofs.Common.{◌≡◌, ◌≤◌, ◌+◌, ℕ, true, false, ◌&&◌, List, [], ◌∷◌, ◌++◌, length, Option, Some, None, Ok, refl, sym, ap, ◌∙◌, append_assoc, length-append, arith}
+use Rattle.std.proofs.Common.{◌≡◌, ◌≤◌, ◌+◌, ℕ, true, false, ◌&&◌, List, [], ◌∷◌, ◌++◌, length, Option, Some, None, Ok, refl, sym, ap, ◌∙◌, append_assoc}
+use Rattle.std.proofs.Common.{length-append, arith}
 use Rattle.std.specs.Prelude.{nat_lt, slice_get}
 use Rattle.std.specs.List.{list_all}
 use Rattle.std.specs.Str.{IsUtf8}
@@ -21,7 +22,8 @@ use Rattle.flu_model.specs.declared.jobs.CellRef.{CellRef}
 use Rattle.flu_model.specs.declared.jobs.Piece.{Piece}
 use Rattle.flu_model.specs.declared.jobs.Piece.TheVariants as piece
 use Rattle.flu_model.specs.Erasure.{Term, Adding, Raising, Setting, Clearing, Emitting, Flushing, PlainAction, PlainAct}
-use Rattle.flu_model.specs.Rules.{is_sort, has_sort, is_keyed, ref_fits, ref_has_sort, are_apart, is_short, emit_piece_fits, flush_piece_fits, flush_template_fits}
+use Rattle.flu_model.specs.Rules.{is_sort, has_sort, is_keyed, ref_fits, ref_has_sort, are_apart, is_short, emit_piece_fits, flush_piece_fits}
+use Rattle.flu_model.specs.Rules.{flush_template_fits}
 use Rattle.flu_model.specs.Templates.{family_name, written_template}
 use Rattle.flu_syntax.specs.declared.tokens.Verb.{Verb}
 use Rattle.flu_syntax.specs.declared.tokens.Verb.TheVariants as verb

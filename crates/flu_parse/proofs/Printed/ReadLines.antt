@@ -31,7 +31,8 @@ use Rattle.flu_syntax.specs.Tree.{Declaration, Cell, Tag, Depends, On, Source as
 use Rattle.flu_syntax.specs.Tree.{Action as WrittenDo}
 use Rattle.flu_text.specs.Signs.{IsSign, Any}
 use Rattle.flu_text.specs.Signs.{separated}
-use Rattle.flu_syntax.specs.Grammar.{sort_word, value_word, keyed_signs, relation_signs, action_signs, tag_signs, slack_signs, declaration_signs, declarations_signs, IsDeclaration, AreDeclarations}
+use Rattle.flu_syntax.specs.Grammar.{sort_word, value_word, keyed_signs, relation_signs, action_signs, tag_signs, slack_signs, declaration_signs}
+use Rattle.flu_syntax.specs.Grammar.{declarations_signs, IsDeclaration, AreDeclarations}
 use Rattle.flu_names.specs.declared.reserved.Reserved.{Reserved}
 use Rattle.flu_names.specs.declared.reserved.Reserved.TheVariants as r
 use Rattle.flu_names.specs.Names.{is_name}
@@ -48,7 +49,9 @@ use Rattle.flu_parse.specs.declared.faults.JobFault.TheVariants as f
 use Rattle.flu_parse.specs.Faults.{◌>>◌, unless}
 use Rattle.flu_parse.specs.Printing.{kind_name}
 use Rattle.flu_parse.proofs.Printed.Rules.{plain_kind_is_keyed, plain_depend_fits, plain_tag_fits, plain_source_fits}
-use Rattle.flu_parse.proofs.Printed.Words.{action_words, keyed_words, sort_reserved, cell_line_words, value_reserved, tag_line_words, behind_depends, same_words, depends_line_words, actions_words, on_line_words, tag_words, listed_words, slack_words, source_line_words}
+use Rattle.flu_parse.proofs.Printed.Words.{action_words, keyed_words, sort_reserved, cell_line_words, value_reserved, tag_line_words, behind_depends}
+use Rattle.flu_parse.proofs.Printed.Words.{same_words, depends_line_words, actions_words, on_line_words, tag_words, listed_words, slack_words}
+use Rattle.flu_parse.proofs.Printed.Words.{source_line_words}
 use Rattle.flu_parse.proofs.Printed.Quotes.{text_stands, inside_stands}
 use Rattle.flu_parse.proofs.Printed.LaidLines.{kind_at, source_facts}
 use Rattle.flu_parse.proofs.Printed.ReadTerms.{FamiliesKnown}

@@ -10,7 +10,8 @@ use Rattle.flu_model.specs.declared.jobs.Keys.{Keys}
 use Rattle.flu_model.specs.declared.jobs.TagRef.{TagRef}
 use Rattle.flu_model.specs.declared.jobs.Source.{Source}
 use Rattle.flu_model.specs.Erasure.{PlainKind, plain_kind, Job}
-use Rattle.flu_model.specs.Rules.{is_version, is_same_text, are_distinct, kind_is_keyed, depend_fits, keys_fit, listed_kind_fits, tag_ref_fits, is_file_text, is_same_tag, source_fits}
+use Rattle.flu_model.specs.Rules.{is_version, is_same_text, are_distinct, kind_is_keyed, depend_fits, keys_fit, listed_kind_fits, tag_ref_fits, is_file_text}
+use Rattle.flu_model.specs.Rules.{is_same_tag, source_fits}
 use Rattle.flu_model.specs.Listing.{tags_of_source, itags_of_sources}
 use Rattle.flu_rules.specs.Kept.{KeepsRules}
 use Rattle.flu_parse.specs.Laws.{job_with}

@@ -1,5 +1,6 @@
 -- A template that was printed is read as that template.
-use Rattle.std.proofs.Common.{◌≡◌, ◌<◌, ◌+◌, ℕ, Bool, true, false, ◌&&◌, ◌||◌, List, [], ◌∷◌, ◌++◌, length, Some, Ok, refl, sym, ap, subst, ◌∙◌, append_assoc, length-append, arith}
+use Rattle.std.proofs.Common.{◌≡◌, ◌<◌, ◌+◌, ℕ, Bool, true, false, ◌&&◌, ◌||◌, List, [], ◌∷◌, ◌++◌, length, Some, Ok, refl, sym, ap, subst, ◌∙◌, append_assoc}
+use Rattle.std.proofs.Common.{length-append, arith}
 use Rattle.std.specs.Prelude.{nat_lt, not, slice_get, codes, if◌then◌else◌}
 use Rattle.std.specs.List.{list_all}
 use Rattle.std.specs.Str.{IsUtf8}
@@ -26,7 +27,8 @@ use Rattle.flu_parse.specs.declared.pieces.WrittenPiece.TheVariants as p
 use Rattle.flu_parse.specs.Faults.{Found, ◌>>=◌, ◌>>◌, unless, each}
 use Rattle.flu_parse.specs.Naming.{Naming, look_up, known}
 use Rattle.flu_parse.specs.Cells.{brackets_fit, at_of}
-use Rattle.flu_parse.specs.Templates.{span, Template, scan, ref_at, field_at, template_at, known_name, known_names, own_key_fits, read_fits, piece_fits, piece_of, pieces_of, template_of}
+use Rattle.flu_parse.specs.Templates.{span, Template, scan, ref_at, field_at, template_at, known_name, known_names, own_key_fits, read_fits, piece_fits}
+use Rattle.flu_parse.specs.Templates.{piece_of, pieces_of, template_of}
 use Rattle.flu_parse.proofs.Printed.Quotes.{Quoted, inside_stands}
 use Rattle.flu_parse.proofs.Printed.LaidCells.{family_at, family_named}
 use Rattle.flu_parse.proofs.Printed.ReadTerms.{family_head, FamiliesKnown}

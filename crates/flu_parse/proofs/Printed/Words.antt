@@ -21,13 +21,15 @@ use Rattle.flu_model.specs.declared.jobs.Op.{Op}
 use Rattle.flu_model.specs.declared.jobs.Depend.{Depend}
 use Rattle.flu_model.specs.declared.jobs.TagRef.{TagRef}
 use Rattle.flu_model.specs.declared.jobs.Source.{Source}
-use Rattle.flu_model.specs.Erasure.{Term, Literal, EventValue, EventKey, EventTime, CellRead, CellHeld, Negative, Negation, Operation, Adding, Raising, Setting, Clearing, Emitting, Flushing, PlainAction, PlainKind, Job, PlainAct}
+use Rattle.flu_model.specs.Erasure.{Term, Literal, EventValue, EventKey, EventTime, CellRead, CellHeld, Negative, Negation, Operation, Adding, Raising, Setting}
+use Rattle.flu_model.specs.Erasure.{Clearing, Emitting, Flushing, PlainAction, PlainKind, Job, PlainAct}
 use Rattle.flu_model.specs.Templates.{family_name, written_key, written_cell, written_template}
 use Rattle.flu_syntax.specs.Grammar.{op_word}
 use Rattle.flu_layout.specs.Laid.{blank, line_end, quoted, reserved, mark, name, text, number}
 use Rattle.flu_layout.specs.Lists.{separated, between, items_words, keys_text, behind_kind, keys_words}
 use Rattle.flu_layout.specs.Laws.{KeysAreSpelled}
-use Rattle.flu_parse.specs.Printing.{op_text, term_text, act_text, guard_text, action_text, version_line, keyed_text, sort_text, cell_line, value_text, tag_line, kind_name, same_text, depends_line, actions_line, on_line, tag_text, slack_text, source_line, normal_form}
+use Rattle.flu_parse.specs.Printing.{op_text, term_text, act_text, guard_text, action_text, version_line, keyed_text, sort_text, cell_line, value_text}
+use Rattle.flu_parse.specs.Printing.{tag_line, kind_name, same_text, depends_line, actions_line, on_line, tag_text, slack_text, source_line, normal_form}
 
 -- ---- lists in a row, grouped otherwise
 

@@ -18,4 +18,5 @@ pub returns-clause-first : goal.returns-clause-first
 returns-clause-first c = passed_is_first c.args.p.now c.loop-i.found c.loop-i.invariant.0 (λ i lt. c.loop-i.invariant.1 i (omega arith))
 
 pub returns-clause-none : goal.returns-clause-none
-returns-clause-none c = passed_none c.args.p.now c.loop-i.found c.dependency_turns.ensures c.conflict_is_mutual.ensures (λ i lt. c.loop-i.invariant.1 i (omega arith))
+returns-clause-none c =
+    passed_none c.args.p.now c.loop-i.found c.dependency_turns.ensures c.conflict_is_mutual.ensures (λ i lt. c.loop-i.invariant.1 i (omega arith))

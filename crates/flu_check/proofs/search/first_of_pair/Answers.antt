@@ -28,5 +28,6 @@ returns-in-Some-clause-passed c =
     let p = c.args.p.now in
     let a = c.tag_of-a.result in
     let b = c.tag_of-b.result in
-    same_pair p a b (tag_of_itag p c.args.i) (tag_of_itag p c.args.j) (Some (record { a = a; b = b; cell = c.in-Some.cell })) c.tag_of-a.ensures.tag c.tag_of-b.ensures.tag
+    same_pair p a b (tag_of_itag p c.args.i) (tag_of_itag p c.args.j)
+    (Some (record { a = a; b = b; cell = c.in-Some.cell })) c.tag_of-a.ensures.tag c.tag_of-b.ensures.tag
     (first_passes p a b c.in-Some.cell c.in-Some.ensures.first)

@@ -9,4 +9,5 @@ use Rattle.flu_model.proofs.itags.tag_of.Goals as goal
 pub returns-clause-fits : goal.returns-clause-fits
 returns-clause-fits c =
     let p = c.args.p.now in
-    ap (tag_fits p.kinds) c.find.ensures.tag ∙ all_at (λ e. tag_fits p.kinds e.0) (itags p) c.args.i.0 (tag 0 0, 0) (itags_fit p.kinds 0 p.sources p.sources_fit) c.requires
+    ap (tag_fits p.kinds) c.find.ensures.tag ∙ all_at (λ e. tag_fits p.kinds e.0) (itags p) c.args.i.0 (tag 0 0, 0)
+    (itags_fit p.kinds 0 p.sources p.sources_fit) c.requires

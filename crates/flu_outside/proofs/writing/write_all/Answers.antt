@@ -18,7 +18,8 @@ returns-in_err-n g c =
     record {
       all = search rules;
       quiet = search rules;
-      part = on_err _ c.from_residual.result (subst (λ (taken : Option (List ℕ)). WhereTold (g.K.Sink.taken c.args.out.now) taken (AppendsPart bytes)) (sym c.in_err-n.ensures.kept) part);
+      part = on_err _ c.from_residual.result (subst (λ (taken : Option (List ℕ)). WhereTold (g.K.Sink.taken c.args.out.now) taken (AppendsPart bytes))
+          (sym c.in_err-n.ensures.kept) part);
       failed = search rules;
       counts = search rules;
     }

@@ -32,7 +32,8 @@ loop-action-preserved c =
     let n = naming c.args.names.now in
     let so_far = map plain_action c.loop-action.done.items in
     sym (each-next (do_written text n c.args.under) so_far
-    (map plain_action c.add_action.new.done.items) c.args.written.now c.loop-action.action-index c.action-item.result c.loop-action-test.true c.action-item.is c.in-Ok.ensures)
+    (map plain_action c.add_action.new.done.items) c.args.written.now c.loop-action.action-index c.action-item.result c.loop-action-test.true c.action-item.is
+    c.in-Ok.ensures)
     ∙ c.loop-action.invariant
 
 pub returns : goal.returns

@@ -29,7 +29,8 @@ loop-declaration-preserved c =
     let ds = c.args.declarations.now in
     let n = naming c.loop-declaration.names in
     sym (each-next (declare_written text) n
-    (naming c.declare.new.names) ds c.loop-declaration.declaration-index c.declaration-item.result c.loop-declaration-test.true c.declaration-item.is c.in-Ok.ensures)
+    (naming c.declare.new.names) ds c.loop-declaration.declaration-index c.declaration-item.result c.loop-declaration-test.true c.declaration-item.is
+    c.in-Ok.ensures)
     ∙ c.loop-declaration.invariant
 
 pub returns : goal.returns

@@ -28,7 +28,8 @@ pub loop-declaration-preserved : goal.loop-declaration-preserved
 loop-declaration-preserved c =
     let step = read_written c.args.text.now (naming c.args.names.now) in
     sym (each-next step (drafted c.loop-declaration.draft)
-    (drafted c.add_declaration.new.draft) c.args.declarations.now c.loop-declaration.declaration-index c.declaration-item.result c.loop-declaration-test.true c.declaration-item.is c.in-Ok.ensures)
+    (drafted c.add_declaration.new.draft) c.args.declarations.now c.loop-declaration.declaration-index c.declaration-item.result c.loop-declaration-test.true
+    c.declaration-item.is c.in-Ok.ensures)
     ∙ c.loop-declaration.invariant
 
 pub returns : goal.returns

@@ -5,5 +5,6 @@ use Rattle.flu_rules.proofs.tags.key_count.Goals as goal
 
 pub returns-then-lo-hi : goal.returns-then-lo-hi
 returns-then-lo-hi c =
-    let count : length (listed_keys c.args.keys.now) ≡ c.in-Range.hi + 1 - c.in-Range.lo = ap (λ k. length (listed_keys k)) c.in-Range.is ∙ length-range_with_len _ _ in
+    let count : length (listed_keys c.args.keys.now) ≡ c.in-Range.hi + 1 - c.in-Range.lo =
+    ap (λ k. length (listed_keys k)) c.in-Range.is ∙ length-range_with_len _ _ in
     omega (arith, count)

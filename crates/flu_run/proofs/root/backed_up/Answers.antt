@@ -7,7 +7,8 @@ use Rattle.flu_run.proofs.Rooted.{batch_as, opening_sorts}
 use Rattle.flu_run.proofs.root.backed_up.Goals as goal
 
 pub fall_back-requires-clause-sorts : goal.fall_back-requires-clause-sorts
-fall_back-requires-clause-sorts g c = opening_sorts c.laws_below.ensures _ _ _ _ c.requires c.case-case.ensures (c.in_ok-start.ensures ∙ ap held c.opening.ensures)
+fall_back-requires-clause-sorts g c =
+    opening_sorts c.laws_below.ensures _ _ _ _ c.requires c.case-case.ensures (c.in_ok-start.ensures ∙ ap held c.opening.ensures)
 
 pub returns-clause-state : goal.returns-clause-state
 returns-clause-state g c =

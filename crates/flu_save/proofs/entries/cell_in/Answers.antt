@@ -26,7 +26,8 @@ returns-in_err-key-clause-found c s at w savable is same =
     let saved = saves p s at w savable is in
     let number = of_some _ _ (c.in_ok-number.ensures.value ∙ found_at p at w saved c.items.result.now c.in_ok-parts.parts.family.now c.items.ensures parts.0) in
     let within = subst (λ (xs : List Family). c.in_ok-number.number < length xs) (c.items.ensures ∙ sym c.items-2.ensures) c.in_ok-number.ensures.declared in
-    let family = same_family p at w saved c.items-2.result.now c.in_ok-number.number c.index-items-number.result c.items-2.ensures number within c.index-items-number.is in
+    let family = same_family p at w saved c.items-2.result.now c.in_ok-number.number c.index-items-number.result c.items-2.ensures number within
+    c.index-items-number.is in
     let key : key_is_in (Some c.index-items-number.result) c.in_ok-parts.parts.key ≡ true = ap (λ f. key_is_in (Some f) c.in_ok-parts.parts.key) family
     ∙ ap (key_is_in (Some saved.family)) parts.1 ∙ saved.key in
     let e : None ≡ Some c.in_ok-parts.parts.key = c.in_err-key.ensures ∙ ap (λ b. cond b (Some c.in_ok-parts.parts.key) None) key in
@@ -39,7 +40,8 @@ returns-in_err-worth-clause-found c s at w savable is same =
     let saved = saves p s at w savable is in
     let number = of_some _ _ (c.in_ok-number.ensures.value ∙ found_at p at w saved c.items.result.now c.in_ok-parts.parts.family.now c.items.ensures parts.0) in
     let within = subst (λ (xs : List Family). c.in_ok-number.number < length xs) (c.items.ensures ∙ sym c.items-2.ensures) c.in_ok-number.ensures.declared in
-    let family = same_family p at w saved c.items-2.result.now c.in_ok-number.number c.index-items-number.result c.items-2.ensures number within c.index-items-number.is in
+    let family = same_family p at w saved c.items-2.result.now c.in_ok-number.number c.index-items-number.result c.items-2.ensures number within
+    c.index-items-number.is in
     let e : None ≡ Some w = c.in_err-worth.ensures.found w (subst (λ (f : Family). IsWorthOf f.sort w) (sym family) saved.sort) saved.width (parts.2 ∙ ap
     (λ o. signed_decimal (number_held o)) is) in
     absurd cc
@@ -67,7 +69,8 @@ returns-clause-found c s at w savable is same =
     let saved = saves p s at w savable is in
     let number = of_some _ _ (c.in_ok-number.ensures.value ∙ found_at p at w saved c.items.result.now c.in_ok-parts.parts.family.now c.items.ensures parts.0) in
     let within = subst (λ (xs : List Family). c.in_ok-number.number < length xs) (c.items.ensures ∙ sym c.items-2.ensures) c.in_ok-number.ensures.declared in
-    let family = same_family p at w saved c.items-2.result.now c.in_ok-number.number c.index-items-number.result c.items-2.ensures number within c.index-items-number.is in
+    let family = same_family p at w saved c.items-2.result.now c.in_ok-number.number c.index-items-number.result c.items-2.ensures number within
+    c.index-items-number.is in
     let key = (if_some _ c.in_ok-parts.parts.key c.in_ok-key.key c.in_ok-key.ensures).1 ∙ parts.1 in
     let worth = of_some _ _ (c.in_ok-worth.ensures.found w (subst (λ (f : Family). IsWorthOf f.sort w) (sym family) saved.sort) saved.width (parts.2 ∙ ap
     (λ o. signed_decimal (number_held o)) is)) in

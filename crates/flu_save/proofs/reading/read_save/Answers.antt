@@ -24,7 +24,8 @@ returns-clause-fault c =
     ∙ c.in_ok-job.ensures.text in
     let job : IsOfJob d (normal_form (job_of p)) = subst (IsOfJob d) text
     (record { border = c.in-Some.parts.border; entries = items_view c.in-Some.parts.entries.now; parts = c.in-Some.ensures.some }) in
-    fault_of_none p c.args.bytes.now d short c.in_ok-value.ensures.json job c.in_ok-saved_in.field-0 c.in_ok-saved_in.ensures.found c.ok_or.result c.ok_or.ensures.value
+    fault_of_none p c.args.bytes.now d short c.in_ok-value.ensures.json job c.in_ok-saved_in.field-0 c.in_ok-saved_in.ensures.found c.ok_or.result
+    c.ok_or.ensures.value
 
 pub returns-clause-found : goal.returns-clause-found
 returns-clause-found c t s is =

@@ -25,7 +25,8 @@ loop-entry-preserved c =
     record {
       savable =
           with_savable families old
-          (held c.put.new.state) c.in-Some.cell c.in-Some.worth c.loop-entry.invariant.savable c.in-Some.ensures.fits.0 c.in-Some.ensures.fits.1 c.in_ok-put.ensures;
+          (held c.put.new.state) c.in-Some.cell c.in-Some.worth c.loop-entry.invariant.savable c.in-Some.ensures.fits.0 c.in-Some.ensures.fits.1
+          c.in_ok-put.ensures;
       found = λ s savable same.
           let here = entry_at families s c.args.entries.now c.loop-entry.entry-index c.entry-item.result same c.loop-entry-test.true c.entry-item.is in
           let pair = of_some _ _ (c.in-Some.ensures.found s here.cell here.worth savable here.holds here.entry) in

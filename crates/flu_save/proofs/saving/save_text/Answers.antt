@@ -19,7 +19,8 @@ both : {T E : Type 0} (r : Result T E) (P Q : T → Type 0) → IfOk r P → IfO
 both (Ok x) P Q a b = (a, b)
 both (Err e) P Q a b = tt
 
-is_save : (p : Program) (t : ℕ) (s : Contents) (bytes : List ℕ) → t < 2 ^ 63 → IsSavable p.families s → IsJsonOf bytes (checkpoint p t s) → length bytes ≤ most_bytes → IsSave p t s bytes
+is_save : (p : Program) (t : ℕ) (s : Contents) (bytes : List ℕ) → t < 2 ^ 63 → IsSavable p.families s → IsJsonOf bytes (checkpoint p t s)
+    → length bytes ≤ most_bytes → IsSave p t s bytes
 is_save p t s bytes border savable json short =
     record { short = short; value = checkpoint p t s; json = json; checkpoint = record { border = border; state = savable; value = refl } }
 
@@ -40,6 +41,7 @@ returns c =
       value = json;
       read_again = IfOk-weaker c.to_vec.result _ _ (λ b h sorts short. is_save p t s b.items c.requires (savable sorts) h short) json;
       saved = IfOk-weaker c.to_vec.result _ _ (λ b h sorts few.
-          is_save p t s b.items c.requires (savable sorts) h.1 (subst (λ (bytes : List ℕ). length bytes ≤ most_bytes) (sym h.0) (law_of_short_texts p t s c.requires (savable sorts) few)))
+          is_save p t s b.items c.requires (savable sorts) h.1
+          (subst (λ (bytes : List ℕ). length bytes ≤ most_bytes) (sym h.0) (law_of_short_texts p t s c.requires (savable sorts) few)))
           (both c.to_vec.result _ _ text json);
     }

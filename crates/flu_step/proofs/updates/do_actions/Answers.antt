@@ -9,10 +9,12 @@ use Rattle.flu_step.proofs.updates.do_actions.Goals as goal
 pub do_action-requires : goal.do_action-requires
 do_action-requires c =
     ap (λ a. has_target_in_range a.act c.args.at.now.tag.key) c.action-item.is
-    ∙ all_at (λ a. has_target_in_range a.act c.args.at.now.tag.key) c.args.actions.now c.loop-action.action-index c.action-item.result c.requires c.loop-action-test.true
+    ∙ all_at (λ a. has_target_in_range a.act c.args.at.now.tag.key) c.args.actions.now c.loop-action.action-index c.action-item.result c.requires
+    c.loop-action-test.true
 
 pub loop-action-preserved : goal.loop-action-preserved
 loop-action-preserved c =
-    actions_turn c.args.at.now.families.now c.args.actions.now (held c.loop-action.s) (held c.do_action.new.s) c.args.at.now.event.now c.args.at.now.tag c.loop-action.action-index c.action-item.result c.loop-action.outs c.do_action.new.outs c.args.outs.now
+    actions_turn c.args.at.now.families.now c.args.actions.now (held c.loop-action.s) (held c.do_action.new.s) c.args.at.now.event.now c.args.at.now.tag
+    c.loop-action.action-index c.action-item.result c.loop-action.outs c.do_action.new.outs c.args.outs.now
     (effect_of_actions c.args.at.now.families.now c.args.actions.now (held c.args.s.now) c.args.at.now.event.now c.args.at.now.tag.key)
     c.loop-action-test.true c.action-item.is c.in_ok-do_action.ensures.cells c.in_ok-do_action.ensures.outputs c.loop-action.invariant

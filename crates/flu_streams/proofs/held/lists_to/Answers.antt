@@ -16,20 +16,23 @@ use Rattle.flu_streams.proofs.held.lists_to.Goals as goal
 
 pub overflow_cast-first : goal.overflow_cast-first
 overflow_cast-first c =
-    let t = turn c.args.p.now c.items-source-items.result.now c.loop-source.source-index c.source-item.result c.items-source-items.ensures c.loop-source-test.true c.source-item.is in
+    let t = turn c.args.p.now c.items-source-items.result.now c.loop-source.source-index c.source-item.result c.items-source-items.ensures
+    c.loop-source-test.true c.source-item.is in
     omega (arith, t.narrow, c.loop-source.invariant.len, c.len-first.ensures)
 
 pub tag_count-width-requires : goal.tag_count-width-requires
 tag_count-width-requires c =
     let s = c.source-item.result in
-    let t = turn c.args.p.now c.items-source-items.result.now c.loop-source.source-index s c.items-source-items.ensures c.loop-source-test.true c.source-item.is in
+    let t = turn c.args.p.now c.items-source-items.result.now c.loop-source.source-index s c.items-source-items.ensures c.loop-source-test.true c.source-item.is
+    in
     let w : length (flat_map listed_tags c.items.result.now) ≡ width s = ap (λ tags. length (flat_map listed_tags tags)) c.items.ensures in
     omega (arith, t.narrow, w)
 
 pub lists-requires : goal.lists-requires
 lists-requires c =
     let s = c.source-item.result in
-    let t = turn c.args.p.now c.items-source-items.result.now c.loop-source.source-index s c.items-source-items.ensures c.loop-source-test.true c.source-item.is in
+    let t = turn c.args.p.now c.items-source-items.result.now c.loop-source.source-index s c.items-source-items.ensures c.loop-source-test.true c.source-item.is
+    in
     let w : c.tag_count-width.result ≡ width s = c.tag_count-width.ensures ∙ ap (λ tags. length (flat_map listed_tags tags)) c.items.ensures in
     omega (arith, t.narrow, w, c.loop-source.invariant.len, c.len-first.ensures)
 
@@ -47,12 +50,14 @@ loop-source-preserved c =
     let earlier = take i p.sources in
     let first = c.len-first.result in
     let t = turn p c.items-source-items.result.now i s c.items-source-items.ensures c.loop-source-test.true c.source-item.is in
-    let at : slice_get p.sources i ≡ Some s = source_at p c.items-source-items.result.now i s c.items-source-items.ensures c.loop-source-test.true c.source-item.is in
+    let at : slice_get p.sources i ≡ Some s =
+    source_at p c.items-source-items.result.now i s c.items-source-items.ensures c.loop-source-test.true c.source-item.is in
     let lt : n < length c.args.inlets.now = omega (arith, inv.number, c.requires.count, c.loop-source-test.true, ap length c.items-source-items.ensures) in
     let is : slice_get c.args.inlets.now n ≡ Some h = slice_get_read c.args.inlets.now (length c.args.inlets.now) n h refl lt c.index-inlets-number.is in
     let here : slice_get c.args.inlets.now i ≡ Some h = ap (slice_get c.args.inlets.now) (sym inv.number) ∙ is in
     let w : c.tag_count-width.result ≡ width s = c.tag_count-width.ensures ∙ ap (λ tags. length (flat_map listed_tags tags)) c.items.ensures in
-    let one : sum_by width (take (i + 1) p.sources) ≡ sum_by width earlier + width s = ap (sum_by width) t.more ∙ sum_by-append width earlier (s ∷ []) ∙ omega arith in
+    let one : sum_by width (take (i + 1) p.sources) ≡ sum_by width earlier + width s =
+    ap (sum_by width) t.more ∙ sum_by-append width earlier (s ∷ []) ∙ omega arith in
     let more : c.append.new.self.items ≡ lists.items ++ own.items = grind (arith, common_steps) in
     let len : vec_len c.append.new.self ≡ vec_len lists + vec_len own = grind (arith, common_steps) in
     let both : lists_in c.append.new.self ≡ lists_in lists ++ lists_in own = ap (map (λ v. v.items)) more ∙ map-append (λ v. v.items) lists.items own.items in
@@ -61,16 +66,19 @@ loop-source-preserved c =
     record {
       number = omega (arith, inv.number);
       len = omega (arith, len, one, w, inv.len, c.in_ok-own.ensures.len);
-      streams = rw both (streams_both (lists_in lists) (lists_in own) first size inv.streams (own_streams own first c.tag_count-width.result end h.items.items c.in_ok-own.ensures.len c.in_ok-own.ensures.each h.rising));
+      streams = rw both (streams_both (lists_in lists) (lists_in own) first size inv.streams
+          (own_streams own first c.tag_count-width.result end h.items.items c.in_ok-own.ensures.len c.in_ok-own.ensures.each h.rising));
       lists = λ border lines behind.
           both ∙ lists_more p border end lines earlier s i (lists_in lists) (lists_in own) (sym t.size) (inv.lists border lines behind)
           (own_lists own p.kinds s (sum_by width earlier) border end (lines i) h (c.in_ok-own.ensures.len ∙ w)
-          (λ k k_lt. c.in_ok-own.ensures.each k (rw w k_lt) ∙ ap (λ f. own_items f end h.items.items k) from) (behind i s at h here) (c.requires.caught i h here))
+          (λ k k_lt. c.in_ok-own.ensures.each k (rw w k_lt) ∙ ap (λ f. own_items f end h.items.items k) from) (behind i s at h here)
+          (c.requires.caught i h here))
           ∙ ap (lists_first p border end lines) (sym t.more);
     }
 
 pub returns-clause-len : goal.returns-clause-len
 returns-clause-len c =
     let p = c.args.p.now in
-    let all : take c.loop-source.source-index p.sources ≡ p.sources = take_all c.loop-source.source-index p.sources (omega (arith, ap length c.items-source-items.ensures)) in
+    let all : take c.loop-source.source-index p.sources ≡ p.sources =
+    take_all c.loop-source.source-index p.sources (omega (arith, ap length c.items-source-items.ensures)) in
     c.loop-source.invariant.len ∙ ap (sum_by width) all ∙ sym (total_width 0 p.sources)

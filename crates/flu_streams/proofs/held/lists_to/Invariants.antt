@@ -13,5 +13,6 @@ invariant-loop-source l = record {
   number : l.number ≡ l.source-index;
   len : vec_len l.lists ≡ sum_by width (take l.source-index l.p.sources);
   streams : are_streams 0 (lists_in l.lists) ≡ true;
-  lists : (border : Option ℕ) (lines : ℕ → List Next) → AreBehind l.p border lines l.inlets → lists_in l.lists ≡ lists_first l.p border l.fn.end lines (take l.source-index l.p.sources);
+  lists : (border : Option ℕ) (lines : ℕ → List Next) → AreBehind l.p border lines l.inlets
+      → lists_in l.lists ≡ lists_first l.p border l.fn.end lines (take l.source-index l.p.sources);
 }

@@ -47,7 +47,8 @@ loop-source-init g c =
 
 pub refill-requires-clause-numbered : goal.refill-requires-clause-numbered
 refill-requires-clause-numbered g c =
-    let t = turn c.args.p.now c.items-source-items.result.now c.loop-source.source-index c.source-item.result c.items-source-items.ensures c.loop-source-test.true c.source-item.is in
+    let t = turn c.args.p.now c.items-source-items.result.now c.loop-source.source-index c.source-item.result c.items-source-items.ensures
+    c.loop-source-test.true c.source-item.is in
     omega (arith, t.narrow, c.loop-source.invariant.first)
 
 pub refill-requires-clause-file : goal.refill-requires-clause-file
@@ -58,10 +59,19 @@ refill-requires-clause-file g c =
     let s = c.source-item.result in
     let mid = c.index_mut-inlet.result.now in
     let news = c.loop-source.inlets.items in
-    let at : slice_get p.sources i ≡ Some s = source_at p c.items-source-items.result.now i s c.items-source-items.ensures c.loop-source-test.true c.source-item.is in
-    let lt : n < length news = omega (arith, c.loop-source.invariant.number, c.loop-source.invariant.all.size, c.requires.count, c.loop-source-test.true, ap length c.items-source-items.ensures) in
+    let at : slice_get p.sources i ≡ Some s =
+    source_at p c.items-source-items.result.now i s c.items-source-items.ensures c.loop-source-test.true c.source-item.is in
+    let lt : n < length news = omega (
+      arith,
+      c.loop-source.invariant.number,
+      c.loop-source.invariant.all.size,
+      c.requires.count,
+      c.loop-source-test.true,
+      ap length c.items-source-items.ensures,
+    ) in
     let is : slice_get news n ≡ Some mid = slice_get_read news (length news) n mid refl lt c.index_mut-inlet.ensures.value in
-    let was : slice_get c.args.inlets.now.items i ≡ Some mid = sym (c.loop-source.invariant.rest i (omega arith)) ∙ ap (slice_get news) (sym c.loop-source.invariant.number) ∙ is in
+    let was : slice_get c.args.inlets.now.items i ≡ Some mid =
+    sym (c.loop-source.invariant.rest i (omega arith)) ∙ ap (slice_get news) (sym c.loop-source.invariant.number) ∙ is in
     c.requires.files i s at mid was
 
 pub returns-in-Err-clause-stop : goal.returns-in-Err-clause-stop
@@ -75,12 +85,15 @@ returns-in-Err-clause-stop g c =
     let news = c.loop-source.inlets.items in
     let inv = c.loop-source.invariant in
     let t = turn p c.items-source-items.result.now i s c.items-source-items.ensures c.loop-source-test.true c.source-item.is in
-    let at : slice_get p.sources i ≡ Some s = source_at p c.items-source-items.result.now i s c.items-source-items.ensures c.loop-source-test.true c.source-item.is in
+    let at : slice_get p.sources i ≡ Some s =
+    source_at p c.items-source-items.result.now i s c.items-source-items.ensures c.loop-source-test.true c.source-item.is in
     let lt : n < length news = omega (arith, inv.number, inv.all.size, c.requires.count, c.loop-source-test.true, ap length c.items-source-items.ensures) in
     let is : slice_get news n ≡ Some mid = slice_get_read news (length news) n mid refl lt c.index_mut-inlet.ensures.value in
     let was : slice_get c.args.inlets.now.items i ≡ Some mid = sym (inv.rest i (omega arith)) ∙ ap (slice_get news) (sym inv.number) ∙ is in
-    stops_at p c.args.rows i s c.args.inlets.now.items news mid (left c.args.files.now) (left c.loop-source.files) (left c.refill.new.files) inv.ends c.in-Err.stop c.fault_of.result
-    t inv.count at was inv.others c.in-Err.ensures.taken inv.all (rw (c.items.ensures, inv.first) at c.in-Err.ensures.stop) (c.fault_of.ensures ∙ ap (λ (k : ℕ). fault_of_stop k c.in-Err.stop) inv.number)
+    stops_at p c.args.rows i s c.args.inlets.now.items news mid (left c.args.files.now) (left c.loop-source.files)
+    (left c.refill.new.files) inv.ends c.in-Err.stop c.fault_of.result
+    t inv.count at was inv.others c.in-Err.ensures.taken inv.all (rw (c.items.ensures, inv.first) at c.in-Err.ensures.stop)
+    (c.fault_of.ensures ∙ ap (λ (k : ℕ). fault_of_stop k c.in-Err.stop) inv.number)
 
 pub returns-in-Err-clause-fronts : goal.returns-in-Err-clause-fronts
 returns-in-Err-clause-fronts g c =
@@ -105,7 +118,8 @@ returns-in-Err-clause-counts g c =
     let i = c.loop-source.source-index in
     let s = c.source-item.result in
     let t = turn p c.items-source-items.result.now i s c.items-source-items.ensures c.loop-source-test.true c.source-item.is in
-    let k = counts_at (take i p.sources) (drop (i + 1) p.sources) s (left c.args.files.now) (left c.loop-source.files) (faults c.args.files.now) (faults c.loop-source.files) (faults c.refill.new.files) c.loop-source.invariant.there c.loop-source.invariant.counts c.in-Err.ensures.counts in
+    let k = counts_at (take i p.sources) (drop (i + 1) p.sources) s (left c.args.files.now) (left c.loop-source.files) (faults c.args.files.now)
+    (faults c.loop-source.files) (faults c.refill.new.files) c.loop-source.invariant.there c.loop-source.invariant.counts c.in-Err.ensures.counts in
     rw (← t.split) at k
 
 pub returns-in-Err-clause-cause : goal.returns-in-Err-clause-cause
@@ -116,20 +130,28 @@ returns-in-Err-clause-cause g c = λ is_fault.
     let s = c.source-item.result in
     let t = turn p c.items-source-items.result.now i s c.items-source-items.ensures c.loop-source-test.true c.source-item.is in
     let among = rw (← t.split) at (among_sources (take i p.sources) (drop (i + 1) p.sources) s) in
-    let stop : c.in-Err.stop ≡ ReadStop = read_stop _ c.in-Err.stop (sym c.fault_of.ensures ∙ err_same (Err c.fault_of.result) c.fault_of.result ReadFault refl is_fault) in
-    (s.file, among, rose_behind (faults c.args.files.now s.file) (faults c.loop-source.files s.file) (faults c.refill.new.files s.file) (c.loop-source.invariant.counts.rise s.file) (c.refill.ensures.cause (rw (c.in-Err.is, stop) refl)))
+    let stop : c.in-Err.stop ≡ ReadStop =
+    read_stop _ c.in-Err.stop (sym c.fault_of.ensures ∙ err_same (Err c.fault_of.result) c.fault_of.result ReadFault refl is_fault) in (
+      s.file,
+      among,
+      rose_behind (faults c.args.files.now s.file) (faults c.loop-source.files s.file) (faults c.refill.new.files s.file)
+          (c.loop-source.invariant.counts.rise s.file) (c.refill.ensures.cause (rw (c.in-Err.is, stop) refl)),
+    )
 
 pub tag_count-first-requires : goal.tag_count-first-requires
 tag_count-first-requires g c =
     let s = c.source-item.result in
-    let t = turn c.args.p.now c.items-source-items.result.now c.loop-source.source-index s c.items-source-items.ensures c.loop-source-test.true c.source-item.is in
-    let w : length (flat_map listed_tags c.items-in-loop-source.result.now) ≡ width s = ap (λ tags. length (flat_map listed_tags tags)) c.items-in-loop-source.ensures in
+    let t = turn c.args.p.now c.items-source-items.result.now c.loop-source.source-index s c.items-source-items.ensures c.loop-source-test.true c.source-item.is
+    in
+    let w : length (flat_map listed_tags c.items-in-loop-source.result.now) ≡ width s =
+    ap (λ tags. length (flat_map listed_tags tags)) c.items-in-loop-source.ensures in
     omega (arith, t.narrow, w)
 
 pub overflow_add-first : goal.overflow_add-first
 overflow_add-first g c =
     let s = c.source-item.result in
-    let t = turn c.args.p.now c.items-source-items.result.now c.loop-source.source-index s c.items-source-items.ensures c.loop-source-test.true c.source-item.is in
+    let t = turn c.args.p.now c.items-source-items.result.now c.loop-source.source-index s c.items-source-items.ensures c.loop-source-test.true c.source-item.is
+    in
     let w : c.tag_count-first.result ≡ width s = c.tag_count-first.ensures ∙ ap (λ tags. length (flat_map listed_tags tags)) c.items-in-loop-source.ensures in
     omega (arith, t.narrow, w, c.loop-source.invariant.first)
 
@@ -149,13 +171,15 @@ loop-source-preserved g c =
     let inv = c.loop-source.invariant in
     let earlier = take i p.sources in
     let t = turn p c.items-source-items.result.now i s c.items-source-items.ensures c.loop-source-test.true c.source-item.is in
-    let at : slice_get p.sources i ≡ Some s = source_at p c.items-source-items.result.now i s c.items-source-items.ensures c.loop-source-test.true c.source-item.is in
+    let at : slice_get p.sources i ≡ Some s =
+    source_at p c.items-source-items.result.now i s c.items-source-items.ensures c.loop-source-test.true c.source-item.is in
     let lt : n < length news = omega (arith, inv.number, inv.all.size, c.requires.count, c.loop-source-test.true, ap length c.items-source-items.ensures) in
     let is : slice_get news n ≡ Some mid = slice_get_read news (length news) n mid refl lt c.index_mut-inlet.ensures.value in
     let was : slice_get c.args.inlets.now.items i ≡ Some mid = sym (inv.rest i (omega arith)) ∙ ap (slice_get news) (sym inv.number) ∙ is in
     let taken = c.in-Ok.ensures.taken in
     let w : c.tag_count-first.result ≡ width s = c.tag_count-first.ensures ∙ ap (λ tags. length (flat_map listed_tags tags)) c.items-in-loop-source.ensures in
-    let one : sum_by width (take (i + 1) p.sources) ≡ sum_by width earlier + width s = ap (sum_by width) t.more ∙ sum_by-append width earlier (s ∷ []) ∙ omega arith in
+    let one : sum_by width (take (i + 1) p.sources) ≡ sum_by width earlier + width s =
+    ap (sum_by width) t.more ∙ sum_by-append width earlier (s ∷ []) ∙ omega arith in
     let names : files_of (take (i + 1) p.sources) ≡ files_of earlier ++ (s.file ∷ []) = ap files_of t.more ∙ files_more earlier s in
     record {
       number = omega (arith, inv.number);
@@ -163,12 +187,14 @@ loop-source-preserved g c =
       ends = inv.ends ++ c.in-Ok.turn ∷ [];
       count = length-append inv.ends (c.in-Ok.turn ∷ []) ∙ ap (λ (k : ℕ). k + 1) inv.count;
       end = c.earlier-end.ensures ∙ ap (λ e. earlier_of e c.in-Ok.turn) inv.end ∙ sym (earliest-push inv.ends c.in-Ok.turn);
-      all = rw inv.number (refilled_more p c.args.rows i s c.args.inlets.now.items news mid c.refill.new.self (left old) (left b) (left new) inv.ends c.in-Ok.turn t inv.count at was inv.others taken inv.all
+      all = rw inv.number (refilled_more p c.args.rows i s c.args.inlets.now.items news mid c.refill.new.self (left old) (left b)
+          (left new) inv.ends c.in-Ok.turn t inv.count at was inv.others taken inv.all
           (rw (c.items.ensures, inv.first) at c.in-Ok.ensures.filled));
       rest = λ j le. slice_get-set_other news n j c.refill.new.self (λ e. omega (arith, e, le, inv.number)) ∙ inv.rest j (omega (arith, le));
       others = others_more p i s (left old) (left b) (left new) t inv.others taken;
       fronts = fronts_then (left old) (left b) (left new) inv.fronts (fronts_at s.file (left b) (left new) taken);
-      counts = rw names (counts_more (left old) (left b) (files_of earlier) s.file (faults old) (faults b) (faults new) inv.there inv.counts c.in-Ok.ensures.counts);
+      counts = rw names (counts_more (left old) (left b) (files_of earlier) s.file (faults old) (faults b)
+          (faults new) inv.there inv.counts c.in-Ok.ensures.counts);
       quiet = search rules;
       puts = search rules;
       there = there_more s.file (left old) (left b) (left new) taken inv.there;

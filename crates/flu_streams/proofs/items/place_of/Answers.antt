@@ -4,7 +4,8 @@ use Rattle.flu_model.specs.declared.events.Item.TheVariants.{End}
 use Rattle.flu_streams.specs.Lists.{item_time, times_in}
 use Rattle.flu_streams.proofs.Placing.{below_place, stands_there, not_at, at_equal, in_time}
 use Rattle.flu_streams.proofs.items.place_of.Goals as goal
-use Rattle.flu_streams.proofs.items.place_of.Goals.{else-time-last-via-then-time-last+else-last-time, else-time-last-via-else-time-last, else-at-gt0-via-then-at-gt0+else-time_of-time, else-at-gt0-via-else-at-gt0}
+use Rattle.flu_streams.proofs.items.place_of.Goals.{else-time-last-via-then-time-last+else-last-time, else-time-last-via-else-time-last}
+use Rattle.flu_streams.proofs.items.place_of.Goals.{else-at-gt0-via-then-at-gt0+else-time_of-time, else-at-gt0-via-else-at-gt0}
 
 pub returns-then-time_of-time-clause-fault : goal.returns-then-time_of-time-clause-fault
 returns-then-time_of-time-clause-fault c =
@@ -12,7 +13,8 @@ returns-then-time_of-time-clause-fault c =
     let at = c.count_until-at.result in
     let lt : at - 1 < length items = grind (arith, common_steps) in
     let same : item_time (slice_index_or items (at - 1) End) ≡ c.args.time = grind (arith, common_steps) in
-    rw c.in-Some.is (at_equal c.args.slack (times_in items) (Some c.in-Some.last) c.in-Some.last c.args.time refl (stands_there items (at - 1) c.args.time lt same))
+    rw c.in-Some.is (at_equal c.args.slack (times_in items) (Some c.in-Some.last) c.in-Some.last c.args.time refl
+    (stands_there items (at - 1) c.args.time lt same))
 
 pub returns-clause-earlier : goal.returns-clause-earlier
 returns-clause-earlier c = λ i lt.

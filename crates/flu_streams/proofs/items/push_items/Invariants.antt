@@ -6,5 +6,6 @@ use Rattle.flu_streams.proofs.items.push_items.Given as goal
 abbrev pub invariant-loop-item : goal.invariant-loop-item
 invariant-loop-item l = record {
   len : vec_len l.lists ≡ vec_len l.fn.lists;
-  each : (i : ℕ) → i < vec_len l.fn.lists → items_of_list l.lists i ≡ items_of_list l.fn.lists i ++ filter_map (item_for (l.first + i)) (take l.item-index l.items);
+  each : (i : ℕ) → i < vec_len l.fn.lists → items_of_list l.lists i ≡ items_of_list l.fn.lists i
+      ++ filter_map (item_for (l.first + i)) (take l.item-index l.items);
 }

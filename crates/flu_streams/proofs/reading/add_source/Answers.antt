@@ -15,7 +15,8 @@ returns-clause-added g c =
     let rows = rows_of good.read in
     let holds = good.taken.holds in
     let ends = sym holds.ended ∙ good.ended in
-    let own : lists_in c.in-Ok.intake.lists ≡ lists_of_rows kinds s c.len-first.result rows = lists_held kinds s c.len-first.result c.args.gathered.now.held rows c.in-Ok.intake holds ends in
+    let own : lists_in c.in-Ok.intake.lists ≡ lists_of_rows kinds s c.len-first.result rows =
+    lists_held kinds s c.len-first.result c.args.gathered.now.held rows c.in-Ok.intake holds ends in
     let first : c.len-first.result ≡ vec_len c.args.gathered.now.lists = c.len-first.ensures in
     let more : c.append.new.self.items ≡ c.args.gathered.now.lists.items ++ c.in-Ok.intake.lists.items = grind (arith, common_steps) in
     let len : vec_len c.append.new.self ≡ vec_len c.args.gathered.now.lists + vec_len c.in-Ok.intake.lists = grind (arith, common_steps) in

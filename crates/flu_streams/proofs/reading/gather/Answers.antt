@@ -11,7 +11,8 @@ use Rattle.flu_streams.specs.LoopGathering.{IsGathered}
 use Rattle.flu_streams.specs.Good.{AreGood, lists_of}
 use Rattle.flu_streams.specs.Lists.{lists_in}
 use Rattle.flu_streams.specs.Tags.{width}
-use Rattle.flu_streams.proofs.Gatherings.{err_same, total_width, gathered_more, gathered_fault, streams_more, others_at, counts_at, there_more, counts_more, out_more, files_more, among_sources, hides_behind}
+use Rattle.flu_streams.proofs.Gatherings.{err_same, total_width, gathered_more, gathered_fault, streams_more, others_at, counts_at, there_more, counts_more}
+use Rattle.flu_streams.proofs.Gatherings.{out_more, files_more, among_sources, hides_behind}
 use Rattle.flu_streams.proofs.Turns.{turn}
 use Rattle.flu_streams.proofs.reading.gather.Goals as goal
 
@@ -29,7 +30,8 @@ returns-in-Err-clause-fault g c =
     let i = c.loop-source.source-index in
     let s = c.source-item.result in
     let t = turn p c.items-source-items.result.now i s c.items-source-items.ensures c.loop-source-test.true c.source-item.is in
-    gathered_fault p (take i p.sources) (drop (i + 1) p.sources) s c.loop-source.gathered c.loop-source.gathered.number c.in-Err.fault (left c.args.files.now) (left c.loop-source.files) (left c.add_source.new.files)
+    gathered_fault p (take i p.sources) (drop (i + 1) p.sources) s c.loop-source.gathered c.loop-source.gathered.number c.in-Err.fault (left c.args.files.now)
+    (left c.loop-source.files) (left c.add_source.new.files)
     t.split (c.loop-source.invariant.number ∙ t.size) t.apart c.loop-source.invariant.told (rw c.items.ensures at c.in-Err.ensures.fault)
 
 pub returns-in-Err-clause-fronts : goal.returns-in-Err-clause-fronts
@@ -45,7 +47,8 @@ returns-in-Err-clause-others g c =
     let i = c.loop-source.source-index in
     let s = c.source-item.result in
     let t = turn p c.items-source-items.result.now i s c.items-source-items.ensures c.loop-source-test.true c.source-item.is in
-    let k = others_at p.kinds (take i p.sources) (drop (i + 1) p.sources) s c.loop-source.gathered (left c.args.files.now) (left c.loop-source.files) (left c.add_source.new.files) c.loop-source.invariant.told c.in-Err.ensures.taken in
+    let k = others_at p.kinds (take i p.sources) (drop (i + 1) p.sources) s c.loop-source.gathered (left c.args.files.now) (left c.loop-source.files)
+    (left c.add_source.new.files) c.loop-source.invariant.told c.in-Err.ensures.taken in
     rw (← t.split) at k
 
 pub returns-in-Err-clause-counts : goal.returns-in-Err-clause-counts
@@ -56,7 +59,8 @@ returns-in-Err-clause-counts g c =
     let i = c.loop-source.source-index in
     let s = c.source-item.result in
     let t = turn p c.items-source-items.result.now i s c.items-source-items.ensures c.loop-source-test.true c.source-item.is in
-    let k = counts_at (take i p.sources) (drop (i + 1) p.sources) s (left c.args.files.now) (left c.loop-source.files) (faults c.args.files.now) (faults c.loop-source.files) (faults c.add_source.new.files) c.loop-source.invariant.there c.loop-source.invariant.counts c.in-Err.ensures.counts in
+    let k = counts_at (take i p.sources) (drop (i + 1) p.sources) s (left c.args.files.now) (left c.loop-source.files) (faults c.args.files.now)
+    (faults c.loop-source.files) (faults c.add_source.new.files) c.loop-source.invariant.there c.loop-source.invariant.counts c.in-Err.ensures.counts in
     rw (← t.split) at k
 
 pub returns-in-Err-clause-cause : goal.returns-in-Err-clause-cause
@@ -66,8 +70,13 @@ returns-in-Err-clause-cause g c = λ is_fault.
     let i = c.loop-source.source-index in
     let s = c.source-item.result in
     let t = turn p c.items-source-items.result.now i s c.items-source-items.ensures c.loop-source-test.true c.source-item.is in
-    let among = rw (← t.split) at (among_sources (take i p.sources) (drop (i + 1) p.sources) s) in
-    (s.file, among, rose_behind (faults c.args.files.now s.file) (faults c.loop-source.files s.file) (faults c.add_source.new.files s.file) (c.loop-source.invariant.counts.rise s.file) (c.add_source.ensures.cause (rw (c.in-Err.is, err_same (Err c.in-Err.fault) c.in-Err.fault ReadFault refl is_fault) refl)))
+    let among = rw (← t.split) at (among_sources (take i p.sources) (drop (i + 1) p.sources) s) in (
+      s.file,
+      among,
+      rose_behind (faults c.args.files.now s.file) (faults c.loop-source.files s.file) (faults c.add_source.new.files s.file)
+          (c.loop-source.invariant.counts.rise s.file) (c.add_source.ensures.cause
+          (rw (c.in-Err.is, err_same (Err c.in-Err.fault) c.in-Err.fault ReadFault refl is_fault) refl)),
+    )
 
 pub returns-in-Err-clause-hides : goal.returns-in-Err-clause-hides
 returns-in-Err-clause-hides g c = λ is_fault.
@@ -77,7 +86,8 @@ returns-in-Err-clause-hides g c = λ is_fault.
     let s = c.source-item.result in
     let t = turn p c.items-source-items.result.now i s c.items-source-items.ensures c.loop-source-test.true c.source-item.is in
     let hides = c.add_source.ensures.hides (rw (c.in-Err.is, err_same (Err c.in-Err.fault) c.in-Err.fault ReadFault refl is_fault) refl) in
-    hides_behind p (take i p.sources) (drop (i + 1) p.sources) s c.loop-source.gathered (left c.args.files.now) (left c.loop-source.files) (left c.add_source.new.files)
+    hides_behind p (take i p.sources) (drop (i + 1) p.sources) s c.loop-source.gathered (left c.args.files.now) (left c.loop-source.files)
+    (left c.add_source.new.files)
     t.split t.apart c.loop-source.invariant.told (rw c.items.ensures at hides)
 
 pub loop-source-preserved : goal.loop-source-preserved
@@ -100,10 +110,12 @@ loop-source-preserved g c =
       number = omega (arith, adds.number, c.loop-source.invariant.number);
       len = omega (arith, adds.len, one, c.loop-source.invariant.len);
       streams = streams_more p.kinds s (left mid) (left new) c.loop-source.gathered c.add_source.new.gathered adds c.loop-source.invariant.streams;
-      told = rw t.more (gathered_more p.kinds earlier s c.loop-source.gathered c.add_source.new.gathered (left old) (left mid) (left new) c.loop-source.invariant.told adds taken c.loop-source.invariant.len t.apart);
+      told = rw t.more (gathered_more p.kinds earlier s c.loop-source.gathered c.add_source.new.gathered (left old) (left mid)
+          (left new) c.loop-source.invariant.told adds taken c.loop-source.invariant.len t.apart);
       fronts = fronts_then (left old) (left mid) (left new) c.loop-source.invariant.fronts (fronts_at s.file (left mid) (left new) taken);
       out = rw names (out_more (files_of earlier) s.file (left mid) (left new) taken t.apart c.loop-source.invariant.out c.in_default.ensures.read_out);
-      counts = rw names (counts_more (left old) (left mid) (files_of earlier) s.file (faults old) (faults mid) (faults new) c.loop-source.invariant.there c.loop-source.invariant.counts c.in_default.ensures.counts);
+      counts = rw names (counts_more (left old) (left mid) (files_of earlier) s.file (faults old) (faults mid)
+          (faults new) c.loop-source.invariant.there c.loop-source.invariant.counts c.in_default.ensures.counts);
       quiet = search rules;
       there = there_more s.file (left old) (left mid) (left new) taken c.loop-source.invariant.there;
     }
@@ -112,23 +124,28 @@ pub returns-clause-good : goal.returns-clause-good
 returns-clause-good g c =
     let left = g.F.Files.left in
     let p = c.args.p.now in
-    let all : take c.loop-source.source-index p.sources ≡ p.sources = take_all c.loop-source.source-index p.sources (omega (arith, ap length c.items-source-items.ensures)) in
+    let all : take c.loop-source.source-index p.sources ≡ p.sources =
+    take_all c.loop-source.source-index p.sources (omega (arith, ap length c.items-source-items.ensures)) in
     let told = rw all at c.loop-source.invariant.told in
-    told_weaker (IsGathered p.kinds p.sources c.loop-source.gathered) (λ old new. AreGood p old) (left c.args.files.now) (left c.loop-source.files) (λ x y k. k.good) told
+    told_weaker (IsGathered p.kinds p.sources c.loop-source.gathered) (λ old new. AreGood p old) (left c.args.files.now) (left c.loop-source.files)
+    (λ x y k. k.good) told
 
 pub returns-clause-lists : goal.returns-clause-lists
 returns-clause-lists g c =
     let left = g.F.Files.left in
     let p = c.args.p.now in
-    let all : take c.loop-source.source-index p.sources ≡ p.sources = take_all c.loop-source.source-index p.sources (omega (arith, ap length c.items-source-items.ensures)) in
+    let all : take c.loop-source.source-index p.sources ≡ p.sources =
+    take_all c.loop-source.source-index p.sources (omega (arith, ap length c.items-source-items.ensures)) in
     let told = rw all at c.loop-source.invariant.told in
     let same : listed c.new-2.result ≡ lists_in c.loop-source.gathered.lists = c.new-2.ensures ∙ ap lists_in c.into_lists.ensures in
-    told_weaker (IsGathered p.kinds p.sources c.loop-source.gathered) (λ old new. listed c.new-2.result ≡ lists_of p old) (left c.args.files.now) (left c.loop-source.files) (λ x y k. same ∙ k.lists) told
+    told_weaker (IsGathered p.kinds p.sources c.loop-source.gathered) (λ old new. listed c.new-2.result ≡ lists_of p old) (left c.args.files.now)
+    (left c.loop-source.files) (λ x y k. same ∙ k.lists) told
 
 pub returns-clause-itags : goal.returns-clause-itags
 returns-clause-itags g c =
     let p = c.args.p.now in
-    let all : take c.loop-source.source-index p.sources ≡ p.sources = take_all c.loop-source.source-index p.sources (omega (arith, ap length c.items-source-items.ensures)) in
+    let all : take c.loop-source.source-index p.sources ≡ p.sources =
+    take_all c.loop-source.source-index p.sources (omega (arith, ap length c.items-source-items.ensures)) in
     let same : listed c.new-2.result ≡ lists_in c.loop-source.gathered.lists = c.new-2.ensures ∙ ap lists_in c.into_lists.ensures in
     let len = rw all at c.loop-source.invariant.len in
     rw same (simp length-map (omega (arith, len, c.loop-source.gathered.lists.ok.0, total_width 0 p.sources)))
@@ -137,6 +154,8 @@ pub returns-clause-others : goal.returns-clause-others
 returns-clause-others g c =
     let left = g.F.Files.left in
     let p = c.args.p.now in
-    let all : take c.loop-source.source-index p.sources ≡ p.sources = take_all c.loop-source.source-index p.sources (omega (arith, ap length c.items-source-items.ensures)) in
+    let all : take c.loop-source.source-index p.sources ≡ p.sources =
+    take_all c.loop-source.source-index p.sources (omega (arith, ap length c.items-source-items.ensures)) in
     let told = rw all at c.loop-source.invariant.told in
-    told_weaker (IsGathered p.kinds p.sources c.loop-source.gathered) (LeavesOthers (files_of p.sources)) (left c.args.files.now) (left c.loop-source.files) (λ x y k. k.others) told
+    told_weaker (IsGathered p.kinds p.sources c.loop-source.gathered) (LeavesOthers (files_of p.sources)) (left c.args.files.now) (left c.loop-source.files)
+    (λ x y k. k.others) told

@@ -20,12 +20,15 @@ returns-in-Some-number_behind-3-clause-back c = λ s is.
 
 pub returns-in-Some-edge_behind-clause-back : goal.returns-in-Some-edge_behind-clause-back
 returns-in-Some-edge_behind-clause-back c = λ s is.
-    same_as s (Ask c.in-Some-edge_behind.w c.in-Some-edge_behind.side) c.args.line.now is c.in-Some-edge_behind.ensures.some.0 c.in-Some-edge_behind.ensures.some.1
+    same_as s (Ask c.in-Some-edge_behind.w c.in-Some-edge_behind.side) c.args.line.now is c.in-Some-edge_behind.ensures.some.0
+    c.in-Some-edge_behind.ensures.some.1
 
 pub returns-in-Some-edge_behind-2-clause-back : goal.returns-in-Some-edge_behind-2-clause-back
 returns-in-Some-edge_behind-2-clause-back c = λ s is.
-    same_as s (Take c.in-Some-edge_behind-2.w c.in-Some-edge_behind-2.side) c.args.line.now is c.in-Some-edge_behind-2.ensures.some.0 c.in-Some-edge_behind-2.ensures.some.1
+    same_as s (Take c.in-Some-edge_behind-2.w c.in-Some-edge_behind-2.side) c.args.line.now is c.in-Some-edge_behind-2.ensures.some.0
+    c.in-Some-edge_behind-2.ensures.some.1
 
 pub returns-in-Some-edge_behind-3-clause-back : goal.returns-in-Some-edge_behind-3-clause-back
 returns-in-Some-edge_behind-3-clause-back c = λ s is.
-    same_as s (Lend c.in-Some-edge_behind-3.w c.in-Some-edge_behind-3.side) c.args.line.now is c.in-Some-edge_behind-3.ensures.some.0 c.in-Some-edge_behind-3.ensures.some.1
+    same_as s (Lend c.in-Some-edge_behind-3.w c.in-Some-edge_behind-3.side) c.args.line.now is c.in-Some-edge_behind-3.ensures.some.0
+    c.in-Some-edge_behind-3.ensures.some.1

@@ -56,7 +56,8 @@ returns-then-not-more-clause-complete g c =
     let turn = c.in-Ok-turn.ensures in
     let off : c.in-Ok-turn.more ≡ false = search rules in
     let by : WhereTold (left c.args.files.now) (left c.turn.new.files) (IsReplayedBy c.args.case.now name c.turn.new.self) =
-    told_on c.args.case.now name c.lines.run c.turn.new.self (left c.args.files.now) (left c.lines.files) (left c.turn.new.files) c.lines.invariant.told turn.goes in
+    told_on c.args.case.now name c.lines.run c.turn.new.self (left c.args.files.now) (left c.lines.files)
+    (left c.turn.new.files) c.lines.invariant.told turn.goes in
     told_complete c.args.case.now name c.turn.new.self c.end.result (left c.args.files.now) (left c.turn.new.files) by (turn.none off) (turn.end off)
     c.end.ensures.complete
 
@@ -67,7 +68,8 @@ returns-then-not-more-clause-faults g c =
     let turn = c.in-Ok-turn.ensures in
     let off : c.in-Ok-turn.more ≡ false = search rules in
     let by : WhereTold (left c.args.files.now) (left c.turn.new.files) (IsReplayedBy c.args.case.now name c.turn.new.self) =
-    told_on c.args.case.now name c.lines.run c.turn.new.self (left c.args.files.now) (left c.lines.files) (left c.turn.new.files) c.lines.invariant.told turn.goes in
+    told_on c.args.case.now name c.lines.run c.turn.new.self (left c.args.files.now) (left c.lines.files)
+    (left c.turn.new.files) c.lines.invariant.told turn.goes in
     told_fault c.args.case.now name c.turn.new.self c.end.result (left c.args.files.now) (left c.turn.new.files) by (turn.none off) (turn.end off)
     c.end.ensures.fault
 

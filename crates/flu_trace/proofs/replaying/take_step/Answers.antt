@@ -1,7 +1,7 @@
 use Rattle.std.proofs.Common.{◌≡◌, ◌<◌, ◌+◌, ◌++◌, [], List, ℕ, take, drop, length, refl, sym, ap, ◌∙◌, arith}
 use Rattle.std.proofs.lemmas.List.{append-nil, drop_all}
 use Rattle.flu_rows.specs.Lines.{line_len, lines_of}
-use Rattle.flu_trace.proofs.Cuts.{lines_of-line, lines_of-last, lines_of-long}
+use Rattle.flu_lemmas.proofs.Lines.{lines_of-line, lines_of-last, lines_of-long}
 use Rattle.flu_trace.proofs.Replays.{says}
 use Rattle.flu_trace.proofs.StepLines.{not_so_long}
 use Rattle.flu_trace.proofs.replaying.take_step.Goals as goal
@@ -18,7 +18,8 @@ returns-in-Line c = λ coming last.
       line = take (line_len held) held;
       lines = lines_of (drop (line_len held + 1) held ++ coming);
       cut = lines_of-line held coming lt;
-      says = says c.read_step-step.result (take len c.bytes.result.now) (take (line_len held) held) text c.read_step-step.ensures.is c.read_step-step.ensures.none;
+      says = says c.read_step-step.result (take len c.bytes.result.now)
+          (take (line_len held) held) text c.read_step-step.ensures.is c.read_step-step.ensures.none;
       behind = λ s is. ap (λ (l : List ℕ). lines_of (l ++ coming)) (sym rest);
     }
 

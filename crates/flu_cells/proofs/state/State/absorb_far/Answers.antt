@@ -16,13 +16,15 @@ pub loop-cell-preserved : goal.loop-cell-preserved
 loop-cell-preserved c = (
   (λ d w e. c.loop-cell.invariant.0 d w (still_held c.loop-cell.cells c.pop_first.new.self c.in-Some.cell d w c.in-Some.ensures.updates e)),
   (λ i. join (c.in_ok-hold.ensures.ok i) (far-updated c.loop-cell.cells c.pop_first.new.self c.in-Some.cell None c.in-Some.ensures.updates i))
-      ∙ ap (λ w. join (with_worth (held c.loop-cell.self) c.in-Some.cell w) (with_worth (far_held c.loop-cell.cells) c.in-Some.cell None)) (c.joined.ensures.value ∙ ap (λ w. joined_worth w (Some c.in-Some.theirs)) c.get.ensures)
+      ∙ ap (λ w. join (with_worth (held c.loop-cell.self) c.in-Some.cell w) (with_worth (far_held c.loop-cell.cells) c.in-Some.cell None))
+      (c.joined.ensures.value ∙ ap (λ w. joined_worth w (Some c.in-Some.theirs)) c.get.ensures)
       ∙ join-moved (held c.loop-cell.self) (far_held c.loop-cell.cells) c.in-Some.cell c.in-Some.theirs c.in-Some.ensures.value
       ∙ c.loop-cell.invariant.1,
 )
 
 pub returns-in_err-hold-clause-empty : goal.returns-in_err-hold-clause-empty
-returns-in_err-hold-clause-empty c none = absurd (not_both _ _ (c.loop-cell.invariant.0 c.in-Some.cell c.in-Some.theirs c.in-Some.ensures.value) (ap (λ s. s c.in-Some.cell) none))
+returns-in_err-hold-clause-empty c none =
+    absurd (not_both _ _ (c.loop-cell.invariant.0 c.in-Some.cell c.in-Some.theirs c.in-Some.ensures.value) (ap (λ s. s c.in-Some.cell) none))
 
 pub returns-clause-ok : goal.returns-clause-ok
 returns-clause-ok c =

@@ -16,7 +16,8 @@ loop-slot-preserved c =
     let near = c.loop-slot.near in
     let left = c.in_ok-absorb_slot.ensures.left in (
       c.in_ok-absorb_slot.ensures.ok ∙ c.loop-slot.invariant.0,
-      (λ d w e. c.loop-slot.invariant.1 d w (near_before (near_held near) (cell_of slot) d w (sym (ap (λ s. s d) (slot_unset near _ slot None c.in-Some.ensures.found.1 left)) ∙ e))),
+      (λ d w e. c.loop-slot.invariant.1 d w (near_before (near_held near) (cell_of slot) d w
+          (sym (ap (λ s. s d) (slot_unset near _ slot None c.in-Some.ensures.found.1 left)) ∙ e))),
       below_slot (value_at near) _ c.loop-slot.from slot left c.loop-slot.invariant.2 c.in-Some.ensures.least,
       omega (arith, c.in-Some.ensures.found.1),
     )
@@ -25,10 +26,12 @@ pub returns-in_err-absorb_slot-clause-empty : goal.returns-in_err-absorb_slot-cl
 returns-in_err-absorb_slot-clause-empty c none =
     let slot = c.in-Some.slot in
     let there = some_value (value_at c.loop-slot.near slot) c.in-Some.ensures.found.2 in
-    absurd (not_both _ there.0 (c.loop-slot.invariant.1 (cell_of slot) there.0 (slot_held c.loop-slot.near slot c.in-Some.ensures.found.1 ∙ there.1)) (ap (λ s. s (cell_of slot)) none))
+    absurd (not_both _ there.0 (c.loop-slot.invariant.1 (cell_of slot) there.0 (slot_held c.loop-slot.near slot c.in-Some.ensures.found.1 ∙ there.1))
+    (ap (λ s. s (cell_of slot)) none))
 
 pub returns-clause-ok : goal.returns-clause-ok
 returns-clause-ok c =
     sym (join-nothing (held c.loop-slot.self))
-    ∙ ap (join (held c.loop-slot.self)) (sym (near_emptied c.loop-slot.near (all_slots (value_at c.loop-slot.near) c.loop-slot.from c.loop-slot.invariant.2 c.in_default.ensures.none)))
+    ∙ ap (join (held c.loop-slot.self)) (sym (near_emptied c.loop-slot.near
+    (all_slots (value_at c.loop-slot.near) c.loop-slot.from c.loop-slot.invariant.2 c.in_default.ensures.none)))
     ∙ c.loop-slot.invariant.0

@@ -16,10 +16,12 @@ returns-in-Some-clause-ok c =
     let near = c.args.near.now in
     let k = cell_of c.args.slot in
     let s = held c.args.self.now in
-    let left : near_held c.unset.new.self ≡ with_worth (near_held near) k None = slot_unset near c.unset.new.self c.args.slot None c.requires.slot c.unset.ensures.left in
+    let left : near_held c.unset.new.self ≡ with_worth (near_held near) k None =
+    slot_unset near c.unset.new.self c.args.slot None c.requires.slot c.unset.ensures.left in
     on_ok_weaker c.hold.result
     (λ u. (λ i. join (u i) (left i))
-    ∙ ap (λ w. join (with_worth s k w) (with_worth (near_held near) k None)) (c.joined.ensures.value ∙ ap (λ w. joined_worth w (Some c.in-Some.theirs)) c.get.ensures)
+    ∙ ap (λ w. join (with_worth s k w) (with_worth (near_held near) k None))
+    (c.joined.ensures.value ∙ ap (λ w. joined_worth w (Some c.in-Some.theirs)) c.get.ensures)
     ∙ join-moved s (near_held near) k c.in-Some.theirs (slot_held near c.args.slot c.requires.slot ∙ sym c.in-Some.ensures.value))
     c.hold.ensures.ok
 

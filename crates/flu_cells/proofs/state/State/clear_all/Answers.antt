@@ -16,12 +16,14 @@ loop-cell-init c =
     let w = c.args.unwanted.now in
     let after : held c.loop-family.self ≡ only (λ d. not (in_families w.whole.keys d)) (held c.args.self.now) =
     ap (λ fs. only (λ d. not (in_families fs d)) (held c.loop-family.self)) (sym c.in-None.ensures.steps.0) ∙ c.loop-family.invariant in
-    clear_step (in_families w.whole.keys) (in_cells c.into_iter-cell-iterator.result) (is_in w) (held c.args.self.now) (held c.loop-family.self) (outside w (held c.args.self.now))
+    clear_step (in_families w.whole.keys) (in_cells c.into_iter-cell-iterator.result) (is_in w) (held c.args.self.now) (held c.loop-family.self)
+    (outside w (held c.args.self.now))
     (ap (λ cs d. in_families w.whole.keys d || in_cells cs d) (sym c.into_iter-cell-iterator.ensures.into_iter_gives.0)) refl after
 
 pub loop-cell-preserved : goal.loop-cell-preserved
 loop-cell-preserved c =
-    clear_step (λ d. is_same_cell d c.in-Some-cell.cell.now) (in_cells c.next-in-loop-cell.new.self) (in_cells c.loop-cell.cell-iterator) (held c.loop-cell.self) _ _
+    clear_step (λ d. is_same_cell d c.in-Some-cell.cell.now) (in_cells c.next-in-loop-cell.new.self) (in_cells c.loop-cell.cell-iterator)
+    (held c.loop-cell.self) _ _
     (ap in_cells c.in-Some-cell.ensures.steps ∙ first_cell _ _) c.loop-cell.invariant (c.clear.ensures ∙ left_one _ _)
 
 pub returns : goal.returns

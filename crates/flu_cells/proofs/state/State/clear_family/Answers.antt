@@ -19,6 +19,7 @@ loop-key-preserved c =
 pub returns : goal.returns
 returns c =
     cleared_none (λ d. d.family == c.args.family) (held c.loop-key.self)
-    (λ d in_family. all_clear (held c.loop-key.self) c.args.family c.loop-key.from c.loop-key.invariant.1 c.in_default.ensures.none d (true_eq d.family c.args.family in_family))
+    (λ d in_family. all_clear (held c.loop-key.self) c.args.family c.loop-key.from c.loop-key.invariant.1 c.in_default.ensures.none d
+    (true_eq d.family c.args.family in_family))
     ∙ c.loop-key.invariant.0
     ∙ sym (left_family _ _)

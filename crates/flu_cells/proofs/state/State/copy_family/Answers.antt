@@ -16,7 +16,8 @@ loop-key-init c =
 
 pub loop-key-preserved : goal.loop-key-preserved
 loop-key-preserved c =
-    copied_key (held c.args.other.now) (held c.loop-key.self) _ c.args.family _ (drop (c.loop-key.key-index + 1) c.as_slice-key-items.result.now) c.in_ok-copy_cell.ensures
+    copied_key (held c.args.other.now) (held c.loop-key.self) _ c.args.family _
+    (drop (c.loop-key.key-index + 1) c.as_slice-key-items.result.now) c.in_ok-copy_cell.ensures
     ∙ ap (λ js. overlay (held c.loop-key.self) (only (λ d. (d.family == c.args.family) && has_key js d.key) (held c.args.other.now)))
     (sym (drop_more c.as_slice-key-items.result.now c.loop-key.key-index 0 c.loop-key-test.true))
     ∙ c.loop-key.invariant

@@ -10,7 +10,8 @@ use Rattle.flu_cells.proofs.state.State.copy_of.Goals as goal
 
 pub loop-family-init : goal.loop-family-init
 loop-family-init c =
-    (λ i. overlay (c.new-copy.ensures i) (only (in_families (c.into_iter-family-iterator.ensures.into_iter_gives.0 i)) (held c.args.self.now))) ∙ nothing-overlay _
+    (λ i. overlay (c.new-copy.ensures i) (only (in_families (c.into_iter-family-iterator.ensures.into_iter_gives.0 i)) (held c.args.self.now)))
+    ∙ nothing-overlay _
 
 pub loop-family-preserved : goal.loop-family-preserved
 loop-family-preserved c =

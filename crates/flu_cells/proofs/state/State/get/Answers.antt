@@ -6,7 +6,8 @@ use Rattle.flu_cells.proofs.state.State.get.Goals as goal
 
 pub returns-in-Some : goal.returns-in-Some
 returns-in-Some c =
-    c.get.ensures ∙ ap (value_at c.args.self.now.near) c.in-Some.ensures.some.0 ∙ sym (in_slot c.args.self.now.near c.args.self.now.far c.args.c c.in-Some.ensures.some.2)
+    c.get.ensures ∙ ap (value_at c.args.self.now.near) c.in-Some.ensures.some.0
+    ∙ sym (in_slot c.args.self.now.near c.args.self.now.far c.args.c c.in-Some.ensures.some.2)
 
 pub returns-in-None : goal.returns-in-None
 returns-in-None c =

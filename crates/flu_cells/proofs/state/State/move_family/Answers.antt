@@ -17,8 +17,10 @@ loop-key-preserved c =
     let e = only (λ d. not (d.family == c.args.family)) (held c.args.self.now) in
     let u = overlay (held c.args.other.now) (only (λ d. d.family == c.args.family) (held c.args.self.now)) in (
       moves_rest (λ d. is_same_cell d k) (λ d. d.family == c.args.family) (held c.loop-key.self) _ e (held c.loop-key.other) _ u
-          (subst (λ (p : Cell → Bool). Moves p (held c.loop-key.self) e (held c.loop-key.other) u) (sym (same_or_family c.args.family c.in-Some.key)) c.loop-key.invariant.0) moved,
-      clear_below-more (held c.loop-key.self) _ c.args.family c.loop-key.from c.in-Some.key (moved.0 ∙ sym (left_one (held c.loop-key.self) k)) c.loop-key.invariant.1
+          (subst (λ (p : Cell → Bool). Moves p (held c.loop-key.self) e (held c.loop-key.other) u)
+          (sym (same_or_family c.args.family c.in-Some.key)) c.loop-key.invariant.0) moved,
+      clear_below-more (held c.loop-key.self) _ c.args.family c.loop-key.from c.in-Some.key
+          (moved.0 ∙ sym (left_one (held c.loop-key.self) k)) c.loop-key.invariant.1
           c.in-Some.ensures.least,
       omega (arith, c.in-Some.ensures.found.1),
     )
@@ -26,6 +28,7 @@ loop-key-preserved c =
 pub returns : goal.returns
 returns c =
     let none = moves_none (λ d. d.family == c.args.family) (held c.loop-key.self) _ (held c.loop-key.other) _
-    (λ d in_family. all_clear (held c.loop-key.self) c.args.family c.loop-key.from c.loop-key.invariant.1 c.in_default.ensures.none d (true_eq d.family c.args.family in_family))
+    (λ d in_family. all_clear (held c.loop-key.self) c.args.family c.loop-key.from c.loop-key.invariant.1 c.in_default.ensures.none d
+    (true_eq d.family c.args.family in_family))
     c.loop-key.invariant.0 in
     (sym none.0, sym none.1)

@@ -47,4 +47,5 @@ returns-else-slot-family-clause-none c j le is =
     let first = c.in_ok-first.ensures.some in
     let key : j < 64 = near_key (cell f j) is in
     in_slot s.near s.far (cell f j) is
-    ∙ c.in_ok-slot.ensures.least (slot_of (cell f j)) (omega (arith, first.0, le)) (omega (arith, key, first.0, c.in_ok-slot.ensures.found.0, c.if-slot-family.false))
+    ∙ c.in_ok-slot.ensures.least (slot_of (cell f j)) (omega (arith, first.0, le))
+    (omega (arith, key, first.0, c.in_ok-slot.ensures.found.0, c.if-slot-family.false))

@@ -13,12 +13,14 @@ invariant_of-self c =
     record {
       without_neutral = by_result c.set.result (IsWithoutNeutral (contents_of c.set.new.self s.far)) c.set.ensures.ok c.set.ensures.err
           (λ u. subst IsWithoutNeutral
-          (sym (contents-near_with s.near c.set.new.self s.far c.args.c (Some c.args.w) c.in-Some.ensures.some.2 (u ∙ ap (λ slot. with_value (value_at s.near) slot (Some c.args.w)) c.in-Some.ensures.some.0)))
+          (sym (contents-near_with s.near c.set.new.self s.far c.args.c (Some c.args.w) c.in-Some.ensures.some.2
+          (u ∙ ap (λ slot. with_value (value_at s.near) slot (Some c.args.w)) c.in-Some.ensures.some.0)))
           (without_neutral-with _ _ _ s.without_neutral c.requires.kept))
           (λ e. subst IsWithoutNeutral (sym (contents-same s.near c.set.new.self s.far s.far e (λ i. far_held s.far))) s.without_neutral);
       keys_in_range = by_result c.set.result (HasKeysInRange (contents_of c.set.new.self s.far)) c.set.ensures.ok c.set.ensures.err
           (λ u. subst HasKeysInRange
-          (sym (contents-near_with s.near c.set.new.self s.far c.args.c (Some c.args.w) c.in-Some.ensures.some.2 (u ∙ ap (λ slot. with_value (value_at s.near) slot (Some c.args.w)) c.in-Some.ensures.some.0)))
+          (sym (contents-near_with s.near c.set.new.self s.far c.args.c (Some c.args.w) c.in-Some.ensures.some.2
+          (u ∙ ap (λ slot. with_value (value_at s.near) slot (Some c.args.w)) c.in-Some.ensures.some.0)))
           (keys_in_range-with _ _ _ s.keys_in_range (λ v h. c.requires.key)))
           (λ e. subst HasKeysInRange (sym (contents-same s.near c.set.new.self s.far s.far e (λ i. far_held s.far))) s.keys_in_range);
       far_alone = s.far_alone;
@@ -58,9 +60,11 @@ returns-in-Some-clause-err c =
 pub returns-in_ok-insert-in-None-clause-ok : goal.returns-in_ok-insert-in-None-clause-ok
 returns-in_ok-insert-in-None-clause-ok c =
     let s = c.args.self.now in
-    contents-far_with s.near s.far c.insert.new.self c.args.c (Some c.args.w) c.in-None.ensures.none (far-updated s.far c.insert.new.self _ _ c.in_ok-insert-in-None.ensures.updates)
+    contents-far_with s.near s.far c.insert.new.self c.args.c (Some c.args.w) c.in-None.ensures.none
+    (far-updated s.far c.insert.new.self _ _ c.in_ok-insert-in-None.ensures.updates)
 
 pub returns-in_err-insert-in-None-clause-err : goal.returns-in_err-insert-in-None-clause-err
 returns-in_err-insert-in-None-clause-err c =
     let s = c.args.self.now in
-    err_anyway c.from_residual.result (contents-same s.near s.near s.far c.insert.new.self (λ i. value_at s.near) (far-unchanged s.far c.insert.new.self c.in_err-insert-in-None.ensures.err))
+    err_anyway c.from_residual.result (contents-same s.near s.near s.far c.insert.new.self (λ i. value_at s.near)
+    (far-unchanged s.far c.insert.new.self c.in_err-insert-in-None.ensures.err))

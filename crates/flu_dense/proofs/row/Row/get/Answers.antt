@@ -7,7 +7,8 @@ pub returns-then-has : goal.returns-then-has
 unfolding value_in
 returns-then-has g c =
     let here = sym c.has.ensures ∙ c.if-has.true in
-    held_here c.args.self.now.held c.args.self.now.values.items c.args.k c.index.result.now here (c.args.self.now.has_values c.args.k c.requires here) c.index.ensures
+    held_here c.args.self.now.held c.args.self.now.values.items c.args.k c.index.result.now here
+    (c.args.self.now.has_values c.args.k c.requires here) c.index.ensures
 
 pub returns-else-has : goal.returns-else-has
 unfolding value_in

@@ -4,7 +4,8 @@ use Rattle.flu_dense.proofs.row.Row.next.Goals as goal
 
 pub returns-clause-found : goal.returns-clause-found
 unfolding value_in
-returns-clause-found g c = next_found c.args.self.now.held c.args.self.now.values.items c.args.from c.next.result c.args.self.now.has_values c.next.ensures.found
+returns-clause-found g c =
+    next_found c.args.self.now.held c.args.self.now.values.items c.args.from c.next.result c.args.self.now.has_values c.next.ensures.found
 
 pub returns-clause-least : goal.returns-clause-least
 unfolding value_in

@@ -13,16 +13,19 @@ loop-row-preserved g c =
     ap (λ rs. slice_get rs i) (sym c.deref-row-items.ensures.value)
     ∙ slice_get_read c.deref-row-items.result.now (length c.deref-row-items.result.now) i c.row-item.result refl c.loop-row-test.true c.row-item.is in (
       grind (arith, common_steps, ap length c.in_ok-push.ensures.items, c.loop-row.invariant.0),
-      row_copied rows c.loop-row.rows.items c.push.new.self.items i c.row-item.result c.in_ok-copy.field-0 c.in_ok-push.ensures.items is c.in_ok-copy.ensures c.loop-row.invariant.0
+      row_copied rows c.loop-row.rows.items c.push.new.self.items i c.row-item.result c.in_ok-copy.field-0 c.in_ok-push.ensures.items is c.in_ok-copy.ensures
+          c.loop-row.invariant.0
           c.loop-row.invariant.1,
     )
 
 pub invariant_of-result : goal.invariant_of-result
 invariant_of-result g c =
-    let few : length c.loop-row.rows.items ≤ 64 = omega (arith, c.loop-row.invariant.0, ap length c.deref-row-items.ensures.value, c.args.self.now.few_rows, c.loop-row.auto.row-index-end) in
+    let few : length c.loop-row.rows.items ≤ 64 =
+    omega (arith, c.loop-row.invariant.0, ap length c.deref-row-items.ensures.value, c.args.self.now.few_rows, c.loop-row.auto.row-index-end) in
     record { few_rows = few; in_range = slots_in_range _ few }
 
 pub returns : goal.returns
 returns g c =
-    rows_copied c.args.self.now.rows.items c.loop-row.rows.items c.loop-row.row-index (omega (arith, ap length c.deref-row-items.ensures.value, c.loop-row-test.false))
+    rows_copied c.args.self.now.rows.items c.loop-row.rows.items c.loop-row.row-index
+    (omega (arith, ap length c.deref-row-items.ensures.value, c.loop-row-test.false))
     c.loop-row.invariant.0 c.loop-row.invariant.1

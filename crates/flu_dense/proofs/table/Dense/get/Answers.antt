@@ -10,7 +10,8 @@ returns-in-Some g c =
     let found = c.in-Some.ensures.lookup in
     let rows = c.deref.result.now in
     let is : slice_get c.args.self.now.rows.items (c.args.slot / 64) ≡ Some c.in-Some.row.now =
-    ap (λ rs. slice_get rs (c.args.slot / 64)) (sym c.deref.ensures.value) ∙ slice_get_read rows (length rows) (c.args.slot / 64) c.in-Some.row.now refl found.3.0 found.1 in
+    ap (λ rs. slice_get rs (c.args.slot / 64)) (sym c.deref.ensures.value)
+    ∙ slice_get_read rows (length rows) (c.args.slot / 64) c.in-Some.row.now refl found.3.0 found.1 in
     c.get-in-Some.ensures ∙ sym (with_row c.args.self.now.rows.items c.args.slot c.in-Some.row.now is)
 
 pub returns-in-None : goal.returns-in-None

@@ -11,7 +11,8 @@ returns-in-Some-next-clause-found g c =
     let found = c.in-Some.ensures.lookup in
     let at = c.loop-row.at in
     let is : slice_get rows (at / 64) ≡ Some c.in-Some.row.now =
-    ap (λ rs. slice_get rs (at / 64)) (sym c.deref.ensures.value) ∙ slice_get_read c.deref.result.now (length c.deref.result.now) (at / 64) c.in-Some.row.now refl found.3.0 found.1 in
+    ap (λ rs. slice_get rs (at / 64)) (sym c.deref.ensures.value)
+    ∙ slice_get_read c.deref.result.now (length c.deref.result.now) (at / 64) c.in-Some.row.now refl found.3.0 found.1 in
     let there = c.in-Some-next.ensures.found in (
       omega (arith, c.loop-row.invariant.0, there.0),
       omega (arith, found.3.0, ap length c.deref.ensures.value, c.args.self.now.few_rows, there.1),
@@ -24,7 +25,8 @@ returns-in-Some-next-clause-least g c =
     let found = c.in-Some.ensures.lookup in
     let at = c.loop-row.at in
     let is : slice_get rows (at / 64) ≡ Some c.in-Some.row.now =
-    ap (λ rs. slice_get rs (at / 64)) (sym c.deref.ensures.value) ∙ slice_get_read c.deref.result.now (length c.deref.result.now) (at / 64) c.in-Some.row.now refl found.3.0 found.1 in
+    ap (λ rs. slice_get rs (at / 64)) (sym c.deref.ensures.value)
+    ∙ slice_get_read c.deref.result.now (length c.deref.result.now) (at / 64) c.in-Some.row.now refl found.3.0 found.1 in
     let place = c.in-Some-next.place in
     let small : place ≤ 64 = omega (arith, c.in-Some-next.ensures.found.1) in
     none_before (λ k. value_of rows k ≡ None) c.args.from at (at / 64 * 64 + place) c.loop-row.invariant.2
@@ -36,7 +38,8 @@ loop-row-preserved g c =
     let found = c.in-Some.ensures.lookup in
     let at = c.loop-row.at in
     let is : slice_get rows (at / 64) ≡ Some c.in-Some.row.now =
-    ap (λ rs. slice_get rs (at / 64)) (sym c.deref.ensures.value) ∙ slice_get_read c.deref.result.now (length c.deref.result.now) (at / 64) c.in-Some.row.now refl found.3.0 found.1 in (
+    ap (λ rs. slice_get rs (at / 64)) (sym c.deref.ensures.value)
+    ∙ slice_get_read c.deref.result.now (length c.deref.result.now) (at / 64) c.in-Some.row.now refl found.3.0 found.1 in (
       omega (arith, c.loop-row.invariant.0),
       omega (arith, found.3.0, ap length c.deref.ensures.value, c.args.self.now.few_rows),
       none_before (λ k. value_of rows k ≡ None) c.args.from at (at / 64 * 64 + 64) c.loop-row.invariant.2

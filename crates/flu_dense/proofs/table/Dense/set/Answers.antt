@@ -44,4 +44,5 @@ returns-clause-held g c some =
     c.set.ensures.held
     (subst IsSome
     (ap (λ m. m c.args.slot) (sym c.in_ok-reach.ensures.same)
-    ∙ with_row rows c.args.slot c.index_mut.result.now (slice_get_read rows (length rows) (c.args.slot / 64) c.index_mut.result.now refl lt c.index_mut.ensures.value)) some)
+    ∙ with_row rows c.args.slot c.index_mut.result.now
+    (slice_get_read rows (length rows) (c.args.slot / 64) c.index_mut.result.now refl lt c.index_mut.ensures.value)) some)

@@ -16,17 +16,20 @@ pub returns-in-Some-clause-value : goal.returns-in-Some-clause-value
 returns-in-Some-clause-value g c =
     let rows = c.args.self.now.rows.items in
     let found = c.in-Some.ensures.item in
-    c.unset.ensures.value ∙ sym (with_row rows c.args.slot c.in-Some.row.now (slice_get_read rows (length rows) (c.args.slot / 64) c.in-Some.row.now refl found.3.0 found.1))
+    c.unset.ensures.value ∙ sym (with_row rows c.args.slot c.in-Some.row.now
+    (slice_get_read rows (length rows) (c.args.slot / 64) c.in-Some.row.now refl found.3.0 found.1))
 
 pub returns-in-Some-clause-left : goal.returns-in-Some-clause-left
 returns-in-Some-clause-left g c =
     let rows = c.args.self.now.rows.items in
     let found = c.in-Some.ensures.item in
-    row_changed rows c.args.slot c.in-Some.row.now c.unset.new.self None (slice_get_read rows (length rows) (c.args.slot / 64) c.in-Some.row.now refl found.3.0 found.1)
+    row_changed rows c.args.slot c.in-Some.row.now c.unset.new.self None
+    (slice_get_read rows (length rows) (c.args.slot / 64) c.in-Some.row.now refl found.3.0 found.1)
     found.3.0 c.unset.ensures.left
 
 pub returns-in-None-clause-value : goal.returns-in-None-clause-value
 returns-in-None-clause-value g c = sym (past_rows c.args.self.now.rows.items c.args.slot c.in-None.ensures.item.3)
 
 pub returns-in-None-clause-left : goal.returns-in-None-clause-left
-returns-in-None-clause-left g c = none_changed (value_of c.args.self.now.rows.items) c.args.slot (past_rows c.args.self.now.rows.items c.args.slot c.in-None.ensures.item.3)
+returns-in-None-clause-left g c =
+    none_changed (value_of c.args.self.now.rows.items) c.args.slot (past_rows c.args.self.now.rows.items c.args.slot c.in-None.ensures.item.3)

@@ -10,7 +10,8 @@ pub returns-then-again-clause-told : goal.returns-then-again-clause-told
 returns-then-again-clause-told c =
     let gives = rw c.if-again.true at c.in-Ok-next.ensures in
     let n = c.args.self.now.lines in
-    λ coming last. c.in-Ok.ensures.alike n coming ∙ rw c.step_of_row.ensures.value (at_held_row n c.step_of_row.new.lines c.in-Ok.run' c.next.new.self c.take.new.held coming (fields_of c.next.new.row) gives c.step_of_row.ensures.counts)
+    λ coming last. c.in-Ok.ensures.alike n coming ∙ rw c.step_of_row.ensures.value (at_held_row n c.step_of_row.new.lines c.in-Ok.run' c.next.new.self
+    c.take.new.held coming (fields_of c.next.new.row) gives c.step_of_row.ensures.counts)
 
 pub returns-then-self-clause-told : goal.returns-then-self-clause-told
 returns-then-self-clause-told c = λ coming last.

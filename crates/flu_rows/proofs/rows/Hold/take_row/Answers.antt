@@ -8,4 +8,5 @@ returns-then-self-clause-told c = λ coming.
 
 pub returns-clause-told : goal.returns-clause-told
 returns-clause-told c = λ coming.
-    rw c.requires.none (at_front c.args.self.now.lines c.args.self.now.held c.drop_front.new.self coming c.args.row c.args.size c.requires.found c.drop_front.ensures (omega arith))
+    rw c.requires.none (at_front c.args.self.now.lines c.args.self.now.held c.drop_front.new.self coming c.args.row c.args.size c.requires.found
+    c.drop_front.ensures (omega arith))

@@ -11,14 +11,16 @@ pub returns-in_default-clause-lists : goal.returns-in_default-clause-lists
 returns-in_default-clause-lists c = λ lines behind.
     let h = c.self.inside in
     let program_is : h.program.value ≡ c.args.p.now = ap (λ (v : Holding). v.program) c.self.view_is ∙ c.requires.program in
-    c.new.ensures ∙ cut_lists c.args.self.now c.args.p.now h.program.value h.rows h.border h.stage h.sources.items c.args.b lines (lists_in c.in_ok-lists.lists) c.self.view_is program_is
+    c.new.ensures ∙ cut_lists c.args.self.now c.args.p.now h.program.value h.rows h.border h.stage h.sources.items c.args.b lines
+    (lists_in c.in_ok-lists.lists) c.self.view_is program_is
     (rw c.deref.ensures.value at c.in_ok-lists.ensures.lists) behind
 
 pub returns-clause-lists : goal.returns-clause-lists
 returns-clause-lists c = λ lines behind.
     let h = c.self.inside in
     let program_is : h.program.value ≡ c.args.p.now = ap (λ (v : Holding). v.program) c.self.view_is ∙ c.requires.program in
-    c.new-2.ensures ∙ cut_lists c.args.self.now c.args.p.now h.program.value h.rows h.border h.stage h.sources.items c.args.b lines (lists_in c.in_ok-lists.lists) c.self.view_is program_is
+    c.new-2.ensures ∙ cut_lists c.args.self.now c.args.p.now h.program.value h.rows h.border h.stage h.sources.items c.args.b lines
+    (lists_in c.in_ok-lists.lists) c.self.view_is program_is
     (rw c.deref.ensures.value at c.in_ok-lists.ensures.lists) behind
 
 pub returns-in_default-clause-cut : goal.returns-in_default-clause-cut
@@ -28,7 +30,8 @@ returns-in_default-clause-cut c =
     let well = well_filled h.program.value h.rows h.border h.stage c.args.b h.sources.items c.self.invariant stage_is in
     let last : c.args.b ≡ Closed = closed_if_not c.args.b c.in_default.not-At in
     subst (λ b. Cuts c.args.self.now (holding h.program.value h.rows h.border Over h.sources.items) b) (sym last)
-    (subst (λ v. Cuts v (holding h.program.value h.rows h.border Over h.sources.items) Closed) c.self.view_is (cuts_closed h.program.value h.rows h.border h.stage h.sources.items well.0))
+    (subst (λ v. Cuts v (holding h.program.value h.rows h.border Over h.sources.items) Closed) c.self.view_is
+    (cuts_closed h.program.value h.rows h.border h.stage h.sources.items well.0))
 
 pub invariant_of-self-2 : goal.invariant_of-self-2
 invariant_of-self-2 c =

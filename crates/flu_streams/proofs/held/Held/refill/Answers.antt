@@ -42,7 +42,8 @@ returns-in-Err-clause-hides g c = λ is_fault before behind.
     let well = well_filling h.program.value h.rows h.border h.stage h.sources.items c.self.invariant stage_is in
     let stop = subst (λ p. StopsAtSource p h.rows h.sources.items a b c.in-Err.fault) (sym program_is) c.in-Err.ensures.stop in
     subst (λ v. HidesNoRoundFault v a b before) c.self.view_is
-    (refill_hides h.program.value h.rows h.border h.stage h.sources.items a b TookFronts c.in-Err.fault well.count c.in-Err.ensures.fronts stop (err_same (Err c.in-Err.fault) c.in-Err.fault ReadFault refl is_fault) before
+    (refill_hides h.program.value h.rows h.border h.stage h.sources.items a b TookFronts c.in-Err.fault well.count c.in-Err.ensures.fronts stop
+    (err_same (Err c.in-Err.fault) c.in-Err.fault ReadFault refl is_fault) before
     (subst (λ v. AreHeldBehind v before) (sym c.self.view_is) behind))
 
 pub invariant_of-self-2 : goal.invariant_of-self-2
@@ -67,7 +68,8 @@ returns-clause-round g c = λ before behind.
     let well = well_filling h.program.value h.rows h.border h.stage h.sources.items c.self.invariant stage_is in
     let has = subst (λ p. HasRefilled p h.rows h.sources.items news a b c.in-Ok.end) (sym program_is) c.in-Ok.ensures.filled in
     subst (λ v. Fills v (holding h.program.value h.rows h.border (Filled c.in-Ok.end) news) a b c.in-Ok.end before) c.self.view_is
-    (fills h.program.value h.rows h.border h.stage (Filled c.in-Ok.end) h.sources.items news a b TookFronts c.in-Ok.end well.count c.in-Ok.ensures.fronts has before
+    (fills h.program.value h.rows h.border h.stage (Filled c.in-Ok.end) h.sources.items news a b TookFronts c.in-Ok.end well.count c.in-Ok.ensures.fronts has
+    before
     (subst (λ v. AreHeldBehind v before) (sym c.self.view_is) behind))
 
 pub returns-clause-border : goal.returns-clause-border

@@ -35,4 +35,5 @@ returns c =
     let enough : rows ≤ length items = grind (arith, common_steps) in
     let early : item_time (slice_index_or items (rows - 1) End) ≤ l - slack = grind (arith, common_steps) in
     let none : c.args.self.now.goal ≡ None = grind (arith, common_steps) in
-    sym (ap (λ g. without g (enough_of rows slack c.args.self.now.last items)) none ∙ ap (λ o. enough_of rows slack o items) at ∙ enough_at rows slack l items c.args.self.now.rising le c.requires enough early)
+    sym (ap (λ g. without g (enough_of rows slack c.args.self.now.last items)) none ∙ ap (λ o. enough_of rows slack o items) at
+    ∙ enough_at rows slack l items c.args.self.now.rising le c.requires enough early)

@@ -28,7 +28,8 @@ returns-clause-each c = λ i lt.
           let few = rw same at w.count_until-count.ensures.within in
           let early = rw same at w.count_until-count.ensures.earlier in
           let late = rw same at w.count_until-count.ensures.later in
-          rw (w.in-At.is, w.count-is) (take_passing (λ (item : Item). nat_le (item_time item) w.in-At.time) End items w.count_until-count.result few (λ j le. is_early _ _ (early j le)) (λ j le more. not_early _ _ (late j le more)))
+          rw (w.in-At.is, w.count-is) (take_passing (λ (item : Item). nat_le (item_time item) w.in-At.time) End items w.count_until-count.result few
+          (λ j le. is_early _ _ (early j le)) (λ j le more. not_early _ _ (late j le more)))
       | in-Closed w ↦ let all : length items ≤ n = grind (arith, common_steps) in rw w.in-Closed.is (take_all n items all ∙ sym (kept_true items))
     ] in
     let given : c.deref.result.now ≡ items = search rules in

@@ -6,7 +6,8 @@ use Rattle.flu_rows.specs.declared.held.RowsFault.{RowsFault}
 use Rattle.flu_rows.specs.declared.held.RowsFault.TheVariants.{ReadFault, NoMemory}
 use Rattle.flu_streams.specs.LoopHeld.{source_of, IsStopOf}
 use Rattle.flu_streams.proofs.HeldRows.{well_row, well_caught}
-use Rattle.flu_streams.proofs.Refilling.{refilling_none, refilling_row, refused_row, meets_last, stops_behind, refilled_open, refilled_shut, refilled_end, refilling_caught}
+use Rattle.flu_streams.proofs.Refilling.{refilling_none, refilling_row, refused_row, meets_last, stops_behind, refilled_open, refilled_shut, refilled_end}
+use Rattle.flu_streams.proofs.Refilling.{refilling_caught}
 use Rattle.flu_streams.proofs.Taken.{at_done}
 use Rattle.flu_streams.proofs.inlet.Inlet.refill.Goals as goal
 
@@ -16,7 +17,8 @@ loop-time-init g c =
     let file = c.args.source.now.file in
     record {
       file = ap (λ place. place.file) c.catch_up.ensures.rows ∙ c.requires.file;
-      so_far = λ above before is. refilling_caught c.args.kinds.now c.args.source.now c.args.first c.args.rows above before (source_of c.args.self.now) c.args.self.now c.catch_up.new.self left left c.catch_up.ensures
+      so_far = λ above before is. refilling_caught c.args.kinds.now c.args.source.now c.args.first c.args.rows above before
+          (source_of c.args.self.now) c.args.self.now c.catch_up.new.self left left c.catch_up.ensures
           (refilling_none c.args.kinds.now c.args.source.now c.args.first c.args.rows above before (source_of c.args.self.now) left is);
       well = λ border was. well_caught c.args.source.now border c.args.self.now c.catch_up.new.self c.catch_up.ensures was;
       out = λ was closed. was (sym c.catch_up.ensures.closed ∙ closed);
@@ -31,14 +33,16 @@ loop-time-init g c =
 pub returns-in-Some-clause-filled : goal.returns-in-Some-clause-filled
 returns-in-Some-clause-filled g c =
     let left = g.F.Files.left in
-    refilled_open c.args.kinds.now c.args.source.now c.args.first c.args.rows c.in-Some.time c.args.self.now c.loop-time.self (left c.args.files.now) (left c.loop-time.files)
+    refilled_open c.args.kinds.now c.args.source.now c.args.first c.args.rows c.in-Some.time c.args.self.now c.loop-time.self (left c.args.files.now)
+    (left c.loop-time.files)
     c.requires.some c.loop-time.invariant.so_far c.loop-time.invariant.well c.loop-time.invariant.out (sym c.in-Some.ensures)
 
 pub returns-then-self-clause-filled : goal.returns-then-self-clause-filled
 returns-then-self-clause-filled g c =
     let left = g.F.Files.left in
     refilled_shut c.args.kinds.now c.args.source.now c.args.first c.args.rows c.args.self.now c.loop-time.self (left c.args.files.now) (left c.loop-time.files)
-    c.requires.some c.loop-time.invariant.so_far c.loop-time.invariant.well c.loop-time.invariant.out (sym c.in_default.ensures, c.loop-time.invariant.before_goal) c.if-self.true (c.loop-time.invariant.shut c.if-self.true)
+    c.requires.some c.loop-time.invariant.so_far c.loop-time.invariant.well c.loop-time.invariant.out
+    (sym c.in_default.ensures, c.loop-time.invariant.before_goal) c.if-self.true (c.loop-time.invariant.shut c.if-self.true)
 
 pub returns-in-Err-clause-stop : goal.returns-in-Err-clause-stop
 returns-in-Err-clause-stop g c =
@@ -47,25 +51,33 @@ returns-in-Err-clause-stop g c =
     let new = left c.next_row.new.files in
     by_fault c.in-Err.fault refl
   where
-    by_fault : (fault : RowsFault) → c.in-Err.fault ≡ fault → IsStopOf c.args.kinds.now c.args.source.now c.args.first c.args.rows c.args.self.now (g.F.Files.left c.args.files.now) (g.F.Files.left c.next_row.new.files) c.stop_of.result
+    by_fault : (fault : RowsFault) → c.in-Err.fault ≡ fault → IsStopOf c.args.kinds.now c.args.source.now c.args.first c.args.rows c.args.self.now
+        (g.F.Files.left c.args.files.now) (g.F.Files.left c.next_row.new.files) c.stop_of.result
     by_fault ReadFault e =
-        rw (c.stop_of.ensures, e) (stops_behind c.args.kinds.now c.args.source.now c.args.first c.args.rows c.args.self.now c.loop-time.self c.next_row.new.self (g.F.Files.left c.args.files.now) (g.F.Files.left c.loop-time.files) (g.F.Files.left c.next_row.new.files)
-        c.requires.some c.loop-time.invariant.so_far c.if-self.false (sym c.in_default.ensures, c.loop-time.invariant.before_goal) (c.next_row.ensures.same ∙ c.loop-time.invariant.file)
+        rw (c.stop_of.ensures, e) (stops_behind c.args.kinds.now c.args.source.now c.args.first c.args.rows c.args.self.now c.loop-time.self c.next_row.new.self
+        (g.F.Files.left c.args.files.now) (g.F.Files.left c.loop-time.files) (g.F.Files.left c.next_row.new.files)
+        c.requires.some c.loop-time.invariant.so_far c.if-self.false (sym c.in_default.ensures, c.loop-time.invariant.before_goal)
+        (c.next_row.ensures.same ∙ c.loop-time.invariant.file)
         (c.next_row.ensures.undecided (rw (c.in-Err.is, e) refl)) (c.next_row.ensures.kept (rw (c.in-Err.is, e) refl)))
     by_fault NoMemory e = rw (c.stop_of.ensures, e) tt
 
 pub returns-in-Err-clause-taken : goal.returns-in-Err-clause-taken
-returns-in-Err-clause-taken g c = taken_then c.args.source.now.file (g.F.Files.left c.args.files.now) (g.F.Files.left c.loop-time.files) (g.F.Files.left c.next_row.new.files) c.loop-time.invariant.taken (rw c.loop-time.invariant.file at c.in-Err.ensures.taken)
+returns-in-Err-clause-taken g c = taken_then c.args.source.now.file (g.F.Files.left c.args.files.now) (g.F.Files.left c.loop-time.files)
+    (g.F.Files.left c.next_row.new.files) c.loop-time.invariant.taken (rw c.loop-time.invariant.file at c.in-Err.ensures.taken)
 
 pub returns-in-Err-take-clause-stop : goal.returns-in-Err-take-clause-stop
 returns-in-Err-take-clause-stop g c =
     let left = g.F.Files.left in
     let told = rw c.in-Row.is at c.in-Ok.ensures.told in
-    rw c.stop_at.ensures (refused_row c.args.kinds.now c.args.source.now c.args.first c.args.rows c.args.self.now c.loop-time.self (record c.loop-time.self { rows = c.next_row.new.self }) (left c.args.files.now) (left c.loop-time.files) (left c.next_row.new.files) c.in-Row.line c.in-Row.row c.in-Err-take.refusal
-    c.requires.some c.loop-time.invariant.so_far c.if-self.false (sym c.in_default.ensures, c.loop-time.invariant.before_goal) refl refl refl told c.in-Err-take.ensures.refused)
+    rw c.stop_at.ensures (refused_row c.args.kinds.now c.args.source.now c.args.first c.args.rows c.args.self.now c.loop-time.self
+    (record c.loop-time.self { rows = c.next_row.new.self }) (left c.args.files.now) (left c.loop-time.files)
+    (left c.next_row.new.files) c.in-Row.line c.in-Row.row c.in-Err-take.refusal
+    c.requires.some c.loop-time.invariant.so_far c.if-self.false
+    (sym c.in_default.ensures, c.loop-time.invariant.before_goal) refl refl refl told c.in-Err-take.ensures.refused)
 
 pub returns-in-Err-take-clause-taken : goal.returns-in-Err-take-clause-taken
-returns-in-Err-take-clause-taken g c = taken_then c.args.source.now.file (g.F.Files.left c.args.files.now) (g.F.Files.left c.loop-time.files) (g.F.Files.left c.next_row.new.files) c.loop-time.invariant.taken (rw c.loop-time.invariant.file at c.in-Ok.ensures.taken)
+returns-in-Err-take-clause-taken g c = taken_then c.args.source.now.file (g.F.Files.left c.args.files.now) (g.F.Files.left c.loop-time.files)
+    (g.F.Files.left c.next_row.new.files) c.loop-time.invariant.taken (rw c.loop-time.invariant.file at c.in-Ok.ensures.taken)
 
 pub loop-time-preserved : goal.loop-time-preserved
 loop-time-preserved g c =
@@ -82,16 +94,21 @@ loop-time-preserved g c =
     let caught = c.catch_up-in-Row.new.self in
     record {
       file = ap (λ place. place.file) catches.rows ∙ ap (λ place. place.file) puts.rows ∙ here;
-      so_far = λ above before is. refilling_caught c.args.kinds.now c.args.source.now c.args.first c.args.rows above before (source_of c.args.self.now) c.take.new.self caught (left old) (left new) catches
-          (refilling_row c.args.kinds.now c.args.source.now c.args.first c.args.rows (source_of c.args.self.now) c.loop-time.self _ c.take.new.self (left old) (left mid) (left new) c.in-Row.line c.in-Row.row
-          c.requires.some c.loop-time.invariant.so_far c.if-self.false (sym c.in_default.ensures, c.loop-time.invariant.before_goal) refl refl refl refl refl here told puts above before is);
+      so_far = λ above before is. refilling_caught c.args.kinds.now c.args.source.now c.args.first c.args.rows above before
+          (source_of c.args.self.now) c.take.new.self caught (left old) (left new) catches
+          (refilling_row c.args.kinds.now c.args.source.now c.args.first c.args.rows (source_of c.args.self.now) c.loop-time.self _ c.take.new.self (left old)
+          (left mid) (left new) c.in-Row.line c.in-Row.row
+          c.requires.some c.loop-time.invariant.so_far c.if-self.false
+          (sym c.in_default.ensures, c.loop-time.invariant.before_goal) refl refl refl refl refl here told puts above before is);
       well = λ border was. well_caught c.args.source.now border c.take.new.self caught catches
-          (well_row c.args.kinds.now c.args.source.now c.args.first border c.loop-time.self _ c.take.new.self c.in-Row.row (c.loop-time.invariant.well border was) c.if-self.false refl refl refl here puts);
+          (well_row c.args.kinds.now c.args.source.now c.args.first border c.loop-time.self _ c.take.new.self c.in-Row.row
+          (c.loop-time.invariant.well border was) c.if-self.false refl refl refl here puts);
       out = λ was closed. absurd (not_both caught.closed closed (catches.closed ∙ puts.closed ∙ c.if-self.false));
       before_goal = catches.before;
       shut = catches.shut;
       taken = taken_then file (left old) (left mid) (left new) c.loop-time.invariant.taken (rw c.loop-time.invariant.file at c.in-Ok.ensures.taken);
-      counts = counts_then file (left old) (left mid) (faults old) (faults mid) (faults new) c.loop-time.invariant.taken c.loop-time.invariant.counts (rw c.loop-time.invariant.file at c.in-Ok.ensures.counts);
+      counts = counts_then file (left old) (left mid) (faults old) (faults mid) (faults new) c.loop-time.invariant.taken c.loop-time.invariant.counts
+          (rw c.loop-time.invariant.file at c.in-Ok.ensures.counts);
       quiet = search rules;
       puts = search rules;
     }
@@ -106,10 +123,13 @@ returns-in-Some-defect_behind g c =
     let file = c.args.source.now.file in
     record {
       filled = tt;
-      stop = meets_last c.args.kinds.now c.args.source.now c.args.first c.args.rows c.args.self.now c.loop-time.self c.next_row.new.self (left old) (left mid) (left new) c.in-Ok.next c.in-Some-defect_behind.row c.in-Some-defect_behind.why
-          c.requires.some c.loop-time.invariant.so_far c.if-self.false (sym c.in_default.ensures, c.loop-time.invariant.before_goal) c.in-Ok.ensures.told c.in_default-next.not-Row (sym c.in-Some-defect_behind.ensures);
+      stop = meets_last c.args.kinds.now c.args.source.now c.args.first c.args.rows c.args.self.now c.loop-time.self c.next_row.new.self (left old) (left mid)
+          (left new) c.in-Ok.next c.in-Some-defect_behind.row c.in-Some-defect_behind.why
+          c.requires.some c.loop-time.invariant.so_far c.if-self.false (sym c.in_default.ensures, c.loop-time.invariant.before_goal) c.in-Ok.ensures.told
+          c.in_default-next.not-Row (sym c.in-Some-defect_behind.ensures);
       taken = taken_then file (left old) (left mid) (left new) c.loop-time.invariant.taken (rw c.loop-time.invariant.file at c.in-Ok.ensures.taken);
-      counts = counts_then file (left old) (left mid) (faults old) (faults mid) (faults new) c.loop-time.invariant.taken c.loop-time.invariant.counts (rw c.loop-time.invariant.file at c.in-Ok.ensures.counts);
+      counts = counts_then file (left old) (left mid) (faults old) (faults mid) (faults new) c.loop-time.invariant.taken c.loop-time.invariant.counts
+          (rw c.loop-time.invariant.file at c.in-Ok.ensures.counts);
       quiet = search rules;
       puts = search rules;
       cause = search rules;
@@ -125,13 +145,17 @@ returns-in_default-next g c =
     let file = c.args.source.now.file in
     let none = sym c.in_default-defect_behind.ensures in
     let here = c.in-Ok.ensures.same ∙ c.loop-time.invariant.file in
-    let out : IsReadOut file (left new) = rw c.loop-time.invariant.file at (at_done c.loop-time.self.ended c.in-Ok.next (IsReadOut c.loop-time.self.rows.file (left new)) c.in_default-next.not-Row none c.in-Ok.ensures.end) in
+    let out : IsReadOut file (left new) = rw c.loop-time.invariant.file at
+    (at_done c.loop-time.self.ended c.in-Ok.next (IsReadOut c.loop-time.self.rows.file (left new)) c.in_default-next.not-Row none c.in-Ok.ensures.end) in
     record {
-      filled = refilled_end c.args.kinds.now c.args.source.now c.args.first c.args.rows c.args.self.now c.loop-time.self _ c.catch_up-in_default-next.new.self (left old) (left mid) (left new) c.in-Ok.next
-          c.requires.some c.loop-time.invariant.so_far c.loop-time.invariant.well c.if-self.false (sym c.in_default.ensures, c.loop-time.invariant.before_goal) c.in-Ok.ensures.told c.in_default-next.not-Row none out refl refl refl refl refl here c.catch_up-in_default-next.ensures;
+      filled = refilled_end c.args.kinds.now c.args.source.now c.args.first c.args.rows c.args.self.now c.loop-time.self _ c.catch_up-in_default-next.new.self
+          (left old) (left mid) (left new) c.in-Ok.next
+          c.requires.some c.loop-time.invariant.so_far c.loop-time.invariant.well c.if-self.false (sym c.in_default.ensures, c.loop-time.invariant.before_goal)
+          c.in-Ok.ensures.told c.in_default-next.not-Row none out refl refl refl refl refl here c.catch_up-in_default-next.ensures;
       stop = tt;
       taken = taken_then file (left old) (left mid) (left new) c.loop-time.invariant.taken (rw c.loop-time.invariant.file at c.in-Ok.ensures.taken);
-      counts = counts_then file (left old) (left mid) (faults old) (faults mid) (faults new) c.loop-time.invariant.taken c.loop-time.invariant.counts (rw c.loop-time.invariant.file at c.in-Ok.ensures.counts);
+      counts = counts_then file (left old) (left mid) (faults old) (faults mid) (faults new) c.loop-time.invariant.taken c.loop-time.invariant.counts
+          (rw c.loop-time.invariant.file at c.in-Ok.ensures.counts);
       quiet = search rules;
       puts = search rules;
       cause = search rules;

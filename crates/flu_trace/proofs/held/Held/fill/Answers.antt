@@ -1,7 +1,7 @@
 use Rattle.std.proofs.Common.{◌≡◌, ℕ, List, not, eqb, length, arith, rules, sym, ◌∙◌, ap}
 use Rattle.std.proofs.lemmas.List.Sums.{prefix_len-le-length}
 use Rattle.flu_rows.specs.Lines.{line_len}
-use Rattle.flu_trace.proofs.Cuts.{line_len-more, behind_held}
+use Rattle.flu_lemmas.proofs.Lines.{line_len-more, behind_held}
 use Rattle.flu_lemmas.proofs.Named.{taken_then, kept_then, counts_then}
 use Rattle.flu_trace.proofs.held.Held.fill.Goals as goal
 use Rattle.flu_trace.proofs.held.Held.fill.Goals.{then-loop-len-test+else-len-le-LONGEST_LINE, else-loop-len-test}
@@ -9,7 +9,8 @@ use Rattle.flu_trace.proofs.held.Held.fill.Goals.{then-loop-len-test+else-len-le
 pub returns-in_err-count-clause-taken : goal.returns-in_err-count-clause-taken
 returns-in_err-count-clause-taken g c =
     let left = g.F.Files.left in
-    taken_then c.args.name.now (left c.args.files.now) (left c.loop-len.files) (left c.take_more.new.files) c.loop-len.invariant.taken c.in_err-count.ensures.taken
+    taken_then c.args.name.now (left c.args.files.now) (left c.loop-len.files)
+    (left c.take_more.new.files) c.loop-len.invariant.taken c.in_err-count.ensures.taken
 
 pub loop-len-preserved : goal.loop-len-preserved
 loop-len-preserved g c =

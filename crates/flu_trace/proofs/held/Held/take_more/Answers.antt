@@ -34,7 +34,8 @@ returns-clause-bytes g c =
           let fewer : at ≤ length now = rw more.2 (omega (arith, few, length-append held more.0)) in
           let same : drop at held ≡ c.args.self.now = c.self.view_is ∙ c.move_up.ensures in
           rw (w.result-is, ← same)
-          (told_weaker (KeepsBytes file held now) (KeepsBytes file (drop at held) (drop at now)) _ _ (λ x y k. kept_behind file at held now x y few fewer k) w.in-Ok.ensures.kept)
+          (told_weaker (KeepsBytes file held now) (KeepsBytes file (drop at held) (drop at now)) _ _
+          (λ x y k. kept_behind file at held now x y few fewer k) w.in-Ok.ensures.kept)
       | in-Err-Failed w ↦ rw w.result-is tt
       | in-Err-NoMemory w ↦ rw w.result-is tt
     ]

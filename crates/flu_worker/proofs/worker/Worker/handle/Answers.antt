@@ -15,7 +15,8 @@ use Rattle.flu_worker.specs.Hands.{is_whole}
 use Rattle.flu_worker.specs.Holding.{hand_of}
 use Rattle.flu_worker.specs.Notes.{WorkerNote}
 use Rattle.flu_worker.specs.Rule.{Rule}
-use Rattle.flu_worker.proofs.Handling.{whole_there, handle_known, handle_there, never_pending, handle_exact, handle_fits, lost_rule, handled_rule, handles, counts_event}
+use Rattle.flu_worker.proofs.Handling.{whole_there, handle_known, handle_there, never_pending, handle_exact, handle_fits, lost_rule, handled_rule, handles}
+use Rattle.flu_worker.proofs.Handling.{counts_event}
 use Rattle.flu_worker.proofs.Ruling.{held_at, same_told}
 use Rattle.flu_worker.proofs.Serving.{whole_next}
 use Rattle.flu_worker.proofs.worker.Worker.handle.Goals as goal
@@ -163,4 +164,5 @@ returns-clause-texts c =
     let set = c.count_one.ensures.counts ∙ ap (λ (u : List ℕ). slice_set u c.args.x.itag.0 (slice_index u c.args.x.itag.0 + 1)) rule.mailed.counts in
     counts_event c.laws_below.ensures v old was rule c.args.x c.requires.next d.lot d.was d.more fits d.since d.upto new same
     (counts_of new) refl set
-    c.args.outs.now c.done_in.new.outs (subst (λ (k : Content). PutsOut k c.args.x c.args.outs.now c.done_in.new.outs) c.requires.case c.in_ok-done_in.ensures.outs)
+    c.args.outs.now c.done_in.new.outs (subst (λ (k : Content). PutsOut k c.args.x c.args.outs.now c.done_in.new.outs) c.requires.case
+    c.in_ok-done_in.ensures.outs)

@@ -1,9 +1,57 @@
--- Where bytes are cut into lines.
+-- Where bytes are cut at their line feeds.
 use Rattle.std.proofs.Common.{◌≡◌, ℕ, zero, suc, ◌+◌, ◌<◌, eqb, List, [], ◌∷◌, ◌++◌, length, take, drop, refl, ap, ◌-◌, length-append, add-one, arith, inl, inr}
 use Rattle.std.specs.List.{onto_first}
 use Rattle.std.proofs.lemmas.Bool.{cases_Bool}
+use Rattle.std.proofs.lemmas.Bool.Decides.{nat_tests}
 use Rattle.std.proofs.lemmas.List.{drop_at, take_all}
-use Rattle.flu_rows.specs.Lines.{line_len, lines_of}
+use Rattle.flu_lemmas.specs.Lines.{line_len, lines_of}
+
+-- a line that has no line feed is cut off at the one behind it
+pub lines_of-cut : (line rest : List ℕ) → line_len line ≡ length line → lines_of (line ++ (10 ∷ rest)) ≡ line ∷ lines_of rest
+unfolding lines_of
+lines_of-cut [] rest one = refl
+lines_of-cut (b ∷ line) rest one =
+    elim (cases_Bool (eqb b 10)) [
+      | inl hit ↦ absurd (omega (arith, rw hit at one))
+      | inr miss ↦ rw (miss, lines_of-cut line rest (omega (arith, rw miss at one))) refl
+    ]
+
+-- bytes that have a line feed are a line, the line feed and the rest
+pub split_line : (bytes : List ℕ) → line_len bytes < length bytes → bytes ≡ take (line_len bytes) bytes ++ (10 ∷ drop (line_len bytes + 1) bytes)
+split_line [] lt = absurd (omega arith)
+split_line (b ∷ bytes) lt =
+    elim (cases_Bool (eqb b 10)) [
+      | inl hit ↦ let e : b ≡ 10 = grind (arith, nat_tests) in rw (hit, e) refl
+      | inr miss ↦
+          let shorter : line_len bytes < length bytes = omega (arith, rw miss at lt) in
+          let n : 1 + line_len bytes ≡ suc (line_len bytes) = omega arith in
+          let m : suc (line_len bytes) + 1 ≡ suc (line_len bytes + 1) = omega arith in
+          rw (miss, n, m) (ap (λ (x : List ℕ). b ∷ x) (split_line bytes shorter))
+    ]
+
+pub one_line : (bytes : List ℕ) → line_len (take (line_len bytes) bytes) ≡ length (take (line_len bytes) bytes)
+one_line [] = refl
+one_line (b ∷ bytes) =
+    elim (cases_Bool (eqb b 10)) [
+      | inl hit ↦ rw hit refl
+      | inr miss ↦
+          let n : 1 + line_len bytes ≡ suc (line_len bytes) = omega arith in
+          let h = one_line bytes in
+          rw (miss, n, miss) (omega (arith, h))
+    ]
+
+-- the line and its line feed
+pub take_line : (bytes : List ℕ) → line_len bytes < length bytes → take (line_len bytes + 1) bytes ≡ take (line_len bytes) bytes ++ (10 ∷ [])
+take_line [] lt = absurd (omega arith)
+take_line (b ∷ bytes) lt =
+    elim (cases_Bool (eqb b 10)) [
+      | inl hit ↦ let e : b ≡ 10 = grind (arith, nat_tests) in rw (hit, e) refl
+      | inr miss ↦
+          let shorter : line_len bytes < length bytes = omega (arith, rw miss at lt) in
+          let n : 1 + line_len bytes ≡ suc (line_len bytes) = omega arith in
+          let m : suc (line_len bytes) + 1 ≡ suc (line_len bytes + 1) = omega arith in
+          rw (miss, n, m) (ap (λ (x : List ℕ). b ∷ x) (take_line bytes shorter))
+    ]
 
 -- what stands behind the bytes that were held
 pub behind_held : (len : ℕ) (bytes held more : List ℕ) → bytes ≡ held ++ more → len ≡ length held → take (length bytes - len) (drop len bytes) ≡ more
