@@ -1,11 +1,15 @@
 -- Lists in which each number is less than the next.
 use Rattle.std.proofs.Common.{◌≡◌, ◌<◌, ◌≤◌, ◌+◌, ℕ, zero, suc, Bool, true, false, cond, List, [], ◌∷◌, inl, inr, refl, sym, ap, subst, ◌∙◌, arith}
-use Rattle.std.specs.Prelude.{Contains, IsTrue, nat_lt, ◌&&◌}
+use Rattle.std.specs.Prelude.{Contains, IsTrue, nat_lt, ◌&&◌, IsSorted, IsPermutation}
 use Rattle.std.specs.List.{filter, range_with_len}
-use Rattle.std.proofs.lemmas.Bool.{cases_lt, cases_eq, and_parts, and_from, lt-ltb, ltb-true, ltb-false}
+use Rattle.std.proofs.lemmas.Bool.{cases_lt, cases_eq, and_parts, and_from, lt-ltb, le-ltb, ltb-true, ltb-false}
+use Rattle.std.specs.FinMap.{nat_cmp-IsAntisymmetric}
+use Rattle.std.specs.Ordering.{nat_cmp, is_lt}
+use Rattle.std.proofs.lemmas.Cmp.{nat_cmp_total, by_ranked, ranked}
 use Rattle.flu_lemmas.specs.Sorting.{in_order, put_in_order}
+use Rattle.flu_lemmas.proofs.Sorting.{in_order-only}
 use Rattle.flu_lemmas.proofs.Ranges.{range_within}
-use Rattle.flu_planner.specs.Graphs.{is_rising}
+use Rattle.flu_planner.specs.Graphs.{is_rising, rising}
 use Rattle.flu_lemmas.specs.Counting.{times}
 use Rattle.flu_lemmas.proofs.Containing.{contains_here, contains_later, contains_cases, contains_none}
 use Rattle.flu_lemmas.proofs.Counting.{times_of_same, times_of_other, times-cons, times_in_order, contained_if_times}
@@ -139,3 +143,14 @@ rising_range a (suc n) =
     rising_cons a (range_with_len (a + 1) n)
     (λ k there. let both = range_within (a + 1) n k there in omega (arith, both.0))
     (rising_range (a + 1) n)
+
+-- ---- sorted numbers are those by rising number
+less_is : (x y : ℕ) → is_lt (nat_cmp x y) ≡ nat_lt x y
+less_is x y = by_ranked _ _ _ (nat_cmp x y) (ranked x y (nat_cmp x y) refl)
+    (λ o less. ap is_lt o ∙ sym (lt-ltb x y less))
+    (λ o same. ap is_lt o ∙ sym (le-ltb x y (omega arith)))
+    (λ o more. ap is_lt o ∙ sym (le-ltb x y (omega arith)))
+
+pub rising_is : (xs ys : List ℕ) → IsSorted nat_cmp ys → IsPermutation xs ys → ys ≡ rising xs
+rising_is xs ys up moved =
+    in_order-only nat_cmp nat_cmp_total xs ys (λ x y here there e. nat_cmp-IsAntisymmetric x y e) up moved ∙ (λ i. in_order (λ x y. less_is x y i) xs)

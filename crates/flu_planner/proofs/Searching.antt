@@ -1,9 +1,9 @@
 -- The search from an itag, and what it finds.
-use Rattle.std.proofs.Common.{◌≡◌, ◌<◌, ◌≤◌, ◌+◌, ℕ, Bool, true, false, List, [], ◌∷◌, ◌++◌, length, get_or, drop, inl, inr, refl, sym, ap, subst, ◌∙◌, arith}
+use Rattle.std.proofs.Common.{◌≡◌, ◌<◌, ◌≤◌, ◌+◌, ℕ, Bool, true, false, cond, List, [], ◌∷◌, ◌++◌, length, get_or, drop, inl, inr, refl, sym, ap, subst, ◌∙◌, arith}
 use Rattle.std.specs.Prelude.{Contains, IsTrue, not, ◌↔◌, ◌⊎◌, ◌==◌}
 use Rattle.std.specs.List.{filter}
 use Rattle.std.proofs.lemmas.Bool.{cases_lt, both_ways, not-true, eqb-true, eqb-false}
-use Rattle.std.proofs.lemmas.List.{length-append, get_or_append_left, get_or_default, nil_from_length}
+use Rattle.std.proofs.lemmas.List.{append-nil, length-append, get_or_append_left, get_or_default, nil_from_length}
 use Rattle.std.proofs.lemmas.List.Filters.{length-filter_both}
 use Rattle.std.proofs.lemmas.List.Elements.{Contains-append_left, Contains-append_cases, Contains-get_or}
 use Rattle.flu_planner.specs.Graphs.{Graph, AreConnected, IsApart, is_rising, least}
@@ -74,6 +74,25 @@ goes_on g itags place connected rest lt now =
       in_order = rising_filter (λ j. not (g i j)) rest now.in_order;
       within = omega arith;
     }
+
+-- where no test passes, the others are all
+none_kept : (p : ℕ → Bool) (xs : List ℕ) → filter p xs ≡ [] → filter (λ j. not (p j)) xs ≡ xs
+none_kept p [] e = refl
+none_kept p (x ∷ xs) e = by_test (p x) e (λ none. none_kept p xs none)
+  where
+    by_test : (b : Bool) → cond b (x ∷ filter p xs) (filter p xs) ≡ [] → (filter p xs ≡ [] → filter (λ j. not (p j)) xs ≡ xs)
+        → cond (not b) (x ∷ filter (λ j. not (p j)) xs) (filter (λ j. not (p j)) xs) ≡ x ∷ xs
+    by_test true e more = absurd cc
+    by_test false e more = ap (λ l. x ∷ l) (more e)
+
+-- an itag to which none of the rest is joined
+pub looks_on : (g : Graph) (itags : List ℕ) (place : ℕ) (connected rest : List ℕ) → place < length connected
+    → filter (g (get_or connected place 0)) rest ≡ [] → IsReaching g itags place connected rest → IsReaching g itags (place + 1) connected rest
+looks_on g itags place connected rest lt none now =
+    let i : ℕ = get_or connected place 0 in
+    let same : connected ++ filter (g i) rest ≡ connected = ap (λ l. connected ++ l) none ∙ append-nil connected in
+    subst (λ l. IsReaching g itags (place + 1) connected l) (none_kept (g i) rest none)
+    (subst (λ l. IsReaching g itags (place + 1) l (filter (λ j. not (g i j)) rest)) same (goes_on g itags place connected rest lt now))
 
 -- a place of what stands in a list
 place_in : (xs : List ℕ) (x : ℕ) → Contains xs x → (d : ℕ) × (d < length xs) × (get_or xs d 0 ≡ x)

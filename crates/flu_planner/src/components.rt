@@ -22,7 +22,12 @@ pub struct Reached {
 }
 
 // Those of the itags that are joined to this one.
-fn joined_to(alloc: Global, table: &[bool], i: u32, itags: &[u32]) -> Result<Vec<u32>, AllocError>
+fn joined_to(
+    alloc: Global,
+    table: &[List<bool>],
+    i: u32,
+    itags: &[u32],
+) -> Result<Vec<u32>, AllocError>
     ensures { IfOk result (λ found. found.items ≡ filter (graph_of table.now i) itags.now) }
 {
     itags
@@ -35,7 +40,7 @@ fn joined_to(alloc: Global, table: &[bool], i: u32, itags: &[u32]) -> Result<Vec
 // Those of the itags that are not joined to this one.
 fn not_joined_to(
     alloc: Global,
-    table: &[bool],
+    table: &[List<bool>],
     i: u32,
     itags: &[u32],
 ) -> Result<Vec<u32>, AllocError>
@@ -49,7 +54,7 @@ fn not_joined_to(
 }
 
 // A search in breadth from the first of the itags.
-fn reach(alloc: Global, table: &[bool], itags: &[u32]) -> Result<Reached, AllocError>
+fn reach(alloc: Global, table: &[List<bool>], itags: &[u32]) -> Result<Reached, AllocError>
     requires some { 0 < length itags.now }
     requires rising { IsTrue (is_rising itags.now) }
     ensures { IfOk result (λ found. IsReached (graph_of table.now) itags.now found.connected.items found.rest.items) }
@@ -61,15 +66,17 @@ fn reach(alloc: Global, table: &[bool], itags: &[u32]) -> Result<Reached, AllocE
     while head < connected.len() {
         let i = connected[head];
         let mut next = joined_to(alloc, table, i, &rest)?;
-        rest = not_joined_to(alloc, table, i, &rest)?;
-        connected.append(&mut next)?;
+        if !next.is_empty() {
+            rest = not_joined_to(alloc, table, i, &rest)?;
+            connected.append(&mut next)?;
+        }
         head += 1;
     }
     Ok(Reached { connected, rest })
 }
 
 /// Whether the graph on the itags has at least two components.
-pub fn is_apart(alloc: Global, table: &[bool], itags: &[u32]) -> Result<bool, AllocError>
+pub fn is_apart(alloc: Global, table: &[List<bool>], itags: &[u32]) -> Result<bool, AllocError>
     requires { IsTrue (is_rising itags.now) }
     ensures { IfOk result (λ apart. IsTrue apart ↔ IsApart (graph_of table.now) itags.now) }
 {
@@ -83,7 +90,7 @@ pub fn is_apart(alloc: Global, table: &[bool], itags: &[u32]) -> Result<bool, Al
 /// The components of the graph on the itags, by falling total rate, and of equal totals by their least itags.
 pub fn components(
     alloc: Global,
-    table: &[bool],
+    table: &[List<bool>],
     rates: &[u64],
     itags: &[u32],
 ) -> Result<Vec<List<u32>>, AllocError>

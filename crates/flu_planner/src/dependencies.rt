@@ -1,41 +1,63 @@
 //! Which itags of a job depend on each other, in a table, since it is asked for each pair again and again.
 
-ghost use Rattle.std.specs.Prelude.{◌≡◌, IfOk};
-ghost use Rattle.flu_model.specs.Itags.{count_of_itags};
-ghost use Rattle.flu_planner.specs.LoopTables.{entry, table_of, read, graph_of};
+ghost use Rattle.std.specs.Prelude.{◌≡◌, ◌<◌, IfOk, slice_get};
+ghost use Rattle.flu_model.specs.Itags.{count_of_itags, tag_of_itag};
+ghost use Rattle.flu_planner.specs.LoopTables.{are_dependent, tags_of, row_of, table_of, is_set, read, graph_of};
 
 use flu_deps::dep;
-use flu_model::{Itag, Program, itag_count, tag_of};
+use flu_model::{Itag, List, Program, Tag, itag_count, tag_of};
 use std::alloc::{AllocError, Global};
 
-/// How many places a row of the table has.
-const ROW: u32 = 256;
-
-/// The table: a row for each itag, with a place for each number below 256. A place is set where that number's itag depends on the
-/// row's and is not the lesser.
+/// The table: a row for each itag, with a place for each. A place is set where its itag depends on the row's and is not the lesser.
 #[tactic(auto, unfolding(crate::specs::LoopTables::table_of))]
-pub fn table(alloc: Global, p: &Program) -> Result<Vec<bool>, AllocError>
+pub fn table(alloc: Global, p: &Program) -> Result<Vec<List<bool>>, AllocError>
     ensures { IfOk result (λ table. table.items ≡ table_of p.now) }
 {
-    let count = itag_count(p);
-    (0..count * ROW)
-        .map(|place| entry(p, count, place))
-        .collect(alloc)
+    let tags = tags(alloc, p)?;
+    let mut rows = Vec::new(alloc);
+    for i in 0..itag_count(p) {
+        let row = row(alloc, p, &tags, i)?;
+        rows.push(List::of(row))?;
+    }
+    Ok(rows)
 }
 
-// Whether a place of the table is set.
-fn entry(p: &Program, count: u32, place: u32) -> bool
-    requires { count ≡ count_of_itags p.now }
-    ensures { result ≡ entry p.now place }
+// The tags of the itags, each of which is looked up once.
+fn tags(alloc: Global, p: &Program) -> Result<Vec<Tag>, AllocError>
+    ensures { IfOk result (λ tags. tags.items ≡ tags_of p.now) }
 {
-    let i = place / ROW;
-    let j = place % ROW;
-    i <= j && j < count && dep(p, tag_of(p, Itag(i)), tag_of(p, Itag(j)))
+    let mut tags = Vec::new(alloc);
+    for i in 0..itag_count(p) {
+        tags.push(tag_of(p, Itag(i)))?;
+    }
+    Ok(tags)
+}
+
+fn row(alloc: Global, p: &Program, tags: &[Tag], i: u32) -> Result<Vec<bool>, AllocError>
+    requires tags { tags.now ≡ tags_of p.now }
+    requires declared { i < count_of_itags p.now }
+    ensures { IfOk result (λ row. row.items ≡ row_of p.now i (count_of_itags p.now)) }
+{
+    let tag = tags[i as usize];
+    let mut row = Vec::new(alloc);
+    for j in 0..itag_count(p) {
+        row.push(entry(p, i, j, tag, tags[j as usize]))?;
+    }
+    Ok(row)
+}
+
+// What stands at a place of the row of an itag: theirs are the two tags.
+fn entry(p: &Program, i: u32, j: u32, tag: Tag, other: Tag) -> bool
+    requires tag { tag ≡ tag_of_itag p.now (record { 0 = i }) }
+    requires other { other ≡ tag_of_itag p.now (record { 0 = j }) }
+    ensures { result ≡ are_dependent p.now i j }
+{
+    i <= j && dep(p, tag, other)
 }
 
 /// Whether two itags are dependent. It is looked up in the row of the lesser.
 #[tactic(auto, unfolding(crate::specs::LoopTables::graph_of))]
-pub fn joined(table: &[bool], i: u32, j: u32) -> bool
+pub fn joined(table: &[List<bool>], i: u32, j: u32) -> bool
     ensures { result ≡ graph_of table.now i j }
 {
     if i < j {
@@ -45,10 +67,19 @@ pub fn joined(table: &[bool], i: u32, j: u32) -> bool
     }
 }
 
-fn read(table: &[bool], i: u32, j: u32) -> bool
+fn read(table: &[List<bool>], i: u32, j: u32) -> bool
     ensures { result ≡ read table.now i j }
 {
-    match table.get(i as usize * ROW as usize + j as usize) {
+    match table.get(i as usize) {
+        Some(row) => is_set(row.items(), j),
+        None => false,
+    }
+}
+
+fn is_set(row: &[bool], j: u32) -> bool
+    ensures { result ≡ is_set (slice_get row.now j) }
+{
+    match row.get(j as usize) {
         Some(set) => *set,
         None => false,
     }

@@ -55,12 +55,13 @@ fn grouped(alloc: Global, rates: &[u64], components: &[List<u32>]) -> Result<Gro
 /// The parting of a node's itags; none where no removal leaves at least two components.
 pub fn part(
     alloc: Global,
-    table: &[bool],
+    table: &[List<bool>],
     rates: &[u64],
     itags: &[u32],
 ) -> Result<Option<Parting>, AllocError>
     requires { IsTrue (is_rising itags.now) }
-    ensures { IfOk result (λ parting. MatchOption parting (IsWhole (graph_of table.now) rates.now itags.now) (λ parts. IsPartingOnce (graph_of table.now) rates.now itags.now parts.own.items parts.left.items parts.right.items)) }
+    ensures { IfOk result (λ parting. MatchOption parting (IsWhole (graph_of table.now) rates.now itags.now)
+        (λ parts. IsPartingOnce (graph_of table.now) rates.now itags.now parts.own.items parts.left.items parts.right.items)) }
 {
     let order = removal_order(alloc, rates, itags)?;
     let Some(count) = least_cut(alloc, table, &order)? else {

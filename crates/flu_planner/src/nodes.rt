@@ -71,7 +71,7 @@ fn node_of(
 fn subtree(
     alloc: Global,
     p: &Program,
-    table: &[bool],
+    table: &[List<bool>],
     rates: &[u64],
     depth: u32,
     number: u32,

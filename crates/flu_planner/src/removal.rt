@@ -1,6 +1,6 @@
 //! Which itags are removed so that the others fall apart, and the orders of itags.
 
-ghost use Rattle.std.specs.Prelude.{◌≡◌, ℕ, ◌≤◌, nat_lt, IfOk, MatchOption, position, length};
+ghost use Rattle.std.specs.Prelude.{◌≡◌, ℕ, ◌≤◌, IfOk, MatchOption, position, length};
 ghost use Rattle.std.specs.List.{position_or_len};
 ghost use Rattle.flu_planner.specs.Graphs.{rate_of, total_rate, rising};
 ghost use Rattle.flu_planner.specs.Cuts.{is_removed_first, removal_order};
@@ -9,6 +9,7 @@ ghost use Rattle.flu_planner.specs.LoopTables.{graph_of};
 ghost use Rattle.flu_planner.specs.LoopSearch.{IsFirstApart, IsNeverApart};
 
 use crate::components::is_apart;
+use flu_model::List;
 use std::alloc::{AllocError, Global};
 
 fn rate_of(rates: &[u64], i: u32) -> u64
@@ -71,41 +72,22 @@ pub fn removal_order(alloc: Global, rates: &[u64], itags: &[u32]) -> Result<Vec<
     Ok(order)
 }
 
-// The first of some itags that is greater than this one.
-fn first_greater(i: u32, others: &[u32]) -> Option<usize>
-    ensures { result ≡ position (nat_lt i) others.now }
-{
-    others.iter().position(|j| i < *j)
-}
-
-// Where an itag is put among others by rising number.
-fn place_by_number(i: u32, others: &[u32]) -> usize
-    ensures place { result ≡ position_or_len (nat_lt i) others.now }
-    ensures within { result ≤ length others.now }
-{
-    match first_greater(i, others) {
-        Some(place) => place,
-        None => others.len(),
-    }
-}
-
 /// The itags by rising number.
 pub fn rising(alloc: Global, itags: &[u32]) -> Result<Vec<u32>, AllocError>
     ensures { IfOk result (λ order. order.items ≡ rising itags.now) }
 {
-    let mut order = Vec::new(alloc);
-    let mut at = itags.len();
-    while at > 0 {
-        at -= 1;
-        let place = place_by_number(itags[at], &order);
-        order.insert(place, itags[at])?;
-    }
+    let mut order = itags.to_vec(alloc)?;
+    order.sort_unstable();
     Ok(order)
 }
 
 /// How many of the itags, in the order of removal, have to be removed so that the others have at least two components; none
 /// where no number of them does.
-pub fn least_cut(alloc: Global, table: &[bool], order: &[u32]) -> Result<Option<usize>, AllocError>
+pub fn least_cut(
+    alloc: Global,
+    table: &[List<bool>],
+    order: &[u32],
+) -> Result<Option<usize>, AllocError>
     requires { (k : ℕ) → times k order.now ≤ 1 }
     ensures { IfOk result (λ cut. MatchOption cut (IsNeverApart (graph_of table.now) order.now) (IsFirstApart (graph_of table.now) order.now)) }
 {

@@ -1,12 +1,13 @@
-use Rattle.std.proofs.Common.{◌≡◌, ◌<◌, [], ◌∷◌, ◌++◌, length, get_or, drop, ap, ◌∙◌, arith}
+use Rattle.std.proofs.Common.{◌≡◌, ◌<◌, [], ◌∷◌, ◌++◌, length, get_or, drop, sym, ap, ◌∙◌, arith}
 use Rattle.std.specs.List.{filter}
 use Rattle.std.specs.Prelude.{not}
 use Rattle.std.proofs.lemmas.Grind.{common_steps}
-use Rattle.std.proofs.lemmas.List.{take_rest, get_or_read}
+use Rattle.std.proofs.lemmas.List.{take_rest, get_or_read, nil_from_length}
 use Rattle.flu_planner.specs.Graphs.{Graph}
 use Rattle.flu_planner.specs.LoopTables.{graph_of}
-use Rattle.flu_planner.proofs.Searching.{starts, goes_on}
+use Rattle.flu_planner.proofs.Searching.{starts, goes_on, looks_on}
 use Rattle.flu_planner.proofs.components.reach.Goals as goal
+use Rattle.flu_planner.proofs.components.reach.Goals.{then-not-is_empty+in_ok-rest-2+in_ok-append, else-not-is_empty}
 
 pub loop-head-init : goal.loop-head-init
 loop-head-init c =
@@ -26,10 +27,19 @@ loop-head-preserved c =
     let i = get_or connected head 0 in
     let lt : head < length connected = grind (arith, common_steps) in
     let at_head : c.index-i.result.now ≡ i = get_or_read connected head c.index-i.result.now lt c.index-i.ensures 0 in
-    let more : c.append.new.self.items ≡ connected ++ filter (g i) rest = c.in_ok-append.ensures.items
-    ∙ ap (λ xs. connected ++ xs) (rw (c.deref.ensures.value, at_head) at c.in_ok-next.ensures) in
-    let less : c.in_ok-rest-2.rest.items ≡ filter (λ j. not (g i j)) rest = rw (c.deref-in-loop-head.ensures.value, at_head) at c.in_ok-rest-2.ensures in
-    rw (more, less) (goes_on g itags head connected rest lt c.loop-head.invariant)
+    elim c.if-not-is_empty.branch [
+      | then-not-is_empty+in_ok-rest-2+in_ok-append w ↦
+          let more : w.append.new.self.items ≡ connected ++ filter (g i) rest = w.in_ok-append.ensures.items
+          ∙ ap (λ xs. connected ++ xs) (rw (c.deref.ensures.value, at_head) at c.in_ok-next.ensures) in
+          let less : w.in_ok-rest-2.rest.items ≡ filter (λ j. not (g i j)) rest =
+          rw (w.deref-then-not-is_empty.ensures.value, at_head) at w.in_ok-rest-2.ensures in
+          rw (w.connected-is, w.rest-is, more, less) (goes_on g itags head connected rest lt c.loop-head.invariant)
+      | else-not-is_empty w ↦
+          let size : length c.in_ok-next.next.items ≡ 0 = grind (arith, common_steps) in
+          let none : filter (g i) rest ≡ [] = sym (rw (c.deref.ensures.value, at_head) at c.in_ok-next.ensures)
+          ∙ nil_from_length c.in_ok-next.next.items size in
+          rw (w.connected-is, w.rest-is) (looks_on g itags head connected rest lt none c.loop-head.invariant)
+    ]
 
 pub loop-head-smaller : goal.loop-head-smaller
 loop-head-smaller c =
