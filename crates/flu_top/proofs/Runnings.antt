@@ -5,7 +5,6 @@ use Rattle.std.specs.Prelude.{Contains, IfErr, IfSome}
 use Rattle.std.proofs.lemmas.Result.{IfErr-weaker}
 use Rattle.std.proofs.lemmas.List.Elements.{Contains-append_cases, Contains-append_left, Contains-append_right}
 use Rattle.flu_outside.specs.declared.files.PutFault.{PutFault}
-use Rattle.flu_outside.specs.declared.files.PutFault.TheVariants.{Failed, NoMemory as NoMemoryToPut}
 use Rattle.flu_outside.specs.Outside.{WhereTold, Contents, SameCounts, Rose}
 use Rattle.flu_outside.specs.Taking.{TakesFrom, TookFronts, bytes_left}
 use Rattle.flu_model.specs.declared.jobs.Program.{Program}
@@ -29,12 +28,11 @@ use Rattle.flu_top.specs.declared.refusals.JobRead.{JobRead}
 use Rattle.flu_top.specs.declared.refusals.Refusal.{Refusal}
 use Rattle.flu_top.specs.declared.refusals.Refusal.TheVariants as refusals
 use Rattle.flu_top.specs.declared.refusals.SaveDefect.TheVariants as defects
-use Rattle.flu_top.specs.declared.running.RunFault.TheVariants.{Unsaved}
-use Rattle.flu_top.specs.Answer.{refusal_of_put, status_after}
+use Rattle.flu_top.specs.Answer.{status_after}
 use Rattle.flu_top.specs.Behind.{WantedJob, Named, job_files, HasJob, emptied_each, lists_behind}
 use Rattle.flu_top.specs.Causes.{IsJobRead, HasSourceFault, HasStartDefect, IsMet}
 use Rattle.flu_top.specs.Done.{HasPlanAsked, MayHaveJob, MayBeJob, IsDone, IsLine, WroteRounds, WroteUnsaved, WroteIntoRound, IsReadName, IsPutAt}
-use Rattle.flu_top.specs.Ending.{Call, call, HasAll, HasDefectMet, IsStopped, IsEnding}
+use Rattle.flu_top.specs.Ending.{call, HasAll, HasDefectMet, IsStopped, IsEnding}
 use Rattle.flu_top.specs.Jobs.{program_read}
 use Rattle.flu_top.specs.Openings.{Opening, Opens, OpensAt, lists_from}
 use Rattle.flu_top.specs.Products.{line_said, MaySay}
@@ -42,7 +40,7 @@ use Rattle.flu_top.specs.Ready.{AreTextsRead, IsReady}
 use Rattle.flu_top.specs.Reading.{InRounds, HaveWritten, MeetsDefect, ReportsNext, greatest_border, lines_behind}
 use Rattle.flu_top.specs.Refusing.{IsRefusal}
 use Rattle.flu_top.specs.Running.{IsBegun, IsOpened, IsOpeningRefusal, IsSavedTo, StaysWithin, IsAllRun, RanAll, RanToDefect, RanSome, RanInto, RanUnsaved}
-use Rattle.flu_top.specs.Running.{IsRoundsRefusal, EndsRounds, EndsRun}
+use Rattle.flu_top.specs.Running.{IsRoundsRefusal, EndsRun}
 use Rattle.flu_top.specs.Running.{IsPlanSaid, MaySayPlan, SaysPlan}
 use Rattle.flu_top.specs.Starting.{AreNoSources, CanStart, HasBadCheckpoint, StartsFrom, IsSameName, Saves, Resumes, Leaves, LeavesPut, LeavesAnything}
 use Rattle.flu_top.specs.Taking.{TookOnly, TookFrontsBut}
@@ -264,13 +262,6 @@ is_started job plan options p o a b d apart begun fronts opened fronts' =
       fronts = fronts_then (Some x) (Some y) (Some z) first.1 second.1;
     })
     (told_both (IsBegun job plan p) TookFronts a b begun fronts) (told_both (IsOpened options.resume p o) TookFronts b d opened fronts')
-
--- where a checkpoint could not be put, this is what refuses the run
-pub refused_unsaved : (adapts : Bool) (p : Program) (o : Opening) (named : Option (List ℕ)) (c : Call) (fault : PutFault)
-    → EndsRounds adapts p o named c (Err (Unsaved fault))
-    → IsRoundsRefusal p o named c (refusal_of_put fault)
-refused_unsaved adapts p o named c Failed is = is
-refused_unsaved adapts p o named c NoMemoryToPut is = inr is
 
 -- ---- what is said
 -- what is said of the counts of all events is what the command says

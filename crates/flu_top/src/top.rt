@@ -27,25 +27,27 @@ use std::thread::Threads;
 /// `fold JOB` reads the job in the file of that name and then its sources, folds their events in order and writes the
 /// report to `out`. `check JOB` reads the job alone, which has to be accepted, and writes it in normal form. `valid JOB
 /// PLAN` reads such a job and then a plan, which has to be valid for it, and writes the plan in normal form. `plan JOB
-/// [--depth D]` reads such a job alone and writes the greedy plan of all its itags, by the rates of its sources, with
-/// at most D levels below the root: 0 to 6, and 3 where no depth is given. `run JOB [PLAN]` reads such a job and a plan
-/// that is valid for it, or takes its greedy plan of depth 3. It reads the sources in rounds, of 4,096 rows of each
-/// source or more, runs the events of each round on a thread for each node of the plan, and writes the report of the
-/// fold, round by round. With `--save FILE` it puts a checkpoint under that name behind each round, and with `--resume
-/// FILE` it goes on from such a one: it runs the events above its border, from its state. `simulate JOB PLAN SEED` reads such a job, a plan that is valid for it and the sources, runs
-/// the events on the net of the plan by the steps that the seed draws, writes the report of the fold, and then says on
-/// `err` how many steps of each kind there were, with their mark; with `--trace` behind the seed it writes the trace of
-/// that run, its steps line by line, in place of the report. `replay JOB PLAN TRACE` reads the same and then a trace,
-/// runs the events on the net by its steps, and writes the report of the fold. `demo N SEED` reads no file: it runs the
-/// job of a demo, as `run` does, over N events that the seed draws and the ticks of a clock, and writes how many events
-/// there were and how many lines and bytes their report has. Status 0: all was written. Else the line of the answer
-/// goes to `err`, and a failure of `err` changes no status: 2 for words that are no command, 3 for a job text with a
-/// fault, 4 for a job that is not accepted, 5 for a plan text with a fault or a plan that is not valid, 6 for a source
-/// with a defect, 7 where a file that was read failed, 8 where `out` failed, 9 where there was no memory, 11 for a name of a
-/// checkpoint that is a source's file, or a checkpoint with a fault, 12 where a checkpoint could not be put, 13 for a
-/// trace with a bad line, with a step that is not enabled where it stands, or with too few steps. Where `run` is
-/// stopped, at 6 to 9 and 12, `out` may have what the rounds until then wrote. `docs/LANGUAGE.md` has the forms and the lines, and
-/// `docs/TRUST.md` what is to be believed.
+/// [--depth D]` reads such a job alone and writes the greedy plan of all its itags, by the rates of its sources, with at
+/// most D levels below the root: 0 to 6, and 3 where no depth is given. `run JOB [PLAN]` reads such a job and a plan that
+/// is valid for it, or takes its greedy plan of depth 3. It reads the sources in rounds, of 4,096 rows of each source or
+/// more, runs the events of each round on a thread for each node of the plan, and writes the report of the fold, round by
+/// round. With `--save FILE` it puts a checkpoint under that name behind each round, and with `--resume FILE` it goes on
+/// from such a one: it runs the events above its border, from its state. With `--adapt` each round after the first runs
+/// by the greedy plan of depth 3 of the events counted so far, and that of all events of the run is said on `err` at the
+/// end. `simulate JOB PLAN SEED` reads such a job, a plan that is valid for it and the sources, runs the events on the
+/// net of the plan by the steps that the seed draws, writes the report of the fold, and then says on `err` how many steps
+/// of each kind there were, with their mark; with `--trace` behind the seed it writes the trace of that run, its steps
+/// line by line, in place of the report. `replay JOB PLAN TRACE` reads the same and then a trace, runs the events on the
+/// net by its steps, and writes the report of the fold. `demo N SEED` reads no file: it runs the job of a demo, as `run`
+/// does, over N events that the seed draws and the ticks of a clock, and writes how many events there were and how many
+/// lines and bytes their report has. Status 0: all was written. Else the line of the answer goes to `err`, and a failure
+/// of `err` changes no status: 2 for words that are no command, 3 for a job text with a fault, 4 for a job that is not
+/// accepted, 5 for a plan text with a fault or a plan that is not valid, 6 for a source with a defect, 7 where a file
+/// that was read failed, 8 where `out` failed, 9 where there was no memory, 11 for a name of a checkpoint that is a
+/// source's file, or a checkpoint with a fault, 12 where a checkpoint could not be put, 13 for a trace with a bad line,
+/// with a step that is not enabled where it stands, or with too few steps. Where `run` is stopped, at 6 to 9 and 12,
+/// `out` may have what the rounds until then wrote. `docs/LANGUAGE.md` has the forms and the lines, and `docs/TRUST.md`
+/// what is to be believed.
 ///
 /// Each worker of a run passes the gate before and after each of its updates. `run` and `demo` alone start threads, and
 /// wait for them: what is said here holds where the call returns.
@@ -69,11 +71,13 @@ pub fn flumina<F: Files, K: Sink, E: Sink, G: Gate, R: Threads + Wait + Sync>(
     // Status 7 comes only where the count of a name that the call reads rose, status 8 only where out's did, and status 12
     // only where that of puts of the name that it saves to did.
     ensures faults { FaultsFirst (map string_bytes words.now) (F.left files.old)
-        (faults (F.faults files.old) (F.put_faults files.old) (K.faults out.old)) (faults (F.faults files.new) (F.put_faults files.new) (K.faults out.new)) result }
+        (faults (F.faults files.old) (F.put_faults files.old) (K.faults out.old))
+        (faults (F.faults files.new) (F.put_faults files.new) (K.faults out.new)) result }
 
     // Where none rose, the status is the one that the command and its files call for, or 9.
     ensures completes { Completes (map string_bytes words.now) (F.left files.old)
-        (faults (F.faults files.old) (F.put_faults files.old) (K.faults out.old)) (faults (F.faults files.new) (F.put_faults files.new) (K.faults out.new)) result }
+        (faults (F.faults files.old) (F.put_faults files.old) (K.faults out.old))
+        (faults (F.faults files.new) (F.put_faults files.new) (K.faults out.new)) result }
 {
     faults_are_no_checkpoints();
     jobs_are_grammar();
@@ -92,9 +96,11 @@ fn do_words<F: Files, K: Sink, G: Gate, R: Threads + Wait + Sync>(
     out: &mut K,
     gate: &G,
 ) -> Result<Option<Said>, Refusal>
-    ensures ends { Ends (map string_bytes words.now) (call (F.left files.old) (F.left files.new) (F.faults files.old) (F.faults files.new) (F.put_faults files.old) (F.put_faults files.new) (K.taken out.old) (K.taken out.new) (K.faults out.old) (K.faults out.new)) result }
+    ensures ends { Ends (map string_bytes words.now) (call (F.left files.old) (F.left files.new) (F.faults files.old) (F.faults files.new)
+        (F.put_faults files.old) (F.put_faults files.new) (K.taken out.old) (K.taken out.new) (K.faults out.old) (K.faults out.new)) result }
     ensures fronts { WhereTold (F.left files.old) (F.left files.new) (TookFrontsBut (MayBePut (map string_bytes words.now) (status_after result))) }
-    ensures only { WhereTold (F.left files.old) (F.left files.new) (TookOnly (λ name. IsReadBy (map string_bytes words.now) (F.left files.old) name ⊎ MayBePut (map string_bytes words.now) (status_after result) name)) }
+    ensures only { WhereTold (F.left files.old) (F.left files.new)
+        (TookOnly (λ name. IsReadBy (map string_bytes words.now) (F.left files.old) name ⊎ MayBePut (map string_bytes words.now) (status_after result) name)) }
 {
     match read_words(words) {
         Ok(command) => run(rt, alloc, files, out, command, gate),
