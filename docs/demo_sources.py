@@ -8,22 +8,13 @@ event that the seed draws, a tick at each thousandth time and one behind the las
 """
 import os
 import sys
+from pathlib import Path
 
-JOB = """cell views keyed sum
-cell zip keyed last
-tag view keyed int
-tag update keyed int
-tag tick none
-depends update update same
-depends view tick
-depends tick tick
-on view: add views[key] value
-on update: emit "was {zip[key]}"; set zip[key] value
-on tick: flush views "page {key} views {cell}"
-source web "web.csv" rate 1000: view[0..9]
+SOURCES = """source web "web.csv" rate 1000: view[0..9]
 source app "app.csv" rate 500: view[0..9], update[0..9]
 source clock "clock.csv" rate 1: tick
 """
+JOB = (Path(__file__).resolve().parent / "jobs" / "zips.head").read_text() + SOURCES
 
 
 def main():

@@ -4,6 +4,7 @@
 # program to measure.
 set -eu
 program=${PROGRAM:-$PWD/crates/flumina/out/flumina}
+jobs=$PWD/docs/jobs
 folder=${1:-$(mktemp -d)}
 mkdir -p "$folder"
 cd "$folder"
@@ -121,22 +122,11 @@ cmp out.txt folded.txt
 
 # ---- page views and updates of zip codes, by two sources, and the ticks that put the views out, beside a program in Rust that keeps
 # two hash maps and writes the same bytes: 1,000,000 rows, some 73,000 lines
-cat > pages.job <<'JOB'
-cell views keyed sum
-cell zip keyed last
-tag view keyed int
-tag update keyed int
-tag tick none
-depends update update same
-depends view tick
-depends tick tick
-on view: add views[key] value
-on update: emit "was {zip[key]}"; set zip[key] value
-on tick: flush views "page {key} views {cell}"
+cat "$jobs/zips.head" - > pages.job <<'SOURCES'
 source web "web.csv": view[0..99]
 source app "app.csv": view[0..99], update[0..54]
 source clock "clock.csv": tick
-JOB
+SOURCES
 gawk 'BEGIN {
     srand(1)
     for (t = 1; t <= 1000000; t++) {
@@ -321,22 +311,11 @@ echo end > s.csv
 measure "a job text of $(stat -c %s long.job) bytes: flumina fold" "$program" fold long.job
 
 # ---- a job of 256 itags
-cat > wide.job <<'JOB'
-cell views keyed sum
-cell zip keyed last
-tag view keyed int
-tag update keyed int
-tag tick none
-depends update update same
-depends view tick
-depends tick tick
-on view: add views[key] value
-on update: emit "was {zip[key]}"; set zip[key] value
-on tick: flush views "page {key} views {cell}"
+cat "$jobs/zips.head" - > wide.job <<'SOURCES'
 source web "web.csv" rate 1000: view[0..99]
 source app "app.csv" rate 500: view[0..99], update[0..54]
 source clock "clock.csv" rate 1: tick
-JOB
+SOURCES
 measure 'a job of 256 itags: flumina check' "$program" check wide.job
 measure 'a job of 256 itags: flumina plan --depth 6' "$program" plan wide.job --depth 6
 

@@ -6,6 +6,7 @@
 # line has the least wall time of the rounds, 3 where none are given, and, in brackets, the least processor time, in seconds.
 set -eu
 program=${PROGRAM:-$PWD/crates/flumina/out/flumina}
+jobs=$PWD/docs/jobs
 rows=${1:-4000000}
 rounds=${2:-3}
 folder=$(mktemp -d)
@@ -14,20 +15,7 @@ cd "$folder"
 TIMEFORMAT='%R %U %S'
 
 job() {
-    echo 'version 2'
-    echo 'cell fee keyed last'
-    echo 'cell views keyed sum'
-    echo 'cell earned keyed sum'
-    echo 'tag view keyed none'
-    echo 'tag update keyed int'
-    echo 'tag hour none'
-    echo 'depends update update same'
-    echo 'depends update view same'
-    echo 'depends view hour'
-    echo 'depends hour hour'
-    echo 'on view: add views[key] 1; add earned[key] fee[key]'
-    echo 'on update: emit "fee from {fee[key]} to {value} cents"; set fee[key] value'
-    echo 'on hour: flush views "page {key}: {cell} views"; flush earned "page {key}: {cell} cents"'
+    cat "$jobs/fees.head"
     echo "source web \"web.csv\" rate $1: view[0..3]"
     echo 'source app "app.csv" rate 1: view[0..3]'
     echo 'source desk "desk.csv" rate 1: update[0..3]'

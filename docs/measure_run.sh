@@ -7,6 +7,7 @@
 # and how many times fold's those of run are.
 set -eu
 program=${PROGRAM:-$PWD/crates/flumina/out/flumina}
+jobs=$PWD/docs/jobs
 folder=${1:-$(mktemp -d)}
 rounds=${2:-5}
 shift $(($# < 2 ? $# : 2))
@@ -98,20 +99,7 @@ done
 
 # ---- views of four pages from two sources read the page's fee, which an update sets after every 1,000 views: 1,000,000 views
 {
-    echo 'version 2'
-    echo 'cell fee keyed last'
-    echo 'cell views keyed sum'
-    echo 'cell earned keyed sum'
-    echo 'tag view keyed none'
-    echo 'tag update keyed int'
-    echo 'tag hour none'
-    echo 'depends update update same'
-    echo 'depends update view same'
-    echo 'depends view hour'
-    echo 'depends hour hour'
-    echo 'on view: add views[key] 1; add earned[key] fee[key]'
-    echo 'on update: emit "fee from {fee[key]} to {value} cents"; set fee[key] value'
-    echo 'on hour: flush views "page {key}: {cell} views"; flush earned "page {key}: {cell} cents"'
+    cat "$jobs/fees.head"
     echo 'source web "web.csv" rate 1000: view[0..3]'
     echo 'source app "app.csv" rate 1000: view[0..3]'
     echo 'source desk "desk.csv": update[0..3]'
