@@ -1,8 +1,10 @@
 #!/usr/bin/env bash
 # Measures planning anew beside a round of 4,096 rows of each source, read, folded and reported, for three jobs. Run at the top of the
 # repository: docs/measure_planning.sh. It makes a copy with one program more, which `rt try` builds with checks, without its proof: so
-# only the ratios tell.
+# only the ratios tell. Where `rt ci` or `rt run` has built the program and valgrind is there, the last lines tell of the proved program:
+# instructions over ten rounds of the last job with as many reads as counts. No removal parts its itags then, so that each is tried.
 set -eu
+program=${PROGRAM:-$PWD/crates/flumina/out/flumina}
 copy=$(mktemp -d)
 trap 'rm -rf "$copy"' EXIT
 mkdir -p "$copy/crates/measure_planning/src"
@@ -102,3 +104,31 @@ fn main(rt: HostRuntime) {
 PROGRAM
 cd "$copy/crates/measure_planning"
 rt try --seconds 60
+
+if ! [ -x "$program" ] || ! command -v valgrind > /dev/null; then exit 0; fi
+folder=$copy/proved
+mkdir -p "$folder"
+cd "$folder"
+{
+    echo 'cell count keyed sum'
+    echo 'tag inc keyed int'
+    echo 'tag read none'
+    echo 'depends inc read'
+    echo 'depends read read'
+    echo 'on inc: add count[key] value'
+    echo 'on read: flush count "count {cell}"'
+    echo 'source a "a.csv" rate 1000: inc[0..22]'
+    echo 'source c "c.csv" rate 1: read'
+} > counts.job
+awk 'BEGIN { for (n = 1; n <= 40960; n++) printf "%d,inc[%d],1\n", 2 * n, n % 23; print "end" }' > a.csv
+awk 'BEGIN { for (n = 1; n <= 40960; n++) printf "%d,read\n", 2 * n + 1; print "end" }' > c.csv
+counted() { valgrind --tool=callgrind --callgrind-out-file="$1.out" "$program" "${@:2}" > "$1.txt" 2> "$1.err"; }
+counted fold fold counts.job
+counted run run counts.job --adapt
+cmp fold.txt run.txt
+all() { callgrind_annotate "$1.out" | awk '/PROGRAM TOTALS/ { gsub(",", "", $1); print $1 }'; }
+callgrind_annotate --tree=caller --inclusive=yes --threshold=100 run.out | awk -v fold="$(all fold)" -v run="$(all run)" '
+    /run_in_rounds/ { gsub(",", "", $1); rounds = $1; count = $0; sub(/.*\(/, "", count); sub(/x\).*/, "", count); next }
+    /\* .*flu_planner::plan / {
+        printf "%d instructions a plan: %.4f of the fold of a round, and all %d %.4f of the run\n", rounds / count, rounds / count / (fold / 10), count, rounds / run
+    }'
