@@ -6,18 +6,13 @@
 # `update` the worker's `can_handle` and `handle` take together, and a turn of the leaf in all.
 set -eu
 program=${PROGRAM:-$PWD/crates/flumina/out/flumina}
+jobs=$PWD/docs/jobs
 events=${1:-1000000}
 folder=$(mktemp -d)
 trap 'rm -rf "$folder"' EXIT
 cd "$folder"
 {
-    echo 'cell count keyed sum'
-    echo 'tag inc keyed int'
-    echo 'tag read none'
-    echo 'depends inc read'
-    echo 'depends read read'
-    echo 'on inc: add count[key] value'
-    echo 'on read: flush count "count {cell}"'
+    cat "$jobs/counts.head"
     for s in 0 1 2 3 4 5 6; do echo "source s$s \"s$s.csv\" rate 1000: inc[$((3 * s))..$((3 * s + 2))]"; done
     echo 'source s7 "s7.csv" rate 1000: inc[21..22]'
     echo 'source clock "clock.csv" rate 1: read'

@@ -5,6 +5,7 @@
 # instructions over ten rounds of the last job with as many reads as counts. No removal parts its itags then, so that each is tried.
 set -eu
 program=${PROGRAM:-$PWD/crates/flumina/out/flumina}
+jobs=$PWD/docs/jobs
 copy=$(mktemp -d)
 trap 'rm -rf "$copy"' EXIT
 mkdir -p "$copy/crates/measure_planning/src"
@@ -110,13 +111,7 @@ folder=$copy/proved
 mkdir -p "$folder"
 cd "$folder"
 {
-    echo 'cell count keyed sum'
-    echo 'tag inc keyed int'
-    echo 'tag read none'
-    echo 'depends inc read'
-    echo 'depends read read'
-    echo 'on inc: add count[key] value'
-    echo 'on read: flush count "count {cell}"'
+    cat "$jobs/counts.head"
     echo 'source a "a.csv" rate 1000: inc[0..22]'
     echo 'source c "c.csv" rate 1: read'
 } > counts.job
