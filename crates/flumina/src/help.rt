@@ -30,8 +30,9 @@ as that of a file, are looked up in the working folder.
 
 Status 0: written. Each other one has a line on standard error: 2 the words are no command, 3 the job's text has a
 fault, 4 tags conflict that are not declared dependent, 5 the plan has a fault or is not valid, 6 a source has a
-defect, 7 a file is missing or failed, 8 standard output failed, 9 memory was wanting, 13 a trace has a bad line, one whose
-step can't be made there, or too few lines.
+defect, 7 a file is missing or failed, 8 standard output failed, 9 memory was wanting, 11 a checkpoint has a fault, or its
+name is that of a source's file, 12 a checkpoint could not be written, 13 a trace has a bad line, one whose step can't be
+made there, or too few lines.
 
 docs/LANGUAGE.md describes jobs, rows and lines, docs/TREE.md plans, docs/GUIDE.md the way from a log to a report.
 ";
