@@ -34,7 +34,7 @@ use Rattle.flu_worker.proofs.Aiming.{some_event}
 use Rattle.flu_worker.proofs.Changing.{agrees_more, grows_more}
 use Rattle.flu_worker.proofs.CountLemmas.{set_here, set_there, set_one}
 use Rattle.flu_worker.proofs.Serving.{give_aims, give_hand, hand_whole, next_aims, next_exact, next_hand}
-use Rattle.flu_worker.proofs.Steps.{holds_anew, hand_anew, mailed_after, mailed_still, counts_long}
+use Rattle.flu_worker.proofs.Steps.{holds_anew, hand_anew, mailed_after, mailed_still, counts_long, tied_at}
 
 whole_is : (h : Holding) (lot : Lot) → IsWholeOf h lot → h ≡ WholeLot lot
 whole_is NoLot lot is = absurd is
@@ -77,13 +77,14 @@ pub record Given (v m : WorkerNote) (mail : Mailbox) (y : Ask) (lot : Lot) : Typ
   pub served : Served v.case v.node v.held y lot
 
 pub gives : LawsBelow → (v : WorkerNote) (mail : Mailbox) (h : Holding) (lot : Lot) (y : Ask) → Rule v mail h → IsWholeOf h lot → may_give v y ≡ true
-    → Given v (record v { hand = Empty; kept = None; given = lot.upto }) mail y lot
+    → Given v (record v { hand = Empty; holding = NoLot; kept = None; given = lot.upto }) mail y lot
 gives laws v mail h lot y rule is may =
     let whole = holds_whole v mail h lot rule is in
     record {
       rule = record {
-        mailed = mailed_still v mail (record v { hand = Empty; kept = None; given = lot.upto }) rule.mailed refl refl refl refl;
+        mailed = mailed_still v mail (record v { hand = Empty; holding = NoLot; kept = None; given = lot.upto }) rule.mailed refl refl refl refl;
         hand = refl;
+        here = refl;
         holds = record { kept = refl; mine = whole.agrees.mine; most = whole.agrees.most; grows = whole.grows };
       };
       note = record {
@@ -95,6 +96,7 @@ gives laws v mail h lot y rule is may =
         held = refl;
         given = refl;
         counts = refl;
+        tied = tied_at v lot.upto whole.agrees;
       };
       fits = whole.fits;
       served = (give_aims laws v rule.mailed.there lot whole y may).served;
@@ -103,10 +105,11 @@ gives laws v mail h lot y rule is may =
 -- ---- handle
 
 -- memory was wanting
-pub lost_rule : (v : WorkerNote) (mail : Mailbox) (was h : Holding) → Rule v mail was → h ≡ Gone → Rule (record v { hand = hand_of h; kept = None }) mail h
-lost_rule v mail was h rule gone = subst (λ (x : Holding). Rule (record v { hand = hand_of x; kept = None }) mail x) (sym gone) (record {
-  mailed = mailed_still v mail (record v { hand = hand_of Gone; kept = None }) rule.mailed refl refl refl refl;
+pub lost_rule : (v : WorkerNote) (mail : Mailbox) (was h : Holding) → Rule v mail was → h ≡ Gone → Rule (record v { hand = hand_of h; holding = h; kept = None }) mail h
+lost_rule v mail was h rule gone = subst (λ (x : Holding). Rule (record v { hand = hand_of x; holding = x; kept = None }) mail x) (sym gone) (record {
+  mailed = mailed_still v mail (record v { hand = hand_of Gone; holding = Gone; kept = None }) rule.mailed refl refl refl refl;
   hand = refl;
+  here = refl;
   holds = refl;
 })
 
@@ -176,12 +179,13 @@ module _ (laws : LawsBelow) (v : WorkerNote) (old : Mailbox) (was : Holding) (ru
 
     module _ (h : Holding) (is : IsHeldAs v.case v.node more h) where
       abbrev pub handled_note : WorkerNote
-      handled_note = record v { hand = hand_of h; kept = None; counts = counts }
+      handled_note = record v { hand = hand_of h; holding = h; kept = None; counts = counts }
 
       pub handled_rule : Rule handled_note mail h
       handled_rule = record {
         mailed = mailed_after v old mail handled_note rule.mailed same is_counts refl refl refl;
         hand = refl;
+        here = refl;
         holds = holds_anew handled_note more refl fits (since ∙ whole.since)
             (agrees_more laws v.case v.node x.itag.0 v.counts counts v.held.upto lot.upto more.upto exact.known mine counted one whole.agrees)
             (grows_more laws v.case v.node x.itag.0 v.counts counts v.held.upto lot.upto more.upto exact.known mine counted one v.taken_left v.taken_right

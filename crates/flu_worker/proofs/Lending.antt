@@ -15,7 +15,7 @@ use Rattle.flu_worker.specs.declared.hand.Side.TheVariants.{Left, Right}
 use Rattle.flu_worker.specs.declared.holding.Holding.{Holding}
 use Rattle.flu_worker.specs.declared.holding.Holding.TheVariants.{Empty as NoLot, Whole as WholeLot, LendingBoth, LendingLeft}
 use Rattle.flu_worker.specs.declared.holding.Holding.TheVariants.{LendingRight, Down as BothOut, TakingLeft, TakingRight, Gone}
-use Rattle.flu_worker.specs.Agreeing.{IsTarget, IsForkedAt, left_loan, right_loan}
+use Rattle.flu_worker.specs.Agreeing.{Agrees, IsTarget, IsForkedAt, left_loan, right_loan}
 use Rattle.flu_worker.specs.Calls.{LendsPart, IsFitPart, TakesPart}
 use Rattle.flu_worker.specs.Hands.{after_lend, after_take}
 use Rattle.flu_worker.specs.Holding.{hand_of}
@@ -26,7 +26,7 @@ use Rattle.flu_worker.specs.Rule.{Rule, IsMailed, HoldsWhole, IsPart, LendsBoth,
 use Rattle.flu_worker.proofs.Aiming.{never_ask, some_ask}
 use Rattle.flu_worker.proofs.Changing.{joined_agrees, joined_target, joined_served, joined_left_grown, joined_right_grown}
 use Rattle.flu_worker.proofs.CountLemmas.{upto_of}
-use Rattle.flu_worker.proofs.Steps.{mailed_still, counts_long}
+use Rattle.flu_worker.proofs.Steps.{mailed_still, counts_long, tied_at}
 
 pub the_kids : (o : Option (ℕ × ℕ)) → IsSome o → (l : ℕ) × (r : ℕ) × (o ≡ Some (l, r))
 the_kids None e = cc
@@ -42,10 +42,10 @@ pub record Lent (s : Side) (v m : WorkerNote) (mail : Mailbox) (new : Holding) (
   pub part : IsFitPart s lot v
 
 abbrev pub left_note : WorkerNote → Holding → Lot → WorkerNote
-left_note v new lot = record v { hand = hand_of new; lent_left = counts_of lot }
+left_note v new lot = record v { hand = hand_of new; holding = new; lent_left = counts_of lot }
 
 abbrev pub right_note : WorkerNote → Holding → Lot → WorkerNote
-right_note v new lot = record v { hand = hand_of new; lent_right = counts_of lot }
+right_note v new lot = record v { hand = hand_of new; holding = new; lent_right = counts_of lot }
 
 part_grown : (k : Content) (v : ℕ) (loan : LotCounts) (taken : List ℕ) (lot : Lot) → IsPart k v loan taken lot → GrownFrom k v taken lot.upto
 part_grown k v loan taken lot p = subst (λ (u : List ℕ). GrownFrom k v taken u) (sym (upto_of (counts_of lot) loan p.loaned)) p.grown
@@ -60,6 +60,7 @@ left_from_both v mail a b rule =
       rule = record {
         mailed = mailed_still v mail (left_note v (LendingRight b) a) rule.mailed refl refl refl refl;
         hand = refl;
+        here = refl;
         holds = record {
           kept = h.kept;
           forked = subst (λ (u : List ℕ). IsForkedAt v.case v.node v.counts v.held u) (sym same) h.forked;
@@ -78,6 +79,7 @@ left_from_both v mail a b rule =
         lent_right = refl;
         taken_left = refl;
         taken_right = refl;
+        tied = tied_at v a.upto h.forked.agrees;
       };
       part = record { fits = λ l r e. (h.left l r e).fits; grown = λ l r e. part_grown v.case l (left_loan v.held a.upto) v.taken_left a (h.left l r e) };
     }
@@ -90,6 +92,7 @@ left_from_one v mail a rule =
       rule = record {
         mailed = mailed_still v mail (left_note v BothOut a) rule.mailed refl refl refl refl;
         hand = refl;
+        here = refl;
         holds = record {
           forked = h.forked;
           left = (h.left two.0 two.1 two.2).loaned;
@@ -108,6 +111,7 @@ left_from_one v mail a rule =
         lent_right = refl;
         taken_left = refl;
         taken_right = refl;
+        tied = tied_at v a.upto h.forked.agrees;
       };
       part = record { fits = λ l r e. (h.left l r e).fits; grown = λ l r e. part_grown v.case l (left_loan v.held a.upto) v.taken_left a (h.left l r e) };
     }
@@ -117,10 +121,12 @@ right_from_both : (v : WorkerNote) (mail : Mailbox) (a b : Lot) → Rule v mail 
 right_from_both v mail a b rule =
     let h : LendsBoth v a b = rule.holds in
     let two = the_kids (kids v.case v.node) h.forked.inner in
+    let same : b.upto ≡ a.upto = upto_of (counts_of b) (right_loan a.upto) (h.right two.0 two.1 two.2).loaned in
     record {
       rule = record {
         mailed = mailed_still v mail (right_note v (LendingLeft a) b) rule.mailed refl refl refl refl;
         hand = refl;
+        here = refl;
         holds = record { kept = h.kept; forked = h.forked; left = h.left; right = (h.right two.0 two.1 two.2).loaned };
       };
       note = record {
@@ -134,6 +140,7 @@ right_from_both v mail a b rule =
         lent_right = refl;
         taken_left = refl;
         taken_right = refl;
+        tied = tied_at v b.upto (subst (λ (u : List ℕ). Agrees v.case v.node v.counts v.held.upto u) (sym same) h.forked.agrees);
       };
       part = record { fits = λ l r e. (h.right l r e).fits; grown = λ l r e. part_grown v.case r (right_loan a.upto) v.taken_right b (h.right l r e) };
     }
@@ -147,6 +154,7 @@ right_from_one v mail b rule =
       rule = record {
         mailed = mailed_still v mail (right_note v BothOut b) rule.mailed refl refl refl refl;
         hand = refl;
+        here = refl;
         holds = record {
           forked = subst (λ (u : List ℕ). IsForkedAt v.case v.node v.counts v.held u) (sym same) h.forked;
           left = h.left ∙ ap (left_loan v.held) (sym same);
@@ -165,6 +173,7 @@ right_from_one v mail b rule =
         lent_right = refl;
         taken_left = refl;
         taken_right = refl;
+        tied = tied_at v b.upto h.forked.agrees;
       };
       part = record { fits = λ l r e. (h.right l r e).fits; grown = λ l r e. part_grown v.case r (right_loan b.upto) v.taken_right b (h.right l r e) };
     }
@@ -215,7 +224,7 @@ module _ (laws : LawsBelow) (n : WorkerNote) (mail : Mailbox) (mailed : IsMailed
   are_paired = laws.paired n.case l r n.held.since n.lent_left.upto left right down.forked.since a.loan b.loan
 
   module _ (lot : Lot) (fits : LotFits n.case n.node lot) (joined : HasJoinedCounts n.case n.node left right lot) where
-    pub joined_whole : HoldsWhole (record n { taken_left = left.upto; taken_right = right.upto; hand = Whole }) lot
+    pub joined_whole : HoldsWhole (record n { taken_left = left.upto; taken_right = right.upto; hand = Whole; holding = WholeLot lot }) lot
     joined_whole =
         let k = n.case in
         let long = counts_long n mail mailed in
@@ -248,10 +257,10 @@ pub record Took (s : Side) (v m : WorkerNote) (mail : Mailbox) (new : Holding) (
   pub note : TakesPart s lot v m
 
 abbrev pub taking_left : WorkerNote → Holding → Lot → WorkerNote
-taking_left v new lot = record v { hand = hand_of new; taken_left = lot.upto }
+taking_left v new lot = record v { hand = hand_of new; holding = new; taken_left = lot.upto }
 
 abbrev pub taking_right : WorkerNote → Holding → Lot → WorkerNote
-taking_right v new lot = record v { hand = hand_of new; taken_right = lot.upto }
+taking_right v new lot = record v { hand = hand_of new; holding = new; taken_right = lot.upto }
 
 module _ (laws : LawsBelow) (v : WorkerNote) (mail : Mailbox) (lot : Lot) (kept : IsSome v.kept)
     (fits : (l r : ℕ) → kids v.case v.node ≡ Some (l, r) → LotFits v.case l lot)
@@ -263,6 +272,7 @@ module _ (laws : LawsBelow) (v : WorkerNote) (mail : Mailbox) (lot : Lot) (kept 
         rule = record {
           mailed = mailed_still v mail (taking_left v (TakingLeft lot) lot) rule.mailed refl refl refl refl;
           hand = refl;
+          here = refl;
           holds = record {
             down = record { forked = h.forked; left = h.left; right = h.right; target = h.target };
             kept = kept;
@@ -295,7 +305,8 @@ module _ (laws : LawsBelow) (v : WorkerNote) (mail : Mailbox) (lot : Lot) (kept 
         rule = record {
           mailed = mailed_still v mail (taking_left v (WholeLot whole) lot) rule.mailed refl refl refl refl;
           hand = refl;
-          holds = subst (λ (u : List ℕ). HoldsWhole (record v { taken_left = lot.upto; taken_right = u; hand = Whole }) whole) (sym h.taken)
+          here = refl;
+          holds = subst (λ (u : List ℕ). HoldsWhole (record v { taken_left = lot.upto; taken_right = u; hand = Whole; holding = WholeLot whole }) whole) (sym h.taken)
               (joined_whole laws v mail rule.mailed h.down y.0 y.1 two.0 two.1 two.2 lot b (fits two.0 two.1 two.2) (h.fits two.0 two.1 two.2)
               (served two.0 two.1 y.0 two.2 y.1) (h.served y.0 two.0 two.1 y.1 two.2) whole wfits counts);
         };
@@ -355,6 +366,7 @@ module _ (laws : LawsBelow) (v : WorkerNote) (mail : Mailbox) (lot : Lot) (kept 
         rule = record {
           mailed = mailed_still v mail (taking_right v (TakingRight lot) lot) rule.mailed refl refl refl refl;
           hand = refl;
+          here = refl;
           holds = record {
             down = record { forked = h.forked; left = h.left; right = h.right; target = h.target };
             kept = kept;
@@ -387,7 +399,8 @@ module _ (laws : LawsBelow) (v : WorkerNote) (mail : Mailbox) (lot : Lot) (kept 
         rule = record {
           mailed = mailed_still v mail (taking_right v (WholeLot whole) lot) rule.mailed refl refl refl refl;
           hand = refl;
-          holds = subst (λ (u : List ℕ). HoldsWhole (record v { taken_left = u; taken_right = lot.upto; hand = Whole }) whole) (sym h.taken)
+          here = refl;
+          holds = subst (λ (u : List ℕ). HoldsWhole (record v { taken_left = u; taken_right = lot.upto; hand = Whole; holding = WholeLot whole }) whole) (sym h.taken)
               (joined_whole laws v mail rule.mailed h.down y.0 y.1 two.0 two.1 two.2 a lot (h.fits two.0 two.1 two.2) (fits two.0 two.1 two.2)
               (h.served y.0 two.0 two.1 y.1 two.2) (served two.0 two.1 y.0 two.2 y.1) whole wfits counts);
         };

@@ -51,6 +51,7 @@ new_note k w h = record {
   case = k;
   node = w;
   hand = hand_of h;
+  holding = h;
   kept = None;
   seen = no_counts (job k);
   counts = no_counts (job k);
@@ -70,6 +71,7 @@ pub note_is : (k j : Content) (w : ℕ) (h : Holding) (seen counts none a b c d 
       case = j;
       node = w;
       hand = hand_of h;
+      holding = h;
       kept = None;
       seen = seen;
       counts = counts;
@@ -84,6 +86,7 @@ note_is k j w h seen counts none a b c d e f g x y ej es ec en ea eb e3 ed ee ef
   case = ej i;
   node = w;
   hand = hand_of h;
+  holding = h;
   kept = None;
   seen = es i;
   counts = ec i;
@@ -146,6 +149,7 @@ new_rule k w mail h n e there is_new is =
     subst (λ (m : WorkerNote). Rule m mail h) (sym e) (record {
       mailed = record { there = there; node = is_new.node; seen = is_new.seen; counts = is_new.counts; at_node = is_new.at_node; over = is_new.over };
       hand = refl;
+      here = refl;
       holds = new_holds k w h is;
     })
 
@@ -189,19 +193,20 @@ module _ (laws : LawsBelow) (n : WorkerNote) (old : Mailbox) (was : Holding) (ru
 
   -- without memory for the parts
   abbrev pub gone_note : WorkerNote
-  gone_note = record n { hand = hand_of Gone; counts = counts }
+  gone_note = record n { hand = hand_of Gone; holding = Gone; counts = counts }
 
   pub gone_rule : Rule gone_note mail Gone
-  gone_rule = record { mailed = mailed_after n old mail gone_note rule.mailed same is_counts refl refl refl; hand = refl; holds = none.kept }
+  gone_rule = record { mailed = mailed_after n old mail gone_note rule.mailed same is_counts refl refl refl; hand = refl; here = refl; holds = none.kept }
 
   module _ (h : Holding) (is : IsHeldAs n.case n.node lot h) where
     abbrev pub held_note : WorkerNote
-    held_note = record n { hand = hand_of h; counts = counts; held = lots.counts_of lot }
+    held_note = record n { hand = hand_of h; holding = h; counts = counts; held = lots.counts_of lot }
 
     pub hold_rule : Rule held_note mail h
     hold_rule = record {
       mailed = mailed_after n old mail held_note rule.mailed same is_counts refl refl refl;
       hand = refl;
+      here = refl;
       holds = holds_anew held_note lot none.kept fits refl
           (agrees_held laws n.case n.node n.counts counts n.given lot.upto n.taken_left n.taken_right
           (counts_long n old rule.mailed) fits.upto_each none.mine none.most grown like)

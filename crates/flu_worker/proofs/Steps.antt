@@ -1,5 +1,5 @@
 -- What a lot that is whole anew keeps of the rule.
-use Rattle.std.proofs.Common.{◌≡◌, ◌<◌, ◌≤◌, ℕ, true, false, Option, Some, None, List, [], length, refl, sym, ap, subst, ◌∙◌, arith}
+use Rattle.std.proofs.Common.{◌≡◌, ◌⊎◌, ◌<◌, ◌≤◌, ℕ, true, false, Option, Some, None, List, [], length, inl, inr, refl, sym, ap, subst, ◌∙◌, arith}
 use Rattle.std.specs.Prelude.{slice_index, slice_index_or, IsSome}
 use Rattle.std.proofs.lemmas.List.{length-map}
 use Rattle.flu_lemmas.proofs.Places.{slice_get-there, slice_index-map}
@@ -25,7 +25,7 @@ use Rattle.flu_worker.specs.Agreeing.{Agrees, Grows}
 use Rattle.flu_worker.proofs.Mails.{IsSameMail}
 use Rattle.flu_worker.specs.Hands.{is_open, first_hand}
 use Rattle.flu_worker.specs.Holding.{hand_of, IsHeldAs}
-use Rattle.flu_worker.specs.Notes.{WorkerNote}
+use Rattle.flu_worker.specs.Notes.{WorkerNote, own_of, above_of}
 use Rattle.flu_worker.specs.Rule.{Rule, IsMailed, Holds, HoldsNone, HoldsWhole, LendsBoth, IsDown}
 use Rattle.flu_worker.proofs.Aiming.{never_ask}
 
@@ -132,6 +132,12 @@ hand_anew k w lot (TakingLeft a) is = absurd is
 hand_anew k w lot (TakingRight b) is = absurd is
 hand_anew k w lot Gone is = absurd is
 
+-- ---- a lot is handed on
+-- its counts of the worker's own itags and of those above it are what the worker counted
+pub tied_at : (n : WorkerNote) (upto : List ℕ) → Agrees n.case n.node n.counts n.held.upto upto → (i : ℕ)
+    → (own_of n i ≡ true) ⊎ (above_of n i ≡ true) → slice_index upto i ≡ slice_index n.counts i
+tied_at n upto a i place = elim place [ inl mine ↦ sym (a.mine i mine) | inr over ↦ sym (a.over i over) ]
+
 -- ---- the mailbox
 pub mail_long : (p : Program) (ns : List Node) (m : Mailbox) → IsAt p ns m → length (counts_of m) ≡ count_of_itags p
 mail_long p ns m at = length-map m.entries.items (λ (e : Entry). e.count) ∙ sym (length-map m.entries.items (λ (e : Entry). e.seen)) ∙ at.one_each
@@ -170,6 +176,7 @@ see_rule n old mail h rule ec en at over =
     subst (λ (u : List ℕ). Rule (record n { seen = seen_of mail; counts = u }) mail h) (sym same) (record {
       mailed = record { there = m.there; node = en ∙ m.node; seen = refl; counts = same; at_node = at (job n.case) (nodes n.case) m.at_node; over = over };
       hand = rule.hand;
+      here = rule.here;
       holds = holds_seen n (seen_of mail) h rule.holds;
     })
 

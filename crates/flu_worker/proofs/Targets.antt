@@ -144,6 +144,7 @@ module _ (laws : LawsBelow) (n : WorkerNote) (mail : Mailbox) (h : Holding) (rul
         rule = record {
           mailed = mailed_still n mail (record n { kept = Some y }) rule.mailed refl refl refl refl;
           hand = rule.hand;
+          here = rule.here;
           holds = subst (λ (g : Holding). Holds (record n { kept = Some y }) g) (sym is) (kept_down down y t);
         };
         asks = askable laws (record n { kept = Some y }) y (record { known = a.known; place = a.place; there = a.there; left = a.left; right = a.right });

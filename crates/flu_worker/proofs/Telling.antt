@@ -19,7 +19,7 @@ use Rattle.flu_worker.specs.declared.holding.Holding.TheVariants.{LendingRight, 
 use Rattle.flu_worker.specs.Agreeing.{Agrees, IsTarget}
 use Rattle.flu_worker.specs.Hands.{is_lost, is_open, is_out}
 use Rattle.flu_worker.specs.Holding.{hand_of}
-use Rattle.flu_worker.specs.Keeping.{HasRule, KeepsIn}
+use Rattle.flu_worker.specs.Keeping.{HasRule, KeepsIn, LotsFit}
 use Rattle.flu_worker.specs.LawsBelow.{LawsBelow}
 use Rattle.flu_worker.specs.Notes.{WorkerNote, lent_to, own_of, above_of}
 use Rattle.flu_worker.specs.Rule.{Rule, Holds, IsMailed}
@@ -117,9 +117,24 @@ target n (TakingLeft a) h y e = target_counted n n.lent_left.upto h.down.forked.
 target n (TakingRight b) h y e = target_counted n n.lent_left.upto h.down.forked.agrees y (h.down.target y e)
 target n Gone h y e = never_ask n.kept h e
 
+-- ---- the lots in the hand
+lots : (n : WorkerNote) (h : Holding) → Holds n h → LotsFit n h
+lots n NoLot h = tt
+lots n (WholeLot lot) h = h.fits
+lots n (LendingBoth a b) h = (λ l r e. (h.left l r e).fits, λ l r e. (h.right l r e).fits)
+lots n (LendingLeft a) h = λ l r e. (h.left l r e).fits
+lots n (LendingRight b) h = λ l r e. (h.right l r e).fits
+lots n BothOut h = tt
+lots n (TakingLeft a) h = h.fits
+lots n (TakingRight b) h = h.fits
+lots n Gone h = tt
+
 pub rule_told : LawsBelow → (n : WorkerNote) (mail : Mailbox) (h : Holding) → Rule n mail h → HasRule n
 rule_told laws n mail h rule = record {
   there = rule.mailed.there;
+  long = counts_long n mail rule.mailed;
+  shape = rule.hand ∙ sym (ap hand_of rule.here);
+  lots = subst (λ (g : Holding). LotsFit n g) (sym rule.here) (lots n h rule.holds);
   counted = counted n mail rule.mailed;
   keeps = subst (λ (g : Hand). KeepsIn g n) (sym rule.hand) (keeps n h rule.holds);
   held = λ i opened lost lt over. held laws n h rule.holds i (ap is_open (sym rule.hand) ∙ opened) (ap is_lost (sym rule.hand) ∙ lost) lt over;

@@ -52,6 +52,10 @@ pub record IsNew (k : Content) (w : ℕ) (n : WorkerNote) : Type 0 where
   pub lent_left : n.lent_left ≡ none_counted k
   pub lent_right : n.lent_right ≡ none_counted k
 
+-- the counts of a lot that a worker hands on are, of the worker's own itags and of those above it, what the worker counted
+abbrev pub IsTied : WorkerNote → Lot → Type 0
+IsTied n lot = (i : ℕ) → (own_of n i ≡ true) ⊎ (above_of n i ≡ true) → slice_index lot.upto i ≡ slice_index n.counts i
+
 -- ---- hold: the events of the itags above the node are counted as in the lot, and all others as before
 pub record HoldsLot (lot : Lot) (old new : WorkerNote) : Type 0 where
   pub place : IsSamePlace old new
@@ -74,6 +78,7 @@ pub record GivesLot (lot : Lot) (old new : WorkerNote) : Type 0 where
   pub held : new.held ≡ old.held
   pub given : new.given ≡ lot.upto
   pub counts : new.counts ≡ old.counts
+  pub tied : IsTied old lot
 
 -- ---- handle
 pub record HandlesEvent (x : Ask) (old new : WorkerNote) : Type 0 where
@@ -110,6 +115,7 @@ pub record LendsPart (s : Side) (part : Lot) (old new : WorkerNote) : Type 0 whe
   pub lent_right : new.lent_right ≡ at_side s old.lent_right (counts_of part)
   pub taken_left : new.taken_left ≡ old.taken_left
   pub taken_right : new.taken_right ≡ old.taken_right
+  pub tied : IsTied old part
 
 -- what is lent to a child fits it, and its counts go on from those of the lot taken last from this child
 pub record IsFitPart (s : Side) (part : Lot) (n : WorkerNote) : Type 0 where

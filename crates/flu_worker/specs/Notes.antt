@@ -8,13 +8,15 @@ use Rattle.flu_fork.specs.Serving.{LotCounts}
 use Rattle.flu_worker.specs.declared.hand.Hand.{Hand}
 use Rattle.flu_worker.specs.declared.hand.Side.{Side}
 use Rattle.flu_worker.specs.declared.hand.Side.TheVariants.{Left, Right}
+use Rattle.flu_worker.specs.declared.holding.Holding.{Holding}
 
 pub record WorkerNote : Type 0 where
   -- the case that it works on, and its node of the plan
   pub case : Content
   pub node : ℕ
-  -- what it has in its hand, by its shape, and its target, where it keeps one
+  -- what it has in its hand: the shape of that, and the lots; and its target, where it keeps one
   pub hand : Hand
+  pub holding : Holding
   pub kept : Option Ask
   -- how many items of each itag it has seen, and how many events counted
   pub seen : List ℕ

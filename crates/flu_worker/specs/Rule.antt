@@ -127,4 +127,5 @@ pub record IsMailed (n : WorkerNote) (mail : Mailbox) : Type 0 where
 pub record Rule (n : WorkerNote) (mail : Mailbox) (holding : Holding) : Type 0 where
   pub mailed : IsMailed n mail
   pub hand : n.hand ≡ hand_of holding
+  pub here : n.holding ≡ holding
   pub holds : Holds n holding

@@ -61,6 +61,7 @@ pub struct Worker {
 
 impl Model for Worker {
     ghost use Rattle.std.specs.Coded.{codes};
+    ghost use Rattle.flu_cells.specs.contracts.state.State as f;
     ghost use Rattle.flu_fork.specs.contracts.content.Content as e;
     ghost use Rattle.flu_worker.specs.Notes.{WorkerNote};
     ghost use Rattle.flu_worker.specs.Holding.{hand_of};
@@ -69,12 +70,13 @@ impl Model for Worker {
 
     ghost Value = { WorkerNote };
 
-    ghost coded = { Prim.hlevel (codes, e.the_row.coded) };
+    ghost coded = { Prim.hlevel (codes, e.the_row.coded, f.the_row.coded) };
 
     ghost view = { λ w. record {
       case = w.case;
       node = w.node;
       hand = hand_of w.holding;
+      holding = w.holding;
       kept = w.kept;
       seen = seen_of w.mail;
       counts = counts_of w.mail;
@@ -92,6 +94,7 @@ impl Model for Worker {
       case = w.case;
       node = w.node;
       hand = hand_of w.holding;
+      holding = w.holding;
       kept = w.kept;
       seen = seen_of w.mail;
       counts = counts_of w.mail;

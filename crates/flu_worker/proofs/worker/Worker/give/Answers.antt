@@ -20,7 +20,7 @@ whole_of-lot-requires c =
     ap (λ (h : Holding). is_whole (hand_of h)) c.taken.ensures.was ∙ sym (ap is_whole rule.hand) ∙ may_hand v c.args.y c.requires.may
 
 abbrev after : WorkerNote → List ℕ → WorkerNote
-after x u = record x { hand = Empty; kept = None; given = u }
+after x u = record x { hand = Empty; holding = NoLot; kept = None; given = u }
 
 given : (c : goal.Joined-self) → Given c.args.self.now (after c.args.self.now c.whole_of-lot.result.upto) c.self.inside.mail c.args.y c.whole_of-lot.result
 given c =

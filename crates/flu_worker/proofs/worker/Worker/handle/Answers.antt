@@ -93,7 +93,7 @@ invariant_of-self c =
     let was = c.self.inside.holding in
     let rule : Rule v old was = subst (λ (x : WorkerNote). Rule x old was) c.self.view_is c.self.invariant in
     let h = c.done_in.new.holding in
-    subst (λ (x : WorkerNote). Rule (record x { hand = hand_of h; kept = None }) old h) (sym c.self.view_is)
+    subst (λ (x : WorkerNote). Rule (record x { hand = hand_of h; holding = h; kept = None }) old h) (sym c.self.view_is)
     (lost_rule v old was h rule c.in_err-done_in.ensures.gone)
 
 pub invariant_of-self-2 : goal.invariant_of-self-2
@@ -114,8 +114,8 @@ invariant_of-self-2 c =
     c.count_one.ensures.at c.count_one.ensures.over in
     let set = c.count_one.ensures.counts ∙ ap (λ (u : List ℕ). slice_set u c.args.x.itag.0 (slice_index u c.args.x.itag.0 + 1)) rule.mailed.counts in
     let held = held_at c.args.case.now c.self.inside.node v d.more h (record { case = c.requires.case; node = node }) d.held in
-    subst (λ (x : WorkerNote). Rule (record x { hand = hand_of h; kept = None; seen = seen_of new; counts = counts_of new }) new h) (sym c.self.view_is)
-    (subst (λ (u : List ℕ). Rule (record v { hand = hand_of h; kept = None; seen = u; counts = counts_of new }) new h)
+    subst (λ (x : WorkerNote). Rule (record x { hand = hand_of h; holding = h; kept = None; seen = seen_of new; counts = counts_of new }) new h) (sym c.self.view_is)
+    (subst (λ (u : List ℕ). Rule (record v { hand = hand_of h; holding = h; kept = None; seen = u; counts = counts_of new }) new h)
     (sym (c.count_one.ensures.seen ∙ rule.mailed.seen))
     (handled_rule c.laws_below.ensures v old was rule c.args.x c.requires.next d.lot d.was d.more fits d.since d.upto new same
     (counts_of new) refl set h held))
@@ -138,9 +138,9 @@ returns-clause-note c =
     c.count_one.ensures.at c.count_one.ensures.over in
     let set = c.count_one.ensures.counts ∙ ap (λ (u : List ℕ). slice_set u c.args.x.itag.0 (slice_index u c.args.x.itag.0 + 1)) rule.mailed.counts in
     let held = held_at c.args.case.now c.self.inside.node v d.more h (record { case = c.requires.case; node = node }) d.held in
-    subst (λ (x : WorkerNote). HandlesEvent c.args.x v (record x { hand = hand_of h; kept = None; seen = seen_of new; counts = counts_of new }))
+    subst (λ (x : WorkerNote). HandlesEvent c.args.x v (record x { hand = hand_of h; holding = h; kept = None; seen = seen_of new; counts = counts_of new }))
     (sym c.self.view_is)
-    (subst (λ (u : List ℕ). HandlesEvent c.args.x v (record v { hand = hand_of h; kept = None; seen = u; counts = counts_of new }))
+    (subst (λ (u : List ℕ). HandlesEvent c.args.x v (record v { hand = hand_of h; holding = h; kept = None; seen = u; counts = counts_of new }))
     (sym (c.count_one.ensures.seen ∙ rule.mailed.seen))
     (handles c.laws_below.ensures v old was rule c.args.x c.requires.next d.lot d.was d.more fits d.since d.upto new same
     (counts_of new) refl set h held))

@@ -37,15 +37,16 @@ invariant_of-self-2 c =
     subst (λ (x : WorkerNote). Rule
     (record x {
       hand = hand_of h;
+      holding = h;
       seen = seen_of new;
       counts = counts_of new;
       held = record { since = c.of-since.result.value; upto = c.of-upto.result.value };
     }) new h)
     (sym c.self.view_is)
     (subst (λ (u : List ℕ). Rule
-    (record v { hand = hand_of h; seen = u; counts = counts_of new; held = record { since = c.of-since.result.value; upto = c.of-upto.result.value } }) new h)
+    (record v { hand = hand_of h; holding = h; seen = u; counts = counts_of new; held = record { since = c.of-since.result.value; upto = c.of-upto.result.value } }) new h)
     (sym (c.count_above.ensures.seen ∙ rule.mailed.seen))
-    (subst (λ (m : LotCounts). Rule (record v { hand = hand_of h; counts = counts_of new; held = m }) new h) (sym noted) held))
+    (subst (λ (m : LotCounts). Rule (record v { hand = hand_of h; holding = h; counts = counts_of new; held = m }) new h) (sym noted) held))
 
 pub returns : goal.returns
 returns c =
@@ -73,12 +74,13 @@ returns c =
     subst (λ (x : WorkerNote). HoldsLot c.args.lot v
     (record x {
       hand = hand_of h;
+      holding = h;
       seen = seen_of new;
       counts = counts_of new;
       held = record { since = c.of-since.result.value; upto = c.of-upto.result.value };
     }))
     (sym c.self.view_is)
     (subst (λ (u : List ℕ). HoldsLot c.args.lot v
-    (record v { hand = hand_of h; seen = u; counts = counts_of new; held = record { since = c.of-since.result.value; upto = c.of-upto.result.value } }))
+    (record v { hand = hand_of h; holding = h; seen = u; counts = counts_of new; held = record { since = c.of-since.result.value; upto = c.of-upto.result.value } }))
     (sym (c.count_above.ensures.seen ∙ rule.mailed.seen))
-    (subst (λ (m : LotCounts). HoldsLot c.args.lot v (record v { hand = hand_of h; counts = counts_of new; held = m })) (sym noted) held))
+    (subst (λ (m : LotCounts). HoldsLot c.args.lot v (record v { hand = hand_of h; holding = h; counts = counts_of new; held = m })) (sym noted) held))

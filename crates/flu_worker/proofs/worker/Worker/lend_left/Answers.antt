@@ -11,7 +11,7 @@ use Rattle.flu_worker.proofs.Lending.{Lent, lends_left}
 use Rattle.flu_worker.proofs.worker.Worker.lend_left.Goals as goal
 
 abbrev after : goal.Joined-self-rest → WorkerNote → LotCounts → WorkerNote
-after c x m = record x { hand = hand_of c.split_left-lot.result.1; lent_left = m }
+after c x m = record x { hand = hand_of c.split_left-lot.result.1; holding = c.split_left-lot.result.1; lent_left = m }
 
 lent : (c : goal.Joined-self-rest)
     → Lent Left c.args.self.now

@@ -11,7 +11,7 @@ use Rattle.flu_worker.proofs.Lending.{Lent, lends_right}
 use Rattle.flu_worker.proofs.worker.Worker.lend_right.Goals as goal
 
 abbrev after : goal.Joined-self-rest → WorkerNote → LotCounts → WorkerNote
-after c x m = record x { hand = hand_of c.split_right-lot.result.1; lent_right = m }
+after c x m = record x { hand = hand_of c.split_right-lot.result.1; holding = c.split_right-lot.result.1; lent_right = m }
 
 lent : (c : goal.Joined-self-rest)
     → Lent Right c.args.self.now

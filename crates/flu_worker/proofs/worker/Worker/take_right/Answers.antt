@@ -21,7 +21,7 @@ come_right-requires-clause-awaits c =
     (awaits_right c.laws_below.ensures v c.self.inside.mail c.args.lot c.requires.kept c.requires.fits c.requires.served c.self.inside.holding rule)))
 
 abbrev after : goal.After-drop-self-inside-5 → WorkerNote → List ℕ → WorkerNote
-after c x u = record x { hand = hand_of c.in_ok-self-inside.field-0; taken_right = u }
+after c x u = record x { hand = hand_of c.in_ok-self-inside.field-0; holding = c.in_ok-self-inside.field-0; taken_right = u }
 
 took : (c : goal.After-drop-self-inside-5)
     → Took Right c.args.self.now (after c c.args.self.now c.args.lot.upto) c.self.inside.mail c.in_ok-self-inside.field-0 c.args.lot
