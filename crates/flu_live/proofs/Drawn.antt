@@ -13,7 +13,7 @@ use Rattle.flu_net.specs.Enabled.{is_enabled}
 use Rattle.flu_net.specs.Notes.{NetNote}
 use Rattle.flu_live.specs.declared.counts.StepCounts.{StepCounts}
 use Rattle.flu_live.specs.Possible.{IsPossible, all_steps, arrival, enabled_among, enabled_steps, steps_of}
-use Rattle.flu_live.specs.Seeded.{IsTrace, Reaches, begun, made}
+use Rattle.flu_live.specs.Seeded.{IsWholeRun, Reaches, begun, made}
 
 -- ---- lists of numbers, and what each of them gives
 in_range : (P : ℕ → Type 0) (lo n : ℕ) → ((i : ℕ) → i < lo + n → P i) → AllByRecursion P (range_with_len lo n)
@@ -73,5 +73,6 @@ run_possible k seed n done x steps mark (made {old = old} {new = new} {done = be
       all_push (IsPossible k) before s earlier.1 (subst (λ c. IsPossible c s) earlier.0 (drawn_possible old place s drawn.is)),
     )
 
-pub trace_possible : (k : Content) (seed : ℕ) (done : List Step) → IsTrace k seed done → AllByRecursion (IsPossible k) done
-trace_possible k seed done traced = (run_possible k seed traced.run.net done traced.run.last traced.steps traced.mark traced.run.run).1
+pub whole_possible : (k : Content) (seed : ℕ) (done : List Step) (steps : StepCounts) (mark : ℕ) → IsWholeRun k seed done steps mark
+    → AllByRecursion (IsPossible k) done
+whole_possible k seed done steps mark whole = (run_possible k seed whole.net done whole.last steps mark whole.run).1

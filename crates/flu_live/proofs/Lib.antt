@@ -4,3 +4,4 @@ pub mod Turns
 pub mod Drawn
 pub mod Batches
 pub mod Bounds
+pub mod OneRun

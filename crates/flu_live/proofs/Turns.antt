@@ -10,12 +10,13 @@ use Rattle.std.proofs.lemmas.Option.{slice_get-get_or}
 use Rattle.flu_net.specs.Enabled.{is_enabled}
 use Rattle.flu_net.specs.Effects.{Makes}
 use Rattle.flu_live.proofs.Chosen.{is_on}
+use Rattle.flu_net.specs.Final.{IsFinal}
 use Rattle.flu_net.specs.Notes.{NetNote}
 use Rattle.flu_live.specs.declared.counts.StepCounts.{StepCounts}
 use Rattle.flu_live.specs.Counting.{steps_in}
 use Rattle.flu_live.specs.Drawing.{IsOnItsWay, kept_in}
 use Rattle.flu_net.specs.Measure.{most_steps, steps_left}
-use Rattle.flu_live.specs.Seeded.{IsDrawn, IsTrace, Reaches, begun, counting, made, marked, no_steps}
+use Rattle.flu_live.specs.Seeded.{IsDrawn, IsWholeRun, Reaches, begun, counting, made, marked, no_steps}
 use Rattle.flu_live.specs.Possible.{all_steps, enabled_steps}
 use Rattle.flu_live.specs.declared.simulating.Drawing.{Drawing}
 use Rattle.flu_net.specs.Starting.{IsStart}
@@ -107,17 +108,14 @@ drawn_on n enabled place d are there =
     is_on n (all_steps n.case) place (get_or enabled place d) (sym (ap (λ l. slice_get l place) are) ∙ slice_get-get_or enabled place d there)
 
 -- ---- the steps of a whole run, where they are kept
-pub trace_of : (k : Content) (d : Drawing) (seed : ℕ) (done : List Step) (way : IsOnItsWay k d) → d.seed ≡ seed → done ≡ way.done → enabled_steps d.net ≡ []
-    → IsTrace k seed done
-trace_of k d seed done way seeded same ended = record {
-  steps = d.steps;
-  mark = d.mark;
-  run = record {
-    net = d.net;
-    last = d.last;
-    run =
-        subst (λ (l : List Step). Reaches k seed d.net l d.last d.steps d.mark) (sym same)
-        (subst (λ s. Reaches k s d.net way.done d.last d.steps d.mark) seeded way.run);
-    ended = ended;
-  };
+pub whole_of : (k : Content) (d : Drawing) (seed : ℕ) (done : List Step) (way : IsOnItsWay k d) → d.seed ≡ seed → done ≡ way.done → enabled_steps d.net ≡ []
+    → IsFinal d.net → IsWholeRun k seed done d.steps d.mark
+whole_of k d seed done way seeded same ended final = record {
+  net = d.net;
+  last = d.last;
+  run =
+      subst (λ (l : List Step). Reaches k seed d.net l d.last d.steps d.mark) (sym same)
+      (subst (λ s. Reaches k s d.net way.done d.last d.steps d.mark) seeded way.run);
+  ended = ended;
+  is_final = final;
 }

@@ -1,4 +1,5 @@
 pub mod Seeded
+pub mod OneRun
 pub mod Possible
 pub mod Counting
 pub mod Drawing

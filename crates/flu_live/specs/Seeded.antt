@@ -5,6 +5,7 @@ use Rattle.flu_fork.specs.declared.content.Content.{Content}
 use Rattle.flu_net.specs.declared.steps.Step.{Step}
 use Rattle.flu_net.specs.declared.steps.Step.TheVariants.{Arrive, Handle, Ask, Take, Give, Hold, Lend}
 use Rattle.flu_net.specs.Effects.{Makes}
+use Rattle.flu_net.specs.Final.{IsFinal}
 use Rattle.flu_net.specs.Notes.{NetNote}
 use Rattle.flu_net.specs.Starting.{IsStart}
 use Rattle.flu_live.specs.declared.counts.StepCounts.{StepCounts}
@@ -47,12 +48,13 @@ pub data Reaches (k : Content) (seed : ℕ) : NetNote → List Step → ℕ → 
   made : {old new : NetNote} {done : List Step} {x place : ℕ} {s : Step} {steps : StepCounts} {mark : ℕ} → Reaches k seed old done x steps mark
       → IsDrawn old (next_draw x) place s → Makes s old new → Reaches k seed new (done ++ s ∷ []) (next_draw x) (counting s steps) (marked mark place)
 
--- these are the steps of a whole run, how many of each kind they are and the mark: no step is enabled in the end
+-- these are the steps of a whole run, how many of each kind they are and the mark: in the end no step is enabled, and the net is final
 pub record IsWholeRun (k : Content) (seed : ℕ) (done : List Step) (steps : StepCounts) (mark : ℕ) : Type 0 where
   pub net : NetNote
   pub last : ℕ
   pub run : Reaches k seed net done last steps mark
   pub ended : enabled_steps net ≡ []
+  pub is_final : IsFinal net
 
 -- so many steps of each kind has a whole run, and this mark
 pub record IsSeeded (k : Content) (seed : ℕ) (steps : StepCounts) (mark : ℕ) : Type 0 where

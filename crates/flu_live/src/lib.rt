@@ -5,6 +5,7 @@ mod bounding;
 mod counts;
 mod drawing;
 mod engines;
+pub mod laws;
 mod possible;
 mod simulating;
 
@@ -12,4 +13,4 @@ pub use bounding::bound;
 pub use counts::StepCounts;
 pub use engines::NetEngine;
 pub use possible::some_enabled;
-pub use simulating::{Run, simulate, trace};
+pub use simulating::{Run, TracedRun, simulate, trace};

@@ -8,10 +8,11 @@ ghost use Rattle.flu_model.specs.Listed.{listed};
 ghost use Rattle.flu_model.specs.Sorts.{IsStateOf};
 ghost use Rattle.flu_cells.specs.Holding.{held};
 ghost use Rattle.flu_fork.specs.Lots.{job};
+ghost use Rattle.flu_net.specs.Final.{IsFinal};
 ghost use Rattle.flu_net.specs.Measure.{steps_left};
 ghost use Rattle.flu_live.specs.Drawing.{IsOnItsWay, kept_in};
 ghost use Rattle.flu_live.specs.Possible.{IsPossible, enabled_steps};
-ghost use Rattle.flu_live.specs.Seeded.{IsSeeded, IsTrace};
+ghost use Rattle.flu_live.specs.Seeded.{IsSeeded, IsWholeRun};
 
 use crate::bounding::bound;
 use crate::counts::StepCounts;
@@ -62,22 +63,39 @@ pub fn simulate(alloc: Global, case: &Case, seed: u32) -> Result<Run, AllocError
     run.end(alloc, case)
 }
 
-/// The steps of the run that a seed draws, in their order (`docs/TREE.md`). Each of them names an itag or a worker that is there.
+/// The steps of a run, in their order, with how many of each kind they are and the mark of their places.
+#[derive(Drop)]
+pub struct TracedRun {
+    pub steps: Vec<Step>,
+    pub counts: StepCounts,
+    pub mark: u32,
+}
+
+/// The run that a seed draws, step by step (`docs/TREE.md`). Each of its steps names an itag or a worker that is there.
 ///
 /// # Errors
 ///
 /// Only where memory is wanting.
-pub fn trace(alloc: Global, case: &Case, seed: u32) -> Result<Vec<Step>, AllocError>
+pub fn trace(alloc: Global, case: &Case, seed: u32) -> Result<TracedRun, AllocError>
     requires { seed < 2 ^ 31 }
-    ensures drawn { IfOk result (λ steps. IsTrace case.now seed steps.items) }
-    ensures possible { IfOk result (λ steps. AllByRecursion (IsPossible case.now) steps.items) }
+    ensures drawn { IfOk result (λ t. IsWholeRun case.now seed t.steps.items t.counts t.mark) }
+    ensures possible { IfOk result (λ t. AllByRecursion (IsPossible case.now) t.steps.items) }
 {
     let run = drawn_run(alloc, case, seed, Some(Vec::new(alloc)))?;
-    let Drawing { kept, .. } = run;
+    let Drawing {
+        kept,
+        steps: counts,
+        mark,
+        ..
+    } = run;
     let Some(steps) = kept else {
         unreachable!();
     };
-    Ok(steps)
+    Ok(TracedRun {
+        steps,
+        counts,
+        mark,
+    })
 }
 
 // The whole run that a seed draws, which puts its steps at the end of a list, where one is handed in.
@@ -93,6 +111,7 @@ fn drawn_run(
     ensures seed { IfOk result (λ d. d.seed ≡ seed) }
     ensures kept { IfOk result (λ d. is_some (kept_in d.kept) ≡ is_some (kept_in kept)) }
     ensures ended { IfOk result (λ d. enabled_steps d.net ≡ []) }
+    ensures is_final { IfOk result (λ d. IsFinal d.net) }
 {
     let steps = all_steps(alloc, case)?;
     let mut run = Drawing::begin(alloc, case, seed, kept)?;
@@ -102,6 +121,8 @@ fn drawn_run(
         run.turn(alloc, case, enabled.as_slice())?;
         put_enabled(&mut enabled, &run.net, case, steps.as_slice())?;
     }
+    run.net.never_blocks();
+    run.net.rule();
     Ok(run)
 }
 
@@ -171,6 +192,7 @@ impl Drawing {
     fn end(self, alloc: Global, case: &Case) -> Result<Run, AllocError>
         requires way { IsOnItsWay case.now self }
         requires ended { enabled_steps self.net ≡ [] }
+        requires is_final { IsFinal self.net }
         ensures state { IfOk result (λ r. held r.state ≡ final_state (job case.now) (held case.now.opening) (listed case.now.streams)) }
         ensures sorts { IfOk result (λ r. IsStateOf (job case.now).families (held r.state)) }
         ensures outputs { IfOk result (λ r. IsPermutation (final_outputs (job case.now) (held case.now.opening) (listed case.now.streams)) r.outs) }
@@ -182,8 +204,6 @@ impl Drawing {
             mark,
             ..
         } = self;
-        net.never_blocks();
-        net.rule();
         let (state, outs) = net.joined(alloc, case)?;
         Ok(Run {
             state,

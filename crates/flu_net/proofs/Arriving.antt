@@ -21,7 +21,7 @@ use Rattle.flu_net.specs.Notes.{NetNote}
 use Rattle.flu_net.specs.Rule.{Hangs, Lets, IsPlaced, IsSeen, Rule, Stands, Ties}
 use Rattle.flu_net.specs.Showing.{AllMaySee}
 
-mapped_from : {X : Type 0} (f : X → X) (xs : List X) (w : ℕ) (y : X) → slice_get (map f xs) w ≡ Some y → (x : X) × (slice_get xs w ≡ Some x) × (f x ≡ y)
+pub mapped_from : {X : Type 0} (f : X → X) (xs : List X) (w : ℕ) (y : X) → slice_get (map f xs) w ≡ Some y → (x : X) × (slice_get xs w ≡ Some x) × (f x ≡ y)
 mapped_from f [] w y e = cc
 mapped_from f (x ∷ xs) zero y e = (x, refl, same_Some (f x) y e)
 mapped_from f (x ∷ xs) (suc w) y e = mapped_from f xs w y e

@@ -183,33 +183,32 @@ rule_holds laws w old new rule h =
     (stands_hold old.workers old.edges rule.stands w s.was s.is s.at h.lot (slice_get_within old.edges w (Lent h.lot) h.lent) h.does)
     (λ i mine. h.does.counts_own i (own_to old.case w s.was i placed.case placed.node mine))
 
-pub rule_gives : LawsBelow → (w : ℕ) (old new : NetNote) → Rule old → (h : Gives w old new)
-    → LotFits h.step.was.case h.step.was.node h.lot → Served h.step.was.case h.step.was.node h.step.was.held h.ask h.lot → Rule new
-rule_gives laws w old new rule h fits served =
+pub rule_gives : LawsBelow → (w : ℕ) (old new : NetNote) → Rule old → Gives w old new → Rule new
+rule_gives laws w old new rule h =
     let s = h.step in
     rule_same w old new laws rule s (set old.edges w (Given h.lot)) h.edges h.outs
-    (ties_give laws old.case old.seen old.workers old.edges rule.ties w s.was s.is s.at h.ask h.lot h.asked h.does fits served)
+    (ties_give laws old.case old.seen old.workers old.edges rule.ties w s.was s.is s.at h.ask h.lot h.asked h.does h.fits h.served)
     (stands_give old.workers old.edges rule.stands w s.was s.is s.at h.lot h.lot (slice_get_within old.edges w (Asked h.ask) h.asked)
     (below_top laws old.case old.seen old.workers old.edges rule.ties w s.was s.is s.at (Asked h.ask) h.asked (λ e. cc)) h.does)
     (λ i mine. ap (λ c. slice_index c i) h.does.counts)
 
 pub rule_lends : LawsBelow → (w : ℕ) (side : Side) (old new : NetNote) → Rule old → (h : Lends w side old new)
-    → may_lend side h.step.was.hand ≡ true → IsFitPart side h.lot h.step.was → Rule new
-rule_lends laws w side old new rule h may fit =
+    → may_lend side h.step.was.hand ≡ true → Rule new
+rule_lends laws w side old new rule h may =
     let s = h.step in
     let pair = kid_pair old.case w h.kid side h.is_kid in
     let same : h.kid ≡ at_side side pair.0 pair.1 = pair.3 in
     rule_same w old new laws rule s (set old.edges (at_side side pair.0 pair.1) (Lent h.lot)) (h.edges ∙ ap (λ v. set old.edges v (Lent h.lot)) same) h.outs
     (ties_lend laws old.case old.seen old.workers old.edges rule.ties w s.was s.is s.at side pair.0 pair.1 pair.2 h.lot
-    (sym (ap (slice_get old.edges) same) ∙ lend_was laws old rule w s.was s.at h.kid side h.is_kid may) may h.does fit)
+    (sym (ap (slice_get old.edges) same) ∙ lend_was laws old rule w s.was s.at h.kid side h.is_kid may) may h.does h.part)
     (stands_lend old.workers old.edges rule.stands w s.was s.is s.at laws side h.lot h.lot (at_side side pair.0 pair.1)
     (sym (ap (slice_get old.edges) same) ∙ lend_was laws old rule w s.was s.at h.kid side h.is_kid may)
     (apart laws old.case w side pair.0 pair.1 pair.2) may h.does)
     (λ i mine. ap (λ c. slice_index c i) h.does.counts)
 
 pub rule_asks : LawsBelow → (w : ℕ) (side : Side) (old new : NetNote) → Rule old → (h : Asks w side old new)
-    → slice_get old.edges h.kid ≡ Some Held → may_take side h.step.was.hand ≡ true → IsAskable h.step.is h.target → Rule new
-rule_asks laws w side old new rule h held may askable =
+    → slice_get old.edges h.kid ≡ Some Held → may_take side h.step.was.hand ≡ true → Rule new
+rule_asks laws w side old new rule h held may =
     let s = h.step in
     let placed = rule.ties.placed w s.was s.at in
     let pair = kid_pair old.case w h.kid side h.is_kid in
@@ -217,9 +216,9 @@ rule_asks laws w side old new rule h held may askable =
     rule_same w old new laws rule s (set old.edges (at_side side pair.0 pair.1) (Asked h.target))
     (h.edges ∙ ap (λ v. set old.edges v (Asked h.target)) same) h.outs
     (ties_ask laws old.case old.seen old.workers old.edges rule.ties w s.was s.is s.at side pair.0 pair.1 pair.2 h.target
-    (sym (ap (slice_get old.edges) same) ∙ held) may h.does askable)
+    (sym (ap (slice_get old.edges) same) ∙ held) may h.does h.askable)
     (stands_ask old.workers old.edges rule.stands w s.was s.is s.at laws (at_side side pair.0 pair.1) h.target
-    (known_ask s.was s.is h.target (Some h.target) h.does askable old.case w side pair.0 pair.1 placed.case placed.node pair.2)
+    (known_ask s.was s.is h.target (Some h.target) h.does h.askable old.case w side pair.0 pair.1 placed.case placed.node pair.2)
     h.aims (sym (ap (slice_get old.edges) same) ∙ held) (apart laws old.case w side pair.0 pair.1 pair.2) h.does)
     (λ i mine. ap (λ (x : WorkerNote). slice_index x.counts i) h.does.rest)
 

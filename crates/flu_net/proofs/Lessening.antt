@@ -32,6 +32,7 @@ use Rattle.flu_net.proofs.Keeping.{known, own_at, own_to}
 use Rattle.flu_net.proofs.Measures.{counts_rise, counts_stay, edge_changes, first_lends, left_of, lend_lends, lends}
 use Rattle.flu_net.proofs.Measures.{lends_by, lends_is, most_nodes, one_node, shut_lends, take_lends, worker_changes}
 use Rattle.flu_net.proofs.Readying.{held_edge, kid_pair, lend_was, ready_shut, there_test}
+use Rattle.flu_net.proofs.Reached.{made_rule}
 use Rattle.flu_net.proofs.Sizes.{TreesBelow}
 use Rattle.flu_net.proofs.Sums.{total_change, total_map, total_same}
 
@@ -197,11 +198,8 @@ module _ (laws : LawsBelow) (trees : TreesBelow) (old : NetNote) (rule : Rule ol
         omega arith
 
 pub lessens : LawsBelow → TreesBelow → StepsLower
-lessens laws trees s old new step = by s (and_right (not old.gone) _ step.enabled) step.made
+lessens laws trees s old new rule step = by s (and_right (not old.gone) _ step.enabled) step.made
   where
-    rule : Rule old
-    rule = step.well (not_true old.gone (and_left (not old.gone) _ step.enabled))
-
     by : (s : Step) → by_step old s ≡ true → Makes s old new → steps_left new < steps_left old
     by (Arrive i) may m = subst (λ x. steps_left x < steps_left old) (sym m) (less_arrive laws trees old rule i may)
     by (Handle w) may m = less_handle laws trees old rule new w m
@@ -212,9 +210,9 @@ lessens laws trees s old new step = by s (and_right (not old.gone) _ step.enable
     by (Lend w side) may m = less_lend laws trees old rule new w side may m
 
 -- as many steps as a run has are fewer left behind it
-pub run_lowers : LawsBelow → TreesBelow → (steps : List Step) (old new : NetNote) → Runs steps old new → length steps + steps_left new ≤ steps_left old
-run_lowers laws trees [] old new run = let same : steps_left new ≡ steps_left old = ap steps_left run in omega arith
-run_lowers laws trees (s ∷ steps) old new run =
-    let less = lessens laws trees s old run.0 run.1 in
-    let rest = run_lowers laws trees steps run.0 new run.2 in
+pub run_lowers : LawsBelow → TreesBelow → (steps : List Step) (old new : NetNote) → Rule old → Runs steps old new → length steps + steps_left new ≤ steps_left old
+run_lowers laws trees [] old new rule run = let same : steps_left new ≡ steps_left old = ap steps_left run in omega arith
+run_lowers laws trees (s ∷ steps) old new rule run =
+    let less = lessens laws trees s old run.0 rule run.1 in
+    let rest = run_lowers laws trees steps run.0 new (made_rule laws s old run.0 rule run.1) run.2 in
     omega arith

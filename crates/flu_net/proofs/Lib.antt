@@ -22,3 +22,5 @@ pub mod Lessening
 pub mod MostSteps
 pub mod Bringing
 pub mod Made
+pub mod Reached
+pub mod Alike

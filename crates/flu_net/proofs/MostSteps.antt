@@ -21,6 +21,7 @@ use Rattle.flu_net.specs.Starting.{AreHome, AreNew, IsStart}
 use Rattle.flu_net.proofs.Lessening.{run_lowers}
 use Rattle.flu_net.proofs.Measures.{first_lends, left_of, lends, lends_by, lends_is, most_nodes}
 use Rattle.flu_net.proofs.Sizes.{TreesBelow}
+use Rattle.flu_net.proofs.Starts.{start_rule}
 use Rattle.flu_net.proofs.Sums.{total_le, total_same, total_zero}
 
 module _ (laws : LawsBelow) (trees : TreesBelow) (k : Content) where
@@ -71,5 +72,5 @@ starts_bounded laws trees k n start = most_at_start laws trees k n start
 pub runs_bounded : LawsBelow → TreesBelow → RunsAreBounded
 runs_bounded laws trees k old new steps start run =
     let most = most_at_start laws trees k old start in
-    let lower = run_lowers laws trees steps old new run in
+    let lower = run_lowers laws trees steps old new (start_rule laws k old start) run in
     omega arith

@@ -1,8 +1,9 @@
 -- What a step that is enabled may rely on.
-use Rattle.std.proofs.Common.{◌≡◌, ◌<◌, ℕ, Bool, Option, Some, None, List, length, get_or, true, false, refl, sym, ap, subst, ◌∙◌, arith}
+use Rattle.std.proofs.Common.{◌≡◌, ◌<◌, ℕ, Bool, Option, Some, None, List, length, get_or, set, true, false, refl, sym, ap, subst, ◌∙◌, arith}
 use Rattle.std.specs.Prelude.{slice_get, slice_index, is_some, IfSome, IsSome}
 use Rattle.std.proofs.lemmas.Option.{slice_get_read, slice_get_within, same_Some}
 use Rattle.flu_lemmas.proofs.Places.{slice_get-there}
+use Rattle.flu_lemmas.proofs.Replaced.{slice_get-set_same}
 use Rattle.flu_lemmas.proofs.Tests.{not_both}
 use Rattle.flu_model.specs.declared.plans.Node.{Node}
 use Rattle.flu_deps.specs.Owned.{kids_of}
@@ -14,6 +15,7 @@ use Rattle.flu_fork.specs.Serving.{AsksAbove, GrownFrom, Served}
 use Rattle.flu_worker.specs.declared.hand.Side.{Side}
 use Rattle.flu_worker.specs.Choosing.{may_give}
 use Rattle.flu_worker.specs.Hands.{at_side, is_open, may_lend, may_take}
+use Rattle.flu_worker.specs.Keeping.{HasRule}
 use Rattle.flu_worker.specs.Notes.{WorkerNote, lent_to}
 use Rattle.flu_net.specs.declared.edges.Edge.{Edge}
 use Rattle.flu_net.specs.declared.edges.Edge.TheVariants.{Home, Lent, Held, Asked, Given}
@@ -56,6 +58,11 @@ kid_pair k w v s e = pair (kids k w) refl e
     pair : (o : Option (ℕ × ℕ)) → kids k w ≡ o → side_of s o ≡ Some v → (l : ℕ) × (r : ℕ) × (kids k w ≡ Some (l, r)) × (v ≡ at_side s l r)
     pair None is e = cc
     pair (Some both) is e = (both.0, both.1, is, sym (same_Some (at_side s both.0 both.1) v e))
+
+-- the worker that took the place of another keeps its rule
+pub kept_at : (ws : List WorkerNote) (w : ℕ) (is : WorkerNote) → w < length ws → ((v : WorkerNote) → slice_get (set ws w is) w ≡ Some v → HasRule v)
+    → HasRule is
+kept_at ws w is lt keeps = keeps is (slice_get-set_same ws w is lt)
 
 pub kid_above : (k : Content) (w v : ℕ) (s : Side) → kid_of k w s ≡ Some v → w < length (nodes k)
 kid_above k w v s e = let p = kid_pair k w v s e in some_node (slice_get (nodes k) w) refl p.2

@@ -15,6 +15,7 @@ use Rattle.flu_fork.specs.Lots.{job, nodes, kids, setting_of}
 use Rattle.flu_worker.specs.declared.hand.Side.{Side}
 use Rattle.flu_worker.specs.declared.hand.Side.TheVariants.{Left, Right}
 use Rattle.flu_worker.specs.Calls.{IsNew, start_hand}
+use Rattle.flu_worker.specs.Keeping.{HasRule}
 use Rattle.flu_worker.specs.Hands.{at_side, is_lost, is_open, is_out}
 use Rattle.flu_worker.specs.Notes.{WorkerNote, taken_from}
 use Rattle.flu_net.specs.declared.edges.Edge.{Edge}
@@ -28,13 +29,14 @@ use Rattle.flu_net.proofs.Hands.{first_open}
 use Rattle.flu_net.proofs.Standing.{first_sound}
 
 -- ---- one more
-pub new_more : (k : Content) (w : ℕ) (old new : List WorkerNote) (n : WorkerNote) → new ≡ old ++ n ∷ [] → IsNew k w n → AreNew k w old → AreNew k (w + 1) new
-new_more k w old new n push is were = subst (AreNew k (w + 1)) (sym push) (record {
+pub new_more : (k : Content) (w : ℕ) (old new : List WorkerNote) (n : WorkerNote) → new ≡ old ++ n ∷ [] → IsNew k w n → HasRule n → AreNew k w old → AreNew k (w + 1) new
+new_more k w old new n push is rule were = subst (AreNew k (w + 1)) (sym push) (record {
   each = (let a = length-append old (n ∷ []) in let b = were.each in omega arith);
   new = λ v m e. elim (slice_get_push old n v m e) as (λ _. IsNew k v m) [
     | inl f ↦ were.new v m f
     | inr at ↦ subst (IsNew k v) at.1 (subst (λ j. IsNew k j n) (sym (at.0 ∙ were.each)) is)
   ];
+  keep = λ v m e. elim (slice_get_push old n v m e) as (λ _. HasRule m) [ inl f ↦ were.keep v m f | inr at ↦ subst HasRule at.1 rule ];
 })
 
 pub home_more : (v : ℕ) (old new : List Edge) → new ≡ old ++ Home ∷ [] → AreHome v old → AreHome (v + 1) new
@@ -47,8 +49,11 @@ home_more v old new push were = subst (AreHome (v + 1)) (sym push) (record {
 })
 
 pub none_new : (k : Content) → AreNew k 0 []
-none_new k = record { each = refl; new = λ v m e. none v m e }
+none_new k = record { each = refl; new = λ v m e. none v m e; keep = λ v m e. none_kept v m e }
   where
+    none_kept : (v : ℕ) (m : WorkerNote) → slice_get {X = WorkerNote} [] v ≡ Some m → HasRule m
+    none_kept v m e = cc
+
     none : (v : ℕ) (m : WorkerNote) → slice_get {X = WorkerNote} [] v ≡ Some m → IsNew k v m
     none v m e = cc
 

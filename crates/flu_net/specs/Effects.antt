@@ -3,9 +3,12 @@ use Rattle.std.specs.Prelude.{◌≡◌, ℕ, ◌+◌, false, Some, map, slice_g
 use Rattle.flu_model.specs.declared.events.Itag.{Itag}
 use Rattle.flu_fork.specs.declared.lots.Ask.{Ask as AskNote}
 use Rattle.flu_fork.specs.declared.lots.Lot.{Lot}
+use Rattle.flu_fork.specs.Lots.{LotFits}
+use Rattle.flu_fork.specs.Serving.{Served}
 use Rattle.flu_worker.specs.declared.hand.Side.{Side}
-use Rattle.flu_worker.specs.Calls.{HoldsLot, GivesLot, HandlesEvent, CountsEvent, LendsPart, TakesPart, KeepsTarget}
+use Rattle.flu_worker.specs.Calls.{HoldsLot, GivesLot, HandlesEvent, CountsEvent, LendsPart, IsFitPart, TakesPart, KeepsTarget, IsAskable}
 use Rattle.flu_worker.specs.Choosing.{next_of, target_of}
+use Rattle.flu_worker.specs.Keeping.{HasRule}
 use Rattle.flu_worker.specs.Notes.{WorkerNote}
 use Rattle.flu_net.specs.declared.edges.Edge.TheVariants.{Home, Lent, Held, Asked, Given}
 use Rattle.flu_net.specs.declared.steps.Step.{Step}
@@ -22,10 +25,11 @@ arrived n i =
     let count = slice_index n.seen i.0 + 1 in
     record n { seen = slice_set n.seen i.0 count; workers = map (seeing i.0 count) n.workers }
 
--- the other steps: worker w becomes another, and perhaps an edge
+-- the other steps: worker w becomes another, which keeps a worker's rule, and perhaps an edge
 pub record IsStepOf (w : ℕ) (old new : NetNote) : Type 0 where
   pub was : WorkerNote
   pub is : WorkerNote
+  pub rule : HasRule is
   pub at : slice_get old.workers w ≡ Some was
   pub case : new.case ≡ old.case
   pub gone : new.gone ≡ false
@@ -47,6 +51,7 @@ pub record Asks (w : ℕ) (s : Side) (old new : NetNote) : Type 0 where
   pub target : AskNote
   pub aims : target_of step.was (asked_of old w) ≡ Some target
   pub does : KeepsTarget (Some target) step.was step.is
+  pub askable : IsAskable step.is target
   pub edges : new.edges ≡ slice_set old.edges kid (Asked target)
   pub outs : new.outs ≡ old.outs
 
@@ -66,6 +71,8 @@ pub record Gives (w : ℕ) (old new : NetNote) : Type 0 where
   pub asked : slice_get old.edges w ≡ Some (Asked ask)
   pub lot : Lot
   pub does : GivesLot lot step.was step.is
+  pub fits : LotFits step.was.case step.was.node lot
+  pub served : Served step.was.case step.was.node step.was.held ask lot
   pub edges : new.edges ≡ slice_set old.edges w (Given lot)
   pub outs : new.outs ≡ old.outs
 
@@ -83,6 +90,7 @@ pub record Lends (w : ℕ) (s : Side) (old new : NetNote) : Type 0 where
   pub is_kid : kid_of old.case w s ≡ Some kid
   pub lot : Lot
   pub does : LendsPart s lot step.was step.is
+  pub part : IsFitPart s lot step.was
   pub edges : new.edges ≡ slice_set old.edges kid (Lent lot)
   pub outs : new.outs ≡ old.outs
 

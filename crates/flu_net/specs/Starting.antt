@@ -7,12 +7,14 @@ use Rattle.flu_worker.specs.Calls.{IsNew}
 use Rattle.flu_worker.specs.Notes.{WorkerNote}
 use Rattle.flu_net.specs.declared.edges.Edge.{Edge}
 use Rattle.flu_net.specs.declared.edges.Edge.TheVariants.{Home}
+use Rattle.flu_net.specs.Blocking.{AllKeep}
 use Rattle.flu_net.specs.Notes.{NetNote}
 
--- of the first nodes the workers are new, each of its node
+-- of the first nodes the workers are new, each of its node, and each keeps a worker's rule
 pub record AreNew (k : Content) (count : ℕ) (workers : List WorkerNote) : Type 0 where
   pub each : length workers ≡ count
   pub new : (w : ℕ) (n : WorkerNote) → slice_get workers w ≡ Some n → IsNew k w n
+  pub keep : AllKeep workers
 
 -- all edges are at home
 pub record AreHome (count : ℕ) (edges : List Edge) : Type 0 where

@@ -1,7 +1,8 @@
 //! The laws of steps, and those on which the rule of the net rests.
 
+ghost use Rattle.flu_net.specs.Alike.{StartsAreAlike, AlikeAreEnabled, AlikeAreFinal, StepsKeepAlike};
 ghost use Rattle.flu_net.specs.LawsBelow.{LawsBelow};
-ghost use Rattle.flu_net.specs.Runs.{StepsLower, StartsAreBounded, RunsAreBounded};
+ghost use Rattle.flu_net.specs.Runs.{StepsLower, StartsAreBounded, RunsAreBounded, RunsKeepTheRule, RunsTellTheFold};
 
 /// Each step lowers the number of steps that are left, which is bounded at the start. So no more steps can be made than
 /// items + events + 8 · nodes · (events + 1), however they are ordered.
@@ -12,6 +13,27 @@ pub fn steps_are_bounded()
 {
     laws_below();
     flu_deps::laws::plans_are_trees();
+}
+
+/// The rule of the net holds after every list of steps from the start, each made where it is enabled. So each partial state, on an edge
+/// or in a hand, is the one that its counts describe; what was put out are the outputs of the fold for the events counted by their
+/// owners, each event's once; and where the net is final, they are all outputs of the fold in some order.
+pub fn runs_tell_the_fold()
+    ensures rule { RunsKeepTheRule }
+    ensures fold { RunsTellTheFold }
+{
+    laws_below();
+}
+
+/// Steps determine what may follow them: two nets of one case that the same steps came to have the same steps enabled, and one is
+/// final exactly where the other is.
+pub fn steps_determine()
+    ensures start { StartsAreAlike }
+    ensures step { StepsKeepAlike }
+    ensures enabled { AlikeAreEnabled }
+    ensures end { AlikeAreFinal }
+{
+    laws_below();
 }
 
 /// The laws of plans, of lots, of texts, of hands and of targets.

@@ -26,7 +26,7 @@ use crate::laws::{laws_below, steps_are_bounded};
 use crate::showing::{one_more, show};
 use crate::starting::{first_edges, first_workers, no_counts};
 use crate::steps::{Step, StepFault};
-use crate::workers::all_keep;
+use crate::workers::{all_keep, keeps};
 use flu_cells::State;
 use flu_fork::{Ask, Case, CaseNote, Counts, Lot};
 use flu_model::{Itag, Outs, itag_count};
@@ -363,6 +363,7 @@ impl Net {
         };
         self.gone = true;
         self.workers[w as usize].handle(alloc, case, event, &mut self.outs)?;
+        keeps(&self.workers, w);
         self.gone = false;
         Ok(())
     }
@@ -381,6 +382,7 @@ impl Net {
         let Some(target) = self.workers[w as usize].ask_of(case, asked) else {
             unreachable!();
         };
+        keeps(&self.workers, w);
         put(&mut self.edges, kid, Edge::Asked(target));
     }
 
@@ -398,6 +400,7 @@ impl Net {
         self.gone = true;
         let lot = given_lot(put(&mut self.edges, kid, Edge::Home));
         self.workers[w as usize].take_reply(alloc, case, side, lot)?;
+        keeps(&self.workers, w);
         self.gone = false;
         Ok(())
     }
@@ -413,6 +416,7 @@ impl Net {
             unreachable!();
         };
         let lot = self.workers[w as usize].give(case, y);
+        keeps(&self.workers, w);
         put(&mut self.edges, w, Edge::Given(lot));
     }
 
@@ -427,6 +431,7 @@ impl Net {
         self.gone = true;
         let lot = lent_lot(put(&mut self.edges, w, Edge::Held));
         self.workers[w as usize].hold(alloc, case, lot)?;
+        keeps(&self.workers, w);
         self.gone = false;
         Ok(())
     }
@@ -442,6 +447,7 @@ impl Net {
             unreachable!();
         };
         let part = self.workers[w as usize].lend(side);
+        keeps(&self.workers, w);
         put(&mut self.edges, kid, Edge::Lent(part));
     }
 }

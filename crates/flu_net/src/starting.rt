@@ -27,7 +27,9 @@ pub fn first_workers(alloc: Global, case: &Case) -> Result<Vec<Worker>, AllocErr
 {
     let mut workers = Vec::new(alloc);
     for w in 0..case.valid().count() {
-        workers.push(Worker::new(alloc, case, w)?)?;
+        let worker = Worker::new(alloc, case, w)?;
+        worker.rule();
+        workers.push(worker)?;
     }
     Ok(workers)
 }

@@ -95,8 +95,8 @@ fn text_of<F: Files>(
     Ok((text, steps))
 }
 
-// The report or the trace, and the steps, of the run of some streams from the empty state that a seed draws on the net. The run is
-// made once more for its trace, whose steps are not kept otherwise.
+// The report or the trace, and the steps, of the run of some streams from the empty state that a seed draws on the net. The steps are
+// kept for a trace alone.
 fn net_text(
     alloc: Global,
     planned: &Planned,
@@ -118,6 +118,10 @@ fn net_text(
         streams,
         State::new(alloc),
     )?;
+    if traced {
+        let (lines, steps) = trace_text(alloc, &case, seed.number)?;
+        return Ok((lines, steps));
+    }
     let run = simulate(alloc, &case, seed.number)?;
     let Run {
         outs,
@@ -125,11 +129,6 @@ fn net_text(
         mark,
         ..
     } = run;
-    let steps = DrawnSteps { counts, mark };
-    if traced {
-        let lines = trace_text(alloc, &case, seed.number)?;
-        return Ok((lines, steps));
-    }
     let text = report_text(alloc, program, outs)?;
-    Ok((text, steps))
+    Ok((text, DrawnSteps { counts, mark }))
 }

@@ -2,23 +2,33 @@
 
 ghost use Rattle.std.specs.Prelude.{◌≡◌, ◌<◌, ◌^◌, IfOk};
 ghost use Rattle.std.specs.List.{All};
+ghost use Rattle.flu_live.specs.Seeded.{IsSeeded};
 ghost use Rattle.flu_trace.specs.Lines.{number_of};
 ghost use Rattle.flu_top.specs.Simulating.{IsTraceIn, lines_of_steps};
 
+use crate::products::DrawnSteps;
 use flu_fork::Case;
-use flu_live::trace;
+use flu_live::{TracedRun, trace};
 use flu_model::Text;
 use flu_net::Step;
 use flu_trace::step_line;
 use std::alloc::{AllocError, Global};
 
-/// The lines of the steps that a seed draws on the net of a case, each with a line feed.
-pub fn trace_text(alloc: Global, case: &Case, seed: u32) -> Result<Text, AllocError>
+/// The lines of the steps that a seed draws on the net of a case, each with a line feed, and how many of each kind these steps are,
+/// with their mark.
+pub fn trace_text(alloc: Global, case: &Case, seed: u32) -> Result<(Text, DrawnSteps), AllocError>
     requires { seed < 2 ^ 31 }
-    ensures { IfOk result (IsTraceIn case.now seed) }
+    ensures text { IfOk result (λ both. IsTraceIn case.now seed both.0) }
+    ensures drawn { IfOk result (λ both. IsSeeded case.now seed both.1.counts both.1.mark) }
 {
-    let steps = trace(alloc, case, seed)?;
-    lines_of(alloc, steps.as_slice())
+    let run = trace(alloc, case, seed)?;
+    let TracedRun {
+        steps,
+        counts,
+        mark,
+    } = run;
+    let text = lines_of(alloc, steps.as_slice())?;
+    Ok((text, DrawnSteps { counts, mark }))
 }
 
 // The lines of some steps, each with a line feed.

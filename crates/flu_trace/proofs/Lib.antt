@@ -1,3 +1,4 @@
 pub mod Numerals
 pub mod StepLines
 pub mod Replays
+pub mod OneEnding

@@ -10,6 +10,7 @@ use Rattle.flu_net.specs.declared.steps.Step.{Step}
 use Rattle.flu_net.specs.Enabled.{is_enabled}
 use Rattle.flu_net.specs.Final.{IsFinal}
 use Rattle.flu_net.specs.Notes.{NetNote}
+use Rattle.flu_net.specs.Rule.{IsWell}
 use Rattle.flu_net.specs.Runs.{IsMade}
 use Rattle.flu_net.specs.Starting.{IsStart}
 use Rattle.flu_trace.specs.declared.faults.ReplayFault.{ReplayFault}
@@ -44,20 +45,20 @@ found_told name held now rest found said P (Some x) (Some y) keeps out begins gi
 
 pub told_bad : (name held now rest : List ℕ) (found : Found) (before line : ℕ) (n : NetNote) (a b : Option Contents)
     → WhereTold a b (KeepsBytes name held now)
-    → (IsLast found → IsReadOut name b) → ((coming : List ℕ) → MayCome found coming → BeginsWith None now rest coming) → line ≡ before + 1
+    → (IsLast found → IsReadOut name b) → ((coming : List ℕ) → MayCome found coming → BeginsWith None now rest coming) → line ≡ before + 1 → IsWell n
     → WhereTold a b (λ x y. Ends before (lines_of (held ++ bytes_left x name)) n (Bad line))
-told_bad name held now rest found before line n a b keeps out begins next =
+told_bad name held now rest found before line n a b keeps out begins next well =
     found_told name held now rest found None (λ ls y. Ends before ls n (Bad line)) a b keeps out begins
-    (λ y l ls none behind. subst (λ m. Ends before (l ∷ ls) n (Bad m)) (sym next) (bad none))
+    (λ y l ls none behind. subst (λ m. Ends before (l ∷ ls) n (Bad m)) (sym next) (bad well none))
 
 pub told_not_enabled : (name held now rest : List ℕ) (found : Found) (s : Step) (before line : ℕ) (n : NetNote) (a b : Option Contents)
     → WhereTold a b (KeepsBytes name held now)
     → (IsLast found → IsReadOut name b) → ((coming : List ℕ) → MayCome found coming → BeginsWith (Some s) now rest coming) → line ≡ before + 1
-    → is_enabled n s ≡ false
+    → IsWell n → is_enabled n s ≡ false
     → WhereTold a b (λ x y. Ends before (lines_of (held ++ bytes_left x name)) n (NotEnabled line))
-told_not_enabled name held now rest found s before line n a b keeps out begins next off =
+told_not_enabled name held now rest found s before line n a b keeps out begins next well off =
     found_told name held now rest found (Some s) (λ ls y. Ends before ls n (NotEnabled line)) a b keeps out begins
-    (λ y l ls is behind. subst (λ m. Ends before (l ∷ ls) n (NotEnabled m)) (sym next) (not_enabled is off))
+    (λ y l ls is behind. subst (λ m. Ends before (l ∷ ls) n (NotEnabled m)) (sym next) (not_enabled well is off))
 
 pub told_made : (name held now rest : List ℕ) (found : Found) (s : Step) (before line : ℕ) (old new : NetNote) (a b : Option Contents)
     → WhereTold a b (KeepsBytes name held now)
@@ -92,9 +93,9 @@ told_ended k name r ending (Some x) (Some z) by none out ends = by ending (rw (n
 
 pub told_complete : {X : Type 0} (k : Content) (name : List ℕ) (r : Replaying) (result : Result X ReplayFault) (a c : Option Contents)
     → WhereTold a c (IsReplayedBy k name r) → r.held ≡ []
-    → IsReadOut name c → OnOk result (IsFinal r.net)
+    → IsReadOut name c → OnOk result (IsWell r.net × IsFinal r.net)
     → OnOk result (WhereTold a c (λ old new. IsReplayed k (bytes_left old name) Complete))
-told_complete k name r (Ok x) a c by none out final = told_ended k name r Complete a c by none out (complete final)
+told_complete k name r (Ok x) a c by none out final = told_ended k name r Complete a c by none out (complete final.0 final.1)
 told_complete k name r (Err fault) a c by none out final = tt
 
 at_fault : (k : Content) (name : List ℕ) (r : Replaying) (fault : ReplayFault) (a c : Option Contents) → WhereTold a c (IsReplayedBy k name r) → r.held ≡ []
@@ -103,7 +104,7 @@ at_fault : (k : Content) (name : List ℕ) (r : Replaying) (fault : ReplayFault)
 at_fault k name r (faults.Bad line) a c by none out is = absurd is
 at_fault k name r (faults.NotEnabled line) a c by none out is = absurd is
 at_fault k name r (faults.Incomplete line) a c by none out is =
-    told_ended k name r (Incomplete line) a c by none out (subst (λ m. Ends r.lines [] r.net (Incomplete m)) (sym is.0) (incomplete is.1))
+    told_ended k name r (Incomplete line) a c by none out (subst (λ m. Ends r.lines [] r.net (Incomplete m)) (sym is.0) (incomplete is.2 is.1))
 at_fault k name r faults.ReadFault a c by none out is = absurd is
 at_fault k name r faults.NoMemory a c by none out is = tt
 

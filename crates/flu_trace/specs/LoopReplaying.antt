@@ -5,6 +5,7 @@ use Rattle.flu_rows.specs.Lines.{lines_of}
 use Rattle.flu_fork.specs.declared.content.Content.{Content}
 use Rattle.flu_net.specs.declared.steps.Step.{Step}
 use Rattle.flu_net.specs.Final.{IsFinal}
+use Rattle.flu_net.specs.Rule.{IsWell}
 use Rattle.flu_trace.specs.declared.faults.ReplayFault.{ReplayFault}
 use Rattle.flu_trace.specs.declared.faults.ReplayFault.TheVariants.{Bad, NotEnabled, Incomplete, ReadFault, NoMemory}
 use Rattle.flu_trace.specs.declared.held.Found.{Found}
@@ -45,6 +46,6 @@ MayCome found coming = found ≡ Last → coming ≡ []
 abbrev pub IsEndFault : Replaying → ReplayFault → Type 0
 IsEndFault r (Bad line) = ⊥
 IsEndFault r (NotEnabled line) = ⊥
-IsEndFault r (Incomplete line) = (line ≡ r.lines + 1) × ¬ IsFinal r.net
+IsEndFault r (Incomplete line) = (line ≡ r.lines + 1) × ¬ IsFinal r.net × IsWell r.net
 IsEndFault r ReadFault = ⊥
 IsEndFault r NoMemory = ⊤

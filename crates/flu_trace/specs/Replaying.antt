@@ -6,6 +6,7 @@ use Rattle.flu_net.specs.declared.steps.Step.{Step}
 use Rattle.flu_net.specs.Enabled.{is_enabled}
 use Rattle.flu_net.specs.Final.{IsFinal}
 use Rattle.flu_net.specs.Notes.{NetNote}
+use Rattle.flu_net.specs.Rule.{IsWell}
 use Rattle.flu_net.specs.Runs.{IsMade}
 use Rattle.flu_net.specs.Starting.{IsStart}
 use Rattle.flu_trace.specs.declared.faults.ReplayFault.{ReplayFault}
@@ -19,14 +20,14 @@ pub data Ending : Type 0 where
   NotEnabled : ℕ → Ending
   Incomplete : ℕ → Ending
 
--- how these lines end from a net, before which so many lines stand: the first line that is that of no step is bad, the first whose step is not enabled
--- stops the replay, and where there are no more lines it is complete exactly where the net is final
+-- how these lines end from a net, before which this many lines stand: the first line that is that of no step is bad, the first whose step is not enabled
+-- stops the replay, and where there are no more lines it is complete exactly where the net is final. Each ending is that of a net that keeps its rule
 pub data Ends : ℕ → List (List ℕ) → NetNote → Ending → Type 0 where
-  complete : {before : ℕ} {n : NetNote} → IsFinal n → Ends before [] n Complete
-  incomplete : {before : ℕ} {n : NetNote} → ¬ IsFinal n → Ends before [] n (Incomplete (before + 1))
-  bad : {before : ℕ} {line : List ℕ} {lines : List (List ℕ)} {n : NetNote} → ((s : Step) → ¬ IsLineOf s line)
+  complete : {before : ℕ} {n : NetNote} → IsWell n → IsFinal n → Ends before [] n Complete
+  incomplete : {before : ℕ} {n : NetNote} → IsWell n → ¬ IsFinal n → Ends before [] n (Incomplete (before + 1))
+  bad : {before : ℕ} {line : List ℕ} {lines : List (List ℕ)} {n : NetNote} → IsWell n → ((s : Step) → ¬ IsLineOf s line)
       → Ends before (line ∷ lines) n (Bad (before + 1))
-  not_enabled : {before : ℕ} {line : List ℕ} {lines : List (List ℕ)} {n : NetNote} {s : Step} → IsLineOf s line → is_enabled n s ≡ false
+  not_enabled : {before : ℕ} {line : List ℕ} {lines : List (List ℕ)} {n : NetNote} {s : Step} → IsWell n → IsLineOf s line → is_enabled n s ≡ false
       → Ends before (line ∷ lines) n (NotEnabled (before + 1))
   made : {before : ℕ} {line : List ℕ} {lines : List (List ℕ)} {old new : NetNote} {s : Step} {ending : Ending} → IsLineOf s line → IsMade s old new
       → Ends (before + 1) lines new ending → Ends before (line ∷ lines) old ending

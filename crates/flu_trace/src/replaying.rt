@@ -11,6 +11,7 @@ ghost use Rattle.flu_cells.specs.Holding.{held};
 ghost use Rattle.flu_fork.specs.Lots.{job};
 ghost use Rattle.flu_net.specs.Final.{IsFinal};
 ghost use Rattle.flu_net.specs.Measure.{steps_left};
+ghost use Rattle.flu_net.specs.Rule.{IsWell};
 ghost use Rattle.flu_net.specs.Starting.{IsStart};
 ghost use Rattle.flu_trace.specs.LoopFilling.{IsFound};
 ghost use Rattle.flu_trace.specs.LoopReplaying.{BeginsWith, EndsFrom, GoesOn, IsEndFault, MayCome};
@@ -144,12 +145,13 @@ impl Replaying {
     fn end(self, alloc: Global, case: &Case) -> Result<(State, Outs), ReplayFault>
         requires case { case.now ≡ self.net.case }
         requires gone { self.net.gone ≡ false }
-        ensures complete { OnOk result (IsFinal self.net) }
+        ensures complete { OnOk result (IsWell self.net × IsFinal self.net) }
         ensures fault { IfErr result (IsEndFault self) }
         ensures state { IfOk result (λ r. held r.0 ≡ final_state (job case.now) (held case.now.opening) (listed case.now.streams)) }
         ensures sorts { IfOk result (λ r. IsStateOf (job case.now).families (held r.0)) }
         ensures outputs { IfOk result (λ r. IsPermutation (final_outputs (job case.now) (held case.now.opening) (listed case.now.streams)) r.1) }
     {
+        self.net.rule();
         if !self.net.is_final(case) {
             let Some(line) = self.lines.checked_add(1) else {
                 return Err(ReplayFault::NoMemory);

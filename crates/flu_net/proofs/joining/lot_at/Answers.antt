@@ -1,4 +1,5 @@
-use Rattle.std.proofs.Common.{◌≡◌, Some, sym, ap, ◌∙◌}
+use Rattle.std.proofs.Common.{◌≡◌, Some, length, sym, ap, ◌∙◌}
+use Rattle.std.proofs.lemmas.List.{length-set}
 use Rattle.flu_deps.specs.declared.valid.Valid.{Valid}
 use Rattle.flu_deps.specs.Owned.{kids_at}
 use Rattle.flu_deps.specs.Validated.{plan_of}
@@ -36,6 +37,10 @@ inner_lot-requires-clause-right c =
     right_all c.laws_below.ensures c.args.case.now c.args.w c.in-Some.both.0 c.in-Some.both.1 are c.args.worker c.args.edges.now.items c.requires.parts
     c.put.new.edges.items c.put-2.result
     c.given_lot-at_right.result c.put.ensures.is c.put-2.ensures.was c.given_lot-at_right.ensures
+
+pub returns-clause-each : goal.returns-clause-each
+returns-clause-each c =
+    on_ok c.inner_lot.result _ (ap length c.put-2.ensures.is ∙ length-set _ _ _ ∙ ap length c.put.ensures.is ∙ length-set _ _ _)
 
 pub returns-clause-others : goal.returns-clause-others
 returns-clause-others c =

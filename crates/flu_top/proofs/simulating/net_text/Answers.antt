@@ -17,7 +17,7 @@ returns-then-traced-clause-text c =
       of = case_from_nothing c.args.planned.now.checked c.args.planned.now.valid c.args.streams.now c.in_ok-case.case c.in_ok-case.ensures.checked
           c.in_ok-case.ensures.valid c.in_ok-case.ensures.streams
           (ap held c.in_ok-case.ensures.opening ∙ c.new.ensures);
-      trace = c.in_ok-lines.ensures;
+      trace = c.in_ok-lines.ensures.text;
     }
 
 pub returns-then-traced-clause-drawn : goal.returns-then-traced-clause-drawn
@@ -26,7 +26,7 @@ returns-then-traced-clause-drawn c = record {
   of = case_from_nothing c.args.planned.now.checked c.args.planned.now.valid c.args.streams.now c.in_ok-case.case c.in_ok-case.ensures.checked
       c.in_ok-case.ensures.valid c.in_ok-case.ensures.streams
       (ap held c.in_ok-case.ensures.opening ∙ c.new.ensures);
-  run = c.in_ok-run.ensures.drawn;
+  run = c.in_ok-lines.ensures.drawn;
 }
 
 pub returns-clause-text : goal.returns-clause-text

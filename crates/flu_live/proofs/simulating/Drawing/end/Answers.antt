@@ -5,7 +5,6 @@ use Rattle.flu_model.specs.Listed.{listed}
 use Rattle.flu_model.specs.Sorts.{IsStateOf}
 use Rattle.flu_cells.specs.Holding.{held}
 use Rattle.flu_fork.specs.Lots.{job}
-use Rattle.flu_live.proofs.Nothing.{none_enabled}
 use Rattle.flu_live.proofs.simulating.Drawing.end.Goals as goal
 
 pub joined-requires-clause-case : goal.joined-requires-clause-case
@@ -15,8 +14,7 @@ pub joined-requires-clause-gone : goal.joined-requires-clause-gone
 joined-requires-clause-gone c = c.requires.way.gone
 
 pub joined-requires-clause-is_final : goal.joined-requires-clause-is_final
-joined-requires-clause-is_final c =
-    (c.never_blocks.ensures c.requires.way.gone).0 (none_enabled c.args.self.net (c.rule.ensures c.requires.way.gone) c.requires.ended)
+joined-requires-clause-is_final c = c.requires.is_final
 
 pub returns-clause-state : goal.returns-clause-state
 returns-clause-state c =
@@ -32,5 +30,5 @@ returns-clause-outputs c =
 pub returns-clause-drawn : goal.returns-clause-drawn
 returns-clause-drawn c = record {
   done = c.requires.way.done;
-  run = record { net = c.args.self.net; last = c.args.self.last; run = c.requires.way.run; ended = c.requires.ended };
+  run = record { net = c.args.self.net; last = c.args.self.last; run = c.requires.way.run; ended = c.requires.ended; is_final = c.requires.is_final };
 }

@@ -14,7 +14,7 @@ use Rattle.flu_net.specs.Enabled.{may_ask}
 use Rattle.flu_net.specs.Notes.{NetNote, asked_of, asked_over, kid_of}
 use Rattle.flu_net.specs.Rule.{Rule}
 use Rattle.flu_net.proofs.Keeping.{rule_asks}
-use Rattle.flu_net.proofs.Readying.{asks_above, asks_next, at_index, case_of, held_edge, kid_lt, kid_there, there_test}
+use Rattle.flu_net.proofs.Readying.{asks_above, asks_next, at_index, case_of, held_edge, kid_lt, kid_there, there_test, kept_at}
 use Rattle.flu_net.proofs.net.Net.ask.Goals as goal
 
 pub ask_of-requires-clause-case : goal.ask_of-requires-clause-case
@@ -181,18 +181,18 @@ invariant_of-self c =
     } in
     let y = c.in-Some-ask_of.target in
     let h : Asks c.args.w c.args.side v u = record {
-      step = record { was = n; is = c.ask_of.new.self; at = at; case = refl; gone = gone_in; seen = refl; workers = refl };
+      step = record { was = n; is = c.ask_of.new.self; rule = kept_at v.workers c.args.w c.ask_of.new.self lt c.keeps.ensures; at = at; case = refl; gone = gone_in; seen = refl; workers = refl };
       kid = c.in-Some.kid;
       is_kid = kid;
       target = y;
       aims = ap (target_of n) (sym asked) ∙ sym c.ask_of.ensures.target ∙ c.in-Some-ask_of.is;
       does = subst (λ (o : Option Ask). KeepsTarget o n c.ask_of.new.self) c.in-Some-ask_of.is c.ask_of.ensures.note;
+      askable = subst (λ (o : Option Ask). IfSome o (IsAskable c.ask_of.new.self)) c.in-Some-ask_of.is c.ask_of.ensures.askable;
       edges = c.put.ensures.is;
       outs = refl;
     } in
     λ _. rule_asks c.laws_below.ensures c.args.w c.args.side v u rule h
     (held_edge v.edges (kid_of v.case c.args.w c.args.side) c.in-Some.kid kid (and_left _ _ may)) (and_left _ _ tests)
-    (subst (λ (o : Option Ask). IfSome o (IsAskable c.ask_of.new.self)) c.in-Some-ask_of.is c.ask_of.ensures.askable)
 
 pub returns : goal.returns
 returns c =
@@ -228,12 +228,13 @@ returns c =
     } in
     let y = c.in-Some-ask_of.target in
     let h : Asks c.args.w c.args.side v u = record {
-      step = record { was = n; is = c.ask_of.new.self; at = at; case = refl; gone = gone_in; seen = refl; workers = refl };
+      step = record { was = n; is = c.ask_of.new.self; rule = kept_at v.workers c.args.w c.ask_of.new.self lt c.keeps.ensures; at = at; case = refl; gone = gone_in; seen = refl; workers = refl };
       kid = c.in-Some.kid;
       is_kid = kid;
       target = y;
       aims = ap (target_of n) (sym asked) ∙ sym c.ask_of.ensures.target ∙ c.in-Some-ask_of.is;
       does = subst (λ (o : Option Ask). KeepsTarget o n c.ask_of.new.self) c.in-Some-ask_of.is c.ask_of.ensures.note;
+      askable = subst (λ (o : Option Ask). IfSome o (IsAskable c.ask_of.new.self)) c.in-Some-ask_of.is c.ask_of.ensures.askable;
       edges = c.put.ensures.is;
       outs = refl;
     } in

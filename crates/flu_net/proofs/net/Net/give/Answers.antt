@@ -7,7 +7,7 @@ use Rattle.flu_net.specs.Enabled.{may_give_up}
 use Rattle.flu_net.specs.Notes.{NetNote, asked_of, asked_over}
 use Rattle.flu_net.specs.Rule.{Rule}
 use Rattle.flu_net.proofs.Keeping.{rule_gives}
-use Rattle.flu_net.proofs.Readying.{asked_edge, at_index, case_of, edge_lt, give_may}
+use Rattle.flu_net.proofs.Readying.{asked_edge, at_index, case_of, edge_lt, give_may, kept_at}
 use Rattle.flu_net.proofs.net.Net.give.Goals as goal
 
 pub give-lot-requires-clause-case : goal.give-lot-requires-clause-case
@@ -109,15 +109,17 @@ invariant_of-self c =
       outs = c.self.inside.outs;
     } in
     let h : Gives c.args.w v u = record {
-      step = record { was = n; is = c.give-lot.new.self; at = at; case = refl; gone = gone_in; seen = refl; workers = refl };
+      step = record { was = n; is = c.give-lot.new.self; rule = kept_at v.workers c.args.w c.give-lot.new.self lt c.keeps.ensures; at = at; case = refl; gone = gone_in; seen = refl; workers = refl };
       ask = y;
       asked = over;
       lot = c.give-lot.result;
       does = c.give-lot.ensures.note;
+      fits = c.give-lot.ensures.fits;
+      served = c.give-lot.ensures.served;
       edges = c.put.ensures.is;
       outs = refl;
     } in
-    λ _. rule_gives c.laws_below.ensures c.args.w v u rule h c.give-lot.ensures.fits c.give-lot.ensures.served
+    λ _. rule_gives c.laws_below.ensures c.args.w v u rule h
 
 pub returns : goal.returns
 returns c =
@@ -149,11 +151,13 @@ returns c =
       outs = c.self.inside.outs;
     } in
     let h : Gives c.args.w v u = record {
-      step = record { was = n; is = c.give-lot.new.self; at = at; case = refl; gone = gone_in; seen = refl; workers = refl };
+      step = record { was = n; is = c.give-lot.new.self; rule = kept_at v.workers c.args.w c.give-lot.new.self lt c.keeps.ensures; at = at; case = refl; gone = gone_in; seen = refl; workers = refl };
       ask = y;
       asked = over;
       lot = c.give-lot.result;
       does = c.give-lot.ensures.note;
+      fits = c.give-lot.ensures.fits;
+      served = c.give-lot.ensures.served;
       edges = c.put.ensures.is;
       outs = refl;
     } in

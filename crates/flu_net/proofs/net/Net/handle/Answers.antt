@@ -10,7 +10,7 @@ use Rattle.flu_net.specs.Enabled.{may_handle}
 use Rattle.flu_net.specs.Notes.{NetNote}
 use Rattle.flu_net.specs.Rule.{Rule}
 use Rattle.flu_net.proofs.Keeping.{rule_handles}
-use Rattle.flu_net.proofs.Readying.{at_index, case_of, there_lt, there_test}
+use Rattle.flu_net.proofs.Readying.{at_index, case_of, there_lt, there_test, kept_at}
 use Rattle.flu_net.proofs.net.Net.handle.Goals as goal
 
 pub can_handle-requires : goal.can_handle-requires
@@ -129,7 +129,7 @@ invariant_of-self-2 c =
       outs = c.handle.new.outs;
     } in
     let h : Handles c.args.w v u = record {
-      step = record { was = n; is = c.handle.new.self; at = at; case = refl; gone = refl; seen = refl; workers = refl };
+      step = record { was = n; is = c.handle.new.self; rule = kept_at v.workers c.args.w c.handle.new.self lt c.keeps.ensures; at = at; case = refl; gone = refl; seen = refl; workers = refl };
       event = c.in-Some.event;
       next = ap next_of (same_Some n c.index.result.now (sym at ∙ seen_at)) ∙ sym c.can_handle.ensures ∙ c.in-Some.is;
       does = c.in_ok-handle.ensures.note;
@@ -166,7 +166,7 @@ returns-clause-made c =
       outs = c.handle.new.outs;
     } in
     let h : Handles c.args.w v u = record {
-      step = record { was = n; is = c.handle.new.self; at = at; case = refl; gone = refl; seen = refl; workers = refl };
+      step = record { was = n; is = c.handle.new.self; rule = kept_at v.workers c.args.w c.handle.new.self lt c.keeps.ensures; at = at; case = refl; gone = refl; seen = refl; workers = refl };
       event = c.in-Some.event;
       next = ap next_of (same_Some n c.index.result.now (sym at ∙ seen_at)) ∙ sym c.can_handle.ensures ∙ c.in-Some.is;
       does = c.in_ok-handle.ensures.note;

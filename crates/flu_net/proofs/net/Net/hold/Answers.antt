@@ -5,7 +5,7 @@ use Rattle.flu_net.specs.Effects.{Holds}
 use Rattle.flu_net.specs.Notes.{NetNote}
 use Rattle.flu_net.specs.Rule.{Rule}
 use Rattle.flu_net.proofs.Keeping.{rule_holds}
-use Rattle.flu_net.proofs.Readying.{at_index, case_of, edge_lt, ready_fits, ready_grown, ready_shut}
+use Rattle.flu_net.proofs.Readying.{at_index, case_of, edge_lt, ready_fits, ready_grown, ready_shut, kept_at}
 use Rattle.flu_net.proofs.net.Net.hold.Goals as goal
 
 pub hold-requires-clause-case : goal.hold-requires-clause-case
@@ -115,7 +115,7 @@ invariant_of-self-2 c =
       outs = c.self.inside.outs;
     } in
     let h : Holds c.args.w v u = record {
-      step = record { was = n; is = c.hold.new.self; at = at; case = refl; gone = refl; seen = refl; workers = refl };
+      step = record { was = n; is = c.hold.new.self; rule = kept_at v.workers c.args.w c.hold.new.self lt c.keeps.ensures; at = at; case = refl; gone = refl; seen = refl; workers = refl };
       lot = lot;
       lent = lent;
       does = c.in_ok-hold.ensures;
@@ -151,7 +151,7 @@ returns-clause-made c =
       outs = c.self.inside.outs;
     } in
     let h : Holds c.args.w v u = record {
-      step = record { was = n; is = c.hold.new.self; at = at; case = refl; gone = refl; seen = refl; workers = refl };
+      step = record { was = n; is = c.hold.new.self; rule = kept_at v.workers c.args.w c.hold.new.self lt c.keeps.ensures; at = at; case = refl; gone = refl; seen = refl; workers = refl };
       lot = lot;
       lent = lent;
       does = c.in_ok-hold.ensures;

@@ -10,7 +10,7 @@ use Rattle.flu_net.specs.Enabled.{may_lend_part}
 use Rattle.flu_net.specs.Notes.{NetNote, kid_of}
 use Rattle.flu_net.specs.Rule.{Rule}
 use Rattle.flu_net.proofs.Keeping.{rule_lends}
-use Rattle.flu_net.proofs.Readying.{at_index, kid_lt, kid_there, there_test}
+use Rattle.flu_net.proofs.Readying.{at_index, kid_lt, kid_there, there_test, kept_at}
 use Rattle.flu_net.proofs.net.Net.lend.Goals as goal
 
 pub unreachable-requires : goal.unreachable-requires
@@ -111,15 +111,16 @@ invariant_of-self c =
       outs = c.self.inside.outs;
     } in
     let h : Lends c.args.w c.args.side v u = record {
-      step = record { was = n; is = c.lend-part.new.self; at = at; case = refl; gone = gone_in; seen = refl; workers = refl };
+      step = record { was = n; is = c.lend-part.new.self; rule = kept_at v.workers c.args.w c.lend-part.new.self lt c.keeps.ensures; at = at; case = refl; gone = gone_in; seen = refl; workers = refl };
       kid = c.in-Some.kid;
       is_kid = kid;
       lot = c.lend-part.result;
       does = c.lend-part.ensures.note;
+      part = c.lend-part.ensures.part;
       edges = c.put.ensures.is;
       outs = refl;
     } in
-    λ _. rule_lends c.laws_below.ensures c.args.w c.args.side v u rule h tests c.lend-part.ensures.part
+    λ _. rule_lends c.laws_below.ensures c.args.w c.args.side v u rule h tests
 
 pub returns : goal.returns
 returns c =
@@ -150,11 +151,12 @@ returns c =
       outs = c.self.inside.outs;
     } in
     let h : Lends c.args.w c.args.side v u = record {
-      step = record { was = n; is = c.lend-part.new.self; at = at; case = refl; gone = gone_in; seen = refl; workers = refl };
+      step = record { was = n; is = c.lend-part.new.self; rule = kept_at v.workers c.args.w c.lend-part.new.self lt c.keeps.ensures; at = at; case = refl; gone = gone_in; seen = refl; workers = refl };
       kid = c.in-Some.kid;
       is_kid = kid;
       lot = c.lend-part.result;
       does = c.lend-part.ensures.note;
+      part = c.lend-part.ensures.part;
       edges = c.put.ensures.is;
       outs = refl;
     } in

@@ -6,7 +6,7 @@ use Rattle.flu_net.specs.Effects.{Takes}
 use Rattle.flu_net.specs.Notes.{NetNote, kid_of}
 use Rattle.flu_net.specs.Rule.{Rule}
 use Rattle.flu_net.proofs.Keeping.{rule_takes}
-use Rattle.flu_net.proofs.Readying.{at_index, case_of, kid_lt, take_fits, take_kept, take_may, take_served}
+use Rattle.flu_net.proofs.Readying.{at_index, case_of, kid_lt, take_fits, take_kept, take_may, take_served, kept_at}
 use Rattle.flu_net.proofs.net.Net.take.Goals as goal
 
 pub take_reply-requires-clause-case : goal.take_reply-requires-clause-case
@@ -148,7 +148,7 @@ invariant_of-self-2 c =
       outs = c.self.inside.outs;
     } in
     let h : Takes c.args.w c.args.side v u = record {
-      step = record { was = n; is = c.take_reply.new.self; at = at; case = refl; gone = refl; seen = refl; workers = refl };
+      step = record { was = n; is = c.take_reply.new.self; rule = kept_at v.workers c.args.w c.take_reply.new.self lt c.keeps.ensures; at = at; case = refl; gone = refl; seen = refl; workers = refl };
       kid = c.in-Some.kid;
       is_kid = kid;
       lot = lot;
@@ -188,7 +188,7 @@ returns-clause-made c =
       outs = c.self.inside.outs;
     } in
     let h : Takes c.args.w c.args.side v u = record {
-      step = record { was = n; is = c.take_reply.new.self; at = at; case = refl; gone = refl; seen = refl; workers = refl };
+      step = record { was = n; is = c.take_reply.new.self; rule = kept_at v.workers c.args.w c.take_reply.new.self lt c.keeps.ensures; at = at; case = refl; gone = refl; seen = refl; workers = refl };
       kid = c.in-Some.kid;
       is_kid = kid;
       lot = lot;

@@ -9,7 +9,7 @@ returns-in_default-take_step-clause-faults g c =
     let left = g.F.Files.left in
     let was = c.args.self.now in
     told_bad c.args.name.now was.held c.fill.new.self c.take_step.new.held c.in-Ok.found was.lines c.in-Some.line was.net (left c.args.files.now)
-    (left c.fill.new.files) c.in-Ok.ensures.bytes c.in-Ok.ensures.last c.in_default-take_step.ensures c.in-Some.ensures.1
+    (left c.fill.new.files) c.in-Ok.ensures.bytes c.in-Ok.ensures.last c.in_default-take_step.ensures c.in-Some.ensures.1 c.rule.ensures
 
 pub returns-in-Err-NotEnabled-clause-faults : goal.returns-in-Err-NotEnabled-clause-faults
 returns-in-Err-NotEnabled-clause-faults g c =
@@ -18,7 +18,7 @@ returns-in-Err-NotEnabled-clause-faults g c =
     let off : is_enabled was.net c.in-Some-take_step.step ≡ false =
     c.step.ensures.not_enabled.0 (c.in-Err-NotEnabled.is ∙ ap Err c.in-Err-NotEnabled.field-0-is) in
     told_not_enabled c.args.name.now was.held c.fill.new.self c.take_step.new.held c.in-Ok.found c.in-Some-take_step.step was.lines c.in-Some.line was.net
-    (left c.args.files.now) (left c.fill.new.files) c.in-Ok.ensures.bytes c.in-Ok.ensures.last c.in-Some-take_step.ensures c.in-Some.ensures.1 off
+    (left c.args.files.now) (left c.fill.new.files) c.in-Ok.ensures.bytes c.in-Ok.ensures.last c.in-Some-take_step.ensures c.in-Some.ensures.1 c.rule.ensures off
 
 pub returns-clause-goes : goal.returns-clause-goes
 returns-clause-goes g c =
@@ -29,4 +29,4 @@ returns-clause-goes g c =
     made_on c.step.result c.in-Ok-step.field-0 NotEnabled (is_enabled was.net step) c.step.ensures.not_enabled.1 c.in-Ok-step.is in
     told_made c.args.name.now was.held c.fill.new.self c.take_step.new.held c.in-Ok.found step was.lines c.in-Some.line was.net c.step.new.self
     (left c.args.files.now) (left c.fill.new.files) c.in-Ok.ensures.bytes c.in-Ok.ensures.last c.in-Some-take_step.ensures c.in-Some.ensures.1
-    (record { well = c.rule.ensures; enabled = on; made = c.in-Ok-step.ensures.made })
+    (record { enabled = on; made = c.in-Ok-step.ensures.made })
