@@ -11,7 +11,7 @@ use crate::texts::{
     VALUES,
 };
 use flu_fork::Case;
-use flu_live::trace;
+use flu_live::{TracedRun, trace};
 use flu_model::Text;
 use flu_net::Step;
 use flu_outside::MemFiles;
@@ -55,7 +55,7 @@ fn number(step: Step) -> u32
 pub fn lines_of(rt: &impl Abort, alloc: Global, case: &Case, seed: u32) -> Vec<Text>
     requires { seed < 2 ^ 31 }
 {
-    let steps = trace(alloc, case, seed).expect(rt, MEMORY);
+    let TracedRun { steps, .. } = trace(alloc, case, seed).expect(rt, MEMORY);
     let mut lines = Vec::new(alloc);
     for step in steps.as_slice() {
         if number(*step) < 1000 {
