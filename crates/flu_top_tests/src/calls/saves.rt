@@ -3,7 +3,7 @@
 use super::jobs::{COUNTED, END, REPORT};
 use super::rounds::{ALL, DISORDERED, FIRST, READS, SAME_TIME, SECOND, adds};
 use super::scripts::play;
-use super::{SOUND, Settings, Words, add_all, assert_left, call, call_with, files_of, put};
+use super::{Words, assert_left, call, files_of, put};
 use flu_outside::{MemFiles, TakeFault, read_whole};
 use flu_seq::OpenGate;
 use std::alloc::{AllocError, Global};
@@ -12,8 +12,8 @@ use std::sync::Wait;
 use std::test::Fail;
 use std::thread::Threads;
 
-/// Runs from the checkpoint of a border, with what was counted up to it, and from one that holds nothing; what is no checkpoint of the
-/// job; names that are sources' files; and a checkpoint that is not there.
+/// Runs from the checkpoint of a border, with what was counted up to it, from one that holds nothing, and from the last one, which have nothing more to
+/// run; what is no checkpoint of the job; names that are sources' files; and a checkpoint that is not there.
 const RESUMED: &str = "@ s
 {\"border\":2,\"cells\":[[\"count\",0,\"12\"]],\"job\":\"cell count sum\\ntag inc int\\ntag read none\\ndepends inc read\\ndepends read read\\non inc: add count value\\non read: emit \\\"count {count}\\\"; clear count\\nsource a \\\"a.csv\\\" rate 1000: inc\\nsource b \\\"b.csv\\\" rate 1000: inc\\nsource c \\\"c.csv\\\" rate 1: read\\n\"}
 @ $ run J P --resume s
@@ -26,6 +26,11 @@ const RESUMED: &str = "@ s
 @ $ run J P --resume s
 @ = 0
 5,read,count 2
+@ s
+{\"border\":9223372036854775807,\"cells\":[],\"job\":\"cell count sum\\ntag inc int\\ntag read none\\ndepends inc read\\ndepends read read\\non inc: add count value\\non read: emit \\\"count {count}\\\"; clear count\\nsource a \\\"a.csv\\\" rate 1000: inc\\nsource b \\\"b.csv\\\" rate 1000: inc\\nsource c \\\"c.csv\\\" rate 1: read\\n\"}
+@ $ run J P --resume s
+@ $ run J --save s --resume s
+@ = 0
 @ s|{
 @ $ run J P --resume s
 @ $ run J P --save t --resume s
@@ -56,7 +61,7 @@ fn runs_are_resumed(rt: HostRuntime) -> Result<(), Fail> {
 }
 
 /// What a name has left.
-pub fn left_of(alloc: Global, files: &mut MemFiles, name: &str) -> Result<Vec<u8>, TakeFault> {
+fn left_of(alloc: Global, files: &mut MemFiles, name: &str) -> Result<Vec<u8>, TakeFault> {
     read_whole(alloc, files, name, 1 << 20)
 }
 
@@ -139,22 +144,6 @@ fn check_case<R: Abort + Threads + Wait + Sync>(
 fn checkpoints_are_put(rt: HostRuntime) -> Result<(), Fail> {
     for case in cases() {
         check_case(&rt, rt.alloc(), case)?;
-    }
-    Ok(())
-}
-
-/// A run that is resumed from what a whole run saved has nothing more to run; also where it saves to the same name.
-#[test]
-fn a_whole_run_is_resumed(rt: HostRuntime) -> Result<(), Fail> {
-    let mut files = files_of(rt.alloc(), COUNTED)?;
-    call(&rt, rt.alloc(), "run J P --save s", &mut files, &OpenGate)?;
-    let saved = left_of(rt.alloc(), &mut files, "s")?;
-    let saved = std::str::from_utf8(&saved)?;
-    for words in ["run J P --resume s", "run J --save s --resume s"] {
-        let mut again = files_of(rt.alloc(), COUNTED)?;
-        add_all(rt.alloc(), &mut again, &[("s", saved)])?;
-        let left = call(&rt, rt.alloc(), words, &mut again, &OpenGate)?;
-        assert_left(&rt, &left, 0, b"", "");
     }
     Ok(())
 }
