@@ -2,7 +2,7 @@
 
 use super::jobs::{COUNTED, END, REPORT};
 use super::rounds::{ALL, DISORDERED, FIRST, READS, SAME_TIME, SECOND, adds};
-use super::scripts::play;
+use super::scripts::{Wanted, play};
 use super::{Words, assert_left, call, files_of, put};
 use flu_outside::{MemFiles, TakeFault, read_whole};
 use flu_seq::OpenGate;
@@ -159,32 +159,58 @@ fn two_rounds(alloc: Global, behind: &str, reads: &str) -> Result<MemFiles, Allo
     Ok(files)
 }
 
+/// Makes a call over some files, and answers what the name that it saves to has left.
+fn saved_by<R: Abort + Threads + Wait + Sync>(
+    rt: &R,
+    alloc: Global,
+    words: Words,
+    mut files: MemFiles,
+    wanted: Wanted,
+) -> Result<Vec<u8>, Fail> {
+    let left = call(rt, alloc, words, &mut files, &OpenGate)?;
+    assert_left(rt, &left, wanted.status, wanted.out.as_bytes(), wanted.err);
+    Ok(left_of(alloc, &mut files, "s")?)
+}
+
 /// The checkpoint of the first round, whose border is the time of the first source's 4,096th row, is left where the second one meets a
 /// defect.
 #[test]
 fn the_checkpoint_before_a_defect_is_left(rt: HostRuntime) -> Result<(), Fail> {
-    let alloc = rt.alloc();
-    let mut files = two_rounds(alloc, SAME_TIME, "4000,read\nend\n")?;
-    let left = call(&rt, alloc, "run J P --save s", &mut files, &OpenGate)?;
-    assert_left(&rt, &left, 6, FIRST.as_bytes(), DISORDERED);
-    let saved = left_of(alloc, &mut files, "s")?;
+    let files = two_rounds(rt.alloc(), SAME_TIME, "4000,read\nend\n")?;
+    let wanted = Wanted {
+        status: 6,
+        out: FIRST,
+        err: DISORDERED,
+    };
+    let saved = saved_by(&rt, rt.alloc(), "run J P --save s", files, wanted)?;
     assert!(&rt; saved.starts_with(b"{\"border\":4096,\"cells\":[[\"count\",0,\"96\"]],\"job\":"));
     Ok(())
+}
+
+/// What a run saves whose second put fails.
+fn saved_once<R: Abort + Threads + Wait + Sync>(rt: &R, alloc: Global) -> Result<Vec<u8>, Fail> {
+    let mut files = two_rounds(alloc, END, READS)?;
+    files.fail_put(2)?;
+    let wanted = Wanted {
+        status: 12,
+        out: ALL,
+        err: "flumina: save fault",
+    };
+    saved_by(rt, alloc, "run J P --save s", files, wanted)
 }
 
 /// A round whose checkpoint could not be put is run again by a run that is resumed: the border tells that its lines come twice.
 #[test]
 fn a_round_that_was_not_saved_is_run_again(rt: HostRuntime) -> Result<(), Fail> {
-    let alloc = rt.alloc();
-    let mut files = two_rounds(alloc, END, READS)?;
-    files.fail_put(2)?;
-    let left = call(&rt, alloc, "run J P --save s", &mut files, &OpenGate)?;
-    assert_left(&rt, &left, 12, ALL.as_bytes(), "flumina: save fault");
-    let saved = left_of(alloc, &mut files, "s")?;
+    let saved = saved_once(&rt, rt.alloc())?;
     assert!(&rt; saved.starts_with(b"{\"border\":4096,"));
-    let mut files = two_rounds(alloc, END, READS)?;
+    let mut files = two_rounds(rt.alloc(), END, READS)?;
     files.add("s", saved)?;
-    let left = call(&rt, alloc, "run J P --resume s", &mut files, &OpenGate)?;
-    assert_left(&rt, &left, 0, SECOND.as_bytes(), "");
+    let wanted = Wanted {
+        status: 0,
+        out: SECOND,
+        err: "",
+    };
+    saved_by(&rt, rt.alloc(), "run J P --resume s", files, wanted)?;
     Ok(())
 }
