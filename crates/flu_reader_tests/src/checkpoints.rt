@@ -1,5 +1,6 @@
 //! The texts of checkpoints, and what is read of texts.
 
+use crate::tables::case_of;
 use flu_cells::State;
 use flu_model::{Cell, Program};
 use flu_parse::read_job;
@@ -51,66 +52,46 @@ fn saves(rt: HostRuntime) -> Result<(), Fail> {
     Ok(())
 }
 
+/// Fronts of texts, to each of which the end is put, with what is read of them.
+const FRONTS: &str =
+    "{\"border\":2,\"cells\":[[\"count\",0,\"12\"],[\"top\",0,\"0\"],[\"place\",3,\"-4\"]] => 2 true
+{\"border\": 9223372036854775807, \"cells\": [] => 9223372036854775807 false
+{\"border\":9223372036854775808,\"cells\":[] => wrong form
+{\"border\":-1,\"cells\":[] => wrong form
+{\"border\":2,\"cells\":{} => wrong form
+{\"border\":2,\"cells\":[],\"more\":0 => wrong form
+{\"border\":2,\"cells\":[]} => not json
+{\"border\":2,\"cells\":[],\"job\":\"\" => 2 false
+{\"border\":2,\"cells\":[[\"count\",0,\"0\"]] => wrong form
+{\"border\":2,\"cells\":[[\"count\",0,\"012\"]] => wrong form
+{\"border\":2,\"cells\":[[\"count\",0,\"+12\"]] => wrong form
+{\"border\":2,\"cells\":[[\"count\",0,12]] => wrong form
+{\"border\":2,\"cells\":[[\"count\",0,\"-12\"]] => 2 true
+{\"border\":2.0,\"cells\":[] => wrong form
+{\"border\":2,\"cells\":[[\"count\",1,\"12\"]] => wrong form
+{\"border\":2,\"cells\":[[\"count\",0,\"12\",0]] => wrong form
+{\"border\":2,\"cells\":[[\"total\",0,\"12\"]] => wrong form
+{\"border\":2,\"cells\":[[\"top\",0,\"9223372036854775808\"]] => wrong form
+{\"border\":2,\"cells\":[[\"place\",65536,\"1\"]] => wrong form
+{\"border\":2,\"cells\":[[\"place\",4,\"1\"],[\"place\",3,\"1\"]] => wrong form
+{\"border\":2,\"cells\":[[\"place\",4,\"1\"],[\"place\",4,\"1\"]] => wrong form";
+
 #[test]
 fn reads(rt: HostRuntime) -> Result<(), Fail> {
     let alloc = rt.alloc();
     let p = read_job(alloc, JOB.as_bytes())?;
-    let cases = [
-        (
-            "{\"border\":2,\"cells\":[[\"count\",0,\"12\"],[\"top\",0,\"0\"],[\"place\",3,\"-4\"]]",
-            "2 true",
-        ),
-        (
-            "{\"border\": 9223372036854775807, \"cells\": []",
-            "9223372036854775807 false",
-        ),
-        ("{\"border\":9223372036854775808,\"cells\":[]", "wrong form"),
-        ("{\"border\":-1,\"cells\":[]", "wrong form"),
-        ("{\"border\":2,\"cells\":{}", "wrong form"),
-        ("{\"border\":2,\"cells\":[],\"more\":0", "wrong form"),
-        ("{\"border\":2,\"cells\":[]}", "not json"),
-        ("{\"border\":2,\"cells\":[],\"job\":\"\"", "2 false"),
-        (
-            "{\"border\":2,\"cells\":[[\"count\",0,\"0\"]]",
-            "wrong form",
-        ),
-        (
-            "{\"border\":2,\"cells\":[[\"count\",0,\"012\"]]",
-            "wrong form",
-        ),
-        (
-            "{\"border\":2,\"cells\":[[\"count\",1,\"12\"]]",
-            "wrong form",
-        ),
-        (
-            "{\"border\":2,\"cells\":[[\"count\",0,\"12\",0]]",
-            "wrong form",
-        ),
-        (
-            "{\"border\":2,\"cells\":[[\"total\",0,\"12\"]]",
-            "wrong form",
-        ),
-        (
-            "{\"border\":2,\"cells\":[[\"top\",0,\"9223372036854775808\"]]",
-            "wrong form",
-        ),
-        (
-            "{\"border\":2,\"cells\":[[\"place\",65536,\"1\"]]",
-            "wrong form",
-        ),
-        (
-            "{\"border\":2,\"cells\":[[\"place\",4,\"1\"],[\"place\",3,\"1\"]]",
-            "wrong form",
-        ),
-        (
-            "{\"border\":2,\"cells\":[[\"place\",4,\"1\"],[\"place\",4,\"1\"]]",
-            "wrong form",
-        ),
-    ];
-    for (front, wanted) in cases {
+    for line in FRONTS.split('\n') {
+        let (front, wanted) = case_of(line);
         let text = format!(in alloc; "{front}{END}")?;
-        assert_eq!(rt; saved_again(alloc, &p, &text)?.as_str(), wanted);
+        assert_eq!(rt; saved_again(alloc, &p, &text)?.as_str(), wanted, "{front}");
     }
+    Ok(())
+}
+
+#[test]
+fn reads_no_end(rt: HostRuntime) -> Result<(), Fail> {
+    let alloc = rt.alloc();
+    let p = read_job(alloc, JOB.as_bytes())?;
     assert_eq!(rt; saved_again(alloc, &p, "{")?.as_str(), "not json");
     let other = saved_again(alloc, &p, "{\"border\":2,\"cells\":[],\"job\":\"\"}")?;
     assert_eq!(rt; other.as_str(), "other job");

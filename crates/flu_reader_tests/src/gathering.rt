@@ -5,6 +5,7 @@ ghost use Rattle.flu_model.specs.Itags.{count_of_itags};
 ghost use Rattle.flu_model.specs.Listed.{listed};
 
 use crate::files::files_of;
+use crate::tables::case_of;
 use flu_model::{Itag, Item, Program, Streams, itag_count};
 use flu_parse::read_job;
 use flu_streams::{GatherFault, Why, gather};
@@ -61,58 +62,44 @@ fn gathered(alloc: Global, p: &Program, a: &str, b: &str) -> Result<String, Allo
     }
 }
 
-/// Whether gathering gives this, for the bytes of each two files.
-fn expect_all(rt: &impl Abort, alloc: Global, cases: &[(&str, &str, &str)]) -> Result<(), Fail> {
+/// Whether gathering gives this, for the bytes of each two files, which stand on both sides of a sign. In them a stroke stands for a line feed, and a
+/// percent sign for a carriage return.
+fn expect_all(rt: &impl Abort, alloc: Global, table: &str) -> Result<(), Fail> {
     let p = read_job(alloc, JOB.as_bytes())?;
-    for (a, b, wanted) in cases {
+    for line in table.split('\n') {
+        let (text, wanted) = case_of(line);
+        let text = text.replace(alloc, "/", "\n")?.replace(alloc, "%", "\r")?;
+        let (a, b) = text.split_once(" & ").unwrap_or((text.as_str(), ""));
         let got = gathered(alloc, &p, a, b)?;
-        assert_eq!(rt; got.as_str(), *wanted);
+        assert_eq!(rt; got.as_str(), wanted);
     }
     Ok(())
 }
 
-#[test]
-fn gathers(rt: HostRuntime) -> Result<(), Fail> {
-    let cases = [
-        (
-            "1,inc,5\n2,item[2],-7\n3,beat\n4,tick\nend\n",
-            "1,tick\r\n\r\nend",
-            "0:1=5 beat3 end |beat3 end |2:2=-7 beat3 end |beat3 3:4=0 end |4:1=0 end |",
-        ),
-        ("1,inc\nend", "end", "0 1 BadRow"),
-        ("1,tick,4\nend", "end", "0 1 BadRow"),
-        ("1,inc,4\nx,inc,1\nend", "end", "0 2 BadRow"),
-        ("1,nope,4\nend", "end", "0 1 UnknownTag"),
-        ("1,item,4\nend", "end", "0 1 UnknownTag"),
-        ("1,inc[1],4\nend", "end", "0 1 UnknownTag"),
-        ("1,item[3],4\nend", "end", "0 1 UnknownTag"),
-    ];
-    expect_all(&rt, rt.alloc(), &cases)
-}
+/// Two sources that are good, and others with their first defect.
+const SOURCES: &str =
+    "1,inc,5/2,item[2],-7/3,beat/4,tick/end/ & 1,tick%/%/end => 0:1=5 beat3 end |beat3 end |2:2=-7 beat3 end |beat3 3:4=0 end |4:1=0 end |
+1,inc/end & end => 0 1 BadRow
+1,tick,4/end & end => 0 1 BadRow
+1,inc,4/x,inc,1/end & end => 0 2 BadRow
+1,nope,4/end & end => 0 1 UnknownTag
+1,item,4/end & end => 0 1 UnknownTag
+1,inc[1],4/end & end => 0 1 UnknownTag
+1,item[3],4/end & end => 0 1 UnknownTag
+5,inc,1//5,beat/end & end => 0 3 Disordered { last: 5, got: 5 }
+5,beat/4,inc,1/end & end => 0 2 Disordered { last: 5, got: 4 }
+5,beat/4,inc/end & end => 0 2 BadRow
+1,inc,5/ & end => 0 2 Unclosed
+ & end => 0 1 Unclosed
+end// & // => 1 3 Unclosed
+end//end & x => 0 3 AfterEnd
+end/xx & end => 0 2 AfterEnd
+end & 1,inc,2/end => 1 1 UnknownTag
+ & 1,inc,2/end => 0 1 Unclosed";
 
 #[test]
-fn tells_the_first_defect(rt: HostRuntime) -> Result<(), Fail> {
-    let cases = [
-        (
-            "5,inc,1\n\n5,beat\nend",
-            "end",
-            "0 3 Disordered { last: 5, got: 5 }",
-        ),
-        (
-            "5,beat\n4,inc,1\nend",
-            "end",
-            "0 2 Disordered { last: 5, got: 4 }",
-        ),
-        ("5,beat\n4,inc\nend", "end", "0 2 BadRow"),
-        ("1,inc,5\n", "end", "0 2 Unclosed"),
-        ("", "end", "0 1 Unclosed"),
-        ("end\n\n", "\n\n", "1 3 Unclosed"),
-        ("end\n\nend", "x", "0 3 AfterEnd"),
-        ("end\nxx", "end", "0 2 AfterEnd"),
-        ("end", "1,inc,2\nend", "1 1 UnknownTag"),
-        ("", "1,inc,2\nend", "0 1 Unclosed"),
-    ];
-    expect_all(&rt, rt.alloc(), &cases)
+fn gathers_or_tells_the_first_defect(rt: HostRuntime) -> Result<(), Fail> {
+    expect_all(&rt, rt.alloc(), SOURCES)
 }
 
 #[test]

@@ -1,9 +1,9 @@
 //! The first fault of a job text, where it has one.
 
+use crate::tables::case_of;
 use flu_model::What;
 use flu_parse::{JobFault, read_job};
 use std::alloc::{AllocError, Global};
-use std::process::Abort;
 use std::test::Fail;
 
 fn said(alloc: Global, text: &str) -> Result<String, AllocError> {
@@ -13,130 +13,64 @@ fn said(alloc: Global, text: &str) -> Result<String, AllocError> {
     }
 }
 
-fn expect_said(
-    rt: &impl Abort,
-    alloc: Global,
-    text: &str,
-    expected: &str,
-) -> Result<(), AllocError> {
-    let said = said(alloc, text)?;
-    assert_eq!(rt; said.as_str(), expected, "{text}");
-    Ok(())
-}
-
-fn expect_all(rt: &impl Abort, alloc: Global, cases: &[(&str, &str)]) -> Result<(), AllocError> {
-    for (text, expected) in cases {
-        expect_said(rt, alloc, text, expected)?;
-    }
-    Ok(())
-}
+/// Texts with their first faults: where the text is cut into words and read; what its declarations name, as its version, which is looked at when all
+/// names are; its expressions, of which the height is found at the first token, behind what is wrong there; and its texts, in which a field of no form is no
+/// faulty brace, so that the fields behind it are looked at.
+const FAULTS: &str = " => ok
+cell count sum $ => BadToken { at: 15 }
+cell count => Unexpected { at: 10 }
+on inc: clear count => UnknownName { at: 3 }
+cell a sum cell a max => TwiceNamed { at: 16 }
+cell m max tag t none on t: add m 1 => WrongShape { at: 32 }
+tag t keyed int source s \"f\": t[0..256] => OverLimit { what: Itags, count: 257 }
+tag t none source t \"f\": t => TwiceNamed { at: 18 }
+version 3 => WrongShape { at: 8 }
+version 0 tag t none depends t u => WrongShape { at: 8 }
+version 3 cell a sum cell a max => TwiceNamed { at: 26 }
+version 2 version 2 => Unexpected { at: 10 }
+tag t none on t: clear t => UnknownName { at: 23 }
+tag t none depends t t same => WrongShape { at: 23 }
+cell a sum tag t none on t: clear a on t: clear a => TwiceNamed { at: 39 }
+tag k keyed none source s \"f\": k[1], k[0..3] => TwiceNamed { at: 37 }
+tag k keyed none source s \"f\": k[3..1] => WrongShape { at: 33 }
+tag k keyed none source s \"f\": k => WrongShape { at: 31 }
+tag k keyed none source s \"f\": k[65536] => OverLimit { what: Key, count: 65536 }
+tag t none source s \"\": t => WrongShape { at: 20 }
+tag t none source s \"f\": t source u \"f\": t => TwiceNamed { at: 36 }
+tag t none source s \"f\" rate 1000000001: t => OverLimit { what: Rate, count: 1000000001 }
+tag t none source s \"f\" slack 60001: u => OverLimit { what: Slack, count: 60001 }
+tag t none source s \"f\" rate 1000000001 slack 60001: t => OverLimit { what: Rate, count: 1000000001 }
+tag t none source s \"f\" slack 60000: t => ok
+cell a sum tag t none on t: add a value => WrongShape { at: 34 }
+cell a sum tag t none on t: add a 1 + b => UnknownName { at: 38 }
+cell a keyed sum tag t none on t: clear a[key] => WrongShape { at: 42 }
+cell a sum tag t none on t: add a 1+1+1+1+1+1+1+1+1+1+1+1+1+1+1+1+1+1+1+1+1+1+1+1+1+1+1+1+1+1+1+1+1 => OverLimit { what: Height, count: 33 }
+cell a sum tag t none on t: add a 1+1+1+1+1+1+1+1+1+1+1+1+1+1+1+1+1+1+1+1+1+1+1+1+1+1+1+1+1+1+1+1 => ok
+cell a sum tag t none on t: add a b+1+1+1+1+1+1+1+1+1+1+1+1+1+1+1+1+1+1+1+1+1+1+1+1+1+1+1+1+1+1+1+1 => UnknownName { at: 34 }
+tag t none on t: emit \"a}b\" => WrongShape { at: 22 }
+tag t none on t: emit \"a{b\" => WrongShape { at: 22 }
+tag t none on t: emit \"{a}}\" => UnknownName { at: 22 }
+tag t none on t: emit \"}{a}\" => WrongShape { at: 22 }
+tag t none on t: emit \"{value}\" => WrongShape { at: 22 }
+tag t none on t: emit \"{cell}\" => WrongShape { at: 22 }
+tag t none on t: emit \"{time} {time}\" => ok
+tag t none on t: emit \"{}{z}\" => UnknownName { at: 22 }
+tag t none on t: emit \"{}\" => WrongShape { at: 22 }
+tag t none on t: emit \"{sum}{z}\" => UnknownName { at: 22 }
+tag t none on t: emit \"{c{z}\" => WrongShape { at: 22 }
+tag t none on t: emit \"{c{z}{z}\" => WrongShape { at: 22 }
+tag t none on t: emit \"{z}{c{z}\" => UnknownName { at: 22 }
+cell a keyed sum tag t none on t: emit \"{a[65536]}\" => OverLimit { what: Key, count: 65536 }
+cell a keyed sum tag t none on t: flush a \"{key} {cell} {value}\" => WrongShape { at: 42 }
+cell a keyed sum tag t none on t: flush a \"{key} {cell}\" => ok";
 
 #[test]
 fn first_faults(rt: HostRuntime) -> Result<(), Fail> {
-    let cases = [
-        ("", "ok"),
-        ("cell count sum $", "BadToken { at: 15 }"),
-        ("cell count", "Unexpected { at: 10 }"),
-        ("on inc: clear count", "UnknownName { at: 3 }"),
-        ("cell a sum cell a max", "TwiceNamed { at: 16 }"),
-        (
-            "cell m max tag t none on t: add m 1",
-            "WrongShape { at: 32 }",
-        ),
-        (
-            "tag t keyed int source s \"f\": t[0..256]",
-            "OverLimit { what: Itags, count: 257 }",
-        ),
-        ("tag t none source t \"f\": t", "TwiceNamed { at: 18 }"),
-        // A version is looked at when all names are, and before what the declarations say.
-        ("version 3", "WrongShape { at: 8 }"),
-        ("version 0 tag t none depends t u", "WrongShape { at: 8 }"),
-        ("version 3 cell a sum cell a max", "TwiceNamed { at: 26 }"),
-        ("version 2 version 2", "Unexpected { at: 10 }"),
-    ];
-    expect_all(&rt, rt.alloc(), &cases)?;
-    Ok(())
-}
-
-#[test]
-fn faults_of_declarations(rt: HostRuntime) -> Result<(), Fail> {
-    let cases = [
-        ("tag t none on t: clear t", "UnknownName { at: 23 }"),
-        ("tag t none depends t t same", "WrongShape { at: 23 }"),
-        (
-            "cell a sum tag t none on t: clear a on t: clear a",
-            "TwiceNamed { at: 39 }",
-        ),
-        (
-            "tag k keyed none source s \"f\": k[1], k[0..3]",
-            "TwiceNamed { at: 37 }",
-        ),
-        (
-            "tag k keyed none source s \"f\": k[3..1]",
-            "WrongShape { at: 33 }",
-        ),
-        (
-            "tag k keyed none source s \"f\": k",
-            "WrongShape { at: 31 }",
-        ),
-        (
-            "tag k keyed none source s \"f\": k[65536]",
-            "OverLimit { what: Key, count: 65536 }",
-        ),
-        ("tag t none source s \"\": t", "WrongShape { at: 20 }"),
-        (
-            "tag t none source s \"f\": t source u \"f\": t",
-            "TwiceNamed { at: 36 }",
-        ),
-        (
-            "tag t none source s \"f\" rate 1000000001: t",
-            "OverLimit { what: Rate, count: 1000000001 }",
-        ),
-        (
-            "tag t none source s \"f\" slack 60001: u",
-            "OverLimit { what: Slack, count: 60001 }",
-        ),
-        (
-            "tag t none source s \"f\" rate 1000000001 slack 60001: t",
-            "OverLimit { what: Rate, count: 1000000001 }",
-        ),
-        ("tag t none source s \"f\" slack 60000: t", "ok"),
-    ];
-    expect_all(&rt, rt.alloc(), &cases)?;
-    Ok(())
-}
-
-#[test]
-fn faults_of_expressions(rt: HostRuntime) -> Result<(), Fail> {
-    let cases = [
-        (
-            "cell a sum tag t none on t: add a value",
-            "WrongShape { at: 34 }",
-        ),
-        (
-            "cell a sum tag t none on t: add a 1 + b",
-            "UnknownName { at: 38 }",
-        ),
-        (
-            "cell a keyed sum tag t none on t: clear a[key]",
-            "WrongShape { at: 42 }",
-        ),
-        // 33 numbers are a height of 33, which the first token is found at.
-        (
-            "cell a sum tag t none on t: add a 1+1+1+1+1+1+1+1+1+1+1+1+1+1+1+1+1+1+1+1+1+1+1+1+1+1+1+1+1+1+1+1+1",
-            "OverLimit { what: Height, count: 33 }",
-        ),
-        (
-            "cell a sum tag t none on t: add a 1+1+1+1+1+1+1+1+1+1+1+1+1+1+1+1+1+1+1+1+1+1+1+1+1+1+1+1+1+1+1+1",
-            "ok",
-        ),
-        // What is wrong at the first token itself comes before the height.
-        (
-            "cell a sum tag t none on t: add a b+1+1+1+1+1+1+1+1+1+1+1+1+1+1+1+1+1+1+1+1+1+1+1+1+1+1+1+1+1+1+1+1",
-            "UnknownName { at: 34 }",
-        ),
-    ];
-    expect_all(&rt, rt.alloc(), &cases)?;
+    for line in FAULTS.split('\n') {
+        let (text, wanted) = case_of(line);
+        let said = said(rt.alloc(), text)?;
+        assert_eq!(rt; said.as_str(), wanted, "{text}");
+    }
     Ok(())
 }
 
@@ -155,49 +89,6 @@ fn long_row_of_operators(rt: HostRuntime) -> Result<(), Fail> {
         }
         _ => assert!(rt; false),
     }
-    Ok(())
-}
-
-#[test]
-fn faults_of_templates(rt: HostRuntime) -> Result<(), Fail> {
-    let cases = [
-        ("tag t none on t: emit \"a}b\"", "WrongShape { at: 22 }"),
-        ("tag t none on t: emit \"a{b\"", "WrongShape { at: 22 }"),
-        ("tag t none on t: emit \"{a}}\"", "UnknownName { at: 22 }"),
-        ("tag t none on t: emit \"}{a}\"", "WrongShape { at: 22 }"),
-        ("tag t none on t: emit \"{value}\"", "WrongShape { at: 22 }"),
-        ("tag t none on t: emit \"{cell}\"", "WrongShape { at: 22 }"),
-        ("tag t none on t: emit \"{time} {time}\"", "ok"),
-        // A field of no form is no faulty brace: the fields behind it are looked at. Behind a faulty brace none is.
-        ("tag t none on t: emit \"{}{z}\"", "UnknownName { at: 22 }"),
-        ("tag t none on t: emit \"{}\"", "WrongShape { at: 22 }"),
-        (
-            "tag t none on t: emit \"{sum}{z}\"",
-            "UnknownName { at: 22 }",
-        ),
-        ("tag t none on t: emit \"{c{z}\"", "WrongShape { at: 22 }"),
-        (
-            "tag t none on t: emit \"{c{z}{z}\"",
-            "WrongShape { at: 22 }",
-        ),
-        (
-            "tag t none on t: emit \"{z}{c{z}\"",
-            "UnknownName { at: 22 }",
-        ),
-        (
-            "cell a keyed sum tag t none on t: emit \"{a[65536]}\"",
-            "OverLimit { what: Key, count: 65536 }",
-        ),
-        (
-            "cell a keyed sum tag t none on t: flush a \"{key} {cell} {value}\"",
-            "WrongShape { at: 42 }",
-        ),
-        (
-            "cell a keyed sum tag t none on t: flush a \"{key} {cell}\"",
-            "ok",
-        ),
-    ];
-    expect_all(&rt, rt.alloc(), &cases)?;
     Ok(())
 }
 

@@ -75,45 +75,6 @@ fn takes_in_pieces(rt: HostRuntime) -> Result<(), Fail> {
 }
 
 #[test]
-fn a_piece_for_each_take(rt: HostRuntime) -> Result<(), Fail> {
-    let mut files = files_of(rt.alloc(), &[("job", b"abcdefghi")], 2)?;
-    files.add_piece(1)?;
-    files.add_piece(9)?;
-    files.add_piece(4)?;
-    files.add_piece(1)?;
-    files.fail_at(4)?;
-    let cases: [(&str, Option<&[u8]>); 8] = [
-        ("job", Some(b"ab")),
-        ("job", Some(b"c")),
-        ("job", Some(b"defg")),
-        ("job", None),
-        ("job", Some(b"h")),
-        ("none", None),
-        ("job", Some(b"i")),
-        ("job", Some(b"")),
-    ];
-    take_each(&rt, &mut files, &cases);
-    Ok(())
-}
-
-#[test]
-fn a_piece_for_each_write(rt: HostRuntime) -> Result<(), Fail> {
-    let mut sink = MemSink::with_room(rt.alloc(), 20)?;
-    sink.piece(3);
-    sink.add_piece(1)?;
-    sink.add_piece(2)?;
-    let cases: [(&[u8], Option<usize>); 4] = [
-        (b"abcd", Some(3)),
-        (b"de", Some(1)),
-        (b"efg", Some(2)),
-        (b"ghi", Some(2)),
-    ];
-    write_each(&rt, &mut sink, &cases);
-    assert_eq!(rt; sink.bytes(), b"abcdefgh".as_slice());
-    Ok(())
-}
-
-#[test]
 fn honest_names_are_empty(rt: HostRuntime) -> Result<(), Fail> {
     let mut files = HonestFiles::new(rt.alloc());
     files.add("job", b"abc".to_vec(rt.alloc())?)?;

@@ -1,5 +1,6 @@
 //! Plan texts.
 
+use crate::tables::case_of;
 use flu_model::{Itag, Pred, Program, itag_count, matches};
 use flu_parse::read_job;
 use flu_plan::{PlanFault, print_plan, read_plan};
@@ -26,11 +27,6 @@ source app \"app.csv\": view[0..9]
 source clock \"clock.csv\": tick
 ";
 
-const PLAN_P: &str = "node root: read -> l r
-node l: inc@a
-node r: inc@b
-";
-
 /// The plan that a text is, printed, or the fault.
 fn said(alloc: Global, p: &Program, text: &str) -> Result<String, AllocError> {
     match read_plan(alloc, p, text.as_bytes()) {
@@ -52,99 +48,64 @@ fn said(alloc: Global, p: &Program, text: &str) -> Result<String, AllocError> {
     }
 }
 
-/// Whether each text is read as its plan, or its fault is told, where this is the job.
-fn expect_all(
-    rt: &impl Abort,
-    alloc: Global,
-    job: &str,
-    cases: &[(&str, &str)],
-) -> Result<(), Fail> {
+/// Whether each text of a table is read as its plan, or its fault is told, where this is the job. A stroke stands for the end of a line.
+fn expect_all(rt: &impl Abort, alloc: Global, job: &str, table: &str) -> Result<(), Fail> {
     let p = read_job(alloc, job.as_bytes())?;
-    for (text, expected) in cases {
-        let said = said(alloc, &p, text)?;
-        assert_eq!(rt; said.as_str(), *expected, "{text}");
+    for line in table.split('\n') {
+        let (text, wanted) = case_of(line);
+        let text = text.replace(alloc, "/", "\n")?;
+        let wanted = wanted.replace(alloc, "/", "\n")?;
+        let said = said(alloc, &p, text.as_str())?;
+        assert_eq!(rt; said.as_str(), wanted.as_str(), "{text}");
     }
     Ok(())
 }
 
-#[test]
-fn first_faults(rt: HostRuntime) -> Result<(), Fail> {
-    let cases = [
-        ("", "unexpected at 0"),
-        ("  # nothing\n", "unexpected at 12"),
-        ("node a: foo", "unknown name at 8"),
-        ("node a: $", "bad token at 8"),
-        ("node a: inc[", "unexpected at 12"),
-        ("node a: inc[1..", "unexpected at 15"),
-        ("node a: , inc", "unexpected at 8"),
-        ("node a: inc, -> b c", "unexpected at 13"),
-        ("node a: -> b", "unexpected at 12"),
-        ("node a: inc read", "unexpected at 12"),
-        ("node a: inc@read", "unknown name at 12"),
-        ("node a: inc@b@c", "unexpected at 13"),
-        ("node a: -> b c node b:", "unknown name at 13"),
-    ];
-    expect_all(&rt, rt.alloc(), JOB_J, &cases)
-}
+/// What is read over the job of a count: words that cannot stand there, nodes that are no tree, and plans, which are printed.
+const OF_COUNT: &str = " => unexpected at 0
+  # nothing/ => unexpected at 12
+node a: foo => unknown name at 8
+node a: $ => bad token at 8
+node a: inc[ => unexpected at 12
+node a: inc[1.. => unexpected at 15
+node a: , inc => unexpected at 8
+node a: inc, -> b c => unexpected at 13
+node a: -> b => unexpected at 12
+node a: inc read => unexpected at 12
+node a: inc@read => unknown name at 12
+node a: inc@b@c => unexpected at 13
+node a: -> b c node b: => unknown name at 13
+node a: -> b b node b: inc, read => not a tree at b
+node a: inc node a: read => not a tree at a
+node a: -> a b node b: => not a tree at a
+node a: -> b a node b: => not a tree at a
+node a: inc node b: read => not a tree at b
+node a: node b: -> c d node c: node d: => not a tree at b
+node a: node b: -> c d node c: -> b e node d: node e: => not a tree at b
+node a: foo node a: => not a tree at a
+node a: -> b b node b: foo => unknown name at 23
+node root: read -> l r/node l: inc@a/node r: inc@b/ => node root: read -> l r/node l: inc@a/node r: inc@b/
+node root:read->l r#/node r :inc @ b node l:\tinc@a => node root: read -> l r/node l: inc@a/node r: inc@b/
+node one: inc, read => node one: inc, read/
+node root: -> l r node l: read node r: inc => node root: -> l r/node l: read/node r: inc/
+node root: read -> l r node l: inc@a node r: => node root: read -> l r/node l: inc@a/node r:/
+node a: @c, inc@b => node a: @c, inc@b/
+node a: inc[7], read[08..2]@a => node a: inc[7], read[8..2]@a/";
 
 #[test]
-fn nodes_that_are_no_tree(rt: HostRuntime) -> Result<(), Fail> {
-    let cases = [
-        ("node a: -> b b node b: inc, read", "not a tree at b"),
-        ("node a: inc node a: read", "not a tree at a"),
-        ("node a: -> a b node b:", "not a tree at a"),
-        ("node a: -> b a node b:", "not a tree at a"),
-        ("node a: inc node b: read", "not a tree at b"),
-        ("node a: node b: -> c d node c: node d:", "not a tree at b"),
-        (
-            "node a: node b: -> c d node c: -> b e node d: node e:",
-            "not a tree at b",
-        ),
-        ("node a: foo node a:", "not a tree at a"),
-        ("node a: -> b b node b: foo", "unknown name at 23"),
-    ];
-    expect_all(&rt, rt.alloc(), JOB_J, &cases)
+fn plans_are_read(rt: HostRuntime) -> Result<(), Fail> {
+    expect_all(&rt, rt.alloc(), JOB_J, OF_COUNT)
 }
 
-#[test]
-fn plans_are_printed(rt: HostRuntime) -> Result<(), Fail> {
-    let cases = [
-        (PLAN_P, PLAN_P),
-        (
-            "node root:read->l r#\nnode r :inc @ b node l:\tinc@a",
-            PLAN_P,
-        ),
-        ("node one: inc, read", "node one: inc, read\n"),
-        (
-            "node root: -> l r node l: read node r: inc",
-            "node root: -> l r\nnode l: read\nnode r: inc\n",
-        ),
-        (
-            "node root: read -> l r node l: inc@a node r:",
-            "node root: read -> l r\nnode l: inc@a\nnode r:\n",
-        ),
-        ("node a: @c, inc@b", "node a: @c, inc@b\n"),
-        (
-            "node a: inc[7], read[08..2]@a",
-            "node a: inc[7], read[8..2]@a\n",
-        ),
-    ];
-    expect_all(&rt, rt.alloc(), JOB_J, &cases)
-}
+const OF_VIEWS: &str = "node a: view[65535..0] => node a: view[65535..0]/
+node a: tick[65536] => over limit Key 65536
+node a: view[1], view[2..70000], view[80000] => over limit Key 70000
+node a: view[70000..80000] => over limit Key 70000
+node a: view[9223372036854775808] => bad token at 13";
 
 #[test]
 fn keys_over_the_limit(rt: HostRuntime) -> Result<(), Fail> {
-    let cases = [
-        ("node a: view[65535..0]", "node a: view[65535..0]\n"),
-        ("node a: tick[65536]", "over limit Key 65536"),
-        (
-            "node a: view[1], view[2..70000], view[80000]",
-            "over limit Key 70000",
-        ),
-        ("node a: view[70000..80000]", "over limit Key 70000"),
-        ("node a: view[9223372036854775808]", "bad token at 13"),
-    ];
-    expect_all(&rt, rt.alloc(), JOB_K, &cases)
+    expect_all(&rt, rt.alloc(), JOB_K, OF_VIEWS)
 }
 
 /// A full tree of this many nodes, level by level, with a name for each number from 1; nodes with numbers below `inner` have two
@@ -249,24 +210,22 @@ fn matched(alloc: Global, p: &Program, text: &str) -> Result<String, AllocError>
     Ok(all)
 }
 
+/// Plans, with the itags that their predicates match.
+const MATCHES: &str = "node a: view[3] => 3 13 /
+node a: view[3]@app => 13 /
+node a: view[8..20] => 8 9 18 19 /
+node a: view[9..8], view[9..9]@web => /9 /
+node a: @clock, @app => 20 /10 11 12 13 14 15 16 17 18 19 /
+node a: tick, tick[0], tick[0..9], view@clock => 20 ////
+node a: view@web => 0 1 2 3 4 5 6 7 8 9 /";
+
 #[test]
 fn predicates_match_itags(rt: HostRuntime) -> Result<(), Fail> {
     let p = read_job(rt.alloc(), JOB_K.as_bytes()).expect(&rt, "a job");
-    let cases = [
-        ("node a: view[3]", "3 13 /"),
-        ("node a: view[3]@app", "13 /"),
-        ("node a: view[8..20]", "8 9 18 19 /"),
-        ("node a: view[9..8], view[9..9]@web", "/9 /"),
-        (
-            "node a: @clock, @app",
-            "20 /10 11 12 13 14 15 16 17 18 19 /",
-        ),
-        ("node a: tick, tick[0], tick[0..9], view@clock", "20 ////"),
-        ("node a: view@web", "0 1 2 3 4 5 6 7 8 9 /"),
-    ];
-    for (text, expected) in cases {
+    for line in MATCHES.split('\n') {
+        let (text, wanted) = case_of(line);
         let found = matched(rt.alloc(), &p, text)?;
-        assert_eq!(&rt; found.as_str(), expected, "{text}");
+        assert_eq!(rt; found.as_str(), wanted, "{text}");
     }
     Ok(())
 }

@@ -1,6 +1,5 @@
 //! The normal form of a job, and that it is read again.
 
-use crate::whole_jobs::{JOB_D, JOB_J, JOB_K, JOB_M, JOB_X};
 use flu_model::Program;
 use flu_parse::{print_job, read_job};
 use std::alloc::Global;
@@ -22,19 +21,70 @@ fn expect_printed(rt: &impl Abort, alloc: Global, text: &str, expected: &str) ->
     Ok(())
 }
 
-#[test]
-fn jobs_in_normal_form(rt: HostRuntime) -> Result<(), Fail> {
-    expect_printed(&rt, rt.alloc(), "", "")?;
-    expect_printed(&rt, rt.alloc(), JOB_J, JOB_J)?;
-    expect_printed(&rt, rt.alloc(), JOB_K, JOB_K)?;
-    expect_printed(&rt, rt.alloc(), JOB_D, JOB_D)?;
-    Ok(())
-}
-
-// Only a version other than 1 and a slack other than 0 are printed.
-#[test]
-fn versions_and_slacks(rt: HostRuntime) -> Result<(), Fail> {
-    let expected = "version 2
+/// Texts of jobs, each with its normal form behind an arrow where that is another one: a count, views, last values; a version and slacks, of which only
+/// a version other than 1 and a slack other than 0 are printed; a guard, which gets parentheses; lines that are put in order; expressions; and the fields of
+/// texts.
+const JOBS: &str = "cell count sum
+tag inc int
+tag read none
+depends inc read
+depends read read
+on inc: add count value
+on read: emit \"count {count}\"; clear count
+source a \"a.csv\" rate 1000: inc
+source b \"b.csv\" rate 1000: inc
+source c \"c.csv\" rate 1: read
+%%
+cell views keyed sum
+cell zip keyed last
+tag view keyed int
+tag update keyed int
+tag tick none
+depends update update same
+depends view tick
+depends tick tick
+on view: add views[key] value
+on update: emit \"was {zip[key]}\"; set zip[key] value
+on tick: flush views \"page {key} views {cell}\"
+source web \"web.csv\" rate 1000: view[0..9]
+source app \"app.csv\" rate 500: view[0..9], update[0..9]
+source clock \"clock.csv\" rate 1: tick
+%%
+cell p last
+cell q last
+tag r int
+tag r2 int
+tag z none
+depends r r
+depends r2 r2
+depends z z
+depends r z
+depends r2 z
+on r: set p value; emit \"p {p}\"
+on r2: set q value; emit \"q {q}\"
+on z: emit \"z {p} {q}\"
+source s1 \"s1.csv\" rate 1: r
+source s2 \"s2.csv\" rate 1: r2
+source s3 \"s3.csv\" rate 10: z
+%%
+version 2
+cell price last
+cell vol sum
+tag quote int
+tag trade int
+tag shut none
+depends quote quote
+depends quote trade
+depends trade shut
+depends shut shut
+on quote: set price value
+on trade: add vol value * price; emit \"at {price}\"
+on shut: emit \"vol {vol}\"; clear vol
+source q \"q.csv\" rate 1: quote
+source t \"t.csv\" rate 100 slack 250: trade
+source s \"s.csv\" rate 1: shut
+-->
+version 2
 cell price last
 cell vol sum
 tag quote int
@@ -50,40 +100,36 @@ on shut: emit \"vol {vol}\"; clear vol
 source q \"q.csv\" rate 1: quote
 source t \"t.csv\" rate 100 slack 250: trade
 source s \"s.csv\" rate 1: shut
-";
-    expect_printed(&rt, rt.alloc(), JOB_X, expected)?;
-    let text = "version 01 source s \"s.csv\" slack 0: t tag t none";
-    let expected = "tag t none
+%%
+version 01 source s \"s.csv\" slack 0: t tag t none
+-->
+tag t none
 source s \"s.csv\" rate 1: t
-";
-    expect_printed(&rt, rt.alloc(), text, expected)?;
-    Ok(())
-}
-
-#[test]
-fn a_guard_gets_parentheses(rt: HostRuntime) -> Result<(), Fail> {
-    let expected = "cell hi max
+%%
+cell hi max
+cell seen last
+tag t int
+depends t t
+on t: raise hi value when value > 2; set seen value; emit \"hi {hi} seen {seen}\"
+source s \"s.csv\" rate 1: t
+-->
+cell hi max
 cell seen last
 tag t int
 depends t t
 on t: raise hi value when (value > 2); set seen value; emit \"hi {hi} seen {seen}\"
 source s \"s.csv\" rate 1: t
-";
-    expect_printed(&rt, rt.alloc(), JOB_M, expected)?;
-    Ok(())
-}
-
-#[test]
-fn lines_are_put_in_order(rt: HostRuntime) -> Result<(), Fail> {
-    let text = "# a comment
+%%
+# a comment
 source s \"a b.csv\": t [ 07 ] , u,t[8..010]
 on u:clear a;emit\"\"when 0
 on t :clear k [key]
 depends t u all depends u t   depends t t same
 tag t keyed int tag u none
 tag idle none
-cell a sum cell k keyed last";
-    let expected = "cell a sum
+cell a sum cell k keyed last
+-->
+cell a sum
 cell k keyed last
 tag t keyed int
 tag u none
@@ -94,40 +140,34 @@ depends t t same
 on t: clear k[key]
 on u: clear a; emit \"\" when 0
 source s \"a b.csv\" rate 1: t[7], u, t[8..10]
-";
-    expect_printed(&rt, rt.alloc(), text, expected)?;
-    Ok(())
-}
-
-#[test]
-fn expressions_in_parentheses(rt: HostRuntime) -> Result<(), Fail> {
-    let text = "cell a sum cell m max cell k keyed last tag t keyed int
+%%
+cell a sum cell m max cell k keyed last tag t keyed int
 on t: add a 1+2-3*4 when not not value<2 and value<=3 or key>4;
 raise m - - value when (time>=05) == has k[007];
-set k[key] not (m != -9223372036854775807 - 1) or (((k[key])))";
-    let expected = "cell a sum
+set k[key] not (m != -9223372036854775807 - 1) or (((k[key])))
+-->
+cell a sum
 cell m max
 cell k keyed last
 tag t keyed int
-on t: add a ((1 + 2) - (3 * 4)) when (((not (not (value < 2))) and (value <= 3)) or (key > 4)); \
-raise m (- (- value)) when ((time >= 5) == has k[7]); \
-set k[key] ((not (m != ((- 9223372036854775807) - 1))) or k[key])
-";
-    expect_printed(&rt, rt.alloc(), text, expected)?;
-    Ok(())
-}
-
-#[test]
-fn fields_of_texts(rt: HostRuntime) -> Result<(), Fail> {
-    let text = "cell a sum cell k keyed last tag t keyed int
+on t: add a ((1 + 2) - (3 * 4)) when (((not (not (value < 2))) and (value <= 3)) or (key > 4)); raise m (- (- value)) when ((time >= 5) == has k[7]); set k[key] ((not (m != ((- 9223372036854775807) - 1))) or k[key])
+%%
+cell a sum cell k keyed last tag t keyed int
 on t: emit \"{value} {key}{time} 007 {a}, {k[key]} [{k[007]}] {k[0]} \u{e9}#\";
-flush k \" {key}: {cell} 01 {time}{value}\"";
-    let expected = "cell a sum
+flush k \" {key}: {cell} 01 {time}{value}\"
+-->
+cell a sum
 cell k keyed last
 tag t keyed int
-on t: emit \"{value} {key}{time} 007 {a}, {k[key]} [{k[7]}] {k[0]} \u{e9}#\"; \
-flush k \" {key}: {cell} 01 {time}{value}\"
+on t: emit \"{value} {key}{time} 007 {a}, {k[key]} [{k[7]}] {k[0]} \u{e9}#\"; flush k \" {key}: {cell} 01 {time}{value}\"
 ";
-    expect_printed(&rt, rt.alloc(), text, expected)?;
+
+#[test]
+fn jobs_in_normal_form(rt: HostRuntime) -> Result<(), Fail> {
+    expect_printed(&rt, rt.alloc(), "", "")?;
+    for case in JOBS.split("%%\n") {
+        let (text, expected) = case.split_once("-->\n").unwrap_or((case, case));
+        expect_printed(&rt, rt.alloc(), text, expected)?;
+    }
     Ok(())
 }

@@ -3,6 +3,7 @@
 ghost use Rattle.std.specs.Prelude.{◌<◌};
 
 use crate::files::files_of;
+use crate::tables::case_of;
 use flu_model::Text;
 use flu_outside::MemFiles;
 use flu_rows::{Next, Row, Rows, RowsFault};
@@ -63,92 +64,57 @@ fn shown(alloc: Global, next: &Next) -> Result<String, AllocError> {
     }
 }
 
-/// Whether each file is read so, however many bytes a take gives.
-fn expect_all(rt: &impl Abort, alloc: Global, cases: &[(&[u8], &str)]) -> Result<(), Fail> {
-    for (bytes, wanted) in cases {
+/// Whether the file of each line of a table is read so, however many bytes a take gives. In the file a stroke stands for a line feed, and a percent sign
+/// for a carriage return.
+fn expect_all(rt: &impl Abort, alloc: Global, table: &str) -> Result<(), Fail> {
+    for line in table.split('\n') {
+        let (text, wanted) = case_of(line);
+        let text = text.replace(alloc, "/", "\n")?.replace(alloc, "%", "\r")?;
         for piece in [1usize, 3, 100_000] {
-            let got = read_all(alloc, bytes, piece)?;
-            assert_eq!(rt; got.as_str(), *wanted, "{piece}");
+            let got = read_all(alloc, text.as_bytes(), piece)?;
+            assert_eq!(rt; got.as_str(), wanted, "{piece}");
         }
     }
     Ok(())
 }
 
+/// Files with what is read of them: empty lines, rows, keys and values; names and numbers; byte order marks and line ends.
+const FILES: &str = " => done 0
+/ => done 1
+%// => done 2
+1,inc,5/\"1\",inc,5//4,inc,2,/end,,/ => 1: 1 inc None Some(5), 2: 1 inc None Some(5), 4: 4 inc None Some(2), 5: end, done 5
+1,inc%/2,beat%/%/,,%/end%/ => 1: 1 inc None None, 2: beat 2, 5: end, done 5
+007,inc[65535],-3/7,_a9[007] => 1: 7 inc Some(65535) Some(-3), 2: 7 _a9 Some(7) None, done 2
+7,inc[65536]/ => bad 1
+7,inc[]/ => bad 1
+7,inc[1/ => bad 1
+1,inc/x,inc,1/2,inc => 1: 1 inc None None, bad 2
+1,inc,+1/ => bad 1
+1,9inc/ => bad 1
+1,sum/ => bad 1
+1,end/ => bad 1
+1,beat,5/ => bad 1
+1,inc,5,6/ => bad 1
+end,1,, => bad 1
+9223372036854775807,beat/ => 1: beat 9223372036854775807, done 1
+9223372036854775808,beat/ => bad 1
+1,a,-9223372036854775808 => 1: 1 a None Some(-9223372036854775808), done 1
+1,a,-9223372036854775809 => bad 1
+1,a,9223372036854775807 => 1: 1 a None Some(9223372036854775807), done 1
+1,a,9223372036854775808 => bad 1
+1,abcdefghijklmnopqrstuvwxyz012345 => 1: 1 abcdefghijklmnopqrstuvwxyz012345 None None, done 1
+1,abcdefghijklmnopqrstuvwxyz0123456 => bad 1
+\u{feff}end/end/ => 1: end, 2: end, done 2
+\u{feff}\u{feff}end/ => bad 1
+end/\u{feff}end/ => 1: end, bad 2
+1,\"inc/2,inc\"/ => 1: 1 inc None None, bad 2
+1,inc%2,inc/ => bad 1
+1,inc%%/%%/end => 1: 1 inc None None, 3: end, done 3
+\"1\",\"in\"c/1,in\"c/ => 1: 1 inc None None, bad 2";
+
 #[test]
 fn reads_rows(rt: HostRuntime) -> Result<(), Fail> {
-    let cases: [(&[u8], &str); 11] = [
-        (b"", "done 0"),
-        (b"\n", "done 1"),
-        (b"\r\n\n", "done 2"),
-        (
-            b"1,inc,5\n\"1\",inc,5\n\n4,inc,2,\nend,,\n",
-            "1: 1 inc None Some(5), 2: 1 inc None Some(5), 4: 4 inc None Some(2), 5: end, done 5",
-        ),
-        (
-            b"1,inc\r\n2,beat\r\n\r\n,,\r\nend\r\n",
-            "1: 1 inc None None, 2: beat 2, 5: end, done 5",
-        ),
-        (
-            b"007,inc[65535],-3\n7,_a9[007]",
-            "1: 7 inc Some(65535) Some(-3), 2: 7 _a9 Some(7) None, done 2",
-        ),
-        (b"7,inc[65536]\n", "bad 1"),
-        (b"7,inc[]\n", "bad 1"),
-        (b"7,inc[1\n", "bad 1"),
-        (b"1,inc\nx,inc,1\n2,inc", "1: 1 inc None None, bad 2"),
-        (b"1,inc,+1\n", "bad 1"),
-    ];
-    expect_all(&rt, rt.alloc(), &cases)
-}
-
-#[test]
-fn reads_names_and_numbers(rt: HostRuntime) -> Result<(), Fail> {
-    let cases: [(&[u8], &str); 11] = [
-        (b"1,9inc\n", "bad 1"),
-        (b"1,sum\n", "bad 1"),
-        (b"1,end\n", "bad 1"),
-        (b"1,beat,5\n", "bad 1"),
-        (b"1,inc,5,6\n", "bad 1"),
-        (b"end,1,,", "bad 1"),
-        (
-            b"9223372036854775807,beat\n",
-            "1: beat 9223372036854775807, done 1",
-        ),
-        (b"9223372036854775808,beat\n", "bad 1"),
-        (
-            b"1,a,-9223372036854775808",
-            "1: 1 a None Some(-9223372036854775808), done 1",
-        ),
-        (b"1,a,-9223372036854775809", "bad 1"),
-        (
-            b"1,a,9223372036854775807",
-            "1: 1 a None Some(9223372036854775807), done 1",
-        ),
-    ];
-    expect_all(&rt, rt.alloc(), &cases)
-}
-
-#[test]
-fn reads_marks_and_line_ends(rt: HostRuntime) -> Result<(), Fail> {
-    let cases: [(&[u8], &str); 10] = [
-        (b"1,a,9223372036854775808", "bad 1"),
-        (
-            b"1,abcdefghijklmnopqrstuvwxyz012345",
-            "1: 1 abcdefghijklmnopqrstuvwxyz012345 None None, done 1",
-        ),
-        (b"1,abcdefghijklmnopqrstuvwxyz0123456", "bad 1"),
-        (b"\xEF\xBB\xBFend\nend\n", "1: end, 2: end, done 2"),
-        (b"\xEF\xBB\xBF\xEF\xBB\xBFend\n", "bad 1"),
-        (b"end\n\xEF\xBB\xBFend\n", "1: end, bad 2"),
-        (b"1,\"inc\n2,inc\"\n", "1: 1 inc None None, bad 2"),
-        (b"1,inc\r2,inc\n", "bad 1"),
-        (
-            b"1,inc\r\r\n\r\r\nend",
-            "1: 1 inc None None, 3: end, done 3",
-        ),
-        (b"\"1\",\"in\"c\n1,in\"c\n", "1: 1 inc None None, bad 2"),
-    ];
-    expect_all(&rt, rt.alloc(), &cases)
+    expect_all(&rt, rt.alloc(), FILES)
 }
 
 /// A line of so many bytes that is a row, with a line feed or without one.

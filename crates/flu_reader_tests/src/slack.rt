@@ -3,6 +3,7 @@
 use crate::demos::report;
 use crate::files::files_of;
 use crate::gathering::told;
+use crate::tables::case_of;
 use flu_model::Program;
 use flu_parse::read_job;
 use flu_streams::gather;
@@ -10,7 +11,7 @@ use std::alloc::{AllocError, Global};
 use std::test::Fail;
 
 /// A count that two sources add to, the first of which has this slack, and a third reads.
-fn job(alloc: Global, slack: u64) -> Result<String, AllocError> {
+fn job(alloc: Global, slack: &str) -> Result<String, AllocError> {
     format!(in alloc;
         "cell count sum\ntag inc int\ntag read none\ndepends inc read\ndepends read read\non inc: add count value\non read: emit \"count {{count}}\"; clear count\nsource a \"a.csv\" rate 1 slack {slack}: inc\nsource b \"b.csv\": inc\nsource c \"c.csv\": read\n"
     )
@@ -30,53 +31,33 @@ fn outcome(alloc: Global, p: &Program, rows: &str) -> Result<String, AllocError>
     }
 }
 
+/// The same on one line, with a stroke for each line feed, of rows and of what is told.
+fn told_of(alloc: Global, slack: &str, rows: &str) -> Result<String, Fail> {
+    let p = read_job(alloc, job(alloc, slack)?.as_bytes())?;
+    let rows = rows.replace(alloc, "/", "\n")?;
+    let got = outcome(alloc, &p, rows.as_str())?;
+    let told = got.replace(alloc, "\n", "/")?;
+    Ok(told)
+}
+
+/// A slack, the rows of the source that has it, with a stroke for each line feed, and the report or the fault. A late row is told from all times above the
+/// settled one, and not from the last alone; and there are late heartbeats, and what is settled by one.
+const CASES: &str = "4: 4,inc,2/1,inc,5/end/ => 3,read,count 12/5,read,count 2/
+3: 4,inc,2/1,inc,5/end/ => 0 2 Disordered { last: 4, got: 1 }
+4: 4,inc,2/4,inc,5/end/ => 0 2 Disordered { last: 4, got: 4 }
+0: 4,inc,2/3,inc,5/end/ => 0 2 Disordered { last: 4, got: 3 }
+9: 4,inc,2/1,inc,5/8,beat/1,inc,3/end/ => 0 4 Disordered { last: 8, got: 1 }
+60000: 9,beat/4,inc,1/0,inc,5/7,beat/2,inc,0/5,inc,3/6,beat/end/ => 3,read,count 12/5,read,count 4/
+2: 4,beat/3,beat/4,inc,1/end/ => 0 3 Disordered { last: 4, got: 4 }
+2: 4,beat/2,inc,1/end/ => 0 2 Disordered { last: 4, got: 2 }";
+
 #[test]
 fn late_rows_are_sorted(rt: HostRuntime) -> Result<(), Fail> {
     let alloc = rt.alloc();
-    let sorted = "3,read,count 12\n5,read,count 2\n";
-    let cases = [
-        (4, "4,inc,2\n1,inc,5\nend\n", sorted),
-        (
-            3,
-            "4,inc,2\n1,inc,5\nend\n",
-            "0 2 Disordered { last: 4, got: 1 }",
-        ),
-        (
-            4,
-            "4,inc,2\n4,inc,5\nend\n",
-            "0 2 Disordered { last: 4, got: 4 }",
-        ),
-        (
-            0,
-            "4,inc,2\n3,inc,5\nend\n",
-            "0 2 Disordered { last: 4, got: 3 }",
-        ),
-        // a late row is told from all times above the settled one, and not from the last alone
-        (
-            9,
-            "4,inc,2\n1,inc,5\n8,beat\n1,inc,3\nend\n",
-            "0 4 Disordered { last: 8, got: 1 }",
-        ),
-        (
-            60000,
-            "9,beat\n4,inc,1\n0,inc,5\n7,beat\n2,inc,0\n5,inc,3\n6,beat\nend\n",
-            "3,read,count 12\n5,read,count 4\n",
-        ),
-        // a late heartbeat, and what is settled by one
-        (
-            2,
-            "4,beat\n3,beat\n4,inc,1\nend\n",
-            "0 3 Disordered { last: 4, got: 4 }",
-        ),
-        (
-            2,
-            "4,beat\n2,inc,1\nend\n",
-            "0 2 Disordered { last: 4, got: 2 }",
-        ),
-    ];
-    for (slack, rows, wanted) in cases {
-        let p = read_job(alloc, job(alloc, slack)?.as_bytes())?;
-        let got = outcome(alloc, &p, rows)?;
+    for line in CASES.split('\n') {
+        let (case, wanted) = case_of(line);
+        let (slack, rows) = case.split_once(": ").unwrap_or((case, ""));
+        let got = told_of(alloc, slack, rows)?;
         assert_eq!(rt; got.as_str(), wanted, "{rows}");
     }
     Ok(())

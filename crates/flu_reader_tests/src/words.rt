@@ -1,13 +1,18 @@
 //! The words of commands: which are a command, and which word of others does not fit.
 
-use flu_words::{BadWords, Command, read_words};
+use crate::tables::case_of;
+use flu_words::{Command, read_words};
 use std::alloc::{AllocError, Global};
 use std::process::Abort;
 use std::test::Fail;
 
-fn words_of(alloc: Global, words: &[&str]) -> Result<Vec<String>, AllocError> {
+/// The words of a line, with a bar between them; none where it is empty.
+fn words_of(alloc: Global, line: &str) -> Result<Vec<String>, AllocError> {
     let mut owned = Vec::new(alloc);
-    for word in words {
+    if line.is_empty() {
+        return Ok(owned);
+    }
+    for word in line.split('|') {
         owned.push(String::from_str(alloc, word)?)?;
     }
     Ok(owned)
@@ -38,186 +43,121 @@ fn told(alloc: Global, command: Command) -> Result<String, AllocError> {
     }
 }
 
-fn assert_told<R: Abort>(
-    rt: &R,
-    alloc: Global,
-    words: &[&str],
-    line: &str,
-) -> Result<(), AllocError> {
-    let owned = words_of(alloc, words)?;
-    match read_words(owned.as_slice()) {
-        Ok(command) => assert_eq!(rt; told(alloc, command)?.as_str(), line),
-        Err(bad) => assert!(rt; false, "{line}: bad words at {}", bad.at),
+/// The same of words, or the place of the first one that does not fit.
+fn said(alloc: Global, words: &[String]) -> Result<String, AllocError> {
+    match read_words(words) {
+        Ok(command) => told(alloc, command),
+        Err(bad) => {
+            let at = bad.at;
+            format!(in alloc; "bad words at {at}")
+        }
+    }
+}
+
+/// Whether the words of each line are this command, or do not fit there.
+fn expect_all(rt: &impl Abort, alloc: Global, table: &str) -> Result<(), AllocError> {
+    for line in table.split('\n') {
+        let (words, wanted) = case_of(line);
+        let owned = words_of(alloc, words)?;
+        let said = said(alloc, owned.as_slice())?;
+        assert_eq!(rt; said.as_str(), wanted, "{line}");
     }
     Ok(())
 }
 
-fn assert_refused<R: Abort>(
-    rt: &R,
-    alloc: Global,
-    words: &[&str],
-    at: usize,
-) -> Result<(), AllocError> {
-    let owned = words_of(alloc, words)?;
-    match read_words(owned.as_slice()) {
-        Ok(command) => assert!(rt; false, "{}", told(alloc, command)?.as_str()),
-        Err(bad) => assert_eq!(rt; bad, BadWords { at }),
-    }
-    Ok(())
-}
+const COMMANDS: &str = "fold|J => fold J
+check|a b => check a b
+valid|J|P => valid J P
+plan|J => plan J 3
+plan|J|--depth|0000000006 => plan J 6
+simulate|J|P|0 => simulate J P 0 false
+simulate|J|P|2147483647 => simulate J P 2147483647 false
+simulate|J|P|1|--trace => simulate J P 1 true
+replay|J|P|T => replay J P T
+demo|0|1 => demo 0 1
+demo|1000000|0000000007 => demo 1000000 7
+fold|fold => fold fold
+run|J => run J - - - -
+run|J|P => run J P - - -
+run|J|J => run J J - - -
+run|J|--save|s => run J - - s -
+run|J|--resume|s => run J - - - s
+run|J|P|--save|s => run J P - s -
+run|J|P|--save|s|--resume|t => run J P - s t
+run|J|P|--save|s|--resume|s => run J P - s s
+run|J|--adapt => run J - adapt - -
+run|J|P|--adapt => run J P adapt - -
+run|J|--adapt|--save|s => run J - adapt s -
+run|J|P|--adapt|--resume|t => run J P adapt - t
+run|J|P|--adapt|--save|s|--resume|t => run J P adapt s t";
 
 #[test]
 fn commands_are_read(rt: HostRuntime) -> Result<(), Fail> {
-    let rows: [(&[&str], &str); 12] = [
-        (&["fold", "J"], "fold J"),
-        (&["check", "a b"], "check a b"),
-        (&["valid", "J", "P"], "valid J P"),
-        (&["plan", "J"], "plan J 3"),
-        (&["plan", "J", "--depth", "0000000006"], "plan J 6"),
-        (&["simulate", "J", "P", "0"], "simulate J P 0 false"),
-        (
-            &["simulate", "J", "P", "2147483647"],
-            "simulate J P 2147483647 false",
-        ),
-        (
-            &["simulate", "J", "P", "1", "--trace"],
-            "simulate J P 1 true",
-        ),
-        (&["replay", "J", "P", "T"], "replay J P T"),
-        (&["demo", "0", "1"], "demo 0 1"),
-        (&["demo", "1000000", "0000000007"], "demo 1000000 7"),
-        (&["fold", "fold"], "fold fold"),
-    ];
-    for (words, line) in rows {
-        assert_told(&rt, rt.alloc(), words, line)?;
-    }
+    expect_all(&rt, rt.alloc(), COMMANDS)?;
     Ok(())
 }
 
-#[test]
-fn words_of_one_file_are_refused(rt: HostRuntime) -> Result<(), Fail> {
-    let rows: [(&[&str], usize); 13] = [
-        (&[], 0),
-        (&["Fold", "J"], 0),
-        (&["", "J"], 0),
-        (&["fold"], 1),
-        (&["fold", ""], 1),
-        (&["check", "-J"], 1),
-        (&["fold", "J", "x"], 2),
-        (&["plan", "J", "--deep", "1"], 2),
-        (&["plan", "J", "--depth"], 3),
-        (&["plan", "J", "--depth", "7"], 3),
-        (&["plan", "J", "--depth", "00000000003"], 3),
-        (&["plan", "J", "--depth", ""], 3),
-        (&["plan", "J", "--depth", "3", "x"], 4),
-    ];
-    for (words, at) in rows {
-        assert_refused(&rt, rt.alloc(), words, at)?;
-    }
-    Ok(())
-}
+const NO_COMMANDS: &str = " => bad words at 0
+Fold|J => bad words at 0
+|J => bad words at 0
+fold => bad words at 1
+fold| => bad words at 1
+check|-J => bad words at 1
+fold|J|x => bad words at 2
+plan|J|--deep|1 => bad words at 2
+plan|J|--depth => bad words at 3
+plan|J|--depth|7 => bad words at 3
+plan|J|--depth|00000000003 => bad words at 3
+plan|J|--depth| => bad words at 3
+plan|J|--depth|3|x => bad words at 4
+valid|J => bad words at 2
+simulate => bad words at 1
+simulate|-J|P|1 => bad words at 1
+simulate|J|-1|1 => bad words at 2
+simulate|J|P => bad words at 3
+simulate|J|P|-1 => bad words at 3
+simulate|J|P|2147483648 => bad words at 3
+simulate|J|P|99999999999 => bad words at 3
+simulate|J|P|1|x => bad words at 4
+simulate|J|P|1|--trace|--trace => bad words at 5
+replay| => bad words at 1
+replay|J => bad words at 2
+replay|J|P|-T => bad words at 3
+replay|J|P|T|x => bad words at 4
+demo => bad words at 1
+demo|1000001|1 => bad words at 1
+demo|1|+1 => bad words at 2
+demo|1 => bad words at 2
+demo|1|2|3 => bad words at 3
+run => bad words at 1
+run|--save|s => bad words at 1
+run|J| => bad words at 2
+run|--adapt|J => bad words at 1
+run|J|--adap => bad words at 2
+run|J|--adapt|P => bad words at 3
+run|J|--adapt|--adapt => bad words at 3
+run|J|P|Q => bad words at 3
+run|J|--save => bad words at 3
+run|J|--save| => bad words at 3
+run|J|--save|J => bad words at 3
+run|J|--save|--resume => bad words at 3
+run|J|--resume|J => bad words at 3
+run|J|--resume => bad words at 3
+run|J|P|--save|P => bad words at 4
+run|J|P|--resume|P => bad words at 4
+run|J|P|--save|J => bad words at 4
+run|J|--save|s|P => bad words at 4
+run|J|--save|s|--save|t => bad words at 4
+run|J|--save|s|--adapt => bad words at 4
+run|J|--adapt|--save|J => bad words at 4
+run|J|P|--resume|s|--save|t => bad words at 5
+run|J|--save|s|--resume => bad words at 5
+run|J|P|--save|s|--resume|P => bad words at 6
+run|J|P|--save|s|--resume|t|x => bad words at 7
+run|J|P|--adapt|--save|s|--resume|t|x => bad words at 8";
 
 #[test]
-fn words_of_two_files_and_numbers_are_refused(rt: HostRuntime) -> Result<(), Fail> {
-    let rows: [(&[&str], usize); 19] = [
-        (&["valid", "J"], 2),
-        (&["simulate"], 1),
-        (&["simulate", "-J", "P", "1"], 1),
-        (&["simulate", "J", "-1", "1"], 2),
-        (&["simulate", "J", "P"], 3),
-        (&["simulate", "J", "P", "-1"], 3),
-        (&["simulate", "J", "P", "2147483648"], 3),
-        (&["simulate", "J", "P", "99999999999"], 3),
-        (&["simulate", "J", "P", "1", "x"], 4),
-        (&["simulate", "J", "P", "1", "--trace", "--trace"], 5),
-        (&["replay", ""], 1),
-        (&["replay", "J"], 2),
-        (&["replay", "J", "P", "-T"], 3),
-        (&["replay", "J", "P", "T", "x"], 4),
-        (&["demo"], 1),
-        (&["demo", "1000001", "1"], 1),
-        (&["demo", "1", "+1"], 2),
-        (&["demo", "1"], 2),
-        (&["demo", "1", "2", "3"], 3),
-    ];
-    for (words, at) in rows {
-        assert_refused(&rt, rt.alloc(), words, at)?;
-    }
-    Ok(())
-}
-
-#[test]
-fn runs_are_read(rt: HostRuntime) -> Result<(), Fail> {
-    let rows: [(&[&str], &str); 13] = [
-        (&["run", "J"], "run J - - - -"),
-        (&["run", "J", "P"], "run J P - - -"),
-        (&["run", "J", "J"], "run J J - - -"),
-        (&["run", "J", "--save", "s"], "run J - - s -"),
-        (&["run", "J", "--resume", "s"], "run J - - - s"),
-        (&["run", "J", "P", "--save", "s"], "run J P - s -"),
-        (
-            &["run", "J", "P", "--save", "s", "--resume", "t"],
-            "run J P - s t",
-        ),
-        (
-            &["run", "J", "P", "--save", "s", "--resume", "s"],
-            "run J P - s s",
-        ),
-        (&["run", "J", "--adapt"], "run J - adapt - -"),
-        (&["run", "J", "P", "--adapt"], "run J P adapt - -"),
-        (&["run", "J", "--adapt", "--save", "s"], "run J - adapt s -"),
-        (
-            &["run", "J", "P", "--adapt", "--resume", "t"],
-            "run J P adapt - t",
-        ),
-        (
-            &["run", "J", "P", "--adapt", "--save", "s", "--resume", "t"],
-            "run J P adapt s t",
-        ),
-    ];
-    for (words, line) in rows {
-        assert_told(&rt, rt.alloc(), words, line)?;
-    }
-    Ok(())
-}
-
-#[test]
-fn words_of_runs_are_refused(rt: HostRuntime) -> Result<(), Fail> {
-    let rows: [(&[&str], usize); 26] = [
-        (&["run"], 1),
-        (&["run", "--save", "s"], 1),
-        (&["run", "J", ""], 2),
-        (&["run", "--adapt", "J"], 1),
-        (&["run", "J", "--adap"], 2),
-        (&["run", "J", "--adapt", "P"], 3),
-        (&["run", "J", "--adapt", "--adapt"], 3),
-        (&["run", "J", "P", "Q"], 3),
-        (&["run", "J", "--save"], 3),
-        (&["run", "J", "--save", ""], 3),
-        (&["run", "J", "--save", "J"], 3),
-        (&["run", "J", "--save", "--resume"], 3),
-        (&["run", "J", "--resume", "J"], 3),
-        (&["run", "J", "--resume"], 3),
-        (&["run", "J", "P", "--save", "P"], 4),
-        (&["run", "J", "P", "--resume", "P"], 4),
-        (&["run", "J", "P", "--save", "J"], 4),
-        (&["run", "J", "--save", "s", "P"], 4),
-        (&["run", "J", "--save", "s", "--save", "t"], 4),
-        (&["run", "J", "--save", "s", "--adapt"], 4),
-        (&["run", "J", "--adapt", "--save", "J"], 4),
-        (&["run", "J", "P", "--resume", "s", "--save", "t"], 5),
-        (&["run", "J", "--save", "s", "--resume"], 5),
-        (&["run", "J", "P", "--save", "s", "--resume", "P"], 6),
-        (&["run", "J", "P", "--save", "s", "--resume", "t", "x"], 7),
-        (
-            &[
-                "run", "J", "P", "--adapt", "--save", "s", "--resume", "t", "x",
-            ],
-            8,
-        ),
-    ];
-    for (words, at) in rows {
-        assert_refused(&rt, rt.alloc(), words, at)?;
-    }
+fn words_are_refused(rt: HostRuntime) -> Result<(), Fail> {
+    expect_all(&rt, rt.alloc(), NO_COMMANDS)?;
     Ok(())
 }

@@ -1,4 +1,3 @@
 pub mod PassLemmas
 pub mod RowLemmas
 pub mod StepLemmas
-pub mod TiedLemmas

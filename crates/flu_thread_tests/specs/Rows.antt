@@ -33,14 +33,6 @@ at_one_time =
     ∷ (ItemEvent (event 3 2 (pos 0)) ∷ End ∷ [])
     ∷ []
 
--- a value at 10, another one at 4, and at 5 what puts out both
-abbrev pub values : List (List Item)
-values =
-    (ItemEvent (event 10 0 (pos 9)) ∷ End ∷ [])
-    ∷ (ItemEvent (event 4 1 (pos 7)) ∷ End ∷ [])
-    ∷ (ItemEvent (event 5 2 (pos 0)) ∷ End ∷ [])
-    ∷ []
-
 -- the reads are the root's, and what each of the other sources adds is a leaf's
 pub record HasShape (k : Content) : Type 0 where
   pub itags : count_of_itags (job k) ≡ 3
@@ -51,12 +43,6 @@ pub record HasShape (k : Content) : Type 0 where
   pub right : owner_of (job k) (nodes k) (itag 1) ≡ Some 2
   pub reads : owner_of (job k) (nodes k) (itag 2) ≡ Some 0
   pub apart : are_related (nodes k) 2 1 ≡ false
-
--- three itags, and a root with two leaves
-pub record IsTriple (k : Content) : Type 0 where
-  pub itags : count_of_itags (job k) ≡ 3
-  pub count : length (nodes k) ≡ 3
-  pub root : kids k 0 ≡ Some (1, 2)
 
 -- the three streams have so many items
 pub record AreThere (k : Content) (a b c : ℕ) : Type 0 where

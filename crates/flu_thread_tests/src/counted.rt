@@ -3,12 +3,10 @@
 use crate::jobs::{COUNT, TREE, checked, counted, has_shape, opened, valid};
 use crate::links::{one_end_stops, there_and_back};
 use crate::passing::to_and_fro;
-use crate::worked::over_a_link;
-use crate::workers::lend_and_give_back;
 
 /// One case for all of them: to make it is dear to prove.
 #[test]
-fn lots_links_and_workers_on_a_count(rt: HostRuntime) {
+fn lots_and_links_on_a_count(rt: HostRuntime) {
     let alloc = rt.alloc();
     let checked = checked(&rt, alloc, COUNT);
     let valid = valid(&rt, alloc, &checked, TREE);
@@ -17,7 +15,5 @@ fn lots_links_and_workers_on_a_count(rt: HostRuntime) {
     assert!(rt; has_shape(&case));
     there_and_back(&rt, alloc, &case);
     one_end_stops(&rt, alloc, &case);
-    lend_and_give_back(&rt, alloc, &case);
-    over_a_link(&rt, alloc, &case);
     to_and_fro(&rt, alloc, &case);
 }

@@ -6,7 +6,7 @@ ghost use Rattle.flu_model.specs.Itags.{count_of_itags};
 ghost use Rattle.flu_model.specs.Listed.{listed};
 ghost use Rattle.flu_deps.specs.Checking.{program_of};
 ghost use Rattle.flu_deps.specs.Validated.{IsValidFor};
-ghost use Rattle.flu_thread_tests.specs.Rows.{row, IsAlone, HasShape, IsTriple};
+ghost use Rattle.flu_thread_tests.specs.Rows.{row, IsAlone, HasShape};
 
 use flu_cells::State;
 use flu_check::check;
@@ -99,14 +99,6 @@ pub fn has_shape(case: &Case) -> bool
         && v.owner(Itag(1)) == 2
         && v.owner(Itag(2)) == 0
         && !v.related(2, 1)
-}
-
-/// Whether there are three itags and a root with two leaves.
-pub fn is_triple(case: &Case) -> bool
-    ensures { result ≡ true → IsTriple case.now }
-{
-    let v = case.valid();
-    itag_count(case.checked().program()) == 3 && v.count() == 3 && matches!(v.kids(0), Some((1, 2)))
 }
 
 /// Whether the plan has one node.

@@ -16,12 +16,6 @@ mod mailboxes;
 #[cfg(test)]
 mod passing;
 #[cfg(test)]
-mod rounds;
-#[cfg(test)]
 mod steps;
-#[cfg(test)]
-mod values;
-#[cfg(test)]
-mod worked;
 #[cfg(test)]
 mod workers;

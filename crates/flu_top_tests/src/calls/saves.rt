@@ -2,8 +2,8 @@
 
 use super::jobs::{COUNTED, END, REPORT};
 use super::rounds::{ALL, DISORDERED, FIRST, READS, SAME_TIME, SECOND, adds};
-use super::scripts::play;
-use super::{SOUND, Settings, Words, add_all, assert_left, call, call_with, files_of, put};
+use super::scripts::{Wanted, play};
+use super::{Words, assert_left, call, files_of, put};
 use flu_outside::{MemFiles, TakeFault, read_whole};
 use flu_seq::OpenGate;
 use std::alloc::{AllocError, Global};
@@ -12,8 +12,8 @@ use std::sync::Wait;
 use std::test::Fail;
 use std::thread::Threads;
 
-/// Runs from the checkpoint of a border, with what was counted up to it, and from one that holds nothing; what is no checkpoint of the
-/// job; names that are sources' files; and a checkpoint that is not there.
+/// Runs from the checkpoint of a border, with what was counted up to it, from one that holds nothing, and from the last one, which have nothing more to
+/// run; what is no checkpoint of the job; names that are sources' files; and a checkpoint that is not there.
 const RESUMED: &str = "@ s
 {\"border\":2,\"cells\":[[\"count\",0,\"12\"]],\"job\":\"cell count sum\\ntag inc int\\ntag read none\\ndepends inc read\\ndepends read read\\non inc: add count value\\non read: emit \\\"count {count}\\\"; clear count\\nsource a \\\"a.csv\\\" rate 1000: inc\\nsource b \\\"b.csv\\\" rate 1000: inc\\nsource c \\\"c.csv\\\" rate 1: read\\n\"}
 @ $ run J P --resume s
@@ -26,6 +26,11 @@ const RESUMED: &str = "@ s
 @ $ run J P --resume s
 @ = 0
 5,read,count 2
+@ s
+{\"border\":9223372036854775807,\"cells\":[],\"job\":\"cell count sum\\ntag inc int\\ntag read none\\ndepends inc read\\ndepends read read\\non inc: add count value\\non read: emit \\\"count {count}\\\"; clear count\\nsource a \\\"a.csv\\\" rate 1000: inc\\nsource b \\\"b.csv\\\" rate 1000: inc\\nsource c \\\"c.csv\\\" rate 1: read\\n\"}
+@ $ run J P --resume s
+@ $ run J --save s --resume s
+@ = 0
 @ s|{
 @ $ run J P --resume s
 @ $ run J P --save t --resume s
@@ -56,7 +61,7 @@ fn runs_are_resumed(rt: HostRuntime) -> Result<(), Fail> {
 }
 
 /// What a name has left.
-pub fn left_of(alloc: Global, files: &mut MemFiles, name: &str) -> Result<Vec<u8>, TakeFault> {
+fn left_of(alloc: Global, files: &mut MemFiles, name: &str) -> Result<Vec<u8>, TakeFault> {
     read_whole(alloc, files, name, 1 << 20)
 }
 
@@ -143,22 +148,6 @@ fn checkpoints_are_put(rt: HostRuntime) -> Result<(), Fail> {
     Ok(())
 }
 
-/// A run that is resumed from what a whole run saved has nothing more to run; also where it saves to the same name.
-#[test]
-fn a_whole_run_is_resumed(rt: HostRuntime) -> Result<(), Fail> {
-    let mut files = files_of(rt.alloc(), COUNTED)?;
-    call(&rt, rt.alloc(), "run J P --save s", &mut files, &OpenGate)?;
-    let saved = left_of(rt.alloc(), &mut files, "s")?;
-    let saved = std::str::from_utf8(&saved)?;
-    for words in ["run J P --resume s", "run J --save s --resume s"] {
-        let mut again = files_of(rt.alloc(), COUNTED)?;
-        add_all(rt.alloc(), &mut again, &[("s", saved)])?;
-        let left = call(&rt, rt.alloc(), words, &mut again, &OpenGate)?;
-        assert_left(&rt, &left, 0, b"", "");
-    }
-    Ok(())
-}
-
 /// The files of the count, of which the first source has more rows than a round takes, and this behind them; and the rows that read.
 fn two_rounds(alloc: Global, behind: &str, reads: &str) -> Result<MemFiles, AllocError> {
     let mut source = adds(alloc)?;
@@ -170,32 +159,58 @@ fn two_rounds(alloc: Global, behind: &str, reads: &str) -> Result<MemFiles, Allo
     Ok(files)
 }
 
+/// Makes a call over some files, and answers what the name that it saves to has left.
+fn saved_by<R: Abort + Threads + Wait + Sync>(
+    rt: &R,
+    alloc: Global,
+    words: Words,
+    mut files: MemFiles,
+    wanted: Wanted,
+) -> Result<Vec<u8>, Fail> {
+    let left = call(rt, alloc, words, &mut files, &OpenGate)?;
+    assert_left(rt, &left, wanted.status, wanted.out.as_bytes(), wanted.err);
+    Ok(left_of(alloc, &mut files, "s")?)
+}
+
 /// The checkpoint of the first round, whose border is the time of the first source's 4,096th row, is left where the second one meets a
 /// defect.
 #[test]
 fn the_checkpoint_before_a_defect_is_left(rt: HostRuntime) -> Result<(), Fail> {
-    let alloc = rt.alloc();
-    let mut files = two_rounds(alloc, SAME_TIME, "4000,read\nend\n")?;
-    let left = call(&rt, alloc, "run J P --save s", &mut files, &OpenGate)?;
-    assert_left(&rt, &left, 6, FIRST.as_bytes(), DISORDERED);
-    let saved = left_of(alloc, &mut files, "s")?;
+    let files = two_rounds(rt.alloc(), SAME_TIME, "4000,read\nend\n")?;
+    let wanted = Wanted {
+        status: 6,
+        out: FIRST,
+        err: DISORDERED,
+    };
+    let saved = saved_by(&rt, rt.alloc(), "run J P --save s", files, wanted)?;
     assert!(&rt; saved.starts_with(b"{\"border\":4096,\"cells\":[[\"count\",0,\"96\"]],\"job\":"));
     Ok(())
+}
+
+/// What a run saves whose second put fails.
+fn saved_once<R: Abort + Threads + Wait + Sync>(rt: &R, alloc: Global) -> Result<Vec<u8>, Fail> {
+    let mut files = two_rounds(alloc, END, READS)?;
+    files.fail_put(2)?;
+    let wanted = Wanted {
+        status: 12,
+        out: ALL,
+        err: "flumina: save fault",
+    };
+    saved_by(rt, alloc, "run J P --save s", files, wanted)
 }
 
 /// A round whose checkpoint could not be put is run again by a run that is resumed: the border tells that its lines come twice.
 #[test]
 fn a_round_that_was_not_saved_is_run_again(rt: HostRuntime) -> Result<(), Fail> {
-    let alloc = rt.alloc();
-    let mut files = two_rounds(alloc, END, READS)?;
-    files.fail_put(2)?;
-    let left = call(&rt, alloc, "run J P --save s", &mut files, &OpenGate)?;
-    assert_left(&rt, &left, 12, ALL.as_bytes(), "flumina: save fault");
-    let saved = left_of(alloc, &mut files, "s")?;
+    let saved = saved_once(&rt, rt.alloc())?;
     assert!(&rt; saved.starts_with(b"{\"border\":4096,"));
-    let mut files = two_rounds(alloc, END, READS)?;
+    let mut files = two_rounds(rt.alloc(), END, READS)?;
     files.add("s", saved)?;
-    let left = call(&rt, alloc, "run J P --resume s", &mut files, &OpenGate)?;
-    assert_left(&rt, &left, 0, SECOND.as_bytes(), "");
+    let wanted = Wanted {
+        status: 0,
+        out: SECOND,
+        err: "",
+    };
+    saved_by(&rt, rt.alloc(), "run J P --resume s", files, wanted)?;
     Ok(())
 }
