@@ -1,13 +1,13 @@
 #!/usr/bin/env bash
 # Measures `flumina run` beside `flumina fold`, on inputs that it makes itself: windows of samples that a barrier ends, by plans of
 # 1, 3, 7 and 15 nodes; views of pages that read the page's fee, under version 2; and events of 32 long actions. Run at the top of the
-# repository, where `rt ci` or `rt run` has built the program: docs/measure_run.sh [FOLDER [ROUNDS [WORD..]]]. The words are put before
+# repository, where `rt ci` or `rt run` has built the program: bench/measure_run.sh [FOLDER [ROUNDS [WORD..]]]. The words are put before
 # the program, as `taskset -c 0-3`, or as `chrt -r 1` on a machine that does other work too. In each round fold and run take turns, and
 # each line has the least of the rounds, 5 where none are given: wall and, in brackets, processor time of fold and of run in seconds,
 # and how many times fold's those of run are.
 set -eu
 program=${PROGRAM:-$PWD/crates/flumina/out/flumina}
-jobs=$PWD/docs/jobs
+jobs=$PWD/bench/jobs
 folder=${1:-$(mktemp -d)}
 rounds=${2:-5}
 shift $(($# < 2 ? $# : 2))

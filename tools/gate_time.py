@@ -1,7 +1,7 @@
 #!/usr/bin/env python3
 """Runs a command, as `rt ci`, and prints the processor minutes that each crate took in it, for its proofs, its tests and its edits.
 
-Usage: docs/gate_time.py COMMAND [WORD ..]
+Usage: tools/gate_time.py COMMAND [WORD ..]
 
 Twice a second it looks at all processes below the command, and takes the processor time of each at the last look. A process counts for
 the crate that its words name, or for that of the process that started it. What ends between two looks is not seen. Edits are the runs

@@ -1,7 +1,7 @@
 #!/usr/bin/env bash
 # Measures whether words that threads share should have a cache line each: words that one thread stores and three look at, as arrival
 # words, and words by which two pairs of threads take turns, as two links do. Each lies beside the next one, or 64 bytes from it.
-# Prints medians, in nanoseconds. Needs a C compiler: docs/cache_lines.sh [ROUNDS]
+# Prints medians, in nanoseconds. Needs a C compiler: bench/cache_lines.sh [ROUNDS]
 set -eu
 folder=$(mktemp -d)
 trap 'rm -r "$folder"' EXIT

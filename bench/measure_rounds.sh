@@ -1,7 +1,7 @@
 #!/usr/bin/env bash
 # Measures `flumina run`, which goes in rounds, beside `flumina fold`, which holds its whole input: views of 20 pages from two sources,
 # put out 100 times, 1,000,000 rows in all and 10,000,000. Run at the top of the repository, where `rt ci` or `rt run` has built the
-# program: docs/measure_rounds.sh [FOLDER [ROUNDS [WORD..]]]. The words are put before the program, as `taskset -c 0-3`. Each line has
+# program: bench/measure_rounds.sh [FOLDER [ROUNDS [WORD..]]]. The words are put before the program, as `taskset -c 0-3`. Each line has
 # the least of the rounds, 3 where none are given: wall and, in brackets, processor time in seconds, and the greatest memory held in MB.
 set -eu
 program=${PROGRAM:-$PWD/crates/flumina/out/flumina}

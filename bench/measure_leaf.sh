@@ -1,12 +1,12 @@
 #!/usr/bin/env bash
 # Measures an event at a leaf beside its update, in instructions: a job of 24 itags, 23 keyed tags over eight sources and a clock, by its
 # greedy plan of 15 nodes; one leaf gets 1,000,000 events of its three itags, one after another, and the others none. Run at the top of
-# the repository, where `rt ci` or `rt run` has built the program, and with valgrind: docs/measure_leaf.sh [EVENTS]. It takes some
+# the repository, where `rt ci` or `rt run` has built the program, and with valgrind: bench/measure_leaf.sh [EVENTS]. It takes some
 # minutes. Each line has the instructions of a function with what it calls, for each event; the last one has how many times those of
 # `update` the worker's `can_handle` and `handle` take together, and a turn of the leaf in all.
 set -eu
 program=${PROGRAM:-$PWD/crates/flumina/out/flumina}
-jobs=$PWD/docs/jobs
+jobs=$PWD/bench/jobs
 events=${1:-1000000}
 folder=$(mktemp -d)
 trap 'rm -rf "$folder"' EXIT

@@ -1,7 +1,7 @@
 #!/usr/bin/env python3
 """Lists the public clauses of each crate that no must-fail edit names, so that none is left bare by accident, and checks what edits name.
 
-Usage: docs/clauses.py [CRATE ..]
+Usage: tools/clauses.py [CRATE ..]
 
 A public clause is an `ensures` of a public function or of a method of a trait. It is named FUNCTION.CLAUSE, or FUNCTION where the
 clause has no name of its own, with the type or trait before a method, as `Outs::push.ok`. A law, which has no body, can have no edit:

@@ -2,7 +2,7 @@
 """Stops a run of 100,000 rows behind each of its rounds in turn, and at random moments from outside, and resumes it from its
 checkpoint: what is written before and after is together the report of the whole.
 
-    docs/stop_and_resume.py PROGRAM [KILLS]
+    tests/system/stop_and_resume.py PROGRAM [KILLS]
 
 A run is stopped behind a round by sources that have one row more than the rounds up to it need, and no `end`: its status is 6, and
 what it wrote and saved is that of these rounds. It is stopped from outside by SIGKILL, KILLS times (20 where none are asked for),
@@ -74,7 +74,7 @@ def need(holds, what):
 
 def told():
     """What docs/GUIDE.md tells to do: the commands that cut the report, and the one that goes on."""
-    with open(os.path.join(os.path.dirname(os.path.abspath(__file__)), "GUIDE.md")) as it:
+    with open(os.path.join(os.path.dirname(os.path.abspath(__file__)), "..", "..", "docs", "GUIDE.md")) as it:
         page = re.search(r"^## Stopping and going on$(.*?)^## ", it.read(), re.M | re.S)[1]
     blocks = [block.replace("\n    ", "\n").strip() for block in re.findall(r"\n\n((?:    .*\n)+)", page)]
     cut = [block for block in blocks if "rides.save)" in block]

@@ -2,11 +2,11 @@
 # Measures whether a plan that follows the counts pays: views of four pages, version 2, of which one source has a hundred times the rows
 # of each other, by a job that declares one rate for all. `flumina run` takes turns by the greedy plan of these rates, by that of the
 # right ones, and with `--adapt` from the wrong one on; the report has to be the same. Run at the top of the repository, where `rt ci` or
-# `rt run` has built the program: docs/measure_adapt.sh [ROWS [ROUNDS]], ROWS of the busy source, 4,000,000 where none are given. Each
+# `rt run` has built the program: bench/measure_adapt.sh [ROWS [ROUNDS]], ROWS of the busy source, 4,000,000 where none are given. Each
 # line has the least wall time of the rounds, 3 where none are given, and, in brackets, the least processor time, in seconds.
 set -eu
 program=${PROGRAM:-$PWD/crates/flumina/out/flumina}
-jobs=$PWD/docs/jobs
+jobs=$PWD/bench/jobs
 rows=${1:-4000000}
 rounds=${2:-3}
 folder=$(mktemp -d)

@@ -1,7 +1,7 @@
 #!/usr/bin/env python3
 """Lists the files of definitions on which the contract of `flumina` rests: what its reader has to read and believe.
 
-Usage: docs/definitions.py [--files]
+Usage: tools/definitions.py [--files]
 
 These are the files in `specs/` that declare a name of the contract, all files in `specs/` that those import, and so on; no proof is among
 them. The types of the code that they speak of are declared in `src/`, and those files are counted apart. Lines are counted without empty

@@ -1,5 +1,5 @@
 #!/bin/sh
-# Draws a plan: docs/plan.sh [--dot] [PLAN]
+# Draws a plan: tools/plan.sh [--dot] [PLAN]
 # Reads a plan's text from the file PLAN or from standard input, and writes its tree in characters, or with --dot a graph in the
 # language of Graphviz. It is made for plans that `flumina valid` or `flumina plan` has written, and says little of others.
 form=tree

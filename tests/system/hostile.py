@@ -3,7 +3,7 @@
 
 At the top of the repository, where `rt ci` or `rt run` has built the program:
 
-    docs/hostile.py [--program FILE] [--seed N] [--texts N] [--runs N] [--blanks N]
+    tests/system/hostile.py [--program FILE] [--seed N] [--texts N] [--runs N] [--blanks N]
 
 Each row of the table is one kind of use with how often it was tried; the script ends with status 1 where an answer was none
 of those that docs/LANGUAGE.md gives: a signal, a status beyond 0 to 9 and 13, more than one line on standard error, bytes on

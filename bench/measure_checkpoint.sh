@@ -2,7 +2,7 @@
 # Measures what checkpoints cost: 100,000 and 1,000,000 cells, and 4,194,304, which are the most that a job has. Each is made by a
 # script, as no run comes to so many, and `flumina run JOB --resume FILE` reads it, from a border above which there are no rows; with
 # `--save` it writes it again, which has to give the same cells. Run at the top of the repository, where `rt ci` or `rt run` has built
-# the program: docs/measure_checkpoint.sh [FOLDER [ROUNDS [WORD..]]]. The words are put before the program, as `taskset -c 0-3`. Each
+# the program: bench/measure_checkpoint.sh [FOLDER [ROUNDS [WORD..]]]. The words are put before the program, as `taskset -c 0-3`. Each
 # line has the least of the rounds, 3 where none are given: wall time in seconds, and the greatest memory held in MB. Beside reading and
 # writing stands how long python3's json module, which is in C, takes for the same. The last line is of a file that is too long.
 set -eu

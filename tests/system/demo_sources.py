@@ -1,7 +1,7 @@
 #!/usr/bin/env python3
 """Writes the job of a demo and its sources as files, so that other commands than `demo` can be tried on them.
 
-    docs/demo_sources.py N SEED FOLDER
+    tests/system/demo_sources.py N SEED FOLDER
 
 The rows are those of the demo's streams (`demo_lists` in crates/flu_gen/specs/DemoStreams.antt): at each time from 1 to N an
 event that the seed draws, a tick at each thousandth time and one behind the last.
@@ -14,7 +14,7 @@ SOURCES = """source web "web.csv" rate 1000: view[0..9]
 source app "app.csv" rate 500: view[0..9], update[0..9]
 source clock "clock.csv" rate 1: tick
 """
-JOB = (Path(__file__).resolve().parent / "jobs" / "zips.head").read_text() + SOURCES
+JOB = (Path(__file__).resolve().parents[2] / "bench" / "jobs" / "zips.head").read_text() + SOURCES
 
 
 def main():

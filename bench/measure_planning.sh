@@ -1,11 +1,11 @@
 #!/usr/bin/env bash
 # Measures planning anew beside a round of 4,096 rows of each source, read, folded and reported, for three jobs. Run at the top of the
-# repository: docs/measure_planning.sh. It makes a copy with one program more, which `rt try` builds with checks, without its proof: so
+# repository: bench/measure_planning.sh. It makes a copy with one program more, which `rt try` builds with checks, without its proof: so
 # only the ratios tell. Where `rt ci` or `rt run` has built the program and valgrind is there, the last lines tell of the proved program:
 # instructions over ten rounds of the last job with as many reads as counts. No removal parts its itags then, so that each is tried.
 set -eu
 program=${PROGRAM:-$PWD/crates/flumina/out/flumina}
-jobs=$PWD/docs/jobs
+jobs=$PWD/bench/jobs
 copy=$(mktemp -d)
 trap 'rm -rf "$copy"' EXIT
 mkdir -p "$copy/crates/measure_planning/src"

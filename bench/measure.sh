@@ -1,10 +1,10 @@
 #!/usr/bin/env bash
 # Measures the program beside gawk, sort and a program in Rust, on inputs that it makes itself. Run at the top of the repository,
-# where `rt ci` or `rt run` has built the program: docs/measure.sh [FOLDER]. It needs gawk, rustc and python3. PROGRAM names another
+# where `rt ci` or `rt run` has built the program: bench/measure.sh [FOLDER]. It needs gawk, rustc and python3. PROGRAM names another
 # program to measure.
 set -eu
 program=${PROGRAM:-$PWD/crates/flumina/out/flumina}
-jobs=$PWD/docs/jobs
+jobs=$PWD/bench/jobs
 folder=${1:-$(mktemp -d)}
 mkdir -p "$folder"
 cd "$folder"

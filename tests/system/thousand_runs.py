@@ -1,7 +1,7 @@
 #!/usr/bin/env python3
 """Compares the ways to run a job, over random small jobs, plans and sources: the bytes of `fold` with those of `run` and `simulate`.
 
-Usage: docs/thousand_runs.py PROGRAM [--times N] [--at-once K] [--seed S] [--keep FOLDER]
+Usage: tests/system/thousand_runs.py PROGRAM [--times N] [--at-once K] [--seed S] [--keep FOLDER]
 
 PROGRAM is the built program. N jobs are made (1000 where no number is given), K of them are run side by side (8), so that threads get
 on at different moments, and the seed S (1) settles all that is made. Each job is made acceptable by the `depends` that `check` asks for.

@@ -3,7 +3,7 @@
 
 At the top of the repository, where `rt ci` or `rt run` has built the program, and with a C compiler:
 
-    docs/refused_growth.py [--program FILE] [--jobs WORD,..] [--calls NAME;..] [--rows N]
+    tests/system/refused_growth.py [--program FILE] [--jobs WORD,..] [--calls NAME;..] [--rows N]
 
 A call is made once with ample memory, and then once for each of its growths, with that growth alone refused: the first, the second
 and so on, up to the number that the call does not reach. A small library, which is loaded before the C library, counts the calls of
