@@ -12,7 +12,7 @@ ghost use Rattle.flu_rows.specs.declared.rows.Next.{Next};
 ghost use Rattle.flu_streams.specs.declared.border.Border.{Border};
 ghost use Rattle.flu_streams.specs.declared.held.Stage.{Stage};
 ghost use Rattle.flu_streams.specs.Files.{files_of, LeavesOthers, CountsOfNames, OneRose};
-ghost use Rattle.flu_streams.specs.Holding.{AreHeldBehind, ClosedAreReadOut, AreClosed, IsNewBorder, HidesNoRoundFault};
+ghost use Rattle.flu_streams.specs.Holding.{AreHeldBehind, ClosedAreReadOut, AreClosed, IsNewBorder, HidesNoRoundFault, HoldsFew, HoldsAtMost, HaveAtMost};
 ghost use Rattle.flu_rounds.specs.Halves.{Begins, AppendsReport, AppendsPartOfReport};
 ghost use Rattle.flu_rounds.specs.Standing.{IsFirst, IsFirstFrom, round_report, Runs, IsRoundOf, IsSourceFault, StandsBehind};
 
@@ -134,6 +134,10 @@ impl Rounds {
         ensures closed { result ≡ Ok Border.Closed → AreClosed self.new.held }
         ensures engine { N.program_of engine.new ≡ N.program_of engine.old }
 
+        // What is held of the sources is bounded, whatever the answer.
+        ensures few { OnOk result (HoldsFew self.new.held) }
+        ensures most { HoldsAtMost 64096 self.new.held }
+
         // A source fault is the defect that the round meets; out got nothing.
         ensures fault { IfErr result (λ f. IsSourceFault self.old.held (F.left files.old) (F.left files.new) f) }
         ensures nothing { IfErr result (λ f. f ≢ RoundsFault.WriteFault → K.taken out.new ≡ K.taken out.old) }
@@ -189,6 +193,11 @@ impl Rounds {
         ensures stands { IfOk result (λ begun. StandsBehind self.old.held self.new.held begun.border) }
         ensures read_out { OnOk result (ClosedAreReadOut self.old.held (F.left files.old) → ClosedAreReadOut self.new.held (F.left files.new)) }
         ensures closed { IfOk result (λ begun. begun.border ≡ Border.Closed → AreClosed self.new.held) }
+
+        // What is held of the sources is bounded, whatever the answer, and so are the rows of the round.
+        ensures few { OnOk result (HoldsFew self.new.held) }
+        ensures most { HoldsAtMost 64096 self.new.held }
+        ensures few_items { IfOk result (λ begun. HaveAtMost 64096 (listed begun.rows)) }
 
         // A source fault is the defect that the round meets.
         ensures fault { IfErr result (λ f. IsSourceFault self.old.held (F.left files.old) (F.left files.new) f) }

@@ -61,7 +61,7 @@ all_late p number x (y ∷ ys) one all =
     ]
 
 -- ---- counts
-count_step : (u : ℕ) (x : Item) (xs : List Item) → item_time x ≤ u → count_to u (x ∷ xs) ≡ suc (count_to u xs)
+pub count_step : (u : ℕ) (x : Item) (xs : List Item) → item_time x ≤ u → count_to u (x ∷ xs) ≡ suc (count_to u xs)
 count_step u x xs le = let e : nat_le (item_time x) u ≡ true = grind (arith, nat_tests) in rw e refl
 
 count_skip : (u : ℕ) (x : Item) (xs : List Item) → u < item_time x → count_to u (x ∷ xs) ≡ count_to u xs

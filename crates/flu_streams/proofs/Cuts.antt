@@ -37,6 +37,7 @@ use Rattle.flu_streams.specs.Rounds.{rows_between, is_above, is_up_to, settled, 
 use Rattle.flu_streams.specs.Tags.{width}
 use Rattle.flu_streams.specs.Tests.{rows_of}
 use Rattle.flu_streams.proofs.Befores.{with_before-append}
+use Rattle.flu_streams.proofs.Bounds.{few_dropped}
 use Rattle.flu_streams.proofs.Counting.{still_rises}
 use Rattle.flu_streams.proofs.Cutting.{all_kept}
 use Rattle.flu_streams.proofs.HeldRows.{taken_items, left_items, items_caught}
@@ -182,7 +183,11 @@ pub dropped_well : (p : Program) (rows t : ℕ) (border : Option ℕ) (olds news
     → IsSettledBy p border (At t) olds → AreCaughtUp olds → AreDropped t olds news → AreWell p rows (Some t) news
 dropped_well p rows t border olds news well settles caught dropped = record {
   some = well.some;
+  most = well.most;
   count = dropped.size ∙ well.count;
+  few = λ i s at h f.
+      let old = slice_get-there olds i (rw well.count (slice_get_within p.sources i s at)) in
+      few_dropped rows t s old.0 h (dropped.each i old.0 h old.1 f) (well.few i s at old.0 old.1);
   each = λ i s at h f.
       let old = slice_get-there olds i (rw well.count (slice_get_within p.sources i s at)) in
       let d = dropped.each i old.0 h old.1 f in

@@ -17,6 +17,7 @@ pub mod Refilling
 pub mod Starts
 pub mod Rounding
 pub mod RoundOf
+pub mod Bounds
 pub mod RefillEnds
 pub mod Cuts
 pub mod Fronts

@@ -27,7 +27,7 @@ use Rattle.flu_streams.specs.Holding.{unread_source, still}
 use Rattle.flu_streams.specs.Lists.{item_time}
 use Rattle.flu_streams.specs.LoopGathering.{fault_of_stop}
 use Rattle.flu_streams.specs.LoopHeld.{source_of, IsRefilled, MeetsDefect, IsStopOf, HasRefilled, StopsAtSource, IsSettledAt, IsSettledBy, IsTurnOf, IsWellAt}
-use Rattle.flu_streams.specs.LoopHeld.{AreWell, AreCaughtUp, IsWell}
+use Rattle.flu_streams.specs.LoopHeld.{AreWell, AreCaughtUp, IsWell, IsFew, count_above}
 use Rattle.flu_streams.specs.Rounds.{Reads, Meets, IsWithin, defect_in, is_above, is_enough}
 use Rattle.flu_streams.proofs.RoundOf.{told_from, at_told, choose, reads_at, turn_of, passed, holding, behind_at, all_closed, earliest_within, earliest_among}
 use Rattle.flu_lemmas.proofs.Mapped.{from_mapped}
@@ -68,7 +68,11 @@ refill_keeps : (p : Program) (rows : ℕ) (border : Option ℕ) (olds news : Lis
     → AreWell p rows border olds → HasRefilled p rows olds news a b end → AreWell p rows border news
 refill_keeps p rows border olds news a b end well has = record {
   some = well.some;
+  most = well.most;
   count = has.all.size ∙ well.count;
+  few = λ i s at h f.
+      let one = one_of p rows olds news a b end well.count has i s at in
+      subst (IsFew rows s) (one_there news i one.new h one.is f) (one.done.few (well.few i s at one.old one.was));
   each = λ i s at h f.
       let one = one_of p rows olds news a b end well.count has i s at in
       subst (IsWellAt s border) (one_there news i one.new h one.is f) (one.done.keeps border (well.each i s at one.old one.was));
@@ -237,11 +241,17 @@ refill_hides p rows border stage olds a b Q fault count told st is before behind
         }
 
 -- ---- before the first round
-pub fresh_well : (p : Program) (rows : ℕ) (border : Option ℕ) (inlets : List Inlet) → 1 ≤ rows
+pub fresh_well : (p : Program) (rows : ℕ) (border : Option ℕ) (inlets : List Inlet) → 1 ≤ rows → rows ≤ 4096
     → map source_of inlets ≡ map (unread_source border) p.sources → AreWell p rows border inlets
-fresh_well p rows border inlets some is = record {
+fresh_well p rows border inlets some most is = record {
   some = some;
+  most = most;
   count = sym (length-map inlets source_of) ∙ ap length is ∙ length-map p.sources (unread_source border);
+  few = λ i s at h f.
+      let same : source_of h ≡ unread_source border s = fresh_at p border i s (source_of h) at
+      (ap (λ (l : List HeldSource). slice_get l i) (sym is) ∙ to_mapped source_of inlets i h f) in
+      let e : count_above h.goal h.items.items ≡ 0 = ap (λ (k : HeldSource). count_above k.goal k.items) same in
+      omega (arith, e);
   each = λ i s at h f.
       let same : source_of h ≡ unread_source border s = fresh_at p border i s (source_of h) at
       (ap (λ (l : List HeldSource). slice_get l i) (sym is) ∙ to_mapped source_of inlets i h f) in

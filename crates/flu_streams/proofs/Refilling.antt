@@ -22,10 +22,11 @@ use Rattle.flu_streams.specs.declared.intake.RowRefusal.{RowRefusal}
 use Rattle.flu_streams.specs.declared.intake.RowRefusal.TheVariants.{Fault, NoMemory}
 use Rattle.flu_streams.specs.Holding.{HeldSource, IsHeldBehind, still}
 use Rattle.flu_streams.specs.LoopHeld.{source_of, enough_of, enough_in, IsShort, CatchesUp, fault_behind, PutsIn, IsWellAt, IsRefilling, IsRefilled}
-use Rattle.flu_streams.specs.LoopHeld.{MeetsDefect, StopsBehind, IsStopOf}
+use Rattle.flu_streams.specs.LoopHeld.{MeetsDefect, StopsBehind, IsStopOf, IsFew}
 use Rattle.flu_streams.specs.LoopIntake.{IsRefusal}
 use Rattle.flu_streams.specs.LoopSource.{stop_at, defect_behind}
 use Rattle.flu_streams.specs.Rounds.{settled, is_enough}
+use Rattle.flu_streams.proofs.Bounds.{few_caught, few_same}
 use Rattle.flu_streams.proofs.Counting.{enough_is, above_at}
 use Rattle.flu_streams.proofs.HeldRows.{without_some, enough_held, not_enough_held, enough_still, fault_held, defect_held, behind_row, behind_end}
 use Rattle.flu_streams.proofs.HeldRows.{behind_caught, well_caught, still_caught}
@@ -179,13 +180,14 @@ pub refilled_open : (kinds : List Kind) (s : Source) (first rows u : ℕ) (old n
     → ((above : Option ℕ) (before : List Next) → IsHeldBehind kinds first s above before (source_of old)
     → IsRefilling kinds s first rows above before (source_of old) (source_of now) a b)
     → ((border : Option ℕ) → IsWellAt s border old → IsWellAt s border now)
-    → ((old.closed ≡ true → IsReadOut s.file a) → now.closed ≡ true → IsReadOut s.file b)
+    → ((old.closed ≡ true → IsReadOut s.file a) → now.closed ≡ true → IsReadOut s.file b) → (IsFew rows s old → IsFew rows s now)
     → enough_in rows s.slack (source_of now) ≡ Some u → IsRefilled kinds s first rows old now a b (At u)
-refilled_open kinds s first rows u old now a b one so_far well out e =
+refilled_open kinds s first rows u old now a b one so_far well out few e =
     let found = without_some now.goal (enough_of rows s.slack now.last now.items.items) u e in
     let k = enough_is rows s.slack u now.last now.items.items found.1 in
     record {
       keeps = well;
+      few = few;
       caught = found.0;
       border = λ above was. (
         above_at above u now.items.items ((well above was).above found.0) (omega (arith, one, k.count)),
@@ -201,10 +203,11 @@ pub refilled_shut : (kinds : List Kind) (s : Source) (first rows : ℕ) (old now
     → ((above : Option ℕ) (before : List Next) → IsHeldBehind kinds first s above before (source_of old)
     → IsRefilling kinds s first rows above before (source_of old) (source_of now) a b)
     → ((border : Option ℕ) → IsWellAt s border old → IsWellAt s border now)
-    → ((old.closed ≡ true → IsReadOut s.file a) → now.closed ≡ true → IsReadOut s.file b)
+    → ((old.closed ≡ true → IsReadOut s.file a) → now.closed ≡ true → IsReadOut s.file b) → (IsFew rows s old → IsFew rows s now)
     → IsShort rows s (source_of now) → now.closed ≡ true → now.goal ≡ None → IsRefilled kinds s first rows old now a b Closed
-refilled_shut kinds s first rows old now a b one so_far well out e closed caught = record {
+refilled_shut kinds s first rows old now a b one so_far well out few e closed caught = record {
   keeps = well;
+  few = few;
   caught = caught;
   border = λ above was. tt;
   turn = closed;
@@ -216,19 +219,21 @@ refilled_shut kinds s first rows old now a b one so_far well out e closed caught
 pub refilled_end : (kinds : List Kind) (s : Source) (first rows : ℕ) (old now shut new : Inlet) (a b c : Option Contents) (next : Next) → 1 ≤ rows
     → ((above : Option ℕ) (before : List Next) → IsHeldBehind kinds first s above before (source_of old)
     → IsRefilling kinds s first rows above before (source_of old) (source_of now) a b)
-    → ((border : Option ℕ) → IsWellAt s border old → IsWellAt s border now) → now.closed ≡ false → IsShort rows s (source_of now)
+    → ((border : Option ℕ) → IsWellAt s border old → IsWellAt s border now) → (IsFew rows s old → IsFew rows s now) → now.closed ≡ false
+    → IsShort rows s (source_of now)
     → WhereTold b c (λ was is. ahead now.rows was ≡ then_behind next (ahead shut.rows is)) → IsNoRow next → defect_behind now.ended next ≡ None
     → IsReadOut s.file c
     → shut.items.items ≡ now.items.items → shut.last ≡ now.last → shut.ended ≡ now.ended → shut.closed ≡ true → shut.goal ≡ now.goal → shut.rows.file ≡ s.file
     → CatchesUp s.slack shut new
     → IsRefilled kinds s first rows old new a c Closed
-refilled_end kinds s first rows old now shut new a b c next one so_far well goes e told other none read_out items last ended closed goal file catches = record {
+refilled_end kinds s first rows old now shut new a b c next one so_far well few goes e told other none read_out items last ended closed goal file catches = record {
   keeps = λ border was. well_caught s border shut new catches (record {
     file = file;
     goal = λ t e. (well border was).goal t (sym goal ∙ e);
     above = λ none'. rw items ((well border was).above (sym goal ∙ none'));
     settled = λ none' goes'. absurd (not_both shut.closed closed goes');
   });
+  few = λ was. few_caught rows s shut new catches (few_same rows s now shut items goal (few was));
   caught = catches.shut now_closed;
   border = λ above was. tt;
   turn = now_closed;

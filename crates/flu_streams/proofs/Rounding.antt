@@ -64,6 +64,7 @@ refilled_later : (kinds : List Kind) (s : Source) (first rows : ℕ) (old new : 
     → WhereTold b c (TakesFrom name) → IsRefilled kinds s first rows old new a b end → IsRefilled kinds s first rows old new a c end
 refilled_later kinds s first rows old new name a b c end ne taken r = record {
   keeps = r.keeps;
+  few = r.few;
   caught = r.caught;
   border = r.border;
   turn = r.turn;
@@ -83,6 +84,7 @@ pub refilled_earlier : (kinds : List Kind) (s : Source) (first rows : ℕ) (old 
     → WhereTold a b (LeavesOthers names) → IsRefilled kinds s first rows old new b c end → IsRefilled kinds s first rows old new a c end
 refilled_earlier kinds s first rows old new names a b c end apart others r = record {
   keeps = r.keeps;
+  few = r.few;
   caught = r.caught;
   border = r.border;
   turn = r.turn;

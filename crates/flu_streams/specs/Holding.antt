@@ -1,11 +1,13 @@
 -- What is held of the sources between rounds, and behind which lines that is so (`docs/MODEL.md`, "Rounds").
-use Rattle.std.specs.Prelude.{◌≡◌, ℕ, ◌<◌, ◌≤◌, ◌^◌, Bool, true, false, Result, Ok, Option, Some, None, List, [], ◌++◌, length, map, take, slice_get, sum_by}
+use Rattle.std.specs.Prelude.{◌≡◌, ℕ, ◌+◌, ◌<◌, ◌≤◌, ◌^◌, Bool, true, false, Result, Ok, Option, Some, None, List, [], ◌++◌, length, map, take, slice_get, sum_by}
 use Rattle.std.specs.Prelude.{if◌then◌else◌, ⊤}
+use Rattle.std.specs.List.{All}
 use Rattle.flu_lemmas.specs.Elements.{AtEach}
 use Rattle.flu_model.specs.declared.events.Item.{Item}
 use Rattle.flu_model.specs.declared.jobs.Kind.{Kind}
 use Rattle.flu_model.specs.declared.jobs.Source.{Source}
 use Rattle.flu_model.specs.declared.jobs.Program.{Program}
+use Rattle.flu_model.specs.Itags.{count_of_itags}
 use Rattle.flu_outside.specs.Outside.{Contents, WhereTold}
 use Rattle.flu_outside.specs.Taking.{IsReadOut}
 use Rattle.flu_rows.specs.declared.rows.Next.{Next}
@@ -100,6 +102,26 @@ ClosedAreReadOut h left = AtEach (λ i source. source.closed ≡ true → IsRead
 -- all files were read to their ends
 abbrev pub AreClosed : Holding → Type 0
 AreClosed h = AtEach (λ i source. source.closed ≡ true) h.sources
+
+-- ---- how much is held
+-- of each source at most as many rows are held as a round is to have of it, and one for each time within its slack
+abbrev pub HoldsFew : Holding → Type 0
+HoldsFew h = AtEach (λ i s. (source : HeldSource) → slice_get h.sources i ≡ Some source → length source.items ≤ h.rows + s.slack) h.program.sources
+
+-- of each source at most so many
+abbrev pub HoldsAtMost : ℕ → Holding → Type 0
+HoldsAtMost most h = AtEach (λ i source. length source.items ≤ most) h.sources
+
+-- the lists of a round have at most so many events and heartbeats each, and the end
+abbrev pub HaveAtMost : ℕ → List (List Item) → Type 0
+HaveAtMost most lists = All (λ items. length items ≤ most + 1) lists
+
+-- LAW OF WHAT IS HELD: rounds of at most 4,096 rows hold at most 64,096 rows of a source, and the lists of one have at most 16,408,576
+-- events and heartbeats, and the ends of 256 lists
+pub record LawOfBounds : Type 0 where
+  pub rows : (h : Holding) → h.rows ≤ 4096 → length h.sources ≡ length h.program.sources → HoldsFew h → HoldsAtMost 64096 h
+  pub items : (p : Program) (lists : List (List Item)) → length lists ≡ count_of_itags p → HaveAtMost 64096 lists
+      → sum_by (λ (items : List Item). length items) lists ≤ 16408576 + 256
 
 -- ---- a refill
 -- behind a refill a cut at its answer may be called

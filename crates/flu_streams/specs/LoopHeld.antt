@@ -1,5 +1,5 @@
 -- What is held of one source, and how it is read in a round.
-use Rattle.std.specs.Prelude.{◌≡◌, ℕ, ◌<◌, ◌≤◌, max, min, true, false, ◌||◌, nat_lt, nat_le, Option, Some, None, option_and_then, unwrap_or, List, [], ◌∷◌}
+use Rattle.std.specs.Prelude.{◌≡◌, ℕ, ◌+◌, ◌<◌, ◌≤◌, max, min, true, false, ◌||◌, nat_lt, nat_le, Option, Some, None, option_and_then, unwrap_or, List, [], ◌∷◌}
 use Rattle.std.specs.Prelude.{◌++◌, length, take, slice_get, if◌then◌else◌, ⊤}
 use Rattle.std.specs.List.{filter, list_all}
 use Rattle.flu_lemmas.specs.Elements.{AtEach}
@@ -61,6 +61,19 @@ IsBefore slack h = (t u : ℕ) → h.goal ≡ Some t → settled slack h.last �
 abbrev pub IsShort : ℕ → Source → HeldSource → Type 0
 IsShort rows s h = (enough_in rows s.slack h ≡ None) × IsBefore s.slack h
 
+-- ---- how many items are held
+-- how many are of the run: those above the border that is still to be come to, and all where there is none
+abbrev pub count_above : Option ℕ → List Item → ℕ
+count_above goal items = length (filter (λ item. is_above goal (item_time item)) items)
+
+-- as many as a round is to have, and one for each time within the slack
+abbrev pub IsFew : ℕ → Source → Inlet → Type 0
+IsFew rows s h = count_above h.goal h.items.items ≤ rows + s.slack
+
+-- of a source whose border is still to be come to, one item more may be held
+abbrev pub HasRoom : Inlet → Type 0
+HasRoom h = (t : ℕ) → h.goal ≡ Some t → length h.items.items < 64096
+
 -- ---- a row
 -- the test of a time behind these items, where this is the greatest time that was read
 abbrev pub test_late : ℕ → List ℕ → Option ℕ → Option ℕ → Option Why
@@ -115,7 +128,9 @@ pub record IsWellAt (s : Source) (border : Option ℕ) (h : Inlet) : Type 0 wher
 
 pub record AreWell (p : Program) (rows : ℕ) (border : Option ℕ) (inlets : List Inlet) : Type 0 where
   pub some : 1 ≤ rows
+  pub most : rows ≤ 4096
   pub count : length inlets ≡ length p.sources
+  pub few : AtEach (λ i s. (h : Inlet) → slice_get inlets i ≡ Some h → IsFew rows s h) p.sources
   pub each : AtEach (λ i s. (h : Inlet) → slice_get inlets i ≡ Some h → IsWellAt s border h) p.sources
 
 -- a new border is above the last one, and settled
@@ -160,6 +175,7 @@ pub record CatchesUp (slack : ℕ) (old new : Inlet) : Type 0 where
   pub items : IsCaughtUp slack old new
   pub before : IsBefore slack (source_of new)
   pub shut : new.closed ≡ true → new.goal ≡ None
+  pub room : HasRoom new
 
 -- ---- one source in a refill
 -- what was read more of a source, behind these lines: before its last line they were not enough
@@ -187,6 +203,7 @@ IsTurnOf s h Closed = h.closed ≡ true
 
 pub record IsRefilled (kinds : List Kind) (s : Source) (first rows : ℕ) (old new : Inlet) (left left' : Option Contents) (end : Border) : Type 0 where
   pub keeps : (border : Option ℕ) → IsWellAt s border old → IsWellAt s border new
+  pub few : IsFew rows s old → IsFew rows s new
   pub caught : new.goal ≡ None
   pub border : (above : Option ℕ) → IsWellAt s above old → IsNewBorder above end
   pub turn : IsTurnOf s new end

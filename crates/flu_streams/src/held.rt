@@ -9,7 +9,7 @@ ghost use Rattle.flu_outside.specs.Taking.{TookFronts};
 ghost use Rattle.flu_rows.specs.declared.rows.Next.{Next};
 ghost use Rattle.flu_streams.specs.Files.{files_of, LeavesOthers, CountsOfNames, OneRose};
 ghost use Rattle.flu_streams.specs.Holding.{fresh, unread, AreHeldBehind, ClosedAreReadOut, AreClosed, IsFilled, KeepsJob, Fills, IsNewBorder, IsRefillFault};
-ghost use Rattle.flu_streams.specs.Holding.{HidesNoRoundFault, Cuts};
+ghost use Rattle.flu_streams.specs.Holding.{HidesNoRoundFault, Cuts, HoldsFew, HoldsAtMost, HaveAtMost};
 ghost use Rattle.flu_lemmas.specs.Elements.{AtEach};
 ghost use Rattle.flu_model.specs.Streaming.{are_streams};
 ghost use Rattle.flu_streams.specs.Lists.{lists_in};
@@ -104,7 +104,8 @@ impl Held {
         rows: u32,
         border: Option<u64>,
     ) -> Result<Held, AllocError>
-        requires { 1 ≤ rows }
+        requires some { 1 ≤ rows }
+        requires few { rows ≤ 4096 }
         ensures { IfOk result (λ h. h ≡ unread p.now rows border) }
     {
         let sources = new_inlets(alloc, p, border)?;
@@ -150,6 +151,10 @@ impl Held {
 
         ensures fault { IfErr result (IsRefillFault self.old (F.left files.old) (F.left files.new)) }
 
+        // What is held is bounded, also where a run that is resumed has not come to its border yet.
+        ensures few { OnOk result (HoldsFew self.new) }
+        ensures most { HoldsAtMost 64096 self.new }
+
         // It takes bytes from the front of the sources' files alone, and a read fault has its cause there: no other answer comes
         // behind a take that failed.
         ensures fronts { WhereTold (F.left files.old) (F.left files.new) TookFronts }
@@ -183,6 +188,9 @@ impl Held {
             → listed streams ≡ lists_between p.now self.old.border b lines) }
         ensures itags { IfOk result (λ streams. length (listed streams) ≡ count_of_itags p.now) }
         ensures cut { OnOk result (Cuts self.old self.new b) }
+        ensures few { OnOk result (HoldsFew self.new) }
+        ensures most { HoldsAtMost 64096 self.new }
+        ensures few_items { IfOk result (λ streams. HaveAtMost 64096 (listed streams)) }
     {
         self.stage = Stage::Over;
         let lists = lists_to(alloc, p, &self.sources, b)?;
@@ -215,6 +223,7 @@ fn refill_all<F: Files>(
     files: &mut F,
 ) -> Result<Border, GatherFault>
     requires some { 1 ≤ rows }
+    requires most { rows ≤ 4096 }
     requires count { length inlets.old.items ≡ length p.now.sources }
     requires files { AtEach (λ i s. (h : Inlet) → slice_get inlets.old.items i ≡ Some h → h.rows.file ≡ s.file) p.now.sources }
     ensures filled { IfOk result (λ end. HasRefilled p.now rows inlets.old.items inlets.new.items (F.left files.old) (F.left files.new) end) }
@@ -263,6 +272,7 @@ fn lists_to(
     requires caught { AreCaughtUp inlets.now }
     ensures len { IfOk result (λ lists. vec_len lists ≡ count_of_itags p.now) }
     ensures streams { IfOk result (λ lists. IsTrue (are_streams 0 (lists_in lists))) }
+    ensures few { IfOk result (λ lists. HaveAtMost 64096 (lists_in lists)) }
     ensures lists { IfOk result (λ lists. (border : Option ℕ) (lines : ℕ → List Next) → AreBehind p.now border lines inlets.now
         → lists_in lists ≡ lists_between p.now border end lines) }
 {

@@ -1,13 +1,14 @@
 //! What is held of one source from round to round.
 
 ghost use Rattle.std.specs.Prelude.{◌≡◌, ◌≢◌, ◌≤◌, ◌<◌, ◌+◌, ◌^◌, ◌++◌, ◌∷◌, [], ℕ, None, Some, length, unwrap_or, vec_len, IsTrue, OnOk, IfOk, IfErr, IsErrOf};
-ghost use Rattle.std.specs.Prelude.{Err};
-ghost use Rattle.std.specs.List.{filter_map};
+ghost use Rattle.std.specs.Prelude.{nat_le, Err};
+ghost use Rattle.std.specs.List.{filter_map, list_all};
 ghost use Rattle.flu_lemmas.specs.Late.{rises_from};
 ghost use Rattle.flu_outside.specs.Outside.{WhereTold, Rose, SameCounts};
 ghost use Rattle.flu_outside.specs.Taking.{TakesFrom, CountsOf};
 ghost use Rattle.flu_rows.specs.Row.{IsInRange};
-ghost use Rattle.flu_streams.specs.Lists.{item_time, item_for, items_of_list, times_in};
+ghost use Rattle.flu_streams.specs.Holding.{HaveAtMost};
+ghost use Rattle.flu_streams.specs.Lists.{item_time, item_for, items_of_list, lists_in, times_in};
 ghost use Rattle.flu_streams.specs.Tags.{width};
 
 use crate::border::Border;
@@ -38,6 +39,8 @@ pub(crate) struct Inlet {
     pub(crate) ghost rising: { IsTrue (rises_from item_time 0 items.items) },
     pub(crate) ghost none: { last ≡ None → items.items ≡ [] },
     pub(crate) ghost range: { unwrap_or last 0 < 2 ^ 63 },
+    pub(crate) ghost within: { IsTrue (list_all (λ item. nat_le (item_time item) (unwrap_or last 0)) items.items) },
+    pub(crate) ghost few: { length items.items ≤ 64096 },
 }
 
 impl Inlet {
@@ -78,6 +81,8 @@ impl Inlet {
         requires kinds { length kinds.now ≤ 64 }
         requires numbered { first + width source.now ≤ 256 }
         requires some { 1 ≤ rows }
+        requires most { rows ≤ 4096 }
+        requires slack { source.now.slack ≤ 60000 }
         requires file { self.old.rows.file ≡ source.now.file }
         ensures filled { IfOk result (λ end. IsRefilled kinds.now source.now first rows self.old self.new (F.left files.old) (F.left files.new) end) }
         ensures stop { IfErr result (IsStopOf kinds.now source.now first rows self.old (F.left files.old) (F.left files.new)) }
@@ -130,6 +135,7 @@ impl Inlet {
         ensures len { IfOk result (λ lists. vec_len lists ≡ width) }
         ensures each { IfOk result (λ lists. (i : ℕ) → i < width
             → items_of_list lists i ≡ filter_map (item_for (first + i)) (taken_by end self.now.items.items) ++ Item.End ∷ []) }
+        ensures few { IfOk result (λ lists. HaveAtMost 64096 (lists_in lists)) }
     {
         let count = match end {
             Border::At(time) => count_until(self.items.as_slice(), time),
@@ -151,6 +157,7 @@ impl Inlet {
     // In a resumed run, drops the items up to its border once that is settled, or nothing more is to be read. Before that it drops
     // those that are settled, where many are held: they are not needed to test later rows.
     fn catch_up(&mut self, slack: u64)
+        requires { slack ≤ 60000 }
         ensures { CatchesUp slack self.old self.new }
     {
         let Some(goal) = self.goal else {
@@ -207,6 +214,7 @@ impl Inlet {
         requires few { length kinds.now ≤ 64 }
         requires numbered { first + width source.now ≤ 256 }
         requires range { IsInRange row }
+        requires room { length self.old.items.items < 64096 }
         ensures taken { OnOk result (PutsIn kinds.now source.now first row self.old self.new) }
         ensures refused { IfErr result (IsRefusal (fault_behind kinds.now source.now self.old row)) }
     {
@@ -240,7 +248,8 @@ impl Inlet {
 
     // Takes an event or a heartbeat in.
     fn insert(&mut self, slack: u64, item: Item) -> Result<(), RowRefusal>
-        requires { item_time item < 2 ^ 63 }
+        requires time { item_time item < 2 ^ 63 }
+        requires room { length self.old.items.items < 64096 }
         ensures passes { OnOk result (test_late slack (times_in self.old.items.items) self.old.last (Some (item_time item)) ≡ None) }
         ensures taken { OnOk result (PutsItem item self.old self.new) }
         ensures refused { IfErr result (IsRefusal (test_late slack (times_in self.old.items.items) self.old.last (Some (item_time item)))) }

@@ -2,7 +2,7 @@
 
 ghost use Rattle.flu_streams.specs.Borders.{LawOfBorders, ItemsAreCut};
 ghost use Rattle.flu_streams.specs.Counts.{OneMoreInTurn, LawOfCounts};
-ghost use Rattle.flu_streams.specs.Holding.{LawOfStart, LawOfEnds};
+ghost use Rattle.flu_streams.specs.Holding.{LawOfStart, LawOfEnds, LawOfBounds};
 ghost use Rattle.flu_streams.specs.Fronts.{LawOfFronts, LawOfFrontsAbove, LawOfMeeting};
 ghost use Rattle.flu_streams.specs.Rounds.{LawOfRounds, LawOfNoRows, LawOfLastRound, LawOfLastAbove};
 
@@ -56,4 +56,11 @@ pub fn rounds_meet_what_is_there()
     ensures fronts { LawOfFronts }
     ensures above { LawOfFrontsAbove }
     ensures meeting { LawOfMeeting }
+{}
+
+/// The law of what is held: where of each source only as many rows are held as a round is to have, and one for each time within its
+/// slack, these are at most 64,096 of each; and the lists of a round have at most 16,408,576 events and heartbeats, besides their
+/// ends.
+pub fn rounds_hold_few()
+    ensures { LawOfBounds }
 {}

@@ -1,10 +1,12 @@
-use Rattle.std.proofs.Common.{◌≡◌, ◌+◌, ◌<◌, ◌++◌, ◌∷◌, [], Some, length, map, take, vec_len, refl, sym, ap, ◌∙◌, arith}
+use Rattle.std.proofs.Common.{◌≡◌, ◌+◌, ◌<◌, ◌≤◌, List, ◌++◌, ◌∷◌, [], Some, length, map, take, vec_len, refl, sym, ap, ◌∙◌, arith}
 use Rattle.std.specs.Prelude.{slice_get, sum_by}
 use Rattle.std.specs.List.{flat_map}
 use Rattle.std.proofs.lemmas.Grind.{common_steps}
 use Rattle.std.proofs.lemmas.List.{length-map, map-append, take_all}
+use Rattle.std.proofs.lemmas.List.Elements.{All-append}
 use Rattle.std.proofs.lemmas.List.Sums.{sum_by-append}
 use Rattle.std.proofs.lemmas.Option.{slice_get_read}
+use Rattle.flu_model.specs.declared.events.Item.{Item}
 use Rattle.flu_model.specs.Listing.{listed_tags}
 use Rattle.flu_streams.specs.Lists.{lists_in}
 use Rattle.flu_streams.specs.Tags.{width}
@@ -66,6 +68,7 @@ loop-source-preserved c =
     record {
       number = omega (arith, inv.number);
       len = omega (arith, len, one, w, inv.len, c.in_ok-own.ensures.len);
+      few = rw both (All-append (λ (items : List Item). length items ≤ 64096 + 1) (lists_in lists) (lists_in own) inv.few c.in_ok-own.ensures.few);
       streams = rw both (streams_both (lists_in lists) (lists_in own) first size inv.streams
           (own_streams own first c.tag_count-width.result end h.items.items c.in_ok-own.ensures.len c.in_ok-own.ensures.each h.rising));
       lists = λ border lines behind.

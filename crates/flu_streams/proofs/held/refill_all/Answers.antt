@@ -15,6 +15,7 @@ use Rattle.flu_streams.specs.Files.{files_of, LeavesOthers}
 use Rattle.flu_streams.specs.LoopGathering.{fault_of_stop}
 use Rattle.flu_streams.specs.LoopHeld.{earlier_of}
 use Rattle.flu_streams.specs.Tags.{width}
+use Rattle.flu_streams.proofs.Bounds.{slack_of}
 use Rattle.flu_streams.proofs.Gatherings.{err_same, counts_at, there_more, counts_more, files_more, among_sources}
 use Rattle.flu_streams.proofs.Rounding.{refilled_more, earliest-push, others_more, others_end, stops_at, source_at}
 use Rattle.flu_streams.proofs.Turns.{turn}
@@ -73,6 +74,12 @@ refill-requires-clause-file g c =
     let was : slice_get c.args.inlets.now.items i ≡ Some mid =
     sym (c.loop-source.invariant.rest i (omega arith)) ∙ ap (slice_get news) (sym c.loop-source.invariant.number) ∙ is in
     c.requires.files i s at mid was
+
+pub refill-requires-clause-slack : goal.refill-requires-clause-slack
+refill-requires-clause-slack g c =
+    let i = c.loop-source.source-index in
+    let s = c.source-item.result in
+    slack_of c.args.p.now i s (source_at c.args.p.now c.items-source-items.result.now i s c.items-source-items.ensures c.loop-source-test.true c.source-item.is)
 
 pub returns-in-Err-clause-stop : goal.returns-in-Err-clause-stop
 returns-in-Err-clause-stop g c =

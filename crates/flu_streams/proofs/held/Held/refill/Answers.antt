@@ -2,9 +2,10 @@ use Rattle.std.proofs.Common.{◌≡◌, Err, refl, sym, ap, subst, ◌∙◌}
 use Rattle.flu_outside.specs.Taking.{TookFronts}
 use Rattle.flu_streams.specs.declared.border.Border.TheVariants.{Closed}
 use Rattle.flu_streams.specs.declared.faults.GatherFault.TheVariants.{ReadFault}
-use Rattle.flu_streams.specs.declared.held.Stage.TheVariants.{Filling, Filled}
+use Rattle.flu_streams.specs.declared.held.Stage.TheVariants.{Filling, Filled, Over}
 use Rattle.flu_streams.specs.Holding.{Holding, AreHeldBehind, ClosedAreReadOut, Fills, IsNewBorder, IsRefillFault, HidesNoRoundFault}
 use Rattle.flu_streams.specs.LoopHeld.{AreWell, HasRefilled, StopsAtSource}
+use Rattle.flu_streams.proofs.Bounds.{holds_few, holds_most}
 use Rattle.flu_streams.proofs.Cuts.{well_filling}
 use Rattle.flu_streams.proofs.Gatherings.{err_same}
 use Rattle.flu_streams.proofs.RefillEnds.{refill_border, refill_well, refill_out, refill_closed, refill_fault, refill_hides}
@@ -19,6 +20,35 @@ refill_all-requires-clause-files g c =
     let well = well_filling h.program.value h.rows h.border h.stage h.sources.items c.self.invariant stage_is in
     let here = subst (λ p. AreWell p h.rows h.border h.sources.items) program_is well in
     λ i s at inlet is. (here.each i s at inlet is).file
+
+pub refill_all-requires-clause-most : goal.refill_all-requires-clause-most
+refill_all-requires-clause-most g c =
+    let h = c.self.inside in
+    let stage_is : h.stage ≡ Filling = ap (λ (v : Holding). v.stage) c.self.view_is ∙ c.requires.stage in
+    (well_filling h.program.value h.rows h.border h.stage h.sources.items c.self.invariant stage_is).most
+
+pub returns-in-Err-clause-most : goal.returns-in-Err-clause-most
+returns-in-Err-clause-most g c =
+    let h = c.self.inside in
+    holds_most h.program.value h.rows h.border Over c.refill_all.new.inlets.items
+
+pub returns-clause-most : goal.returns-clause-most
+returns-clause-most g c =
+    let h = c.self.inside in
+    holds_most h.program.value h.rows h.border (Filled c.in-Ok.end) c.refill_all.new.inlets.items
+
+pub returns-clause-few : goal.returns-clause-few
+returns-clause-few g c =
+    let h = c.self.inside in
+    let a = g.F.Files.left c.args.files.now in
+    let b = g.F.Files.left c.refill_all.new.files in
+    let news = c.refill_all.new.inlets.items in
+    let stage_is : h.stage ≡ Filling = ap (λ (v : Holding). v.stage) c.self.view_is ∙ c.requires.stage in
+    let program_is : h.program.value ≡ c.args.p.now = ap (λ (v : Holding). v.program) c.self.view_is ∙ c.requires.program in
+    let well = well_filling h.program.value h.rows h.border h.stage h.sources.items c.self.invariant stage_is in
+    let has = subst (λ p. HasRefilled p h.rows h.sources.items news a b c.in-Ok.end) (sym program_is) c.in-Ok.ensures.filled in
+    let now = refill_well h.program.value h.rows h.border h.sources.items news a b c.in-Ok.end well has in
+    holds_few h.program.value h.rows h.border (Filled c.in-Ok.end) news now.0 now.2
 
 pub returns-in-Err-clause-fault : goal.returns-in-Err-clause-fault
 returns-in-Err-clause-fault g c =

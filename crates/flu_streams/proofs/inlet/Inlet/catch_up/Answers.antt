@@ -1,8 +1,9 @@
-use Rattle.std.proofs.Common.{◌≡◌, ◌-◌, ◌<◌, ◌≤◌, ℕ, Option, None, Some, refl, sym, ap, ◌∙◌, arith}
+use Rattle.std.proofs.Common.{◌≡◌, ◌-◌, ◌<◌, ◌≤◌, ℕ, Option, None, Some, length, refl, sym, ap, ◌∙◌, arith}
 use Rattle.flu_lemmas.proofs.Tests.{not_both}
-use Rattle.flu_streams.specs.LoopHeld.{Drops, Comes}
+use Rattle.flu_streams.specs.LoopHeld.{Stays, Drops, Comes}
 use Rattle.flu_streams.specs.Rounds.{settled}
-use Rattle.flu_streams.proofs.RoundLaws.{settled_some}
+use Rattle.flu_streams.proofs.Bounds.{few_behind, few_at_first}
+use Rattle.flu_streams.proofs.RoundLaws.{settled_is, settled_some}
 use Rattle.flu_streams.proofs.inlet.Inlet.catch_up.Goals as goal
 
 same_of : {a b : ℕ} → Some a ≡ Some b → a ≡ b
@@ -17,6 +18,10 @@ no_goal t e = absurd (never e)
 settled_here : (slack l : ℕ) (last : Option ℕ) → last ≡ Some l → slack ≤ l → settled slack last ≡ Some (l - slack)
 settled_here slack l last is le = ap (settled slack) is ∙ settled_some slack l le
 
+none_early : (slack l u : ℕ) (last : Option ℕ) → last ≡ Some l → l < slack → settled slack last ≡ Some u → ⊥
+none_early slack l u last is lt at =
+    let k = settled_is slack l u (sym (ap (settled slack) is) ∙ at) in omega (arith, k.0, lt)
+
 pub returns-then-self : goal.returns-then-self
 returns-then-self c =
     let d = c.drop_until.ensures in
@@ -28,6 +33,7 @@ returns-then-self c =
       items = Comes c.in-Some.goal (λ goes. absurd (not_both c.args.self.now.closed c.if-self.true goes)) c.in-Some.is refl d.items;
       before = λ t u e at. no_goal t e;
       shut = λ closed. refl;
+      room = λ t e. no_goal t e;
     }
 
 pub returns-then-settled-goal : goal.returns-then-settled-goal
@@ -45,6 +51,7 @@ returns-then-settled-goal c =
       items = Comes c.in-Some.goal (λ goes. (c.in-Some-last.last - c.args.slack, at, reached)) c.in-Some.is refl d.items;
       before = λ t u e at. no_goal t e;
       shut = λ closed. refl;
+      room = λ t e. no_goal t e;
     }
 
 pub returns-then-len-ge-MOST_ITEMS : goal.returns-then-len-ge-MOST_ITEMS
@@ -65,4 +72,22 @@ returns-then-len-ge-MOST_ITEMS c =
           let time_is : c.in-Some-last.last - c.args.slack ≡ u = same_of (sym at ∙ ap (settled c.args.slack) (sym d.last) ∙ now) in
           omega (arith, short, goal_is, time_is);
       shut = λ closed. absurd (not_both c.args.self.now.closed (sym d.closed ∙ closed) c.if-self.false);
+      room = λ t e.
+          let few = few_behind c.args.slack c.in-Some-last.last c.args.self.now c.in-Some-last.is le in
+          let same = ap length d.items in
+          omega (arith, few, same, c.requires);
+    }
+
+pub returns-then-last-slack : goal.returns-then-last-slack
+returns-then-last-slack c =
+    let early : c.in-Some-last.last < c.args.slack = omega arith in
+    record {
+      rows = refl;
+      last = refl;
+      ended = refl;
+      closed = refl;
+      items = Stays refl refl;
+      before = λ t u e at. absurd (none_early c.args.slack c.in-Some-last.last u c.args.self.now.last c.in-Some-last.is early at);
+      shut = λ closed. absurd (not_both c.args.self.now.closed closed c.if-self.false);
+      room = λ t e. let few = few_at_first c.args.slack c.in-Some-last.last c.args.self.now c.in-Some-last.is early in omega (arith, few, c.requires);
     }

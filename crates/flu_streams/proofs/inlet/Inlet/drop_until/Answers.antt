@@ -1,10 +1,11 @@
 use Rattle.std.proofs.Common.{◌≡◌, ◌≤◌, ◌<◌, ℕ, true, false, length, drop, refl, ap, ◌∙◌, rules, arith}
-use Rattle.std.specs.Prelude.{nat_lt}
+use Rattle.std.specs.Prelude.{nat_lt, nat_le, unwrap_or}
 use Rattle.std.specs.List.{filter}
 use Rattle.std.proofs.lemmas.Bool.Decides.{nat_tests}
 use Rattle.flu_model.specs.declared.events.Item.{Item}
 use Rattle.flu_model.specs.declared.events.Item.TheVariants.{End}
 use Rattle.flu_streams.specs.Lists.{item_time}
+use Rattle.flu_streams.proofs.Bounds.{all_still, fewer}
 use Rattle.flu_streams.proofs.Counting.{drop_failing, still_rises}
 use Rattle.flu_streams.proofs.inlet.Inlet.drop_until.Goals as goal
 
@@ -30,6 +31,9 @@ invariant_of-self c =
       rising = rw (now, left) (still_rises (λ (item : Item). nat_lt t (item_time item)) items c.args.self.now.rising);
       none = λ e. rw (now, left) (ap (filter (λ (item : Item). nat_lt t (item_time item))) (c.args.self.now.none e));
       range = search rules;
+      within = rw (now, left) (all_still (λ (item : Item). nat_le (item_time item) (unwrap_or c.args.self.now.last 0))
+          (λ (item : Item). nat_lt t (item_time item)) items c.args.self.now.within);
+      few = rw (now, left) (let less = fewer (λ (item : Item). nat_lt t (item_time item)) items in omega (arith, less, c.args.self.now.few));
     }
 
 pub returns : goal.returns

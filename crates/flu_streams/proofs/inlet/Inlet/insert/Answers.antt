@@ -1,7 +1,8 @@
-use Rattle.std.proofs.Common.{◌≡◌, ◌≤◌, length, refl, rules, arith}
+use Rattle.std.proofs.Common.{◌≡◌, ◌≤◌, Some, length, refl, rules, arith}
 use Rattle.std.proofs.lemmas.Grind.{common_steps}
 use Rattle.flu_lemmas.specs.Late.{put_late}
 use Rattle.flu_streams.specs.Lists.{item_time}
+use Rattle.flu_streams.proofs.Bounds.{all_within, one_longer}
 use Rattle.flu_streams.proofs.Placing.{not_at, put_at, still_rising}
 use Rattle.flu_streams.proofs.inlet.Inlet.insert.Goals as goal
 
@@ -20,6 +21,8 @@ invariant_of-self-2 c =
       rising = rw put (still_rising items item c.args.self.now.rising (not_at items at (item_time item) below above));
       none = λ e. absurd cc;
       range = search rules;
+      within = rw put (all_within c.args.self.now item (Some c.max.result) (search rules));
+      few = rw put (let longer = one_longer item_time item items in omega (arith, longer, c.requires.room));
     }
 
 pub returns-clause-taken : goal.returns-clause-taken

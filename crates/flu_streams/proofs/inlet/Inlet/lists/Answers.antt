@@ -7,6 +7,7 @@ use Rattle.flu_model.specs.declared.events.Item.{Item}
 use Rattle.flu_model.specs.declared.events.Item.TheVariants.{End}
 use Rattle.flu_streams.specs.Lists.{item_time}
 use Rattle.flu_streams.specs.LoopHeld.{taken_by}
+use Rattle.flu_streams.proofs.Bounds.{few_lists}
 use Rattle.flu_streams.proofs.Counting.{take_passing}
 use Rattle.flu_streams.proofs.HeldRows.{kept_true}
 use Rattle.flu_streams.proofs.inlet.Inlet.lists.Goals as goal
@@ -37,3 +38,7 @@ returns-clause-each c = λ i lt.
     let each = c.in_ok-push_items.ensures.each i within in
     let none = c.in_ok-lists.ensures.empty i in
     each ∙ rw (none, given, front) refl
+
+pub returns-clause-few : goal.returns-clause-few
+returns-clause-few c = few_lists c.push_items.new.lists c.args.width c.args.first c.args.end c.args.self.now
+    (c.in_ok-push_items.ensures.len ∙ c.in_ok-lists.ensures.len) (returns-clause-each c)

@@ -5,6 +5,7 @@ use Rattle.flu_outside.specs.Taking.{IsReadOut}
 use Rattle.flu_rows.specs.declared.held.RowsFault.{RowsFault}
 use Rattle.flu_rows.specs.declared.held.RowsFault.TheVariants.{ReadFault, NoMemory}
 use Rattle.flu_streams.specs.LoopHeld.{source_of, IsStopOf}
+use Rattle.flu_streams.proofs.Bounds.{few_caught, few_row, room_here}
 use Rattle.flu_streams.proofs.HeldRows.{well_row, well_caught}
 use Rattle.flu_streams.proofs.Refilling.{refilling_none, refilling_row, refused_row, meets_last, stops_behind, refilled_open, refilled_shut, refilled_end}
 use Rattle.flu_streams.proofs.Refilling.{refilling_caught}
@@ -22,6 +23,8 @@ loop-time-init g c =
           (refilling_none c.args.kinds.now c.args.source.now c.args.first c.args.rows above before (source_of c.args.self.now) left is);
       well = λ border was. well_caught c.args.source.now border c.args.self.now c.catch_up.new.self c.catch_up.ensures was;
       out = λ was closed. was (sym c.catch_up.ensures.closed ∙ closed);
+      few = few_caught c.args.rows c.args.source.now c.args.self.now c.catch_up.new.self c.catch_up.ensures;
+      room = c.catch_up.ensures.room;
       before_goal = c.catch_up.ensures.before;
       shut = c.catch_up.ensures.shut;
       taken = none_taken file left;
@@ -35,13 +38,13 @@ returns-in-Some-clause-filled g c =
     let left = g.F.Files.left in
     refilled_open c.args.kinds.now c.args.source.now c.args.first c.args.rows c.in-Some.time c.args.self.now c.loop-time.self (left c.args.files.now)
     (left c.loop-time.files)
-    c.requires.some c.loop-time.invariant.so_far c.loop-time.invariant.well c.loop-time.invariant.out (sym c.in-Some.ensures)
+    c.requires.some c.loop-time.invariant.so_far c.loop-time.invariant.well c.loop-time.invariant.out c.loop-time.invariant.few (sym c.in-Some.ensures)
 
 pub returns-then-self-clause-filled : goal.returns-then-self-clause-filled
 returns-then-self-clause-filled g c =
     let left = g.F.Files.left in
     refilled_shut c.args.kinds.now c.args.source.now c.args.first c.args.rows c.args.self.now c.loop-time.self (left c.args.files.now) (left c.loop-time.files)
-    c.requires.some c.loop-time.invariant.so_far c.loop-time.invariant.well c.loop-time.invariant.out
+    c.requires.some c.loop-time.invariant.so_far c.loop-time.invariant.well c.loop-time.invariant.out c.loop-time.invariant.few
     (sym c.in_default.ensures, c.loop-time.invariant.before_goal) c.if-self.true (c.loop-time.invariant.shut c.if-self.true)
 
 pub returns-in-Err-clause-stop : goal.returns-in-Err-clause-stop
@@ -64,6 +67,11 @@ returns-in-Err-clause-stop g c =
 pub returns-in-Err-clause-taken : goal.returns-in-Err-clause-taken
 returns-in-Err-clause-taken g c = taken_then c.args.source.now.file (g.F.Files.left c.args.files.now) (g.F.Files.left c.loop-time.files)
     (g.F.Files.left c.next_row.new.files) c.loop-time.invariant.taken (rw c.loop-time.invariant.file at c.in-Err.ensures.taken)
+
+pub take-requires-clause-room : goal.take-requires-clause-room
+take-requires-clause-room g c =
+    room_here c.args.rows c.args.source.now c.loop-time.self c.requires.some c.requires.most c.requires.slack
+    (sym c.in_default.ensures, c.loop-time.invariant.before_goal) c.loop-time.invariant.room
 
 pub returns-in-Err-take-clause-stop : goal.returns-in-Err-take-clause-stop
 returns-in-Err-take-clause-stop g c =
@@ -104,6 +112,10 @@ loop-time-preserved g c =
           (well_row c.args.kinds.now c.args.source.now c.args.first border c.loop-time.self _ c.take.new.self c.in-Row.row
           (c.loop-time.invariant.well border was) c.if-self.false refl refl refl here puts);
       out = λ was closed. absurd (not_both caught.closed closed (catches.closed ∙ puts.closed ∙ c.if-self.false));
+      few = λ was. few_caught c.args.rows c.args.source.now c.take.new.self caught catches
+          (few_row c.args.rows c.args.kinds.now c.args.source.now c.args.first c.loop-time.self _ c.take.new.self c.in-Row.row c.requires.some
+          (sym c.in_default.ensures, c.loop-time.invariant.before_goal) refl refl puts);
+      room = catches.room;
       before_goal = catches.before;
       shut = catches.shut;
       taken = taken_then file (left old) (left mid) (left new) c.loop-time.invariant.taken (rw c.loop-time.invariant.file at c.in-Ok.ensures.taken);
@@ -150,7 +162,7 @@ returns-in_default-next g c =
     record {
       filled = refilled_end c.args.kinds.now c.args.source.now c.args.first c.args.rows c.args.self.now c.loop-time.self _ c.catch_up-in_default-next.new.self
           (left old) (left mid) (left new) c.in-Ok.next
-          c.requires.some c.loop-time.invariant.so_far c.loop-time.invariant.well c.if-self.false (sym c.in_default.ensures, c.loop-time.invariant.before_goal)
+          c.requires.some c.loop-time.invariant.so_far c.loop-time.invariant.well c.loop-time.invariant.few c.if-self.false (sym c.in_default.ensures, c.loop-time.invariant.before_goal)
           c.in-Ok.ensures.told c.in_default-next.not-Row none out refl refl refl refl refl here c.catch_up-in_default-next.ensures;
       stop = tt;
       taken = taken_then file (left old) (left mid) (left new) c.loop-time.invariant.taken (rw c.loop-time.invariant.file at c.in-Ok.ensures.taken);

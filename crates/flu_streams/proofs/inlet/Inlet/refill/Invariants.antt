@@ -3,7 +3,7 @@ use Rattle.flu_outside.specs.Outside.{WhereTold, SameCounts}
 use Rattle.flu_outside.specs.Taking.{TakesFrom, CountsOf, IsReadOut}
 use Rattle.flu_rows.specs.declared.rows.Next.{Next}
 use Rattle.flu_streams.specs.Holding.{IsHeldBehind}
-use Rattle.flu_streams.specs.LoopHeld.{source_of, IsWellAt, IsRefilling, IsBefore}
+use Rattle.flu_streams.specs.LoopHeld.{source_of, IsWellAt, IsRefilling, IsBefore, IsFew, HasRoom}
 use Rattle.flu_streams.proofs.inlet.Inlet.refill.Given as goal
 
 abbrev pub invariant-loop-time : goal.invariant-loop-time
@@ -17,6 +17,8 @@ invariant-loop-time g l =
           → IsRefilling l.kinds l.source l.first l.rows above before (source_of l.fn.self) (source_of l.self) (left l.fn.files) (left l.files);
       well : (border : Option ℕ) → IsWellAt l.source border l.fn.self → IsWellAt l.source border l.self;
       out : (l.fn.self.closed ≡ true → IsReadOut l.source.file (left l.fn.files)) → l.self.closed ≡ true → IsReadOut l.source.file (left l.files);
+      few : IsFew l.rows l.source l.fn.self → IsFew l.rows l.source l.self;
+      room : HasRoom l.self;
       before_goal : IsBefore l.source.slack (source_of l.self);
       shut : l.self.closed ≡ true → l.self.goal ≡ None;
       taken : WhereTold (left l.fn.files) (left l.files) (TakesFrom l.source.file);
