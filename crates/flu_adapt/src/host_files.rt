@@ -5,11 +5,14 @@ ghost use Rattle.std.specs.BTreeMap.{get_by_text};
 ghost use Rattle.flu_outside.specs.Outside.{Rose};
 ghost use Rattle.std.specs.Io.KnownBytes.{ReadConsumes};
 
-use crate::replacing::replace;
+use crate::replacing::{Replacing, Unreplaced, replace};
+use crate::same_file::{FileId, id_of};
+use crate::standard::flush_output;
 use flu_outside::{Files, PutFault, TakeFault};
-use std::alloc::Global;
+use std::alloc::{AllocError, Global};
 use std::collections::BTreeMap;
-use std::io::Read;
+use std::fs::OpenFile;
+use std::io::{ErrorKind, Read};
 use std::{fs, io, rt};
 
 /// The failure of a name, as the system tells it.
@@ -19,6 +22,15 @@ pub struct FileFailure {
     pub name: String,
     /// Why it was not.
     pub error: io::Error,
+}
+
+/// What a program that is called tells its files.
+#[derive(Drop)]
+pub struct ProgramCall {
+    /// The number of the process, which no other that runs on the machine has.
+    pub process: u32,
+    /// The name of a file that is taken from and may be put over by another name too, as the checkpoint that a run goes on from.
+    pub resumed: Option<String>,
 }
 
 /// Files of the system, each opened when it is first taken from, and kept open until it is put. They tell nothing of what they hold.
@@ -32,6 +44,7 @@ pub struct HostFiles<R: rt::Files + AllocGlobal> {
     faults: u64,
     put_faults: u64,
     last: Option<FileFailure>,
+    call: Option<ProgramCall>,
 }
 
 impl<R: rt::Files + AllocGlobal> HostFiles<R> {
@@ -49,7 +62,18 @@ impl<R: rt::Files + AllocGlobal> HostFiles<R> {
             faults: 0,
             put_faults: 0,
             last: None,
+            call: None,
         }
+    }
+
+    /// The files of a program that is called. They flush its standard output before each put, and none has failed.
+    pub fn of_program(rt: R, call: ProgramCall) -> HostFiles<R>
+        ensures count { count_of result ≡ 0 }
+        ensures put_count { put_count_of result ≡ 0 }
+    {
+        let mut files = HostFiles::new(rt);
+        files.call = Some(call);
+        files
     }
 
     /// The last failure of a name. None where no name has failed, and where no memory was left to keep the name.
@@ -79,6 +103,61 @@ impl<R: rt::Files + AllocGlobal> HostFiles<R> {
         match self.opened.insert(kept, file) {
             Ok(_) => Ok(()),
             Err(_) => Err(TakeFault::NoMemory),
+        }
+    }
+
+    // Puts the file of a name, behind what was written to standard output.
+    fn put_now(&self, name: &str, bytes: &[u8]) -> Result<(), Unput> {
+        let open = self.open_files(name)?;
+        if let Ok(there) = self.rt.metadata(name) {
+            if there.is_file() && open.contains(&id_of(&there)) {
+                let message = "the run reads or writes that file by another name";
+                return Err(Unput::Failed(io::Error::new(ErrorKind::InvalidInput, message)));
+            }
+        }
+        let mut process = 0;
+        if let Some(call) = &self.call {
+            process = call.process;
+            if let Err(error) = flush_output() {
+                return Err(Unput::Unflushed(error));
+            }
+        }
+        let new = Replacing {
+            bytes,
+            process,
+            open: &open,
+        };
+        replace(&self.rt, name, new)?;
+        Ok(())
+    }
+
+    // The files that are open by other names than this one, and that of standard output.
+    fn open_files(&self, name: &str) -> Result<Vec<FileId>, AllocError> {
+        let mut open = Vec::new(self.rt.alloc());
+        for (other, file) in self.opened.iter() {
+            if other.as_str() != name && !self.is_resumed(other.as_str()) {
+                if let Ok(about) = file.metadata() {
+                    open.push(id_of(&about))?;
+                }
+            }
+        }
+        if self.call.is_some() {
+            if let Ok(about) = self.rt.metadata("/dev/stdout") {
+                open.push(id_of(&about))?;
+            }
+        }
+        Ok(open)
+    }
+
+    fn is_resumed(&self, name: &str) -> bool {
+        match &self.call {
+            Some(
+                ProgramCall {
+                    resumed: Some(resumed),
+                    ..
+                },
+            ) => resumed.as_str() == name,
+            _ => false,
         }
     }
 }
@@ -121,30 +200,60 @@ impl<R: rt::Files + AllocGlobal> Files for HostFiles<R> {
     }
 
     /// Writes the file whole, in place of the one that is there, so that whoever is stopped in the middle leaves the old one or the new
-    /// one, where it is a plain file (`replacing.rt`). The next take of it begins at its front.
+    /// one, where it is a plain file (`replacing.rt`). The next take of it begins at its front. A plain file that another name was taken
+    /// from, or that is standard output, is refused.
     fn put(&mut self, name: &str, bytes: Vec<u8>) -> Result<(), PutFault>
         ensures quiet { OnOk result (put_count_of self.new ≡ put_count_of self.old) }
         ensures counts { put_count_of self.old ≤ put_count_of self.new }
         ensures takes { count_of self.new ≡ count_of self.old }
 
-        // Each failure is counted, up to the last number, and there is no other fault.
-        ensures fault { IfErr result (λ e. e ≡ PutFault.Failed) }
-        ensures raised { OnErr result (put_count_of self.new ≡ min (put_count_of self.old + 1) (2 ^ 64 - 1)) }
+        // Each failure is counted, up to the last number, and want of memory is none.
+        ensures raised { IsErrOf result PutFault.Failed → put_count_of self.new ≡ min (put_count_of self.old + 1) (2 ^ 64 - 1) }
+        ensures no_memory { IsErrOf result PutFault.NoMemory → put_count_of self.new ≡ put_count_of self.old }
     {
-        self.opened.remove(name);
-        match replace(&self.rt, name, &bytes) {
-            Ok(()) => Ok(()),
-            Err(error) => {
-                self.last = failure_of(self.rt.alloc(), name, error);
-                self.put_faults = self.put_faults.saturating_add(1);
-                Err(PutFault::Failed)
+        let (name_of_failure, error) = match self.put_now(name, &bytes) {
+            Ok(()) => {
+                self.opened.remove(name);
+                return Ok(());
             }
-        }
+            Err(Unput::NoMemory) => return Err(PutFault::NoMemory),
+            Err(Unput::Unflushed(error)) => ("standard output", error),
+            Err(Unput::Failed(error)) => (name, error),
+        };
+        self.opened.remove(name);
+        self.last = failure_of(self.rt.alloc(), name_of_failure, error);
+        self.put_faults = self.put_faults.saturating_add(1);
+        Err(PutFault::Failed)
     }
 
     ghost shared = { λ f a b no_a no_b. refl };
 
     ghost shared_puts = { λ f a b no_a no_b. refl };
+}
+
+// Why a file was not put.
+enum Unput {
+    // There was no memory for a name, and nothing was done.
+    NoMemory,
+    // Standard output was not flushed, and nothing was done.
+    Unflushed(io::Error),
+    // The file was not replaced.
+    Failed(io::Error),
+}
+
+impl From<AllocError> for Unput {
+    fn from(_e: AllocError) -> Unput {
+        Unput::NoMemory
+    }
+}
+
+impl From<Unreplaced> for Unput {
+    fn from(error: Unreplaced) -> Unput {
+        match error {
+            Unreplaced::NoMemory => Unput::NoMemory,
+            Unreplaced::Failed(error) => Unput::Failed(error),
+        }
+    }
 }
 
 // A failure with its name, where there is memory for the name.
@@ -167,13 +276,27 @@ fn read_some<F: Read>(
     ensures raised { OnErr result (faults.new ≡ min (faults.old + 1) (2 ^ 64 - 1)) }
     ensures counts { faults.old ≤ faults.new }
 {
-    match file.read(buf) {
+    match read_once(file, buf) {
         Ok(n) => Ok(n),
         Err(error) => {
             *failed = Some(error);
             Err(counted(faults))
         }
     }
+}
+
+// One read, tried again where a signal interrupts it.
+fn read_once<F: Read>(file: &mut F, buf: &mut [u8]) -> io::Result<usize>
+    ensures bytes { ReadConsumes (F.remaining file.old) (F.remaining file.new) result buf.new }
+    ensures bound { IfOk result (λ n. n ≤ length buf.old) }
+{
+    for _ in 0..u64::MAX {
+        match file.read(buf) {
+            Err(error) if error.kind() == ErrorKind::Interrupted => {}
+            done => return done,
+        }
+    }
+    Err(io::Error::from(ErrorKind::TimedOut))
 }
 
 // One more failure.

@@ -4,6 +4,9 @@
 mod host_files;
 mod host_sink;
 mod replacing;
+mod same_file;
+mod standard;
 
-pub use host_files::{FileFailure, HostFiles};
+pub use host_files::{FileFailure, HostFiles, ProgramCall};
 pub use host_sink::HostSink;
+pub use standard::StandardStream;

@@ -1,46 +1,210 @@
-//! Files that get other bytes, so that whoever is stopped in the middle leaves the old ones or the new ones.
+//! Files that get other bytes, so that whoever is stopped in the middle, the system too, leaves the old ones or the new ones.
 
-use std::io::Write;
+use crate::same_file::{FileId, id_of};
+use crate::standard::check_length;
+use std::alloc::AllocError;
+use std::fs::{Metadata, OpenFile};
+use std::io::{ErrorKind, Write};
+use std::os::unix::fs::{MetadataExt, OpenOptionsExt};
+use std::path::Path;
 use std::{fs, io, rt};
 
-/// Gives the file of a name these bytes, in place of those that it has. A plain file is written beside it, under the name with
-/// `.flumina-new` behind it, and then takes its place; what is no plain file, as a device, a pipe or a link, is written where it is,
-/// and so is a file beside which none can be made.
+/// The mode bits that say who may read, write and run a file.
+const ACCESS_BITS: u32 = 0o777;
+
+/// Who may read and write a file that was not there, before the process's mask.
+const USUAL_ACCESS: u32 = 0o666;
+
+/// Why a file did not get its bytes.
+pub(crate) enum Unreplaced {
+    /// There was no memory for a name, and nothing was done.
+    NoMemory,
+    /// What the system said.
+    Failed(io::Error),
+}
+
+impl From<AllocError> for Unreplaced {
+    fn from(_e: AllocError) -> Unreplaced {
+        Unreplaced::NoMemory
+    }
+}
+
+impl From<io::Error> for Unreplaced {
+    fn from(error: io::Error) -> Unreplaced {
+        Unreplaced::Failed(error)
+    }
+}
+
+/// What a file is replaced by: its new bytes, and what the file beside it has to do with others.
+#[derive(Clone, Copy)]
+pub(crate) struct Replacing<'t> {
+    /// The new bytes.
+    pub bytes: &'t [u8],
+    /// The number of the process, which stands in the name of the file beside.
+    pub process: u32,
+    /// The files that the process has open, none of which is taken away.
+    pub open: &'t [FileId],
+}
+
+/// Gives the file of a name new bytes, in place of those that it has, and answers once they are on its device.
+///
+/// A plain file is written beside the one that is there, under a name that no file has, `NAME.flumina-new-PROCESS`; it is flushed to
+/// its device, and then takes that one's place, with its mode and its owner. Where the name is a link, that is done to the file
+/// that it leads to. What can't be replaced so, a device or a pipe, is written where it is, and so is what a link leads to that is not there.
 pub(crate) fn replace<R: rt::Files + AllocGlobal>(
     rt: &R,
     name: &str,
-    bytes: &[u8],
-) -> io::Result<()> {
-    let Some(beside) = name_beside(rt, name) else {
-        return fs::write(rt, name, bytes);
-    };
-    match fs::create(rt, beside.as_str()) {
-        Ok(file) => write_and_rename(rt, file, beside.as_str(), name, bytes),
-        Err(_) => fs::write(rt, name, bytes),
-    }
-}
-
-// The name of the file to be written beside that of a name; none where that is there and is no plain file, or no memory is left.
-fn name_beside<R: rt::Files + AllocGlobal>(rt: &R, name: &str) -> Option<String> {
+    new: Replacing,
+) -> Result<(), Unreplaced> {
     match rt.symlink_metadata(name) {
-        Ok(there) if !there.is_file() => None,
-        _ => format!(in rt.alloc(); "{name}.flumina-new").ok(),
+        Ok(there) if there.is_symlink() => replace_linked(rt, name, new),
+        Ok(there) if there.is_file() => replace_plain(rt, name, Some(&there), new),
+        Ok(_) => Ok(write_in_place(rt, name, new.bytes)?),
+        Err(error) if error.kind() == ErrorKind::NotFound => replace_plain(rt, name, None, new),
+        Err(error) => Err(Unreplaced::Failed(error)),
     }
 }
 
-// Writes a new file, which then takes the place of another. One that can't be written is taken away.
-fn write_and_rename<R: rt::Files + AllocGlobal>(
+// Replaces what a link leads to.
+fn replace_linked<R: rt::Files + AllocGlobal>(
     rt: &R,
-    mut file: R::File,
-    beside: &str,
     name: &str,
+    new: Replacing,
+) -> Result<(), Unreplaced> {
+    match rt.metadata(name) {
+        Ok(there) if there.is_file() => {
+            let target = fs::canonicalize(rt, name)?;
+            replace_plain(rt, target.as_str(), Some(&there), new)
+        }
+        _ => Ok(write_in_place(rt, name, new.bytes)?),
+    }
+}
+
+// Writes a device or a pipe, and flushes it where it can be.
+fn write_in_place<R: rt::Files>(rt: &R, name: &str, bytes: &[u8]) -> io::Result<()> {
+    let mut file = fs::create(rt, name)?;
+    file.write_all(bytes)?;
+    flush(&file)
+}
+
+// Flushes a file to its device. What has no device to be flushed to, as a pipe, is let be.
+fn flush<F: OpenFile>(file: &F) -> io::Result<()> {
+    match file.sync_all() {
+        Err(error) if error.kind() != ErrorKind::InvalidInput => Err(error),
+        _ => Ok(()),
+    }
+}
+
+// Writes a file beside a plain one, or beside none, and puts it in its place.
+fn replace_plain<R: rt::Files + AllocGlobal>(
+    rt: &R,
+    name: &str,
+    there: Option<&Metadata>,
+    new: Replacing,
+) -> Result<(), Unreplaced> {
+    let process = new.process;
+    let beside = format!(in rt.alloc(); "{name}.flumina-new-{process}")?;
+    let beside = beside.as_str();
+    let folder = fs::open(rt, folder_of(name))?;
+    let mut file = create_beside(rt, beside, there, new.open)?;
+    let done = fill(rt, &mut file, beside, there, new.bytes).and_then(|_| take_place(
+        rt, &file, beside, name,
+    ));
+    if let Err(error) = done {
+        take_away(rt, &file, beside);
+        return Err(Unreplaced::Failed(error));
+    }
+    Ok(flush(&folder)?)
+}
+
+// The folder in which a file is.
+fn folder_of(name: &str) -> &str {
+    match Path::new(name).parent() {
+        Some(folder) if !folder.as_str().is_empty() => folder.as_str(),
+        Some(_) => ".",
+        None => "/",
+    }
+}
+
+// A new file, in place of one that an earlier process of the same number left under its name.
+fn create_beside<R: rt::Files>(
+    rt: &R,
+    beside: &str,
+    there: Option<&Metadata>,
+    open: &[FileId],
+) -> io::Result<R::File> {
+    match create_new(rt, beside, there) {
+        Err(error) if error.kind() == ErrorKind::AlreadyExists && is_left(rt, beside, open) => {
+            fs::remove_file(rt, beside)?;
+            create_new(rt, beside, there)
+        }
+        made => made,
+    }
+}
+
+// A file of a name that no file has. No one may do with it what they may not do with the one that is there.
+fn create_new<R: rt::Files>(rt: &R, name: &str, there: Option<&Metadata>) -> io::Result<R::File> {
+    let access = match there {
+        Some(there) => there.mode() & ACCESS_BITS,
+        None => USUAL_ACCESS,
+    };
+    fs::OpenOptions::new()
+        .write(true)
+        .create_new(true)
+        .mode(access)
+        .open(rt, name)
+}
+
+// Whether a file is a plain one that has no other name, and that the process has not opened.
+fn is_left<R: rt::Files>(rt: &R, name: &str, open: &[FileId]) -> bool {
+    match rt.symlink_metadata(name) {
+        Ok(there) => there.is_file() && there.nlink() == 1 && !open.contains(&id_of(&there)),
+        Err(_) => false,
+    }
+}
+
+// Gives a new file its owner, its mode and its bytes, and flushes it. What `close` would tell, `sync_all` has told before.
+fn fill<R: rt::Files>(
+    rt: &R,
+    file: &mut R::File,
+    name: &str,
+    there: Option<&Metadata>,
     bytes: &[u8],
 ) -> io::Result<()> {
-    match file.write_all(bytes) {
-        Ok(()) => fs::rename(rt, beside, name),
-        Err(error) => {
-            let _gone = fs::remove_file(rt, beside);
-            Err(error)
+    if let Some(there) = there {
+        let owner = Some(there.uid());
+        let group = Some(there.gid());
+        if rt.lchown(name, owner, group).is_err() {
+            let _kept = rt.lchown(name, None, group);
         }
+        let _kept = file.set_permissions(there.permissions());
+    }
+    check_length(bytes.len())?;
+    file.write_all(bytes)?;
+    file.sync_all()
+}
+
+// Gives a file the name of another, if it still has its own.
+fn take_place<R: rt::Files>(rt: &R, file: &R::File, beside: &str, name: &str) -> io::Result<()> {
+    if !is_still(rt, file, beside) {
+        return Err(io::Error::new(
+            ErrorKind::AlreadyExists,
+            "the file beside it was changed meanwhile",
+        ));
+    }
+    fs::rename(rt, beside, name)
+}
+
+fn take_away<R: rt::Files>(rt: &R, file: &R::File, beside: &str) {
+    if is_still(rt, file, beside) {
+        let _gone = fs::remove_file(rt, beside);
+    }
+}
+
+// Whether a name is still that of an open file.
+fn is_still<R: rt::Files>(rt: &R, file: &R::File, name: &str) -> bool {
+    match (file.metadata(), rt.symlink_metadata(name)) {
+        (Ok(own), Ok(there)) => id_of(&own) == id_of(&there),
+        _ => false,
     }
 }

@@ -25,7 +25,7 @@ const LONGEST_READ: u64 = 67_108_864;
 
 /// What helps a person who sees the line of an answer with this status; empty where nothing is known.
 ///
-/// `failure` is what failed at 7 or 8. At 3 to 6 files are read again by their names, so what a hint shows may have changed
+/// `failure` is what failed at 7, 8 or 12. At 3 to 6 files are read again by their names, so what a hint shows may have changed
 /// since. Only regular files are, and no long ones.
 pub fn hint<R: rt::Files + AllocGlobal>(
     rt: &R,
@@ -40,7 +40,7 @@ pub fn hint<R: rt::Files + AllocGlobal>(
         4 => conflict_hint(rt, words.get(1), line),
         5 => place_hint(rt, words.get(2), line),
         6 => row_hint(rt, words.get(1), line),
-        7 | 8 => reason_hint(rt.alloc(), failure),
+        7 | 8 | 12 => reason_hint(rt.alloc(), failure),
         13 => trace_hint(rt.alloc(), line),
         _ => Ok(String::new(rt.alloc())),
     }

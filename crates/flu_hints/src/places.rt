@@ -39,7 +39,9 @@ fn shown_place(alloc: Global, name: &str, bytes: &[u8], at: usize) -> Result<Str
     let (number, begin) = line_begin(bytes, at);
     let before = at.saturating_sub(begin);
     let column = before.saturating_add(1);
-    let mut told = format!(in alloc; "  {name}, line {number}, column {column}\n")?;
+    let place = format!(in alloc; "{name}, line {number}, column {column}")?;
+    let mut told = String::new(alloc);
+    push_line(&mut told, place.as_str())?;
     let Some(shown) = line_from(bytes, begin) else {
         return Ok(told);
     };
@@ -100,7 +102,23 @@ pub fn push_line(told: &mut String, line: &str) -> Result<(), AllocError> {
 fn shown_char(c: char) -> char {
     match c {
         '\t' | '\r' => ' ',
-        c if c.is_control() => '?',
+        c if c.is_control() || is_unseen(c) => '?',
         c => c,
     }
+}
+
+// Whether a character is not seen itself, but may turn the direction of others, join them or break their line.
+fn is_unseen(c: char) -> bool {
+    matches!(
+        c,
+        '\u{ad}'
+            | '\u{61c}'
+            | '\u{180e}'
+            | '\u{200b}'..='\u{200f}'
+            | '\u{2028}'..='\u{202e}'
+            | '\u{2060}'..='\u{206f}'
+            | '\u{feff}'
+            | '\u{fff9}'..='\u{fffb}'
+            | '\u{e0000}'..='\u{e007f}'
+    )
 }

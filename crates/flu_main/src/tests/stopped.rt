@@ -1,6 +1,7 @@
 //! Runs over real files that are stopped behind a round, and go on from their checkpoints.
 
-use crate::{help, run};
+use crate::help;
+use crate::tests::run;
 use std::alloc::{AllocError, Global};
 use std::process::Abort;
 use std::sync::Wait;

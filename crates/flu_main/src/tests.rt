@@ -1,8 +1,29 @@
+mod files;
 mod stopped;
 
-use crate::{help, run};
-use std::fs;
+use crate::calling::answer;
+use crate::help;
+use flu_adapt::{HostFiles, HostSink};
+use std::io::Write;
+use std::sync::Wait;
 use std::test::Fail;
+use std::thread::Threads;
+use std::{fs, rt};
+
+/// Answers words over the files of the system, and writers of any kind.
+pub(crate) fn run<
+    R: rt::Files + AllocGlobal + Threads + Wait + Sync,
+    O: Write + Drop,
+    E: Write + Drop,
+>(rt: &R, words: &[String], out: O, err: E) -> u8 {
+    answer(
+        rt,
+        words,
+        &mut HostFiles::new(rt),
+        &mut HostSink::new(out),
+        &mut HostSink::new(err),
+    )
+}
 
 const COUNTS: &str = "cell count sum\n\
     tag inc int\n\

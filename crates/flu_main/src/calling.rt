@@ -1,0 +1,113 @@
+//! The call of the program.
+
+use crate::help;
+use crate::words::{resumed_name, words_of};
+use flu_adapt::{HostFiles, HostSink, ProgramCall, StandardStream};
+use flu_hints::Failure;
+use flu_outside::{Files, MemSink, Sink, write_all};
+use flu_seq::OpenGate;
+use flu_top::flumina;
+use std::env::Env;
+use std::io::{IsTerminal, Write};
+use std::os::fd::AsRawFd;
+use std::process::ExitCode;
+use std::sync::Wait;
+use std::thread::Threads;
+use std::{rt, str};
+
+/// The status where a file failed, as the proved call has it.
+const READ_FAULT: u8 = 7;
+
+/// The status where a checkpoint was not put, as the proved call has it.
+const SAVE_FAULT: u8 = 12;
+
+/// The status where the words find no memory.
+const NO_MEMORY: u8 = 9;
+
+/// More than the longest line of an answer has, and the text of a plan that follows the counts: at most 256 itags of at most 81 bytes, in
+/// at most 15 nodes.
+const LINE_ROOM: usize = 32_768;
+
+/// Does what the words of the call say over the files of the system, as `flu_top` has it, and answers the status. `out` and `err` are
+/// standard output and standard error, and `process` is the number of the process.
+pub fn answer_call<
+    R: rt::Files + Env + AllocGlobal + Threads + Wait + Sync,
+    O: Write + AsRawFd + Drop,
+    E: Write + AsRawFd + IsTerminal + Drop,
+>(rt: &R, out: O, err: E, process: u32) -> ExitCode {
+    let Some(words) = words_of(rt) else {
+        return ExitCode::from(NO_MEMORY);
+    };
+    let resumed = resumed_name(rt.alloc(), &words);
+    let is_for_a_person = err.is_terminal();
+    let mut files = HostFiles::of_program(rt, ProgramCall { process, resumed });
+    let mut out = HostSink::new(StandardStream::new(rt, "/proc/self/fd/1", out));
+    let mut err = HostSink::new(StandardStream::new(rt, "/proc/self/fd/2", err));
+    let status = if is_for_a_person {
+        answer_a_person(rt, &words, &mut files, &mut out, &mut err)
+    } else {
+        answer(rt, &words, &mut files, &mut out, &mut err)
+    };
+    ExitCode::from(status)
+}
+
+// Answers with a hint behind the line on err. What fails in making or writing the hint changes nothing else.
+fn answer_a_person<R: rt::Files + AllocGlobal + Threads + Wait + Sync, O: Write + Drop, E: Sink>(
+    rt: &R,
+    words: &[String],
+    files: &mut HostFiles<&R>,
+    out: &mut HostSink<O>,
+    err: &mut E,
+) -> u8 {
+    let Ok(mut line) = MemSink::with_room(rt.alloc(), LINE_ROOM) else {
+        return answer(rt, words, files, out, err);
+    };
+    let status = answer(rt, words, files, out, &mut line);
+    let _ = write_all(err, line.bytes());
+    let Ok(text) = str::from_utf8(line.bytes()) else {
+        return status;
+    };
+    let failure = last_failure(status, files, out);
+    if let Ok(hint) = flu_hints::hint(rt, words, status, text, failure) {
+        let _ = write_all(err, hint.as_str().as_bytes());
+    }
+    status
+}
+
+// What failed, where the status says that a file or standard output did.
+fn last_failure<'t, R: rt::Files + AllocGlobal, O: Write>(
+    status: u8,
+    files: &'t HostFiles<R>,
+    out: &HostSink<O>,
+) -> Option<Failure<'t>> {
+    match status {
+        READ_FAULT | SAVE_FAULT => {
+            let failure = files.last_failure()?;
+            Some(Failure {
+                name: failure.name.as_str(),
+                error: failure.error,
+            })
+        }
+        help::WRITE_FAULT => {
+            let error = out.last_failure()?;
+            Some(Failure {
+                name: "standard output",
+                error,
+            })
+        }
+        _ => None,
+    }
+}
+
+/// Answers words: `--help` and `--version` here, each as the only word; all others go to the proved call as they are.
+pub(crate) fn answer<
+    R: rt::Files + AllocGlobal + Threads + Wait + Sync,
+    F: Files,
+    O: Sink,
+    E: Sink,
+>(rt: &R, words: &[String], files: &mut F, out: &mut O, err: &mut E) -> u8 {
+    if let Some(text) = help::told(words) {
+        return help::tell(text, out, err);
+    }
+    flumina(rt, rt.alloc(), words, files, out, err, &OpenGate)
+}

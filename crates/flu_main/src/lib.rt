@@ -1,0 +1,10 @@
+//! What the program does when it is called: its words, over the files and the streams of the system.
+#![tactic(auto)]
+
+mod calling;
+mod help;
+#[cfg(test)]
+mod tests;
+mod words;
+
+pub use calling::answer_call;

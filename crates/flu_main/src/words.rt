@@ -1,0 +1,67 @@
+//! The words of a call.
+
+use std::alloc::{AllocError, Global};
+use std::env::{Env, FillError};
+use std::io::ErrorKind;
+use std::{env, str};
+
+/// More bytes than the system lets a word have.
+const WORD_ROOM: usize = 131_072;
+
+/// The words of the call, in order, without the program's name; none where there is no memory for them. A word that is no text comes as an
+/// empty one, which stands nowhere in a command (`docs/LANGUAGE.md`, "Words").
+pub(crate) fn words_of<R: Env + AllocGlobal>(rt: &R) -> Option<Vec<String>> {
+    match env::args(rt) {
+        Ok(arguments) => arguments.skip(1).collect::<Vec<String>>(rt.alloc()).ok(),
+        Err(error) if error.kind() == ErrorKind::InvalidData => words_and_gaps(rt),
+        Err(_) => None,
+    }
+}
+
+// The same, word by word.
+fn words_and_gaps<R: Env + AllocGlobal>(rt: &R) -> Option<Vec<String>> {
+    let mut words = Vec::new(rt.alloc());
+    let mut bytes = vec![in rt.alloc(); 0u8; WORD_ROOM].ok()?;
+    for place in 1..usize::MAX {
+        match word_at(rt, place, &mut bytes) {
+            Ok(Some(word)) => {
+                if words.push(word).is_err() {
+                    return None;
+                }
+            }
+            Ok(None) => return Some(words),
+            Err(AllocError) => return None,
+        }
+    }
+    None
+}
+
+// The word at a place, an empty one where it is no text, and none behind the last.
+fn word_at<R: Env + AllocGlobal>(
+    rt: &R,
+    place: usize,
+    bytes: &mut [u8],
+) -> Result<Option<String>, AllocError> {
+    let count = match rt.arg(place, bytes) {
+        Ok(count) => count,
+        Err(FillError::TooLong) => 0,
+        Err(FillError::NotPresent) => return Ok(None),
+    };
+    let word = String::from_str(rt.alloc(), text_in(bytes, count))?;
+    Ok(Some(word))
+}
+
+// The text that so many first bytes are, or an empty one.
+fn text_in(bytes: &[u8], count: usize) -> &str {
+    match bytes.get(..count) {
+        Some(front) => str::from_utf8(front).unwrap_or(""),
+        None => "",
+    }
+}
+
+/// The name of the checkpoint that a run is to go on from; none where the words name none, and where there is no memory for it.
+pub(crate) fn resumed_name(alloc: Global, words: &[String]) -> Option<String> {
+    let option = words.iter().position(|word| word.as_str() == "--resume")?;
+    let name = words.get(option.checked_add(1)?)?;
+    String::from_str(alloc, name.as_str()).ok()
+}

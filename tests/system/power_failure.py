@@ -1,0 +1,59 @@
+#!/usr/bin/env python3
+"""A checkpoint is on its device only behind the report up to its border: whatever a power failure leaves of both, the run goes on from it to
+the whole report.
+
+    tests/system/power_failure.py PROGRAM
+
+The calls that reach the system are written down, and their order is looked at: each new checkpoint is flushed before it takes its name, and
+so is standard output, where it is a plain file, behind all that was written to it; the folder is flushed behind that. Then each of the
+three flushes fails once, which is status 12."""
+
+import errno
+
+from system import Folder, Watch, need, program
+
+program()
+watch = Watch()
+
+
+def saved_to_a_file(folder, **fault):
+    with open(folder.path("report"), "wb") as out:
+        return folder.call("run", "job", "--save", "save", out=out, env=watch.env(**fault))[0]
+
+
+folder = Folder(rows=9_000, every=100)
+need(saved_to_a_file(folder) == 0, "status 0, with a plain file")
+whole = folder.call("fold", "job")[1]
+need(folder.read("report") == whole, "the report is that of `fold`")
+unflushed = set()  # what was written since it was last flushed
+renamed = False  # whether a name has changed since the folder was last flushed
+puts = 0
+for call, first, second in watch.calls():
+    if call == "write":
+        unflushed.add(first)
+        need(not (renamed and first == "out"), "the folder is flushed before the report goes on")
+    elif call == "fsync":
+        unflushed.discard(first)
+        renamed = renamed and first != folder.at
+    elif call == "rename":
+        need("out" not in unflushed, "standard output is flushed before a checkpoint takes its name")
+        need(folder.path(first) not in unflushed and first not in unflushed, "a checkpoint is flushed before it takes its name")
+        need(second == "save", "it takes the name that was asked for")
+        renamed = True
+        puts += 1
+need(puts == 3, "a checkpoint behind each of three rounds")
+need(not renamed, "the folder is flushed behind the last checkpoint")
+
+folder = Folder()
+whole = folder.call("fold", "job")[1]
+for part, kept in (("out", True), ("flumina-new", True), (folder.at, False)):
+    folder.write("save", "old")
+    status = saved_to_a_file(folder, fail=[f"fsync:{part}:{errno.EIO}"])
+    need(status == 12, f"status 12 where a flush of {part} fails, not {status}")
+    if kept:
+        need(folder.read("save") == b"old", f"the checkpoint that was there stays where a flush of {part} fails")
+    need(not any("flumina-new" in name for name in folder.names()), "no file is left beside")
+
+status, out, _ = folder.call("run", "job", "--save", "save")
+need((status, out) == (0, whole), "a pipe is let be")
+print("power_failure: as it should be")
