@@ -58,7 +58,7 @@ letters_few (x ∷ xs) e =
     plain_byte x xs (length xs) (name_byte_no_quote x here) (name_byte_no_slash x here) (name_byte_above x here)
     (letters_few xs (and_right (is_name_byte x) (list_all is_name_byte xs) e))
 
-name_parts : (name : List ℕ) → is_name name ≡ true → (list_all is_name_byte name ≡ true) × (length name ≤ 32)
+pub name_parts : (name : List ℕ) → is_name name ≡ true → (list_all is_name_byte name ≡ true) × (length name ≤ 32)
 name_parts name e =
     let front = and_left (begins_as_name name && list_all is_name_byte name && nat_le (length name) 32) _ e in (
       and_right (begins_as_name name) (list_all is_name_byte name)
@@ -102,7 +102,7 @@ signed_small (negsuc n) small =
     let few = (digits_small 39 (suc n) (omega arith) (omega (arith, small)) (omega (arith, small))).1 in
     plain_byte 45 (decimal (suc n)) 39 (λ e. omega (arith, e)) (λ e. omega (arith, e)) (omega arith) few
 
-worth_small : (sort : Sort) (w : Worth) → IsWorthOf sort w → HasWordWidth (Some w) → mag (number_held (Some w)) + 1 < 10 ^ 39
+pub worth_small : (sort : Sort) (w : Worth) → IsWorthOf sort w → HasWordWidth (Some w) → mag (number_held (Some w)) + 1 < 10 ^ 39
 worth_small SumSort (Sum n) a b = omega (arith, a.1.sfits)
 worth_small SumSort (Max v) a b = absurd a
 worth_small SumSort (Last v) a b = absurd a

@@ -5,3 +5,4 @@ pub mod Values
 pub mod Members
 pub mod Meanings
 pub mod States
+pub mod Saves
