@@ -301,6 +301,23 @@ def without_sources(page):
     same("without sources, counted", says["itags"], {"read@c": ["3", "2"], "inc@a": ["3", "2"], "inc@b": ["2", "1"]})
 
 
+def dropped_and_pasted(page):
+    """All files dropped at once, in an order in which the job is last; and three texts pasted beside any field."""
+    texts = {name: (DATA / name).read_text() for name in ["seed1.trace", *SOURCES, "walk.plan", "walk.job"]}
+    page.open()
+    page.run(f"(() => {{ const d = new DataTransfer(), texts = {json.dumps(texts)}; for (const name in texts) d.items.add(new File([texts[name]], name));"
+             " document.dispatchEvent(new DragEvent('drop', {dataTransfer: d, cancelable: true})); })()")
+    page.until("document.getElementById('place').textContent === 'step 0 of 37'")
+    page.run("document.activeElement.blur()")
+    page.key("End")
+    compare(37, page.run(SAYS))
+    page.open()
+    for name in ("walk.job", "walk.plan", "seed1.trace"):
+        page.run(f"(() => {{ const d = new DataTransfer(); d.setData('text/plain', {json.dumps(texts[name])});"
+                 " document.body.dispatchEvent(new ClipboardEvent('paste', {clipboardData: d, bubbles: true})); })()")
+    page.until("document.getElementById('place').textContent === 'step 0 of 37'")
+
+
 def long_trace(page):
     """A hundred thousand arrivals at a tree of 127 workers, most of them without an itag: reading, going far and back stay quick."""
     depth_six = []
@@ -338,7 +355,7 @@ def main():
             if words:
                 picture(page, words[1])
             else:
-                for part in (walk, broken, without_sources, long_trace):
+                for part in (walk, broken, without_sources, dropped_and_pasted, long_trace):
                     part(page)
                 print(f"trace page: {compared} answers are as they should be")
         finally:
