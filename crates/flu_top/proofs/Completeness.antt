@@ -17,6 +17,7 @@ use Rattle.flu_plan.specs.declared.fault.PlanFault.{PlanFault}
 use Rattle.flu_outside.specs.Taking.{bytes_left}
 use Rattle.flu_save.specs.Laws.{LawOfFaults}
 use Rattle.flu_streams.specs.Fronts.{LawOfMeeting}
+use Rattle.flu_trace.specs.OneEnding.{OneEnding}
 use Rattle.flu_lemmas.proofs.Told.{of_told}
 use Rattle.flu_top.specs.declared.refusals.PlanDefect.{PlanDefect}
 use Rattle.flu_top.specs.declared.refusals.PlanDefect.TheVariants as defects
@@ -31,7 +32,8 @@ use Rattle.flu_top.specs.Reading.{AreSourcesGood, HasDefect}
 use Rattle.flu_top.specs.Starting.{CanStart, IsSameName, HasBadCheckpoint}
 use Rattle.flu_top.specs.Wants.{job_wanted, plan_named, save_named, trace_named, asks_accepted, how_read, texts_named}
 use Rattle.flu_top.specs.Done.{HasValidPlan, HasPlanAsked, IsGood, IsTraceRead, IsDone, WhereKnown, IsReadName}
-use Rattle.flu_top.specs.Replaying.{ReplaysTo, CanOnlyComplete}
+use Rattle.flu_top.specs.Determining.{OneEndingOfATrace}
+use Rattle.flu_top.specs.Replaying.{ReplaysTo, HasCompleteTrace}
 use Rattle.flu_top.specs.Causes.{IsJobRead, HasJobFault, HasConflict, HasPlanDefect, HasSaveDefect, IsMet, HasSourceFault, HasTraceFault}
 use Rattle.flu_top.specs.Outcome.{Outside, Outcome, Faults, FaultsFirst, HasFaultyTrace, CallsFor, NothingFailed, Completes}
 use Rattle.flu_top.specs.Outcome as cases
@@ -40,14 +42,16 @@ use Rattle.flu_top.proofs.Defects.{good_or_bad, met_defect}
 use Rattle.flu_top.proofs.SameJob.{same_good}
 use Rattle.flu_top.proofs.SameAcceptance.{same_accepted}
 use Rattle.flu_top.proofs.SamePlans.{same_plan, same_valid}
+use Rattle.flu_top.proofs.OneRuns.{one_ending_of_trace, same_job}
 use Rattle.flu_top.proofs.Starts.{same_start, same_name_stops, bad_checkpoint_stops}
 
--- texts are read by their grammar, a defect that a round meets is the first of its source, and bytes with a fault are no checkpoint
+-- texts are read by their grammar, a defect that a round meets is the first of its source, bytes with a fault are no checkpoint, and a trace has one ending
 pub record LawsBelow : Type 0 where
   pub jobs : JobsAreGrammar
   pub plans : PlansAreGrammar
   pub meeting : LawOfMeeting
   pub saves : LawOfFaults
+  pub traces : OneEnding
 
 -- ---- each outcome of a call in which nothing failed
 -- the status that is wanted, or that of want of memory
@@ -75,16 +79,10 @@ settled wanted status (inr nine) other = absurd (other nine)
 
 -- ---- commands
 -- what is known of the files is true of what they hold where they tell it
-known_at : (job : WantedJob) (P : Contents → Contents → Type 0) (x : Contents) (a b : Option Contents) → a ≡ Some x → WhereKnown job a b P
+pub known_at : (job : WantedJob) (P : Contents → Contents → Type 0) (x : Contents) (a b : Option Contents) → a ≡ Some x → WhereKnown job a b P
     → (y : Contents) × P x y
 known_at (Named name) P x a b told known = of_told P x a b told known
 known_at (Fixed job) P x a b told known = (x, known x)
-
--- ---- two programs of one text
-pub same_job : JobsAreGrammar → (job : WantedJob) (left : Contents) (p q : Program) → HasJob job left p → HasJob job left q → IsSameJob p q
-same_job jobs (Named name) left p q first second = let e = sym ((jobs (bytes_left left name) (job_of p)).1 first)
-    ∙ (jobs (bytes_left left name) (job_of q)).1 second in cc
-same_job jobs (Fixed job) left p q first second = first ∙ sym second
 
 module _ (laws : LawsBelow) where
   not_both : (job : WantedJob) (name : List ℕ) (left : Contents) (p : Program) (fault : JobFault) → job ≡ Named name → HasJob job left p
@@ -106,7 +104,7 @@ module _ (laws : LawsBelow) where
   same_plan_text : (p q : Program) (bytes : List ℕ) (nodes : List Node) → IsSameJob p q → IsPlanText p bytes nodes → IsPlanText q bytes nodes
   same_plan_text p q bytes nodes same is = (laws.plans q bytes nodes).0 (sym (same_plan p q bytes same) ∙ (laws.plans p bytes nodes).1 is)
 
-  valid_of_text : (job : WantedJob) (plan : List ℕ) (left : Contents) (p q : Program) → HasJob job left p → HasJob job left q → HasValidPlan job plan left p
+  pub valid_of_text : (job : WantedJob) (plan : List ℕ) (left : Contents) (p q : Program) → HasJob job left p → HasJob job left q → HasValidPlan job plan left p
       → HasValidPlan job plan left q
   valid_of_text job plan left p q first second found =
       let same = same_job laws.jobs job left p q first second in
@@ -130,18 +128,18 @@ module _ (laws : LawsBelow) where
       refused (subst (IsValid p) same found.2)
 
   -- ---- traces that end otherwise
-  -- a trace that can't be complete has another ending
-  other_ending : (command : Command) (left : Contents) (faulty : HasFaultyTrace command left) → faulty.ending ≢ Complete
-  other_ending command left faulty same =
-      faulty.faulty faulty.p faulty.good.has (subst (λ (ending : Ending). ReplaysTo command faulty.trace left faulty.p ending) same faulty.ends)
+  one_ending : OneEndingOfATrace
+  one_ending = one_ending_of_trace laws.jobs laws.plans laws.traces
 
-  only_complete : (command : Command) (left : Contents) → CanOnlyComplete command left → ¬ HasFaultyTrace command left
-  only_complete command left only faulty = other_ending command left faulty (only faulty.trace faulty.named faulty.p faulty.ending faulty.good.has faulty.ends)
+  only_complete : (command : Command) (left : Contents) (p : Program) → HasJob (job_wanted command) left p → HasCompleteTrace command left p
+      → ¬ HasFaultyTrace command left
+  only_complete command left p has whole faulty =
+      faulty.faulty (one_ending command left p faulty.p faulty.trace Complete faulty.ending has faulty.good.has (whole faulty.trace faulty.named) faulty.ends)
 
-  -- a trace that was read can be complete
+  -- a trace that was read is complete
   read_complete : (command : Command) (left after : Contents) (p : Program) → HasJob (job_wanted command) left p → IsTraceRead command p left after
       → ¬ HasFaultyTrace command left
-  read_complete command left after p has read faulty = faulty.faulty p has (read faulty.trace faulty.named).0
+  read_complete command left after p has read = only_complete command left p has (λ trace named. (read trace named).0)
 
   -- a fault tells another ending
   told_ending : (fault : ReplayFault) (ending : Ending) → ending_of fault ≡ Some ending → ending ≢ Complete
@@ -152,15 +150,16 @@ module _ (laws : LawsBelow) where
   told_ending traces.NoMemory ending tells same = cc
 
   -- ---- what the status that is called for leaves of the others
-  leads_done : (command : Command) (left : Contents) (p : Program) → IsGood command left p → CanOnlyComplete command left → Leads 0 command left
-  leads_done command left p good only = record {
+  leads_done : (command : Command) (left : Contents) (p : Program) → IsGood command left p → HasCompleteTrace command left p → Leads 0 command left
+  leads_done command left p good whole = record {
     done = λ q other none. inl refl;
     job = λ name fault named bad. absurd (not_both (job_wanted command) name left p fault named good.has bad);
     conflict = λ q asked refused has. absurd (refused (accepted_of_text (job_wanted command) left p q good.has has (good.accepted asked)));
     plan = λ plan q named accepted has bad. absurd (bad (valid_of_text (job_wanted command) plan left p q good.has has (good.plan plan named)));
     start = λ q accepted has plan bad. absurd (bad (start_of_text command left p q good.has has good.start));
     source = λ q accepted has plan start bad. absurd (no_defect command left p q good.has has good.sources bad);
-    trace = λ q trace ending named also ends other. absurd (other (only trace named q ending also.has ends));
+    trace = λ q trace ending named also ends other.
+        absurd (other (one_ending command left p q trace Complete ending good.has also.has (whole trace named) ends));
   }
 
   leads_job : (command : Command) (name : List ℕ) (left : Contents) (fault : JobFault) → job_wanted command ≡ Named name
@@ -240,7 +239,7 @@ module _ (laws : LawsBelow) where
       }
 
   leads : (command : Command) (left : Contents) (wanted : ℕ) → CallsFor command left wanted → Leads wanted command left
-  leads command left wanted (cases.Good is p good only) = subst (λ n. Leads n command left) (sym is) (leads_done command left p good only)
+  leads command left wanted (cases.Good is p good whole) = subst (λ n. Leads n command left) (sym is) (leads_done command left p good whole)
   leads command left wanted (cases.FaultyJob is name fault named bad) = subst (λ n. Leads n command left) (sym is) (leads_job command name left fault named bad)
   leads command left wanted (cases.NotAccepted is p asked has refused) =
       subst (λ n. Leads n command left) (sym is) (leads_conflict command left p asked has refused)
@@ -254,8 +253,8 @@ module _ (laws : LawsBelow) where
 
   -- a command and the files call for one status
   pub one_status : (command : Command) (left : Contents) (a b : ℕ) → CallsFor command left a → CallsFor command left b → a ≡ b
-  one_status command left a b first (cases.Good is p good only) =
-      settled a 0 ((leads command left a first).done p good (only_complete command left only)) (λ e. omega (arith, e)) ∙ sym is
+  one_status command left a b first (cases.Good is p good whole) =
+      settled a 0 ((leads command left a first).done p good (only_complete command left p good.has whole)) (λ e. omega (arith, e)) ∙ sym is
   one_status command left a b first (cases.FaultyJob is name fault named bad) =
       settled a 3 ((leads command left a first).job name fault named bad) (λ e. omega (arith, e)) ∙ sym is
   one_status command left a b first (cases.NotAccepted is p asked has refused) =
@@ -268,7 +267,7 @@ module _ (laws : LawsBelow) where
       settled a 6 ((leads command left a first).source p accepted has valid start bad) (λ e. omega (arith, e)) ∙ sym is
   one_status command left a b first (cases.FaultyTrace is faulty) =
       settled a 13 ((leads command left a first).trace faulty.p faulty.trace faulty.ending faulty.named faulty.good faulty.ends
-      (other_ending command left faulty)) (λ e. omega (arith, e)) ∙ sym is
+      faulty.faulty) (λ e. omega (arith, e)) ∙ sym is
 
   -- ---- the outcome
   -- what each outcome shows of the files

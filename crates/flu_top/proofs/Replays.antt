@@ -29,7 +29,7 @@ use Rattle.flu_top.specs.declared.refusals.Refusal.{Refusal}
 use Rattle.flu_top.specs.declared.refusals.Refusal.TheVariants as refusals
 use Rattle.flu_top.specs.Answer.{refusal_of_replay}
 use Rattle.flu_top.specs.Taking.{TookOnly}
-use Rattle.flu_top.specs.Behind.{emptied, emptied_each}
+use Rattle.flu_top.specs.Emptied.{emptied, emptied_each}
 use Rattle.flu_top.specs.Starting.{AreNoSources}
 use Rattle.flu_top.specs.Done.{IsGood, IsReadName, IsWritten}
 use Rattle.flu_top.specs.Ready.{HasNodes, IsReady}

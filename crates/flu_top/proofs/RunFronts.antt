@@ -7,25 +7,31 @@ use Rattle.flu_outside.specs.Outside.{WhereTold, Contents, Appends}
 use Rattle.flu_outside.specs.Writing.{AppendsAll}
 use Rattle.flu_model.specs.declared.jobs.Program.{Program}
 use Rattle.flu_model.specs.Contents.{nothing_held, Contents as State}
+use Rattle.flu_model.specs.Folding.{final_outputs}
+use Rattle.flu_model.specs.Reports.{report}
 use Rattle.flu_grammar.specs.Laws.{JobsAreGrammar}
 use Rattle.flu_streams.specs.Borders.{LawOfBorders, ItemsAreCut, up_to, beyond}
 use Rattle.flu_streams.specs.declared.faults.SourceFault.{SourceFault}
+use Rattle.flu_streams.specs.Good.{lists_of}
 use Rattle.flu_rounds.specs.Coming.{LawOfReportFronts, LawOfNextReportFronts}
-use Rattle.flu_rounds.specs.Written.{AreSound, RanFrom}
+use Rattle.flu_rounds.specs.Written.{AreSound, RanFrom, lines_in, lists_above}
 use Rattle.flu_words.specs.Words.{Command, Run, RunOptions, command_in}
 use Rattle.flu_top.specs.Behind.{Named, HasJob, emptied_each, lists_behind, report_behind}
 use Rattle.flu_top.specs.Openings.{Opening, report_from}
 use Rattle.flu_top.specs.Starting.{StartsFrom, CanStart, Leaves, LeavesAnything}
 use Rattle.flu_top.specs.Wants.{job_wanted, if_named, how_read, texts_named}
-use Rattle.flu_top.specs.Reading.{InRounds, HaveWritten, ReportsNext, lines_behind, rows_in_round}
+use Rattle.flu_top.specs.Mended.{AreMended, RunsWriteFrontsOfMended}
+use Rattle.flu_top.specs.Reading.{InRounds, HasDefect, HaveWritten, ReportsNext, lines_behind, rows_in_round}
 use Rattle.flu_top.specs.Done.{HasPlanAsked, IsGood, IsDone, WhereKnown, AppendsInto, Wrote}
 use Rattle.flu_top.specs.Done.{WroteRounds, WroteSome, WroteUnsaved, WroteForMemory, WroteForPut, WroteIntoRound, WrotePart}
 use Rattle.flu_top.specs.Causes.{HasSourceFault, IsMetInRounds}
 use Rattle.flu_top.specs.Outcome.{Outside, Outcome}
 use Rattle.flu_top.specs.Outcome as cases
 use Rattle.flu_top.specs.Laws.{RunsWriteFronts, FreshRunsReportTheFold, ResumedRunsGoOn}
-use Rattle.flu_top.proofs.Completeness.{same_job}
-use Rattle.flu_top.proofs.SameJob.{same_good}
+use Rattle.flu_top.proofs.OneRuns.{same_job}
+use Rattle.flu_top.proofs.Defects.{good_or_bad}
+use Rattle.flu_top.proofs.Mendings.{ran_of_mended, next_of_mended}
+use Rattle.flu_top.proofs.SameJob.{same_good, same_mended}
 use Rattle.flu_top.proofs.OneCommand.{same_command, no_command}
 
 -- ---- bytes
@@ -48,11 +54,11 @@ appends_more text more rest whole old new is wrote =
     (length text + n, wrote.2 ∙ append_assoc old text (take n more) ∙ ap (λ bytes. old ++ bytes) (sym front))
 
 -- ---- a run
--- what was written is a front of the report of a program of the job, from an opening
-HasFront : Command → List ℕ → Contents → Option (List ℕ) → Option (List ℕ) → Type 0
-HasFront command job left had has =
+-- what was written is a front of what a program of the job writes, from an opening
+HasFront : (Program → Opening → List ℕ) → Command → List ℕ → Contents → Option (List ℕ) → Option (List ℕ) → Type 0
+HasFront written command job left had has =
     (q : Program) × HasJob (Named job) left q
-    × ((o : Opening) × StartsFrom command left q o × WhereTold had has (AppendsFront (report_from o (texts_named command) left q)))
+    × ((o : Opening) × StartsFrom command left q o × WhereTold had has (AppendsFront (written q o)))
 
 -- the laws of fronts, of each opening
 abbrev ReportFronts : Type 0
@@ -61,48 +67,46 @@ ReportFronts = (border : Option ℕ) (opening : State) → LawOfReportFronts bor
 abbrev NextReportFronts : Type 0
 NextReportFronts = (border : Option ℕ) (opening : State) → LawOfNextReportFronts border opening
 
-module _ (jobs : JobsAreGrammar) (fronts : ReportFronts) (nexts : NextReportFronts)
-    (job : List ℕ) (plan : Option (List ℕ)) (options : RunOptions) (left : Contents) (p : Program) (good : IsGood (Run job plan options) left p) where
+-- the report of mended sources, from an opening
+abbrev mended_report : Contents → Program → Opening → List ℕ
+mended_report mended q o = report q (final_outputs q o.cells (lists_above o.border (lists_of q mended)))
+
+-- a text begins with another
+abbrev BeginsWith : List ℕ → List ℕ → Type 0
+BeginsWith text front = (rest : List ℕ) × (text ≡ front ++ rest)
+
+-- a run that can start, where what each program writes from an opening begins with what any rounds have written, with the report of one
+-- round more, and with the report of all events where the run is done
+module _ (job : List ℕ) (plan : Option (List ℕ)) (options : RunOptions) (left : Contents) (p : Program) (has_job : HasJob (Named job) left p)
+    (start : CanStart (Run job plan options) left p) (written : Program → Opening → List ℕ)
+    (front_of : (q : Program) (o : Opening) (border : Option ℕ) (text : List ℕ) → HasJob (Named job) left q
+    → RanFrom q rows_in_round o.border o.cells (lines_behind (texts_named (Run job plan options)) left q) border text → BeginsWith (written q o) text)
+    (next_of : (q : Program) (o : Opening) (text more : List ℕ) (put : Option (List ℕ)) → HasJob (Named job) left q
+    → ReportsNext q o (lines_behind (texts_named (Run job plan options)) left q) text put more → BeginsWith (written q o) (text ++ more))
+    (all_of : (q : Program) (o : Opening) → IsGood (Run job plan options) left q
+    → BeginsWith (written q o) (report_from o (texts_named (Run job plan options)) left q)) where
   abbrev whole : Command
   whole = Run job plan options
 
   abbrev texts : List (List ℕ)
   texts = texts_named (Run job plan options)
 
-  sound_of : (q : Program) → HasJob (Named job) left q → AreSound q (lines_behind texts left q)
-  sound_of q has = same_good InRounds texts left p q (same_job jobs (Named job) left p q good.has has) good.sources
-
-  front_of : (q : Program) (o : Opening) (border : Option ℕ) (text : List ℕ) → HasJob (Named job) left q
-      → RanFrom q rows_in_round o.border o.cells (lines_behind texts left q) border text
-      → (rest : List ℕ) × (report_from o texts left q ≡ text ++ rest)
-  unfolding lists_behind
-  front_of q o border text has ran =
-      fronts o.border o.cells q rows_in_round (emptied_each texts left) border text (omega arith) (sound_of q has) ran
-
-  next_of : (q : Program) (o : Opening) (text more : List ℕ) (put : Option (List ℕ)) → HasJob (Named job) left q
-      → ReportsNext q o (lines_behind texts left q) text put more
-      → (rest : List ℕ) × (report_from o texts left q ≡ (text ++ more) ++ rest)
-  unfolding lists_behind
-  next_of q o text more put has round =
-      nexts o.border o.cells q rows_in_round (emptied_each texts left) round.border text (text ++ more) round.now round.end (omega arith) (sound_of q has)
-      round.ran round.next
-
-  nothing : (had has : Option (List ℕ)) → has ≡ had → HasFront whole job left had has
+  nothing : (had has : Option (List ℕ)) → has ≡ had → HasFront written whole job left had has
   unfolding HasFront
   nothing had has same =
-      let o = good.start.0 in (
+      let o = start.0 in (
         p,
-        good.has,
+        has_job,
         (
           o,
-          good.start.1,
-          subst (λ (now : Option (List ℕ)). WhereTold had now (AppendsFront (report_from o texts left p))) (sym same)
-              (told_same (AppendsFront (report_from o texts left p)) had (λ bytes. (0, sym (append-nil bytes)))),
+          start.1,
+          subst (λ (now : Option (List ℕ)). WhereTold had now (AppendsFront (written p o))) (sym same)
+              (told_same (AppendsFront (written p o)) had (λ bytes. (0, sym (append-nil bytes)))),
         ),
       )
 
   front_written : (q : Program) (o : Opening) (text rest : List ℕ) (had has : Option (List ℕ)) → HasJob (Named job) left q → StartsFrom whole left q o
-      → report_from o texts left q ≡ text ++ rest → WhereTold had has (AppendsAll text) → HasFront whole job left had has
+      → written q o ≡ text ++ rest → WhereTold had has (AppendsAll text) → HasFront written whole job left had has
   unfolding HasFront
   front_written q o text rest had has its starts is wrote = (
     q,
@@ -110,13 +114,12 @@ module _ (jobs : JobsAreGrammar) (fronts : ReportFronts) (nexts : NextReportFron
     (
       o,
       starts,
-      told_weaker (AppendsAll text) (AppendsFront (report_from o texts left q)) had has
-          (λ x y w. appends_front text rest (report_from o texts left q) x y is w) wrote,
+      told_weaker (AppendsAll text) (AppendsFront (written q o)) had has (λ x y w. appends_front text rest (written q o) x y is w) wrote,
     ),
   )
 
   more_written : (q : Program) (o : Opening) (text more rest : List ℕ) (had has : Option (List ℕ)) → HasJob (Named job) left q → StartsFrom whole left q o
-      → report_from o texts left q ≡ (text ++ more) ++ rest → WhereTold had has (AppendsInto text more) → HasFront whole job left had has
+      → written q o ≡ (text ++ more) ++ rest → WhereTold had has (AppendsInto text more) → HasFront written whole job left had has
   unfolding HasFront
   more_written q o text more rest had has its starts is wrote = (
     q,
@@ -124,26 +127,25 @@ module _ (jobs : JobsAreGrammar) (fronts : ReportFronts) (nexts : NextReportFron
     (
       o,
       starts,
-      told_weaker (AppendsInto text more) (AppendsFront (report_from o texts left q)) had has
-          (λ x y w. appends_more text more rest (report_from o texts left q) x y is w) wrote,
+      told_weaker (AppendsInto text more) (AppendsFront (written q o)) had has (λ x y w. appends_more text more rest (written q o) x y is w) wrote,
     ),
   )
 
   -- ---- by what is known of what was written
-  some_written : (a b : Option Contents) (had has : Option (List ℕ)) → a ≡ Some left → WroteRounds whole a b had has → HasFront whole job left had has
+  some_written : (a b : Option Contents) (had has : Option (List ℕ)) → a ≡ Some left → WroteRounds whole a b had has → HasFront written whole job left had has
   some_written a b had has told wrote =
       let q = wrote.p in
       let found = (of_told (λ x y. HasJob (Named job) x q × HasPlanAsked whole x q
       × ((o : Opening) × StartsFrom whole x q o
       × ((put : Option (List ℕ)) × HaveWritten q o (lines_behind texts x q) wrote.text put × Leaves whole put x y))) left a b told wrote.rounds).1 in
       let o = found.2.0 in
-      let written = found.2.2.1 in
-      let front = front_of q o written.border wrote.text found.0 written.ran in
+      let ran = found.2.2.1 in
+      let front = front_of q o ran.border wrote.text found.0 ran.ran in
       front_written q o wrote.text front.0 had has found.0 found.2.1 front.1 wrote.wrote
 
   unsaved_written : (Left : Option (List ℕ) → Contents → Contents → Type 0) (a b : Option Contents) (had has : Option (List ℕ)) → a ≡ Some left
       → WroteUnsaved Left whole a b had has
-      → HasFront whole job left had has
+      → HasFront written whole job left had has
   unsaved_written Left a b had has told wrote =
       let q = wrote.p in
       let found = (of_told (λ x y. HasJob (Named job) x q × HasPlanAsked whole x q
@@ -153,7 +155,7 @@ module _ (jobs : JobsAreGrammar) (fronts : ReportFronts) (nexts : NextReportFron
       let front = next_of q o wrote.text wrote.more found.2.2.0 found.0 found.2.2.1 in
       front_written q o (wrote.text ++ wrote.more) front.0 had has found.0 found.2.1 front.1 wrote.wrote
 
-  part_written : (a b : Option Contents) (had has : Option (List ℕ)) → a ≡ Some left → WroteIntoRound whole a b had has → HasFront whole job left had has
+  part_written : (a b : Option Contents) (had has : Option (List ℕ)) → a ≡ Some left → WroteIntoRound whole a b had has → HasFront written whole job left had has
   part_written a b had has told wrote =
       let q = wrote.p in
       let found = (of_told (λ x y. HasJob (Named job) x q × HasPlanAsked whole x q
@@ -165,7 +167,7 @@ module _ (jobs : JobsAreGrammar) (fronts : ReportFronts) (nexts : NextReportFron
 
   met_written : (a b : Option Contents) (had has : Option (List ℕ)) (q : Program) (fault : SourceFault) (text : List ℕ) → a ≡ Some left
       → HasSourceFault whole a b q fault text
-      → WhereTold had has (AppendsAll text) → HasFront whole job left had has
+      → WhereTold had has (AppendsAll text) → HasFront written whole job left had has
   met_written a b had has q fault text told why wrote =
       let found = (of_told (λ x y. HasJob (Named job) x q × HasPlanAsked whole x q × CanStart whole x q × IsMetInRounds whole x y q text fault) left a b told
       why.first).1 in
@@ -174,25 +176,26 @@ module _ (jobs : JobsAreGrammar) (fronts : ReportFronts) (nexts : NextReportFron
       front_written q met.opening text front.0 had has found.0 met.starts front.1 wrote
 
   done_written : (a b : Option Contents) (had has : Option (List ℕ)) (line : List ℕ) → a ≡ Some left → WhereTold a b (IsDone whole had has line)
-      → HasFront whole job left had has
+      → HasFront written whole job left had has
   done_written a b had has line told done =
       let found = (of_told (IsDone whole had has line) left a b told done).1 in
       let writes = found.3 in
       let starts : StartsFrom whole left found.0 writes.0 = record { apart = found.2.good.start.1.apart; opens = writes.1 } in
-      front_written found.0 writes.0 found.1 [] had has found.2.good.has starts (sym writes.2 ∙ sym (append-nil found.1)) found.5
+      let front = all_of found.0 writes.0 found.2.good in
+      front_written found.0 writes.0 found.1 front.0 had has found.2.good.has starts (front.1 ∙ ap (λ text. text ++ front.0) (sym writes.2)) found.5
 
   rounds_or_nothing : (a b : Option Contents) (had has : Option (List ℕ)) → a ≡ Some left → WroteSome InRounds whole a b had has
-      → HasFront whole job left had has
+      → HasFront written whole job left had has
   rounds_or_nothing a b had has told (inl none) = nothing had has none.nothing
   rounds_or_nothing a b had has told (inr wrote) = some_written a b had has told wrote
 
   memory_written : (a b : Option Contents) (had has : Option (List ℕ)) → a ≡ Some left → WroteForMemory InRounds whole a b had has
-      → HasFront whole job left had has
+      → HasFront written whole job left had has
   memory_written a b had has told (inl some) = rounds_or_nothing a b had has told some
   memory_written a b had has told (inr wrote) = unsaved_written (Leaves whole) a b had has told wrote
 
   by_case : (words : List (List ℕ)) (old new : Outside) (status : ℕ) → Outcome words old new status → command_in words ≡ Ok whole → old.left ≡ Some left
-      → HasFront whole job left old.out new.out
+      → HasFront written whole job left old.out new.out
   by_case words old new status (cases.Done is command also line done heard) word told =
       done_written old.left new.left old.out new.out line told
       (subst (λ (d : Command). WhereKnown (job_wanted d) old.left new.left (IsDone d old.out new.out line)) (same_command words command whole also word) done)
@@ -219,10 +222,79 @@ module _ (jobs : JobsAreGrammar) (fronts : ReportFronts) (nexts : NextReportFron
       (subst (λ (d : Command). WroteForPut d old.left new.left old.out new.out) (same_command words command whole also word) some)
   by_case words old new status (cases.BadTrace is command also fault has refused) word told = nothing old.out new.out refused.nothing
 
+  pub what_was_written : (words : List (List ℕ)) (old new : Outside) (status : ℕ) → Outcome words old new status → command_in words ≡ Ok (Run job plan options)
+      → old.left ≡ Some left
+      → (q : Program) × HasJob (Named job) left q
+      × ((o : Opening) × StartsFrom (Run job plan options) left q o × WhereTold old.out new.out (AppendsFront (written q o)))
+  unfolding HasFront
+  what_was_written words old new status outcome word told = by_case words old new status outcome word told
+
+-- ---- a run of good sources
+module _ (jobs : JobsAreGrammar) (fronts : ReportFronts) (nexts : NextReportFronts)
+    (job : List ℕ) (plan : Option (List ℕ)) (options : RunOptions) (left : Contents) (p : Program) (good : IsGood (Run job plan options) left p) where
+  abbrev its_texts : List (List ℕ)
+  its_texts = texts_named (Run job plan options)
+
+  sound_of : (q : Program) → HasJob (Named job) left q → AreSound q (lines_behind its_texts left q)
+  sound_of q has = same_good InRounds its_texts left p q (same_job jobs (Named job) left p q good.has has) good.sources
+
+  good_front : (q : Program) (o : Opening) (border : Option ℕ) (text : List ℕ) → HasJob (Named job) left q
+      → RanFrom q rows_in_round o.border o.cells (lines_behind its_texts left q) border text → BeginsWith (report_from o its_texts left q) text
+  unfolding lists_behind
+  good_front q o border text has ran =
+      fronts o.border o.cells q rows_in_round (emptied_each its_texts left) border text (omega arith) (sound_of q has) ran
+
+  good_next : (q : Program) (o : Opening) (text more : List ℕ) (put : Option (List ℕ)) → HasJob (Named job) left q
+      → ReportsNext q o (lines_behind its_texts left q) text put more → BeginsWith (report_from o its_texts left q) (text ++ more)
+  unfolding lists_behind
+  good_next q o text more put has round =
+      nexts o.border o.cells q rows_in_round (emptied_each its_texts left) round.border text (text ++ more) round.now round.end (omega arith) (sound_of q has)
+      round.ran round.next
+
 pub runs_law : JobsAreGrammar → ReportFronts → NextReportFronts → RunsWriteFronts
-unfolding HasFront
 runs_law jobs fronts nexts words old new status outcome job plan options left p word told good =
-    by_case jobs fronts nexts job plan options left p good words old new status outcome word told
+    what_was_written job plan options left p good.has good.start (λ q o. report_from o (texts_named (Run job plan options)) left q)
+    (good_front jobs fronts nexts job plan options left p good) (good_next jobs fronts nexts job plan options left p good)
+    (λ q o its. ([], sym (append-nil (report_from o (texts_named (Run job plan options)) left q))))
+    words old new status outcome word told
+
+-- ---- a run of sources with a defect
+module _ (jobs : JobsAreGrammar) (fronts : ReportFronts) (nexts : NextReportFronts)
+    (job : List ℕ) (plan : Option (List ℕ)) (options : RunOptions) (left mended : Contents) (p : Program) (has_job : HasJob (Named job) left p)
+    (bad : HasDefect InRounds (texts_named (Run job plan options)) left p)
+    (mends : AreMended p (emptied_each (texts_named (Run job plan options)) left) mended) where
+  mended_of : (q : Program) → HasJob (Named job) left q → AreMended q (emptied_each (texts_named (Run job plan options)) left) mended
+  mended_of q has = same_mended p q (emptied_each (texts_named (Run job plan options)) left) mended (same_job jobs (Named job) left p q has_job has) mends
+
+  mended_front : (q : Program) (o : Opening) (border : Option ℕ) (text : List ℕ) → HasJob (Named job) left q
+      → RanFrom q rows_in_round o.border o.cells (lines_behind (texts_named (Run job plan options)) left q) border text
+      → BeginsWith (mended_report mended q o) text
+  mended_front q o border text has ran =
+      let its = mended_of q has in
+      fronts o.border o.cells q rows_in_round mended border text (omega arith) its.sound
+      (ran_of_mended q rows_in_round (lines_behind (texts_named (Run job plan options)) left q) (lines_in q mended) its.each o.border o.cells border text ran)
+
+  mended_next : (q : Program) (o : Opening) (text more : List ℕ) (put : Option (List ℕ)) → HasJob (Named job) left q
+      → ReportsNext q o (lines_behind (texts_named (Run job plan options)) left q) text put more → BeginsWith (mended_report mended q o) (text ++ more)
+  mended_next q o text more put has round =
+      let its = mended_of q has in
+      let whole = lines_behind (texts_named (Run job plan options)) left q in
+      nexts o.border o.cells q rows_in_round mended round.border text (text ++ more) round.now round.end (omega arith) its.sound
+      (ran_of_mended q rows_in_round whole (lines_in q mended) its.each o.border o.cells round.border text round.ran)
+      (next_of_mended q rows_in_round whole (lines_in q mended) its.each o.border o.cells round.border round.ran.before round.now round.end (text ++ more)
+      round.next)
+
+  -- it is not done
+  not_done : (q : Program) (o : Opening) → IsGood (Run job plan options) left q
+      → BeginsWith (mended_report mended q o) (report_from o (texts_named (Run job plan options)) left q)
+  not_done q o good = absurd (good_or_bad InRounds (texts_named (Run job plan options)) left p
+      (same_good InRounds (texts_named (Run job plan options)) left q p (same_job jobs (Named job) left q p good.has has_job) good.sources) bad)
+
+pub mended_law : JobsAreGrammar → ReportFronts → NextReportFronts → RunsWriteFrontsOfMended
+mended_law jobs fronts nexts words old new status outcome job plan options left mended p word told has start bad mends =
+    what_was_written job plan options left p has start (mended_report mended)
+    (mended_front jobs fronts nexts job plan options left mended p has bad mends) (mended_next jobs fronts nexts job plan options left mended p has bad mends)
+    (not_done jobs fronts nexts job plan options left mended p has bad mends) words old new status outcome word told
 
 -- ---- what the report is
 pub fresh_law : FreshRunsReportTheFold

@@ -158,6 +158,15 @@ module _ (job : List ℕ) (plan : Option (List ℕ)) (options : RunOptions) (p :
       has_begun (Some x) None told = absurd told
       has_begun (Some x) (Some y) told = told.has
 
+  -- a plan that is named is valid, where the files tell it
+  plan_begun : WhereTold a b (IsBegun job plan p) → IfSome a (λ contents. HasPlanAsked (Run job plan options) contents p)
+  plan_begun begun = by_told a b begun
+    where
+      by_told : (a' b' : Option Contents) → WhereTold a' b' (IsBegun job plan p) → IfSome a' (λ contents. HasPlanAsked (Run job plan options) contents p)
+      by_told None b' told = tt
+      by_told (Some x) None told = absurd told
+      by_told (Some x) (Some y) told = told.its_plan
+
   -- ---- what refuses it before its rounds
   -- a name that it saves to, or is resumed from, is a source's file
   pub same_name_refuses : IsAccepted p → WhereTold a b (IsBegun job plan p) → (number : ℕ) → IsSameName (Run job plan options) p number
@@ -186,7 +195,7 @@ module _ (job : List ℕ) (plan : Option (List ℕ)) (options : RunOptions) (p :
   opening_refuses d k l m accepted apart begun rise (refusals.SourceFault job_read fault) is = absurd is
   opening_refuses d k l m accepted apart begun rise refusals.ReadFault is = (
     is.0,
-    inr (inr (inl (record { p = p; job = may_be_begun accepted begun; apart = apart; named = is.1 }))),
+    inr (inr (inl (record { p = p; job = may_be_begun accepted begun; plan = plan_begun begun; apart = apart; named = is.1 }))),
     rose_behind (k is.0) (l is.0) (m is.0) (rise is.0) is.2,
   )
   opening_refuses d k l m accepted apart begun rise refusals.WriteFault is = is
@@ -227,6 +236,7 @@ module _ (job : List ℕ) (plan : Option (List ℕ)) (options : RunOptions) (p :
       second name (λ found. unread (inl (inr (inr (inl (record {
         p = p;
         job = may_be_begun accepted begun;
+        plan = plan_begun begun;
         apart = apart;
         named =
             name_given options.resume name found;

@@ -28,8 +28,9 @@ use Rattle.flu_streams.specs.Tests.{rows_of}
 use Rattle.flu_streams.specs.Good.{fault_of_source, items_held, first_fault}
 use Rattle.flu_lemmas.proofs.Places.{position-map}
 use Rattle.flu_streams.specs.Rounds.{row_fault, line_defect, defect_in}
-use Rattle.flu_rounds.specs.Written.{AreSound}
+use Rattle.flu_rounds.specs.Written.{AreSound, lines_in}
 use Rattle.flu_top.specs.Behind.{emptied_each, fault_behind}
+use Rattle.flu_top.specs.Mended.{AreMended}
 use Rattle.flu_top.specs.Reading.{Reading, Unread, Whole, InRounds, AreSourcesGood, lines_behind}
 
 -- ---- what a row's tag and value are tested by depends on the kinds without their actions
@@ -85,7 +86,7 @@ fits_plain kinds name value =
     inside (Some number) = refl
 
 -- ---- so do the tests, and the first defect
-same_place : (kinds others : List Kind) (s : Source) (name : List ℕ) (key : Option ℕ) → map plain_kind kinds ≡ map plain_kind others
+pub same_place : (kinds others : List Kind) (s : Source) (name : List ℕ) (key : Option ℕ) → map plain_kind kinds ≡ map plain_kind others
     → place_named kinds s name key ≡ place_named others s name key
 same_place kinds others s name key alike =
     ap (λ o. option_and_then (λ t. position (is_same_tag t) (tags_of_source s)) o)
@@ -180,3 +181,21 @@ pub same_good : (reading : Reading) (texts : List (List ℕ)) (left : Contents) 
 same_good Unread texts left p q same good = good
 same_good Whole texts left p q same good = sym (same_fault texts left p q same) ∙ good
 same_good InRounds texts left p q same good = same_sound texts left p q same good
+
+-- and sources that mend those of one mend those of the other
+pub same_mended : (p q : Program) (left mended : Contents) → IsSameJob p q → AreMended p left mended → AreMended q left mended
+same_mended p q left mended same mends = record {
+  each = λ i s e.
+      let its = mends.each i s (ap (λ (ss : List Source). slice_get ss i) (ap (λ j. j.sources) same) ∙ e) in
+      let alike = same_defect_in p.kinds q.kinds s in
+      let kinds = ap (λ j. j.kinds) same in
+      let before = same_lines [] left p q i same in
+      let behind = same_lines [] mended p q i same in
+      record {
+        fronts = λ front rest is sound.
+            let found = its.fronts front rest (sym before ∙ is) (alike front kinds ∙ sound) in
+            (found.0, behind ∙ found.1);
+        good = λ sound. behind ∙ (its.good (alike (lines_in p left i) kinds ∙ (ap (defect_in q.kinds s) (sym before) ∙ sound)) ∙ sym before);
+      };
+  sound = same_sound [] mended p q same mends.sound;
+}

@@ -104,20 +104,20 @@ same_matches p q pred i same =
     ∙ ap (λ (ss : List Source). kind_matches q.kinds pred.kind pred.keys (itag_at ss i).0 && source_matches pred.source (itag_at ss i).1)
     (ap (λ j. j.sources) same)
 
-same_node_owns : (p q : Program) (i : Itag) (node : Node) → IsSameJob p q → node_owns p i node ≡ node_owns q i node
+pub same_node_owns : (p q : Program) (i : Itag) (node : Node) → IsSameJob p q → node_owns p i node ≡ node_owns q i node
 same_node_owns p q i node same = ap (λ test. list_any test node.preds) (fun_ext (λ (pred : Pred). same_matches p q pred i same))
 
 same_found : (p q : Program) (i : Itag) (node : Option Node) → IsSameJob p q → found_owns p i node ≡ found_owns q i node
 same_found p q i None same = refl
 same_found p q i (Some node) same = same_node_owns p q i node same
 
-same_owns : (p q : Program) (nodes : List Node) (w : ℕ) (i : Itag) → IsSameJob p q → owns p nodes w i ≡ owns q nodes w i
+pub same_owns : (p q : Program) (nodes : List Node) (w : ℕ) (i : Itag) → IsSameJob p q → owns p nodes w i ≡ owns q nodes w i
 same_owns p q nodes w i same = same_found p q i (slice_get nodes w) same
 
-same_count : (p q : Program) → IsSameJob p q → count_of_itags p ≡ count_of_itags q
+pub same_count : (p q : Program) → IsSameJob p q → count_of_itags p ≡ count_of_itags q
 same_count p q same = ap (λ (ss : List Source). length (itags_of_sources 0 ss)) (ap (λ j. j.sources) same)
 
-same_dependent : (p q : Program) (i j : Itag) → IsSameJob p q → is_dependent p (tag_of_itag p i) (tag_of_itag p j)
+pub same_dependent : (p q : Program) (i j : Itag) → IsSameJob p q → is_dependent p (tag_of_itag p i) (tag_of_itag p j)
     ≡ is_dependent q (tag_of_itag q i) (tag_of_itag q j)
 same_dependent p q i j same = λ k. list_any (ties_tags (itag_at (same k).sources i).0 (itag_at (same k).sources j).0) (same k).depends
 

@@ -23,7 +23,8 @@ use Rattle.flu_top.specs.declared.refusals.Refusal.TheVariants as refusals
 use Rattle.flu_model.specs.Modes.{IsAccepted}
 use Rattle.flu_words.specs.Words.{Command}
 use Rattle.flu_top.specs.Taking.{TookOnly}
-use Rattle.flu_top.specs.Behind.{WantedJob, Named, Fixed, HasJob, job_files, emptied, fault_behind, report_behind}
+use Rattle.flu_top.specs.Behind.{WantedJob, Named, Fixed, HasJob, job_files, fault_behind, report_behind}
+use Rattle.flu_top.specs.Emptied.{emptied}
 use Rattle.flu_top.specs.Openings.{Opens, fresh}
 use Rattle.flu_top.specs.Reading.{Reading, Whole, is_read, AreSourcesGood}
 use Rattle.flu_top.specs.Wants.{job_wanted, plan_named, save_named, resume_named, trace_named, asks_accepted, how_read, reads_sources, if_named}
@@ -116,6 +117,13 @@ pub may_be_ready : (command : Command) (p : Program) (a b : Option Contents) →
     → WhereTold a b (IsReady command p) → MayBeJob a command p
 may_be_ready command p a b accepted ready = record { has = may_have_ready command p a b ready; accepted = accepted }
 
+-- the plan that the command asks for, if it asks for one, is there and valid, where the files tell it
+plan_told : (command : Command) (p : Program) (a b : Option Contents) → WhereTold a b (IsReady command p)
+    → IfSome a (λ contents. HasPlanAsked command contents p)
+plan_told command p None b ready = tt
+plan_told command p (Some x) None ready = absurd ready
+plan_told command p (Some x) (Some y) ready = ready.plan
+
 pub source_is_read : (command : Command) (p : Program) (name : List ℕ) → IsTrue (reads_sources command) → Contains (files_of p.sources) name
     → Contains (sources_read command p) name
 source_is_read command p name reads found = subst (λ (b : Bool). Contains (if b then files_of p.sources else []) name) (sym reads) found
@@ -143,6 +151,7 @@ text_is_read command p a b accepted apart ready name found = elim (Contains-appe
       | inr checkpoint ↦ inr (inr (inl (record {
         p = p;
         job = may_be_ready command p a b accepted ready;
+        plan = plan_told command p a b ready;
         apart = apart;
         named =
             name_given (resume_named command) name checkpoint;
@@ -156,6 +165,7 @@ pub source_name_is_read : (command : Command) (p : Program) (a b : Option Conten
 source_name_is_read command p a b reads accepted apart start ready name found = inr (inr (inr (inl (record {
   p = p;
   job = may_be_ready command p a b accepted ready;
+  plan = plan_told command p a b ready;
   apart = apart;
   start = start;
   named = source_is_read command p name reads found;

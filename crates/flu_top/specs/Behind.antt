@@ -1,6 +1,5 @@
 -- What a job's text, a plan's and the sources are, where the files tell what they have left when a call begins.
-use Rattle.std.specs.Prelude.{◌≡◌, ℕ, List, [], ◌∷◌, option_map, Option, if◌then◌else◌}
-use Rattle.std.specs.Str.{bytes_eq}
+use Rattle.std.specs.Prelude.{◌≡◌, ℕ, List, [], ◌∷◌, Option}
 use Rattle.flu_outside.specs.Outside.{Contents}
 use Rattle.flu_model.specs.declared.events.Item.{Item}
 use Rattle.flu_model.specs.declared.jobs.Program.{Program}
@@ -14,6 +13,7 @@ use Rattle.flu_grammar.specs.Jobs.{IsJobText}
 use Rattle.flu_grammar.specs.Plans.{IsPlanText}
 use Rattle.flu_streams.specs.declared.faults.SourceFault.{SourceFault}
 use Rattle.flu_streams.specs.Good.{first_fault, lists_of}
+pub use Rattle.flu_top.specs.Emptied.{emptied, emptied_each}
 
 -- the job that is wanted: the one whose text is under a name, or a fixed one, for which no file is read
 pub data WantedJob : Type 0 where
@@ -29,15 +29,6 @@ HasJob (Fixed job) left p = job_of p ≡ job
 abbrev pub job_files : WantedJob → List (List ℕ)
 job_files (Named name) = name ∷ []
 job_files (Fixed job) = []
-
--- what is left behind a text, which was read to its end: another file with its name is empty
-unfoldable pub emptied : List ℕ → Contents → Contents
-emptied text left name = if bytes_eq name text then option_map (λ bytes. []) (left name) else left name
-
--- what is left behind several texts, one read after another
-abbrev pub emptied_each : List (List ℕ) → Contents → Contents
-emptied_each [] left = left
-emptied_each (text ∷ texts) left = emptied_each texts (emptied text left)
 
 -- the first fault of the program's sources, which are read behind some texts
 unfoldable pub fault_behind : List (List ℕ) → Contents → Program → Option SourceFault

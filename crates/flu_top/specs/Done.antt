@@ -172,8 +172,8 @@ pub record MayBeJob (left : Option Contents) (command : Command) (p : Program) :
   pub has : MayHaveJob left (job_wanted command) p
   pub accepted : IsTrue (asks_accepted command) → IsAccepted p
 
--- the names of the plan, of the checkpoint and of the sources' files that a command reads for a job: its names have to be no sources'
--- files, and it has to be able to start, before these come
+-- the names of the plan, of the checkpoint and of the sources' files that a command reads for a job: before the checkpoint comes, a plan
+-- that it asks for has to be valid, and its names have to be no sources' files; and before the sources do, it has to be able to start
 pub record IsPlanName (left : Option Contents) (command : Command) (name : List ℕ) : Type 0 where
   pub p : Program
   pub job : MayBeJob left command p
@@ -182,12 +182,14 @@ pub record IsPlanName (left : Option Contents) (command : Command) (name : List 
 pub record IsCheckpointName (left : Option Contents) (command : Command) (name : List ℕ) : Type 0 where
   pub p : Program
   pub job : MayBeJob left command p
+  pub plan : IfSome left (λ contents. HasPlanAsked command contents p)
   pub apart : AreNoSources command p
   pub named : resume_named command ≡ Some name
 
 pub record IsSourceFile (left : Option Contents) (command : Command) (name : List ℕ) : Type 0 where
   pub p : Program
   pub job : MayBeJob left command p
+  pub plan : IfSome left (λ contents. HasPlanAsked command contents p)
   pub apart : AreNoSources command p
   pub start : IfSome left (λ contents. CanStart command contents p)
   pub named : Contains (sources_read command p) name

@@ -23,7 +23,7 @@ use Rattle.flu_top.specs.Taking.{TookOnly}
 use Rattle.flu_top.specs.Behind.{Named, HasJob, report_behind}
 use Rattle.flu_top.specs.Openings.{Opening, report_from}
 use Rattle.flu_top.specs.Reading.{InRounds, HasDefect}
-use Rattle.flu_top.specs.Replaying.{CanOnlyComplete}
+use Rattle.flu_top.specs.Replaying.{HasCompleteTrace}
 use Rattle.flu_top.specs.TextFaults.{IsFirstJobFault}
 use Rattle.flu_top.specs.Starting.{StartsFrom, CanStart}
 use Rattle.flu_top.specs.Wants.{want, job_wanted, plan_named, if_named, asks_accepted, how_read, says_nothing, texts_named, Writes, IsObservedText}
@@ -273,14 +273,14 @@ NoOtherIsRead =
     → WhereTold old new (TookOnly (λ name. IsReadBy words old name ⊎ IsSavedBy words name))
 
 -- ---- where nothing failed
--- a command that nothing refuses has status 0, or 9, where a trace that it reads can only be complete
+-- a command that nothing refuses has status 0, or 9, where a trace that it reads is complete
 abbrev pub GoodIsDone : Type 0
 GoodIsDone =
     (words : List (List ℕ)) (told : Option Contents) (before now : Faults) (status : ℕ)
     → Completes words told before now status
     → (command : Command) (left : Contents) (p : Program) → command_in words ≡ Ok command → told ≡ Some left
     → NothingFailed command told before now
-    → IsGood command left p → CanOnlyComplete command left
+    → IsGood command left p → HasCompleteTrace command left p
     → (status ≡ 0) ⊎ (status ≡ 9)
 
 -- a job's text with a fault has status 3, or 9
@@ -335,7 +335,7 @@ SaveDefectIsRefused =
     → HasPlanAsked command left p → ¬ CanStart command left p
     → (status ≡ 11) ⊎ (status ≡ 9)
 
--- a trace that can't be complete, where nothing refuses the command before it, has status 13, or 9
+-- a trace that is not complete, where nothing refuses the command before it, has status 13, or 9
 abbrev pub TraceFaultIsRefused : Type 0
 TraceFaultIsRefused =
     (words : List (List ℕ)) (told : Option Contents) (before now : Faults) (status : ℕ)

@@ -1,3 +1,5 @@
+pub mod Outside
+pub mod Emptied
 pub mod Taking
 pub mod Behind
 pub mod TextFaults
@@ -9,6 +11,7 @@ pub mod Openings
 pub mod Wants
 pub mod Starting
 pub mod Replaying
+pub mod Determining
 pub mod Products
 pub mod Done
 pub mod Causes
@@ -28,3 +31,6 @@ pub mod Ending
 pub mod Running
 pub mod Replays
 pub mod Writing
+pub mod Headline
+pub mod Mended
+pub mod Unread

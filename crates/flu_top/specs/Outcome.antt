@@ -1,6 +1,6 @@
 -- THE OUTCOME of a call of `flumina`: what its status says of the words, of what the files held and hold, and of what out and
 -- err got.
-use Rattle.std.specs.Prelude.{◌≡◌, ℕ, List, Option, Some, Ok, Err, IsTrue, ◌⊎◌}
+use Rattle.std.specs.Prelude.{◌≡◌, ◌≢◌, ℕ, List, Option, Some, Ok, Err, IsTrue, ◌⊎◌}
 use Rattle.flu_outside.specs.Outside.{Contents, WhereTold, Rose}
 use Rattle.flu_outside.specs.Taking.{bytes_left}
 use Rattle.flu_model.specs.declared.jobs.Program.{Program}
@@ -11,31 +11,22 @@ use Rattle.flu_streams.specs.declared.faults.SourceFault.{SourceFault}
 use Rattle.flu_top.specs.declared.refusals.PlanDefect.{PlanDefect}
 use Rattle.flu_top.specs.declared.refusals.SaveDefect.{SaveDefect}
 use Rattle.flu_trace.specs.declared.faults.ReplayFault.{ReplayFault}
-use Rattle.flu_trace.specs.Replaying.{Ending}
+use Rattle.flu_trace.specs.Replaying.{Ending, Complete}
 use Rattle.flu_words.specs.Words.{Command, command_in}
+pub use Rattle.flu_top.specs.Outside.{Outside, outside, Faults, faults}
 use Rattle.flu_top.specs.Taking.{TookOnly, TookFrontsBut}
 use Rattle.flu_top.specs.Behind.{Named, HasJob}
 use Rattle.flu_top.specs.Reading.{HasDefect}
 use Rattle.flu_top.specs.TextFaults.{IsFirstJobFault}
 use Rattle.flu_top.specs.Wants.{Saying, Nothing, Line, want, save_named, texts_named}
 use Rattle.flu_top.specs.Starting.{CanStart}
-use Rattle.flu_top.specs.Replaying.{ReplaysTo, CanOnlyComplete, CanNotComplete}
+use Rattle.flu_top.specs.Replaying.{ReplaysTo, HasCompleteTrace}
 use Rattle.flu_top.specs.Done.{HasValidPlan, HasPlanAsked, IsGood, IsDone, WhereKnown, Wrote, WroteSome, WroteForMemory, WroteForPut, WrotePart, IsReadName}
 use Rattle.flu_top.specs.Done.{IsReadBy, IsSavedBy, MayBePut}
 use Rattle.flu_top.specs.Causes.{HasJobFault, HasConflict, HasPlanDefect, HasSaveDefect, HasSourceFault, HasTraceFault}
 use Rattle.flu_top.specs.Names.{source_name}
 use Rattle.flu_top.specs.Lines.{IsSaid, bad_words_line, job_fault_line, conflict_line, plan_defect_line, source_fault_line}
 use Rattle.flu_top.specs.Lines.{read_fault_line, write_fault_line, no_memory_line, save_defect_line, put_fault_line, trace_fault_line}
-
--- what the files have left, and what out and err have taken, where they tell that, and how often err has failed
-pub record Outside : Type 0 where
-  pub left : Option Contents
-  pub out : Option (List ℕ)
-  pub err : Option (List ℕ)
-  pub err_faults : ℕ
-
-abbrev pub outside : Option Contents → Option (List ℕ) → Option (List ℕ) → ℕ → Outside
-outside left out err err_faults = record { left = left; out = out; err = err; err_faults = err_faults }
 
 -- err got this line, or failed and has a front of it
 abbrev pub Said : Outside → Outside → List ℕ → Type 0
@@ -113,15 +104,6 @@ pub record ReadOnly (words : List (List ℕ)) (old new : Option Contents) (statu
   pub only : WhereTold old new (TookOnly (λ name. IsReadBy words old name ⊎ MayBePut words status name))
 
 -- ---- the faults of the outside
--- how often the taking and the putting of each name has failed, and how often out has
-pub record Faults : Type 0 where
-  pub takes : List ℕ → ℕ
-  pub puts : List ℕ → ℕ
-  pub out : ℕ
-
-abbrev pub faults : (List ℕ → ℕ) → (List ℕ → ℕ) → ℕ → Faults
-faults takes puts out = record { takes = takes; puts = puts; out = out }
-
 -- status 7 comes only where the count of a name that the call reads rose, status 8 only where out's did, and status 12 only where that
 -- of puts of the name that it saves to did
 pub record FaultsFirst (words : List (List ℕ)) (left : Option Contents) (before now : Faults) (status : ℕ) : Type 0 where
@@ -130,7 +112,7 @@ pub record FaultsFirst (words : List (List ℕ)) (left : Option Contents) (befor
   pub put : status ≡ 12 → (name : List ℕ) × IsSavedBy words name × Rose (before.puts name) (now.puts name)
 
 -- ---- completeness
--- the command reads a trace, nothing refuses the command before that, and the trace ends somehow, but can't be complete
+-- the command reads a trace, nothing refuses the command before that, and the trace is not complete
 pub record HasFaultyTrace (command : Command) (left : Contents) : Type 0 where
   pub p : Program
   pub good : IsGood command left p
@@ -138,11 +120,11 @@ pub record HasFaultyTrace (command : Command) (left : Contents) : Type 0 where
   pub named : (want command).trace ≡ Some trace
   pub ending : Ending
   pub ends : ReplaysTo command trace left p ending
-  pub faulty : CanNotComplete command left trace
+  pub faulty : ending ≢ Complete
 
 -- the status that a command and the files call for where nothing fails
 pub data CallsFor (command : Command) (left : Contents) (status : ℕ) : Type 0 where
-  Good : status ≡ 0 → (p : Program) → IsGood command left p → CanOnlyComplete command left → CallsFor command left status
+  Good : status ≡ 0 → (p : Program) → IsGood command left p → HasCompleteTrace command left p → CallsFor command left status
   FaultyJob : status ≡ 3 → (name : List ℕ) (fault : JobFault) → (want command).job ≡ Named name
       → IsFirstJobFault (bytes_left left name) fault → CallsFor command left status
   NotAccepted : status ≡ 4 → (p : Program) → IsTrue (want command).accepted → HasJob (want command).job left p

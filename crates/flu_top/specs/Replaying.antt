@@ -11,7 +11,7 @@ use Rattle.flu_streams.specs.Files.{files_of}
 use Rattle.flu_streams.specs.Good.{lists_of}
 use Rattle.flu_trace.specs.Replaying.{Ending, Complete, IsReplayed}
 use Rattle.flu_words.specs.Words.{Command}
-use Rattle.flu_top.specs.Behind.{HasJob, HasPlan, emptied_each}
+use Rattle.flu_top.specs.Behind.{HasPlan, emptied_each}
 use Rattle.flu_top.specs.Simulating.{from_nothing}
 use Rattle.flu_top.specs.Wants.{job_wanted, plan_named, trace_named, texts_named}
 
@@ -38,12 +38,6 @@ pub record ReplaysTo (command : Command) (trace : List ℕ) (left : Contents) (p
   pub has : HasPlan (job_wanted command) plan left p nodes
   pub ends : EndsBehind p nodes trace (emptied_each (texts_named command) left) ending
 
--- a net may hand on one lot or another, so that a trace may have more than one ending: this one has none but the complete one
-abbrev pub CanOnlyComplete : Command → Contents → Type 0
-CanOnlyComplete command left =
-    (trace : List ℕ) → trace_named command ≡ Some trace → (p : Program) (ending : Ending) → HasJob (job_wanted command) left p
-    → ReplaysTo command trace left p ending → ending ≡ Complete
-
--- and the complete one is none of its endings
-abbrev pub CanNotComplete : Command → Contents → List ℕ → Type 0
-CanNotComplete command left trace = (p : Program) → HasJob (job_wanted command) left p → ¬ ReplaysTo command trace left p Complete
+-- each trace that the command reads is complete
+abbrev pub HasCompleteTrace : Command → Contents → Program → Type 0
+HasCompleteTrace command left p = (trace : List ℕ) → trace_named command ≡ Some trace → ReplaysTo command trace left p Complete

@@ -12,6 +12,7 @@ use Rattle.flu_streams.specs.Counts.{grown, no_counts}
 use Rattle.flu_streams.specs.Files.{files_of}
 use Rattle.flu_words.specs.Words.{Command, Fold, Check, Valid, Plan, Run, Simulate, Replay, Demo}
 use Rattle.flu_top.specs.Behind.{WantedJob, Named, Fixed, HasPlan, job_files, report_behind}
+pub use Rattle.flu_top.specs.Emptied.{if_named}
 use Rattle.flu_top.specs.Openings.{Opening, Opens, lists_from, report_from}
 use Rattle.flu_top.specs.Rates.{source_rates}
 use Rattle.flu_top.specs.Reading.{Reading, Unread, Whole, InRounds, is_read}
@@ -29,11 +30,6 @@ pub record IsPlanPrinted (job plan : List ℕ) (left : Contents) (p : Program) (
   pub nodes : List Node
   pub has : HasPlan (Named job) plan left p nodes
   pub is : text ≡ printed p nodes
-
--- a name, if there is one, as a list
-abbrev pub if_named : Option (List ℕ) → List (List ℕ)
-if_named None = []
-if_named (Some name) = name ∷ []
 
 -- this is the report of a run that opens with a checkpoint, if one is named, which is read behind some texts; and then the sources
 abbrev pub IsReportOfRun : List (List ℕ) → Option (List ℕ) → Contents → Program → List ℕ → Type 0

@@ -8,11 +8,14 @@ ghost use Rattle.flu_top.specs.Laws.{WriteFaultLine, PutFaultRose, PutFaultIsBeh
 ghost use Rattle.flu_top.specs.Laws.{SomeIsWrittenForMemory, RunsWriteFronts, FreshRunsReportTheFold, ResumedRunsGoOn, FrontsAreTaken, NoOtherIsRead};
 ghost use Rattle.flu_top.specs.Laws.{GoodIsDone, JobFaultIsRefused, ConflictIsRefused, PlanDefectIsRefused, SaveDefectIsRefused, SourceFaultIsRefused};
 ghost use Rattle.flu_top.specs.Laws.{TraceFaultIsRefused, CompletesByFaults, CallsForOneStatus};
+ghost use Rattle.flu_top.specs.Mended.{RunsWriteFrontsOfMended};
+ghost use Rattle.flu_top.specs.Unread.{BadPlansReadNoMore};
 
 use flu_grammar::laws::{jobs_are_grammar, plans_are_grammar};
 use flu_rounds::fronts_of_reports;
 use flu_save::faults_are_no_checkpoints;
 use flu_streams::{borders_cut_a_fold, rounds_meet_what_is_there};
+use flu_trace::laws::a_trace_has_one_ending;
 
 /// The statuses, and which of them write to out: 0 and 8; and 6, 7, 9 and 12 of a command that reads in rounds, which may leave there
 /// what the rounds up to some one wrote.
@@ -87,11 +90,31 @@ pub fn of_runs()
     jobs_are_grammar();
 }
 
+/// Where a source of a `run` has a defect, what it wrote is a front of the report of any sources that mend the defects: that keep the
+/// lines before each, and have others behind them, or just an end.
+pub fn of_mended_runs()
+    ensures { RunsWriteFrontsOfMended }
+{
+    fronts_of_reports();
+    jobs_are_grammar();
+}
+
 /// Bytes are taken from the front of names, and of no name that the call does not read, but for one that it puts.
 pub fn of_reading()
     ensures fronts { FrontsAreTaken }
     ensures only { NoOtherIsRead }
 {}
+
+/// Where a plan is no text of one, or is not valid, no source, no checkpoint and no trace is read.
+pub fn bad_plans_read_no_more()
+    ensures { BadPlansReadNoMore }
+{
+    a_trace_has_one_ending();
+    faults_are_no_checkpoints();
+    jobs_are_grammar();
+    plans_are_grammar();
+    rounds_meet_what_is_there();
+}
 
 /// Where no count rose, the status is the one that the command, its job's text, its plan, its sources and its trace call for, or 9.
 pub fn of_completeness()
@@ -108,6 +131,7 @@ pub fn of_completeness()
 pub fn completes_by_faults()
     ensures { CompletesByFaults }
 {
+    a_trace_has_one_ending();
     faults_are_no_checkpoints();
     jobs_are_grammar();
     plans_are_grammar();
@@ -118,6 +142,7 @@ pub fn completes_by_faults()
 pub fn calls_for_one_status()
     ensures { CallsForOneStatus }
 {
+    a_trace_has_one_ending();
     faults_are_no_checkpoints();
     jobs_are_grammar();
     plans_are_grammar();

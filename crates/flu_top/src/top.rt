@@ -17,6 +17,7 @@ use flu_outside::{Files, Sink};
 use flu_save::faults_are_no_checkpoints;
 use flu_seq::Gate;
 use flu_streams::rounds_meet_what_is_there;
+use flu_trace::laws::a_trace_has_one_ending;
 use flu_words::read_words;
 use std::alloc::Global;
 use std::sync::Wait;
@@ -50,7 +51,14 @@ use std::thread::Threads;
 /// what is to be believed.
 ///
 /// Each worker of a run passes the gate before and after each of its updates. `run` and `demo` alone start threads, and
-/// wait for them: what is said here holds where the call returns.
+/// wait for them: what is said here holds where the call returns. Where a thread is refused, the plain fold runs the
+/// batch in its place, on the calling thread.
+///
+/// No clause says that the gate is passed, nor that the fold steps in: a body that left the gate out, or that answered 9
+/// where a thread is refused, would be proved. Tests alone show the gate, `two_workers_meet_in_their_updates` and
+/// `all_workers_of_a_level_meet_in_their_updates` in `flu_top_tests::calls::gates`, and `each_event_is_handled_by_its_owner`
+/// in `flu_top_tests::calls::owners`. `the_backup_runs_a_batch_as_the_fold_does` in `flu_round_tests::backups` shows what
+/// steps in, by calling it; no test refuses a thread.
 pub fn flumina<F: Files, K: Sink, E: Sink, G: Gate, R: Threads + Wait + Sync>(
     rt: &R,
     alloc: Global,
@@ -79,6 +87,7 @@ pub fn flumina<F: Files, K: Sink, E: Sink, G: Gate, R: Threads + Wait + Sync>(
         (faults (F.faults files.old) (F.put_faults files.old) (K.faults out.old))
         (faults (F.faults files.new) (F.put_faults files.new) (K.faults out.new)) result }
 {
+    a_trace_has_one_ending();
     faults_are_no_checkpoints();
     jobs_are_grammar();
     plans_are_grammar();

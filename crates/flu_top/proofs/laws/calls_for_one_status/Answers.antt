@@ -8,4 +8,5 @@ returns c = one_status_law (record {
   meeting =
       c.rounds_meet_what_is_there.ensures.meeting;
   saves = c.faults_are_no_checkpoints.ensures;
+  traces = c.a_trace_has_one_ending.ensures;
 })

@@ -26,5 +26,6 @@ returns-clause-completes g c = completes_of (record {
   meeting =
       c.rounds_meet_what_is_there.ensures.meeting;
   saves = c.faults_are_no_checkpoints.ensures;
+  traces = c.a_trace_has_one_ending.ensures;
 }) _ _ _ _ _ _ (returns-clause-outcome g c)
     (returns-clause-faults g c)

@@ -1,0 +1,5 @@
+use Rattle.flu_top.proofs.Headlines.{fold_law}
+use Rattle.flu_top.proofs.headline.fold_is_the_report.Goals as goal
+
+pub returns : goal.returns
+returns c = fold_law c.jobs_are_grammar.ensures

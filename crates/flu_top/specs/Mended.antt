@@ -1,0 +1,45 @@
+-- Sources whose defects are mended: what a run writes before it meets a defect, whatever stands in place of it.
+use Rattle.std.specs.Prelude.{◌≡◌, ℕ, List, ◌++◌, Option, Some, None, Ok}
+use Rattle.flu_lemmas.specs.Elements.{AtEach}
+use Rattle.flu_outside.specs.Outside.{Contents, WhereTold, Appends}
+use Rattle.flu_model.specs.declared.jobs.Kind.{Kind}
+use Rattle.flu_model.specs.declared.jobs.Source.{Source}
+use Rattle.flu_model.specs.declared.jobs.Program.{Program}
+use Rattle.flu_model.specs.Folding.{final_outputs}
+use Rattle.flu_model.specs.Reports.{report}
+use Rattle.flu_rows.specs.declared.rows.Next.{Next}
+use Rattle.flu_streams.specs.Good.{lists_of}
+use Rattle.flu_streams.specs.Rounds.{defect_in}
+use Rattle.flu_rounds.specs.Written.{AreSound, lines_in, lists_above}
+use Rattle.flu_words.specs.Words.{Run, RunOptions, command_in}
+use Rattle.flu_top.specs.Behind.{Named, HasJob, emptied_each}
+use Rattle.flu_top.specs.Openings.{Opening}
+use Rattle.flu_top.specs.Outcome.{Outside, Outcome}
+use Rattle.flu_top.specs.Reading.{InRounds, HasDefect}
+use Rattle.flu_top.specs.Starting.{StartsFrom, CanStart}
+use Rattle.flu_top.specs.Wants.{texts_named}
+
+-- THE LINES OF A SOURCE ARE MENDED: those before its first defect stay, whatever comes behind them; and where it has none, all stay
+pub record IsMended (kinds : List Kind) (s : Source) (whole mended : List Next) : Type 0 where
+  pub fronts : (front rest : List Next) → whole ≡ front ++ rest → defect_in kinds s front ≡ None → (others : List Next) × (mended ≡ front ++ others)
+  pub good : defect_in kinds s whole ≡ None → mended ≡ whole
+
+-- THE SOURCES OF A JOB ARE MENDED: the lines of each are, and now none has a defect
+pub record AreMended (p : Program) (left mended : Contents) : Type 0 where
+  pub each : AtEach (λ i s. IsMended p.kinds s (lines_in p left i) (lines_in p mended i)) p.sources
+  pub sound : AreSound p (lines_in p mended)
+
+-- what a run wrote whose sources have a defect is a front of the report of any sources that mend it, whatever the run's status: of those
+-- that end before the defect too, so that it tells nothing of what comes behind one
+abbrev pub RunsWriteFrontsOfMended : Type 0
+RunsWriteFrontsOfMended =
+    (words : List (List ℕ)) (old new : Outside) (status : ℕ) → Outcome words old new status
+    → (job : List ℕ) (plan : Option (List ℕ)) (options : RunOptions) (left mended : Contents) (p : Program)
+    → command_in words ≡ Ok (Run job plan options) → old.left ≡ Some left
+    → HasJob (Named job) left p → CanStart (Run job plan options) left p
+    → HasDefect InRounds (texts_named (Run job plan options)) left p
+    → AreMended p (emptied_each (texts_named (Run job plan options)) left) mended
+    → (q : Program) × HasJob (Named job) left q
+    × ((o : Opening) × StartsFrom (Run job plan options) left q o
+    × WhereTold old.out new.out (λ had has. (n : ℕ)
+    × Appends n (report q (final_outputs q o.cells (lists_above o.border (lists_of q mended)))) had has))
