@@ -8,6 +8,7 @@ ghost use Rattle.std.specs.Io.KnownBytes.{ReadConsumes};
 use crate::replacing::{Replacing, Unreplaced, replace};
 use crate::same_file::{FileId, id_of};
 use crate::standard::flush_output;
+use crate::told::length_limit;
 use flu_outside::{Files, PutFault, TakeFault};
 use std::alloc::{AllocError, Global};
 use std::collections::BTreeMap;
@@ -45,6 +46,8 @@ pub struct HostFiles<R: rt::Files + AllocGlobal> {
     put_faults: u64,
     last: Option<FileFailure>,
     call: Option<ProgramCall>,
+    // The greatest length of a plain file that is put.
+    limit: Option<u64>,
 }
 
 impl<R: rt::Files + AllocGlobal> HostFiles<R> {
@@ -56,6 +59,7 @@ impl<R: rt::Files + AllocGlobal> HostFiles<R> {
         ensures put_count { put_count_of result ≡ 0 }
     {
         let opened = BTreeMap::new(rt.alloc());
+        let limit = length_limit(&rt);
         HostFiles {
             rt,
             opened,
@@ -63,6 +67,7 @@ impl<R: rt::Files + AllocGlobal> HostFiles<R> {
             put_faults: 0,
             last: None,
             call: None,
+            limit,
         }
     }
 
@@ -118,7 +123,7 @@ impl<R: rt::Files + AllocGlobal> HostFiles<R> {
         let mut process = 0;
         if let Some(call) = &self.call {
             process = call.process;
-            if let Err(error) = flush_output() {
+            if let Err(error) = flush_output(&self.rt) {
                 return Err(Unput::Unflushed(error));
             }
         }
@@ -126,6 +131,7 @@ impl<R: rt::Files + AllocGlobal> HostFiles<R> {
             bytes,
             process,
             open: &open,
+            limit: self.limit,
         };
         replace(&self.rt, name, new)?;
         Ok(())
@@ -285,8 +291,8 @@ fn read_some<F: Read>(
     }
 }
 
-// One read, tried again where a signal interrupts it.
-fn read_once<F: Read>(file: &mut F, buf: &mut [u8]) -> io::Result<usize>
+/// One read, tried again where a signal interrupts it.
+pub(crate) fn read_once<F: Read>(file: &mut F, buf: &mut [u8]) -> io::Result<usize>
     ensures bytes { ReadConsumes (F.remaining file.old) (F.remaining file.new) result buf.new }
     ensures bound { IfOk result (λ n. n ≤ length buf.old) }
 {

@@ -6,7 +6,8 @@ mod host_sink;
 mod replacing;
 mod same_file;
 mod standard;
+mod told;
 
 pub use host_files::{FileFailure, HostFiles, ProgramCall};
 pub use host_sink::HostSink;
-pub use standard::StandardStream;
+pub use standard::{Standard, StandardStream};

@@ -44,6 +44,8 @@ pub(crate) struct Replacing<'t> {
     pub process: u32,
     /// The files that the process has open, none of which is taken away.
     pub open: &'t [FileId],
+    /// The greatest length of a plain file, in bytes.
+    pub limit: Option<u64>,
 }
 
 /// Gives the file of a name new bytes, in place of those that it has, and answers once they are on its device.
@@ -107,7 +109,7 @@ fn replace_plain<R: rt::Files + AllocGlobal>(
     let beside = beside.as_str();
     let folder = fs::open(rt, folder_of(name))?;
     let mut file = create_beside(rt, beside, there, new.open)?;
-    let done = fill(rt, &mut file, beside, there, new.bytes).and_then(|_| take_place(
+    let done = fill(rt, &mut file, beside, there, new).and_then(|_| take_place(
         rt, &file, beside, name,
     ));
     if let Err(error) = done {
@@ -169,7 +171,7 @@ fn fill<R: rt::Files>(
     file: &mut R::File,
     name: &str,
     there: Option<&Metadata>,
-    bytes: &[u8],
+    new: Replacing,
 ) -> io::Result<()> {
     if let Some(there) = there {
         let owner = Some(there.uid());
@@ -179,8 +181,8 @@ fn fill<R: rt::Files>(
         }
         let _kept = file.set_permissions(there.permissions());
     }
-    check_length(bytes.len())?;
-    file.write_all(bytes)?;
+    check_length(new.bytes.len(), new.limit)?;
+    file.write_all(new.bytes)?;
     file.sync_all()
 }
 

@@ -3,19 +3,53 @@
 ghost use Rattle.std.specs.Io.KnownBytes.{WriteAppends, Keeps};
 ghost use Rattle.std.specs.Io.{WritesAtMost};
 
-use libc::net::{POLLOUT, poll};
-use libc::types::{pollfd, rlimit};
+use crate::told::{length_limit, position};
+use std::fs::OpenFile;
 use std::io::{ErrorKind, Write};
-use std::os::fd::{AsRawFd, RawFd};
-use std::{io, rt};
+use std::sync::Wait;
+use std::thread::Parker;
+use std::time::Duration;
+use std::{fs, io, rt};
 
-/// The resource whose limit is the greatest length of a file.
-const RLIMIT_FSIZE: i32 = 1;
+/// What the system says where a file would be longer than the process may make one, `EFBIG` of Linux.
+const FILE_TOO_LARGE: i32 = 27;
+
+/// The longest pause between two tries of a write that finds a stream full, in milliseconds.
+const LONGEST_PAUSE: u64 = 16;
+
+/// One of the streams that a program writes.
+#[derive(Clone, Copy)]
+pub enum Standard {
+    /// Standard output.
+    Output,
+    /// Standard error.
+    Error,
+}
+
+impl Standard {
+    // A name of its file.
+    fn file(self) -> &'static str {
+        match self {
+            Standard::Output => "/proc/self/fd/1",
+            Standard::Error => "/proc/self/fd/2",
+        }
+    }
+
+    // The name of the file that tells where its next write begins.
+    fn position_file(self) -> &'static str {
+        match self {
+            Standard::Output => "/proc/self/fdinfo/1",
+            Standard::Error => "/proc/self/fdinfo/2",
+        }
+    }
+}
 
 /// A standard stream. A write waits where the stream does not block and is full, and goes on where a signal interrupts it. Where a plain
 /// file has no room up to the process's limit of a file's length, it fails: the system would end the process there.
 #[derive(Drop)]
-pub struct StandardStream<W: Write + AsRawFd + Drop> {
+pub struct StandardStream<R: rt::Files + Wait, W: Write + Drop> {
+    rt: R,
+    which: Standard,
     writer: W,
     // The length of the file where nothing was written to it yet: a write that appends begins there.
     length: Option<u64>,
@@ -23,43 +57,45 @@ pub struct StandardStream<W: Write + AsRawFd + Drop> {
     limit: Option<u64>,
 }
 
-impl<W: Write + AsRawFd + Drop> StandardStream<W> {
-    /// A standard stream, of which `name` is a name of the file, as `/dev/stdout`.
-    pub fn new<R: rt::Files>(rt: &R, name: &str, writer: W) -> StandardStream<W> {
-        let length = match rt.metadata(name) {
+impl<R: rt::Files + Wait, W: Write + Drop> StandardStream<R, W> {
+    /// The standard stream that `writer` writes.
+    pub fn new(rt: R, which: Standard, writer: W) -> StandardStream<R, W> {
+        let length = match rt.metadata(which.file()) {
             Ok(about) if about.is_file() => Some(about.len()),
             _ => None,
         };
         let limit = match length {
-            Some(_) => length_limit(),
+            Some(_) => length_limit(&rt),
             None => None,
         };
         StandardStream {
+            rt,
+            which,
             writer,
             length,
             limit,
         }
     }
 
-    // How many bytes may be written before the file is as long as it may be.
-    fn room(&self) -> usize {
+    // How many bytes may be written before the file is as long as it may be. An error where there is a limit, and it is not told where
+    // the next write begins.
+    fn room(&self) -> io::Result<usize> {
         let Some(limit) = self.limit else {
-            return usize::MAX;
+            return Ok(usize::MAX);
         };
-        let here = libc::lseek(self.writer.as_raw_fd(), 0, libc::SEEK_CUR);
-        let here = u64::try_from(here).unwrap_or(0);
+        let here = position(&self.rt, self.which.position_file())?;
         let begin = here.max(self.length.unwrap_or(0));
-        usize::try_from(limit.saturating_sub(begin)).unwrap_or(usize::MAX)
+        Ok(usize::try_from(limit.saturating_sub(begin)).unwrap_or(usize::MAX))
     }
 }
 
-impl<W: Write + AsRawFd + Drop> Write for StandardStream<W> {
+impl<R: rt::Files + Wait, W: Write + Drop> Write for StandardStream<R, W> {
     fn write(&mut self, buf: &[u8]) -> io::Result<usize> {
-        let count = buf.len().min(self.room());
+        let count = buf.len().min(self.room()?);
         if count == 0 && !buf.is_empty() {
-            return Err(io::Error::from_raw_os_error(libc::EFBIG));
+            return Err(io::Error::from_raw_os_error(FILE_TOO_LARGE));
         }
-        let written = write_waiting(&mut self.writer, &buf[..count])?;
+        let written = write_waiting(&self.rt, &mut self.writer, &buf[..count])?;
         self.length = None;
         Ok(written)
     }
@@ -69,27 +105,17 @@ impl<W: Write + AsRawFd + Drop> Write for StandardStream<W> {
     }
 }
 
-// The greatest length that the process may give a file.
-fn length_limit() -> Option<u64> {
-    let mut limit = rlimit {
-        rlim_cur: u64::MAX,
-        rlim_max: u64::MAX,
-    };
-    if libc::getrlimit(RLIMIT_FSIZE, &mut limit) < 0 || limit.rlim_cur == u64::MAX {
-        return None;
-    }
-    Some(limit.rlim_cur)
-}
-
-// One write, tried again where a signal interrupts it, and where the stream is full and does not block, once it has room.
-fn write_waiting<W: Write + AsRawFd>(writer: &mut W, buf: &[u8]) -> io::Result<usize>
+// One write, tried again where a signal interrupts it, and where the stream is full and does not block, until it has room.
+fn write_waiting<R: Wait, W: Write>(rt: &R, writer: &mut W, buf: &[u8]) -> io::Result<usize>
     ensures bound { WritesAtMost result buf.now }
 {
+    let mut pause = 1;
     for _ in 0..u64::MAX {
         match writer.write(buf) {
             Err(error) if error.kind() == ErrorKind::Interrupted => {}
             Err(error) if error.kind() == ErrorKind::WouldBlock => {
-                wait_for_room(writer.as_raw_fd());
+                Parker::new().park_timeout(rt, Duration::from_millis(pause));
+                pause = pause.saturating_mul(2).min(LONGEST_PAUSE);
             }
             done => return done,
         }
@@ -97,36 +123,52 @@ fn write_waiting<W: Write + AsRawFd>(writer: &mut W, buf: &[u8]) -> io::Result<u
     Err(io::Error::from(ErrorKind::TimedOut))
 }
 
-// Waits until a stream that is full has room, or is closed at its other end.
-fn wait_for_room(fd: RawFd) {
-    let mut asked = [pollfd {
-        fd,
-        events: POLLOUT,
-        revents: 0,
-    }];
-    let _ready = poll(&mut asked, -1);
-}
-
-/// The error if a plain file of so many bytes is longer than the process may make one.
-pub(crate) fn check_length(length: usize) -> io::Result<()> {
-    match length_limit() {
-        Some(limit) if limit < length as u64 => Err(io::Error::from_raw_os_error(libc::EFBIG)),
+/// The error if a plain file of so many bytes is longer than a limit.
+pub(crate) fn check_length(length: usize, limit: Option<u64>) -> io::Result<()> {
+    match limit {
+        Some(limit) if limit < length as u64 => {
+            Err(io::Error::from_raw_os_error(FILE_TOO_LARGE))
+        }
         _ => Ok(()),
     }
 }
 
-/// Waits until what was written to standard output is on its device. What has no device to be flushed to, as a pipe or a terminal, is
-/// let be.
-pub(crate) fn flush_output() -> io::Result<()> {
+/// Waits until what was written to standard output is on its device, where it is a plain file. What is none, as a pipe or a terminal, is
+/// let be, and so is what can't be told, where it is closed or the system has no `/proc`.
+pub(crate) fn flush_output<R: rt::Files>(rt: &R) -> io::Result<()> {
+    let name = Standard::Output.file();
+    match rt.metadata(name) {
+        Ok(about) if about.is_file() => flush_file(rt, name),
+        Err(error) if error.kind() != ErrorKind::NotFound => Err(error),
+        _ => Ok(()),
+    }
+}
+
+// Flushes a plain file, whoever wrote it: what any handle of a file flushes are the bytes of the file.
+fn flush_file<R: rt::Files>(rt: &R, name: &str) -> io::Result<()> {
+    let file = open_to_flush(rt, name)?;
     for _ in 0..u64::MAX {
-        if libc::fsync(libc::STDOUT_FILENO) >= 0 {
-            return Ok(());
-        }
-        match os::errno() {
-            libc::EINTR => {}
-            libc::EINVAL | libc::EROFS | libc::EBADF => return Ok(()),
-            code => return Err(io::Error::from_raw_os_error(code)),
+        match file.sync_all() {
+            Err(error) if error.kind() == ErrorKind::Interrupted => {}
+            Err(error) if has_no_device(error.kind()) => return Ok(()),
+            done => return done,
         }
     }
     Err(io::Error::from(ErrorKind::TimedOut))
+}
+
+// Opens a plain file that is there. One that may not be opened for writing, though the process was given it so, may be opened for reading.
+fn open_to_flush<R: rt::Files>(rt: &R, name: &str) -> io::Result<R::File> {
+    match fs::OpenOptions::new().write(true).open(rt, name) {
+        Err(error) if error.kind() == ErrorKind::PermissionDenied => fs::open(rt, name),
+        opened => opened,
+    }
+}
+
+// Whether a flush failed since there is no device to flush to.
+fn has_no_device(kind: ErrorKind) -> bool {
+    match kind {
+        ErrorKind::InvalidInput | ErrorKind::ReadOnlyFilesystem => true,
+        _ => false,
+    }
 }

@@ -2,14 +2,13 @@
 
 use crate::help;
 use crate::words::{resumed_name, words_of};
-use flu_adapt::{HostFiles, HostSink, ProgramCall, StandardStream};
+use flu_adapt::{HostFiles, HostSink, ProgramCall, Standard, StandardStream};
 use flu_hints::Failure;
 use flu_outside::{Files, MemSink, Sink, write_all};
 use flu_seq::OpenGate;
 use flu_top::flumina;
 use std::env::Env;
 use std::io::{IsTerminal, Write};
-use std::os::fd::AsRawFd;
 use std::process::ExitCode;
 use std::sync::Wait;
 use std::thread::Threads;
@@ -32,8 +31,8 @@ const LINE_ROOM: usize = 32_768;
 /// standard output and standard error, and `process` is the number of the process.
 pub fn answer_call<
     R: rt::Files + Env + AllocGlobal + Threads + Wait + Sync,
-    O: Write + AsRawFd + Drop,
-    E: Write + AsRawFd + IsTerminal + Drop,
+    O: Write + Drop,
+    E: Write + IsTerminal + Drop,
 >(rt: &R, out: O, err: E, process: u32) -> ExitCode {
     let Some(words) = words_of(rt) else {
         return ExitCode::from(NO_MEMORY);
@@ -41,8 +40,8 @@ pub fn answer_call<
     let resumed = resumed_name(rt.alloc(), &words);
     let is_for_a_person = err.is_terminal();
     let mut files = HostFiles::of_program(rt, ProgramCall { process, resumed });
-    let mut out = HostSink::new(StandardStream::new(rt, "/proc/self/fd/1", out));
-    let mut err = HostSink::new(StandardStream::new(rt, "/proc/self/fd/2", err));
+    let mut out = HostSink::new(StandardStream::new(rt, Standard::Output, out));
+    let mut err = HostSink::new(StandardStream::new(rt, Standard::Error, err));
     let status = if is_for_a_person {
         answer_a_person(rt, &words, &mut files, &mut out, &mut err)
     } else {
