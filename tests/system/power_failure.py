@@ -9,6 +9,7 @@ so is standard output, where it is a plain file, behind all that was written to 
 three flushes fails once, which is status 12."""
 
 import errno
+import os
 
 from system import Folder, Watch, need, program
 
@@ -54,6 +55,11 @@ for part, kept in (("out", True), ("flumina-new", True), (folder.at, False)):
         need(folder.read("save") == b"old", f"the checkpoint that was there stays where a flush of {part} fails")
     need(not any("flumina-new" in name for name in folder.names()), "no file is left beside")
 
+with open(folder.path("report"), "wb") as out:
+    os.remove(folder.path("report"))
+    status = folder.call("run", "job", "--save", "save", out=out, env=watch.env())[0]
+need(status == 0, f"status 0 where the file of standard output has no name, not {status}")
+need(["fsync", "out", ""] in watch.calls(), "a file that has no name is flushed")
 status, out, _ = folder.call("run", "job", "--save", "save")
 need((status, out) == (0, whole), "a pipe is let be")
 print("power_failure: as it should be")

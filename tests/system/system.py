@@ -26,6 +26,7 @@ WATCH = r"""
 #include <stdio.h>
 #include <stdlib.h>
 #include <string.h>
+#include <sys/stat.h>
 #include <unistd.h>
 
 static int log_to = -1;
@@ -52,8 +53,11 @@ static void put(const char *call, const char *first, const char *second) {
     if (n > 0) real_write(log_to, line, n);
 }
 
+/* The path of an open file, and `out` for that of standard output, which may be open more than once. */
 static const char *path_of(int fd, char *room) {
     char name[64];
+    struct stat it, out;
+    if (fd == 1 || (!fstat(fd, &it) && !fstat(1, &out) && it.st_dev == out.st_dev && it.st_ino == out.st_ino)) return "out";
     snprintf(name, sizeof name, "/proc/self/fd/%d", fd);
     ssize_t n = readlink(name, room, 4095);
     room[n < 0 ? 0 : n] = 0;
@@ -102,8 +106,8 @@ ssize_t write(int fd, const void *bytes, size_t count) {
     char room[4096];
     if (fd == log_to) return real_write(fd, bytes, count);
     if (is_interrupted()) return -1;
-    put("write", fd == 1 ? "out" : path_of(fd, room), "");
-    if (fails("write", fd == 1 ? "out" : path_of(fd, room))) return -1;
+    put("write", path_of(fd, room), "");
+    if (fails("write", path_of(fd, room))) return -1;
     return real_write(fd, bytes, count);
 }
 
@@ -114,7 +118,7 @@ ssize_t read(int fd, void *bytes, size_t count) {
 
 int fsync(int fd) {
     char room[4096];
-    const char *path = fd == 1 ? "out" : path_of(fd, room);
+    const char *path = path_of(fd, room);
     put("fsync", path, "");
     if (fails("fsync", path)) return -1;
     return real_fsync(fd);
