@@ -38,3 +38,10 @@ pub mod LawsOfOutcome
 pub mod RunFronts
 pub mod LawsOfDemos
 pub mod Headlines
+pub mod Widths
+pub mod RowRanges
+pub mod Rests
+pub mod ResumedRuns
+pub mod Leaving
+pub mod SameFold
+pub mod TwoRuns

@@ -163,12 +163,12 @@ same_defect_in : (kinds others : List Kind) (s : Source) (lines : List Next) →
 same_defect_in kinds others s lines alike = ap (λ f. first_some f (each_with_before lines))
     (fun_ext (λ (e : List Next × Next). same_line_defect kinds others s e.0 e.1 alike))
 
-same_lines : (texts : List (List ℕ)) (left : Contents) (p q : Program) (i : ℕ) → IsSameJob p q → lines_behind texts left q i ≡ lines_behind texts left p i
+pub same_lines : (texts : List (List ℕ)) (left : Contents) (p q : Program) (i : ℕ) → IsSameJob p q → lines_behind texts left q i ≡ lines_behind texts left p i
 same_lines texts left p q i same =
     ap (λ (ss : List Source). option_map_or (λ (s : Source). read_file (bytes_left (emptied_each texts left) s.file)) (slice_get ss i) [])
     (sym (ap (λ j. j.sources) same))
 
-same_sound : (texts : List (List ℕ)) (left : Contents) (p q : Program) → IsSameJob p q → AreSound p (lines_behind texts left p)
+pub same_sound : (texts : List (List ℕ)) (left : Contents) (p q : Program) → IsSameJob p q → AreSound p (lines_behind texts left p)
     → AreSound q (lines_behind texts left q)
 same_sound texts left p q same sound = λ i s e.
     ap (defect_in q.kinds s) (same_lines texts left p q i same)

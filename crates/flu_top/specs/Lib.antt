@@ -34,3 +34,4 @@ pub mod Writing
 pub mod Headline
 pub mod Mended
 pub mod Unread
+pub mod Resuming

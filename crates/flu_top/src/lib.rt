@@ -22,6 +22,7 @@ mod programs;
 mod rates;
 mod refusals;
 mod replaying;
+pub mod resuming;
 mod running;
 mod saves;
 mod simulating;

@@ -1,0 +1,238 @@
+-- What a run leaves under the name that it saves to, and what one writes that is resumed.
+use Rattle.std.proofs.Common.{◌≡◌, ◌⊎◌, refl, sym, ap, ◌∙◌, subst, ℕ, ◌≤◌, ◌<◌, List, [], ◌∷◌, ◌++◌, take, Option, Some, None, Ok, inl, inr, append_assoc, append-nil, arith}
+use Rattle.flu_lemmas.proofs.Told.{told_weaker}
+use Rattle.flu_outside.specs.Outside.{WhereTold, Contents}
+use Rattle.flu_outside.specs.Taking.{bytes_left}
+use Rattle.flu_outside.specs.Writing.{AppendsAll}
+use Rattle.flu_model.specs.declared.jobs.Program.{Program}
+use Rattle.flu_save.specs.Laws.{LawOfOneMeaning}
+use Rattle.flu_streams.specs.declared.faults.SourceFault.{SourceFault}
+use Rattle.flu_words.specs.Words.{Command, Run, RunOptions, command_in}
+use Rattle.flu_top.specs.Behind.{Named, HasJob, emptied_each}
+use Rattle.flu_top.specs.Openings.{Opening, Opens, OpensAt, report_from, state_from}
+use Rattle.flu_top.specs.Starting.{StartsFrom, CanStart, IsAsBefore, Leaves, LeavesPut}
+use Rattle.flu_top.specs.Wants.{if_named, job_wanted, how_read, texts_named}
+use Rattle.flu_top.specs.Reading.{InRounds, HaveWritten, MeetsDefect, ReportsNext, greatest_border, lines_behind}
+use Rattle.flu_top.specs.Done.{HasPlanAsked, IsDone, WhereKnown, AppendsInto, Wrote}
+use Rattle.flu_top.specs.Done.{WroteNone, WroteRounds, WroteSome, WroteUnsaved, WroteForMemory, WroteIntoRound, WrotePart}
+use Rattle.flu_top.specs.Causes.{HasSourceFault, IsMetInRounds}
+use Rattle.flu_top.specs.Outcome.{Outside, Outcome}
+use Rattle.flu_top.specs.Outcome as cases
+use Rattle.flu_top.specs.Resuming.{BeginsWith, HasPut, Behind, AtTheEnd, HasLeft, MayHaveSaved, RunsLeaveCheckpoints, ResumedRunsWriteTheRest}
+use Rattle.flu_top.proofs.OneCommand.{same_command}
+
+-- ---- openings
+-- bytes open in one way
+same_at : LawOfOneMeaning → (p : Program) (bytes : List ℕ) (o r : Opening) → OpensAt p bytes o → OpensAt p bytes r → o ≡ r
+same_at meaning p bytes o r a b =
+    let same = meaning p bytes a.time b.time o.cells r.cells a.save b.save in
+    λ i. record { border = (a.above ∙ ap Some same.0 ∙ sym b.above) i; cells = same.1 i }
+
+same_opening : LawOfOneMeaning → (resume : Option (List ℕ)) (texts : List (List ℕ)) (left : Contents) (p : Program) (o r : Opening)
+    → Opens resume texts left p o → Opens resume texts left p r → o ≡ r
+same_opening meaning None texts left p o r a b = a ∙ sym b
+same_opening meaning (Some name) texts left p o r a b = same_at meaning p (bytes_left (emptied_each texts left) name) o r a b
+
+-- ---- what was written
+begins_all : (text before now : List ℕ) → now ≡ before ++ text → BeginsWith text before now
+begins_all text before now wrote = ([], wrote ∙ sym (append-nil (before ++ text)))
+
+begins_more : (text more before now : List ℕ) → now ≡ before ++ (text ++ more) → BeginsWith text before now
+begins_more text more before now wrote = (more, wrote ∙ sym (append_assoc before text more))
+
+begins_into : (text more before now : List ℕ) → AppendsInto text more before now → BeginsWith text before now
+begins_into text more before now wrote = (take wrote.0 more, wrote.2)
+
+no_rounds : (status n : ℕ) → MayHaveSaved status → status ≡ n → (n ≡ 0 → ⊥) → (6 ≤ n → n ≤ 9 → ⊥) → ⊥
+no_rounds status n (inl none) is not0 not = not0 (sym is ∙ none)
+no_rounds status n (inr both) is not0 not = not (subst (λ m. 6 ≤ m) is both.0) (subst (λ m. m ≤ 9) is both.1)
+
+module _ (meaning : LawOfOneMeaning) (job : List ℕ) (plan : Option (List ℕ)) (options : RunOptions) (file : List ℕ) (saves : options.save ≡ Some file) where
+  abbrev whole : Command
+  whole = Run job plan options
+
+  abbrev texts : List (List ℕ)
+  texts = texts_named (Run job plan options)
+
+  abbrev Left : Option (List ℕ) → Option (List ℕ) → Contents → Contents → Type 0
+  Left had has left now = IsAsBefore texts file left now ⊎ HasLeft whole file had has left now
+
+  leaves : (put : Option (List ℕ)) (left now : Contents) → Leaves whole put left now → LeavesPut (Some file) texts put left now
+  leaves put left now is = subst (λ (named : Option (List ℕ)). LeavesPut named texts put left now) saves is
+
+  by_put : (q : Program) (o : Opening) (text : List ℕ) (put : Option (List ℕ)) (had has : Option (List ℕ)) (left now : Contents) → HasJob (Named job) left q
+      → StartsFrom whole left q o → HaveWritten q o (lines_behind texts left q) text put → LeavesPut (Some file) texts put left now
+      → WhereTold had has (BeginsWith text) → Left had has left now
+  by_put q o text None had has left now its starts written is wrote = inl is
+  by_put q o text (Some checkpoint) had has left now its starts written is wrote =
+      inr (record {
+        p = q;
+        job = its;
+        opening = o;
+        starts = starts;
+        text = text;
+        checkpoint = checkpoint;
+        put = Behind written;
+        stands = is;
+        wrote = wrote;
+      })
+
+  by_none : (a b : Option Contents) (had has : Option (List ℕ)) → WroteNone whole a b had has → WhereTold a b (Left had has)
+  by_none a b had has none = told_weaker (Leaves whole None) (Left had has) a b (λ left now is. inl (leaves None left now is)) none.as_before
+
+  by_rounds : (a b : Option Contents) (had has : Option (List ℕ)) → WroteRounds whole a b had has → WhereTold a b (Left had has)
+  by_rounds a b had has wrote =
+      let q = wrote.p in
+      told_weaker (λ left now. HasJob (Named job) left q × HasPlanAsked whole left q
+      × ((o : Opening) × StartsFrom whole left q o
+      × ((put : Option (List ℕ)) × HaveWritten q o (lines_behind texts left q) wrote.text put × Leaves whole put left now))) (Left had has) a b
+      (λ left now found. by_put q found.2.0 wrote.text found.2.2.0 had has left now found.0 found.2.1 found.2.2.1
+      (leaves found.2.2.0 left now found.2.2.2)
+      (told_weaker (AppendsAll wrote.text) (BeginsWith wrote.text) had has (begins_all wrote.text) wrote.wrote)) wrote.rounds
+
+  written_before : (q : Program) (o : Opening) (left : Contents) (text more : List ℕ) (put : Option (List ℕ))
+      → ReportsNext q o (lines_behind texts left q) text put more
+      → HaveWritten q o (lines_behind texts left q) text put
+  written_before q o left text more put next = record { border = next.border; ran = next.ran; saved = next.saved }
+
+  by_unsaved : (a b : Option Contents) (had has : Option (List ℕ)) → WroteUnsaved (Leaves whole) whole a b had has → WhereTold a b (Left had has)
+  by_unsaved a b had has wrote =
+      let q = wrote.p in
+      told_weaker (λ left now. HasJob (Named job) left q × HasPlanAsked whole left q
+      × ((o : Opening) × StartsFrom whole left q o
+      × ((put : Option (List ℕ)) × ReportsNext q o (lines_behind texts left q) wrote.text put wrote.more × Leaves whole put left now))) (Left had has) a b
+      (λ left now found. by_put q found.2.0 wrote.text found.2.2.0 had has left now found.0 found.2.1
+      (written_before q found.2.0 left wrote.text wrote.more found.2.2.0 found.2.2.1)
+      (leaves found.2.2.0 left now found.2.2.2)
+      (told_weaker (AppendsAll (wrote.text ++ wrote.more)) (BeginsWith wrote.text) had has (begins_more wrote.text wrote.more) wrote.wrote)) wrote.round
+
+  by_part : (a b : Option Contents) (had has : Option (List ℕ)) → WroteIntoRound whole a b had has → WhereTold a b (Left had has)
+  by_part a b had has wrote =
+      let q = wrote.p in
+      told_weaker (λ left now. HasJob (Named job) left q × HasPlanAsked whole left q
+      × ((o : Opening) × StartsFrom whole left q o
+      × ((put : Option (List ℕ)) × ReportsNext q o (lines_behind texts left q) wrote.text put wrote.more × Leaves whole put left now))) (Left had has) a b
+      (λ left now found. by_put q found.2.0 wrote.text found.2.2.0 had has left now found.0 found.2.1
+      (written_before q found.2.0 left wrote.text wrote.more found.2.2.0 found.2.2.1)
+      (leaves found.2.2.0 left now found.2.2.2)
+      (told_weaker (AppendsInto wrote.text wrote.more) (BeginsWith wrote.text) had has (begins_into wrote.text wrote.more) wrote.wrote)) wrote.round
+
+  by_defect : (a b : Option Contents) (had has : Option (List ℕ)) (q : Program) (fault : SourceFault) (text : List ℕ)
+      → HasSourceFault whole a b q fault text
+      → WhereTold had has (AppendsAll text) → WhereTold a b (Left had has)
+  by_defect a b had has q fault text why wrote =
+      told_weaker (λ left now. HasJob (Named job) left q × HasPlanAsked whole left q × CanStart whole left q × IsMetInRounds whole left now q text fault)
+      (Left had has) a b
+      (λ left now found. by_put q found.3.opening text found.3.put had has left now found.0 found.3.starts
+      (record { border = found.3.met.border; ran = found.3.met.ran; saved = found.3.met.saved })
+      (leaves found.3.put left now found.3.leaves)
+      (told_weaker (AppendsAll text) (BeginsWith text) had has (begins_all text) wrote)) why.first
+
+  by_done : (a b : Option Contents) (had has : Option (List ℕ)) (line : List ℕ) → WhereTold a b (IsDone whole had has line) → WhereTold a b (Left had has)
+  by_done a b had has line done =
+      told_weaker (IsDone whole had has line) (Left had has) a b
+      (λ left now found.
+      let p = found.0 in
+      let text = found.1 in
+      let saved = found.2.saved file saves in
+      let o = saved.0 in
+      let same : found.3.0 ≡ o = same_opening meaning options.resume (job ∷ if_named plan) left p found.3.0 o found.3.1 saved.1.opens in
+      inr (record {
+        p = p;
+        job = found.2.good.has;
+        opening = o;
+        starts = saved.1;
+        text = text;
+        checkpoint = _;
+        put = AtTheEnd (found.3.2 ∙ ap (λ (r : Opening). report_from r texts left p) same) refl;
+        stands = saved.2;
+        wrote = told_weaker (AppendsAll text) (BeginsWith text) had has (begins_all text) found.5;
+      })) done
+
+  by_some : (a b : Option Contents) (had has : Option (List ℕ)) → WroteSome InRounds whole a b had has → WhereTold a b (Left had has)
+  by_some a b had has (inl none) = by_none a b had has none
+  by_some a b had has (inr wrote) = by_rounds a b had has wrote
+
+  by_memory : (a b : Option Contents) (had has : Option (List ℕ)) → WroteForMemory InRounds whole a b had has → WhereTold a b (Left had has)
+  by_memory a b had has (inl some) = by_some a b had has some
+  by_memory a b had has (inr wrote) = by_unsaved a b had has wrote
+
+  by_case : (words : List (List ℕ)) (old new : Outside) (status : ℕ) → Outcome words old new status → MayHaveSaved status → command_in words ≡ Ok whole
+      → WhereTold old.left new.left (Left old.out new.out)
+  by_case words old new status (cases.Done is command also line done heard) may word =
+      by_done old.left new.left old.out new.out line
+      (subst (λ (d : Command). WhereKnown (job_wanted d) old.left new.left (IsDone d old.out new.out line)) (same_command words command whole also word) done)
+  by_case words old new status (cases.BadWords is at bad files refused) may word = absurd (no_rounds status 2 may is (λ e. cc) (λ low high. omega (arith, low)))
+  by_case words old new status (cases.BadJob is command also fault has refused) may word =
+      absurd (no_rounds status 3 may is (λ e. cc) (λ low high. omega (arith, low)))
+  by_case words old new status (cases.Conflicts is command also fault has refused) may word =
+      absurd (no_rounds status 4 may is (λ e. cc) (λ low high. omega (arith, low)))
+  by_case words old new status (cases.BadPlan is command also defect has refused) may word =
+      absurd (no_rounds status 5 may is (λ e. cc) (λ low high. omega (arith, low)))
+  by_case words old new status (cases.BadSource is command also q fault text has wrote said) may word =
+      let same = same_command words command whole also word in
+      by_defect old.left new.left old.out new.out q fault text (subst (λ (d : Command). HasSourceFault d old.left new.left q fault text) same has)
+      (subst (λ (d : Command). Wrote (how_read d) text old.out new.out) same wrote)
+  by_case words old new status (cases.ReadFailed is command also some said) may word =
+      by_some old.left new.left old.out new.out
+      (subst (λ (d : Command). WroteSome (how_read d) d old.left new.left old.out new.out) (same_command words command whole also word) some)
+  by_case words old new status (cases.WriteFailed is command also partly said) may word =
+      by_part old.left new.left old.out new.out
+      (subst (λ (d : Command). WrotePart (how_read d) d old.left new.left old.out new.out) (same_command words command whole also word) partly)
+  by_case words old new status (cases.NoMemory is command also some said) may word =
+      by_memory old.left new.left old.out new.out
+      (subst (λ (d : Command). WroteForMemory (how_read d) d old.left new.left old.out new.out) (same_command words command whole also word) some)
+  by_case words old new status (cases.BadSave is command also defect has refused) may word =
+      absurd (no_rounds status 11 may is (λ e. cc) (λ low high. omega (arith, high)))
+  by_case words old new status (cases.PutFailed is command also wrote said) may word =
+      absurd (no_rounds status 12 may is (λ e. cc) (λ low high. omega (arith, high)))
+  by_case words old new status (cases.BadTrace is command also fault has refused) may word =
+      absurd (no_rounds status 13 may is (λ e. cc) (λ low high. omega (arith, high)))
+
+pub runs_leave : LawOfOneMeaning → RunsLeaveCheckpoints
+runs_leave meaning words old new status outcome may job plan options file word saves = by_case meaning job plan options file saves words old new status outcome may word
+
+-- ---- a run that is resumed
+module _ (job : List ℕ) (plan : Option (List ℕ)) (options : RunOptions) (file : List ℕ) (resumes : options.resume ≡ Some file) where
+  abbrev resumed : Command
+  resumed = Run job plan options
+
+  abbrev Rest : Option (List ℕ) → Option (List ℕ) → Contents → Contents → Type 0
+  Rest had has left now =
+      (p : Program) × HasJob (Named job) left p
+      × ((rest : Opening) × OpensAt p (bytes_left (emptied_each (job ∷ if_named plan) left) file) rest
+      × WhereTold had has (AppendsAll (report_from rest (texts_named (Run job plan options)) left p)))
+
+  rest_written : (a b : Option Contents) (had has : Option (List ℕ)) (line : List ℕ) → WhereTold a b (IsDone resumed had has line)
+      → WhereTold a b (Rest had has)
+  rest_written a b had has line done =
+      told_weaker (IsDone resumed had has line) (Rest had has) a b
+      (λ left now found. (
+        found.0,
+        found.2.good.has,
+        (
+          found.3.0,
+          subst (λ (named : Option (List ℕ)). Opens named (job ∷ if_named plan) left found.0 found.3.0) resumes found.3.1,
+          subst (λ (text : List ℕ). WhereTold had has (AppendsAll text)) found.3.2 found.5,
+        ),
+      )) done
+
+  rest_by_case : (words : List (List ℕ)) (old new : Outside) (status : ℕ) → Outcome words old new status → status ≡ 0 → command_in words ≡ Ok resumed
+      → WhereTold old.left new.left (Rest old.out new.out)
+  rest_by_case words old new status (cases.Done is command also line done heard) zero word =
+      rest_written old.left new.left old.out new.out line
+      (subst (λ (d : Command). WhereKnown (job_wanted d) old.left new.left (IsDone d old.out new.out line)) (same_command words command resumed also word) done)
+  rest_by_case words old new status (cases.BadWords is at bad files refused) zero word = absurd (let e : 2 ≡ 0 = sym is ∙ zero in cc)
+  rest_by_case words old new status (cases.BadJob is command also fault has refused) zero word = absurd (let e : 3 ≡ 0 = sym is ∙ zero in cc)
+  rest_by_case words old new status (cases.Conflicts is command also fault has refused) zero word = absurd (let e : 4 ≡ 0 = sym is ∙ zero in cc)
+  rest_by_case words old new status (cases.BadPlan is command also defect has refused) zero word = absurd (let e : 5 ≡ 0 = sym is ∙ zero in cc)
+  rest_by_case words old new status (cases.BadSource is command also q fault text has wrote said) zero word = absurd (let e : 6 ≡ 0 = sym is ∙ zero in cc)
+  rest_by_case words old new status (cases.ReadFailed is command also some said) zero word = absurd (let e : 7 ≡ 0 = sym is ∙ zero in cc)
+  rest_by_case words old new status (cases.WriteFailed is command also partly said) zero word = absurd (let e : 8 ≡ 0 = sym is ∙ zero in cc)
+  rest_by_case words old new status (cases.NoMemory is command also some said) zero word = absurd (let e : 9 ≡ 0 = sym is ∙ zero in cc)
+  rest_by_case words old new status (cases.BadSave is command also defect has refused) zero word = absurd (let e : 11 ≡ 0 = sym is ∙ zero in cc)
+  rest_by_case words old new status (cases.PutFailed is command also wrote said) zero word = absurd (let e : 12 ≡ 0 = sym is ∙ zero in cc)
+  rest_by_case words old new status (cases.BadTrace is command also fault has refused) zero word = absurd (let e : 13 ≡ 0 = sym is ∙ zero in cc)
+
+pub resumed_write : ResumedRunsWriteTheRest
+resumed_write words old new outcome job plan options file word resumes = rest_by_case job plan options file resumes words old new 0 outcome refl word

@@ -1,0 +1,107 @@
+-- A run, and one that is resumed from what it left, write the report of the first one together.
+use Rattle.std.proofs.Common.{◌≡◌, ◌⊎◌, refl, sym, ap, ◌∙◌, subst, ℕ, List, [], ◌∷◌, ◌++◌, Option, Some, None, Ok, inl, inr}
+use Rattle.std.specs.Prelude.{unwrap_or}
+use Rattle.flu_lemmas.proofs.Told.{of_told}
+use Rattle.flu_grammar.specs.Laws.{JobsAreGrammar}
+use Rattle.flu_outside.specs.Outside.{WhereTold, Contents}
+use Rattle.flu_outside.specs.Taking.{bytes_left}
+use Rattle.flu_outside.specs.Writing.{AppendsAll}
+use Rattle.flu_model.specs.declared.events.Item.{Item}
+use Rattle.flu_model.specs.declared.jobs.Program.{Program}
+use Rattle.flu_model.specs.Erasure.{IsSameJob}
+use Rattle.flu_model.specs.Folding.{final_outputs}
+use Rattle.flu_model.specs.Reports.{report}
+use Rattle.flu_rounds.specs.Written.{AreSound, lists_above}
+use Rattle.flu_save.specs.Laws.{LawOfOneMeaning, SavesAreOfJobs}
+use Rattle.flu_words.specs.Words.{Command, Run, RunOptions, command_in}
+use Rattle.flu_top.specs.Behind.{Named, HasJob, emptied_each, lists_behind}
+use Rattle.flu_top.specs.Openings.{Opening, Opens, OpensAt, report_from}
+use Rattle.flu_top.specs.Outcome.{Outside, Outcome}
+use Rattle.flu_top.specs.Reading.{lines_behind}
+use Rattle.flu_top.specs.Resuming.{BeginsWith, IsOpeningOf, HasLeft, MayHaveSaved, AreSameSources, AreOfOneJob, WroteTheWhole, ResumedRunsCompleteReports}
+use Rattle.flu_top.specs.Starting.{StartsFrom, IsAsBefore}
+use Rattle.flu_top.specs.Wants.{if_named, texts_named}
+use Rattle.flu_top.proofs.OneRuns.{same_job}
+use Rattle.flu_top.proofs.Leaving.{runs_leave, resumed_write}
+use Rattle.flu_top.proofs.ResumedRuns.{LawsOfRests, opens_the_rest, sources_decide}
+use Rattle.flu_top.proofs.SameFold.{same_report_from}
+
+-- what is told of both
+told_at : {A : Type 0} (P : A → A → Type 0) (x y : A) (a b : Option A) → a ≡ Some x → b ≡ Some y → WhereTold a b P → P x y
+told_at P x y a b is is' told = subst (λ (o : Option _). WhereTold (Some x) o P) is' (subst (λ (o : Option _). WhereTold o b P) is told)
+
+-- what a run opens with is an opening of its job
+is_opening : (resume : Option (List ℕ)) (texts : List (List ℕ)) (left : Contents) (p : Program) (o : Opening) → Opens resume texts left p o → IsOpeningOf p o
+is_opening None texts left p o opens = inl opens
+is_opening (Some name) texts left p o opens = inr (bytes_left (emptied_each texts left) name, opens)
+
+-- what opens a run of a job opens one of each program that is this job
+opens_same : SavesAreOfJobs → (p q : Program) → IsSameJob p q → (bytes : List ℕ) (o : Opening) → OpensAt p bytes o → OpensAt q bytes o
+opens_same saves p q same bytes o opens = record { time = opens.time; above = opens.above; save = saves p q same opens.time o.cells bytes opens.save }
+
+-- the report over other sources that have the same
+same_sources_report : (p : Program) (o : Opening) (texts texts' : List (List ℕ)) (left left' : Contents) → AreSameSources p texts left texts' left'
+    → report_from o texts' left' p ≡ report_from o texts left p
+same_sources_report p o texts texts' left left' same =
+    ap (λ (lists : List (List Item)). report p (final_outputs p o.cells (lists_above o.border lists))) (sources_decide p texts texts' left left' same).1
+
+module _ (laws : LawsOfRests) (jobs : JobsAreGrammar) (meaning : LawOfOneMeaning) (saves : SavesAreOfJobs) where
+  both_wrote : (job job' : List ℕ) (plan plan' : Option (List ℕ)) (options options' : RunOptions) (file file' : List ℕ)
+      (had has had' has' : Option (List ℕ)) (left now left' : Contents)
+      → bytes_left (emptied_each (job' ∷ if_named plan') left') file' ≡ bytes_left now file
+      → AreOfOneJob job left job' left'
+      → ((p : Program) → HasJob (Named job) left p → AreSound p (lines_behind (texts_named (Run job plan options)) left p)
+      × AreSameSources p (texts_named (Run job plan options)) left (texts_named (Run job' plan' options')) left')
+      → HasLeft (Run job plan options) file had has left now
+      → ((q : Program) × HasJob (Named job') left' q
+      × ((rest : Opening) × OpensAt q (bytes_left (emptied_each (job' ∷ if_named plan') left') file') rest
+      × WhereTold had' has' (AppendsAll (report_from rest (texts_named (Run job' plan' options')) left' q))))
+      → WroteTheWhole (Run job plan options) left had has had' has'
+  both_wrote job job' plan plan' options options' file file' had has had' has' left now left' bytes one good stays second =
+      let p = stays.p in
+      let o = stays.opening in
+      let q = second.0 in
+      let rest = second.2.0 in
+      let texts = texts_named (Run job plan options) in
+      let texts' = texts_named (Run job' plan' options') in
+      let same : IsSameJob q p = same_job jobs (Named job') left' q p second.1 (one p stays.job) in
+      let there : bytes_left (emptied_each (job' ∷ if_named plan') left') file' ≡ stays.checkpoint =
+      bytes ∙ ap (λ (found : Option (List ℕ)). unwrap_or found []) stays.stands in
+      let opens : OpensAt p stays.checkpoint rest =
+      opens_same saves q p same stays.checkpoint rest (subst (λ (text : List ℕ). OpensAt q text rest) there second.2.1) in
+      let goes = opens_the_rest laws p o rest texts left stays.text stays.checkpoint (good p stays.job).0
+      (is_opening options.resume (job ∷ if_named plan) left p o stays.starts.opens) stays.put opens in
+      let wrote : report_from rest texts' left' q ≡ report_from rest texts left p =
+      same_report_from q p same rest texts' left' ∙ same_sources_report p rest texts texts' left left' (good p stays.job).1 in
+      record {
+        p = p;
+        job = stays.job;
+        opening = o;
+        starts = stays.starts;
+        text = stays.text;
+        rest = report_from rest texts left p;
+        whole = goes.report;
+        first = stays.wrote;
+        second = subst (λ (text : List ℕ). WhereTold had' has' (AppendsAll text)) wrote second.2.2;
+      }
+
+  pub complete_reports : ResumedRunsCompleteReports
+  complete_reports words words' old new old' new' status outcome may outcome' job job' plan plan' options options' file file' word saving word' resuming left now
+      left' told told' told'' bytes one good =
+      let texts = texts_named (Run job plan options) in
+      let first = told_at (λ x y. IsAsBefore texts file x y ⊎ HasLeft (Run job plan options) file old.out new.out x y) left now old.left new.left told told'
+      (runs_leave meaning words old new status outcome may job plan options file word saving) in
+      let second = of_told (λ x y. (q : Program) × HasJob (Named job') x q
+      × ((rest : Opening) × OpensAt q (bytes_left (emptied_each (job' ∷ if_named plan') x) file') rest
+      × WhereTold old'.out new'.out (AppendsAll (report_from rest (texts_named (Run job' plan' options')) x q)))) left' old'.left new'.left told''
+      (resumed_write words' old' new' outcome' job' plan' options' file' word' resuming) in
+      by first second.1
+    where
+      by : IsAsBefore (texts_named (Run job plan options)) file left now ⊎ HasLeft (Run job plan options) file old.out new.out left now
+          → ((q : Program) × HasJob (Named job') left' q
+          × ((rest : Opening) × OpensAt q (bytes_left (emptied_each (job' ∷ if_named plan') left') file') rest
+          × WhereTold old'.out new'.out (AppendsAll (report_from rest (texts_named (Run job' plan' options')) left' q))))
+          → IsAsBefore (texts_named (Run job plan options)) file left now
+          ⊎ WroteTheWhole (Run job plan options) left old.out new.out old'.out new'.out
+      by (inl before) rest = inl before
+      by (inr stays) rest = inr (both_wrote job job' plan plan' options options' file file' old.out new.out old'.out new'.out left now left' bytes one good stays rest)

@@ -1,0 +1,161 @@
+-- Runs that are resumed: what a checkpoint that a run has put opens, and what runs write together of which each goes on from the
+-- checkpoint of the one before it.
+use Rattle.std.specs.Prelude.{◌≡◌, ◌⊎◌, ◌≤◌, ℕ, List, [], ◌∷◌, ◌++◌, Option, Some, Contains, IsUtf8, Ok}
+use Rattle.flu_outside.specs.Outside.{Contents, WhereTold}
+use Rattle.flu_outside.specs.Taking.{bytes_left}
+use Rattle.flu_outside.specs.Writing.{AppendsAll}
+use Rattle.flu_model.specs.declared.jobs.Program.{Program}
+use Rattle.flu_model.specs.Erasure.{job_of}
+use Rattle.flu_parse.specs.Printing.{normal_form}
+use Rattle.flu_rounds.specs.Written.{AreSound}
+use Rattle.flu_save.specs.declared.fault.SaveFault.{SaveFault}
+use Rattle.flu_save.specs.declared.fault.SaveFault.TheVariants.{NoMemory}
+use Rattle.flu_save.specs.Checkpoint.{save}
+use Rattle.flu_save.specs.Forms.{HasShortText, IsFaultOf}
+use Rattle.flu_streams.specs.Files.{files_of}
+use Rattle.flu_words.specs.Words.{Command, Run, RunOptions, command_in}
+use Rattle.flu_top.specs.Behind.{Named, HasJob, emptied_each, lists_behind}
+use Rattle.flu_top.specs.Openings.{Opening, OpensAt, fresh, report_from, state_from}
+use Rattle.flu_top.specs.Outcome.{Outside, Outcome}
+use Rattle.flu_top.specs.Reading.{HaveWritten, greatest_border, lines_behind}
+use Rattle.flu_top.specs.Starting.{IsAsBefore, StartsFrom}
+use Rattle.flu_top.specs.Wants.{if_named, job_wanted, texts_named}
+
+-- ---- checkpoints of a run
+-- an opening that a run of a job can have: from the first row on, or that of a checkpoint of the job
+abbrev pub IsOpeningOf : Program → Opening → Type 0
+IsOpeningOf p o = (o ≡ fresh) ⊎ ((bytes : List ℕ) × OpensAt p bytes o)
+
+-- A RUN HAD WRITTEN THIS WHEN IT PUT THIS CHECKPOINT, from an opening and over sources that are read behind some texts: the rounds up to
+-- some one wrote the text, and the checkpoint is that of their border; or all rounds did, and it is the last one
+pub data HasPut (p : Program) (o : Opening) (texts : List (List ℕ)) (left : Contents) (text checkpoint : List ℕ) : Type 0 where
+  Behind : HaveWritten p o (lines_behind texts left p) text (Some checkpoint) → HasPut p o texts left text checkpoint
+  AtTheEnd : text ≡ report_from o texts left p → checkpoint ≡ save p greatest_border (state_from o texts left p) → HasPut p o texts left text checkpoint
+
+-- THE REST OF A RUN is this text: with what was written it is the report from the opening, and the state behind both is the same
+pub record IsRest (p : Program) (o rest : Opening) (texts : List (List ℕ)) (left : Contents) (text : List ℕ) : Type 0 where
+  pub report : report_from o texts left p ≡ text ++ report_from rest texts left p
+  pub state : state_from o texts left p ≡ state_from rest texts left p
+
+-- LAW OF THE REST: where no source has a defect, a checkpoint that a run has put opens the rest of the run
+abbrev pub CheckpointsOpenTheRest : Type 0
+CheckpointsOpenTheRest =
+    (p : Program) (o rest : Opening) (texts : List (List ℕ)) (left : Contents) (text checkpoint : List ℕ)
+    → AreSound p (lines_behind texts left p) → IsOpeningOf p o → HasPut p o texts left text checkpoint → OpensAt p checkpoint rest
+    → IsRest p o rest texts left text
+
+-- RUNS ONE AFTER ANOTHER, from an opening, each of which is resumed from a checkpoint that the one before it put: what they wrote
+-- together by then, and the opening of the next one
+pub data GoOn (p : Program) (texts : List (List ℕ)) (left : Contents) : Opening → List ℕ → Opening → Type 0 where
+  Begun : (o : Opening) → GoOn p texts left o [] o
+  Resumed : (o next last : Opening) (text more checkpoint : List ℕ) → HasPut p o texts left text checkpoint → OpensAt p checkpoint next
+      → GoOn p texts left next more last → GoOn p texts left o (text ++ more) last
+
+-- LAW OF RESUMED RUNS: the next one writes the rest of the first one's report
+abbrev pub RunsGoOn : Type 0
+RunsGoOn =
+    (p : Program) (o last : Opening) (texts : List (List ℕ)) (left : Contents) (text : List ℕ)
+    → AreSound p (lines_behind texts left p) → IsOpeningOf p o → GoOn p texts left o text last → IsRest p o last texts left text
+
+-- LAW OF CHECKPOINTS: a checkpoint that a run of a job has put opens a run of that job, and no fault of it refuses one, where the normal
+-- form of the job is UTF-8 and short
+abbrev pub CheckpointsOpen : Type 0
+CheckpointsOpen =
+    (p : Program) (o : Opening) (texts : List (List ℕ)) (left : Contents) (text checkpoint : List ℕ)
+    → AreSound p (lines_behind texts left p) → IsOpeningOf p o → HasPut p o texts left text checkpoint
+    → HasShortText p → IsUtf8 (normal_form (job_of p))
+    → ((rest : Opening) × OpensAt p checkpoint rest) × ((fault : SaveFault) → IsFaultOf p checkpoint fault → fault ≡ NoMemory)
+
+-- ---- sources
+-- the files of the job's sources have the same, read behind other texts or left otherwise
+abbrev pub AreSameSources : Program → List (List ℕ) → Contents → List (List ℕ) → Contents → Type 0
+AreSameSources p texts left texts' left' =
+    (name : List ℕ) → Contains (files_of p.sources) name → bytes_left (emptied_each texts' left') name ≡ bytes_left (emptied_each texts left) name
+
+-- then they have the same lines, and the same items
+abbrev pub SourcesDecide : Type 0
+SourcesDecide =
+    (p : Program) (texts texts' : List (List ℕ)) (left left' : Contents) → AreSameSources p texts left texts' left'
+    → (lines_behind texts' left' p ≡ lines_behind texts left p) × (lists_behind texts' left' p ≡ lists_behind texts left p)
+
+-- so it is where one more text is read before them, as a checkpoint that is no source's file
+abbrev pub CheckpointsLeaveSources : Type 0
+CheckpointsLeaveSources =
+    (p : Program) (texts : List (List ℕ)) (left : Contents) (name : List ℕ) → ¬ Contains (files_of p.sources) name
+    → AreSameSources p texts left (texts ++ name ∷ []) left
+
+-- ---- what calls leave
+-- a status at which rounds may have been run, and what they put stands
+abbrev pub MayHaveSaved : ℕ → Type 0
+MayHaveSaved status = (status ≡ 0) ⊎ ((6 ≤ status) × (status ≤ 9))
+
+-- a text stands behind what was there, and maybe more behind it
+abbrev pub BeginsWith : List ℕ → List ℕ → List ℕ → Type 0
+BeginsWith text before now = (more : List ℕ) × (now ≡ before ++ text ++ more)
+
+-- A CALL LEFT A CHECKPOINT under a name: one that it put when it had written this text, which stands in out, and maybe a part of the
+-- next round's report behind it
+pub record HasLeft (command : Command) (file : List ℕ) (had has : Option (List ℕ)) (old new : Contents) : Type 0 where
+  pub p : Program
+  pub job : HasJob (job_wanted command) old p
+  pub opening : Opening
+  pub starts : StartsFrom command old p opening
+  pub text : List ℕ
+  pub checkpoint : List ℕ
+  pub put : HasPut p opening (texts_named command) old text checkpoint
+  pub stands : new file ≡ Some checkpoint
+  pub wrote : WhereTold had has (BeginsWith text)
+
+-- a run that saves leaves the name that it saves to as it was, or such a checkpoint
+abbrev pub RunsLeaveCheckpoints : Type 0
+RunsLeaveCheckpoints =
+    (words : List (List ℕ)) (old new : Outside) (status : ℕ) → Outcome words old new status → MayHaveSaved status
+    → (job : List ℕ) (plan : Option (List ℕ)) (options : RunOptions) (file : List ℕ) → command_in words ≡ Ok (Run job plan options)
+    → options.save ≡ Some file
+    → WhereTold old.left new.left (λ left now. IsAsBefore (texts_named (Run job plan options)) file left now
+    ⊎ HasLeft (Run job plan options) file old.out new.out left now)
+
+-- and one that is resumed, and ends with status 0, writes what its checkpoint opens: so behind what was written when that was put
+-- stands the rest
+abbrev pub ResumedRunsWriteTheRest : Type 0
+ResumedRunsWriteTheRest =
+    (words : List (List ℕ)) (old new : Outside) → Outcome words old new 0
+    → (job : List ℕ) (plan : Option (List ℕ)) (options : RunOptions) (file : List ℕ) → command_in words ≡ Ok (Run job plan options)
+    → options.resume ≡ Some file
+    → WhereTold old.left new.left (λ left _. (p : Program) × HasJob (Named job) left p
+    × ((rest : Opening) × OpensAt p (bytes_left (emptied_each (job ∷ if_named plan) left) file) rest
+    × WhereTold old.out new.out (AppendsAll (report_from rest (texts_named (Run job plan options)) left p))))
+
+-- TWO RUNS WROTE THE WHOLE: what the first one had written when it put the checkpoint that it left, and what the second one wrote, are
+-- together the report of the first one, as that is from its opening
+pub record WroteTheWhole (command : Command) (left : Contents) (had has had' has' : Option (List ℕ)) : Type 0 where
+  pub p : Program
+  pub job : HasJob (job_wanted command) left p
+  pub opening : Opening
+  pub starts : StartsFrom command left p opening
+  pub text : List ℕ
+  pub rest : List ℕ
+  pub whole : report_from opening (texts_named command) left p ≡ text ++ rest
+  pub first : WhereTold had has (BeginsWith text)
+  pub second : WhereTold had' has' (AppendsAll rest)
+
+-- the second run has the job of the first one
+abbrev pub AreOfOneJob : List ℕ → Contents → List ℕ → Contents → Type 0
+AreOfOneJob job left job' left' = (p : Program) → HasJob (Named job) left p → HasJob (Named job') left' p
+
+-- LAW OF TWO RUNS: a run that saves, whose sources have no defect, left the name that it saves to as it was; or a run of the same job
+-- over the same sources that is resumed from what it left there, and ends with status 0, writes the rest of its report
+abbrev pub ResumedRunsCompleteReports : Type 0
+ResumedRunsCompleteReports =
+    (words words' : List (List ℕ)) (old new old' new' : Outside) (status : ℕ) → Outcome words old new status → MayHaveSaved status
+    → Outcome words' old' new' 0
+    → (job job' : List ℕ) (plan plan' : Option (List ℕ)) (options options' : RunOptions) (file file' : List ℕ)
+    → command_in words ≡ Ok (Run job plan options) → options.save ≡ Some file
+    → command_in words' ≡ Ok (Run job' plan' options') → options'.resume ≡ Some file'
+    → (left now left' : Contents) → old.left ≡ Some left → new.left ≡ Some now → old'.left ≡ Some left'
+    → bytes_left (emptied_each (job' ∷ if_named plan') left') file' ≡ bytes_left now file
+    → AreOfOneJob job left job' left'
+    → ((p : Program) → HasJob (Named job) left p → AreSound p (lines_behind (texts_named (Run job plan options)) left p)
+    × AreSameSources p (texts_named (Run job plan options)) left (texts_named (Run job' plan' options')) left')
+    → IsAsBefore (texts_named (Run job plan options)) file left now
+    ⊎ WroteTheWhole (Run job plan options) left old.out new.out old'.out new'.out
