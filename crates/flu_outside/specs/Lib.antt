@@ -1,6 +1,7 @@
 pub mod Answers
 pub mod Calls
 pub mod HonestFiles
+pub mod Lines
 pub mod MemFiles
 pub mod MemSink
 pub mod Outside

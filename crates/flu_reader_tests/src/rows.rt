@@ -5,8 +5,8 @@ ghost use Rattle.std.specs.Prelude.{◌<◌};
 use crate::files::files_of;
 use crate::tables::case_of;
 use flu_model::Text;
-use flu_outside::MemFiles;
-use flu_rows::{Next, Row, Rows, RowsFault};
+use flu_outside::{MemFiles, TakeFault};
+use flu_rows::{Next, Row, Rows};
 use std::alloc::{AllocError, Global};
 use std::process::Abort;
 use std::test::Fail;
@@ -150,7 +150,7 @@ fn tells_a_fault(rt: HostRuntime) -> Result<(), Fail> {
     files.fail_at(4)?;
     let mut rows = rows_of(rt.alloc(), "f")?;
     assert_eq!(rt; rows.next_row(&mut files).is_ok(), true);
-    assert_eq!(rt; rows.next_row(&mut files).err(), Some(RowsFault::ReadFault));
+    assert_eq!(rt; rows.next_row(&mut files).err(), Some(TakeFault::Failed));
     Ok(())
 }
 
@@ -158,6 +158,6 @@ fn tells_a_fault(rt: HostRuntime) -> Result<(), Fail> {
 fn a_missing_file_is_a_fault(rt: HostRuntime) -> Result<(), Fail> {
     let mut files = files_of(rt.alloc(), &[], 3)?;
     let mut rows = rows_of(rt.alloc(), "missing")?;
-    assert_eq!(rt; rows.next_row(&mut files).err(), Some(RowsFault::ReadFault));
+    assert_eq!(rt; rows.next_row(&mut files).err(), Some(TakeFault::Failed));
     Ok(())
 }

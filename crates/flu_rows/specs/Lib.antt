@@ -3,7 +3,6 @@ pub mod Row
 pub mod Records
 pub mod Lines
 pub mod Reading
-pub mod LoopFilling
 pub mod LoopRuns
 pub mod LoopFields
 pub mod LoopSteps

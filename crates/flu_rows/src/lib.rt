@@ -3,7 +3,6 @@
 
 mod fields;
 mod front;
-mod held;
 mod line;
 mod names;
 mod records;
@@ -13,7 +12,6 @@ mod run;
 mod scan;
 mod short_name;
 
-pub use held::RowsFault;
 pub use row::Row;
 pub use rows::{Next, Rows};
 pub use short_name::ShortName;

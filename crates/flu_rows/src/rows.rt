@@ -2,23 +2,22 @@
 
 ghost use Rattle.std.specs.Prelude.{◌≡◌, ◌≢◌, ◌+◌, ◌^◌, ◌++◌, List, ℕ, [], IfOk, IsErrOf, Err};
 ghost use Rattle.csv.specs.Records.{fields_of};
+ghost use Rattle.flu_outside.specs.Lines.{IsFound};
 ghost use Rattle.flu_outside.specs.Outside.{WhereTold, Rose, SameCounts};
 ghost use Rattle.flu_outside.specs.Taking.{TakesFrom, CountsOf, IsReadOut};
 ghost use Rattle.flu_rows.specs.LoopFields.{StartsWithRow};
-ghost use Rattle.flu_rows.specs.LoopFilling.{IsFound};
 ghost use Rattle.flu_rows.specs.Lines.{IsUndecided, LineInRange};
 ghost use Rattle.flu_rows.specs.Row.{IsInRange};
 ghost use Rattle.flu_rows.specs.Reading.{ahead, front_of, then_behind, read_bytes, NextInRange, CountsLines, OnDone};
 ghost use Rattle.flu_rows.specs.LoopSteps.{step_of, row_step, step_behind, BeginsWith, StepInRange, StepCounts, StepOnDone, ReadsStep};
 
 use crate::front::row_at_front;
-use crate::held::{Found, Held, RowsFault};
-use crate::line::{Line, line_of, line_of_record};
+use crate::line::{LONGEST_LINE, Line, line_of, line_of_record};
 use crate::row::Row;
 use crate::run::Run;
 use csv::ByteRecord;
 use flu_model::Text;
-use flu_outside::Files;
+use flu_outside::{Files, Found, LineBuffer, TakeFault};
 use std::alloc::{AllocError, Global};
 use std::marker::Model;
 
@@ -73,7 +72,7 @@ impl Rows {
                 alloc,
                 row: ByteRecord::new(alloc),
                 run: Run::none(),
-                held: Held::new(alloc),
+                held: LineBuffer::new(alloc),
                 lines: 0,
             },
         })
@@ -83,7 +82,7 @@ impl Rows {
     /// begins with one is bad.
     ///
     /// What a call gives after one that answered anything but a row is not promised to be of use.
-    pub fn next_row<F: Files>(&mut self, files: &mut F) -> Result<Next, RowsFault>
+    pub fn next_row<F: Files>(&mut self, files: &mut F) -> Result<Next, TakeFault>
         // What was still to be read is what comes next, and behind it what is still to be read now.
         ensures told { IfOk result (λ next. WhereTold (F.left files.old) (F.left files.new)
             (λ old new. ahead self.old old ≡ then_behind next (ahead self.new new))) }
@@ -96,15 +95,15 @@ impl Rows {
         // a take that failed.
         ensures taken { WhereTold (F.left files.old) (F.left files.new) (TakesFrom self.old.file) }
         ensures counts { CountsOf (F.left files.old) self.old.file (F.faults files.old) (F.faults files.new) }
-        ensures quiet { result ≢ Err RowsFault.ReadFault → SameCounts (F.faults files.old) (F.faults files.new) }
+        ensures quiet { result ≢ Err TakeFault.Failed → SameCounts (F.faults files.old) (F.faults files.new) }
         ensures puts { SameCounts (F.put_faults files.old) (F.put_faults files.new) }
-        ensures cause { IsErrOf result RowsFault.ReadFault → Rose (F.faults files.old self.old.file) (F.faults files.new self.old.file) }
+        ensures cause { IsErrOf result TakeFault.Failed → Rose (F.faults files.old self.old.file) (F.faults files.new self.old.file) }
 
         // A read fault is told only where it hides nothing that was taken: all that was still to be read still is, and what was
         // taken and not read has no line feed, and no more bytes than a line may have.
-        ensures kept { IsErrOf result RowsFault.ReadFault → WhereTold (F.left files.old) (F.left files.new)
+        ensures kept { IsErrOf result TakeFault.Failed → WhereTold (F.left files.old) (F.left files.new)
             (λ old new. ahead self.old old ≡ ahead self.new new) }
-        ensures undecided { IsErrOf result RowsFault.ReadFault → IsUndecided self.new.taken }
+        ensures undecided { IsErrOf result TakeFault.Failed → IsUndecided self.new.taken }
     {
         loop {
             match self.hold.read_line(self.file.as_str(), files)? {
@@ -121,13 +120,13 @@ struct Hold {
     alloc: Global,
     row: ByteRecord,
     run: Run,
-    held: Held,
+    held: LineBuffer,
     lines: u32,
 }
 
 impl Hold {
     // Reads one line.
-    fn read_line<F: Files>(&mut self, file: &str, files: &mut F) -> Result<Step, RowsFault>
+    fn read_line<F: Files>(&mut self, file: &str, files: &mut F) -> Result<Step, TakeFault>
         ensures told { IfOk result (λ step. WhereTold (F.left files.old) (F.left files.new)
             (ReadsStep file.now self.old.lines (self.old.run ++ self.old.held) self.new.lines (self.new.run ++ self.new.held) step)) }
         ensures end { IfOk result (λ step. StepOnDone step (IsReadOut file.now (F.left files.new))) }
@@ -135,15 +134,15 @@ impl Hold {
         ensures lines { IfOk result (StepCounts self.old.lines self.new.lines) }
         ensures taken { WhereTold (F.left files.old) (F.left files.new) (TakesFrom file.now) }
         ensures counts { CountsOf (F.left files.old) file.now (F.faults files.old) (F.faults files.new) }
-        ensures quiet { result ≢ Err RowsFault.ReadFault → SameCounts (F.faults files.old) (F.faults files.new) }
+        ensures quiet { result ≢ Err TakeFault.Failed → SameCounts (F.faults files.old) (F.faults files.new) }
         ensures puts { SameCounts (F.put_faults files.old) (F.put_faults files.new) }
-        ensures cause { IsErrOf result RowsFault.ReadFault → Rose (F.faults files.old file.now) (F.faults files.new file.now) }
-        ensures kept { IsErrOf result RowsFault.ReadFault → WhereTold (F.left files.old) (F.left files.new)
+        ensures cause { IsErrOf result TakeFault.Failed → Rose (F.faults files.old file.now) (F.faults files.new file.now) }
+        ensures kept { IsErrOf result TakeFault.Failed → WhereTold (F.left files.old) (F.left files.new)
             (ReadsStep file.now self.old.lines (self.old.run ++ self.old.held) self.new.lines (self.new.run ++ self.new.held) Step.Skip) }
-        ensures undecided { IsErrOf result RowsFault.ReadFault → IsUndecided (self.new.run ++ self.new.held) }
+        ensures undecided { IsErrOf result TakeFault.Failed → IsUndecided (self.new.run ++ self.new.held) }
     {
         let Ok(found) = self.run.next(&mut self.row) else {
-            return Err(RowsFault::NoMemory);
+            return Err(TakeFault::NoMemory);
         };
         if found {
             return Ok(step_of_row(&self.row, &mut self.lines));
@@ -151,7 +150,7 @@ impl Hold {
         if let Some((row, size)) = row_at_front(self.held.bytes()) {
             return Ok(self.take_row(row, size));
         }
-        let found = self.held.fill(file, files)?;
+        let found = self.held.fill(LONGEST_LINE, file, files)?;
         if let Found::End = found {
             return Ok(Step::Give(Next::Done { lines: self.lines }));
         }
@@ -181,8 +180,8 @@ impl Hold {
     }
 
     // Reads the line at the front of the bytes that are held.
-    fn read_held(&mut self, found: Found) -> Result<Step, RowsFault>
-        requires found { IsFound self.old.held found }
+    fn read_held(&mut self, found: Found) -> Result<Step, TakeFault>
+        requires found { IsFound 4096 self.old.held found }
         requires some { found ≢ Found.End }
         requires none { self.old.run ≡ [] }
         ensures told { IfOk result (λ step. (coming : List ℕ) → (found ≡ Found.Last → coming ≡ [])
@@ -190,17 +189,17 @@ impl Hold {
         ensures end { IfOk result (λ step. StepOnDone step ⊥) }
         ensures range { IfOk result StepInRange }
         ensures lines { IfOk result (StepCounts self.old.lines self.new.lines) }
-        ensures cause { result ≢ Err RowsFault.ReadFault }
+        ensures cause { result ≢ Err TakeFault.Failed }
     {
         if let Some((row, size)) = row_at_front(self.held.bytes()) {
             return Ok(self.take_row(row, size));
         }
         let Ok(run) = Run::take(self.alloc, &mut self.held) else {
-            return Err(RowsFault::NoMemory);
+            return Err(TakeFault::NoMemory);
         };
         self.run = run;
         let Ok(again) = self.run.next(&mut self.row) else {
-            return Err(RowsFault::NoMemory);
+            return Err(TakeFault::NoMemory);
         };
         if again {
             return Ok(step_of_row(&self.row, &mut self.lines));
@@ -210,15 +209,20 @@ impl Hold {
         }
         self.lines += 1;
         let Ok(line) = take_line(self.alloc, self.lines, found, &mut self.held) else {
-            return Err(RowsFault::NoMemory);
+            return Err(TakeFault::NoMemory);
         };
         Ok(step_of(line, self.lines))
     }
 }
 
 // Takes the line that was found off the front.
-fn take_line(alloc: Global, number: u32, found: Found, held: &mut Held) -> Result<Line, AllocError>
-    requires found { IsFound held.old found }
+fn take_line(
+    alloc: Global,
+    number: u32,
+    found: Found,
+    held: &mut LineBuffer,
+) -> Result<Line, AllocError>
+    requires found { IsFound 4096 held.old found }
     requires some { found ≢ Found.End }
     ensures line { IfOk result
         (λ line. (coming : List ℕ) → (found ≡ Found.Last → coming ≡ []) → BeginsWith number line held.old held.new coming) }

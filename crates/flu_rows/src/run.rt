@@ -4,9 +4,9 @@ ghost use Rattle.std.specs.Prelude.{◌≡◌, ◌≤◌, ◌<◌, ◌++◌, [],
 ghost use Rattle.csv.specs.Records.{fields_of};
 ghost use Rattle.flu_rows.specs.LoopRuns.{IsRun, ReadAlike, GivesNext, Stands, ReadsLine};
 
-use crate::held::{Held, line_len};
 use crate::scan::{Kind, kind_of};
 use csv::{ByteRecord, Reader, ReaderBuilder};
+use flu_outside::{LineBuffer, line_len};
 use std::alloc::{AllocError, Global};
 use std::io::Cursor;
 use std::marker::Model;
@@ -60,7 +60,7 @@ impl Run {
     }
 
     /// Takes the lines at the front that one reader may read.
-    pub(crate) fn take(alloc: Global, held: &mut Held) -> Result<Run, AllocError>
+    pub(crate) fn take(alloc: Global, held: &mut LineBuffer) -> Result<Run, AllocError>
         ensures alike { IfOk result (λ run. ReadAlike held.old (run ++ held.new)) }
         ensures none { IfOk result (λ run. run ≡ [] → held.new ≡ held.old) }
     {

@@ -3,8 +3,8 @@ use Rattle.std.specs.Prelude.{◌≡◌, ℕ, ◌+◌, ◌^◌, Bool, true, Opti
 use Rattle.flu_model.specs.declared.jobs.Kind.{Kind}
 use Rattle.flu_model.specs.declared.jobs.Source.{Source}
 use Rattle.flu_outside.specs.Outside.{Contents, WhereTold}
-use Rattle.flu_rows.specs.declared.held.RowsFault.{RowsFault}
-use Rattle.flu_rows.specs.declared.held.RowsFault.TheVariants.{ReadFault as RowsReadFault, NoMemory as RowsNoMemory}
+use Rattle.flu_outside.specs.declared.files.TakeFault.{TakeFault}
+use Rattle.flu_outside.specs.declared.files.TakeFault.TheVariants.{Failed, NoMemory as NoMemoryTaken}
 use Rattle.flu_rows.specs.declared.rows.Next.{Next}
 use Rattle.flu_rows.specs.declared.rows.Next.TheVariants.{Row as RowNext, Bad, TooManyLines, Done}
 use Rattle.flu_rows.specs.Lines.{IsUndecided}
@@ -22,9 +22,9 @@ use Rattle.flu_streams.specs.LoopIntake.{Holds}
 use Rattle.flu_streams.specs.Tests.{rows_of, first_of, first_defect}
 
 -- ---- why the reading stops
-abbrev pub stop_of : RowsFault → Stop
-stop_of RowsReadFault = ReadStop
-stop_of RowsNoMemory = NoMemoryStop
+abbrev pub stop_of : TakeFault → Stop
+stop_of Failed = ReadStop
+stop_of NoMemoryTaken = NoMemoryStop
 
 -- a row is refused
 abbrev pub stop_at : ℕ → RowRefusal → Stop

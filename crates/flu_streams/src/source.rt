@@ -9,8 +9,8 @@ ghost use Rattle.flu_streams.specs.LoopSource.{stop_of, stop_at, defect_behind, 
 use crate::faults::Why;
 use crate::intake::{Intake, RowRefusal};
 use flu_model::{Kind, Source};
-use flu_outside::Files;
-use flu_rows::{Next, Rows, RowsFault};
+use flu_outside::{Files, TakeFault};
+use flu_rows::{Next, Rows};
 use std::alloc::Global;
 
 /// Why a source is not read to its end.
@@ -73,12 +73,12 @@ pub(crate) fn read_source<F: Files>(
 }
 
 /// The stop of a read that fails.
-pub(crate) fn stop_of(fault: RowsFault) -> Stop
+pub(crate) fn stop_of(fault: TakeFault) -> Stop
     ensures { result ≡ stop_of fault }
 {
     match fault {
-        RowsFault::ReadFault => Stop::ReadFault,
-        RowsFault::NoMemory => Stop::NoMemory,
+        TakeFault::Failed => Stop::ReadFault,
+        TakeFault::NoMemory => Stop::NoMemory,
     }
 }
 

@@ -1,7 +1,7 @@
 -- A trace has one ending.
-use Rattle.std.proofs.Common.{◌≡◌, ◌+◌, ℕ, Bool, true, false, List, [], ◌∷◌, refl, sym, ap, subst, ◌∙◌}
+use Rattle.std.proofs.Common.{◌≡◌, ◌+◌, ℕ, true, false, List, refl, sym, ap, subst, ◌∙◌}
 use Rattle.flu_lemmas.proofs.Tests.{not_both}
-use Rattle.flu_rows.specs.Lines.{lines_of}
+use Rattle.flu_lemmas.specs.Lines.{lines_of}
 use Rattle.flu_net.specs.declared.steps.Step.{Step}
 use Rattle.flu_net.specs.Alike.{View, view_in, AreAlike, AlikeAreEnabled, AlikeAreFinal, StartsAreAlike, StepsKeepAlike}
 use Rattle.flu_net.specs.Effects.{Makes}
@@ -9,7 +9,7 @@ use Rattle.flu_net.specs.Enabled.{is_enabled}
 use Rattle.flu_net.specs.Notes.{NetNote}
 use Rattle.flu_trace.specs.Lines.{IsLineOf}
 use Rattle.flu_trace.specs.OneEnding.{OneEnding}
-use Rattle.flu_trace.specs.Replaying.{Bad, Complete, Ending, Ends, Incomplete, NotEnabled, bad, complete, incomplete, made, not_enabled}
+use Rattle.flu_trace.specs.Replaying.{Ending, Ends, bad, complete, incomplete, made, not_enabled}
 use Rattle.flu_trace.proofs.StepLines.{same_step}
 
 -- what the laws of the net say

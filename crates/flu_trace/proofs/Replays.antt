@@ -4,7 +4,7 @@ use Rattle.std.specs.Prelude.{Result, Ok, Err, IfErr, IfSome, IfNone, OnOk}
 use Rattle.flu_lemmas.specs.Told.{WhereTold}
 use Rattle.flu_lemmas.specs.Named.{Contents, KeepsBytes, IsReadOut, bytes_left}
 use Rattle.flu_lemmas.proofs.Told.{told_then, told_weaker}
-use Rattle.flu_rows.specs.Lines.{lines_of}
+use Rattle.flu_lemmas.specs.Lines.{lines_of}
 use Rattle.flu_fork.specs.declared.content.Content.{Content}
 use Rattle.flu_net.specs.declared.steps.Step.{Step}
 use Rattle.flu_net.specs.Enabled.{is_enabled}
@@ -15,10 +15,10 @@ use Rattle.flu_net.specs.Runs.{IsMade}
 use Rattle.flu_net.specs.Starting.{IsStart}
 use Rattle.flu_trace.specs.declared.faults.ReplayFault.{ReplayFault}
 use Rattle.flu_trace.specs.declared.faults.ReplayFault.TheVariants as faults
-use Rattle.flu_trace.specs.declared.held.Found.{Found}
+use Rattle.flu_outside.specs.declared.lines.Found.{Found}
+use Rattle.flu_outside.specs.Lines.{IsLast}
 use Rattle.flu_trace.specs.declared.replaying.Replaying.{Replaying}
 use Rattle.flu_trace.specs.Lines.{IsLineOf}
-use Rattle.flu_trace.specs.LoopFilling.{IsLast, IsFaultOfReading}
 use Rattle.flu_trace.specs.LoopReplaying.{BeginsWith, EndsFrom, GoesOn, IsEndFault, IsReplayedBy, MayCome, Says}
 use Rattle.flu_trace.specs.Replaying.{Complete, Ending, Ends, IsReplayed, NotEnabled, Bad, Incomplete, bad, complete, ending_of, incomplete, made, not_enabled}
 
@@ -140,14 +140,6 @@ told_begun k name r (Some x) start none first = λ ending ends. record {
       subst (λ m. Ends m (lines_of (bytes_left x name)) r.net ending) first
       (subst (λ (l : List ℕ). Ends r.lines (lines_of (l ++ bytes_left x name)) r.net ending) none ends);
 }
-
--- ---- a fault of reading says nothing of the trace
-pub says_nothing : (P : Ending → Type 0) (fault : ReplayFault) → IsFaultOfReading fault → IfSome (ending_of fault) P
-says_nothing P (faults.Bad line) is = absurd is
-says_nothing P (faults.NotEnabled line) is = absurd is
-says_nothing P (faults.Incomplete line) is = absurd is
-says_nothing P faults.ReadFault is = tt
-says_nothing P faults.NoMemory is = tt
 
 -- what is not off is on
 pub on_where : (b : Bool) → (b ≡ false → ⊥) → b ≡ true

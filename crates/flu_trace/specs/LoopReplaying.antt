@@ -1,15 +1,15 @@
 -- What is still to come of a replay on its way.
 use Rattle.std.specs.Prelude.{◌≡◌, ℕ, ◌+◌, List, [], ◌∷◌, ◌++◌, Option, MatchOption, ⊤}
 use Rattle.flu_lemmas.specs.Named.{Contents, bytes_left}
-use Rattle.flu_rows.specs.Lines.{lines_of}
+use Rattle.flu_lemmas.specs.Lines.{lines_of}
 use Rattle.flu_fork.specs.declared.content.Content.{Content}
 use Rattle.flu_net.specs.declared.steps.Step.{Step}
 use Rattle.flu_net.specs.Final.{IsFinal}
 use Rattle.flu_net.specs.Rule.{IsWell}
 use Rattle.flu_trace.specs.declared.faults.ReplayFault.{ReplayFault}
 use Rattle.flu_trace.specs.declared.faults.ReplayFault.TheVariants.{Bad, NotEnabled, Incomplete, ReadFault, NoMemory}
-use Rattle.flu_trace.specs.declared.held.Found.{Found}
-use Rattle.flu_trace.specs.declared.held.Found.TheVariants.{Last}
+use Rattle.flu_outside.specs.declared.lines.Found.{Found}
+use Rattle.flu_outside.specs.declared.lines.Found.TheVariants.{Last}
 use Rattle.flu_trace.specs.declared.replaying.Replaying.{Replaying}
 use Rattle.flu_trace.specs.Lines.{IsLineOf}
 use Rattle.flu_trace.specs.Replaying.{Ending, Ends, IsReplayed}

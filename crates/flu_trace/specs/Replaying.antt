@@ -1,6 +1,6 @@
 -- REPLAY: what the lines of a trace come to, in order from the start of the net.
 use Rattle.std.specs.Prelude.{◌≡◌, ℕ, ◌+◌, false, List, [], ◌∷◌, Option, Some, None}
-use Rattle.flu_rows.specs.Lines.{lines_of}
+use Rattle.flu_lemmas.specs.Lines.{lines_of}
 use Rattle.flu_fork.specs.declared.content.Content.{Content}
 use Rattle.flu_net.specs.declared.steps.Step.{Step}
 use Rattle.flu_net.specs.Enabled.{is_enabled}

@@ -2,7 +2,6 @@
 #![tactic(auto)]
 
 mod faults;
-mod held;
 pub mod laws;
 mod numbers;
 mod reading;

@@ -13,19 +13,21 @@ ghost use Rattle.flu_net.specs.Final.{IsFinal};
 ghost use Rattle.flu_net.specs.Measure.{steps_left};
 ghost use Rattle.flu_net.specs.Rule.{IsWell};
 ghost use Rattle.flu_net.specs.Starting.{IsStart};
-ghost use Rattle.flu_trace.specs.LoopFilling.{IsFound};
+ghost use Rattle.flu_outside.specs.Lines.{IsFound};
 ghost use Rattle.flu_trace.specs.LoopReplaying.{BeginsWith, EndsFrom, GoesOn, IsEndFault, MayCome};
 ghost use Rattle.flu_trace.specs.Replaying.{Complete, IsReplayed, ending_of};
 
 use crate::faults::ReplayFault;
-use crate::held::{Found, Held};
 use crate::reading::read_step;
 use flu_cells::State;
 use flu_fork::Case;
 use flu_model::Outs;
 use flu_net::{Net, Step, StepFault};
-use flu_outside::Files;
+use flu_outside::{Files, Found, LineBuffer, TakeFault};
 use std::alloc::{AllocError, Global};
+
+// The most bytes of a good line, without its line feed; a longer one is bad as soon as that is known.
+const LONGEST_LINE: usize = 24;
 
 /// Replays a trace: makes the steps of its lines in order from the start of the net (`docs/TREE.md`, "Traces"). The trace is what
 /// is left under a name, and is read in pieces, so that no more of it is held than one line and one piece.
@@ -76,7 +78,7 @@ pub fn replay<F: Files>(
 #[derive(Drop)]
 struct Replaying {
     net: Net,
-    held: Held,
+    held: LineBuffer,
     lines: u64,
 }
 
@@ -90,7 +92,7 @@ impl Replaying {
         let net = Net::new(alloc, case)?;
         Ok(Replaying {
             net,
-            held: Held::new(alloc),
+            held: LineBuffer::new(alloc),
             lines: 0,
         })
     }
@@ -119,9 +121,10 @@ impl Replaying {
         ensures cause { IsErrOf result ReplayFault.ReadFault → Rose (F.faults files.old name.now) (F.faults files.new name.now) }
     {
         self.net.rule();
-        let found = match self.held.fill(name, files) {
+        let found = match self.held.fill(LONGEST_LINE, name, files) {
             Ok(found) => found,
-            Err(fault) => return Err(fault),
+            Err(TakeFault::Failed) => return Err(ReplayFault::ReadFault),
+            Err(TakeFault::NoMemory) => return Err(ReplayFault::NoMemory),
         };
         if let Found::End = found {
             return Ok(false);
@@ -167,8 +170,8 @@ impl Replaying {
 }
 
 // Takes the line that was found off the front; the step that it says, where it is good.
-fn take_step(found: Found, held: &mut Held) -> Option<Step>
-    requires found { IsFound held.old found }
+fn take_step(found: Found, held: &mut LineBuffer) -> Option<Step>
+    requires found { IsFound 24 held.old found }
     requires some { found ≢ Found.End }
     ensures { (coming : List ℕ) → MayCome found coming → BeginsWith result held.old held.new coming }
 {

@@ -1,6 +1,6 @@
 use Rattle.std.proofs.Common.{◌≡◌, ◌<◌, ◌+◌, ◌++◌, [], List, ℕ, take, drop, length, refl, sym, ap, ◌∙◌, arith}
 use Rattle.std.proofs.lemmas.List.{append-nil, drop_all}
-use Rattle.flu_rows.specs.Lines.{line_len, lines_of}
+use Rattle.flu_lemmas.specs.Lines.{line_len, lines_of}
 use Rattle.flu_lemmas.proofs.Lines.{lines_of-line, lines_of-last, lines_of-long}
 use Rattle.flu_trace.proofs.Replays.{says}
 use Rattle.flu_trace.proofs.StepLines.{not_so_long}

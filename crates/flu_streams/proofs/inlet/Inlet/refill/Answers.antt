@@ -2,8 +2,8 @@ use Rattle.std.proofs.Common.{◌≡◌, ◌∙◌, refl, sym, ap, rules}
 use Rattle.flu_lemmas.proofs.Named.{taken_then, counts_then, none_taken, no_counts}
 use Rattle.flu_lemmas.proofs.Tests.{not_both}
 use Rattle.flu_outside.specs.Taking.{IsReadOut}
-use Rattle.flu_rows.specs.declared.held.RowsFault.{RowsFault}
-use Rattle.flu_rows.specs.declared.held.RowsFault.TheVariants.{ReadFault, NoMemory}
+use Rattle.flu_outside.specs.declared.files.TakeFault.{TakeFault}
+use Rattle.flu_outside.specs.declared.files.TakeFault.TheVariants.{Failed, NoMemory}
 use Rattle.flu_streams.specs.LoopHeld.{source_of, IsStopOf}
 use Rattle.flu_streams.proofs.Bounds.{few_caught, few_row, room_here}
 use Rattle.flu_streams.proofs.HeldRows.{well_row, well_caught}
@@ -54,9 +54,9 @@ returns-in-Err-clause-stop g c =
     let new = left c.next_row.new.files in
     by_fault c.in-Err.fault refl
   where
-    by_fault : (fault : RowsFault) → c.in-Err.fault ≡ fault → IsStopOf c.args.kinds.now c.args.source.now c.args.first c.args.rows c.args.self.now
+    by_fault : (fault : TakeFault) → c.in-Err.fault ≡ fault → IsStopOf c.args.kinds.now c.args.source.now c.args.first c.args.rows c.args.self.now
         (g.F.Files.left c.args.files.now) (g.F.Files.left c.next_row.new.files) c.stop_of.result
-    by_fault ReadFault e =
+    by_fault Failed e =
         rw (c.stop_of.ensures, e) (stops_behind c.args.kinds.now c.args.source.now c.args.first c.args.rows c.args.self.now c.loop-time.self c.next_row.new.self
         (g.F.Files.left c.args.files.now) (g.F.Files.left c.loop-time.files) (g.F.Files.left c.next_row.new.files)
         c.requires.some c.loop-time.invariant.so_far c.if-self.false (sym c.in_default.ensures, c.loop-time.invariant.before_goal)
