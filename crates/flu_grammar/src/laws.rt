@@ -6,7 +6,7 @@ ghost use Rattle.flu_grammar.specs.Faults.{TwiceNamedIsOnTwice, TwiceNamedIsFile
 ghost use Rattle.flu_grammar.specs.BrokenJobs.{FaultsAreByRule};
 ghost use Rattle.flu_grammar.specs.BrokenPlans.{PlanFaultsAreByRule};
 ghost use Rattle.flu_grammar.specs.Laws.{JobsAreGrammar, TextsHaveOneJob, PlansAreGrammar, TextsHaveOnePlan, NormalFormIsText, PrintedIsText};
-ghost use Rattle.flu_grammar.specs.Laws.{JobTextsKeepRules, NormalFormIsShort};
+ghost use Rattle.flu_grammar.specs.Laws.{JobTextsKeepRules, NormalFormIsShort, NormalFormIsUtf8};
 
 use flu_parse::laws::{jobs_keep_rules, printed_is_read};
 use flu_plan::laws::{found_is_plan, plans_keep_rules};
@@ -70,6 +70,12 @@ pub fn normal_forms_are_short()
 {
     tokens_stand();
 }
+
+/// The normal form of the job that a text means is UTF-8: names, files and plain pieces of templates stand in the text between two of its characters, and
+/// all else that is printed is ASCII.
+pub fn normal_forms_are_utf8()
+    ensures { NormalFormIsUtf8 }
+{}
 
 /// Bytes in which a fault is found are the text of no job, and of no plan.
 pub fn refused_texts_are_none()
