@@ -28,7 +28,7 @@ use Rattle.flu_syntax.specs.declared.tree.WrittenRelation.{WrittenRelation}
 use Rattle.flu_syntax.specs.declared.tree.WrittenRelation.TheVariants as r
 use Rattle.flu_syntax.specs.Tree.{Action, Declaration, Declarations, Job as WrittenJob}
 use Rattle.flu_syntax.specs.Tree as d
-use Rattle.flu_syntax.specs.Laws.{FoundIsJob, UnexpectedIsFirst}
+use Rattle.flu_syntax.specs.Laws.{FoundIsJob, UnexpectedIsFirst, TooDeepIsThe65th}
 use Rattle.flu_syntax.specs.Machine.{Verdict, verdict, Found as IsVerdict, TooDeep, Unexpected}
 use Rattle.flu_layout.specs.Spelling.{name_of, inside, written_value}
 use Rattle.flu_parse.specs.declared.faults.JobFault.{JobFault}
@@ -455,11 +455,8 @@ module _ (text : List ℕ) (job : WrittenJob) where
 
 -- ---- texts
 
-deep_no_job : (job : WrittenJob) → (let v : Verdict WrittenJob = TooDeep in let u : Verdict WrittenJob = IsVerdict job in v ≡ u) → ⊥
-deep_no_job job e = cc
-
-pub faults_are_by_rule : ReadingIsTokens → ReadingIsBadPlace → FoundIsJob → UnexpectedIsFirst → FaultsAreByRule
-faults_are_by_rule tokens place found first = λ bytes fault e. by bytes fault (text_faults.comes_from bytes fault e)
+pub faults_are_by_rule : ReadingIsTokens → ReadingIsBadPlace → FoundIsJob → UnexpectedIsFirst → TooDeepIsThe65th → FaultsAreByRule
+faults_are_by_rule tokens place found first deep = λ bytes fault e. by bytes fault (text_faults.comes_from bytes fault e)
   where
     by : (bytes : List ℕ) (fault : JobFault) → text_faults.ComesFrom bytes fault → IsFaultOf bytes fault
     by bytes fault (text_faults.of_bytes long is) = subst (IsFaultOf bytes) is (too_many_bytes (text_faults.longer (length bytes) long))
@@ -476,11 +473,11 @@ faults_are_by_rule tokens place found first = λ bytes fault e. by bytes fault (
               text = short;
               tokens = ts;
               cut = (tokens bytes ts).0 read;
-              first = first (length bytes) ts at is;
+              first = (first (length bytes) ts at).0 is;
             }))
         grammar TooDeep is bad =
             let same : f.OverLimit Nesting 65 ≡ fault = cc in
-            subst (IsFaultOf bytes) same (too_deep ts short ((tokens bytes ts).0 read)
-            (λ job are. deep_no_job job (sym is ∙ (found (length bytes) ts job).1 are)))
+            subst (IsFaultOf bytes) same
+            (too_deep (record { text = short; tokens = ts; cut = (tokens bytes ts).0 read; deep = (deep (length bytes) ts).0 is }))
     by bytes fault (text_faults.of_written ts job short read is bad) =
         of_written ts job fault short ((tokens bytes ts).0 read) ((found (length bytes) ts job).0 is) (resolved_breaks bytes job fault bad)

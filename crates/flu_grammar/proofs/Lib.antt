@@ -21,6 +21,7 @@ pub mod JobDrafts
 pub mod JobFound
 pub mod JobTexts
 pub mod NormalForms
+pub mod Utf8
 pub mod Faults
 pub mod Printed
 pub mod FaultKinds

@@ -11,10 +11,10 @@ use Rattle.flu_model.specs.declared.limits.What.TheVariants.{Bytes, Nesting}
 use Rattle.flu_model.specs.Erasure.{Job}
 use Rattle.flu_text.specs.declared.words.Token.{Token}
 use Rattle.flu_text.specs.Reading.{reading, Reading as TokenReading}
-use Rattle.flu_text.specs.Grammar.{IsFirstBadPlace}
+use Rattle.flu_text.specs.Grammar.{AreTokens, IsFirstBadPlace}
 use Rattle.flu_text.specs.Laws.{ReadingIsTokens, ReadingIsBadPlace}
 use Rattle.flu_syntax.specs.Tree.{Job as WrittenJob}
-use Rattle.flu_syntax.specs.Laws.{UnexpectedIsFirst}
+use Rattle.flu_syntax.specs.Laws.{UnexpectedIsFirst, TooDeepIsThe65th}
 use Rattle.flu_syntax.specs.Machine.{Verdict, verdict, Found as IsVerdict, Unexpected, TooDeep}
 use Rattle.flu_parse.specs.declared.faults.JobFault.{JobFault}
 use Rattle.flu_parse.specs.declared.faults.JobFault.TheVariants as f
@@ -22,7 +22,8 @@ use Rattle.flu_parse.specs.Faults.{Found, unless}
 use Rattle.flu_parse.specs.Resolving.{resolved}
 use Rattle.flu_parse.specs.Reading.{text_in, found_tokens, tokens_in, found_job, written_in, job_in}
 use Rattle.flu_grammar.specs.Texts.{IsShortText}
-use Rattle.flu_grammar.specs.Faults.{BytesAreTooMany, BytesAreNotUtf8, NoTokenBegins, IsNotContinued, UnexpectedIsNotContinued}
+use Rattle.flu_grammar.specs.Faults.{BytesAreTooMany, BytesAreNotUtf8, NoTokenBegins, IsNotContinued, UnexpectedIsNotContinued, OpensTooMany}
+use Rattle.flu_grammar.specs.Faults.{TooManyAreOpen}
 use Rattle.flu_grammar.proofs.Looks.{ok_same, passes}
 use Rattle.flu_grammar.proofs.JobTexts.{tokens_are, verdict_is}
 use Rattle.flu_grammar.proofs.FaultKinds.{IsOfWritten, Plain, resolved_faults}
@@ -120,10 +121,10 @@ not_few : (n : ℕ) → 1048576 < n → nat_le n 1048576 ≡ false
 not_few n lt = grind (arith, common_steps)
 
 grammar_fault : (v : Verdict WrittenJob) (e : JobFault) → found_job v ≡ Err e
-    → ((at : ℕ) × (v ≡ Unexpected at) × (f.Unexpected at ≡ e)) ⊎ (f.OverLimit Nesting 65 ≡ e)
+    → ((at : ℕ) × (v ≡ Unexpected at) × (f.Unexpected at ≡ e)) ⊎ ((v ≡ TooDeep) × (f.OverLimit Nesting 65 ≡ e))
 grammar_fault (IsVerdict job) e h = absurd cc
 grammar_fault (Unexpected at) e h = inl (at, refl, cc)
-grammar_fault TooDeep e h = inr cc
+grammar_fault TooDeep e h = inr (refl, cc)
 
 bytes_fault : (bytes : List ℕ) (count : ℕ) → ComesFrom bytes (f.OverLimit Bytes count) → (1048576 < length bytes) × (count ≡ 1048577)
 bytes_fault bytes count (of_bytes long is) = (longer (length bytes) long, cc)
@@ -132,7 +133,7 @@ bytes_fault bytes count (of_token at short bad is) = absurd cc
 bytes_fault bytes count (of_grammar ts short read fault) =
     elim (grammar_fault (verdict (length bytes) ts) (f.OverLimit Bytes count) fault) [
       | inl unexpected ↦ absurd (let bad : f.Unexpected unexpected.0 ≡ f.OverLimit Bytes count = unexpected.2 in cc)
-      | inr deep ↦ absurd (let bad : f.OverLimit Nesting 65 ≡ f.OverLimit Bytes count = deep in nesting_not_bytes (what_same bad))
+      | inr deep ↦ absurd (let bad : f.OverLimit Nesting 65 ≡ f.OverLimit Bytes count = deep.1 in nesting_not_bytes (what_same bad))
     ]
   where
     what_same : f.OverLimit Nesting 65 ≡ f.OverLimit Bytes count → Nesting ≡ Bytes
@@ -151,7 +152,7 @@ utf8_fault bytes at (of_token place short bad is) = absurd cc
 utf8_fault bytes at (of_grammar ts short read fault) =
     elim (grammar_fault (verdict (length bytes) ts) (f.BadUtf8 at) fault) [
       | inl unexpected ↦ absurd (let bad : f.Unexpected unexpected.0 ≡ f.BadUtf8 at = unexpected.2 in cc)
-      | inr deep ↦ absurd (let bad : f.OverLimit Nesting 65 ≡ f.BadUtf8 at = deep in cc)
+      | inr deep ↦ absurd (let bad : f.OverLimit Nesting 65 ≡ f.BadUtf8 at = deep.1 in cc)
     ]
 utf8_fault bytes at (of_written ts written short read found is) = absurd (resolved_faults IsOfJob of_job bytes (λ at. tt) written (f.BadUtf8 at) is)
 
@@ -164,7 +165,7 @@ token_fault place bytes at (of_token found short bad is) =
 token_fault place bytes at (of_grammar ts short read fault) =
     elim (grammar_fault (verdict (length bytes) ts) (f.BadToken at) fault) [
       | inl unexpected ↦ absurd (let bad : f.Unexpected unexpected.0 ≡ f.BadToken at = unexpected.2 in cc)
-      | inr deep ↦ absurd (let bad : f.OverLimit Nesting 65 ≡ f.BadToken at = deep in cc)
+      | inr deep ↦ absurd (let bad : f.OverLimit Nesting 65 ≡ f.BadToken at = deep.1 in cc)
     ]
 token_fault place bytes at (of_written ts written short read found is) = absurd (resolved_faults IsOfJob of_job bytes (λ at. tt) written (f.BadToken at) is)
 
@@ -181,15 +182,38 @@ unexpected_fault tokens first bytes at (of_grammar ts short read fault) =
             text = short;
             tokens = ts;
             cut = (tokens bytes ts).0 read;
-            first = first (length bytes) ts at (unexpected.1 ∙ ap (λ (n : ℕ). let v : Verdict WrittenJob = Unexpected n in v) same);
+            first = (first (length bytes) ts at).0 (unexpected.1 ∙ ap (λ (n : ℕ). let v : Verdict WrittenJob = Unexpected n in v) same);
           }
-      | inr deep ↦ absurd (let bad : f.OverLimit Nesting 65 ≡ f.Unexpected at = deep in cc)
+      | inr deep ↦ absurd (let bad : f.OverLimit Nesting 65 ≡ f.Unexpected at = deep.1 in cc)
     ]
   where
     at_same : (n : ℕ) → f.Unexpected n ≡ f.Unexpected at → n ≡ at
     at_same n e = cc
 unexpected_fault tokens first bytes at (of_written ts written short read found is) =
     absurd (resolved_faults IsOfJob of_job bytes (λ at. tt) written (f.Unexpected at) is)
+
+nesting_fault : ReadingIsTokens → TooDeepIsThe65th → (bytes : List ℕ) (count : ℕ) → ComesFrom bytes (f.OverLimit Nesting count)
+    → OpensTooMany bytes × (count ≡ 65)
+nesting_fault tokens deep bytes count (of_bytes long is) = absurd (bytes_not_nesting (what_same is))
+  where
+    what_same : f.OverLimit Bytes 1048577 ≡ f.OverLimit Nesting count → Bytes ≡ Nesting
+    what_same e = cc
+
+    bytes_not_nesting : Bytes ≡ Nesting → ⊥
+    bytes_not_nesting e = cc
+nesting_fault tokens deep bytes count (of_utf8 few other is) = absurd cc
+nesting_fault tokens deep bytes count (of_token found short bad is) = absurd cc
+nesting_fault tokens deep bytes count (of_grammar ts short read fault) =
+    elim (grammar_fault (verdict (length bytes) ts) (f.OverLimit Nesting count) fault) [
+      | inl unexpected ↦ absurd (let bad : f.Unexpected unexpected.0 ≡ f.OverLimit Nesting count = unexpected.2 in cc)
+      | inr too_deep ↦
+          (record { text = short; tokens = ts; cut = (tokens bytes ts).0 read; deep = (deep (length bytes) ts).0 too_deep.0 }, count_same too_deep.1)
+    ]
+  where
+    count_same : f.OverLimit Nesting 65 ≡ f.OverLimit Nesting count → count ≡ 65
+    count_same e = let same : 65 ≡ count = cc in sym same
+nesting_fault tokens deep bytes count (of_written ts written short read found is) =
+    absurd (resolved_faults IsOfJob of_job bytes (λ at. tt) written (f.OverLimit Nesting count) is)
 
 -- ---- and where it is found
 
@@ -220,6 +244,16 @@ no_token place bytes at h =
     ∙ fault_on (tokens_in bytes) (λ ts. written_in (length bytes) ts >>= λ written. resolved bytes written) (f.BadToken at)
     (ap found_tokens ((place bytes at).1 h.1)))
 
+-- a text of tokens in which the grammar finds a fault has it
+in_grammar : ReadingIsTokens → (bytes : List ℕ) (ts : List Token) (e : JobFault) → IsShortText bytes → AreTokens bytes ts → written_in (length bytes) ts ≡ Err e
+    → job_in bytes ≡ Err e
+in_grammar tokens bytes ts e short cut found =
+    behind_length bytes e short.short
+    (ap (λ s. s >>= λ text. the_rest text) (passes (is_utf8 bytes) (f.BadUtf8 (utf8_valid_len bytes)) (let r : Found (List ℕ) = Ok bytes in r) bytes
+    (is_utf8-from_IsUtf8 bytes short.utf8) refl)
+    ∙ ap (λ r. r >>= λ ts. written_in (length bytes) ts >>= λ written. resolved bytes written) (ap found_tokens ((tokens bytes ts).1 cut))
+    ∙ fault_on (written_in (length bytes) ts) (λ written. resolved bytes written) e found)
+
 pub bytes_are_too_many : BytesAreTooMany
 bytes_are_too_many = λ bytes count. (λ e. bytes_fault bytes count (comes_from bytes (f.OverLimit Bytes count) e), too_many bytes count)
 
@@ -230,4 +264,15 @@ pub no_token_begins : ReadingIsBadPlace → NoTokenBegins
 no_token_begins place = λ bytes at. (λ e. token_fault place bytes at (comes_from bytes (f.BadToken at) e), no_token place bytes at)
 
 pub unexpected_is_not_continued : ReadingIsTokens → UnexpectedIsFirst → UnexpectedIsNotContinued
-unexpected_is_not_continued tokens first = λ bytes at e. unexpected_fault tokens first bytes at (comes_from bytes (f.Unexpected at) e)
+unexpected_is_not_continued tokens first = λ bytes at. (
+  λ e. unexpected_fault tokens first bytes at (comes_from bytes (f.Unexpected at) e),
+  λ is. in_grammar tokens bytes is.tokens (f.Unexpected at) is.text is.cut (ap found_job ((first (length bytes) is.tokens at).1 is.first)),
+)
+
+pub too_many_are_open : ReadingIsTokens → TooDeepIsThe65th → TooManyAreOpen
+too_many_are_open tokens deep = λ bytes count. (
+  λ e. nesting_fault tokens deep bytes count (comes_from bytes (f.OverLimit Nesting count) e),
+  λ is. in_grammar tokens bytes is.0.tokens (f.OverLimit Nesting count) is.0.text is.0.cut
+      (ap found_job ((deep (length bytes) is.0.tokens).1 is.0.deep)
+      ∙ ap (λ (n : ℕ). let r : Found WrittenJob = Err (f.OverLimit Nesting n) in r) (sym is.1)),
+)

@@ -28,7 +28,7 @@ use Rattle.flu_parse.specs.Reading.{job_in}
 use Rattle.flu_grammar.specs.Texts.{IsShortText}
 use Rattle.flu_grammar.specs.Declared.{DeclaredKind, WrittenSource, families_in, kinds_in, depends_in, sources_in}
 use Rattle.flu_grammar.specs.Sources.{MeansKind, MeansTag}
-use Rattle.flu_grammar.specs.Faults.{NoneIsNamed, IsNotContinued, IsDeclaredTwice, IsOnTwice, IsFileTwice}
+use Rattle.flu_grammar.specs.Faults.{NoneIsNamed, IsNotContinued, OpensTooMany, IsDeclaredTwice, IsOnTwice, IsFileTwice}
 use Rattle.flu_grammar.specs.Broken.{BreaksActions}
 
 abbrev pub declared_name : DeclaredKind → List ℕ
@@ -130,9 +130,8 @@ pub data IsFaultOf (bytes : List ℕ) : JobFault → Type 0 where
   not_utf8 : length bytes ≤ 1048576 → ¬ IsUtf8 bytes → IsFaultOf bytes (j.BadUtf8 (utf8_valid_len bytes))
   no_token : (at : ℕ) → IsShortText bytes → IsFirstBadPlace bytes at → IsFaultOf bytes (j.BadToken at)
   not_continued : (at : ℕ) → IsNotContinued bytes at → IsFaultOf bytes (j.Unexpected at)
-  -- the tokens are no job: too many parentheses and unary operators are open
-  too_deep : (tokens : List Token) → IsShortText bytes → AreTokens bytes tokens → ((job : WrittenJob) → IsJob tokens job → ⊥)
-      → IsFaultOf bytes (j.OverLimit Nesting 65)
+  -- a token that may follow opens the 65th parenthesis or unary operator
+  too_deep : OpensTooMany bytes → IsFaultOf bytes (j.OverLimit Nesting 65)
   of_written : (tokens : List Token) (job : WrittenJob) (fault : JobFault) → IsShortText bytes → AreTokens bytes tokens → IsJob tokens job
       → BreaksJob bytes job fault → IsFaultOf bytes fault
 

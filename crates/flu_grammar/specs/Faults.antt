@@ -3,10 +3,10 @@ use Rattle.std.specs.Prelude.{◌≡◌, ◌≢◌, ◌<◌, ◌≤◌, ◌↔�
 use Rattle.std.specs.List.{flat_map}
 use Rattle.std.specs.Str.{IsUtf8}
 use Rattle.std.specs.Str.Lossy.{utf8_valid_len}
-use Rattle.flu_model.specs.declared.limits.What.TheVariants.{Bytes}
+use Rattle.flu_model.specs.declared.limits.What.TheVariants.{Bytes, Nesting}
 use Rattle.flu_text.specs.declared.words.Token.{Token}
 use Rattle.flu_text.specs.Grammar.{AreTokens, IsFirstBadPlace}
-use Rattle.flu_syntax.specs.Grammar.{IsFirstThatCannotFollow}
+use Rattle.flu_syntax.specs.Grammar.{IsFirstThatCannotFollow, IsTooDeep}
 use Rattle.flu_model.specs.declared.jobs.Family.{Family}
 use Rattle.flu_model.specs.declared.jobs.Kind.{Kind}
 use Rattle.flu_model.specs.declared.jobs.Source.{Source}
@@ -66,7 +66,17 @@ pub record IsNotContinued (bytes : List ℕ) (at : ℕ) : Type 0 where
   pub first : IsFirstThatCannotFollow (length bytes) tokens at
 
 abbrev pub UnexpectedIsNotContinued : Type 0
-UnexpectedIsNotContinued = (bytes : List ℕ) (at : ℕ) → job_in bytes ≡ Err (j.Unexpected at) → IsNotContinued bytes at
+UnexpectedIsNotContinued = (bytes : List ℕ) (at : ℕ) → (job_in bytes ≡ Err (j.Unexpected at)) ↔ IsNotContinued bytes at
+
+-- a text of tokens, of which one that may follow opens the 65th parenthesis or unary operator
+pub record OpensTooMany (bytes : List ℕ) : Type 0 where
+  pub text : IsShortText bytes
+  pub tokens : List Token
+  pub cut : AreTokens bytes tokens
+  pub deep : IsTooDeep tokens
+
+abbrev pub TooManyAreOpen : Type 0
+TooManyAreOpen = (bytes : List ℕ) (count : ℕ) → (job_in bytes ≡ Err (j.OverLimit Nesting count)) ↔ (OpensTooMany bytes × (count ≡ 65))
 
 -- ---- unknown names
 

@@ -56,3 +56,7 @@ JobTextsKeepRules =
 -- the normal form of the job of a text has at most 25 MiB
 abbrev pub NormalFormIsShort : Type 0
 NormalFormIsShort = (p : Program) (bytes : List ℕ) → IsJobText bytes (job_of p) → length (normal_form (job_of p)) ≤ 26214400
+
+-- and it is UTF-8
+abbrev pub NormalFormIsUtf8 : Type 0
+NormalFormIsUtf8 = (bytes : List ℕ) (job : Job) → IsJobText bytes job → IsUtf8 (normal_form job)

@@ -1,16 +1,17 @@
 //! Laws of the meaning of texts, each the contract of a function that does nothing.
 
-ghost use Rattle.flu_grammar.specs.Faults.{BytesAreTooMany, BytesAreNotUtf8, NoTokenBegins, UnexpectedIsNotContinued, RefusedIsNoJob, RefusedIsNoPlan};
+ghost use Rattle.flu_grammar.specs.Faults.{BytesAreTooMany, BytesAreNotUtf8, NoTokenBegins, UnexpectedIsNotContinued, TooManyAreOpen, RefusedIsNoJob};
+ghost use Rattle.flu_grammar.specs.Faults.{RefusedIsNoPlan};
 ghost use Rattle.flu_grammar.specs.Faults.{FamilyIsUnknown, KindIsUnknown, PlanKindIsUnknown, PlanSourceIsUnknown, ChildIsUnknown, TwiceNamedIsDeclaredTwice};
 ghost use Rattle.flu_grammar.specs.Faults.{TwiceNamedIsOnTwice, TwiceNamedIsFileTwice, NoTreeIsNodeTwice};
 ghost use Rattle.flu_grammar.specs.BrokenJobs.{FaultsAreByRule};
 ghost use Rattle.flu_grammar.specs.BrokenPlans.{PlanFaultsAreByRule};
 ghost use Rattle.flu_grammar.specs.Laws.{JobsAreGrammar, TextsHaveOneJob, PlansAreGrammar, TextsHaveOnePlan, NormalFormIsText, PrintedIsText};
-ghost use Rattle.flu_grammar.specs.Laws.{JobTextsKeepRules, NormalFormIsShort};
+ghost use Rattle.flu_grammar.specs.Laws.{JobTextsKeepRules, NormalFormIsShort, NormalFormIsUtf8};
 
 use flu_parse::laws::{jobs_keep_rules, printed_is_read};
 use flu_plan::laws::{found_is_plan, plans_keep_rules};
-use flu_syntax::laws::{found_is_job, unexpected_is_first};
+use flu_syntax::laws::{found_is_job, too_deep_is_the_65th, unexpected_is_first};
 use flu_text::laws::{reading_is_exact, tokens_stand};
 
 /// The job that is read of some bytes is exactly the one that they are the text of, by the grammar and by what each part of it means.
@@ -71,6 +72,12 @@ pub fn normal_forms_are_short()
     tokens_stand();
 }
 
+/// The normal form of the job that a text means is UTF-8: names, files and plain pieces of templates stand in the text between two of its characters, and
+/// all else that is printed is ASCII.
+pub fn normal_forms_are_utf8()
+    ensures { NormalFormIsUtf8 }
+{}
+
 /// Bytes in which a fault is found are the text of no job, and of no plan.
 pub fn refused_texts_are_none()
     ensures job { RefusedIsNoJob }
@@ -80,15 +87,17 @@ pub fn refused_texts_are_none()
     plans_are_grammar();
 }
 
-/// What the faults of bytes, tokens and grammar say of the bytes in which they are found.
+/// What the faults of bytes, tokens and grammar say of the bytes in which they are found: each is found exactly where its rule is broken.
 pub fn faults_of_texts()
     ensures bytes { BytesAreTooMany }
     ensures utf8 { BytesAreNotUtf8 }
     ensures token { NoTokenBegins }
     ensures grammar { UnexpectedIsNotContinued }
+    ensures nesting { TooManyAreOpen }
 {
     reading_is_exact();
     unexpected_is_first();
+    too_deep_is_the_65th();
 }
 
 /// Where a name is told to be unknown, nothing of that name is declared as what is needed there.
@@ -110,7 +119,8 @@ pub fn twice_named_is_declared_before()
 {}
 
 /// Each fault that is found in the bytes of a job, or of a plan, is by a rule that they break, at its place: an unknown name is needed there and declared
-/// nowhere, a wrong shape is one of the listed ones, a limit is passed, and what is named twice was named before.
+/// nowhere, a wrong shape is one of the listed ones, a limit is passed, and what is named twice was named before. An unexpected token is none
+/// that opens the 65th parenthesis or unary operator, nor the other way round.
 pub fn faults_are_by_rule()
     ensures job { FaultsAreByRule }
     ensures plan { PlanFaultsAreByRule }
@@ -118,6 +128,7 @@ pub fn faults_are_by_rule()
     reading_is_exact();
     found_is_job();
     unexpected_is_first();
+    too_deep_is_the_65th();
     found_is_plan();
     flu_plan::laws::unexpected_is_first();
 }

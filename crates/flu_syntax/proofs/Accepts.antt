@@ -1,6 +1,7 @@
 -- What is spelled as an expression is read as that expression.
-use Rattle.std.proofs.Common.{◌≡◌, ◌≢◌, ℕ, ◌+◌, ◌<◌, ◌≤◌, true, false, List, [], ◌∷◌, ◌++◌, Option, Some, None, refl, sym, ap, subst, ◌∙◌, append_assoc, arith}
-use Rattle.std.specs.Prelude.{IfSome}
+use Rattle.std.proofs.Common.{◌≡◌, ◌≢◌, ℕ, ◌+◌, ◌<◌, ◌≤◌, Bool, true, false, List, [], ◌∷◌, ◌++◌, Option, Some, None, refl, sym, ap, subst, ◌∙◌}
+use Rattle.std.proofs.Common.{append_assoc, arith}
+use Rattle.std.specs.Prelude.{IfSome, nat_lt}
 use Rattle.std.proofs.lemmas.Bool.Decides.{nat_tests}
 use Rattle.flu_text.specs.declared.words.Token.{Token}
 use Rattle.flu_text.specs.declared.words.Word.{Word}
@@ -14,14 +15,16 @@ use Rattle.flu_text.specs.declared.written.WrittenNumber.{WrittenNumber}
 use Rattle.flu_syntax.specs.declared.tree.WrittenKey.{WrittenKey}
 use Rattle.flu_syntax.specs.declared.tree.WrittenKey.TheVariants as key
 use Rattle.flu_syntax.specs.declared.tree.WrittenRef.{WrittenRef}
+use Rattle.flu_lemmas.proofs.Tests.{true_lt}
 use Rattle.flu_syntax.specs.Tree.{Tree, NumberTree, ValueTree, KeyTree, TimeTree, ReadTree, HasTree, ParenTree, NegTree, NotTree, TwoTree, Declarations}
 use Rattle.flu_syntax.specs.Machine.{cell_of, Context, Frame, NegFrame, NotFrame, ParenFrame, RightFrame, Want, Have, Done, Aim}
 use Rattle.flu_syntax.specs.Machine.{ToRead, ToTest, Now, CellFamily, CellKeys, CellKey, CellClose, InExpression, Goes, start_of}
-use Rattle.flu_syntax.specs.Machine.{done_step, expression_step, operator_of, level_behind, is_within, opens, named, step, run}
+use Rattle.flu_syntax.specs.Machine.{deeper, done_step, expression_step, operator_of, level_behind, is_within, opens, named, step, Verdict, TooDeep, run}
 use Rattle.flu_text.specs.Signs.{Sign, Any, At, Spanned, IsSign, AreSigns}
 use Rattle.flu_syntax.specs.Grammar.{op_level, op_word, key_signs, cell_signs, spelled, left_level, Fits, nest}
 use Rattle.flu_syntax.specs.Reading.{NotFirst}
-use Rattle.flu_syntax.proofs.Runs.{run-takes, run-neg, run-not, run-right, pass_end, pass_word, pass_level, opens-one, opens-same, not_starts, opens_more}
+use Rattle.flu_syntax.proofs.Runs.{run-takes, run-too_deep, run-neg, run-not, run-right, pass_end, pass_word, pass_level, opens-one, opens-same, not_starts}
+use Rattle.flu_syntax.proofs.Runs.{opens_more, opens_none}
 use Rattle.flu_syntax.proofs.Parts.{run-passed, cell_alone}
 
 -- ---- signs
@@ -36,18 +39,39 @@ sign_word (Any word) t h = h
 sign_word (At word from) t h = h.0
 sign_word (Spanned word span) t h = h.0
 
+-- One verdict is that of another turn, or too deep: that where at most so many are open, and these are more than 64.
+pub data Reaches (most : ℕ) (a b : Verdict Declarations) : Type 0 where
+  Same : a ≡ b → Reaches most a b
+  Stops : 64 < most → a ≡ TooDeep → Reaches most a b
+
+infixl 30 ◌then◌
+pub ◌then◌ : {most : ℕ} {a b c : Verdict Declarations} → Reaches most a b → Reaches most b c → Reaches most a c
+◌then◌ (Same p) (Same q) = Same (p ∙ q)
+◌then◌ (Same p) (Stops over q) = Stops over (p ∙ q)
+◌then◌ (Stops over p) h = Stops over p
+
 -- tokens that lead on to others, which are these signs
-abbrev pub LeadsTo : ℕ → Declarations → Now → List Token → Declarations → Now → List Sign → Type 0
-LeadsTo end job now tokens next other more = (rest : List Token) × AreSigns more rest × (run end job now tokens ≡ run end next other rest)
+abbrev pub LeadsTo : ℕ → ℕ → Declarations → Now → List Token → Declarations → Now → List Sign → Type 0
+LeadsTo most end job now tokens next other more = (rest : List Token) × AreSigns more rest × Reaches most (run end job now tokens) (run end next other rest)
 
-pub takes_sign : (end : ℕ) (job : Declarations) (now next : Now) (tokens : List Token) (s : Sign) (more : List Sign) → AreSigns (s ∷ more) tokens
-    → ((t : Token) → IsSign s t → step now t ≡ Goes next) → LeadsTo end job now tokens job next more
-takes_sign end job now next [] s more h takes = absurd h
-takes_sign end job now next (t ∷ rest) s more h takes = (rest, h.1, run-takes end job now next t rest (takes t h.0))
+pub takes_sign : (most end : ℕ) (job : Declarations) (now next : Now) (tokens : List Token) (s : Sign) (more : List Sign) → AreSigns (s ∷ more) tokens
+    → ((t : Token) → IsSign s t → step now t ≡ Goes next) → LeadsTo most end job now tokens job next more
+takes_sign most end job now next [] s more h takes = absurd h
+takes_sign most end job now next (t ∷ rest) s more h takes = (rest, h.1, Same (run-takes end job now next t rest (takes t h.0)))
 
-pub on_to : (end : ℕ) (job next last : Declarations) (now other final : Now) (tokens : List Token) (middle more : List Sign)
-    (a : LeadsTo end job now tokens next other middle) → LeadsTo end next other a.0 last final more → LeadsTo end job now tokens last final more
-on_to end job next last now other final tokens middle more a b = (b.0, b.1, a.2 ∙ b.2)
+-- a sign that opens one more
+opens_sign : (most end : ℕ) (job : Declarations) (now next : Now) (frames : List Frame) (tokens : List Token) (s : Sign) (more : List Sign)
+    → AreSigns (s ∷ more) tokens → opens frames + 1 ≤ most → ((t : Token) → IsSign s t → step now t ≡ deeper frames next)
+    → LeadsTo most end job now tokens job next more
+opens_sign most end job now next frames [] s more h le takes = absurd h
+opens_sign most end job now next frames (t ∷ rest) s more h le takes =
+    (rest, h.1, by_test (nat_lt (opens frames) 64) refl)
+  where
+    by_test : (b : Bool) → nat_lt (opens frames) 64 ≡ b → Reaches most (run end job now (t ∷ rest)) (run end job next rest)
+    by_test true few = Same (run-takes end job now next t rest (takes t h.0 ∙ opens_more frames next (true_lt (opens frames) 64 few)))
+    by_test false many =
+        let over : 64 ≤ opens frames = grind (arith, nat_tests) in
+        Stops (omega arith) (run-too_deep end job now t rest (takes t h.0 ∙ opens_none frames next over))
 
 -- the sign behind a part: no bracket opens, and no operator above a level stands there
 abbrev pub Follows : ℕ → List Sign → Type 0
@@ -108,35 +132,35 @@ family_step : (aim : Aim) (family : WrittenSpan) (t : Token) → IsSign (Spanned
 unfolding step
 family_step aim family t h = rw (h.0, h.1, h.2) refl
 
-pub accepts_key : (end : ℕ) (job : Declarations) (aim : Aim) (family : WrittenSpan) (k : WrittenKey) (tokens : List Token) (more : List Sign)
+pub accepts_key : (most end : ℕ) (job : Declarations) (aim : Aim) (family : WrittenSpan) (k : WrittenKey) (tokens : List Token) (more : List Sign)
     → AreSigns (key_signs k ++ more) tokens → NoBracket more
-    → LeadsTo end job (CellKeys aim family) tokens job (named aim (cell_of family k)) more
-accepts_key end job aim family key.Alone tokens more h free =
-    (tokens, h, run-passed end job tokens (cell_alone aim family) (not_first _ tokens more h (bracket_word more free)))
-accepts_key end job aim family (key.OwnKey at) tokens more h free =
-    let a = takes_sign end job (CellKeys aim family) (CellKey aim family) tokens (Any (w.Mark m.OpenBracket))
+    → LeadsTo most end job (CellKeys aim family) tokens job (named aim (cell_of family k)) more
+accepts_key most end job aim family key.Alone tokens more h free =
+    (tokens, h, Same (run-passed end job tokens (cell_alone aim family) (not_first _ tokens more h (bracket_word more free))))
+accepts_key most end job aim family (key.OwnKey at) tokens more h free =
+    let a = takes_sign most end job (CellKeys aim family) (CellKey aim family) tokens (Any (w.Mark m.OpenBracket))
     (At (w.Reserved r.Key) at ∷ Any (w.Mark m.CloseBracket) ∷ more) h (bracket_step aim family) in
-    let b = takes_sign end job (CellKey aim family) (CellClose aim (cell_of family (key.OwnKey at))) a.0 (At (w.Reserved r.Key) at)
+    let b = takes_sign most end job (CellKey aim family) (CellClose aim (cell_of family (key.OwnKey at))) a.0 (At (w.Reserved r.Key) at)
     (Any (w.Mark m.CloseBracket) ∷ more) a.1 (own_step aim family at) in
-    let c = takes_sign end job (CellClose aim (cell_of family (key.OwnKey at))) (named aim (cell_of family (key.OwnKey at))) b.0
+    let c = takes_sign most end job (CellClose aim (cell_of family (key.OwnKey at))) (named aim (cell_of family (key.OwnKey at))) b.0
     (Any (w.Mark m.CloseBracket)) more b.1 (close_step aim (cell_of family (key.OwnKey at))) in
-    (c.0, c.1, a.2 ∙ b.2 ∙ c.2)
-accepts_key end job aim family (key.Fixed n) tokens more h free =
-    let a = takes_sign end job (CellKeys aim family) (CellKey aim family) tokens (Any (w.Mark m.OpenBracket))
+    (c.0, c.1, a.2 then b.2 then c.2)
+accepts_key most end job aim family (key.Fixed n) tokens more h free =
+    let a = takes_sign most end job (CellKeys aim family) (CellKey aim family) tokens (Any (w.Mark m.OpenBracket))
     (At (w.Number n.value) n.at ∷ Any (w.Mark m.CloseBracket) ∷ more) h (bracket_step aim family) in
-    let b = takes_sign end job (CellKey aim family) (CellClose aim (cell_of family (key.Fixed n))) a.0 (At (w.Number n.value) n.at)
+    let b = takes_sign most end job (CellKey aim family) (CellClose aim (cell_of family (key.Fixed n))) a.0 (At (w.Number n.value) n.at)
     (Any (w.Mark m.CloseBracket) ∷ more) a.1 (fixed_step aim family n) in
-    let c = takes_sign end job (CellClose aim (cell_of family (key.Fixed n))) (named aim (cell_of family (key.Fixed n))) b.0 (Any (w.Mark m.CloseBracket))
+    let c = takes_sign most end job (CellClose aim (cell_of family (key.Fixed n))) (named aim (cell_of family (key.Fixed n))) b.0 (Any (w.Mark m.CloseBracket))
     more b.1 (close_step aim (cell_of family (key.Fixed n))) in
-    (c.0, c.1, a.2 ∙ b.2 ∙ c.2)
+    (c.0, c.1, a.2 then b.2 then c.2)
 
-pub accepts_cell : (end : ℕ) (job : Declarations) (aim : Aim) (cell : WrittenRef) (tokens : List Token) (more : List Sign)
-    → AreSigns (cell_signs cell ++ more) tokens → NoBracket more → LeadsTo end job (CellFamily aim) tokens job (named aim cell) more
-accepts_cell end job aim cell tokens more h free =
-    let a = takes_sign end job (CellFamily aim) (CellKeys aim cell.family) tokens (Spanned w.Name cell.family) (key_signs cell.key ++ more) h
+pub accepts_cell : (most end : ℕ) (job : Declarations) (aim : Aim) (cell : WrittenRef) (tokens : List Token) (more : List Sign)
+    → AreSigns (cell_signs cell ++ more) tokens → NoBracket more → LeadsTo most end job (CellFamily aim) tokens job (named aim cell) more
+accepts_cell most end job aim cell tokens more h free =
+    let a = takes_sign most end job (CellFamily aim) (CellKeys aim cell.family) tokens (Spanned w.Name cell.family) (key_signs cell.key ++ more) h
     (family_step aim cell.family) in
-    let b = accepts_key end job aim cell.family cell.key a.0 more a.1 free in
-    (b.0, b.1, a.2 ∙ b.2)
+    let b = accepts_key most end job aim cell.family cell.key a.0 more a.1 free in
+    (b.0, b.1, a.2 then b.2)
 
 -- ---- levels
 
@@ -343,20 +367,20 @@ has_step : (context : Context) (level : ℕ) (frames : List Frame) (at : ℕ) (t
 unfolding step expression_step start_of
 has_step context level frames at t h = rw (h.0, h.1) refl
 
-open_step : (context : Context) (level : ℕ) (frames : List Frame) (at : ℕ) → opens frames < 64 → (t : Token) → IsSign (At (w.Mark m.OpenParen) at) t
-    → step (want context level frames) t ≡ Goes (want context 0 (ParenFrame level at ∷ frames))
+open_step : (context : Context) (level : ℕ) (frames : List Frame) (at : ℕ) (t : Token) → IsSign (At (w.Mark m.OpenParen) at) t
+    → step (want context level frames) t ≡ deeper frames (want context 0 (ParenFrame level at ∷ frames))
 unfolding step expression_step start_of
-open_step context level frames at lt t h = rw (h.0, h.1) (opens_more frames _ lt)
+open_step context level frames at t h = rw (h.0, h.1) refl
 
-minus_step : (context : Context) (level : ℕ) (frames : List Frame) (at : ℕ) → opens frames < 64 → (t : Token) → IsSign (At (w.Mark m.Minus) at) t
-    → step (want context level frames) t ≡ Goes (want context 6 (NegFrame level at ∷ frames))
+minus_step : (context : Context) (level : ℕ) (frames : List Frame) (at : ℕ) (t : Token) → IsSign (At (w.Mark m.Minus) at) t
+    → step (want context level frames) t ≡ deeper frames (want context 6 (NegFrame level at ∷ frames))
 unfolding step expression_step start_of
-minus_step context level frames at lt t h = rw (h.0, h.1) (opens_more frames _ lt)
+minus_step context level frames at t h = rw (h.0, h.1) refl
 
-not_step : (context : Context) (level : ℕ) (frames : List Frame) (at : ℕ) → level ≤ 2 → opens frames < 64 → (t : Token) → IsSign (At (w.Reserved r.Not) at) t
-    → step (want context level frames) t ≡ Goes (want context 2 (NotFrame level at ∷ frames))
+not_step : (context : Context) (level : ℕ) (frames : List Frame) (at : ℕ) → level ≤ 2 → (t : Token) → IsSign (At (w.Reserved r.Not) at) t
+    → step (want context level frames) t ≡ deeper frames (want context 2 (NotFrame level at ∷ frames))
 unfolding step expression_step start_of
-not_step context level frames at le lt t h = rw h.0 (not_starts context level frames t le ∙ (rw h.1 (opens_more frames _ lt)))
+not_step context level frames at le t h = rw h.0 (not_starts context level frames t le ∙ (rw h.1 refl))
 
 paren_close : (context : Context) (level at : ℕ) (inner : Tree) (frames : List Frame) (t : Token) → IsSign (Any (w.Mark m.CloseParen)) t
     → step (InExpression context (Done inner) (ParenFrame level at ∷ frames)) t ≡ Goes (InExpression context (Have level 6 (ParenTree at inner)) frames)
@@ -381,78 +405,78 @@ abbrev have : Context → ℕ → Tree → List Frame → Now
 have context level t frames = InExpression context (Have level (high_of t) t) frames
 
 -- what is spelled as an expression is read as that expression
-pub accepts : (end : ℕ) (job : Declarations) (context : Context) (t : Tree) (level : ℕ) (frames : List Frame) (tokens : List Token) (more : List Sign)
+pub accepts : (most end : ℕ) (job : Declarations) (context : Context) (t : Tree) (level : ℕ) (frames : List Frame) (tokens : List Token) (more : List Sign)
     → level ≤ 6 → Fits level t → AreSigns (spelled t ++ more) tokens
-    → nest t + opens frames ≤ 64 → Follows (top t) more → LeadsTo end job (want context level frames) tokens job (have context level t frames) more
-accepts end job context (NumberTree n) level frames tokens more six fits e le h =
-    takes_sign end job (want context level frames) (InExpression context (Have level 6 (NumberTree n)) frames) tokens (At (w.Number n.value) n.at) more e
+    → nest t + opens frames ≤ most → Follows (top t) more → LeadsTo most end job (want context level frames) tokens job (have context level t frames) more
+accepts most end job context (NumberTree n) level frames tokens more six fits e le h =
+    takes_sign most end job (want context level frames) (InExpression context (Have level 6 (NumberTree n)) frames) tokens (At (w.Number n.value) n.at) more e
     (number_step context level frames n)
-accepts end job context (ValueTree at) level frames tokens more six fits e le h =
-    takes_sign end job (want context level frames) (InExpression context (Have level 6 (ValueTree at)) frames) tokens (At (w.Reserved r.Value) at) more e
+accepts most end job context (ValueTree at) level frames tokens more six fits e le h =
+    takes_sign most end job (want context level frames) (InExpression context (Have level 6 (ValueTree at)) frames) tokens (At (w.Reserved r.Value) at) more e
     (value_step context level frames at)
-accepts end job context (KeyTree at) level frames tokens more six fits e le h =
-    takes_sign end job (want context level frames) (InExpression context (Have level 6 (KeyTree at)) frames) tokens (At (w.Reserved r.Key) at) more e
+accepts most end job context (KeyTree at) level frames tokens more six fits e le h =
+    takes_sign most end job (want context level frames) (InExpression context (Have level 6 (KeyTree at)) frames) tokens (At (w.Reserved r.Key) at) more e
     (key_step context level frames at)
-accepts end job context (TimeTree at) level frames tokens more six fits e le h =
-    takes_sign end job (want context level frames) (InExpression context (Have level 6 (TimeTree at)) frames) tokens (At (w.Reserved r.Time) at) more e
+accepts most end job context (TimeTree at) level frames tokens more six fits e le h =
+    takes_sign most end job (want context level frames) (InExpression context (Have level 6 (TimeTree at)) frames) tokens (At (w.Reserved r.Time) at) more e
     (time_step context level frames at)
-accepts end job context (ReadTree cell) level frames tokens more six fits e le h =
-    let a = takes_sign end job (want context level frames) (CellKeys (ToRead context level frames) cell.family) tokens (Spanned w.Name cell.family)
+accepts most end job context (ReadTree cell) level frames tokens more six fits e le h =
+    let a = takes_sign most end job (want context level frames) (CellKeys (ToRead context level frames) cell.family) tokens (Spanned w.Name cell.family)
     (key_signs cell.key ++ more) e (read_step context level frames cell.family) in
-    let b = accepts_key end job (ToRead context level frames) cell.family cell.key a.0 more a.1 (Follows-bracket 5 more h) in
-    (b.0, b.1, a.2 ∙ b.2)
-accepts end job context (HasTree at cell) level frames tokens more six fits e le h =
-    let a = takes_sign end job (want context level frames) (CellFamily (ToTest context level frames at)) tokens (At (w.Reserved r.Has) at)
+    let b = accepts_key most end job (ToRead context level frames) cell.family cell.key a.0 more a.1 (Follows-bracket 5 more h) in
+    (b.0, b.1, a.2 then b.2)
+accepts most end job context (HasTree at cell) level frames tokens more six fits e le h =
+    let a = takes_sign most end job (want context level frames) (CellFamily (ToTest context level frames at)) tokens (At (w.Reserved r.Has) at)
     (cell_signs cell ++ more) e (has_step context level frames at) in
-    let b = accepts_cell end job (ToTest context level frames at) cell a.0 more a.1 (Follows-bracket 5 more h) in
-    (b.0, b.1, a.2 ∙ b.2)
-accepts end job context (ParenTree at inner) level frames tokens more six fits e le h =
+    let b = accepts_cell most end job (ToTest context level frames at) cell a.0 more a.1 (Follows-bracket 5 more h) in
+    (b.0, b.1, a.2 then b.2)
+accepts most end job context (ParenTree at inner) level frames tokens more six fits e le h =
     let f = ParenFrame level at in
     let i = opens-one f frames (opens frames) refl refl in
     let g : AreSigns (At (w.Mark m.OpenParen) at ∷ (spelled inner ++ (Any (w.Mark m.CloseParen) ∷ more))) tokens =
     subst (λ (x : List Sign). AreSigns (At (w.Mark m.OpenParen) at ∷ x) tokens) (append_assoc (spelled inner) (Any (w.Mark m.CloseParen) ∷ []) more) e in
-    let a = takes_sign end job (want context level frames) (want context 0 (f ∷ frames)) tokens (At (w.Mark m.OpenParen) at)
-    (spelled inner ++ (Any (w.Mark m.CloseParen) ∷ more)) g (open_step context level frames at (omega arith)) in
-    let b = accepts end job context inner 0 (f ∷ frames) a.0 (Any (w.Mark m.CloseParen) ∷ more) (omega arith) fits a.1 (omega arith)
+    let a = opens_sign most end job (want context level frames) (want context 0 (f ∷ frames)) frames tokens (At (w.Mark m.OpenParen) at)
+    (spelled inner ++ (Any (w.Mark m.CloseParen) ∷ more)) g (omega arith) (open_step context level frames at) in
+    let b = accepts most end job context inner 0 (f ∷ frames) a.0 (Any (w.Mark m.CloseParen) ∷ more) (omega arith) fits a.1 (omega arith)
     (close_follows (top inner) more) in
     let c = passes_quiet end 0 (high_of inner) job context inner (f ∷ frames) b.0 (Any (w.Mark m.CloseParen) ∷ more) b.1 (close_quiet more) in
-    let d = takes_sign end job (InExpression context (Done inner) (f ∷ frames)) (InExpression context (Have level 6 (ParenTree at inner)) frames) b.0
+    let d = takes_sign most end job (InExpression context (Done inner) (f ∷ frames)) (InExpression context (Have level 6 (ParenTree at inner)) frames) b.0
     (Any (w.Mark m.CloseParen)) more b.1 (paren_close context level at inner frames) in
-    (d.0, d.1, a.2 ∙ b.2 ∙ c ∙ d.2)
-accepts end job context (NegTree at inner) level frames tokens more six fits e le h =
+    (d.0, d.1, a.2 then b.2 then Same c then d.2)
+accepts most end job context (NegTree at inner) level frames tokens more six fits e le h =
     let f = NegFrame level at in
     let i = opens-one f frames (opens frames) refl refl in
-    let a = takes_sign end job (want context level frames) (want context 6 (f ∷ frames)) tokens (At (w.Mark m.Minus) at) (spelled inner ++ more) e
-    (minus_step context level frames at (omega arith)) in
-    let b = accepts end job context inner 6 (f ∷ frames) a.0 more (omega arith) fits a.1 (omega arith)
+    let a = opens_sign most end job (want context level frames) (want context 6 (f ∷ frames)) frames tokens (At (w.Mark m.Minus) at) (spelled inner ++ more) e
+    (omega arith) (minus_step context level frames at) in
+    let b = accepts most end job context inner 6 (f ∷ frames) a.0 more (omega arith) fits a.1 (omega arith)
     (Follows-more 5 (top inner) more (six_fits inner fits) h) in
     let c = passes_low end 6 (high_of inner) 5 job context inner (f ∷ frames) b.0 more b.1 (omega arith) h in
-    (b.0, b.1, a.2 ∙ b.2 ∙ c ∙ run-neg end level at job context inner frames b.0)
-accepts end job context (NotTree at inner) level frames tokens more six fits e le h =
+    (b.0, b.1, a.2 then b.2 then Same (c ∙ run-neg end level at job context inner frames b.0))
+accepts most end job context (NotTree at inner) level frames tokens more six fits e le h =
     let f = NotFrame level at in
     let i = opens-one f frames (opens frames) refl refl in
-    let a = takes_sign end job (want context level frames) (want context 2 (f ∷ frames)) tokens (At (w.Reserved r.Not) at) (spelled inner ++ more) e
-    (not_step context level frames at fits.0 (omega arith)) in
-    let b = accepts end job context inner 2 (f ∷ frames) a.0 more (omega arith) fits.1 a.1 (omega arith)
+    let a = opens_sign most end job (want context level frames) (want context 2 (f ∷ frames)) frames tokens (At (w.Reserved r.Not) at) (spelled inner ++ more) e
+    (omega arith) (not_step context level frames at fits.0) in
+    let b = accepts most end job context inner 2 (f ∷ frames) a.0 more (omega arith) fits.1 a.1 (omega arith)
     (Follows-more 1 (top inner) more (right_fits 1 inner (omega arith) fits.1) h) in
     let c = passes_low end 2 (high_of inner) 1 job context inner (f ∷ frames) b.0 more b.1 (omega arith) h in
-    (b.0, b.1, a.2 ∙ b.2 ∙ c ∙ run-not end level at job context inner frames b.0)
-accepts end job context (TwoTree o left right) level frames tokens more six fits e le h =
+    (b.0, b.1, a.2 then b.2 then Same (c ∙ run-not end level at job context inner frames b.0))
+accepts most end job context (TwoTree o left right) level frames tokens more six fits e le h =
     let p = op_level o in
     let is = level_is o in
     let lf = left_fits p left is fits.1 in
     let f = RightFrame level o left in
     let g : AreSigns (spelled left ++ (Any (op_word o) ∷ (spelled right ++ more))) tokens = subst (λ (x : List Sign). AreSigns x tokens)
     (append_assoc (spelled left) (Any (op_word o) ∷ spelled right) more) e in
-    let a = accepts end job context left level frames tokens (Any (op_word o) ∷ (spelled right ++ more)) six
+    let a = accepts most end job context left level frames tokens (Any (op_word o) ∷ (spelled right ++ more)) six
     (Fits-below level (left_level p) left (omega arith) fits.1) g (omega arith) (op_follows o (top left) (spelled right ++ more) lf.0) in
     let i = opens-same f frames (opens frames) refl refl in
-    let t = takes_sign end job (have context level left frames) (want context (p + 1) (f ∷ frames)) a.0 (Any (op_word o)) (spelled right ++ more) a.1
+    let t = takes_sign most end job (have context level left frames) (want context (p + 1) (f ∷ frames)) a.0 (Any (op_word o)) (spelled right ++ more) a.1
     (operator_step level (high_of left) context left frames o fits.0 lf.1) in
-    let b = accepts end job context right (p + 1) (f ∷ frames) t.0 more (omega (arith, is.below)) fits.2 t.1 (omega arith)
+    let b = accepts most end job context right (p + 1) (f ∷ frames) t.0 more (omega (arith, is.below)) fits.2 t.1 (omega arith)
     (Follows-more p (top right) more (right_fits p right is.below fits.2) h) in
     let c = passes_low end (p + 1) (high_of right) p job context right (f ∷ frames) b.0 more b.1 (omega arith) h in
-    (b.0, b.1, a.2 ∙ t.2 ∙ b.2 ∙ c ∙ run-right end level job context o left right frames b.0)
+    (b.0, b.1, a.2 then t.2 then b.2 then Same (c ∙ run-right end level job context o left right frames b.0))
 
 -- no expression begins with a bracket
 pub no_bracket : (t : Tree) (more : List Sign) → NoBracket (spelled t ++ more)

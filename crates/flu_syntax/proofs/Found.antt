@@ -33,7 +33,7 @@ use Rattle.flu_syntax.specs.Reading.{no_actions}
 use Rattle.flu_syntax.proofs.Runs.{run-behind, begins, job_ends, opens-nil}
 use Rattle.flu_syntax.proofs.Parts.{run-passed, run-closed, run-declared, run-no_relation, deed_plain, source_plain}
 use Rattle.flu_syntax.proofs.Parts.{source_prompt, cell_plain, tag_plain, tag_alone, tags_end, actions_end}
-use Rattle.flu_syntax.proofs.Accepts.{word_of, LeadsTo, takes_sign, NoBracket, NotWord, not_first, bracket_word, Quiet}
+use Rattle.flu_syntax.proofs.Accepts.{word_of, Reaches, Same, Stops, ◌then◌, LeadsTo, takes_sign, NoBracket, NotWord, not_first, bracket_word, Quiet}
 use Rattle.flu_syntax.proofs.Accepts.{Quiet-follows, passes_quiet, high_of, top, accepts, accepts_cell, no_bracket}
 
 -- ---- what stands behind a declaration
@@ -142,73 +142,73 @@ unfolding step
 flush_text_step so_far at family file t h = rw (h.0, h.1, h.2) refl
 
 -- a whole expression, in its place
-accepts_whole : (end : ℕ) (job : Declarations) (context : Context) (t : Tree) (tokens : List Token) (more : List Sign) → IsExpression t
+accepts_whole : (most end : ℕ) (job : Declarations) (context : Context) (t : Tree) (tokens : List Token) (more : List Sign) → IsExpression most t
     → AreSigns (spelled t ++ more) tokens → Quiet more
-    → (rest : List Token) × AreSigns more rest × (run end job (InExpression context (Want 0) []) tokens ≡ run end job (InExpression context (Done t) []) rest)
-accepts_whole end job context t tokens more is e quiet =
-    let a = accepts end job context t 0 [] tokens more (omega arith) is.0 e (omega (arith, is.1, opens-nil)) (Quiet-follows (top t) more quiet) in
-    (a.0, a.1, a.2 ∙ passes_quiet end 0 (high_of t) job context t [] a.0 more a.1 quiet)
+    → LeadsTo most end job (InExpression context (Want 0) []) tokens job (InExpression context (Done t) []) more
+accepts_whole most end job context t tokens more is e quiet =
+    let a = accepts most end job context t 0 [] tokens more (omega arith) is.0 e (omega (arith, is.1, opens-nil)) (Quiet-follows (top t) more quiet) in
+    (a.0, a.1, a.2 then Same (passes_quiet end 0 (high_of t) job context t [] a.0 more a.1 quiet))
 
-accepts_deed : (end : ℕ) (job : Declarations) (so_far : Actions) (at : ℕ) (deed : Deed) (tokens : List Token) (more : List Sign)
-    → AreSigns (deed_signs at deed ++ more) tokens → IsDeed deed → Quiet more
-    → LeadsTo end job (ActionStart so_far) tokens job (DeedEnd so_far at deed) more
-accepts_deed end job so_far at (Writes v cell amount) tokens more h is quiet =
+accepts_deed : (most end : ℕ) (job : Declarations) (so_far : Actions) (at : ℕ) (deed : Deed) (tokens : List Token) (more : List Sign)
+    → AreSigns (deed_signs at deed ++ more) tokens → IsDeed most deed → Quiet more
+    → LeadsTo most end job (ActionStart so_far) tokens job (DeedEnd so_far at deed) more
+accepts_deed most end job so_far at (Writes v cell amount) tokens more h is quiet =
     let g : AreSigns (At (verb_word v) at ∷ (cell_signs cell ++ (spelled amount ++ more))) tokens = subst
     (λ (x : List Sign). AreSigns (At (verb_word v) at ∷ x) tokens) (append_assoc (cell_signs cell) (spelled amount) more) h in
-    let a = takes_sign end job (ActionStart so_far) (CellFamily (ToWrite so_far at v)) tokens (At (verb_word v) at)
+    let a = takes_sign most end job (ActionStart so_far) (CellFamily (ToWrite so_far at v)) tokens (At (verb_word v) at)
     (cell_signs cell ++ (spelled amount ++ more)) g (verb_step so_far at v) in
-    let b = accepts_cell end job (ToWrite so_far at v) cell a.0 (spelled amount ++ more) a.1 (no_bracket amount more) in
-    let c = accepts_whole end job (Amount so_far at v cell) amount b.0 more is b.1 quiet in
-    (c.0, c.1, a.2 ∙ b.2 ∙ c.2 ∙ run-behind end job (Amount so_far at v cell) amount c.0)
-accepts_deed end job so_far at (Clears cell) tokens more h is quiet =
-    let a = takes_sign end job (ActionStart so_far) (CellFamily (ToClear so_far at)) tokens (At (w.Reserved r.Clear) at) (cell_signs cell ++ more) h
+    let b = accepts_cell most end job (ToWrite so_far at v) cell a.0 (spelled amount ++ more) a.1 (no_bracket amount more) in
+    let c = accepts_whole most end job (Amount so_far at v cell) amount b.0 more is b.1 quiet in
+    (c.0, c.1, a.2 then b.2 then c.2 then Same (run-behind end job (Amount so_far at v cell) amount c.0))
+accepts_deed most end job so_far at (Clears cell) tokens more h is quiet =
+    let a = takes_sign most end job (ActionStart so_far) (CellFamily (ToClear so_far at)) tokens (At (w.Reserved r.Clear) at) (cell_signs cell ++ more) h
     (clear_step so_far at) in
-    let b = accepts_cell end job (ToClear so_far at) cell a.0 more a.1 (quiet_bracket more quiet) in
-    (b.0, b.1, a.2 ∙ b.2)
-accepts_deed end job so_far at (Emits file) tokens more h is quiet =
-    let a = takes_sign end job (ActionStart so_far) (EmitText so_far at) tokens (At (w.Reserved r.Emit) at) (Spanned w.Text file ∷ more) h
+    let b = accepts_cell most end job (ToClear so_far at) cell a.0 more a.1 (quiet_bracket more quiet) in
+    (b.0, b.1, a.2 then b.2)
+accepts_deed most end job so_far at (Emits file) tokens more h is quiet =
+    let a = takes_sign most end job (ActionStart so_far) (EmitText so_far at) tokens (At (w.Reserved r.Emit) at) (Spanned w.Text file ∷ more) h
     (emit_step so_far at) in
-    let b = takes_sign end job (EmitText so_far at) (DeedEnd so_far at (Emits file)) a.0 (Spanned w.Text file) more a.1 (emit_text_step so_far at file) in
-    (b.0, b.1, a.2 ∙ b.2)
-accepts_deed end job so_far at (Flushes family file) tokens more h is quiet =
-    let a = takes_sign end job (ActionStart so_far) (FlushFamily so_far at) tokens (At (w.Reserved r.Flush) at)
+    let b = takes_sign most end job (EmitText so_far at) (DeedEnd so_far at (Emits file)) a.0 (Spanned w.Text file) more a.1 (emit_text_step so_far at file) in
+    (b.0, b.1, a.2 then b.2)
+accepts_deed most end job so_far at (Flushes family file) tokens more h is quiet =
+    let a = takes_sign most end job (ActionStart so_far) (FlushFamily so_far at) tokens (At (w.Reserved r.Flush) at)
     (Spanned w.Name family ∷ Spanned w.Text file ∷ more) h (flush_step so_far at) in
-    let b = takes_sign end job (FlushFamily so_far at) (FlushText so_far at family) a.0 (Spanned w.Name family) (Spanned w.Text file ∷ more) a.1
+    let b = takes_sign most end job (FlushFamily so_far at) (FlushText so_far at family) a.0 (Spanned w.Name family) (Spanned w.Text file ∷ more) a.1
     (flush_family_step so_far at family) in
-    let c = takes_sign end job (FlushText so_far at family) (DeedEnd so_far at (Flushes family file)) b.0 (Spanned w.Text file) more b.1
+    let c = takes_sign most end job (FlushText so_far at family) (DeedEnd so_far at (Flushes family file)) b.0 (Spanned w.Text file) more b.1
     (flush_text_step so_far at family file) in
-    (c.0, c.1, a.2 ∙ b.2 ∙ c.2)
+    (c.0, c.1, a.2 then b.2 then c.2)
 
 when_step : (so_far : Actions) (at : ℕ) (deed : Deed) (t : Token) → IsSign (Any (w.Reserved r.When)) t
     → step (DeedEnd so_far at deed) t ≡ Goes (InExpression (Guard so_far at deed) (Want 0) [])
 unfolding step deed_step
 when_step so_far at deed t h = rw h refl
 
-accepts_guard : (end : ℕ) (job : Declarations) (so_far : Actions) (at : ℕ) (deed : Deed) (guard : Option Tree) (tokens : List Token) (more : List Sign)
-    → AreSigns (guard_signs guard ++ more) tokens → IsGuard guard → Behind more
-    → LeadsTo end job (DeedEnd so_far at deed) tokens job (ActionEnd (acted so_far at deed guard)) more
-accepts_guard end job so_far at deed None tokens more h is behind =
-    (tokens, h, run-passed end job tokens (deed_plain so_far at deed) (not_first _ tokens more h behind.1))
-accepts_guard end job so_far at deed (Some guard) tokens more h is behind =
-    let a = takes_sign end job (DeedEnd so_far at deed) (InExpression (Guard so_far at deed) (Want 0) []) tokens (Any (w.Reserved r.When))
+accepts_guard : (most end : ℕ) (job : Declarations) (so_far : Actions) (at : ℕ) (deed : Deed) (guard : Option Tree) (tokens : List Token) (more : List Sign)
+    → AreSigns (guard_signs guard ++ more) tokens → IsGuard most guard → Behind more
+    → LeadsTo most end job (DeedEnd so_far at deed) tokens job (ActionEnd (acted so_far at deed guard)) more
+accepts_guard most end job so_far at deed None tokens more h is behind =
+    (tokens, h, Same (run-passed end job tokens (deed_plain so_far at deed) (not_first _ tokens more h behind.1)))
+accepts_guard most end job so_far at deed (Some guard) tokens more h is behind =
+    let a = takes_sign most end job (DeedEnd so_far at deed) (InExpression (Guard so_far at deed) (Want 0) []) tokens (Any (w.Reserved r.When))
     (spelled guard ++ more) h (when_step so_far at deed) in
-    let b = accepts_whole end job (Guard so_far at deed) guard a.0 more is a.1 behind.0 in
-    (b.0, b.1, a.2 ∙ b.2 ∙ run-behind end job (Guard so_far at deed) guard b.0)
+    let b = accepts_whole most end job (Guard so_far at deed) guard a.0 more is a.1 behind.0 in
+    (b.0, b.1, a.2 then b.2 then Same (run-behind end job (Guard so_far at deed) guard b.0))
 
 guard_quiet : (guard : Option Tree) (more : List Sign) → Quiet more → Quiet (guard_signs guard ++ more)
 unfolding operator_of
 guard_quiet None more h = h
 guard_quiet (Some guard) more h = (refl, λ e. cc)
 
-accepts_action : (end : ℕ) (job : Declarations) (so_far : Actions) (a : Action) (tokens : List Token) (more : List Sign)
-    → AreSigns (action_signs a ++ more) tokens → IsDeed a.deed → IsGuard a.guard → Behind more
-    → LeadsTo end job (ActionStart so_far) tokens job (ActionEnd (acted so_far a.at a.deed a.guard)) more
-accepts_action end job so_far a tokens more h is guarded behind =
+accepts_action : (most end : ℕ) (job : Declarations) (so_far : Actions) (a : Action) (tokens : List Token) (more : List Sign)
+    → AreSigns (action_signs a ++ more) tokens → IsDeed most a.deed → IsGuard most a.guard → Behind more
+    → LeadsTo most end job (ActionStart so_far) tokens job (ActionEnd (acted so_far a.at a.deed a.guard)) more
+accepts_action most end job so_far a tokens more h is guarded behind =
     let g : AreSigns (deed_signs a.at a.deed ++ (guard_signs a.guard ++ more)) tokens = subst (λ (x : List Sign). AreSigns x tokens)
     (append_assoc (deed_signs a.at a.deed) (guard_signs a.guard) more) h in
-    let b = accepts_deed end job so_far a.at a.deed tokens (guard_signs a.guard ++ more) g is (guard_quiet a.guard more behind.0) in
-    let c = accepts_guard end job so_far a.at a.deed a.guard b.0 more b.1 guarded behind in
-    (c.0, c.1, b.2 ∙ c.2)
+    let b = accepts_deed most end job so_far a.at a.deed tokens (guard_signs a.guard ++ more) g is (guard_quiet a.guard more behind.0) in
+    let c = accepts_guard most end job so_far a.at a.deed a.guard b.0 more b.1 guarded behind in
+    (c.0, c.1, b.2 then c.2)
 
 semicolon_step : (so_far : Actions) (t : Token) → IsSign (Any (w.Mark m.Semicolon)) t → step (ActionEnd so_far) t ≡ Goes (ActionStart so_far)
 unfolding step action_step
@@ -221,26 +221,26 @@ semicolon_behind : (more : List Sign) → Behind (Any (w.Mark m.Semicolon) ∷ m
 unfolding operator_of
 semicolon_behind more = ((refl, λ e. cc), λ e. cc)
 
-accepts_actions : (end : ℕ) (job : Declarations) (so_far : Actions) (a : Action) (others : List Action) (tokens : List Token) (more : List Sign)
-    → AreSigns ((action_signs a ++ more_actions others) ++ more) tokens → AreActions (a ∷ others) → Ends more
-    → LeadsTo end job (ActionStart so_far) tokens (job ++ On so_far.kind (so_far.all ++ a ∷ others) ∷ []) Start more
-accepts_actions end job so_far a [] tokens more h are ends =
+accepts_actions : (most end : ℕ) (job : Declarations) (so_far : Actions) (a : Action) (others : List Action) (tokens : List Token) (more : List Sign)
+    → AreSigns ((action_signs a ++ more_actions others) ++ more) tokens → AreActions most (a ∷ others) → Ends more
+    → LeadsTo most end job (ActionStart so_far) tokens (job ++ On so_far.kind (so_far.all ++ a ∷ others) ∷ []) Start more
+accepts_actions most end job so_far a [] tokens more h are ends =
     let now = acted so_far a.at a.deed a.guard in
     let g : AreSigns (action_signs a ++ more) tokens = subst (λ (x : List Sign). AreSigns (x ++ more) tokens) (append-nil (action_signs a)) h in
-    let b = accepts_action end job so_far a tokens more g are.0 are.1 (ends_quiet more ends, ends_when more ends) in
-    (b.0, b.1, b.2 ∙ run-closed end job b.0 (actions_end now) (not_first _ b.0 more b.1 (ends_semicolon more ends)))
-accepts_actions end job so_far a (next ∷ others) tokens more h are ends =
+    let b = accepts_action most end job so_far a tokens more g are.0 are.1 (ends_quiet more ends, ends_when more ends) in
+    (b.0, b.1, b.2 then Same (run-closed end job b.0 (actions_end now) (not_first _ b.0 more b.1 (ends_semicolon more ends))))
+accepts_actions most end job so_far a (next ∷ others) tokens more h are ends =
     let now = acted so_far a.at a.deed a.guard in
     let later = (action_signs next ++ more_actions others) ++ more in
     let g : AreSigns (action_signs a ++ (Any (w.Mark m.Semicolon) ∷ later)) tokens =
     subst (λ (x : List Sign). AreSigns x tokens) (append_assoc (action_signs a) (more_actions (next ∷ others)) more) h in
-    let b = accepts_action end job so_far a tokens (Any (w.Mark m.Semicolon) ∷ later) g are.0 are.1 (semicolon_behind later) in
-    let c = takes_sign end job (ActionEnd now) (ActionStart now) b.0 (Any (w.Mark m.Semicolon)) later b.1 (semicolon_step now) in
-    let d = accepts_actions end job now next others c.0 more c.1 are.2 ends in (
+    let b = accepts_action most end job so_far a tokens (Any (w.Mark m.Semicolon) ∷ later) g are.0 are.1 (semicolon_behind later) in
+    let c = takes_sign most end job (ActionEnd now) (ActionStart now) b.0 (Any (w.Mark m.Semicolon)) later b.1 (semicolon_step now) in
+    let d = accepts_actions most end job now next others c.0 more c.1 are.2 ends in (
       d.0,
       d.1,
-      b.2 ∙ c.2 ∙ d.2
-          ∙ ap (λ (xs : List Action). run end (job ++ On so_far.kind xs ∷ []) Start d.0) (append_assoc so_far.all (a ∷ []) (next ∷ others)),
+      b.2 then c.2 then d.2
+          then Same (ap (λ (xs : List Action). run end (job ++ On so_far.kind xs ∷ []) Start d.0) (append_assoc so_far.all (a ∷ []) (next ∷ others))),
     )
 
 -- ---- tags
@@ -279,41 +279,42 @@ tag_close_step : (so_far : Tags) (kind : WrittenSpan) (ks : WrittenKeys) (t : To
 unfolding step
 tag_close_step so_far kind ks t h = rw h refl
 
-accepts_keys : (end : ℕ) (job : Declarations) (so_far : Tags) (kind : WrittenSpan) (ks : WrittenKeys) (tokens : List Token) (more : List Sign)
+accepts_keys : (most end : ℕ) (job : Declarations) (so_far : Tags) (kind : WrittenSpan) (ks : WrittenKeys) (tokens : List Token) (more : List Sign)
     → AreSigns (keys_signs ks ++ more) tokens → NoBracket more
-    → LeadsTo end job (TagKeys so_far kind) tokens job (TagEnd (listed so_far (tag_of kind ks))) more
-accepts_keys end job so_far kind keys.Alone tokens more h free =
-    (tokens, h, run-passed end job tokens (tag_alone so_far kind) (not_first _ tokens more h (bracket_word more free)))
-accepts_keys end job so_far kind (keys.One n) tokens more h free =
-    let a = takes_sign end job (TagKeys so_far kind) (TagLow so_far kind) tokens (Any (w.Mark m.OpenBracket))
+    → LeadsTo most end job (TagKeys so_far kind) tokens job (TagEnd (listed so_far (tag_of kind ks))) more
+accepts_keys most end job so_far kind keys.Alone tokens more h free =
+    (tokens, h, Same (run-passed end job tokens (tag_alone so_far kind) (not_first _ tokens more h (bracket_word more free))))
+accepts_keys most end job so_far kind (keys.One n) tokens more h free =
+    let a = takes_sign most end job (TagKeys so_far kind) (TagLow so_far kind) tokens (Any (w.Mark m.OpenBracket))
     (At (w.Number n.value) n.at ∷ Any (w.Mark m.CloseBracket) ∷ more) h (tag_open_step so_far kind) in
-    let b = takes_sign end job (TagLow so_far kind) (TagMore so_far kind n) a.0 (At (w.Number n.value) n.at) (Any (w.Mark m.CloseBracket) ∷ more) a.1
+    let b = takes_sign most end job (TagLow so_far kind) (TagMore so_far kind n) a.0 (At (w.Number n.value) n.at) (Any (w.Mark m.CloseBracket) ∷ more) a.1
     (tag_low_step so_far kind n) in
-    let c = takes_sign end job (TagMore so_far kind n) (TagEnd (listed so_far (tag_of kind (keys.One n)))) b.0 (Any (w.Mark m.CloseBracket)) more b.1
+    let c = takes_sign most end job (TagMore so_far kind n) (TagEnd (listed so_far (tag_of kind (keys.One n)))) b.0 (Any (w.Mark m.CloseBracket)) more b.1
     (tag_one_step so_far kind n) in
-    (c.0, c.1, a.2 ∙ b.2 ∙ c.2)
-accepts_keys end job so_far kind (keys.Range low n) tokens more h free =
+    (c.0, c.1, a.2 then b.2 then c.2)
+accepts_keys most end job so_far kind (keys.Range low n) tokens more h free =
     let after_low = Any (w.Mark m.Dots) ∷ At (w.Number n.value) n.at ∷ Any (w.Mark m.CloseBracket) ∷ more in
-    let a = takes_sign end job (TagKeys so_far kind) (TagLow so_far kind) tokens (Any (w.Mark m.OpenBracket)) (At (w.Number low.value) low.at ∷ after_low) h
+    let a = takes_sign most end job (TagKeys so_far kind) (TagLow so_far kind) tokens (Any (w.Mark m.OpenBracket))
+    (At (w.Number low.value) low.at ∷ after_low) h
     (tag_open_step so_far kind) in
-    let b = takes_sign end job (TagLow so_far kind) (TagMore so_far kind low) a.0 (At (w.Number low.value) low.at) after_low a.1
+    let b = takes_sign most end job (TagLow so_far kind) (TagMore so_far kind low) a.0 (At (w.Number low.value) low.at) after_low a.1
     (tag_low_step so_far kind low) in
-    let c = takes_sign end job (TagMore so_far kind low) (TagHigh so_far kind low) b.0 (Any (w.Mark m.Dots))
+    let c = takes_sign most end job (TagMore so_far kind low) (TagHigh so_far kind low) b.0 (Any (w.Mark m.Dots))
     (At (w.Number n.value) n.at ∷ Any (w.Mark m.CloseBracket) ∷ more) b.1 (tag_dots_step so_far kind low) in
-    let d = takes_sign end job (TagHigh so_far kind low) (TagClose so_far kind (keys.Range low n)) c.0 (At (w.Number n.value) n.at)
+    let d = takes_sign most end job (TagHigh so_far kind low) (TagClose so_far kind (keys.Range low n)) c.0 (At (w.Number n.value) n.at)
     (Any (w.Mark m.CloseBracket) ∷ more) c.1 (tag_high_step so_far kind low n) in
-    let f = takes_sign end job (TagClose so_far kind (keys.Range low n)) (TagEnd (listed so_far (tag_of kind (keys.Range low n)))) d.0
+    let f = takes_sign most end job (TagClose so_far kind (keys.Range low n)) (TagEnd (listed so_far (tag_of kind (keys.Range low n)))) d.0
     (Any (w.Mark m.CloseBracket)) more d.1 (tag_close_step so_far kind (keys.Range low n)) in
-    (f.0, f.1, a.2 ∙ b.2 ∙ c.2 ∙ d.2 ∙ f.2)
+    (f.0, f.1, a.2 then b.2 then c.2 then d.2 then f.2)
 
-accepts_tag : (end : ℕ) (job : Declarations) (so_far : Tags) (tag : WrittenTag) (tokens : List Token) (more : List Sign)
+accepts_tag : (most end : ℕ) (job : Declarations) (so_far : Tags) (tag : WrittenTag) (tokens : List Token) (more : List Sign)
     → AreSigns (tag_signs tag ++ more) tokens → NoBracket more
-    → LeadsTo end job (TagKind so_far) tokens job (TagEnd (listed so_far tag)) more
-accepts_tag end job so_far tag tokens more h free =
-    let a = takes_sign end job (TagKind so_far) (TagKeys so_far tag.kind) tokens (Spanned w.Name tag.kind) (keys_signs tag.keys ++ more) h
+    → LeadsTo most end job (TagKind so_far) tokens job (TagEnd (listed so_far tag)) more
+accepts_tag most end job so_far tag tokens more h free =
+    let a = takes_sign most end job (TagKind so_far) (TagKeys so_far tag.kind) tokens (Spanned w.Name tag.kind) (keys_signs tag.keys ++ more) h
     (tag_kind_step so_far tag.kind) in
-    let b = accepts_keys end job so_far tag.kind tag.keys a.0 more a.1 free in
-    (b.0, b.1, a.2 ∙ b.2)
+    let b = accepts_keys most end job so_far tag.kind tag.keys a.0 more a.1 free in
+    (b.0, b.1, a.2 then b.2)
 
 comma_step : (so_far : Tags) (t : Token) → IsSign (Any (w.Mark m.Comma)) t → step (TagEnd so_far) t ≡ Goes (TagKind so_far)
 unfolding step
@@ -322,36 +323,36 @@ comma_step so_far t h = rw h refl
 abbrev more_tags : List WrittenTag → List Sign
 more_tags rest = flat_map (λ (y : WrittenTag). Any (w.Mark m.Comma) ∷ tag_signs y) rest
 
-accepts_tags : (end : ℕ) (job : Declarations) (so_far : Tags) (tag : WrittenTag) (others : List WrittenTag) (tokens : List Token) (more : List Sign)
+accepts_tags : (most end : ℕ) (job : Declarations) (so_far : Tags) (tag : WrittenTag) (others : List WrittenTag) (tokens : List Token) (more : List Sign)
     → AreSigns ((tag_signs tag ++ more_tags others) ++ more) tokens → Ends more
-    → LeadsTo end job (TagKind so_far) tokens (job ++ Source so_far.name so_far.file so_far.rate so_far.slack (so_far.all ++ tag ∷ others) ∷ []) Start more
-accepts_tags end job so_far tag [] tokens more h ends =
+    → LeadsTo most end job (TagKind so_far) tokens (job ++ Source so_far.name so_far.file so_far.rate so_far.slack (so_far.all ++ tag ∷ others) ∷ []) Start more
+accepts_tags most end job so_far tag [] tokens more h ends =
     let now = listed so_far tag in
     let g : AreSigns (tag_signs tag ++ more) tokens = subst (λ (x : List Sign). AreSigns (x ++ more) tokens) (append-nil (tag_signs tag)) h in
-    let b = accepts_tag end job so_far tag tokens more g (ends_bracket more ends) in
-    (b.0, b.1, b.2 ∙ run-closed end job b.0 (tags_end now) (not_first _ b.0 more b.1 (ends_comma more ends)))
-accepts_tags end job so_far tag (next ∷ others) tokens more h ends =
+    let b = accepts_tag most end job so_far tag tokens more g (ends_bracket more ends) in
+    (b.0, b.1, b.2 then Same (run-closed end job b.0 (tags_end now) (not_first _ b.0 more b.1 (ends_comma more ends))))
+accepts_tags most end job so_far tag (next ∷ others) tokens more h ends =
     let now = listed so_far tag in
     let later = (tag_signs next ++ more_tags others) ++ more in
     let g : AreSigns (tag_signs tag ++ (Any (w.Mark m.Comma) ∷ later)) tokens = subst (λ (x : List Sign). AreSigns x tokens)
     (append_assoc (tag_signs tag) (more_tags (next ∷ others)) more) h in
-    let b = accepts_tag end job so_far tag tokens (Any (w.Mark m.Comma) ∷ later) g (λ e. cc) in
-    let c = takes_sign end job (TagEnd now) (TagKind now) b.0 (Any (w.Mark m.Comma)) later b.1 (comma_step now) in
-    let d = accepts_tags end job now next others c.0 more c.1 ends in (
+    let b = accepts_tag most end job so_far tag tokens (Any (w.Mark m.Comma) ∷ later) g (λ e. cc) in
+    let c = takes_sign most end job (TagEnd now) (TagKind now) b.0 (Any (w.Mark m.Comma)) later b.1 (comma_step now) in
+    let d = accepts_tags most end job now next others c.0 more c.1 ends in (
       d.0,
       d.1,
-      b.2 ∙ c.2 ∙ d.2
-          ∙ ap (λ (xs : List WrittenTag). run end (job ++ Source so_far.name so_far.file so_far.rate so_far.slack xs ∷ []) Start d.0)
-          (append_assoc so_far.all (tag ∷ []) (next ∷ others)),
+      b.2 then c.2 then d.2
+          then Same (ap (λ (xs : List WrittenTag). run end (job ++ Source so_far.name so_far.file so_far.rate so_far.slack xs ∷ []) Start d.0)
+          (append_assoc so_far.all (tag ∷ []) (next ∷ others))),
     )
 
 -- ---- declarations
 
 -- a first word
-opens_with : (end : ℕ) (job : Declarations) (now : Now) (tokens : List Token) (word : Word) (more : List Sign) → AreSigns (Any word ∷ more) tokens
-    → opening (heading_of word) ≡ Some now → LeadsTo end job Start tokens job now more
-opens_with end job now [] word more h e = absurd h
-opens_with end job now (t ∷ rest) word more h e = (rest, h.1, begins end job now t rest (ap (λ x. opening (heading_of x)) h.0 ∙ e))
+opens_with : (most end : ℕ) (job : Declarations) (now : Now) (tokens : List Token) (word : Word) (more : List Sign) → AreSigns (Any word ∷ more) tokens
+    → opening (heading_of word) ≡ Some now → LeadsTo most end job Start tokens job now more
+opens_with most end job now [] word more h e = absurd h
+opens_with most end job now (t ∷ rest) word more h e = (rest, h.1, Same (begins end job now t rest (ap (λ x. opening (heading_of x)) h.0 ∙ e)))
 
 cell_name_step : (n : WrittenSpan) (t : Token) → IsSign (Spanned w.Name n) t → step CellName t ≡ Goes (CellForm n)
 unfolding step
@@ -377,13 +378,13 @@ sort_not_keyed sort.Sum = λ e. cc
 sort_not_keyed sort.Max = λ e. cc
 sort_not_keyed sort.Last = λ e. cc
 
-accepts_cell_keyed : (end : ℕ) (job : Declarations) (n : WrittenSpan) (keyed : Bool) (s : Sort) (tokens : List Token) (more : List Sign)
+accepts_cell_keyed : (most end : ℕ) (job : Declarations) (n : WrittenSpan) (keyed : Bool) (s : Sort) (tokens : List Token) (more : List Sign)
     → AreSigns ((keyed_signs keyed ++ Any (sort_word s) ∷ []) ++ more) tokens
-    → LeadsTo end job (CellForm n) tokens job (CellSort n keyed) (Any (sort_word s) ∷ more)
-accepts_cell_keyed end job n true s tokens more h =
-    takes_sign end job (CellForm n) (CellSort n true) tokens (Any (w.Reserved r.Keyed)) (Any (sort_word s) ∷ more) h (cell_keyed_step n)
-accepts_cell_keyed end job n false s tokens more h =
-    (tokens, h, run-passed end job tokens (cell_plain n) (not_first _ tokens (Any (sort_word s) ∷ more) h (sort_not_keyed s)))
+    → LeadsTo most end job (CellForm n) tokens job (CellSort n keyed) (Any (sort_word s) ∷ more)
+accepts_cell_keyed most end job n true s tokens more h =
+    takes_sign most end job (CellForm n) (CellSort n true) tokens (Any (w.Reserved r.Keyed)) (Any (sort_word s) ∷ more) h (cell_keyed_step n)
+accepts_cell_keyed most end job n false s tokens more h =
+    (tokens, h, Same (run-passed end job tokens (cell_plain n) (not_first _ tokens (Any (sort_word s) ∷ more) h (sort_not_keyed s))))
 
 tag_name_step : (n : WrittenSpan) (t : Token) → IsSign (Spanned w.Name n) t → step TagName t ≡ Goes (TagForm n)
 unfolding step
@@ -407,13 +408,13 @@ value_not_keyed : (b : Bool) → value_word b ≢ w.Reserved r.Keyed
 value_not_keyed true = λ e. cc
 value_not_keyed false = λ e. cc
 
-accepts_tag_keyed : (end : ℕ) (job : Declarations) (n : WrittenSpan) (keyed has_value : Bool) (tokens : List Token) (more : List Sign)
+accepts_tag_keyed : (most end : ℕ) (job : Declarations) (n : WrittenSpan) (keyed has_value : Bool) (tokens : List Token) (more : List Sign)
     → AreSigns ((keyed_signs keyed ++ Any (value_word has_value) ∷ []) ++ more) tokens
-    → LeadsTo end job (TagForm n) tokens job (TagValue n keyed) (Any (value_word has_value) ∷ more)
-accepts_tag_keyed end job n true has_value tokens more h =
-    takes_sign end job (TagForm n) (TagValue n true) tokens (Any (w.Reserved r.Keyed)) (Any (value_word has_value) ∷ more) h (tag_keyed_step n)
-accepts_tag_keyed end job n false has_value tokens more h =
-    (tokens, h, run-passed end job tokens (tag_plain n) (not_first _ tokens (Any (value_word has_value) ∷ more) h (value_not_keyed has_value)))
+    → LeadsTo most end job (TagForm n) tokens job (TagValue n keyed) (Any (value_word has_value) ∷ more)
+accepts_tag_keyed most end job n true has_value tokens more h =
+    takes_sign most end job (TagForm n) (TagValue n true) tokens (Any (w.Reserved r.Keyed)) (Any (value_word has_value) ∷ more) h (tag_keyed_step n)
+accepts_tag_keyed most end job n false has_value tokens more h =
+    (tokens, h, Same (run-passed end job tokens (tag_plain n) (not_first _ tokens (Any (value_word has_value) ∷ more) h (value_not_keyed has_value))))
 
 depends_first_step : (a : WrittenSpan) (t : Token) → IsSign (Spanned w.Name a) t → step DependsFirst t ≡ Goes (DependsSecond a)
 unfolding step
@@ -432,17 +433,17 @@ all_step : (a b : WrittenSpan) (t : Token) → IsSign (Any (w.Reserved r.All)) t
 unfolding step
 all_step a b t h = rw h refl
 
-accepts_relation : (end : ℕ) (job : Declarations) (a b : WrittenSpan) (how : WrittenRelation) (tokens : List Token) (more : List Sign)
+accepts_relation : (most end : ℕ) (job : Declarations) (a b : WrittenSpan) (how : WrittenRelation) (tokens : List Token) (more : List Sign)
     → AreSigns (relation_signs how ++ more) tokens → Ends more
-    → LeadsTo end job (DependsHow a b) tokens (job ++ Depends a b how ∷ []) Start more
-accepts_relation end job a b relation.None tokens more h ends =
-    (tokens, h, run-no_relation end job a b tokens (not_first _ tokens more h (ends_same more ends)) (not_first _ tokens more h (ends_all more ends)))
-accepts_relation end job a b relation.All tokens more h ends =
-    let c = takes_sign end job (DependsHow a b) (Declared (Depends a b relation.All)) tokens (Any (w.Reserved r.All)) more h (all_step a b) in
-    (c.0, c.1, c.2 ∙ run-declared end job (Depends a b relation.All) c.0)
-accepts_relation end job a b (relation.Same at) tokens more h ends =
-    let c = takes_sign end job (DependsHow a b) (Declared (Depends a b (relation.Same at))) tokens (At (w.Reserved r.Same) at) more h (same_step a b at) in
-    (c.0, c.1, c.2 ∙ run-declared end job (Depends a b (relation.Same at)) c.0)
+    → LeadsTo most end job (DependsHow a b) tokens (job ++ Depends a b how ∷ []) Start more
+accepts_relation most end job a b relation.None tokens more h ends =
+    (tokens, h, Same (run-no_relation end job a b tokens (not_first _ tokens more h (ends_same more ends)) (not_first _ tokens more h (ends_all more ends))))
+accepts_relation most end job a b relation.All tokens more h ends =
+    let c = takes_sign most end job (DependsHow a b) (Declared (Depends a b relation.All)) tokens (Any (w.Reserved r.All)) more h (all_step a b) in
+    (c.0, c.1, c.2 then Same (run-declared end job (Depends a b relation.All) c.0))
+accepts_relation most end job a b (relation.Same at) tokens more h ends =
+    let c = takes_sign most end job (DependsHow a b) (Declared (Depends a b (relation.Same at))) tokens (At (w.Reserved r.Same) at) more h (same_step a b at) in
+    (c.0, c.1, c.2 then Same (run-declared end job (Depends a b (relation.Same at)) c.0))
 
 source_name_step : (n : WrittenSpan) (t : Token) → IsSign (Spanned w.Name n) t → step SourceName t ≡ Goes (SourceFile n)
 unfolding step
@@ -483,30 +484,32 @@ not_a_rate : (slack : Option WrittenNumber) (more : List Sign) → NotWord (w.Re
 not_a_rate None more = λ e. cc
 not_a_rate (Some slack) more = λ e. cc
 
-accepts_rate : (end : ℕ) (job : Declarations) (n file : WrittenSpan) (rate slack : Option WrittenNumber) (tokens : List Token) (more : List Sign)
+accepts_rate : (most end : ℕ) (job : Declarations) (n file : WrittenSpan) (rate slack : Option WrittenNumber) (tokens : List Token) (more : List Sign)
     → AreSigns (rate_signs rate ++ behind_rate slack more) tokens
-    → LeadsTo end job (SourceRate n file) tokens job (SourceSlack n file rate) (behind_rate slack more)
-accepts_rate end job n file None slack tokens more h =
-    (tokens, h, run-passed end job tokens (source_plain n file) (not_first _ tokens (behind_rate slack more) h (not_a_rate slack more)))
-accepts_rate end job n file (Some rate) slack tokens more h =
+    → LeadsTo most end job (SourceRate n file) tokens job (SourceSlack n file rate) (behind_rate slack more)
+accepts_rate most end job n file None slack tokens more h =
+    (tokens, h, Same (run-passed end job tokens (source_plain n file) (not_first _ tokens (behind_rate slack more) h (not_a_rate slack more))))
+accepts_rate most end job n file (Some rate) slack tokens more h =
     let number = At (w.Number rate.value) rate.at in
-    let a = takes_sign end job (SourceRate n file) (RateNumber n file) tokens (Any (w.Reserved r.Rate)) (number ∷ behind_rate slack more) h
+    let a = takes_sign most end job (SourceRate n file) (RateNumber n file) tokens (Any (w.Reserved r.Rate)) (number ∷ behind_rate slack more) h
     (source_rate_step n file) in
-    let b = takes_sign end job (RateNumber n file) (SourceSlack n file (Some rate)) a.0 number (behind_rate slack more) a.1 (rate_number_step n file rate) in
-    (b.0, b.1, a.2 ∙ b.2)
+    let b = takes_sign most end job (RateNumber n file) (SourceSlack n file (Some rate)) a.0 number (behind_rate slack more) a.1
+    (rate_number_step n file rate) in
+    (b.0, b.1, a.2 then b.2)
 
-accepts_slack : (end : ℕ) (job : Declarations) (n file : WrittenSpan) (rate slack : Option WrittenNumber) (tokens : List Token) (more : List Sign)
+accepts_slack : (most end : ℕ) (job : Declarations) (n file : WrittenSpan) (rate slack : Option WrittenNumber) (tokens : List Token) (more : List Sign)
     → AreSigns (behind_rate slack more) tokens
-    → LeadsTo end job (SourceSlack n file rate) tokens job (SourceColon n file rate slack) (Any (w.Mark m.Colon) ∷ more)
-accepts_slack end job n file rate None tokens more h =
-    (tokens, h, run-passed end job tokens (source_prompt n file rate) (not_first _ tokens (Any (w.Mark m.Colon) ∷ more) h (λ e. cc)))
-accepts_slack end job n file rate (Some slack) tokens more h =
+    → LeadsTo most end job (SourceSlack n file rate) tokens job (SourceColon n file rate slack) (Any (w.Mark m.Colon) ∷ more)
+accepts_slack most end job n file rate None tokens more h =
+    (tokens, h, Same (run-passed end job tokens (source_prompt n file rate) (not_first _ tokens (Any (w.Mark m.Colon) ∷ more) h (λ e. cc))))
+accepts_slack most end job n file rate (Some slack) tokens more h =
     let number = At (w.Number slack.value) slack.at in
     let behind = Any (w.Mark m.Colon) ∷ more in
-    let a = takes_sign end job (SourceSlack n file rate) (SlackNumber n file rate) tokens (Any (w.Reserved r.Slack)) (number ∷ behind) h
+    let a = takes_sign most end job (SourceSlack n file rate) (SlackNumber n file rate) tokens (Any (w.Reserved r.Slack)) (number ∷ behind) h
     (source_slack_step n file rate) in
-    let b = takes_sign end job (SlackNumber n file rate) (SourceColon n file rate (Some slack)) a.0 number behind a.1 (slack_number_step n file rate slack) in
-    (b.0, b.1, a.2 ∙ b.2)
+    let b = takes_sign most end job (SlackNumber n file rate) (SourceColon n file rate (Some slack)) a.0 number behind a.1
+    (slack_number_step n file rate slack) in
+    (b.0, b.1, a.2 then b.2)
 
 on_kind_step : (kind : WrittenSpan) (t : Token) → IsSign (Spanned w.Name kind) t → step OnKind t ≡ Goes (OnColon kind)
 unfolding step
@@ -536,41 +539,41 @@ heading_source : opening (heading_of (w.Reserved r.Source)) ≡ Some SourceName
 unfolding heading_of
 heading_source = refl
 
-accepts_declaration : (end : ℕ) (job : Declarations) (d : Declaration) (tokens : List Token) (more : List Sign)
-    → AreSigns (declaration_signs d ++ more) tokens → IsDeclaration d → Ends more
-    → LeadsTo end job Start tokens (job ++ d ∷ []) Start more
-accepts_declaration end job (Cell n keyed s) tokens more h is ends =
+accepts_declaration : (most end : ℕ) (job : Declarations) (d : Declaration) (tokens : List Token) (more : List Sign)
+    → AreSigns (declaration_signs d ++ more) tokens → IsDeclaration most d → Ends more
+    → LeadsTo most end job Start tokens (job ++ d ∷ []) Start more
+accepts_declaration most end job (Cell n keyed s) tokens more h is ends =
     let tail = (keyed_signs keyed ++ Any (sort_word s) ∷ []) ++ more in
-    let a = opens_with end job CellName tokens (w.Reserved r.Cell) (Spanned w.Name n ∷ tail) h heading_cell in
-    let b = takes_sign end job CellName (CellForm n) a.0 (Spanned w.Name n) tail a.1 (cell_name_step n) in
-    let c = accepts_cell_keyed end job n keyed s b.0 more b.1 in
-    let d = takes_sign end job (CellSort n keyed) (Declared (Cell n keyed s)) c.0 (Any (sort_word s)) more c.1 (cell_sort_step n keyed s) in
-    (d.0, d.1, a.2 ∙ b.2 ∙ c.2 ∙ d.2 ∙ run-declared end job (Cell n keyed s) d.0)
-accepts_declaration end job (Tag n keyed has_value) tokens more h is ends =
+    let a = opens_with most end job CellName tokens (w.Reserved r.Cell) (Spanned w.Name n ∷ tail) h heading_cell in
+    let b = takes_sign most end job CellName (CellForm n) a.0 (Spanned w.Name n) tail a.1 (cell_name_step n) in
+    let c = accepts_cell_keyed most end job n keyed s b.0 more b.1 in
+    let d = takes_sign most end job (CellSort n keyed) (Declared (Cell n keyed s)) c.0 (Any (sort_word s)) more c.1 (cell_sort_step n keyed s) in
+    (d.0, d.1, a.2 then b.2 then c.2 then d.2 then Same (run-declared end job (Cell n keyed s) d.0))
+accepts_declaration most end job (Tag n keyed has_value) tokens more h is ends =
     let tail = (keyed_signs keyed ++ Any (value_word has_value) ∷ []) ++ more in
-    let a = opens_with end job TagName tokens (w.Reserved r.Tag) (Spanned w.Name n ∷ tail) h heading_tag in
-    let b = takes_sign end job TagName (TagForm n) a.0 (Spanned w.Name n) tail a.1 (tag_name_step n) in
-    let c = accepts_tag_keyed end job n keyed has_value b.0 more b.1 in
-    let d = takes_sign end job (TagValue n keyed) (Declared (Tag n keyed has_value)) c.0 (Any (value_word has_value)) more c.1
+    let a = opens_with most end job TagName tokens (w.Reserved r.Tag) (Spanned w.Name n ∷ tail) h heading_tag in
+    let b = takes_sign most end job TagName (TagForm n) a.0 (Spanned w.Name n) tail a.1 (tag_name_step n) in
+    let c = accepts_tag_keyed most end job n keyed has_value b.0 more b.1 in
+    let d = takes_sign most end job (TagValue n keyed) (Declared (Tag n keyed has_value)) c.0 (Any (value_word has_value)) more c.1
     (tag_value_step n keyed has_value) in
-    (d.0, d.1, a.2 ∙ b.2 ∙ c.2 ∙ d.2 ∙ run-declared end job (Tag n keyed has_value) d.0)
-accepts_declaration end job (Depends a b how) tokens more h is ends =
+    (d.0, d.1, a.2 then b.2 then c.2 then d.2 then Same (run-declared end job (Tag n keyed has_value) d.0))
+accepts_declaration most end job (Depends a b how) tokens more h is ends =
     let tail = relation_signs how ++ more in
-    let x = opens_with end job DependsFirst tokens (w.Reserved r.Depends) (Spanned w.Name a ∷ Spanned w.Name b ∷ tail) h heading_depends in
-    let y = takes_sign end job DependsFirst (DependsSecond a) x.0 (Spanned w.Name a) (Spanned w.Name b ∷ tail) x.1 (depends_first_step a) in
-    let z = takes_sign end job (DependsSecond a) (DependsHow a b) y.0 (Spanned w.Name b) tail y.1 (depends_second_step a b) in
-    let c = accepts_relation end job a b how z.0 more z.1 ends in
-    (c.0, c.1, x.2 ∙ y.2 ∙ z.2 ∙ c.2)
-accepts_declaration end job (On kind []) tokens more h is ends = absurd (is.0 refl)
-accepts_declaration end job (On kind (first ∷ actions)) tokens more h is ends =
+    let x = opens_with most end job DependsFirst tokens (w.Reserved r.Depends) (Spanned w.Name a ∷ Spanned w.Name b ∷ tail) h heading_depends in
+    let y = takes_sign most end job DependsFirst (DependsSecond a) x.0 (Spanned w.Name a) (Spanned w.Name b ∷ tail) x.1 (depends_first_step a) in
+    let z = takes_sign most end job (DependsSecond a) (DependsHow a b) y.0 (Spanned w.Name b) tail y.1 (depends_second_step a b) in
+    let c = accepts_relation most end job a b how z.0 more z.1 ends in
+    (c.0, c.1, x.2 then y.2 then z.2 then c.2)
+accepts_declaration most end job (On kind []) tokens more h is ends = absurd (is.0 refl)
+accepts_declaration most end job (On kind (first ∷ actions)) tokens more h is ends =
     let tail = (action_signs first ++ more_actions actions) ++ more in
-    let x = opens_with end job OnKind tokens (w.Reserved r.On) (Spanned w.Name kind ∷ Any (w.Mark m.Colon) ∷ tail) h heading_on in
-    let y = takes_sign end job OnKind (OnColon kind) x.0 (Spanned w.Name kind) (Any (w.Mark m.Colon) ∷ tail) x.1 (on_kind_step kind) in
-    let z = takes_sign end job (OnColon kind) (ActionStart (no_actions kind)) y.0 (Any (w.Mark m.Colon)) tail y.1 (on_colon_step kind) in
-    let c = accepts_actions end job (no_actions kind) first actions z.0 more z.1 is.1 ends in
-    (c.0, c.1, x.2 ∙ y.2 ∙ z.2 ∙ c.2)
-accepts_declaration end job (Source n file rate slack []) tokens more h is ends = absurd (is refl)
-accepts_declaration end job (Source n file rate slack (first ∷ tags)) tokens more h is ends =
+    let x = opens_with most end job OnKind tokens (w.Reserved r.On) (Spanned w.Name kind ∷ Any (w.Mark m.Colon) ∷ tail) h heading_on in
+    let y = takes_sign most end job OnKind (OnColon kind) x.0 (Spanned w.Name kind) (Any (w.Mark m.Colon) ∷ tail) x.1 (on_kind_step kind) in
+    let z = takes_sign most end job (OnColon kind) (ActionStart (no_actions kind)) y.0 (Any (w.Mark m.Colon)) tail y.1 (on_colon_step kind) in
+    let c = accepts_actions most end job (no_actions kind) first actions z.0 more z.1 is.1 ends in
+    (c.0, c.1, x.2 then y.2 then z.2 then c.2)
+accepts_declaration most end job (Source n file rate slack []) tokens more h is ends = absurd (is refl)
+accepts_declaration most end job (Source n file rate slack (first ∷ tags)) tokens more h is ends =
     let list = tag_signs first ++ more_tags tags in
     let tail = list ++ more in
     let behind = rate_signs rate ++ behind_rate slack tail in
@@ -579,15 +582,15 @@ accepts_declaration end job (Source n file rate slack (first ∷ tags)) tokens m
     ∙ append_assoc (rate_signs rate) (slack_signs slack) (Any (w.Mark m.Colon) ∷ tail) in
     let g : AreSigns (Any (w.Reserved r.Source) ∷ Spanned w.Name n ∷ Spanned w.Text file ∷ behind) tokens =
     subst (λ (x : List Sign). AreSigns (Any (w.Reserved r.Source) ∷ Spanned w.Name n ∷ Spanned w.Text file ∷ x) tokens) moves h in
-    let x = opens_with end job SourceName tokens (w.Reserved r.Source) (Spanned w.Name n ∷ Spanned w.Text file ∷ behind) g heading_source in
-    let y = takes_sign end job SourceName (SourceFile n) x.0 (Spanned w.Name n) (Spanned w.Text file ∷ behind) x.1 (source_name_step n) in
-    let z = takes_sign end job (SourceFile n) (SourceRate n file) y.0 (Spanned w.Text file) behind y.1 (source_file_step n file) in
-    let u = accepts_rate end job n file rate slack z.0 tail z.1 in
-    let s = accepts_slack end job n file rate slack u.0 tail u.1 in
-    let v = takes_sign end job (SourceColon n file rate slack) (TagKind (source_of n file rate slack)) s.0 (Any (w.Mark m.Colon)) tail s.1
+    let x = opens_with most end job SourceName tokens (w.Reserved r.Source) (Spanned w.Name n ∷ Spanned w.Text file ∷ behind) g heading_source in
+    let y = takes_sign most end job SourceName (SourceFile n) x.0 (Spanned w.Name n) (Spanned w.Text file ∷ behind) x.1 (source_name_step n) in
+    let z = takes_sign most end job (SourceFile n) (SourceRate n file) y.0 (Spanned w.Text file) behind y.1 (source_file_step n file) in
+    let u = accepts_rate most end job n file rate slack z.0 tail z.1 in
+    let s = accepts_slack most end job n file rate slack u.0 tail u.1 in
+    let v = takes_sign most end job (SourceColon n file rate slack) (TagKind (source_of n file rate slack)) s.0 (Any (w.Mark m.Colon)) tail s.1
     (source_colon_step n file rate slack) in
-    let c = accepts_tags end job (source_of n file rate slack) first tags v.0 more v.1 ends in
-    (c.0, c.1, x.2 ∙ y.2 ∙ z.2 ∙ u.2 ∙ s.2 ∙ v.2 ∙ c.2)
+    let c = accepts_tags most end job (source_of n file rate slack) first tags v.0 more v.1 ends in
+    (c.0, c.1, x.2 then y.2 then z.2 then u.2 then s.2 then v.2 then c.2)
 
 -- ---- all declarations
 
@@ -595,13 +598,23 @@ no_tokens : (tokens : List Token) → AreSigns [] tokens → tokens ≡ []
 no_tokens [] h = refl
 no_tokens (t ∷ tokens) h = absurd h
 
-accepts_declarations : (end : ℕ) (job ds : Declarations) (tokens : List Token) → AreDeclarations ds → AreSigns (declarations_signs ds) tokens
-    → run end job Start tokens ≡ Found (job ++ ds)
-accepts_declarations end job [] tokens are h = rw (no_tokens tokens h) (job_ends end job ∙ ap Found (sym (append-nil job)))
-accepts_declarations end job (d ∷ ds) tokens are h =
-    let a = accepts_declaration end job d tokens (declarations_signs ds) h are.0 (declarations_headed ds) in
-    a.2 ∙ accepts_declarations end (job ++ d ∷ []) ds a.0 are.1 a.1 ∙ ap Found (append_assoc job (d ∷ []) ds)
+accepts_declarations : (most end : ℕ) (job ds : Declarations) (tokens : List Token) → AreDeclarations most ds → AreSigns (declarations_signs ds) tokens
+    → Reaches most (run end job Start tokens) (Found (job ++ ds))
+accepts_declarations most end job [] tokens are h = Same (rw (no_tokens tokens h) (job_ends end job ∙ ap Found (sym (append-nil job))))
+accepts_declarations most end job (d ∷ ds) tokens are h =
+    let a = accepts_declaration most end job d tokens (declarations_signs ds) h are.0 (declarations_headed ds) in
+    a.2 then accepts_declarations most end (job ++ d ∷ []) ds a.0 are.1 a.1 then Same (ap Found (append_assoc job (d ∷ []) ds))
 
-pub declarations_are_found : (end : ℕ) (tokens : List Token) (ds : Declarations) → AreDeclarations ds → AreSigns (declarations_signs ds) tokens
+-- where at most so many are open, the declarations are found, or a token opens too many
+pub declarations_are_reached : (most end : ℕ) (tokens : List Token) (ds : Declarations) → AreDeclarations most ds → AreSigns (declarations_signs ds) tokens
+    → Reaches most (run end [] Start tokens) (Found ds)
+declarations_are_reached most end tokens ds are spelled = accepts_declarations most end [] ds tokens are spelled
+
+-- and where these are 64, they are found
+pub declarations_are_found : (end : ℕ) (tokens : List Token) (ds : Declarations) → AreDeclarations 64 ds → AreSigns (declarations_signs ds) tokens
     → run end [] Start tokens ≡ Found ds
-declarations_are_found end tokens ds are spelled = accepts_declarations end [] ds tokens are spelled
+declarations_are_found end tokens ds are spelled = by_reach (declarations_are_reached 64 end tokens ds are spelled)
+  where
+    by_reach : Reaches 64 (run end [] Start tokens) (Found ds) → run end [] Start tokens ≡ Found ds
+    by_reach (Same e) = e
+    by_reach (Stops over e) = let never : ⊥ = omega arith in absurd never

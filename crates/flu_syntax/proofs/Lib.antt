@@ -5,6 +5,7 @@ pub mod Accepts
 pub mod Found
 pub mod Spelling
 pub mod Levels
+pub mod Deep
 pub mod Versions
 pub mod Exact
 pub mod Words

@@ -64,7 +64,7 @@ abbrev said_context : Context → List Sign
 said_context (Amount so_far at v cell) = said_actions so_far ++ (At (verb_word v) at ∷ cell_signs cell)
 said_context (Guard so_far at deed) = said_actions so_far ++ (deed_signs at deed ++ Any (w.Reserved r.When) ∷ [])
 
-abbrev said_frames : Context → List Frame → List Sign
+abbrev pub said_frames : Context → List Frame → List Sign
 said_frames context [] = said_context context
 said_frames context (NegFrame level at ∷ frames) = said_frames context frames ++ At (w.Mark m.Minus) at ∷ []
 said_frames context (NotFrame level at ∷ frames) = said_frames context frames ++ At (w.Reserved r.Not) at ∷ []
@@ -88,7 +88,7 @@ keys_open keys.Alone = []
 keys_open (keys.One n) = Any (w.Mark m.OpenBracket) ∷ number n
 keys_open (keys.Range low high) = Any (w.Mark m.OpenBracket) ∷ (number low ++ Any (w.Mark m.Dots) ∷ number high)
 
-abbrev said : Now → List Sign
+abbrev pub said : Now → List Sign
 said Start = []
 said (Declared d) = declaration_signs d
 said CellName = Any (w.Reserved r.Cell) ∷ []
@@ -131,7 +131,7 @@ said (InExpression context (Have low high t) frames) = said_frames context frame
 said (InExpression context (Done t) frames) = said_frames context frames ++ spelled t
 
 -- the turns that a step may lead to: a bracket closes behind something, and there is a tag
-abbrev Sound : Now → Type 0
+abbrev pub Sound : Now → Type 0
 Sound (TagClose so_far kind keys.Alone) = ⊥
 Sound (CellClose aim cell) = cell.key ≢ key.Alone
 Sound (TagEnd so_far) = so_far.all ≢ []
@@ -139,7 +139,7 @@ Sound (ActionEnd so_far) = ⊥
 Sound _ = Unit {0}
 
 -- a step has said a sign that the token is
-abbrev Says : List Sign → Token → Next → Type 0
+abbrev pub Says : List Sign → Token → Next → Type 0
 Says before t (Goes next) = (s : Sign) × IsSign s t × Sound next × (said next ≡ before ++ s ∷ [])
 Says before t Deep = Unit {0}
 Says before t Refused = Unit {0}
@@ -510,7 +510,7 @@ cell_close_says aim cell t ne =
 
 -- ---- any turn
 
-step_says : (now : Now) (t : Token) → Sound now → Says (said now) t (step now t)
+pub step_says : (now : Now) (t : Token) → Sound now → Says (said now) t (step now t)
 unfolding step
 step_says Start t sound = tt
 step_says (Declared d) t sound = tt
@@ -569,7 +569,7 @@ step_says (InExpression context mode frames) t sound = expression_says context m
 -- ---- the end of a declaration
 
 -- what is whole is spelled by what was said
-abbrev Spelt : List Sign → Option Declarations → Type 0
+abbrev pub Spelt : List Sign → Option Declarations → Type 0
 Spelt before o = IfSome o (λ one. declarations_signs one ≡ before)
 
 action_spelt : (so_far : Actions) (at : ℕ) (deed : Deed) (guard : Option Tree)
@@ -627,7 +627,7 @@ tags_spelt so_far =
     append-nil (declaration_signs (Source so_far.name so_far.file so_far.rate so_far.slack so_far.all))
     ∙ ap (source_begun so_far.name so_far.file) (sym (append_assoc extras colon tags))
 
-whole_spelt : (now : Now) → Sound now → Spelt (said now) (whole now)
+pub whole_spelt : (now : Now) → Sound now → Spelt (said now) (whole now)
 unfolding whole
 whole_spelt Start sound = refl
 whole_spelt (Declared d) sound = append-nil (declaration_signs d)
@@ -673,7 +673,8 @@ whole_spelt (CellClose aim cell) sound = tt
 -- ---- to the end
 
 -- the first word of a declaration
-heading_says : (t : Token) (word : Word) → t.word ≡ word → IfSome (opening (heading_of word)) (λ now. (s : Sign) × IsSign s t × Sound now × (said now ≡ s ∷ []))
+pub heading_says : (t : Token) (word : Word) → t.word ≡ word
+    → IfSome (opening (heading_of word)) (λ now. (s : Sign) × IsSign s t × Sound now × (said now ≡ s ∷ []))
 unfolding heading_of
 heading_says t (w.Reserved r.Cell) e = (Any (w.Reserved r.Cell), e, tt, refl)
 heading_says t (w.Reserved r.Tag) e = (Any (w.Reserved r.Tag), e, tt, refl)
@@ -698,6 +699,24 @@ spells_from a b tokens found e h = rw e h
 declarations_more : (job one : Declarations) → declarations_signs (job ++ one) ≡ declarations_signs job ++ declarations_signs one
 declarations_more job one = flat_map-append declaration_signs job one
 
+-- one more sign of a declaration, and the first one of the next
+pub spells_more : (job : Declarations) (before : List Sign) (next : Now) (s : Sign) (t : Token) (tokens : List Token) (found : Declarations) → IsSign s t
+    → said next ≡ before ++ s ∷ [] → Spells (declarations_signs job ++ said next) tokens found
+    → Spells (declarations_signs job ++ before) (t ∷ tokens) found
+spells_more job before next s t tokens found is e h =
+    longer (declarations_signs job ++ before) s t tokens found is
+    (spells_from _ _ tokens found (append_assoc (declarations_signs job) before (s ∷ []) ∙ ap (λ (z : List Sign). declarations_signs job ++ z) (sym e)) h)
+
+pub spells_declared : (job one : Declarations) (before : List Sign) (now : Now) (s : Sign) (t : Token) (tokens : List Token) (found : Declarations)
+    → IsSign s t → declarations_signs one ≡ before → said now ≡ s ∷ [] → Spells (declarations_signs (job ++ one) ++ said now) tokens found
+    → Spells (declarations_signs job ++ before) (t ∷ tokens) found
+spells_declared job one before now s t tokens found is e first h =
+    longer (declarations_signs job ++ before) s t tokens found is
+    (spells_from _ _ tokens found
+    (sym (ap (λ (z : List Sign). z ++ said now) (declarations_more job one ∙ ap (λ (z : List Sign). declarations_signs job ++ z) e)
+    ∙ ap (λ (z : List Sign). (declarations_signs job ++ before) ++ z) first))
+    h)
+
 end_says : (end : ℕ) (job found : Declarations) (before : List Sign) (o : Option Declarations) → Spelt before o → ended end job o ≡ Found found
     → Spells (declarations_signs job ++ before) [] found
 end_says end job found before None h e = cc
@@ -718,25 +737,19 @@ declares_says : (place : ℕ) (job found : Declarations) (before : List Sign) (t
 declares_says place job found before t tokens None p more h k ih e = cc
 declares_says place job found before t tokens (Some one) None more h k ih e = cc
 declares_says place job found before t tokens (Some one) (Some now) more h k ih e =
-    longer (declarations_signs job ++ before) k.0 t tokens found k.1
-    (spells_from _ _ tokens found
-    (sym (ap (λ (z : List Sign). z ++ said now) (declarations_more job one ∙ ap (λ (z : List Sign). declarations_signs job ++ z) h)
-    ∙ ap (λ (z : List Sign). (declarations_signs job ++ before) ++ z) k.3))
-    (ih (job ++ one) now k.2 e))
+    spells_declared job one before now k.0 t tokens found k.1 h k.3 (ih (job ++ one) now k.2 e)
 
 goes_says : (end : ℕ) (job found : Declarations) (now : Now) (t : Token) (tokens : List Token) (next : Next) → Sound now → Says (said now) t next
     → ((job : Declarations) (now : Now) → Sound now → run end job now tokens ≡ Found found → Spells (declarations_signs job ++ said now) tokens found)
     → goes_on t job now next (λ job now. run end job now tokens) ≡ Found found → Spells (declarations_signs job ++ said now) (t ∷ tokens) found
 goes_says end job found now t tokens (Goes next) sound h ih e =
-    longer (declarations_signs job ++ said now) h.0 t tokens found h.1
-    (spells_from _ _ tokens found (append_assoc (declarations_signs job) (said now) (h.0 ∷ [])
-    ∙ ap (λ (z : List Sign). declarations_signs job ++ z) (sym h.3)) (ih job next h.2 e))
+    spells_more job (said now) next h.0 t tokens found h.1 h.3 (ih job next h.2 e)
 goes_says end job found now t tokens Deep sound h ih e = cc
 goes_says end job found now t tokens Refused sound h ih e =
     declares_says t.from job found (said now) t tokens (whole now) (opening (heading_of t.word)) (λ job now. run end job now tokens) (whole_spelt now sound)
     (heading_says t t.word refl) ih e
 
-run_says : (end : ℕ) (found : Declarations) (tokens : List Token) (job : Declarations) (now : Now) → Sound now → run end job now tokens ≡ Found found
+pub run_says : (end : ℕ) (found : Declarations) (tokens : List Token) (job : Declarations) (now : Now) → Sound now → run end job now tokens ≡ Found found
     → Spells (declarations_signs job ++ said now) tokens found
 unfolding run
 run_says end found [] job now sound e = end_says end job found (said now) (whole now) (whole_spelt now sound) e

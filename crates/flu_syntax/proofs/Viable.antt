@@ -30,7 +30,7 @@ abbrev token : Word → Token
 token word = record { word = word; from = 0; to = 0 }
 
 -- what stands at this turn can be ended
-abbrev Can : ℕ → Declarations → Now → Type 0
+abbrev pub Can : ℕ → Declarations → Now → Type 0
 Can end job now = (more : List Token) × (found : Declarations) × (run end job now more ≡ Found found)
 
 whole_can : (end : ℕ) (job one : Declarations) (now : Now) → whole now ≡ Some one → Can end job now
@@ -198,7 +198,7 @@ second_can end job a = via end job _ (DependsHow a (span_of (token w.Name))) (to
 
 -- ---- each turn
 
-can : (end : ℕ) (job : Declarations) (now : Now) → Can end job now
+pub can : (end : ℕ) (job : Declarations) (now : Now) → Can end job now
 unfolding step whole sort_of value_of
 can end job Start = whole_can end job _ Start refl
 can end job (Declared d) = whole_can end job _ (Declared d) refl
@@ -246,10 +246,10 @@ can end job (InExpression context mode frames) = expression_can end job context 
 
 -- ---- the first token that cannot follow
 
--- with the next token the tokens may not go on, or they end and are no job
+-- the next token is unexpected, whatever follows, or the tokens end and that is unexpected
 abbrev pub Cannot : ℕ → Declarations → Now → List Token → List Token → Type 0
-Cannot end job now front [] = (found : Declarations) → run end job now front ≡ Found found → ⊥
-Cannot end job now front (t ∷ rest) = (more : List Token) (found : Declarations) → run end job now ((front ++ t ∷ []) ++ more) ≡ Found found → ⊥
+Cannot end job now front [] = run end job now front ≡ Unexpected end
+Cannot end job now front (t ∷ rest) = (more : List Token) → run end job now ((front ++ t ∷ []) ++ more) ≡ Unexpected t.from
 
 pub record IsFirst (end : ℕ) (job : Declarations) (now : Now) (tokens : List Token) (place : ℕ) : Type 0 where
   pub front : List Token
@@ -261,9 +261,6 @@ pub record IsFirst (end : ℕ) (job : Declarations) (now : Now) (tokens : List T
 
 same_place : (a b : ℕ) (v : Verdict Declarations) → v ≡ Unexpected a → v ≡ Unexpected b → b ≡ a
 same_place a b v p q = let both : Unexpected a ≡ Unexpected b = sym p ∙ q in let same : a ≡ b = cc in sym same
-
-not_both : (v : Verdict Declarations) (place : ℕ) (found : Declarations) → v ≡ Unexpected place → v ≡ Found found → ⊥
-not_both v place found e f = let both : Unexpected place ≡ Found found = sym e ∙ f in cc
 
 end_place : (end place : ℕ) (job : Declarations) (o : Option Declarations) → ended end job o ≡ Unexpected place → place ≡ end
 end_place end place job None e = let same : end ≡ place = cc in sym same
@@ -277,7 +274,7 @@ at_end end place job now e = record {
   parts = refl;
   here = end_place end place job (whole now) e;
   may = can end job now;
-  cannot = λ found f. not_both (run end job now []) place found e f;
+  cannot = e ∙ ap Unexpected (end_place end place job (whole now) e);
 }
 
 here_it_is : (end place : ℕ) (job : Declarations) (now : Now) (t : Token) (tokens : List Token) → place ≡ t.from
@@ -288,14 +285,14 @@ here_it_is end place job now t tokens e all = record {
   parts = refl;
   here = e;
   may = can end job now;
-  cannot = λ more found f. not_both (run end job now (t ∷ more)) t.from found (all more) f;
+  cannot = all;
 }
 
 later_cannot : (end : ℕ) (job next : Declarations) (now other : Now) (t : Token) (front rest : List Token)
     → ((more : List Token) → run end job now (t ∷ more) ≡ run end next other more) → Cannot end next other front rest
     → Cannot end job now (t ∷ front) rest
-later_cannot end job next now other t front [] leads h = λ found f. h found (sym (leads front) ∙ f)
-later_cannot end job next now other t front (u ∷ rest) leads h = λ more found f. h more found (sym (leads ((front ++ u ∷ []) ++ more)) ∙ f)
+later_cannot end job next now other t front [] leads h = leads front ∙ h
+later_cannot end job next now other t front (u ∷ rest) leads h = λ more. leads ((front ++ u ∷ []) ++ more) ∙ h more
 
 later : (end place : ℕ) (job next : Declarations) (now other : Now) (t : Token) (tokens : List Token)
     → ((more : List Token) → run end job now (t ∷ more) ≡ run end next other more) → IsFirst end next other tokens place
@@ -315,11 +312,11 @@ unrolled : (end : ℕ) (job : Declarations) (now : Now) (t : Token) (tokens : Li
 unfolding run
 unrolled end job now t tokens = refl
 
-goes_at : (end : ℕ) (job : Declarations) (now : Now) (t : Token) (n : Next) (tokens : List Token) → step now t ≡ n
+pub goes_at : (end : ℕ) (job : Declarations) (now : Now) (t : Token) (n : Next) (tokens : List Token) → step now t ≡ n
     → run end job now (t ∷ tokens) ≡ goes_on t job now n (λ next other. run end next other tokens)
 goes_at end job now t n tokens e = unrolled end job now t tokens ∙ ap (λ (x : Next). goes_on t job now x (λ next other. run end next other tokens)) e
 
-declares_at : (end : ℕ) (job : Declarations) (now : Now) (t : Token) (o : Option Declarations) (p : Option Now) (tokens : List Token) → step now t ≡ Refused
+pub declares_at : (end : ℕ) (job : Declarations) (now : Now) (t : Token) (o : Option Declarations) (p : Option Now) (tokens : List Token) → step now t ≡ Refused
     → whole now ≡ o → opening (heading_of t.word) ≡ p
     → run end job now (t ∷ tokens) ≡ next_declaration t.from job o p (λ next other. run end next other tokens)
 declares_at end job now t o p tokens s e h = goes_at end job now t Refused tokens s ∙ (rw (e, h) refl)

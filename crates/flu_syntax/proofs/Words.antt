@@ -1,8 +1,7 @@
 -- The names, texts and numbers of a job are tokens.
 use Rattle.std.proofs.Common.{ℕ, List, [], ◌∷◌, ◌++◌, Option, Some, None}
 use Rattle.std.specs.List.{flat_map, AllByRecursion}
-use Rattle.flu_lemmas.proofs.Containing.{contains_here, contains_later}
-use Rattle.flu_lemmas.proofs.Elements.{all_map, all_front, all_back, all_append}
+use Rattle.flu_lemmas.proofs.Elements.{all_front, all_back, all_append}
 use Rattle.flu_text.specs.declared.words.Word.{Word}
 use Rattle.flu_text.specs.declared.words.Word.TheVariants as w
 use Rattle.flu_text.specs.declared.words.Mark.TheVariants as m

@@ -6,20 +6,17 @@ use Rattle.flu_text.specs.declared.words.Word.TheVariants as w
 use Rattle.flu_names.specs.declared.reserved.Reserved.TheVariants as r
 use Rattle.flu_text.specs.declared.words.Mark.TheVariants as m
 use Rattle.flu_text.specs.declared.words.Token.{Token}
-use Rattle.flu_text.specs.Signs.{Sign, Any, At, Spanned, AreSigns, name, text, number, separated, keys_signs, place_of}
+use Rattle.flu_text.specs.Signs.{Sign, Any, At, AreSigns, name, text, number, separated, keys_signs, place_of}
 use Rattle.flu_model.specs.declared.jobs.Op.{Op}
 use Rattle.flu_model.specs.declared.jobs.Op.TheVariants as op
 use Rattle.flu_model.specs.declared.jobs.Sort.{Sort}
 use Rattle.flu_model.specs.declared.jobs.Sort.TheVariants as sort
 use Rattle.flu_syntax.specs.declared.tokens.Verb.{Verb}
 use Rattle.flu_syntax.specs.declared.tokens.Verb.TheVariants as verb
-use Rattle.flu_text.specs.declared.written.WrittenSpan.{WrittenSpan}
 use Rattle.flu_text.specs.declared.written.WrittenNumber.{WrittenNumber}
 use Rattle.flu_syntax.specs.declared.tree.WrittenKey.{WrittenKey}
 use Rattle.flu_syntax.specs.declared.tree.WrittenKey.TheVariants as key
 use Rattle.flu_syntax.specs.declared.tree.WrittenRef.{WrittenRef}
-use Rattle.flu_text.specs.declared.written.WrittenKeys.{WrittenKeys}
-use Rattle.flu_text.specs.declared.written.WrittenKeys.TheVariants as keys
 use Rattle.flu_syntax.specs.declared.tree.WrittenTag.{WrittenTag}
 use Rattle.flu_syntax.specs.declared.tree.WrittenRelation.{WrittenRelation}
 use Rattle.flu_syntax.specs.declared.tree.WrittenRelation.TheVariants as relation
@@ -125,9 +122,9 @@ nest (NegTree at inner) = nest inner + 1
 nest (NotTree at inner) = nest inner + 1
 nest (TwoTree o left right) = max (nest left) (nest right)
 
--- an expression by the levels, with at most 64 open at once
-abbrev pub IsExpression : Tree → Type 0
-IsExpression t = Fits 0 t × (nest t ≤ 64)
+-- an expression by the levels, with at most so many open at once
+abbrev pub IsExpression : ℕ → Tree → Type 0
+IsExpression most t = Fits 0 t × (nest t ≤ most)
 
 -- "add" cref expr | "raise" cref expr | "set" cref expr | "clear" cref | "emit" TEXT | "flush" NAME TEXT
 abbrev pub deed_signs : ℕ → Deed → List Sign
@@ -136,27 +133,27 @@ deed_signs at (Clears cell) = At (w.Reserved r.Clear) at ∷ cell_signs cell
 deed_signs at (Emits file) = At (w.Reserved r.Emit) at ∷ text file
 deed_signs at (Flushes family file) = At (w.Reserved r.Flush) at ∷ (name family ++ text file)
 
-abbrev pub IsDeed : Deed → Type 0
-IsDeed (Writes verb cell amount) = IsExpression amount
-IsDeed (Clears cell) = Unit {0}
-IsDeed (Emits file) = Unit {0}
-IsDeed (Flushes family file) = Unit {0}
+abbrev pub IsDeed : ℕ → Deed → Type 0
+IsDeed most (Writes verb cell amount) = IsExpression most amount
+IsDeed most (Clears cell) = Unit {0}
+IsDeed most (Emits file) = Unit {0}
+IsDeed most (Flushes family file) = Unit {0}
 
 -- [ "when" expr ]
 abbrev pub guard_signs : Option Tree → List Sign
 guard_signs None = []
 guard_signs (Some guard) = Any (w.Reserved r.When) ∷ spelled guard
 
-abbrev pub IsGuard : Option Tree → Type 0
-IsGuard None = Unit {0}
-IsGuard (Some guard) = IsExpression guard
+abbrev pub IsGuard : ℕ → Option Tree → Type 0
+IsGuard most None = Unit {0}
+IsGuard most (Some guard) = IsExpression most guard
 
 abbrev pub action_signs : Action → List Sign
 action_signs a = deed_signs a.at a.deed ++ guard_signs a.guard
 
-abbrev pub AreActions : List Action → Type 0
-AreActions [] = Unit {0}
-AreActions (a ∷ actions) = IsDeed a.deed × IsGuard a.guard × AreActions actions
+abbrev pub AreActions : ℕ → List Action → Type 0
+AreActions most [] = Unit {0}
+AreActions most (a ∷ actions) = IsDeed most a.deed × IsGuard most a.guard × AreActions most actions
 
 abbrev pub tag_signs : WrittenTag → List Sign
 tag_signs t = name t.kind ++ keys_signs t.keys
@@ -194,20 +191,20 @@ declaration_signs (Source n file rate slack tags) =
     Any (w.Reserved r.Source) ∷
     (name n ++ text file ++ rate_signs rate ++ slack_signs slack ++ Any (w.Mark m.Colon) ∷ separated (w.Mark m.Comma) tag_signs tags)
 
-abbrev pub IsDeclaration : Declaration → Type 0
-IsDeclaration (Cell n keyed s) = Unit {0}
-IsDeclaration (Tag n keyed has_value) = Unit {0}
-IsDeclaration (Depends a b how) = Unit {0}
-IsDeclaration (On kind actions) = (actions ≢ []) × AreActions actions
-IsDeclaration (Source n file rate slack tags) = tags ≢ []
+abbrev pub IsDeclaration : ℕ → Declaration → Type 0
+IsDeclaration most (Cell n keyed s) = Unit {0}
+IsDeclaration most (Tag n keyed has_value) = Unit {0}
+IsDeclaration most (Depends a b how) = Unit {0}
+IsDeclaration most (On kind actions) = (actions ≢ []) × AreActions most actions
+IsDeclaration most (Source n file rate slack tags) = tags ≢ []
 
 -- { decl }
 abbrev pub declarations_signs : Declarations → List Sign
 declarations_signs all = flat_map declaration_signs all
 
-abbrev pub AreDeclarations : Declarations → Type 0
-AreDeclarations [] = Unit {0}
-AreDeclarations (d ∷ all) = IsDeclaration d × AreDeclarations all
+abbrev pub AreDeclarations : ℕ → Declarations → Type 0
+AreDeclarations most [] = Unit {0}
+AreDeclarations most (d ∷ all) = IsDeclaration most d × AreDeclarations most all
 
 -- ["version" NUMBER]
 abbrev pub version_signs : Option WrittenNumber → List Sign
@@ -218,19 +215,27 @@ version_signs (Some n) = Any (w.Reserved r.Version) ∷ number n
 abbrev pub job_signs : Job → List Sign
 job_signs job = version_signs job.version ++ declarations_signs job.declarations
 
--- The tokens are this job: they are its signs, one by one, and it keeps the levels of operators and the limit on what is open.
-pub record IsJob (tokens : List Token) (job : Job) : Type 0 where
-  pub grammar : AreDeclarations job.declarations
+-- The tokens are this job, in which at most so many parentheses and unary operators are open at once: they are its signs, one by one, and
+-- it keeps the levels of operators.
+pub record IsJobWithin (most : ℕ) (tokens : List Token) (job : Job) : Type 0 where
+  pub grammar : AreDeclarations most job.declarations
   pub spelled : AreSigns (job_signs job) tokens
 
--- these tokens may be continued to a job
-abbrev pub MayGoOn : List Token → Type 0
-MayGoOn front = (more : List Token) × (job : Job) × IsJob (front ++ more) job
+-- the tokens are this job: at most 64 are open at once
+abbrev pub IsJob : List Token → Job → Type 0
+IsJob tokens job = IsJobWithin 64 tokens job
 
--- with the next token they may not go on, whatever follows; or no token is left and they are no job yet
+-- these tokens may be continued to a job in which at most so many are open at once
+abbrev pub MayGoOnWithin : ℕ → List Token → Type 0
+MayGoOnWithin most front = (more : List Token) × (job : Job) × IsJobWithin most (front ++ more) job
+
+abbrev pub MayGoOn : List Token → Type 0
+MayGoOn front = MayGoOnWithin 64 front
+
+-- with the next token they may not go on, whatever follows and however many are open; or no token is left and they are no job yet
 abbrev pub CannotTake : List Token → List Token → Type 0
-CannotTake front [] = (job : Job) → IsJob front job → ⊥
-CannotTake front (t ∷ rest) = (more : List Token) (job : Job) → IsJob ((front ++ t ∷ []) ++ more) job → ⊥
+CannotTake front [] = (most : ℕ) (job : Job) → IsJobWithin most front job → ⊥
+CannotTake front (t ∷ rest) = (most : ℕ) → MayGoOnWithin most (front ++ t ∷ []) → ⊥
 
 -- The place is that of the first token with which the tokens may no longer go on, or the end where they may go on.
 pub record IsFirstThatCannotFollow (end : ℕ) (tokens : List Token) (place : ℕ) : Type 0 where
@@ -240,3 +245,13 @@ pub record IsFirstThatCannotFollow (end : ℕ) (tokens : List Token) (place : �
   pub here : place ≡ place_of end rest
   pub may : MayGoOn front
   pub cannot : CannotTake front rest
+
+-- A token opens the 65th: those before it may go on to a job, and with it they may go on to one in which 65 are open at once, and to none with fewer.
+pub record IsTooDeep (tokens : List Token) : Type 0 where
+  pub front : List Token
+  pub next : Token
+  pub rest : List Token
+  pub whole : tokens ≡ front ++ next ∷ rest
+  pub may : MayGoOn front
+  pub deeper : MayGoOnWithin 65 (front ++ next ∷ [])
+  pub cannot : MayGoOn (front ++ next ∷ []) → ⊥

@@ -1,8 +1,7 @@
 -- The names, the texts and the numbers that a job keeps, as signs: what is left of its spelling without the words that are the
 -- same in every job.
-use Rattle.std.specs.Prelude.{List, [], ◌++◌, Option, Some, None, Contains}
+use Rattle.std.specs.Prelude.{List, [], ◌++◌, Option, Some, None}
 use Rattle.std.specs.List.{flat_map}
-use Rattle.flu_text.specs.declared.words.Token.{Token}
 use Rattle.flu_text.specs.declared.written.WrittenNumber.{WrittenNumber}
 use Rattle.flu_syntax.specs.declared.tree.WrittenKey.{WrittenKey}
 use Rattle.flu_syntax.specs.declared.tree.WrittenKey.TheVariants as key
@@ -12,7 +11,7 @@ use Rattle.flu_text.specs.declared.written.WrittenKeys.TheVariants as keys
 use Rattle.flu_syntax.specs.declared.tree.WrittenTag.{WrittenTag}
 use Rattle.flu_syntax.specs.Tree.{Tree, NumberTree, ValueTree, KeyTree, TimeTree, ReadTree, HasTree, ParenTree, NegTree, NotTree, TwoTree, Deed, Writes, Clears}
 use Rattle.flu_syntax.specs.Tree.{Emits, Flushes, Action, Declaration, Cell, Tag, Depends, On, Source, Job}
-use Rattle.flu_text.specs.Signs.{Sign, IsSign}
+use Rattle.flu_text.specs.Signs.{Sign}
 use Rattle.flu_text.specs.Signs.{name, text, number}
 
 -- those of a cell: its family's name, and perhaps the number in its brackets

@@ -2,7 +2,7 @@
 
 ghost use Rattle.std.specs.Prelude.{◌≡◌, ℕ, map, IfOk, MatchResult};
 ghost use Rattle.flu_syntax.specs.Tree.{job_of, declaration_of};
-ghost use Rattle.flu_syntax.specs.Grammar.{IsJob, IsFirstThatCannotFollow};
+ghost use Rattle.flu_syntax.specs.Grammar.{IsJob, IsFirstThatCannotFollow, IsTooDeep};
 ghost use Rattle.flu_syntax.specs.Machine.{verdict, Found};
 ghost use Rattle.flu_syntax.specs.Reading.{ReadsVersion, ReadsDeclarations, Tells};
 
@@ -47,14 +47,16 @@ fn declarations(
 ///
 /// # Errors
 ///
-/// [`SyntaxFault::Unexpected`] at the first token with which the tokens before it can no longer be continued to a job, or at
-/// `end` where all of them can and are none yet. [`SyntaxFault::TooDeep`] where, before that, a token opens the 65th parenthesis
-/// or unary operator at once. [`SyntaxFault::NoMemory`] where memory is wanting.
+/// [`SyntaxFault::Unexpected`] at the first token with which the tokens before it can no longer be continued to a job, however many
+/// parentheses and unary operators may be open, or at `end` where all of them can and are none yet. [`SyntaxFault::TooDeep`] where, before
+/// that, a token opens the 65th of them at once. [`SyntaxFault::NoMemory`] where memory is wanting.
 pub fn read_syntax(alloc: Global, tokens: &[Token], end: usize) -> Result<WrittenJob, SyntaxFault>
     // What is found is the job that the tokens are, and no other.
     ensures job { IfOk result (λ found. IsJob tokens.now (job_of found)) }
     // The place of the first token with which the tokens may no longer go on.
     ensures unexpected { (at : ℕ) → result ≡ Err (SyntaxFault.Unexpected at) → IsFirstThatCannotFollow end tokens.now at }
+    // A token that may follow opens the 65th.
+    ensures too_deep { result ≡ Err SyntaxFault.TooDeep → IsTooDeep tokens.now }
 
     // All that is told, but want of memory, is the verdict on the tokens.
     ensures verdict { MatchResult result (λ found. verdict end tokens.now ≡ Found (job_of found)) (λ fault. Tells fault (verdict end tokens.now)) }

@@ -249,7 +249,7 @@ module _ (text : List ℕ) (n : Naming) where
 
     -- what is asked of a declaration: its words are words of the text, and it is one by the grammar
     abbrev IsWell : Declaration → Type 0
-    IsWell w = AllByRecursion (Stands ts) (declaration_words w) × IsDeclaration w
+    IsWell w = AllByRecursion (Stands ts) (declaration_words w) × IsDeclaration 64 w
 
     tied : (a b : WrittenSpan) (first second : KindHead) (same : Bool) → look_up (name_of text a) n.kinds ≡ Some first
         → look_up (name_of text b) n.kinds ≡ Some second → (not same || (first.keyed && second.keyed)) ≡ true
@@ -425,13 +425,13 @@ version_kept (Some v) version e =
 
 module _ (text : List ℕ) (ts : List Token) (read : AreRead text ts) (meet : TagsMeet) (differ : TagsDiffer) where
   each_well : (n : Naming) (keep : NamesKeep n) (ds : List Declaration) → AllByRecursion (λ w. AllByRecursion (Stands ts) (declaration_words w)) ds
-      → AreDeclarations ds
+      → AreDeclarations 64 ds
       → AllByRecursion (IsWell text n ts read keep meet differ) ds
   each_well n keep [] words are = tt
   each_well n keep (w ∷ ds) words are = ((words.0, are.0), each_well n keep ds words.1 are.1)
 
   resolved_kept : (written : tree.Job) (job : Job) → AllByRecursion (λ w. AllByRecursion (Stands ts) (declaration_words w)) written.declarations
-      → AreDeclarations written.declarations → resolved text written ≡ Ok job
+      → AreDeclarations 64 written.declarations → resolved text written ≡ Ok job
       → (kinds : List Kind) → map plain_kind kinds ≡ job.kinds → KeepsRules job.version job.families kinds job.depends job.sources
   unfolding resolved
   resolved_kept written job words are e kinds same =

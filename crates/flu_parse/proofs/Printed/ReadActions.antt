@@ -74,7 +74,7 @@ module _ (whole : List ℕ) (utf8 : IsUtf8 whole) (families : List Family) (name
     at : ℕ
     written : WrittenDeed
     took : Took IsSign (Stand whole) (deed_signs at written) rest ts
-    is : IsDeed written
+    is : IsDeed 64 written
     means : resolved_act whole n under written ≡ Ok d
 
   read_writing : (v : Verb) (word : Reserved) (c : CellRef) (e : Term) (behind : List ℕ) (rest : List Laid) (ts : List Token) → w.Reserved word ≡ verb_word v
@@ -187,7 +187,7 @@ module _ (whole : List ℕ) (utf8 : IsUtf8 whole) (families : List Family) (name
   record GuardIs (g : Option Term) (rest : List Laid) (ts : List Token) : Type 0 where
     written : Option Tree
     took : Took IsSign (Stand whole) (guard_signs written) rest ts
-    is : IsGuard written
+    is : IsGuard 64 written
     means : guard_of whole n under written ≡ Ok g
 
   read_guard : (g : Option Term) (behind : List ℕ) (rest : List Laid) (ts : List Token) → plain_guard_fits families under.keyed under.has_value g ≡ true
@@ -205,8 +205,8 @@ module _ (whole : List ℕ) (utf8 : IsUtf8 whole) (families : List Family) (name
 
   -- an action that was written means this one
   pub record Does (a : PlainAction) (d : WrittenDo) : Type 0 where
-    pub deed : IsDeed d.deed
-    pub guard : IsGuard d.guard
+    pub deed : IsDeed 64 d.deed
+    pub guard : IsGuard 64 d.guard
     pub means : action_of whole n under d ≡ Ok a
 
   pub read_action : (a : PlainAction) (behind : List ℕ) (rest : List Laid) (ts : List Token) → plain_action_fits families under.keyed under.has_value a ≡ true
@@ -236,7 +236,7 @@ module _ (whole : List ℕ) (utf8 : IsUtf8 whole) (families : List Family) (name
         };
       }
 
-  pub are_actions : (actions : List PlainAction) (dos : List WrittenDo) → Pairs Does actions dos → AreActions dos
+  pub are_actions : (actions : List PlainAction) (dos : List WrittenDo) → Pairs Does actions dos → AreActions 64 dos
   are_actions [] [] h = tt
   are_actions [] (d ∷ dos) h = absurd h
   are_actions (a ∷ actions) [] h = absurd h

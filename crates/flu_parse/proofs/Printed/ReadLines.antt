@@ -64,7 +64,7 @@ abbrev pub Lines : {X : Type 0} → (X → List Declaration → Type 0) → List
 Lines R [] ds = ds ≡ []
 Lines R (x ∷ xs) ds = (here : List Declaration) × (rest : List Declaration) × (ds ≡ here ++ rest) × R x here × Lines R xs rest
 
-pub declarations-append : (a b : List Declaration) → AreDeclarations a → AreDeclarations b → AreDeclarations (a ++ b)
+pub declarations-append : (a b : List Declaration) → AreDeclarations 64 a → AreDeclarations 64 b → AreDeclarations 64 (a ++ b)
 declarations-append [] b h k = k
 declarations-append (d ∷ a) b h k = (h.0, declarations-append a b h.1 k)
 
@@ -72,7 +72,7 @@ declarations-append (d ∷ a) b h k = (h.0, declarations-append a b h.1 k)
 pub record LinesAre (whole : List ℕ) (Means : List Declaration → Type 0) (rest : List Laid) (ts : List Token) : Type 0 where
   pub written : List Declaration
   pub took : Took IsSign (Stand whole) (declarations_signs written) rest ts
-  pub are : AreDeclarations written
+  pub are : AreDeclarations 64 written
   pub means : Means written
 
 pub read_lines : {X : Type 0} (whole : List ℕ) (line : X → List Laid → List Laid) (R : X → List Declaration → Type 0) (test : X → Bool)
@@ -98,7 +98,7 @@ read_lines whole line R test each (x ∷ xs) rest ts all h =
 
 -- one declaration
 one_line : (whole : List ℕ) (Means : List Declaration → Type 0) (rest : List Laid) (ts : List Token) (d : Declaration)
-    → Took IsSign (Stand whole) (declaration_signs d) rest ts → IsDeclaration d → Means (d ∷ []) → LinesAre whole Means rest ts
+    → Took IsSign (Stand whole) (declaration_signs d) rest ts → IsDeclaration 64 d → Means (d ∷ []) → LinesAre whole Means rest ts
 one_line whole Means rest ts d took is means = record {
   written = d ∷ [];
   took = record { rest = took.rest; begins = begins_append IsSign (declaration_signs d) [] ts took.rest took.rest took.begins refl; stand = took.stand };

@@ -312,7 +312,7 @@ module _ (whole : List ℕ) (utf8 : IsUtf8 whole) (families : List Family) (name
   pub record ExpressionIs (e : Term) (rest : List Laid) (ts : List Token) : Type 0 where
     pub tree : Tree
     pub took : Took IsSign (Stand whole) (spelled tree) rest ts
-    pub is : IsExpression tree
+    pub is : IsExpression 64 tree
     pub means : expression_of whole n under tree ≡ Ok e
 
   pub read_expression : (has_value : Bool) (e : Term) (behind : List ℕ) (rest : List Laid) (ts : List Token) → under.has_value ≡ has_value

@@ -4,7 +4,7 @@ use Rattle.flu_syntax.specs.Tree.{job_of}
 use Rattle.flu_syntax.specs.Machine.{Found, verdict, with_version}
 use Rattle.flu_syntax.proofs.Runs.{Tells-through}
 use Rattle.flu_syntax.proofs.Versions.{is_job, tells_with}
-use Rattle.flu_syntax.proofs.Exact.{first_told, no_job_told}
+use Rattle.flu_syntax.proofs.Exact.{first_told, deep_told, no_job_told}
 use Rattle.flu_syntax.proofs.reading.read_syntax.Goals as goal
 
 pub returns-in_err-version : goal.returns-in_err-version
@@ -15,6 +15,7 @@ returns-in_err-version c =
     record {
       job = no_job_told c.from_residual.result c.in_err-version.field-0.0 _ err;
       unexpected = first_told c.from_residual.result c.in_err-version.field-0.0 c.args.end c.args.tokens.now err told;
+      too_deep = deep_told c.from_residual.result c.in_err-version.field-0.0 c.args.end c.args.tokens.now err told;
       verdict = rw (p.1, p.2) told;
     }
 
@@ -27,6 +28,7 @@ returns-in_err-declarations c =
     record {
       job = no_job_told c.from_residual-in_err-declarations.result fault _ err;
       unexpected = first_told c.from_residual-in_err-declarations.result fault c.args.end c.args.tokens.now err told;
+      too_deep = deep_told c.from_residual-in_err-declarations.result fault c.args.end c.args.tokens.now err told;
       verdict = rw (p.1, p.2) told;
     }
 
@@ -35,4 +37,4 @@ returns c =
     let job = job_of (record { version = c.in_ok-version.version; declarations = c.in_ok-declarations.declarations }) in
     let found : verdict c.args.end c.args.tokens.now ≡ Found job = c.in_ok-version.ensures.run
     ∙ ap (with_version c.in_ok-version.version) c.in_ok-declarations.ensures.run in
-    record { job = is_job c.args.end c.args.tokens.now job found; unexpected = λ at e. cc; verdict = found }
+    record { job = is_job c.args.end c.args.tokens.now job found; unexpected = λ at e. cc; too_deep = λ e. cc; verdict = found }

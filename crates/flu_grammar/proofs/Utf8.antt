@@ -1,0 +1,356 @@
+-- The normal form of the job of a text is UTF-8: each name, file and plain piece of a template stands in the text between two of its characters, and
+-- all else that is printed is ASCII.
+use Rattle.std.proofs.Common.{◌≡◌, ◌<◌, ◌≤◌, ◌+◌, ◌-◌, ◌%◌, ◌/◌, ℕ, zero, suc, ℤ, pos, negsuc, Bool, true, false, cond, Option, Some, None, List, []}
+use Rattle.std.proofs.Common.{◌∷◌, ◌++◌, length, refl, sym, ap, subst, ◌∙◌, arith}
+use Rattle.std.specs.Prelude.{nat_lt, nat_le, ◌==◌, ◌&&◌, ◌||◌, slice_get, slice_index, slice_range, codes}
+use Rattle.std.specs.Fmt.{decimal, signed_decimal, digits, digits_onto, digit_glyph}
+use Rattle.std.specs.List.{flat_map, list_all, AllByRecursion}
+use Rattle.std.specs.Str.{IsUtf8, IsAscii}
+use Rattle.std.proofs.lemmas.Bool.Decides.{nat_tests}
+use Rattle.std.proofs.lemmas.Grind.{common_steps}
+use Rattle.std.proofs.lemmas.Str.{IsUtf8-nil, IsUtf8-append, IsUtf8-between, IsUtf8-from_ascii}
+use Rattle.flu_lemmas.specs.Items.{Pairs}
+use Rattle.flu_lemmas.specs.Spans.{is_boundary, spelled}
+use Rattle.flu_lemmas.proofs.Tests.{and_left, and_right, true_lt, true_le}
+use Rattle.flu_model.specs.declared.jobs.At.{At}
+use Rattle.flu_model.specs.declared.jobs.At.TheVariants as at
+use Rattle.flu_model.specs.declared.jobs.CellRef.{CellRef}
+use Rattle.flu_model.specs.declared.jobs.Depend.{Depend}
+use Rattle.flu_model.specs.declared.jobs.Family.{Family}
+use Rattle.flu_model.specs.declared.jobs.Keys.{Keys}
+use Rattle.flu_model.specs.declared.jobs.Keys.TheVariants as keys
+use Rattle.flu_model.specs.declared.jobs.Op.{Op}
+use Rattle.flu_model.specs.declared.jobs.Op.TheVariants as op
+use Rattle.flu_model.specs.declared.jobs.Piece.{Piece}
+use Rattle.flu_model.specs.declared.jobs.Piece.TheVariants as piece
+use Rattle.flu_model.specs.declared.jobs.Sort.{Sort}
+use Rattle.flu_model.specs.declared.jobs.Sort.TheVariants as sort
+use Rattle.flu_model.specs.declared.jobs.Source.{Source}
+use Rattle.flu_model.specs.declared.jobs.TagRef.{TagRef}
+use Rattle.flu_model.specs.Erasure.{Term, PlainAct, PlainAction, PlainKind}
+use Rattle.flu_model.specs.Templates.{family_name, written_key, written_cell, written_piece, written_template}
+use Rattle.flu_text.specs.declared.written.WrittenSpan.{WrittenSpan}
+use Rattle.flu_syntax.specs.Tree.{Tree, Deed, Action, Declarations, Cell, Tag, Depends, On, Source as SourceLine}
+use Rattle.flu_layout.specs.Laid.{line_end, quoted}
+use Rattle.flu_layout.specs.Lists.{separated, keys_text}
+use Rattle.flu_layout.specs.Spelling.{name_of}
+use Rattle.flu_parse.specs.declared.pieces.WrittenPiece.{WrittenPiece}
+use Rattle.flu_parse.specs.declared.pieces.WrittenPiece.TheVariants as w
+use Rattle.flu_parse.specs.Printing.{op_text, term_text, act_text, guard_text, action_text, keyed_text, sort_text, cell_line, value_text}
+use Rattle.flu_parse.specs.Printing.{tag_line, kind_name, same_text, depends_line, actions_line, on_line, tag_text, slack_text, source_line}
+use Rattle.flu_grammar.specs.Means.{IfWritten}
+use Rattle.flu_grammar.specs.Terms.{MeansTerm, means_number, means_value, means_key, means_time, means_read, means_held, means_inside, means_negative}
+use Rattle.flu_grammar.specs.Terms.{means_negation, means_operation, MeansExpression}
+use Rattle.flu_grammar.specs.Templates.{MeansPiece, MeansTemplate}
+use Rattle.flu_grammar.specs.Actions.{MeansDeed, means_add, means_raise, means_set, means_clear, means_emit, means_flush, MeansAction}
+use Rattle.flu_grammar.specs.Declared.{DeclaredKind, families_in, kinds_in, actions_in, sources_in}
+use Rattle.flu_grammar.specs.Sources.{MeansSource}
+use Rattle.flu_grammar.specs.Jobs.{MeansDeclaredKind}
+use Rattle.flu_grammar.specs.Laws.{NormalFormIsUtf8}
+
+record Utf8 (bytes : List ℕ) : Type 0 where
+  is : IsUtf8 bytes
+
+-- ---- what is UTF-8
+
+none : Utf8 []
+none = record { is = IsUtf8-nil }
+
+infixl 30 ◌also◌
+◌also◌ : {a b : List ℕ} → Utf8 a → Utf8 b → Utf8 (a ++ b)
+◌also◌ {a} {b} x y = record { is = IsUtf8-append a b x.is y.is }
+
+ascii_at : (bytes : List ℕ) → list_all (λ b. nat_lt b 128) bytes ≡ true → IsAscii bytes
+ascii_at [] all i = omega arith
+ascii_at (b ∷ bytes) all zero = true_lt b 128 (and_left (nat_lt b 128) (list_all (λ b. nat_lt b 128) bytes) all)
+ascii_at (b ∷ bytes) all (suc i) = ascii_at bytes (and_right (nat_lt b 128) (list_all (λ b. nat_lt b 128) bytes) all) i
+
+ascii : (bytes : List ℕ) → list_all (λ b. nat_lt b 128) bytes ≡ true → Utf8 bytes
+ascii bytes all = record { is = IsUtf8-from_ascii bytes (ascii_at bytes all) }
+
+-- the digits of a number
+glyph_low : (d : ℕ) → d < 10 → nat_lt (digit_glyph false d) 128 ≡ true
+glyph_low d lt = grind (arith, nat_tests)
+
+-- a digit before the others
+glyph_then : (n : ℕ) (acc : List ℕ) → list_all (λ b. nat_lt b 128) acc ≡ true → list_all (λ b. nat_lt b 128) (digit_glyph false (n % 10) ∷ acc) ≡ true
+glyph_then n acc all = ap (λ (b : Bool). b && list_all (λ b. nat_lt b 128) acc) (glyph_low (n % 10) (omega arith)) ∙ all
+
+digits_low : (k n : ℕ) (acc : List ℕ) → list_all (λ b. nat_lt b 128) acc ≡ true → list_all (λ b. nat_lt b 128) (digits_onto k 10 false n acc) ≡ true
+digits_low zero n acc all = all
+digits_low (suc k) n acc all =
+    by (n / 10 == 0) (glyph_then n acc all) (digits_low k (n / 10) (digit_glyph false (n % 10) ∷ acc) (glyph_then n acc all))
+  where
+    by : (b : Bool) → list_all (λ b. nat_lt b 128) (digit_glyph false (n % 10) ∷ acc) ≡ true
+        → list_all (λ b. nat_lt b 128) (digits_onto k 10 false (n / 10) (digit_glyph false (n % 10) ∷ acc)) ≡ true
+        → list_all (λ b. nat_lt b 128) (cond b (digit_glyph false (n % 10) ∷ acc) (digits_onto k 10 false (n / 10) (digit_glyph false (n % 10) ∷ acc))) ≡ true
+    by true one more = one
+    by false one more = more
+
+number : (n : ℕ) → Utf8 (decimal n)
+unfolding digits
+number n = ascii (decimal n) (digits_low 64 n [] refl)
+
+signed : (n : ℤ) → Utf8 (signed_decimal n)
+signed (pos n) = number n
+signed (negsuc n) = ascii (codes "-") refl also number (suc n)
+
+-- the bytes between two places of a text, of which each is one of its characters or its end
+boundary : (at size byte : ℕ) → (nat_le at size && (nat_le size at || nat_lt byte 128 || nat_le 192 byte)) ≡ true
+    → (at ≤ size) × (at < size → 128 ≤ byte → 192 ≤ byte)
+boundary at size byte there = (grind (arith, common_steps), λ lt high. grind (arith, common_steps))
+
+between : (text : List ℕ) (from to : ℕ) → IsUtf8 text → Utf8 (spelled text from to)
+between text from to utf8 = by (nat_le from to && is_boundary text from && is_boundary text to) refl
+  where
+    by : (b : Bool) → (nat_le from to && is_boundary text from && is_boundary text to) ≡ b → Utf8 (cond b (slice_range text from to) [])
+    by false e = none
+    by true e =
+        let front = and_left (nat_le from to && is_boundary text from) (is_boundary text to) e in
+        record {
+          is = IsUtf8-between text from to utf8 (true_le from to (and_left (nat_le from to) (is_boundary text from) front))
+              (boundary from (length text) (slice_index text from) (and_right (nat_le from to) (is_boundary text from) front))
+              (boundary to (length text) (slice_index text to) (and_right (nat_le from to && is_boundary text from) (is_boundary text to) e));
+        }
+
+-- the texts of items
+items : {W X : Type 0} (R : W → X → Type 0) (text : X → List ℕ) → ((v : W) (x : X) → R v x → Utf8 (text x)) → (vs : List W) (xs : List X) → Pairs R vs xs
+    → Utf8 (flat_map text xs)
+items R text each [] [] pairs = none
+items R text each [] (x ∷ xs) pairs = absurd pairs
+items R text each (v ∷ vs) [] pairs = absurd pairs
+items R text each (v ∷ vs) (x ∷ xs) pairs = each v x pairs.0 also items R text each vs xs pairs.1
+
+-- and those with a mark between each two
+marked : {W X : Type 0} (R : W → X → Type 0) (mark : List ℕ) (text : X → List ℕ) → Utf8 mark → ((v : W) (x : X) → R v x → Utf8 (text x))
+    → (vs : List W) (xs : List X) → Pairs R vs xs → Utf8 (separated mark text xs)
+marked R mark text between_two each [] [] pairs = none
+marked R mark text between_two each [] (x ∷ xs) pairs = absurd pairs
+marked R mark text between_two each (v ∷ vs) [] pairs = absurd pairs
+marked R mark text between_two each (v ∷ vs) (x ∷ xs) pairs =
+    each v x pairs.0 also items R (λ y. mark ++ text y) (λ u y is. between_two also each u y is) vs xs pairs.1
+
+-- ---- names
+
+abbrev named_family : Family → Type 0
+named_family f = Utf8 f.name
+
+abbrev named_kind : PlainKind → Type 0
+named_kind k = Utf8 k.name
+
+module _ {X : Type 0} (P : X → Type 0) where
+  at_place : (xs : List X) → AllByRecursion P xs → (i : ℕ) (x : X) → slice_get xs i ≡ Some x → P x
+  at_place [] all i x e = absurd (let bad : None ≡ Some x = e in cc)
+  at_place (y ∷ xs) all zero x e = subst P (let same : y ≡ x = cc in same) all.0
+  at_place (y ∷ xs) all (suc i) x e = at_place xs all.1 i x e
+
+module _ (text : List ℕ) (utf8 : IsUtf8 text) where
+  name : (span : WrittenSpan) (bytes : List ℕ) → bytes ≡ name_of text span → Utf8 bytes
+  name span bytes e = subst Utf8 (sym e) (between text span.from span.to utf8)
+
+  families : (ds : Declarations) → AllByRecursion named_family (flat_map (families_in text) ds)
+  families [] = tt
+  families (Cell n keyed s ∷ ds) = (between text n.from n.to utf8, families ds)
+  families (Tag n keyed has_value ∷ ds) = families ds
+  families (Depends a b relation ∷ ds) = families ds
+  families (On kind actions ∷ ds) = families ds
+  families (SourceLine n file rate slack tags ∷ ds) = families ds
+
+  declared : (ds : Declarations) → AllByRecursion (λ (k : DeclaredKind). Utf8 k.name) (flat_map (kinds_in text) ds)
+  declared [] = tt
+  declared (Cell n keyed s ∷ ds) = declared ds
+  declared (Tag n keyed has_value ∷ ds) = (between text n.from n.to utf8, declared ds)
+  declared (Depends a b relation ∷ ds) = declared ds
+  declared (On kind actions ∷ ds) = declared ds
+  declared (SourceLine n file rate slack tags ∷ ds) = declared ds
+
+  kinds : (fs : List Family) (ds : Declarations) (ks : List DeclaredKind) (js : List PlainKind) → AllByRecursion (λ (k : DeclaredKind). Utf8 k.name) ks
+      → Pairs (MeansDeclaredKind text fs ds) ks js → AllByRecursion named_kind js
+  kinds fs ds [] [] named pairs = tt
+  kinds fs ds [] (j ∷ js) named pairs = absurd pairs
+  kinds fs ds (k ∷ ks) [] named pairs = absurd pairs
+  kinds fs ds (k ∷ ks) (j ∷ js) named pairs = (subst Utf8 (sym pairs.0.name) named.0, kinds fs ds ks js named.1 pairs.1)
+
+-- ---- cells, expressions and templates
+
+key : (k : At) → Utf8 (written_key k)
+key at.Alone = none
+key at.OwnKey = ascii (codes "[key]") refl
+key (at.Fixed k) = ascii (codes "[") refl also number k also ascii (codes "]") refl
+
+operator : (o : Op) → Utf8 (op_text o)
+operator op.Plus = ascii (codes "+") refl
+operator op.Minus = ascii (codes "-") refl
+operator op.Times = ascii (codes "*") refl
+operator op.Less = ascii (codes "<") refl
+operator op.LessEq = ascii (codes "<=") refl
+operator op.More = ascii (codes ">") refl
+operator op.MoreEq = ascii (codes ">=") refl
+operator op.Same = ascii (codes "==") refl
+operator op.Differs = ascii (codes "!=") refl
+operator op.Both = ascii (codes "and") refl
+operator op.Either = ascii (codes "or") refl
+
+quotes : {bytes : List ℕ} → Utf8 bytes → Utf8 (quoted bytes)
+quotes x = ascii (codes "\"") refl also (x also ascii (codes "\"") refl)
+
+blank : Utf8 (codes " ")
+blank = ascii (codes " ") refl
+
+end : Utf8 line_end
+end = ascii line_end refl
+
+module _ (text : List ℕ) (utf8 : IsUtf8 text) (fs : List Family) (named : AllByRecursion named_family fs) where
+  family : (i : ℕ) → Utf8 (family_name (slice_get fs i))
+  family i = by (slice_get fs i) refl
+    where
+      by : (o : Option Family) → slice_get fs i ≡ o → Utf8 (family_name o)
+      by None e = none
+      by (Some f) e = at_place named_family fs named i f e
+
+  cell : (c : CellRef) → Utf8 (written_cell fs c)
+  cell c = family c.family also key c.at
+
+  module _ (keyed has_value : Bool) where
+    term : {e : Tree} {t : Term} → MeansTerm text fs keyed has_value e t → Utf8 (term_text fs t)
+    term (means_number n) = signed n.value
+    term (means_value at h) = ascii (codes "value") refl
+    term (means_key at h) = ascii (codes "key") refl
+    term (means_time at) = ascii (codes "time") refl
+    term (means_read r c means) = cell c
+    term (means_held at r c means) = ascii (codes "has ") refl also cell c
+    term (means_inside at e t means) = term means
+    term (means_negative at e t means) = ascii (codes "(- ") refl also term means also ascii (codes ")") refl
+    term (means_negation at e t means) = ascii (codes "(not ") refl also term means also ascii (codes ")") refl
+    term (means_operation o left right a b first second) =
+        ascii (codes "(") refl also term first also blank also operator o also blank also term second also ascii (codes ")") refl
+
+    part : (in_flush : Bool) (v : WrittenPiece) (p : Piece) → MeansPiece text fs keyed has_value in_flush v p → Utf8 (written_piece fs p)
+    part in_flush (w.Plain s) (piece.Plain t) means = name text utf8 s t means
+    part in_flush _ piece.Value means = ascii (codes "{value}") refl
+    part in_flush _ piece.Key means = ascii (codes "{key}") refl
+    part in_flush _ piece.Time means = ascii (codes "{time}") refl
+    part in_flush _ piece.CellValue means = ascii (codes "{cell}") refl
+    part in_flush _ (piece.Read c) means = ascii (codes "{") refl also cell c also ascii (codes "}") refl
+    part in_flush _ (piece.Plain t) means = absurd means
+
+    template : (in_flush : Bool) (s : WrittenSpan) (ps : List Piece) → MeansTemplate text fs keyed has_value in_flush s ps → Utf8 (written_template fs ps)
+    template in_flush s ps means = items (MeansPiece text fs keyed has_value in_flush) (written_piece fs) (part in_flush) means.parts ps means.means
+
+    -- ---- actions
+    deed : {d : Deed} {act : PlainAct} → MeansDeed text fs keyed has_value d act → Utf8 (act_text fs act)
+    deed (means_add r e c t is means) = ascii (codes "add ") refl also cell c also blank also term means.means
+    deed (means_raise r e c t is means) = ascii (codes "raise ") refl also cell c also blank also term means.means
+    deed (means_set r e c t is means) = ascii (codes "set ") refl also cell c also blank also term means.means
+    deed (means_clear r c is) = ascii (codes "clear ") refl also cell c
+    deed (means_emit s ps means) = ascii (codes "emit ") refl also quotes (template false s ps means)
+    deed (means_flush n s number ps is means) = ascii (codes "flush ") refl also family number also blank also quotes (template true s ps means)
+
+    guard : (written : Option Tree) (o : Option Term) → IfWritten (MeansExpression text fs keyed has_value) written o → Utf8 (guard_text fs o)
+    guard written None means = none
+    guard None (Some t) means = absurd means
+    guard (Some e) (Some t) means = ascii (codes " when ") refl also term means.means
+
+    action : (written : Action) (a : PlainAction) → MeansAction text fs keyed has_value written a → Utf8 (action_text fs a)
+    action written a means = deed means.act also guard written.guard a.guard means.guard
+
+    actions : (name : List ℕ) → Utf8 name → (ws : List Action) (js : List PlainAction) → Pairs (MeansAction text fs keyed has_value) ws js
+        → Utf8 (actions_line fs name js)
+    actions name is ws [] pairs = none
+    actions name is [] (a ∷ js) pairs = absurd pairs
+    actions name is (v ∷ ws) (a ∷ js) pairs =
+        ascii (codes "on ") refl also is also ascii (codes ": ") refl
+        also marked (MeansAction text fs keyed has_value) (codes "; ") (action_text fs) (ascii (codes "; ") refl) action (v ∷ ws) (a ∷ js) pairs also end
+
+  line : (ds : Declarations) (k : DeclaredKind) (j : PlainKind) → Utf8 j.name → MeansDeclaredKind text fs ds k j → Utf8 (on_line fs j)
+  line ds k j is means = actions k.keyed k.has_value j.name is (flat_map (actions_in text k.name) ds) j.actions means.actions
+
+  lines : (ds : Declarations) (ks : List DeclaredKind) (js : List PlainKind) → AllByRecursion named_kind js → Pairs (MeansDeclaredKind text fs ds) ks js
+      → Utf8 (flat_map (on_line fs) js)
+  lines ds [] [] is pairs = none
+  lines ds [] (j ∷ js) is pairs = absurd pairs
+  lines ds (k ∷ ks) [] is pairs = absurd pairs
+  lines ds (k ∷ ks) (j ∷ js) is pairs = line ds k j is.0 pairs.0 also lines ds ks js is.1 pairs.1
+
+-- ---- the other lines
+
+word : (b : Bool) (some other : List ℕ) → Utf8 some → Utf8 other → Utf8 (cond b some other)
+word true some other x y = x
+word false some other x y = y
+
+keyed_word : (b : Bool) → Utf8 (keyed_text b)
+keyed_word true = ascii (codes " keyed") refl
+keyed_word false = none
+
+sort_name : (s : Sort) → Utf8 (sort_text s)
+sort_name sort.Sum = ascii (codes " sum") refl
+sort_name sort.Max = ascii (codes " max") refl
+sort_name sort.Last = ascii (codes " last") refl
+
+value_word : (b : Bool) → Utf8 (value_text b)
+value_word true = ascii (codes " int") refl
+value_word false = ascii (codes " none") refl
+
+same_word : (b : Bool) → Utf8 (same_text b)
+same_word true = ascii (codes " same") refl
+same_word false = none
+
+cells : (fs : List Family) → AllByRecursion named_family fs → Utf8 (flat_map cell_line fs)
+cells [] named = none
+cells (f ∷ fs) named = ascii (codes "cell ") refl also named.0 also keyed_word f.keyed also sort_name f.sort also end also cells fs named.1
+
+tags : (ks : List PlainKind) → AllByRecursion named_kind ks → Utf8 (flat_map tag_line ks)
+tags [] named = none
+tags (k ∷ ks) named = ascii (codes "tag ") refl also named.0 also keyed_word k.keyed also value_word k.has_value also end also tags ks named.1
+
+listed_keys : (ks : Keys) → Utf8 (keys_text ks)
+listed_keys keys.Alone = none
+listed_keys (keys.One k) = ascii (codes "[") refl also number k also ascii (codes "]") refl
+listed_keys (keys.Range low high) =
+    ascii (codes "[") refl also number low also ascii (codes "..") refl also number high also ascii (codes "]") refl
+
+module _ (js : List PlainKind) (named : AllByRecursion named_kind js) where
+  kind : (i : ℕ) → Utf8 (kind_name (slice_get js i))
+  kind i = by (slice_get js i) refl
+    where
+      by : (o : Option PlainKind) → slice_get js i ≡ o → Utf8 (kind_name o)
+      by None e = none
+      by (Some k) e = at_place named_kind js named i k e
+
+  depends : (ys : List Depend) → Utf8 (flat_map (depends_line js) ys)
+  depends [] = none
+  depends (y ∷ ys) = ascii (codes "depends ") refl also kind y.a also blank also kind y.b also same_word y.same also end also depends ys
+
+  tag : (t : TagRef) → Utf8 (tag_text js t)
+  tag t = kind t.kind also listed_keys t.keys
+
+  slack : (n : ℕ) → Utf8 (slack_text n)
+  slack n = word (nat_lt 0 n) (codes " slack " ++ decimal n) [] (ascii (codes " slack ") refl also number n) none
+
+  same_tags : (ts : List TagRef) → Pairs (λ (x y : TagRef). Unit {0}) ts ts
+  same_tags [] = tt
+  same_tags (t ∷ ts) = (tt, same_tags ts)
+
+  source : (s : Source) → Utf8 s.name → Utf8 s.file → Utf8 (source_line js s)
+  source s named file =
+      let head = ascii (codes "source ") refl also named also blank also quotes file
+      also ascii (codes " rate ") refl also number s.rate also slack s.slack also ascii (codes ": ") refl in
+      let listed = marked (λ (x y : TagRef). Unit {0}) (codes ", ") (tag_text js) (ascii (codes ", ") refl) (λ x y is. tag y) s.tags s.tags
+      (same_tags s.tags) in
+      head also listed also end
+
+-- ---- the whole
+pub normal_form_is_utf8 : NormalFormIsUtf8
+normal_form_is_utf8 bytes job is =
+    let utf8 = is.text.utf8 in
+    let ds = is.written.declarations in
+    let means = is.means in
+    let fs : AllByRecursion named_family job.families = subst (AllByRecursion named_family) (sym means.families) (families bytes utf8 ds) in
+    let ks = kinds bytes utf8 job.families ds (flat_map (kinds_in bytes) ds) job.kinds (declared bytes utf8 ds) means.kinds in
+    let version = word (job.version == 2) (codes "version 2" ++ line_end) [] (ascii (codes "version 2" ++ line_end) refl) none in
+    let ons = lines bytes utf8 job.families fs ds (flat_map (kinds_in bytes) ds) job.kinds ks means.kinds in
+    let sources = items (MeansSource bytes (flat_map (kinds_in bytes) ds)) (source_line job.kinds)
+    (λ written s source_means. source job.kinds ks s (name bytes utf8 written.name s.name source_means.name)
+    (subst Utf8 (sym source_means.file) (between bytes (written.file.from + 1) (written.file.to - 1) utf8)))
+    (flat_map sources_in ds) job.sources means.sources in
+    (version also cells job.families fs also tags job.kinds ks also depends job.kinds ks job.depends also ons also sources).is
