@@ -1,10 +1,10 @@
 #!/usr/bin/env bash
 # Runs a command of flumina without building it first: tools/try.sh COMMAND WORD.., as in tools/try.sh fold examples/rides/rides.job
-# The kit's `rt try` compiles the program with checks at run time and proves nothing, in two to four minutes. Report, refusals and exit status are the
-# program's; 125 is the status where there is none, and rt's own lines then say why. It needs `rt` on the path, bash and awk.
-# `rt try` runs the program in a folder of its own: it gets the files that the words and the sources of the job name, looked up from here,
-# and leaves none behind. So --save is refused, and so are names that lead out of this folder by `..` or have a `=`, and `valid`, `run` and
-# `replay` see a plan or a trace, but a checkpoint only to read. A run has 60 seconds and at most 1 MiB of output.
+# The kit's `rt try` compiles the program with checks at run time and proves nothing; that takes about a minute on an idle machine with several
+# processors, for each call. Report, refusals and exit status are the program's; 125 means that it did not run, and rt's own lines then say why.
+# It needs `rt` on the path, bash and awk. `rt try` runs the program in a folder of its own: it gets the files that the words and the sources of
+# the job name, looked up from here, and leaves none behind. So --save is refused, and so are names that lead out of this folder by `..` or
+# contain a `=`; `valid`, `run` and `replay` get a plan or a trace, but a checkpoint only to read. A run has 60 seconds and at most 1 MiB of output.
 set -u
 stop() { echo "tools/try.sh: $1" >&2; exit 125; }
 [ $# -gt 0 ] || stop "give it a command and its words, as in: tools/try.sh fold examples/rides/rides.job"

@@ -1,17 +1,17 @@
 #!/usr/bin/env python3
-"""Runs the built program with one growth of memory refused, for each growth in turn, and prints a table of what it answered.
+"""Runs the built program with one allocation refused, for each allocation in turn, and prints a table of its answers.
 
 At the top of the repository, where `rt ci` or `rt run` has built the program, and with a C compiler:
 
     tests/system/refused_growth.py [--program FILE] [--jobs WORD,..] [--calls NAME;..] [--rows N]
 
-A call is made once with ample memory, and then once for each of its growths, with that growth alone refused: the first, the second
-and so on, up to the number that the call does not reach. A small library, which is loaded before the C library, counts the calls of
-`malloc`, `realloc` and `calloc` of the program (a start of a thread makes one too) and lets one of them answer that there is no memory.
+A call is made once with ample memory, and then once for each of its allocations, with only that one refused: the first, the second
+and so on, up to one more than the call makes. A small library, which is loaded before the C library, counts the program's calls of
+`malloc`, `realloc` and `calloc` (starting a thread makes one too) and makes one of them report that there is no memory.
 
-Each answer has to be status 9, with its line on standard error and nothing or whole lines of the answer on standard output; or
-the very answer with ample memory. Where `main` finds no memory for its words, which are the first growths, it ends with status 9 and
-says nothing. The script ends with status 1 where an answer is none of these.
+Each answer has to be status 9, with its line on standard error and nothing or whole lines of the output on standard output; or exactly
+the answer with ample memory. If `main` finds no memory for its words, which are the first allocations, it ends with status 9 and
+prints nothing. The script ends with status 1 if an answer is none of these.
 """
 import argparse
 import concurrent.futures
@@ -316,7 +316,7 @@ def main():
             it.write(SHIM)
         subprocess.run([os.environ.get("CC", "cc"), "-O2", "-shared", "-fPIC", "-fno-builtin", "-o", LIBRARY, f"{room}/shim.c"], check=True)
         groups = [(f"{len(stored())} stored rows", stored())] + [(name, {name: files}) for name, files in larger(given.rows).items()]
-        print("| Files | Command | Calls | Growths refused | Status 9 | for the words | with lines in out | As with ample memory | Wrong |")
+        print("| Files | Command | Calls | Refused | Status 9 | of these for the words | with lines in out | As with ample memory | Wrong |")
         print("|---|---|---|---|---|---|---|---|---|")
         total = 0
         for title, jobs in groups:
@@ -337,7 +337,7 @@ def main():
                     print(f"| {title} | `{command}` | {row.calls} | {row.growths} | {row.wanting} | {row.silent} | {row.parts} | {row.same} | {len(row.wrong)} |", flush=True)
                 wrong += row.wrong
                 total += row.growths
-        print(f"\n{total} growths were refused in {time.time() - begin:.0f} s.")
+        print(f"\n{total} allocations were refused in {time.time() - begin:.0f} s.")
     for it in wrong[:40]:
         print(f"wrong: {it}")
     return 1 if wrong else 0

@@ -27,7 +27,7 @@ pub fn conflict_hint<R: rt::Files + AllocGlobal>(
         ""
     };
     let depends = format!(in rt.alloc();
-        "  these two are dependent with: depends {kind} {other}{same}\n"
+        "  to make these two dependent: depends {kind} {other}{same}\n"
     )?;
     told.push_str(depends.as_str())?;
     Ok(told)

@@ -9,15 +9,15 @@ const FORMS: &str =
 
 /// Why no step is made by the line.
 const STOPS: &str =
-    "  the net can't go on by that line there: its step waits for others, or is no step of this plan
+    "  that step is not enabled there: it has to wait for others, or this plan has no such step
 ";
 
 /// Why a trace is not whole.
-const STOPS_EARLY: &str = "  the lines end there, and the net has steps left
+const STOPS_EARLY: &str = "  the lines end there, but the run is not finished
 ";
 
 /// What writes a trace.
-const WRITES: &str = "  a whole trace is written by: flumina simulate JOB PLAN SEED --trace
+const WRITES: &str = "  to write a complete trace: flumina simulate JOB PLAN SEED --trace
 ";
 
 /// What stops the replay at the line that the line of an answer names, and what writes a whole trace.
