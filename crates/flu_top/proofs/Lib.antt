@@ -45,3 +45,4 @@ pub mod ResumedRuns
 pub mod Leaving
 pub mod SameFold
 pub mod TwoRuns
+pub mod Taken

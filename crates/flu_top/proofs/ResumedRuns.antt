@@ -1,5 +1,5 @@
 -- What a checkpoint that a run has put opens is the rest of the run.
-use Rattle.std.proofs.Common.{◌≡◌, ◌⊎◌, refl, sym, ap, ◌∙◌, subst, ℕ, ◌<◌, ◌≤◌, ◌^◌, List, [], ◌∷◌, ◌++◌, Option, Some, None, inl, inr, append-nil, append_assoc}
+use Rattle.std.proofs.Common.{◌≡◌, refl, sym, ap, ◌∙◌, subst, ℕ, ◌<◌, ◌^◌, List, [], ◌∷◌, ◌++◌, Option, Some, None, inl, inr, append-nil, append_assoc}
 use Rattle.std.proofs.Common.{arith, zero, suc, true, false, cond}
 use Rattle.std.specs.Prelude.{slice_get, option_map, unwrap_or, Contains, sum_by}
 use Rattle.std.specs.List.{AllByRecursion, flat_map}
@@ -14,9 +14,11 @@ use Rattle.flu_model.specs.declared.events.Item.{Item}
 use Rattle.flu_model.specs.declared.jobs.Source.{Source}
 use Rattle.flu_model.specs.declared.jobs.Program.{Program}
 use Rattle.flu_model.specs.Contents.{Contents as State, nothing_held}
+use Rattle.flu_model.specs.Erasure.{job_of}
 use Rattle.flu_model.specs.Folding.{final_state, final_outputs, state_after, outputs_of}
 use Rattle.flu_model.specs.Merging.{merged}
 use Rattle.flu_model.specs.Reports.{report}
+use Rattle.flu_grammar.specs.Laws.{NormalFormIsShort, NormalFormIsUtf8}
 use Rattle.flu_outside.specs.Outside.{Contents}
 use Rattle.flu_outside.specs.Taking.{bytes_left}
 use Rattle.flu_rows.specs.declared.rows.Next.{Next}
@@ -39,8 +41,8 @@ use Rattle.flu_top.specs.Emptied.{emptied}
 use Rattle.flu_top.specs.Openings.{Opening, OpensAt, report_from, state_from}
 use Rattle.flu_top.specs.Reading.{HaveWritten, checkpoint_at, greatest_border, lines_behind, put_by, rows_in_round}
 use Rattle.flu_top.specs.Resuming.{IsOpeningOf, HasPut, Behind, AtTheEnd, IsRest, CheckpointsOpenTheRest, GoOn, Begun, Resumed, RunsGoOn, CheckpointsOpen}
-use Rattle.flu_top.specs.Resuming.{AreSameSources, SourcesDecide, CheckpointsLeaveSources}
-use Rattle.flu_top.proofs.Widths.{TagsFit, AreWords, HasWord, fold_words}
+use Rattle.flu_top.specs.Resuming.{SourcesDecide, CheckpointsLeaveSources}
+use Rattle.flu_top.proofs.Widths.{TagsFit, HasWord, fold_words}
 use Rattle.flu_top.proofs.RowRanges.{EventFits, merged_fit}
 use Rattle.flu_top.proofs.Rests.{RoundTo, round_to, round_fits, border_low, all_rows, later_rows, none_beyond, fit}
 
@@ -251,8 +253,10 @@ go_on laws p texts left sound o last text can (Resumed first next final front mo
 pub runs_go_on : LawsOfRests → RunsGoOn
 runs_go_on laws p o last texts left text sound can runs = go_on laws p texts left sound o last text can runs
 
-pub checkpoints_open : LawsOfRests → CheckpointsOpen
-checkpoints_open laws p o texts left text checkpoint sound can put short utf8 =
+pub checkpoints_open : LawsOfRests → NormalFormIsShort → NormalFormIsUtf8 → CheckpointsOpen
+checkpoints_open laws are_short are_utf8 p job o texts left text checkpoint job_text sound can put =
+    let short = are_short p job job_text in
+    let utf8 = are_utf8 job (job_of p) job_text in
     let is = put_is_rest laws p o texts left sound can text checkpoint put in
     let saved = laws.saves p is.border is.cells is.in_range is.savable short utf8 in (
       (

@@ -1,5 +1,5 @@
 -- A run, and one that is resumed from what it left, write the report of the first one together.
-use Rattle.std.proofs.Common.{◌≡◌, ◌⊎◌, refl, sym, ap, ◌∙◌, subst, ℕ, List, [], ◌∷◌, ◌++◌, Option, Some, None, Ok, inl, inr}
+use Rattle.std.proofs.Common.{◌≡◌, ◌⊎◌, ap, ◌∙◌, subst, ℕ, List, [], ◌∷◌, Option, Some, None, inl, inr}
 use Rattle.std.specs.Prelude.{unwrap_or}
 use Rattle.flu_lemmas.proofs.Told.{of_told}
 use Rattle.flu_grammar.specs.Laws.{JobsAreGrammar}
@@ -13,13 +13,14 @@ use Rattle.flu_model.specs.Folding.{final_outputs}
 use Rattle.flu_model.specs.Reports.{report}
 use Rattle.flu_rounds.specs.Written.{AreSound, lists_above}
 use Rattle.flu_save.specs.Laws.{LawOfOneMeaning, SavesAreOfJobs}
-use Rattle.flu_words.specs.Words.{Command, Run, RunOptions, command_in}
-use Rattle.flu_top.specs.Behind.{Named, HasJob, emptied_each, lists_behind}
+use Rattle.flu_words.specs.Words.{Run, RunOptions}
+use Rattle.flu_top.specs.Behind.{Named, HasJob, emptied_each}
 use Rattle.flu_top.specs.Openings.{Opening, Opens, OpensAt, report_from}
 use Rattle.flu_top.specs.Outcome.{Outside, Outcome}
 use Rattle.flu_top.specs.Reading.{lines_behind}
-use Rattle.flu_top.specs.Resuming.{BeginsWith, IsOpeningOf, HasLeft, MayHaveSaved, AreSameSources, AreOfOneJob, WroteTheWhole, ResumedRunsCompleteReports}
-use Rattle.flu_top.specs.Starting.{StartsFrom, IsAsBefore}
+use Rattle.flu_top.specs.Resuming.{IsOpeningOf, HasLeft, MayHaveSaved, AreInTurn, AreSameSources, AreOfOneJob, WroteTheWhole}
+use Rattle.flu_top.specs.Resuming.{ResumedRunsCompleteReports}
+use Rattle.flu_top.specs.Starting.{IsAsBefore}
 use Rattle.flu_top.specs.Wants.{if_named, texts_named}
 use Rattle.flu_top.proofs.OneRuns.{same_job}
 use Rattle.flu_top.proofs.Leaving.{runs_leave, resumed_write}
@@ -31,12 +32,13 @@ told_at : {A : Type 0} (P : A → A → Type 0) (x y : A) (a b : Option A) → a
 told_at P x y a b is is' told = subst (λ (o : Option _). WhereTold (Some x) o P) is' (subst (λ (o : Option _). WhereTold o b P) is told)
 
 -- what a run opens with is an opening of its job
-is_opening : (resume : Option (List ℕ)) (texts : List (List ℕ)) (left : Contents) (p : Program) (o : Opening) → Opens resume texts left p o → IsOpeningOf p o
+pub is_opening : (resume : Option (List ℕ)) (texts : List (List ℕ)) (left : Contents) (p : Program) (o : Opening) → Opens resume texts left p o
+    → IsOpeningOf p o
 is_opening None texts left p o opens = inl opens
 is_opening (Some name) texts left p o opens = inr (bytes_left (emptied_each texts left) name, opens)
 
 -- what opens a run of a job opens one of each program that is this job
-opens_same : SavesAreOfJobs → (p q : Program) → IsSameJob p q → (bytes : List ℕ) (o : Opening) → OpensAt p bytes o → OpensAt q bytes o
+pub opens_same : SavesAreOfJobs → (p q : Program) → IsSameJob p q → (bytes : List ℕ) (o : Opening) → OpensAt p bytes o → OpensAt q bytes o
 opens_same saves p q same bytes o opens = record { time = opens.time; above = opens.above; save = saves p q same opens.time o.cells bytes opens.save }
 
 -- the report over other sources that have the same
@@ -44,6 +46,16 @@ same_sources_report : (p : Program) (o : Opening) (texts texts' : List (List ℕ
     → report_from o texts' left' p ≡ report_from o texts left p
 same_sources_report p o texts texts' left left' same =
     ap (λ (lists : List (List Item)). report p (final_outputs p o.cells (lists_above o.border lists))) (sources_decide p texts texts' left left' same).1
+
+-- what the first one left
+pub first_left : LawOfOneMeaning → (words words' : List (List ℕ)) (old new old' : Outside) (status : ℕ) → Outcome words old new status → MayHaveSaved status
+    → (runs : AreInTurn words words' old new old')
+    → IsAsBefore (texts_named (Run runs.job runs.plan runs.options)) runs.file runs.left runs.now
+    ⊎ HasLeft (Run runs.job runs.plan runs.options) runs.file old.out new.out runs.left runs.now
+first_left meaning words words' old new old' status outcome may runs =
+    told_at (λ x y. IsAsBefore (texts_named (Run runs.job runs.plan runs.options)) runs.file x y
+    ⊎ HasLeft (Run runs.job runs.plan runs.options) runs.file old.out new.out x y) runs.left runs.now old.left new.left runs.told_left runs.told_now
+    (runs_leave meaning words old new status outcome may runs.job runs.plan runs.options runs.file runs.first runs.saves)
 
 module _ (laws : LawsOfRests) (jobs : JobsAreGrammar) (meaning : LawOfOneMeaning) (saves : SavesAreOfJobs) where
   both_wrote : (job job' : List ℕ) (plan plan' : Option (List ℕ)) (options options' : RunOptions) (file file' : List ℕ)
@@ -86,22 +98,24 @@ module _ (laws : LawsOfRests) (jobs : JobsAreGrammar) (meaning : LawOfOneMeaning
       }
 
   pub complete_reports : ResumedRunsCompleteReports
-  complete_reports words words' old new old' new' status outcome may outcome' job job' plan plan' options options' file file' word saving word' resuming left now
-      left' told told' told'' bytes one good =
-      let texts = texts_named (Run job plan options) in
-      let first = told_at (λ x y. IsAsBefore texts file x y ⊎ HasLeft (Run job plan options) file old.out new.out x y) left now old.left new.left told told'
-      (runs_leave meaning words old new status outcome may job plan options file word saving) in
-      let second = of_told (λ x y. (q : Program) × HasJob (Named job') x q
-      × ((rest : Opening) × OpensAt q (bytes_left (emptied_each (job' ∷ if_named plan') x) file') rest
-      × WhereTold old'.out new'.out (AppendsAll (report_from rest (texts_named (Run job' plan' options')) x q)))) left' old'.left new'.left told''
-      (resumed_write words' old' new' outcome' job' plan' options' file' word' resuming) in
-      by first second.1
+  complete_reports words words' old new old' new' status outcome may outcome' runs same =
+      let second = of_told (λ x y. (q : Program) × HasJob (Named runs.later_job) x q
+      × ((rest : Opening) × OpensAt q (bytes_left (emptied_each (runs.later_job ∷ if_named runs.later_plan) x) runs.later_file) rest
+      × WhereTold old'.out new'.out (AppendsAll (report_from rest (texts_named (Run runs.later_job runs.later_plan runs.later_options)) x q))))
+      runs.later_left old'.left new'.left runs.told_later
+      (resumed_write words' old' new' outcome' runs.later_job runs.later_plan runs.later_options runs.later_file runs.later runs.resumes) in
+      by (first_left meaning words words' old new old' status outcome may runs) second.1
     where
-      by : IsAsBefore (texts_named (Run job plan options)) file left now ⊎ HasLeft (Run job plan options) file old.out new.out left now
-          → ((q : Program) × HasJob (Named job') left' q
-          × ((rest : Opening) × OpensAt q (bytes_left (emptied_each (job' ∷ if_named plan') left') file') rest
-          × WhereTold old'.out new'.out (AppendsAll (report_from rest (texts_named (Run job' plan' options')) left' q))))
-          → IsAsBefore (texts_named (Run job plan options)) file left now
-          ⊎ WroteTheWhole (Run job plan options) left old.out new.out old'.out new'.out
+      by : IsAsBefore (texts_named (Run runs.job runs.plan runs.options)) runs.file runs.left runs.now
+          ⊎ HasLeft (Run runs.job runs.plan runs.options) runs.file old.out new.out runs.left runs.now
+          → ((q : Program) × HasJob (Named runs.later_job) runs.later_left q
+          × ((rest : Opening)
+          × OpensAt q (bytes_left (emptied_each (runs.later_job ∷ if_named runs.later_plan) runs.later_left) runs.later_file) rest
+          × WhereTold old'.out new'.out (AppendsAll
+          (report_from rest (texts_named (Run runs.later_job runs.later_plan runs.later_options)) runs.later_left q))))
+          → IsAsBefore (texts_named (Run runs.job runs.plan runs.options)) runs.file runs.left runs.now
+          ⊎ WroteTheWhole (Run runs.job runs.plan runs.options) runs.left old.out new.out old'.out new'.out
       by (inl before) rest = inl before
-      by (inr stays) rest = inr (both_wrote job job' plan plan' options options' file file' old.out new.out old'.out new'.out left now left' bytes one good stays rest)
+      by (inr stays) rest =
+          inr (both_wrote runs.job runs.later_job runs.plan runs.later_plan runs.options runs.later_options runs.file runs.later_file old.out
+          new.out old'.out new'.out runs.left runs.now runs.later_left runs.same_bytes runs.one_job (λ p has. (runs.sound p has, same p has)) stays rest)

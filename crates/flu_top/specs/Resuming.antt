@@ -1,24 +1,24 @@
 -- Runs that are resumed: what a checkpoint that a run has put opens, and what runs write together of which each goes on from the
 -- checkpoint of the one before it.
-use Rattle.std.specs.Prelude.{◌≡◌, ◌⊎◌, ◌≤◌, ℕ, List, [], ◌∷◌, ◌++◌, Option, Some, Contains, IsUtf8, Ok}
+use Rattle.std.specs.Prelude.{◌≡◌, ◌⊎◌, ◌≤◌, ℕ, List, [], ◌∷◌, ◌++◌, Option, Some, Contains, Ok}
 use Rattle.flu_outside.specs.Outside.{Contents, WhereTold}
 use Rattle.flu_outside.specs.Taking.{bytes_left}
 use Rattle.flu_outside.specs.Writing.{AppendsAll}
 use Rattle.flu_model.specs.declared.jobs.Program.{Program}
 use Rattle.flu_model.specs.Erasure.{job_of}
-use Rattle.flu_parse.specs.Printing.{normal_form}
+use Rattle.flu_grammar.specs.Jobs.{IsJobText}
 use Rattle.flu_rounds.specs.Written.{AreSound}
 use Rattle.flu_save.specs.declared.fault.SaveFault.{SaveFault}
 use Rattle.flu_save.specs.declared.fault.SaveFault.TheVariants.{NoMemory}
 use Rattle.flu_save.specs.Checkpoint.{save}
-use Rattle.flu_save.specs.Forms.{HasShortText, IsFaultOf}
+use Rattle.flu_save.specs.Forms.{IsFaultOf}
 use Rattle.flu_streams.specs.Files.{files_of}
 use Rattle.flu_words.specs.Words.{Command, Run, RunOptions, command_in}
 use Rattle.flu_top.specs.Behind.{Named, HasJob, emptied_each, lists_behind}
 use Rattle.flu_top.specs.Openings.{Opening, OpensAt, fresh, report_from, state_from}
 use Rattle.flu_top.specs.Outcome.{Outside, Outcome}
 use Rattle.flu_top.specs.Reading.{HaveWritten, greatest_border, lines_behind}
-use Rattle.flu_top.specs.Starting.{IsAsBefore, StartsFrom}
+use Rattle.flu_top.specs.Starting.{IsAsBefore, IsSameName, StartsFrom}
 use Rattle.flu_top.specs.Wants.{if_named, job_wanted, texts_named}
 
 -- ---- checkpoints of a run
@@ -57,13 +57,11 @@ RunsGoOn =
     (p : Program) (o last : Opening) (texts : List (List ℕ)) (left : Contents) (text : List ℕ)
     → AreSound p (lines_behind texts left p) → IsOpeningOf p o → GoOn p texts left o text last → IsRest p o last texts left text
 
--- LAW OF CHECKPOINTS: a checkpoint that a run of a job has put opens a run of that job, and no fault of it refuses one, where the normal
--- form of the job is UTF-8 and short
+-- LAW OF CHECKPOINTS: a checkpoint that a run of a text's job has put opens a run of that job, and no fault of it refuses one
 abbrev pub CheckpointsOpen : Type 0
 CheckpointsOpen =
-    (p : Program) (o : Opening) (texts : List (List ℕ)) (left : Contents) (text checkpoint : List ℕ)
-    → AreSound p (lines_behind texts left p) → IsOpeningOf p o → HasPut p o texts left text checkpoint
-    → HasShortText p → IsUtf8 (normal_form (job_of p))
+    (p : Program) (job : List ℕ) (o : Opening) (texts : List (List ℕ)) (left : Contents) (text checkpoint : List ℕ)
+    → IsJobText job (job_of p) → AreSound p (lines_behind texts left p) → IsOpeningOf p o → HasPut p o texts left text checkpoint
     → ((rest : Opening) × OpensAt p checkpoint rest) × ((fault : SaveFault) → IsFaultOf p checkpoint fault → fault ≡ NoMemory)
 
 -- ---- sources
@@ -143,19 +141,52 @@ pub record WroteTheWhole (command : Command) (left : Contents) (had has had' has
 abbrev pub AreOfOneJob : List ℕ → Contents → List ℕ → Contents → Type 0
 AreOfOneJob job left job' left' = (p : Program) → HasJob (Named job) left p → HasJob (Named job') left' p
 
--- LAW OF TWO RUNS: a run that saves, whose sources have no defect, left the name that it saves to as it was; or a run of the same job
--- over the same sources that is resumed from what it left there, and ends with status 0, writes the rest of its report
+-- TWO RUNS IN TURN: the first one saves, and its sources have no defect; the later one has its job, and is resumed from what is left under the
+-- name that the first one saves to
+pub record AreInTurn (words words' : List (List ℕ)) (old new old' : Outside) : Type 0 where
+  pub job : List ℕ
+  pub plan : Option (List ℕ)
+  pub options : RunOptions
+  pub file : List ℕ
+  pub first : command_in words ≡ Ok (Run job plan options)
+  pub saves : options.save ≡ Some file
+  pub later_job : List ℕ
+  pub later_plan : Option (List ℕ)
+  pub later_options : RunOptions
+  pub later_file : List ℕ
+  pub later : command_in words' ≡ Ok (Run later_job later_plan later_options)
+  pub resumes : later_options.resume ≡ Some later_file
+  pub left : Contents
+  pub now : Contents
+  pub later_left : Contents
+  pub told_left : old.left ≡ Some left
+  pub told_now : new.left ≡ Some now
+  pub told_later : old'.left ≡ Some later_left
+  pub same_bytes : bytes_left (emptied_each (later_job ∷ if_named later_plan) later_left) later_file ≡ bytes_left now file
+  pub one_job : AreOfOneJob job left later_job later_left
+  pub sound : (p : Program) → HasJob (Named job) left p → AreSound p (lines_behind (texts_named (Run job plan options)) left p)
+
+-- LAW OF TWO RUNS: a run that saves left the name that it saves to as it was; or a run of the same job over the same sources that is resumed
+-- from what it left there, and ends with status 0, writes the rest of its report
 abbrev pub ResumedRunsCompleteReports : Type 0
 ResumedRunsCompleteReports =
     (words words' : List (List ℕ)) (old new old' new' : Outside) (status : ℕ) → Outcome words old new status → MayHaveSaved status
-    → Outcome words' old' new' 0
-    → (job job' : List ℕ) (plan plan' : Option (List ℕ)) (options options' : RunOptions) (file file' : List ℕ)
-    → command_in words ≡ Ok (Run job plan options) → options.save ≡ Some file
-    → command_in words' ≡ Ok (Run job' plan' options') → options'.resume ≡ Some file'
-    → (left now left' : Contents) → old.left ≡ Some left → new.left ≡ Some now → old'.left ≡ Some left'
-    → bytes_left (emptied_each (job' ∷ if_named plan') left') file' ≡ bytes_left now file
-    → AreOfOneJob job left job' left'
-    → ((p : Program) → HasJob (Named job) left p → AreSound p (lines_behind (texts_named (Run job plan options)) left p)
-    × AreSameSources p (texts_named (Run job plan options)) left (texts_named (Run job' plan' options')) left')
-    → IsAsBefore (texts_named (Run job plan options)) file left now
-    ⊎ WroteTheWhole (Run job plan options) left old.out new.out old'.out new'.out
+    → Outcome words' old' new' 0 → (runs : AreInTurn words words' old new old')
+    → ((p : Program) → HasJob (Named runs.job) runs.left p
+    → AreSameSources p (texts_named (Run runs.job runs.plan runs.options)) runs.left
+    (texts_named (Run runs.later_job runs.later_plan runs.later_options)) runs.later_left)
+    → IsAsBefore (texts_named (Run runs.job runs.plan runs.options)) runs.file runs.left runs.now
+    ⊎ WroteTheWhole (Run runs.job runs.plan runs.options) runs.left old.out new.out old'.out new'.out
+
+-- a name that the command saves to or is resumed from is that of a source's file
+abbrev pub IsRefusedForName : Command → Contents → Type 0
+IsRefusedForName command left = (p : Program) × HasJob (job_wanted command) left p × ((number : ℕ) × IsSameName command p number)
+
+-- LAW OF TAKEN CHECKPOINTS: a run that saves left the name that it saves to as it was; or a run of the same job that is resumed from what it
+-- left there, and ends with status 11, is refused for a name, and not for the checkpoint
+abbrev pub ResumedRunsTakeCheckpoints : Type 0
+ResumedRunsTakeCheckpoints =
+    (words words' : List (List ℕ)) (old new old' new' : Outside) (status : ℕ) → Outcome words old new status → MayHaveSaved status
+    → Outcome words' old' new' 11 → (runs : AreInTurn words words' old new old')
+    → IsAsBefore (texts_named (Run runs.job runs.plan runs.options)) runs.file runs.left runs.now
+    ⊎ IsRefusedForName (Run runs.later_job runs.later_plan runs.later_options) runs.later_left

@@ -2,12 +2,15 @@
 //! does nothing.
 
 ghost use Rattle.flu_top.specs.Resuming.{CheckpointsOpenTheRest, RunsGoOn, CheckpointsOpen, SourcesDecide, CheckpointsLeaveSources, RunsLeaveCheckpoints};
-ghost use Rattle.flu_top.specs.Resuming.{ResumedRunsWriteTheRest, ResumedRunsCompleteReports};
+ghost use Rattle.flu_top.specs.Resuming.{ResumedRunsWriteTheRest, ResumedRunsCompleteReports, ResumedRunsTakeCheckpoints};
 
-use flu_grammar::laws::jobs_are_grammar;
+use flu_grammar::laws::{jobs_are_grammar, normal_forms_are_short, normal_forms_are_utf8};
 use flu_laws::updates_are_changes;
 use flu_model::laws::itags_have_tags;
-use flu_save::{checkpoints_are_of_jobs, checkpoints_have_one_meaning, save_is_a_checkpoint};
+use flu_save::{
+    checkpoints_are_of_jobs, checkpoints_have_one_meaning, faults_are_no_checkpoints,
+    save_is_a_checkpoint,
+};
 use flu_streams::{
     borders_cut_a_fold, last_round_has_all_rows, last_round_has_later_rows,
     rounds_meet_what_is_there,
@@ -15,8 +18,7 @@ use flu_streams::{
 
 /// Where no source has a defect, a checkpoint that a run has put opens the rest of the run: what was written when it was put, and then
 /// the report of a run that is resumed from it, are together the report of the run. So it is with any number of runs, of which each is
-/// resumed from a checkpoint that the one before it put. And such a checkpoint is refused for no fault, where the normal form of the job is
-/// UTF-8 of at most 26,214,400 bytes.
+/// resumed from a checkpoint that the one before it put. And such a checkpoint of a job that a text means is refused for no fault.
 pub fn of_checkpoints()
     ensures rest { CheckpointsOpenTheRest }
     ensures together { RunsGoOn }
@@ -26,6 +28,8 @@ pub fn of_checkpoints()
     itags_have_tags();
     last_round_has_all_rows();
     last_round_has_later_rows();
+    normal_forms_are_short();
+    normal_forms_are_utf8();
     rounds_meet_what_is_there();
     save_is_a_checkpoint();
     updates_are_changes();
@@ -61,6 +65,27 @@ pub fn of_two_runs()
     jobs_are_grammar();
     last_round_has_all_rows();
     last_round_has_later_rows();
+    rounds_meet_what_is_there();
+    save_is_a_checkpoint();
+    updates_are_changes();
+}
+
+/// A run that saves left the name that it saves to as it was; or a run of the same job that is resumed from what it left there is refused
+/// with status 11 for a name alone, that of a source's file which it saves to or is resumed from, and for no fault of the checkpoint. For this
+/// the sources of the first run have no defect.
+pub fn of_taken_checkpoints()
+    ensures { ResumedRunsTakeCheckpoints }
+{
+    borders_cut_a_fold();
+    checkpoints_are_of_jobs();
+    checkpoints_have_one_meaning();
+    faults_are_no_checkpoints();
+    itags_have_tags();
+    jobs_are_grammar();
+    last_round_has_all_rows();
+    last_round_has_later_rows();
+    normal_forms_are_short();
+    normal_forms_are_utf8();
     rounds_meet_what_is_there();
     save_is_a_checkpoint();
     updates_are_changes();

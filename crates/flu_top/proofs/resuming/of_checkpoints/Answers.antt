@@ -15,4 +15,8 @@ returns c =
       no_fault = c.save_is_a_checkpoint.ensures.no_fault;
       meaning = c.save_is_a_checkpoint.ensures.meaning;
     } in
-    record { rest = opens_the_rest laws; together = runs_go_on laws; opens = checkpoints_open laws }
+    record {
+      rest = opens_the_rest laws;
+      together = runs_go_on laws;
+      opens = checkpoints_open laws c.normal_forms_are_short.ensures c.normal_forms_are_utf8.ensures;
+    }
