@@ -53,6 +53,10 @@ class Page:
         need(found.startswith(start), f"the next block of {self.name} begins with: {start}\n{found}")
         return found
 
+    def goes_on(self, start):
+        """Whether the next block begins as told."""
+        return bool(self.blocks) and self.blocks[0].startswith(start)
+
     def says(self, text):
         """The text, which stands in a sentence of the page."""
         need(" ".join(text.split()) in self.text, f"{self.name} says: {text}")
@@ -242,10 +246,10 @@ def steps_and_counts(page, folder):
 
 def go_on(page, folder):
     report = folder.read("report.csv")
-    folder.quiet(page.block("flumina run rides.job --save rides.save >"))
-    same(folder.read("report.csv"), report, "the report of the run that saves")
-    folder.quiet(page.block("flumina run rides.job --save rides.save --resume"))
-    same(folder.read("report.csv"), report, "nothing is written after a run that was finished")
+    while page.goes_on("flumina run rides.job --save rides.save"):
+        command = page.block("flumina run")
+        folder.quiet(command)
+        same(folder.read("report.csv"), report, f"the report of a run that saves, to which one that is resumed adds nothing: {command}")
     folder.write("report.csv", report + "1772")
     folder.quiet(page.block("test -z"))
     same(folder.read("report.csv"), report, "the report without its truncated last line")
