@@ -25,8 +25,8 @@ pub const HELP: &str =
   flumina --help                 write this text
   flumina --version              write the version and the toolchain that proves it
 
-JOB, PLAN, TRACE and FILE are file names, SEED is a number from 0 to 2147483647, and N one from 0 to 1000000. They and the file names
-in a job are looked up in the working directory.
+JOB, PLAN, TRACE and FILE are file names, SEED is a number from 0 to 2147483647, and N one from 0 to 1000000. File names, also
+those in a job, are looked up in the working directory.
 
 Status 0: written. Any other status comes with a line on standard error: 2 the words are not a command, 3 the job's text has a
 fault, 4 tags conflict that are not declared dependent, 5 the plan has a fault or is not valid, 6 a source has a
