@@ -299,3 +299,80 @@ def counts_and_reads(rows):
     job("counts.job", "counts.head", 'a "a.csv" rate 1000: inc[0..22]', 'c "c.csv" rate 1: read')
     gawk('for (n = 1; n <= rows; n++) printf "%d,inc[%d],1\\n", 2 * n, n % 23; print "end"', "a.csv", rows=rows)
     gawk('for (n = 1; n <= rows; n++) printf "%d,read\\n", 2 * n + 1; print "end"', "c.csv", rows=rows)
+
+
+def long_sums(kinds, listed):
+    """Kinds of 32 actions, each of which adds a sum of 16 numbers behind 26 signs: about 1 MB for 64 kinds, of which some are listed."""
+
+    def summed(terms):
+        return "-" * 26 + "1" if terms == 1 else f"({summed(terms // 2)}+{summed(terms // 2)})"
+
+    acts = ";".join(["add c " + summed(16)] * 32)
+    text = "cell c sum\n" + "".join(f"tag k{n} none\n" for n in range(kinds)) + "".join(f"on k{n}: {acts}\n" for n in range(kinds))
+    job("sums.job", text, 's "end.csv": ' + ", ".join(f"k{n}" for n in range(listed)))
+    write("end.csv", "end\n")
+
+
+def very_late_rows(rows):
+    """The jobs of rows in order, in blocks that fall, and in any order within such blocks; a block has the most that a slack allows."""
+    block, draw, falling, drawn = 59999, random.Random(1), [], []
+    for first in range(0, rows, block):
+        times = list(range(first, min(first + block, rows)))
+        falling += reversed(times)
+        draw.shuffle(times)
+        drawn += times
+    write("read.csv", f"{rows},read\nend\n")
+    for name, times in ("ordered", range(rows)), ("falling", falling), ("drawn", drawn):
+        write(f"{name}.csv", "".join(f"{time},inc,{time % 100}\n" for time in times) + "end\n")
+        job(f"{name}.job", "count.head", f'a "{name}.csv" slack 60000: inc', 'b "read.csv": read')
+
+
+def many_rounds():
+    """1,000,000 rows over 250 keys, with a line for each tick; `held` has no rows, and only a checkpoint fills it."""
+    text = "cell total keyed sum\ncell held keyed sum\ntag inc keyed int\ntag tick none\ndepends inc tick\ndepends tick tick\n"
+    text += 'on inc: add total[key] value\non tick: emit "{total[0]}"\n'
+    job("rounds.job", text, 'a "rows.csv": inc[0..249]', 'clock "ticks.csv": tick')
+    rows = some(1000000)
+    gawk('for (t = 2; t <= rows + 1; t++) print t ",inc[" t % 250 "]," t; print "end"', "rows.csv", rows=rows)
+    gawk('for (t = 1000; t <= rows + 1; t += 1000) print t ",tick"; print "end"', "ticks.csv", rows=rows)
+    write("one.plan", "node one: inc, tick\n")
+
+
+def held_cells(count, job_text):
+    cells = [["held", key, "1"] for key in range(count)]
+    return json.dumps({"border": 1, "cells": cells, "job": job_text}, separators=(",", ":"))
+
+
+def priced(events):
+    """Jobs that differ by one thing each: how many keys, actions, terms or pieces an event has; and plans that differ by their nodes."""
+
+    def one(name, acts, keys=1):
+        kinds = ("inc", "rest", "some")
+        text = "".join(f"cell c{n} sum\n" for n in range(32)) + "tag inc keyed int\ntag rest none\ntag some none\n"
+        text += "".join(f"depends {a} {b}\n" for a, b in (("inc", "rest"), ("inc", "some"), *((it, it) for it in kinds), ("rest", "some")))
+        text += f"on inc: {acts}\non rest: " + "; ".join(f"add c{n} 1" for n in range(32)) + "\non some: add c0 1\n"
+        job(f"{name}.job", text, f'a "inc{keys}.csv": inc[0..{keys - 1}]', 'b "rest.csv": rest', 'c "some.csv": some')
+
+    for keys in 1, 64:
+        rows = 'for (n = 0; n < events; n++) printf "%d,inc[%d],%d\\n", n + 2, n % keys, n % 100; print "end"'
+        gawk(rows, f"inc{keys}.csv", events=events, keys=keys)
+    write("rest.csv", "1,rest\nend\n")
+    write("some.csv", "end\n")
+    one("plain", "add c0 value")
+    one("keys", "add c0 value", 64)
+    one("acts", "; ".join(f"add c{n} value" for n in range(32)))
+    one("terms", "add c0 value; " + "; ".join(f"add c{n} {product((3, 5, 7, 11), 3)}" for n in range(1, 32)))
+    one("short", 'add c0 value; emit "{value}"')
+    one("texts", 'add c0 value; emit "' + " ".join(["{value}"] * 8) + '"')
+    write("one.plan", "node one: inc, rest, some\n")
+    write("three.plan", "node root: inc, rest, some -> l r\nnode l:\nnode r:\n")
+    write("cells.plan", "node root: inc, some -> l r\nnode l:\nnode r: rest\n")
+    write("cell.plan", "node root: inc, rest -> l r\nnode l:\nnode r: some\n")
+    write("seven.plan", "node root: inc, rest, some -> l r\nnode l: -> ll lr\nnode ll:\nnode lr:\nnode r: -> rl rr\nnode rl:\nnode rr:\n")
+    sides = ["node root: -> l r"]
+    for side in "lr":
+        sides += [f"node {side}: -> {side}l {side}r"]
+        for half in "lr":
+            at = side + half
+            sides += [f"node {at}: -> {at}1 {at}2", f"node {at}1:{' inc, rest, some' if at == 'll' else ''}", f"node {at}2:"]
+    write("fifteen.plan", "\n".join(sides) + "\n")

@@ -4,10 +4,10 @@
     bench/measure.py NAME PROGRAM [--runs N] [--part N] [--folder FOLDER] [-- WORD..]
 
 Each NAME is a measurement below, by its section in docs/PERFORMANCE.md. Inputs are made in a fresh folder, or in FOLDER. Commands that
-are compared alternate, N times (5 if not given; 3 for rounds, checkpoints and adapt), and each figure is the minimum: wall time and, in
+are compared alternate, N times (5 if not given; 3 for rounds, checkpoints, saves and adapt), and each figure is the minimum: wall time and, in
 brackets, processor time, in seconds; of memory it is the maximum. The reports of commands that are compared have to be the same. The
 words after `--` are put before each command, as `chrt -r 1` on a machine that does other work too, or `taskset -c 0,1` for two processors.
-`--part N` makes an N-th of the rows, to try a measurement. It needs gawk and GNU time; fold also needs rustc, leaf and planning valgrind,
+`--part N` makes an N-th of the rows, to try a measurement. It needs gawk and GNU time; fold also needs rustc, leaf, planning and prices valgrind,
 planning the kit, and lines a C compiler.
 
 """
@@ -301,6 +301,26 @@ def checkpoints(bench):
     print(f"\n536,870,913 bytes: status {status}, {text('long.err').decode().strip()}, {figure.wall:.2f} s, {figure.held // 2**20} MB")
 
 
+@measurement("Checkpoints, runs of many rounds that save", runs=3)
+def saves(bench):
+    table("Cells", "Checkpoint", "not saved", "saved", "a round", "saved, not flushed", "a round")
+    inputs.many_rounds()
+    job = subprocess.run(bench.flumina("check", "rounds.job"), check=True, stdout=subprocess.PIPE, text=True).stdout
+    words, rounds = ("run", "rounds.job", "one.plan"), inputs.some(1000000) // 4096 + 1
+    start = ("--resume", "cells.save")
+    for count in 250, 10000, 65536:
+        inputs.write("cells.save", inputs.held_cells(count, job))
+        commands = {"plain": bench.flumina(*words, *start), "saved": bench.flumina(*words, "--save", "again.save", *start)}
+        unflushed = bench.flumina(*words, "--save", "again.save", "--unflushed", *start)
+        if bench.once("unflushed", unflushed, Figure()) == 0:  # Else the program has no such option.
+            commands["unflushed"] = unflushed
+        figures = bench.compare(same=commands, **commands)
+        plain, cells = figures.pop("plain").wall, []
+        for it in figures.values():
+            cells += [f"{it.wall:.2f} s, {it.wall / plain:.2f} times", f"{(it.wall - plain) * 1000 / rounds:.2f} ms"]
+        row(f"{count:,} and 250", f"{os.path.getsize('again.save') / 2**20:.2f} MB", f"{plain:.2f} s", *cells)
+
+
 def by_python(name):
     """How long python3 takes to read a text, and to write what it read."""
     with open(name) as it:
@@ -381,6 +401,63 @@ def adapt(bench):
         row(f"{inputs.some(rows):,}", *figures.values(), f"{figures['adapt'].wall / figures['right'].wall:.2f}")
         if text("adapt.err") != text("right.plan"):
             print("the plan that is observed is not the one by the right rates")
+
+
+@measurement("Late rows, and jobs that keep the check busy: long sums, and rows as late as may be")
+def busy(bench):
+    table("What", "seconds", "times")
+    kinds = inputs.some(64)
+    for listed in 1, kinds:
+        inputs.long_sums(kinds, listed)
+        what = f"{kinds} kinds, {os.path.getsize('sums.job'):,} bytes, {listed} listed"
+        commands = {it: bench.flumina(it, "sums.job") for it in ("fold", "check", "plan", "run")}
+        figures = bench.compare(**commands)
+        fold = figures["fold"].busy
+        for name, it in figures.items():
+            row(f"{what}: `{name}`", f"{it.busy:.2f}", f"{it.busy / max(fold, 0.01):.2f} times `fold`")
+    rows = inputs.some(300000)
+    inputs.very_late_rows(rows)
+    for command in "fold", "run":
+        names = ("ordered", "falling", "drawn")
+        figures = bench.compare(same=names, **{it: bench.flumina(command, f"{it}.job") for it in names})
+        for name, it in figures.items():
+            row(f"{rows:,} rows, {name}: `{command}`", f"{it.busy:.2f}", f"{it.busy / max(figures['ordered'].busy, 0.01):.2f} times in order")
+
+
+@measurement("Which rounds run on the tree: the prices of its estimates, in nanoseconds")
+def prices(bench):
+    """Each is a difference of two runs by what the one has more than the other, divided by how often it has it: of processor time, but of
+    wall time for what a worker waits."""
+    table("Price", "nanoseconds")
+    events = inputs.some(400000)
+    inputs.priced(events)
+    jobs = ("plain", "keys", "acts", "terms", "short", "texts")
+    fold = bench.compare(**{name: bench.flumina("fold", f"{name}.job") for name in jobs})
+    one = bench.compare(**{name: bench.flumina("run", f"{name}.job", "one.plan") for name in ("plain", "keys")})
+    plans = ("three", "seven", "fifteen", "cells", "cell")
+    tree = bench.compare(**{name: bench.flumina("run", "plain.job", f"{name}.plan") for name in plans})
+    whole = counted(bench, "fold", ("fold", "plain.job"))
+    found = subprocess.run(["callgrind_annotate", "--inclusive=yes", "--threshold=100", "fold.out"], check=True, stdout=subprocess.PIPE, text=True)
+
+    def of(name):
+        line = next(line for line in found.stdout.splitlines() if name in line)
+        return int(line.split()[0].replace(",", ""))
+
+    def price(name, seconds, count):
+        row(name, f"{seconds * 1e9 / count:.1f}")
+
+    price("EVENT", (of("merging::merge") + of("folding::fold_events")) / whole * fold["plain"].busy, events)
+    price("ACTION", fold["acts"].busy - fold["plain"].busy, 31 * events)
+    price("TERM", fold["terms"].busy - fold["acts"].busy, 31 * 28 * events)
+    price("PIECE", fold["texts"].busy - fold["short"].busy, 14 * events)
+    price("TURN", one["plain"].busy - fold["plain"].busy, events)
+    price("LOOK", (one["keys"].busy - fold["keys"].busy) - (one["plain"].busy - fold["plain"].busy), 63 * events)
+    price("WORKER", tree["fifteen"].wall - one["plain"].wall, 14 * events / 4096)
+    price("TRIP", tree["three"].wall - one["plain"].wall, events)
+    price("TRIP, next", tree["seven"].wall - tree["three"].wall, events)
+    price("HANDOVER", tree["three"].busy - one["plain"].busy, 3 * events)
+    price("HANDOVER, next", tree["seven"].busy - tree["three"].busy, 4 * events)
+    price("CELL", tree["cells"].busy - tree["cell"].busy, 31 * events)
 
 
 @measurement("An event at a leaf")
