@@ -1,5 +1,5 @@
 #!/usr/bin/env python3
-"""Lists the public clauses of each crate that no must-fail edit names, so that none is left bare by accident, and checks what edits name.
+"""Lists the public clauses of each crate that no must-fail edit names, so that none is untested by accident, and checks what edits name.
 
 Usage: tools/clauses.py [CRATE ..]
 
@@ -9,7 +9,7 @@ its clauses are counted apart.
 
 An edit says in one line `clause: NAME` which clause shows it wrong, by the same name. One in must-fail/ names a public clause of its crate,
 or one of a trait that its crate keeps; one in edits/, which is tried by hand, may name a clause of a private function. The script says which
-edits name none, and fails where there is one. The last line has the totals.
+edits name none, and fails if there is one. The last line has the totals.
 """
 import re
 import sys
@@ -22,7 +22,7 @@ CLAUSE = re.compile(r"^\s*ensures\s+(?:(\w+)\s*)?\{")
 
 
 def without_parameters(text):
-    """A head of an impl or a trait without what stands in angle brackets."""
+    """A head of an impl or a trait without what is in angle brackets."""
     while True:
         shorter = re.sub(r"<[^<>]*>", "", text)
         if shorter == text:

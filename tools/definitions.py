@@ -1,7 +1,7 @@
 #!/usr/bin/env python3
 """Lists the files of definitions on which the contract of `flumina` and its laws rest: what their reader has to read and believe.
 
-Usage: tools/definitions.py                 prints the tables of docs/TRUST.md, and fails where they differ from what stands there
+Usage: tools/definitions.py                 prints the tables of docs/TRUST.md, and fails if they differ from those in it
        tools/definitions.py --write         writes them there
        tools/definitions.py --files [LAW]   a line for each file of the contract, or of a law, by its statement's name
 
@@ -42,7 +42,7 @@ def words_in(text):
 
 
 def clauses():
-    """The words of the clauses of `flumina`: what stands between its head and its body."""
+    """The words of the clauses of `flumina`: what is between its head and its body."""
     text = CALL.read_text()
     start = text.index("pub fn flumina")
     return words_in(re.sub(r"//.*", "", text[text.index("    ensures", start) : text.index("\n{\n", start)]))

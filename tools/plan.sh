@@ -30,7 +30,7 @@ function keep(text,    colon, arrow, names, head) {
 
 function fail(why) { print "plan.sh: " why > "/dev/stderr"; failed = 1 }
 
-# A node behind the lines that lead to it, and then all that is below it.
+# A node after the lines that lead to it, and then all that is below it.
 function draw(name, lead, branch, below,    shown) {
     if (drawn[name]++) { fail("twice in the tree: " name); return }
     shown = name ":"

@@ -4,7 +4,7 @@
     tests/system/demo_sources.py N SEED FOLDER
 
 The rows are those of the demo's streams (`demo_lists` in crates/flu_gen/specs/DemoStreams.antt): at each time from 1 to N an
-event that the seed draws, a tick at each thousandth time and one behind the last.
+event that the seed draws, a tick at each thousandth time and one after the last.
 """
 import os
 import sys

@@ -1,10 +1,10 @@
 #!/usr/bin/env python3
-"""The file beside a checkpoint is the process's own: what stands under its name, and is not one that such a process left, is not touched.
+"""The file beside a checkpoint is the process's own: what has its name, and is not one that such a process left, is not touched.
 
     tests/system/file_beside.py PROGRAM
 
 Under that name there is a link to a file, another name of one, a pipe, or a source; and a file that a process of the same number left,
-which is taken away. The mode and the owner of a checkpoint stay, and so does a link to one."""
+which is removed. The mode and the owner of a checkpoint are kept, and so is a link to one."""
 
 import os
 import stat

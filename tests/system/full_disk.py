@@ -1,10 +1,10 @@
 #!/usr/bin/env python3
-"""Where no new checkpoint can be written, the one that is there stays.
+"""If no new checkpoint can be written, the old one stays.
 
     tests/system/full_disk.py PROGRAM
 
 The file beside can't be made, since the name is too long, the folder may not be written, or there is no room for another file; or it has no
-room for its bytes. Each is status 12. What is no plain file is still written where it is."""
+room for its bytes. Each is status 12. What is not a plain file is still written in place."""
 
 import errno
 import os

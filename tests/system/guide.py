@@ -5,8 +5,8 @@ write with what the pages show.
     tests/system/guide.py PROGRAM
 
 Each page is read block by block, a block being an indented paragraph. The steps below say of each block, in the page's order, what
-it is: a file, a command, or what a command writes. Commands and files that stand within a sentence are looked up there too, so a
-page that changes without its step is a failure. Each page has a fresh folder. It needs bash, mawk or gawk as `awk`, and Miller
+it is: a file, a command, or what a command writes. Commands and files within a sentence are looked up there too, so a page
+that changes without its step is a failure. Each page has a fresh folder. It needs bash, mawk or gawk as `awk`, and Miller
 (`mlr`). It ends with status 1 at the first difference, and else prints how many commands it ran.
 
 Left out, and why:
@@ -47,24 +47,28 @@ class Page:
         self.text = " ".join(text.split())
 
     def block(self, start):
-        """The next block of the page, which begins as told."""
+        """The next block of the page, which begins like this."""
         need(self.blocks, f"{self.name} has a block more, which begins with: {start}")
         found = self.blocks.pop(0)
         need(found.startswith(start), f"the next block of {self.name} begins with: {start}\n{found}")
         return found
 
+    def goes_on(self, start):
+        """Whether the next block begins like this."""
+        return bool(self.blocks) and self.blocks[0].startswith(start)
+
     def says(self, text):
-        """The text, which stands in a sentence of the page."""
+        """The text, which has to occur in a sentence of the page."""
         need(" ".join(text.split()) in self.text, f"{self.name} says: {text}")
         return text
 
     def code(self, text):
-        """The command or file, which stands between backticks in a sentence of the page."""
+        """The command or file, which has to occur between backticks in a sentence of the page."""
         self.says(f"`{text}`")
         return text
 
     def end(self):
-        need(not self.blocks, f"{self.name} ends here, and goes on with\n{''.join(self.blocks[:1])}")
+        need(not self.blocks, f"{self.name} should end here, but continues with\n{''.join(self.blocks[:1])}")
 
 
 class Folder:
@@ -242,10 +246,10 @@ def steps_and_counts(page, folder):
 
 def go_on(page, folder):
     report = folder.read("report.csv")
-    folder.quiet(page.block("flumina run rides.job --save rides.save >"))
-    same(folder.read("report.csv"), report, "the report of the run that saves")
-    folder.quiet(page.block("flumina run rides.job --save rides.save --resume"))
-    same(folder.read("report.csv"), report, "nothing is written after a run that was finished")
+    while page.goes_on("flumina run rides.job --save rides.save"):
+        command = page.block("flumina run")
+        folder.quiet(command)
+        same(folder.read("report.csv"), report, f"the report of a run that saves, to which one that is resumed adds nothing: {command}")
     folder.write("report.csv", report + "1772")
     folder.quiet(page.block("test -z"))
     same(folder.read("report.csv"), report, "the report without its truncated last line")

@@ -5,9 +5,9 @@ At the top of the repository, where `rt ci` or `rt run` has built the program:
 
     tests/system/hostile.py [--program FILE] [--seed N] [--texts N] [--runs N] [--blanks N]
 
-Each row of the table is one kind of use with how often it was tried; the script ends with status 1 where an answer was none
-of those that docs/LANGUAGE.md gives: a signal, a status beyond 0 to 9 and 13, more than one line on standard error, bytes on
-standard output that are not whole lines of the report, another report than that of `fold`, or more time than is allowed.
+Each row of the table is one kind of use with how often it was tried; the script ends with status 1 if an answer was none
+of those in docs/LANGUAGE.md: a signal, a status beyond 0 to 9 and 13, more than one line on standard error, bytes on
+standard output that are not whole lines of the report, another report than that of `fold`, or a run that takes too long.
 """
 import argparse
 import os
@@ -219,7 +219,7 @@ def names(table, rng):
                 it.write(body.encode())
         os.replace(os.path.join(inner, "a.csv"), os.path.join(inner.encode(), text))
         case.at = inner
-        # a line feed is no character of a text, so such a name is refused where it stands
+        # a line feed may not occur in a text, so such a name is refused at its place
         table.row(f"a source's file named {name!r}", [run(case, "fold", "job")], {3} if "\n" in name else {0})
         with open(os.path.join(inner.encode(), text), "wb") as it:
             it.write(COUNTS.encode())

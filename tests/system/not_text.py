@@ -1,5 +1,5 @@
 #!/usr/bin/env python3
-"""A word that is no UTF-8 text is no word of a command: status 2, with the line that names its place, or an earlier word that does not fit.
+"""A word that is not UTF-8 text fits no command: status 2, with the line that names its place, or an earlier word that does not fit.
 
     tests/system/not_text.py PROGRAM"""
 

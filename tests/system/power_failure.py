@@ -1,12 +1,12 @@
 #!/usr/bin/env python3
-"""A checkpoint is on its device only behind the report up to its border: whatever a power failure leaves of both, the run goes on from it to
+"""A checkpoint is on its device only after the report up to its border: whatever a power failure leaves of both, the run can be resumed to
 the whole report.
 
     tests/system/power_failure.py PROGRAM
 
-The calls that reach the system are written down, and their order is looked at: each new checkpoint is flushed before it takes its name, and
-so is standard output, where it is a plain file, behind all that was written to it; the folder is flushed behind that. Then each of the
-three flushes fails once, which is status 12."""
+The system calls are recorded, and their order is checked: each new checkpoint is flushed before it gets its name, and so is standard
+output, if it is a plain file, after all that was written to it; the folder is flushed after that. Then each of the three flushes fails
+once, which is status 12."""
 
 import errno
 import os
@@ -32,7 +32,7 @@ puts = 0
 for call, first, second in watch.calls():
     if call == "write":
         unflushed.add(first)
-        need(not (renamed and first == "out"), "the folder is flushed before the report goes on")
+        need(not (renamed and first == "out"), "the folder is flushed before the report continues")
     elif call == "fsync":
         unflushed.discard(first)
         renamed = renamed and first != folder.at
@@ -42,8 +42,8 @@ for call, first, second in watch.calls():
         need(second == "save", "it takes the name that was asked for")
         renamed = True
         puts += 1
-need(puts == 3, "a checkpoint behind each of three rounds")
-need(not renamed, "the folder is flushed behind the last checkpoint")
+need(puts == 3, "a checkpoint after each of three rounds")
+need(not renamed, "the folder is flushed after the last checkpoint")
 
 folder = Folder()
 whole = folder.call("fold", "job")[1]

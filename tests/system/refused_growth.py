@@ -145,7 +145,7 @@ def stored():
         "the source that reads declared first": counted("3,inc,1\nend\n", END, "3,read\nend\n", COUNTS_READ_FIRST),
         "two rows of one time": counted("1,inc,5\n1,inc,6\nend\n", END, "3,read\nend\n"),
         "a source that is not closed": counted(b="2,inc,7\n"),
-        "a row behind the end": counted(c="3,read\nend\n4,read\n"),
+        "a row after the end": counted(c="3,read\nend\n4,read\n"),
         "a sum of more than 64 bits": counted("1,inc,9223372036854775807\n2,inc,9223372036854775807\nend\n", END, "3,read\nend\n"),
         "reads that do not depend on each other": counted(job=COUNTS.replace("depends read read\n", "")),
         "reads that do not depend on what is added": counted(job=COUNTS.replace("depends inc read\n", "")),

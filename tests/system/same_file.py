@@ -1,10 +1,10 @@
 #!/usr/bin/env python3
-"""No file that a run reads or writes is put over by a checkpoint under another name of it.
+"""A checkpoint never replaces a file that the run reads or writes under another name of it.
 
     tests/system/same_file.py PROGRAM
 
 FILE is a source, the job or the plan by another path, by a link, or by another name of the same file; or the file of standard output. Each
-is status 12, and the file stays. The checkpoint that a run goes on from may be put over by another name."""
+is status 12, and the file stays. The checkpoint that a run is resumed from may be replaced under another name."""
 
 import os
 

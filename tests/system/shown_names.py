@@ -1,5 +1,5 @@
 #!/usr/bin/env python3
-"""A hint sends no character to a terminal that steers it, whatever a file is called, and tells why a checkpoint was not put.
+"""A hint sends no control characters to a terminal, whatever a file is called, and says why a checkpoint was not saved.
 
     tests/system/shown_names.py PROGRAM
 

@@ -1,9 +1,9 @@
 #!/usr/bin/env python3
-"""The limit of a file's length ends no call: where a file may not grow, the status is that of a failed write or of a failed put.
+"""The limit on a file's length ends no call: if a file may not grow, the status is that of a failed write or of a failed save.
 
     tests/system/size_limit.py PROGRAM
 
-The limit is that of the report, written to a new file and behind what one has; of the checkpoint; and of the line on standard error."""
+The limit applies to the report, written to a new file or appended to one; to the checkpoint; and to the line on standard error."""
 
 import resource
 
@@ -27,7 +27,7 @@ for words in (("fold", "job"), ("run", "job"), ("run", "job", "--save", "save"))
     folder.write("report", "x" * 50)
     with open(folder.path("report"), "ab") as out:
         status = folder.call(*words, out=out, **limited(50))[0]
-    need(status == 8, f"status 8 behind 50 bytes, not {status}")
+    need(status == 8, f"status 8 after 50 bytes, not {status}")
     with open(folder.path("report"), "ab") as out:
         status = folder.call(*words, out=out, **limited(50 + len(whole)))[0]
     need(status == 0 and folder.read("report") == b"x" * 50 + whole, f"status 0 where there is just the room, not {status}")

@@ -1,14 +1,14 @@
 #!/usr/bin/env python3
-"""Stops a run of 100,000 rows behind each of its rounds in turn, and at random moments from outside, and resumes it from its
-checkpoint: what is written before and after is together the report of the whole.
+"""Stops a run of 100,000 rows after each of its rounds in turn, and at random moments from outside, and resumes it from its
+checkpoint: what is written before and after together is the whole report.
 
     tests/system/stop_and_resume.py PROGRAM [KILLS]
 
-A run is stopped behind a round by sources that have one row more than the rounds up to it need, and no `end`: its status is 6, and
-what it wrote and saved is that of these rounds. It is stopped from outside by SIGKILL, KILLS times (20 where none are asked for),
-after a time that is drawn; then the commands of docs/GUIDE.md, "Stopping and going on", are run as they stand there: those that
-throw away what the report has behind the checkpoint's border, and the one that goes on. It ends with status 1 at the first answer
-that is not as it should be, and else prints how often it stopped and resumed."""
+A run is stopped after a round by sources that have one row more than the rounds up to it need, and no `end`: its status is 6, and
+it wrote and saved these rounds. It is stopped from outside by SIGKILL, KILLS times (20 if not given), after a random time; then the
+commands of docs/GUIDE.md, "Stopping and going on", are run exactly as written: those that discard what the report has after the
+checkpoint's border, and the one that resumes the run. It ends with status 1 at the first wrong answer, and else prints how often it
+stopped and resumed."""
 
 import json
 import os
@@ -49,7 +49,7 @@ def rows(draw):
 
 
 def write(folder, made, count=None):
-    """Writes the sources; those of the views have only so many rows and no `end`, where a count is given."""
+    """Writes the sources; if a count is given, those of the views have only this many rows and no `end`."""
     for name, lines in made.items():
         cut = count is not None and name != "t.csv"
         text = lines[:count] if cut else [*lines, "end"]
@@ -73,7 +73,7 @@ def need(holds, what):
 
 
 def told():
-    """What docs/GUIDE.md tells to do: the commands that cut the report, and the one that goes on."""
+    """The commands of docs/GUIDE.md: those that cut the report, and the one that resumes the run."""
     with open(os.path.join(os.path.dirname(os.path.abspath(__file__)), "..", "..", "docs", "GUIDE.md")) as it:
         page = re.search(r"^## Stopping and going on$(.*?)^## ", it.read(), re.M | re.S)[1]
     blocks = [block.replace("\n    ", "\n").strip() for block in re.findall(r"\n\n((?:    .*\n)+)", page)]
@@ -92,7 +92,7 @@ def behind_each_round(program, folder, made, whole):
         write(folder, made)
         options = ["--resume", "rides.save"] if os.path.exists(f"{folder}/rides.save") else []
         status, second, line = run(program, folder, "--save", "rides.save", *options)
-        need(status == 0, f"status {status} of the run that goes on behind {count} rows: {line}")
+        need(status == 0, f"status {status} of the run that is resumed after {count} rows: {line}")
         need(first + second == whole, f"the reports before and after {count} rows are not the whole")
         need(border_of(folder) == 2**63 - 1, "the border of the last checkpoint")
         os.remove(f"{folder}/rides.save")
@@ -119,7 +119,7 @@ def killed(program, folder, made, whole, times, draw):
             stopped += child.wait() != 0
         if os.path.exists(f"{folder}/rides.save"):
             done = subprocess.run(["sh", "-c", f"{cut}\n{on}"], cwd=folder, env=path, capture_output=True)
-            need(done.returncode == 0, f"status {done.returncode} of the run that goes on behind a kill: {done.stderr}")
+            need(done.returncode == 0, f"status {done.returncode} of the run that is resumed after a kill: {done.stderr}")
             with open(f"{folder}/report.csv", "rb") as it:
                 need(it.read() == whole, "the reports before and after a kill are not the whole")
             resumed += 1
@@ -139,7 +139,7 @@ def main():
         need(status == 0 and whole, f"status {status} of the whole run: {line}")
         rounds = behind_each_round(program, folder, made, whole)
         kills, resumed = killed(program, folder, made, whole, times, draw)
-        print(f"{len(whole)} bytes of report; stopped behind {rounds} rounds, and resumed each time")
+        print(f"{len(whole)} bytes of report; stopped after {rounds} rounds, and resumed each time")
         print(f"stopped {kills} of {times} times from outside, and {resumed} times resumed from a checkpoint")
 
 

@@ -146,7 +146,7 @@ def need(holds, what):
 
 
 class Folder:
-    """A folder with the job and its sources: so many views, and a tick after so many of them. A round has 4,096 of them."""
+    """A folder with the job and its sources: this many views, and a tick after every few of them. A round has 4,096 of them."""
 
     def __init__(self, rows=300, every=10):
         self.room = tempfile.TemporaryDirectory(prefix="flumina-system-")

@@ -3,11 +3,11 @@
 
 Usage: tests/system/thousand_runs.py PROGRAM [--times N] [--at-once K] [--seed S] [--keep FOLDER]
 
-PROGRAM is the built program. N jobs are made (1000 where no number is given), K of them are run side by side (8), so that threads get
-on at different moments, and the seed S (1) settles all that is made. Each job is made acceptable by the `depends` that `check` asks for.
+PROGRAM is the built program. N jobs are made (1000 if no number is given), K of them are run side by side (8), so that threads
+are scheduled differently, and the seed S (1) determines all that is made. Each job is made acceptable by the `depends` that `check` asks for.
 It is run by `fold`, by `run` with the program's own plan, with a plan of `plan --depth D` and with one that is made here, and by
-`simulate` with the last two and a random seed, where the program has that command. A job whose runs differ is kept in FOLDER
-(`thousand_runs` where none is named). The last line is a row for a table; the status is 1 where any run differed.
+`simulate` with the last two and a random seed, if the program has that command. A job whose runs differ is kept in FOLDER
+(`thousand_runs` if none is named). The last line is a row for a table; the status is 1 if any run differed.
 """
 import argparse
 import concurrent.futures

@@ -1,5 +1,5 @@
 #!/usr/bin/env python3
-"""A call waits for a standard output that does not block and is full, and goes on where a signal interrupts a read or a write.
+"""A call waits for a standard output that does not block and is full, and continues if a signal interrupts a read or a write.
 
     tests/system/waiting.py PROGRAM"""
 

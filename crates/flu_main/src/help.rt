@@ -7,32 +7,32 @@ pub const WRITE_FAULT: u8 = 8;
 
 /// The answer to `--help`.
 pub const HELP: &str =
-    "Flumina runs a job over streams of timestamped events, and gives exactly the report of a sequential run.
+    "Flumina runs a job over streams of timestamped events and writes exactly the report of a sequential run.
 
   flumina fold JOB               read the job and its sources, write the report
-  flumina check JOB              say whether the job's work may be shared, write the job in normal form
-  flumina valid JOB PLAN         say whether a plan shares that work rightly, write the plan in normal form
-  flumina plan JOB [--depth D]   write a plan, with at most D levels below its root: 0 to 6, or 3
+  flumina check JOB              test whether the job may run in parallel, write it in normal form
+  flumina valid JOB PLAN         test whether a plan is valid for the job, write the plan in normal form
+  flumina plan JOB [--depth D]   write a plan with at most D levels below its root: 0 to 6, default 3
   flumina run JOB [PLAN]         run the job on a thread for each node of the plan, or of a made one, write the report
   flumina run JOB [PLAN] --adapt the same, but let the plan follow the counts of events, and say the last one on standard error
   flumina run JOB [PLAN] [--adapt] [--save FILE] [--resume FILE]
                                  the same, but put a checkpoint under FILE after each round, or go on from the one in FILE
-  flumina simulate JOB PLAN SEED run the job by the steps that a seed draws, write the report, then count the steps
+  flumina simulate JOB PLAN SEED run the job by a schedule that a seed draws, write the report, then the counts of steps
   flumina simulate JOB PLAN SEED --trace
-                                 the same, but write the trace of the run, its steps line by line, for the report
+                                 the same, but write the trace of the run, one step per line, instead of the report
   flumina replay JOB PLAN TRACE  run the job by the steps of a trace, write the report
-  flumina demo N SEED            run a job of page views over N events that a seed draws, write one line that sums up
-  flumina --help                 write this
+  flumina demo N SEED            run a job of page views over N events that a seed draws, write a one-line summary
+  flumina --help                 write this text
   flumina --version              write the version and the toolchain that proves it
 
-JOB, PLAN, TRACE and FILE are names of files, SEED is a number from 0 to 2147483647, and N one from 0 to 1000000. Names in a job,
-as that of a file, are looked up in the working folder.
+JOB, PLAN, TRACE and FILE are file names, SEED is a number from 0 to 2147483647, and N one from 0 to 1000000. File names, also
+those in a job, are looked up in the working directory.
 
-Status 0: written. Each other one has a line on standard error: 2 the words are no command, 3 the job's text has a
+Status 0: written. Any other status comes with a line on standard error: 2 the words are not a command, 3 the job's text has a
 fault, 4 tags conflict that are not declared dependent, 5 the plan has a fault or is not valid, 6 a source has a
-defect, 7 a file is missing or failed, 8 standard output failed, 9 memory was wanting, 11 a checkpoint has a fault, or its
-name is that of a source's file, 12 a checkpoint could not be written, 13 a trace has a bad line, one whose step can't be
-made there, or too few lines.
+defect, 7 a file is missing or failed, 8 standard output failed, 9 out of memory, 11 a checkpoint has a fault, or has the name
+of a source's file, 12 a checkpoint could not be written, 13 a trace has a bad line, a step that is not enabled there,
+or too few lines.
 
 docs/LANGUAGE.md describes jobs, rows and lines, docs/TREE.md plans, docs/GUIDE.md the way from a log to a report.
 ";
