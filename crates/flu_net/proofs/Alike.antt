@@ -1,10 +1,10 @@
 -- Nets that the same steps came to are alike.
-use Rattle.std.proofs.Common.{◌≡◌, ◌⊎◌, ◌<◌, ◌≤◌, ◌+◌, ℕ, zero, suc, Bool, true, false, cond, Option, Some, None, List, [], ◌∷◌, length, map, set}
+use Rattle.std.proofs.Common.{◌≡◌, ◌⊎◌, ◌<◌, ◌≤◌, ◌+◌, ℕ, zero, suc, Bool, true, cond, Option, Some, None, List, [], ◌∷◌, length, map, set}
 use Rattle.std.proofs.Common.{inl, inr, refl, sym, ap, subst, ◌∙◌, arith}
 use Rattle.std.specs.Prelude.{◌&&◌, ◌||◌, ◌==◌, filter, nat_lt, is_none, is_some, not, slice_get, slice_index, slice_index_or}
 use Rattle.std.specs.List.{list_all, range_with_len}
 use Rattle.std.proofs.lemmas.Bool.{cases_Bool, cases_eq, cases_lt, or_cases}
-use Rattle.std.proofs.lemmas.List.{get_or_past, length-map, length-set}
+use Rattle.std.proofs.lemmas.List.{length-map, length-set}
 use Rattle.std.proofs.lemmas.Option.{slice_get_within, same_Some}
 use Rattle.flu_lemmas.proofs.Places.{slice_get-there}
 use Rattle.flu_lemmas.proofs.Replaced.{slice_get-set_other}
@@ -23,7 +23,6 @@ use Rattle.flu_fork.specs.Lots.{job, nodes, kids, setting_of}
 use Rattle.flu_fork.specs.Settings.{events_at}
 use Rattle.flu_fork.specs.Serving.{LotCounts}
 use Rattle.flu_worker.specs.declared.hand.Hand.{Hand}
-use Rattle.flu_worker.specs.declared.hand.Hand.TheVariants.{Whole}
 use Rattle.flu_worker.specs.declared.hand.Side.{Side}
 use Rattle.flu_worker.specs.declared.hand.Side.TheVariants.{Left, Right}
 use Rattle.flu_worker.specs.Calls.{start_hand}
@@ -36,12 +35,10 @@ use Rattle.flu_net.specs.declared.edges.Edge.TheVariants.{Home, Lent, Held, Aske
 use Rattle.flu_net.specs.declared.steps.Step.{Step}
 use Rattle.flu_net.specs.declared.steps.Step.TheVariants.{Arrive, Handle, Ask as AskStep, Take, Give, Hold, Lend}
 use Rattle.flu_net.specs.Alike.{View, view_in, AgreeAbove, AreAlikeAt, AreAlikeOver, AreAlike, StartsAreAlike, AlikeAreEnabled, AlikeAreFinal, StepsKeepAlike}
-use Rattle.flu_net.specs.Effects.{IsStepOf, Handles, Asks, Takes, Gives, Holds, Lends, Makes, arrived, seeing}
+use Rattle.flu_net.specs.Effects.{IsStepOf, Handles, Asks, Takes, Gives, Holds, Lends, arrived, seeing}
 use Rattle.flu_net.specs.Enabled.{by_step, gives_for, if_there, is_enabled, is_given, is_held, is_lent}
-use Rattle.flu_net.specs.Final.{IsFinal}
 use Rattle.flu_net.specs.LawsBelow.{LawsBelow}
 use Rattle.flu_net.specs.Notes.{NetNote, asked_of, asked_over, edge_at, edge_below, kid_of, side_of}
-use Rattle.flu_net.specs.Starting.{IsStart}
 use Rattle.flu_net.proofs.Arriving.{mapped_from}
 use Rattle.flu_net.proofs.Lists.{set_is}
 use Rattle.flu_net.proofs.Readying.{kid_pair}

@@ -9,10 +9,13 @@ use Rattle.flu_model.specs.declared.events.Item.{Item}
 use Rattle.flu_model.specs.declared.events.Itag.{Itag}
 use Rattle.flu_model.specs.Listed.{listed}
 use Rattle.flu_fork.specs.declared.content.Content.{Content}
+use Rattle.flu_fork.specs.declared.lots.Ask.{Ask}
+use Rattle.flu_fork.specs.Serving.{LotCounts, counts_of}
 use Rattle.flu_worker.specs.declared.hand.Side.{Side}
 use Rattle.flu_worker.specs.declared.hand.Side.TheVariants.{Left, Right}
 use Rattle.flu_worker.specs.Hands.{at_side}
 use Rattle.flu_worker.specs.Notes.{WorkerNote}
+use Rattle.flu_worker.specs.Ties.{IsLoan, IsRecalled}
 use Rattle.flu_net.specs.declared.edges.Edge.{Edge}
 use Rattle.flu_net.specs.declared.edges.Edge.TheVariants.{Home, Lent, Held, Asked, Given}
 use Rattle.flu_net.specs.Effects.{seeing, arrived}
@@ -33,17 +36,21 @@ hangs_seen i count n Held h = h
 hangs_seen i count n (Asked y) h = record { opened = h.opened; above = h.above; next = h.next }
 hangs_seen i count n (Given lot) h = record { shut = h.shut; fits = h.fits; given = h.given }
 
+loan_seen : (i count : ℕ) (s : Side) (n : WorkerNote) (lent : LotCounts) (given : List ℕ) → IsLoan s n lent given → IsLoan s (seeing i count n) lent given
+loan_seen i count Left n lent given t = record { lent = t.lent; given = t.given }
+loan_seen i count Right n lent given t = record { lent = t.lent; given = t.given }
+
+recalled_seen : (i count : ℕ) (s : Side) (n : WorkerNote) (y : Ask) → IsRecalled s n y → IsRecalled s (seeing i count n) y
+recalled_seen i count s n y t = record { take = t.take; kept = t.kept }
+
 lets_seen : (i count : ℕ) (s : Side) (n : WorkerNote) (e : Edge) (c : WorkerNote) → Lets s n e c → Lets s (seeing i count n) e (seeing i count c)
 lets_seen i count Left n Home c t = record { home = t.home; given = t.given }
 lets_seen i count Right n Home c t = record { home = t.home; given = t.given }
-lets_seen i count Left n (Lent lot) c t = record { out = t.out; lent = t.lent; given = t.given }
-lets_seen i count Right n (Lent lot) c t = record { out = t.out; lent = t.lent; given = t.given }
-lets_seen i count Left n Held c t = record { out = t.out; held = t.held; given = t.given }
-lets_seen i count Right n Held c t = record { out = t.out; held = t.held; given = t.given }
-lets_seen i count Left n (Asked y) c t = record { take = t.take; held = t.held; given = t.given; kept = t.kept }
-lets_seen i count Right n (Asked y) c t = record { take = t.take; held = t.held; given = t.given; kept = t.kept }
-lets_seen i count Left n (Given lot) c t = record { take = t.take; target = t.target; kept = t.kept; served = t.served }
-lets_seen i count Right n (Given lot) c t = record { take = t.take; target = t.target; kept = t.kept; served = t.served }
+lets_seen i count s n (Lent lot) c t = record { out = t.out; loan = loan_seen i count s n (counts_of lot) c.given t.loan }
+lets_seen i count s n Held c t = record { out = t.out; loan = loan_seen i count s n c.held c.given t.loan }
+lets_seen i count s n (Asked y) c t = record { recalled = recalled_seen i count s n y t.recalled; loan = loan_seen i count s n c.held c.given t.loan }
+lets_seen i count Left n (Given lot) c t = record { target = t.target; recalled = recalled_seen i count Left n t.target t.recalled; served = t.served }
+lets_seen i count Right n (Given lot) c t = record { target = t.target; recalled = recalled_seen i count Right n t.target t.recalled; served = t.served }
 
 module _ (old : NetNote) (rule : Rule old) (i : Itag) (may : may_arrive old i ≡ true) where
   abbrev items : List Item

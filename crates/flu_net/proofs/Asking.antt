@@ -36,13 +36,13 @@ module _ (laws : LawsBelow) (n : NetNote) (rule : Rule n) (keep : AllKeep n.work
       rule.ties.lets p.side p.up p.left p.right (placed_at n.case p.up u.0) (placed_at n.case (at_side p.side p.left p.right) c)
       (Asked y) p.are u.1 edge_here here in
       let hung = rule.ties.hangs w (placed_at n.case w c) (Asked y) some at edge in
-      let target = (keep p.up (placed_at n.case p.up u.0) u.1).target y asks.kept in
+      let target = (keep p.up (placed_at n.case p.up u.0) u.1).target y asks.recalled.kept in
       let inner : is_some (kids n.case p.up) ≡ true = ap is_some p.are in
       let known : j < count_of_itags (job n.case) = laws.known (setting_of n.case) j l z (laws.settings n.case) there in
       let place = from_child laws n rule p.side p.up p.left p.right j p.are known (ap (λ v. above (job n.case) (nodes n.case) v j) (sym p.is) ∙ over) in
       let same =
       child_counts laws n rule keep p.side p.up p.left p.right u.0 c p.are u.1 here
-      (laws.take_turns p.side u.0.hand asks.take).out hung.opened asks.held j known place in
+      (laws.take_turns p.side u.0.hand asks.recalled.take).out hung.opened asks.loan.lent j known place in
       let le_up : slice_index u.0.counts j ≤ l = omega arith in
       ap (is_before z) (same_Some x target.event (sym is ∙ target.is)) ∙
       (elim place as (λ _. is_before z target.event ≡ false) [
@@ -51,7 +51,7 @@ module _ (laws : LawsBelow) (n : NetNote) (rule : Rule n) (keep : AllKeep n.work
           | inl mine ↦ target.first_above inner mine j l z higher le_up there
           | inr further ↦
               let e = edge_there laws n rule p.up p.there in
-              let asked = (rule.stands p.up (placed_at n.case p.up u.0) e.0 u.1 e.1).asked y asks.kept further in
+              let asked = (rule.stands p.up (placed_at n.case p.up u.0) e.0 u.1 e.1).asked y asks.recalled.kept further in
               first_above fuel p.up (let earlier = p.earlier in omega arith) u.0 u.1 y (e.1 ∙ ap Some asked) target.event target.is j l z higher le_up there
         ]
       ])

@@ -14,6 +14,7 @@ use Rattle.flu_worker.specs.Choosing.{sight, ask_for, first_some, if_own, if_rea
 use Rattle.flu_worker.specs.Hands.{at_side, is_down, is_whole, may_lend, may_take}
 use Rattle.flu_worker.specs.Laws.{HasNoNext}
 use Rattle.flu_worker.specs.Notes.{WorkerNote}
+use Rattle.flu_worker.specs.Ties.{IsAsked}
 use Rattle.flu_net.specs.declared.edges.Edge.{Edge}
 use Rattle.flu_net.specs.declared.edges.Edge.TheVariants.{Home, Lent, Held, Asked, Given}
 use Rattle.flu_net.specs.declared.steps.Step.{Step}
@@ -23,7 +24,7 @@ use Rattle.flu_net.specs.Enabled.{by_step, gives_for, if_there, is_given, is_len
 use Rattle.flu_net.specs.Final.{IsFinal}
 use Rattle.flu_net.specs.LawsBelow.{LawsBelow}
 use Rattle.flu_net.specs.Notes.{NetNote, asked_of, asked_over, edge_at, side_of}
-use Rattle.flu_net.specs.Rule.{IsUnderAsk, Rule}
+use Rattle.flu_net.specs.Rule.{Rule}
 use Rattle.flu_net.proofs.Framing.{under}
 use Rattle.flu_net.proofs.Finals.{all_open, part_out}
 use Rattle.flu_net.proofs.Placed.{placed_at, sound_at, worker_at}
@@ -64,7 +65,7 @@ module _ (laws : LawsBelow) (n : NetNote) (rule : Rule n) (keep : AllKeep n.work
 
     not_asked : (y : Ask) → slice_get n.edges w ≡ Some (Asked y) → ⊥
     not_asked y edge =
-        let hung : IsUnderAsk v y = hangs_now laws n.case n.seen n.workers n.edges rule.ties w v v at (Asked y) edge (λ e. cc) in
+        let hung : IsAsked v y = hangs_now laws n.case n.seen n.workers n.edges rule.ties w v v at (Asked y) edge (λ e. cc) in
         let held = (keep w v at).held y.itag.0 hung.opened (sound_at laws n rule w v at) hung.above.known hung.above.above in
         let all = final.above w v at y.itag.0 hung.above.above in
         let less = hung.above.there in
@@ -129,7 +130,7 @@ module _ (laws : LawsBelow) (n : NetNote) (rule : Rule n) (keep : AllKeep n.work
           let u = worker_at laws n rule w (omega arith) in
           let c = worker_at laws n rule (at_side s l r) below.there in
           let over = rule.ties.lets s w l r (placed_at n.case w u.0) (placed_at n.case (at_side s l r) c.0) (Given lot) are u.1 is c.1 in
-          no_target w u.0 u.1 over.target over.kept
+          no_target w u.0 u.1 over.target over.recalled.kept
 
       by_kids : (o : Option (ℕ × ℕ)) → kids n.case w ≡ o → is_given (edge_at n.edges (side_of s o)) ≡ true → ⊥
       by_kids None are f = cc

@@ -66,7 +66,7 @@ module _ (laws : LawsBelow) (n : NetNote) (rule : Rule n) where
   worker_at : (w : ℕ) → w < length (nodes n.case) → (v : WorkerNote) × (slice_get n.workers w ≡ Some v)
   worker_at w lt = let each = rule.ties.workers_each in slice_get-there n.workers w (omega arith)
 
-  kid_has : (s : Side) (w l r : ℕ) (v c : WorkerNote) → kids n.case w ≡ Some (l, r) → slice_get n.workers w ≡ Some v
+  pub kid_has : (s : Side) (w l r : ℕ) (v c : WorkerNote) → kids n.case w ≡ Some (l, r) → slice_get n.workers w ≡ Some v
       → slice_get n.workers (at_side s l r) ≡ Some c → is_open c.hand ≡ true → HasPart s v c
   kid_has s w l r v c are at_v at_c opened =
       let later = (under laws n.case s w l r are).earlier in
@@ -78,8 +78,8 @@ module _ (laws : LawsBelow) (n : NetNote) (rule : Rule n) where
       over : (e : Edge) → Hangs c e → Lets s v e c → HasPart s v c
       over Home h t = absurd (not_both _ opened h)
       over (Lent lot) h t = absurd (not_both _ opened h.shut)
-      over Held h t = record { held = t.held; out = t.out }
-      over (Asked y) h t = record { held = t.held; out = (laws.take_turns s v.hand t.take).out }
+      over Held h t = record { held = t.loan.lent; out = t.out }
+      over (Asked y) h t = record { held = t.loan.lent; out = (laws.take_turns s v.hand t.recalled.take).out }
       over (Given lot) h t = absurd (not_both _ opened h.shut)
 
   pub is_over : SeesAllItems n.case n.seen → AreOver n.workers → IsFinal n

@@ -21,12 +21,13 @@ use Rattle.flu_worker.specs.Hands.{at_side, is_down, is_lost, is_open, is_whole,
 use Rattle.flu_worker.specs.Keeping.{KeepsIn}
 use Rattle.flu_worker.specs.Laws.{AllSeen, HasReady}
 use Rattle.flu_worker.specs.Notes.{WorkerNote, own_of, above_of}
+use Rattle.flu_worker.specs.Ties.{IsAsked}
 use Rattle.flu_net.specs.declared.edges.Edge.{Edge}
 use Rattle.flu_net.specs.declared.edges.Edge.TheVariants.{Home, Lent, Held, Asked, Given}
 use Rattle.flu_net.specs.Blocking.{AllKeep, IsQuiet}
 use Rattle.flu_net.specs.LawsBelow.{LawsBelow}
 use Rattle.flu_net.specs.Notes.{NetNote, asked_of, asked_over}
-use Rattle.flu_net.specs.Rule.{IsUnderAsk, Rule}
+use Rattle.flu_net.specs.Rule.{Rule}
 use Rattle.flu_net.proofs.Asking.{first_above}
 use Rattle.flu_net.proofs.Framing.{under}
 use Rattle.flu_net.proofs.Placed.{placed_at, all_seen, edge_there, in_tree, no_ask, no_give, no_handle, no_hold, no_lend, no_take, sound_at, worker_at}
@@ -157,7 +158,7 @@ module _ (laws : LawsBelow) (n : NetNote) (rule : Rule n) (keep : AllKeep n.work
     abbrev v : WorkerNote
     v = placed_at n.case w u
 
-    hung : IsUnderAsk v y
+    hung : IsAsked v y
     hung = hangs_now laws n.case n.seen n.workers n.edges rule.ties w v v at (Asked y) edge (λ e. cc)
 
     choice : HasReady (sight v) ⊎ (serves (sight v) (event_of n.case y) ≡ true)

@@ -11,11 +11,10 @@ use Rattle.flu_model.specs.Itags.{count_of_itags}
 use Rattle.flu_fork.specs.declared.content.Content.{Content}
 use Rattle.flu_fork.specs.declared.lots.Ask.{Ask}
 use Rattle.flu_fork.specs.Classes.{own, below}
-use Rattle.flu_fork.specs.Lots.{job, nodes, kids, setting_of, LotFits}
-use Rattle.flu_fork.specs.Serving.{Served}
+use Rattle.flu_fork.specs.Lots.{job, nodes, kids, setting_of}
 use Rattle.flu_fork.specs.Texts.{HasTexts}
 use Rattle.flu_worker.specs.declared.hand.Side.{Side}
-use Rattle.flu_worker.specs.Calls.{CountsEvent, IsAskable, IsFitPart, KeepsTarget}
+use Rattle.flu_worker.specs.Calls.{CountsEvent, IsAskable, KeepsTarget}
 use Rattle.flu_worker.specs.Hands.{at_side, may_lend, may_take}
 use Rattle.flu_worker.specs.Notes.{WorkerNote, own_of}
 use Rattle.flu_net.specs.declared.edges.Edge.{Edge}

@@ -4,7 +4,7 @@ use Rattle.std.specs.Prelude.{◌-◌, is_some, not, slice_get, slice_index, opt
 use Rattle.std.proofs.Math.Nat.{mul-add, mul-one}
 use Rattle.std.proofs.lemmas.List.{get_or-set_same, get_or-set_other}
 use Rattle.std.proofs.lemmas.Option.{slice_get_within, slice_get-map}
-use Rattle.flu_lemmas.proofs.Tests.{and_left, and_right, not_true}
+use Rattle.flu_lemmas.proofs.Tests.{and_left, and_right}
 use Rattle.flu_model.specs.declared.events.Itag.{Itag}
 use Rattle.flu_model.specs.Itags.{count_of_itags}
 use Rattle.flu_deps.specs.Validated.{owner_in}

@@ -24,3 +24,6 @@ pub mod Bringing
 pub mod Made
 pub mod Reached
 pub mod Alike
+pub mod Owning
+pub mod Prefixes
+pub mod Pairing

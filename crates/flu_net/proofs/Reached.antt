@@ -1,6 +1,6 @@
 -- Any list of steps keeps the rule of the net, and each worker's own.
-use Rattle.std.proofs.Common.{◌≡◌, ◌⊎◌, ◌<◌, ℕ, Bool, true, false, Some, List, [], ◌∷◌, length, map, set, inl, inr, refl, sym, ap, subst, ◌∙◌, arith}
-use Rattle.std.specs.Prelude.{◌&&◌, is_some, not, slice_get, slice_index}
+use Rattle.std.proofs.Common.{◌≡◌, ℕ, true, false, Some, List, [], ◌∷◌, set, inl, inr, sym, ap, subst, ◌∙◌, arith}
+use Rattle.std.specs.Prelude.{◌&&◌, is_some, not, slice_get}
 use Rattle.std.specs.List.Sorted.{IsPermutation}
 use Rattle.std.proofs.lemmas.Bool.{cases_eq}
 use Rattle.std.proofs.lemmas.Option.{slice_get_within}
@@ -13,17 +13,10 @@ use Rattle.flu_cells.specs.Holding.{held}
 use Rattle.flu_fork.specs.declared.content.Content.{Content}
 use Rattle.flu_fork.specs.declared.lots.Lot.{Lot}
 use Rattle.flu_fork.specs.Lots.{job, LotFits}
-use Rattle.flu_worker.specs.declared.hand.Hand.{Hand}
-use Rattle.flu_worker.specs.declared.hand.Hand.TheVariants.{Empty, Whole, Lending, Down, Taking}
-use Rattle.flu_worker.specs.declared.hand.Side.{Side}
-use Rattle.flu_worker.specs.declared.hand.Side.TheVariants.{Left, Right}
-use Rattle.flu_worker.specs.declared.holding.Holding.{Holding}
-use Rattle.flu_worker.specs.declared.holding.Holding.TheVariants.{Empty as NoLot, Whole as WholeLot, LendingBoth, LendingLeft}
-use Rattle.flu_worker.specs.declared.holding.Holding.TheVariants.{LendingRight, Down as BothOut, TakingLeft, TakingRight, Gone}
 use Rattle.flu_worker.specs.Choosing.{target_of}
-use Rattle.flu_worker.specs.Hands.{is_out, may_lend, may_take}
-use Rattle.flu_worker.specs.Keeping.{HasRule, KeepsIn, LotsFit}
-use Rattle.flu_worker.specs.Notes.{WorkerNote, lent_to, own_of, above_of}
+use Rattle.flu_worker.specs.Hands.{may_lend, may_take}
+use Rattle.flu_worker.specs.Keeping.{HasRule}
+use Rattle.flu_worker.specs.Notes.{WorkerNote}
 use Rattle.flu_net.specs.declared.edges.Edge.{Edge}
 use Rattle.flu_net.specs.declared.edges.Edge.TheVariants.{Lent, Given}
 use Rattle.flu_net.specs.declared.steps.Step.{Step}
@@ -64,42 +57,6 @@ made_rule laws s old new rule step = by s (and_right (not old.gone) _ step.enabl
         (there_test (λ (x : WorkerNote). may_lend side x.hand) (slice_get old.workers w) m.step.was m.step.at (and_right _ _ may))
 
 -- ---- each worker's own
-keeps_seen : (i count : ℕ) (v : WorkerNote) (h : Hand) → KeepsIn h v → KeepsIn h (seeing i count v)
-keeps_seen i count v Empty k = k
-keeps_seen i count v Whole k = record { leaf = k.leaf; inner = k.inner }
-keeps_seen i count v (Lending l r) k = record { inner = k.inner; kept = k.kept; some = k.some }
-keeps_seen i count v Down k = k
-keeps_seen i count v (Taking l r) k = λ e. (let t = k e in record { inner = t.inner; kept = t.kept; some = t.some })
-
-lots_seen : (i count : ℕ) (v : WorkerNote) (h : Holding) → LotsFit v h → LotsFit (seeing i count v) h
-lots_seen i count v NoLot f = f
-lots_seen i count v (WholeLot lot) f = f
-lots_seen i count v (LendingBoth a b) f = f
-lots_seen i count v (LendingLeft a) f = f
-lots_seen i count v (LendingRight b) f = f
-lots_seen i count v BothOut f = f
-lots_seen i count v (TakingLeft a) f = f
-lots_seen i count v (TakingRight b) f = f
-lots_seen i count v Gone f = f
-
-rule_seen : (i count : ℕ) (v : WorkerNote) → HasRule v → HasRule (seeing i count v)
-rule_seen i count v h = record {
-  there = h.there;
-  long = h.long;
-  shape = h.shape;
-  lots = lots_seen i count v v.holding h.lots;
-  counted = h.counted;
-  keeps = keeps_seen i count v v.hand h.keeps;
-  held = h.held;
-  lent = by_side;
-  target = h.target;
-}
-  where
-    by_side : (s : Side) (j : ℕ) → is_out s v.hand ≡ true → (own_of v j ≡ true) ⊎ (above_of v j ≡ true)
-        → slice_index v.counts j ≡ slice_index (lent_to s (seeing i count v)).upto j
-    by_side Left = h.lent Left
-    by_side Right = h.lent Right
-
 keep_set : (w : ℕ) (old new : NetNote) → (s : IsStepOf w old new) → AllKeep old.workers → AllKeep new.workers
 keep_set w old new s keep = subst AllKeep (sym s.workers) at_each
   where
@@ -110,15 +67,15 @@ keep_set w old new s keep = subst AllKeep (sym s.workers) at_each
       | inr other ↦ keep j v (sym (slice_get-set_other old.workers w j s.is other) ∙ at)
     ]
 
-pub made_keep : (s : Step) (old new : NetNote) → AllKeep old.workers → Makes s old new → AllKeep new.workers
-made_keep (Arrive i) old new keep m = subst (λ (n : NetNote). AllKeep n.workers) (sym m) (λ w v at.
-    (let from = mapped_from (seeing i.0 _) old.workers w v at in subst HasRule from.2 (rule_seen i.0 _ from.0 (keep w from.0 from.1))))
-made_keep (Handle w) old new keep m = keep_set w old new m.step keep
-made_keep (Ask w side) old new keep m = keep_set w old new m.step keep
-made_keep (Take w side) old new keep m = keep_set w old new m.step keep
-made_keep (Give w) old new keep m = keep_set w old new m.step keep
-made_keep (Hold w) old new keep m = keep_set w old new m.step keep
-made_keep (Lend w side) old new keep m = keep_set w old new m.step keep
+pub made_keep : LawsBelow → (s : Step) (old new : NetNote) → AllKeep old.workers → Makes s old new → AllKeep new.workers
+made_keep laws (Arrive i) old new keep m = subst (λ (n : NetNote). AllKeep n.workers) (sym m) (λ w v at.
+    (let from = mapped_from (seeing i.0 _) old.workers w v at in subst HasRule from.2 (laws.seeing_keeps from.0 _ (keep w from.0 from.1))))
+made_keep laws (Handle w) old new keep m = keep_set w old new m.step keep
+made_keep laws (Ask w side) old new keep m = keep_set w old new m.step keep
+made_keep laws (Take w side) old new keep m = keep_set w old new m.step keep
+made_keep laws (Give w) old new keep m = keep_set w old new m.step keep
+made_keep laws (Hold w) old new keep m = keep_set w old new m.step keep
+made_keep laws (Lend w side) old new keep m = keep_set w old new m.step keep
 
 -- ---- runs
 pub runs_keep : LawsBelow → RunsKeepTheRule
@@ -128,7 +85,7 @@ runs_keep laws k old new steps start run = along steps old start.case start.gone
     along [] n case gone rule keep run = subst (IsReached k) (sym run) (record { case = case; gone = gone; rule = rule; keep = keep })
     along (s ∷ steps) n case gone rule keep run =
         along steps run.0 (kept_case s n run.0 run.1.made ∙ case) (still_there s n run.0 gone run.1.made) (made_rule laws s n run.0 rule run.1)
-        (made_keep s n run.0 keep run.1.made) run.2
+        (made_keep laws s n run.0 keep run.1.made) run.2
 
 module _ (laws : LawsBelow) (k : Content) (n : NetNote) (r : IsReached k n) where
   worker_under : (w : ℕ) (e : Edge) → slice_get n.edges w ≡ Some e → (v : WorkerNote) × (slice_get n.workers w ≡ Some v)

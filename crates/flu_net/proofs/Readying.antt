@@ -147,10 +147,10 @@ module _ (laws : LawsBelow) (old : NetNote) (rule : Rule old) (w : ℕ) (n : Wor
     -- take
     module _ (lot : Lot) (given : slice_get old.edges v ≡ Some (Given lot)) where
       pub take_may : may_take s n.hand ≡ true
-      take_may = (over (Given lot) given).take
+      take_may = (over (Given lot) given).recalled.take
 
       pub take_kept : IsSome n.kept
-      take_kept = ap is_some (over (Given lot) given).kept
+      take_kept = ap is_some (over (Given lot) given).recalled.kept
 
       place_of : (c : WorkerNote) → slice_get old.workers v ≡ Some c → (n.case ≡ c.case) × (v ≡ c.node)
       place_of c up = let p = rule.ties.placed v c up in (case_of ∙ sym p.case, sym p.node)
@@ -172,7 +172,7 @@ module _ (laws : LawsBelow) (old : NetNote) (rule : Rule old) (w : ℕ) (n : Wor
       take_served l r y e kept =
           let o = over (Given lot) given in
           at_child (λ j x. Served j x (lent_to s n) y lot) l r e
-          (subst (λ (z : Ask). Served child.0.case child.0.node (lent_to s n) z lot) (same_Some o.target y (sym o.kept ∙ kept)) o.served)
+          (subst (λ (z : Ask). Served child.0.case child.0.node (lent_to s n) z lot) (same_Some o.target y (sym o.recalled.kept ∙ kept)) o.served)
 
 -- ---- who is there
 pub at_index : (ws : List WorkerNote) (w : ℕ) (n : WorkerNote) → w < length ws → n ≡ get_or ws w n → slice_get ws w ≡ Some n

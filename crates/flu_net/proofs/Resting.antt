@@ -139,7 +139,7 @@ module _ (laws : LawsBelow) (n : NetNote) (rule : Rule n) (keep : AllKeep n.work
         let below = (under laws n.case s w l r are).earlier in
         let some : 0 < at_side s l r = omega arith in
         let open_c = rule.ties.hangs (at_side s l r) (placed_at n.case (at_side s l r) c) Held some down edge in
-        let held = (rule.ties.lets s w l r (placed_at n.case w u) (placed_at n.case (at_side s l r) c) Held are up edge down).held in
+        let held = (rule.ties.lets s w l r (placed_at n.case w u) (placed_at n.case (at_side s l r) c) Held are up edge down).loan.lent in
         record {
           opened = open_c;
           over = λ i higher. elim (cases_lt i (count_of_itags (job n.case))) [

@@ -170,7 +170,7 @@ module _ (laws : LawsBelow) (k : Content) (seen : List ℕ) (ws : List WorkerNot
       own_edge (Lent lot) Held was away h.place h.same
       (λ s. (shut_home s n.hand hung.shut, ap (is_out s) h.hand ∙ laws.first_here (kids n.case n.node) s))
       (ap is_open h.hand ∙ first_open (kids n.case n.node))
-      (λ s p over. record { out = over.out; held = h.held ∙ over.lent; given = h.given ∙ over.given })
+      (λ s p over. record { out = over.out; loan = record { lent = h.held ∙ over.loan.lent; given = h.given ∙ over.loan.given } })
 
   pub ties_give : (y : Ask) (lot : Lot) → slice_get es w ≡ Some (Asked y) → GivesLot lot n m → LotFits n.case n.node lot → Served n.case n.node n.held y lot
       → Ties k seen (set ws w m) (set es w (Given lot))
@@ -179,10 +179,9 @@ module _ (laws : LawsBelow) (k : Content) (seen : List ℕ) (ws : List WorkerNot
       (λ s. (ap (is_out s) g.hand_was, ap (is_out s) g.hand))
       (record { shut = ap is_open g.hand; fits = at_place (λ j v. LotFits j v lot) n m g.place fits; given = g.given })
       (λ s p over. record {
-        take = over.take;
         target = y;
-        kept = over.kept;
-        served = at_place (λ j v. Served j v (lent_to s p) y lot) n m g.place (subst (λ (loan : LotCounts). Served n.case n.node loan y lot) over.held served);
+        recalled = over.recalled;
+        served = at_place (λ j v. Served j v (lent_to s p) y lot) n m g.place (subst (λ (loan : LotCounts). Served n.case n.node loan y lot) over.loan.lent served);
       })
 
   pub ties_lend : (s : Side) (l r : ℕ) (are : kids k w ≡ Some (l, r)) (part : Lot) → slice_get es (at_side s l r) ≡ Some Home → may_lend s n.hand ≡ true
@@ -203,8 +202,7 @@ module _ (laws : LawsBelow) (k : Content) (seen : List ℕ) (ws : List WorkerNot
       })
       (λ c ck cv hung over. record {
         out = ap (is_out s) h.hand ∙ turned.out;
-        lent = sym (lent_here s n m part h);
-        given = over.given ∙ sym (taken_same s n m h.taken_left h.taken_right);
+        loan = record { lent = sym (lent_here s n m part h); given = over.given ∙ sym (taken_same s n m h.taken_left h.taken_right) };
       })
 
   pub ties_ask : (s : Side) (l r : ℕ) (are : kids k w ≡ Some (l, r)) (y : Ask) → slice_get es (at_side s l r) ≡ Some Held → may_take s n.hand ≡ true
@@ -220,9 +218,12 @@ module _ (laws : LawsBelow) (k : Content) (seen : List ℕ) (ws : List WorkerNot
         opened = hung;
         above =
             subst (λ (v : ℕ). AsksAbove c.case v y) (sym cv) (subst (λ (j : Content). AsksAbove j (at_side s l r) y) (place.case ∙ case_is ∙ sym ck) asks.0);
-        next = asks.1 ∙ ap (λ (x : LotCounts). slice_index x.upto y.itag.0) (stays.lent ∙ sym over.held);
+        next = asks.1 ∙ ap (λ (x : LotCounts). slice_index x.upto y.itag.0) (stays.lent ∙ sym over.loan.lent);
       })
-      (λ c ck cv hung over. record { take = stays.take may; held = over.held ∙ sym stays.lent; given = over.given ∙ sym stays.taken; kept = h.some y refl })
+      (λ c ck cv hung over. record {
+        recalled = record { take = stays.take may; kept = h.some y refl };
+        loan = record { lent = over.loan.lent ∙ sym stays.lent; given = over.loan.given ∙ sym stays.taken };
+      })
 
   pub ties_take : (s : Side) (l r : ℕ) (are : kids k w ≡ Some (l, r)) (lot : Lot) → slice_get es (at_side s l r) ≡ Some (Given lot) → may_take s n.hand ≡ true
       → TakesPart s lot n m → Ties k seen (set ws w m) (set es (at_side s l r) Home)

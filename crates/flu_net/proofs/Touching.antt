@@ -12,6 +12,7 @@ use Rattle.flu_worker.specs.declared.hand.Side.TheVariants.{Left, Right}
 use Rattle.flu_worker.specs.Calls.{IsSamePlace, IsSameBelow, LendsPart, TakesPart, KeepsTarget}
 use Rattle.flu_worker.specs.Hands.{is_open, is_out, may_lend, may_take}
 use Rattle.flu_worker.specs.Notes.{WorkerNote, lent_to, taken_from}
+use Rattle.flu_worker.specs.Ties.{IsLoan, IsRecalled}
 use Rattle.flu_worker.specs.Turning.{other}
 use Rattle.flu_net.specs.declared.edges.Edge.{Edge}
 use Rattle.flu_net.specs.declared.edges.Edge.TheVariants.{Home, Lent, Held, Asked, Given}
@@ -34,23 +35,26 @@ pub lets_home : LawsBelow → (s : Side) (n m : WorkerNote) (e : Edge) (c : Work
 lets_home laws s n m Home c same was is t = record { home = is; given = t.given ∙ sym (taken_same s n m same.taken_left same.taken_right) }
 lets_home laws s n m (Lent lot) c same was is t = absurd (not_both _ t.out was)
 lets_home laws s n m Held c same was is t = absurd (not_both _ t.out was)
-lets_home laws s n m (Asked y) c same was is t = absurd (not_both _ (laws.take_turns s n.hand t.take).out was)
-lets_home laws s n m (Given lot) c same was is t = absurd (not_both _ (laws.take_turns s n.hand t.take).out was)
+lets_home laws s n m (Asked y) c same was is t = absurd (not_both _ (laws.take_turns s n.hand t.recalled.take).out was)
+lets_home laws s n m (Given lot) c same was is t = absurd (not_both _ (laws.take_turns s n.hand t.recalled.take).out was)
+
+loan_stays : (s : Side) (n m : WorkerNote) (lent : LotCounts) (given : List ℕ) → StaysAt s n m → IsLoan s n lent given → IsLoan s m lent given
+loan_stays s n m lent given same t = record { lent = t.lent ∙ sym same.lent; given = t.given ∙ sym same.taken }
+
+recalled_stays : (s : Side) (n m : WorkerNote) (y : Ask) → StaysAt s n m → IsRecalled s n y → IsRecalled s m y
+recalled_stays s n m y same t = record { take = same.take t.take; kept = same.kept y t.kept }
 
 pub lets_stays : (s : Side) (n m : WorkerNote) (e : Edge) (c : WorkerNote) → StaysAt s n m → Lets s n e c → Lets s m e c
 lets_stays s n m Home c same t = record { home = same.out ∙ t.home; given = t.given ∙ sym same.taken }
-lets_stays s n m (Lent lot) c same t = record { out = same.out ∙ t.out; lent = t.lent ∙ sym same.lent; given = t.given ∙ sym same.taken }
-lets_stays s n m Held c same t = record { out = same.out ∙ t.out; held = t.held ∙ sym same.lent; given = t.given ∙ sym same.taken }
+lets_stays s n m (Lent lot) c same t = record { out = same.out ∙ t.out; loan = loan_stays s n m _ _ same t.loan }
+lets_stays s n m Held c same t = record { out = same.out ∙ t.out; loan = loan_stays s n m _ _ same t.loan }
 lets_stays s n m (Asked y) c same t = record {
-  take = same.take t.take;
-  held = t.held ∙ sym same.lent;
-  given = t.given ∙ sym same.taken;
-  kept = same.kept y t.kept;
+  recalled = recalled_stays s n m y same t.recalled;
+  loan = loan_stays s n m _ _ same t.loan;
 }
 lets_stays s n m (Given lot) c same t = record {
-  take = same.take t.take;
   target = t.target;
-  kept = same.kept t.target t.kept;
+  recalled = recalled_stays s n m t.target same t.recalled;
   served = subst (λ (loan : LotCounts). Served c.case c.node loan t.target lot) (sym same.lent) t.served;
 }
 
@@ -59,8 +63,8 @@ pub home_edge : LawsBelow → (s : Side) (n : WorkerNote) (e : Edge) (c : Worker
 home_edge laws s n Home c was t = refl
 home_edge laws s n (Lent lot) c was t = absurd (not_both _ t.out was)
 home_edge laws s n Held c was t = absurd (not_both _ t.out was)
-home_edge laws s n (Asked y) c was t = absurd (not_both _ (laws.take_turns s n.hand t.take).out was)
-home_edge laws s n (Given lot) c was t = absurd (not_both _ (laws.take_turns s n.hand t.take).out was)
+home_edge laws s n (Asked y) c was t = absurd (not_both _ (laws.take_turns s n.hand t.recalled.take).out was)
+home_edge laws s n (Given lot) c was t = absurd (not_both _ (laws.take_turns s n.hand t.recalled.take).out was)
 
 -- ---- the edge above
 pub at_place : (P : Content → ℕ → Type 0) (n m : WorkerNote) → IsSamePlace n m → P n.case n.node → P m.case m.node
@@ -88,13 +92,15 @@ hangs_under n m (Given lot) place held given opens h = record {
 
 pub lets_under : (s : Side) (p : WorkerNote) (e : Edge) (n m : WorkerNote) → IsSamePlace n m → m.held ≡ n.held → m.given ≡ n.given → Lets s p e n → Lets s p e m
 lets_under s p Home n m place held given t = record { home = t.home; given = given ∙ t.given }
-lets_under s p (Lent lot) n m place held given t = record { out = t.out; lent = t.lent; given = given ∙ t.given }
-lets_under s p Held n m place held given t = record { out = t.out; held = held ∙ t.held; given = given ∙ t.given }
-lets_under s p (Asked y) n m place held given t = record { take = t.take; held = held ∙ t.held; given = given ∙ t.given; kept = t.kept }
+lets_under s p (Lent lot) n m place held given t = record { out = t.out; loan = record { lent = t.loan.lent; given = given ∙ t.loan.given } }
+lets_under s p Held n m place held given t = record { out = t.out; loan = record { lent = held ∙ t.loan.lent; given = given ∙ t.loan.given } }
+lets_under s p (Asked y) n m place held given t = record {
+  recalled = t.recalled;
+  loan = record { lent = held ∙ t.loan.lent; given = given ∙ t.loan.given };
+}
 lets_under s p (Given lot) n m place held given t = record {
-  take = t.take;
   target = t.target;
-  kept = t.kept;
+  recalled = t.recalled;
   served = at_place (λ j v. Served j v (lent_to s p) t.target lot) n m place t.served;
 }
 

@@ -5,9 +5,12 @@ use Rattle.flu_fork.specs.Completing.{LeavesBringAll, LastOnesArePaired, JoinsBr
 use Rattle.flu_fork.specs.Kin.{ItagsAreOfNodes, ItagsAreOfKids, ItagsAreOfTheRoot}
 use Rattle.flu_fork.specs.Laws.{FittingHasSorts}
 use Rattle.flu_fork.specs.Places.{MomentsAreEvents, EventsAreKnown}
-use Rattle.flu_fork.specs.Serving.{ContentsAreSettings, LoansArePaired}
+use Rattle.flu_fork.specs.Serving.{ContentsAreSettings, LentIsOnLoan, LoansArePaired}
+use Rattle.flu_fork.specs.Streams.{ExactnessAgrees}
 use Rattle.flu_fork.specs.Texts.{NoTexts, TextsAreOfTheSet, TextsGrow, TextsEnd, StatesEnd}
+use Rattle.flu_worker.specs.Keeping.{SeeingKeepsTheRule}
 use Rattle.flu_worker.specs.Laws.{NewTargets, AskedGoOn, OwnGoOn, NothingIsNext}
+use Rattle.flu_worker.specs.Next.{NextIsExact}
 use Rattle.flu_worker.specs.Turning.{LendTurns, TakeTurns, FirstIsHere, StartIsHere, StartIsShut}
 
 pub record LawsBelow : Type 0 where
@@ -21,6 +24,8 @@ pub record LawsBelow : Type 0 where
   pub of_root : ItagsAreOfTheRoot
   pub events : MomentsAreEvents
   pub known : EventsAreKnown
+  pub exactness : ExactnessAgrees
+  pub on_loan : LentIsOnLoan
   pub paired : LoansArePaired
   pub at_leaf : LeavesBringAll
   pub last_paired : LastOnesArePaired
@@ -34,6 +39,8 @@ pub record LawsBelow : Type 0 where
   pub asked_go_on : AskedGoOn
   pub own_go_on : OwnGoOn
   pub nothing_next : NothingIsNext
+  pub next_exact : NextIsExact
+  pub seeing_keeps : SeeingKeepsTheRule
   pub lend_turns : LendTurns
   pub take_turns : TakeTurns
   pub first_here : FirstIsHere

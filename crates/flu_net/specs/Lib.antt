@@ -5,6 +5,7 @@ pub mod Effects
 pub mod LawsBelow
 pub mod Measure
 pub mod Runs
+pub mod Facts
 pub mod Alike
 pub mod Showing
 pub mod Final

@@ -1,4 +1,5 @@
--- THE RULE OF THE NET: what holds after any list of steps, by node and by edge. Each worker keeps a rule of its own beside it.
+-- THE RULE OF THE NET: what holds after any list of steps, by node and by edge. Each worker keeps a rule of its own beside it. How a worker stands to the edges
+-- that it touches is said by the ties of flu_worker; here stands which edge shows what, and what holds of the lots on it.
 use Rattle.std.specs.Prelude.{◌≡◌, ℕ, ◌<◌, ◌≤◌, true, false, Some, List, [], length, slice_get, slice_index, slice_index_or}
 use Rattle.flu_model.specs.declared.events.Out.{Out}
 use Rattle.flu_model.specs.Itags.{count_of_itags}
@@ -8,11 +9,12 @@ use Rattle.flu_fork.specs.declared.lots.Ask.{Ask}
 use Rattle.flu_fork.specs.declared.lots.Lot.{Lot}
 use Rattle.flu_fork.specs.Classes.{own, below}
 use Rattle.flu_fork.specs.Lots.{job, nodes, kids, setting_of, LotFits}
-use Rattle.flu_fork.specs.Serving.{AsksAbove, GrownFrom, Served, counts_of, none_counted}
+use Rattle.flu_fork.specs.Serving.{GrownFrom, Served, counts_of, none_counted}
 use Rattle.flu_fork.specs.Texts.{HasTexts}
 use Rattle.flu_worker.specs.declared.hand.Side.{Side}
-use Rattle.flu_worker.specs.Hands.{at_side, is_lost, is_open, is_out, may_take}
+use Rattle.flu_worker.specs.Hands.{at_side, is_lost, is_open}
 use Rattle.flu_worker.specs.Notes.{WorkerNote, above_of, lent_to, taken_from}
+use Rattle.flu_worker.specs.Ties.{Away, Here, AskedFor, AtHome, LentOut, Recalled, HangsFrom, LetsTo, IsLoan}
 use Rattle.flu_net.specs.declared.edges.Edge.{Edge}
 use Rattle.flu_net.specs.declared.edges.Edge.TheVariants.{Home, Lent, Held, Asked, Given}
 use Rattle.flu_net.specs.Notes.{NetNote}
@@ -21,60 +23,49 @@ use Rattle.flu_net.specs.Notes.{NetNote}
 
 -- a lot on its way down: it fits the node, and its counts go on from those of the lot given last
 pub record IsUnderLent (n : WorkerNote) (lot : Lot) : Type 0 where
-  pub shut : is_open n.hand ≡ false
+  pub shut : HangsFrom n Away
   pub fits : LotFits n.case n.node lot
   pub grown : GrownFrom n.case n.node n.given lot.upto
 
--- an ask names the next event of an itag above the node
-pub record IsUnderAsk (n : WorkerNote) (y : Ask) : Type 0 where
-  pub opened : is_open n.hand ≡ true
-  pub above : AsksAbove n.case n.node y
-  pub next : y.index ≡ slice_index n.held.upto y.itag.0
-
 -- a lot on its way up is the one that was given last, and fits the node
 pub record IsUnderGiven (n : WorkerNote) (lot : Lot) : Type 0 where
-  pub shut : is_open n.hand ≡ false
+  pub shut : HangsFrom n Away
   pub fits : LotFits n.case n.node lot
   pub given : n.given ≡ lot.upto
 
 abbrev pub Hangs : WorkerNote → Edge → Type 0
-Hangs n Home = is_open n.hand ≡ false
+Hangs n Home = HangsFrom n Away
 Hangs n (Lent lot) = IsUnderLent n lot
-Hangs n Held = is_open n.hand ≡ true
-Hangs n (Asked y) = IsUnderAsk n y
+Hangs n Held = HangsFrom n Here
+Hangs n (Asked y) = HangsFrom n (AskedFor y)
 Hangs n (Given lot) = IsUnderGiven n lot
 
 -- ---- the edge to a child, between the worker n and the child's worker c
 
 -- the part is not out, and what was taken last is what the child gave last
 pub record IsAtHome (s : Side) (n c : WorkerNote) : Type 0 where
-  pub home : is_out s n.hand ≡ false
+  pub home : LetsTo s n AtHome
   pub given : c.given ≡ taken_from s n
 
 -- the part is out, as it was lent
 pub record IsOverLent (s : Side) (n c : WorkerNote) (lot : Lot) : Type 0 where
-  pub out : is_out s n.hand ≡ true
-  pub lent : counts_of lot ≡ lent_to s n
-  pub given : c.given ≡ taken_from s n
+  pub out : LetsTo s n LentOut
+  pub loan : IsLoan s n (counts_of lot) c.given
 
 -- the child has the loan
 pub record IsOverHeld (s : Side) (n c : WorkerNote) : Type 0 where
-  pub out : is_out s n.hand ≡ true
-  pub held : c.held ≡ lent_to s n
-  pub given : c.given ≡ taken_from s n
+  pub out : LetsTo s n LentOut
+  pub loan : IsLoan s n c.held c.given
 
 -- it is asked for the target that the worker keeps
 pub record IsOverAsk (s : Side) (n c : WorkerNote) (y : Ask) : Type 0 where
-  pub take : may_take s n.hand ≡ true
-  pub held : c.held ≡ lent_to s n
-  pub given : c.given ≡ taken_from s n
-  pub kept : n.kept ≡ Some y
+  pub recalled : LetsTo s n (Recalled y)
+  pub loan : IsLoan s n c.held c.given
 
 -- what the child gave is served for that target
 pub record IsOverGiven (s : Side) (n c : WorkerNote) (lot : Lot) : Type 0 where
-  pub take : may_take s n.hand ≡ true
   pub target : Ask
-  pub kept : n.kept ≡ Some target
+  pub recalled : LetsTo s n (Recalled target)
   pub served : Served c.case c.node (lent_to s n) target lot
 
 abbrev pub Lets : Side → WorkerNote → Edge → WorkerNote → Type 0

@@ -1,6 +1,7 @@
 //! The laws of steps, and those on which the rule of the net rests.
 
 ghost use Rattle.flu_net.specs.Alike.{StartsAreAlike, AlikeAreEnabled, AlikeAreFinal, StepsKeepAlike};
+ghost use Rattle.flu_net.specs.Facts.{EventsAreExact, PartsArePaired, OwnersCountPrefixes};
 ghost use Rattle.flu_net.specs.LawsBelow.{LawsBelow};
 ghost use Rattle.flu_net.specs.Runs.{StepsLower, StartsAreBounded, RunsAreBounded, RunsKeepTheRule, RunsTellTheFold};
 
@@ -21,6 +22,18 @@ pub fn steps_are_bounded()
 pub fn runs_tell_the_fold()
     ensures rule { RunsKeepTheRule }
     ensures fold { RunsTellTheFold }
+{
+    laws_below();
+}
+
+/// What holds after every list of steps from the start, fact by fact. The counts of the lot in a worker's hand are exact for the event
+/// that the worker handles: of each itag on which the event depends, just the events before it are counted. The two parts of a
+/// worker's lot, wherever they are, are paired. And the owners of the itags have counted a prefix for dependent events: with an event
+/// each earlier one on which it depends.
+pub fn facts_of_runs()
+    ensures exact { EventsAreExact }
+    ensures paired { PartsArePaired }
+    ensures prefix { OwnersCountPrefixes }
 {
     laws_below();
 }
@@ -48,9 +61,12 @@ pub(crate) fn laws_below()
     flu_fork::laws::itags_are_of_nodes();
     flu_fork::laws::last_lots_join();
     flu_fork::laws::loans_are_paired();
+    flu_fork::laws::prefixes_are_of_streams();
     flu_fork::laws::texts_are_counted();
     flu_fork::laws::texts_end();
     flu_worker::laws::hands_turn();
+    flu_worker::laws::next_events_are_exact();
+    flu_worker::laws::seeing_keeps_the_rule();
     flu_worker::laws::targets_are_own_or_asked();
     flu_worker::laws::waiting_ends();
 }

@@ -33,7 +33,7 @@ pub phase_low : (s : Side) (n : WorkerNote) (u : UpperNote) → Lets s n u → n
 phase_low s n u lets down kept =
     elim (lets.out (ap (is_out s) down)) [
       | inl free ↦ free.1
-      | inr busy ↦ absurd (none-some _ (sym kept ∙ busy.2))
+      | inr busy ↦ absurd (none-some _ (sym kept ∙ busy.1.kept))
     ]
 
 module _ (laws : LawsBelow) (k : Content) (w : ℕ) (n : WorkerNote) (low : LowerNote) (u v : UpperNote) (outs : List Out)
@@ -56,7 +56,7 @@ module _ (laws : LawsBelow) (k : Content) (w : ℕ) (n : WorkerNote) (low : Lowe
       → IsFinal n.case (at_side s l r) (lent_to s n) lot told
   kid_final s up given back lot told l r e lets starts done agree =
       final_as given.case n.case given.lower (at_side s l r) back.held (lent_to s n) lot told
-      (sym (starts.case ∙ lets.case)) (sym (starts.lower ∙ lets.lower l r e)) (sym (agree ∙ lets.lent)) done.final
+      (sym (starts.case ∙ lets.case)) (sym (starts.lower ∙ lets.lower l r e)) (sym (agree ∙ lets.loan.lent)) done.final
 
   -- a child's end is that of a link
   pub kid_linked : (s : Side) (up : UpperNote) (given back : LowerNote) (lot : Lot) (told : List Out) → w < length (nodes k) → Lets s n up

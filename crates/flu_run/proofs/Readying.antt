@@ -26,8 +26,7 @@ lets_new : StartIsHere → (s : Side) (k : Content) (w l r : ℕ) (link : TableI
 lets_new home_first s k w l r link n u new e made = subst (λ (m : UpperNote). Lets s n m) (sym made) record {
   case = sym new.case;
   lower = λ l' r' f. (let same = some_pair_parts l l' r r' (sym e ∙ (λ i. kids (sym new.case i) (sym new.node i)) ∙ f) in λ i. at_side s (same.0 i) (same.1 i));
-  lent = sym (by_side_counts s);
-  received = sym (by_side s);
+  loan = record { lent = sym (by_side_counts s); given = sym (by_side s) };
   home = λ _. (refl, refl);
   out = λ o. absurd (not_out o);
 }

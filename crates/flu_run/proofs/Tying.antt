@@ -26,6 +26,7 @@ use Rattle.flu_worker.specs.declared.hand.Side.TheVariants.{Left, Right}
 use Rattle.flu_worker.specs.Hands.{at_side, is_open, is_out, may_lend, may_take}
 use Rattle.flu_worker.specs.Notes.{WorkerNote, lent_to, taken_from, own_of}
 use Rattle.flu_worker.specs.Calls.{IsNew, IsAskable, IsSamePlace, HandlesEvent, CountsEvent, LendsPart, IsFitPart, TakesPart}
+use Rattle.flu_worker.specs.Ties.{IsAsked, IsLoan}
 use Rattle.flu_worker.specs.Turning.{other, LendTurns, TakeTurns, StartIsShut}
 use Rattle.flu_link.specs.Notes.{UpperNote, LowerNote, after_lend, after_asked}
 use Rattle.flu_run.specs.EndNotes.{LooksUp}
@@ -73,12 +74,12 @@ still_held : (p q : ℕ) → (1 ≤ p → p ≤ 2 → (1 ≤ q) × (q ≤ 2)) �
 still_held p q still (inl e) other = let s = still (omega arith) (omega arith) in one_or_two q s.0 s.1 other
 still_held p q still (inr e) other = let s = still (omega arith) (omega arith) in one_or_two q s.0 s.1 other
 
-phases : (l : LowerNote) → (l.phase ≡ 1) ⊎ IsAskedFor l → (l.phase ≡ 1) ⊎ (l.phase ≡ 2)
-phases l (inl e) = inl e
-phases l (inr a) = inr a.phase
+phases : (n : WorkerNote) (l : LowerNote) → (l.phase ≡ 1) ⊎ IsAskedFor n l → (l.phase ≡ 1) ⊎ (l.phase ≡ 2)
+phases n l (inl e) = inl e
+phases n l (inr a) = inr a.phase
 
 pub none_asked : (n : WorkerNote) (l l' : LowerNote) → Hangs n l → LooksUp l l' → is_open n.hand ≡ true → l'.phase ≢ 2 → l'.phase ≡ 1
-none_asked n l l' hangs looks opened not_two = still_held l.phase l'.phase looks.still (phases l (hangs.phase opened)) not_two
+none_asked n l l' hangs looks opened not_two = still_held l.phase l'.phase looks.still (phases n l (hangs.phase opened)) not_two
 
 pub hangs_none : (n : WorkerNote) (l l' : LowerNote) → Hangs n l → LooksUp l l' → is_open n.hand ≡ true → l'.phase ≢ 2 → Hangs n l'
 hangs_none n l l' hangs looks opened not_two =
@@ -90,14 +91,23 @@ hangs_none n l l' hangs looks opened not_two =
       phase = λ _. inl one;
     }
 
-pub hangs_asked : (n : WorkerNote) (l l' : LowerNote) (y : Ask) → Hangs n l → l' ≡ after_asked l y → AsksAbove l.case l.lower y
+-- what is asked over the link is asked of the worker
+pub asked_here : (n : WorkerNote) (l : LowerNote) (y : Ask) → Hangs n l → is_open n.hand ≡ true → AsksAbove l.case l.lower y
+    → y.index ≡ slice_index l.held.upto y.itag.0 → IsAsked n y
+asked_here n l y hangs opened above next = record {
+  opened = opened;
+  above = subst (λ (v : ℕ). AsksAbove n.case v y) hangs.lower (subst (λ (j : Content). AsksAbove j l.lower y) hangs.case above);
+  next = next ∙ ap (λ (m : LotCounts). slice_index m.upto y.itag.0) (hangs.held opened);
+}
+
+pub hangs_asked : (n : WorkerNote) (l l' : LowerNote) (y : Ask) → Hangs n l → is_open n.hand ≡ true → l' ≡ after_asked l y → AsksAbove l.case l.lower y
     → y.index ≡ slice_index l.held.upto y.itag.0 → Hangs n l'
-hangs_asked n l l' y hangs e above next = subst (λ (m : LowerNote). Hangs n m) (sym e) record {
+hangs_asked n l l' y hangs opened e above next = subst (λ (m : LowerNote). Hangs n m) (sym e) record {
   case = hangs.case;
   lower = hangs.lower;
   given = hangs.given;
   held = hangs.held;
-  phase = λ _. inr record { phase = refl; ask = y; noted = refl; above = above; next = next };
+  phase = λ _. inr record { phase = refl; ask = y; noted = refl; tie = asked_here n l y hangs opened above next };
 }
 
 -- ---- the ends below
@@ -131,8 +141,7 @@ lets_lend turns s n n' u u' part lets may h e =
     subst (λ (m : UpperNote). Lets s n' m) (sym e) record {
       case = lets.case ∙ sym h.place.case;
       lower = lower_as s n n' u h.place lets;
-      lent = sym (lent_here s n n' part h);
-      received = lets.received ∙ sym (taken_same s n n' h.taken_left h.taken_right);
+      loan = record { lent = sym (lent_here s n n' part h); given = lets.loan.given ∙ sym (taken_same s n n' h.taken_left h.taken_right) };
       home = λ o. absurd (not_both _ out o);
       out = λ _. inl (free.0, omega arith);
     }
@@ -178,14 +187,49 @@ home_trans a b c p q = record {
   ];
 }
 
+-- a worker whose place and lots held and given are as before, and which was open where it is now
+hangs_on : (n n' : WorkerNote) (l : LowerNote) → Hangs n l → IsSamePlace n n' → n'.held ≡ n.held → n'.given ≡ n.given
+    → (is_open n'.hand ≡ true → is_open n.hand ≡ true) → Hangs n' l
+hangs_on n n' l hangs place held given was = record {
+  case = hangs.case ∙ sym place.case;
+  lower = hangs.lower ∙ sym place.node;
+  given = hangs.given ∙ sym given;
+  held = λ o. hangs.held (was o) ∙ sym held;
+  phase = λ o. elim (hangs.phase (was o)) [
+    | inl e ↦ inl e
+    | inr a ↦ inr record {
+      phase = a.phase;
+      ask = a.ask;
+      noted = a.noted;
+      tie = record {
+        opened = o;
+        above =
+            subst (λ (v : ℕ). AsksAbove n'.case v a.ask) (sym place.node) (subst (λ (j : Content). AsksAbove j n.node a.ask) (sym place.case) a.tie.above);
+        next = a.tie.next ∙ ap (λ (m : LotCounts). slice_index m.upto a.ask.itag.0) (sym held);
+      };
+    }
+  ];
+}
+
 pub hangs_under : (n n' : WorkerNote) (l : LowerNote) → Hangs n l → StaysUnder n n' → Hangs n' l
 hangs_under n n' l hangs t =
-    let was : is_open n'.hand ≡ true → is_open n.hand ≡ true = λ o. elim t.opens [ inl same ↦ sym (ap is_open same) ∙ o | inr both ↦ both.0 ] in record {
-      case = hangs.case ∙ sym t.place.case;
-      lower = hangs.lower ∙ sym t.place.node;
-      given = hangs.given ∙ sym t.given;
-      held = λ o. hangs.held (was o) ∙ sym t.held;
-      phase = λ o. hangs.phase (was o);
+    hangs_on n n' l hangs t.place t.held t.given (λ o. elim t.opens [ inl same ↦ sym (ap is_open same) ∙ o | inr both ↦ both.0 ])
+
+pub hangs_handle : (n n' : WorkerNote) (l : LowerNote) (x : Ask) → Hangs n l → HandlesEvent x n n' → Hangs n' l
+hangs_handle n n' l x hangs h = hangs_on n n' l hangs h.place h.held h.given (λ _. ap is_open h.hand_was)
+
+pub hangs_seen : (n n' : WorkerNote) (l : LowerNote) → Hangs n l → SeesMore n n' → Hangs n' l
+hangs_seen n n' l h more =
+    subst (λ (m : WorkerNote). Hangs m l) (sym more.rest) record {
+      case = h.case;
+      lower = h.lower;
+      given = h.given;
+      held = h.held;
+      phase = λ o. elim (h.phase o) [
+        | inl e ↦ inl e
+        | inr a ↦
+            inr record { phase = a.phase; ask = a.ask; noted = a.noted; tie = record { opened = a.tie.opened; above = a.tie.above; next = a.tie.next } }
+      ];
     }
 
 -- ---- as the calls say it
@@ -193,7 +237,7 @@ pub hangs_look : (n : WorkerNote) (l l' : LowerNote) (found : Option Ask) → Ha
     → IfSome found (λ y. l' ≡ after_asked l y) → IfSome found (AsksAbove l.case l.lower) → IfSome found (λ y. y.index ≡ slice_index l.held.upto y.itag.0)
     → IfNone found (LooksUp l l') → IfNone found (l'.phase ≢ 2) → Hangs n l'
 hangs_look n l l' None hangs o note above next looks not_two = hangs_none n l l' hangs looks o not_two
-hangs_look n l l' (Some y) hangs o note above next looks not_two = hangs_asked n l l' y hangs note above next
+hangs_look n l l' (Some y) hangs o note above next looks not_two = hangs_asked n l l' y hangs o note above next
 
 pub fits_below : (s : Side) (n : WorkerNote) (u : UpperNote) (part : Lot) → IsSome (kids n.case n.node) → Lets s n u
     → IsFitPart s part n → LotFits u.case u.lower part
@@ -208,7 +252,7 @@ grown_below s n u part inner lets fit =
     let k = pair_there (kids n.case n.node) inner in
     subst (λ (j : Content). GrownFrom j u.lower u.received part.upto) (sym lets.case)
     (subst (λ (v : ℕ). GrownFrom n.case v u.received part.upto) (sym (lets.lower k.0 k.1 k.2))
-    (subst (λ (c : List ℕ). GrownFrom n.case (at_side s k.0 k.1) c part.upto) (sym lets.received) (fit.grown k.0 k.1 k.2)))
+    (subst (λ (c : List ℕ). GrownFrom n.case (at_side s k.0 k.1) c part.upto) (sym lets.loan.given) (fit.grown k.0 k.1 k.2)))
 
 pub ask_above : (s : Side) (n : WorkerNote) (u : UpperNote) (a : Ask) → IsSome (kids n.case n.node) → Lets s n u → IsAskable n a → AsksAbove u.case u.lower a
 ask_above s n u a inner lets askable =
@@ -220,7 +264,7 @@ pub ask_next : (s : Side) (n : WorkerNote) (u : UpperNote) (a : Ask) → IsSome 
     → a.index ≡ slice_index u.lent.upto a.itag.0
 ask_next s n u a inner lets askable =
     let k = pair_there (kids n.case n.node) inner in
-    (askable k.0 k.1 k.2 s).1 ∙ ap (λ (m : LotCounts). slice_index m.upto a.itag.0) (sym lets.lent)
+    (askable k.0 k.1 k.2 s).1 ∙ ap (λ (m : LotCounts). slice_index m.upto a.itag.0) (sym lets.loan.lent)
 
 -- ---- the start
 pub tells_new : (laws : LawsBelow) (k : Content) (w : ℕ) (n : WorkerNote) → IsNew k w n → Tells n []
@@ -263,24 +307,18 @@ sees_from k n v case seen from =
     }
 
 pub lets_seen : (s : Side) (n n' : WorkerNote) (u : UpperNote) → Lets s n u → SeesMore n n' → Lets s n' u
-lets_seen Left n n' u h more =
-    subst (λ (m : WorkerNote). Lets Left m u) (sym more.rest) record {
+lets_seen s n n' u h more =
+    subst (λ (m : WorkerNote). Lets s m u) (sym more.rest) record {
       case = h.case;
       lower = h.lower;
-      lent = h.lent;
-      received = h.received;
+      loan = by_side s h.loan;
       home = h.home;
-      out = h.out;
+      out = λ o. elim (h.out o) [ inl free ↦ inl free | inr busy ↦ inr (busy.0, record { take = busy.1.take; kept = busy.1.kept }) ];
     }
-lets_seen Right n n' u h more =
-    subst (λ (m : WorkerNote). Lets Right m u) (sym more.rest) record {
-      case = h.case;
-      lower = h.lower;
-      lent = h.lent;
-      received = h.received;
-      home = h.home;
-      out = h.out;
-    }
+  where
+    by_side : (s : Side) → IsLoan s n u.lent u.received → IsLoan s (record n { seen = n'.seen }) u.lent u.received
+    by_side Left t = record { lent = t.lent; given = t.given }
+    by_side Right t = record { lent = t.lent; given = t.given }
 
 pub tells_seen : (n n' : WorkerNote) (outs : List Out) → Tells n outs → SeesMore n n' → Tells n' outs
 tells_seen n n' outs h more = subst (λ (m : WorkerNote). Tells m outs) (sym more.rest) h

@@ -1,12 +1,11 @@
 -- The end that a thread is started with.
-use Rattle.std.specs.Prelude.{◌≡◌, ◌⊎◌, ℕ, ◌<◌, true, Some, length, slice_index}
+use Rattle.std.specs.Prelude.{◌≡◌, ◌⊎◌, ℕ, ◌<◌, Some, length}
 use Rattle.atomic_table.specs.Seated.{TableId}
 use Rattle.flu_fork.specs.declared.content.Content.{Content}
 use Rattle.flu_fork.specs.declared.lots.Ask.{Ask}
 use Rattle.flu_fork.specs.Lots.{nodes}
-use Rattle.flu_fork.specs.Serving.{AsksAbove}
-use Rattle.flu_worker.specs.Hands.{is_open}
 use Rattle.flu_worker.specs.Notes.{WorkerNote}
+use Rattle.flu_worker.specs.Ties.{AskedFor, HangsFrom}
 use Rattle.flu_link.specs.Notes.{UpperNote, LowerNote, lower_start}
 use Rattle.flu_run.specs.EndNotes.{top_start}
 
@@ -18,10 +17,8 @@ pub record StartsAt (k : Content) (w : ℕ) (l : LowerNote) : Type 0 where
 
 -- what was asked when the end above was looked at
 pub record IsAskedNow (n : WorkerNote) (l : LowerNote) (y : Ask) : Type 0 where
-  pub opened : is_open n.hand ≡ true
   pub noted : l.ask ≡ Some y
-  pub above : AsksAbove n.case n.node y
-  pub next : y.index ≡ slice_index n.held.upto y.itag.0
+  pub tie : HangsFrom n (AskedFor y)
 
 -- the other end of a link, as it was when the link was made
 pub record EndStarts (u : UpperNote) (l : LowerNote) : Type 0 where

@@ -55,7 +55,9 @@ impl<'a, G: Gate, R: Threads + Wait + Sync, B: Engine<R>> TreeEngine<'a, G, R, B
     ) -> TreeEngine<'a, G, R, B>
         requires valid { IsValidFor (program_of checked.now) valid.now }
         requires backup { B.program_of backup ≡ program_of checked.now }
-        ensures { result.checked.now ≡ checked.now }
+        ensures checked { result.checked.now ≡ checked.now }
+        ensures valid { result.valid.now ≡ valid.now }
+        ensures backup { result.backup ≡ backup }
     {
         TreeEngine {
             checked,

@@ -21,6 +21,7 @@ use Rattle.flu_worker.specs.Agreeing.{Agrees, IsFirstOf, IsTarget, IsExactFor}
 use Rattle.flu_worker.specs.Choosing.{Sight, own_itags, next_at, takes, if_ready, event_of, serves, least_next}
 use Rattle.flu_worker.specs.Choosing.{least_ready, ask_for, if_serves, is_same_ask, first_some, new_target}
 use Rattle.flu_worker.specs.LawsBelow.{LawsBelow}
+use Rattle.flu_worker.specs.Next.{IsReadyOwn}
 use Rattle.flu_worker.proofs.Changing.{above_just_before}
 use Rattle.flu_worker.proofs.EarliestLemmas.{all_where, found_is}
 use Rattle.flu_worker.proofs.Nodes.{not_leaf, own_owner, own_below, above_not_below}
@@ -91,27 +92,25 @@ module _ (laws : LawsBelow) (s : Sight) where
       (both _ _ inside (or_left _ _ (not_leaf (kids s.case s.node) inner))) (n, le, at)).1
 
   -- ---- the events that are found
-  pub record IsReadyOwn (x : Event) : Type 0 where
-    pub known : x.itag.0 < count_of_itags (job s.case)
-    pub mine : own (job s.case) (nodes s.case) s.node x.itag.0 ≡ true
-    pub is : IsEventAt (setting_of s.case) x.itag.0 (slice_index s.counts x.itag.0) x
-    pub ready : takes s x ≡ true
+  -- the itag of a next event is the one that it was found at
+  pub itag_is : (i : Itag) (x : Event) → next_at s i ≡ Some x → x.itag ≡ i
+  itag_is i x e =
+      let at : IsEventAt (setting_of s.case) i.0 (slice_index s.counts i.0) x =
+      laws.seen_events (slice_index_or (listed s.case.streams) i.0 []) (slice_index s.seen i.0) (slice_index s.counts i.0) x e in
+      λ j. record { 0 = (laws.events (setting_of s.case) i.0 (slice_index s.counts i.0) x (laws.settings s.case) at).itag j }
 
   -- the next event of an own itag, where there is one that passes a test
   next_own : (i : Itag) → i.0 < count_of_itags (job s.case) → owns (job s.case) (nodes s.case) s.node i ≡ true → (x : Event) → next_at s i ≡ Some x
-      → takes s x ≡ true → IsReadyOwn x
+      → takes s x ≡ true → IsReadyOwn s x
   next_own i lt mine x e ready =
-      let at : IsEventAt (setting_of s.case) i.0 (slice_index s.counts i.0) x =
-      laws.seen_events (slice_index_or (listed s.case.streams) i.0 []) (slice_index s.seen i.0) (slice_index s.counts i.0) x e in
-      let same : x.itag.0 ≡ i.0 = (laws.events (setting_of s.case) i.0 (slice_index s.counts i.0) x (laws.settings s.case) at).itag in
-      record {
-        known = subst (λ (u : ℕ). u < count_of_itags (job s.case)) (sym same) lt;
-        mine = ap (own (job s.case) (nodes s.case) s.node) same ∙ mine;
-        is = subst (λ (u : ℕ). IsEventAt (setting_of s.case) u (slice_index s.counts u) x) (sym same) at;
-        ready = ready;
-      }
+      subst (λ (j : Itag). j.0 < count_of_itags (job s.case) → owns (job s.case) (nodes s.case) s.node j ≡ true → next_at s j ≡ Some x → IsReadyOwn s x)
+      (itag_is i x e) (λ known own next. record { known = known; own = own; next = next; ready = ready }) lt mine e
 
-  if_some : (o : Option Event) (x : Event) → if_ready s o ≡ Some x → (o ≡ Some x) × (takes s x ≡ true)
+  -- it is the event at its place in the stream
+  pub ready_at : (x : Event) → IsReadyOwn s x → IsEventAt (setting_of s.case) x.itag.0 (slice_index s.counts x.itag.0) x
+  ready_at x r = laws.seen_events (slice_index_or (listed s.case.streams) x.itag.0 []) (slice_index s.seen x.itag.0) (slice_index s.counts x.itag.0) x r.next
+
+  pub if_some : (o : Option Event) (x : Event) → if_ready s o ≡ Some x → (o ≡ Some x) × (takes s x ≡ true)
   if_some None x e = cc
   if_some (Some y) x e =
       elim (takes s y) as (λ t. takes s y ≡ t → cond t (Some y) None ≡ Some x → (Some y ≡ Some x) × (takes s x ≡ true)) [
@@ -122,34 +121,34 @@ module _ (laws : LawsBelow) (s : Sight) where
       nothing : {x : Event} → None ≡ Some x → ⊥
       nothing e = cc
 
-  pub ready_found : (x : Event) → least_ready s ≡ Some x → IsReadyOwn x
+  pub ready_found : (x : Event) → least_ready s ≡ Some x → IsReadyOwn s x
   ready_found =
-      found_is IsReadyOwn (λ i. if_ready s (next_at s i)) (own_itags s.case s.node)
-      (all_where (job s.case) (owns (job s.case) (nodes s.case) s.node) (λ i. (x : Event) → if_ready s (next_at s i) ≡ Some x → IsReadyOwn x)
+      found_is (IsReadyOwn s) (λ i. if_ready s (next_at s i)) (own_itags s.case s.node)
+      (all_where (job s.case) (owns (job s.case) (nodes s.case) s.node) (λ i. (x : Event) → if_ready s (next_at s i) ≡ Some x → IsReadyOwn s x)
       (λ i lt mine x e. (let h = if_some (next_at s i) x e in next_own i lt mine x h.0 h.1)))
 
-  pub least_found : (x : Event) → if_ready s (least_next s) ≡ Some x → IsReadyOwn x
+  pub least_found : (x : Event) → if_ready s (least_next s) ≡ Some x → IsReadyOwn s x
   least_found x e =
       let h = if_some (least_next s) x e in
-      found_is (λ z. takes s z ≡ true → IsReadyOwn z) (next_at s) (own_itags s.case s.node)
-      (all_where (job s.case) (owns (job s.case) (nodes s.case) s.node) (λ i. (z : Event) → next_at s i ≡ Some z → takes s z ≡ true → IsReadyOwn z)
+      found_is (λ z. takes s z ≡ true → IsReadyOwn s z) (next_at s) (own_itags s.case s.node)
+      (all_where (job s.case) (owns (job s.case) (nodes s.case) s.node) (λ i. (z : Event) → next_at s i ≡ Some z → takes s z ≡ true → IsReadyOwn s z)
       (λ i lt mine z f r. next_own i lt mine z f r)) x h.0 h.1
 
   -- ---- targets
   module _ (held upto : List ℕ) (agrees : Agrees s.case s.node s.counts held upto) where
-    pub ready_target : (x : Event) → IsReadyOwn x → IsTarget s.case s.node s.counts upto (record { itag = x.itag; index = slice_index s.counts x.itag.0 })
+    pub ready_target : (x : Event) → IsReadyOwn s x → IsTarget s.case s.node s.counts upto (record { itag = x.itag; index = slice_index s.counts x.itag.0 })
     ready_target x r = record {
       known = r.known;
-      next = agrees.mine x.itag.0 r.mine;
-      place = inl r.mine;
+      next = agrees.mine x.itag.0 r.own;
+      place = inl r.own;
       event = x;
-      is = r.is;
+      is = ready_at x r;
       clear_own = ready_own x r.ready;
       clear_above = λ _. ready_above x r.ready;
-      first_own = λ inner. ready_first (own (job s.case) (nodes s.case) s.node) x (λ j h. or_left _ _ h) inner r.ready r.is;
+      first_own = λ inner. ready_first (own (job s.case) (nodes s.case) s.node) x (λ j h. or_left _ _ h) inner r.ready (ready_at x r);
       first_above =
           λ inner _. ready_first (above (job s.case) (nodes s.case) s.node) x
-          (λ j h. or_right (own (job s.case) (nodes s.case) s.node j) _ h) inner r.ready r.is;
+          (λ j h. or_right (own (job s.case) (nodes s.case) s.node j) _ h) inner r.ready (ready_at x r);
     }
 
     pub serving_target : (y : Ask) → AsksAbove s.case s.node y → y.index ≡ slice_index held y.itag.0 → serves s (event_of s.case y) ≡ true
@@ -172,13 +171,13 @@ module _ (laws : LawsBelow) (s : Sight) where
               first_above = λ inner mine. absurd (not_both _ (own_below laws s.case s.node y.itag.0 up.known mine) out);
             }
 
-    ask_target : (o : Option Event) → ((x : Event) → o ≡ Some x → IsReadyOwn x) → (y : Ask) → ask_for s o ≡ Some y
+    ask_target : (o : Option Event) → ((x : Event) → o ≡ Some x → IsReadyOwn s x) → (y : Ask) → ask_for s o ≡ Some y
         → IsTarget s.case s.node s.counts upto y × (own (job s.case) (nodes s.case) s.node y.itag.0 ≡ true)
     ask_target None found y e = cc
     ask_target (Some x) found y e =
         let r = found x refl in
         subst (λ (z : Ask). IsTarget s.case s.node s.counts upto z × (own (job s.case) (nodes s.case) s.node z.itag.0 ≡ true)) (some_ask e)
-        (ready_target x r, r.mine)
+        (ready_target x r, r.own)
 
     pub leaf_target : (y : Ask) → ask_for s (least_ready s) ≡ Some y
         → IsTarget s.case s.node s.counts upto y × (own (job s.case) (nodes s.case) s.node y.itag.0 ≡ true)

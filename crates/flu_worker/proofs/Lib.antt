@@ -7,6 +7,7 @@ pub mod Dues
 pub mod Rising
 pub mod Aiming
 pub mod Serving
+pub mod Nexts
 pub mod Steps
 pub mod Ruling
 pub mod Lending

@@ -16,13 +16,14 @@ use Rattle.flu_fork.specs.Serving.{AsksAbove}
 use Rattle.flu_worker.specs.Choosing.{Sight, serves}
 use Rattle.flu_worker.specs.Laws.{TargetsAreOne}
 use Rattle.flu_worker.specs.LawsBelow.{LawsBelow}
-use Rattle.flu_worker.proofs.Aiming.{IsReadyOwn, least_found}
+use Rattle.flu_worker.specs.Next.{IsReadyOwn}
+use Rattle.flu_worker.proofs.Aiming.{least_found, ready_at}
 use Rattle.flu_worker.proofs.Nodes.{not_leaf, own_not_above}
 
-module _ (laws : LawsBelow) (s : Sight) (inner : IsSome (kids s.case s.node)) (x : Event) (r : IsReadyOwn laws s x) (y : Ask) (up : AsksAbove s.case s.node y)
+module _ (laws : LawsBelow) (s : Sight) (inner : IsSome (kids s.case s.node)) (x : Event) (r : IsReadyOwn s x) (y : Ask) (up : AsksAbove s.case s.node y)
     (next : y.index ≡ slice_index s.counts y.itag.0) (e : Event) (at : IsEventAt (setting_of s.case) y.itag.0 y.index e) where
   other : y.itag.0 ≢ x.itag.0
-  other same = not_both _ (ap (above (job s.case) (nodes s.case) s.node) (sym same) ∙ up.above) (own_not_above laws s.case s.node x.itag.0 r.known r.mine)
+  other same = not_both _ (ap (above (job s.case) (nodes s.case) s.node) (sym same) ∙ up.above) (own_not_above laws s.case s.node x.itag.0 r.known r.own)
 
   own_first : is_before x e ≡ true
   own_first =
@@ -35,7 +36,7 @@ module _ (laws : LawsBelow) (s : Sight) (inner : IsSome (kids s.case s.node)) (x
       false_if_not _ (λ ready.
       not_both _ own_first
       (laws.serving (job s.case) (nodes s.case) (listed s.case.streams) s.node s.seen s.counts e x.itag.0 x (laws.settings s.case).streams ready r.known
-      (both _ _ r.mine (or_left _ _ (not_leaf (kids s.case s.node) inner))) (slice_index s.counts x.itag.0, omega arith, r.is)).1)
+      (both _ _ r.own (or_left _ _ (not_leaf (kids s.case s.node) inner))) (slice_index s.counts x.itag.0, omega arith, ready_at laws s x r)).1)
 
 pub one_target : LawsBelow → TargetsAreOne
 one_target laws s x y inner found up next =

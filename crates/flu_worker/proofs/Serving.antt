@@ -46,6 +46,19 @@ whole_next n y next = by_test (is_whole n.hand) _ next
     by_test true o e = refl
     by_test false o e = cc
 
+-- the kept target, where it is the worker's own
+pub own_some : (n : WorkerNote) (y : Ask) (o : Option Ask) → if_own (sight n) o ≡ Some y → (o ≡ Some y) × (own_of n y.itag.0 ≡ true)
+own_some n y None e = cc
+own_some n y (Some x) e =
+    elim (owns (job n.case) (nodes n.case) n.node x.itag) as (λ t. owns (job n.case) (nodes n.case) n.node x.itag ≡ t → cond t (Some x) None ≡ Some y
+    → (Some x ≡ Some y) × (own_of n y.itag.0 ≡ true)) [
+      | true ↦ λ mine f. (f, ap (λ (a : Ask). own_of n a.itag.0) (sym (some_ask f)) ∙ mine)
+      | false ↦ λ mine f. absurd (nothing f)
+    ] refl e
+  where
+    nothing : {x : Ask} → None ≡ Some x → ⊥
+    nothing e = cc
+
 -- the lot is as the event needs it
 pub record Aims (n : WorkerNote) (lot : Lot) (y : Ask) : Type 0 where
   pub target : IsTarget n.case n.node n.counts lot.upto y
@@ -102,24 +115,12 @@ module _ (laws : LawsBelow) (n : WorkerNote) (there : n.node < length (nodes n.c
     pub next_hand : is_whole n.hand ≡ true
     next_hand = (both_parts (is_whole n.hand) _ next).0
 
-    own_some : (o : Option Ask) → if_own (sight n) o ≡ Some y → (o ≡ Some y) × (own_of n y.itag.0 ≡ true)
-    own_some None e = cc
-    own_some (Some x) e =
-        elim (owns (job n.case) (nodes n.case) n.node x.itag) as (λ t. owns (job n.case) (nodes n.case) n.node x.itag ≡ t → cond t (Some x) None ≡ Some y
-        → (Some x ≡ Some y) × (own_of n y.itag.0 ≡ true)) [
-          | true ↦ λ mine f. (f, ap (λ (a : Ask). own_of n a.itag.0) (sym (some_ask f)) ∙ mine)
-          | false ↦ λ mine f. absurd (nothing f)
-        ] refl e
-      where
-        nothing : {x : Ask} → None ≡ Some x → ⊥
-        nothing e = cc
-
     pub next_aims : Aims n lot y × (own_of n y.itag.0 ≡ true)
     next_aims =
         elim (is_none (kids n.case n.node)) as (λ t. is_none (kids n.case n.node) ≡ t
         → cond t (ask_for (sight n) (least_ready (sight n))) (if_own (sight n) n.kept) ≡ Some y → Aims n lot y × (own_of n y.itag.0 ≡ true)) [
           | true ↦ λ leaf e. (let t = leaf_target laws (sight n) n.held.upto lot.upto h.agrees y e in (aims_at_leaf (no_kids _ leaf) y t.0, t.1))
-          | false ↦ λ inner e. (let o = own_some n.kept e in (aims_at_kept y o.0, o.1))
+          | false ↦ λ inner e. (let o = own_some n y n.kept e in (aims_at_kept y o.0, o.1))
         ] refl (both_parts (is_whole n.hand) _ next).1
 
     pub next_exact : IsExactFor n.case n.node lot.upto y next_aims.0.target.event

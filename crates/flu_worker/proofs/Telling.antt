@@ -11,6 +11,7 @@ use Rattle.flu_fork.specs.Serving.{LotCounts}
 use Rattle.flu_fork.specs.Settings.{events_at}
 use Rattle.flu_mail.specs.declared.mailbox.Mailbox.{Mailbox}
 use Rattle.flu_worker.specs.declared.hand.Hand.{Hand}
+use Rattle.flu_worker.specs.declared.hand.Hand.TheVariants.{Empty, Whole, Lending, Down, Taking}
 use Rattle.flu_worker.specs.declared.hand.Side.{Side}
 use Rattle.flu_worker.specs.declared.hand.Side.TheVariants.{Left, Right}
 use Rattle.flu_worker.specs.declared.holding.Holding.{Holding}
@@ -19,14 +20,14 @@ use Rattle.flu_worker.specs.declared.holding.Holding.TheVariants.{LendingRight, 
 use Rattle.flu_worker.specs.Agreeing.{Agrees, IsTarget}
 use Rattle.flu_worker.specs.Hands.{is_lost, is_open, is_out}
 use Rattle.flu_worker.specs.Holding.{hand_of}
-use Rattle.flu_worker.specs.Keeping.{HasRule, KeepsIn, LotsFit}
+use Rattle.flu_worker.specs.Keeping.{HasRule, KeepsIn, LotsFit, SeeingKeepsTheRule}
 use Rattle.flu_worker.specs.LawsBelow.{LawsBelow}
 use Rattle.flu_worker.specs.Notes.{WorkerNote, lent_to, own_of, above_of}
 use Rattle.flu_worker.specs.Rule.{Rule, Holds, IsMailed}
 use Rattle.flu_worker.proofs.CountLemmas.{upto_of}
 use Rattle.flu_worker.proofs.Aiming.{never_ask}
 use Rattle.flu_worker.proofs.Nodes.{above_not_below}
-use Rattle.flu_worker.proofs.Steps.{counts_long, counted_within}
+use Rattle.flu_worker.proofs.Steps.{counts_long, counted_within, holds_seen}
 
 counted : (n : WorkerNote) (mail : Mailbox) → IsMailed n mail → (i : ℕ) → slice_index n.counts i ≤ length (events_at (setting_of n.case) i)
 counted n mail m i =
@@ -135,9 +136,37 @@ rule_told laws n mail h rule = record {
   long = counts_long n mail rule.mailed;
   shape = rule.hand ∙ sym (ap hand_of rule.here);
   lots = subst (λ (g : Holding). LotsFit n g) (sym rule.here) (lots n h rule.holds);
+  holds = subst (λ (g : Holding). Holds n g) (sym rule.here) rule.holds;
   counted = counted n mail rule.mailed;
   keeps = subst (λ (g : Hand). KeepsIn g n) (sym rule.hand) (keeps n h rule.holds);
   held = λ i opened lost lt over. held laws n h rule.holds i (ap is_open (sym rule.hand) ∙ opened) (ap is_lost (sym rule.hand) ∙ lost) lt over;
   lent = λ s i out place. lent n h rule.holds s i (ap (is_out s) (sym rule.hand) ∙ out) place;
   target = target n h rule.holds;
 }
+
+-- ---- what is seen
+keeps_seen : (n : WorkerNote) (seen : List ℕ) (h : Hand) → KeepsIn h n → KeepsIn h (record n { seen = seen })
+keeps_seen n seen Empty k = k
+keeps_seen n seen Whole k = record { leaf = k.leaf; inner = k.inner }
+keeps_seen n seen (Lending l r) k = record { inner = k.inner; kept = k.kept; some = k.some }
+keeps_seen n seen Down k = k
+keeps_seen n seen (Taking l r) k = λ e. (let t = k e in record { inner = t.inner; kept = t.kept; some = t.some })
+
+pub rule_seen : SeeingKeepsTheRule
+rule_seen n seen h = record {
+  there = h.there;
+  long = h.long;
+  shape = h.shape;
+  lots = lots (record n { seen = seen }) n.holding (holds_seen n seen n.holding h.holds);
+  holds = holds_seen n seen n.holding h.holds;
+  counted = h.counted;
+  keeps = keeps_seen n seen n.hand h.keeps;
+  held = h.held;
+  lent = by_side;
+  target = h.target;
+}
+  where
+    by_side : (s : Side) (j : ℕ) → is_out s n.hand ≡ true → (own_of n j ≡ true) ⊎ (above_of n j ≡ true)
+        → slice_index n.counts j ≡ slice_index (lent_to s (record n { seen = seen })).upto j
+    by_side Left = h.lent Left
+    by_side Right = h.lent Right

@@ -23,7 +23,8 @@ use Rattle.flu_worker.specs.Choosing.{Sight, own_itags, next_at, takes, if_ready
 use Rattle.flu_worker.specs.Choosing.{least_next, ask_for, if_serves, first_some}
 use Rattle.flu_worker.specs.Laws.{NewTargets, AllSeen, own_by, above_by, HasReady, AskedGoOn, OwnGoOn, NothingIsNext}
 use Rattle.flu_worker.specs.LawsBelow.{LawsBelow}
-use Rattle.flu_worker.proofs.Aiming.{IsReadyOwn, known_at, least_found, some_ask}
+use Rattle.flu_worker.specs.Next.{IsReadyOwn}
+use Rattle.flu_worker.proofs.Aiming.{known_at, least_found, some_ask}
 use Rattle.flu_worker.proofs.EarliestLemmas.{NotBefore, all_where, first_is_ready, found_is, later_not_before}
 use Rattle.flu_worker.proofs.EarliestLemmas.{none_before, none_is_ready, not_before, where_all}
 use Rattle.flu_worker.proofs.Nodes.{own_not_above}
@@ -31,9 +32,9 @@ use Rattle.flu_worker.proofs.Rising.{rises}
 
 -- ---- a new target
 module _ (laws : LawsBelow) (s : Sight) where
-  asks_own : (o : Option Event) → ((x : Event) → o ≡ Some x → IsReadyOwn laws s x) → (y : Ask) → ask_for s o ≡ Some y → own_by s y.itag.0 ≡ true
+  asks_own : (o : Option Event) → ((x : Event) → o ≡ Some x → IsReadyOwn s x) → (y : Ask) → ask_for s o ≡ Some y → own_by s y.itag.0 ≡ true
   asks_own None found y e = cc
-  asks_own (Some x) found y e = subst (λ (z : Ask). own_by s z.itag.0 ≡ true) (some_ask e) (found x refl).mine
+  asks_own (Some x) found y e = subst (λ (z : Ask). own_by s z.itag.0 ≡ true) (some_ask e) (found x refl).own
 
   serves_asked : (o : Option Ask) (y : Ask) → if_serves s o ≡ Some y → o ≡ Some y
   serves_asked None y e = cc

@@ -109,7 +109,7 @@ first_some (Some y) b = Some y
 -- ---- what the worker does, by what it has seen, its hand and its kept target
 
 -- HANDLE: the event that it takes next, where its hand is whole: at a leaf the least own next event that it may take, at an inner worker its target, where that
--- is its own
+-- is its own. As a relation that determines it: laws::next_events_are_least
 abbrev pub next_by : Sight → Hand → Option Ask → Option Ask
 next_by s hand kept = if is_whole hand then (if is_none (kids s.case s.node) then ask_for s (least_ready s) else if_own s kept) else None
 

@@ -1,5 +1,5 @@
 -- What a worker's rule says of what contracts see of it, in each hand.
-use Rattle.std.specs.Prelude.{◌≡◌, ◌⊎◌, ◌||◌, ℕ, ◌<◌, ◌≤◌, Bool, true, false, Some, None, length, slice_index, IsSome, ⊤}
+use Rattle.std.specs.Prelude.{◌≡◌, ◌⊎◌, ◌||◌, ℕ, ◌<◌, ◌≤◌, Bool, true, false, Some, None, List, length, slice_index, IsSome, ⊤}
 use Rattle.flu_model.specs.Itags.{count_of_itags}
 use Rattle.flu_fork.specs.declared.lots.Ask.{Ask}
 use Rattle.flu_fork.specs.declared.lots.Lot.{Lot}
@@ -16,6 +16,7 @@ use Rattle.flu_worker.specs.Agreeing.{IsTarget}
 use Rattle.flu_worker.specs.Hands.{at_side, is_lost, is_open, is_out}
 use Rattle.flu_worker.specs.Holding.{hand_of}
 use Rattle.flu_worker.specs.Notes.{WorkerNote, lent_to, own_of, above_of}
+use Rattle.flu_worker.specs.Rule.{Holds}
 
 -- a leaf keeps no target, and an inner worker whose parts both came back has one
 pub record KeepsWhole (n : WorkerNote) : Type 0 where
@@ -62,6 +63,8 @@ pub record HasRule (n : WorkerNote) : Type 0 where
   pub long : length n.counts ≡ count_of_itags (job n.case)
   pub shape : n.hand ≡ hand_of n.holding
   pub lots : LotsFit n n.holding
+  -- what its rule says of what it has in its hand
+  pub holds : Holds n n.holding
   pub counted : (i : ℕ) → slice_index n.counts i ≤ length (events_at (setting_of n.case) i)
   pub keeps : KeepsIn n.hand n
   -- while the lot is here or parts of it are out, the events of the itags above are counted as in the lot that was held, and in a part that is out those of the
@@ -72,3 +75,7 @@ pub record HasRule (n : WorkerNote) : Type 0 where
       → slice_index n.counts i ≡ slice_index (lent_to s n).upto i
   -- a kept target is one by what is counted
   pub target : (y : Ask) → n.kept ≡ Some y → IsTarget n.case n.node n.counts n.counts y
+
+-- SEEING KEEPS IT: no more is said of a worker by what it has seen
+abbrev pub SeeingKeepsTheRule : Type 0
+SeeingKeepsTheRule = (n : WorkerNote) (seen : List ℕ) → HasRule n → HasRule (record n { seen = seen })

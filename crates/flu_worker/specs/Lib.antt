@@ -14,3 +14,5 @@ pub mod Doing
 pub mod Finishing
 pub mod LawsBelow
 pub mod Laws
+pub mod Next
+pub mod Ties

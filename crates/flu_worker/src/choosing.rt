@@ -305,7 +305,7 @@ fn if_own(case: &Case, node: u32, mail: &Mailbox, kept: Option<Ask>) -> Option<A
     }
 }
 
-/// The event that a worker takes next.
+/// The event that a worker takes next: `laws::next_events_are_least` says which one that is.
 pub fn next_ask(
     case: &Case,
     node: u32,

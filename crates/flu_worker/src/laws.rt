@@ -1,8 +1,11 @@
 //! What holds of the choices of a worker, and the laws on which its rule rests. Each law is the contract of a function that does
 //! nothing.
 
+ghost use Rattle.flu_worker.specs.Keeping.{SeeingKeepsTheRule};
 ghost use Rattle.flu_worker.specs.Laws.{TargetsAreOne, NewTargets, AskedGoOn, OwnGoOn, NothingIsNext};
 ghost use Rattle.flu_worker.specs.LawsBelow.{LawsBelow};
+ghost use Rattle.flu_worker.specs.Next.{LeastIsOne, LeavesTakeTheLeast, LeavesTakeNothing, OthersTakeTheTarget, TargetsAreFirst};
+ghost use Rattle.flu_worker.specs.Next.{NothingWithoutTheLot, NextIsExact};
 ghost use Rattle.flu_worker.specs.Turning.{LendTurns, TakeTurns, FirstIsHere, StartIsHere, StartIsShut};
 
 /// Of an inner worker's two possible targets only one is there: where it may take its least next event, it may not serve the next
@@ -30,6 +33,33 @@ pub fn waiting_ends()
 {
     laws_below();
 }
+
+/// Which event a worker takes next (`next_of`). A leaf that has its lot takes the least own event that is ready, of which there is one
+/// at most, and nothing where no own event is ready. An inner worker takes its target where that is its own, and none of its own
+/// events that are not counted, nor of those of the itags above, is before it. Without its whole lot a worker takes nothing.
+pub fn next_events_are_least()
+    ensures leaf { LeavesTakeTheLeast }
+    ensures none { LeavesTakeNothing }
+    ensures one { LeastIsOne }
+    ensures inner { OthersTakeTheTarget }
+    ensures first { TargetsAreFirst }
+    ensures whole { NothingWithoutTheLot }
+{
+    laws_below();
+}
+
+/// Each event that a worker takes next has an exact place for the counts of the lot in its hand: of each itag on which the event
+/// depends, just the events before it are counted.
+pub fn next_events_are_exact()
+    ensures { NextIsExact }
+{
+    laws_below();
+}
+
+/// What a worker's rule says does not rest on how many items it has seen.
+pub fn seeing_keeps_the_rule()
+    ensures { SeeingKeepsTheRule }
+{}
 
 /// What a step does to the shape of a hand: a part that is lent was here and is out, one that is taken was out and is here, and the
 /// other side stays as it was. At the start no part is out, and only the root has a lot.

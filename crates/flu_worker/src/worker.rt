@@ -219,7 +219,8 @@ impl Worker {
     }
 
     /// The event that it takes next, by what it has seen and counted: at a leaf that has its lot the least next event of the node's
-    /// own that is ready, at an inner worker that has its lot its target, where that is its own. It takes no memory.
+    /// own that is ready, at an inner worker that has its lot its target, where that is its own. That this is what `next_of` says, and
+    /// that there is no other, is `laws::next_events_are_least`. It takes no memory.
     ///
     /// At a leaf it looks once at each of the node's own itags, and then once at each itag for which the least event waits; where this
     /// one is not ready, the others are tried.

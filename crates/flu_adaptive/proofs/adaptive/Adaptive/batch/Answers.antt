@@ -20,7 +20,7 @@ invariant_of-self-in_err-anew g c =
             (listed c.args.s.now) c.self.invariant.0.one_each c.count_events.ensures;
       },
       refl,
-      c.batch-ran.new.self.same_job ∙ ap program_of (c.batch-ran.ensures.same ∙ c.new-engine.ensures),
+      c.batch-ran.new.self.same_job ∙ ap program_of (c.batch-ran.ensures.same ∙ c.new-engine.ensures.checked),
     )
 
 pub invariant_of-self-2 : goal.invariant_of-self-2
@@ -32,5 +32,5 @@ invariant_of-self-2 g c =
             (listed c.args.s.now) c.self.invariant.0.one_each c.count_events.ensures;
       },
       refl,
-      c.batch-ran.new.self.same_job ∙ ap program_of (c.batch-ran.ensures.same ∙ c.new-engine.ensures),
+      c.batch-ran.new.self.same_job ∙ ap program_of (c.batch-ran.ensures.same ∙ c.new-engine.ensures.checked),
     )
