@@ -277,23 +277,29 @@ def rounds(bench):
 
 @measurement("Checkpoints", runs=3)
 def checkpoints(bench):
-    table("Cells", "Text", "Read", "times `json.loads`", "Written", "times `json.dumps`", "Memory held, bytes a cell")
     inputs.totals()
     job = subprocess.run(bench.flumina("check", "totals.job"), check=True, stdout=subprocess.PIPE, text=True).stdout
     words = ("run", "totals.job", "one.plan")
+    # Whether the program has this option.
+    unflushed = bench.once("unflushed", bench.flumina(*words, "--save", "again.save", "--unflushed"), Figure()) == 0
+    heads = ("Cells", "Text", "Read", "times `json.loads`", "Written", "times `json.dumps`", "Memory held, bytes a cell")
+    table(*heads, *["Written, not flushed"] * unflushed)
     start = bench.of(*words).wall
     for count in 100000, 1000000, 4194304:
         count = inputs.some(count)
         inputs.write("cells.save", inputs.checkpoint(count, 1, job))
-        figures = bench.compare(
-            read=bench.flumina(*words, "--resume", "cells.save"), both=bench.flumina(*words, "--save", "again.save", "--resume", "cells.save")
-        )
+        resume = ("--resume", "cells.save")
+        commands = {"read": bench.flumina(*words, *resume), "both": bench.flumina(*words, "--save", "again.save", *resume)}
+        if unflushed:
+            commands["unflushed"] = bench.flumina(*words, "--save", "again.save", "--unflushed", *resume)
+        figures = bench.compare(**commands)
         if text("again.save") != inputs.checkpoint(count, 2**63 - 1, job).encode():
             sys.exit("what is written again is not what was read")
         size, loads, dumps = os.path.getsize("cells.save") / 2**20, *by_python("cells.save")
         read, written = figures["read"].wall - start, figures["both"].wall - figures["read"].wall
         held = figures["both"].held / count
-        row(f"{count:,}", f"{size:.1f} MB", f"{read:.2f} s", f"{read / loads:.1f}", f"{written:.2f} s", f"{written / dumps:.1f}", f"{held:.0f}")
+        cells = [f"{count:,}", f"{size:.1f} MB", f"{read:.2f} s", f"{read / loads:.1f}", f"{written:.2f} s", f"{written / dumps:.1f}", f"{held:.0f}"]
+        row(*cells, *[f"{it.wall - figures['read'].wall:.2f} s" for name, it in figures.items() if name == "unflushed"])
     with open("long.save", "wb") as it:
         it.truncate(536870913)
     figure = Figure()
