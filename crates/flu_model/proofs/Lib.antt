@@ -1,2 +1,1 @@
 pub mod ItagLemmas
-pub mod ErasureLemmas

@@ -24,7 +24,7 @@ pub use jobs::{
 pub use limits::{KEY_COUNT, What};
 pub use lists::List;
 pub use modes::Mode;
-pub use names::{cell_text, tag_text};
+pub use names::tag_text;
 pub use plans::{Node, Plan, Pred, matches};
 pub use streams::Streams;
 pub use words::{Name, Text};

@@ -1,10 +1,10 @@
-//! How reports and faults name tags and cells.
+//! How reports name tags.
 
 ghost use Rattle.std.specs.Prelude.{◌≡◌, ◌++◌, OnOk, IfOk};
 ghost use Rattle.std.specs.String.{string_bytes};
-ghost use Rattle.flu_model.specs.Reports.{text_of_tag, text_of_cell, name_with_key};
+ghost use Rattle.flu_model.specs.Reports.{text_of_tag, name_with_key};
 
-use crate::events::{Cell, Tag};
+use crate::events::Tag;
 use crate::jobs::Program;
 use crate::words::Text;
 use std::alloc::{AllocError, Global};
@@ -15,16 +15,6 @@ pub fn tag_text(alloc: Global, p: &Program, t: Tag) -> Result<Text, AllocError>
 {
     match p.kinds.items().get(t.kind as usize) {
         Some(kind) => keyed_name(alloc, kind.name.as_str(), kind.keyed, t.key),
-        None => Ok(Text::of(String::new(alloc))),
-    }
-}
-
-/// A cell as a text: `family`, or `family[key]` where the family is keyed.
-pub fn cell_text(alloc: Global, p: &Program, c: Cell) -> Result<Text, AllocError>
-    ensures { IfOk result (λ text. text ≡ text_of_cell p.now c) }
-{
-    match p.families.items().get(c.family as usize) {
-        Some(family) => keyed_name(alloc, family.name.as_str(), family.keyed, c.key),
         None => Ok(Text::of(String::new(alloc))),
     }
 }
