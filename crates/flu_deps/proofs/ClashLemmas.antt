@@ -1,7 +1,7 @@
 -- Where two tags conflict on a cell, something clashes that a quick test has noted.
 use Rattle.std.proofs.Common.{◌≡◌, ◌<◌, ◌%◌, ℕ, Bool, true, false, cond, List, length, refl, sym, ap, ◌∙◌}
 use Rattle.std.specs.Prelude.{not, nat_lt, ◌==◌, ◌&&◌, ◌||◌, slice_index}
-use Rattle.std.specs.List.{list_any}
+use Rattle.std.specs.List.{list_any, list_all}
 use Rattle.std.proofs.lemmas.Bool.{or_left, or_right}
 use Rattle.flu_lemmas.proofs.Booleans.{second_of}
 use Rattle.flu_lemmas.proofs.Searches.{eq_true}
@@ -21,11 +21,12 @@ use Rattle.flu_deps.specs.declared.visits.Place.{Place}
 use Rattle.flu_deps.specs.declared.visits.Place.TheVariants.{Own, Fixed, All}
 use Rattle.flu_deps.specs.declared.visits.Class.{Class}
 use Rattle.flu_deps.specs.declared.visits.Class.TheVariants.{Needs, Writes, Adds, Raises}
+use Rattle.flu_deps.specs.declared.visits.Marks.{Marks}
 use Rattle.flu_deps.specs.declared.clashes.Clashes.{Clashes}
 use Rattle.flu_deps.specs.Conflicts.{conflicts_on}
-use Rattle.flu_deps.specs.LoopVisits.{has, word_at, in_class, is_marked, is_met}
-use Rattle.flu_deps.specs.LoopClashes.{kind_actions, tag_at, marked_test, met_test, IsDone, AreDone, FindsClashes, may_clash}
-use Rattle.flu_deps.proofs.TouchLemmas.{at_place, of_way, use_found}
+use Rattle.flu_deps.specs.LoopVisits.{has, word_at, in_class, is_marked, is_met, action_all}
+use Rattle.flu_deps.specs.LoopClashes.{kind_actions, tag_at, marked_test, met_test, IsDone, Noted, Apart, HasMarks, IsNoted, AreApart, AreDone, FindsClashes, may_clash}
+use Rattle.flu_deps.proofs.TouchLemmas.{FoundIn, at_place, covers, of_way, use_found}
 
 -- ---- two modes that conflict, and the ways of which they are
 -- a way of a class in which the cell is used
@@ -115,7 +116,7 @@ module _ (v : ℕ) (r o a x r2 o2 a2 x2 : Bool) where
 
 -- ---- what is marked and met at one cell
 module _ (p : Program) (t : Clashes) (i j : ℕ) (li : i < count_of_itags p) (lj : j < count_of_itags p) (one other : Class)
-    (done : IsDone p one other (tag_at p i).kind (tag_at p j).kind t) (back : IsDone p other one (tag_at p j).kind (tag_at p i).kind t) where
+    (done : IsNoted p one other (tag_at p i).kind (tag_at p j).kind t) (back : IsNoted p other one (tag_at p j).kind (tag_at p i).kind t) where
   abbrev a : Tag
   a = tag_at p i
 
@@ -187,6 +188,31 @@ module _ (p : Program) (t : Clashes) (i j : ℕ) (li : i < count_of_itags p) (lj
       (and_right (not (has back.marks.whole f) || back.meeting.always) (has back.meeting.own f)
       (and_right (not (has back.marks.own f) || back.meeting.same_key) ((not (has back.marks.whole f) || back.meeting.always) && has back.meeting.own f) by))
 
+-- ---- kinds that are apart
+same_family : (key : ℕ) (c : Cell) (family : ℕ) (place : Place) → covers key c family place ≡ true → family ≡ c.family
+same_family key c family place covered = true_eq family c.family (and_left (family == c.family) (at_place key c.key place) covered)
+
+any_has : (m : Marks) (f : ℕ) (place : Place) → is_marked m f place ≡ true → has m.any f ≡ true
+any_has m f Own h = and_left (has m.any f) (has m.own f) h
+any_has m f (Fixed n) h = and_left (has m.any f) (has (word_at m n) f) h
+any_has m f All h = and_left (has m.any f) (has m.whole f) h
+
+-- what a kind touches by a class is in one of its families
+family_has : (p : Program) (k : Class) (a families key : ℕ) (c : Cell) (way : Way) → HasMarks p k a families → in_class p.version k way ≡ true
+    → FoundIn (λ test. list_all (action_all test) (kind_actions p a)) key c way → has families c.family ≡ true
+family_has p k a families key c way has_marks is found =
+    let m = has_marks.marks in
+    let marked : is_marked m found.family found.place ≡ true =
+    second_of (in_class p.version k way) (is_marked m found.family found.place) is (found.passes (marked_test p.version k m) has_marks.marked) in
+    ap (λ w. has w c.family) has_marks.any ∙ ap (λ f. has m.any f) (sym (same_family key c found.family found.place found.covered))
+    ∙ any_has m found.family found.place marked
+
+never_apart : (p : Program) (k l : Class) (a b key other_key : ℕ) (c : Cell) (way other_way : Way) → in_class p.version k way ≡ true
+    → in_class p.version l other_way ≡ true → FoundIn (λ test. list_all (action_all test) (kind_actions p a)) key c way
+    → FoundIn (λ test. list_all (action_all test) (kind_actions p b)) other_key c other_way → AreApart p k l a b → ⊥
+never_apart p k l a b key other_key c way other_way is other_is found other apart =
+    apart.none c.family (family_has p k a apart.ours key c way apart.here is found) (family_has p l b apart.theirs other_key c other_way apart.there other_is other)
+
 -- ---- conflicts
 module _ (p : Program) (t : Clashes) (finds : FindsClashes p t) (i j : ℕ) (li : i < count_of_itags p) (lj : j < count_of_itags p)
     (fits : (tag_fits p.kinds (tag_at p i) && tag_fits p.kinds (tag_at p j)) ≡ true) (c : Cell) where
@@ -211,6 +237,35 @@ module _ (p : Program) (t : Clashes) (finds : FindsClashes p t) (i j : ℕ) (li 
       true_lt second.kind (length p.kinds)
       (and_left (nat_lt second.kind (length p.kinds)) _ (and_right (tag_fits p.kinds first) (tag_fits p.kinds second) fits))
 
+  where_noted : (k l : Class) (ways others : Way) → in_class p.version k ways ≡ true → in_class p.version l others ≡ true
+      → FoundIn (λ test. list_all (action_all test) ours) first.key c ways → FoundIn (λ test. list_all (action_all test) theirs) second.key c others
+      → IsDone p k l first.kind second.kind t → IsDone p l k second.kind first.kind t → may_clash t i first j second ≡ true
+  where_noted k l ways others is_one is_other one other (Noted done) (Noted back) =
+      let one_family = same_family first.key c one.family one.place one.covered in
+      let other_family = same_family second.key c other.family other.place other.covered in
+      let marked : is_marked done.marks one.family one.place ≡ true =
+      second_of (in_class p.version k ways) (is_marked done.marks one.family one.place) is_one (one.passes (marked_test p.version k done.marks) done.marked) in
+      let met : is_met done.marks done.meeting other.family other.place ≡ true =
+      second_of (in_class p.version l others) (is_met done.marks done.meeting other.family other.place) is_other
+      (other.passes (met_test p.version l done.marks done.meeting) done.met) in
+      let marked_back : is_marked back.marks other.family other.place ≡ true =
+      second_of (in_class p.version l others) (is_marked back.marks other.family other.place) is_other
+      (other.passes (marked_test p.version l back.marks) back.marked) in
+      let met_back : is_met back.marks back.meeting one.family one.place ≡ true =
+      second_of (in_class p.version k ways) (is_met back.marks back.meeting one.family one.place) is_one
+      (one.passes (met_test p.version k back.marks back.meeting) back.met) in
+      noted_at p t i j li lj k l done back c.family c.key one.place other.place
+      (and_right (one.family == c.family) (at_place first.key c.key one.place) one.covered)
+      (and_right (other.family == c.family) (at_place second.key c.key other.place) other.covered)
+      (ap (λ (f : ℕ). is_marked done.marks f one.place) (sym one_family) ∙ marked)
+      (ap (λ (f : ℕ). is_met done.marks done.meeting f other.place) (sym other_family) ∙ met)
+      (ap (λ (f : ℕ). is_marked back.marks f other.place) (sym other_family) ∙ marked_back)
+      (ap (λ (f : ℕ). is_met back.marks back.meeting f one.place) (sym one_family) ∙ met_back)
+  where_noted k l ways others is_one is_other one other (Apart apart) back =
+      absurd (never_apart p k l first.kind second.kind first.key second.key c ways others is_one is_other one other apart)
+  where_noted k l ways others is_one is_other one other (Noted done) (Apart apart) =
+      absurd (never_apart p l k second.kind first.kind second.key first.key c others ways is_other is_one other one apart)
+
   may_where_conflict : conflicts_on p first second c ≡ true → may_clash t i first j second ≡ true
   may_where_conflict conflict =
       let r : Bool = list_any (action_reads first.key c) ours in
@@ -225,33 +280,8 @@ module _ (p : Program) (t : Clashes) (finds : FindsClashes p t) (i j : ℕ) (li 
       paired p.version r o a x r2 o2 a2 x2 (mode_of p first c) (mode_of p second c) conflict (carried p.version r o a x) (carried p.version r2 o2 a2 x2) in
       let done = noted p t clash.one clash.other finds clash.pair first.kind second.kind first_kind second_kind in
       let back = noted p t clash.other clash.one finds (turned clash.one clash.other clash.pair) second.kind first.kind second_kind first_kind in
-      let ways = clash.first.way in
-      let others = clash.second.way in
-      let one = use_found ours first.key c ways clash.first.holds in
-      let other = use_found theirs second.key c others clash.second.holds in
-      let one_family : one.family ≡ c.family =
-      true_eq one.family c.family (and_left (one.family == c.family) (at_place first.key c.key one.place) one.covered) in
-      let other_family : other.family ≡ c.family =
-      true_eq other.family c.family (and_left (other.family == c.family) (at_place second.key c.key other.place) other.covered) in
-      let marked : is_marked done.marks one.family one.place ≡ true =
-      second_of (in_class p.version clash.one ways) (is_marked done.marks one.family one.place) clash.first.is
-      (one.passes (marked_test p.version clash.one done.marks) done.marked) in
-      let met : is_met done.marks done.meeting other.family other.place ≡ true =
-      second_of (in_class p.version clash.other others) (is_met done.marks done.meeting other.family other.place) clash.second.is
-      (other.passes (met_test p.version clash.other done.marks done.meeting) done.met) in
-      let marked_back : is_marked back.marks other.family other.place ≡ true =
-      second_of (in_class p.version clash.other others) (is_marked back.marks other.family other.place) clash.second.is
-      (other.passes (marked_test p.version clash.other back.marks) back.marked) in
-      let met_back : is_met back.marks back.meeting one.family one.place ≡ true =
-      second_of (in_class p.version clash.one ways) (is_met back.marks back.meeting one.family one.place) clash.first.is
-      (one.passes (met_test p.version clash.one back.marks back.meeting) back.met) in
-      noted_at p t i j li lj clash.one clash.other done back c.family c.key one.place other.place
-      (and_right (one.family == c.family) (at_place first.key c.key one.place) one.covered)
-      (and_right (other.family == c.family) (at_place second.key c.key other.place) other.covered)
-      (ap (λ (f : ℕ). is_marked done.marks f one.place) (sym one_family) ∙ marked)
-      (ap (λ (f : ℕ). is_met done.marks done.meeting f other.place) (sym other_family) ∙ met)
-      (ap (λ (f : ℕ). is_marked back.marks f other.place) (sym other_family) ∙ marked_back)
-      (ap (λ (f : ℕ). is_met back.marks back.meeting f one.place) (sym one_family) ∙ met_back)
+      where_noted clash.one clash.other clash.first.way clash.second.way clash.first.is clash.second.is (use_found ours first.key c clash.first.way clash.first.holds)
+      (use_found theirs second.key c clash.second.way clash.second.holds) done back
 
   pub no_conflict : may_clash t i first j second ≡ false → conflicts_on p first second c ≡ false
   no_conflict none = false_if_not (conflicts_on p first second c) (λ h. not_both (may_clash t i first j second) (may_where_conflict h) none)

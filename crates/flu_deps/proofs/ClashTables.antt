@@ -9,7 +9,7 @@ use Rattle.flu_model.specs.declared.jobs.Program.{Program}
 use Rattle.flu_deps.specs.declared.visits.Class.{Class}
 use Rattle.flu_deps.specs.declared.clashes.Clashes.{Clashes}
 use Rattle.flu_deps.specs.LoopVisits.{has}
-use Rattle.flu_deps.specs.LoopClashes.{IsDone, KeepsClashes}
+use Rattle.flu_deps.specs.LoopClashes.{IsDone, Noted, Apart, KeepsClashes}
 
 pub set_there : (xs : List ℕ) (i v : ℕ) → i < length xs → slice_index (set xs i v) i ≡ v
 set_there xs i v lt = get_or-set_at xs i i v 0 refl lt
@@ -28,7 +28,7 @@ kept_through t u v f g = record {
 }
 
 pub done_kept : (p : Program) (one other : Class) (a b : ℕ) (t u : Clashes) → KeepsClashes t u → IsDone p one other a b t → IsDone p one other a b u
-done_kept p one other a b t u kept done = record {
+done_kept p one other a b t u kept (Noted done) = Noted (record {
   marks = done.marks;
   meeting = done.meeting;
   marked = done.marked;
@@ -36,7 +36,8 @@ done_kept p one other a b t u kept done = record {
   always = λ h. kept.always _ b (done.always h);
   same_key = λ h. kept.same_key _ b (done.same_key h);
   fixed = λ j lt kind family there own. kept.fixed j a (done.fixed j lt kind family there own);
-}
+})
+done_kept p one other a b t u kept (Apart apart) = Apart apart
 
 -- a word of a table that gets one more number keeps the others
 pub word_kept : (xs : List ℕ) (i word : ℕ) → i < length xs → ((n : ℕ) → has (slice_index xs i) n ≡ true → has word n ≡ true)

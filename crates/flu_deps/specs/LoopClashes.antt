@@ -40,8 +40,21 @@ abbrev pub IsFixedNoted : Program → Marks → Meeting → ℕ → ℕ → Clas
 IsFixedNoted p m n a b t j =
     (tag_at p j).kind ≡ b → (family : ℕ) → has (word_at m (tag_at p j).key) family ≡ true → has n.own family ≡ true → has (slice_index t.fixed j) a ≡ true
 
--- what clashes by these classes of two kinds is noted
-pub record IsDone (p : Program) (one other : Class) (a b : ℕ) (t : Clashes) : Type 0 where
+-- these families are touched by a class in some actions, and are marked
+pub record HasMarks (p : Program) (class : Class) (a families : ℕ) : Type 0 where
+  pub marks : Marks
+  pub marked : list_all (action_all (marked_test p.version class marks)) (kind_actions p a) ≡ true
+  pub any : families ≡ marks.any
+
+-- a table has the families that each of the kinds before n touches by a class
+abbrev pub HasFamiliesBelow : Program → Class → List ℕ → ℕ → Type 0
+HasFamiliesBelow p class table n = (a : ℕ) → a < n → HasMarks p class a (slice_index table (a % 64))
+
+abbrev pub HasFamilies : Program → Class → List ℕ → Type 0
+HasFamilies p class table = HasFamiliesBelow p class table (length p.kinds)
+
+-- what meets by these classes of two kinds is noted
+pub record IsNoted (p : Program) (one other : Class) (a b : ℕ) (t : Clashes) : Type 0 where
   pub marks : Marks
   pub meeting : Meeting
   pub marked : list_all (action_all (marked_test p.version one marks)) (kind_actions p a) ≡ true
@@ -49,6 +62,19 @@ pub record IsDone (p : Program) (one other : Class) (a b : ℕ) (t : Clashes) : 
   pub always : meeting.always ≡ true → has (slice_index t.always (a % 64)) b ≡ true
   pub same_key : meeting.same_key ≡ true → has (slice_index t.same_key (a % 64)) b ≡ true
   pub fixed : (j : ℕ) → j < count_of_itags p → IsFixedNoted p marks meeting a b t j
+
+-- two kinds touch no family by these classes, one each
+pub record AreApart (p : Program) (one other : Class) (a b : ℕ) : Type 0 where
+  pub ours : ℕ
+  pub theirs : ℕ
+  pub here : HasMarks p one a ours
+  pub there : HasMarks p other b theirs
+  pub none : (family : ℕ) → has ours family ≡ true → has theirs family ≡ true → ⊥
+
+-- what clashes by these classes of two kinds is noted
+pub data IsDone (p : Program) (one other : Class) (a b : ℕ) (t : Clashes) : Type 0 where
+  Noted : IsNoted p one other a b t → IsDone p one other a b t
+  Apart : AreApart p one other a b → IsDone p one other a b t
 
 abbrev pub AreDone : Program → Class → Class → Clashes → Type 0
 AreDone p one other t = (a b : ℕ) → a < length p.kinds → b < length p.kinds → IsDone p one other a b t

@@ -6,7 +6,7 @@ ghost use Rattle.flu_model.specs.Itags.{count_of_itags, tag_of_itag};
 ghost use Rattle.flu_model.specs.Rules.{tag_fits};
 ghost use Rattle.flu_deps.specs.Conflicts.{NeverConflict};
 ghost use Rattle.flu_deps.specs.LoopVisits.{has, action_all};
-ghost use Rattle.flu_deps.specs.LoopClashes.{kind_actions, marked_test, met_test, HasTags, IsFixedNoted, IsDone, AreDone, KeepsClashes, FindsClashes};
+ghost use Rattle.flu_deps.specs.LoopClashes.{kind_actions, marked_test, met_test, HasTags, IsFixedNoted, IsNoted, IsDone, AreDone, KeepsClashes, FindsClashes, HasFamilies, HasMarks};
 ghost use Rattle.flu_deps.specs.LoopClashes.{may_clash};
 
 use crate::visits::{Class, Marks, Meeting, Visit, has, with};
@@ -33,6 +33,20 @@ fn meet(x: u64, y: u64) -> bool
     ensures { (n : ℕ) → has x n ≡ true → has y n ≡ true → result ≡ true }
 {
     x & y != 0
+}
+
+// The families that each kind touches by a class.
+fn families_of(p: &Program, visit: &mut Visit, class: Class) -> [u64; 64]
+    requires version { visit.old.version ≡ p.now.version }
+    ensures families { HasFamilies p.now class result }
+    ensures version { visit.new.version ≡ visit.old.version }
+{
+    let mut families = [0; 64];
+    for a in 0..p.kinds.items().len() as u32 {
+        visit.mark(class, actions_of(p, Tag { kind: a, key: 0 }));
+        families[(a % 64) as usize] = visit.marks.any;
+    }
+    families
 }
 
 fn tags_of(p: &Program) -> Tags
@@ -69,7 +83,8 @@ impl Clashes {
         clashes
     }
 
-    // What clashes by one class of the first kind and the other of the second.
+    // What clashes by one class of the first kind and the other of the second. Two kinds that have no family in common do not, so
+    // that the actions of a kind are gone through once for each kind with which it has one.
     fn note(&mut self, p: &Program, tags: &Tags, visit: &mut Visit, one: Class, other: Class)
         requires tags { HasTags p.now tags.now }
         requires version { visit.old.version ≡ p.now.version }
@@ -77,8 +92,9 @@ impl Clashes {
         ensures kept { KeepsClashes self.old self.new }
         ensures version { visit.new.version ≡ visit.old.version }
     {
+        let theirs = families_of(p, visit, other);
         for a in 0..p.kinds.items().len() as u32 {
-            self.note_kind(p, tags, visit, one, other, a);
+            self.note_kind(p, tags, visit, one, other, &theirs, a);
         }
     }
 
@@ -89,18 +105,48 @@ impl Clashes {
         visit: &mut Visit,
         one: Class,
         other: Class,
+        theirs: &[u64; 64],
         a: u32,
     )
         requires tags { HasTags p.now tags.now }
         requires version { visit.old.version ≡ p.now.version }
+        requires theirs { HasFamilies p.now other theirs.now }
         ensures done { (b : ℕ) → b < length p.now.kinds → IsDone p.now one other a b self.new }
         ensures kept { KeepsClashes self.old self.new }
         ensures version { visit.new.version ≡ visit.old.version }
     {
         visit.mark(one, actions_of(p, Tag { kind: a, key: 0 }));
         for b in 0..p.kinds.items().len() as u32 {
-            self.note_pair(p, tags, visit, one, other, a, b);
+            let families = theirs[(b % 64) as usize];
+            self.note_two(p, tags, visit, one, other, families, a, b);
         }
+    }
+
+    // The same, where these are the families that kind b touches by the other class.
+    fn note_two(
+        &mut self,
+        p: &Program,
+        tags: &Tags,
+        visit: &mut Visit,
+        one: Class,
+        other: Class,
+        theirs: u64,
+        a: u32,
+        b: u32,
+    )
+        requires tags { HasTags p.now tags.now }
+        requires version { visit.old.version ≡ p.now.version }
+        requires marked { list_all (action_all (marked_test p.now.version one visit.old.marks)) (kind_actions p.now a) ≡ true }
+        requires theirs { HasMarks p.now other b theirs }
+        ensures done { IsDone p.now one other a b self.new }
+        ensures kept { KeepsClashes self.old self.new }
+        ensures version { visit.new.version ≡ visit.old.version }
+        ensures marks { visit.new.marks ≡ visit.old.marks }
+    {
+        if !meet(visit.marks.any, theirs) {
+            return;
+        }
+        self.note_pair(p, tags, visit, one, other, a, b);
     }
 
     fn note_pair(
@@ -116,7 +162,7 @@ impl Clashes {
         requires tags { HasTags p.now tags.now }
         requires version { visit.old.version ≡ p.now.version }
         requires marked { list_all (action_all (marked_test p.now.version one visit.old.marks)) (kind_actions p.now a) ≡ true }
-        ensures done { IsDone p.now one other a b self.new }
+        ensures done { IsNoted p.now one other a b self.new }
         ensures kept { KeepsClashes self.old self.new }
         ensures version { visit.new.version ≡ visit.old.version }
         ensures marks { visit.new.marks ≡ visit.old.marks }

@@ -134,63 +134,63 @@ few_later g low last (x ∷ xs) up all =
     ]
 
 -- ---- what is held of a source
-pub up_to_last : (h : Inlet) (l : ℕ) → h.last ≡ Some l → list_all (λ (item : Item). nat_le (item_time item) l) h.items.items ≡ true
-up_to_last h l e = ap (λ o. list_all (λ (item : Item). nat_le (item_time item) (unwrap_or o 0)) h.items.items) (sym e) ∙ h.within
+pub up_to_last : (h : Inlet) (l : ℕ) → h.last ≡ Some l → list_all (λ (item : Item). nat_le (item_time item) l) h.items ≡ true
+up_to_last h l e = ap (λ o. list_all (λ (item : Item). nat_le (item_time item) (unwrap_or o 0)) h.items) (sym e) ∙ h.within
 
 nothing : (items : List Item) → items ≡ [] → length items ≡ 0
 nothing items e = ap length e
 
 -- where nothing is settled, no more than the slack has times
-pub few_at_first : (slack l : ℕ) (h : Inlet) → h.last ≡ Some l → l < slack → length h.items.items ≤ slack
+pub few_at_first : (slack l : ℕ) (h : Inlet) → h.last ≡ Some l → l < slack → length h.items ≤ slack
 few_at_first slack l h is lt =
-    let k = few_from 0 l h.items.items (rising item_time 0 h.items.items h.rising) (up_to_last h l is) in omega (arith, k, lt)
+    let k = few_from 0 l h.items (rising item_time 0 h.items h.rising) (up_to_last h l is) in omega (arith, k, lt)
 
 -- an item more moves the greatest time
 pub all_within : (h : Inlet) (item : Item) (last : Option ℕ) → last ≡ Some (max (unwrap_or h.last 0) (item_time item))
-    → list_all (λ (x : Item). nat_le (item_time x) (unwrap_or last 0)) (put_late item_time item h.items.items) ≡ true
+    → list_all (λ (x : Item). nat_le (item_time x) (unwrap_or last 0)) (put_late item_time item h.items) ≡ true
 all_within h item last is =
     let top = max (unwrap_or h.last 0) (item_time item) in
-    ap (λ o. list_all (λ (x : Item). nat_le (item_time x) (unwrap_or o 0)) (put_late item_time item h.items.items)) is
-    ∙ all_late (λ (x : Item). nat_le (item_time x) top) item_time item h.items.items (le_true (item_time item) top (omega arith))
-    (list_all_weaker (λ (x : Item). nat_le (item_time x) (unwrap_or h.last 0)) (λ (x : Item). nat_le (item_time x) top) h.items.items
+    ap (λ o. list_all (λ (x : Item). nat_le (item_time x) (unwrap_or o 0)) (put_late item_time item h.items)) is
+    ∙ all_late (λ (x : Item). nat_le (item_time x) top) item_time item h.items (le_true (item_time item) top (omega arith))
+    (list_all_weaker (λ (x : Item). nat_le (item_time x) (unwrap_or h.last 0)) (λ (x : Item). nat_le (item_time x) top) h.items
     (λ x e. le_true (item_time x) top (let le = true_le (item_time x) (unwrap_or h.last 0) e in omega (arith, le))) h.within)
 
 -- those that are not settled
 pub few_behind : (slack l : ℕ) (h : Inlet) → h.last ≡ Some l → slack ≤ l
-    → length (filter (λ (item : Item). nat_lt (l - slack) (item_time item)) h.items.items) ≤ slack
+    → length (filter (λ (item : Item). nat_lt (l - slack) (item_time item)) h.items) ≤ slack
 few_behind slack l h is le =
-    let k = few_later (l - slack) 0 l h.items.items (rising item_time 0 h.items.items h.rising) (up_to_last h l is) in omega (arith, k, le)
+    let k = few_later (l - slack) 0 l h.items (rising item_time 0 h.items h.rising) (up_to_last h l is) in omega (arith, k, le)
 
 pub count_all : (items : List Item) → count_above None items ≡ length items
 count_all items = ap length (kept_true items)
 
 -- what is not enough is few, with one item to come
-pub short_few : (rows : ℕ) (s : Source) (h : Inlet) → 1 ≤ rows → IsShort rows s (source_of h) → count_above h.goal h.items.items < rows + s.slack
+pub short_few : (rows : ℕ) (s : Source) (h : Inlet) → 1 ≤ rows → IsShort rows s (source_of h) → count_above h.goal h.items < rows + s.slack
 short_few rows s h one short = by_last h.last refl
   where
-    up : RisesFrom item_time 0 h.items.items
-    up = rising item_time 0 h.items.items h.rising
+    up : RisesFrom item_time 0 h.items
+    up = rising item_time 0 h.items h.rising
 
-    some : count_above h.goal h.items.items ≤ length h.items.items
-    some = fewer (λ (item : Item). is_above h.goal (item_time item)) h.items.items
+    some : count_above h.goal h.items ≤ length h.items
+    some = fewer (λ (item : Item). is_above h.goal (item_time item)) h.items
 
-    by_goal : (l : ℕ) → h.last ≡ Some l → s.slack ≤ l → (goal : Option ℕ) → h.goal ≡ goal → count_above h.goal h.items.items < rows + s.slack
+    by_goal : (l : ℕ) → h.last ≡ Some l → s.slack ≤ l → (goal : Option ℕ) → h.goal ≡ goal → count_above h.goal h.items < rows + s.slack
     by_goal l is le None caught =
-        let e : enough_of rows s.slack h.last h.items.items ≡ None =
-        ap (λ g. without g (enough_of rows s.slack h.last h.items.items)) (sym caught) ∙ short.0 in
+        let e : enough_of rows s.slack h.last h.items ≡ None =
+        ap (λ g. without g (enough_of rows s.slack h.last h.items)) (sym caught) ∙ short.0 in
         let at : settled s.slack h.last ≡ Some (l - s.slack) = ap (settled s.slack) is ∙ settled_some s.slack l le in
-        let few = none_enough rows s.slack (l - s.slack) h.last h.items.items e at in
-        let all = few_unsettled (l - s.slack) 0 l h.items.items up (up_to_last h l is) in
+        let few = none_enough rows s.slack (l - s.slack) h.last h.items e at in
+        let all = few_unsettled (l - s.slack) 0 l h.items up (up_to_last h l is) in
         omega (arith, some, few, all, le)
     by_goal l is le (Some g) to_come =
         let at : settled s.slack h.last ≡ Some (l - s.slack) = ap (settled s.slack) is ∙ settled_some s.slack l le in
         let lt : l - s.slack < g = short.1 g (l - s.slack) to_come at in
-        let later = few_later g 0 l h.items.items up (up_to_last h l is) in
-        let e : count_above h.goal h.items.items ≡ count_above (Some g) h.items.items = ap (λ o. count_above o h.items.items) to_come in
+        let later = few_later g 0 l h.items up (up_to_last h l is) in
+        let e : count_above h.goal h.items ≡ count_above (Some g) h.items = ap (λ o. count_above o h.items) to_come in
         omega (arith, e, later, lt, le, one)
 
-    by_last : (o : Option ℕ) → h.last ≡ o → count_above h.goal h.items.items < rows + s.slack
-    by_last None is = let e = nothing h.items.items (h.none is) in omega (arith, e, some, one)
+    by_last : (o : Option ℕ) → h.last ≡ o → count_above h.goal h.items < rows + s.slack
+    by_last None is = let e = nothing h.items (h.none is) in omega (arith, e, some, one)
     by_last (Some l) is = elim (cases_lt l s.slack) [
       | inl lt ↦ let few = few_at_first s.slack l h is lt in omega (arith, few, some, one)
       | inr le ↦ by_goal l is le h.goal refl
@@ -198,14 +198,14 @@ short_few rows s h one short = by_last h.last refl
 
 -- so there is room for it
 pub room_here : (rows : ℕ) (s : Source) (h : Inlet) → 1 ≤ rows → rows ≤ 4096 → s.slack ≤ 60000 → IsShort rows s (source_of h) → HasRoom h
-    → length h.items.items < 64096
+    → length h.items < 64096
 room_here rows s h one most slack short room = by_goal h.goal refl
   where
-    by_goal : (goal : Option ℕ) → h.goal ≡ goal → length h.items.items < 64096
+    by_goal : (goal : Option ℕ) → h.goal ≡ goal → length h.items < 64096
     by_goal (Some g) is = room g is
     by_goal None is =
         let few = short_few rows s h one short in
-        let e : count_above h.goal h.items.items ≡ length h.items.items = ap (λ o. count_above o h.items.items) is ∙ count_all h.items.items in
+        let e : count_above h.goal h.items ≡ length h.items = ap (λ o. count_above o h.items) is ∙ count_all h.items in
         omega (arith, few, e, most, slack)
 
 count_timed : (goal time : Option ℕ) (item : Item) (items : List Item) → count_above goal (put_timed time item items) ≤ count_above goal items + 1
@@ -213,13 +213,13 @@ count_timed goal None item items = omega arith
 count_timed goal (Some t) item items = one_more (λ (x : Item). is_above goal (item_time x)) item_time item items
 
 pub few_row : (rows : ℕ) (kinds : List Kind) (s : Source) (first : ℕ) (now mid new : Inlet) (row : Row) → 1 ≤ rows → IsShort rows s (source_of now)
-    → mid.items.items ≡ now.items.items → mid.goal ≡ now.goal → PutsIn kinds s first row mid new → IsFew rows s new
+    → mid.items ≡ now.items → mid.goal ≡ now.goal → PutsIn kinds s first row mid new → IsFew rows s new
 few_row rows kinds s first now mid new row one short items goal puts =
     let was = short_few rows s now one short in
-    let more = count_timed new.goal (time_in row) (item_of kinds s first row) mid.items.items in
-    let e : count_above new.goal new.items.items ≡ count_above new.goal (put_timed (time_in row) (item_of kinds s first row) mid.items.items) =
+    let more = count_timed new.goal (time_in row) (item_of kinds s first row) mid.items in
+    let e : count_above new.goal new.items ≡ count_above new.goal (put_timed (time_in row) (item_of kinds s first row) mid.items) =
     ap (count_above new.goal) puts.items in
-    let f : count_above new.goal mid.items.items ≡ count_above now.goal now.items.items = (λ i. count_above ((puts.goal ∙ goal) i) (items i)) in
+    let f : count_above new.goal mid.items ≡ count_above now.goal now.items = (λ i. count_above ((puts.goal ∙ goal) i) (items i)) in
     omega (arith, was, more, e, f)
 
 pub few_caught : (rows : ℕ) (s : Source) (old new : Inlet) → CatchesUp s.slack old new → IsFew rows s old → IsFew rows s new
@@ -227,28 +227,28 @@ few_caught rows s old new c few = by_items c.items
   where
     by_items : IsCaughtUp s.slack old new → IsFew rows s new
     by_items (Stays items goal) =
-        let e : count_above new.goal new.items.items ≡ count_above old.goal old.items.items = (λ i. count_above (goal i) (items i)) in omega (arith, e, few)
+        let e : count_above new.goal new.items ≡ count_above old.goal old.items = (λ i. count_above (goal i) (items i)) in omega (arith, e, few)
     by_items (Drops t goal goes at lt was now items) =
-        let e : count_above new.goal new.items.items ≡ count_above old.goal (filter (λ (item : Item). nat_lt t (item_time item)) old.items.items) =
+        let e : count_above new.goal new.items ≡ count_above old.goal (filter (λ (item : Item). nat_lt t (item_time item)) old.items) =
         (λ i. count_above ((now ∙ sym was) i) (items i)) in
-        let less = fewer_again (λ (item : Item). is_above old.goal (item_time item)) (λ (item : Item). nat_lt t (item_time item)) old.items.items in
+        let less = fewer_again (λ (item : Item). is_above old.goal (item_time item)) (λ (item : Item). nat_lt t (item_time item)) old.items in
         omega (arith, e, less, few)
     by_items (Comes goal at was now items) =
-        let later = filter (λ (item : Item). nat_lt goal (item_time item)) old.items.items in
-        let e : count_above new.goal new.items.items ≡ length later = (λ i. count_above (now i) (items i)) ∙ count_all later in
-        let f : count_above old.goal old.items.items ≡ length later = ap (λ o. count_above o old.items.items) was in
+        let later = filter (λ (item : Item). nat_lt goal (item_time item)) old.items in
+        let e : count_above new.goal new.items ≡ length later = (λ i. count_above (now i) (items i)) ∙ count_all later in
+        let f : count_above old.goal old.items ≡ length later = ap (λ o. count_above o old.items) was in
         omega (arith, e, f, few)
 
 pub few_dropped : (rows time : ℕ) (s : Source) (old new : Inlet) → DropsTo time old new → IsFew rows s old → IsFew rows s new
 few_dropped rows time s old new d few =
-    let e : count_above new.goal new.items.items ≡ count_above old.goal (filter (λ (item : Item). nat_lt time (item_time item)) old.items.items) =
+    let e : count_above new.goal new.items ≡ count_above old.goal (filter (λ (item : Item). nat_lt time (item_time item)) old.items) =
     (λ i. count_above (d.goal i) (d.items i)) in
-    let less = fewer_again (λ (item : Item). is_above old.goal (item_time item)) (λ (item : Item). nat_lt time (item_time item)) old.items.items in
+    let less = fewer_again (λ (item : Item). is_above old.goal (item_time item)) (λ (item : Item). nat_lt time (item_time item)) old.items in
     omega (arith, e, less, few)
 
-pub few_same : (rows : ℕ) (s : Source) (old new : Inlet) → new.items.items ≡ old.items.items → new.goal ≡ old.goal → IsFew rows s old → IsFew rows s new
+pub few_same : (rows : ℕ) (s : Source) (old new : Inlet) → new.items ≡ old.items → new.goal ≡ old.goal → IsFew rows s old → IsFew rows s new
 few_same rows s old new items goal few =
-    let e : count_above new.goal new.items.items ≡ count_above old.goal old.items.items = (λ i. count_above (goal i) (items i)) in omega (arith, e, few)
+    let e : count_above new.goal new.items ≡ count_above old.goal old.items = (λ i. count_above (goal i) (items i)) in omega (arith, e, few)
 
 -- ---- what is held of all sources
 pub holds_few : (p : Program) (rows : ℕ) (border : Option ℕ) (stage : Stage) (inlets : List Inlet) → AreWell p rows border inlets → AreCaughtUp inlets
@@ -256,15 +256,15 @@ pub holds_few : (p : Program) (rows : ℕ) (border : Option ℕ) (stage : Stage)
 holds_few p rows border stage inlets well caught i s at source is =
     let k = from_mapped source_of inlets i source is in
     let few = well.few i s at k.0 k.1 in
-    let e : count_above k.0.goal k.0.items.items ≡ length k.0.items.items =
-    ap (λ o. count_above o k.0.items.items) (caught i k.0 k.1) ∙ count_all k.0.items.items in
-    let f : length source.items ≡ length k.0.items.items = ap (λ (h : HeldSource). length h.items) k.2 in
+    let e : count_above k.0.goal k.0.items ≡ length k.0.items =
+    ap (λ o. count_above o k.0.items) (caught i k.0 k.1) ∙ count_all k.0.items in
+    let f : length source.items ≡ length k.0.items = ap (λ (h : HeldSource). length h.items) k.2 in
     omega (arith, few, e, f)
 
 pub holds_most : (p : Program) (rows : ℕ) (border : Option ℕ) (stage : Stage) (inlets : List Inlet) → HoldsAtMost 64096 (holding p rows border stage inlets)
 holds_most p rows border stage inlets i source is =
     let k = from_mapped source_of inlets i source is in
-    let f : length source.items ≡ length k.0.items.items = ap (λ (h : HeldSource). length h.items) k.2 in
+    let f : length source.items ≡ length k.0.items = ap (λ (h : HeldSource). length h.items) k.2 in
     omega (arith, f, k.0.few)
 
 pub still_caught_up : (time : ℕ) (olds news : List Inlet) → AreCaughtUp olds → AreDropped time olds news → AreCaughtUp news
@@ -274,14 +274,14 @@ still_caught_up time olds news caught dropped i h is =
 
 -- the lists of the items of a source up to a border
 pub few_lists : (lists : Vec (Vec Item Global) Global) (n first : ℕ) (end : Border) (h : Inlet) → vec_len lists ≡ n
-    → ((i : ℕ) → i < n → items_of_list lists i ≡ filter_map (item_for (first + i)) (taken_by end h.items.items) ++ EndItem ∷ [])
+    → ((i : ℕ) → i < n → items_of_list lists i ≡ filter_map (item_for (first + i)) (taken_by end h.items) ++ EndItem ∷ [])
     → HaveAtMost 64096 (lists_in lists)
 few_lists lists n first end h len each =
     let size : length (lists_in lists) ≡ n = simp length-map (omega (arith, lists.ok.0, len)) in
     All-from_get_or (λ (items : List Item). length items ≤ 64096 + 1) (lists_in lists) [] (λ i lt.
-    let own = filter_map (item_for (first + i)) (taken_by end h.items.items) in
-    let mapped = fewer_mapped (item_for (first + i)) (taken_by end h.items.items) in
-    let taken = fewer (λ (item : Item). is_up_to end (item_time item)) h.items.items in
+    let own = filter_map (item_for (first + i)) (taken_by end h.items) in
+    let mapped = fewer_mapped (item_for (first + i)) (taken_by end h.items) in
+    let taken = fewer (λ (item : Item). is_up_to end (item_time item)) h.items in
     let e : length (items_of_list lists i) ≡ length own + 1 = ap length (each i (rw size at lt)) ∙ length-append own (EndItem ∷ []) in
     omega (arith, e, mapped, taken, h.few))
 

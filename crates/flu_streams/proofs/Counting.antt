@@ -67,7 +67,7 @@ count_step u x xs le = let e : nat_le (item_time x) u ≡ true = grind (arith, n
 count_skip : (u : ℕ) (x : Item) (xs : List Item) → u < item_time x → count_to u (x ∷ xs) ≡ count_to u xs
 count_skip u x xs lt = let e : nat_le (item_time x) u ≡ false = grind (arith, nat_tests) in rw e refl
 
-count_within : (u : ℕ) (items : List Item) → count_to u items ≤ length items
+pub count_within : (u : ℕ) (items : List Item) → count_to u items ≤ length items
 count_within u [] = omega arith
 count_within u (x ∷ xs) =
     elim (nat_le (item_time x) u) as (λ b. length (cond b (x ∷ filter (λ (item : Item). nat_le (item_time item) u) xs)
@@ -76,11 +76,11 @@ count_within u (x ∷ xs) =
       | false ↦ omega (arith, count_within u xs)
     ]
 
-count_none : (u low : ℕ) (items : List Item) → RisesFrom item_time low items → u < low → count_to u items ≡ 0
+pub count_none : (u low : ℕ) (items : List Item) → RisesFrom item_time low items → u < low → count_to u items ≡ 0
 count_none u low [] up lt = refl
 count_none u low (x ∷ xs) up lt = count_skip u x xs (omega (arith, lt, up.0)) ∙ count_none u (item_time x + 1) xs up.1 (omega (arith, lt, up.0))
 
-count_late : (u low : ℕ) (items : List Item) (n : ℕ) → RisesFrom item_time low items → n < length items → u < item_time (get_or items n End)
+pub count_late : (u low : ℕ) (items : List Item) (n : ℕ) → RisesFrom item_time low items → n < length items → u < item_time (get_or items n End)
     → count_to u items ≤ n
 count_late u low [] n up lt late = absurd (omega (arith, lt))
 count_late u low (x ∷ xs) zero up lt late =
@@ -93,7 +93,7 @@ count_late u low (x ∷ xs) (suc n) up lt late =
       | false ↦ omega (arith, rest)
     ]
 
-count_enough : (u low : ℕ) (items : List Item) (n : ℕ) → RisesFrom item_time low items → n < length items → item_time (get_or items n End) ≤ u
+pub count_enough : (u low : ℕ) (items : List Item) (n : ℕ) → RisesFrom item_time low items → n < length items → item_time (get_or items n End) ≤ u
     → n < count_to u items
 count_enough u low [] n up lt in_time = absurd (omega (arith, lt))
 count_enough u low (x ∷ xs) zero up lt in_time = let e = count_step u x xs in_time in omega (arith, e)
@@ -107,28 +107,13 @@ count_enough u low (x ∷ xs) (suc n) up lt in_time =
 pub not_settled : (rows slack last : ℕ) (items : List Item) → last < slack → enough_of rows slack (Some last) items ≡ None
 not_settled rows slack last items lt = let e : nat_le slack last ≡ false = grind (arith, nat_tests) in rw e refl
 
-few_settled : (rows slack last : ℕ) (items : List Item) → slack ≤ last → count_to (last - slack) items < rows → enough_of rows slack (Some last) items ≡ None
-few_settled rows slack last items le few =
-    let e : nat_le slack last ≡ true = grind (arith, nat_tests) in
-    let f : nat_le rows (count_to (last - slack) items) ≡ false = grind (arith, nat_tests) in
-    rw (e, f) refl
+pub few_settled : (rows slack last : ℕ) (items : List Item) → slack ≤ last → nat_le rows (count_to (last - slack) items) ≡ false
+    → enough_of rows slack (Some last) items ≡ None
+few_settled rows slack last items le few = let e : nat_le slack last ≡ true = grind (arith, nat_tests) in rw (e, few) refl
 
-pub not_enough : (rows slack last : ℕ) (items : List Item) → slack ≤ last → length items < rows → enough_of rows slack (Some last) items ≡ None
-not_enough rows slack last items le few = few_settled rows slack last items le (omega (arith, few, count_within (last - slack) items))
-
-pub too_late : (rows slack last : ℕ) (items : List Item) → rises_from item_time 0 items ≡ true → slack ≤ last → 1 ≤ rows → rows ≤ length items
-    → last - slack < item_time (get_or items (rows - 1) End) → enough_of rows slack (Some last) items ≡ None
-too_late rows slack last items up le one few late =
-    let k = count_late (last - slack) 0 items (rows - 1) (rising item_time 0 items up) (omega (arith, one, few)) late in
-    few_settled rows slack last items le (omega (arith, k, one))
-
-pub enough_at : (rows slack last : ℕ) (items : List Item) → rises_from item_time 0 items ≡ true → slack ≤ last → 1 ≤ rows → rows ≤ length items
-    → item_time (get_or items (rows - 1) End) ≤ last - slack → enough_of rows slack (Some last) items ≡ Some (last - slack)
-enough_at rows slack last items up le one few in_time =
-    let k = count_enough (last - slack) 0 items (rows - 1) (rising item_time 0 items up) (omega (arith, one, few)) in_time in
-    let e : nat_le slack last ≡ true = grind (arith, nat_tests) in
-    let f : nat_le rows (count_to (last - slack) items) ≡ true = grind (arith, nat_tests) in
-    rw (e, f) refl
+pub many_settled : (rows slack last : ℕ) (items : List Item) → slack ≤ last → nat_le rows (count_to (last - slack) items) ≡ true
+    → enough_of rows slack (Some last) items ≡ Some (last - slack)
+many_settled rows slack last items le many = let e : nat_le slack last ≡ true = grind (arith, nat_tests) in rw (e, many) refl
 
 -- what comes of it
 pub record IsEnough (rows slack u : ℕ) (last : Option ℕ) (items : List Item) : Type 0 where

@@ -72,14 +72,14 @@ own_streams lists first n end items len each up =
 
 pub own_lists : (lists : Vec (Vec Item Global) Global) (kinds : List Kind) (s : Source) (first : ℕ) (border : Option ℕ) (end : Border)
     (lines : List Next) (h : Inlet) → vec_len lists ≡ width s
-    → ((i : ℕ) → i < width s → items_of_list lists i ≡ own_items first end h.items.items i) → IsHeldBehind kinds first s border lines (source_of h)
+    → ((i : ℕ) → i < width s → items_of_list lists i ≡ own_items first end h.items i) → IsHeldBehind kinds first s border lines (source_of h)
     → h.goal ≡ None
     → lists_in lists ≡ lists_of_rows kinds s first (rows_between border end (rows_of lines))
 own_lists lists kinds s first border end lines h len each is caught =
     let rows = rows_between border end (rows_of lines) in
     lists_are lists (width s) (items_at kinds s first rows) len
     (λ i lt. each i lt ∙ ap (λ l. filter_map (item_for (first + i)) l ++ (EndItem ∷ []))
-    (taken_items kinds s first border end (rows_of lines) h.items.items (items_caught kinds s first border lines (source_of h) is caught))
+    (taken_items kinds s first border end (rows_of lines) h.items (items_caught kinds s first border lines (source_of h) is caught))
     ∙ ap (λ l. l ++ (EndItem ∷ [])) (for_itags kinds s first i (in_time_order rows) lt))
 
 -- ---- the lists of all sources
@@ -116,7 +116,7 @@ cut_one kinds s first t border lines old new up at caught d is = record {
   file = ap (λ place. place.file) d.rows ∙ is.file;
   sound = is.sound;
   low = Some t;
-  items = d.items ∙ left_items kinds s first border t (rows_of lines) old.items.items (exceeds border t up)
+  items = d.items ∙ left_items kinds s first border t (rows_of lines) old.items (exceeds border t up)
       (items_caught kinds s first border lines (source_of old) is caught);
   last = d.last ∙ is.last;
   ended = d.ended ∙ is.ended;
@@ -194,7 +194,7 @@ dropped_well p rows t border olds news well settles caught dropped = record {
       record {
         file = ap (λ place. place.file) d.rows ∙ (well.each i s at old.0 old.1).file;
         goal = λ v e. absurd (never v (sym (caught i old.0 old.1) ∙ sym d.goal ∙ e));
-        above = λ none. rw d.items (all_kept (λ (item : Item). nat_lt t (item_time item)) old.0.items.items);
+        above = λ none. rw d.items (all_kept (λ (item : Item). nat_lt t (item_time item)) old.0.items);
         settled = λ none goes v e. let k = settles.1 i s at old.0 old.1 (sym d.closed ∙ goes) v e in (k.0, ap (settled s.slack) d.last ∙ k.1, k.2);
       };
 }

@@ -285,7 +285,7 @@ border_settled kinds s first above lines h is goes = λ t e.
 
 pub fault_held : (kinds : List Kind) (s : Source) (first : ℕ) (above : Option ℕ) (lines : List Next) (h : HeldSource) (mid : Inlet) (row : Row)
     → IsHeldBehind kinds first s above lines h
-    → h.closed ≡ false → mid.items.items ≡ h.items → mid.last ≡ h.last → mid.ended ≡ h.ended
+    → h.closed ≡ false → mid.items ≡ h.items → mid.last ≡ h.last → mid.ended ≡ h.ended
     → row_fault kinds s (has_ended (rows_of lines)) (times_of (rows_of lines)) row ≡ fault_behind kinds s mid row
 fault_held kinds s first above lines h mid row is goes items last ended =
     let at : IsSettled s.slack is.low h.last = border_settled kinds s first above lines h is goes in
@@ -294,7 +294,7 @@ fault_held kinds s first above lines h mid row is goes items last ended =
     (times_of (rows_of lines)) row ∷ [])) (sym (ended ∙ is.ended))
     ∙ ap (λ o. first_some (λ test. test) (where_true mid.ended AfterEnd ∷ test_tag kinds s row ∷ test_value kinds row ∷ o ∷ []))
     (same ∙ ap (λ l. test_late s.slack (times_in l) h.last (time_in row)) (sym items)
-    ∙ ap (λ o. test_late s.slack (times_in mid.items.items) o (time_in row)) (sym last))
+    ∙ ap (λ o. test_late s.slack (times_in mid.items) o (time_in row)) (sym last))
 
 -- ---- one line more
 one_between : (above : Option ℕ) (rows : List Row) (row : Row) → ((time : ℕ) → time_in row ≡ Some time → is_above above time ≡ true) → is_end row ≡ false
@@ -338,12 +338,12 @@ row_last rows row last top = by_time (time_in row) refl
         ∙ sym (ap greatest (times_more rows row ∙ ap (λ o. times_of rows ++ option_to_list o) at) ∙ greatest-push (times_of rows) time)
 
 passes_late : (kinds : List Kind) (s : Source) (h : Inlet) (row : Row) → fault_behind kinds s h row ≡ None
-    → test_late s.slack (times_in h.items.items) h.last (time_in row) ≡ None
+    → test_late s.slack (times_in h.items) h.last (time_in row) ≡ None
 passes_late kinds s h row e =
     let one = (or_else-none (where_true h.ended AfterEnd) _ e).1 in
     let two = (or_else-none (test_tag kinds s row) _ one).1 in
     let three = (or_else-none (test_value kinds row) _ two).1 in
-    (or_else-none (test_late s.slack (times_in h.items.items) h.last (time_in row)) None three).0
+    (or_else-none (test_late s.slack (times_in h.items) h.last (time_in row)) None three).0
 
 row_above : (slack : ℕ) (above last : Option ℕ) (times : List ℕ) (row : Row) → IsSettled slack above last → test_late slack times last (time_in row) ≡ None
     → (time : ℕ) → time_in row ≡ Some time → is_above above time ≡ true
@@ -360,7 +360,7 @@ settled_more kinds s above lines next passes at t e =
 
 pub behind_row : (kinds : List Kind) (s : Source) (first : ℕ) (above : Option ℕ) (lines : List Next) (h : HeldSource) (mid new : Inlet) (line : ℕ)
     (row : Row) → IsHeldBehind kinds first s above lines h
-    → h.closed ≡ false → mid.items.items ≡ h.items → mid.last ≡ h.last → mid.ended ≡ h.ended → mid.goal ≡ h.goal → mid.rows.file ≡ s.file
+    → h.closed ≡ false → mid.items ≡ h.items → mid.last ≡ h.last → mid.ended ≡ h.ended → mid.goal ≡ h.goal → mid.rows.file ≡ s.file
     → PutsIn kinds s first row mid new
     → IsHeldBehind kinds first s above (lines ++ RowNext line row ∷ []) (source_of new)
 behind_row kinds s first above lines h mid new line row is goes items last ended goal file puts =
@@ -368,12 +368,12 @@ behind_row kinds s first above lines h mid new line row is goes items last ended
     let fault = fault_held kinds s first above lines h mid row is goes items last ended ∙ puts.passes in
     let passes : line_defect kinds s lines (RowNext line row) ≡ None = ap (option_map (λ (why : Why). (line, why))) fault in
     let late = passes_late kinds s mid row puts.passes in
-    let up = row_above s.slack is.low mid.last (times_in mid.items.items) row (rw last at) late in
+    let up = row_above s.slack is.low mid.last (times_in mid.items) row (rw last at) late in
     record {
       file = ap (λ (place : Place). place.file) puts.rows ∙ file;
       low = is.low;
       sound = defect_in-more kinds s lines (RowNext line row) is.sound ∙ passes;
-      items = puts.items ∙ row_items kinds s first is.low (rows_of lines) row mid.items.items up (items ∙ is.items)
+      items = puts.items ∙ row_items kinds s first is.low (rows_of lines) row mid.items up (items ∙ is.items)
           ∙ ap (λ l. map (item_of kinds s first) (in_time_order (rows_between is.low Closed l))) (sym (rows_more lines line row));
       last = puts.last ∙ row_last (rows_of lines) row mid.last (last ∙ is.last) ∙ ap (λ l. greatest (times_of l)) (sym (rows_more lines line row));
       ended = puts.ended ∙ ap (λ b. b || is_end row) (ended ∙ is.ended) ∙ sym (ended_more (rows_of lines) row) ∙ ap has_ended (sym (rows_more lines line row));
@@ -435,14 +435,14 @@ all_timed kinds s first above (Beat time) items up all =
 all_timed kinds s first above End items up all = all
 
 pub well_row : (kinds : List Kind) (s : Source) (first : ℕ) (border : Option ℕ) (old mid new : Inlet) (row : Row) → IsWellAt s border old → old.closed ≡ false
-    → mid.items.items ≡ old.items.items → mid.last ≡ old.last → mid.goal ≡ old.goal → mid.rows.file ≡ s.file → PutsIn kinds s first row mid new
+    → mid.items ≡ old.items → mid.last ≡ old.last → mid.goal ≡ old.goal → mid.rows.file ≡ s.file → PutsIn kinds s first row mid new
     → IsWellAt s border new
 well_row kinds s first border old mid new row well goes items last goal file puts =
     let same : new.goal ≡ old.goal = puts.goal ∙ goal in
     record {
       file = ap (λ (place : Place). place.file) puts.rows ∙ file;
       goal = λ t e. well.goal t (sym same ∙ e);
-      above = λ none. rw (puts.items, items) (all_timed kinds s first border row old.items.items (up (sym same ∙ none)) (well.above (sym same ∙ none)));
+      above = λ none. rw (puts.items, items) (all_timed kinds s first border row old.items (up (sym same ∙ none)) (well.above (sym same ∙ none)));
       settled = λ none open' t e. let was = at (sym same ∙ none) t e in let k = settled_later s.slack mid.last (time_in row) was.0 was.1 in
           (k.0, ap (settled s.slack) puts.last ∙ k.1, omega (arith, was.2, k.2));
     }
@@ -451,7 +451,7 @@ well_row kinds s first border old mid new row well goes items last goal file put
     at none = rw last (well.settled none goes)
 
     up : old.goal ≡ None → (time : ℕ) → time_in row ≡ Some time → is_above border time ≡ true
-    up none = row_above s.slack border mid.last (times_in mid.items.items) row (at none) (passes_late kinds s mid row puts.passes)
+    up none = row_above s.slack border mid.last (times_in mid.items) row (at none) (passes_late kinds s mid row puts.passes)
 
 -- ---- a resumed run comes to its border
 exceeds_low : (low : Option ℕ) (t : ℕ) → ((l : ℕ) → low ≡ Some l → l ≤ t) → Exceeds t low
@@ -506,7 +506,7 @@ behind_caught kinds s first above lines old new c is = by_items c.items
       file = ap (λ (place : Place). place.file) c.rows ∙ is.file;
       sound = is.sound;
       low = Some t;
-      items = items ∙ left_items kinds s first is.low t (rows_of lines) old.items.items
+      items = items ∙ left_items kinds s first is.low t (rows_of lines) old.items
           (exceeds_low is.low t (λ l e. low_under s.slack t l old.last at
           (let k = is.settled goes l e in (k.0, sym (settled_held kinds s first above lines (source_of old) is) ∙ k.1, k.2)))) is.items;
       last = c.last ∙ is.last;
@@ -520,7 +520,7 @@ behind_caught kinds s first above lines old new c is = by_items c.items
       file = ap (λ (place : Place). place.file) c.rows ∙ is.file;
       sound = is.sound;
       low = Some goal;
-      items = items ∙ left_items kinds s first is.low goal (rows_of lines) old.items.items
+      items = items ∙ left_items kinds s first is.low goal (rows_of lines) old.items
           (exceeds_low is.low goal (λ l e. under_goal is.low above goal l is.up_to (is.goal goal was) e)) is.items;
       last = c.last ∙ is.last;
       ended = c.ended ∙ is.ended;
@@ -554,7 +554,7 @@ well_caught s border old new c well = by_items c.items
         record {
           file = ap (λ (place : Place). place.file) c.rows ∙ well.file;
           goal = λ v e. one_of_both new.goal v e now;
-          above = λ none. rw (is, items) (all_kept (λ (item : Item). nat_lt goal (item_time item)) old.items.items);
+          above = λ none. rw (is, items) (all_kept (λ (item : Item). nat_lt goal (item_time item)) old.items);
           settled = λ none open' t e. let k = at (sym c.closed ∙ open') in let same : goal ≡ t = some_is (sym is ∙ e) in
               (k.0, ap (settled s.slack) c.last ∙ k.1, omega (arith, same, k.2));
         }

@@ -6,6 +6,7 @@ pub mod Gatherings
 pub mod Streamings
 pub mod Turns
 pub mod Placing
+pub mod Keyed
 pub mod Cutting
 pub mod BorderLaws
 pub mod RoundLaws

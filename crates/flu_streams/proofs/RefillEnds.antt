@@ -250,7 +250,7 @@ fresh_well p rows border inlets some most is = record {
   few = λ i s at h f.
       let same : source_of h ≡ unread_source border s = fresh_at p border i s (source_of h) at
       (ap (λ (l : List HeldSource). slice_get l i) (sym is) ∙ to_mapped source_of inlets i h f) in
-      let e : count_above h.goal h.items.items ≡ 0 = ap (λ (k : HeldSource). count_above k.goal k.items) same in
+      let e : count_above h.goal h.items ≡ 0 = ap (λ (k : HeldSource). count_above k.goal k.items) same in
       omega (arith, e);
   each = λ i s at h f.
       let same : source_of h ≡ unread_source border s = fresh_at p border i s (source_of h) at

@@ -76,7 +76,7 @@ pub refilling_row : (kinds : List Kind) (s : Source) (first rows : ℕ) (old : H
     (row : Row) → 1 ≤ rows
     → ((above : Option ℕ) (before : List Next) → IsHeldBehind kinds first s above before old
     → IsRefilling kinds s first rows above before old (source_of now) a b)
-    → now.closed ≡ false → IsShort rows s (source_of now) → mid.items.items ≡ now.items.items → mid.last ≡ now.last
+    → now.closed ≡ false → IsShort rows s (source_of now) → mid.items ≡ now.items → mid.last ≡ now.last
     → mid.ended ≡ now.ended → mid.closed ≡ now.closed → mid.goal ≡ now.goal → mid.rows.file ≡ s.file
     → WhereTold b c (λ was is. ahead now.rows was ≡ then_behind (RowNext line row) (ahead mid.rows is)) → PutsIn kinds s first row mid new
     → (above : Option ℕ) (before : List Next) → IsHeldBehind kinds first s above before old
@@ -102,7 +102,7 @@ refilling_row kinds s first rows old now mid new a b c line row one so_far goes 
 meets_row : (kinds : List Kind) (s : Source) (first rows : ℕ) (above : Option ℕ) (before : List Next) (old : HeldSource) (now mid : Inlet)
     (a b c : Option Contents) (line : ℕ) (row : Row) (why : Why) → 1 ≤ rows
     → IsRefilling kinds s first rows above before old (source_of now) a b
-    → now.closed ≡ false → IsShort rows s (source_of now) → mid.items.items ≡ now.items.items → mid.last ≡ now.last
+    → now.closed ≡ false → IsShort rows s (source_of now) → mid.items ≡ now.items → mid.last ≡ now.last
     → mid.ended ≡ now.ended
     → WhereTold b c (λ was is. ahead now.rows was ≡ then_behind (RowNext line row) (ahead mid.rows is)) → fault_behind kinds s mid row ≡ Some why
     → MeetsDefect kinds s rows above before old a c line why
@@ -123,7 +123,7 @@ pub refused_row : (kinds : List Kind) (s : Source) (first rows : ℕ) (old now m
     (refusal : RowRefusal) → 1 ≤ rows
     → ((above : Option ℕ) (before : List Next) → IsHeldBehind kinds first s above before (source_of old)
     → IsRefilling kinds s first rows above before (source_of old) (source_of now) a b)
-    → now.closed ≡ false → IsShort rows s (source_of now) → mid.items.items ≡ now.items.items → mid.last ≡ now.last
+    → now.closed ≡ false → IsShort rows s (source_of now) → mid.items ≡ now.items → mid.last ≡ now.last
     → mid.ended ≡ now.ended
     → WhereTold b c (λ was is. ahead now.rows was ≡ then_behind (RowNext line row) (ahead mid.rows is)) → IsRefusal (fault_behind kinds s mid row) refusal
     → IsStopOf kinds s first rows old a c (stop_at line refusal)
@@ -183,14 +183,14 @@ pub refilled_open : (kinds : List Kind) (s : Source) (first rows u : ℕ) (old n
     → ((old.closed ≡ true → IsReadOut s.file a) → now.closed ≡ true → IsReadOut s.file b) → (IsFew rows s old → IsFew rows s now)
     → enough_in rows s.slack (source_of now) ≡ Some u → IsRefilled kinds s first rows old now a b (At u)
 refilled_open kinds s first rows u old now a b one so_far well out few e =
-    let found = without_some now.goal (enough_of rows s.slack now.last now.items.items) u e in
-    let k = enough_is rows s.slack u now.last now.items.items found.1 in
+    let found = without_some now.goal (enough_of rows s.slack now.last now.items) u e in
+    let k = enough_is rows s.slack u now.last now.items found.1 in
     record {
       keeps = well;
       few = few;
       caught = found.0;
       border = λ above was. (
-        above_at above u now.items.items ((well above was).above found.0) (omega (arith, one, k.count)),
+        above_at above u now.items ((well above was).above found.0) (omega (arith, one, k.count)),
         omega (arith, under_last s.slack u now.last k.settles, now.range),
       );
       turn = k.settles;
@@ -223,7 +223,7 @@ pub refilled_end : (kinds : List Kind) (s : Source) (first rows : ℕ) (old now 
     → IsShort rows s (source_of now)
     → WhereTold b c (λ was is. ahead now.rows was ≡ then_behind next (ahead shut.rows is)) → IsNoRow next → defect_behind now.ended next ≡ None
     → IsReadOut s.file c
-    → shut.items.items ≡ now.items.items → shut.last ≡ now.last → shut.ended ≡ now.ended → shut.closed ≡ true → shut.goal ≡ now.goal → shut.rows.file ≡ s.file
+    → shut.items ≡ now.items → shut.last ≡ now.last → shut.ended ≡ now.ended → shut.closed ≡ true → shut.goal ≡ now.goal → shut.rows.file ≡ s.file
     → CatchesUp s.slack shut new
     → IsRefilled kinds s first rows old new a c Closed
 refilled_end kinds s first rows old now shut new a b c next one so_far well few goes e told other none read_out items last ended closed goal file catches = record {

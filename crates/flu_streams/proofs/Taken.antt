@@ -225,7 +225,7 @@ timed_more kinds s number before rows row time old new at not_end goes h t =
     let times : times_of (rows ++ (row ∷ [])) ≡ times_of rows ++ (time ∷ []) = times_more rows row ∙ ap (λ o. times_of rows ++ option_to_list o) at in
     record {
       first = t.first ∙ h.first;
-      times = rw (t.items, times) (times_late rows time (item_of kinds s old.first row) old.items.items item_at h.times);
+      times = rw (t.items, times) (times_late rows time (item_of kinds s old.first row) old.items item_at h.times);
       ended = t.ended ∙ h.ended ∙ goes ∙ sym still;
       held = rw (items_more (width s) rows row) (omega (arith, t.held, h.held));
       len = ap (λ lists. vec_len lists) t.lists ∙ h.len;
@@ -243,7 +243,7 @@ end_more kinds s number before rows old new goes h t =
     let ends : has_ended (rows ++ (End ∷ [])) ≡ true = ended_more rows End ∙ rw goes refl in
     let was = h.open' goes in
     let times : times_of (rows ++ (End ∷ [])) ≡ times_of rows = times_more rows End ∙ append-nil (times_of rows) in
-    let list : (i : ℕ) → i < width s → items_of_list new.lists i ≡ filter_map (item_for (number + i)) old.items.items ++ (EndItem ∷ []) =
+    let list : (i : ℕ) → i < width s → items_of_list new.lists i ≡ filter_map (item_for (number + i)) old.items ++ (EndItem ∷ []) =
     λ i lt. t.lists i (rw h.len lt) ∙ rw (was.lists i, h.first) refl in
     record {
       first = t.first ∙ h.first;
@@ -255,7 +255,7 @@ end_more kinds s number before rows old new goes h t =
       closed = λ ended. record {
         lists = λ i lt. list i lt ∙ ap (λ items. filter_map (item_for (number + i)) items ++ (EndItem ∷ [])) was.items
             ∙ ap (λ items. items ++ (EndItem ∷ [])) (for_itags kinds s number i (in_time_order rows) lt) ∙ sym (items_at-end kinds s number i rows);
-        streams = λ i lt. rw (list i lt) (stream_of (number + i) 0 old.items.items (rising item_time 0 old.items.items old.rising));
+        streams = λ i lt. rw (list i lt) (stream_of (number + i) 0 old.items (rising item_time 0 old.items old.rising));
       };
     }
 
@@ -289,9 +289,9 @@ first_of-at kinds s before read rest next defect passes e =
 fault_at_row : (kinds : List Kind) (s : Source) (number before : ℕ) (read : List Next) (intake : Intake) (row : Row)
     → Holds kinds s number before (rows_of read) intake
     → fault_of kinds s (has_ended (rows_of read)) (times_of (rows_of read)) (before + items_of (width s) (rows_of read)) row ≡ fault_of kinds s intake.ended
-    (times_in intake.items.items) intake.held row
+    (times_in intake.items) intake.held row
 fault_at_row kinds s number before read intake row h =
-    rw (h.ended, h.held, same_test s.slack (times_in intake.items.items) (times_of (rows_of read)) (time_in row) h.times) refl
+    rw (h.ended, h.held, same_test s.slack (times_in intake.items) (times_of (rows_of read)) (time_in row) h.times) refl
 
 -- ---- a row that is taken in
 pub rows_more : (read : List Next) (line : ℕ) (row : Row) → rows_of (read ++ (RowNext line row ∷ [])) ≡ rows_of read ++ (row ∷ [])
@@ -338,7 +338,7 @@ reading_more kinds s number before old new place place' a b c line row reading t
 refused_at : (kinds : List Kind) (s : Source) (number before : ℕ) (intake : Intake) (place place' : Place) (a b c : Option Contents) (line : ℕ) (row : Row)
     (why : Why)
     → IsReading kinds s number before intake place a b → WhereTold b c (λ was now. ahead place was ≡ then_behind (RowNext line row) (ahead place' now))
-    → fault_of kinds s intake.ended (times_in intake.items.items) intake.held row ≡ Some why
+    → fault_of kinds s intake.ended (times_in intake.items) intake.held row ≡ Some why
     → WhereTold a c (λ was now. first_defect kinds s before (bytes_left was s.file) ≡ Some (line, why))
 refused_at kinds s number before intake place place' a b c line row why reading told fault =
     let read = reading.read in
@@ -351,7 +351,7 @@ refused_at kinds s number before intake place place' a b c line row why reading 
 pub refused : (kinds : List Kind) (s : Source) (number before : ℕ) (intake : Intake) (place place' : Place) (a b c : Option Contents) (line : ℕ) (row : Row)
     (refusal : RowRefusal)
     → IsReading kinds s number before intake place a b → WhereTold b c (λ was now. ahead place was ≡ then_behind (RowNext line row) (ahead place' now))
-    → IsRefusal (fault_of kinds s intake.ended (times_in intake.items.items) intake.held row) refusal
+    → IsRefusal (fault_of kinds s intake.ended (times_in intake.items) intake.held row) refusal
     → IsFirstDefect kinds s before a c (stop_at line refusal)
 refused kinds s number before intake place place' a b c line row NoMemory reading told fault = tt
 refused kinds s number before intake place place' a b c line row (Fault why) reading told fault =

@@ -34,7 +34,7 @@ use Rattle.flu_streams.specs.Tests.{is_end, time_in, where_true, test_tag, test_
 
 -- what contracts see of it
 abbrev pub source_of : Inlet → HeldSource
-source_of h = record { items = h.items.items; place = h.rows; last = h.last; ended = h.ended; closed = h.closed; goal = h.goal }
+source_of h = record { items = h.items; place = h.rows; last = h.last; ended = h.ended; closed = h.closed; goal = h.goal }
 
 -- ---- how many items are settled
 -- how many of some items come no later than a time
@@ -68,11 +68,11 @@ count_above goal items = length (filter (λ item. is_above goal (item_time item)
 
 -- as many as a round is to have, and one for each time within the slack
 abbrev pub IsFew : ℕ → Source → Inlet → Type 0
-IsFew rows s h = count_above h.goal h.items.items ≤ rows + s.slack
+IsFew rows s h = count_above h.goal h.items ≤ rows + s.slack
 
 -- of a source whose border is still to be come to, one item more may be held
 abbrev pub HasRoom : Inlet → Type 0
-HasRoom h = (t : ℕ) → h.goal ≡ Some t → length h.items.items < 64096
+HasRoom h = (t : ℕ) → h.goal ≡ Some t → length h.items < 64096
 
 -- ---- a row
 -- the test of a time behind these items, where this is the greatest time that was read
@@ -83,7 +83,7 @@ test_late slack times last (Some time) = test_behind slack times last time
 -- what a row breaks behind these items
 abbrev pub fault_behind : List Kind → Source → Inlet → Row → Option Why
 fault_behind kinds s h row =
-    first_some (λ test. test) (where_true h.ended AfterEnd ∷ test_tag kinds s row ∷ test_value kinds row ∷ test_late s.slack (times_in h.items.items) h.last
+    first_some (λ test. test) (where_true h.ended AfterEnd ∷ test_tag kinds s row ∷ test_value kinds row ∷ test_late s.slack (times_in h.items) h.last
     (time_in row) ∷ [])
 
 -- an event or a heartbeat is put where its time belongs, and the end is not held
@@ -98,7 +98,7 @@ later_of last (Some time) = Some (max (unwrap_or last 0) time)
 -- a row passes its tests, and is held
 pub record PutsIn (kinds : List Kind) (s : Source) (first : ℕ) (row : Row) (old new : Inlet) : Type 0 where
   pub passes : fault_behind kinds s old row ≡ None
-  pub items : new.items.items ≡ put_timed (time_in row) (item_of kinds s first row) old.items.items
+  pub items : new.items ≡ put_timed (time_in row) (item_of kinds s first row) old.items
   pub rows : new.rows ≡ old.rows
   pub last : new.last ≡ later_of old.last (time_in row)
   pub ended : new.ended ≡ (old.ended || is_end row)
@@ -107,7 +107,7 @@ pub record PutsIn (kinds : List Kind) (s : Source) (first : ℕ) (row : Row) (ol
 
 -- an item is put where its time belongs
 pub record PutsItem (item : Item) (old new : Inlet) : Type 0 where
-  pub items : new.items.items ≡ put_late item_time item old.items.items
+  pub items : new.items ≡ put_late item_time item old.items
   pub rows : new.rows ≡ old.rows
   pub last : new.last ≡ Some (max (unwrap_or old.last 0) (item_time item))
   pub ended : new.ended ≡ old.ended
@@ -123,7 +123,7 @@ IsSettledAt s border h = h.closed ≡ false → (t : ℕ) → border ≡ Some t 
 pub record IsWellAt (s : Source) (border : Option ℕ) (h : Inlet) : Type 0 where
   pub file : h.rows.file ≡ s.file
   pub goal : (t : ℕ) → h.goal ≡ Some t → border ≡ Some t
-  pub above : h.goal ≡ None → list_all (λ item. is_above border (item_time item)) h.items.items ≡ true
+  pub above : h.goal ≡ None → list_all (λ item. is_above border (item_time item)) h.items ≡ true
   pub settled : h.goal ≡ None → IsSettledAt s border h
 
 pub record AreWell (p : Program) (rows : ℕ) (border : Option ℕ) (inlets : List Inlet) : Type 0 where
@@ -161,11 +161,11 @@ earliest (b ∷ bs) = earlier_of b (earliest bs)
 -- ---- a resumed run
 -- the items up to a border go once it is settled, or nothing more is to be read; before that some that are settled may go
 pub data IsCaughtUp (slack : ℕ) (old new : Inlet) : Type 0 where
-  Stays : new.items.items ≡ old.items.items → new.goal ≡ old.goal → IsCaughtUp slack old new
+  Stays : new.items ≡ old.items → new.goal ≡ old.goal → IsCaughtUp slack old new
   Drops : (t goal : ℕ) → old.closed ≡ false → settled slack old.last ≡ Some t → t < goal → old.goal ≡ Some goal → new.goal ≡ Some goal
-      → new.items.items ≡ filter (λ item. nat_lt t (item_time item)) old.items.items → IsCaughtUp slack old new
+      → new.items ≡ filter (λ item. nat_lt t (item_time item)) old.items → IsCaughtUp slack old new
   Comes : (goal : ℕ) → (old.closed ≡ false → (u : ℕ) × (settled slack old.last ≡ Some u) × (goal ≤ u)) → old.goal ≡ Some goal → new.goal ≡ None
-      → new.items.items ≡ filter (λ item. nat_lt goal (item_time item)) old.items.items → IsCaughtUp slack old new
+      → new.items ≡ filter (λ item. nat_lt goal (item_time item)) old.items → IsCaughtUp slack old new
 
 pub record CatchesUp (slack : ℕ) (old new : Inlet) : Type 0 where
   pub rows : new.rows ≡ old.rows
@@ -271,7 +271,7 @@ taken_by end items = filter (λ item. is_up_to end (item_time item)) items
 
 -- the items up to a time are dropped
 pub record DropsTo (time : ℕ) (old new : Inlet) : Type 0 where
-  pub items : new.items.items ≡ filter (λ item. nat_lt time (item_time item)) old.items.items
+  pub items : new.items ≡ filter (λ item. nat_lt time (item_time item)) old.items
   pub rows : new.rows ≡ old.rows
   pub last : new.last ≡ old.last
   pub ended : new.ended ≡ old.ended

@@ -23,7 +23,7 @@ use Rattle.flu_streams.specs.Good.{in_time_order, items_at}
 -- nothing was read of a source
 pub record IsEmpty (number itags before : ℕ) (intake : Intake) : Type 0 where
   pub first : intake.first ≡ number
-  pub items : intake.items.items ≡ []
+  pub items : intake.items ≡ []
   pub ended : intake.ended ≡ false
   pub held : intake.held ≡ before
   pub len : vec_len intake.lists ≡ itags
@@ -40,7 +40,7 @@ pub record Inserts (item : Item) (count : ℕ) (old new : Intake) : Type 0 where
   pub ended : new.ended ≡ old.ended
   pub held : new.held ≡ old.held + count
   pub lists : new.lists ≡ old.lists
-  pub items : new.items.items ≡ put_late item_time item old.items.items
+  pub items : new.items ≡ put_late item_time item old.items
 
 -- each itag is given its items, and the end
 pub record TakesEnd (old new : Intake) : Type 0 where
@@ -48,9 +48,9 @@ pub record TakesEnd (old new : Intake) : Type 0 where
   pub ended : new.ended ≡ true
   pub held : new.held ≡ old.held
   pub len : vec_len new.lists ≡ vec_len old.lists
-  pub items : new.items.items ≡ old.items.items
+  pub items : new.items ≡ old.items
   pub lists : (i : ℕ) → i < vec_len old.lists
-      → items_of_list new.lists i ≡ (items_of_list old.lists i ++ filter_map (item_for (old.first + i)) old.items.items) ++ EndItem ∷ []
+      → items_of_list new.lists i ≡ (items_of_list old.lists i ++ filter_map (item_for (old.first + i)) old.items) ++ EndItem ∷ []
 
 -- the item that a row is; the itag of an event that the source does not list is none of the source's
 abbrev pub item_of : List Kind → Source → ℕ → Row → Item
@@ -66,7 +66,7 @@ Takes kinds s End old new = TakesEnd old new
 
 -- a row passes its tests, and is taken in
 pub record TakesIn (kinds : List Kind) (s : Source) (row : Row) (old new : Intake) : Type 0 where
-  pub passes : fault_of kinds s old.ended (times_in old.items.items) old.held row ≡ None
+  pub passes : fault_of kinds s old.ended (times_in old.items) old.held row ≡ None
   pub takes : Takes kinds s row old new
 
 -- a refusal for want of memory, or for this fault
@@ -81,7 +81,7 @@ pub record SameTimes (these those : List ℕ) : Type 0 where
 
 -- what was read of a source so far are these rows: until it ends, its events and heartbeats stand in order of time
 pub record IsOpen (kinds : List Kind) (s : Source) (number : ℕ) (rows : List Row) (intake : Intake) : Type 0 where
-  pub items : intake.items.items ≡ map (item_of kinds s number) (in_time_order rows)
+  pub items : intake.items ≡ map (item_of kinds s number) (in_time_order rows)
   pub lists : (i : ℕ) → items_of_list intake.lists i ≡ []
 
 -- behind its end, each itag has its list
@@ -91,7 +91,7 @@ pub record IsClosed (kinds : List Kind) (s : Source) (number : ℕ) (rows : List
 
 pub record Holds (kinds : List Kind) (s : Source) (number before : ℕ) (rows : List Row) (intake : Intake) : Type 0 where
   pub first : intake.first ≡ number
-  pub times : SameTimes (times_in intake.items.items) (times_of rows)
+  pub times : SameTimes (times_in intake.items) (times_of rows)
   pub ended : intake.ended ≡ has_ended rows
   pub held : intake.held ≡ before + items_of (width s) rows
   pub len : vec_len intake.lists ≡ width s

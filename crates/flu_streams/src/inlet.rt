@@ -14,9 +14,11 @@ ghost use Rattle.flu_streams.specs.Tags.{width};
 use crate::border::Border;
 use crate::faults::Why;
 use crate::intake::RowRefusal;
-use crate::items::{count_until, empty_lists, place_of, push_items, time_of};
+use crate::items::{empty_lists, time_of};
+use crate::late::{put_item, test_time};
 use crate::source::{Stop, defect_behind, stop_at, stop_of};
 use crate::tags::place_of_event;
+use crate::timed::TimedItems;
 use flu_model::{Event, Itag, Item, Kind, Source};
 use flu_outside::Files;
 use flu_rows::{Next, Row, Rows};
@@ -31,16 +33,16 @@ const MOST_ITEMS: usize = 64_096;
 #[derive(Drop)]
 pub(crate) struct Inlet {
     pub(crate) rows: Rows,
-    pub(crate) items: Vec<Item>,
+    pub(crate) items: TimedItems,
     pub(crate) last: Option<u64>,
     pub(crate) ended: bool,
     pub(crate) closed: bool,
     pub(crate) goal: Option<u64>,
-    pub(crate) ghost rising: { IsTrue (rises_from item_time 0 items.items) },
-    pub(crate) ghost none: { last ≡ None → items.items ≡ [] },
+    pub(crate) ghost rising: { IsTrue (rises_from item_time 0 items) },
+    pub(crate) ghost none: { last ≡ None → items ≡ [] },
     pub(crate) ghost range: { unwrap_or last 0 < 2 ^ 63 },
-    pub(crate) ghost within: { IsTrue (list_all (λ item. nat_le (item_time item) (unwrap_or last 0)) items.items) },
-    pub(crate) ghost few: { length items.items ≤ 64096 },
+    pub(crate) ghost within: { IsTrue (list_all (λ item. nat_le (item_time item) (unwrap_or last 0)) items) },
+    pub(crate) ghost few: { length items ≤ 64096 },
 }
 
 impl Inlet {
@@ -59,7 +61,7 @@ impl Inlet {
     {
         Ok(Inlet {
             rows: Rows::new(alloc, &source.file)?,
-            items: Vec::new(alloc),
+            items: TimedItems::new(alloc),
             last: None,
             ended: false,
             closed: false,
@@ -134,15 +136,11 @@ impl Inlet {
         requires { first + width ≤ 256 }
         ensures len { IfOk result (λ lists. vec_len lists ≡ width) }
         ensures each { IfOk result (λ lists. (i : ℕ) → i < width
-            → items_of_list lists i ≡ filter_map (item_for (first + i)) (taken_by end self.now.items.items) ++ Item.End ∷ []) }
+            → items_of_list lists i ≡ filter_map (item_for (first + i)) (taken_by end self.now.items) ++ Item.End ∷ []) }
         ensures few { IfOk result (λ lists. HaveAtMost 64096 (lists_in lists)) }
     {
-        let count = match end {
-            Border::At(time) => count_until(self.items.as_slice(), time),
-            Border::Closed => self.items.len(),
-        };
         let mut lists = empty_lists(alloc, width)?;
-        push_items(&mut lists, first, &self.items[..count])?;
+        self.items.push_to(&mut lists, first, end)?;
         Ok(lists)
     }
 
@@ -150,8 +148,7 @@ impl Inlet {
     pub(crate) fn drop_until(&mut self, time: u64)
         ensures { DropsTo time self.old self.new }
     {
-        let count = count_until(self.items.as_slice(), time);
-        self.items.drain(..count);
+        self.items.drop_until(time);
     }
 
     // In a resumed run, drops the items up to its border once that is settled, or nothing more is to be read. Before that it drops
@@ -196,8 +193,7 @@ impl Inlet {
             return None;
         }
         let settled = last - slack;
-        let count = rows as usize;
-        if self.items.len() < count || time_of(&self.items[count - 1]) > settled {
+        if !self.items.has_until(rows as usize, settled) {
             return None;
         }
         Some(settled)
@@ -214,7 +210,7 @@ impl Inlet {
         requires few { length kinds.now ≤ 64 }
         requires numbered { first + width source.now ≤ 256 }
         requires range { IsInRange row }
-        requires room { length self.old.items.items < 64096 }
+        requires room { length self.old.items < 64096 }
         ensures taken { OnOk result (PutsIn kinds.now source.now first row self.old self.new) }
         ensures refused { IfErr result (IsRefusal (fault_behind kinds.now source.now self.old row)) }
     {
@@ -249,20 +245,18 @@ impl Inlet {
     // Takes an event or a heartbeat in.
     fn insert(&mut self, slack: u64, item: Item) -> Result<(), RowRefusal>
         requires time { item_time item < 2 ^ 63 }
-        requires room { length self.old.items.items < 64096 }
-        ensures passes { OnOk result (test_late slack (times_in self.old.items.items) self.old.last (Some (item_time item)) ≡ None) }
+        requires room { length self.old.items < 64096 }
+        ensures passes { OnOk result (test_late slack (times_in self.old.items) self.old.last (Some (item_time item)) ≡ None) }
         ensures taken { OnOk result (PutsItem item self.old self.new) }
-        ensures refused { IfErr result (IsRefusal (test_late slack (times_in self.old.items.items) self.old.last (Some (item_time item)))) }
+        ensures refused { IfErr result (IsRefusal (test_late slack (times_in self.old.items) self.old.last (Some (item_time item)))) }
     {
         let time = time_of(&item);
-        let at = match place_of(self.items.as_slice(), self.last, slack, time) {
-            Ok(at) => at,
-            Err(why) => return Err(RowRefusal::Fault(why)),
-        };
-        if self.items.insert(at, item).is_err() {
+        test_time(&mut self.items, self.last, slack, time)?;
+        let last = self.last.unwrap_or(0).max(time);
+        if put_item(&mut self.items, item, last, slack).is_err() {
             return Err(RowRefusal::NoMemory);
         }
-        self.last = Some(self.last.unwrap_or(0).max(time));
+        self.last = Some(last);
         Ok(())
     }
 }

@@ -5,9 +5,12 @@ ghost use Rattle.flu_lemmas.specs.Late.{rises_from};
 ghost use Rattle.flu_streams.specs.Lists.{item_time, times_in};
 ghost use Rattle.flu_streams.specs.Tests.{greatest};
 
+use crate::border::Border;
 use crate::faults::Why;
-use crate::items::{empty_lists, place_of, push_items, time_of};
+use crate::items::{empty_lists, time_of};
+use crate::late::{put_item, test_time};
 use crate::tags::place_of_event;
+use crate::timed::TimedItems;
 use flu_model::{Event, Itag, Item, Kind, Source};
 use flu_rows::Row;
 use std::alloc::{AllocError, Global};
@@ -27,15 +30,15 @@ pub(crate) enum RowRefusal {
 #[derive(Drop)]
 pub(crate) struct Intake {
     pub(crate) first: u32,
-    pub(crate) items: Vec<Item>,
+    pub(crate) items: TimedItems,
     pub(crate) last: Option<u64>,
     pub(crate) lists: Vec<Vec<Item>>,
     pub(crate) ended: bool,
     pub(crate) held: u64,
     pub(crate) ghost few: { held ≤ 16777216 },
     pub(crate) ghost numbered: { first + vec_len lists ≤ 256 },
-    pub(crate) ghost rising: { IsTrue (rises_from item_time 0 items.items) },
-    pub(crate) ghost latest: { last ≡ greatest (times_in items.items) },
+    pub(crate) ghost rising: { IsTrue (rises_from item_time 0 items) },
+    pub(crate) ghost latest: { last ≡ greatest (times_in items) },
 }
 
 impl Intake {
@@ -57,7 +60,7 @@ impl Intake {
         let lists = empty_lists(alloc, width)?;
         Ok(Intake {
             first,
-            items: Vec::new(alloc),
+            items: TimedItems::new(alloc),
             last: None,
             lists,
             ended: false,
@@ -75,7 +78,7 @@ impl Intake {
         requires few { length kinds.now ≤ 64 }
         requires width { vec_len self.old.lists ≡ width source.now }
         ensures taken { OnOk result (TakesIn kinds.now source.now row self.old self.new) }
-        ensures refused { IfErr result (IsRefusal (fault_of kinds.now source.now self.old.ended (times_in self.old.items.items) self.old.held row)) }
+        ensures refused { IfErr result (IsRefusal (fault_of kinds.now source.now self.old.ended (times_in self.old.items) self.old.held row)) }
     {
         if self.ended {
             return Err(RowRefusal::Fault(Why::AfterEnd));
@@ -108,10 +111,10 @@ impl Intake {
     // Takes an event in, of the itag at this place.
     fn event(&mut self, slack: u64, place: u32, time: u64, value: i64) -> Result<(), RowRefusal>
         requires { place < vec_len self.old.lists }
-        ensures passes { OnOk result (fault_at slack (times_in self.old.items.items) self.old.held time 1 ≡ None) }
+        ensures passes { OnOk result (fault_at slack (times_in self.old.items) self.old.held time 1 ≡ None) }
         ensures taken { OnOk result (Inserts (Item.Event (record { time = time; itag = record { 0 = self.old.first + place }; value = value })) 1 self.old
             self.new) }
-        ensures refused { IfErr result (IsRefusal (fault_at slack (times_in self.old.items.items) self.old.held time 1)) }
+        ensures refused { IfErr result (IsRefusal (fault_at slack (times_in self.old.items) self.old.held time 1)) }
     {
         let event = Event {
             time,
@@ -123,24 +126,22 @@ impl Intake {
 
     // Takes an event or a heartbeat in, which is so many items.
     fn insert(&mut self, slack: u64, item: Item, count: u64) -> Result<(), RowRefusal>
-        ensures passes { OnOk result (fault_at slack (times_in self.old.items.items) self.old.held (item_time item) count ≡ None) }
+        ensures passes { OnOk result (fault_at slack (times_in self.old.items) self.old.held (item_time item) count ≡ None) }
         ensures taken { OnOk result (Inserts item count self.old self.new) }
-        ensures refused { IfErr result (IsRefusal (fault_at slack (times_in self.old.items.items) self.old.held (item_time item) count)) }
+        ensures refused { IfErr result (IsRefusal (fault_at slack (times_in self.old.items) self.old.held (item_time item) count)) }
     {
         let time = time_of(&item);
-        let at = match place_of(self.items.as_slice(), self.last, slack, time) {
-            Ok(at) => at,
-            Err(why) => return Err(RowRefusal::Fault(why)),
-        };
+        test_time(&mut self.items, self.last, slack, time)?;
         if count > MOST_ITEMS - self.held {
             return Err(RowRefusal::Fault(Why::TooMany {
                 count: MOST_ITEMS + 1,
             }));
         }
-        if self.items.insert(at, item).is_err() {
+        let last = self.last.unwrap_or(0).max(time);
+        if put_item(&mut self.items, item, last, slack).is_err() {
             return Err(RowRefusal::NoMemory);
         }
-        self.last = Some(self.last.unwrap_or(0).max(time));
+        self.last = Some(last);
         self.held += count;
         Ok(())
     }
@@ -150,7 +151,12 @@ impl Intake {
         ensures taken { OnOk result (TakesEnd self.old self.new) }
         ensures refused { IfErr result (IsRefusal None) }
     {
-        if push_items(&mut self.lists, self.first, self.items.as_slice()).is_err() {
+        let end = Border::Closed;
+        if self
+            .items
+            .push_to(&mut self.lists, self.first, end)
+            .is_err()
+        {
             return Err(RowRefusal::NoMemory);
         }
         self.ended = true;

@@ -3,10 +3,8 @@
 ghost use Rattle.std.specs.Prelude.{◌≡◌, ◌≢◌, ℕ, ◌+◌, ◌<◌, ◌≤◌, ◌++◌, [], ◌∷◌, None, Some, length, slice_index_or, vec_len, IsTrue, IfOk, IfErr, OnOk};
 ghost use Rattle.std.specs.List.{filter_map};
 ghost use Rattle.flu_lemmas.specs.Late.{rises_from};
-ghost use Rattle.flu_streams.specs.Lists.{items_of_list, item_time, item_for, times_in};
-ghost use Rattle.flu_streams.specs.Tests.{test_behind};
+ghost use Rattle.flu_streams.specs.Lists.{items_of_list, item_time, item_for};
 
-use crate::faults::Why;
 use flu_model::Item;
 use std::alloc::{AllocError, Global};
 
@@ -35,36 +33,6 @@ pub(crate) fn count_until(items: &[Item], time: u64) -> usize
     count
 }
 
-/// The place of a time among some items in order of time, where the time passes its test: none of them has it, and it is above the
-/// greatest one that was read, `last`, less the slack.
-pub(crate) fn place_of(
-    items: &[Item],
-    last: Option<u64>,
-    slack: u64,
-    time: u64,
-) -> Result<usize, Why>
-    requires rising { IsTrue (rises_from item_time 0 items.now) }
-    requires none { last ≡ None → items.now ≡ [] }
-    ensures passes { OnOk result (test_behind slack (times_in items.now) last time ≡ None) }
-    ensures fault { IfErr result (λ why. test_behind slack (times_in items.now) last time ≡ Some why) }
-    ensures within { IfOk result (λ at. at ≤ length items.now) }
-    ensures earlier { IfOk result (λ at. (i : ℕ) → i < at → item_time (slice_index_or items.now i Item.End) < time) }
-    ensures later { IfOk result (λ at. (i : ℕ) → at ≤ i → i < length items.now → time < item_time (slice_index_or items.now i Item.End)) }
-{
-    let Some(last) = last else {
-        return Ok(0);
-    };
-    let late = Why::Disordered { last, got: time };
-    if time <= last && last - time >= slack {
-        return Err(late);
-    }
-    let at = count_until(items, time);
-    if at > 0 && time_of(&items[at - 1]) == time {
-        return Err(late);
-    }
-    Ok(at)
-}
-
 /// So many empty lists.
 pub(crate) fn empty_lists(alloc: Global, count: u32) -> Result<Vec<Vec<Item>>, AllocError>
     ensures len { IfOk result (λ lists. vec_len lists ≡ count) }
@@ -77,7 +45,7 @@ pub(crate) fn empty_lists(alloc: Global, count: u32) -> Result<Vec<Vec<Item>>, A
     Ok(lists)
 }
 
-/// Gives each itag, of which the first has the number `first`, those of some items that are its own, and the end.
+/// Gives each itag, of which the first has the number `first`, those of some items that are its own.
 pub(crate) fn push_items(
     lists: &mut Vec<Vec<Item>>,
     first: u32,
@@ -86,16 +54,20 @@ pub(crate) fn push_items(
     requires { first + vec_len lists.old ≤ 256 }
     ensures len { vec_len lists.new ≡ vec_len lists.old }
     ensures each { OnOk result ((i : ℕ) → i < vec_len lists.old
-        → items_of_list lists.new i ≡ (items_of_list lists.old i ++ filter_map (item_for (first + i)) items.now) ++ Item.End ∷ []) }
+        → items_of_list lists.new i ≡ items_of_list lists.old i ++ filter_map (item_for (first + i)) items.now) }
 {
     for item in items {
         push_item(lists, first, *item)?;
     }
-    push_each(lists, Item::End)
+    Ok(())
 }
 
-// Puts an item at the end of each list that it belongs to.
-fn push_item(lists: &mut Vec<Vec<Item>>, first: u32, item: Item) -> Result<(), AllocError>
+/// Puts an item at the end of each list that it belongs to.
+pub(crate) fn push_item(
+    lists: &mut Vec<Vec<Item>>,
+    first: u32,
+    item: Item,
+) -> Result<(), AllocError>
     requires { first + vec_len lists.old ≤ 256 }
     ensures len { vec_len lists.new ≡ vec_len lists.old }
     ensures each { OnOk result ((i : ℕ) → i < vec_len lists.old
@@ -125,8 +97,8 @@ fn push_at(lists: &mut Vec<Vec<Item>>, place: usize, item: Item) -> Result<(), A
     Ok(())
 }
 
-// Puts an item at the end of each list.
-fn push_each(lists: &mut Vec<Vec<Item>>, item: Item) -> Result<(), AllocError>
+/// Puts an item at the end of each list.
+pub(crate) fn push_each(lists: &mut Vec<Vec<Item>>, item: Item) -> Result<(), AllocError>
     ensures len { vec_len lists.new ≡ vec_len lists.old }
     ensures each { OnOk result ((i : ℕ) → i < vec_len lists.old → items_of_list lists.new i ≡ items_of_list lists.old i ++ item ∷ []) }
 {

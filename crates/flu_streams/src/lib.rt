@@ -8,10 +8,12 @@ mod held;
 mod inlet;
 mod intake;
 mod items;
+mod late;
 mod laws;
 mod reading;
 mod source;
 mod tags;
+mod timed;
 
 pub use border::Border;
 pub use faults::{GatherFault, SourceFault, Why};

@@ -70,11 +70,11 @@ loop-source-preserved c =
       len = omega (arith, len, one, w, inv.len, c.in_ok-own.ensures.len);
       few = rw both (All-append (λ (items : List Item). length items ≤ 64096 + 1) (lists_in lists) (lists_in own) inv.few c.in_ok-own.ensures.few);
       streams = rw both (streams_both (lists_in lists) (lists_in own) first size inv.streams
-          (own_streams own first c.tag_count-width.result end h.items.items c.in_ok-own.ensures.len c.in_ok-own.ensures.each h.rising));
+          (own_streams own first c.tag_count-width.result end h.items c.in_ok-own.ensures.len c.in_ok-own.ensures.each h.rising));
       lists = λ border lines behind.
           both ∙ lists_more p border end lines earlier s i (lists_in lists) (lists_in own) (sym t.size) (inv.lists border lines behind)
           (own_lists own p.kinds s (sum_by width earlier) border end (lines i) h (c.in_ok-own.ensures.len ∙ w)
-          (λ k k_lt. c.in_ok-own.ensures.each k (rw w k_lt) ∙ ap (λ f. own_items f end h.items.items k) from) (behind i s at h here)
+          (λ k k_lt. c.in_ok-own.ensures.each k (rw w k_lt) ∙ ap (λ f. own_items f end h.items k) from) (behind i s at h here)
           (c.requires.caught i h here))
           ∙ ap (lists_first p border end lines) (sym t.more);
     }

@@ -1,39 +1,32 @@
-use Rattle.std.proofs.Common.{◌≡◌, ◌-◌, ◌<◌, ◌≤◌, Some, None, length, slice_index_or, sym, ap, ◌∙◌, rules, arith}
+use Rattle.std.proofs.Common.{◌≡◌, ◌-◌, ◌≤◌, true, false, Some, None, sym, ap, ◌∙◌, rules, arith}
+use Rattle.std.specs.Prelude.{nat_le}
 use Rattle.std.proofs.lemmas.Grind.{common_steps}
-use Rattle.flu_model.specs.declared.events.Item.TheVariants.{End}
-use Rattle.flu_streams.specs.Lists.{item_time}
-use Rattle.flu_streams.specs.LoopHeld.{enough_of, without}
-use Rattle.flu_streams.proofs.Counting.{not_enough, too_late, enough_at}
+use Rattle.flu_streams.specs.LoopHeld.{count_to, enough_of, without}
+use Rattle.flu_streams.proofs.Counting.{few_settled, many_settled}
 use Rattle.flu_streams.proofs.inlet.Inlet.enough.Goals as goal
-use Rattle.flu_streams.proofs.inlet.Inlet.enough.Goals.{then-len-count-via-then-len-count, then-len-count-via-else-len-count+then-time_of-settled}
 
-pub returns-then-len-count : goal.returns-then-len-count
-returns-then-len-count c =
-    let items = c.args.self.now.items.items in
+pub returns-then-not-has_until : goal.returns-then-not-has_until
+returns-then-not-has_until c =
+    let items = c.args.self.now.items in
     let l = c.in_ok-last.last in
     let rows = c.args.rows in
     let slack = c.args.slack in
     let at : c.args.self.now.last ≡ Some l = search rules in
     let le : slack ≤ l = omega arith in
     let none : c.args.self.now.goal ≡ None = grind (arith, common_steps) in
-    sym (ap (λ g. without g (enough_of rows slack c.args.self.now.last items)) none ∙ ap (λ o. enough_of rows slack o items) at ∙ elim c.then-len-count.branch [
-      | then-len-count-via-then-len-count w ↦ let few : length items < rows = grind (arith, common_steps) in not_enough rows slack l items le few
-      | then-len-count-via-else-len-count+then-time_of-settled w ↦
-          let enough : rows ≤ length items = grind (arith, common_steps) in
-          let late : l - slack < item_time (slice_index_or items (rows - 1) End) = grind (arith, common_steps) in
-          too_late rows slack l items c.args.self.now.rising le c.requires enough late
-    ])
+    let few : nat_le rows (count_to (l - slack) items) ≡ false = sym c.has_until.ensures ∙ c.if-not-has_until.true in
+    sym (ap (λ g. without g (enough_of rows slack c.args.self.now.last items)) none ∙ ap (λ o. enough_of rows slack o items) at
+    ∙ few_settled rows slack l items le few)
 
 pub returns : goal.returns
 returns c =
-    let items = c.args.self.now.items.items in
+    let items = c.args.self.now.items in
     let l = c.in_ok-last.last in
     let rows = c.args.rows in
     let slack = c.args.slack in
     let at : c.args.self.now.last ≡ Some l = search rules in
     let le : slack ≤ l = omega arith in
-    let enough : rows ≤ length items = grind (arith, common_steps) in
-    let early : item_time (slice_index_or items (rows - 1) End) ≤ l - slack = grind (arith, common_steps) in
     let none : c.args.self.now.goal ≡ None = grind (arith, common_steps) in
+    let enough : nat_le rows (count_to (l - slack) items) ≡ true = sym c.has_until.ensures ∙ c.if-not-has_until.false in
     sym (ap (λ g. without g (enough_of rows slack c.args.self.now.last items)) none ∙ ap (λ o. enough_of rows slack o items) at
-    ∙ enough_at rows slack l items c.args.self.now.rising le c.requires enough early)
+    ∙ many_settled rows slack l items le enough)

@@ -1,0 +1,61 @@
+//! How a time is tested, and an item put in, among those that are held of a source.
+
+ghost use Rattle.std.specs.Prelude.{◌≡◌, ◌==◌, false, [], IsTrue, None, OnOk, OnErr, IfErr};
+ghost use Rattle.std.specs.List.{list_any};
+ghost use Rattle.flu_lemmas.specs.Late.{put_late, rises_from};
+ghost use Rattle.flu_streams.specs.Lists.{item_time, times_in};
+ghost use Rattle.flu_streams.specs.LoopIntake.{IsRefusal};
+ghost use Rattle.flu_streams.specs.Tests.{test_behind};
+
+use crate::faults::Why;
+use crate::intake::RowRefusal;
+use crate::timed::TimedItems;
+use flu_model::Item;
+use std::alloc::AllocError;
+
+/// Tests a time among the items that are held: none of them has it, and it is above the greatest one that was read, `last`, less
+/// the slack.
+pub(crate) fn test_time(
+    items: &mut TimedItems,
+    last: Option<u64>,
+    slack: u64,
+    time: u64,
+) -> Result<(), RowRefusal>
+    requires rising { IsTrue (rises_from item_time 0 items.old) }
+    requires none { last ≡ None → items.old ≡ [] }
+    ensures same { items.new ≡ items.old }
+    ensures passes { OnOk result (test_behind slack (times_in items.old) last time ≡ None) }
+    ensures apart { OnOk result (list_any (λ t. t == time) (times_in items.old) ≡ false) }
+    ensures refused { IfErr result (IsRefusal (test_behind slack (times_in items.old) last time)) }
+{
+    let Some(last) = last else {
+        return Ok(());
+    };
+    let late = RowRefusal::Fault(Why::Disordered { last, got: time });
+    if time <= last && last - time >= slack {
+        return Err(late);
+    }
+    match items.has(time) {
+        Ok(true) => Err(late),
+        Ok(false) => Ok(()),
+        Err(_) => Err(RowRefusal::NoMemory),
+    }
+}
+
+/// Puts an item in whose time passes its test, where `last` is the greatest time that was read, with it.
+pub(crate) fn put_item(
+    items: &mut TimedItems,
+    item: Item,
+    last: u64,
+    slack: u64,
+) -> Result<(), AllocError>
+    requires rising { IsTrue (rises_from item_time 0 items.old) }
+    requires apart { list_any (λ t. t == item_time item) (times_in items.old) ≡ false }
+    ensures put { OnOk result (items.new ≡ put_late item_time item items.old) }
+    ensures same { OnErr result (items.new ≡ items.old) }
+{
+    if last >= slack {
+        items.settle(last - slack)?;
+    }
+    items.put(item)
+}

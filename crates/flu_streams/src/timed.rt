@@ -1,0 +1,234 @@
+//! Items in order of time, among which late ones are put.
+
+ghost use Rattle.std.specs.Prelude.{◌≡◌, ◌++◌, ◌+◌, ◌^◌, ◌<◌, ◌≤◌, ◌==◌, ℕ, [], ◌∷◌, false, length, nat_le, nat_lt};
+ghost use Rattle.std.specs.Prelude.{slice_index_or, vec_len, IsTrue, OnOk, OnErr, IfOk};
+ghost use Rattle.std.specs.List.{filter, filter_map, list_any};
+ghost use Rattle.std.specs.BTreeMap.{keys, values};
+ghost use Rattle.flu_lemmas.specs.Late.{put_late, rises_from};
+ghost use Rattle.flu_streams.specs.Lists.{items_of_list, item_time, item_for, times_in};
+ghost use Rattle.flu_streams.specs.LoopHeld.{count_to, taken_by};
+ghost use Rattle.flu_streams.specs.Rounds.{is_up_to};
+
+use crate::border::Border;
+use crate::items::{count_until, push_each, push_item, push_items, time_of};
+use flu_model::Item;
+use std::alloc::{AllocError, Global};
+use std::collections::BTreeMap;
+use std::marker::Model;
+
+/// Some items in order of time: those in a vector, and then those in a map under their times. An item that is in order is put at the
+/// end of the vector. Those after an item that is put in late are moved to the map, and back once no item can come before them any
+/// more, so no item is moved for each one that is put before it.
+#[derive(Drop)]
+pub(crate) struct TimedItems {
+    early: Vec<Item>,
+    late: BTreeMap<u64, Item>,
+}
+
+impl Model for TimedItems {
+    ghost use Rattle.std.specs.Prelude.{◌≡◌, ◌++◌, List};
+    ghost use Rattle.std.specs.BTreeMap.{keys, values};
+    ghost use Rattle.flu_model.specs.declared.events.Item.{Item};
+    ghost use Rattle.flu_streams.specs.Lists.{times_in};
+
+    ghost Value = { List Item };
+
+    ghost view = { λ t. t.early.items ++ values t.late };
+
+    ghost invariant = { λ t. keys t.late ≡ times_in (values t.late) };
+}
+
+impl TimedItems {
+    /// No items.
+    pub(crate) fn new(alloc: Global) -> TimedItems
+        ensures { result ≡ [] }
+    {
+        TimedItems {
+            early: Vec::new(alloc),
+            late: BTreeMap::new(alloc),
+        }
+    }
+
+    /// How many there are.
+    pub(crate) fn len(&self) -> usize
+        requires { length self.now < 2 ^ 63 }
+        ensures { result ≡ length self.now }
+    {
+        self.early.len() + self.late.len()
+    }
+
+    /// Whether one of them has a time.
+    pub(crate) fn has(&mut self, time: u64) -> Result<bool, AllocError>
+        requires rising { IsTrue (rises_from item_time 0 self.old) }
+        ensures same { self.new ≡ self.old }
+        ensures has { IfOk result (λ has. has ≡ list_any (λ t. t == time) (times_in self.old)) }
+    {
+        part(&mut self.early, &mut self.late, time)?;
+        let count = self.early.len();
+        if count > 0 && time_of(&self.early[count - 1]) == time {
+            return Ok(true);
+        }
+        Ok(self.late.contains_key(&time))
+    }
+
+    /// Puts an item in, where its time belongs.
+    pub(crate) fn put(&mut self, item: Item) -> Result<(), AllocError>
+        requires rising { IsTrue (rises_from item_time 0 self.old) }
+        requires apart { list_any (λ t. t == item_time item) (times_in self.old) ≡ false }
+        ensures put { OnOk result (self.new ≡ put_late item_time item self.old) }
+        ensures same { OnErr result (self.new ≡ self.old) }
+    {
+        let time = time_of(&item);
+        part(&mut self.early, &mut self.late, time)?;
+        if self.late.is_empty() {
+            self.early.push(item)?;
+        } else {
+            self.late.insert(time, item)?;
+        }
+        Ok(())
+    }
+
+    /// Tells that no item comes at a time or before it any more.
+    pub(crate) fn settle(&mut self, time: u64) -> Result<(), AllocError>
+        ensures { self.new ≡ self.old }
+    {
+        move_back(&mut self.early, &mut self.late, time)
+    }
+
+    /// Whether so many of them come no later than a time.
+    pub(crate) fn has_until(&self, count: usize, time: u64) -> bool
+        requires rising { IsTrue (rises_from item_time 0 self.now) }
+        requires some { 1 ≤ count }
+        ensures { result ≡ nat_le count (count_to time self.now) }
+    {
+        if count <= self.early.len() {
+            return time_of(&self.early[count - 1]) <= time;
+        }
+        count - self.early.len() <= count_late(&self.late, time)
+    }
+
+    /// Drops those up to a time.
+    pub(crate) fn drop_until(&mut self, time: u64)
+        requires rising { IsTrue (rises_from item_time 0 self.old) }
+        ensures { self.new ≡ filter (λ item. nat_lt time (item_time item)) self.old }
+    {
+        let count = count_until(self.early.as_slice(), time);
+        self.early.drain(..count);
+        drop_late(&mut self.late, time);
+    }
+
+    /// Gives each itag, of which the first has the number `first`, those up to a border that are its own, and the end.
+    pub(crate) fn push_to(
+        &self,
+        lists: &mut Vec<Vec<Item>>,
+        first: u32,
+        end: Border,
+    ) -> Result<(), AllocError>
+        requires rising { IsTrue (rises_from item_time 0 self.now) }
+        requires numbered { first + vec_len lists.old ≤ 256 }
+        ensures len { vec_len lists.new ≡ vec_len lists.old }
+        ensures each { OnOk result ((i : ℕ) → i < vec_len lists.old
+            → items_of_list lists.new i ≡ (items_of_list lists.old i ++ filter_map (item_for (first + i)) (taken_by end self.now)) ++ Item.End ∷ []) }
+    {
+        let count = match end {
+            Border::At(time) => count_until(self.early.as_slice(), time),
+            Border::Closed => self.early.len(),
+        };
+        push_items(lists, first, &self.early[..count])?;
+        push_late(lists, first, &self.late, end)?;
+        push_each(lists, Item::End)?;
+        Ok(())
+    }
+}
+
+// Moves the items after a time from the vector to the map.
+fn part(early: &mut Vec<Item>, late: &mut BTreeMap<u64, Item>, time: u64) -> Result<(), AllocError>
+    requires rising { IsTrue (rises_from item_time 0 (early.old.items ++ values late.old)) }
+    requires keyed { keys late.old ≡ times_in (values late.old) }
+    ensures same { early.new.items ++ values late.new ≡ early.old.items ++ values late.old }
+    ensures keyed { keys late.new ≡ times_in (values late.new) }
+    ensures parted { OnOk result ((i : ℕ) → i < length early.new.items → item_time (slice_index_or early.new.items i Item.End) ≤ time) }
+{
+    while early.len() > 0 {
+        let item = early[early.len() - 1];
+        let own = time_of(&item);
+        if own <= time {
+            return Ok(());
+        }
+        late.insert(own, item)?;
+        early.pop();
+    }
+    Ok(())
+}
+
+// Moves the items up to a time from the map to the vector.
+fn move_back(
+    early: &mut Vec<Item>,
+    late: &mut BTreeMap<u64, Item>,
+    time: u64,
+) -> Result<(), AllocError>
+    requires keyed { keys late.old ≡ times_in (values late.old) }
+    ensures same { early.new.items ++ values late.new ≡ early.old.items ++ values late.old }
+    ensures keyed { keys late.new ≡ times_in (values late.new) }
+{
+    while let Some((own, item)) = late.first_key_value() {
+        if *own > time {
+            return Ok(());
+        }
+        early.push(*item)?;
+        late.pop_first();
+    }
+    Ok(())
+}
+
+// Drops the items up to a time.
+fn drop_late(late: &mut BTreeMap<u64, Item>, time: u64)
+    requires keyed { keys late.old ≡ times_in (values late.old) }
+    ensures left { values late.new ≡ filter (λ item. nat_lt time (item_time item)) (values late.old) }
+    ensures keyed { keys late.new ≡ times_in (values late.new) }
+{
+    while let Some((own, _)) = late.first_key_value() {
+        if *own > time {
+            return;
+        }
+        late.pop_first();
+    }
+}
+
+// How many of the items come no later than a time.
+fn count_late(late: &BTreeMap<u64, Item>, time: u64) -> usize
+    requires keyed { keys late.now ≡ times_in (values late.now) }
+    ensures { result ≡ count_to time (values late.now) }
+{
+    late.range(..=time).count()
+}
+
+// Gives each itag those of the items up to a border that are its own.
+fn push_late(
+    lists: &mut Vec<Vec<Item>>,
+    first: u32,
+    late: &BTreeMap<u64, Item>,
+    end: Border,
+) -> Result<(), AllocError>
+    requires numbered { first + vec_len lists.old ≤ 256 }
+    ensures len { vec_len lists.new ≡ vec_len lists.old }
+    ensures each { OnOk result ((i : ℕ) → i < vec_len lists.old
+        → items_of_list lists.new i ≡ items_of_list lists.old i ++ filter_map (item_for (first + i)) (taken_by end (values late.now))) }
+{
+    for item in late.values() {
+        if is_up_to(end, time_of(item)) {
+            push_item(lists, first, *item)?;
+        }
+    }
+    Ok(())
+}
+
+// Whether a round takes a time.
+fn is_up_to(end: Border, time: u64) -> bool
+    ensures { result ≡ is_up_to end time }
+{
+    match end {
+        Border::At(border) => time <= border,
+        Border::Closed => true,
+    }
+}
