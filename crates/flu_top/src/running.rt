@@ -1,4 +1,4 @@
-//! `run JOB [PLAN] [--adapt] [--save FILE] [--resume FILE]`: the report of a run of a job's events on the tree of threads, in rounds.
+//! `run JOB [PLAN | --depth D] [--adapt] [--save FILE [--unflushed]] [--resume FILE]`: the report of a run of a job's events on the tree of threads, in rounds.
 
 ghost use Rattle.std.specs.Prelude.{◌≡◌, ◌≢◌, ◌<◌, ◌≤◌, ◌⊎◌, ℕ, Bool, option_map, length, List, ◌∷◌, Option, Some, None, Ok, Err, IfOk, IfErr, OnOk, IsErrOf};
 ghost use Rattle.std.specs.Prelude.{IsTrue};
@@ -57,7 +57,7 @@ use flu_rounds::{
 use flu_run::TreeEngine;
 use flu_seq::{Engine, Gate};
 use flu_streams::{rounds_are_counted_in_turn, rounds_are_folded_in_turn};
-use flu_words::{RunOptions, USUAL_DEPTH};
+use flu_words::{Depth, RunOptions};
 use std::alloc::{AllocError, Global};
 use std::sync::Wait;
 use std::thread::Threads;
@@ -74,9 +74,9 @@ enum RunFault {
     Unsaved(PutFault),
 }
 
-/// Writes the report of the job that a file holds, which is run by the plan that another file holds, or by its greedy plan where none
-/// is named: from its opening, and with a checkpoint behind each round where it saves. Where its plan follows the events that were run, it
-/// answers the text of the plan in force at the end.
+/// Writes the report of the job that a file holds, which is run by the plan that another file holds, or by its greedy plan of the
+/// depth in the options where none is named: from its opening, and with a checkpoint behind each round where it saves. Where its plan
+/// follows the events that were run, it answers the text of the plan in force at the end.
 pub fn run_job<F: Files, K: Sink, G: Gate, R: Threads + Wait + Sync>(
     rt: &R,
     alloc: Global,
@@ -96,7 +96,7 @@ pub fn run_job<F: Files, K: Sink, G: Gate, R: Threads + Wait + Sync>(
         (TookOnly (λ name. IsReadName (F.left files.old) (Run job.now (option_map (λ name. name.now) plan.entry) (plain_options options.entry)) name
         ⊎ IsPutAt (Run job.now (option_map (λ name. name.now) plan.entry) (plain_options options.entry)) (status_after result) name)) }
 {
-    let planned = match planned_for(alloc, files, job, plan) {
+    let planned = match planned_for(alloc, files, job, plan, options.depth) {
         Ok(planned) => planned,
         Err(refusal) => return Err(refusal),
     };
@@ -120,12 +120,13 @@ pub fn run_job<F: Files, K: Sink, G: Gate, R: Threads + Wait + Sync>(
     )
 }
 
-// The job that a file holds with the plan that another file holds, or with its greedy plan where none is named.
+// The job that a file holds with the plan that another file holds, or with its greedy plan of a depth where none is named.
 fn planned_for<F: Files>(
     alloc: Global,
     files: &mut F,
     job: &str,
     plan: Option<&str>,
+    depth: Depth,
 ) -> Result<Planned, Refusal>
     ensures accepted { IfOk result (λ planned. IsAccepted (program_of planned.checked)) }
     ensures valid { IfOk result (λ planned. IsValidFor (program_of planned.checked) planned.valid) }
@@ -142,12 +143,17 @@ fn planned_for<F: Files>(
 {
     match plan {
         Some(plan) => planned_by(alloc, files, job, plan),
-        None => greedily(alloc, files, job),
+        None => greedily(alloc, files, job, depth),
     }
 }
 
-// The job that a file holds with its greedy plan.
-fn greedily<F: Files>(alloc: Global, files: &mut F, job: &str) -> Result<Planned, Refusal>
+// The job that a file holds with its greedy plan of a depth.
+fn greedily<F: Files>(
+    alloc: Global,
+    files: &mut F,
+    job: &str,
+    depth: Depth,
+) -> Result<Planned, Refusal>
     ensures accepted { IfOk result (λ planned. IsAccepted (program_of planned.checked)) }
     ensures valid { IfOk result (λ planned. IsValidFor (program_of planned.checked) planned.valid) }
     ensures begun { IfOk result (λ planned. WhereTold (F.left files.old) (F.left files.new) (IsBegun job.now None (program_of planned.checked))) }
@@ -158,7 +164,7 @@ fn greedily<F: Files>(alloc: Global, files: &mut F, job: &str) -> Result<Planned
     ensures puts { SameCounts (F.put_faults files.old) (F.put_faults files.new) }
 {
     match program_of(alloc, files, job) {
-        Ok(program) => planned_greedily(alloc, program, USUAL_DEPTH),
+        Ok(program) => planned_greedily(alloc, program, depth),
         Err(refusal) => Err(refusal),
     }
 }

@@ -29,13 +29,14 @@ use std::thread::Threads;
 /// report to `out`. `check JOB` reads the job alone, which has to be accepted, and writes it in normal form. `valid JOB
 /// PLAN` reads such a job and then a plan, which has to be valid for it, and writes the plan in normal form. `plan JOB
 /// [--depth D]` reads such a job alone and writes the greedy plan of all its itags, by the rates of its sources, with at
-/// most D levels below the root: 0 to 6, and 3 where no depth is given. `run JOB [PLAN]` reads such a job and a plan that
-/// is valid for it, or takes its greedy plan of depth 3. It reads the sources in rounds, of 4,096 rows of each source or
-/// more, runs the events of each round on a thread for each node of the plan, and writes the report of the fold, round by
-/// round. With `--save FILE` it puts a checkpoint under that name behind each round, and with `--resume FILE` it goes on
-/// from such a one: it runs the events above its border, from its state. With `--adapt` each round after the first runs
-/// by the greedy plan of depth 3 of the events counted so far, and that of all events of the run is said on `err` at the
-/// end. `simulate JOB PLAN SEED` reads such a job, a plan that is valid for it and the sources, runs the events on the
+/// most D levels below the root: 0 to 6, and 3 where no depth is given. `run JOB [PLAN | --depth D]` reads such a job and a
+/// plan that is valid for it, or takes its greedy plan of that depth. It reads the sources in rounds, of 4,096 rows of
+/// each source or more, runs the events of each round on a thread for each node of the plan, and writes the report of the
+/// fold, round by round. With `--save FILE` it puts a checkpoint under that name behind each round, and with `--resume
+/// FILE` it goes on from such a one: it runs the events above its border, from its state. `--unflushed` behind `--save
+/// FILE` changes nothing here: it is for the caller, whose `files` may leave their flushes out. With `--adapt` each round
+/// after the first runs by the greedy plan of depth 3 of the events counted so far, and that of all events of the run is
+/// said on `err` at the end. `simulate JOB PLAN SEED` reads such a job, a plan that is valid for it and the sources, runs the events on the
 /// net of the plan by the steps that the seed draws, writes the report of the fold, and then says on `err` how many steps
 /// of each kind there were, with their mark; with `--trace` behind the seed it writes the trace of that run, its steps
 /// line by line, in place of the report. `replay JOB PLAN TRACE` reads the same and then a trace, runs the events on the
