@@ -1,6 +1,6 @@
 //! The engine that plans anew by the events that it has run.
 
-ghost use Rattle.std.specs.Prelude.{◌≡◌, false, length, replicate, IfOk, OnOk, IsTrue};
+ghost use Rattle.std.specs.Prelude.{◌≡◌, ◌≤◌, false, length, replicate, IfOk, IfSome, OnOk, IsTrue};
 ghost use Rattle.std.specs.List.Sorted.{IsPermutation};
 ghost use Rattle.flu_model.specs.Folding.{final_state, final_outputs};
 ghost use Rattle.flu_model.specs.Itags.{count_of_itags};
@@ -11,13 +11,15 @@ ghost use Rattle.flu_deps.specs.Checking.{program_of};
 ghost use Rattle.flu_deps.specs.Validated.{plan_of, IsValidFor};
 ghost use Rattle.flu_streams.specs.Counts.{grown, no_counts};
 ghost use Rattle.flu_adaptive.specs.Observed.{IsObservedPlan};
+ghost use Rattle.flu_adaptive.specs.Ways.{IsWayOf};
 
-use crate::counting::{count_events, no_counts};
+use crate::choosing::Chooser;
+use crate::counting::{count_events, counts_of, no_counts};
 use crate::observing::observed_plan;
+use crate::ways::{Way, alone, on_tree};
 use flu_cells::State;
 use flu_deps::{Checked, Valid};
 use flu_model::{Outs, Streams, itag_count};
-use flu_run::TreeEngine;
 use flu_seq::{Engine, Gate};
 use std::alloc::{AllocError, Global};
 use std::marker::{Model, PhantomData};
@@ -27,6 +29,9 @@ use std::thread::Threads;
 /// Runs batches on a tree of threads, the first one on a given plan. Where it adapts, the plan follows the counts of the events that it
 /// has run: each later batch runs on the observed plan of the counts so far (`docs/TREE.md`). Where it does not, each batch runs on the
 /// given plan, and nothing is counted.
+///
+/// Where it is to choose, each batch is run by its own counts, whether the engine adapts or not: on the tree by the greedy plan of such
+/// counts, or by the backup alone where the tree does not pay (`docs/TREE.md`, "Which rounds run on the tree").
 ///
 /// Like [`TreeEngine`] it keeps the promise of an [`Engine`] for any runtime that has threads, and is none.
 ///
@@ -42,6 +47,8 @@ pub struct Adaptive<'a, G: Gate, R, B: Engine<R>> {
     counts: Vec<u64>,
     // Whether the plan follows the counts.
     adapts: bool,
+    // What chooses how a batch is run, where it is not run by the plan in force.
+    chooser: Option<Chooser>,
     // By what the backup runs.
     by: PhantomData<R>,
 }
@@ -50,6 +57,7 @@ impl<'a, G: Gate, R, B: Engine<R>> Model for Adaptive<'a, G, R, B> {
     ghost use Rattle.std.specs.Prelude.{◌≡◌, IsSome, IfSome};
     ghost use Rattle.std.specs.Coded.{codes};
     ghost use Rattle.flu_deps.specs.Checking.{program_of};
+    ghost use Rattle.flu_deps.specs.Validated.{IsValidFor};
     ghost use Rattle.flu_deps.specs.contracts.checked.Checked as c;
     ghost use Rattle.flu_deps.specs.contracts.valid.Valid as v;
     ghost use Rattle.flu_adaptive.specs.Notes.{AdaptiveNote, HasItsPlan};
@@ -61,7 +69,8 @@ impl<'a, G: Gate, R, B: Engine<R>> Model for Adaptive<'a, G, R, B> {
     ghost view = { λ a. record { checked = a.checked.now; valid = a.valid; counts = a.counts.items; adapts = a.adapts } };
 
     ghost invariant = { λ a. HasItsPlan (record { checked = a.checked.now; valid = a.valid; counts = a.counts.items; adapts = a.adapts }) × IsSome a.backup
-        × IfSome a.backup (λ b. B.program_of b ≡ program_of a.checked.now) };
+        × IfSome a.backup (λ b. B.program_of b ≡ program_of a.checked.now)
+        × IfSome a.chooser (λ c. IfSome c.last (IsValidFor (program_of a.checked.now))) };
 }
 
 impl<'a, G: Gate, R, B: Engine<R> + Drop> Adaptive<'a, G, R, B> {
@@ -94,6 +103,7 @@ impl<'a, G: Gate, R, B: Engine<R> + Drop> Adaptive<'a, G, R, B> {
             backup: Some(backup),
             counts,
             adapts,
+            chooser: None,
             by: PhantomData,
         })
     }
@@ -131,6 +141,27 @@ impl<'a, G: Gate, R, B: Engine<R> + Drop> Adaptive<'a, G, R, B> {
 }
 
 impl<'a, G: Gate, R: Threads + Wait + Sync, B: Engine<R> + Drop> Adaptive<'a, G, R, B> {
+    /// The same engine, where it is to choose how each batch is run: on the tree of threads by the greedy plan, of at most this depth, of
+    /// the batch's own counts or of those of a batch a little earlier, or by the backup alone where the tree does not pay.
+    ///
+    /// # Errors
+    ///
+    /// Only where memory is wanting.
+    pub fn choosing(
+        self,
+        rt: &R,
+        alloc: Global,
+        depth: u32,
+    ) -> Result<Adaptive<'a, G, R, B>, AllocError>
+        requires { depth ≤ 6 }
+        ensures { IfOk result (λ a. a ≡ self.entry) }
+    {
+        let mut engine = self;
+        let chooser = Chooser::new(rt, alloc, engine.checked, depth)?;
+        engine.chooser = Some(chooser);
+        Ok(engine)
+    }
+
     /// Runs all events of the streams, which have one list for each itag of the job, from a state that holds values of the job's
     /// sorts, on the tree of threads of the plan in force: the state is the fold's, which holds such values too, and the outputs are
     /// the fold's in some order. Where the engine adapts, the counts have grown by these events behind it, and the plan in force is the
@@ -157,11 +188,7 @@ impl<'a, G: Gate, R: Threads + Wait + Sync, B: Engine<R> + Drop> Adaptive<'a, G,
         ensures observed { OnOk result (IsTrue self.old.adapts → IsObservedPlan (program_of self.old.checked) self.new.counts (plan_of self.new.valid).nodes) }
         ensures stays { self.old.adapts ≡ false → self.new ≡ self.old }
     {
-        let backup = self.backup.take().unwrap();
-        let mut engine = TreeEngine::new(self.checked, &self.valid, self.gate, backup);
-        let ran = engine.batch(rt, alloc, opening, s);
-        self.backup = Some(engine.backup);
-        let ran = ran?;
+        let ran = self.run(rt, alloc, opening, s)?;
         if !self.adapts {
             return Ok(ran);
         }
@@ -169,5 +196,73 @@ impl<'a, G: Gate, R: Threads + Wait + Sync, B: Engine<R> + Drop> Adaptive<'a, G,
         let anew = observed_plan(alloc, self.checked, self.counts.as_slice())?;
         self.valid = anew;
         Ok(ran)
+    }
+
+    // Runs all events of the streams in the way that is chosen for them.
+    fn run(
+        &mut self,
+        rt: &R,
+        alloc: Global,
+        opening: State,
+        s: &Streams,
+    ) -> Result<(State, Outs), AllocError>
+        requires lists { length (listed s.now) ≡ count_of_itags (program_of self.old.checked) }
+        requires sorts { IsStateOf (program_of self.old.checked).families (held opening) }
+        ensures state { IfOk result (λ r. held r.0 ≡ final_state (program_of self.old.checked) (held opening) (listed s.now)) }
+        ensures sorts { IfOk result (λ r. IsStateOf (program_of self.old.checked).families (held r.0)) }
+        ensures outputs { IfOk result (λ r. IsPermutation (final_outputs (program_of self.old.checked) (held opening) (listed s.now)) r.1) }
+        ensures same { self.new ≡ self.old }
+    {
+        let way = self.way(alloc, s)?;
+        let backup = self.backup.take().unwrap();
+        let checked = self.checked;
+        let (ran, backup) = match &way {
+            Way::InForce => on_tree(
+                rt,
+                alloc,
+                checked,
+                &self.valid,
+                self.gate,
+                backup,
+                opening,
+                s,
+            ),
+            Way::Planned(valid) => {
+                on_tree(rt, alloc, checked, valid, self.gate, backup, opening, s)
+            }
+            Way::Alone => alone(rt, alloc, checked, backup, opening, s),
+        };
+        self.backup = Some(backup);
+        let ran = ran?;
+        self.take_back(way);
+        Ok(ran)
+    }
+
+    // How a batch of these streams is to be run.
+    fn way(&mut self, alloc: Global, s: &Streams) -> Result<Way, AllocError>
+        requires { length (listed s.now) ≡ count_of_itags (program_of self.old.checked) }
+        ensures same { self.new ≡ self.old }
+        ensures valid { IfOk result (IsWayOf (program_of self.old.checked)) }
+    {
+        let Some(chooser) = &mut self.chooser else {
+            return Ok(Way::InForce);
+        };
+        let counts = counts_of(alloc, self.checked.program(), s)?;
+        match chooser.choose(alloc, self.checked, counts.as_slice())? {
+            Some(valid) => Ok(Way::Planned(valid)),
+            None => Ok(Way::Alone),
+        }
+    }
+
+    // Gives the plan by which a batch was run back to what chose it.
+    fn take_back(&mut self, way: Way)
+        requires { IsWayOf (program_of self.old.checked) way }
+        ensures { self.new ≡ self.old }
+    {
+        if let Way::Planned(valid) = way {
+            if let Some(chooser) = &mut self.chooser {
+                chooser.last = Some(valid);
+            }
+        }
     }
 }

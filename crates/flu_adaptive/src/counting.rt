@@ -4,7 +4,7 @@ ghost use Rattle.std.specs.Prelude.{◌≡◌, length, vec_len, IfOk, replicate}
 ghost use Rattle.flu_model.specs.Itags.{count_of_itags};
 ghost use Rattle.flu_model.specs.Listed.{listed};
 ghost use Rattle.flu_model.specs.Merging.{events_of};
-ghost use Rattle.flu_streams.specs.Counts.{grown};
+ghost use Rattle.flu_streams.specs.Counts.{grown, no_counts};
 
 use flu_model::{Itag, Item, Program, Streams, itag_count};
 use std::alloc::{AllocError, Global};
@@ -27,6 +27,17 @@ pub(crate) fn count_events(p: &Program, counts: &mut Vec<u64>, s: &Streams)
         let count = &mut counts[number as usize];
         *count = count.saturating_add(events);
     }
+}
+
+/// How many events of each itag of a job the streams have.
+pub(crate) fn counts_of(alloc: Global, p: &Program, s: &Streams) -> Result<Vec<u64>, AllocError>
+    requires { length (listed s.now) ≡ count_of_itags p.now }
+    ensures one_each { IfOk result (λ counts. length counts.items ≡ count_of_itags p.now) }
+    ensures counts { IfOk result (λ counts. counts.items ≡ grown (no_counts p.now) (listed s.now)) }
+{
+    let mut counts = no_counts(alloc, itag_count(p))?;
+    count_events(p, &mut counts, s);
+    Ok(counts)
 }
 
 // How many of the items are events.

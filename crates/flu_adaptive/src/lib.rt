@@ -2,7 +2,9 @@
 #![tactic(auto)]
 
 mod adaptive;
+mod choosing;
 mod counting;
 mod observing;
+mod ways;
 
 pub use adaptive::Adaptive;

@@ -1,9 +1,10 @@
 //! The plan that counts of events ask for.
 
-ghost use Rattle.std.specs.Prelude.{◌≡◌, length, IfOk};
+ghost use Rattle.std.specs.Prelude.{◌≡◌, ◌≤◌, length, IfOk};
 ghost use Rattle.flu_model.specs.Itags.{count_of_itags};
 ghost use Rattle.flu_deps.specs.Checking.{program_of};
 ghost use Rattle.flu_deps.specs.Validated.{plan_of, IsValidFor};
+ghost use Rattle.flu_planner.specs.Plans.{IsGreedyPlan};
 ghost use Rattle.flu_adaptive.specs.Observed as Observed;
 ghost use Rattle.flu_adaptive.specs.Observed.{IsObservedPlan};
 
@@ -27,8 +28,23 @@ pub(crate) fn observed_plan(
     ensures of { IfOk result (λ v. IsValidFor (program_of checked.now) v) }
     ensures observed { IfOk result (λ v. IsObservedPlan (program_of checked.now) counts.now (plan_of v).nodes) }
 {
+    greedy_plan(alloc, checked, counts, DEPTH)
+}
+
+/// The greedy plan of this depth of the rates that are observed of these counts.
+pub(crate) fn greedy_plan(
+    alloc: Global,
+    checked: &Checked,
+    counts: &[u64],
+    depth: u32,
+) -> Result<Valid, AllocError>
+    requires counts { length counts.now ≡ count_of_itags (program_of checked.now) }
+    requires depth { depth ≤ 6 }
+    ensures of { IfOk result (λ v. IsValidFor (program_of checked.now) v) }
+    ensures greedy { IfOk result (λ v. IsGreedyPlan (program_of checked.now) (Observed.observed_rates counts.now) depth (plan_of v).nodes) }
+{
     let rates = observed_rates(alloc, counts)?;
-    plan(alloc, checked, rates.as_slice(), DEPTH)
+    plan(alloc, checked, rates.as_slice(), depth)
 }
 
 // The rates that are observed of these counts.

@@ -1,9 +1,11 @@
-//! Tests of runs in rounds: by the engine that folds, by the net, by a tree of threads, by its backup, and by one whose plan follows the
+//! Tests of runs in rounds: by the engine that folds, by the net, by a tree of threads, by its backup, and by one that follows or chooses by
 //! counts. It has no code of its own.
 #![tactic(auto)]
 
 #[cfg(test)]
 mod backups;
+#[cfg(test)]
+mod choices;
 #[cfg(test)]
 mod drawn;
 #[cfg(test)]

@@ -1,4 +1,5 @@
-//! `run JOB [PLAN | --depth D] [--adapt] [--save FILE [--unflushed]] [--resume FILE]`: the report of a run of a job's events on the tree of threads, in rounds.
+//! `run JOB [PLAN | --depth D] [--adapt] [--save FILE [--unflushed]] [--resume FILE]`: the report of a run of a job's events, in rounds, on
+//! the tree of threads where a plan is named or the tree pays.
 
 ghost use Rattle.std.specs.Prelude.{◌≡◌, ◌≢◌, ◌<◌, ◌≤◌, ◌⊎◌, ℕ, Bool, option_map, length, List, ◌∷◌, Option, Some, None, Ok, Err, IfOk, IfErr, OnOk, IsErrOf};
 ghost use Rattle.std.specs.Prelude.{IsTrue};
@@ -74,9 +75,9 @@ enum RunFault {
     Unsaved(PutFault),
 }
 
-/// Writes the report of the job that a file holds, which is run by the plan that another file holds, or by its greedy plan of the
-/// depth in the options where none is named: from its opening, and with a checkpoint behind each round where it saves. Where its plan
-/// follows the events that were run, it answers the text of the plan in force at the end.
+/// Writes the report of the job that a file holds, which is run by the plan that another file holds, or where none is named each round
+/// by its own counts: from its opening, and with a checkpoint behind each round where it saves. Where its plan follows the events that were
+/// run, it answers the text of the plan in force at the end.
 pub fn run_job<F: Files, K: Sink, G: Gate, R: Threads + Wait + Sync>(
     rt: &R,
     alloc: Global,
@@ -96,7 +97,7 @@ pub fn run_job<F: Files, K: Sink, G: Gate, R: Threads + Wait + Sync>(
         (TookOnly (λ name. IsReadName (F.left files.old) (Run job.now (option_map (λ name. name.now) plan.entry) (plain_options options.entry)) name
         ⊎ IsPutAt (Run job.now (option_map (λ name. name.now) plan.entry) (plain_options options.entry)) (status_after result) name)) }
 {
-    let planned = match planned_for(alloc, files, job, plan, options.depth) {
+    let planned = match planned_for(alloc, files, job, plan) {
         Ok(planned) => planned,
         Err(refusal) => return Err(refusal),
     };
@@ -107,6 +108,10 @@ pub fn run_job<F: Files, K: Sink, G: Gate, R: Threads + Wait + Sync>(
         Ok(opening) => opening,
         Err(refusal) => return Err(refusal),
     };
+    let chooses = match plan {
+        Some(_) => None,
+        None => Some(options.depth),
+    };
     run_in_rounds(
         rt,
         alloc,
@@ -116,17 +121,17 @@ pub fn run_job<F: Files, K: Sink, G: Gate, R: Threads + Wait + Sync>(
         opening,
         options.save,
         options.adapt,
+        chooses,
         gate,
     )
 }
 
-// The job that a file holds with the plan that another file holds, or with its greedy plan of a depth where none is named.
+// The job that a file holds with the plan that another file holds, or with one of a single node where none is named.
 fn planned_for<F: Files>(
     alloc: Global,
     files: &mut F,
     job: &str,
     plan: Option<&str>,
-    depth: Depth,
 ) -> Result<Planned, Refusal>
     ensures accepted { IfOk result (λ planned. IsAccepted (program_of planned.checked)) }
     ensures valid { IfOk result (λ planned. IsValidFor (program_of planned.checked) planned.valid) }
@@ -143,17 +148,12 @@ fn planned_for<F: Files>(
 {
     match plan {
         Some(plan) => planned_by(alloc, files, job, plan),
-        None => greedily(alloc, files, job, depth),
+        None => greedily(alloc, files, job),
     }
 }
 
-// The job that a file holds with its greedy plan of a depth.
-fn greedily<F: Files>(
-    alloc: Global,
-    files: &mut F,
-    job: &str,
-    depth: Depth,
-) -> Result<Planned, Refusal>
+// The job that a file holds with a plan of a single node, by which no round is run, since each is run by its own counts.
+fn greedily<F: Files>(alloc: Global, files: &mut F, job: &str) -> Result<Planned, Refusal>
     ensures accepted { IfOk result (λ planned. IsAccepted (program_of planned.checked)) }
     ensures valid { IfOk result (λ planned. IsValidFor (program_of planned.checked) planned.valid) }
     ensures begun { IfOk result (λ planned. WhereTold (F.left files.old) (F.left files.new) (IsBegun job.now None (program_of planned.checked))) }
@@ -164,13 +164,13 @@ fn greedily<F: Files>(
     ensures puts { SameCounts (F.put_faults files.old) (F.put_faults files.new) }
 {
     match program_of(alloc, files, job) {
-        Ok(program) => planned_greedily(alloc, program, depth),
+        Ok(program) => planned_greedily(alloc, program, Depth { levels: 0 }),
         Err(refusal) => Err(refusal),
     }
 }
 
 // Writes the report of a job over its sources' files, from an opening, first by a plan, which follows the events that were run where the
-// run adapts.
+// run adapts; or each round by its own counts, where a depth of plans is given.
 fn run_in_rounds<F: Files, K: Sink, G: Gate, R: Threads + Wait + Sync>(
     rt: &R,
     alloc: Global,
@@ -180,6 +180,7 @@ fn run_in_rounds<F: Files, K: Sink, G: Gate, R: Threads + Wait + Sync>(
     opening: Opening,
     save: Option<&str>,
     adapts: bool,
+    chooses: Option<Depth>,
     gate: &G,
 ) -> Result<Option<Said>, Refusal>
     requires valid { IsValidFor (program_of planned.checked) planned.valid }
@@ -194,7 +195,7 @@ fn run_in_rounds<F: Files, K: Sink, G: Gate, R: Threads + Wait + Sync>(
 {
     let Planned { checked, valid } = planned;
     match rounds(
-        rt, alloc, files, out, &checked, valid, opening, save, adapts, gate,
+        rt, alloc, files, out, &checked, valid, opening, save, adapts, chooses, gate,
     ) {
         Ok(said) => Ok(said),
         Err(RunFault::Round(RoundsFault::Source(fault))) => {
@@ -218,6 +219,7 @@ fn rounds<F: Files, K: Sink, G: Gate, R: Threads + Wait + Sync>(
     opening: Opening,
     save: Option<&str>,
     adapts: bool,
+    chooses: Option<Depth>,
     gate: &G,
 ) -> Result<Option<Said>, RunFault>
     requires valid { IsValidFor (program_of checked.now) valid }
@@ -232,7 +234,7 @@ fn rounds<F: Files, K: Sink, G: Gate, R: Threads + Wait + Sync>(
 {
     resumed_runs_go_on();
     rounds_are_folded_in_turn();
-    let mut engine = adaptive_of(alloc, checked, valid, adapts, gate)?;
+    let mut engine = adaptive_of(rt, alloc, checked, valid, adapts, chooses, gate)?;
     let mut rounds = first(alloc, checked.program(), opening)?;
     let mut said = None;
     while let Border::At(_) = saved_round(
@@ -250,10 +252,12 @@ fn rounds<F: Files, K: Sink, G: Gate, R: Threads + Wait + Sync>(
 
 // The engine of a run in rounds. Where a thread is refused the job is folded.
 fn adaptive_of<'a, G: Gate, R: Threads + Wait + Sync>(
+    rt: &R,
     alloc: Global,
     checked: &'a Checked,
     valid: Valid,
     adapts: bool,
+    chooses: Option<Depth>,
     gate: &'a G,
 ) -> Result<Adaptive<'a, G, R, Backup<'a>>, RunFault>
     requires { IsValidFor (program_of checked.now) valid }
@@ -265,7 +269,13 @@ fn adaptive_of<'a, G: Gate, R: Threads + Wait + Sync>(
     let backup = Backup {
         program: checked.program(),
     };
-    let made = Adaptive::new(alloc, checked, valid, gate, backup, adapts);
+    let made = match (
+        Adaptive::new(alloc, checked, valid, gate, backup, adapts),
+        chooses,
+    ) {
+        (Ok(engine), Some(depth)) => engine.choosing(rt, alloc, depth.levels),
+        (made, _) => made,
+    };
     made.map_err(|_| RunFault::Round(RoundsFault::NoMemory))
 }
 
@@ -333,7 +343,7 @@ fn engine_of<'a, G: Gate, R: Threads + Wait + Sync>(
     TreeEngine::new(&planned.checked, &planned.valid, gate, backup)
 }
 
-// Runs one round on the tree of threads, as `Rounds::round` does on an engine; and finds what is said behind it, before the report is
+// Runs one round, as `Rounds::round` does on an engine; and finds what is said behind it, before the report is
 // written, since that may want memory.
 fn round<F: Files, K: Sink, G: Gate, R: Threads + Wait + Sync, B: Engine<R> + Drop>(
     rt: &R,

@@ -1,8 +1,10 @@
-//! Tests of the tree: which jobs are accepted, and lots that are parted and joined.
+//! Tests of the tree: which jobs are accepted, and lots that are parted and joined, and where the tree pays.
 #![tactic(auto)]
 
 #[cfg(test)]
 mod checks;
+#[cfg(test)]
+mod estimates;
 #[cfg(test)]
 mod jobs;
 #[cfg(test)]

@@ -1,9 +1,10 @@
-//! A run with a gate that notes which worker handles which event, and what the states of the leaves hold.
+//! A run by the greedy plan, which is named, with a gate that notes which worker handles which event, and what the states of the leaves
+//! hold.
 
 use super::{assert_left, call, files_of, pages};
 use flu_cells::State;
 use flu_model::{Cell, Itag};
-use flu_seq::Gate;
+use flu_seq::{Gate, OpenGate};
 use std::alloc::{AllocError, Global};
 use std::sync::atomic::{AtomicU64, Ordering};
 use std::test::Fail;
@@ -142,8 +143,11 @@ fn are_kept(passes: &Passes) -> bool {
 fn each_event_is_handled_by_its_owner(rt: HostRuntime) -> Result<(), Fail> {
     let alloc = rt.alloc();
     let mut files = files_of(alloc, pages::files())?;
+    let planned = call(&rt, alloc, "plan J", &mut files, &OpenGate)?;
+    let mut files = files_of(alloc, pages::files())?;
+    files.add("P", planned.out.bytes().to_vec(alloc)?)?;
     let passes = Passes::new(alloc)?;
-    let left = call(&rt, alloc, "run J", &mut files, &passes)?;
+    let left = call(&rt, alloc, "run J P", &mut files, &passes)?;
     assert_left(&rt, &left, 0, pages::REPORT.as_bytes(), "");
     assert!(rt; are_kept(&passes));
     Ok(())

@@ -1,4 +1,4 @@
-use Rattle.std.proofs.Common.{refl, ap, ◌∙◌}
+use Rattle.std.proofs.Common.{◌∙◌}
 use Rattle.flu_model.specs.Itags.{count_of_itags}
 use Rattle.flu_model.specs.Listed.{listed}
 use Rattle.flu_deps.specs.Checking.{program_of}
@@ -11,16 +11,17 @@ observed_plan-requires g c =
     grown_each (count_of_itags (program_of a.checked.now)) a.counts.items c.as_slice.result.now (listed c.args.s.now) c.self.invariant.0.one_each
     (c.as_slice.ensures.value ∙ c.count_events.ensures)
 
-pub invariant_of-self-in_err-anew : goal.invariant_of-self-in_err-anew
-invariant_of-self-in_err-anew g c =
+pub invariant_of-self : goal.invariant_of-self
+invariant_of-self g c =
     let a = c.self.inside in (
       record {
         valid = c.self.invariant.0.valid;
         one_each = grown_each (count_of_itags (program_of a.checked.now)) a.counts.items c.count_events.new.counts.items
             (listed c.args.s.now) c.self.invariant.0.one_each c.count_events.ensures;
       },
-      refl,
-      c.batch-ran.new.self.same_job ∙ ap program_of (c.batch-ran.ensures.same ∙ c.new-engine.ensures.checked),
+      c.self.invariant.1,
+      c.self.invariant.2,
+      c.self.invariant.3,
     )
 
 pub invariant_of-self-2 : goal.invariant_of-self-2
@@ -31,6 +32,7 @@ invariant_of-self-2 g c =
         one_each = grown_each (count_of_itags (program_of a.checked.now)) a.counts.items c.count_events.new.counts.items
             (listed c.args.s.now) c.self.invariant.0.one_each c.count_events.ensures;
       },
-      refl,
-      c.batch-ran.new.self.same_job ∙ ap program_of (c.batch-ran.ensures.same ∙ c.new-engine.ensures.checked),
+      c.self.invariant.1,
+      c.self.invariant.2,
+      c.self.invariant.3,
     )

@@ -1,7 +1,7 @@
 use Rattle.std.proofs.Common.{◌^◌, ◌≤◌, subst, sym, ◌∙◌, ℕ, List}
 use Rattle.std.specs.Prelude.{slice_index}
 use Rattle.flu_adaptive.proofs.Rates.{rates_small}
-use Rattle.flu_adaptive.proofs.observing.observed_plan.Goals as goal
+use Rattle.flu_adaptive.proofs.observing.greedy_plan.Goals as goal
 
 pub plan-requires-clause-small : goal.plan-requires-clause-small
 plan-requires-clause-small c k lt =

@@ -1,0 +1,40 @@
+//! What the steps of a run cost, in nanoseconds.
+//!
+//! They are measured by `bench/measure_prices.sh`, on a machine of four processors, which are threads of two cores, beside other work:
+//! each is the least of several runs, rounded. Only their ratios count, so another machine's would do as well.
+
+/// An event in the fold, without its actions: it is merged with the others, and its kind is looked up.
+pub(crate) const EVENT: u64 = 70;
+
+/// An action, without its expressions and texts.
+pub(crate) const ACTION: u64 = 20;
+
+/// A node of an expression.
+pub(crate) const TERM: u64 = 3;
+
+/// A piece of a text that is put out.
+pub(crate) const PIECE: u64 = 30;
+
+/// An event at a worker in place of the fold, without its actions: the worker's turn, in which it looks for its next event.
+pub(crate) const TURN: u64 = 120;
+
+/// An itag that a worker owns, at each of its events, which it compares with the next one of each.
+pub(crate) const LOOK: u64 = 16;
+
+/// What a worker waits until both children have its ask and give their lots, and until they go on with what it lends them.
+pub(crate) const TRIP: u64 = 3000;
+
+/// What one worker does for a lot that it gives up and gets back.
+pub(crate) const HANDOVER: u64 = 2000;
+
+/// A cell that goes up or down with a lot.
+pub(crate) const CELL: u64 = 100;
+
+/// A worker's start and end: its thread, its links and its mailbox.
+pub(crate) const WORKER: u64 = 25_000;
+
+/// A question whether two itags depend on each other, for each `depends`; a tree that is made asks it of each pair.
+pub(crate) const QUESTION: u64 = 2;
+
+/// A step of the planner, of which it takes about the cube of the number of itags.
+pub(crate) const STEP: u64 = 2;
