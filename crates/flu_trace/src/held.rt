@@ -94,6 +94,7 @@ impl Held {
         ensures taken { WhereTold (F.left files.old) (F.left files.new) (TakesFrom name.now) }
         ensures counts { CountsOf (F.left files.old) name.now (F.faults files.old) (F.faults files.new) }
         ensures quiet { result ≢ Err ReplayFault.ReadFault → SameCounts (F.faults files.old) (F.faults files.new) }
+        ensures puts { SameCounts (F.put_faults files.old) (F.put_faults files.new) }
         ensures cause { IsErrOf result ReplayFault.ReadFault → Rose (F.faults files.old name.now) (F.faults files.new name.now) }
         ensures only { IfErr result IsFaultOfReading }
     {
@@ -113,6 +114,7 @@ impl Held {
         ensures taken { WhereTold (F.left files.old) (F.left files.new) (TakesFrom name.now) }
         ensures counts { CountsOf (F.left files.old) name.now (F.faults files.old) (F.faults files.new) }
         ensures quiet { result ≢ Err ReplayFault.ReadFault → SameCounts (F.faults files.old) (F.faults files.new) }
+        ensures puts { SameCounts (F.put_faults files.old) (F.put_faults files.new) }
         ensures cause { IsErrOf result ReplayFault.ReadFault → Rose (F.faults files.old name.now) (F.faults files.new name.now) }
         ensures only { IfErr result IsFaultOfReading }
     {

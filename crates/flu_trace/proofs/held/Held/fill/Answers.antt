@@ -34,6 +34,7 @@ loop-len-preserved g c =
           counts_then file (left old) (left mid) (faults old) (faults mid) (faults new) c.loop-len.invariant.taken c.loop-len.invariant.counts
           c.in_ok-count.ensures.counts;
       quiet = search rules;
+      puts = search rules;
     }
 
 pub returns-else-len-gt-LONGEST_LINE-clause-found : goal.returns-else-len-gt-LONGEST_LINE-clause-found
