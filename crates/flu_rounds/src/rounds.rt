@@ -158,7 +158,7 @@ impl Rounds {
         ensures quiet { result ≢ Err RoundsFault.ReadFault → SameCounts (F.faults files.old) (F.faults files.new) }
         ensures puts { SameCounts (F.put_faults files.old) (F.put_faults files.new) }
         ensures hides { IsErrOf result RoundsFault.ReadFault → (before : ℕ → List Next) → AreHeldBehind self.old.held before
-            → HidesNoRoundFault self.old.held (F.left files.old) (F.left files.new) before }
+            → HidesNoRoundFault self.old.held (F.left files.old) (F.left files.new) (F.faults files.old) (F.faults files.new) before }
         ensures cause { IsErrOf result RoundsFault.ReadFault → OneRose (files_of self.old.held.program.sources) (F.faults files.old) (F.faults files.new) }
     {
         let Begun {
@@ -211,7 +211,7 @@ impl Rounds {
         ensures quiet { result ≢ Err RoundsFault.ReadFault → SameCounts (F.faults files.old) (F.faults files.new) }
         ensures puts { SameCounts (F.put_faults files.old) (F.put_faults files.new) }
         ensures hides { IsErrOf result RoundsFault.ReadFault → (before : ℕ → List Next) → AreHeldBehind self.old.held before
-            → HidesNoRoundFault self.old.held (F.left files.old) (F.left files.new) before }
+            → HidesNoRoundFault self.old.held (F.left files.old) (F.left files.new) (F.faults files.old) (F.faults files.new) before }
         ensures cause { IsErrOf result RoundsFault.ReadFault → OneRose (files_of p.now.sources) (F.faults files.old) (F.faults files.new) }
     {
         let above = self.held.border();

@@ -19,7 +19,7 @@ use Rattle.flu_model.specs.declared.jobs.Program.{Program}
 use Rattle.flu_model.specs.Listing.{tags_of_source, itags_of_sources}
 use Rattle.flu_model.specs.Rules.{is_same_text, are_distinct}
 use Rattle.flu_model.specs.Streaming.{are_streams}
-use Rattle.flu_outside.specs.Outside.{Contents, WhereTold, IsThere, CountApart}
+use Rattle.flu_outside.specs.Outside.{Contents, WhereTold, Rose, IsThere, CountApart}
 use Rattle.flu_rows.specs.declared.row.Row.{Row}
 use Rattle.flu_rows.specs.declared.rows.Next.{Next}
 use Rattle.flu_rows.specs.Reading.{ahead, read_file}
@@ -257,14 +257,15 @@ hides_join kinds earlier s gathered read behind x y passes apart g was = record 
   was = read_at_first s read behind earlier x y g.others apart was;
 }
 
-pub hides_behind : (p : Program) (earlier later : List Source) (s : Source) (gathered : Gathered) (a b c : Option Contents) → p.sources ≡ earlier ++ (s ∷ later)
-    → (Contains (files_of earlier) s.file → ⊥) → WhereTold a b (IsGathered p.kinds earlier gathered)
-    → HidesNoDefect p.kinds s gathered.held b c → HidesNothing p a c
-hides_behind p earlier later s gathered a b c split apart told h = record {
+pub hides_behind : (p : Program) (earlier later : List Source) (s : Source) (gathered : Gathered) (a b c : Option Contents) (before now : List ℕ → ℕ)
+    → p.sources ≡ earlier ++ (s ∷ later) → (Contains (files_of earlier) s.file → ⊥) → WhereTold a b (IsGathered p.kinds earlier gathered)
+    → Rose (before s.file) (now s.file) → HidesNoDefect p.kinds s gathered.held b c → HidesNothing p a c before now
+hides_behind p earlier later s gathered a b c before now split apart told rose h = record {
   earlier = earlier;
   source = s;
   later = later;
   split = split;
+  rose = rose;
   read = h.read;
   place = h.place;
   file = h.file;

@@ -8,7 +8,7 @@ use Rattle.flu_lemmas.proofs.Places.{slice_get-there}
 use Rattle.flu_lemmas.proofs.Tests.{not_both}
 use Rattle.flu_model.specs.declared.jobs.Source.{Source}
 use Rattle.flu_model.specs.declared.jobs.Program.{Program}
-use Rattle.flu_outside.specs.Outside.{Contents, WhereTold}
+use Rattle.flu_outside.specs.Outside.{Contents, WhereTold, Rose}
 use Rattle.flu_outside.specs.Taking.{IsReadOut}
 use Rattle.flu_rows.specs.declared.rows.Next.{Next}
 use Rattle.flu_rows.specs.Reading.{ahead}
@@ -158,9 +158,9 @@ meets_reads p s rows border before whole now old a b x y row why m e f all is =
     })
 
 pub refill_fault : (p : Program) (rows : ℕ) (border : Option ℕ) (stage : Stage) (olds : List Inlet) (a b : Option Contents)
-    (Q : Contents → Contents → Type 0) (fault : GatherFault) → length olds ≡ length p.sources
-    → WhereTold a b Q → StopsAtSource p rows olds a b fault → IsRefillFault (holding p rows border stage olds) a b fault
-refill_fault p rows border stage olds a b Q fault count told st =
+    (Q : Contents → Contents → Type 0) (fault : GatherFault) (faults faults' : List ℕ → ℕ) → length olds ≡ length p.sources
+    → WhereTold a b Q → StopsAtSource p rows olds a b faults faults' fault → IsRefillFault (holding p rows border stage olds) a b fault
+refill_fault p rows border stage olds a b Q fault faults faults' count told st =
     subst (IsRefillFault (holding p rows border stage olds) a b) (sym st.cause) (by_stop st.stop st.own)
   where
     by_stop : (stop : Stop) → ((old : Inlet) → slice_get olds (length st.ends) ≡ Some old
@@ -196,18 +196,19 @@ refill_fault p rows border stage olds a b Q fault count told st =
     by_stop NoMemory own = tt
 
 pub refill_hides : (p : Program) (rows : ℕ) (border : Option ℕ) (stage : Stage) (olds : List Inlet) (a b : Option Contents)
-    (Q : Contents → Contents → Type 0) (fault : GatherFault) → length olds ≡ length p.sources
-    → WhereTold a b Q → StopsAtSource p rows olds a b fault → fault ≡ ReadFaulty → (before : ℕ → List Next)
+    (Q : Contents → Contents → Type 0) (fault : GatherFault) (faults faults' : List ℕ → ℕ) → length olds ≡ length p.sources
+    → WhereTold a b Q → StopsAtSource p rows olds a b faults faults' fault → fault ≡ ReadFaulty → (before : ℕ → List Next)
     → AreHeldBehind (holding p rows border stage olds) before
-    → HidesNoRoundFault (holding p rows border stage olds) a b before
-refill_hides p rows border stage olds a b Q fault count told st is before behind = by_stop st.stop st.own (sym st.cause ∙ is)
+    → HidesNoRoundFault (holding p rows border stage olds) a b faults faults' before
+refill_hides p rows border stage olds a b Q fault faults faults' count told st is before behind = by_stop st.stop st.own st.rose (sym st.cause ∙ is)
   where
     by_stop : (stop : Stop) → ((old : Inlet) → slice_get olds (length st.ends) ≡ Some old
         → IsStopOf p.kinds st.source (first_itag p (length st.ends)) rows old a b stop)
-        → fault_of_stop (length st.ends) stop ≡ ReadFaulty → HidesNoRoundFault (holding p rows border stage olds) a b before
-    by_stop (Defect row why) own e = absurd cc
-    by_stop NoMemory own e = absurd cc
-    by_stop ReadFault own e =
+        → (stop ≡ ReadFault → Rose (faults st.source.file) (faults' st.source.file))
+        → fault_of_stop (length st.ends) stop ≡ ReadFaulty → HidesNoRoundFault (holding p rows border stage olds) a b faults faults' before
+    by_stop (Defect row why) own rose e = absurd cc
+    by_stop NoMemory own rose e = absurd cc
+    by_stop ReadFault own rose e =
         let own_behind = behind_at p rows border stage olds before behind in
         let old = slice_get-there olds (length st.ends) (rw count (slice_get_within p.sources (length st.ends) st.source st.is)) in
         let m = own old.0 old.1 border (before (length st.ends)) (own_behind (length st.ends) st.source st.is old.0 old.1) in
@@ -217,6 +218,7 @@ refill_hides p rows border stage olds a b Q fault count told st is before behind
           at = length st.ends;
           source = st.source;
           is = st.is;
+          rose = rose refl;
           now = picked.0;
           more = m.more;
           further = now_is;

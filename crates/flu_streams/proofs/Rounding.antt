@@ -11,7 +11,7 @@ use Rattle.flu_lemmas.proofs.Told.{told_then}
 use Rattle.flu_model.specs.declared.jobs.Kind.{Kind}
 use Rattle.flu_model.specs.declared.jobs.Source.{Source}
 use Rattle.flu_model.specs.declared.jobs.Program.{Program}
-use Rattle.flu_outside.specs.Outside.{Contents, WhereTold}
+use Rattle.flu_outside.specs.Outside.{Contents, WhereTold, Rose}
 use Rattle.flu_outside.specs.Taking.{TakesFrom, IsReadOut}
 use Rattle.flu_rows.specs.declared.rows.Next.{Next}
 use Rattle.flu_rows.specs.Reading.{ahead, read_bytes}
@@ -227,12 +227,12 @@ others_end p i s a b c turn others taken =
 
 -- ---- where one stops
 pub stops_at : (p : Program) (rows i : ℕ) (s : Source) (olds news : List Inlet) (mid : Inlet) (a b c : Option Contents) (ends : List Border)
-    (stop : Stop) (fault : GatherFault) → IsTurn p i s → length ends ≡ i
+    (stop : Stop) (fault : GatherFault) (faults faults' : List ℕ → ℕ) → IsTurn p i s → length ends ≡ i
     → slice_get p.sources i ≡ Some s → slice_get olds i ≡ Some mid → WhereTold a b (LeavesOthers (files_of (take i p.sources)))
     → WhereTold b c (TakesFrom s.file)
     → AreRefilled p rows olds news a b ends → IsStopOf p.kinds s (first_itag p i) rows mid b c stop → fault ≡ fault_of_stop i stop
-    → StopsAtSource p rows olds a c fault
-stops_at p rows i s olds news mid a b c ends stop fault turn count at was others taken all one is = record {
+    → (stop ≡ ReadFault → Rose (faults s.file) (faults' s.file)) → StopsAtSource p rows olds a c faults faults' fault
+stops_at p rows i s olds news mid a b c ends stop fault faults faults' turn count at was others taken all one is rose = record {
   ends = ends;
   news = news;
   all = refilled_still p rows i s olds news a b c ends turn count taken all;
@@ -240,6 +240,7 @@ stops_at p rows i s olds news mid a b c ends stop fault turn count at was others
   is = ap (slice_get p.sources) count ∙ at;
   stop = stop;
   cause = is ∙ ap (λ (n : ℕ). fault_of_stop n stop) (sym count);
+  rose = rose;
   own = λ old e.
       let same : mid ≡ old = same_one (sym was ∙ ap (slice_get olds) (sym count) ∙ e) in
       subst (λ n. IsStopOf p.kinds s (first_itag p n) rows old a c stop) (sym count)

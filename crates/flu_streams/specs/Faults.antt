@@ -1,9 +1,9 @@
 -- What a fault of the sources tells: the first defect of all, and that a read fault hides none.
-use Rattle.std.specs.Prelude.{◌≡◌, ◌<◌, Option, Some, None, List, ◌∷◌, ◌++◌, length, ⊤}
+use Rattle.std.specs.Prelude.{◌≡◌, ◌<◌, ℕ, Option, Some, None, List, ◌∷◌, ◌++◌, length, ⊤}
 use Rattle.flu_model.specs.declared.jobs.Kind.{Kind}
 use Rattle.flu_model.specs.declared.jobs.Source.{Source}
 use Rattle.flu_model.specs.declared.jobs.Program.{Program}
-use Rattle.flu_outside.specs.Outside.{Contents, WhereTold}
+use Rattle.flu_outside.specs.Outside.{Contents, WhereTold, Rose}
 use Rattle.flu_outside.specs.Taking.{bytes_left}
 use Rattle.flu_rows.specs.declared.rows.Next.{Next}
 use Rattle.flu_rows.specs.Lines.{IsUndecided}
@@ -24,13 +24,14 @@ pub record StopsWithout (kinds : List Kind) (earlier : List Source) (s : Source)
   pub passes : first_of kinds s (items_held left earlier) read ≡ None
   pub was : WasRead s read behind left
 
--- A read fault hides nothing that was taken: the sources before one of them are good, and the reading of that one stops behind
--- rows without a defect; what was taken of it besides decides nothing.
-pub record HidesNothing (p : Program) (old new : Option Contents) : Type 0 where
+-- A read fault hides nothing that was taken: the sources before the one whose file failed are good, and the reading of that one
+-- stops after rows without a defect; what was taken of it besides decides nothing.
+pub record HidesNothing (p : Program) (old new : Option Contents) (before now : List ℕ → ℕ) : Type 0 where
   pub earlier : List Source
   pub source : Source
   pub later : List Source
   pub split : p.sources ≡ earlier ++ (source ∷ later)
+  pub rose : Rose (before source.file) (now source.file)
   pub read : List Next
   pub place : Place
   pub file : place.file ≡ source.file

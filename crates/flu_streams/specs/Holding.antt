@@ -8,7 +8,7 @@ use Rattle.flu_model.specs.declared.jobs.Kind.{Kind}
 use Rattle.flu_model.specs.declared.jobs.Source.{Source}
 use Rattle.flu_model.specs.declared.jobs.Program.{Program}
 use Rattle.flu_model.specs.Itags.{count_of_itags}
-use Rattle.flu_outside.specs.Outside.{Contents, WhereTold}
+use Rattle.flu_outside.specs.Outside.{Contents, WhereTold, Rose}
 use Rattle.flu_outside.specs.Taking.{IsReadOut}
 use Rattle.flu_rows.specs.declared.rows.Next.{Next}
 use Rattle.flu_rows.specs.Lines.{IsUndecided}
@@ -154,12 +154,13 @@ IsRefillFault old left left' (SourceFaulty f) = (f.source < length old.program.s
 IsRefillFault old left left' ReadFault = ⊤
 IsRefillFault old left left' NoMemory = ⊤
 
--- A READ FAULT HIDES NO DEFECT: the sources before one of them have what the round reads of them, and no defect of theirs is met;
--- the reading of that one stops behind rows without a defect, which are not enough, and what was taken of it besides decides nothing
-pub record HidesNoRoundFault (old : Holding) (left left' : Option Contents) (before : ℕ → List Next) : Type 0 where
+-- A READ FAULT HIDES NO DEFECT: the sources before the one whose file failed have what the round reads of them, and no defect of theirs
+-- is met; the reading of that one stops after rows without a defect, which are not enough, and what was taken of it besides decides nothing
+pub record HidesNoRoundFault (old : Holding) (left left' : Option Contents) (faults faults' : List ℕ → ℕ) (before : ℕ → List Next) : Type 0 where
   pub at : ℕ
   pub source : Source
   pub is : slice_get old.program.sources at ≡ Some source
+  pub rose : Rose (faults source.file) (faults' source.file)
   pub now : ℕ → List Next
   pub more : List Next
   pub further : now at ≡ before at ++ more

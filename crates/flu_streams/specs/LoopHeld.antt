@@ -8,7 +8,7 @@ use Rattle.flu_model.specs.declared.events.Item.{Item}
 use Rattle.flu_model.specs.declared.jobs.Kind.{Kind}
 use Rattle.flu_model.specs.declared.jobs.Source.{Source}
 use Rattle.flu_model.specs.declared.jobs.Program.{Program}
-use Rattle.flu_outside.specs.Outside.{Contents, WhereTold}
+use Rattle.flu_outside.specs.Outside.{Contents, WhereTold, Rose}
 use Rattle.flu_outside.specs.Taking.{IsReadOut}
 use Rattle.flu_rows.specs.declared.row.Row.{Row}
 use Rattle.flu_rows.specs.declared.rows.Next.{Next}
@@ -254,7 +254,8 @@ pub record HasRefilled (p : Program) (rows : ℕ) (olds news : List Inlet) (left
   pub earliest : end ≡ earliest ends
 
 -- the first sources were read, and the next one stopped
-pub record StopsAtSource (p : Program) (rows : ℕ) (olds : List Inlet) (left left' : Option Contents) (fault : GatherFault) : Type 0 where
+pub record StopsAtSource (p : Program) (rows : ℕ) (olds : List Inlet) (left left' : Option Contents) (faults faults' : List ℕ → ℕ)
+    (fault : GatherFault) : Type 0 where
   pub ends : List Border
   pub news : List Inlet
   pub all : AreRefilled p rows olds news left left' ends
@@ -262,6 +263,7 @@ pub record StopsAtSource (p : Program) (rows : ℕ) (olds : List Inlet) (left le
   pub is : slice_get p.sources (length ends) ≡ Some source
   pub stop : Stop
   pub cause : fault ≡ fault_of_stop (length ends) stop
+  pub rose : stop ≡ ReadFault → Rose (faults source.file) (faults' source.file)
   pub own : (old : Inlet) → slice_get olds (length ends) ≡ Some old → IsStopOf p.kinds source (first_itag p (length ends)) rows old left left' stop
 
 -- ---- a cut

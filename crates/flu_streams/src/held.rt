@@ -163,7 +163,7 @@ impl Held {
         ensures quiet { result ≢ Err GatherFault.ReadFault → SameCounts (F.faults files.old) (F.faults files.new) }
         ensures puts { SameCounts (F.put_faults files.old) (F.put_faults files.new) }
         ensures hides { IsErrOf result GatherFault.ReadFault → (before : ℕ → List Next) → AreHeldBehind self.old before
-            → HidesNoRoundFault self.old (F.left files.old) (F.left files.new) before }
+            → HidesNoRoundFault self.old (F.left files.old) (F.left files.new) (F.faults files.old) (F.faults files.new) before }
         ensures cause { IsErrOf result GatherFault.ReadFault → OneRose (files_of p.now.sources) (F.faults files.old) (F.faults files.new) }
     {
         self.stage = Stage::Over;
@@ -227,7 +227,7 @@ fn refill_all<F: Files>(
     requires count { length inlets.old.items ≡ length p.now.sources }
     requires files { AtEach (λ i s. (h : Inlet) → slice_get inlets.old.items i ≡ Some h → h.rows.file ≡ s.file) p.now.sources }
     ensures filled { IfOk result (λ end. HasRefilled p.now rows inlets.old.items inlets.new.items (F.left files.old) (F.left files.new) end) }
-    ensures stop { IfErr result (StopsAtSource p.now rows inlets.old.items (F.left files.old) (F.left files.new)) }
+    ensures stop { IfErr result (StopsAtSource p.now rows inlets.old.items (F.left files.old) (F.left files.new) (F.faults files.old) (F.faults files.new)) }
     ensures fronts { WhereTold (F.left files.old) (F.left files.new) TookFronts }
     ensures others { WhereTold (F.left files.old) (F.left files.new) (LeavesOthers (files_of p.now.sources)) }
     ensures counts { CountsOfNames (F.left files.old) (files_of p.now.sources) (F.faults files.old) (F.faults files.new) }

@@ -33,13 +33,14 @@ pub fn gather<F: Files>(alloc: Global, p: &Program, files: &mut F) -> Result<Str
 
     ensures fault { IfErr result (IsFirstFault p.now (F.left files.old) (F.left files.new)) }
 
-    // It takes bytes from the front of the sources' files alone, and a read fault has its cause there: no other answer comes
-    // behind a take that failed.
+    // It takes bytes from the front of the sources' files alone, and puts none; and a read fault has its cause there: no other
+    // answer comes after a take that failed.
     ensures fronts { WhereTold (F.left files.old) (F.left files.new) TookFronts }
     ensures others { WhereTold (F.left files.old) (F.left files.new) (LeavesOthers (files_of p.now.sources)) }
     ensures counts { CountsOfNames (F.left files.old) (files_of p.now.sources) (F.faults files.old) (F.faults files.new) }
     ensures quiet { result ≢ Err GatherFault.ReadFault → SameCounts (F.faults files.old) (F.faults files.new) }
-    ensures hides { IsErrOf result GatherFault.ReadFault → HidesNothing p.now (F.left files.old) (F.left files.new) }
+    ensures puts { SameCounts (F.put_faults files.old) (F.put_faults files.new) }
+    ensures hides { IsErrOf result GatherFault.ReadFault → HidesNothing p.now (F.left files.old) (F.left files.new) (F.faults files.old) (F.faults files.new) }
     ensures cause { IsErrOf result GatherFault.ReadFault → OneRose (files_of p.now.sources) (F.faults files.old) (F.faults files.new) }
 {
     let mut gathered = Gathered {
@@ -72,6 +73,7 @@ fn add_source<F: Files>(
     ensures taken { WhereTold (F.left files.old) (F.left files.new) (TakesFrom source.now.file) }
     ensures counts { CountsOf (F.left files.old) source.now.file (F.faults files.old) (F.faults files.new) }
     ensures quiet { result ≢ Err GatherFault.ReadFault → SameCounts (F.faults files.old) (F.faults files.new) }
+    ensures puts { SameCounts (F.put_faults files.old) (F.put_faults files.new) }
     ensures hides { IsErrOf result GatherFault.ReadFault → HidesNoDefect kinds.now source.now gathered.old.held (F.left files.old) (F.left files.new) }
     ensures cause { IsErrOf result GatherFault.ReadFault → Rose (F.faults files.old source.now.file) (F.faults files.new source.now.file) }
 {

@@ -42,6 +42,7 @@ pub(crate) fn read_source<F: Files>(
     ensures taken { WhereTold (F.left files.old) (F.left files.new) (TakesFrom source.now.file) }
     ensures counts { CountsOf (F.left files.old) source.now.file (F.faults files.old) (F.faults files.new) }
     ensures quiet { result ≢ Err Stop.ReadFault → SameCounts (F.faults files.old) (F.faults files.new) }
+    ensures puts { SameCounts (F.put_faults files.old) (F.put_faults files.new) }
     ensures hides { IsErrOf result Stop.ReadFault → HidesNoDefect kinds.now source.now held (F.left files.old) (F.left files.new) }
     ensures cause { IsErrOf result Stop.ReadFault → Rose (F.faults files.old source.now.file) (F.faults files.new source.now.file) }
 {

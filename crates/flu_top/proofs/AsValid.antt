@@ -3,6 +3,7 @@ use Rattle.std.proofs.Common.{◌≡◌, refl, sym, ◌∙◌, subst, ℕ, List,
 use Rattle.std.specs.Prelude.{IsTrue, ◌++◌}
 use Rattle.std.proofs.lemmas.Bool.{false≢true}
 use Rattle.flu_outside.specs.Outside.{WhereTold, Contents}
+use Rattle.flu_outside.specs.Taking.{TookAtMost}
 use Rattle.flu_model.specs.declared.jobs.Program.{Program}
 use Rattle.flu_deps.specs.Checking.{program_of}
 use Rattle.flu_lemmas.proofs.Told.{told_weaker}
@@ -12,12 +13,13 @@ use Rattle.flu_top.specs.declared.refusals.SaveDefect.TheVariants as saves
 use Rattle.flu_top.specs.declared.refusals.Refusal.{Refusal}
 use Rattle.flu_top.specs.declared.refusals.Refusal.TheVariants as refusals
 use Rattle.flu_top.specs.Taking.{TookOnly}
-use Rattle.flu_top.specs.Behind.{WantedJob, Named, HasJob, HasPlan, job_files, plan_behind}
+use Rattle.flu_top.specs.Behind.{WantedJob, Named, HasJob, HasPlan, emptied_each, job_files, plan_behind}
 use Rattle.flu_top.specs.TextFaults.{IsFirstTextFault}
 use Rattle.flu_top.specs.Wants.{job_wanted, plan_named, asks_accepted, resume_named, if_named, texts_named}
-use Rattle.flu_top.specs.Done.{HasValidPlan, MayHaveJob, IsReadName}
+use Rattle.flu_top.specs.Done.{HasValidPlan, MayHaveJob, IsPlanName, IsReadName}
 use Rattle.flu_top.specs.Causes.{HasJobFault}
 use Rattle.flu_top.specs.Ready.{AreTextsRead, IsReady}
+use Rattle.flu_top.specs.ReadFaults.{HasReadFault, InJob, InPlan, InCheckpoint, InSources, InRows, InTrace}
 use Rattle.flu_top.specs.Refusing.{IsRefusal}
 use Rattle.flu_top.proofs.Sequence.{none_among}
 
@@ -59,14 +61,18 @@ may_have_as wanted other p left same may = subst (λ (job : WantedJob). MayHaveJ
 not_named : (name : List ℕ) → None ≡ Some name → ⊥
 not_named name named = cc
 
-wider : (command : Command) (job plan : List ℕ) (left : Option Contents) (name : List ℕ) → ReadsPlan command job plan → IsReadName left (Valid job plan) name
-    → IsReadName left command name
-wider command job plan left name reads (inl same) = inl (reads.its_job ∙ same)
-wider command job plan left name reads (inr (inl found)) = inr (inl (record {
+plan_wider : (command : Command) (job plan : List ℕ) (left : Option Contents) (name : List ℕ) → ReadsPlan command job plan
+    → IsPlanName left (Valid job plan) name → IsPlanName left command name
+plan_wider command job plan left name reads found = record {
   p = found.p;
   job = record { has = may_have_as (job_wanted command) (Named job) found.p left reads.its_job found.job.has; accepted = λ asked. found.job.accepted refl };
   named = reads.its_plan ∙ found.named;
-}))
+}
+
+wider : (command : Command) (job plan : List ℕ) (left : Option Contents) (name : List ℕ) → ReadsPlan command job plan → IsReadName left (Valid job plan) name
+    → IsReadName left command name
+wider command job plan left name reads (inl same) = inl (reads.its_job ∙ same)
+wider command job plan left name reads (inr (inl found)) = inr (inl (plan_wider command job plan left name reads found))
 wider command job plan left name reads (inr (inr (inl checkpoint))) = absurd (not_named name checkpoint.named)
 wider command job plan left name reads (inr (inr (inr (inl source)))) = absurd (none_among name source.named)
 wider command job plan left name reads (inr (inr (inr (inr trace)))) = absurd (not_named name trace.named)
@@ -82,6 +88,17 @@ only_as_valid command job plan a c reads only =
 never_starts : (name : List ℕ) → (None ≡ Some name) ⊎ (None ≡ Some name) → ⊥
 never_starts name (inl saved) = not_named name saved
 never_starts name (inr resumed) = not_named name resumed
+
+fault_as_valid : (command : Command) (job plan : List ℕ) (a c : Option Contents) (k m : List ℕ → ℕ) → ReadsPlan command job plan
+    → HasReadFault (Valid job plan) a c k m → HasReadFault command a c k m
+fault_as_valid command job plan a c k m reads (InJob name named rose few) = InJob name (reads.its_job ∙ named) rose few
+fault_as_valid command job plan a c k m reads (InPlan name found rose few) =
+    InPlan name (plan_wider command job plan a name reads found) rose (subst (λ (wanted : WantedJob).
+    WhereTold a c (λ was is. TookAtMost name 1048576 (emptied_each (job_files wanted) was) is)) (sym reads.its_job) few)
+fault_as_valid command job plan a c k m reads (InCheckpoint name checkpoint rose few) = absurd (not_named name checkpoint.named)
+fault_as_valid command job plan a c k m reads (InSources name file whole rose hides) = absurd (none_among name file.named)
+fault_as_valid command job plan a c k m reads (InRows name file rounds rose hides) = absurd (none_among name file.named)
+fault_as_valid command job plan a c k m reads (InTrace name trace rose) = absurd (not_named name trace.named)
 
 pub refusal_as_valid : (command : Command) (job plan : List ℕ) (a c : Option Contents) (k m : List ℕ → ℕ) (refusal : Refusal) → ReadsPlan command job plan
     → IsRefusal (Valid job plan) a c k m refusal → IsRefusal command a c k m refusal
@@ -108,7 +125,7 @@ refusal_as_valid command job plan a c k m (refusals.PlanDefect (defects.Invalid 
       × HasPlan wanted is.plan left (program_of checked) fault.plan.nodes)) (sym reads.its_job) is.text;
 }
 refusal_as_valid command job plan a c k m (refusals.SourceFault other fault) reads is = absurd (false≢true is.asked)
-refusal_as_valid command job plan a c k m refusals.ReadFault reads is = (is.0, wider command job plan a is.0 reads is.1, is.2)
+refusal_as_valid command job plan a c k m refusals.ReadFault reads is = fault_as_valid command job plan a c k m reads is
 refusal_as_valid command job plan a c k m refusals.WriteFault reads is = is
 refusal_as_valid command job plan a c k m refusals.NoMemory reads is = tt
 refusal_as_valid command job plan a c k m (refusals.SaveDefect (saves.SameName checked number)) reads is = absurd (never_starts is.name is.named)

@@ -1,5 +1,5 @@
 -- What an ending says of the status, of out and of err.
-use Rattle.std.proofs.Common.{◌≡◌, ◌≢◌, refl, sym, ap, subst, ℕ, List, [], Option, None, Result, Ok, Err, inl, inr, ◌⊎◌, arith}
+use Rattle.std.proofs.Common.{◌≡◌, ◌≢◌, refl, sym, ap, ◌∙◌, subst, ℕ, List, [], Option, None, Result, Ok, Err, inl, inr, ◌⊎◌, arith}
 use Rattle.std.specs.Prelude.{IfOk, IfErr}
 use Rattle.std.proofs.lemmas.List.{append-nil}
 use Rattle.flu_outside.specs.Outside.{WhereTold, Rose}
@@ -18,6 +18,7 @@ use Rattle.flu_top.specs.declared.products.Product.{Product}
 use Rattle.flu_top.specs.Wants.{want, job_wanted, how_read}
 use Rattle.flu_top.specs.Starting.{Leaves}
 use Rattle.flu_top.specs.Done.{IsWritten, IsDone, IsPartlyDone, WhereKnown, Wrote, WroteSome, WrotePart, IsReadName, IsReadBy, IsPutAt, IsSavedBy, MayBePut}
+use Rattle.flu_top.specs.ReadFaults.{HasReadFault, InJob, InPlan, InCheckpoint, InSources, InRows, InTrace}
 use Rattle.flu_top.specs.Refusing.{IsRefusal}
 use Rattle.flu_top.specs.Products.{line_said, MaySay}
 use Rattle.flu_top.specs.Lines.{IsSaid}
@@ -108,6 +109,18 @@ put_out c command (Err why) (Ok said) other written says refused put = absurd pu
 put_out c command (Err why) (Err refusal) other written says refused put =
     subst (IsStopped c command) (sym put.is) (stopped c command why refused (λ rounds. absurd (other rounds)) put.nothing)
 
+-- what refused a command refuses it once nothing is written
+pub not_refused : (produced : Result Product Refusal) (had has : Option (List ℕ)) (before now : ℕ) (result : Result (Option Said) Refusal)
+    (refusal : Refusal) → IsPut produced had has before now result → result ≢ Err refusal → produced ≢ Err refusal
+not_refused (Ok product) had has before now result refusal put other is = cc
+not_refused (Err why) had has before now (Ok said) refusal put other is = absurd put
+not_refused (Err why) had has before now (Err answered) refusal put other is = let same : why ≡ refusal = cc in other (ap Err (put.is ∙ same))
+
+pub text_not_refused : (text : Result (List ℕ) Refusal) (had has : Option (List ℕ)) (before now : ℕ) (result : Result (Option Said) Refusal)
+    (refusal : Refusal) → IsPut (as_product text) had has before now result → result ≢ Err refusal → text ≢ Err refusal
+text_not_refused text had has before now result refusal put other is =
+    not_refused (as_product text) had has before now result refusal put other (ap as_product is)
+
 pub ends_product : (c : Call) (whole command : Command) (produced : Result Product Refusal) (result : Result (Option Said) Refusal) → whole ≡ command
     → how_read command ≢ InRounds
     → IfOk produced (λ (product : Product). WhereKnown (job_wanted command) c.left c.left_after (IsWritten command product.text (line_said product.says)))
@@ -177,12 +190,28 @@ ending_at : (words : List (List ℕ)) (c : Call) (ended : Result (Option Said) R
     → (command : Command) × (command_in words ≡ Ok command) × IsEnding c command ended
 ending_at words c ended ends apart = elim ends.how [ inl ending ↦ ending | inr refused ↦ absurd (apart (ap status_after refused.2.words)) ]
 
+pub read_fault_of : (words : List (List ℕ)) (c : Call) (ended : Result (Option Said) Refusal) → Ends words c ended → status_after ended ≡ 7
+    → (command : Command) × (command_in words ≡ Ok command) × HasReadFault command c.left c.left_after c.counts c.counts_after
+read_fault_of words c ended ends is =
+    let ending = ending_at words c ended ends (λ e. omega arith) in
+    (ending.0, ending.1, (subst (IsEnding c ending.0) (of_read_fault ended is) ending.2).why)
+
+-- the name that failed is one that the command reads
+name_that_failed : (command : Command) (old new : Option Contents) (before now : List ℕ → ℕ) → HasReadFault command old new before now
+    → (name : List ℕ) × IsReadName old command name × Rose (before name) (now name)
+name_that_failed command old new before now (InJob name named rose few) = (name, inl named, rose)
+name_that_failed command old new before now (InPlan name plan rose few) = (name, inr (inl plan), rose)
+name_that_failed command old new before now (InCheckpoint name checkpoint rose few) = (name, inr (inr (inl checkpoint)), rose)
+name_that_failed command old new before now (InSources name file whole rose hides) = (name, inr (inr (inr (inl file))), rose)
+name_that_failed command old new before now (InRows name file rounds rose hides) = (name, inr (inr (inr (inl file))), rose)
+name_that_failed command old new before now (InTrace name trace rose) = (name, inr (inr (inr (inr trace))), rose)
+
 pub read_fault_at : (words : List (List ℕ)) (c : Call) (ended : Result (Option Said) Refusal) → Ends words c ended → status_after ended ≡ 7
     → (name : List ℕ) × IsReadBy words c.left name × Rose (c.counts name) (c.counts_after name)
 read_fault_at words c ended ends is =
-    let ending = ending_at words c ended ends (λ e. omega arith) in
-    let found = (subst (IsEnding c ending.0) (of_read_fault ended is) ending.2).why in
-    (found.0, (ending.0, ending.1, found.1), found.2)
+    let fault = read_fault_of words c ended ends is in
+    let found = name_that_failed fault.0 c.left c.left_after c.counts c.counts_after fault.2 in
+    (found.0, (fault.0, fault.1, found.1), found.2)
 
 pub write_fault_at : (words : List (List ℕ)) (c : Call) (ended : Result (Option Said) Refusal) → Ends words c ended → status_after ended ≡ 8
     → Rose c.count c.count_after

@@ -10,7 +10,7 @@ use Rattle.flu_top.specs.Laws.{BadWordsTouchNothing, JobFaultIsFirst, ConflictIs
 use Rattle.flu_top.specs.Laws.{TraceFaultIsFirst, ReadFaultRose, ReadFaultLine, WriteFaultRose, WriteFaultIsPart, WriteFaultLine, PutFaultRose}
 use Rattle.flu_top.specs.Laws.{PutFaultIsBehindARound, NoMemoryLine, NothingIsWritten, RefusalsWriteNothing, SomeIsWritten, SomeIsWrittenForMemory}
 use Rattle.flu_top.specs.Laws.{FrontsAreTaken, NoOtherIsRead, GoodIsDone, JobFaultIsRefused, ConflictIsRefused, PlanDefectIsRefused, SaveDefectIsRefused}
-use Rattle.flu_top.specs.Laws.{SourceFaultIsRefused, TraceFaultIsRefused, CompletesByFaults, CallsForOneStatus}
+use Rattle.flu_top.specs.Laws.{SourceFaultIsRefused, TraceFaultIsRefused, CompletesByFaults, CallsForOneStatus, NoFailureIsPassedOver}
 use Rattle.flu_top.proofs.Statuses.{at_0, at_2, at_3, at_4, at_5, at_6, at_7, at_8, at_9, at_11, at_12, at_13, quiet_at_0, heard_at_0, adapted_at_0}
 use Rattle.flu_top.proofs.Statuses.{known_status, nothing_written, refused_unwritten, of_no_command, bad_words_exactly}
 use Rattle.flu_top.proofs.Completeness.{LawsBelow, completes_of, one_status}
@@ -94,6 +94,9 @@ write_fault_line_law words old new status outcome is = (at_8 words old new statu
 
 pub put_fault_law : PutFaultRose
 put_fault_law words left before now status faults is = faults.put is
+
+pub not_passed_over_law : NoFailureIsPassedOver
+not_passed_over_law words left before now status faults = (faults.same_takes, faults.same_out, faults.same_puts)
 
 pub put_fault_round_law : PutFaultIsBehindARound
 put_fault_round_law words old new status outcome is = at_12 words old new status outcome is

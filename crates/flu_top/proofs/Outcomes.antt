@@ -1,5 +1,6 @@
 -- The outcome of a call, by how the doing of its words ended and by what was said.
-use Rattle.std.proofs.Common.{◌≡◌, refl, ap, ℕ, List, Option, Some, None, Result, Ok, Err, inl, inr}
+use Rattle.std.proofs.Common.{◌≡◌, ◌≢◌, refl, ap, ℕ, List, Option, Some, None, Result, Ok, Err, inl, inr}
+use Rattle.flu_outside.specs.Outside.{SameCounts}
 use Rattle.flu_top.specs.declared.refusals.Refusal.{Refusal}
 use Rattle.flu_top.specs.declared.refusals.Refusal.TheVariants as refusals
 use Rattle.flu_words.specs.Words.{Command, command_in}
@@ -10,9 +11,9 @@ use Rattle.flu_top.specs.Jobs.{program_read}
 use Rattle.flu_top.specs.Lines.{IsSaid}
 use Rattle.flu_top.specs.Answer.{status_of, status_after, line_of, IsHeard}
 use Rattle.flu_top.specs.Ending.{Call, IsStopped, IsEnding, IsRefused, Ends}
-use Rattle.flu_top.specs.Outcome.{Outside, outside, Hears, Outcome, faults, FaultsFirst}
+use Rattle.flu_top.specs.Outcome.{Outside, outside, Hears, Outcome, faults, FaultsFirst, HidesNothing}
 use Rattle.flu_top.specs.Outcome as cases
-use Rattle.flu_top.proofs.Endings.{said_of, read_fault_at, write_fault_at, put_fault_at}
+use Rattle.flu_top.proofs.Endings.{said_of, read_fault_at, read_fault_of, write_fault_at, put_fault_at}
 
 -- the outside before and behind a call, where err told and counted this
 abbrev pub before : Call → Option (List ℕ) → ℕ → Outside
@@ -66,9 +67,18 @@ outcome_of words c err err_after count count_after ended ends heard = elim ends.
     by_ended command word (Err refusal) ending heard = by_refusal command word refusal ending heard
 
 pub faults_of : (words : List (List ℕ)) (c : Call) (ended : Result (Option Said) Refusal) → Ends words c ended
+    → (ended ≢ Err refusals.ReadFault → SameCounts c.counts c.counts_after) → (ended ≢ Err refusals.WriteFault → c.count_after ≡ c.count)
+    → (ended ≢ Err refusals.PutFault → SameCounts c.puts c.puts_after)
     → FaultsFirst words c.left (faults c.counts c.puts c.count) (faults c.counts_after c.puts_after c.count_after) (status_after ended)
-faults_of words c ended ends = record {
+faults_of words c ended ends takes out puts = record {
   read = λ is. read_fault_at words c ended ends is;
   write = λ is. write_fault_at words c ended ends is;
   put = λ is. put_fault_at words c ended ends is;
+  same_takes = λ other. takes (λ is. other (ap status_after is));
+  same_out = λ other. out (λ is. other (ap status_after is));
+  same_puts = λ other. puts (λ is. other (ap status_after is));
 }
+
+pub hides_of : (words : List (List ℕ)) (c : Call) (ended : Result (Option Said) Refusal) → Ends words c ended
+    → HidesNothing words c.left c.left_after (faults c.counts c.puts c.count) (faults c.counts_after c.puts_after c.count_after) (status_after ended)
+hides_of words c ended ends = record { failed = λ is. read_fault_of words c ended ends is }

@@ -31,8 +31,9 @@ use Rattle.flu_top.specs.Answer.{refusal_of_replay}
 use Rattle.flu_top.specs.Taking.{TookOnly}
 use Rattle.flu_top.specs.Emptied.{emptied, emptied_each}
 use Rattle.flu_top.specs.Starting.{AreNoSources}
-use Rattle.flu_top.specs.Done.{IsGood, IsReadName, IsWritten}
+use Rattle.flu_top.specs.Done.{IsGood, IsReadName, IsTraceName, IsWritten}
 use Rattle.flu_top.specs.Ready.{HasNodes, IsReady}
+use Rattle.flu_top.specs.ReadFaults.{InTrace}
 use Rattle.flu_top.specs.Refusing.{IsRefusal}
 use Rattle.flu_top.specs.Replaying.{EndsOnNet, EndsBehind, ReplaysTo, trace_in}
 use Rattle.flu_top.specs.Replays.{IsNetRefusal, IsReplayDone, IsReadIn, StaysEnded, IsReplayRefusal}
@@ -269,8 +270,8 @@ module _ (job plan trace : List ℕ) (p : Program) (nodes : List Node) (a b c : 
       by_told (Some x) (Some y) None first good = absurd good
       by_told (Some x) (Some y) (Some z) first good = good_at (Replay job plan trace) p x y refl (λ asked. accepted) (no_checkpoint job plan trace) first good
 
-  trace_name : WhereTold b c (λ left _. first_fault p left ≡ None) → IsReadName a (Replay job plan trace) trace
-  trace_name good = inr (inr (inr (inr (record { named = refl; p = p; accepted = λ asked. accepted; good = good_told good }))))
+  trace_name : WhereTold b c (λ left _. first_fault p left ≡ None) → IsTraceName a (Replay job plan trace) trace
+  trace_name good = record { named = refl; p = p; accepted = λ asked. accepted; good = good_told good }
 
   pub replay_refusal : (k l m : List ℕ → ℕ) (refusal : Refusal) → ((n : List ℕ) → k n ≤ l n) → IsReplayRefusal p nodes trace b c l m refusal
       → IsRefusal (Replay job plan trace) a c k m refusal
@@ -282,7 +283,8 @@ module _ (job plan trace : List ℕ) (p : Program) (nodes : List Node) (a b c : 
       (λ asked. accepted) (no_checkpoint job plan trace) ready rise is
   replay_refusal k l m refusals.ReadFault rise (inl rose) = report_refusal (Replay job plan trace) p a b c k l m refusals.ReadFault refl (λ asked. accepted)
       (no_checkpoint job plan trace) ready rise rose
-  replay_refusal k l m refusals.ReadFault rise (inr rose) = (trace, trace_name rose.0, rose_behind (k trace) (l trace) (m trace) (rise trace) rose.1)
+  replay_refusal k l m refusals.ReadFault rise (inr rose) =
+      InTrace trace (trace_name rose.0) (rose_behind (k trace) (l trace) (m trace) (rise trace) rose.1)
   replay_refusal k l m refusals.WriteFault rise is = is
   replay_refusal k l m refusals.NoMemory rise is = tt
   replay_refusal k l m (refusals.SaveDefect defect) rise is = absurd is

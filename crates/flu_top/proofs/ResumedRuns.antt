@@ -268,7 +268,7 @@ checkpoints_open laws are_short are_utf8 p job o texts left text checkpoint job_
     )
 
 -- ---- sources
-file_is_named : (ss : List Source) (i : ℕ) (s : Source) → slice_get ss i ≡ Some s → Contains (files_of ss) s.file
+pub file_is_named : (ss : List Source) (i : ℕ) (s : Source) → slice_get ss i ≡ Some s → Contains (files_of ss) s.file
 file_is_named [] i s at = absurd cc
 file_is_named (x ∷ ss) zero s at = let same : x ≡ s = cc in subst (λ (y : Source). Contains (files_of (x ∷ ss)) y.file) same (contains_here x.file (files_of ss))
 file_is_named (x ∷ ss) (suc i) s at = contains_later x.file s.file (files_of ss) (file_is_named ss i s at)

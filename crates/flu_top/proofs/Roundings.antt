@@ -1,10 +1,11 @@
 -- The rounds of a job's sources, one after another, what is put behind each, what is counted of them, and how they end.
 use Rattle.std.proofs.Common.{◌≡◌, ◌≢◌, refl, sym, ap, ◌∙◌, subst, ℕ, Bool, ◌-◌, ◌^◌, ◌<◌, ◌≤◌, List, [], ◌∷◌, ◌++◌, Option, Some, None, Result, Ok, Err, inl}
 use Rattle.std.proofs.Common.{inr, ◌⊎◌, append_assoc, arith}
-use Rattle.std.specs.Prelude.{true, false, nat_lt, Contains, option_map, IsTrue}
+use Rattle.std.specs.Prelude.{true, false, nat_lt, slice_get, take, Contains, option_map, IsTrue}
 use Rattle.std.specs.Result.{IsErrAnd}
 use Rattle.std.proofs.lemmas.Bool.Decides.{nat_tests}
 use Rattle.std.proofs.lemmas.List.{append-nil}
+use Rattle.flu_lemmas.specs.Elements.{AtEach}
 use Rattle.flu_lemmas.proofs.Named.{rose_behind}
 use Rattle.flu_lemmas.proofs.Told.{told_both, told_same, told_then, told_weaker}
 use Rattle.flu_outside.specs.declared.files.PutFault.{PutFault}
@@ -24,9 +25,9 @@ use Rattle.flu_streams.specs.declared.border.Border.{Border}
 use Rattle.flu_streams.specs.declared.border.Border.TheVariants.{At, Closed}
 use Rattle.flu_streams.specs.declared.faults.SourceFault.{SourceFault}
 use Rattle.flu_streams.specs.Counts.{grown, grown_in_turn, no_counts, OneMoreInTurn}
-use Rattle.flu_streams.specs.Files.{files_of, LeavesOthers, AreReadOut, OneRose}
-use Rattle.flu_streams.specs.Holding.{AreHeldBehind, AreInAll, ClosedAreReadOut, AreClosed, IsNewBorder}
-use Rattle.flu_streams.specs.Rounds.{IsRound, IsRoundFault, LawOfNoRows, Starts, lists_between}
+use Rattle.flu_streams.specs.Files.{files_of, LeavesOthers, AreReadOut}
+use Rattle.flu_streams.specs.Holding.{AreHeldBehind, AreInAll, ClosedAreReadOut, AreClosed, IsNewBorder, HidesNoRoundFault}
+use Rattle.flu_streams.specs.Rounds.{IsRound, IsRoundFault, IsPassed, LawOfNoRows, Reads, Starts, Turn, defect_in, is_enough, lists_between}
 use Rattle.flu_rounds.specs.declared.faults.RoundsFault.{RoundsFault}
 use Rattle.flu_rounds.specs.declared.faults.RoundsFault.TheVariants.{Source as SourceDefect, ReadFault, WriteFault, NoMemory}
 use Rattle.flu_rounds.specs.Coming.{HasRunFrom, IsStateUpTo, LawOfBeginningFrom, LawOfGoingOnFrom, LawOfLastFrom, LawOfDefectFrom, LawOfTextAndState}
@@ -43,7 +44,7 @@ use Rattle.flu_top.specs.Ending.{Call, call}
 use Rattle.flu_top.specs.Openings.{Opening}
 use Rattle.flu_top.specs.Products.{line_said}
 use Rattle.flu_top.specs.Reading.{HaveWritten, MeetsDefect, ReportsNext, put_by, rows_in_round, greatest_border}
-use Rattle.flu_top.specs.Running.{GoesOn, StaysWithin, IsAllRun, RanAll, RanToDefect, RanSome, RanInto, RanUnsaved, EndsRounds, Steps, PutsAt, PutFailed}
+use Rattle.flu_top.specs.Running.{GoesOn, StaysWithin, IsAllRun, HasFailed, RanAll, RanToDefect, RanSome, RanInto, RanUnsaved, EndsRounds, Steps, PutsAt, PutFailed}
 use Rattle.flu_top.specs.Running.{IsSavedTo, border_at, borders_above, put_behind}
 use Rattle.flu_top.specs.Running.{IsPlanSaid, SaysCounts, SaysPlan, all_lists}
 use Rattle.flu_top.specs.Starting.{IsNoSource, LeavesPut, LeavesAnything}
@@ -248,7 +249,8 @@ pub record IsHalted (old : Standing) (c : Call) (f : RoundsFault) : Type 0 where
       → (end : Border) × (now : ℕ → List Next) × IsRoundOf old c.left c.left_after end before now
       × WhereTold c.taken c.taken_after (AppendsPart (round_report old end now))
   pub failed : f ≡ WriteFault → Rose c.count c.count_after
-  pub cause : f ≡ ReadFault → OneRose (files_of old.held.program.sources) c.counts c.counts_after
+  pub hides : f ≡ ReadFault → (before : ℕ → List Next) → AreHeldBehind old.held before
+      → HidesNoRoundFault old.held c.left c.left_after c.counts c.counts_after before
 
 wrote_then : (text more : List ℕ) (a b d : Option (List ℕ)) → WhereTold a b (AppendsAll text) → WhereTold b d (AppendsAll more)
     → WhereTold a d (AppendsAll (text ++ more))
@@ -336,10 +338,39 @@ module _ (adapts : Bool) (p : Program) (note : AdaptiveNote) (o : Opening) (name
         leaves_on);
   }
 
-  one_rose : OneRose (files_of old.held.program.sources) l m → OneRose (files_of p.sources) k m
-  one_rose found =
-      let at = subst (λ (r : Program). OneRose (files_of r.sources) l m) go.came.program found in
-      (at.0, at.1, rose_behind (k at.0) (l at.0) (m at.0) (go.within.rise at.0) at.2)
+  has_failed : HidesNoRoundFault old.held b d l m go.came.before → HasFailed p o (call a d k m s u had has x z)
+  has_failed h = record {
+    round = record {
+      done = go.came.done;
+      border = old.held.border;
+      before = go.came.before;
+      now = h.now;
+      at = h.at;
+      source = h.source;
+      is = subst (λ (r : Program). slice_get r.sources h.at ≡ Some h.source) go.came.program h.is;
+      more = h.more;
+      further = h.further;
+      sound = subst (λ (r : Program). defect_in r.kinds h.source (h.now h.at) ≡ None) go.came.program h.sound;
+      few = λ n le. subst (λ (r : ℕ). is_enough r old.held.border h.source (go.came.before h.at ++ take n h.more) ≡ false) go.came.number (h.few n le);
+      place = h.place;
+      file = h.file;
+      undecided = h.undecided;
+    };
+    rose = rose_behind (k h.source.file) (l h.source.file) (m h.source.file) (go.within.rise h.source.file) h.rose;
+    told = told_then _ _ _ a b d
+        (λ was mid is came found.
+        let both = found (lines_in p was) came.1 in
+        record {
+          rounds = came.0;
+          earlier = subst (λ (r : Program). AtEach (λ i s'. i < h.at → (turn : Turn)
+              × Reads r.kinds s' rows_in_round old.held.border (lines_in p was i) (go.came.before i) (h.now i) turn × IsPassed turn) r.sources)
+              go.came.program
+              (subst (λ (n : ℕ). AtEach (λ i s'. i < h.at → (turn : Turn)
+              × Reads old.held.program.kinds s' n old.held.border (lines_in p was i) (go.came.before i) (h.now i) turn × IsPassed turn)
+              old.held.program.sources) go.came.number both.0);
+          was = both.1;
+        }) go.came.told h.told;
+  }
 
   rose_on : Rose y z → Rose x z
   rose_on rose = subst (λ (n : ℕ). Rose n z) go.quiet rose
@@ -389,7 +420,7 @@ module _ (adapts : Bool) (p : Program) (note : AdaptiveNote) (o : Opening) (name
   pub ends_halted : Laws o → (f : RoundsFault) → IsHalted old (call b d l m t u mid has y z) f
       → EndsRounds adapts p o named (call a d k m s u had has x z) (Err (Round f)) × StaysWithin p named (call a d k m s u had has x z)
   ends_halted laws (SourceDefect fault) is = (ran_to_defect laws fault is.fault (is.nothing (λ e. cc)), stays)
-  ends_halted laws ReadFault is = ((one_rose (is.cause refl), ran_some laws (is.nothing (λ e. cc))), stays)
+  ends_halted laws ReadFault is = ((has_failed (is.hides refl go.came.before go.came.behind), ran_some laws (is.nothing (λ e. cc))), stays)
   ends_halted laws WriteFault is = ((rose_on (is.failed refl), ran_into laws (is.part refl)), stays)
   ends_halted laws NoMemory is = (ran_some laws (is.nothing (λ e. cc)), stays)
 

@@ -6,7 +6,7 @@ use Rattle.std.proofs.lemmas.Result.{IfErr-weaker}
 use Rattle.std.proofs.lemmas.List.Elements.{Contains-append_cases, Contains-append_left, Contains-append_right}
 use Rattle.flu_outside.specs.declared.files.PutFault.{PutFault}
 use Rattle.flu_outside.specs.Outside.{WhereTold, Contents, SameCounts, Rose}
-use Rattle.flu_outside.specs.Taking.{TakesFrom, TookFronts, bytes_left}
+use Rattle.flu_outside.specs.Taking.{TakesFrom, TookFronts, TookAtMost, bytes_left}
 use Rattle.flu_model.specs.declared.jobs.Program.{Program}
 use Rattle.flu_model.specs.Folding.{final_state, final_outputs}
 use Rattle.flu_model.specs.Reports.{report}
@@ -31,22 +31,25 @@ use Rattle.flu_top.specs.declared.refusals.SaveDefect.TheVariants as defects
 use Rattle.flu_top.specs.Answer.{status_after}
 use Rattle.flu_top.specs.Behind.{WantedJob, Named, job_files, HasJob, emptied_each, lists_behind}
 use Rattle.flu_top.specs.Causes.{IsJobRead, HasSourceFault, HasStartDefect, IsMet}
-use Rattle.flu_top.specs.Done.{HasPlanAsked, MayHaveJob, MayBeJob, IsDone, IsLine, WroteRounds, WroteUnsaved, WroteIntoRound, IsReadName, IsPutAt}
+use Rattle.flu_top.specs.Done.{HasPlanAsked, MayHaveJob, MayBeJob, IsDone, IsLine, WroteRounds, WroteUnsaved, WroteIntoRound, IsReadName, IsSourceFile, IsPutAt}
 use Rattle.flu_top.specs.Ending.{call, HasAll, HasDefectMet, IsStopped, IsEnding}
 use Rattle.flu_top.specs.Jobs.{program_read}
 use Rattle.flu_top.specs.Openings.{Opening, Opens, OpensAt, lists_from}
 use Rattle.flu_top.specs.Products.{line_said, MaySay}
 use Rattle.flu_top.specs.Ready.{AreTextsRead, IsReady}
 use Rattle.flu_top.specs.Reading.{InRounds, HaveWritten, MeetsDefect, ReportsNext, greatest_border, lines_behind}
+use Rattle.flu_top.specs.ReadFaults.{InCheckpoint, InRows}
 use Rattle.flu_top.specs.Refusing.{IsRefusal}
 use Rattle.flu_top.specs.Running.{IsBegun, IsOpened, IsOpeningRefusal, IsSavedTo, StaysWithin, IsAllRun, RanAll, RanToDefect, RanSome, RanInto, RanUnsaved}
 use Rattle.flu_top.specs.Running.{IsRoundsRefusal, EndsRun}
 use Rattle.flu_top.specs.Running.{IsPlanSaid, MaySayPlan, SaysPlan}
 use Rattle.flu_top.specs.Starting.{AreNoSources, CanStart, HasBadCheckpoint, StartsFrom, IsSameName, Saves, Resumes, Leaves, LeavesPut, LeavesAnything}
 use Rattle.flu_top.specs.Taking.{TookOnly, TookFrontsBut}
-use Rattle.flu_top.specs.Wants.{if_named, plan_said, texts_named, sources_read, IsNotSaved}
+use Rattle.flu_top.specs.Unfinished.{IsUnfinished}
+use Rattle.flu_top.specs.Wants.{if_named, plan_said, job_and_plan_named, texts_named, sources_read, IsNotSaved}
 use Rattle.flu_top.proofs.AsValid.{only_as_valid, refusal_as_valid, run_reads}
-use Rattle.flu_top.proofs.Sequence.{among, name_given, none_among, one_text, source_name_is_read, stays_ended, text_is_read}
+use Rattle.flu_top.proofs.ResumedRuns.{file_is_named}
+use Rattle.flu_top.proofs.Sequence.{among, name_given, none_among, one_text, is_source_file, stays_ended, text_is_read}
 
 -- ---- texts
 -- some texts are read, and then others
@@ -193,11 +196,12 @@ module _ (job : List ℕ) (plan : Option (List ℕ)) (options : RunOptions) (p :
   opening_refuses d k l m accepted apart begun rise (refusals.Conflict fault) is = absurd is
   opening_refuses d k l m accepted apart begun rise (refusals.PlanDefect defect) is = absurd is
   opening_refuses d k l m accepted apart begun rise (refusals.SourceFault job_read fault) is = absurd is
-  opening_refuses d k l m accepted apart begun rise refusals.ReadFault is = (
-    is.0,
-    inr (inr (inl (record { p = p; job = may_be_begun accepted begun; plan = plan_begun begun; apart = apart; named = is.1 }))),
-    rose_behind (k is.0) (l is.0) (m is.0) (rise is.0) is.2,
-  )
+  opening_refuses d k l m accepted apart begun rise refusals.ReadFault is =
+      InCheckpoint is.0 (record { p = p; job = may_be_begun accepted begun; plan = plan_begun begun; apart = apart; named = is.1 })
+      (rose_behind (k is.0) (l is.0) (m is.0) (rise is.0) is.2)
+      (told_then (IsBegun job plan p) (TookAtMost is.0 536870912)
+      (λ x z. TookAtMost is.0 536870912 (emptied_each (job_and_plan_named (Run job plan options)) x) z) a b d
+      (λ x y z first few. subst (λ (left : Contents). TookAtMost is.0 536870912 left z) (sym first.texts.behind) few) begun is.3)
   opening_refuses d k l m accepted apart begun rise refusals.WriteFault is = is
   opening_refuses d k l m accepted apart begun rise refusals.NoMemory is = tt
   opening_refuses d k l m accepted apart begun rise (refusals.SaveDefect (defects.SameName checked number)) is = absurd is
@@ -494,8 +498,8 @@ module _ (job : List ℕ) (plan : Option (List ℕ)) (options : RunOptions) (p :
   is_ready : WhereTold a b (IsReady (Run job plan options) p)
   is_ready = told_weaker (IsStarted job plan options p o) (IsReady (Run job plan options) p) a b (λ v w first. first.ready) started
 
-  source_read : (name : List ℕ) → Contains (files_of p.sources) name → IsReadName a (Run job plan options) name
-  source_read name found = source_name_is_read (Run job plan options) p a b refl (λ asked. accepted) apart start_told is_ready name found
+  source_file : (name : List ℕ) → Contains (files_of p.sources) name → IsSourceFile a (Run job plan options) name
+  source_file name found = is_source_file (Run job plan options) p a b refl (λ asked. accepted) apart start_told is_ready name found
 
   refused_in_rounds : (refusal : Refusal) → IsRoundsRefusal p o options.save (call b d l m t u had has x z) refusal
       → IsStopped (call a d k m s u had has x z) (Run job plan options) refusal
@@ -505,8 +509,23 @@ module _ (job : List ℕ) (plan : Option (List ℕ)) (options : RunOptions) (p :
   refused_in_rounds (refusals.PlanDefect defect) is = absurd is
   refused_in_rounds (refusals.SourceFault job_read fault) is = met job_read fault is.0 is.1
   refused_in_rounds refusals.ReadFault is =
-      let rose = is.0 in
-      record { why = (rose.0, source_read rose.0 rose.1, rose_behind (k rose.0) (l rose.0) (m rose.0) (rise rose.0) rose.2); wrote = inr (wrote_rounds is.1) }
+      let round = is.0.round in
+      let name = round.source.file in
+      record {
+        why = InRows name (source_file name (file_is_named p.sources round.at round.source round.is)) refl
+            (rose_behind (k name) (l name) (m name) (rise name) is.0.rose) (record {
+              p = p;
+              o = o;
+              round = round;
+              named = refl;
+              told = told_then (IsStarted job plan options p o) (λ v w. IsUnfinished p o round (lines_in p v) w)
+                  (λ was now. HasJob (Named job) was p × StartsFrom (Run job plan options) was p o
+                  × IsUnfinished p o round (lines_behind (texts_named (Run job plan options)) was p) now) a b d
+                  (λ v w r first rest. (first.ready.has, first.starts, subst (λ lines. IsUnfinished p o round lines r) (lines_same v w first) rest))
+                  started is.0.told;
+            });
+        wrote = inr (wrote_rounds is.1);
+      }
   refused_in_rounds refusals.WriteFault is = record { rose = is.0; partly = wrote_into is.1 }
   refused_in_rounds refusals.NoMemory is = elim is [
     | inl some ↦ inl (inr (wrote_rounds some))
@@ -558,6 +577,6 @@ module _ (job : List ℕ) (plan : Option (List ℕ)) (options : RunOptions) (p :
   run_only result is = told_then (IsStarted job plan options p o) (TookOnly (λ name. Contains (files_of p.sources) name ⊎ IsSavedTo options.save name))
       (TookOnly (λ name. IsReadName a (Run job plan options) name ⊎ IsPutAt (Run job plan options) (status_after result) name)) a b d
       (λ v w r first second name unread.
-      second name (λ either. elim either [ inl source ↦ unread (inl (source_read name source)) | inr saved ↦ unread (inr (saved, may_put result is)) ])
+      second name (λ either. elim either [ inl source ↦ unread (inl (inr (inr (inr (inl (source_file name source)))))) | inr saved ↦ unread (inr (saved, may_put result is)) ])
       ∙ first.ready.texts.others name (λ found. unread (inl (text_is_read (Run job plan options) p a b (λ asked. accepted) apart is_ready name found))))
       started within.others

@@ -5,17 +5,21 @@ use Rattle.std.specs.Prelude.{Contains, IsTrue, IfSome, is_some, option_map, ◌
 use Rattle.std.specs.Str.{bytes_eq}
 use Rattle.std.proofs.Math.Path.{fun_ext}
 use Rattle.std.proofs.lemmas.Bool.{false≢true}
+use Rattle.std.proofs.lemmas.List.{map-append}
 use Rattle.std.proofs.lemmas.List.Elements.{Contains-append_cases, Contains-append_left, Contains-append_right}
 use Rattle.std.proofs.lemmas.Slice.Eq.{bytes_eq-Decides}
 use Rattle.flu_outside.specs.Outside.{WhereTold, Contents}
 use Rattle.flu_model.specs.declared.events.Item.{Item}
 use Rattle.flu_model.specs.declared.jobs.Program.{Program}
+use Rattle.flu_model.specs.declared.jobs.Source.{Source}
 use Rattle.flu_model.specs.Contents.{nothing_held}
 use Rattle.flu_model.specs.Folding.{final_outputs}
 use Rattle.flu_model.specs.Reports as reports
 use Rattle.flu_outside.specs.Taking.{TakesFrom}
 use Rattle.flu_lemmas.proofs.Named.{rose_behind}
 use Rattle.flu_lemmas.proofs.Told.{told_both, told_then, told_weaker}
+use Rattle.flu_rows.specs.Reading.{ahead}
+use Rattle.flu_streams.specs.Faults.{StopsWithout}
 use Rattle.flu_streams.specs.Files.{files_of, LeavesOthers, AreReadOut}
 use Rattle.flu_streams.specs.Good.{first_fault, lists_of, AreGood}
 use Rattle.flu_top.specs.declared.refusals.Refusal.{Refusal}
@@ -24,18 +28,19 @@ use Rattle.flu_model.specs.Modes.{IsAccepted}
 use Rattle.flu_words.specs.Words.{Command}
 use Rattle.flu_top.specs.Taking.{TookOnly}
 use Rattle.flu_top.specs.Behind.{WantedJob, Named, Fixed, HasJob, job_files, fault_behind, report_behind}
-use Rattle.flu_top.specs.Emptied.{emptied}
+use Rattle.flu_top.specs.Emptied.{emptied, emptied_each}
 use Rattle.flu_top.specs.Openings.{Opens, fresh}
 use Rattle.flu_top.specs.Reading.{Reading, Whole, is_read, AreSourcesGood}
 use Rattle.flu_top.specs.Wants.{job_wanted, plan_named, save_named, resume_named, trace_named, asks_accepted, how_read, reads_sources, if_named}
 use Rattle.flu_top.specs.Wants.{job_and_plan_named, texts_named, sources_read, Writes}
 use Rattle.flu_top.specs.Starting.{AreNoSources, CanStart}
-use Rattle.flu_top.specs.Done.{HasPlanAsked, IsGood, IsTraceRead, HasSaved, IsRead, Says, MayHaveJob, MayBeJob, IsReadName, IsWritten}
+use Rattle.flu_top.specs.Done.{HasPlanAsked, IsGood, IsTraceRead, HasSaved, IsRead, Says, MayHaveJob, MayBeJob, IsReadName, IsSourceFile, IsWritten}
 use Rattle.flu_top.specs.Ready.{AreTextsRead, IsReady}
 use Rattle.flu_top.specs.Jobs.{IsJobRefusal}
 use Rattle.flu_top.specs.Causes.{IsJobRead, HasJobFault, IsMet, HasSourceFault}
 use Rattle.flu_top.specs.Folding.{AreSourcesRead, IsReported, IsReportRefusal}
 use Rattle.flu_top.specs.Replays.{StaysEnded}
+use Rattle.flu_top.specs.ReadFaults.{InJob, InSources}
 use Rattle.flu_top.specs.Refusing.{IsRefusal}
 use Rattle.flu_top.proofs.OneCommand.{not_named}
 
@@ -158,18 +163,25 @@ text_is_read command p a b accepted apart ready name found = elim (Contains-appe
       })))
     ]
 
-pub source_name_is_read : (command : Command) (p : Program) (a b : Option Contents) → IsTrue (reads_sources command)
+pub is_source_file : (command : Command) (p : Program) (a b : Option Contents) → IsTrue (reads_sources command)
     → (IsTrue (asks_accepted command) → IsAccepted p) → AreNoSources command p
     → IfSome a (λ contents. CanStart command contents p) → WhereTold a b (IsReady command p) → (name : List ℕ) → Contains (files_of p.sources) name
-    → IsReadName a command name
-source_name_is_read command p a b reads accepted apart start ready name found = inr (inr (inr (inl (record {
+    → IsSourceFile a command name
+is_source_file command p a b reads accepted apart start ready name found = record {
   p = p;
   job = may_be_ready command p a b accepted ready;
   plan = plan_told command p a b ready;
   apart = apart;
   start = start;
   named = source_is_read command p name reads found;
-}))))
+}
+
+pub source_name_is_read : (command : Command) (p : Program) (a b : Option Contents) → IsTrue (reads_sources command)
+    → (IsTrue (asks_accepted command) → IsAccepted p) → AreNoSources command p
+    → IfSome a (λ contents. CanStart command contents p) → WhereTold a b (IsReady command p) → (name : List ℕ) → Contains (files_of p.sources) name
+    → IsReadName a command name
+source_name_is_read command p a b reads accepted apart start ready name found =
+    inr (inr (inr (inl (is_source_file command p a b reads accepted apart start ready name found))))
 
 -- whatever the files tell, a command without checkpoints can start
 pub start_told : (command : Command) (p : Program) (a : Option Contents) → NamesNoCheckpoint command → IfSome a (λ contents. CanStart command contents p)
@@ -338,12 +350,19 @@ job_refusal command job a b before now (refusals.JobFault fault) named is = subs
 job_refusal command job a b before now (refusals.Conflict fault) named is = absurd is
 job_refusal command job a b before now (refusals.PlanDefect defect) named is = absurd is
 job_refusal command job a b before now (refusals.SourceFault p fault) named is = absurd is
-job_refusal command job a b before now refusals.ReadFault named is = (job, inl named, is)
+job_refusal command job a b before now refusals.ReadFault named is = InJob job named is.0 is.1
 job_refusal command job a b before now refusals.WriteFault named is = is
 job_refusal command job a b before now refusals.NoMemory named is = is
 job_refusal command job a b before now (refusals.SaveDefect defect) named is = absurd is
 job_refusal command job a b before now refusals.PutFault named is = is
 job_refusal command job a b before now (refusals.TraceFault fault) named is = absurd is
+
+-- a source's file is among those of all
+file_among : (p : Program) (earlier later : List Source) (s : Source) → p.sources ≡ earlier ++ (s ∷ later) → Contains (files_of p.sources) s.file
+file_among p earlier later s split =
+    let among : Contains (files_of (earlier ++ (s ∷ later))) s.file = rw (map-append (λ (x : Source). x.file) earlier (s ∷ later))
+    (Contains-append_right (files_of earlier) (s.file ∷ files_of later) s.file (0, omega arith, refl)) in
+    subst (λ (sources : List Source). Contains (files_of sources) s.file) (sym split) among
 
 pub report_refusal : (command : Command) (p : Program) (a b c : Option Contents) (k l m : List ℕ → ℕ) (refusal : Refusal) → how_read command ≡ Whole
     → (IsTrue (asks_accepted command) → IsAccepted p) → NamesNoCheckpoint command → WhereTold a b (IsReady command p) → ((n : List ℕ) → k n ≤ l n)
@@ -369,12 +388,29 @@ report_refusal command p a b c k l m (refusals.SourceFault q fault) whole accept
                 (none_behind command p x y first ∙ e),
           )) ready is.first;
     }
-report_refusal command p a b c k l m refusals.ReadFault whole accepted none ready rise is = (
-  is.0,
-  source_name_is_read command p a b (ap is_read whole) accepted (no_sources command p none)
-      (start_told command p a none) ready is.0 is.1,
-  rose_behind (k is.0) (l is.0) (m is.0) (rise is.0) is.2,
-)
+report_refusal command p a b c k l m refusals.ReadFault whole accepted none ready rise is =
+    let name = is.source.file in
+    InSources name (is_source_file command p a b (ap is_read whole) accepted (no_sources command p none) (start_told command p a none) ready name
+    (file_among p is.earlier is.later is.source is.split)) whole (rose_behind (k name) (l name) (m name) (rise name) is.rose) (record {
+      p = p;
+      earlier = is.earlier;
+      source = is.source;
+      later = is.later;
+      split = is.split;
+      named = refl;
+      read = is.read;
+      place = is.place;
+      file = is.file;
+      undecided = is.undecided;
+      told = told_then (IsReady command p) (λ was now. StopsWithout p.kinds is.earlier is.source is.read (ahead is.place now) was)
+          (λ was now. HasJob (job_wanted command) was p
+          × StopsWithout p.kinds is.earlier is.source is.read (ahead is.place now) (emptied_each (texts_named command) was)) a b c
+          (λ x y z first stops. (
+            first.has,
+            subst (λ (left : Contents). StopsWithout p.kinds is.earlier is.source is.read (ahead is.place z) left)
+                (sym first.texts.behind) stops,
+          )) ready is.told;
+    })
 report_refusal command p a b c k l m refusals.WriteFault reads accepted none ready rise is = is
 report_refusal command p a b c k l m refusals.NoMemory reads accepted none ready rise is = tt
 report_refusal command p a b c k l m (refusals.SaveDefect defect) reads accepted none ready rise is = absurd is

@@ -1,5 +1,5 @@
 -- A job's text is read, then a plan's, and the plan is looked at for the job.
-use Rattle.std.proofs.Common.{◌≡◌, refl, sym, ap, ◌∙◌, subst, ℕ, ◌≤◌, List, [], Option, Some, Err, inl, inr}
+use Rattle.std.proofs.Common.{◌≡◌, refl, sym, ap, ◌∙◌, subst, ℕ, ◌≤◌, List, [], ◌∷◌, Option, Some, Err, inl, inr}
 use Rattle.flu_outside.specs.Outside.{WhereTold, Contents}
 use Rattle.flu_model.specs.declared.jobs.Program.{Program}
 use Rattle.flu_model.specs.declared.plans.Node.{Node}
@@ -7,7 +7,7 @@ use Rattle.flu_model.specs.Modes.{IsAccepted}
 use Rattle.flu_model.specs.Validity.{IsValid}
 use Rattle.flu_deps.specs.declared.checked.Checked.{Checked}
 use Rattle.flu_deps.specs.Checking.{program_of}
-use Rattle.flu_outside.specs.Taking.{bytes_left, TakesFrom}
+use Rattle.flu_outside.specs.Taking.{bytes_left, TakesFrom, TookAtMost}
 use Rattle.flu_lemmas.proofs.Named.{rose_behind}
 use Rattle.flu_lemmas.proofs.Told.{told_both, told_then, told_weaker}
 use Rattle.flu_plan.specs.Reading.{plan_in}
@@ -18,11 +18,12 @@ use Rattle.flu_top.specs.declared.refusals.Refusal.{Refusal}
 use Rattle.flu_top.specs.declared.refusals.Refusal.TheVariants as refusals
 use Rattle.flu_words.specs.Words.{Valid}
 use Rattle.flu_top.specs.Taking.{TookOnly}
-use Rattle.flu_top.specs.Behind.{Named, HasJob, HasPlan, plan_behind}
-use Rattle.flu_top.specs.Done.{IsReadName, IsWritten}
+use Rattle.flu_top.specs.Behind.{Named, HasJob, HasPlan, emptied_each, plan_behind}
+use Rattle.flu_top.specs.Done.{IsReadName, IsPlanName, IsWritten}
 use Rattle.flu_top.specs.Causes.{IsJobRead, HasInvalidPlan}
 use Rattle.flu_top.specs.Ready.{HasNodes, IsReady}
 use Rattle.flu_top.specs.Plans.{IsPlanRead, IsTextRefusal, IsValidRefusal}
+use Rattle.flu_top.specs.ReadFaults.{InPlan}
 use Rattle.flu_top.specs.Refusing.{IsRefusal}
 use Rattle.flu_top.proofs.Sequence.{may_have, emptied_is, one_text, two_texts, can_start, has_saved}
 
@@ -90,20 +91,19 @@ is_validated job plan p nodes text a c accepted ready found is =
     (λ x z both. validated_at job plan p nodes text x z accepted is both) (told_both (IsReady (Valid job plan) p) (HasNodes job plan p nodes) a c ready found)
 
 -- the plan's name is one that is read
-plan_name : (job plan : List ℕ) (p : Program) (a b : Option Contents) → WhereTold a b (IsJobRead job p) → IsAccepted p → IsReadName a (Valid job plan) plan
-plan_name job plan p a b read accepted = inr (inl (record {
+plan_name : (job plan : List ℕ) (p : Program) (a b : Option Contents) → WhereTold a b (IsJobRead job p) → IsAccepted p → IsPlanName a (Valid job plan) plan
+plan_name job plan p a b read accepted = record {
   p = p;
   job = record { has = may_have job p a b read; accepted = λ asked. accepted };
-  named =
-      refl;
-}))
+  named = refl;
+}
 
 pub only_with_plan : (job plan : List ℕ) (p : Program) (a b c : Option Contents) → WhereTold a b (IsJobRead job p) → WhereTold a b (TakesFrom job)
     → IsAccepted p → WhereTold b c (TakesFrom plan) → WhereTold a c (TookOnly (IsReadName a (Valid job plan)))
 only_with_plan job plan p a b c read taken accepted also =
     told_then (TakesFrom job) (TakesFrom plan) (TookOnly (IsReadName a (Valid job plan))) a b c
     (λ x y z took more name unread.
-    more.others name (λ same. unread (subst (IsReadName a (Valid job plan)) (sym same) (plan_name job plan p a b read accepted)))
+    more.others name (λ same. unread (subst (IsReadName a (Valid job plan)) (sym same) (inr (inl (plan_name job plan p a b read accepted)))))
     ∙ took.others name (λ same. unread (inl (ap Named (sym same))))) taken also
 
 -- ---- what refuses a plan
@@ -126,7 +126,11 @@ text_refusal job plan p a b c k l m (refusals.PlanDefect (defects.Text fault)) r
 text_refusal job plan p a b c k l m (refusals.PlanDefect (defects.Invalid checked fault)) read taken rise accepted is = absurd is
 text_refusal job plan p a b c k l m (refusals.SourceFault q fault) read taken rise accepted is = absurd is
 text_refusal job plan p a b c k l m refusals.ReadFault read taken rise accepted is =
-    (plan, plan_name job plan p a b read accepted, rose_behind (k plan) (l plan) (m plan) (rise plan) is)
+    InPlan plan (plan_name job plan p a b read accepted) (rose_behind (k plan) (l plan) (m plan) (rise plan) is.0)
+    (told_then (λ x y. IsJobRead job p x y × TakesFrom job x y) (TookAtMost plan 1048576)
+    (λ x z. TookAtMost plan 1048576 (emptied_each (job ∷ []) x) z) a b c
+    (λ x y z first few. subst (λ (left : Contents). TookAtMost plan 1048576 left z) (sym (emptied_is job x y first.0.end first.1)) few)
+    (told_both (IsJobRead job p) (TakesFrom job) a b read taken) is.1)
 text_refusal job plan p a b c k l m refusals.WriteFault read taken rise accepted is = is
 text_refusal job plan p a b c k l m refusals.NoMemory read taken rise accepted is = tt
 text_refusal job plan p a b c k l m (refusals.SaveDefect defect) read taken rise accepted is = absurd is

@@ -12,7 +12,7 @@ use Rattle.flu_top.specs.Products.{line_said, MaySay}
 use Rattle.flu_top.specs.Causes.{HasJobFault, HasConflict, HasPlanDefect, HasSaveDefect, HasSourceFault, HasTraceFault}
 use Rattle.flu_top.specs.Done.{IsDone, WhereKnown, Wrote, WroteSome, WroteForMemory, WroteForPut, WrotePart}
 use Rattle.flu_top.specs.Jobs.{program_read}
-use Rattle.flu_top.specs.Refusing.{HasReadFault}
+use Rattle.flu_top.specs.ReadFaults.{HasReadFault}
 
 -- what a call finds, and what it leaves: the files with their counts of takes and of puts, and out with its count
 pub record Call : Type 0 where
@@ -56,7 +56,7 @@ pub record HasDefectMet (c : Call) (command : Command) (job : JobRead) (fault : 
 
 -- a file failed
 pub record HasReadFailure (c : Call) (command : Command) : Type 0 where
-  pub why : HasReadFault command c.left c.counts c.counts_after
+  pub why : HasReadFault command c.left c.left_after c.counts c.counts_after
   pub wrote : WroteSome (how_read command) command c.left c.left_after c.taken c.taken_after
 
 -- there was something to write, and out failed

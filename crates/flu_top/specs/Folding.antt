@@ -6,7 +6,8 @@ use Rattle.flu_model.specs.Contents.{nothing_held}
 use Rattle.flu_model.specs.Folding.{final_outputs}
 use Rattle.flu_model.specs.Reports as reports
 use Rattle.flu_streams.specs.declared.faults.SourceFault.{SourceFault}
-use Rattle.flu_streams.specs.Files.{files_of, OneRose}
+use Rattle.flu_streams.specs.Faults.{HidesNothing}
+use Rattle.flu_streams.specs.Files.{files_of}
 use Rattle.flu_streams.specs.Good.{first_fault, lists_of}
 use Rattle.flu_top.specs.declared.refusals.Refusal.{Refusal}
 use Rattle.flu_top.specs.declared.refusals.Refusal.TheVariants as refusals
@@ -35,7 +36,7 @@ IsReportRefusal p old new before now (refusals.JobFault fault) = ⊥
 IsReportRefusal p old new before now (refusals.Conflict fault) = ⊥
 IsReportRefusal p old new before now (refusals.PlanDefect defect) = ⊥
 IsReportRefusal p old new before now (refusals.SourceFault job fault) = IsFaulty p old new (program_read job) fault
-IsReportRefusal p old new before now refusals.ReadFault = OneRose (files_of p.sources) before now
+IsReportRefusal p old new before now refusals.ReadFault = HidesNothing p old new before now
 IsReportRefusal p old new before now refusals.WriteFault = ⊥
 IsReportRefusal p old new before now refusals.NoMemory = ⊤
 IsReportRefusal p old new before now (refusals.SaveDefect defect) = ⊥

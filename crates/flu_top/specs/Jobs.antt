@@ -1,6 +1,7 @@
 -- A job that was read, and what refuses the reading of one.
 use Rattle.std.specs.Prelude.{ℕ, List, Option, ⊤}
-use Rattle.flu_outside.specs.Outside.{Contents, Rose}
+use Rattle.flu_outside.specs.Outside.{Contents, Rose, WhereTold}
+use Rattle.flu_outside.specs.Taking.{TookAtMost}
 use Rattle.flu_model.specs.declared.jobs.Program.{Program}
 use Rattle.flu_deps.specs.Checking.{program_of}
 use Rattle.flu_top.specs.declared.refusals.JobRead.{JobRead}
@@ -22,7 +23,7 @@ IsJobRefusal job old new before now (refusals.JobFault fault) = HasJobFault (Nam
 IsJobRefusal job old new before now (refusals.Conflict fault) = ⊥
 IsJobRefusal job old new before now (refusals.PlanDefect defect) = ⊥
 IsJobRefusal job old new before now (refusals.SourceFault other fault) = ⊥
-IsJobRefusal job old new before now refusals.ReadFault = Rose (before job) (now job)
+IsJobRefusal job old new before now refusals.ReadFault = Rose (before job) (now job) × WhereTold old new (TookAtMost job 1048576)
 IsJobRefusal job old new before now refusals.WriteFault = ⊥
 IsJobRefusal job old new before now refusals.NoMemory = ⊤
 IsJobRefusal job old new before now (refusals.SaveDefect defect) = ⊥

@@ -1,6 +1,6 @@
 -- What follows from the outcome of a call: each status by itself, what was read, and what comes where nothing failed.
 use Rattle.std.specs.Prelude.{◌≡◌, ◌≢◌, ◌↔◌, ◌⊎◌, ◌<◌, ℕ, List, [], ◌∷◌, Bool, true, false, Contains, IsTrue, Option, Some, None, ◌++◌, Ok, Err}
-use Rattle.flu_outside.specs.Outside.{Contents, WhereTold, Rose, Appends}
+use Rattle.flu_outside.specs.Outside.{Contents, WhereTold, Rose, Appends, SameCounts}
 use Rattle.flu_outside.specs.Taking.{bytes_left, TookFronts}
 use Rattle.flu_outside.specs.Writing.{AppendsAll}
 use Rattle.flu_model.specs.declared.events.Item.{Item}
@@ -176,6 +176,12 @@ abbrev pub PutFaultRose : Type 0
 PutFaultRose =
     (words : List (List ℕ)) (left : Option Contents) (before now : Faults) (status : ℕ) → FaultsFirst words left before now status → status ≡ 12
     → (name : List ℕ) × IsSavedBy words name × Rose (before.puts name) (now.puts name)
+
+-- at every status but 7 no count of takes has changed, at every one but 8 not that of out, and at every one but 12 none of puts
+abbrev pub NoFailureIsPassedOver : Type 0
+NoFailureIsPassedOver =
+    (words : List (List ℕ)) (left : Option Contents) (before now : Faults) (status : ℕ) → FaultsFirst words left before now status
+    → (status ≢ 7 → SameCounts before.takes now.takes) × (status ≢ 8 → now.out ≡ before.out) × (status ≢ 12 → SameCounts before.puts now.puts)
 
 -- status 12: out got the report of some round and of those before it, and err the line of a save fault
 abbrev pub PutFaultIsBehindARound : Type 0

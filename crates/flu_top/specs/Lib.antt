@@ -8,6 +8,7 @@ pub mod Reading
 pub mod Simulating
 pub mod Demos
 pub mod Openings
+pub mod Unfinished
 pub mod Wants
 pub mod Starting
 pub mod Replaying
@@ -16,6 +17,7 @@ pub mod Products
 pub mod Done
 pub mod Causes
 pub mod Ready
+pub mod ReadFaults
 pub mod Names
 pub mod Lines
 pub mod Outcome

@@ -1,7 +1,7 @@
 -- THE OUTCOME of a call of `flumina`: what its status says of the words, of what the files held and hold, and of what out and
 -- err got.
 use Rattle.std.specs.Prelude.{◌≡◌, ◌≢◌, ℕ, List, Option, Some, Ok, Err, IsTrue, ◌⊎◌}
-use Rattle.flu_outside.specs.Outside.{Contents, WhereTold, Rose}
+use Rattle.flu_outside.specs.Outside.{Contents, WhereTold, Rose, SameCounts}
 use Rattle.flu_outside.specs.Taking.{bytes_left}
 use Rattle.flu_model.specs.declared.jobs.Program.{Program}
 use Rattle.flu_model.specs.Modes.{IsAccepted}
@@ -24,6 +24,7 @@ use Rattle.flu_top.specs.Replaying.{ReplaysTo, HasCompleteTrace}
 use Rattle.flu_top.specs.Done.{HasValidPlan, HasPlanAsked, IsGood, IsDone, WhereKnown, Wrote, WroteSome, WroteForMemory, WroteForPut, WrotePart, IsReadName}
 use Rattle.flu_top.specs.Done.{IsReadBy, IsSavedBy, MayBePut}
 use Rattle.flu_top.specs.Causes.{HasJobFault, HasConflict, HasPlanDefect, HasSaveDefect, HasSourceFault, HasTraceFault}
+use Rattle.flu_top.specs.ReadFaults.{HasReadFault}
 use Rattle.flu_top.specs.Names.{source_name}
 use Rattle.flu_top.specs.Lines.{IsSaid, bad_words_line, job_fault_line, conflict_line, plan_defect_line, source_fault_line}
 use Rattle.flu_top.specs.Lines.{read_fault_line, write_fault_line, no_memory_line, save_defect_line, put_fault_line, trace_fault_line}
@@ -105,11 +106,19 @@ pub record ReadOnly (words : List (List ℕ)) (old new : Option Contents) (statu
 
 -- ---- the faults of the outside
 -- status 7 comes only where the count of a name that the call reads rose, status 8 only where out's did, and status 12 only where that
--- of puts of the name that it saves to did
+-- of puts of the name that it saves to did; and at every other status no such count of any name has changed, so that no failure is
+-- passed over
 pub record FaultsFirst (words : List (List ℕ)) (left : Option Contents) (before now : Faults) (status : ℕ) : Type 0 where
   pub read : status ≡ 7 → (name : List ℕ) × IsReadBy words left name × Rose (before.takes name) (now.takes name)
   pub write : status ≡ 8 → Rose before.out now.out
   pub put : status ≡ 12 → (name : List ℕ) × IsSavedBy words name × Rose (before.puts name) (now.puts name)
+  pub same_takes : status ≢ 7 → SameCounts before.takes now.takes
+  pub same_out : status ≢ 8 → now.out ≡ before.out
+  pub same_puts : status ≢ 12 → SameCounts before.puts now.puts
+
+-- a read fault hides nothing: status 7 comes only where nothing that was taken settles what the command comes to
+pub record HidesNothing (words : List (List ℕ)) (old new : Option Contents) (before now : Faults) (status : ℕ) : Type 0 where
+  pub failed : status ≡ 7 → (command : Command) × (command_in words ≡ Ok command) × HasReadFault command old new before.takes now.takes
 
 -- ---- completeness
 -- the command reads a trace, nothing refuses the command before that, and the trace is not complete

@@ -5,7 +5,7 @@ use Rattle.flu_model.specs.declared.jobs.Program.{Program}
 use Rattle.flu_model.specs.declared.plans.Node.{Node}
 use Rattle.flu_deps.specs.declared.checked.Checked.{Checked}
 use Rattle.flu_deps.specs.Checking.{program_of}
-use Rattle.flu_outside.specs.Taking.{bytes_left}
+use Rattle.flu_outside.specs.Taking.{bytes_left, TookAtMost}
 use Rattle.flu_plan.specs.declared.fault.PlanFault.{PlanFault}
 use Rattle.flu_plan.specs.declared.fault.PlanFault.TheVariants as faults
 use Rattle.flu_grammar.specs.Plans.{IsPlanText}
@@ -33,7 +33,7 @@ IsTextRefusal p plan old new before now (refusals.Conflict fault) = ⊥
 IsTextRefusal p plan old new before now (refusals.PlanDefect (defects.Text fault)) = HasTextFault p plan old new fault
 IsTextRefusal p plan old new before now (refusals.PlanDefect (defects.Invalid checked fault)) = ⊥
 IsTextRefusal p plan old new before now (refusals.SourceFault q fault) = ⊥
-IsTextRefusal p plan old new before now refusals.ReadFault = Rose (before plan) (now plan)
+IsTextRefusal p plan old new before now refusals.ReadFault = Rose (before plan) (now plan) × WhereTold old new (TookAtMost plan 1048576)
 IsTextRefusal p plan old new before now refusals.WriteFault = ⊥
 IsTextRefusal p plan old new before now refusals.NoMemory = ⊤
 IsTextRefusal p plan old new before now (refusals.SaveDefect defect) = ⊥

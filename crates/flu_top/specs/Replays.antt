@@ -5,7 +5,8 @@ use Rattle.flu_outside.specs.Taking.{bytes_left}
 use Rattle.flu_model.specs.declared.events.Item.{Item}
 use Rattle.flu_model.specs.declared.jobs.Program.{Program}
 use Rattle.flu_model.specs.declared.plans.Node.{Node}
-use Rattle.flu_streams.specs.Files.{files_of, OneRose}
+use Rattle.flu_streams.specs.Faults.{HidesNothing}
+use Rattle.flu_streams.specs.Files.{files_of}
 use Rattle.flu_streams.specs.Good.{first_fault}
 use Rattle.flu_trace.specs.declared.faults.ReplayFault.{ReplayFault}
 use Rattle.flu_trace.specs.Replaying.{Ending, Complete, ending_of}
@@ -51,10 +52,11 @@ IsReadIn p trace left name = Contains (files_of p.sources) name ⊎ ((trace ≡ 
 abbrev pub StaysEnded : Contents → Contents → Type 0
 StaysEnded old new = (name : List ℕ) → old name ≡ Some [] → new name ≡ Some []
 
--- the count of a source's file rose; or that of the trace, and the sources are good
+-- the count of a source's file rose, and nothing that was taken of the sources is a defect; or that of the trace, and the sources are
+-- good
 abbrev pub IsReadRise : Program → List ℕ → Option Contents → Option Contents → (List ℕ → ℕ) → (List ℕ → ℕ) → Type 0
 IsReadRise p trace old new before now =
-    OneRose (files_of p.sources) before now ⊎ (WhereTold old new (λ left _. first_fault p left ≡ None) × Rose (before trace) (now trace))
+    HidesNothing p old new before now ⊎ (WhereTold old new (λ left _. first_fault p left ≡ None) × Rose (before trace) (now trace))
 
 -- why the trace behind the sources was not replayed
 abbrev pub IsReplayRefusal : Program → List Node → List ℕ → Option Contents → Option Contents → (List ℕ → ℕ) → (List ℕ → ℕ) → Refusal → Type 0

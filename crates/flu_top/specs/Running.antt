@@ -4,7 +4,7 @@ use Rattle.std.specs.Prelude.{Result, Ok, Err, Contains, IsTrue, ⊤}
 use Rattle.std.specs.Option.{option_map_or}
 use Rattle.flu_outside.specs.declared.files.PutFault.TheVariants.{Failed, NoMemory as NoMemoryToPut}
 use Rattle.flu_outside.specs.Outside.{Contents as Files, WhereTold, Rose, Puts, SameLeft, SameCounts}
-use Rattle.flu_outside.specs.Taking.{bytes_left}
+use Rattle.flu_outside.specs.Taking.{bytes_left, TookAtMost}
 use Rattle.flu_outside.specs.Writing.{AppendsAll}
 use Rattle.flu_adaptive.specs.Notes.{AdaptiveNote}
 use Rattle.flu_adaptive.specs.Observed.{IsObservedPlan}
@@ -23,7 +23,7 @@ use Rattle.flu_streams.specs.declared.border.Border.TheVariants.{At, Closed}
 use Rattle.flu_streams.specs.declared.faults.SourceFault.{SourceFault}
 use Rattle.flu_streams.specs.declared.held.Stage.TheVariants.{Filling}
 use Rattle.flu_streams.specs.Counts.{grown, grown_in_turn, no_counts}
-use Rattle.flu_streams.specs.Files.{files_of, OneRose}
+use Rattle.flu_streams.specs.Files.{files_of}
 use Rattle.flu_streams.specs.Good.{lists_of}
 use Rattle.flu_rounds.specs.declared.faults.RoundsFault.TheVariants.{Source, ReadFault, WriteFault, NoMemory}
 use Rattle.flu_rounds.specs.Coming.{CameFrom, lists_above}
@@ -49,6 +49,7 @@ use Rattle.flu_top.specs.Reading.{HaveWritten, MeetsDefect, ReportsNext, rows_in
 use Rattle.flu_top.specs.Ready.{AreTextsRead}
 use Rattle.flu_top.specs.Starting.{LeavesPut, LeavesAnything}
 use Rattle.flu_top.specs.Taking.{TookOnly, TookFrontsBut}
+use Rattle.flu_top.specs.Unfinished.{Unfinished, IsUnfinished}
 use Rattle.flu_top.specs.Wants.{if_named, IsSomePlanText}
 
 -- ---- before the rounds
@@ -82,7 +83,8 @@ IsOpeningRefusal resume p old new before now (refusals.JobFault fault) = ⊥
 IsOpeningRefusal resume p old new before now (refusals.Conflict fault) = ⊥
 IsOpeningRefusal resume p old new before now (refusals.PlanDefect defect) = ⊥
 IsOpeningRefusal resume p old new before now (refusals.SourceFault job fault) = ⊥
-IsOpeningRefusal resume p old new before now refusals.ReadFault = (name : List ℕ) × (resume ≡ Some name) × Rose (before name) (now name)
+IsOpeningRefusal resume p old new before now refusals.ReadFault =
+    (name : List ℕ) × (resume ≡ Some name) × Rose (before name) (now name) × WhereTold old new (TookAtMost name 536870912)
 IsOpeningRefusal resume p old new before now refusals.WriteFault = ⊥
 IsOpeningRefusal resume p old new before now refusals.NoMemory = ⊤
 IsOpeningRefusal resume p old new before now (refusals.SaveDefect (defects.SameName checked number)) = ⊥
@@ -194,6 +196,12 @@ pub record RanToDefect (p : Program) (o : Opening) (named : Option (List ℕ)) (
   pub met : WhereTold c.left c.left_after (λ left now. (put : Option (List ℕ)) × MeetsDefect p o (lines_in p left) text put fault
       × LeavesPut named [] put left now)
 
+-- a source's file failed, and the round that read it is unfinished
+pub record HasFailed (p : Program) (o : Opening) (c : Call) : Type 0 where
+  pub round : Unfinished p
+  pub rose : Rose (c.counts round.source.file) (c.counts_after round.source.file)
+  pub told : WhereTold c.left c.left_after (λ left now. IsUnfinished p o round (lines_in p left) now)
+
 -- what the rounds up to some one wrote stands in out, and what they put under the name that is saved to
 pub record RanSome (p : Program) (o : Opening) (named : Option (List ℕ)) (c : Call) : Type 0 where
   pub text : List ℕ
@@ -221,7 +229,7 @@ pub record RanUnsaved (Left : Option (List ℕ) → Files → Files → Type 0) 
 abbrev pub EndsRounds : Bool → Program → Opening → Option (List ℕ) → Call → Result (Option Said) RunFault → Type 0
 EndsRounds adapts p o named c (Ok said) = RanAll p o named c × SaysPlan adapts p o said c
 EndsRounds adapts p o named c (Err (Round (Source fault))) = RanToDefect p o named c fault
-EndsRounds adapts p o named c (Err (Round ReadFault)) = OneRose (files_of p.sources) c.counts c.counts_after × RanSome p o named c
+EndsRounds adapts p o named c (Err (Round ReadFault)) = HasFailed p o c × RanSome p o named c
 EndsRounds adapts p o named c (Err (Round WriteFault)) = Rose c.count c.count_after × RanInto p o named c
 EndsRounds adapts p o named c (Err (Round NoMemory)) = RanSome p o named c
 EndsRounds adapts p o named c (Err (Unsaved Failed)) = PutFailed named c.puts c.puts_after × RanUnsaved LeavesAnything p o named c
@@ -240,7 +248,7 @@ IsRoundsRefusal p o named c (refusals.JobFault fault) = ⊥
 IsRoundsRefusal p o named c (refusals.Conflict fault) = ⊥
 IsRoundsRefusal p o named c (refusals.PlanDefect defect) = ⊥
 IsRoundsRefusal p o named c (refusals.SourceFault job fault) = (program_read job ≡ p) × RanToDefect p o named c fault
-IsRoundsRefusal p o named c refusals.ReadFault = OneRose (files_of p.sources) c.counts c.counts_after × RanSome p o named c
+IsRoundsRefusal p o named c refusals.ReadFault = HasFailed p o c × RanSome p o named c
 IsRoundsRefusal p o named c refusals.WriteFault = Rose c.count c.count_after × RanInto p o named c
 IsRoundsRefusal p o named c refusals.NoMemory = RanSome p o named c ⊎ RanUnsaved (LeavesPut named []) p o named c
 IsRoundsRefusal p o named c (refusals.SaveDefect defect) = ⊥

@@ -1,7 +1,7 @@
 //! `check JOB`: the normal form of a job that is accepted.
 
-ghost use Rattle.std.specs.Prelude.{◌≡◌, [], IfOk, IfErr};
-ghost use Rattle.flu_outside.specs.Outside.{WhereTold};
+ghost use Rattle.std.specs.Prelude.{◌≡◌, ◌≢◌, [], Err, IfOk, IfErr};
+ghost use Rattle.flu_outside.specs.Outside.{WhereTold, SameCounts};
 ghost use Rattle.flu_model.specs.Modes.{IsAccepted};
 ghost use Rattle.flu_deps.specs.Checking.{program_of};
 ghost use Rattle.flu_outside.specs.Taking.{TookFronts};
@@ -26,6 +26,8 @@ pub fn check_job<F: Files>(alloc: Global, files: &mut F, job: &str) -> Result<Te
     ensures refused { IfErr result (IsRefusal (Check job.now) (F.left files.old) (F.left files.new) (F.faults files.old) (F.faults files.new)) }
     ensures fronts { WhereTold (F.left files.old) (F.left files.new) TookFronts }
     ensures only { WhereTold (F.left files.old) (F.left files.new) (TookOnly (IsReadName (F.left files.old) (Check job.now))) }
+    ensures quiet { result ≢ Err Refusal.ReadFault → SameCounts (F.faults files.old) (F.faults files.new) }
+    ensures puts { SameCounts (F.put_faults files.old) (F.put_faults files.new) }
 {
     match program_of(alloc, files, job) {
         Ok(program) => normal_form_of(alloc, program),

@@ -1,7 +1,7 @@
 //! The doing of commands.
 
-ghost use Rattle.std.specs.Prelude.{◌⊎◌};
-ghost use Rattle.flu_outside.specs.Outside.{WhereTold};
+ghost use Rattle.std.specs.Prelude.{◌≡◌, ◌≢◌, ◌⊎◌, Err};
+ghost use Rattle.flu_outside.specs.Outside.{WhereTold, SameCounts};
 ghost use Rattle.flu_words.specs.Words.{plain_command};
 ghost use Rattle.flu_top.specs.Taking.{TookOnly, TookFrontsBut};
 ghost use Rattle.flu_top.specs.Answer.{status_after};
@@ -42,6 +42,9 @@ pub fn run<F: Files, K: Sink, G: Gate, R: Threads + Wait + Sync>(
     ensures fronts { WhereTold (F.left files.old) (F.left files.new) (TookFrontsBut (IsPutAt (plain_command command.entry) (status_after result))) }
     ensures only { WhereTold (F.left files.old) (F.left files.new) (TookOnly
         (λ name. IsReadName (F.left files.old) (plain_command command.entry) name ⊎ IsPutAt (plain_command command.entry) (status_after result) name)) }
+    ensures quiet { result ≢ Err Refusal.ReadFault → SameCounts (F.faults files.old) (F.faults files.new) }
+    ensures puts { result ≢ Err Refusal.PutFault → SameCounts (F.put_faults files.old) (F.put_faults files.new) }
+    ensures written_quiet { result ≢ Err Refusal.WriteFault → K.faults out.new ≡ K.faults out.old }
 {
     match command {
         Command::Fold { job } => put_text(out, fold_job(alloc, files, job)),
@@ -66,7 +69,8 @@ pub fn run<F: Files, K: Sink, G: Gate, R: Threads + Wait + Sync>(
 
 // Writes a text, where nothing refused it.
 fn put_text<K: Sink>(out: &mut K, text: Result<Text, Refusal>) -> Result<Option<Said>, Refusal>
-    ensures { IsPut (as_product text) (K.taken out.old) (K.taken out.new) (K.faults out.old) (K.faults out.new) result }
+    ensures put { IsPut (as_product text) (K.taken out.old) (K.taken out.new) (K.faults out.old) (K.faults out.new) result }
+    ensures quiet { result ≢ Err Refusal.WriteFault → K.faults out.new ≡ K.faults out.old }
 {
     match text {
         Ok(text) => put(out, Ok(Product { text, says: None })),
@@ -76,7 +80,8 @@ fn put_text<K: Sink>(out: &mut K, text: Result<Text, Refusal>) -> Result<Option<
 
 // Writes the text of what a command produced, where nothing refused it.
 fn put<K: Sink>(out: &mut K, produced: Result<Product, Refusal>) -> Result<Option<Said>, Refusal>
-    ensures { IsPut produced (K.taken out.old) (K.taken out.new) (K.faults out.old) (K.faults out.new) result }
+    ensures put { IsPut produced (K.taken out.old) (K.taken out.new) (K.faults out.old) (K.faults out.new) result }
+    ensures quiet { result ≢ Err Refusal.WriteFault → K.faults out.new ≡ K.faults out.old }
 {
     let product = match produced {
         Ok(product) => product,

@@ -1,7 +1,7 @@
 //! `fold JOB`: the report of the sequential fold of a job's events.
 
-ghost use Rattle.std.specs.Prelude.{◌≡◌, [], length, IfOk, IfErr};
-ghost use Rattle.flu_outside.specs.Outside.{WhereTold};
+ghost use Rattle.std.specs.Prelude.{◌≡◌, ◌≢◌, [], length, Err, IfOk, IfErr};
+ghost use Rattle.flu_outside.specs.Outside.{WhereTold, SameCounts};
 ghost use Rattle.flu_model.specs.Contents.{nothing_held};
 ghost use Rattle.flu_model.specs.Folding.{final_outputs};
 ghost use Rattle.flu_model.specs.Itags.{count_of_itags};
@@ -31,6 +31,8 @@ pub fn fold_job<F: Files>(alloc: Global, files: &mut F, job: &str) -> Result<Tex
     ensures refused { IfErr result (IsRefusal (Fold job.now) (F.left files.old) (F.left files.new) (F.faults files.old) (F.faults files.new)) }
     ensures fronts { WhereTold (F.left files.old) (F.left files.new) TookFronts }
     ensures only { WhereTold (F.left files.old) (F.left files.new) (TookOnly (IsReadName (F.left files.old) (Fold job.now))) }
+    ensures quiet { result ≢ Err Refusal.ReadFault → SameCounts (F.faults files.old) (F.faults files.new) }
+    ensures puts { SameCounts (F.put_faults files.old) (F.put_faults files.new) }
 {
     match program_of(alloc, files, job) {
         Ok(program) => report_of(alloc, files, program),
@@ -44,6 +46,8 @@ fn report_of<F: Files>(alloc: Global, files: &mut F, program: Program) -> Result
     ensures refused { IfErr result (IsReportRefusal program (F.left files.old) (F.left files.new) (F.faults files.old) (F.faults files.new)) }
     ensures fronts { WhereTold (F.left files.old) (F.left files.new) TookFronts }
     ensures others { WhereTold (F.left files.old) (F.left files.new) (LeavesOthers (files_of program.sources)) }
+    ensures quiet { result ≢ Err Refusal.ReadFault → SameCounts (F.faults files.old) (F.faults files.new) }
+    ensures puts { SameCounts (F.put_faults files.old) (F.put_faults files.new) }
 {
     let streams = match gather(alloc, &program, files) {
         Ok(streams) => streams,

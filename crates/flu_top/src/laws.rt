@@ -7,7 +7,7 @@ ghost use Rattle.flu_top.specs.Laws.{SaveDefectIsFirst, SourceFaultIsFirst, Trac
 ghost use Rattle.flu_top.specs.Laws.{WriteFaultLine, PutFaultRose, PutFaultIsBehindARound, NoMemoryLine, NothingIsWritten, RefusalsWriteNothing, SomeIsWritten};
 ghost use Rattle.flu_top.specs.Laws.{SomeIsWrittenForMemory, RunsWriteFronts, FreshRunsReportTheFold, ResumedRunsGoOn, FrontsAreTaken, NoOtherIsRead};
 ghost use Rattle.flu_top.specs.Laws.{GoodIsDone, JobFaultIsRefused, ConflictIsRefused, PlanDefectIsRefused, SaveDefectIsRefused, SourceFaultIsRefused};
-ghost use Rattle.flu_top.specs.Laws.{TraceFaultIsRefused, CompletesByFaults, CallsForOneStatus};
+ghost use Rattle.flu_top.specs.Laws.{TraceFaultIsRefused, CompletesByFaults, CallsForOneStatus, NoFailureIsPassedOver};
 ghost use Rattle.flu_top.specs.Mended.{RunsWriteFrontsOfMended};
 ghost use Rattle.flu_top.specs.Unread.{BadPlansReadNoMore};
 
@@ -65,7 +65,7 @@ pub fn of_refusals()
 
 /// Status 7 comes only where the count of a name that the call reads rose, 8 only where out's count rose, and then out has a front of
 /// what the command writes; and 12 only where that of puts of the name that it saves to did, and then out has the report of the round
-/// whose checkpoint could not be put. Each of them, and 9, has its line.
+/// whose checkpoint could not be put. Each of them, and 9, has its line. At each other status, as 0, none of these counts has changed.
 pub fn of_faults()
     ensures read_fault { ReadFaultRose }
     ensures read_fault_line { ReadFaultLine }
@@ -73,6 +73,7 @@ pub fn of_faults()
     ensures partial { WriteFaultIsPart }
     ensures write_fault_line { WriteFaultLine }
     ensures put_fault { PutFaultRose }
+    ensures others { NoFailureIsPassedOver }
     ensures behind_a_round { PutFaultIsBehindARound }
     ensures no_memory_line { NoMemoryLine }
 {}

@@ -1,6 +1,6 @@
 //! What a run starts from: the first row and the empty state, or a checkpoint.
 
-ghost use Rattle.std.specs.Prelude.{◌≡◌, ◌≤◌, ℕ, List, Option, Some, None, option_map, IfOk, IfErr, IfSome};
+ghost use Rattle.std.specs.Prelude.{◌≡◌, ◌≢◌, ◌≤◌, ℕ, List, Option, Some, None, Err, option_map, IfOk, IfErr, IfSome};
 ghost use Rattle.flu_outside.specs.Outside.{WhereTold, SameCounts};
 ghost use Rattle.flu_outside.specs.Taking.{TookFronts};
 ghost use Rattle.flu_streams.specs.Files.{LeavesOthers};
@@ -44,6 +44,7 @@ pub fn opening_of<F: Files>(
     ensures fronts { WhereTold (F.left files.old) (F.left files.new) TookFronts }
     ensures others { WhereTold (F.left files.old) (F.left files.new) (LeavesOthers (if_named (option_map (λ name. name.now) resume.entry))) }
     ensures counts { (n : List ℕ) → F.faults files.old n ≤ F.faults files.new n }
+    ensures quiet { result ≢ Err Refusal.ReadFault → SameCounts (F.faults files.old) (F.faults files.new) }
     ensures puts { SameCounts (F.put_faults files.old) (F.put_faults files.new) }
 {
     match resume {
@@ -69,6 +70,7 @@ fn resumed<F: Files>(
     ensures fronts { WhereTold (F.left files.old) (F.left files.new) TookFronts }
     ensures others { WhereTold (F.left files.old) (F.left files.new) (LeavesOthers (if_named (Some name.now))) }
     ensures counts { (n : List ℕ) → F.faults files.old n ≤ F.faults files.new n }
+    ensures quiet { result ≢ Err Refusal.ReadFault → SameCounts (F.faults files.old) (F.faults files.new) }
     ensures puts { SameCounts (F.put_faults files.old) (F.put_faults files.new) }
 {
     let bytes = read_whole(alloc, files, name, MOST_BYTES)?;

@@ -1,6 +1,6 @@
 //! A job with a plan for it.
 
-ghost use Rattle.std.specs.Prelude.{◌≡◌, ◌≤◌, ℕ, List, Ok, IfOk, IfErr};
+ghost use Rattle.std.specs.Prelude.{◌≡◌, ◌≢◌, ◌≤◌, ℕ, List, Ok, Err, IfOk, IfErr};
 ghost use Rattle.flu_outside.specs.Outside.{WhereTold, SameCounts};
 ghost use Rattle.flu_model.specs.Modes.{IsAccepted};
 ghost use Rattle.flu_deps.specs.Checking.{program_of};
@@ -52,6 +52,7 @@ pub fn planned_by<F: Files>(
     ensures fronts { WhereTold (F.left files.old) (F.left files.new) TookFronts }
     ensures only { WhereTold (F.left files.old) (F.left files.new) (TookOnly (IsReadName (F.left files.old) (ValidCommand job.now plan.now))) }
     ensures counts { (n : List ℕ) → F.faults files.old n ≤ F.faults files.new n }
+    ensures quiet { result ≢ Err Refusal.ReadFault → SameCounts (F.faults files.old) (F.faults files.new) }
     ensures puts { SameCounts (F.put_faults files.old) (F.put_faults files.new) }
 {
     let program = match program_of(alloc, files, job) {

@@ -1,7 +1,7 @@
 //! `plan JOB`: the greedy plan of a job.
 
-ghost use Rattle.std.specs.Prelude.{[], IfOk, IfErr};
-ghost use Rattle.flu_outside.specs.Outside.{WhereTold};
+ghost use Rattle.std.specs.Prelude.{◌≢◌, [], Err, IfOk, IfErr};
+ghost use Rattle.flu_outside.specs.Outside.{WhereTold, SameCounts};
 ghost use Rattle.flu_outside.specs.Taking.{TookFronts};
 ghost use Rattle.flu_words.specs.Words.{Plan};
 ghost use Rattle.flu_top.specs.Taking.{TookOnly};
@@ -30,6 +30,8 @@ pub fn plan_job<F: Files>(
     ensures refused { IfErr result (IsRefusal (Plan job.now depth.levels) (F.left files.old) (F.left files.new) (F.faults files.old) (F.faults files.new)) }
     ensures fronts { WhereTold (F.left files.old) (F.left files.new) TookFronts }
     ensures only { WhereTold (F.left files.old) (F.left files.new) (TookOnly (IsReadName (F.left files.old) (Plan job.now depth.levels))) }
+    ensures quiet { result ≢ Err Refusal.ReadFault → SameCounts (F.faults files.old) (F.faults files.new) }
+    ensures puts { SameCounts (F.put_faults files.old) (F.put_faults files.new) }
 {
     match program_of(alloc, files, job) {
         Ok(program) => plan_text(alloc, program, depth),

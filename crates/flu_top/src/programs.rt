@@ -1,6 +1,6 @@
 //! The job that a file holds.
 
-ghost use Rattle.std.specs.Prelude.{◌≤◌, List, ℕ, IfOk, IfErr};
+ghost use Rattle.std.specs.Prelude.{◌≢◌, ◌≤◌, List, ℕ, Err, IfOk, IfErr};
 ghost use Rattle.flu_outside.specs.Outside.{WhereTold, SameCounts};
 ghost use Rattle.flu_outside.specs.Taking.{TakesFrom};
 ghost use Rattle.flu_top.specs.Jobs.{IsJobRefusal};
@@ -22,6 +22,7 @@ pub fn program_of<F: Files>(alloc: Global, files: &mut F, job: &str) -> Result<P
     ensures refused { IfErr result (IsJobRefusal job.now (F.left files.old) (F.left files.new) (F.faults files.old) (F.faults files.new)) }
     ensures taken { WhereTold (F.left files.old) (F.left files.new) (TakesFrom job.now) }
     ensures counts { (n : List ℕ) → F.faults files.old n ≤ F.faults files.new n }
+    ensures quiet { result ≢ Err Refusal.ReadFault → SameCounts (F.faults files.old) (F.faults files.new) }
     ensures puts { SameCounts (F.put_faults files.old) (F.put_faults files.new) }
 {
     jobs_are_grammar();

@@ -1,7 +1,7 @@
 //! `replay JOB PLAN TRACE`: the report of the run of a trace's steps on the net of a plan.
 
-ghost use Rattle.std.specs.Prelude.{◌≡◌, [], length, IfOk, OnOk, IfErr};
-ghost use Rattle.flu_outside.specs.Outside.{WhereTold};
+ghost use Rattle.std.specs.Prelude.{◌≡◌, ◌≢◌, [], length, Err, IfOk, OnOk, IfErr};
+ghost use Rattle.flu_outside.specs.Outside.{WhereTold, SameCounts};
 ghost use Rattle.flu_outside.specs.Taking.{bytes_left, TakesFrom, TookFronts, IsReadOut};
 ghost use Rattle.flu_model.specs.Contents.{nothing_held};
 ghost use Rattle.flu_model.specs.Folding.{final_outputs};
@@ -44,6 +44,8 @@ pub fn replay_planned<F: Files>(
         (F.faults files.new)) }
     ensures fronts { WhereTold (F.left files.old) (F.left files.new) TookFronts }
     ensures only { WhereTold (F.left files.old) (F.left files.new) (TookOnly (IsReadName (F.left files.old) (Replay job.now plan.now trace.now))) }
+    ensures quiet { result ≢ Err Refusal.ReadFault → SameCounts (F.faults files.old) (F.faults files.new) }
+    ensures puts { SameCounts (F.put_faults files.old) (F.put_faults files.new) }
 {
     let planned = match planned_by(alloc, files, job, plan) {
         Ok(planned) => planned,
@@ -67,6 +69,8 @@ fn report_of<F: Files>(
         (F.faults files.old) (F.faults files.new)) }
     ensures fronts { WhereTold (F.left files.old) (F.left files.new) TookFronts }
     ensures only { WhereTold (F.left files.old) (F.left files.new) (λ old new. TookOnly (IsReadIn (program_of planned.checked) trace.now old) old new) }
+    ensures quiet { result ≢ Err Refusal.ReadFault → SameCounts (F.faults files.old) (F.faults files.new) }
+    ensures puts { SameCounts (F.put_faults files.old) (F.put_faults files.new) }
 {
     let streams = match streams_of(alloc, files, &planned.checked) {
         Ok(streams) => streams,
@@ -97,6 +101,8 @@ fn net_report<F: Files>(
     ensures refused { IfErr result (IsNetRefusal (program_of planned.now.checked) (plan_of planned.now.valid).nodes (listed streams.now) trace.now
         (F.left files.old) (F.left files.new) (F.faults files.old) (F.faults files.new)) }
     ensures taken { WhereTold (F.left files.old) (F.left files.new) (TakesFrom trace.now) }
+    ensures quiet { result ≢ Err Refusal.ReadFault → SameCounts (F.faults files.old) (F.faults files.new) }
+    ensures puts { SameCounts (F.put_faults files.old) (F.put_faults files.new) }
 {
     let program = planned.checked.program();
     let case = Case::new(

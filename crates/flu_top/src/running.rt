@@ -21,8 +21,8 @@ ghost use Rattle.flu_rows.specs.declared.rows.Next.{Next};
 ghost use Rattle.flu_streams.specs.declared.border.Border.{Border};
 ghost use Rattle.flu_streams.specs.declared.held.Stage.{Stage};
 ghost use Rattle.flu_streams.specs.Counts.{grown, no_counts};
-ghost use Rattle.flu_streams.specs.Files.{files_of, LeavesOthers, OneRose};
-ghost use Rattle.flu_streams.specs.Holding.{AreHeldBehind, ClosedAreReadOut, AreClosed, IsNewBorder};
+ghost use Rattle.flu_streams.specs.Files.{files_of, LeavesOthers};
+ghost use Rattle.flu_streams.specs.Holding.{AreHeldBehind, ClosedAreReadOut, AreClosed, IsNewBorder, HidesNoRoundFault};
 ghost use Rattle.flu_rounds.specs.declared.faults.RoundsFault.{RoundsFault};
 ghost use Rattle.flu_rounds.specs.Standing.{round_lists, round_report, Runs, IsFirstFrom, IsRoundOf, IsSourceFault, StandsBehind};
 ghost use Rattle.flu_words.specs.Words.{Run, RunOptions as PlainOptions, plain_options};
@@ -96,6 +96,9 @@ pub fn run_job<F: Files, K: Sink, G: Gate, R: Threads + Wait + Sync>(
     ensures only { WhereTold (F.left files.old) (F.left files.new)
         (TookOnly (λ name. IsReadName (F.left files.old) (Run job.now (option_map (λ name. name.now) plan.entry) (plain_options options.entry)) name
         ⊎ IsPutAt (Run job.now (option_map (λ name. name.now) plan.entry) (plain_options options.entry)) (status_after result) name)) }
+    ensures quiet { result ≢ Err Refusal.ReadFault → SameCounts (F.faults files.old) (F.faults files.new) }
+    ensures puts { result ≢ Err Refusal.PutFault → SameCounts (F.put_faults files.old) (F.put_faults files.new) }
+    ensures written_quiet { result ≢ Err Refusal.WriteFault → K.faults out.new ≡ K.faults out.old }
 {
     let planned = match planned_for(alloc, files, job, plan) {
         Ok(planned) => planned,
@@ -144,6 +147,7 @@ fn planned_for<F: Files>(
         (TookOnly (IsReadName (F.left files.old) (Run job.now (option_map (λ name. name.now) plan.entry) options))) }
     ensures others { WhereTold (F.left files.old) (F.left files.new) (LeavesOthers (job.now ∷ if_named (option_map (λ name. name.now) plan.entry))) }
     ensures counts { (n : List ℕ) → F.faults files.old n ≤ F.faults files.new n }
+    ensures quiet { result ≢ Err Refusal.ReadFault → SameCounts (F.faults files.old) (F.faults files.new) }
     ensures puts { SameCounts (F.put_faults files.old) (F.put_faults files.new) }
 {
     match plan {
@@ -161,6 +165,7 @@ fn greedily<F: Files>(alloc: Global, files: &mut F, job: &str) -> Result<Planned
         → IsRefusal (Run job.now None options) (F.left files.old) (F.left files.new) (F.faults files.old) (F.faults files.new) refusal) }
     ensures taken { WhereTold (F.left files.old) (F.left files.new) (TakesFrom job.now) }
     ensures counts { (n : List ℕ) → F.faults files.old n ≤ F.faults files.new n }
+    ensures quiet { result ≢ Err Refusal.ReadFault → SameCounts (F.faults files.old) (F.faults files.new) }
     ensures puts { SameCounts (F.put_faults files.old) (F.put_faults files.new) }
 {
     match program_of(alloc, files, job) {
@@ -192,6 +197,9 @@ fn run_in_rounds<F: Files, K: Sink, G: Gate, R: Threads + Wait + Sync>(
     ensures within { StaysWithin (program_of planned.checked) (option_map (λ name. name.now) save.entry)
         (call (F.left files.old) (F.left files.new) (F.faults files.old) (F.faults files.new) (F.put_faults files.old) (F.put_faults files.new)
         (K.taken out.old) (K.taken out.new) (K.faults out.old) (K.faults out.new)) }
+    ensures quiet { result ≢ Err Refusal.ReadFault → SameCounts (F.faults files.old) (F.faults files.new) }
+    ensures puts { result ≢ Err Refusal.PutFault → SameCounts (F.put_faults files.old) (F.put_faults files.new) }
+    ensures written_quiet { result ≢ Err Refusal.WriteFault → K.faults out.new ≡ K.faults out.old }
 {
     let Planned { checked, valid } = planned;
     match rounds(
@@ -231,6 +239,9 @@ fn rounds<F: Files, K: Sink, G: Gate, R: Threads + Wait + Sync>(
     ensures within { StaysWithin (program_of checked.now) (option_map (λ name. name.now) save.entry)
         (call (F.left files.old) (F.left files.new) (F.faults files.old) (F.faults files.new) (F.put_faults files.old) (F.put_faults files.new)
         (K.taken out.old) (K.taken out.new) (K.faults out.old) (K.faults out.new)) }
+    ensures quiet { result ≢ Err (RunFault.Round RoundsFault.ReadFault) → SameCounts (F.faults files.old) (F.faults files.new) }
+    ensures puts { result ≢ Err (RunFault.Unsaved PutFault.Failed) → SameCounts (F.put_faults files.old) (F.put_faults files.new) }
+    ensures written_quiet { result ≢ Err (RunFault.Round RoundsFault.WriteFault) → K.faults out.new ≡ K.faults out.old }
 {
     resumed_runs_go_on();
     rounds_are_folded_in_turn();
@@ -311,6 +322,9 @@ fn saved_round<F: Files, K: Sink, G: Gate, R: Threads + Wait + Sync, B: Engine<R
         (call a (F.left files.old) k (F.faults files.old) s (F.put_faults files.old) had (K.taken out.old) x (K.faults out.old)) rounds.old
         → Steps adapts p engine.new o (option_map (λ name. name.now) save.entry) (call a (F.left files.new) k (F.faults files.new) s
         (F.put_faults files.new) had (K.taken out.new) x (K.faults out.new)) rounds.new said.new result }
+    ensures quiet { result ≢ Err (RunFault.Round RoundsFault.ReadFault) → SameCounts (F.faults files.old) (F.faults files.new) }
+    ensures puts { result ≢ Err (RunFault.Unsaved PutFault.Failed) → SameCounts (F.put_faults files.old) (F.put_faults files.new) }
+    ensures written_quiet { result ≢ Err (RunFault.Round RoundsFault.WriteFault) → K.faults out.new ≡ K.faults out.old }
     ensures smaller { (t : ℕ) → result ≡ Ok (Border.At t) → borders_above rounds.new.held.border < borders_above rounds.old.held.border }
 {
     resumed_runs_go_on();
@@ -381,11 +395,13 @@ fn round<F: Files, K: Sink, G: Gate, R: Threads + Wait + Sync, B: Engine<R> + Dr
     ensures failed { IsErrOf result RoundsFault.WriteFault → Rose (K.faults out.old) (K.faults out.new) }
     ensures written_quiet { result ≢ Err RoundsFault.WriteFault → K.faults out.new ≡ K.faults out.old }
 
-    // Bytes are taken from the front of the sources' files alone, and a read fault has its cause there.
+    // Bytes are taken from the front of the sources' files alone, and a read fault has its cause there, and hides nothing.
     ensures fronts { WhereTold (F.left files.old) (F.left files.new) TookFronts }
     ensures others { WhereTold (F.left files.old) (F.left files.new) (LeavesOthers (files_of rounds.old.held.program.sources)) }
     ensures rise { (n : List ℕ) → F.faults files.old n ≤ F.faults files.new n }
-    ensures cause { IsErrOf result RoundsFault.ReadFault → OneRose (files_of rounds.old.held.program.sources) (F.faults files.old) (F.faults files.new) }
+    ensures quiet { result ≢ Err RoundsFault.ReadFault → SameCounts (F.faults files.old) (F.faults files.new) }
+    ensures hides { IsErrOf result RoundsFault.ReadFault → (before : ℕ → List Next) → AreHeldBehind rounds.old.held before
+        → HidesNoRoundFault rounds.old.held (F.left files.old) (F.left files.new) (F.faults files.old) (F.faults files.new) before }
     ensures puts { SameCounts (F.put_faults files.old) (F.put_faults files.new) }
 {
     halves_make_a_round();

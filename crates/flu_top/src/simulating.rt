@@ -1,7 +1,7 @@
 //! `simulate JOB PLAN SEED [--trace]`: the report, or the trace, and the steps of the run that a seed draws on the net of a plan.
 
-ghost use Rattle.std.specs.Prelude.{◌≡◌, length, IfOk, OnOk, IfErr};
-ghost use Rattle.flu_outside.specs.Outside.{WhereTold};
+ghost use Rattle.std.specs.Prelude.{◌≡◌, ◌≢◌, length, Err, IfOk, OnOk, IfErr};
+ghost use Rattle.flu_outside.specs.Outside.{WhereTold, SameCounts};
 ghost use Rattle.flu_outside.specs.Taking.{TookFronts};
 ghost use Rattle.flu_model.specs.Itags.{count_of_itags};
 ghost use Rattle.flu_model.specs.Listed.{listed};
@@ -50,6 +50,8 @@ pub fn simulate_planned<F: Files>(
         (F.faults files.new)) }
     ensures fronts { WhereTold (F.left files.old) (F.left files.new) TookFronts }
     ensures only { WhereTold (F.left files.old) (F.left files.new) (TookOnly (IsReadName (F.left files.old) (Simulate job.now plan.now seed.number traced))) }
+    ensures quiet { result ≢ Err Refusal.ReadFault → SameCounts (F.faults files.old) (F.faults files.new) }
+    ensures puts { SameCounts (F.put_faults files.old) (F.put_faults files.new) }
 {
     let planned = match planned_by(alloc, files, job, plan) {
         Ok(planned) => planned,
@@ -82,6 +84,8 @@ fn text_of<F: Files>(
         (F.faults files.new)) }
     ensures fronts { WhereTold (F.left files.old) (F.left files.new) TookFronts }
     ensures others { WhereTold (F.left files.old) (F.left files.new) (LeavesOthers (files_of (program_of planned.checked).sources)) }
+    ensures quiet { result ≢ Err Refusal.ReadFault → SameCounts (F.faults files.old) (F.faults files.new) }
+    ensures puts { SameCounts (F.put_faults files.old) (F.put_faults files.new) }
 {
     let streams = match streams_of(alloc, files, &planned.checked) {
         Ok(streams) => streams,

@@ -1,12 +1,12 @@
 //! The top call.
 
-ghost use Rattle.std.specs.Prelude.{◌≡◌, ◌⊎◌, map, string_bytes};
-ghost use Rattle.flu_outside.specs.Outside.{WhereTold};
+ghost use Rattle.std.specs.Prelude.{◌≡◌, ◌≢◌, ◌⊎◌, Err, map, string_bytes};
+ghost use Rattle.flu_outside.specs.Outside.{WhereTold, SameCounts};
 ghost use Rattle.flu_top.specs.Taking.{TookOnly, TookFrontsBut};
 ghost use Rattle.flu_top.specs.Done.{IsReadBy, MayBePut};
 ghost use Rattle.flu_top.specs.Answer.{status_after, IsHeard};
 ghost use Rattle.flu_top.specs.Ending.{call, Ends};
-ghost use Rattle.flu_top.specs.Outcome.{outside, faults, Outcome, ReadOnly, FaultsFirst, Completes};
+ghost use Rattle.flu_top.specs.Outcome.{outside, faults, Outcome, ReadOnly, FaultsFirst, HidesNothing, Completes};
 
 use crate::commands::run;
 use crate::lines::{say, say_done};
@@ -78,8 +78,14 @@ pub fn flumina<F: Files, K: Sink, E: Sink, G: Gate, R: Threads + Wait + Sync>(
     ensures read { ReadOnly (map string_bytes words.now) (F.left files.old) (F.left files.new) result }
 
     // Status 7 comes only where the count of a name that the call reads rose, status 8 only where out's did, and status 12
-    // only where that of puts of the name that it saves to did.
+    // only where that of puts of the name that it saves to did. At each other status no such count has changed: a failure
+    // ends the call.
     ensures faults { FaultsFirst (map string_bytes words.now) (F.left files.old)
+        (faults (F.faults files.old) (F.put_faults files.old) (K.faults out.old))
+        (faults (F.faults files.new) (F.put_faults files.new) (K.faults out.new)) result }
+
+    // A read fault hides nothing: nothing that was taken settles what the command comes to.
+    ensures hides { HidesNothing (map string_bytes words.now) (F.left files.old) (F.left files.new)
         (faults (F.faults files.old) (F.put_faults files.old) (K.faults out.old))
         (faults (F.faults files.new) (F.put_faults files.new) (K.faults out.new)) result }
 
@@ -111,6 +117,9 @@ fn do_words<F: Files, K: Sink, G: Gate, R: Threads + Wait + Sync>(
     ensures fronts { WhereTold (F.left files.old) (F.left files.new) (TookFrontsBut (MayBePut (map string_bytes words.now) (status_after result))) }
     ensures only { WhereTold (F.left files.old) (F.left files.new)
         (TookOnly (λ name. IsReadBy (map string_bytes words.now) (F.left files.old) name ⊎ MayBePut (map string_bytes words.now) (status_after result) name)) }
+    ensures quiet { result ≢ Err Refusal.ReadFault → SameCounts (F.faults files.old) (F.faults files.new) }
+    ensures puts { result ≢ Err Refusal.PutFault → SameCounts (F.put_faults files.old) (F.put_faults files.new) }
+    ensures written_quiet { result ≢ Err Refusal.WriteFault → K.faults out.new ≡ K.faults out.old }
 {
     match read_words(words) {
         Ok(command) => run(rt, alloc, files, out, command, gate),

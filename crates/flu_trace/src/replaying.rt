@@ -52,12 +52,13 @@ pub fn replay<F: Files>(
     ensures sorts { IfOk result (λ r. IsStateOf (job case.now).families (held r.0)) }
     ensures outputs { IfOk result (λ r. IsPermutation (final_outputs (job case.now) (held case.now.opening) (listed case.now.streams)) r.1) }
 
-    // A complete replay read the trace to its end. Bytes are taken from its front alone, and a read fault has its cause there: no
-    // other answer comes behind a take that failed.
+    // A complete replay read the trace to its end. Bytes are taken from its front alone, and none are put; and a read fault has its
+    // cause there: no other answer comes after a take that failed.
     ensures end { OnOk result (IsReadOut name.now (F.left files.new)) }
     ensures taken { WhereTold (F.left files.old) (F.left files.new) (TakesFrom name.now) }
     ensures counts { CountsOf (F.left files.old) name.now (F.faults files.old) (F.faults files.new) }
     ensures quiet { result ≢ Err ReplayFault.ReadFault → SameCounts (F.faults files.old) (F.faults files.new) }
+    ensures puts { SameCounts (F.put_faults files.old) (F.put_faults files.new) }
     ensures cause { IsErrOf result ReplayFault.ReadFault → Rose (F.faults files.old name.now) (F.faults files.new name.now) }
 {
     let Ok(mut run) = Replaying::begin(alloc, case) else {
@@ -118,6 +119,7 @@ impl Replaying {
         ensures taken { WhereTold (F.left files.old) (F.left files.new) (TakesFrom name.now) }
         ensures counts { CountsOf (F.left files.old) name.now (F.faults files.old) (F.faults files.new) }
         ensures quiet { result ≢ Err ReplayFault.ReadFault → SameCounts (F.faults files.old) (F.faults files.new) }
+        ensures puts { SameCounts (F.put_faults files.old) (F.put_faults files.new) }
         ensures cause { IsErrOf result ReplayFault.ReadFault → Rose (F.faults files.old name.now) (F.faults files.new name.now) }
     {
         self.net.rule();

@@ -84,6 +84,7 @@ refill-requires-clause-slack g c =
 pub returns-in-Err-clause-stop : goal.returns-in-Err-clause-stop
 returns-in-Err-clause-stop g c =
     let left = g.F.Files.left in
+    let faults = g.F.Files.faults in
     let i = c.loop-source.source-index in
     let n = c.loop-source.number in
     let p = c.args.p.now in
@@ -98,9 +99,11 @@ returns-in-Err-clause-stop g c =
     let is : slice_get news n ≡ Some mid = slice_get_read news (length news) n mid refl lt c.index_mut-inlet.ensures.value in
     let was : slice_get c.args.inlets.now.items i ≡ Some mid = sym (inv.rest i (omega arith)) ∙ ap (slice_get news) (sym inv.number) ∙ is in
     stops_at p c.args.rows i s c.args.inlets.now.items news mid (left c.args.files.now) (left c.loop-source.files)
-    (left c.refill.new.files) inv.ends c.in-Err.stop c.fault_of.result
+    (left c.refill.new.files) inv.ends c.in-Err.stop c.fault_of.result (faults c.args.files.now) (faults c.refill.new.files)
     t inv.count at was inv.others c.in-Err.ensures.taken inv.all (rw (c.items.ensures, inv.first) at c.in-Err.ensures.stop)
     (c.fault_of.ensures ∙ ap (λ (k : ℕ). fault_of_stop k c.in-Err.stop) inv.number)
+    (λ stop. rose_behind (faults c.args.files.now s.file) (faults c.loop-source.files s.file) (faults c.refill.new.files s.file)
+    (inv.counts.rise s.file) (c.refill.ensures.cause (rw (c.in-Err.is, stop) refl)))
 
 pub returns-in-Err-clause-fronts : goal.returns-in-Err-clause-fronts
 returns-in-Err-clause-fronts g c =

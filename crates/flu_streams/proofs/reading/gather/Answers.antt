@@ -85,10 +85,14 @@ returns-in-Err-clause-hides g c = λ is_fault.
     let i = c.loop-source.source-index in
     let s = c.source-item.result in
     let t = turn p c.items-source-items.result.now i s c.items-source-items.ensures c.loop-source-test.true c.source-item.is in
-    let hides = c.add_source.ensures.hides (rw (c.in-Err.is, err_same (Err c.in-Err.fault) c.in-Err.fault ReadFault refl is_fault) refl) in
+    let faults = g.F.Files.faults in
+    let is : c.add_source.result ≡ Err ReadFault = c.in-Err.is ∙ ap Err (err_same (Err c.in-Err.fault) c.in-Err.fault ReadFault refl is_fault) in
+    let hides = c.add_source.ensures.hides is in
+    let rose = rose_behind (faults c.args.files.now s.file) (faults c.loop-source.files s.file) (faults c.add_source.new.files s.file)
+    (c.loop-source.invariant.counts.rise s.file) (c.add_source.ensures.cause is) in
     hides_behind p (take i p.sources) (drop (i + 1) p.sources) s c.loop-source.gathered (left c.args.files.now) (left c.loop-source.files)
-    (left c.add_source.new.files)
-    t.split t.apart c.loop-source.invariant.told (rw c.items.ensures at hides)
+    (left c.add_source.new.files) (faults c.args.files.now) (faults c.add_source.new.files)
+    t.split t.apart c.loop-source.invariant.told rose (rw c.items.ensures at hides)
 
 pub loop-source-preserved : goal.loop-source-preserved
 loop-source-preserved g c =
@@ -117,6 +121,7 @@ loop-source-preserved g c =
       counts = rw names (counts_more (left old) (left mid) (files_of earlier) s.file (faults old) (faults mid)
           (faults new) c.loop-source.invariant.there c.loop-source.invariant.counts c.in_default.ensures.counts);
       quiet = search rules;
+      puts = search rules;
       there = there_more s.file (left old) (left mid) (left new) taken c.loop-source.invariant.there;
     }
 

@@ -13,6 +13,7 @@ abbrev pub invariant-loop-source : goal.invariant-loop-source
 invariant-loop-source g l =
     let left = g.F.Files.left in
     let faults = g.F.Files.faults in
+    let puts = g.F.Files.put_faults in
     let earlier = take l.source-index l.p.sources in
     record {
       number : l.gathered.number ≡ l.source-index;
@@ -23,5 +24,6 @@ invariant-loop-source g l =
       out : AreReadOut (files_of earlier) (left l.files);
       counts : CountsOfNames (left l.fn.files) (files_of earlier) (faults l.fn.files) (faults l.files);
       quiet : SameCounts (faults l.fn.files) (faults l.files);
+      puts : SameCounts (puts l.fn.files) (puts l.files);
       there : (n : List ℕ) → IsThere (left l.fn.files) n → IsThere (left l.files) n;
     }

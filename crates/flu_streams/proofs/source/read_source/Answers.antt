@@ -15,6 +15,7 @@ loop-next-init g c =
       taken = none_taken file left;
       counts = no_counts file left (g.F.Files.faults c.args.files.now);
       quiet = λ n. refl;
+      puts = λ n. refl;
     }
 
 pub returns-in-Err-clause-taken : goal.returns-in-Err-clause-taken
@@ -49,6 +50,7 @@ loop-next-preserved g c =
       counts = counts_then file (left old) (left mid) (faults old) (faults mid) (faults new) c.loop-next.invariant.taken c.loop-next.invariant.counts
           (rw c.loop-next.invariant.file at c.in-Ok-next_row.ensures.counts);
       quiet = search rules;
+      puts = search rules;
     }
 
 pub returns-in-None : goal.returns-in-None
@@ -70,6 +72,7 @@ returns-in-None g c =
       counts = counts_then file (left old) (left mid) (faults old) (faults mid) (faults new) c.loop-next.invariant.taken c.loop-next.invariant.counts
           (rw c.loop-next.invariant.file at c.in-Ok-next_row.ensures.counts);
       quiet = search rules;
+      puts = search rules;
       hides = search rules;
       cause = search rules;
     }
@@ -92,6 +95,7 @@ returns-in-Some g c =
       counts = counts_then file (left old) (left mid) (faults old) (faults mid) (faults new) c.loop-next.invariant.taken c.loop-next.invariant.counts
           (rw c.loop-next.invariant.file at c.in-Ok-next_row.ensures.counts);
       quiet = search rules;
+      puts = search rules;
       hides = search rules;
       cause = search rules;
     }

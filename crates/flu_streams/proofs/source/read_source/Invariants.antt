@@ -8,12 +8,14 @@ abbrev pub invariant-loop-next : goal.invariant-loop-next
 invariant-loop-next g l =
     let left = g.F.Files.left in
     let faults = g.F.Files.faults in
+    let puts = g.F.Files.put_faults in
     record {
       file : l.rows.file ≡ l.source.file;
       reading : IsReading l.kinds l.source l.first l.held l.intake l.rows (left l.fn.files) (left l.files);
       taken : WhereTold (left l.fn.files) (left l.files) (TakesFrom l.source.file);
       counts : CountsOf (left l.fn.files) l.source.file (faults l.fn.files) (faults l.files);
       quiet : SameCounts (faults l.fn.files) (faults l.files);
+      puts : SameCounts (puts l.fn.files) (puts l.files);
     }
 
 abbrev pub decreases-loop-next : goal.decreases-loop-next

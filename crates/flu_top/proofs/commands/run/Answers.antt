@@ -1,12 +1,13 @@
 use Rattle.std.proofs.Common.{refl, sym, ap, subst, ◌⊎◌}
 use Rattle.flu_outside.specs.Outside.{WhereTold}
 use Rattle.flu_words.specs.Words.{Command, Fold, Check, Valid, Plan, Simulate, Replay, Demo, plain_command}
+use Rattle.flu_top.specs.declared.refusals.Refusal.TheVariants.{ReadFault}
 use Rattle.flu_top.specs.Taking.{TookOnly}
 use Rattle.flu_top.specs.Answer.{status_after}
 use Rattle.flu_top.specs.Done.{IsReadName, IsPutAt}
 use Rattle.flu_top.specs.Ending.{call}
 use Rattle.flu_top.proofs.Demos.{refused_anyhow}
-use Rattle.flu_top.proofs.Endings.{ends_text, ends_product, fronts_of_all, only_of_command}
+use Rattle.flu_top.proofs.Endings.{ends_text, ends_product, fronts_of_all, not_refused, only_of_command, text_not_refused}
 use Rattle.flu_top.proofs.commands.run.Goals as goal
 
 pub returns-in-Fold-clause-ends : goal.returns-in-Fold-clause-ends
@@ -15,7 +16,7 @@ returns-in-Fold-clause-ends g c =
     (g.F.Files.faults c.fold_job.new.files) (g.F.Files.put_faults c.args.files.now) (g.F.Files.put_faults c.fold_job.new.files)
     (g.K.Sink.taken c.args.out.now) (g.K.Sink.taken c.put_text.new.out) (g.K.Sink.faults c.args.out.now) (g.K.Sink.faults c.put_text.new.out))
     (plain_command c.args.command) (Fold c.in-Fold.job.now) c.fold_job.result c.put_text.result (ap plain_command c.in-Fold.is)
-    (λ e. cc) refl c.fold_job.ensures.written c.fold_job.ensures.refused c.put_text.ensures
+    (λ e. cc) refl c.fold_job.ensures.written c.fold_job.ensures.refused c.put_text.ensures.put
 
 pub returns-in-Check-clause-ends : goal.returns-in-Check-clause-ends
 returns-in-Check-clause-ends g c =
@@ -24,7 +25,7 @@ returns-in-Check-clause-ends g c =
     (g.K.Sink.taken c.args.out.now) (g.K.Sink.taken c.put_text-in-Check.new.out) (g.K.Sink.faults c.args.out.now)
     (g.K.Sink.faults c.put_text-in-Check.new.out))
     (plain_command c.args.command) (Check c.in-Check.job.now) c.check_job.result c.put_text-in-Check.result (ap plain_command c.in-Check.is)
-    (λ e. cc) refl c.check_job.ensures.written c.check_job.ensures.refused c.put_text-in-Check.ensures
+    (λ e. cc) refl c.check_job.ensures.written c.check_job.ensures.refused c.put_text-in-Check.ensures.put
 
 pub returns-in-Valid-clause-ends : goal.returns-in-Valid-clause-ends
 returns-in-Valid-clause-ends g c =
@@ -33,7 +34,7 @@ returns-in-Valid-clause-ends g c =
     (g.K.Sink.taken c.args.out.now) (g.K.Sink.taken c.put_text-in-Valid.new.out) (g.K.Sink.faults c.args.out.now)
     (g.K.Sink.faults c.put_text-in-Valid.new.out))
     (plain_command c.args.command) (Valid c.in-Valid.job.now c.in-Valid.plan.now) c.valid_plan.result c.put_text-in-Valid.result
-    (ap plain_command c.in-Valid.is) (λ e. cc) refl c.valid_plan.ensures.written c.valid_plan.ensures.refused c.put_text-in-Valid.ensures
+    (ap plain_command c.in-Valid.is) (λ e. cc) refl c.valid_plan.ensures.written c.valid_plan.ensures.refused c.put_text-in-Valid.ensures.put
 
 pub returns-in-Plan-clause-ends : goal.returns-in-Plan-clause-ends
 returns-in-Plan-clause-ends g c =
@@ -42,7 +43,7 @@ returns-in-Plan-clause-ends g c =
     (g.K.Sink.taken c.args.out.now) (g.K.Sink.taken c.put_text-in-Plan.new.out) (g.K.Sink.faults c.args.out.now)
     (g.K.Sink.faults c.put_text-in-Plan.new.out))
     (plain_command c.args.command) (Plan c.in-Plan.job.now c.in-Plan.depth.levels) c.plan_job.result c.put_text-in-Plan.result
-    (ap plain_command c.in-Plan.is) (λ e. cc) refl c.plan_job.ensures.written c.plan_job.ensures.refused c.put_text-in-Plan.ensures
+    (ap plain_command c.in-Plan.is) (λ e. cc) refl c.plan_job.ensures.written c.plan_job.ensures.refused c.put_text-in-Plan.ensures.put
 
 pub returns-in-Simulate-clause-ends : goal.returns-in-Simulate-clause-ends
 returns-in-Simulate-clause-ends g c =
@@ -51,7 +52,7 @@ returns-in-Simulate-clause-ends g c =
     (g.K.Sink.taken c.args.out.now) (g.K.Sink.taken c.put.new.out) (g.K.Sink.faults c.args.out.now) (g.K.Sink.faults c.put.new.out))
     (plain_command c.args.command) (Simulate c.in-Simulate.job.now c.in-Simulate.plan.now c.in-Simulate.seed.number c.in-Simulate.trace)
     c.simulate_planned.result c.put.result (ap plain_command c.in-Simulate.is) (λ e. cc)
-    c.simulate_planned.ensures.written c.simulate_planned.ensures.says c.simulate_planned.ensures.refused c.put.ensures
+    c.simulate_planned.ensures.written c.simulate_planned.ensures.says c.simulate_planned.ensures.refused c.put.ensures.put
 
 pub returns-in-Replay-clause-ends : goal.returns-in-Replay-clause-ends
 returns-in-Replay-clause-ends g c =
@@ -61,7 +62,7 @@ returns-in-Replay-clause-ends g c =
     (g.K.Sink.faults c.put_text-in-Replay.new.out))
     (plain_command c.args.command) (Replay c.in-Replay.job.now c.in-Replay.plan.now c.in-Replay.trace.now) c.replay_planned.result
     c.put_text-in-Replay.result (ap plain_command c.in-Replay.is) (λ e. cc) refl c.replay_planned.ensures.written c.replay_planned.ensures.refused
-    c.put_text-in-Replay.ensures
+    c.put_text-in-Replay.ensures.put
 
 pub returns-in-Demo-clause-ends : goal.returns-in-Demo-clause-ends
 returns-in-Demo-clause-ends g c =
@@ -70,7 +71,7 @@ returns-in-Demo-clause-ends g c =
     (g.K.Sink.taken c.put-in-Demo.new.out) (g.K.Sink.faults c.args.out.now) (g.K.Sink.faults c.put-in-Demo.new.out))
     (plain_command c.args.command) (Demo c.in-Demo.n.count c.in-Demo.seed.number) c.demo.result c.put-in-Demo.result (ap plain_command c.in-Demo.is)
     (λ e. cc) c.demo.ensures.written c.demo.ensures.says
-    (refused_anyhow c.in-Demo.n.count c.in-Demo.seed.number c.demo.result _ _ _ _ c.demo.ensures.refused) c.put-in-Demo.ensures
+    (refused_anyhow c.in-Demo.n.count c.in-Demo.seed.number c.demo.result _ _ _ _ c.demo.ensures.refused) c.put-in-Demo.ensures.put
 
 pub returns-in-Fold-clause-fronts : goal.returns-in-Fold-clause-fronts
 returns-in-Fold-clause-fronts g c = fronts_of_all _ _ _ c.fold_job.ensures.fronts
@@ -121,3 +122,27 @@ returns-in-Run-clause-only g c =
     subst (λ (d : Command). WhereTold left (g.F.Files.left c.run_job.new.files)
     (TookOnly (λ name. IsReadName left d name ⊎ IsPutAt d (status_after c.run_job.result) name))) (sym (ap plain_command c.in-Run.is))
     c.run_job.ensures.only
+
+pub returns-in-Fold-clause-quiet : goal.returns-in-Fold-clause-quiet
+returns-in-Fold-clause-quiet g c = λ other. c.fold_job.ensures.quiet (text_not_refused c.fold_job.result (g.K.Sink.taken c.args.out.now) (g.K.Sink.taken c.put_text.new.out)
+    (g.K.Sink.faults c.args.out.now) (g.K.Sink.faults c.put_text.new.out) c.put_text.result ReadFault c.put_text.ensures.put other)
+
+pub returns-in-Check-clause-quiet : goal.returns-in-Check-clause-quiet
+returns-in-Check-clause-quiet g c = λ other. c.check_job.ensures.quiet (text_not_refused c.check_job.result (g.K.Sink.taken c.args.out.now) (g.K.Sink.taken c.put_text-in-Check.new.out)
+    (g.K.Sink.faults c.args.out.now) (g.K.Sink.faults c.put_text-in-Check.new.out) c.put_text-in-Check.result ReadFault c.put_text-in-Check.ensures.put other)
+
+pub returns-in-Valid-clause-quiet : goal.returns-in-Valid-clause-quiet
+returns-in-Valid-clause-quiet g c = λ other. c.valid_plan.ensures.quiet (text_not_refused c.valid_plan.result (g.K.Sink.taken c.args.out.now) (g.K.Sink.taken c.put_text-in-Valid.new.out)
+    (g.K.Sink.faults c.args.out.now) (g.K.Sink.faults c.put_text-in-Valid.new.out) c.put_text-in-Valid.result ReadFault c.put_text-in-Valid.ensures.put other)
+
+pub returns-in-Plan-clause-quiet : goal.returns-in-Plan-clause-quiet
+returns-in-Plan-clause-quiet g c = λ other. c.plan_job.ensures.quiet (text_not_refused c.plan_job.result (g.K.Sink.taken c.args.out.now) (g.K.Sink.taken c.put_text-in-Plan.new.out)
+    (g.K.Sink.faults c.args.out.now) (g.K.Sink.faults c.put_text-in-Plan.new.out) c.put_text-in-Plan.result ReadFault c.put_text-in-Plan.ensures.put other)
+
+pub returns-in-Simulate-clause-quiet : goal.returns-in-Simulate-clause-quiet
+returns-in-Simulate-clause-quiet g c = λ other. c.simulate_planned.ensures.quiet (not_refused c.simulate_planned.result (g.K.Sink.taken c.args.out.now) (g.K.Sink.taken c.put.new.out)
+    (g.K.Sink.faults c.args.out.now) (g.K.Sink.faults c.put.new.out) c.put.result ReadFault c.put.ensures.put other)
+
+pub returns-in-Replay-clause-quiet : goal.returns-in-Replay-clause-quiet
+returns-in-Replay-clause-quiet g c = λ other. c.replay_planned.ensures.quiet (text_not_refused c.replay_planned.result (g.K.Sink.taken c.args.out.now) (g.K.Sink.taken c.put_text-in-Replay.new.out)
+    (g.K.Sink.faults c.args.out.now) (g.K.Sink.faults c.put_text-in-Replay.new.out) c.put_text-in-Replay.result ReadFault c.put_text-in-Replay.ensures.put other)

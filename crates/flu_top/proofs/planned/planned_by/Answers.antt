@@ -4,13 +4,25 @@ use Rattle.flu_outside.specs.Outside.{WhereTold}
 use Rattle.flu_model.specs.Validity.{IsValid}
 use Rattle.flu_deps.specs.Checking.{program_of}
 use Rattle.flu_lemmas.proofs.Named.{fronts_at, fronts_then}
+use Rattle.flu_words.specs.Words.{Valid}
 use Rattle.flu_top.specs.declared.refusals.PlanDefect.TheVariants as defects
 use Rattle.flu_top.specs.declared.refusals.Refusal.TheVariants as refusals
 use Rattle.flu_top.specs.Causes.{IsJobRead}
 use Rattle.flu_top.specs.Ready.{HasNodes}
 use Rattle.flu_top.specs.Plans.{IsPlanRead, IsTextRefusal}
+use Rattle.flu_top.proofs.Checks.{check_refusal}
+use Rattle.flu_top.proofs.Sequence.{job_refusal}
 use Rattle.flu_top.proofs.Validations.{is_ready, has_nodes, only_with_plan, text_refusal, valid_refusal}
 use Rattle.flu_top.proofs.planned.planned_by.Goals as goal
+
+pub returns-in-Err-clause-refused : goal.returns-in-Err-clause-refused
+returns-in-Err-clause-refused g c =
+    job_refusal (Valid c.args.job.now c.args.plan.now) c.args.job.now _ _ _ _ c.in-Err.refusal refl c.in-Err.ensures.refused
+
+pub returns-in-Err-accepted-clause-refused : goal.returns-in-Err-accepted-clause-refused
+returns-in-Err-accepted-clause-refused g c =
+    check_refusal (Valid c.args.job.now c.args.plan.now) c.args.job.now c.in-Ok.program _ _ _ _ c.in-Err-accepted.refusal refl refl c.in-Ok.ensures.read
+    c.in-Err-accepted.ensures.refused
 
 pub returns-in-Err-clause-fronts : goal.returns-in-Err-clause-fronts
 returns-in-Err-clause-fronts g c = fronts_at c.args.job.now _ _ c.in-Err.ensures.taken

@@ -1,4 +1,4 @@
-use Rattle.std.proofs.Common.{sym, ap, ◌∙◌, subst, Ok, Err}
+use Rattle.std.proofs.Common.{refl, sym, ap, ◌∙◌, subst, Ok, Err}
 use Rattle.std.specs.Prelude.{option_map}
 use Rattle.flu_model.specs.declared.jobs.Program.{Program}
 use Rattle.flu_deps.specs.Checking.{program_of}
@@ -56,11 +56,14 @@ loop-said-init g c =
     let puts = g.F.Files.put_faults in
     let taken = g.K.Sink.taken in
     let count = g.K.Sink.faults in
-    rounds_start c.args.adapts p c.in_ok-engine.engine o named (left c.args.files.now) (counts c.args.files.now) (puts c.args.files.now)
-    (taken c.args.out.now) (count c.args.out.now)
-    c.in_ok-rounds.rounds (c.resumed_runs_go_on.ensures.beginning o.border o.cells)
-    (ap program_of c.in_ok-engine.ensures.checked) c.in_ok-engine.ensures.adapts c.in_ok-engine.ensures.counts
-    (subst (λ (q : Program). IsFirstFrom q rows_in_round o.border o.cells c.in_ok-rounds.rounds) c.program.ensures c.in_ok-rounds.ensures.first)
+    record {
+      goes = rounds_start c.args.adapts p c.in_ok-engine.engine o named (left c.args.files.now) (counts c.args.files.now) (puts c.args.files.now)
+          (taken c.args.out.now) (count c.args.out.now)
+          c.in_ok-rounds.rounds (c.resumed_runs_go_on.ensures.beginning o.border o.cells)
+          (ap program_of c.in_ok-engine.ensures.checked) c.in_ok-engine.ensures.adapts c.in_ok-engine.ensures.counts
+          (subst (λ (q : Program). IsFirstFrom q rows_in_round o.border o.cells c.in_ok-rounds.rounds) c.program.ensures c.in_ok-rounds.ensures.first);
+      quiet = λ n. refl;
+    }
 
 pub returns-in_err-saved_round-clause-ends : goal.returns-in_err-saved_round-clause-ends
 returns-in_err-saved_round-clause-ends g c =
@@ -78,7 +81,7 @@ returns-in_err-saved_round-clause-ends g c =
     subst (EndsRounds c.args.adapts p o named whole) (sym (given_err c.from_residual-in_err-saved_round.result c.in_err-saved_round.field-0.0
     c.from_residual-in_err-saved_round.ensures.1))
     (c.in_err-saved_round.ensures.steps c.args.adapts p o (left c.args.files.now) (counts c.args.files.now) (puts c.args.files.now) (taken c.args.out.now)
-    (count c.args.out.now) c.requires.apart c.loop-said.invariant).0
+    (count c.args.out.now) c.requires.apart c.loop-said.invariant.goes).0
 
 pub returns-in_err-saved_round-clause-within : goal.returns-in_err-saved_round-clause-within
 returns-in_err-saved_round-clause-within g c =
@@ -91,7 +94,7 @@ returns-in_err-saved_round-clause-within g c =
     let taken = g.K.Sink.taken in
     let count = g.K.Sink.faults in
     (c.in_err-saved_round.ensures.steps c.args.adapts p o (left c.args.files.now) (counts c.args.files.now) (puts c.args.files.now) (taken c.args.out.now)
-    (count c.args.out.now) c.requires.apart c.loop-said.invariant).1
+    (count c.args.out.now) c.requires.apart c.loop-said.invariant.goes).1
 
 pub returns-clause-ends : goal.returns-clause-ends
 returns-clause-ends g c =
@@ -109,7 +112,7 @@ returns-clause-ends g c =
     let closed = closed_is c.in_ok-saved_round.field-0 c.in_default.not-At in
     (subst (λ (b : Border). Steps c.args.adapts p c.saved_round.new.engine o named whole c.saved_round.new.rounds c.saved_round.new.said (Ok b)) closed
     (c.in_ok-saved_round.ensures.steps c.args.adapts p o (left c.args.files.now) (counts c.args.files.now) (puts c.args.files.now) (taken c.args.out.now)
-    (count c.args.out.now) c.requires.apart c.loop-said.invariant)).0
+    (count c.args.out.now) c.requires.apart c.loop-said.invariant.goes)).0
 
 pub returns-clause-within : goal.returns-clause-within
 returns-clause-within g c =
@@ -127,4 +130,4 @@ returns-clause-within g c =
     let closed = closed_is c.in_ok-saved_round.field-0 c.in_default.not-At in
     (subst (λ (b : Border). Steps c.args.adapts p c.saved_round.new.engine o named whole c.saved_round.new.rounds c.saved_round.new.said (Ok b)) closed
     (c.in_ok-saved_round.ensures.steps c.args.adapts p o (left c.args.files.now) (counts c.args.files.now) (puts c.args.files.now) (taken c.args.out.now)
-    (count c.args.out.now) c.requires.apart c.loop-said.invariant)).1
+    (count c.args.out.now) c.requires.apart c.loop-said.invariant.goes)).1

@@ -31,7 +31,7 @@ returns-in-Err-clause-steps g c adapts p o a k s had x apart go =
       nothing = c.in-Err.ensures.nothing;
       part = λ is. c.in-Err.ensures.part (ap Err is);
       failed = λ is. c.in-Err.ensures.failed (ap Err is);
-      cause = λ is. c.in-Err.ensures.cause (ap Err is);
+      hides = λ is. c.in-Err.ensures.hides (ap Err is);
     })
 
 pub returns-in-Ok-put_checkpoint-clause-steps : goal.returns-in-Ok-put_checkpoint-clause-steps

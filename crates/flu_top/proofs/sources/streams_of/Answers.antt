@@ -5,8 +5,8 @@ use Rattle.flu_model.specs.declared.jobs.Program.{Program}
 use Rattle.flu_model.specs.Itags.{count_of_itags}
 use Rattle.flu_model.specs.Listed.{listed}
 use Rattle.flu_streams.specs.declared.faults.GatherFault.{GatherFault}
-use Rattle.flu_streams.specs.Faults.{IsFirstFault}
-use Rattle.flu_streams.specs.Files.{files_of, LeavesOthers, AreReadOut, OneRose}
+use Rattle.flu_streams.specs.Faults.{IsFirstFault, HidesNothing}
+use Rattle.flu_streams.specs.Files.{files_of, LeavesOthers, AreReadOut}
 use Rattle.flu_streams.specs.Good.{AreGood, lists_of}
 use Rattle.flu_top.proofs.sources.streams_of.Goals as goal
 
@@ -35,9 +35,10 @@ pub returns-clause-others : goal.returns-clause-others
 returns-clause-others g c = subst (λ (q : Program). WhereTold (g.F.Files.left c.args.files.now) (g.F.Files.left c.gather.new.files)
     (LeavesOthers (files_of q.sources))) c.program.ensures c.gather.ensures.others
 
-pub returns-clause-cause : goal.returns-clause-cause
-returns-clause-cause g c = subst (λ (q : Program). IsErrOf c.gather.result GatherFault.ReadFault
-    → OneRose (files_of q.sources) (g.F.Files.faults c.args.files.now) (g.F.Files.faults c.gather.new.files)) c.program.ensures c.gather.ensures.cause
+pub returns-clause-hides : goal.returns-clause-hides
+returns-clause-hides g c = subst (λ (q : Program). IsErrOf c.gather.result GatherFault.ReadFault
+    → HidesNothing q (g.F.Files.left c.args.files.now) (g.F.Files.left c.gather.new.files) (g.F.Files.faults c.args.files.now)
+    (g.F.Files.faults c.gather.new.files)) c.program.ensures c.gather.ensures.hides
 
 pub returns-clause-rise : goal.returns-clause-rise
 returns-clause-rise g c n = c.gather.ensures.counts.rise n

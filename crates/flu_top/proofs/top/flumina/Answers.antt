@@ -1,6 +1,6 @@
 use Rattle.std.proofs.Common.{sym, subst, map, string_bytes}
-use Rattle.flu_top.specs.Outcome.{Outcome, ReadOnly, FaultsFirst}
-use Rattle.flu_top.proofs.Outcomes.{outcome_of, faults_of}
+use Rattle.flu_top.specs.Outcome.{Outcome, ReadOnly, FaultsFirst, HidesNothing}
+use Rattle.flu_top.proofs.Outcomes.{outcome_of, faults_of, hides_of}
 use Rattle.flu_top.proofs.Completeness.{completes_of}
 use Rattle.flu_top.proofs.top.flumina.Goals as goal
 
@@ -17,7 +17,13 @@ returns-clause-read g c =
 pub returns-clause-faults : goal.returns-clause-faults
 returns-clause-faults g c =
     subst (FaultsFirst (map string_bytes c.args.words.now) _ _ _) (sym c.answer.ensures.status)
-    (faults_of _ _ c.do_words-ended.result c.do_words-ended.ensures.ends)
+    (faults_of _ _ c.do_words-ended.result c.do_words-ended.ensures.ends c.do_words-ended.ensures.quiet c.do_words-ended.ensures.written_quiet
+    c.do_words-ended.ensures.puts)
+
+pub returns-clause-hides : goal.returns-clause-hides
+returns-clause-hides g c =
+    subst (HidesNothing (map string_bytes c.args.words.now) _ _ _ _) (sym c.answer.ensures.status)
+    (hides_of _ _ c.do_words-ended.result c.do_words-ended.ensures.ends)
 
 pub returns-clause-completes : goal.returns-clause-completes
 returns-clause-completes g c = completes_of (record {

@@ -17,6 +17,7 @@ lines-init g c =
       taken = none_taken c.args.name.now at;
       counts = no_counts c.args.name.now at (g.F.Files.faults c.args.files.now);
       quiet = λ n. refl;
+      puts = λ n. refl;
     }
 
 pub lines-preserved : goal.lines-preserved
@@ -36,6 +37,7 @@ lines-preserved g c =
       taken = taken_then name (left old) (left mid) (left new) so_far.taken c.turn.ensures.taken;
       counts = counts_then name (left old) (left mid) (faults old) (faults mid) (faults new) so_far.taken so_far.counts c.turn.ensures.counts;
       quiet = search rules;
+      puts = search rules;
     }
 
 pub returns-in-Err-clause-taken : goal.returns-in-Err-clause-taken

@@ -9,6 +9,7 @@ abbrev pub invariant-lines : goal.invariant-lines
 invariant-lines g l =
     let left = g.F.Files.left in
     let faults = g.F.Files.faults in
+    let puts = g.F.Files.put_faults in
     record {
       case : l.case ≡ l.run.net.case;
       gone : l.run.net.gone ≡ false;
@@ -16,6 +17,7 @@ invariant-lines g l =
       taken : WhereTold (left l.fn.files) (left l.files) (TakesFrom l.name);
       counts : CountsOf (left l.fn.files) l.name (faults l.fn.files) (faults l.files);
       quiet : SameCounts (faults l.fn.files) (faults l.files);
+      puts : SameCounts (puts l.fn.files) (puts l.files);
     }
 
 abbrev pub decreases-lines : goal.decreases-lines

@@ -58,9 +58,11 @@ returns-in-Err-clause-fault g c =
     let stage_is : h.stage ≡ Filling = ap (λ (v : Holding). v.stage) c.self.view_is ∙ c.requires.stage in
     let program_is : h.program.value ≡ c.args.p.now = ap (λ (v : Holding). v.program) c.self.view_is ∙ c.requires.program in
     let well = well_filling h.program.value h.rows h.border h.stage h.sources.items c.self.invariant stage_is in
-    let stop = subst (λ p. StopsAtSource p h.rows h.sources.items a b c.in-Err.fault) (sym program_is) c.in-Err.ensures.stop in
+    let was = g.F.Files.faults c.args.files.now in
+    let is = g.F.Files.faults c.refill_all.new.files in
+    let stop = subst (λ p. StopsAtSource p h.rows h.sources.items a b was is c.in-Err.fault) (sym program_is) c.in-Err.ensures.stop in
     subst (λ v. IsRefillFault v a b c.in-Err.fault) c.self.view_is
-    (refill_fault h.program.value h.rows h.border h.stage h.sources.items a b TookFronts c.in-Err.fault well.count c.in-Err.ensures.fronts stop)
+    (refill_fault h.program.value h.rows h.border h.stage h.sources.items a b TookFronts c.in-Err.fault was is well.count c.in-Err.ensures.fronts stop)
 
 pub returns-in-Err-clause-hides : goal.returns-in-Err-clause-hides
 returns-in-Err-clause-hides g c = λ is_fault before behind.
@@ -70,9 +72,11 @@ returns-in-Err-clause-hides g c = λ is_fault before behind.
     let stage_is : h.stage ≡ Filling = ap (λ (v : Holding). v.stage) c.self.view_is ∙ c.requires.stage in
     let program_is : h.program.value ≡ c.args.p.now = ap (λ (v : Holding). v.program) c.self.view_is ∙ c.requires.program in
     let well = well_filling h.program.value h.rows h.border h.stage h.sources.items c.self.invariant stage_is in
-    let stop = subst (λ p. StopsAtSource p h.rows h.sources.items a b c.in-Err.fault) (sym program_is) c.in-Err.ensures.stop in
-    subst (λ v. HidesNoRoundFault v a b before) c.self.view_is
-    (refill_hides h.program.value h.rows h.border h.stage h.sources.items a b TookFronts c.in-Err.fault well.count c.in-Err.ensures.fronts stop
+    let was = g.F.Files.faults c.args.files.now in
+    let is = g.F.Files.faults c.refill_all.new.files in
+    let stop = subst (λ p. StopsAtSource p h.rows h.sources.items a b was is c.in-Err.fault) (sym program_is) c.in-Err.ensures.stop in
+    subst (λ v. HidesNoRoundFault v a b was is before) c.self.view_is
+    (refill_hides h.program.value h.rows h.border h.stage h.sources.items a b TookFronts c.in-Err.fault was is well.count c.in-Err.ensures.fronts stop
     (err_same (Err c.in-Err.fault) c.in-Err.fault ReadFault refl is_fault) before
     (subst (λ v. AreHeldBehind v before) (sym c.self.view_is) behind))
 

@@ -1,0 +1,61 @@
+-- What is true where a read fault ends a command: nothing that was taken settles what the command comes to.
+use Rattle.std.specs.Prelude.{◌≡◌, ℕ, List, ◌∷◌, ◌++◌, Option}
+use Rattle.flu_outside.specs.Outside.{Contents, WhereTold, Rose}
+use Rattle.flu_outside.specs.Taking.{TookAtMost}
+use Rattle.flu_model.specs.declared.jobs.Program.{Program}
+use Rattle.flu_model.specs.declared.jobs.Source.{Source}
+use Rattle.flu_rows.specs.declared.rows.Next.{Next}
+use Rattle.flu_rows.specs.Lines.{IsUndecided}
+use Rattle.flu_rows.specs.Reading.{Place, ahead}
+use Rattle.flu_streams.specs.Faults.{StopsWithout}
+use Rattle.flu_words.specs.Words.{Command}
+use Rattle.flu_top.specs.Behind.{Named, HasJob, job_files, emptied_each}
+use Rattle.flu_top.specs.Reading.{Whole, InRounds, lines_behind}
+use Rattle.flu_top.specs.Openings.{Opening}
+use Rattle.flu_top.specs.Starting.{StartsFrom}
+use Rattle.flu_top.specs.Unfinished.{Unfinished, IsUnfinished}
+use Rattle.flu_top.specs.Wants.{job_wanted, how_read, job_and_plan_named, texts_named}
+use Rattle.flu_top.specs.Done.{IsPlanName, IsCheckpointName, IsSourceFile, IsTraceName}
+
+-- the sources of the command's job before the one with this file have no defect, nor have the rows that were read of that one, and what
+-- was taken of it besides decides nothing
+pub record HidesNoDefect (command : Command) (name : List ℕ) (old new : Option Contents) : Type 0 where
+  pub p : Program
+  pub earlier : List Source
+  pub source : Source
+  pub later : List Source
+  pub split : p.sources ≡ earlier ++ (source ∷ later)
+  pub named : source.file ≡ name
+  pub read : List Next
+  pub place : Place
+  pub file : place.file ≡ source.file
+  pub undecided : IsUndecided place.taken
+  pub told : WhereTold old new (λ was is. HasJob (job_wanted command) was p
+      × StopsWithout p.kinds earlier source read (ahead place is) (emptied_each (texts_named command) was))
+
+-- the command can start, and the round in which the source with this file failed is unfinished: nothing that was read settles it
+pub record HidesNoRow (command : Command) (name : List ℕ) (old new : Option Contents) : Type 0 where
+  pub p : Program
+  pub o : Opening
+  pub round : Unfinished p
+  pub named : round.source.file ≡ name
+  pub told : WhereTold old new (λ was is. HasJob (job_wanted command) was p × StartsFrom command was p o
+      × IsUnfinished p o round (lines_behind (texts_named command) was p) is)
+
+-- A NAME THAT IS READ FAILED, AND NOTHING THAT WAS TAKEN SETTLES A REFUSAL: what is read before it has no fault; of a job's text, of a
+-- plan's and of a checkpoint no more bytes were taken than such a text may have; and no row that was read of the sources has a defect,
+-- nor do the rows of a round meet its end
+pub data HasReadFault (command : Command) (old new : Option Contents) (before now : List ℕ → ℕ) : Type 0 where
+  InJob : (name : List ℕ) → job_wanted command ≡ Named name → Rose (before name) (now name)
+      → WhereTold old new (TookAtMost name 1048576) → HasReadFault command old new before now
+  InPlan : (name : List ℕ) → IsPlanName old command name → Rose (before name) (now name)
+      → WhereTold old new (λ was is. TookAtMost name 1048576 (emptied_each (job_files (job_wanted command)) was) is)
+      → HasReadFault command old new before now
+  InCheckpoint : (name : List ℕ) → IsCheckpointName old command name → Rose (before name) (now name)
+      → WhereTold old new (λ was is. TookAtMost name 536870912 (emptied_each (job_and_plan_named command) was) is)
+      → HasReadFault command old new before now
+  InSources : (name : List ℕ) → IsSourceFile old command name → how_read command ≡ Whole → Rose (before name) (now name)
+      → HidesNoDefect command name old new → HasReadFault command old new before now
+  InRows : (name : List ℕ) → IsSourceFile old command name → how_read command ≡ InRounds → Rose (before name) (now name)
+      → HidesNoRow command name old new → HasReadFault command old new before now
+  InTrace : (name : List ℕ) → IsTraceName old command name → Rose (before name) (now name) → HasReadFault command old new before now
