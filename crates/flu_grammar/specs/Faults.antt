@@ -6,7 +6,7 @@ use Rattle.std.specs.Str.Lossy.{utf8_valid_len}
 use Rattle.flu_model.specs.declared.limits.What.TheVariants.{Bytes, Nesting}
 use Rattle.flu_text.specs.declared.words.Token.{Token}
 use Rattle.flu_text.specs.Grammar.{AreTokens, IsFirstBadPlace}
-use Rattle.flu_syntax.specs.Grammar.{IsFirstThatCannotFollow, IsTooDeep}
+use Rattle.flu_syntax.specs.Continued.{IsFirstThatCannotFollow, IsTooDeep}
 use Rattle.flu_model.specs.declared.jobs.Family.{Family}
 use Rattle.flu_model.specs.declared.jobs.Kind.{Kind}
 use Rattle.flu_model.specs.declared.jobs.Source.{Source}

@@ -9,7 +9,8 @@ use Rattle.flu_syntax.specs.Reading.{Tells}
 use Rattle.flu_syntax.specs.Machine.{Verdict, Found, Unexpected, TooDeep, verdict}
 use Rattle.flu_text.specs.Signs.{place_of}
 use Rattle.flu_syntax.specs.Tree.{Job}
-use Rattle.flu_syntax.specs.Grammar.{IsJobWithin, IsJob, MayGoOnWithin, CannotTake, IsFirstThatCannotFollow, IsTooDeep}
+use Rattle.flu_syntax.specs.Grammar.{IsJobWithin, IsJob}
+use Rattle.flu_syntax.specs.Continued.{MayGoOnWithin, CannotTake, IsFirstThatCannotFollow, IsTooDeep}
 use Rattle.flu_syntax.specs.Laws.{FoundIsJob, JobsAreUnique, UnexpectedIsFirst, TooDeepIsThe65th}
 use Rattle.flu_syntax.proofs.Versions.{is_job, job_is_found, first_unexpected, opens_too_many}
 

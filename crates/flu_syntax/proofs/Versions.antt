@@ -10,8 +10,8 @@ use Rattle.flu_text.specs.declared.written.WrittenNumber.{WrittenNumber}
 use Rattle.flu_syntax.specs.Tree.{Declaration, Cell, Tag, Depends, On, Source, Declarations, Job}
 use Rattle.flu_text.specs.Signs.{Sign, At, IsSign, AreSigns}
 use Rattle.flu_text.specs.Signs.{place_of}
-use Rattle.flu_syntax.specs.Grammar.{declaration_signs, declarations_signs, version_signs, IsJobWithin, IsJob, MayGoOn, CannotTake, IsFirstThatCannotFollow}
-use Rattle.flu_syntax.specs.Grammar.{IsTooDeep}
+use Rattle.flu_syntax.specs.Grammar.{declaration_signs, declarations_signs, version_signs, IsJobWithin, IsJob}
+use Rattle.flu_syntax.specs.Continued.{MayGoOn, CannotTake, IsFirstThatCannotFollow, IsTooDeep}
 use Rattle.flu_text.specs.Signs.{number_of}
 use Rattle.flu_syntax.specs.Machine.{Start, Verdict, Found, Unexpected, TooDeep, run, with_version, numbered, behind_version, headed, verdict}
 use Rattle.flu_syntax.specs.Reading.{Tells, IsFirst as Begins, NotFirst, IsNumber, NotNumber}

@@ -1,12 +1,12 @@
 -- How a job is spelled. This is the grammar that the machine of `Machine` is proved to follow.
-use Rattle.std.specs.Prelude.{◌≡◌, ◌≢◌, ℕ, ◌+◌, ◌≤◌, max, ◌==◌, if◌then◌else◌, Bool, true, false, List, [], ◌∷◌, ◌++◌, Option, Some, None}
+use Rattle.std.specs.Prelude.{◌≢◌, ℕ, ◌+◌, ◌≤◌, max, ◌==◌, if◌then◌else◌, Bool, true, false, List, [], ◌∷◌, ◌++◌, Option, Some, None}
 use Rattle.std.specs.List.{flat_map}
 use Rattle.flu_text.specs.declared.words.Word.{Word}
 use Rattle.flu_text.specs.declared.words.Word.TheVariants as w
 use Rattle.flu_names.specs.declared.reserved.Reserved.TheVariants as r
 use Rattle.flu_text.specs.declared.words.Mark.TheVariants as m
 use Rattle.flu_text.specs.declared.words.Token.{Token}
-use Rattle.flu_text.specs.Signs.{Sign, Any, At, AreSigns, name, text, number, separated, keys_signs, place_of}
+use Rattle.flu_text.specs.Signs.{Sign, Any, At, AreSigns, name, text, number, separated, keys_signs}
 use Rattle.flu_model.specs.declared.jobs.Op.{Op}
 use Rattle.flu_model.specs.declared.jobs.Op.TheVariants as op
 use Rattle.flu_model.specs.declared.jobs.Sort.{Sort}
@@ -224,34 +224,3 @@ pub record IsJobWithin (most : ℕ) (tokens : List Token) (job : Job) : Type 0 w
 -- the tokens are this job: at most 64 are open at once
 abbrev pub IsJob : List Token → Job → Type 0
 IsJob tokens job = IsJobWithin 64 tokens job
-
--- these tokens may be continued to a job in which at most so many are open at once
-abbrev pub MayGoOnWithin : ℕ → List Token → Type 0
-MayGoOnWithin most front = (more : List Token) × (job : Job) × IsJobWithin most (front ++ more) job
-
-abbrev pub MayGoOn : List Token → Type 0
-MayGoOn front = MayGoOnWithin 64 front
-
--- with the next token they may not go on, whatever follows and however many are open; or no token is left and they are no job yet
-abbrev pub CannotTake : List Token → List Token → Type 0
-CannotTake front [] = (most : ℕ) (job : Job) → IsJobWithin most front job → ⊥
-CannotTake front (t ∷ rest) = (most : ℕ) → MayGoOnWithin most (front ++ t ∷ []) → ⊥
-
--- The place is that of the first token with which the tokens may no longer go on, or the end where they may go on.
-pub record IsFirstThatCannotFollow (end : ℕ) (tokens : List Token) (place : ℕ) : Type 0 where
-  pub front : List Token
-  pub rest : List Token
-  pub whole : tokens ≡ front ++ rest
-  pub here : place ≡ place_of end rest
-  pub may : MayGoOn front
-  pub cannot : CannotTake front rest
-
--- A token opens the 65th: those before it may go on to a job, and with it they may go on to one in which 65 are open at once, and to none with fewer.
-pub record IsTooDeep (tokens : List Token) : Type 0 where
-  pub front : List Token
-  pub next : Token
-  pub rest : List Token
-  pub whole : tokens ≡ front ++ next ∷ rest
-  pub may : MayGoOn front
-  pub deeper : MayGoOnWithin 65 (front ++ next ∷ [])
-  pub cannot : MayGoOn (front ++ next ∷ []) → ⊥

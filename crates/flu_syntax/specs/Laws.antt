@@ -3,7 +3,8 @@ use Rattle.std.specs.Prelude.{◌≡◌, ◌↔◌, ℕ, List}
 use Rattle.std.specs.List.{AllByRecursion}
 use Rattle.flu_text.specs.declared.words.Token.{Token}
 use Rattle.flu_syntax.specs.Tree.{Job}
-use Rattle.flu_syntax.specs.Grammar.{IsJob, IsFirstThatCannotFollow, IsTooDeep}
+use Rattle.flu_syntax.specs.Grammar.{IsJob}
+use Rattle.flu_syntax.specs.Continued.{IsFirstThatCannotFollow, IsTooDeep}
 use Rattle.flu_text.specs.Signs.{Stands}
 use Rattle.flu_syntax.specs.Words.{job_words}
 use Rattle.flu_syntax.specs.Machine.{verdict, Found, Unexpected, TooDeep}

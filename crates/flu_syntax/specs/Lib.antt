@@ -1,5 +1,6 @@
 pub mod Tree
 pub mod Grammar
+pub mod Continued
 pub mod Words
 pub mod Machine
 pub mod Reading

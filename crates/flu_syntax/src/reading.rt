@@ -2,7 +2,8 @@
 
 ghost use Rattle.std.specs.Prelude.{◌≡◌, ℕ, map, IfOk, MatchResult};
 ghost use Rattle.flu_syntax.specs.Tree.{job_of, declaration_of};
-ghost use Rattle.flu_syntax.specs.Grammar.{IsJob, IsFirstThatCannotFollow, IsTooDeep};
+ghost use Rattle.flu_syntax.specs.Grammar.{IsJob};
+ghost use Rattle.flu_syntax.specs.Continued.{IsFirstThatCannotFollow, IsTooDeep};
 ghost use Rattle.flu_syntax.specs.Machine.{verdict, Found};
 ghost use Rattle.flu_syntax.specs.Reading.{ReadsVersion, ReadsDeclarations, Tells};
 
