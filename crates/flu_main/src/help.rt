@@ -13,11 +13,12 @@ pub const HELP: &str =
   flumina check JOB              test whether the job may run in parallel, write it in normal form
   flumina valid JOB PLAN         test whether a plan is valid for the job, write the plan in normal form
   flumina plan JOB [--depth D]   write a plan with at most D levels below its root: 0 to 6, default 3
-  flumina run JOB [PLAN]         run the job on a thread for each node of the plan, or of a made one, write the report
-  flumina run JOB --depth D      the same, by the plan that `flumina plan JOB --depth D` writes
-  flumina run JOB [PLAN] --adapt the same, but let the plan follow the counts of events, and say the last one on standard error
+  flumina run JOB PLAN           run the job on a thread for each node of the plan, write the report
+  flumina run JOB [--depth D]    the same, but choose for each round a plan with at most D levels below its root, or one thread
+  flumina run JOB [PLAN] --adapt the same, but let a PLAN follow the counts of events; print the plan for all to standard error
   flumina run JOB [PLAN | --depth D] [--adapt] [--save FILE [--unflushed]] [--resume FILE]
-                                 the same, but put a checkpoint under FILE after each round, or go on from the one in FILE
+                                 the same, but save a checkpoint under FILE after each round, or resume from the one in FILE;
+                                 with --unflushed it may be lost in a power failure
   flumina simulate JOB PLAN SEED run the job by a schedule that a seed draws, write the report, then the counts of steps
   flumina simulate JOB PLAN SEED --trace
                                  the same, but write the trace of the run, one step per line, instead of the report
